@@ -1,0 +1,2 @@
+pub mod DigitTexts
+pub mod Weights

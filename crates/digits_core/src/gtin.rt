@@ -1,0 +1,95 @@
+//! Global Trade Item Numbers.
+ghost use Rattle.std.specs.Prelude.{None, Some, ◌≡◌, ◌↔◌, ◌-◌, ◌≤◌, ◌++◌, ℕ, List, drop, length, replicate, IfErr, IfOk, IfSome, IsSome, OnOk};
+ghost use Rattle.digits_core.specs.Digits.{AreAsciiDigits, AreDigits, IsChecked, ascii_of, digits_of, padded};
+ghost use Rattle.digits_core.specs.Gtins.{first_other, gtin_fault};
+
+use crate::fault::DigitFault;
+use crate::payload::is_checked;
+use std::marker::Model;
+
+/// A GTIN: 14 digits, the last of which is the check digit of the others. A GTIN of 8, 12 or 13
+/// digits has zeros before them (GS1 General Specifications, sections 3.3 and 7.9).
+#[derive(Clone, Copy, Debug, PartialEq, Eq)]
+pub struct Gtin {
+    digits: [u8; 14],
+}
+
+impl Model for Gtin {
+    ghost use Rattle.std.specs.Prelude.{ℕ, List};
+    ghost use Rattle.std.proofs.Common.{ap};
+    ghost use Rattle.digits_core.specs.Digits.{AreAsciiDigits, IsChecked, ascii_of, ascii_of-digits_of, digits_of};
+
+    ghost Value = { List ℕ };
+
+    ghost view = { λ g. digits_of g.digits };
+
+    ghost invariant = { λ g. AreAsciiDigits g.digits × IsChecked (digits_of g.digits) };
+
+    ghost inverse = { λ ds. record { digits = ascii_of ds } };
+
+    ghost inverse_ok = { λ a h. ap (λ ds. record { digits = ds }) (ascii_of-digits_of a.digits h.0) };
+}
+
+/// The offset of the first byte that is no ASCII digit.
+fn first_other(text: &[u8]) -> Option<usize>
+    ensures { result ≡ first_other text.now }
+{
+    text.iter().position(|byte| !byte.is_ascii_digit())
+}
+
+/// The text of at most 14 bytes with zeros before it.
+fn zeros_before(text: &[u8]) -> [u8; 14]
+    requires { length text.now ≤ 14 }
+    ensures { result ≡ replicate (14 - length text.now) 48 ++ text.now }
+{
+    let mut digits = [b'0'; 14];
+    digits[14 - text.len()..].copy_from_slice(text);
+    digits
+}
+
+impl Gtin {
+    /// The GTIN that 8, 12, 13 or 14 ASCII digits show.
+    ///
+    /// Of several faults the first is answered: the length, then the first byte that is no digit,
+    /// then the check digit.
+    pub fn read(text: &[u8]) -> Result<Gtin, DigitFault>
+        ensures ok { IfOk result (λ g. g ≡ padded (digits_of text.now)) }
+        ensures taken { OnOk result (gtin_fault text.now ≡ None) }
+        ensures refused { IfErr result (λ fault. gtin_fault text.now ≡ Some fault) }
+    {
+        if !matches!(text.len(), 8 | 12 | 13 | 14) {
+            return Err(DigitFault::Length);
+        }
+        if let Some(place) = first_other(text) {
+            return Err(DigitFault::NotDigit(place));
+        }
+        if !is_checked(text) {
+            return Err(DigitFault::CheckDigit);
+        }
+        Ok(Gtin {
+            digits: zeros_before(text),
+        })
+    }
+
+    /// All 14 digits, in ASCII.
+    pub fn digits14(&self) -> [u8; 14]
+        ensures value { result ≡ ascii_of self.now }
+        ensures digits { AreDigits self.now }
+        ensures checked { IsChecked self.now }
+    {
+        self.digits
+    }
+
+    /// The 13 digits, in ASCII, of a GTIN-13 or shorter: none where a GTIN-14 needs all of its digits.
+    pub fn as13(&self) -> Option<[u8; 13]>
+        ensures some { IsSome result ↔ (self.now ≡ padded (drop 1 self.now)) }
+        ensures value { IfSome result (λ text. text ≡ ascii_of (drop 1 self.now)) }
+    {
+        if self.digits[0] != b'0' {
+            return None;
+        }
+        let mut digits = [0; 13];
+        digits.copy_from_slice(&self.digits[1..]);
+        Some(digits)
+    }
+}

@@ -1,0 +1,14 @@
+//! Check digits and GTINs, and the readers and writers that every layer above shares.
+#![tactic(auto)]
+
+mod fault;
+mod gtin;
+mod payload;
+mod sink;
+mod source;
+
+pub use fault::DigitFault;
+pub use gtin::Gtin;
+pub use payload::check_digit;
+pub use sink::{Sink, ToWriter, write_all};
+pub use source::{Failed, FromReader, InputFault, Source, read_all};

@@ -1,0 +1,87 @@
+//! Writers that tell what they took, and whether they have failed.
+ghost use Rattle.std.specs.Prelude.{◌≡◌, ◌↔◌, ◌<◌, ◌≤◌, ℕ, List, Option, Bool, true, false, length, IfOk, OnOk, OnErr, IsErr};
+ghost use Rattle.std.specs.Io.KnownBytes.{Appends, WriteAppends};
+ghost use Rattle.digits_core.specs.Bytes.{TookFront};
+
+use crate::source::Failed;
+use std::io::Write;
+
+/// A writer that tells what it took and whether it has failed.
+pub trait Sink {
+    // The bytes that it took, where they are known.
+    ghost taken: { Self → Option (List ℕ) };
+    // An `Err` sets it for good, and nothing else does.
+    ghost failed: { Self → Bool };
+
+    /// Writes a front of the bytes and says how many they are, at least one of a piece that has some.
+    fn write(&mut self, bytes: &[u8]) -> Result<usize, Failed>
+        ensures bound { IfOk result (λ n. n ≤ length bytes.now) }
+        ensures some { IfOk result (λ n. 0 < length bytes.now → 0 < n) }
+        ensures bytes { WriteAppends (taken self.old) (taken self.new) result bytes.now }
+        ensures ok { OnOk result (failed self.new ≡ failed self.old) }
+        ensures err { OnErr result (failed self.new ≡ true) };
+}
+
+/// A sink over any writer. An interruption is a failure, and so is a write that takes nothing of a
+/// piece that has bytes. A failed one is not written to again.
+#[derive(Drop)]
+pub struct ToWriter<W: Write> {
+    writer: W,
+    has_failed: bool,
+}
+
+impl<W: Write> ToWriter<W> {
+    /// A sink that has not failed.
+    pub fn new(writer: W) -> ToWriter<W>
+        ensures { result ≡ record { writer = writer; has_failed = false } }
+    {
+        ToWriter {
+            writer,
+            has_failed: false,
+        }
+    }
+
+    /// The writer.
+    pub fn into_inner(self) -> W
+        ensures { result ≡ self.writer }
+    {
+        let ToWriter {
+            writer,
+            has_failed: _,
+        } = self;
+        writer
+    }
+}
+
+impl<W: Write> Sink for ToWriter<W> {
+    ghost taken = { λ s. W.contents s.writer };
+
+    ghost failed = { λ s. s.has_failed };
+
+    fn write(&mut self, bytes: &[u8]) -> Result<usize, Failed> {
+        if self.has_failed {
+            return Err(Failed);
+        }
+        match self.writer.write(bytes) {
+            Ok(count) if count > 0 || bytes.is_empty() => Ok(count),
+            _ => {
+                self.has_failed = true;
+                Err(Failed)
+            }
+        }
+    }
+}
+
+/// Writes all the bytes, in as many writes as it takes. After an `Err` a front of them went out.
+pub fn write_all<W: Sink>(sink: &mut W, bytes: &[u8]) -> Result<(), Failed>
+    ensures ok { OnOk result (Appends (W.taken sink.old) (W.taken sink.new) bytes.now) }
+    ensures err { OnErr result (TookFront (W.taken sink.old) (W.taken sink.new) bytes.now) }
+    ensures fault { W.failed sink.old ≡ false → (IsErr result ↔ (W.failed sink.new ≡ true)) }
+{
+    let mut rest = bytes;
+    'writes: while !rest.is_empty() {
+        let count = sink.write(rest)?;
+        rest = &rest[count..];
+    }
+    Ok(())
+}

@@ -1,0 +1,113 @@
+//! Readers that tell their bytes, and whether they have failed.
+ghost use Rattle.std.specs.Prelude.{◌≡◌, ◌↔◌, ◌≤◌, ℕ, List, Option, Bool, true, false, length, IfOk, OnOk, OnErr, IsErrOf};
+ghost use Rattle.std.specs.Io.KnownBytes.{ReadConsumes};
+ghost use Rattle.digits_core.specs.Bytes.{GaveAll, GaveAtMost, GaveMoreThan};
+
+use std::alloc::Global;
+use std::io::Read;
+
+/// A read or a write failed. What it was asked of has failed from then on.
+#[derive(Clone, Copy, Debug, PartialEq, Eq)]
+pub struct Failed;
+
+/// A reader that tells what it will still give and whether it has failed.
+pub trait Source {
+    // The bytes that reads will give from here on, where they are known.
+    ghost left: { Self → Option (List ℕ) };
+    // An `Err` sets it for good, and nothing else does.
+    ghost failed: { Self → Bool };
+
+    /// Reads at most as many bytes as `buf` has, into its front, and says how many; 0 into a buffer
+    /// that is not empty is the end. An interruption is a failure.
+    fn read(&mut self, buf: &mut [u8]) -> Result<usize, Failed>
+        ensures bound { IfOk result (λ n. n ≤ length buf.new) }
+        ensures bytes { ReadConsumes (left self.old) (left self.new) result buf.new }
+        ensures ok { OnOk result (failed self.new ≡ failed self.old) }
+        ensures err { OnErr result (failed self.new ≡ true) };
+}
+
+/// A source over any reader. An interruption is a failure, and a failed one is not read again.
+#[derive(Drop)]
+pub struct FromReader<R: Read> {
+    reader: R,
+    has_failed: bool,
+}
+
+impl<R: Read> FromReader<R> {
+    /// A source that has not failed.
+    pub fn new(reader: R) -> FromReader<R>
+        ensures { result ≡ record { reader = reader; has_failed = false } }
+    {
+        FromReader {
+            reader,
+            has_failed: false,
+        }
+    }
+}
+
+impl<R: Read> Source for FromReader<R> {
+    ghost left = { λ s. R.remaining s.reader };
+
+    ghost failed = { λ s. s.has_failed };
+
+    fn read(&mut self, buf: &mut [u8]) -> Result<usize, Failed> {
+        if self.has_failed {
+            return Err(Failed);
+        }
+        match self.reader.read(buf) {
+            Ok(count) => Ok(count),
+            Err(_) => {
+                self.has_failed = true;
+                Err(Failed)
+            }
+        }
+    }
+}
+
+// How many bytes are asked for at a time.
+const CHUNK: usize = 4096;
+
+/// Why an input was not read whole.
+#[derive(Clone, Copy, Debug, PartialEq, Eq)]
+pub enum InputFault {
+    /// A read failed.
+    ReadFault,
+    /// It has more bytes than the limit.
+    InputSize,
+    /// A growth was refused.
+    NoMemory,
+}
+
+/// All that a source still gives, at most `limit` bytes. Past the limit nothing more is read, so that
+/// an endless source ends the call too.
+pub fn read_all<S: Source>(
+    alloc: Global,
+    source: &mut S,
+    limit: usize,
+) -> Result<Vec<u8>, InputFault>
+    ensures ok { IfOk result (λ v. GaveAll (S.left source.old) (S.left source.new) v.items) }
+    ensures size { IfOk result (λ v. length v.items ≤ limit) }
+    ensures long { IsErrOf result InputFault.InputSize
+        → GaveMoreThan limit (S.left source.old) (S.left source.new) }
+    ensures short { IsErrOf result InputFault.ReadFault
+        → GaveAtMost limit (S.left source.old) (S.left source.new) }
+    ensures fault { S.failed source.old ≡ false
+        → (IsErrOf result InputFault.ReadFault ↔ (S.failed source.new ≡ true)) }
+{
+    let mut bytes = Vec::new(alloc);
+    let mut chunk = [0u8; CHUNK];
+    'reads: loop {
+        let Ok(count) = source.read(&mut chunk) else {
+            return Err(InputFault::ReadFault);
+        };
+        if count == 0 {
+            return Ok(bytes);
+        }
+        if count > limit - bytes.len() {
+            return Err(InputFault::InputSize);
+        }
+        if bytes.extend_from_slice(&chunk[..count]).is_err() {
+            return Err(InputFault::NoMemory);
+        }
+    }
+}
