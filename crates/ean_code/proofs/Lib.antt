@@ -1,0 +1,12 @@
+pub mod Cells
+pub mod Characters
+pub mod Checks
+pub mod Drawn
+pub mod Joined
+pub mod Parts
+pub mod Readings
+pub mod Rows
+pub mod Thirteen
+pub mod Turned
+pub mod TurnedUpce
+pub mod Widths

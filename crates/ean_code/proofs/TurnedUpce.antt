@@ -1,0 +1,103 @@
+-- No UPC-E is one backwards: it would be six characters 1114, and so a row of set A alone.
+use Rattle.std.proofs.Common.{◌≡◌, ℕ, zero, suc, ◌<◌, Bool, true, false, ◌&&◌, not, ◌==◌, List, [], ◌∷◌, ◌++◌, length, take, reverse, refl, sym, ap, ◌∙◌, arith, get_or}
+use Rattle.std.specs.Prelude.{if◌then◌else◌}
+use Rattle.std.specs.Bool.{beq}
+use Rattle.std.specs.List.{flat_map, AllByRecursion, zip}
+use Rattle.std.proofs.lemmas.Bool.{and_parts}
+use Rattle.std.proofs.lemmas.List.{length-take, reverse-append, reverse-reverse, append_cancel_left, append_cancel_right, append_assoc}
+use Rattle.std.proofs.lemmas.Slice.Zip.{firsts-zip}
+use Rattle.digits_core.specs.Digits.{AreDigits}
+use Rattle.ean_code.specs.NumberSets.{left_widths, upce_rows, row_of}
+use Rattle.ean_code.specs.Symbols.{normal_guard, special_guard, IsEanSymbol}
+use Rattle.ean_code.specs.Symbols.Kind.{UpcE}
+use Rattle.ean_code.proofs.Cells.{all_below, all_below-at, AllByRecursion-take, AllByRecursion-reverse, reverse-flat_map, same, same-true}
+use Rattle.ean_code.proofs.Characters.{same_bool, pairs_valid, firsts}
+use Rattle.ean_code.proofs.Rows.{length-upce_row}
+
+-- a character that begins 1 1 1 is the digit 6 of set A
+pub ones_are_six : (b : Bool) → all_below (λ d. if same (take 3 (left_widths (b, d))) normal_guard then same (left_widths (b, d)) (1 ∷ 1 ∷ 1 ∷ 4 ∷ []) && not b else true) 10 ≡ true
+ones_are_six true = refl
+ones_are_six false = refl
+
+-- a character that ends in 4, too
+pub fours_are_six : (b : Bool) → all_below (λ d. if get_or (left_widths (b, d)) 3 0 == 4 then same (left_widths (b, d)) (1 ∷ 1 ∷ 1 ∷ 4 ∷ []) else true) 10 ≡ true
+fours_are_six true = refl
+fours_are_six false = refl
+
+pub not_true : (b : Bool) → not b ≡ true → b ≡ false
+not_true true e = sym e
+not_true false e = refl
+
+pub implied : (t x : Bool) → (if t then x else true) ≡ true → t ≡ true → x ≡ true
+implied true x h e = h
+implied false x h e = cc
+
+pub six_a : (b : Bool) (d : ℕ) → d < 10 → take 3 (left_widths (b, d)) ≡ normal_guard → (left_widths (b, d) ≡ 1 ∷ 1 ∷ 1 ∷ 4 ∷ []) × (b ≡ false)
+six_a b d h e =
+    let w = left_widths (b, d) in
+    let ok = implied (same (take 3 w) normal_guard) (same w (1 ∷ 1 ∷ 1 ∷ 4 ∷ []) && not b)
+    (all_below-at (λ d. if same (take 3 (left_widths (b, d))) normal_guard then same (left_widths (b, d)) (1 ∷ 1 ∷ 1 ∷ 4 ∷ []) && not b else true) 10 (ones_are_six b) d h)
+    (ap (λ v. same v normal_guard) e) in
+    let parts = and_parts _ _ ok in (same-true _ _ parts.0, not_true b parts.1)
+
+pub six_from_four : (b : Bool) (d : ℕ) → d < 10 → get_or (left_widths (b, d)) 3 0 ≡ 4 → left_widths (b, d) ≡ 1 ∷ 1 ∷ 1 ∷ 4 ∷ []
+six_from_four b d h e =
+    same-true _ _ (implied (get_or (left_widths (b, d)) 3 0 == 4) _
+    (all_below-at (λ d. if get_or (left_widths (b, d)) 3 0 == 4 then same (left_widths (b, d)) (1 ∷ 1 ∷ 1 ∷ 4 ∷ []) else true) 10 (fours_are_six b) d h)
+    (ap (λ n. n == 4) e))
+
+-- the widths of characters, over variables
+pub shift : (a b c d p q r s : ℕ) (xs ys : List ℕ) → a ∷ b ∷ c ∷ d ∷ xs ≡ 1 ∷ 1 ∷ 1 ∷ s ∷ r ∷ q ∷ p ∷ ys
+    → (a ∷ b ∷ c ∷ [] ≡ normal_guard) × (d ≡ s) × (xs ≡ r ∷ q ∷ p ∷ ys)
+shift a b c d p q r s xs ys e = (cc, cc, cc)
+
+pub all_sixes : (cs ds : List (Bool × ℕ)) → AllByRecursion (λ (x : Bool × ℕ). x.1 < 10) cs → AllByRecursion (λ (x : Bool × ℕ). x.1 < 10) ds
+    → flat_map left_widths cs ++ normal_guard ≡ normal_guard ++ flat_map (λ x. reverse (left_widths x)) ds → AllByRecursion (λ (x : Bool × ℕ). x.0 ≡ false) cs
+all_sixes [] ds v u e = tt
+all_sixes (c ∷ cs) [] v u e = absurd (let n = ap length e in omega arith)
+all_sixes (c ∷ cs) (d ∷ ds) v u e =
+    let parts = shift _ _ _ _ _ _ _ _ _ _ e in
+    let one = six_a c.0 c.1 v.0 parts.0 in
+    let four_at : get_or (left_widths d) 3 0 ≡ 4 = sym parts.1 ∙ ap (λ w. get_or w 3 0) one.0 in
+    let other = six_from_four d.0 d.1 u.0 four_at in
+    let rest = flat_map (λ (x : Bool × ℕ). reverse (left_widths x)) ds in
+    (one.1, all_sixes cs ds v.1 u.1 (parts.2 ∙ ap (λ w. get_or w 2 0 ∷ get_or w 1 0 ∷ get_or w 0 0 ∷ rest) other))
+
+pub last_valid : (i : ℕ) (ds : List ℕ) → AreDigits ds → i < length ds → get_or ds i 0 < 10
+last_valid i [] v h = absurd (omega arith)
+last_valid zero (d ∷ ds) v h = v.0
+last_valid (suc i) (d ∷ ds) v h = last_valid i ds v.1 (omega arith)
+
+pub turned_short : (g l h : List ℕ) → reverse (g ++ (l ++ h)) ≡ reverse h ++ (reverse l ++ reverse g)
+turned_short g l h = simp (reverse-append, append_assoc)
+
+-- the row that a UPC-E draws begins with B
+pub begins_b : (c : ℕ) → c < 10 → get_or (row_of upce_rows c) 0 false ≡ true
+begins_b c h = same_bool _ _ (all_below-at (λ c. beq (get_or (row_of upce_rows c) 0 false) true) 10 refl c h)
+
+pub first_a : (cs : List (Bool × ℕ)) → AllByRecursion (λ (x : Bool × ℕ). x.0 ≡ false) cs → get_or (firsts cs) 0 false ≡ false
+first_a [] h = refl
+first_a (c ∷ cs) h = h.0
+
+pub one_wayE : (ms ds es : List ℕ) → IsEanSymbol UpcE ms ds → IsEanSymbol UpcE (reverse ms) es → ⊥
+one_wayE ms ds es e f =
+    let row : List Bool = row_of upce_rows (get_or ds 6 0) in
+    let cs : List (Bool × ℕ) = zip row (take 6 ds) in
+    let bs : List (Bool × ℕ) = zip (row_of upce_rows (get_or es 6 0)) (take 6 es) in
+    let xs : List ℕ = flat_map left_widths cs in
+    let ys : List ℕ = flat_map left_widths bs in
+    let around : normal_guard ++ (xs ++ (special_guard)) ≡ normal_guard ++ (normal_guard ++ (reverse ys ++ normal_guard)) =
+    sym e.widths ∙ sym (reverse-reverse ms) ∙ ap reverse f.widths ∙ turned_short normal_guard ys (special_guard) in
+    let inside : xs ++ (special_guard) ≡ normal_guard ++ (reverse ys ++ normal_guard) = append_cancel_left normal_guard _ _ around in
+    let ends : xs ++ normal_guard ≡ normal_guard ++ reverse ys =
+    append_cancel_right (xs ++ normal_guard) (normal_guard ++ reverse ys) normal_guard (append_assoc xs normal_guard normal_guard ∙ inside ∙ sym (append_assoc normal_guard (reverse ys) normal_guard)) in
+    let turned_cells = ends ∙ ap (λ zs. normal_guard ++ zs) (reverse-flat_map left_widths bs) in
+    let valid : AreDigits (take 6 ds) = AllByRecursion-take _ 6 ds e.valid in
+    let other : AreDigits (take 6 es) = AllByRecursion-take _ 6 es f.valid in
+    let sixes = all_sixes cs (reverse bs) (pairs_valid row (take 6 ds) valid) (AllByRecursion-reverse _ bs (pairs_valid _ (take 6 es) other)) turned_cells in
+    let count : length ds ≡ 7 = e.count in
+    let check : get_or ds 6 0 < 10 = last_valid 6 ds e.valid (omega arith) in
+    let long : length (take 6 ds) ≡ 6 = length-take 6 ds ∙ (omega arith) in
+    let ll : length (take 6 ds) ≡ length row = long ∙ sym (length-upce_row (get_or ds 6 0) check) in
+    let a : get_or row 0 false ≡ false = sym (ap (λ r. get_or r 0 false) (firsts-zip row (take 6 ds) ll)) ∙ first_a cs sixes in
+    let b = begins_b (get_or ds 6 0) check in cc

@@ -1,0 +1,13 @@
+use Rattle.std.proofs.Common.{◌≡◌, ◌∙◌, true, sym, arith}
+use borrow.Author.Count.{below_more}
+use Rattle.ean_code.proofs.Joined.{six_sets}
+use Rattle.ean_code.proofs.number_sets.first_digit.Goals as goal
+
+pub loop-digit-preserved : goal.loop-digit-preserved
+loop-digit-preserved c =
+    below_more _ c.loop-digit.digit c.loop-digit.invariant (λ e.
+    let same : c.are_same.result ≡ true = c.are_same.ensures.1 (e ∙ sym c.ean13_row.ensures.value) in
+    let other = c.if-are_same.false in cc)
+
+pub returns-clause-none : goal.returns-clause-none
+returns-clause-none c = λ d h e. c.loop-digit.invariant d (omega arith) (sym (six_sets c.args.left.now c.requires) ∙ e)

@@ -1,0 +1,40 @@
+-- What holds of the symbols whatever reads them.
+use Rattle.std.specs.Prelude.{◌≡◌, ℕ, List, [], ◌∷◌, ◌++◌, reverse}
+use Rattle.std.specs.List.{flat_map}
+use Rattle.ean_code.specs.NumberSets.{four}
+use Rattle.ean_code.specs.Symbols.{normal_guard, centre_guard, special_guard, Kind, IsEanSymbol, widths_of}
+use Rattle.ean_code.specs.Symbols.Kind.{Ean13, Ean8, UpcE}
+
+-- a symbol shows one list of digits
+abbrev pub OneReading : Type 0
+OneReading = (kind : Kind) (modules ds es : List ℕ) → IsEanSymbol kind modules ds → IsEanSymbol kind modules es → ds ≡ es
+
+-- no symbol of this kind is one of this kind backwards
+abbrev pub OneWay : Kind → Type 0
+OneWay kind = (modules ds es : List ℕ) → IsEanSymbol kind modules ds → IsEanSymbol kind (reverse modules) es → ⊥
+
+-- the printed symbol 9501101530003
+abbrev pub PrintedEan13 : Type 0
+PrintedEan13 =
+    widths_of Ean13 (9 ∷ 5 ∷ 0 ∷ 1 ∷ 1 ∷ 0 ∷ 1 ∷ 5 ∷ 3 ∷ 0 ∷ 0 ∷ 0 ∷ 3 ∷ [])
+    ≡ normal_guard
+    ++ (flat_map four (1231 ∷ 1123 ∷ 1222 ∷ 2221 ∷ 1123 ∷ 2221 ∷ [])
+    ++ (centre_guard
+    ++ (flat_map four (1231 ∷ 1411 ∷ 3211 ∷ 3211 ∷ 3211 ∷ 1411 ∷ [])
+    ++ normal_guard)))
+
+-- the printed symbol 96385074
+abbrev pub PrintedEan8 : Type 0
+PrintedEan8 =
+    widths_of Ean8 (9 ∷ 6 ∷ 3 ∷ 8 ∷ 5 ∷ 0 ∷ 7 ∷ 4 ∷ [])
+    ≡ normal_guard
+    ++ (flat_map four (3112 ∷ 1114 ∷ 1411 ∷ 1213 ∷ [])
+    ++ (centre_guard
+    ++ (flat_map four (1231 ∷ 3211 ∷ 1312 ∷ 1132 ∷ [])
+    ++ normal_guard)))
+
+-- the printed symbol 01234565, of which the bars show the last seven digits
+abbrev pub PrintedUpcE : Type 0
+PrintedUpcE =
+    widths_of UpcE (1 ∷ 2 ∷ 3 ∷ 4 ∷ 5 ∷ 6 ∷ 5 ∷ [])
+    ≡ normal_guard ++ (flat_map four (1222 ∷ 2122 ∷ 1411 ∷ 2311 ∷ 1321 ∷ 1114 ∷ []) ++ special_guard)

@@ -1,0 +1,45 @@
+-- The symbols of EAN and UPC as lists of widths in modules, from a bar to a bar (ISO/IEC 15420, symbol structure).
+use Rattle.std.specs.Prelude.{◌≡◌, ℕ, List, [], ◌∷◌, ◌++◌, length, take, drop, slice_index}
+use Rattle.digits_core.specs.Digits.{AreDigits}
+use Rattle.ean_code.specs.NumberSets.{ean13_rows, ean8_row, upce_rows, row_of, left_part, right_part}
+
+-- the normal guard pattern
+abbrev pub normal_guard : List ℕ
+normal_guard = 1 ∷ 1 ∷ 1 ∷ []
+
+-- the centre guard pattern
+abbrev pub centre_guard : List ℕ
+centre_guard = 1 ∷ 1 ∷ 1 ∷ 1 ∷ 1 ∷ []
+
+-- the special guard pattern, at the right of a UPC-E
+abbrev pub special_guard : List ℕ
+special_guard = 1 ∷ 1 ∷ 1 ∷ 1 ∷ 1 ∷ 1 ∷ []
+
+-- the kinds of symbol
+pub data Kind : Type 0 where
+  Ean13 : Kind
+  Ean8 : Kind
+  UpcE : Kind
+
+-- how many digits a symbol shows: of a UPC-E the six and the check digit
+abbrev pub digit_count : Kind → ℕ
+digit_count Ean13 = 13
+digit_count Ean8 = 8
+digit_count UpcE = 7
+
+-- the widths of the symbol that shows these digits: guard patterns and characters in their order
+abbrev pub widths_of : Kind → List ℕ → List ℕ
+widths_of Ean13 ds =
+    normal_guard
+    ++ (left_part (row_of ean13_rows (slice_index ds 0)) (take 6 (drop 1 ds))
+    ++ (centre_guard ++ (right_part (drop 7 ds) ++ normal_guard)))
+widths_of Ean8 ds =
+    normal_guard ++ (left_part ean8_row (take 4 ds) ++ (centre_guard ++ (right_part (drop 4 ds) ++ normal_guard)))
+widths_of UpcE ds =
+    normal_guard ++ (left_part (row_of upce_rows (slice_index ds 6)) (take 6 ds) ++ special_guard)
+
+-- the modules are the symbol of this kind that shows these digits
+pub record IsEanSymbol (kind : Kind) (modules digits : List ℕ) : Type 0 where
+  pub count : length digits ≡ digit_count kind
+  pub valid : AreDigits digits
+  pub widths : modules ≡ widths_of kind digits

@@ -1,0 +1,22 @@
+//! Laws of the symbols, each the contract of a function.
+ghost use Rattle.ean_code.specs.Laws.{OneReading, OneWay, PrintedEan13, PrintedEan8, PrintedUpcE};
+ghost use Rattle.ean_code.specs.Symbols.Kind.{Ean13, Ean8, UpcE};
+
+/// A symbol shows one list of digits.
+pub fn one_reading()
+    ensures { OneReading }
+{}
+
+/// No symbol is one of its kind when it is read backwards.
+pub fn one_way()
+    ensures ean13 { OneWay Ean13 }
+    ensures ean8 { OneWay Ean8 }
+    ensures upce { OneWay UpcE }
+{}
+
+/// The definitions draw symbols as they are printed.
+pub fn printed_symbols()
+    ensures ean13 { PrintedEan13 }
+    ensures ean8 { PrintedEan8 }
+    ensures upce { PrintedUpcE }
+{}

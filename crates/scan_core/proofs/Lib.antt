@@ -1,0 +1,4 @@
+pub mod AnswerFacts
+pub mod CandidateFacts
+pub mod RoundingFacts
+pub mod RowFacts

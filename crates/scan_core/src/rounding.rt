@@ -1,0 +1,61 @@
+//! Widths in dots rounded to modules.
+ghost use Rattle.std.specs.Prelude.{◌≡◌, ◌+◌, ◌<◌, ◌≤◌, ◌↔◌, ◌^◌, ◌%◌, IfNone, IfSome, IsTrue, ℕ, List, length, sum};
+ghost use Rattle.scan_core.specs.Row.{inner};
+ghost use Rattle.scan_core.specs.Showing.{IsQuiet, IsRun, Rounds};
+
+use arrayvec::ArrayVec;
+use ean_code::Modules;
+
+/// The dots of the runs together.
+pub(crate) fn total_dots(widths: &[u16]) -> u32
+    requires { sum widths.now < 2 ^ 32 }
+    ensures { result ≡ sum widths.now }
+{
+    widths.iter().map(|width| u32::from(*width)).sum()
+}
+
+/// Whether both light ends are at least five modules wide, where the runs between them are `total`
+/// dots and `count` modules.
+pub(crate) fn is_quiet(widths: &[u16], total: u32, count: u16) -> bool
+    requires some { 0 < length widths.now }
+    requires sum { total ≡ sum (inner widths.now) }
+    ensures { IsTrue result ↔ IsQuiet widths.now count }
+{
+    let least = 5 * u64::from(total);
+    let left = u64::from(widths[0]) * u64::from(count);
+    let right = u64::from(widths[widths.len() - 1]) * u64::from(count);
+    least <= left && least <= right
+}
+
+/// The modules of a run of `width` dots, where `total` dots are `count` modules.
+fn modules_of(width: u16, total: u32, count: u16) -> Option<u8>
+    ensures found { IfSome result (λ m. IsRun count total width m) }
+    ensures none { IfNone result ((m : ℕ) → IsRun count total width m → ⊥) }
+{
+    let dots = u64::from(width) * u64::from(count);
+    for modules in 1..5u8 {
+        let nominal = u64::from(modules) * u64::from(total);
+        if 3 * dots.abs_diff(nominal) <= u64::from(total) {
+            return Some(modules);
+        }
+    }
+    None
+}
+
+/// The modules that the runs of a symbol, `total` dots and `count` modules together, round to.
+pub(crate) fn round(inner: &[u16], total: u32, count: u16) -> Option<Modules>
+    requires few { length inner.now ≤ 595 }
+    requires odd { length inner.now % 2 ≡ 1 }
+    requires sum { total ≡ sum inner.now }
+    ensures found { IfSome result (λ modules. Rounds inner.now count modules) }
+    ensures none { IfNone result ((modules : List ℕ) → Rounds inner.now count modules → ⊥) }
+{
+    let mut found = ArrayVec::<u8, 595>::new();
+    for width in inner {
+        let Some(modules) = modules_of(*width, total, count) else {
+            return None;
+        };
+        found.push(modules);
+    }
+    Modules::of(found.as_slice())
+}

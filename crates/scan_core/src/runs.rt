@@ -1,0 +1,101 @@
+//! Rows of dots.
+ghost use Rattle.std.specs.Prelude.{None, Some, ◌≡◌, ◌≢◌, ◌<◌, ◌↔◌, IfErr, IfOk, IsErrOf, IsTrue, OnOk, nat_le, sum};
+ghost use Rattle.std.specs.List.{list_all};
+ghost use Rattle.scan_core.specs.Row.{IsRow, inner, runs_fault};
+
+use crate::fault::RunFault;
+use std::alloc::Global;
+use std::marker::Model;
+
+/// The dots of the widest row.
+const MOST_DOTS: u32 = 65_535;
+
+/// A row: the widths of its runs in dots, light and dark in turn, from the light end at its left to
+/// the one at its right. An end may be 0, each run between has a dot, and the row at most 65,535.
+#[derive(Debug, Drop)]
+pub struct Runs {
+    widths: Vec<u16>,
+}
+
+impl Model for Runs {
+    ghost use Rattle.std.specs.Prelude.{List, ℕ};
+    ghost use Rattle.scan_core.specs.Row.{IsRow};
+
+    ghost Value = { List ℕ };
+
+    ghost view = { λ r. r.widths.items };
+
+    ghost invariant = { λ r. IsRow r.widths.items };
+}
+
+/// The runs between the two light ends.
+pub(crate) fn inner(widths: &[u16]) -> &[u16]
+    ensures { result.now ≡ inner widths.now }
+{
+    match widths {
+        [_, between @ .., _] => between,
+        _ => &[],
+    }
+}
+
+/// Whether the widths are more than 65,535 dots together.
+fn is_too_wide(widths: &[u16]) -> bool
+    ensures { IsTrue result ↔ (65535 < sum widths.now) }
+{
+    let mut total = 0;
+    for width in widths {
+        total += u32::from(*width);
+        if total > MOST_DOTS {
+            return true;
+        }
+    }
+    false
+}
+
+/// Whether each run has a dot.
+fn have_dots(widths: &[u16]) -> bool
+    ensures { result ≡ list_all (λ width. nat_le 1 width) widths.now }
+{
+    widths.iter().all(|width| *width >= 1)
+}
+
+/// Why the widths are no row.
+fn runs_fault(widths: &[u16]) -> Option<RunFault>
+    ensures { result ≡ runs_fault widths.now }
+{
+    if widths.len() % 2 == 0 || !have_dots(inner(widths)) {
+        return Some(RunFault::BadRuns);
+    }
+    if is_too_wide(widths) {
+        return Some(RunFault::TooWide);
+    }
+    None
+}
+
+impl Runs {
+    /// The row of these widths in dots, the first and the last light.
+    ///
+    /// Of several faults the first is answered: `BadRuns`, then `TooWide`, then `NoMemory`.
+    pub fn of_widths(alloc: Global, widths: &[u16]) -> Result<Runs, RunFault>
+        ensures ok { IfOk result (λ r. r ≡ widths.now) }
+        ensures taken { OnOk result (runs_fault widths.now ≡ None) }
+        ensures refused { IfErr result (λ f. f ≢ RunFault.NoMemory → runs_fault widths.now ≡ Some f) }
+        ensures late { IsErrOf result RunFault.NoMemory → runs_fault widths.now ≡ None }
+    {
+        if let Some(fault) = runs_fault(widths) {
+            return Err(fault);
+        }
+        let Ok(widths) = widths.to_vec(alloc) else {
+            return Err(RunFault::NoMemory);
+        };
+        Ok(Runs { widths })
+    }
+
+    /// The widths in dots, the first and the last light.
+    pub fn widths(&self) -> &[u16]
+        ensures value { result.now ≡ self.now }
+        ensures row { IsRow self.now }
+    {
+        self.widths.as_slice()
+    }
+}
