@@ -1,0 +1,10 @@
+pub mod Capped
+pub mod Decimals
+pub mod FeedFacts
+pub mod FieldFaults
+pub mod FieldWords
+pub mod FirstFault
+pub mod Numbers
+pub mod Reaching
+pub mod ReportFacts
+pub mod TwoFields

@@ -1,0 +1,108 @@
+-- The records that a reader of `csv` reaches are those of `records`.
+use Rattle.std.proofs.Common.{◌≡◌, ◌∙◌, ◌≤◌, ◌+◌, ◌-◌, ◌⊎◌, inl, inr, ℕ, zero, suc, List, [], ◌∷◌, ◌++◌, Option, Some, None, Bool, true, false, length, sym, ap, refl, arith, cond}
+use Rattle.std.proofs.lemmas.List.{append-nil}
+use Rattle.csv.specs.Machine.{Read, ends_at_end, is_end, next_record, step}
+use Rattle.csv.specs.Reading.{AreRecords, is_bom, Reached, records, records_from, strip_bom}
+use Rattle.csv.specs.declared.parser.Config.{Config}
+use Rattle.csv.specs.declared.parser.State.{State}
+use Rattle.csv.specs.declared.parser.State.TheVariants as st
+
+-- which way a step of reading went
+picked : (b : Bool) (x p : Read) (y : Option Read) → cond b (Some x) y ≡ Some p → (x ≡ p) ⊎ (y ≡ Some p)
+picked true x p y e = inl (cc)
+picked false x p y e = inr e
+
+-- what is read at the end of the text
+at_end : (cfg : Config) (s : State) (f : List (List ℕ)) (g : List ℕ) (p : Read)
+    → next_record cfg s f g [] ≡ Some p → (p.1 ≡ st.StartRecord) × (p.2 ≡ [])
+unfolding next_record
+at_end cfg s f g p e = elim (picked (ends_at_end s) (f ++ (g ∷ []), st.StartRecord, []) p None e) [
+  | inl h ↦ (sym (ap (λ (q : Read). q.1) h), sym (ap (λ (q : Read). q.2) h))
+  | inr h ↦ cc h
+]
+
+-- a record takes a byte at least
+next_shrinks : (cfg : Config) (rest : List ℕ) (c : ℕ) (s : State) (f : List (List ℕ)) (g : List ℕ) (p : Read)
+    → next_record cfg s f g (c ∷ rest) ≡ Some p → length p.2 ≤ length rest
+unfolding next_record
+next_shrinks cfg [] c s f g p e = elim (picked (is_end (step cfg s c).1) _ p _ e) [
+  | inl h ↦ let same = ap (λ (q : Read). length q.2) h in omega (arith, same)
+  | inr h ↦ let same = ap length (at_end cfg _ _ _ p h).1 in omega (arith, same)
+]
+next_shrinks cfg (d ∷ rest) c s f g p e = elim (picked (is_end (step cfg s c).1) _ p _ e) [
+  | inl h ↦ let same = ap (λ (q : Read). length q.2) h in omega (arith, same)
+  | inr h ↦ let less = next_shrinks cfg rest d _ _ _ p h in omega (arith, less)
+]
+
+nothing : (cfg : Config) → next_record cfg st.StartRecord [] [] [] ≡ None
+unfolding next_record
+nothing cfg = refl
+
+-- at the end of the text there is one record at most
+end_ends : (cfg : Config) (s : State) (p : Read) → next_record cfg s [] [] [] ≡ Some p → next_record cfg p.1 [] [] p.2 ≡ None
+end_ends cfg s p e =
+    let (start, empty) = at_end cfg s [] [] p e in
+    rw (start, empty) (nothing cfg)
+
+-- as many records as bytes, and one more
+pub reached_few : (cfg : Config) (rows : List (List (List ℕ))) (s s2 : State) (xs ys : List ℕ)
+    → Reached cfg s xs rows s2 ys → length rows ≤ length xs + 1
+unfolding Reached
+reached_few cfg [] s s2 xs ys h = omega arith
+reached_few cfg (r ∷ []) s s2 [] ys h = omega arith
+reached_few cfg (r ∷ q ∷ rs) s s2 [] ys h =
+    let none = end_ends cfg s h.0 h.1 in
+    let some = h.3.1 in
+    cc (none, some)
+reached_few cfg (r ∷ rs) s s2 (c ∷ xs) ys h =
+    let less = next_shrinks cfg xs c s [] [] h.0 h.1 in
+    let more = reached_few cfg rs h.0.1 s2 h.0.2 ys h.3 in
+    omega (arith, less, more)
+
+pub reached_front : (cfg : Config) (rows : List (List (List ℕ))) (s s2 : State) (xs ys : List ℕ) (n m : ℕ)
+    → Reached cfg s xs rows s2 ys → n ≡ length rows + m → records_from cfg n s xs ≡ rows ++ records_from cfg m s2 ys
+unfolding Reached records_from
+reached_front cfg [] s s2 xs ys n m h e =
+    let same : n ≡ m = omega (arith, e) in
+    rw (same, h.0, h.1) refl
+reached_front cfg (r ∷ rs) s s2 xs ys zero m h e = absurd (omega (arith, e))
+reached_front cfg (r ∷ rs) s s2 xs ys (suc n) m h e =
+    let less : n ≡ length rs + m = omega (arith, e) in
+    let later = reached_front cfg rs h.0.1 s2 h.0.2 ys n m h.3 less in
+    rw (h.1, h.2) (ap (λ t. h.0.0 ∷ t) later)
+
+-- after the last record there is none
+no_more : (cfg : Config) (m : ℕ) (s : State) (ys : List ℕ) → next_record cfg s [] [] ys ≡ None → records_from cfg m s ys ≡ []
+unfolding records_from
+no_more cfg zero s ys e = refl
+no_more cfg (suc m) s ys e = rw e refl
+
+-- all the records that reading reaches are the records
+pub are_records : (cfg : Config) (xs : List ℕ) (rows : List (List (List ℕ))) → AreRecords cfg st.StartRecord xs rows → rows ≡ records cfg xs
+are_records cfg xs rows h =
+    let few = reached_few cfg rows st.StartRecord h.0 xs h.1 h.2 in
+    let m = length xs + 1 - length rows in
+    let split : length xs + 1 ≡ length rows + m = omega (arith, few) in
+    let front = reached_front cfg rows st.StartRecord h.0 xs h.1 (length xs + 1) m h.2 split in
+    sym (front ∙ ap (λ t. rows ++ t) (no_more cfg m h.0 h.1 h.3) ∙ append-nil rows)
+
+-- those that were reached stand at the front
+pub are_front : (cfg : Config) (s2 : State) (xs ys : List ℕ) (rows : List (List (List ℕ))) → Reached cfg st.StartRecord xs rows s2 ys
+    → (more : List (List (List ℕ))) × (records cfg xs ≡ rows ++ more)
+are_front cfg s2 xs ys rows h =
+    let few = reached_few cfg rows st.StartRecord s2 xs ys h in
+    let m = length xs + 1 - length rows in
+    let split : length xs + 1 ≡ length rows + m = omega (arith, few) in
+    (records_from cfg m s2 ys, reached_front cfg rows st.StartRecord s2 xs ys (length xs + 1) m h split)
+
+-- a byte order mark is taken off, and nothing is put on
+pub stripped_short : (xs : List ℕ) → length (strip_bom xs) ≤ length xs
+unfolding strip_bom
+stripped_short [] = omega arith
+stripped_short (a ∷ []) = omega arith
+stripped_short (a ∷ b ∷ []) = omega arith
+stripped_short (a ∷ b ∷ c ∷ rest) = by (is_bom a b c)
+  where
+    by : (t : Bool) → length (cond t rest (a ∷ b ∷ c ∷ rest)) ≤ length (a ∷ b ∷ c ∷ rest)
+    by true = omega arith
+    by false = omega arith

@@ -1,0 +1,40 @@
+-- The report as lines come.
+use Rattle.std.proofs.Common.{◌+◌, ◌++◌, ◌≡◌, ◌∙◌, ◌∷◌, List, [], ap, append_assoc, arith, length, sym, ℕ}
+use Rattle.std.specs.List.{AllZip}
+use Rattle.std.specs.Str.{IsAscii}
+use Rattle.std.proofs.lemmas.List.{append-nil}
+use Rattle.std.proofs.lemmas.Str.Ascii.{IsAscii-cons, IsAscii-nil}
+use Rattle.digits_core.specs.Digits.{AreDigits, ascii_of}
+use Rattle.scan_core.specs.declared.answer.EanAnswer.{EanAnswer}
+use Rattle.gs1_hub.specs.Report.{lanes_from, line_of, lines_from}
+
+-- the text of digits is ASCII
+pub digits_ascii : (ds : List ℕ) → AreDigits ds → IsAscii (ascii_of ds)
+digits_ascii [] h = IsAscii-nil
+digits_ascii (d ∷ ds) h = IsAscii-cons (d + 48) (ascii_of ds) (omega (arith, h.0)) (digits_ascii ds h.1)
+
+module _ {A B : Type 0} (R : A → B → Type 0) where
+  -- one more pair at the end
+  pub zip_more : (xs : List A) (ys : List B) (x : A) (y : B) → AllZip R xs ys → R x y → AllZip R (xs ++ x ∷ []) (ys ++ y ∷ [])
+  zip_more [] [] x y h r = (r, tt)
+  zip_more [] (b ∷ ys) x y h r = absurd h
+  zip_more (a ∷ xs) [] x y h r = absurd h
+  zip_more (a ∷ xs) (b ∷ ys) x y h r = (h.0, zip_more xs ys x y h.1 r)
+
+-- one more line
+pub one_more_line : (lane number : ℕ) (answers : List EanAnswer) (a : EanAnswer)
+    → lines_from lane number (answers ++ a ∷ []) ≡ lines_from lane number answers ++ line_of lane (number + length answers) a
+one_more_line lane number [] a =
+    append-nil (line_of lane number a) ∙ ap (λ k. line_of lane k a) (omega arith)
+one_more_line lane number (b ∷ answers) a =
+    ap (λ t. line_of lane number b ++ t) (one_more_line lane (number + 1) answers a ∙ ap (λ k. lines_from lane (number + 1) answers ++ line_of lane k a) (omega arith))
+    ∙ sym (append_assoc (line_of lane number b) (lines_from lane (number + 1) answers) (line_of lane (number + length (b ∷ answers)) a))
+
+-- the lines of one more lane
+pub one_more_lane : (lane : ℕ) (all : List (List EanAnswer)) (answers : List EanAnswer)
+    → lanes_from lane (all ++ answers ∷ []) ≡ lanes_from lane all ++ lines_from (lane + length all) 0 answers
+one_more_lane lane [] answers =
+    append-nil (lines_from lane 0 answers) ∙ ap (λ k. lines_from k 0 answers) (omega arith)
+one_more_lane lane (b ∷ all) answers =
+    ap (λ t. lines_from lane 0 b ++ t) (one_more_lane (lane + 1) all answers ∙ ap (λ k. lanes_from (lane + 1) all ++ lines_from k 0 answers) (omega arith))
+    ∙ sym (append_assoc (lines_from lane 0 b) (lanes_from (lane + 1) all) (lines_from (lane + length (b ∷ all)) 0 answers))

@@ -1,0 +1,26 @@
+use Rattle.std.proofs.Common.{◌≡◌, inl, inr, ap, subst, List, map, string_bytes}
+use Rattle.clap.specs.Words.{App, HasKind, Text, app_of, fault_of, is_simple_and_free, kind_of}
+use Rattle.clap.specs.declared.error.Error.{Error}
+use Rattle.gs1_hub.specs.Asking.{Explains, FaultOfKind}
+use Rattle.gs1_hub.specs.CommandLine.{hub_app}
+use Rattle.gs1_hub.specs.declared.words.WordsFault.{WordsFault}
+use Rattle.gs1_hub.specs.declared.words.WordsFault.TheVariants as fault
+use Rattle.gs1_hub.proofs.words.read_words.Goals as goal
+
+-- what the fault says of the words
+explained : (words : List Text) (e : Error) (f : WordsFault) → HasKind (fault_of hub_app words) e → FaultOfKind (kind_of e) f → Explains words f
+explained words e fault.Words (inl h) k = absurd (k.0 h)
+explained words e fault.Words (inr h) k = (kind_of e, h, k.1)
+explained words e (fault.Help text) (inl h) k = cc (h, k)
+explained words e (fault.Help text) (inr h) k = rw (← k) h
+explained words e fault.NoMemory h k = tt
+
+-- by the command that was built
+explained_of : (a : App) (words : List Text) (e : Error) (f : WordsFault) → a ≡ hub_app → HasKind (fault_of a words) e → FaultOfKind (kind_of e) f → Explains words f
+explained_of a words e f is h k = explained words e f (subst (λ x. HasKind (fault_of x words) e) is h) k
+
+pub returns-in-Err-clause-refused : goal.returns-in-Err-clause-refused
+returns-in-Err-clause-refused c =
+    let is : app_of c.in-Ok.hub ≡ hub_app = c.in-Ok.ensures in
+    explained_of (app_of c.in-Ok.hub) (map string_bytes c.args.words.now) c.in-Err.error c.fault_from.result is
+    (c.in-Err.ensures.kinds (ap is_simple_and_free is)) c.fault_from.ensures

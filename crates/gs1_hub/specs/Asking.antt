@@ -1,0 +1,45 @@
+-- What the words ask for.
+use Rattle.std.specs.Prelude.{◌≡◌, ◌≢◌, ⊤, List, [], Option, Some, None, codes}
+use Rattle.clap.specs.Words.{IsAmong, Row, Text, fault_of, subcommand_of}
+use Rattle.clap.specs.declared.error.kind.ErrorKind.{ErrorKind}
+use Rattle.clap.specs.declared.error.kind.ErrorKind.TheVariants as kind
+use Rattle.gs1_hub.specs.CommandLine.{HasNumber, hub_app}
+use Rattle.gs1_hub.specs.declared.options.LaneOptions.{LaneOptions}
+use Rattle.gs1_hub.specs.declared.words.Asked.{Asked}
+use Rattle.gs1_hub.specs.declared.words.Asked.TheVariants as asked
+use Rattle.gs1_hub.specs.declared.words.WordsFault.{WordsFault}
+use Rattle.gs1_hub.specs.declared.words.WordsFault.TheVariants as fault
+
+-- the numbers of the command `lanes`
+abbrev pub HasLanes : List Row → LaneOptions → Type 0
+HasLanes rows o = HasNumber (codes "lanes") 1 16 rows o.lanes
+    × HasNumber (codes "workers") 1 16 rows o.workers × HasNumber (codes "year") 1951 2149 rows o.year
+
+-- the command of this name, with its numbers
+abbrev pub AsksIn : Text → List Row → Asked → Type 0
+AsksIn name rows (asked.Lanes o) = (name ≡ codes "lanes") × HasLanes rows o
+
+-- the command and its numbers, by the name and the matches of a subcommand
+abbrev pub Asks : Option (Text × List Row) → Asked → Type 0
+Asks None a = ⊥
+Asks (Some p) a = AsksIn p.0 p.1 a
+
+-- `clap` finds no fault in the words, and they ask for this
+abbrev pub WordsAsk : List Text → Asked → Type 0
+WordsAsk words a = (fault_of hub_app words ≡ []) × Asks (subcommand_of hub_app words) a
+
+-- `clap` finds a fault in the words, other than that they ask for help
+abbrev pub IsRefused : List Text → Type 0
+IsRefused words = (k : ErrorKind) × IsAmong k (fault_of hub_app words) × (k ≢ kind.DisplayHelp)
+
+-- what each fault says of the words
+abbrev pub Explains : List Text → WordsFault → Type 0
+Explains words fault.Words = IsRefused words
+Explains words (fault.Help text) = IsAmong kind.DisplayHelp (fault_of hub_app words)
+Explains words fault.NoMemory = ⊤
+
+-- the same by the kind of the error
+abbrev pub FaultOfKind : ErrorKind → WordsFault → Type 0
+FaultOfKind k fault.Words = (k ≢ kind.OutOfMemory) × (k ≢ kind.DisplayHelp)
+FaultOfKind k (fault.Help text) = k ≡ kind.DisplayHelp
+FaultOfKind k fault.NoMemory = ⊤

@@ -1,0 +1,28 @@
+-- The texts of faults, and how those of one layer become those of the next.
+use Rattle.std.specs.Prelude.{ℕ, List, codes}
+use Rattle.digits_core.specs.declared.source.InputFault.{InputFault}
+use Rattle.digits_core.specs.declared.source.InputFault.TheVariants as input
+use Rattle.gs1_hub.specs.declared.fault.CommandFault.{CommandFault}
+use Rattle.gs1_hub.specs.declared.fault.CommandFault.TheVariants as command
+use Rattle.gs1_hub.specs.declared.fault.RecordFault.{RecordFault}
+use Rattle.gs1_hub.specs.declared.fault.RecordFault.TheVariants as fault
+use Rattle.gs1_hub.specs.declared.fault.RowRefusal.{RowRefusal}
+use Rattle.gs1_hub.specs.declared.fault.RowRefusal.TheVariants as refusal
+
+-- `refused`, its number and its name
+abbrev pub record_fault_text : RecordFault → List ℕ
+record_fault_text fault.Csv = codes "refused 39 Csv"
+record_fault_text fault.BadLane = codes "refused 41 BadLane"
+record_fault_text fault.BadRuns = codes "refused 18 BadRuns"
+record_fault_text fault.TooWide = codes "refused 17 TooWide"
+
+-- a fault of the reading, as the command's
+abbrev pub of_input : InputFault → CommandFault
+of_input input.ReadFault = command.ReadFault
+of_input input.InputSize = command.InputSize
+of_input input.NoMemory = command.NoMemory
+
+-- a refusal of the record at this index, as the command's
+abbrev pub refusal_at : ℕ → RowRefusal → CommandFault
+refusal_at index (refusal.Record f) = command.Record index f
+refusal_at index refusal.NoMemory = command.NoMemory

@@ -1,0 +1,87 @@
+//! Why a command is refused as a whole.
+ghost use Rattle.std.specs.Prelude.{Some, ◌≡◌};
+ghost use Rattle.gs1_hub.specs.Faults.{of_input, record_fault_text, refusal_at};
+
+use digits_core::InputFault;
+use std::fmt;
+use thiserror::Error;
+
+/// What is wrong with a record of the input.
+#[derive(Clone, Copy, Debug, PartialEq, Eq)]
+pub enum RecordFault {
+    /// It has not two fields.
+    Csv,
+    /// Its first field is no lane: one or two digits, below the number of lanes.
+    BadLane,
+    /// Its second field is no odd number of widths of one to five digits with one space between
+    /// them, or a width other than the first and the last is 0.
+    BadRuns,
+    /// Its widths have a sum above 65,535.
+    TooWide,
+}
+
+impl fmt::Display for RecordFault {
+    ghost output = { λ fault. Some (record_fault_text fault) };
+
+    fn fmt<W: fmt::Write>(&self, f: &mut fmt::Formatter<W>) -> fmt::Result {
+        match self {
+            RecordFault::Csv => write!(f, "refused 39 Csv"),
+            RecordFault::BadLane => write!(f, "refused 41 BadLane"),
+            RecordFault::BadRuns => write!(f, "refused 18 BadRuns"),
+            RecordFault::TooWide => write!(f, "refused 17 TooWide"),
+        }
+    }
+}
+
+/// Why a command as a whole is refused.
+#[derive(Clone, Copy, Debug, PartialEq, Eq, Error)]
+pub enum CommandFault {
+    /// A read of the input failed.
+    #[error("refused 37 ReadFault")]
+    ReadFault,
+    /// A write of the output failed.
+    #[error("refused 38 WriteFault")]
+    WriteFault,
+    /// The record at this index, from 0, is the first that has a fault.
+    #[error("record {0}: {1}")]
+    Record(usize, RecordFault),
+    /// A growth was refused.
+    #[error("refused 43 NoMemory")]
+    NoMemory,
+    /// The input has more bytes than a command reads.
+    #[error("refused 44 InputSize")]
+    InputSize,
+}
+
+impl From<InputFault> for CommandFault {
+    ghost from_gives = { λ fault command. command ≡ of_input fault };
+
+    fn from(fault: InputFault) -> CommandFault {
+        match fault {
+            InputFault::ReadFault => CommandFault::ReadFault,
+            InputFault::InputSize => CommandFault::InputSize,
+            InputFault::NoMemory => CommandFault::NoMemory,
+        }
+    }
+}
+
+/// Why a record gives no row.
+#[derive(Clone, Copy, Debug, PartialEq, Eq)]
+pub enum RowRefusal {
+    /// It has a fault.
+    Record(RecordFault),
+    /// A growth was refused.
+    NoMemory,
+}
+
+impl RowRefusal {
+    /// The refusal of the input whose record at this index is refused.
+    pub fn at(self, index: usize) -> CommandFault
+        ensures { result ≡ refusal_at index self }
+    {
+        match self {
+            RowRefusal::Record(fault) => CommandFault::Record(index, fault),
+            RowRefusal::NoMemory => CommandFault::NoMemory,
+        }
+    }
+}

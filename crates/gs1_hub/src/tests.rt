@@ -1,0 +1,246 @@
+//! One of each answer and refusal, with the text that is printed, and inputs and outputs that fail.
+
+mod fakes;
+
+use crate::fault::CommandFault;
+use crate::lanes::run_lanes;
+use crate::options::LaneOptions;
+use crate::words::{Asked, WordsFault, read_words};
+use digits_core::{FromReader, Gtin, ToWriter, check_digit};
+use fakes::{Breaking, Endless, Narrow};
+use std::alloc::{AllocError, Global};
+use std::test::Fail;
+
+// The symbol of 9501101530003, at one dot a module: its runs but for the two light ends.
+const SYMBOL: &str = "1 1 1 1 2 3 1 1 1 2 3 1 2 2 2 2 2 2 1 1 1 2 3 2 2 2 1 1 1 1 1 \
+                      1 1 2 3 1 1 4 1 1 3 2 1 1 3 2 1 1 3 2 1 1 1 4 1 1 1 1 1";
+
+// The same from right to left.
+const REVERSED: &str = "1 1 1 1 1 4 1 1 1 2 3 1 1 2 3 1 1 2 3 1 1 4 1 1 3 2 1 1 \
+                        1 1 1 1 1 2 2 2 3 2 1 1 1 2 2 2 2 2 2 1 3 2 1 1 1 3 2 1 1 1 1";
+
+// The same with 4 in place of its last digit, 3, which is the check digit.
+const WRONG_CHECK_DIGIT: &str = "1 1 1 1 2 3 1 1 1 2 3 1 2 2 2 2 2 2 1 1 1 2 3 2 2 2 1 \
+                                 1 1 1 1 1 1 2 3 1 1 4 1 1 3 2 1 1 3 2 1 1 3 2 1 1 1 1 3 2 1 1 1";
+
+// The same with a space of five modules in its last digit.
+const WIDE_SPACE: &str = "1 1 1 1 2 3 1 1 1 2 3 1 2 2 2 2 2 2 1 1 1 2 3 2 2 2 1 1 1 1 1 \
+                          1 1 2 3 1 1 4 1 1 3 2 1 1 3 2 1 1 3 2 1 1 1 5 1 1 1 1 1";
+
+/// What a run of `lanes` prints: its output, or else the line of its fault.
+fn printed(alloc: Global, lanes: u8, input: &str) -> Result<String, Fail> {
+    let options = LaneOptions::new(lanes, 1, 2026).ok_or("options")?;
+    let mut source = FromReader::new(input.as_bytes());
+    let mut sink = ToWriter::new(Vec::new(alloc));
+    let ran = run_lanes(alloc, options, &mut source, &mut sink);
+    let written = String::from_utf8(sink.into_inner()).ok().ok_or("text")?;
+    match ran {
+        Ok(()) => Ok(written),
+        Err(fault) => Ok(format!(in alloc; "{written}{fault}")?),
+    }
+}
+
+#[test]
+fn answers_each_row(rt: HostRuntime) -> Result<(), Fail> {
+    let alloc = rt.alloc();
+    for (left, symbol, right, answer) in [
+        ("11", SYMBOL, "7", "]E0 (01)09501101530003"),
+        ("5", SYMBOL, "5", "]E0 (01)09501101530003"),
+        ("4", SYMBOL, "7", "refused 21 QuietZone"),
+        ("11", SYMBOL, "4", "refused 21 QuietZone"),
+        ("7", REVERSED, "11", "refused 23 Pattern"),
+        ("11", WRONG_CHECK_DIGIT, "7", "refused 24 SymbolCheckDigit"),
+        ("11", WIDE_SPACE, "7", "refused 22 Modules"),
+        ("0", "65535", "0", "refused 20 RunCount"),
+        ("1", "0001 1 00001", "65531", "refused 20 RunCount"),
+    ] {
+        let input = format!(in alloc; "0,{left} {symbol} {right}\n")?;
+        let wanted = format!(in alloc; "0 0 {answer}\n")?;
+        let found = printed(alloc, 1, input.as_str())?;
+        assert_eq!(rt; found.as_str(), wanted.as_str(), "{input}");
+    }
+    for width in ["0", "100", "65535"] {
+        let input = format!(in alloc; "0,{width}")?;
+        let found = printed(alloc, 1, input.as_str())?;
+        assert_eq!(rt; found.as_str(), "0 0 refused 19 Blank\n", "{input}");
+    }
+    Ok(())
+}
+
+#[test]
+fn orders_lines_by_lane_and_number(rt: HostRuntime) -> Result<(), Fail> {
+    let alloc = rt.alloc();
+    let mixed = format!(in alloc; "2,100\n1,11 {SYMBOL} 7\n\n02,0 9 0\n\"1\",\"100\"\n00,0\n")?;
+    for (lanes, input, wanted) in [
+        (1, "", ""),
+        (16, "\n\n", ""),
+        (16, "15,0", "15 0 refused 19 Blank\n"),
+        (1, "\u{feff}0,7\r\n", "0 0 refused 19 Blank\n"),
+        (
+            3,
+            mixed.as_str(),
+            "0 0 refused 19 Blank\n1 0 ]E0 (01)09501101530003\n1 1 refused 19 Blank\n\
+             2 0 refused 19 Blank\n2 1 refused 20 RunCount\n",
+        ),
+    ] {
+        let found = printed(alloc, lanes, input)?;
+        assert_eq!(rt; found.as_str(), wanted, "{input}");
+    }
+    let mut many = String::new(alloc);
+    for _ in 0..11 {
+        many.push_str("0,0\n")?;
+    }
+    let found = printed(alloc, 1, many.as_str())?;
+    assert!(rt;
+        found
+            .as_str()
+            .ends_with("\n0 9 refused 19 Blank\n0 10 refused 19 Blank\n")
+    );
+    Ok(())
+}
+
+#[test]
+fn refuses_faulty_records(rt: HostRuntime) -> Result<(), Fail> {
+    for (input, wanted) in [
+        ("0", "record 0: refused 39 Csv"),
+        ("0,100,", "record 0: refused 39 Csv"),
+        ("\"\"", "record 0: refused 39 Csv"),
+        ("2,100", "record 0: refused 41 BadLane"),
+        ("000,100", "record 0: refused 41 BadLane"),
+        ("+1,100", "record 0: refused 41 BadLane"),
+        (" 1,100", "record 0: refused 41 BadLane"),
+        (",100", "record 0: refused 41 BadLane"),
+        ("0,", "record 0: refused 18 BadRuns"),
+        ("0,a", "record 0: refused 18 BadRuns"),
+        ("0,1  1 1", "record 0: refused 18 BadRuns"),
+        ("0, 1", "record 0: refused 18 BadRuns"),
+        ("0,1 ", "record 0: refused 18 BadRuns"),
+        ("0,100000", "record 0: refused 18 BadRuns"),
+        ("0,000001", "record 0: refused 18 BadRuns"),
+        ("0,1 0 1", "record 0: refused 18 BadRuns"),
+        ("0,5 3", "record 0: refused 18 BadRuns"),
+        ("0,65536 1", "record 0: refused 18 BadRuns"),
+        ("0,65536 0 1", "record 0: refused 18 BadRuns"),
+        ("0,0 65535 1", "record 0: refused 17 TooWide"),
+        ("0,65536", "record 0: refused 17 TooWide"),
+        ("0,99999", "record 0: refused 17 TooWide"),
+        ("0,100\n\n1,100\n7,1\n", "record 2: refused 41 BadLane"),
+        ("7,\n0\n", "record 0: refused 41 BadLane"),
+        ("0,99999\n7,\n0\n", "record 0: refused 17 TooWide"),
+    ] {
+        let found = printed(rt.alloc(), 2, input)?;
+        assert_eq!(rt; found.as_str(), wanted, "{input}");
+    }
+    Ok(())
+}
+
+#[test]
+fn passes_failures_on(rt: HostRuntime) -> Result<(), Fail> {
+    let alloc = rt.alloc();
+    let options = LaneOptions::new(1, 1, 2026).ok_or("options")?;
+    let mut unwritten = ToWriter::new(Vec::new(alloc));
+
+    let fault = run_lanes(alloc, options, &mut Breaking::new(), &mut unwritten)
+        .err()
+        .ok_or("a fault")?;
+    assert_eq!(rt; fault.to_string(alloc)?.as_str(), "refused 37 ReadFault");
+
+    let fault = run_lanes(alloc, options, &mut Endless, &mut unwritten)
+        .err()
+        .ok_or("a fault")?;
+    assert_eq!(rt; fault.to_string(alloc)?.as_str(), "refused 44 InputSize");
+    assert_eq!(rt; unwritten.into_inner().len(), 0);
+
+    let mut narrow = Narrow::new(alloc, 100);
+    let mut source = FromReader::new(b"0,1\n0,0 1 0\n".as_slice());
+    run_lanes(alloc, options, &mut source, &mut narrow)?;
+    let text = b"0 0 refused 19 Blank\n0 1 refused 20 RunCount\n".as_slice();
+    assert_eq!(rt; narrow.taken(), text);
+
+    let mut short = Narrow::new(alloc, 25);
+    let mut source = FromReader::new(b"0,1\n0,0 1 0\n".as_slice());
+    let fault = run_lanes(alloc, options, &mut source, &mut short)
+        .err()
+        .ok_or("a fault")?;
+    assert_eq!(rt; fault.to_string(alloc)?.as_str(), "refused 38 WriteFault");
+    assert_eq!(rt; short.taken(), &text[..25]);
+
+    let text = CommandFault::NoMemory.to_string(alloc)?;
+    assert_eq!(rt; text.as_str(), "refused 43 NoMemory");
+    Ok(())
+}
+
+/// The words of a command line, with one space between them.
+fn words_of(alloc: Global, text: &str) -> Result<Vec<String>, AllocError> {
+    let mut words = Vec::new(alloc);
+    for word in text.split(' ') {
+        words.push(String::from_str(alloc, word)?)?;
+    }
+    Ok(words)
+}
+
+#[test]
+fn reads_words(rt: HostRuntime) -> Result<(), Fail> {
+    let alloc = rt.alloc();
+    for (text, lanes, workers, year) in [
+        (
+            "gs1_hub lanes --lanes 3 --workers=16 --year 2026",
+            3,
+            16,
+            2026,
+        ),
+        (
+            "gs1_hub lanes --year 1951 --workers 1 --lanes 16",
+            16,
+            1,
+            1951,
+        ),
+    ] {
+        let words = words_of(alloc, text)?;
+        let Ok(Asked::Lanes(options)) = read_words(alloc, words.as_slice()) else {
+            return Err(Fail::from("a command"));
+        };
+        let wanted = LaneOptions::new(lanes, workers, year).ok_or("options")?;
+        assert_eq!(rt; options, wanted, "{text}");
+    }
+    for text in [
+        "gs1_hub",
+        "gs1_hub help",
+        "gs1_hub check --year 2026",
+        "gs1_hub lanes",
+        "gs1_hub lanes --lanes 1 --workers 1",
+        "gs1_hub lanes --lanes 0 --workers 1 --year 2026",
+        "gs1_hub lanes --lanes 17 --workers 1 --year 2026",
+        "gs1_hub lanes --lanes 1 --workers 17 --year 2026",
+        "gs1_hub lanes --lanes 1 --workers 1 --year 1950",
+        "gs1_hub lanes --lanes 1 --workers 1 --year 2150",
+        "gs1_hub lanes --lanes 1 --lanes 1 --workers 1 --year 2026",
+        "gs1_hub lanes --lanes 1 --workers 1 --year 2026 more",
+    ] {
+        let words = words_of(alloc, text)?;
+        let fault = read_words(alloc, words.as_slice());
+        assert!(rt; matches!(fault, Err(WordsFault::Words)), "{text}");
+    }
+    for text in ["gs1_hub --help", "gs1_hub lanes --help"] {
+        let words = words_of(alloc, text)?;
+        let fault = read_words(alloc, words.as_slice());
+        assert!(rt; matches!(fault, Err(WordsFault::Help(_))), "{text}");
+    }
+    Ok(())
+}
+
+#[test]
+fn reads_numbers(rt: HostRuntime) -> Result<(), Fail> {
+    assert_eq!(rt; check_digit(b"950110153000"), 3);
+    let gtin = Gtin::read(b"9501101530003").ok().ok_or("a number")?;
+    assert_eq!(rt; gtin.digits14().as_slice(), b"09501101530003".as_slice());
+    for (text, fault) in [
+        (b"123".as_slice(), "refused 1 Length"),
+        (b"950110153000X".as_slice(), "refused 2 NotDigit 12"),
+        (b"9501101530004".as_slice(), "refused 3 CheckDigit"),
+    ] {
+        let found = Gtin::read(text).err().ok_or("a fault")?;
+        assert_eq!(rt; found.to_string(rt.alloc())?.as_str(), fault);
+    }
+    Ok(())
+}

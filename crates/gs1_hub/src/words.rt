@@ -1,0 +1,159 @@
+//! The words of the command line.
+ghost use Rattle.std.specs.Prelude.{◌≡◌, ◌<◌, ◌≤◌, ℕ, IfOk, IfSome, IfNone, IfErr, map, string_bytes, false, codes};
+ghost use Rattle.clap.specs.Words.{app_of, found_of, kind_of, rows_of, rule_of, subcommand_rows_of};
+ghost use Rattle.clap.specs.declared.builder.command.Command.TheViews.{out-Command};
+ghost use Rattle.gs1_hub.specs.Asking.{Asks, AsksIn, HasLanes, Explains, FaultOfKind, WordsAsk};
+ghost use Rattle.gs1_hub.specs.CommandLine.{HasNumber, hub_app, lanes_app, number_rule};
+ghost use Rattle.gs1_hub.specs.declared.words.Asked.{Asked};
+ghost use Rattle.gs1_hub.specs.declared.options.LaneOptions.{LaneOptions};
+
+use crate::options::LaneOptions;
+use clap::builder::ValueParser;
+use clap::error::ErrorKind;
+use clap::{Arg, ArgAction, ArgMatches, Command, Error};
+use std::alloc::{AllocError, Global};
+
+/// What the words ask for.
+#[derive(Clone, Copy)]
+pub enum Asked {
+    /// The rows of these lanes are to be read.
+    Lanes(LaneOptions),
+}
+
+/// Why no command is run.
+#[derive(Debug, Drop)]
+pub enum WordsFault {
+    /// The words are not those of a command.
+    Words,
+    /// A growth was refused.
+    NoMemory,
+    /// Help was asked for, and this is its text.
+    Help(String),
+}
+
+/// The option `--name`, which is required and takes a number from `least` to `most`.
+fn number<'a>(alloc: Global, name: &'a str, least: u16, most: u16) -> Arg<'a>
+    ensures rule { rule_of result ≡ number_rule name.now least most }
+    ensures own { result.global ≡ false }
+{
+    let reader = ValueParser::Signed(i64::from(least), i64::from(most));
+    Arg::new(alloc, name)
+        .long(name)
+        .action(ArgAction::Set)
+        .required(true)
+        .value_parser(reader)
+}
+
+fn lanes_command<'a>(alloc: Global) -> Result<Command<'a>, AllocError>
+    ensures app { IfOk result (λ c. app_of c ≡ lanes_app) }
+    ensures own { IfOk result (λ c. (out-Command c).has_globals ≡ false) }
+{
+    Command::new(alloc, "lanes")
+        .arg(number(alloc, "lanes", 1, 16))?
+        .arg(number(alloc, "workers", 1, 16))?
+        .arg(number(alloc, "year", 1951, 2149))
+}
+
+fn hub_command<'a>(alloc: Global) -> Result<Command<'a>, AllocError>
+    ensures { IfOk result (λ c. app_of c ≡ hub_app) }
+{
+    Command::new(alloc, "gs1_hub")
+        .disable_help_subcommand(true)
+        .subcommand_required(true)
+        .subcommand(lanes_command(alloc)?)
+}
+
+/// The number under this name, where it lies in the range.
+fn number_in(matches: &ArgMatches<'_>, name: &str, least: u16, most: u16) -> Option<u16>
+    ensures some { IfSome result (HasNumber name.now least most (rows_of (found_of matches.now))) }
+    ensures none { IfNone result ((n : ℕ)
+        → HasNumber name.now least most (rows_of (found_of matches.now)) n → ⊥) }
+{
+    let Some(number) = matches.get_one::<u16>(name) else {
+        return None;
+    };
+    if least <= number && number <= most {
+        Some(number)
+    } else {
+        None
+    }
+}
+
+/// The numbers of the command `lanes`.
+fn lane_options(matches: &ArgMatches<'_>) -> Option<LaneOptions>
+    ensures some { IfSome result (HasLanes (rows_of (found_of matches.now))) }
+    ensures none { IfNone result ((o : LaneOptions)
+        → HasLanes (rows_of (found_of matches.now)) o → ⊥) }
+{
+    let lanes = number_in(matches, "lanes", 1, 16);
+    let workers = number_in(matches, "workers", 1, 16);
+    let year = number_in(matches, "year", 1951, 2149);
+    if let (Some(lanes), Some(workers), Some(year)) = (lanes, workers, year) {
+        Some(LaneOptions {
+            lanes: lanes as u8,
+            workers: workers as u8,
+            year,
+        })
+    } else {
+        None
+    }
+}
+
+/// What the matches of a command ask for.
+fn asked_by(name: &str, matches: &ArgMatches<'_>) -> Option<Asked>
+    ensures some { IfSome result (AsksIn name.now (rows_of (found_of matches.now))) }
+    ensures none { IfNone result ((a : Asked)
+        → AsksIn name.now (rows_of (found_of matches.now)) a → ⊥) }
+{
+    match name {
+        "lanes" => match lane_options(matches) {
+            Some(options) => Some(Asked::Lanes(options)),
+            None => None,
+        },
+        _ => None,
+    }
+}
+
+/// What the matches ask for.
+fn asked_of(matches: &ArgMatches<'_>) -> Option<Asked>
+    ensures some { IfSome result (Asks (subcommand_rows_of matches.now)) }
+    ensures none { IfNone result ((a : Asked) → Asks (subcommand_rows_of matches.now) a → ⊥) }
+{
+    let Some((name, inner)) = matches.subcommand() else {
+        return None;
+    };
+    asked_by(name, inner)
+}
+
+/// The fault that stands for an error of `clap`.
+fn fault_from(alloc: Global, error: &Error) -> WordsFault
+    ensures { FaultOfKind (kind_of error.now) result }
+{
+    match error.kind() {
+        ErrorKind::OutOfMemory => WordsFault::NoMemory,
+        ErrorKind::DisplayHelp => match error.to_string(alloc) {
+            Ok(text) => WordsFault::Help(text),
+            Err(_) => WordsFault::NoMemory,
+        },
+        _ => WordsFault::Words,
+    }
+}
+
+/// The command, and its numbers, that the words ask for. The first word is the program's name.
+pub fn read_words(alloc: Global, words: &[String]) -> Result<Asked, WordsFault>
+    ensures asked { IfOk result (WordsAsk (map string_bytes words.now)) }
+    ensures refused { IfErr result (Explains (map string_bytes words.now)) }
+{
+    let Ok(hub) = hub_command(alloc) else {
+        return Err(WordsFault::NoMemory);
+    };
+    let matches = match hub.try_get_matches_from(words) {
+        Ok(matches) => matches,
+        Err(error) => return Err(fault_from(alloc, &error)),
+    };
+    match asked_of(&matches) {
+        Some(asked) => Ok(asked),
+        // Words that clap takes have every number; tests alone show it.
+        None => Err(WordsFault::NoMemory),
+    }
+}
