@@ -2,7 +2,7 @@
 use Rattle.std.proofs.Common.{◌≡◌, ℕ, zero, suc, ◌+◌, ◌-◌, ◌<◌, ◌≤◌, Bool, true, false, not, cond, List, [], ◌∷◌, ◌++◌, Some, None, length, take, drop, replicate, nat_lt, lit≤, lit<, refl, sym, ap, ap₂, ◌∙◌, inl, inr, arith, get_or}
 use Rattle.std.specs.List.{position_or_len}
 use Rattle.std.specs.Char.{is_ascii_digit}
-use Rattle.std.proofs.lemmas.Bool.{and_parts, cases_lt, leb-true, lt-ltb}
+use Rattle.std.proofs.lemmas.Bool.{and_parts, cases_lt, le-leb, le-ltb, leb-true, lt-ltb}
 use Rattle.std.proofs.lemmas.List.{map-append, length-map, drop_more, drop_all, take-append-drop}
 use Rattle.digits_core.specs.Digits.{AreDigits, AreAsciiDigits, ascii_of, digits_of, padded}
 use Rattle.digits_core.specs.Gtins.{first_other}
@@ -36,6 +36,15 @@ digits_of-ascii_of (d ∷ ds) = let here : d + 48 - 48 ≡ d = omega arith in ap
 pub digits_of-valid : (text : List ℕ) → AreAsciiDigits text → AreDigits (digits_of text)
 digits_of-valid [] h = tt
 digits_of-valid (b ∷ text) h = (let low = h.0.0 in let high = h.0.1 in let small : b - 48 < 10 = omega arith in small, digits_of-valid text h.1)
+
+pub digits-drop : (n : ℕ) (ds : List ℕ) → AreDigits ds → AreDigits (drop n ds)
+digits-drop zero ds h = h
+digits-drop (suc n) [] h = tt
+digits-drop (suc n) (d ∷ ds) h = digits-drop n ds h.1
+
+pub digits-ascii_of : (ds : List ℕ) → AreDigits ds → AreAsciiDigits (ascii_of ds)
+digits-ascii_of [] h = tt
+digits-ascii_of (d ∷ ds) h = (let small = h.0 in let low : 48 ≤ d + 48 = omega arith in let high : d + 48 < 58 = omega arith in (low, high), digits-ascii_of ds h.1)
 
 digits_of-zeros : (n : ℕ) → digits_of (replicate n 48) ≡ replicate n 0
 digits_of-zeros zero = refl
@@ -71,3 +80,17 @@ pub digits_of-padded : (text : List ℕ) (n : ℕ) → n ≡ 14 - length text �
 digits_of-padded text n e =
     map-append _ (replicate n 48) text
     ∙ ap (λ zs. zs ++ digits_of text) (digits_of-zeros n ∙ ap (λ k. replicate k 0) (e ∙ ap (λ k. 14 - k) (sym (length-map text _))))
+
+-- in a text of digits no byte is another
+digit_passes : (b : ℕ) → 48 ≤ b → b < 58 → is_ascii_digit b ≡ true
+digit_passes b low high = let top : b ≤ 57 = omega arith in rw (le-leb 48 b low, le-leb b 57 top) refl
+
+all_digits : (text : List ℕ) → AreAsciiDigits text → position_or_len (λ b. not (is_ascii_digit b)) text ≡ length text
+all_digits [] h = refl
+all_digits (b ∷ text) h = rw (digit_passes b h.0.0 h.0.1) (ap (λ n. 1 + n) (all_digits text h.1) ∙ (omega arith))
+
+past : (n m : ℕ) → n ≡ m → cond (nat_lt n m) (Some n) None ≡ None
+past n m e = rw e (rw (le-ltb m m (omega arith)) refl)
+
+pub none_if_digits : (text : List ℕ) → AreAsciiDigits text → first_other text ≡ None
+none_if_digits text h = past (position_or_len (λ b. not (is_ascii_digit b)) text) (length text) (all_digits text h)

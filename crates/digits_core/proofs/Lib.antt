@@ -1,2 +1,5 @@
 pub mod DigitTexts
+pub mod Lines
+pub mod Suppression
 pub mod Weights
+pub mod Zeros

@@ -1,5 +1,5 @@
 -- The weighted sum, digit by digit.
-use Rattle.std.proofs.Common.{◌≡◌, ℕ, zero, suc, ◌+◌, ◌-◌, ◌*◌, ◌%◌, ◌<◌, List, [], ◌∷◌, ◌++◌, length, drop, replicate, refl, ap, ◌∙◌, arith, get_or, length-append, inl, inr, ◌≤◌}
+use Rattle.std.proofs.Common.{sym, ◌≡◌, ℕ, zero, suc, ◌+◌, ◌-◌, ◌*◌, ◌%◌, ◌<◌, List, [], ◌∷◌, ◌++◌, length, drop, replicate, refl, ap, ◌∙◌, arith, get_or, length-append, inl, inr, ◌≤◌}
 use Rattle.std.proofs.lemmas.Bool.{cases_lt}
 use Rattle.std.proofs.lemmas.List.{drop_more, length-drop}
 use Rattle.digits_core.specs.Digits.{weight, weighted, IsChecked, padded}
@@ -40,3 +40,6 @@ weighs_little w d r e h =
 -- two last digits after the same payload are the same
 pub one_check : (sum a b : ℕ) → (sum + a) % 10 ≡ 0 → (sum + b) % 10 ≡ 0 → a < 10 → b < 10 → a ≡ b
 one_check sum a b h k la lb = omega arith
+
+pub checked_unpadded : (ds : List ℕ) → IsChecked (padded ds) → IsChecked ds
+checked_unpadded ds h = ap (λ n. n % 10) (sym (weighted-zeros (14 - length ds) ds)) ∙ h

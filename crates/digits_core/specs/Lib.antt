@@ -2,3 +2,4 @@ pub mod Bytes
 pub mod Digits
 pub mod Faults
 pub mod Gtins
+pub mod Upce

@@ -1,7 +1,8 @@
 //! Global Trade Item Numbers.
-ghost use Rattle.std.specs.Prelude.{None, Some, ◌≡◌, ◌↔◌, ◌-◌, ◌≤◌, ◌++◌, ℕ, List, drop, length, replicate, IfErr, IfOk, IfSome, IsSome, OnOk};
+ghost use Rattle.std.specs.Prelude.{None, Some, ◌≡◌, ◌==◌, ◌↔◌, ◌-◌, ◌≤◌, ◌++◌, ℕ, List, drop, length, replicate, IfErr, IfOk, IfSome, IsOk, IsSome, IsTrue, OnOk};
 ghost use Rattle.digits_core.specs.Digits.{AreAsciiDigits, AreDigits, IsChecked, ascii_of, digits_of, padded};
-ghost use Rattle.digits_core.specs.Gtins.{first_other, gtin_fault};
+ghost use Rattle.std.specs.List.{list_all};
+ghost use Rattle.digits_core.specs.Gtins.{first_other, gtin_fault, is_gtin_length};
 
 use crate::fault::DigitFault;
 use crate::payload::is_checked;
@@ -47,6 +48,13 @@ fn zeros_before(text: &[u8]) -> [u8; 14]
     digits
 }
 
+/// Whether each byte is the digit '0'.
+pub fn are_zeros(text: &[u8]) -> bool
+    ensures { result ≡ list_all (λ byte. byte == 48) text.now }
+{
+    text.iter().all(|byte| *byte == b'0')
+}
+
 impl Gtin {
     /// The GTIN that 8, 12, 13 or 14 ASCII digits show.
     ///
@@ -56,6 +64,10 @@ impl Gtin {
         ensures ok { IfOk result (λ g. g ≡ padded (digits_of text.now)) }
         ensures taken { OnOk result (gtin_fault text.now ≡ None) }
         ensures refused { IfErr result (λ fault. gtin_fault text.now ≡ Some fault) }
+        ensures checked { IfOk result (λ g. IsChecked g) }
+        // Of digits in one of the four lengths, the check digit alone decides.
+        ensures decided { IsTrue (is_gtin_length (length text.now)) → AreAsciiDigits text.now
+            → (IsOk result ↔ IsChecked (digits_of text.now)) }
     {
         if !matches!(text.len(), 8 | 12 | 13 | 14) {
             return Err(DigitFault::Length);
@@ -80,16 +92,54 @@ impl Gtin {
         self.digits
     }
 
-    /// The 13 digits, in ASCII, of a GTIN-13 or shorter: none where a GTIN-14 needs all of its digits.
+    /// Whether the first `count` digits are zeros.
+    fn begins_with_zeros(&self, count: usize) -> bool
+        requires { count ≤ 14 }
+        ensures { IsTrue result ↔ (self.now ≡ padded (drop count self.now)) }
+    {
+        are_zeros(&self.digits[..count])
+    }
+
+    /// The 13 digits, in ASCII, of a GTIN-13, GTIN-12 or GTIN-8: none of a GTIN that needs 14 digits.
     pub fn as13(&self) -> Option<[u8; 13]>
         ensures some { IsSome result ↔ (self.now ≡ padded (drop 1 self.now)) }
         ensures value { IfSome result (λ text. text ≡ ascii_of (drop 1 self.now)) }
+        ensures digits { IfSome result AreAsciiDigits }
     {
-        if self.digits[0] != b'0' {
+        if !self.begins_with_zeros(1) {
             return None;
         }
         let mut digits = [0; 13];
         digits.copy_from_slice(&self.digits[1..]);
+        Some(digits)
+    }
+
+    /// The 12 digits, in ASCII, of a GTIN-12 or GTIN-8: none of a GTIN that needs more digits.
+    pub fn as12(&self) -> Option<[u8; 12]>
+        ensures some { IsSome result ↔ (self.now ≡ padded (drop 2 self.now)) }
+        ensures value { IfSome result (λ text. text ≡ ascii_of (drop 2 self.now)) }
+        ensures digits { IfSome result AreAsciiDigits }
+        ensures checked { IfSome result (λ text. IsChecked self.now) }
+    {
+        if !self.begins_with_zeros(2) {
+            return None;
+        }
+        let mut digits = [0; 12];
+        digits.copy_from_slice(&self.digits[2..]);
+        Some(digits)
+    }
+
+    /// The 8 digits, in ASCII, of a GTIN-8: none of a GTIN that needs more digits.
+    pub fn as8(&self) -> Option<[u8; 8]>
+        ensures some { IsSome result ↔ (self.now ≡ padded (drop 6 self.now)) }
+        ensures value { IfSome result (λ text. text ≡ ascii_of (drop 6 self.now)) }
+        ensures digits { IfSome result AreAsciiDigits }
+    {
+        if !self.begins_with_zeros(6) {
+            return None;
+        }
+        let mut digits = [0; 8];
+        digits.copy_from_slice(&self.digits[6..]);
         Some(digits)
     }
 }

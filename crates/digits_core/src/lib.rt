@@ -6,9 +6,11 @@ mod gtin;
 mod payload;
 mod sink;
 mod source;
+mod upce;
 
 pub use fault::DigitFault;
 pub use gtin::Gtin;
 pub use payload::check_digit;
 pub use sink::{Sink, ToWriter, write_all};
 pub use source::{Failed, FromReader, InputFault, Source, read_all};
+pub use upce::{upce_expand, upce_suppress};

@@ -78,8 +78,8 @@ pub enum InputFault {
     NoMemory,
 }
 
-/// All that a source still gives, at most `limit` bytes. Past the limit nothing more is read, so that
-/// an endless source ends the call too.
+/// All that a source still gives, at most `limit` bytes. The read that goes past the limit is the
+/// last one, so that an endless source ends the call too.
 pub fn read_all<S: Source>(
     alloc: Global,
     source: &mut S,

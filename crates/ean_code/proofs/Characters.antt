@@ -1,5 +1,5 @@
 -- The characters of the number sets are distinct, and lists of them are read as themselves.
-use Rattle.std.proofs.Common.{◌≡◌, ℕ, ◌+◌, ◌*◌, ◌%◌, ◌<◌, Bool, true, false, ◌&&◌, ◌==◌, nat_le, List, [], ◌∷◌, ◌++◌, length, drop, map, refl, sym, ap, ap₂, subst, ◌∙◌, arith, eqb-true}
+use Rattle.std.proofs.Common.{◌≡◌, ℕ, zero, suc, ◌+◌, ◌*◌, ◌%◌, ◌<◌, Bool, true, false, ◌&&◌, ◌==◌, nat_le, List, [], ◌∷◌, ◌++◌, length, drop, map, refl, sym, ap, ap₂, subst, ◌∙◌, arith, eqb-true, get_or}
 use Rattle.std.specs.Bool.{beq}
 use Rattle.std.specs.List.{AllByRecursion, fold, position_or_len, zip}
 use Rattle.std.proofs.lemmas.Bool.{and_parts}
@@ -50,6 +50,12 @@ right_code = record {
   width = λ d h. refl;
   back = λ d h. eqb-true _ _ (all_below-at (λ d. right_digit (right_widths d) == d) 10 refl d h);
 }
+
+-- a digit of a list of them
+pub digit_at : (i : ℕ) (ds : List ℕ) → AreDigits ds → i < length ds → get_or ds i 0 < 10
+digit_at i [] v h = absurd (omega arith)
+digit_at zero (d ∷ ds) v h = v.0
+digit_at (suc i) (d ∷ ds) v h = digit_at i ds v.1 (omega arith)
 
 pub pairs_valid : (row : List Bool) (ds : List ℕ) → AreDigits ds → AllByRecursion (λ (x : Bool × ℕ). x.1 < 10) (zip row ds)
 pairs_valid [] ds h = tt

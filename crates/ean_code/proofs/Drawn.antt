@@ -1,18 +1,19 @@
 -- What is drawn, and that it is a symbol's.
-use Rattle.std.proofs.Common.{◌≡◌, ℕ, ◌+◌, ◌*◌, ◌-◌, ◌%◌, ◌<◌, ◌≤◌, Bool, true, false, List, [], ◌∷◌, ◌++◌, length, take, drop, min, refl, sym, ap, ap₂, subst, ◌∙◌, arith, get_or, add-one}
+use Rattle.std.proofs.Common.{◌≡◌, ℕ, zero, suc, ◌+◌, ◌*◌, ◌-◌, ◌%◌, ◌<◌, ◌≤◌, Bool, true, false, List, [], ◌∷◌, ◌++◌, length, take, drop, replicate, refl, sym, ap, subst, ◌∙◌, arith, get_or, add-one}
 use Rattle.std.specs.List.{flat_map, AllByRecursion, zip}
-use Rattle.std.proofs.lemmas.List.{length-map, get_or-map, length-take, length-drop, append-nil, length-append, append_assoc, take-map, drop-map, take_all}
+use Rattle.std.proofs.lemmas.List.{length-map, get_or-map, length-take, length-drop, append-nil, length-append, take-map, drop-map}
 use Rattle.std.proofs.lemmas.List.Concat.{flat_map-append}
 use Rattle.std.proofs.lemmas.Slice.Zip.{get_or-zip, length-zip}
 use Rattle.std.proofs.Math.Seq.{take-suc}
-use Rattle.digits_core.specs.Digits.{AreDigits, digits_of}
-use Rattle.ean_code.specs.NumberSets.{left_widths, right_widths, left_part, right_part, ean13_rows, row_of}
-use Rattle.ean_code.specs.Symbols.{normal_guard, centre_guard, widths_of}
-use Rattle.ean_code.specs.Symbols.Kind.{Ean13}
+use Rattle.digits_core.specs.Digits.{AreAsciiDigits, AreDigits, digits_of}
+use Rattle.ean_code.specs.NumberSets.{left_widths, right_widths, left_part, right_part, ean8_row, ean13_rows, upce_rows, row_of}
+use Rattle.ean_code.specs.Symbols.{Kind, IsEanSymbol, digit_count, normal_guard, centre_guard, special_guard, two_halves, widths_of}
+use Rattle.ean_code.specs.Symbols.Kind.{Ean13, Ean8, UpcE}
 use Rattle.ean_code.specs.Widths.{AreWidths, AreModules}
 use Rattle.ean_code.proofs.Cells.{all_below, all_below-at, AllByRecursion-append, AllByRecursion-take, AllByRecursion-drop, length-cells}
-use Rattle.ean_code.proofs.Characters.{left_code, right_code, pairs_valid, left_char, right_digit}
-use Rattle.ean_code.proofs.Rows.{length-row}
+use Rattle.ean_code.proofs.Characters.{digit_at, left_code, right_code, pairs_valid, left_char, right_digit}
+use Rattle.ean_code.proofs.ParityRows.{length-row, length-upce_row}
+use Rattle.ean_code.proofs.Texts.{AreDigits-shown}
 use Rattle.ean_code.proofs.Widths.{are_widths, AreWidths-from}
 
 -- one piece more
@@ -42,36 +43,12 @@ left_more row text i h e =
     ∙ ap (λ c. flat_map left_widths (take i (zip row ds)) ++ left_widths c)
     (get_or-zip row ds i (false, 0) h under ∙ ap (λ d. (get_or row i false, d)) (get_or-map (λ b. b - 48) text i 0 0 (omega arith)))
 
-five_joined : (a b c d e : List ℕ) → (((a ++ b) ++ c) ++ d) ++ e ≡ a ++ (b ++ (c ++ (d ++ e)))
-five_joined a b c d e = simp append_assoc
+-- the digits of a part of a text
+pub part_shown : (n i : ℕ) (text : List ℕ) → digits_of (take n (drop i text)) ≡ take n (drop i (digits_of text))
+part_shown n i text = sym (take-map (λ b. b - 48) n (drop i text)) ∙ ap (take n) (sym (drop-map (λ b. b - 48) i text))
 
--- the parts of the text of 13 digits
-left_six : (text : List ℕ) → digits_of (take 6 (drop 1 text)) ≡ take 6 (drop 1 (digits_of text))
-left_six text = sym (take-map (λ b. b - 48) 6 (drop 1 text)) ∙ ap (take 6) (sym (drop-map (λ b. b - 48) 1 text))
-
-right_six : (text : List ℕ) → length text ≡ 13 → digits_of (take 6 (drop 7 text)) ≡ drop 7 (digits_of text)
-right_six text e =
-    ap digits_of (take_all 6 (drop 7 text) (omega (arith, length-drop 7 text))) ∙ sym (drop-map (λ b. b - 48) 7 text)
-
--- guard patterns and characters, one after the other, are the symbol
-pub symbol_joined : (text : List ℕ) (row : List Bool) (one two three four five : List ℕ) → length text ≡ 13
-    → row ≡ row_of ean13_rows (get_or text 0 0 - 48)
-    → one ≡ normal_guard
-    → two ≡ one ++ left_part row (digits_of (take 6 (drop 1 text)))
-    → three ≡ two ++ centre_guard
-    → four ≡ three ++ right_part (digits_of (take 6 (drop 7 text)))
-    → five ≡ four ++ normal_guard
-    → five ≡ widths_of Ean13 (digits_of text)
-symbol_joined text row one two three four five count first e1 e2 e3 e4 e5 =
-    let digit : get_or (digits_of text) 0 0 ≡ get_or text 0 0 - 48 = get_or-map (λ b. b - 48) text 0 0 0 (omega arith) in
-    let same : row ≡ row_of ean13_rows (get_or (digits_of text) 0 0) = first ∙ ap (row_of ean13_rows) (sym digit) in
-    let left : left_part row (digits_of (take 6 (drop 1 text))) ≡ left_part (row_of ean13_rows (get_or (digits_of text) 0 0)) (take 6 (drop 1 (digits_of text))) =
-    ap₂ left_part same (left_six text) in
-    let right : right_part (digits_of (take 6 (drop 7 text))) ≡ right_part (drop 7 (digits_of text)) = ap right_part (right_six text count) in
-    e5
-    ∙ ap (λ w. w ++ normal_guard) (e4 ∙ ap (λ w. w ++ right_part (digits_of (take 6 (drop 7 text)))) (e3 ∙ ap (λ w. w ++ centre_guard) (e2 ∙ ap (λ w. w ++ left_part row (digits_of (take 6 (drop 1 text)))) e1)))
-    ∙ five_joined normal_guard _ centre_guard _ normal_guard
-    ∙ ap₂ (λ l r. normal_guard ++ (l ++ (centre_guard ++ (r ++ normal_guard)))) left right
+pub digit_shown : (i : ℕ) (text : List ℕ) → i < length text → get_or (digits_of text) i 0 ≡ get_or text i 0 - 48
+digit_shown i text h = get_or-map (λ b. b - 48) text i 0 0 h
 
 -- each character has widths of 1 to 4 modules
 left_tested : (b : Bool) → all_below (λ d. are_widths (left_widths (b, d))) 10 ≡ true
@@ -88,32 +65,73 @@ AreWidths-flat_map : {X : Type 0} (P : X → Type 0) (f : X → List ℕ) → ((
 AreWidths-flat_map P f each [] h = tt
 AreWidths-flat_map P f each (x ∷ xs) h = AllByRecursion-append _ (f x) (flat_map f xs) (each x h.0) (AreWidths-flat_map P f each xs h.1)
 
--- the widths of an EAN-13 are those of modules
-pub symbol_valid : (ds : List ℕ) → length ds ≡ 13 → AreDigits ds → AreModules (widths_of Ean13 ds)
-symbol_valid [] e v = absurd (omega arith)
-symbol_valid (d ∷ ds) e v =
-    let row : List Bool = row_of ean13_rows d in
-    let ls : List ℕ = take 6 ds in
-    let rs : List ℕ = drop 6 ds in
-    let lv : AreDigits ls = AllByRecursion-take _ 6 ds v.1 in
-    let rv : AreDigits rs = AllByRecursion-drop _ 6 ds v.1 in
-    let cs : List (Bool × ℕ) = zip row ls in
-    let cv : AllByRecursion (λ (x : Bool × ℕ). x.1 < 10) cs = pairs_valid row ls lv in
-    let left : List ℕ = flat_map left_widths cs in
-    let right : List ℕ = right_part rs in
-    let six : length row ≡ 6 = length-row d v.0 in
-    let ll : length ls ≡ 6 = length-take 6 ds ∙ (omega arith) in
-    let rl : length rs ≡ 6 = length-drop 6 ds ∙ (omega arith) in
-    let left_long : length left ≡ 24 = length-cells _ 4 left_widths left_char left_code cs cv ∙ ap (λ n. n * 4) (length-zip row ls ∙ ap₂ min six ll) in
-    let right_long : length right ≡ 24 = length-cells _ 4 right_widths right_digit right_code rs rv ∙ ap (λ n. n * 4) rl in
-    let whole : length (normal_guard ++ (left ++ (centre_guard ++ (right ++ normal_guard)))) ≡ 59 =
-    (let a = length-append left (centre_guard ++ (right ++ normal_guard)) in let b = length-append right normal_guard in omega arith) in
-    let one : (1 ≤ 1) × (1 ≤ 4) = (omega arith, omega arith) in
-    let guard_valid : AreWidths normal_guard = (one, (one, (one, tt))) in
-    let centre_valid : AreWidths centre_guard = (one, (one, (one, (one, (one, tt))))) in
-    let widths : AreWidths (normal_guard ++ (left ++ (centre_guard ++ (right ++ normal_guard)))) =
-    AllByRecursion-append _ normal_guard _ guard_valid
-    (AllByRecursion-append _ left _ (AreWidths-flat_map _ left_widths left_valid cs cv)
-    (AllByRecursion-append _ centre_guard _ centre_valid
-    (AllByRecursion-append _ right _ (AreWidths-flat_map _ right_widths right_valid rs rv) guard_valid))) in
-    ((subst (λ n. n ≤ 595) (sym whole) (omega arith)), ap (λ n. n % 2) whole, widths)
+left_part_valid : (row : List Bool) (ds : List ℕ) → AreDigits ds → AreWidths (left_part row ds)
+left_part_valid row ds v = AreWidths-flat_map _ left_widths left_valid (zip row ds) (pairs_valid row ds v)
+
+right_part_valid : (ds : List ℕ) → AreDigits ds → AreWidths (right_part ds)
+right_part_valid ds v = AreWidths-flat_map _ right_widths right_valid ds v
+
+length-left_part : (n : ℕ) (row : List Bool) (ds : List ℕ) → AreDigits ds → length row ≡ n → length ds ≡ n → length (left_part row ds) ≡ n * 4
+length-left_part n row ds v r l =
+    length-cells _ 4 left_widths left_char left_code (zip row ds) (pairs_valid row ds v) ∙ ap (λ k. k * 4) (length-zip row ds ∙ (omega arith))
+
+length-right_part : (n : ℕ) (ds : List ℕ) → AreDigits ds → length ds ≡ n → length (right_part ds) ≡ n * 4
+length-right_part n ds v l = length-cells _ 4 right_widths right_digit right_code ds v ∙ ap (λ k. k * 4) l
+
+one_valid : (1 ≤ 1) × (1 ≤ 4)
+one_valid = (omega arith, omega arith)
+
+guard_valid : (n : ℕ) → AreWidths (replicate n 1)
+guard_valid zero = tt
+guard_valid (suc n) = (one_valid, guard_valid n)
+
+halves_valid : (n : ℕ) (left right : List ℕ) → n ≤ 6 → length left ≡ n * 4 → length right ≡ n * 4 → AreWidths left → AreWidths right → AreModules (two_halves left right)
+halves_valid n left right few ll rl lv rv =
+    let whole : length (two_halves left right) ≡ 8 * n + 11 =
+    (let a = length-append left (centre_guard ++ (right ++ normal_guard)) in let b = length-append right normal_guard in omega arith) in (
+      subst (λ k. k ≤ 595) (sym whole) (omega arith),
+      ap (λ k. k % 2) whole ∙ (omega arith),
+      AllByRecursion-append _ normal_guard _ (guard_valid 3)
+          (AllByRecursion-append _ left _ lv
+          (AllByRecursion-append _ centre_guard _ (guard_valid 5) (AllByRecursion-append _ right _ rv (guard_valid 3)))),
+    )
+
+upce_valid : (left : List ℕ) → length left ≡ 24 → AreWidths left → AreModules (normal_guard ++ (left ++ special_guard))
+upce_valid left ll lv =
+    let whole : length (normal_guard ++ (left ++ special_guard)) ≡ 33 = (let a = length-append left special_guard in omega arith) in (
+      subst (λ k. k ≤ 595) (sym whole) (omega arith),
+      ap (λ k. k % 2) whole,
+      AllByRecursion-append _ normal_guard _ (guard_valid 3) (AllByRecursion-append _ left _ lv (guard_valid 6)),
+    )
+
+-- the widths of a symbol are those of modules
+pub symbol_valid : (kind : Kind) (ds : List ℕ) → length ds ≡ digit_count kind → AreDigits ds → AreModules (widths_of kind ds)
+symbol_valid Ean13 ds e v =
+    let small = digit_at 0 ds v (omega arith) in
+    let row : List Bool = row_of ean13_rows (get_or ds 0 0) in
+    let six : length row ≡ 6 = length-row (get_or ds 0 0) small in
+    let lv : AreDigits (take 6 (drop 1 ds)) = AllByRecursion-take _ 6 (drop 1 ds) (AllByRecursion-drop _ 1 ds v) in
+    let rv : AreDigits (drop 7 ds) = AllByRecursion-drop _ 7 ds v in
+    let ll : length (take 6 (drop 1 ds)) ≡ 6 = length-take 6 (drop 1 ds) ∙ (omega (arith, length-drop 1 ds)) in
+    let rl : length (drop 7 ds) ≡ 6 = length-drop 7 ds ∙ (omega arith) in
+    halves_valid 6 _ _ (omega arith) (length-left_part 6 row _ lv six ll) (length-right_part 6 _ rv rl) (left_part_valid row _ lv) (right_part_valid _ rv)
+symbol_valid Ean8 ds e v =
+    let lv : AreDigits (take 4 ds) = AllByRecursion-take _ 4 ds v in
+    let rv : AreDigits (drop 4 ds) = AllByRecursion-drop _ 4 ds v in
+    let ll : length (take 4 ds) ≡ 4 = length-take 4 ds ∙ (omega arith) in
+    let rl : length (drop 4 ds) ≡ 4 = length-drop 4 ds ∙ (omega arith) in
+    halves_valid 4 _ _ (omega arith) (length-left_part 4 ean8_row _ lv refl ll) (length-right_part 4 _ rv rl) (left_part_valid ean8_row _ lv) (right_part_valid _ rv)
+symbol_valid UpcE ds e v =
+    let small = digit_at 6 ds v (omega arith) in
+    let row : List Bool = row_of upce_rows (get_or ds 6 0) in
+    let six : length row ≡ 6 = length-upce_row (get_or ds 6 0) small in
+    let lv : AreDigits (take 6 ds) = AllByRecursion-take _ 6 ds v in
+    let ll : length (take 6 ds) ≡ 6 = length-take 6 ds ∙ (omega arith) in
+    upce_valid _ (length-left_part 6 row _ lv six ll) (left_part_valid row _ lv)
+
+-- what is drawn of a text of digits is its symbol
+pub symbol_drawn : (kind : Kind) (text ms : List ℕ) → length text ≡ digit_count kind → AreAsciiDigits text → ms ≡ widths_of kind (digits_of text) → IsEanSymbol kind ms (digits_of text)
+symbol_drawn kind text ms n v e = record { count = length-map text _ ∙ n; valid = AreDigits-shown text v; widths = e }
+
+pub modules_drawn : (kind : Kind) (text ms : List ℕ) → length text ≡ digit_count kind → AreAsciiDigits text → ms ≡ widths_of kind (digits_of text) → AreModules ms
+modules_drawn kind text ms n v e = subst AreModules (sym e) (symbol_valid kind (digits_of text) (length-map text _ ∙ n) (AreDigits-shown text v))

@@ -10,7 +10,7 @@ use Rattle.ean_code.specs.Symbols.{normal_guard, centre_guard, special_guard, Ki
 use Rattle.ean_code.specs.Symbols.Kind.{Ean13, Ean8, UpcE}
 use Rattle.ean_code.proofs.Cells.{all_below-at, cells, AllByRecursion-take, AllByRecursion-drop}
 use Rattle.ean_code.proofs.Characters.{right_digit, lefts, lefts-drawn, drop-left_part, rights-drawn, firsts, seconds}
-use Rattle.ean_code.proofs.Rows.{row_place, row_ok, rows_tested}
+use Rattle.ean_code.proofs.ParityRows.{row_place, row_ok, rows_tested}
 
 -- the digits that modules show, if they show some
 abbrev pub shown : Kind → List ℕ → List ℕ

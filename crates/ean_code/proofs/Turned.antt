@@ -10,7 +10,7 @@ use Rattle.ean_code.specs.Symbols.{normal_guard, centre_guard, IsEanSymbol}
 use Rattle.ean_code.specs.Symbols.Kind.{Ean13, Ean8}
 use Rattle.ean_code.proofs.Cells.{all_below-at, cells, cells-flat_map, AllByRecursion-take, AllByRecursion-drop, AllByRecursion-reverse, reverse-flat_map, flat_map-along, map-along, same, same-true}
 use Rattle.ean_code.proofs.Characters.{left_char, same_bool, left_code, lefts, lefts-drawn, firsts}
-use Rattle.ean_code.proofs.Rows.{length-row}
+use Rattle.ean_code.proofs.ParityRows.{length-row}
 
 pub turned : (g l c r h : List ℕ) → reverse (g ++ (l ++ (c ++ (r ++ h)))) ≡ reverse h ++ (reverse r ++ (reverse c ++ (reverse l ++ reverse g)))
 turned g l c r h = simp (reverse-append, append_assoc)

@@ -1,5 +1,5 @@
 -- No UPC-E is one backwards: it would be six characters 1114, and so a row of set A alone.
-use Rattle.std.proofs.Common.{◌≡◌, ℕ, zero, suc, ◌<◌, Bool, true, false, ◌&&◌, not, ◌==◌, List, [], ◌∷◌, ◌++◌, length, take, reverse, refl, sym, ap, ◌∙◌, arith, get_or}
+use Rattle.std.proofs.Common.{◌≡◌, ℕ, ◌<◌, Bool, true, false, ◌&&◌, not, ◌==◌, List, [], ◌∷◌, ◌++◌, length, take, reverse, refl, sym, ap, ◌∙◌, arith, get_or}
 use Rattle.std.specs.Prelude.{if◌then◌else◌}
 use Rattle.std.specs.Bool.{beq}
 use Rattle.std.specs.List.{flat_map, AllByRecursion, zip}
@@ -11,8 +11,8 @@ use Rattle.ean_code.specs.NumberSets.{left_widths, upce_rows, row_of}
 use Rattle.ean_code.specs.Symbols.{normal_guard, special_guard, IsEanSymbol}
 use Rattle.ean_code.specs.Symbols.Kind.{UpcE}
 use Rattle.ean_code.proofs.Cells.{all_below, all_below-at, AllByRecursion-take, AllByRecursion-reverse, reverse-flat_map, same, same-true}
-use Rattle.ean_code.proofs.Characters.{same_bool, pairs_valid, firsts}
-use Rattle.ean_code.proofs.Rows.{length-upce_row}
+use Rattle.ean_code.proofs.Characters.{digit_at, same_bool, pairs_valid, firsts}
+use Rattle.ean_code.proofs.ParityRows.{length-upce_row}
 
 -- a character that begins 1 1 1 is the digit 6 of set A
 pub ones_are_six : (b : Bool) → all_below (λ d. if same (take 3 (left_widths (b, d))) normal_guard then same (left_widths (b, d)) (1 ∷ 1 ∷ 1 ∷ 4 ∷ []) && not b else true) 10 ≡ true
@@ -63,11 +63,6 @@ all_sixes (c ∷ cs) (d ∷ ds) v u e =
     let rest = flat_map (λ (x : Bool × ℕ). reverse (left_widths x)) ds in
     (one.1, all_sixes cs ds v.1 u.1 (parts.2 ∙ ap (λ w. get_or w 2 0 ∷ get_or w 1 0 ∷ get_or w 0 0 ∷ rest) other))
 
-pub last_valid : (i : ℕ) (ds : List ℕ) → AreDigits ds → i < length ds → get_or ds i 0 < 10
-last_valid i [] v h = absurd (omega arith)
-last_valid zero (d ∷ ds) v h = v.0
-last_valid (suc i) (d ∷ ds) v h = last_valid i ds v.1 (omega arith)
-
 pub turned_short : (g l h : List ℕ) → reverse (g ++ (l ++ h)) ≡ reverse h ++ (reverse l ++ reverse g)
 turned_short g l h = simp (reverse-append, append_assoc)
 
@@ -96,7 +91,7 @@ one_wayE ms ds es e f =
     let other : AreDigits (take 6 es) = AllByRecursion-take _ 6 es f.valid in
     let sixes = all_sixes cs (reverse bs) (pairs_valid row (take 6 ds) valid) (AllByRecursion-reverse _ bs (pairs_valid _ (take 6 es) other)) turned_cells in
     let count : length ds ≡ 7 = e.count in
-    let check : get_or ds 6 0 < 10 = last_valid 6 ds e.valid (omega arith) in
+    let check : get_or ds 6 0 < 10 = digit_at 6 ds e.valid (omega arith) in
     let long : length (take 6 ds) ≡ 6 = length-take 6 ds ∙ (omega arith) in
     let ll : length (take 6 ds) ≡ length row = long ∙ sym (length-upce_row (get_or ds 6 0) check) in
     let a : get_or row 0 false ≡ false = sym (ap (λ r. get_or r 0 false) (firsts-zip row (take 6 ds) ll)) ∙ first_a cs sixes in

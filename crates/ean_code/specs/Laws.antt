@@ -1,8 +1,10 @@
 -- What holds of the symbols whatever reads them.
-use Rattle.std.specs.Prelude.{◌≡◌, ℕ, List, [], ◌∷◌, ◌++◌, reverse}
+use Rattle.std.specs.Prelude.{◌≡◌, ◌≢◌, ◌<◌, ℕ, List, [], ◌∷◌, ◌++◌, length, reverse, slice_index, slice_set}
 use Rattle.std.specs.List.{flat_map}
+use Rattle.digits_core.specs.Digits.{AreDigits, IsChecked}
 use Rattle.ean_code.specs.NumberSets.{four}
-use Rattle.ean_code.specs.Symbols.{normal_guard, centre_guard, special_guard, Kind, IsEanSymbol, widths_of}
+use Rattle.ean_code.specs.Spelling.{IsGtinOf}
+use Rattle.ean_code.specs.Symbols.{normal_guard, centre_guard, special_guard, Kind, IsCheckedPlace, IsEanSymbol, digit_count, widths_of}
 use Rattle.ean_code.specs.Symbols.Kind.{Ean13, Ean8, UpcE}
 
 -- a symbol shows one list of digits
@@ -12,6 +14,21 @@ OneReading = (kind : Kind) (modules ds es : List ℕ) → IsEanSymbol kind modul
 -- no symbol of this kind is one of this kind backwards
 abbrev pub OneWay : Kind → Type 0
 OneWay kind = (modules ds es : List ℕ) → IsEanSymbol kind modules ds → IsEanSymbol kind (reverse modules) es → ⊥
+
+-- digits that stand for a checked GTIN stand for none with one at a checked place replaced by another
+abbrev pub ReplacedIsUnchecked : Kind → Type 0
+ReplacedIsUnchecked kind =
+    (digits gtin other : List ℕ) (k d : ℕ)
+    → length digits ≡ digit_count kind
+    → AreDigits digits
+    → IsGtinOf kind digits gtin
+    → IsChecked gtin
+    → IsCheckedPlace kind k
+    → d < 10
+    → d ≢ slice_index digits k
+    → IsGtinOf kind (slice_set digits k d) other
+    → IsChecked other
+    → ⊥
 
 -- the printed symbol 9501101530003
 abbrev pub PrintedEan13 : Type 0

@@ -1,5 +1,5 @@
 -- The symbols of EAN and UPC as lists of widths in modules, from a bar to a bar (ISO/IEC 15420, symbol structure).
-use Rattle.std.specs.Prelude.{◌≡◌, ℕ, List, [], ◌∷◌, ◌++◌, length, take, drop, slice_index}
+use Rattle.std.specs.Prelude.{◌≡◌, ℕ, ◌<◌, ◌≤◌, List, [], ◌∷◌, ◌++◌, length, take, drop, slice_index}
 use Rattle.digits_core.specs.Digits.{AreDigits}
 use Rattle.ean_code.specs.NumberSets.{ean13_rows, ean8_row, upce_rows, row_of, left_part, right_part}
 
@@ -27,14 +27,14 @@ digit_count Ean13 = 13
 digit_count Ean8 = 8
 digit_count UpcE = 7
 
+-- the widths of a symbol that has these left and right of its centre guard pattern
+abbrev pub two_halves : List ℕ → List ℕ → List ℕ
+two_halves left right = normal_guard ++ (left ++ (centre_guard ++ (right ++ normal_guard)))
+
 -- the widths of the symbol that shows these digits: guard patterns and characters in their order
 abbrev pub widths_of : Kind → List ℕ → List ℕ
-widths_of Ean13 ds =
-    normal_guard
-    ++ (left_part (row_of ean13_rows (slice_index ds 0)) (take 6 (drop 1 ds))
-    ++ (centre_guard ++ (right_part (drop 7 ds) ++ normal_guard)))
-widths_of Ean8 ds =
-    normal_guard ++ (left_part ean8_row (take 4 ds) ++ (centre_guard ++ (right_part (drop 4 ds) ++ normal_guard)))
+widths_of Ean13 ds = two_halves (left_part (row_of ean13_rows (slice_index ds 0)) (take 6 (drop 1 ds))) (right_part (drop 7 ds))
+widths_of Ean8 ds = two_halves (left_part ean8_row (take 4 ds)) (right_part (drop 4 ds))
 widths_of UpcE ds =
     normal_guard ++ (left_part (row_of upce_rows (slice_index ds 6)) (take 6 ds) ++ special_guard)
 
@@ -43,3 +43,10 @@ pub record IsEanSymbol (kind : Kind) (modules digits : List ℕ) : Type 0 where
   pub count : length digits ≡ digit_count kind
   pub valid : AreDigits digits
   pub widths : modules ≡ widths_of kind digits
+
+-- the places, from 0, whose digits are characters under the check digit: not the first of an EAN-13 and the check digit of a UPC-E, which the
+-- number sets alone show, nor the sixth of a UPC-E, which picks the line of its table
+abbrev pub IsCheckedPlace : Kind → ℕ → Type 0
+IsCheckedPlace Ean13 k = (1 ≤ k) × (k < 13)
+IsCheckedPlace Ean8 k = k < 8
+IsCheckedPlace UpcE k = k < 5

@@ -1,5 +1,5 @@
 //! Laws of the symbols, each the contract of a function.
-ghost use Rattle.ean_code.specs.Laws.{OneReading, OneWay, PrintedEan13, PrintedEan8, PrintedUpcE};
+ghost use Rattle.ean_code.specs.Laws.{OneReading, OneWay, PrintedEan13, PrintedEan8, PrintedUpcE, ReplacedIsUnchecked};
 ghost use Rattle.ean_code.specs.Symbols.Kind.{Ean13, Ean8, UpcE};
 
 /// A symbol shows one list of digits.
@@ -12,6 +12,14 @@ pub fn one_way()
     ensures ean13 { OneWay Ean13 }
     ensures ean8 { OneWay Ean8 }
     ensures upce { OneWay UpcE }
+{}
+
+/// The check digit shows that one character was replaced by another of its number set: any of an
+/// EAN-13 or EAN-8, and one of the first five of a UPC-E.
+pub fn replaced_is_unchecked()
+    ensures ean13 { ReplacedIsUnchecked Ean13 }
+    ensures ean8 { ReplacedIsUnchecked Ean8 }
+    ensures upce { ReplacedIsUnchecked UpcE }
 {}
 
 /// The definitions draw symbols as they are printed.

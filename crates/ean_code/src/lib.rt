@@ -1,13 +1,15 @@
-//! EAN-13 symbols (ISO/IEC 15420): drawn from a GTIN, and read again from their widths in modules.
+//! EAN-13, EAN-8 and UPC-E symbols (ISO/IEC 15420): drawn from a GTIN, and read again from their widths in modules.
 #![tactic(auto)]
 
 mod drawing;
 mod laws;
 mod modules;
 mod number_sets;
+mod parts;
 mod reading;
+mod rows;
 
-pub use drawing::ean13;
-pub use laws::{one_reading, one_way, printed_symbols};
+pub use drawing::{ean8, ean13, upce};
+pub use laws::{one_reading, one_way, printed_symbols, replaced_is_unchecked};
 pub use modules::Modules;
-pub use reading::{Spelled, read_ean13};
+pub use reading::{Spelled, read_ean8, read_ean13, read_upce};

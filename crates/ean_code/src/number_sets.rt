@@ -1,16 +1,16 @@
 //! The characters of EAN symbols and the number sets that they are drawn in
 //! (ISO/IEC 15420, symbol character encodation).
-ghost use Rattle.std.specs.Prelude.{[], ◌≡◌, ◌≢◌, ◌<◌, ◌≤◌, ◌%◌, ℕ, Bool, List, EachIndex, IfNone, IfSome, IsTrue, ◌↔◌, length, map, slice_index};
+ghost use Rattle.std.specs.Prelude.{◌≡◌, ◌≢◌, ◌<◌, ◌≤◌, ◌%◌, ℕ, Bool, List, EachIndex, IfNone, IfSome, length, slice_index};
 ghost use Rattle.std.specs.List.{flat_map};
 ghost use Rattle.ean_code.specs.Widths.{AreWidths};
-ghost use Rattle.ean_code.specs.NumberSets.{AreCharacters, ean13_rows, left_widths, row_of};
+ghost use Rattle.ean_code.specs.NumberSets.{AreCharacters, left_widths};
 
 use arrayvec::ArrayVec;
 
 // Number set A or B of a character left of the centre.
-const A: bool = false;
+pub(crate) const A: bool = false;
 
-const B: bool = true;
+pub(crate) const B: bool = true;
 
 /// The widths of the digits 0 to 9 in number set A, four digits for four widths, the space first.
 /// Number set C has them too, the bar first.
@@ -18,29 +18,6 @@ pub(crate) const SET_A: [u32; 10] = [3211, 2221, 2122, 1411, 1132, 1231, 1114, 1
 
 /// The widths of the digits 0 to 9 in number set B, the space first.
 pub(crate) const SET_B: [u32; 10] = [1123, 1222, 2212, 1141, 2311, 1321, 4111, 2131, 3121, 2113];
-
-/// The number sets of the left six characters of an EAN-13, by its first digit.
-const EAN13_ROWS: [[bool; 6]; 10] = [
-    [A, A, A, A, A, A],
-    [A, A, B, A, B, B],
-    [A, A, B, B, A, B],
-    [A, A, B, B, B, A],
-    [A, B, A, A, B, B],
-    [A, B, B, A, A, B],
-    [A, B, B, B, A, A],
-    [A, B, A, B, A, B],
-    [A, B, A, B, B, A],
-    [A, B, B, A, B, A],
-];
-
-/// The number sets of the left six of an EAN-13 with this first digit.
-pub(crate) fn ean13_row(digit: u8) -> &'static [bool]
-    requires { digit < 10 }
-    ensures value { result.now ≡ row_of ean13_rows digit }
-    ensures six { length result.now ≡ 6 }
-{
-    &EAN13_ROWS[usize::from(digit)]
-}
 
 /// The place of a character's widths in a number set.
 fn place(set: &[u32], pattern: u32) -> Option<usize>
@@ -88,28 +65,4 @@ pub(crate) fn characters(widths: &[u8]) -> Option<ArrayVec<(bool, u8), 6>>
         found.push(next);
     }
     Some(found)
-}
-
-/// Whether two rows of number sets are the same.
-fn are_same(row: &[bool], other: &[bool]) -> bool
-    ensures { IsTrue result ↔ (row.now ≡ other.now) }
-{
-    row == other
-}
-
-/// The first digit of an EAN-13 whose left six characters are these.
-pub(crate) fn first_digit(left: &[(bool, u8)]) -> Option<u8>
-    requires { length left.now ≡ 6 }
-    ensures found { IfSome result (λ d. (d < 10) × (map (λ c. c.0) left.now ≡ row_of ean13_rows d)) }
-    ensures none { IfNone result ((d : ℕ) → d < 10 → map (λ c. c.0) left.now ≢ row_of ean13_rows d) }
-{
-    let row = [
-        left[0].0, left[1].0, left[2].0, left[3].0, left[4].0, left[5].0,
-    ];
-    for digit in 0..10 {
-        if are_same(&row, ean13_row(digit)) {
-            return Some(digit);
-        }
-    }
-    None
 }

@@ -1,15 +1,19 @@
-//! Reads an EAN-13 from its widths.
-ghost use Rattle.std.specs.Prelude.{◌≡◌, ◌==◌, ◌∷◌, ◌++◌, ℕ, List, IfNone, IfSome, length, map, not};
-ghost use Rattle.std.specs.List.{list_all};
-ghost use Rattle.digits_core.specs.Digits.{AreAsciiDigits, AreDigits, ascii_of, digits_of};
+//! Reads EAN-13, EAN-8 and UPC-E symbols from their widths.
+ghost use Rattle.std.specs.Prelude.{◌≡◌, ◌+◌, ◌≤◌, ◌++◌, ℕ, List, IfNone, IfSome, length, map};
+ghost use Rattle.arrayvec.specs.ArrayVec.{array_vec_len};
+ghost use Rattle.digits_core.specs.Digits.{ascii_of};
+ghost use Rattle.ean_code.specs.NumberSets.{AreCharacters};
+ghost use Rattle.ean_code.specs.Parts.{IsTextOf};
 ghost use Rattle.ean_code.specs.Spelling.{IsSpelled};
 ghost use Rattle.ean_code.specs.Symbols.{IsEanSymbol};
-ghost use Rattle.ean_code.specs.Symbols.Kind.{Ean13};
+ghost use Rattle.ean_code.specs.Symbols.Kind.{Ean13, Ean8, UpcE};
 ghost use Rattle.ean_code.specs.Widths.{AreWidths};
 
 use crate::modules::Modules;
-use crate::number_sets::{characters, first_digit};
-use digits_core::Gtin;
+use crate::parts::{are_of_a, halves, six};
+use crate::rows::{first_digit, last_digit};
+use arrayvec::ArrayVec;
+use digits_core::{Gtin, upce_expand};
 
 /// What the modules of a symbol spell.
 #[derive(Clone, Copy, Debug, PartialEq, Eq)]
@@ -22,88 +26,111 @@ pub enum Spelled {
     Found(Gtin),
 }
 
-/// Whether each width is one module, as in a guard pattern.
-fn is_guard(widths: &[u8]) -> bool
-    ensures { result ≡ list_all (λ w. w == 1) widths.now }
+/// Appends the digits of characters, in ASCII.
+fn push_digits(text: &mut ArrayVec<u8, 13>, characters: &[(bool, u8)])
+    requires room { array_vec_len text.old + length characters.now ≤ 13 }
+    requires valid { AreCharacters characters.now }
+    ensures { text.new.items ≡ text.old.items ++ ascii_of (map (λ c. c.1) characters.now) }
 {
-    widths.iter().all(|width| *width == 1)
+    for i in 0..characters.len() {
+        text.push(b'0' + characters[i].1);
+    }
 }
 
-/// Whether each character is of number set A, or right of the centre of C.
-fn are_of_a(characters: &[(bool, u8)]) -> bool
-    ensures { result ≡ list_all (λ c. not c.0) characters.now }
-{
-    characters.iter().all(|character| !character.0)
-}
-
-/// The digits, the first of them shown by the number sets of the left six alone.
-fn joined(first: u8, left: &[(bool, u8)], right: &[(bool, u8)]) -> [u8; 13]
-    requires left { length left.now ≡ 6 }
-    requires right { length right.now ≡ 6 }
-    ensures { result ≡ first ∷ (map (λ c. c.1) left.now ++ map (λ c. c.1) right.now) }
-{
-    [
-        first, left[0].1, left[1].1, left[2].1, left[3].1, left[4].1, left[5].1, right[0].1,
-        right[1].1, right[2].1, right[3].1, right[4].1, right[5].1,
-    ]
-}
-
-/// The digits of the EAN-13 with these widths.
-fn digits13(widths: &[u8]) -> Option<[u8; 13]>
+/// The ASCII digits of the EAN-13 with these widths.
+fn ean13_text(widths: &[u8]) -> Option<ArrayVec<u8, 13>>
     requires { AreWidths widths.now }
-    ensures found { IfSome result (λ digits. IsEanSymbol Ean13 widths.now digits) }
+    ensures found { IfSome result (λ text. IsTextOf Ean13 widths.now text.items) }
     ensures none { IfNone result ((digits : List ℕ) → IsEanSymbol Ean13 widths.now digits → ⊥) }
 {
-    if widths.len() != 59 {
-        return None;
-    }
-    if !is_guard(&widths[0..3]) {
-        return None;
-    }
-    if !is_guard(&widths[27..32]) {
-        return None;
-    }
-    if !is_guard(&widths[56..59]) {
-        return None;
-    }
-    let Some(left) = characters(&widths[3..27]) else {
+    let Some((left, right)) = halves(widths, 6) else {
         return None;
     };
-    let Some(right) = characters(&widths[32..56]) else {
-        return None;
-    };
-    if !are_of_a(right.as_slice()) {
-        return None;
-    }
     let Some(first) = first_digit(left.as_slice()) else {
         return None;
     };
-    Some(joined(first, left.as_slice(), right.as_slice()))
+    let mut text = ArrayVec::new();
+    text.push(b'0' + first);
+    push_digits(&mut text, left.as_slice());
+    push_digits(&mut text, right.as_slice());
+    Some(text)
 }
 
-/// The ASCII text of these digits.
-fn ascii(digits: [u8; 13]) -> [u8; 13]
-    requires { AreDigits digits }
-    ensures value { result ≡ ascii_of digits }
-    ensures digits { AreAsciiDigits result }
-    ensures back { digits_of result ≡ digits }
+/// The ASCII digits of the EAN-8 with these widths.
+fn ean8_text(widths: &[u8]) -> Option<ArrayVec<u8, 13>>
+    requires { AreWidths widths.now }
+    ensures found { IfSome result (λ text. IsTextOf Ean8 widths.now text.items) }
+    ensures none { IfNone result ((digits : List ℕ) → IsEanSymbol Ean8 widths.now digits → ⊥) }
 {
-    let mut text = [b'0'; 13];
-    for i in 0..13 {
-        text[i] += digits[i];
+    let Some((left, right)) = halves(widths, 4) else {
+        return None;
+    };
+    if !are_of_a(left.as_slice()) {
+        return None;
     }
-    text
+    let mut text = ArrayVec::new();
+    push_digits(&mut text, left.as_slice());
+    push_digits(&mut text, right.as_slice());
+    Some(text)
+}
+
+/// The ASCII digits of the UPC-E with these widths: the six, and the check digit, which their number
+/// sets show.
+fn upce_text(widths: &[u8]) -> Option<ArrayVec<u8, 13>>
+    requires { AreWidths widths.now }
+    ensures found { IfSome result (λ text. IsTextOf UpcE widths.now text.items) }
+    ensures none { IfNone result ((digits : List ℕ) → IsEanSymbol UpcE widths.now digits → ⊥) }
+{
+    let Some(left) = six(widths) else {
+        return None;
+    };
+    let Some(check) = last_digit(left.as_slice()) else {
+        return None;
+    };
+    let mut text = ArrayVec::new();
+    push_digits(&mut text, left.as_slice());
+    text.push(b'0' + check);
+    Some(text)
 }
 
 /// What an EAN-13 spells, read forwards alone.
 pub fn read_ean13(modules: &Modules) -> Spelled
     ensures { IsSpelled Ean13 modules.now result }
 {
-    let Some(digits) = digits13(modules.widths()) else {
+    let Some(text) = ean13_text(modules.widths()) else {
         return Spelled::NoPattern;
     };
-    match Gtin::read(&ascii(digits)) {
+    match Gtin::read(text.as_slice()) {
         Ok(gtin) => Spelled::Found(gtin),
         Err(_) => Spelled::BadCheck,
+    }
+}
+
+/// What an EAN-8 spells, read forwards alone.
+pub fn read_ean8(modules: &Modules) -> Spelled
+    ensures { IsSpelled Ean8 modules.now result }
+{
+    let Some(text) = ean8_text(modules.widths()) else {
+        return Spelled::NoPattern;
+    };
+    match Gtin::read(text.as_slice()) {
+        Ok(gtin) => Spelled::Found(gtin),
+        Err(_) => Spelled::BadCheck,
+    }
+}
+
+/// What a UPC-E spells, read forwards alone: the GTIN-12 that its digits are expanded to, by any line of
+/// the zero-suppression table (GS1 General Specifications, section 5.2.2.4).
+pub fn read_upce(modules: &Modules) -> Spelled
+    ensures { IsSpelled UpcE modules.now result }
+{
+    let Some(text) = upce_text(modules.widths()) else {
+        return Spelled::NoPattern;
+    };
+    let mut six = [0; 6];
+    six.copy_from_slice(&text.as_slice()[..6]);
+    match upce_expand(six, text.as_slice()[6]) {
+        Some(gtin) => Spelled::Found(gtin),
+        None => Spelled::BadCheck,
     }
 }

@@ -13,6 +13,8 @@ use Rattle.scan_core.specs.declared.answer.EanAnswer.TheVariants as answer
 -- the symbology identifier of a carrier (GS1 General Specifications, section 5.1.3)
 abbrev pub identifier : Carrier → List ℕ
 identifier carrier.Ean13 = codes "]E0"
+identifier carrier.UpcE = codes "]E0"
+identifier carrier.Ean8 = codes "]E4"
 
 -- an answer: the identifier and the element (01), or why the row is refused
 abbrev pub answer_text : EanAnswer → List ℕ

@@ -95,7 +95,7 @@ pub fn read_feeds(alloc: Global, lanes: u8, bytes: &[u8]) -> Result<Vec<Vec<Runs
         Err(_) => return Err(CommandFault::NoMemory),
     };
     let mut widths = Vec::new(alloc);
-    let mut index = 0;
+    let mut index = 0usize;
     'records: for next in reader.into_byte_records() {
         let record = match next {
             Ok(record) => record,

@@ -15,7 +15,8 @@ fn identifier(carrier: Carrier) -> &'static str
     ensures { result.now ≡ identifier carrier }
 {
     match carrier {
-        Carrier::Ean13 => "]E0",
+        Carrier::Ean13 | Carrier::UpcE => "]E0",
+        Carrier::Ean8 => "]E4",
     }
 }
 

@@ -1,6 +1,8 @@
 //! One of each answer and refusal, with the text that is printed, and inputs and outputs that fail.
 
 mod fakes;
+mod numbers;
+mod rows;
 
 use crate::fault::CommandFault;
 use crate::lanes::run_lanes;
@@ -14,10 +16,6 @@ use std::test::Fail;
 // The symbol of 9501101530003, at one dot a module: its runs but for the two light ends.
 const SYMBOL: &str = "1 1 1 1 2 3 1 1 1 2 3 1 2 2 2 2 2 2 1 1 1 2 3 2 2 2 1 1 1 1 1 \
                       1 1 2 3 1 1 4 1 1 3 2 1 1 3 2 1 1 3 2 1 1 1 4 1 1 1 1 1";
-
-// The same from right to left.
-const REVERSED: &str = "1 1 1 1 1 4 1 1 1 2 3 1 1 2 3 1 1 2 3 1 1 4 1 1 3 2 1 1 \
-                        1 1 1 1 1 2 2 2 3 2 1 1 1 2 2 2 2 2 2 1 3 2 1 1 1 3 2 1 1 1 1";
 
 // The same with 4 in place of its last digit, 3, which is the check digit.
 const WRONG_CHECK_DIGIT: &str = "1 1 1 1 2 3 1 1 1 2 3 1 2 2 2 2 2 2 1 1 1 2 3 2 2 2 1 \
@@ -48,7 +46,6 @@ fn answers_each_row(rt: HostRuntime) -> Result<(), Fail> {
         ("5", SYMBOL, "5", "]E0 (01)09501101530003"),
         ("4", SYMBOL, "7", "refused 21 QuietZone"),
         ("11", SYMBOL, "4", "refused 21 QuietZone"),
-        ("7", REVERSED, "11", "refused 23 Pattern"),
         ("11", WRONG_CHECK_DIGIT, "7", "refused 24 SymbolCheckDigit"),
         ("11", WIDE_SPACE, "7", "refused 22 Modules"),
         ("0", "65535", "0", "refused 20 RunCount"),
@@ -225,22 +222,6 @@ fn reads_words(rt: HostRuntime) -> Result<(), Fail> {
         let words = words_of(alloc, text)?;
         let fault = read_words(alloc, words.as_slice());
         assert!(rt; matches!(fault, Err(WordsFault::Help(_))), "{text}");
-    }
-    Ok(())
-}
-
-#[test]
-fn reads_numbers(rt: HostRuntime) -> Result<(), Fail> {
-    assert_eq!(rt; check_digit(b"950110153000"), 3);
-    let gtin = Gtin::read(b"9501101530003").ok().ok_or("a number")?;
-    assert_eq!(rt; gtin.digits14().as_slice(), b"09501101530003".as_slice());
-    for (text, fault) in [
-        (b"123".as_slice(), "refused 1 Length"),
-        (b"950110153000X".as_slice(), "refused 2 NotDigit 12"),
-        (b"9501101530004".as_slice(), "refused 3 CheckDigit"),
-    ] {
-        let found = Gtin::read(text).err().ok_or("a fault")?;
-        assert_eq!(rt; found.to_string(rt.alloc())?.as_str(), fault);
     }
     Ok(())
 }

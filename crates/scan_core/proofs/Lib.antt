@@ -1,4 +1,9 @@
 pub mod AnswerFacts
 pub mod CandidateFacts
+pub mod CutFacts
+pub mod DotFacts
+pub mod ReplacedFacts
 pub mod RoundingFacts
 pub mod RowFacts
+pub mod TurnedFacts
+pub mod WayFacts

@@ -10,6 +10,11 @@ use Rattle.std.proofs.lemmas.List.Sums.{sum_by-cons, sum_by-take-le, sum_by-take
 use Rattle.scan_core.specs.declared.fault.RunFault.TheVariants.{BadRuns, TooWide}
 use Rattle.scan_core.specs.Row.{IsRow, dots_from, dots_of, inner, runs_fault}
 
+-- one element more of which it holds
+pub each-push : (P : ℕ → Type 0) (ws : List ℕ) (w : ℕ) → AllByRecursion P ws → P w → AllByRecursion P (ws ++ w ∷ [])
+each-push P [] w each last = (last, tt)
+each-push P (x ∷ ws) w each last = (each.0, each-push P ws w each.1 last)
+
 -- what passes the test has dots
 each_dot : (ws : List ℕ) → list_all (λ w. nat_le 1 w) ws ≡ true → AllByRecursion (λ w. 1 ≤ w) ws
 each_dot [] h = tt

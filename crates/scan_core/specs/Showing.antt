@@ -1,10 +1,10 @@
 -- The symbol that a row shows (ISO/IEC 15420; GS1 General Specifications, section 5.2).
-use Rattle.std.specs.Prelude.{◌≡◌, ℕ, ◌+◌, ◌-◌, ◌*◌, ◌≤◌, List, length, sum, slice_index}
+use Rattle.std.specs.Prelude.{◌≡◌, ℕ, ◌+◌, ◌-◌, ◌*◌, ◌≤◌, List, length, reverse, sum, slice_index}
 use Rattle.std.specs.List.{AllZip}
-use Rattle.ean_code.specs.Symbols.{IsEanSymbol}
-use Rattle.ean_code.specs.Symbols.Kind.{Ean13 as KindEan13}
+use Rattle.ean_code.specs.Symbols.{IsEanSymbol, Kind}
+use Rattle.ean_code.specs.Symbols.Kind.{Ean13 as KindEan13, Ean8 as KindEan8, UpcE as KindUpcE}
 use Rattle.scan_core.specs.declared.carrier.Carrier.{Carrier}
-use Rattle.scan_core.specs.declared.carrier.Carrier.TheVariants.{Ean13}
+use Rattle.scan_core.specs.declared.carrier.Carrier.TheVariants.{Ean13, Ean8, UpcE}
 use Rattle.scan_core.specs.Row.{inner}
 
 -- how far two numbers are apart
@@ -29,15 +29,35 @@ pub record IsQuiet (runs : List ℕ) (N : ℕ) : Type 0 where
 -- a symbol of the carrier has n runs and is N modules wide
 abbrev pub IsCandidate : Carrier → ℕ → ℕ → Type 0
 IsCandidate Ean13 n N = (n ≡ 59) × (N ≡ 95)
+IsCandidate Ean8 n N = (n ≡ 43) × (N ≡ 67)
+IsCandidate UpcE n N = (n ≡ 33) × (N ≡ 51)
+
+-- the carrier of the symbols of this kind
+abbrev pub carrier_of : Kind → Carrier
+carrier_of KindEan13 = Ean13
+carrier_of KindEan8 = Ean8
+carrier_of KindUpcE = UpcE
 
 -- the modules are a symbol of the carrier
 abbrev pub HasForm : Carrier → List ℕ → Type 0
 HasForm Ean13 modules = (digits : List ℕ) × IsEanSymbol KindEan13 modules digits
+HasForm Ean8 modules = (digits : List ℕ) × IsEanSymbol KindEan8 modules digits
+HasForm UpcE modules = (digits : List ℕ) × IsEanSymbol KindUpcE modules digits
 
--- the row shows a symbol of the carrier with these modules, read from left to right
-pub record Shows (runs : List ℕ) (carrier : Carrier) (modules : List ℕ) : Type 0 where
+-- from left to right, or from right to left
+pub data Way : Type 0 where
+  Forwards : Way
+  Backwards : Way
+
+-- the widths in the order in which they are read this way
+abbrev pub along : Way → List ℕ → List ℕ
+along Forwards widths = widths
+along Backwards widths = reverse widths
+
+-- the row shows a symbol of the carrier with these modules, read this way
+pub record Shows (runs : List ℕ) (carrier : Carrier) (way : Way) (modules : List ℕ) : Type 0 where
   pub N : ℕ
   pub candidate : IsCandidate carrier (length (inner runs)) N
   pub quiet : IsQuiet runs N
-  pub rounds : Rounds (inner runs) N modules
+  pub rounds : Rounds (along way (inner runs)) N modules
   pub form : HasForm carrier modules

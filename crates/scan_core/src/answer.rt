@@ -1,12 +1,12 @@
 //! What a row of an EAN symbol says.
-ghost use Rattle.scan_core.specs.Answers.{IsAnswer, Spells};
+ghost use Rattle.scan_core.specs.Answers.{IsAnswer, Spells, SpellsSomeWay};
 
 use crate::carrier::{Carrier, candidate};
 use crate::fault::RowFault;
 use crate::rounding::{is_quiet, round, total_dots};
 use crate::runs::{Runs, inner};
 use digits_core::Gtin;
-use ean_code::{Modules, Spelled, read_ean13};
+use ean_code::{Modules, Spelled, read_ean8, read_ean13, read_upce};
 
 /// What a row says.
 #[derive(Clone, Copy, Debug, PartialEq, Eq)]
@@ -28,10 +28,27 @@ fn spelled(carrier: Carrier, modules: &Modules) -> Spelled
 {
     match carrier {
         Carrier::Ean13 => read_ean13(modules),
+        Carrier::Ean8 => read_ean8(modules),
+        Carrier::UpcE => read_upce(modules),
     }
 }
 
-/// What the row says, read from left to right as an EAN-13 symbol (ISO/IEC 15420).
+/// What the modules of a row spell as a symbol of the carrier, read from the left or else from the
+/// right.
+fn spelled_some_way(carrier: Carrier, mut modules: Modules) -> Spelled
+    ensures { SpellsSomeWay carrier modules result }
+{
+    match spelled(carrier, &modules) {
+        Spelled::NoPattern => {
+            modules.reverse();
+            spelled(carrier, &modules)
+        }
+        forwards => forwards,
+    }
+}
+
+/// What the row says, read from the left or from the right as a symbol of EAN or UPC
+/// (ISO/IEC 15420).
 ///
 /// A run is rounded to the nearest number of modules, by at most a third of one; the symbol's own
 /// width says how wide a module is.
@@ -53,7 +70,7 @@ pub fn read_ean(runs: &Runs) -> EanAnswer
     let Some(modules) = round(inner, total, count) else {
         return EanAnswer::Refused(RowFault::Modules);
     };
-    match spelled(carrier, &modules) {
+    match spelled_some_way(carrier, modules) {
         Spelled::NoPattern => EanAnswer::Refused(RowFault::Pattern),
         Spelled::BadCheck => EanAnswer::Refused(RowFault::SymbolCheckDigit),
         Spelled::Found(gtin) => EanAnswer::Read { carrier, gtin },

@@ -1,7 +1,9 @@
 //! Why widths are no row, and why a row is not read.
-ghost use Rattle.std.specs.Prelude.{Some};
+ghost use Rattle.std.specs.Prelude.{Some, ◌≡◌};
 ghost use Rattle.scan_core.specs.Faults.{row_fault_text, run_fault_text};
+ghost use Rattle.scan_core.specs.declared.fault.RunFault.TheVariants.{NoMemory};
 
+use std::alloc::AllocFailed;
 use std::fmt;
 
 /// Why widths are no row.
@@ -13,6 +15,14 @@ pub enum RunFault {
     BadRuns,
     /// Memory for them was refused.
     NoMemory,
+}
+
+impl<T: Drop> From<AllocFailed<T>> for RunFault {
+    ghost from_gives = { λ _ fault. fault ≡ NoMemory };
+
+    fn from(_: AllocFailed<T>) -> RunFault {
+        RunFault::NoMemory
+    }
 }
 
 /// Why a row is not read: the first of these tests that it fails. From the quiet zone on they are
@@ -27,9 +37,9 @@ pub enum RowFault {
     QuietZone,
     /// A run is more than a third of a module away from each of 1, 2, 3 and 4 modules.
     Modules,
-    /// The modules are no symbol of the carrier.
+    /// The modules are no symbol of the carrier, whichever way they are read.
     Pattern,
-    /// The symbol's last digit is not the check digit of the others.
+    /// The check digit that the symbol shows is not that of its number.
     SymbolCheckDigit,
 }
 

@@ -11,5 +11,8 @@ mod runs;
 pub use answer::{EanAnswer, read_ean};
 pub use carrier::Carrier;
 pub use fault::{RowFault, RunFault};
-pub use laws::{one_answer, row_or_fault};
+pub use laws::{
+    dots_determine, one_answer, one_symbol, replacement_is_noticed, row_or_fault, turned_dots,
+    turned_row,
+};
 pub use runs::Runs;

@@ -1,7 +1,8 @@
 //! Rows of dots.
-ghost use Rattle.std.specs.Prelude.{None, Some, ◌≡◌, ◌≢◌, ◌<◌, ◌↔◌, IfErr, IfOk, IsErrOf, IsTrue, OnOk, nat_le, sum};
+ghost use Rattle.std.specs.Prelude.{Err, None, Some, ◌≡◌, ◌≢◌, ◌<◌, ◌≤◌, ◌+◌, ◌*◌, ◌↔◌, IfErr, IfOk, IsErrOf, IsTrue, OnOk, length, nat_le, reverse, sum};
 ghost use Rattle.std.specs.List.{list_all};
-ghost use Rattle.scan_core.specs.Row.{IsRow, inner, runs_fault};
+ghost use Rattle.scan_core.specs.Bits.{dot_at, dots_at};
+ghost use Rattle.scan_core.specs.Row.{IsRow, dots_of, inner, runs_fault};
 
 use crate::fault::RunFault;
 use std::alloc::Global;
@@ -72,6 +73,17 @@ fn runs_fault(widths: &[u16]) -> Option<RunFault>
     None
 }
 
+/// Whether the dot `k` dots after `from` is dark, in bytes that each have their first dot in the
+/// high bit.
+fn is_dark(bits: &[u8], from: usize, k: usize) -> bool
+    requires within { from + k < 8 * length bits.now }
+    requires few { k ≤ 65535 }
+    ensures { result ≡ dot_at bits.now (from + k) }
+{
+    let first = from % 8 + k;
+    (bits[from / 8 + first / 8] >> (7 - first % 8)) % 2 == 1
+}
+
 impl Runs {
     /// The row of these widths in dots, the first and the last light.
     ///
@@ -91,11 +103,53 @@ impl Runs {
         Ok(Runs { widths })
     }
 
+    /// The row of `width` dots of packed bytes, from the dot `from` on. A byte has its first dot in
+    /// its high bit, and 1 is dark.
+    ///
+    /// A row of more than 65,535 dots is `TooWide`, before any memory is taken; else only memory can
+    /// be wanting.
+    pub fn cut(alloc: Global, bits: &[u8], from: usize, width: usize) -> Result<Runs, RunFault>
+        requires { from + width ≤ 8 * length bits.now }
+        ensures dots { IfOk result (λ r. dots_of r ≡ dots_at bits.now from width) }
+        ensures row { IfOk result IsRow }
+        ensures too_wide { 65535 < width → result ≡ Err RunFault.TooWide }
+        ensures late { width ≤ 65535 → IfErr result (λ f. f ≡ RunFault.NoMemory) }
+    {
+        if width > MOST_DOTS as usize {
+            return Err(RunFault::TooWide);
+        }
+        let mut widths = Vec::new(alloc);
+        let mut dark = false;
+        let mut run = 0u16;
+        for k in 0..width {
+            let here = is_dark(bits, from, k);
+            if here == dark {
+                run += 1;
+            } else {
+                widths.push(run)?;
+                dark = here;
+                run = 1;
+            }
+        }
+        widths.push(run)?;
+        if dark {
+            widths.push(0)?;
+        }
+        Ok(Runs { widths })
+    }
+
     /// The widths in dots, the first and the last light.
     pub fn widths(&self) -> &[u16]
         ensures value { result.now ≡ self.now }
         ensures row { IsRow self.now }
     {
         self.widths.as_slice()
+    }
+
+    /// Turns the row end for end.
+    pub fn reverse(&mut self)
+        ensures { self.new ≡ reverse self.old }
+    {
+        self.widths.as_mut_slice().reverse();
     }
 }

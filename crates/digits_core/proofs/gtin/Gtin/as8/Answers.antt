@@ -1,0 +1,17 @@
+use Rattle.std.proofs.Common.{◌≤◌, ◌∙◌, length, drop, arith, length-drop, subst, sym}
+use Rattle.std.proofs.lemmas.List.{take_all}
+use Rattle.digits_core.specs.Digits.{AreAsciiDigits, AreDigits}
+use Rattle.digits_core.proofs.DigitTexts.{digits-ascii_of, digits-drop, digits_of-valid}
+use Rattle.digits_core.proofs.Zeros.{text_from}
+use Rattle.digits_core.proofs.gtin.Gtin.as8.Goals as goal
+
+pub returns-clause-value : goal.returns-clause-value
+returns-clause-value c =
+    let text = c.self.inside.digits in
+    let told = c.self.told in
+    let count : length (drop 6 text) ≤ 8 = omega (arith, length-drop 6 text) in
+    c.copy_from_slice.ensures.after ∙ take_all 8 (drop 6 text) count ∙ text_from 6 text c.args.self.now c.self.invariant.0 c.self.view_is
+
+pub returns-clause-digits : goal.returns-clause-digits
+returns-clause-digits c =
+    subst AreAsciiDigits (sym (returns-clause-value c)) (digits-ascii_of (drop 6 c.args.self.now) (digits-drop 6 c.args.self.now (subst AreDigits c.self.view_is (digits_of-valid c.self.inside.digits c.self.invariant.0))))

@@ -1,0 +1,35 @@
+-- The parts that a symbol is read by.
+use Rattle.std.specs.Prelude.{◌≡◌, ℕ, Bool, List, ◌++◌, length}
+use Rattle.std.specs.List.{flat_map}
+use Rattle.digits_core.specs.Digits.{AreAsciiDigits, AreDigits, digits_of}
+use Rattle.ean_code.specs.NumberSets.{AreCharacters, left_widths, right_part}
+use Rattle.ean_code.specs.Symbols.{Kind, IsEanSymbol, normal_guard, special_guard, two_halves}
+
+-- so many widths left of a centre guard pattern, and as many right of it, are these
+pub record AreFramed (half : ℕ) (widths left right : List ℕ) : Type 0 where
+  pub left_count : length left ≡ half
+  pub right_count : length right ≡ half
+  pub shown : widths ≡ two_halves left right
+
+-- the 24 widths between a normal and a special guard pattern are these
+pub record AreFramedSix (widths six : List ℕ) : Type 0 where
+  pub count : length six ≡ 24
+  pub shown : widths ≡ normal_guard ++ (six ++ special_guard)
+
+-- so many characters left of a centre guard pattern, and as many digits right of it, have these widths
+pub record AreHalves (count : ℕ) (widths : List ℕ) (left : List (Bool × ℕ)) (right : List ℕ) : Type 0 where
+  pub left_count : length left ≡ count
+  pub right_count : length right ≡ count
+  pub left_valid : AreCharacters left
+  pub right_valid : AreDigits right
+  pub shown : widths ≡ two_halves (flat_map left_widths left) (right_part right)
+
+-- the six characters before a special guard pattern have these widths
+pub record AreSix (widths : List ℕ) (left : List (Bool × ℕ)) : Type 0 where
+  pub count : length left ≡ 6
+  pub valid : AreCharacters left
+  pub shown : widths ≡ normal_guard ++ (flat_map left_widths left ++ special_guard)
+
+-- the text is the ASCII digits of the symbol of this kind that has these widths
+abbrev pub IsTextOf : Kind → List ℕ → List ℕ → Type 0
+IsTextOf kind widths text = AreAsciiDigits text × IsEanSymbol kind widths (digits_of text)

@@ -1,0 +1,103 @@
+//! Tells the parts of symbols apart: guard patterns and characters.
+ghost use Rattle.std.specs.Prelude.{◌≡◌, ◌↔◌, ◌≤◌, ℕ, Bool, List, IfNone, IfSome, IsTrue, length, map, not, replicate};
+ghost use Rattle.std.specs.List.{list_all};
+ghost use Rattle.ean_code.specs.Parts.{AreFramed, AreFramedSix, AreHalves, AreSix};
+ghost use Rattle.ean_code.specs.Widths.{AreWidths};
+
+use crate::number_sets::characters;
+use arrayvec::ArrayVec;
+
+/// Whether each width is one module, as in a guard pattern.
+fn is_guard(widths: &[u8]) -> bool
+    ensures { IsTrue result ↔ (widths.now ≡ replicate (length widths.now) 1) }
+{
+    widths.iter().all(|width| *width == 1)
+}
+
+/// Whether each character is of number set A, or right of the centre of C.
+pub(crate) fn are_of_a(characters: &[(bool, u8)]) -> bool
+    ensures { result ≡ list_all (λ c. not c.0) characters.now }
+{
+    characters.iter().all(|character| !character.0)
+}
+
+/// The widths left and right of the centre guard pattern, so many on either side.
+fn framed(widths: &[u8], half: usize) -> Option<(&[u8], &[u8])>
+    requires { half ≤ 24 }
+    ensures found { IfSome result (λ h. AreFramed half widths.now h.0.now h.1.now) }
+    ensures none { IfNone result ((left right : List ℕ) → AreFramed half widths.now left right → ⊥) }
+{
+    if widths.len() != 2 * half + 11 {
+        return None;
+    }
+    let (start, rest) = widths.split_at(3);
+    let (left, rest) = rest.split_at(half);
+    let (centre, rest) = rest.split_at(5);
+    let (right, end) = rest.split_at(half);
+    if !is_guard(start) {
+        return None;
+    }
+    if !is_guard(centre) {
+        return None;
+    }
+    if !is_guard(end) {
+        return None;
+    }
+    Some((left, right))
+}
+
+/// The characters left and right of the centre guard pattern, so many on either side.
+pub(crate) fn halves(
+    widths: &[u8],
+    count: usize,
+) -> Option<(ArrayVec<(bool, u8), 6>, ArrayVec<(bool, u8), 6>)>
+    requires few { count ≤ 6 }
+    requires valid { AreWidths widths.now }
+    ensures found { IfSome result (λ h. AreHalves count widths.now h.0.items (map (λ c. c.1) h.1.items)) }
+    ensures none { IfNone result ((left : List (Bool × ℕ)) (right : List ℕ) → AreHalves count widths.now left right → ⊥) }
+{
+    let Some((left, right)) = framed(widths, 4 * count) else {
+        return None;
+    };
+    let Some(left) = characters(left) else {
+        return None;
+    };
+    let Some(right) = characters(right) else {
+        return None;
+    };
+    if !are_of_a(right.as_slice()) {
+        return None;
+    }
+    Some((left, right))
+}
+
+/// The widths between a normal and a special guard pattern, 24 of them.
+fn framed_six(widths: &[u8]) -> Option<&[u8]>
+    ensures found { IfSome result (λ six. AreFramedSix widths.now six.now) }
+    ensures none { IfNone result ((six : List ℕ) → AreFramedSix widths.now six → ⊥) }
+{
+    if widths.len() != 33 {
+        return None;
+    }
+    let (start, rest) = widths.split_at(3);
+    let (six, end) = rest.split_at(24);
+    if !is_guard(start) {
+        return None;
+    }
+    if !is_guard(end) {
+        return None;
+    }
+    Some(six)
+}
+
+/// The six characters of a UPC-E.
+pub(crate) fn six(widths: &[u8]) -> Option<ArrayVec<(bool, u8), 6>>
+    requires { AreWidths widths.now }
+    ensures found { IfSome result (λ cs. AreSix widths.now cs.items) }
+    ensures none { IfNone result ((cs : List (Bool × ℕ)) → AreSix widths.now cs → ⊥) }
+{
+    let Some(six) = framed_six(widths) else {
+        return None;
+    };
+    characters(six)
+}

@@ -1,0 +1,53 @@
+//! Numbers: outside vectors, and each refusal once.
+
+use digits_core::{Gtin, check_digit, upce_expand, upce_suppress};
+use std::test::Fail;
+
+#[test]
+fn reads_numbers(rt: HostRuntime) -> Result<(), Fail> {
+    assert_eq!(rt; check_digit(b"950110153000"), 3);
+    let gtin = Gtin::read(b"9501101530003").ok().ok_or("a number")?;
+    assert_eq!(rt; gtin.digits14().as_slice(), b"09501101530003".as_slice());
+    let thirteen = gtin.as13().ok_or("13 digits")?;
+    assert_eq!(rt; thirteen.as_slice(), b"9501101530003".as_slice());
+    assert!(rt; gtin.as12().is_none() && gtin.as8().is_none());
+    let gtin = Gtin::read(b"96385074").ok().ok_or("a number")?;
+    let eight = gtin.as8().ok_or("8 digits")?;
+    let twelve = gtin.as12().ok_or("12 digits")?;
+    assert_eq!(rt; eight.as_slice(), b"96385074".as_slice());
+    assert_eq!(rt; twelve.as_slice(), b"000096385074".as_slice());
+    for (text, fault) in [
+        (b"123".as_slice(), "refused 1 Length"),
+        (b"950110153000X".as_slice(), "refused 2 NotDigit 12"),
+        (b"9501101530004".as_slice(), "refused 3 CheckDigit"),
+    ] {
+        let found = Gtin::read(text).err().ok_or("a fault")?;
+        assert_eq!(rt; found.to_string(rt.alloc())?.as_str(), fault);
+    }
+    Ok(())
+}
+
+#[test]
+fn suppresses_zeros(rt: HostRuntime) -> Result<(), Fail> {
+    for (six, check, digits) in [
+        (*b"123450", b'5', b"00012000003455"),
+        (*b"123453", b'1', b"00012300000451"),
+        (*b"123454", b'3', b"00012340000053"),
+        (*b"123459", b'6', b"00012345000096"),
+        (*b"123456", b'5', b"00012345000065"),
+        (*b"120000", b'3', b"00012000000003"),
+    ] {
+        let gtin = upce_expand(six, check).ok_or("a number")?;
+        assert_eq!(rt; gtin.digits14().as_slice(), digits.as_slice());
+        let (again, last) = upce_suppress(&gtin).ok_or("six digits")?;
+        assert_eq!(rt; again.as_slice(), six.as_slice());
+        assert_eq!(rt; last, check);
+    }
+    let gtin = upce_expand(*b"120003", b'3').ok_or("a number")?;
+    let (first, _) = upce_suppress(&gtin).ok_or("six digits")?;
+    assert_eq!(rt; first.as_slice(), b"120000".as_slice());
+    assert!(rt; upce_expand(*b"123456", b'4').is_none());
+    let gtin = Gtin::read(b"9501101530003").ok().ok_or("a number")?;
+    assert!(rt; upce_suppress(&gtin).is_none());
+    Ok(())
+}

@@ -1,0 +1,36 @@
+-- A symbol with the digit of one character replaced is a symbol with a wrong check digit.
+use Rattle.std.proofs.Common.{◌≡◌, ◌≢◌, ℕ, zero, suc, ◌<◌, List, [], ◌∷◌, length, set, refl, ◌∙◌, get_or}
+use Rattle.std.specs.List.{AllByRecursion}
+use Rattle.std.proofs.lemmas.List.{length-set}
+use Rattle.digits_core.specs.Digits.{AreDigits, IsChecked}
+use Rattle.ean_code.specs.Symbols.{Kind, IsCheckedPlace, IsEanSymbol, digit_count, widths_of}
+use Rattle.ean_code.specs.Symbols.Kind.{Ean13, Ean8, UpcE}
+use Rattle.ean_code.specs.Spelling.{IsGtinOf, IsSpelled}
+use Rattle.ean_code.specs.Laws.{ReplacedIsUnchecked}
+use Rattle.ean_code.specs.declared.reading.Spelled.TheVariants.{BadCheck}
+use Rattle.scan_core.specs.Showing.{carrier_of}
+use Rattle.scan_core.specs.Answers.{Spells}
+
+-- a digit put among digits
+each-set : (P : ℕ → Type 0) (ds : List ℕ) (k d : ℕ) → AllByRecursion P ds → P d → AllByRecursion P (set ds k d)
+each-set P [] k d each new = tt
+each-set P (x ∷ ds) zero d each new = (new, each.1)
+each-set P (x ∷ ds) (suc k) d each new = (each.0, each-set P ds k d each.1 new)
+
+spells_of : (kind : Kind) (modules : List ℕ) → IsSpelled kind modules BadCheck → Spells (carrier_of kind) modules BadCheck
+spells_of Ean13 modules bad = bad
+spells_of Ean8 modules bad = bad
+spells_of UpcE modules bad = bad
+
+pub replaced_spells : (kind : Kind) → ReplacedIsUnchecked kind → (digits gtin : List ℕ) (k d : ℕ)
+    → length digits ≡ digit_count kind → AreDigits digits → IsGtinOf kind digits gtin → IsChecked gtin
+    → IsCheckedPlace kind k → d < 10 → d ≢ get_or digits k 0
+    → Spells (carrier_of kind) (widths_of kind (set digits k d)) BadCheck
+replaced_spells kind law digits gtin k d count valid number checked place low other =
+    let symbol : IsEanSymbol kind (widths_of kind (set digits k d)) (set digits k d) = record {
+      count = length-set digits k d ∙ count;
+      valid = each-set (λ x. x < 10) digits k d valid low;
+      widths = refl;
+    } in
+    spells_of kind (widths_of kind (set digits k d))
+    (set digits k d, symbol, λ g. law digits gtin g k d count valid number checked place low other)

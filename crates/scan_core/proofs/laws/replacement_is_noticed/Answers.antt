@@ -1,0 +1,21 @@
+use Rattle.std.proofs.Common.{set}
+use Rattle.ean_code.specs.Laws.{ReplacedIsUnchecked}
+use Rattle.ean_code.specs.Symbols.{Kind, widths_of}
+use Rattle.ean_code.specs.Symbols.Kind.{Ean13, Ean8, UpcE}
+use Rattle.scan_core.specs.Showing.{carrier_of}
+use Rattle.scan_core.proofs.ReplacedFacts.{replaced_spells}
+use Rattle.scan_core.proofs.laws.replacement_is_noticed.Goals as goal
+
+each_kind : (c : goal.After-replaced_is_unchecked) → (kind : Kind) → ReplacedIsUnchecked kind
+each_kind c Ean13 = c.replaced_is_unchecked.ensures.ean13
+each_kind c Ean8 = c.replaced_is_unchecked.ensures.ean8
+each_kind c UpcE = c.replaced_is_unchecked.ensures.upce
+
+pub returns : goal.returns
+returns c = λ kind digits gtin runs k d way row count valid number checked place low other shows. (
+  carrier_of kind,
+  way,
+  widths_of kind (set digits k d),
+  shows,
+  replaced_spells kind (each_kind c kind) digits gtin k d count valid number checked place low other,
+)
