@@ -1,0 +1,17 @@
+pub mod TableLaws
+pub mod Look
+pub mod Fields
+pub mod Shown
+pub mod Unique
+pub mod Canonical
+pub mod FamilyLemmas
+pub mod Growth
+pub mod Total
+pub mod PairLemmas
+pub mod Letters
+pub mod DayLemmas
+pub mod PieceLemmas
+pub mod Lines
+pub mod GtinLemmas
+pub mod DayLaws
+pub mod Dated

@@ -1,0 +1,113 @@
+-- Pairs that are elements.
+use Rattle.std.proofs.Common.{◌≡◌, ◌⊎◌, ℕ, ◌+◌, ◌<◌, ◌≤◌, Bool, true, false, eqb, ltb, not, ◌||◌, List, [], ◌∷◌, ◌++◌, length, take, drop, get_or, Option, Some, None, refl, sym, ap, subst, ◌∙◌, append_assoc, arith, inl, inr, length-append, length-drop}
+use Rattle.std.proofs.lemmas.Bool.{eqb-true, le-ltb, lt-ltb, ne_eqb, not-false}
+use Rattle.std.proofs.lemmas.List.{nil_from_length, append-nil, length_push, take-append-drop, drop_more, take_more, map-append}
+use Rattle.element_core.specs.declared.fault.ElementFault.{ElementFault}
+use Rattle.element_core.specs.declared.fault.ElementFault.TheVariants.{UnknownAi, ValueLength, TooLong}
+use Rattle.element_core.specs.declared.pairs.Pair.{Pair}
+use Rattle.element_core.specs.Table.{Row, row_at, least_of, greatest_of}
+use Rattle.element_core.specs.Elements.{Entry, IsElement, IsElements, AreElements, Reads, row_fault, canonical}
+use Rattle.element_core.specs.Growing.{gap, last_gap}
+use Rattle.element_core.specs.Pairs.{entry_of, entries_of, entry_fault, entry_fault_by, entries_fault, list_fault, or_else}
+use Rattle.element_core.proofs.Look.{begins-split, row_is}
+use Rattle.element_core.proofs.Shown.{passes, no_fault_fits}
+use Rattle.element_core.proofs.Canonical.{canonical_reads}
+use Rattle.element_core.proofs.Growth.{canonical-push, few_elements}
+
+or_parts : (x y : Bool) → (x || y) ≡ false → (x ≡ false) × (y ≡ false)
+or_parts true y e = absurd cc
+or_parts false y e = (refl, e)
+
+seen : {X : Type 0} (o : Option X) → (o ≡ None) ⊎ ((x : X) × (o ≡ Some x))
+seen None = inl refl
+seen (Some x) = inr (x, refl)
+
+-- an entry without a fault is an element
+entry_valid : (year i : ℕ) (e : Entry) → entry_fault year i e ≡ None → (row : Row) × IsElement year row e
+entry_valid year i e none =
+    elim (seen (row_at e.ai)) [
+      | inl unknown ↦ absurd (let k = ap (entry_fault_by year i e) unknown in let n = none in cc)
+      | inr found ↦
+          let row = found.0 in
+          let r = row_is row e.ai found.1 in
+          let k : entry_fault_by year i e (Some row) ≡ None = sym (ap (entry_fault_by year i e) found.1) ∙ none in
+          let p = passes (not (eqb (length e.ai) (length row.ai))) (UnknownAi i) _ k in
+          let q = passes (ltb (length e.value) (least_of row.parts) || ltb (greatest_of row.parts) (length e.value)) (ValueLength i) _ p.1 in
+          let lengths = or_parts (ltb (length e.value) (least_of row.parts)) (ltb (greatest_of row.parts) (length e.value)) q.0 in
+          let long = lengths.0 in
+          let short = lengths.1 in
+          let same = eqb-true (length e.ai) (length row.ai) (not-false _ p.0) in
+          let whole : row_fault year i row e.value ≡ None = rw (long, short) q.1 in
+          let ai = begins-split row.ai e.ai r.1 in
+          let nothing : drop (length row.ai) e.ai ≡ [] = nil_from_length (drop (length row.ai) e.ai) (omega (arith, length-drop (length row.ai) e.ai)) in
+          (row, record { listed = r.0; ai = ai ∙ ap (λ (t : List ℕ). row.ai ++ t) nothing ∙ append-nil row.ai; value = no_fault_fits year i row e.value whole })
+    ]
+
+or_else-none : (a b : Option ElementFault) → or_else a b ≡ None → (a ≡ None) × (b ≡ None)
+or_else-none None b e = (refl, e)
+or_else-none (Some f) b e = absurd cc
+
+pub entries_valid : (year i : ℕ) (es : List Entry) → entries_fault year i es ≡ None → AreElements year es
+entries_valid year i [] e = tt
+entries_valid year i (x ∷ es) e =
+    let p = or_else-none (entry_fault year i x) (entries_fault year (i + 1) es) e in
+    (entry_valid year i x p.0, entries_valid year (i + 1) es p.1)
+
+-- more elements make no shorter text
+pub canonical_grows : (es fs : List Entry) → length (canonical es) ≤ length (canonical (es ++ fs))
+canonical_grows es [] = rw append-nil (omega arith)
+canonical_grows es (f ∷ fs) =
+    let more = canonical_grows (es ++ f ∷ []) fs in
+    let regrouped : es ++ f ∷ [] ++ fs ≡ es ++ f ∷ fs = append_assoc es (f ∷ []) fs in
+    let push = canonical-push es f in
+    omega (arith, ap length push, ap (λ (gs : List Entry). length (canonical gs)) regrouped, more, length-append (canonical es ++ last_gap es) (f.ai ++ f.value), length-append (canonical es) (last_gap es))
+
+-- one element more of a list that is known
+pub record Adds (year : ℕ) (out : List ℕ) (done all : List Entry) (separate : Bool) (e : Entry) : Type 0 where
+  pub canonical_text : out ++ gap separate ++ (e.ai ++ e.value) ≡ canonical (done ++ e ∷ [])
+  pub places : length (out ++ gap separate ++ (e.ai ++ e.value)) ≤ 192 → length done < 48
+  pub size : length (out ++ gap separate ++ (e.ai ++ e.value)) ≡ length out + length (gap separate) + length e.ai + length e.value
+  pub below : length (canonical (done ++ e ∷ [])) ≤ length (canonical all)
+
+AreElements-front : (year : ℕ) (es : List Entry) (e : Entry) (fs : List Entry) → AreElements year (es ++ e ∷ fs) → AreElements year (es ++ e ∷ [])
+AreElements-front year [] e fs are = (are.0, tt)
+AreElements-front year (x ∷ es) e fs are = (are.0, AreElements-front year es e fs are.1)
+
+pub adds : (year : ℕ) (out : List ℕ) (done rest all : List Entry) (separate : Bool) (e : Entry) → AreElements year all → all ≡ done ++ e ∷ rest → out ≡ canonical done → last_gap done ≡ gap separate → Adds year out done all separate e
+adds year out done rest all separate e are all_is out_is gap_is =
+    let longer : out ++ gap separate ++ (e.ai ++ e.value) ≡ canonical (done ++ e ∷ []) = rw (out_is, ← gap_is) (sym (canonical-push done e)) in
+    let front = AreElements-front year done e rest (subst (AreElements year) all_is are) in
+    let few = few_elements year (done ++ e ∷ []) front in
+    record {
+      canonical_text = longer;
+      places = λ h. omega (arith, few, ap length longer, length_push done e);
+      size = omega (arith, length-append (out ++ gap separate) (e.ai ++ e.value), length-append out (gap separate), length-append e.ai e.value);
+      below = subst (λ (es : List Entry). length (canonical (done ++ e ∷ [])) ≤ length (canonical es)) (append_assoc done (e ∷ []) rest ∙ sym all_is) (canonical_grows (done ++ e ∷ []) rest);
+    }
+
+pub too_long : (year : ℕ) (all : List Entry) → 0 < length all → entries_fault year 0 all ≡ None → 192 < length (canonical all) → list_fault year all ≡ Some TooLong
+too_long year all some none long =
+    let ne : length all ≡ 0 → ⊥ = λ e. omega arith in
+    rw (ne_eqb (length all) 0 ne, none, lt-ltb 192 (length (canonical all)) long) refl
+
+pub fits : (year : ℕ) (all : List Entry) → 0 < length all → entries_fault year 0 all ≡ None → length (canonical all) ≤ 192 → list_fault year all ≡ None
+fits year all some none short =
+    let ne : length all ≡ 0 → ⊥ = λ e. omega arith in
+    rw (ne_eqb (length all) 0 ne, none, le-ltb 192 (length (canonical all)) short) refl
+
+-- the entry at an index, between those before and after it
+pub entries_split : (pairs : List Pair) (i : ℕ) (pair : Pair) → i < length pairs → pair ≡ get_or pairs i pair → entries_of pairs ≡ entries_of (take i pairs) ++ entry_of pair ∷ entries_of (drop (i + 1) pairs)
+entries_split pairs i pair lt is =
+    let parts : pairs ≡ take i pairs ++ pair ∷ drop (i + 1) pairs = sym (take-append-drop i pairs) ∙ ap (λ (ps : List Pair). take i pairs ++ ps) (drop_more pairs i pair lt ∙ ap (λ (p : Pair). p ∷ drop (i + 1) pairs) (sym is)) in
+    ap entries_of parts ∙ map-append entry_of (take i pairs) (pair ∷ drop (i + 1) pairs)
+
+pub entries_more : (pairs : List Pair) (i : ℕ) (pair : Pair) → i < length pairs → pair ≡ get_or pairs i pair → entries_of (take (i + 1) pairs) ≡ entries_of (take i pairs) ++ entry_of pair ∷ []
+entries_more pairs i pair lt is =
+    ap entries_of (take_more pairs i pair lt ∙ ap (λ (p : Pair). take i pairs ++ p ∷ []) (sym is)) ∙ map-append entry_of (take i pairs) (pair ∷ [])
+
+-- the canonical text of elements is their element string
+pub finished : (year : ℕ) (out : List ℕ) (es all : List Entry) → AreElements year all → es ≡ all → out ≡ canonical es → 0 < length all → length out ≤ 192 → IsElements year out es
+finished year out es all are is out_is some short =
+    let these = subst (AreElements year) (sym is) are in
+    let few = few_elements year es these in
+    record { some = omega (arith, ap length is, ap length out_is, few); fits = short; reads = subst (λ (t : List ℕ). Reads year t es []) (sym out_is) (canonical_reads year es these) }

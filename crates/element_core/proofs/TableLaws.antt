@@ -1,0 +1,36 @@
+-- What is computed over the whole table.
+use Rattle.std.proofs.Common.{◌≡◌, true, [], None, refl}
+use Rattle.std.specs.List.{list_all}
+use Rattle.element_core.specs.Table.{families, ai_rows, NoAiBeginsAnother, FirstDigitsDecide, PartsHaveOneLength, begins_with_digit, is_long_enough, is_short_ai, is_of_digits, row_at}
+
+pub no_ai_begins_another : NoAiBeginsAnother
+unfolding families ai_rows
+no_ai_begins_another = refl
+
+pub first_digits_decide : FirstDigitsDecide
+unfolding families ai_rows
+first_digits_decide = refl
+
+pub each_begins_with_digit : list_all (λ row. begins_with_digit row.ai) ai_rows ≡ true
+unfolding families ai_rows
+each_begins_with_digit = refl
+
+pub none_begins_nothing : row_at [] ≡ None
+unfolding families ai_rows
+none_begins_nothing = refl
+
+pub each_is_long_enough : list_all is_long_enough ai_rows ≡ true
+unfolding families ai_rows
+each_is_long_enough = refl
+
+pub each_is_short : list_all is_short_ai ai_rows ≡ true
+unfolding families ai_rows
+each_is_short = refl
+
+pub each_is_of_digits : list_all is_of_digits ai_rows ≡ true
+unfolding families ai_rows
+each_is_of_digits = refl
+
+pub parts_have_one_length : PartsHaveOneLength
+unfolding families ai_rows
+parts_have_one_length = refl

@@ -1,0 +1,69 @@
+-- The day that six digits name (GS1 General Specifications, sections 3.4 and 7.12).
+use Rattle.std.specs.Prelude.{◌==◌, ◌&&◌, ◌||◌, ◌+◌, ◌-◌, ◌*◌, ◌%◌, ◌<◌, not, ℕ, Bool, List, [], ◌∷◌, length, Option, Some, None, if◌then◌else◌, nat_le, slice_index, ◌≡◌, ◌↔◌, ◌≤◌, ⊤, pos}
+use Rattle.std.specs.Int.{IsInRange}
+use Rattle.std.specs.Char.{is_ascii_digit}
+use Rattle.std.specs.List.{list_all}
+use Rattle.jiff.specs.Types.{Date}
+
+-- every fourth year, but of the centuries only every fourth
+abbrev pub is_leap : ℕ → Bool
+is_leap year = (year % 4 == 0) && (not (year % 100 == 0) || (year % 400 == 0))
+
+-- the lengths of the months of a year
+abbrev pub months : Bool → List ℕ
+months leap = 31 ∷ (if leap then 29 else 28) ∷ 31 ∷ 30 ∷ 31 ∷ 30 ∷ 31 ∷ 31 ∷ 30 ∷ 31 ∷ 30 ∷ 31 ∷ []
+
+-- the last day of a month
+abbrev pub last_day : ℕ → ℕ → ℕ
+last_day year month = slice_index (months (is_leap year)) (month - 1)
+
+-- the year of two digits: that of the reference year's century, or of the one before or after
+abbrev pub year_of : ℕ → ℕ → ℕ
+year_of reference digits =
+    if nat_le (reference % 100 + 51) digits then (reference - reference % 100) + digits - 100
+    else (if nat_le (digits + 50) (reference % 100) then (reference - reference % 100) + digits + 100
+    else (reference - reference % 100) + digits)
+
+-- the number of two ASCII digits
+abbrev pub two : List ℕ → ℕ → ℕ
+two text at = 10 * (slice_index text at - 48) + (slice_index text (at + 1) - 48)
+
+-- a day of a month of a year, where day 0 is the last
+abbrev pub day_in : ℕ → ℕ → ℕ → Option (ℕ × ℕ × ℕ)
+day_in year month day = if nat_le 1 month && (nat_le month 12 && nat_le day (last_day year month))
+    then Some (year, month, if day == 0 then last_day year month else day) else None
+
+-- the day that six digits name: year, month and day, two digits each
+abbrev pub day_named : List ℕ → ℕ → Option (ℕ × ℕ × ℕ)
+day_named six reference = day_in (year_of reference (two six 0)) (two six 2) (two six 4)
+
+-- whether a text is six ASCII digits
+abbrev pub is_six_digits : List ℕ → Bool
+is_six_digits text = (length text == 6) && list_all is_ascii_digit text
+
+-- the year, the month and the day that a text names under a reference year, if it names a day
+unfoldable pub day_of : List ℕ → ℕ → Option (ℕ × ℕ × ℕ)
+day_of text reference = if is_six_digits text then day_named text reference else None
+
+-- the first six bytes are ASCII digits
+abbrev pub AreSixDigits : List ℕ → Type 0
+AreSixDigits text = (k : ℕ) → k < 6 → IsInRange 48 57 (slice_index text k)
+
+-- the date is that day, and there is none where the day is not
+abbrev pub IsDay : Option Date → Option (ℕ × ℕ × ℕ) → Type 0
+IsDay None None = ⊤
+IsDay (Some d) (Some p) = (d.year ≡ pos p.0) × (d.month ≡ p.1) × (d.day ≡ p.2)
+IsDay None (Some p) = ⊥
+IsDay (Some d) None = ⊥
+
+-- ---- laws
+
+-- the year of two digits is the only one with them in the hundred years from 49 before the reference year on
+abbrev pub YearWindow : Type 0
+YearWindow = (reference digits year : ℕ) → 100 ≤ reference → digits < 100
+    → (year ≡ year_of reference digits) ↔ ((year % 100 ≡ digits) × (reference ≤ year + 49) × (year ≤ reference + 50))
+
+-- day 00 is the last day of its month
+abbrev pub DayZero : Type 0
+DayZero = (year month : ℕ) → 1 ≤ month → month ≤ 12
+    → day_in year month 0 ≡ Some (year, month, last_day year month)

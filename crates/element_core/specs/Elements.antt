@@ -1,0 +1,230 @@
+-- Element strings: which texts they are, and the first fault of a text that is none
+-- (GS1 General Specifications, section 7.8).
+-- A text says one list of elements or has one first fault. A canonical text reads back as its elements.
+use Rattle.std.specs.Prelude.{◌≡◌, ◌⊎◌, ℕ, ◌+◌, ◌%◌, ◌<◌, ◌≤◌, Bool, true, false, ◌&&◌, ◌||◌, not, List, [], ◌∷◌, ◌++◌, length, take, drop, Option, Some, None, IsTrue, MatchOption, Contains, nat_lt, nat_le, ◌==◌, if◌then◌else◌, is_some, flat_map, codes}
+use Rattle.std.specs.List.{list_all, AllByRecursion}
+use Rattle.element_core.specs.declared.fault.ElementFault.{ElementFault}
+use Rattle.element_core.specs.declared.fault.ElementFault.TheVariants.{Empty, UnknownAi, ValueLength, ValueCharacter, ValueCheckDigit, ValueDate, MissingSeparator, TooLong}
+use Rattle.element_core.specs.declared.part.Part.{Part}
+use Rattle.element_core.specs.declared.part.PartKind.{PartKind}
+use Rattle.element_core.specs.declared.part.PartKind.TheVariants.{Digits, Characters}
+use Rattle.digits_core.specs.Digits.{ascii_of, digits_of, weighted}
+use Rattle.element_core.specs.Days.{day_of}
+use Rattle.element_core.specs.Table.{Row, ai_rows, row_at, least_of, greatest_of, predefined_length, is_dated}
+
+-- ---- values
+
+-- whether a number lies between two, both included
+abbrev pub between : ℕ → ℕ → ℕ → Bool
+between least greatest b = nat_le least b && nat_le b greatest
+
+-- an ASCII digit
+abbrev pub is_digit : ℕ → Bool
+is_digit b = between 48 57 b
+
+-- the 82 characters: ! and ", from % to ?, A to Z, _ and a to z (GS1 General Specifications, section 7.11)
+abbrev pub is_character : ℕ → Bool
+is_character b = between 33 34 b || between 37 63 b || between 65 90 b || (b == 95) || between 97 122 b
+
+-- whether a part of this kind may have the byte
+abbrev pub belongs : PartKind → ℕ → Bool
+belongs Digits b = is_digit b
+belongs Characters b = is_character b
+
+-- whether each byte belongs to the part
+abbrev pub has_characters : Part → List ℕ → Bool
+has_characters part bytes = list_all (belongs part.kind) bytes
+
+-- whether the last digit is the check digit of the others, where it is to be (section 7.9)
+abbrev pub has_check_digit : Part → List ℕ → Bool
+has_check_digit part bytes = not part.check || (weighted (digits_of bytes) % 10 == 0)
+
+-- whether there is such a day, where the part is a date (section 7.12)
+abbrev pub has_date : ℕ → Part → List ℕ → Bool
+has_date year part bytes = not part.date || is_some (day_of bytes year)
+
+-- whether each part of a value passes a test; every part but the last has one length alone
+abbrev pub each_part : (Part → List ℕ → Bool) → List Part → List ℕ → Bool
+each_part test [] value = true
+each_part test (p ∷ parts) value = test p (take p.greatest value) && each_part test parts (drop p.greatest value)
+
+-- a value that these parts allow
+pub record IsValue (year : ℕ) (parts : List Part) (value : List ℕ) : Type 0 where
+  pub least : least_of parts ≤ length value
+  pub greatest : length value ≤ greatest_of parts
+  pub characters : IsTrue (each_part has_characters parts value)
+  pub check_digits : IsTrue (each_part has_check_digit parts value)
+  pub dates : IsTrue (each_part (has_date year) parts value)
+
+-- ---- elements
+
+-- an AI and a value
+pub record Entry : Type 0 where
+  pub ai : List ℕ
+  pub value : List ℕ
+
+-- an element by its row of the table
+pub record IsElement (year : ℕ) (row : Row) (e : Entry) : Type 0 where
+  pub listed : Contains ai_rows row
+  pub ai : e.ai ≡ row.ai
+  pub value : IsValue year row.parts e.value
+
+-- each is an element
+abbrev pub AreElements : ℕ → List Entry → Type 0
+AreElements year es = AllByRecursion (λ e. (row : Row) × IsElement year row e) es
+
+-- a text that is empty or begins with a separator
+abbrev pub is_closed : List ℕ → Bool
+is_closed [] = true
+is_closed (b ∷ text) = b == 29
+
+-- the text without the one separator that may stand first
+abbrev pub after_separator : List ℕ → List ℕ
+after_separator [] = []
+after_separator (b ∷ text) = if b == 29 then text else b ∷ text
+
+-- the text is the element, at most one separator, and the rest; without one it ends there or the length is predefined
+pub record Begins (year : ℕ) (e : Entry) (text rest : List ℕ) : Type 0 where
+  pub row : Row
+  pub element : IsElement year row e
+  pub after : List ℕ
+  pub text_is : text ≡ e.ai ++ e.value ++ after
+  pub closed : IsTrue (row.predefined || is_closed after)
+  pub rest_is : rest ≡ after_separator after
+
+-- the text is these elements one after another, and the rest
+abbrev pub Reads : ℕ → List ℕ → List Entry → List ℕ → Type 0
+Reads year text [] rest = text ≡ rest
+Reads year text (e ∷ es) rest = (mid : List ℕ) × Begins year e text mid × Reads year mid es rest
+
+-- the element string of this list
+pub record IsElements (year : ℕ) (text : List ℕ) (es : List Entry) : Type 0 where
+  pub some : 0 < length text
+  pub fits : length text ≤ 192
+  pub reads : Reads year text es []
+
+-- ---- faults
+
+-- what stands up to the next separator, or to the end
+abbrev pub field_of : List ℕ → List ℕ
+field_of [] = []
+field_of (b ∷ text) = if b == 29 then [] else b ∷ field_of text
+
+-- the value that stands in a field
+abbrev pub value_in : Row → List ℕ → List ℕ
+value_in row field = if row.predefined then take (greatest_of row.parts) field else field
+
+-- the first test that a value of a right length fails
+abbrev pub value_fault : ℕ → ℕ → List Part → List ℕ → Option ElementFault
+value_fault year place parts value =
+    if not (each_part has_characters parts value) then Some (ValueCharacter place)
+    else if not (each_part has_check_digit parts value) then Some (ValueCheckDigit place)
+    else if not (each_part (has_date year) parts value) then Some (ValueDate place)
+    else None
+
+-- the first test that a value of this row fails
+abbrev pub row_fault : ℕ → ℕ → Row → List ℕ → Option ElementFault
+row_fault year place row value =
+    if nat_lt (length value) (least_of row.parts) then Some (ValueLength place)
+    else if nat_lt (greatest_of row.parts) (length value) then Some (MissingSeparator place)
+    else value_fault year place row.parts value
+
+-- the fault at the beginning of a text, by the row of its AI
+abbrev pub fault_by : ℕ → ℕ → List ℕ → Option Row → Option ElementFault
+fault_by year place text None = Some (UnknownAi place)
+fault_by year place text (Some row) = row_fault year place row (value_in row (field_of (drop (length row.ai) text)))
+
+-- the fault at the beginning of a text, of which the element stands at this place
+abbrev pub fault_at : ℕ → ℕ → List ℕ → Option ElementFault
+fault_at year place text = fault_by year place text (row_at text)
+
+-- elements, and then a fault
+pub record StopsWith (year : ℕ) (text : List ℕ) (f : ElementFault) : Type 0 where
+  pub before : List Entry
+  pub rest : List ℕ
+  pub reads : Reads year text before rest
+  pub some : 0 < length rest
+  pub place : ℕ
+  pub place_is : place + length rest ≡ length text
+  pub fault : fault_at year place rest ≡ Some f
+
+-- a text of too many bytes, or of none
+abbrev pub size_fault : List ℕ → Option ElementFault
+size_fault text = if nat_lt 192 (length text) then Some TooLong else if length text == 0 then Some Empty else None
+
+-- the first fault of a text: its size, or what stands after the elements that are read of it
+abbrev pub FirstFault : ℕ → List ℕ → ElementFault → Type 0
+FirstFault year text f = MatchOption (size_fault text) (StopsWith year text f) (λ g. f ≡ g)
+
+-- ---- the canonical text
+
+-- a separator, where the first two digits of the AI don't say how long the value is
+abbrev pub separator_for : Entry → List ℕ
+separator_for e = if is_some (predefined_length e.ai) then [] else 29 ∷ []
+
+-- a separator exactly after each element that is not predefined and not the last
+abbrev pub canonical : List Entry → List ℕ
+canonical [] = []
+canonical (e ∷ []) = e.ai ++ e.value
+canonical (e ∷ f ∷ es) = e.ai ++ e.value ++ separator_for e ++ canonical (f ∷ es)
+
+-- the element of a GTIN: AI 01 and its 14 digits
+abbrev pub gtin_entry : List ℕ → Entry
+gtin_entry gtin = record { ai = codes "01"; value = ascii_of gtin }
+
+-- the day that a value names, by the row of its AI
+abbrev pub day_by : ℕ → List ℕ → Option Row → Option (ℕ × ℕ × ℕ)
+day_by year value None = None
+day_by year value (Some row) = if is_dated row.parts then day_of value year else None
+
+-- the day of an element, where its AI is one of a date
+abbrev pub entry_day : ℕ → Entry → Option (ℕ × ℕ × ℕ)
+entry_day year e = day_by year e.value (row_at e.ai)
+
+-- "(", AI, ")", value of each
+abbrev pub hri : List Entry → List ℕ
+hri es = flat_map (λ e. (40 ∷ e.ai) ++ (41 ∷ e.value)) es
+
+-- ---- what callers see of a list of elements
+
+-- a list of elements under its reference year
+pub record Listing : Type 0 where
+  pub year : ℕ
+  pub list : List Entry
+
+-- a separator or one of the 82 characters
+abbrev pub is_text_byte : ℕ → Bool
+is_text_byte b = (b == 29) || is_character b
+
+-- a text that begins with two digits
+abbrev pub begins_with_digits : List ℕ → Bool
+begins_with_digits (a ∷ b ∷ text) = is_digit a && is_digit b
+begins_with_digits _ = false
+
+-- a text of separators and characters alone, with two digits first
+abbrev pub is_printable : List ℕ → Bool
+is_printable text = list_all is_text_byte text && begins_with_digits text
+
+-- ---- laws
+
+-- a text is one list of elements, or has one first fault, and not both
+abbrev pub OneAnswer : Type 0
+OneAnswer = (year : ℕ) (text : List ℕ) →
+    ((es fs : List Entry) → IsElements year text es → IsElements year text fs → es ≡ fs)
+    × ((f g : ElementFault) → FirstFault year text f → FirstFault year text g → f ≡ g)
+    × ((es : List Entry) (f : ElementFault) → IsElements year text es → FirstFault year text f → ⊥)
+
+-- the canonical text of a list is an element string of the same list, and no longer
+abbrev pub CanonicalReads : Type 0
+CanonicalReads = (year : ℕ) (text : List ℕ) (es : List Entry) → IsElements year text es
+    → IsElements year (canonical es) es × (length (canonical es) ≤ length text)
+
+-- each text is a list of elements or has a first fault
+abbrev pub EachText : Type 0
+EachText = (year : ℕ) (text : List ℕ) →
+    ((es : List Entry) × IsElements year text es) ⊎ ((f : ElementFault) × FirstFault year text f)
+
+-- an element has a day exactly where its AI is one of a date
+abbrev pub DatedElements : Type 0
+DatedElements = (year : ℕ) (row : Row) (e : Entry) → IsElement year row e
+    → is_some (entry_day year e) ≡ is_dated row.parts

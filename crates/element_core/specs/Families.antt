@@ -1,0 +1,29 @@
+-- Families of AIs as the code keeps them.
+use Rattle.std.specs.Prelude.{ℕ, Bool, true, false, ◌&&◌, List, [], ◌∷◌, length, take, nat_le, Option, Some, None, option_to_list, if◌then◌else◌}
+use Rattle.element_core.specs.declared.family.AiFamily.{AiFamily}
+use Rattle.element_core.specs.declared.part.Part.{Part}
+use Rattle.element_core.specs.Table.{Family, Row, row_in}
+
+-- the parts of a family, one or two
+abbrev pub parts_of : AiFamily → List Part
+parts_of f = f.first ∷ option_to_list f.second
+
+-- the family as the table has it
+abbrev pub family_of : AiFamily → Family
+family_of f = record { least = f.least.now; greatest = f.greatest.now; parts = parts_of f; predefined = f.predefined }
+
+-- whether the text begins with an AI each of whose digits lies between those of the two
+abbrev pub is_in_family : List ℕ → List ℕ → List ℕ → Bool
+is_in_family [] greatest text = true
+is_in_family (a ∷ least) [] text = false
+is_in_family (a ∷ least) (z ∷ greatest) [] = false
+is_in_family (a ∷ least) (z ∷ greatest) (b ∷ text) = nat_le a b && nat_le b z && is_in_family least greatest text
+
+-- the row of the family's AI at the front of the text
+abbrev pub row_with : AiFamily → List ℕ → Row
+row_with f text = row_in (family_of f) (take (length f.least.now) text)
+
+-- the row of the first family that has the AI
+abbrev pub row_by : List ℕ → List AiFamily → Option Row
+row_by text [] = None
+row_by text (f ∷ fs) = if is_in_family f.least.now f.greatest.now text then Some (row_with f text) else row_by text fs

@@ -1,0 +1,12 @@
+pub use Rattle.digits_core.specs.Digits
+pub mod Cuts
+pub mod Days
+pub mod Drafts
+pub mod Elements
+pub mod Families
+pub mod Faults
+pub mod Growing
+pub mod Pairs
+pub mod Pieces
+pub mod Rows
+pub mod Table

@@ -1,0 +1,197 @@
+-- The Application Identifiers of this profile, with what their values may be
+-- (GS1 General Specifications, section 3.2).
+use Rattle.std.specs.Prelude.{ℕ, zero, suc, ◌+◌, ◌-◌, ◌*◌, Bool, true, false, ◌&&◌, ◌||◌, not, List, [], ◌∷◌, map, length, Option, Some, None, IsTrue, nat_le, ◌==◌, if◌then◌else◌, codes, find, flat_map}
+use Rattle.std.specs.List.{list_all, list_any}
+use Rattle.element_core.specs.declared.part.Part.{Part}
+use Rattle.element_core.specs.declared.part.PartKind.TheVariants.{Digits, Characters}
+
+-- an AI, the parts of its value, and whether its length is predefined
+pub record Row : Type 0 where
+  pub ai : List ℕ
+  pub parts : List Part
+  pub predefined : Bool
+
+-- AIs that differ in digits alone, each of whose digits lies between those of the least and the greatest
+pub record Family : Type 0 where
+  pub least : List ℕ
+  pub greatest : List ℕ
+  pub parts : List Part
+  pub predefined : Bool
+
+-- this many digits
+abbrev pub n : ℕ → Part
+n count = record { kind = Digits; least = count; greatest = count; check = false; date = false }
+
+-- from so many digits to so many
+abbrev pub n_to : ℕ → ℕ → Part
+n_to least greatest = record { kind = Digits; least = least; greatest = greatest; check = false; date = false }
+
+-- digits of which the last is the check digit
+abbrev pub n_check : ℕ → Part
+n_check count = record { kind = Digits; least = count; greatest = count; check = true; date = false }
+
+-- YYMMDD
+abbrev pub n6_date : Part
+n6_date = record { kind = Digits; least = 6; greatest = 6; check = false; date = true }
+
+-- from so many of the 82 characters to so many
+abbrev pub x_to : ℕ → ℕ → Part
+x_to least greatest = record { kind = Characters; least = least; greatest = greatest; check = false; date = false }
+
+-- a family whose AIs need a separator after them, also where their length is fixed
+abbrev pub not_predefined : List ℕ → List ℕ → List Part → Family
+not_predefined least greatest parts = record { least = least; greatest = greatest; parts = parts; predefined = false }
+
+-- a family whose whole length the first two digits say
+abbrev pub predefined : List ℕ → List ℕ → Part → Family
+predefined least greatest part = record { least = least; greatest = greatest; parts = part ∷ []; predefined = true }
+
+-- the families of the table
+unfoldable pub families : List Family
+families =
+    predefined (codes "00") (codes "00") (n_check 18)
+    ∷ predefined (codes "01") (codes "02") (n_check 14)
+    ∷ not_predefined (codes "10") (codes "10") (x_to 1 20 ∷ [])
+    ∷ predefined (codes "11") (codes "13") n6_date
+    ∷ predefined (codes "15") (codes "17") n6_date
+    ∷ predefined (codes "20") (codes "20") (n 2)
+    ∷ not_predefined (codes "21") (codes "22") (x_to 1 20 ∷ [])
+    ∷ not_predefined (codes "30") (codes "30") (n_to 1 8 ∷ [])
+    ∷ not_predefined (codes "37") (codes "37") (n_to 1 8 ∷ [])
+    ∷ not_predefined (codes "240") (codes "241") (x_to 1 30 ∷ [])
+    ∷ not_predefined (codes "250") (codes "250") (x_to 1 30 ∷ [])
+    ∷ not_predefined (codes "253") (codes "253") (n_check 13 ∷ x_to 0 17 ∷ [])
+    ∷ not_predefined (codes "254") (codes "254") (x_to 1 20 ∷ [])
+    ∷ predefined (codes "3100") (codes "3165") (n 6)
+    ∷ predefined (codes "3200") (codes "3295") (n 6)
+    ∷ predefined (codes "3300") (codes "3375") (n 6)
+    ∷ predefined (codes "3400") (codes "3495") (n 6)
+    ∷ predefined (codes "3500") (codes "3575") (n 6)
+    ∷ predefined (codes "3600") (codes "3695") (n 6)
+    ∷ not_predefined (codes "3900") (codes "3909") (n_to 1 15 ∷ [])
+    ∷ not_predefined (codes "3910") (codes "3919") (n 3 ∷ n_to 1 15 ∷ [])
+    ∷ not_predefined (codes "3920") (codes "3929") (n_to 1 15 ∷ [])
+    ∷ not_predefined (codes "3930") (codes "3939") (n 3 ∷ n_to 1 15 ∷ [])
+    ∷ not_predefined (codes "400") (codes "401") (x_to 1 30 ∷ [])
+    ∷ not_predefined (codes "402") (codes "402") (n_check 17 ∷ [])
+    ∷ not_predefined (codes "403") (codes "403") (x_to 1 30 ∷ [])
+    ∷ predefined (codes "410") (codes "417") (n_check 13)
+    ∷ not_predefined (codes "420") (codes "420") (x_to 1 20 ∷ [])
+    ∷ not_predefined (codes "422") (codes "422") (n 3 ∷ [])
+    ∷ not_predefined (codes "8005") (codes "8005") (n 6 ∷ [])
+    ∷ not_predefined (codes "8018") (codes "8018") (n_check 18 ∷ [])
+    ∷ not_predefined (codes "8020") (codes "8020") (x_to 1 25 ∷ [])
+    ∷ not_predefined (codes "90") (codes "90") (x_to 1 30 ∷ [])
+    ∷ not_predefined (codes "91") (codes "99") (x_to 1 90 ∷ [])
+    ∷ []
+
+-- so many numbers from first on
+abbrev pub from : ℕ → ℕ → List ℕ
+from zero first = []
+from (suc count) first = first ∷ from count (first + 1)
+
+-- the AIs each of whose digits lies between those of the two
+abbrev pub ais : List ℕ → List ℕ → List (List ℕ)
+ais (a ∷ least) (z ∷ greatest) = flat_map (λ d. map (λ ai. d ∷ ai) (ais least greatest)) (from (z + 1 - a) a)
+ais [] greatest = [] ∷ []
+ais (a ∷ least) [] = []
+
+-- the row of an AI of the family
+abbrev pub row_in : Family → List ℕ → Row
+row_in f ai = record { ai = ai; parts = f.parts; predefined = f.predefined }
+
+-- the rows of a family
+abbrev pub rows_of : Family → List Row
+rows_of f = map (row_in f) (ais f.least f.greatest)
+
+-- the table
+unfoldable pub ai_rows : List Row
+ai_rows = flat_map rows_of families
+
+-- how many bytes a value has at least
+abbrev pub least_of : List Part → ℕ
+least_of [] = 0
+least_of (p ∷ parts) = p.least + least_of parts
+
+-- how many bytes a value has at most
+abbrev pub greatest_of : List Part → ℕ
+greatest_of [] = 0
+greatest_of (p ∷ parts) = p.greatest + greatest_of parts
+
+-- whether a part is a date
+abbrev pub is_dated : List Part → Bool
+is_dated parts = list_any (λ p. p.date) parts
+
+-- whether the text begins with the AI
+abbrev pub begins : List ℕ → List ℕ → Bool
+begins [] text = true
+begins (a ∷ ai) [] = false
+begins (a ∷ ai) (b ∷ text) = a == b && begins ai text
+
+-- the row whose AI the text begins with
+abbrev pub row_at : List ℕ → Option Row
+row_at text = find (λ row. begins row.ai text) ai_rows
+
+-- ---- laws
+
+-- no AI of the list is the beginning of another, nor stands twice
+abbrev pub none_begins_another : List Row → Bool
+none_begins_another [] = true
+none_begins_another (r ∷ rs) = list_all (λ s. not (begins r.ai s.ai || begins s.ai r.ai)) rs && none_begins_another rs
+
+-- the whole length, AI included, that the first two digits give (section 7.8); 03, 04, 14, 18 and 19 have one, and no AI here
+abbrev pub length_by : ℕ → Option ℕ
+length_by first =
+    if first == 0 then Some 20
+    else if nat_le first 3 then Some 16
+    else if first == 4 then Some 18
+    else if nat_le 11 first && nat_le first 19 then Some 8
+    else if first == 20 then Some 4
+    else if nat_le 31 first && nat_le first 36 then Some 10
+    else if first == 41 then Some 16
+    else None
+
+-- the predefined length by the first two digits of an AI, if it has one
+abbrev pub predefined_length : List ℕ → Option ℕ
+predefined_length (a ∷ b ∷ ai) = length_by (10 * (a - 48) + (b - 48))
+predefined_length _ = None
+
+-- the first two digits say whether the length is predefined, and which it is
+abbrev pub first_digits_decide : Row → Option ℕ → Bool
+first_digits_decide row None = not row.predefined
+first_digits_decide row (Some all) = row.predefined && (least_of row.parts + length row.ai == all) && (greatest_of row.parts + length row.ai == all)
+
+-- no AI of the table is the beginning of another
+abbrev pub NoAiBeginsAnother : Type 0
+NoAiBeginsAnother = IsTrue (none_begins_another ai_rows)
+
+-- the first two digits of each AI decide
+abbrev pub FirstDigitsDecide : Type 0
+FirstDigitsDecide = IsTrue (list_all (λ row. first_digits_decide row (predefined_length row.ai)) ai_rows)
+
+-- each AI begins with a digit
+abbrev pub begins_with_digit : List ℕ → Bool
+begins_with_digit [] = false
+begins_with_digit (a ∷ ai) = nat_le 48 a && nat_le a 57
+
+-- an element with its separator has at least four bytes
+abbrev pub is_long_enough : Row → Bool
+is_long_enough row = nat_le (if row.predefined then 4 else 3) (length row.ai + least_of row.parts)
+
+-- an AI has at most four digits
+abbrev pub is_short_ai : Row → Bool
+is_short_ai row = nat_le (length row.ai) 4
+
+-- an AI is of digits, two at least
+abbrev pub is_of_digits : Row → Bool
+is_of_digits row = nat_le 2 (length row.ai) && list_all (λ a. nat_le 48 a && nat_le a 57) row.ai
+
+-- every part but the last has one length, and a date has six digits and stands alone
+abbrev pub have_one_length : List Part → Bool
+have_one_length [] = false
+have_one_length (p ∷ []) = not p.date || ((p.least == 6) && (p.greatest == 6))
+have_one_length (p ∷ q ∷ parts) = (p.least == p.greatest) && (not p.date && (not q.date && have_one_length (q ∷ parts)))
+
+-- so it is in each row
+abbrev pub PartsHaveOneLength : Type 0
+PartsHaveOneLength = IsTrue (list_all (λ row. have_one_length row.parts) ai_rows)

@@ -1,0 +1,182 @@
+//! Lists of elements.
+
+ghost use Rattle.std.specs.Prelude.{◌≡◌, ◌+◌, ◌<◌, ◌≤◌, [], ◌∷◌, ◌++◌, length, slice_get, List, Some, IfOk, IfErr, IsOk, OnOk, None, Err, IsTrue};
+ghost use Rattle.element_core.specs.Days.{IsDay};
+ghost use Rattle.element_core.specs.Rows.{entry_in};
+ghost use Rattle.element_core.specs.Elements.{Entry, IsElements, FirstFault, canonical, entry_day, gtin_entry, hri, is_printable};
+
+use crate::draft::{Cuts, append, gap_length};
+use crate::element::{Element, day_of_element};
+use crate::fault::ElementFault;
+use crate::front::element_at;
+use crate::hri::line_of;
+use crate::pairs::{Pair, first_fault, needs_separator};
+use crate::text::{Text, copied};
+use crate::year::Year;
+use arrayvec::ArrayString;
+use digits_core::Gtin;
+use std::marker::Model;
+
+/// A valid list of elements under its reference year.
+#[derive(Drop)]
+pub struct Elements {
+    /// The canonical text.
+    text: Text,
+    /// Where the elements stand in it.
+    cuts: Cuts,
+    year: Year,
+}
+
+impl Model for Elements {
+    ghost use Rattle.element_core.specs.Elements.{Listing};
+
+    ghost Value = { Listing };
+
+    ghost use Rattle.element_core.specs.Cuts.{listing, IsListing};
+
+    ghost view = { listing };
+
+    ghost invariant = { IsListing };
+}
+
+impl Elements {
+    ghost use Rattle.element_core.specs.Pairs.{entries_of, list_fault};
+    ghost use Rattle.element_core.specs.declared.fault.ElementFault.{ElementFault};
+
+    /// The elements of a text, or its first fault (GS1 General Specifications, section 7.8).
+    ///
+    /// One separator directly after a value is passed over, after a value of predefined length too,
+    /// and at the end of the text. Of several faults the first from the left is answered.
+    pub fn parse(text: &[u8], year: Year) -> Result<Elements, ElementFault>
+        // What is read is the list of the text, and nothing else is refused.
+        ensures ok { IfOk result (λ es. (es.year ≡ year) × IsElements year text.now es.list) }
+        ensures only { (list : List Entry) → IsElements year text.now list
+            → IfOk result (λ es. es.list ≡ list) × IsOk result }
+
+        // What is refused has this first fault, and nothing else is read.
+        ensures err { IfErr result (λ f. FirstFault year text.now f) }
+        ensures exact { (f : ElementFault) → FirstFault year text.now f → result ≡ Err f }
+    {
+        Elements::read(text, year)
+    }
+
+    /// The elements of a text, read from the left, or its first fault.
+    fn read(text: &[u8], year: Year) -> Result<Elements, ElementFault>
+        ensures ok { IfOk result (λ es. (es.year ≡ year) × IsElements year text.now es.list) }
+        ensures err { IfErr result (λ f. FirstFault year text.now f) }
+    {
+        if text.len() > 192 {
+            return Err(ElementFault::TooLong);
+        }
+        if text.is_empty() {
+            return Err(ElementFault::Empty);
+        }
+        let mut out = Text::new();
+        let mut cuts = Cuts::new();
+        let mut separate = false;
+        let mut rest = text;
+        while !rest.is_empty() {
+            let front = element_at(year, text.len() - rest.len(), rest)?;
+            append(&mut out, &mut cuts, separate, front.ai, front.value);
+            separate = !front.family.predefined;
+            rest = front.rest;
+        }
+        Ok(Elements {
+            text: out,
+            cuts,
+            year,
+        })
+    }
+
+    /// The elements of pairs. Of no pairs the fault is `Empty`; else it is that of the first faulty
+    /// pair, with its index, and then `TooLong`.
+    pub fn of_pairs(pairs: &[Pair], year: Year) -> Result<Elements, ElementFault>
+        ensures ok { IfOk result (λ es. (es.year ≡ year) × (es.list ≡ entries_of pairs.now)) }
+        ensures only { OnOk result (list_fault year (entries_of pairs.now) ≡ None) }
+        ensures err { IfErr result (λ f. list_fault year (entries_of pairs.now) ≡ Some f) }
+    {
+        if pairs.is_empty() {
+            return Err(ElementFault::Empty);
+        }
+        if let Some(fault) = first_fault(year, pairs) {
+            return Err(fault);
+        }
+        let mut out = Text::new();
+        let mut cuts = Cuts::new();
+        let mut separate = false;
+        for pair in pairs {
+            let ai = pair.ai.as_slice();
+            let value = pair.value.as_slice();
+            if 192 < out.len() + gap_length(separate) + ai.len() + value.len() {
+                return Err(ElementFault::TooLong);
+            }
+            append(&mut out, &mut cuts, separate, ai, value);
+            separate = needs_separator(ai);
+        }
+        Ok(Elements {
+            text: out,
+            cuts,
+            year,
+        })
+    }
+
+    /// The one element of a GTIN: AI 01 and its 14 digits.
+    pub fn of_gtin(gtin: &Gtin, year: Year) -> Elements
+        ensures year { result.year ≡ year }
+        ensures list { result.list ≡ gtin_entry gtin.now ∷ [] }
+    {
+        let mut text = Text::new();
+        let mut cuts = Cuts::new();
+        append(&mut text, &mut cuts, false, b"01", &gtin.digits14());
+        Elements { text, cuts, year }
+    }
+
+    /// How many elements there are.
+    pub fn len(&self) -> usize
+        ensures count { result ≡ length self.now.list }
+        ensures few { result ≤ 48 }
+    {
+        self.cuts.len()
+    }
+
+    /// The reference year.
+    pub fn year(&self) -> Year
+        ensures { result ≡ self.now.year }
+    {
+        self.year
+    }
+
+    /// The canonical text: a separator stands exactly after each element whose length is not
+    /// predefined and that is not the last.
+    pub fn text(&self) -> Text
+        ensures canonical { result.items ≡ canonical self.now.list }
+        ensures reads { IsElements self.now.year result.items self.now.list }
+        ensures printable { IsTrue (is_printable result.items) }
+    {
+        copied(self.text.as_slice())
+    }
+
+    /// The element at an index below the number of elements.
+    pub fn element(&self, i: usize) -> Element
+        requires { i < length self.now.list }
+        ensures entry { slice_get self.now.list i ≡ Some (entry_in result) }
+        ensures date { IsDay result.date (entry_day self.now.year (entry_in result)) }
+    {
+        let cut = self.cuts[i];
+        let text = self.text.as_slice();
+        let ai = &text[cut.start as usize..cut.value as usize];
+        let value = &text[cut.value as usize..cut.end as usize];
+        Element {
+            ai: copied(ai),
+            value: copied(value),
+            date: day_of_element(ai, value, self.year),
+        }
+    }
+
+    /// The human-readable interpretation: of each element the AI in parentheses, then the value.
+    pub fn hri(&self) -> ArrayString<288>
+        ensures { result.bytes ≡ hri self.now.list }
+    {
+        line_of(self.text.as_slice(), self.cuts.as_slice())
+    }
+}

@@ -1,0 +1,57 @@
+//! Families of AIs, and the family of the AI at the front of a text.
+
+ghost use Rattle.std.specs.Prelude.{◌≡◌, option_map, length, IfSome, ◌≤◌};
+ghost use Rattle.element_core.specs.Table.{row_at};
+ghost use Rattle.element_core.specs.Families.{is_in_family, row_with, row_by};
+
+use crate::part::Part;
+use crate::table::all_families;
+
+/// AIs that differ in digits alone, each of whose digits lies between those of the least and the greatest.
+#[derive(Clone, Copy)]
+pub struct AiFamily {
+    /// The least AI, in ASCII digits.
+    pub least: &'static [u8],
+    /// The greatest AI, as long as the least.
+    pub greatest: &'static [u8],
+    /// The first part of the value, or the whole.
+    pub first: Part,
+    /// The part after it, if there is one.
+    pub second: Option<Part>,
+    /// Whether the first two digits say how long an element is.
+    pub predefined: bool,
+}
+
+/// Whether the text begins with an AI of the family.
+fn is_in_family(least: &[u8], greatest: &[u8], text: &[u8]) -> bool
+    ensures { result ≡ is_in_family least.now greatest.now text.now }
+{
+    for (i, a) in least.iter().enumerate() {
+        if i >= greatest.len() || i >= text.len() || text[i] < *a || greatest[i] < text[i] {
+            return false;
+        }
+    }
+    true
+}
+
+/// The first of the families that has the AI that the text begins with.
+fn first_with(table: &[AiFamily], text: &[u8]) -> Option<AiFamily>
+    ensures row { option_map (λ f. row_with f text.now) result ≡ row_by text.now table.now }
+    ensures within { IfSome result (λ f. length f.least.now ≤ length text.now) }
+{
+    for family in table {
+        if is_in_family(family.least, family.greatest, text) {
+            return Some(*family);
+        }
+    }
+    None
+}
+
+/// The family of the AI that the text begins with.
+pub fn family_at(text: &[u8]) -> Option<AiFamily>
+    ensures row { option_map (λ f. row_with f text.now) result ≡ row_at text.now }
+    ensures within { IfSome result (λ f. length f.least.now ≤ length text.now) }
+    ensures short { IfSome result (λ f. length f.least.now ≤ 4) }
+{
+    first_with(all_families(), text)
+}

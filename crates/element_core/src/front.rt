@@ -1,0 +1,104 @@
+//! The element at the front of a text.
+
+ghost use Rattle.std.specs.Prelude.{◌≡◌, ◌+◌, ◌≤◌, length, take, drop, [], Some, IfOk, IfErr, is_some, ◌<◌};
+ghost use Rattle.element_core.specs.Elements.{Begins, Entry, field_of, fault_at, row_fault, value_in, after_separator};
+ghost use Rattle.element_core.specs.Table.{predefined_length};
+ghost use Rattle.element_core.specs.Families.{parts_of, family_of, row_with};
+
+use crate::family::{AiFamily, family_at};
+use crate::fault::ElementFault;
+use crate::text::SEPARATOR;
+use crate::value::{greatest_length, least_length, value_fault};
+use crate::year::Year;
+
+/// An element and what is after it.
+#[derive(Clone, Copy)]
+pub struct Front<'a> {
+    /// The family of its AI.
+    pub family: AiFamily,
+    pub ai: &'a [u8],
+    pub value: &'a [u8],
+    /// What stands after it and its separator.
+    pub rest: &'a [u8],
+}
+
+/// How many bytes stand up to the next separator or to the end.
+fn field_length(text: &[u8]) -> usize
+    ensures { result ≡ length (field_of text.now) }
+{
+    for (i, b) in text.iter().enumerate() {
+        if *b == SEPARATOR {
+            return i;
+        }
+    }
+    text.len()
+}
+
+/// The text without the one separator that may stand first.
+fn skip_separator(text: &[u8]) -> &[u8]
+    ensures { result.now ≡ after_separator text.now }
+{
+    match text {
+        [SEPARATOR, rest @ ..] => rest,
+        _ => text,
+    }
+}
+
+/// How long the value is that stands at the front of the text.
+fn value_length(family: &AiFamily, text: &[u8]) -> usize
+    ensures { result ≡ length (value_in (row_with family.now []) (field_of text.now)) }
+{
+    let field = field_length(text);
+    let greatest = greatest_length(family);
+    if family.predefined && greatest < field {
+        greatest
+    } else {
+        field
+    }
+}
+
+/// The value at the front of the text, and what is after it.
+fn value_of<'a>(family: &AiFamily, text: &'a [u8]) -> (&'a [u8], &'a [u8])
+    ensures value { result.0.now ≡ value_in (row_with family.now []) (field_of text.now) }
+    ensures after { result.1.now ≡ drop (length result.0.now) text.now }
+{
+    text.split_at(value_length(family, text))
+}
+
+/// The first test that a value fails.
+fn row_fault(year: Year, place: usize, family: &AiFamily, value: &[u8]) -> Option<ElementFault>
+    ensures { result ≡ row_fault year place (row_with family.now []) value.now }
+{
+    if value.len() < least_length(family) {
+        return Some(ElementFault::ValueLength(place));
+    }
+    if greatest_length(family) < value.len() {
+        return Some(ElementFault::MissingSeparator(place));
+    }
+    value_fault(year, place, family, value)
+}
+
+/// The element at the front of a text, or the fault there.
+pub fn element_at<'a>(year: Year, place: usize, text: &'a [u8]) -> Result<Front<'a>, ElementFault>
+    ensures found { IfOk result
+        (λ f. Begins year (record { ai = f.ai.now; value = f.value.now }) text.now f.rest.now) }
+    ensures fault { IfErr result (λ e. fault_at year place text.now ≡ Some e) }
+    ensures predefined { IfOk result (λ f. f.family.predefined ≡ is_some (predefined_length f.ai.now)) }
+    ensures shorter { IfOk result (λ f. length f.rest.now < length text.now) }
+{
+    let Some(family) = family_at(text) else {
+        return Err(ElementFault::UnknownAi(place));
+    };
+    let (ai, tail) = text.split_at(family.least.len());
+    let (value, after) = value_of(&family, tail);
+    if let Some(fault) = row_fault(year, place, &family, value) {
+        return Err(fault);
+    }
+    let rest = skip_separator(after);
+    Ok(Front {
+        family,
+        ai,
+        value,
+        rest,
+    })
+}

@@ -1,0 +1,58 @@
+//! Laws of the definitions: each function does nothing, and its contract is the law.
+
+ghost use Rattle.element_core.specs.Days.{DayZero, YearWindow};
+ghost use Rattle.element_core.specs.Table.{NoAiBeginsAnother, FirstDigitsDecide, PartsHaveOneLength};
+ghost use Rattle.element_core.specs.Elements.{CanonicalReads, DatedElements, EachText, OneAnswer};
+ghost use Rattle.element_core.specs.Pieces.{ReadsPieces};
+
+/// No AI of the table is the beginning of another.
+pub fn no_ai_begins_another()
+    ensures { NoAiBeginsAnother }
+{}
+
+/// The first two digits of an AI say whether its length is predefined.
+pub fn first_digits_decide()
+    ensures { FirstDigitsDecide }
+{}
+
+/// A text is one list of elements, or has one first fault, and not both.
+pub fn one_answer()
+    ensures { OneAnswer }
+{}
+
+/// The canonical text of a list is an element string of the same list, and no longer.
+pub fn canonical_reads()
+    ensures { CanonicalReads }
+{}
+
+/// Each text is a list of elements or has a first fault.
+pub fn each_text()
+    ensures { EachText }
+{}
+
+/// What is read of a text from the left is its joined pieces: AI, value, and at most one separator,
+/// which stands after each piece that is neither predefined nor the last.
+pub fn reads_pieces()
+    ensures { ReadsPieces }
+{}
+
+/// Every part of a value but the last has one length, and a date is the only part of its value.
+pub fn parts_have_one_length()
+    ensures { PartsHaveOneLength }
+{}
+
+/// The year of two digits is the only one with these last two digits from 49 years before the
+/// reference year to 50 years after it.
+pub fn year_window()
+    ensures { YearWindow }
+{}
+
+/// Day 00 is the last day of its month.
+pub fn day_zero()
+    ensures { DayZero }
+{}
+
+/// An element has a date exactly where its AI is one of a date.
+pub fn dated_elements()
+    ensures { DatedElements }
+{}

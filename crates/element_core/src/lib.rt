@@ -1,0 +1,33 @@
+//! GS1 element strings: Application Identifiers, their values, and the dates in them.
+#![tactic(auto)]
+
+mod date;
+mod draft;
+mod element;
+mod elements;
+mod family;
+mod fault;
+mod formats;
+mod front;
+mod hri;
+mod laws;
+mod pairs;
+mod part;
+mod row;
+mod table;
+mod text;
+mod value;
+mod year;
+
+pub use element::Element;
+pub use elements::Elements;
+pub use fault::ElementFault;
+pub use laws::{
+    canonical_reads, dated_elements, day_zero, each_text, first_digits_decide,
+    no_ai_begins_another, one_answer, parts_have_one_length, reads_pieces, year_window,
+};
+pub use pairs::Pair;
+pub use part::{Part, PartKind};
+pub use row::{AiRow, ai_row};
+pub use text::Text;
+pub use year::Year;

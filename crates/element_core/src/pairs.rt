@@ -1,0 +1,63 @@
+//! Elements that are given as pairs.
+
+ghost use Rattle.std.specs.Prelude.{◌≡◌, ◌<◌, ◌≤◌, length, None, Some, IfOk, IfErr, not, is_some};
+ghost use Rattle.element_core.specs.Table.{predefined_length};
+ghost use Rattle.element_core.specs.Pairs.{entry_of, entries_of, entry_fault, entries_fault};
+
+use crate::family::family_at;
+use crate::fault::ElementFault;
+use crate::text::Text;
+use crate::value::{greatest_length, least_length, value_fault};
+use crate::year::Year;
+
+/// An AI and a value, which need not belong together.
+#[derive(Drop)]
+pub struct Pair {
+    /// The AI, in ASCII digits.
+    pub ai: Text,
+    /// The value, without a separator.
+    pub value: Text,
+}
+
+/// The fault of the pair at an index, if it has one.
+fn pair_fault(year: Year, i: usize, pair: &Pair) -> Option<ElementFault>
+    ensures { result ≡ entry_fault year i (entry_of pair.now) }
+{
+    let ai = pair.ai.as_slice();
+    let value = pair.value.as_slice();
+    let Some(family) = family_at(ai) else {
+        return Some(ElementFault::UnknownAi(i));
+    };
+    if ai.len() != family.least.len() {
+        return Some(ElementFault::UnknownAi(i));
+    }
+    if value.len() < least_length(&family) || greatest_length(&family) < value.len() {
+        return Some(ElementFault::ValueLength(i));
+    }
+    value_fault(year, i, &family, value)
+}
+
+/// The fault of the first faulty pair.
+pub fn first_fault(year: Year, pairs: &[Pair]) -> Option<ElementFault>
+    ensures { result ≡ entries_fault year 0 (entries_of pairs.now) }
+{
+    for (i, pair) in pairs.iter().enumerate() {
+        if let Some(fault) = pair_fault(year, i, pair) {
+            return Some(fault);
+        }
+    }
+    None
+}
+
+/// Whether a separator stands after the pair, where it is not the last.
+pub fn needs_separator(ai: &[u8]) -> bool
+    ensures { result ≡ not (is_some (predefined_length ai.now)) }
+{
+    if ai.len() < 2 {
+        return true;
+    }
+    let tens = ai[0].saturating_sub(b'0') as u16;
+    let ones = ai[1].saturating_sub(b'0') as u16;
+    let first = 10 * tens + ones;
+    !matches!(first, 0..=4 | 11..=20 | 31..=36 | 41)
+}
