@@ -1,5 +1,5 @@
 -- The texts of faults, and how those of one layer become those of the next.
-use Rattle.std.specs.Prelude.{ℕ, List, codes}
+use Rattle.std.specs.Prelude.{ℕ, List, Result, Ok, Err, codes, string_bytes}
 use Rattle.digits_core.specs.declared.source.InputFault.{InputFault}
 use Rattle.digits_core.specs.declared.source.InputFault.TheVariants as input
 use Rattle.gs1_hub.specs.declared.fault.CommandFault.{CommandFault}
@@ -8,8 +8,16 @@ use Rattle.gs1_hub.specs.declared.fault.RecordFault.{RecordFault}
 use Rattle.gs1_hub.specs.declared.fault.RecordFault.TheVariants as fault
 use Rattle.gs1_hub.specs.declared.fault.RowRefusal.{RowRefusal}
 use Rattle.gs1_hub.specs.declared.fault.RowRefusal.TheVariants as refusal
+use Rattle.gs1_hub.specs.declared.words.WordsFault.{WordsFault}
+use Rattle.gs1_hub.specs.declared.words.WordsFault.TheVariants as words
 
--- `refused`, its number and its name
+-- of words that ask for no command: `refused`, its number and its name, or the help that they ask for
+abbrev pub words_fault_text : WordsFault → List ℕ
+words_fault_text words.Words = codes "refused 42 Words"
+words_fault_text words.NoMemory = codes "refused 43 NoMemory"
+words_fault_text (words.Help text) = string_bytes text
+
+-- of a record: `refused`, its number and its name
 abbrev pub record_fault_text : RecordFault → List ℕ
 record_fault_text fault.Csv = codes "refused 39 Csv"
 record_fault_text fault.BadLane = codes "refused 41 BadLane"
@@ -26,3 +34,13 @@ of_input input.NoMemory = command.NoMemory
 abbrev pub refusal_at : ℕ → RowRefusal → CommandFault
 refusal_at index (refusal.Record f) = command.Record index f
 refusal_at index refusal.NoMemory = command.NoMemory
+
+-- the status that the program ends with, after a command that has run and where the words ask for none
+abbrev pub status_of : Result (Unit {0}) CommandFault → ℕ
+status_of (Ok _) = 0
+status_of (Err _) = 1
+
+abbrev pub words_status : WordsFault → ℕ
+words_status words.Words = 2
+words_status words.NoMemory = 1
+words_status (words.Help _) = 0

@@ -1,6 +1,10 @@
 //! The program: GS1 bar codes from the command line.
 #![tactic(auto)]
 
+ghost use Rattle.std.specs.Prelude.{◌≡◌, IfOk};
+ghost use Rattle.std.specs.Process.{exit_status};
+ghost use Rattle.gs1_hub.specs.Faults.{status_of, words_status};
+
 mod fault;
 mod feeds;
 mod lanes;
@@ -18,10 +22,33 @@ use std::process::ExitCode;
 use std::{env, io};
 
 /// The exit status of a command that has run. A refusal is told on standard error.
-fn finish(rt: &impl Eprint, ran: Result<(), CommandFault>) -> io::Result<ExitCode> {
+fn finish(rt: &impl Eprint, ran: Result<(), CommandFault>) -> io::Result<ExitCode>
+    ensures { IfOk result (λ code. exit_status code ≡ status_of ran) }
+{
     match ran {
         Ok(()) => Ok(ExitCode::SUCCESS),
         Err(fault) => {
+            eprintln!(rt; "{fault}")?;
+            Ok(ExitCode::from(1))
+        }
+    }
+}
+
+/// The exit status where the words ask for no command. Help is told on standard output, and a
+/// refusal on standard error.
+fn explain<R: Print + Eprint>(rt: &R, fault: &WordsFault) -> io::Result<ExitCode>
+    ensures { IfOk result (λ code. exit_status code ≡ words_status fault.now) }
+{
+    match fault {
+        WordsFault::Help(text) => {
+            print!(rt; "{text}")?;
+            Ok(ExitCode::SUCCESS)
+        }
+        WordsFault::Words => {
+            eprintln!(rt; "{fault}")?;
+            Ok(ExitCode::from(2))
+        }
+        WordsFault::NoMemory => {
             eprintln!(rt; "{fault}")?;
             Ok(ExitCode::from(1))
         }
@@ -46,14 +73,6 @@ fn main(rt: HostRuntime) -> io::Result<ExitCode> {
                 lanes::run_lanes(rt.alloc(), options, &mut source, &mut sink),
             )
         }
-        Err(WordsFault::Help(text)) => {
-            print!(rt; "{text}")?;
-            Ok(ExitCode::SUCCESS)
-        }
-        Err(WordsFault::Words) => {
-            eprintln!(rt; "refused 42 Words")?;
-            Ok(ExitCode::from(2))
-        }
-        Err(WordsFault::NoMemory) => finish(&rt, Err(CommandFault::NoMemory)),
+        Err(fault) => explain(&rt, &fault),
     }
 }

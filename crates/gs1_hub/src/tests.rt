@@ -1,5 +1,6 @@
 //! One of each answer and refusal, with the text that is printed, and inputs and outputs that fail.
 
+mod adapters;
 mod fakes;
 mod numbers;
 mod rows;
@@ -215,13 +216,22 @@ fn reads_words(rt: HostRuntime) -> Result<(), Fail> {
         "gs1_hub lanes --lanes 1 --workers 1 --year 2026 more",
     ] {
         let words = words_of(alloc, text)?;
-        let fault = read_words(alloc, words.as_slice());
-        assert!(rt; matches!(fault, Err(WordsFault::Words)), "{text}");
+        let fault = read_words(alloc, words.as_slice()).err().ok_or("a fault")?;
+        assert_eq!(rt;
+            fault.to_string(alloc)?.as_str(),
+            "refused 42 Words",
+            "{text}"
+        );
     }
-    for text in ["gs1_hub --help", "gs1_hub lanes --help"] {
+    for (text, part) in [
+        ("gs1_hub --help", "lanes"),
+        ("gs1_hub lanes --help", "--workers"),
+    ] {
         let words = words_of(alloc, text)?;
-        let fault = read_words(alloc, words.as_slice());
-        assert!(rt; matches!(fault, Err(WordsFault::Help(_))), "{text}");
+        let fault = read_words(alloc, words.as_slice()).err().ok_or("help")?;
+        let help = fault.to_string(alloc)?;
+        assert!(rt; matches!(fault, WordsFault::Help(_)), "{text}");
+        assert!(rt; help.as_str().contains(part), "{text}");
     }
     Ok(())
 }

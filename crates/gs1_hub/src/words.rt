@@ -1,9 +1,10 @@
 //! The words of the command line.
-ghost use Rattle.std.specs.Prelude.{◌≡◌, ◌<◌, ◌≤◌, ℕ, IfOk, IfSome, IfNone, IfErr, map, string_bytes, false, codes};
+ghost use Rattle.std.specs.Prelude.{Some, ◌≡◌, ◌<◌, ◌≤◌, ℕ, IfOk, IfSome, IfNone, IfErr, map, string_bytes, false, codes};
 ghost use Rattle.clap.specs.Words.{app_of, found_of, kind_of, rows_of, rule_of, subcommand_rows_of};
 ghost use Rattle.clap.specs.declared.builder.command.Command.TheViews.{out-Command};
 ghost use Rattle.gs1_hub.specs.Asking.{Asks, AsksIn, HasLanes, Explains, FaultOfKind, WordsAsk};
 ghost use Rattle.gs1_hub.specs.CommandLine.{HasNumber, hub_app, lanes_app, number_rule};
+ghost use Rattle.gs1_hub.specs.Faults.{words_fault_text};
 ghost use Rattle.gs1_hub.specs.declared.words.Asked.{Asked};
 ghost use Rattle.gs1_hub.specs.declared.options.LaneOptions.{LaneOptions};
 
@@ -12,6 +13,7 @@ use clap::builder::ValueParser;
 use clap::error::ErrorKind;
 use clap::{Arg, ArgAction, ArgMatches, Command, Error};
 use std::alloc::{AllocError, Global};
+use std::fmt;
 
 /// What the words ask for.
 #[derive(Clone, Copy)]
@@ -29,6 +31,18 @@ pub enum WordsFault {
     NoMemory,
     /// Help was asked for, and this is its text.
     Help(String),
+}
+
+impl fmt::Display for WordsFault {
+    ghost output = { λ fault. Some (words_fault_text fault) };
+
+    fn fmt<W: fmt::Write>(&self, f: &mut fmt::Formatter<W>) -> fmt::Result {
+        match self {
+            WordsFault::Words => write!(f, "refused 42 Words"),
+            WordsFault::NoMemory => write!(f, "refused 43 NoMemory"),
+            WordsFault::Help(text) => write!(f, "{text}"),
+        }
+    }
 }
 
 /// The option `--name`, which is required and takes a number from `least` to `most`.
