@@ -49,7 +49,7 @@ fn zeros_before(text: &[u8]) -> [u8; 14]
 }
 
 /// Whether each byte is the digit '0'.
-pub fn are_zeros(text: &[u8]) -> bool
+pub(crate) fn are_zeros(text: &[u8]) -> bool
     ensures { result ≡ list_all (λ byte. byte == 48) text.now }
 {
     text.iter().all(|byte| *byte == b'0')
@@ -95,7 +95,8 @@ impl Gtin {
     /// Whether the first `count` digits are zeros.
     fn begins_with_zeros(&self, count: usize) -> bool
         requires { count ≤ 14 }
-        ensures { IsTrue result ↔ (self.now ≡ padded (drop count self.now)) }
+        ensures zeros { IsTrue result ↔ (self.now ≡ padded (drop count self.now)) }
+        ensures checked { IsChecked self.now }
     {
         are_zeros(&self.digits[..count])
     }
@@ -119,7 +120,7 @@ impl Gtin {
         ensures some { IsSome result ↔ (self.now ≡ padded (drop 2 self.now)) }
         ensures value { IfSome result (λ text. text ≡ ascii_of (drop 2 self.now)) }
         ensures digits { IfSome result AreAsciiDigits }
-        ensures checked { IfSome result (λ text. IsChecked self.now) }
+        ensures checked { IsChecked self.now }
     {
         if !self.begins_with_zeros(2) {
             return None;

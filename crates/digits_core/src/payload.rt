@@ -30,7 +30,7 @@ pub fn check_digit(payload: &[u8]) -> u8
 }
 
 /// Whether the last of 2 to 18 ASCII digits is the check digit of those before it.
-pub fn is_checked(text: &[u8]) -> bool
+pub(crate) fn is_checked(text: &[u8]) -> bool
     requires some { 2 ≤ length text.now }
     requires few { length text.now ≤ 18 }
     requires digits { AreAsciiDigits text.now }

@@ -1,7 +1,7 @@
 //! Zero-suppressed numbers, as UPC-E carries them.
 ghost use Rattle.std.specs.Prelude.{◌≡◌, ◌-◌, ◌<◌, ◌≤◌, ◌++◌, ◌∷◌, ◌==◌, ◌↔◌, true, ℕ, List, [], IfNone, IfSome, IsTrue, length, slice_index, slice_range};
 ghost use Rattle.std.specs.List.{list_all};
-ghost use Rattle.digits_core.specs.Digits.{AreAsciiDigits, digits_of};
+ghost use Rattle.digits_core.specs.Digits.{AreAsciiDigits, IsChecked, digits_of};
 ghost use Rattle.digits_core.specs.Upce.{IsFirstSix, IsFirstUpceOf, IsSix, IsUpceOf, upce_expanded};
 
 use crate::gtin::{Gtin, are_zeros};
@@ -91,6 +91,7 @@ pub fn upce_suppress(gtin: &Gtin) -> Option<([u8; 6], u8)>
     ensures check { IfSome result (λ spelled. (48 ≤ spelled.1) × (spelled.1 < 58)) }
     ensures some { IfSome result (λ spelled. IsFirstUpceOf (digits_of spelled.0) (spelled.1 - 48) gtin.now) }
     ensures none { IfNone result ((six : List ℕ) (check : ℕ) → IsUpceOf six check gtin.now → ⊥) }
+    ensures checked { IsChecked gtin.now }
 {
     let Some(digits) = gtin.as12() else {
         return None;

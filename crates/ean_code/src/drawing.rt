@@ -147,10 +147,6 @@ pub fn upce(gtin: &Gtin) -> Option<Modules>
     ensures some { IfSome result (IsSymbolOf UpcE gtin.now) }
     ensures none { IfNone result (HasNoSymbol UpcE gtin.now) }
 {
-    // The table is one of GTINs of at most 12 digits.
-    if gtin.as12().is_none() {
-        return None;
-    }
     let Some(spelled) = upce_suppress(gtin) else {
         return None;
     };

@@ -95,7 +95,7 @@ fn is_six_digits(text: &[u8]) -> bool
 /// The day that a text of six digits, YYMMDD, names under the reference year, where day 00 is the
 /// last of its month: none where there is no such day, and of any other text
 /// (GS1 General Specifications, sections 3.4 and 7.12).
-pub fn date_of(text: &[u8], reference: Year) -> Option<Date>
+pub(crate) fn date_of(text: &[u8], reference: Year) -> Option<Date>
     ensures day { IsDay result (day_of text.now reference) }
     ensures some { is_some result ≡ is_some (day_of text.now reference) }
 {

@@ -10,7 +10,7 @@ use arrayvec::ArrayVec;
 
 /// Where an element stands in the canonical text: its AI from `start` to `value`, its value from
 /// there to `end`, in bytes.
-#[derive(Clone, Copy, Default)]
+#[derive(Clone, Copy, Debug, Default)]
 pub struct Cut {
     pub start: u8,
     pub value: u8,
@@ -21,7 +21,7 @@ pub struct Cut {
 pub type Cuts = ArrayVec<Cut, 48>;
 
 /// Puts an element at the end of a canonical text, after a separator where one is due.
-pub fn append(text: &mut Text, cuts: &mut Cuts, separate: bool, ai: &[u8], value: &[u8])
+pub(crate) fn append(text: &mut Text, cuts: &mut Cuts, separate: bool, ai: &[u8], value: &[u8])
     requires room { length (text.old.items ++ gap separate ++ (ai.now ++ value.now)) ≤ 192 }
     requires places { array_vec_len cuts.old < 48 }
     requires cuts { AreCuts (length text.old.items) cuts.old.items }
@@ -46,7 +46,7 @@ pub fn append(text: &mut Text, cuts: &mut Cuts, separate: bool, ai: &[u8], value
 }
 
 /// How many bytes a separator takes, where one is due.
-pub fn gap_length(separate: bool) -> usize
+pub(crate) fn gap_length(separate: bool) -> usize
     ensures { result ≡ length (gap separate) }
 {
     if separate { 1 } else { 0 }

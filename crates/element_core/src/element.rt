@@ -34,7 +34,7 @@ fn is_dated(family: &AiFamily) -> bool
 }
 
 /// The day of an element, where its AI is one of a date.
-pub fn day_of_element(ai: &[u8], value: &[u8], year: Year) -> Option<Date>
+pub(crate) fn day_of_element(ai: &[u8], value: &[u8], year: Year) -> Option<Date>
     ensures { IsDay result (entry_day year (record { ai = ai.now; value = value.now })) }
 {
     let Some(family) = family_at(ai) else {

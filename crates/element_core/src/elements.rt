@@ -18,7 +18,7 @@ use digits_core::Gtin;
 use std::marker::Model;
 
 /// A valid list of elements under its reference year.
-#[derive(Drop)]
+#[derive(Debug, Drop)]
 pub struct Elements {
     /// The canonical text.
     text: Text,
@@ -124,6 +124,7 @@ impl Elements {
     pub fn of_gtin(gtin: &Gtin, year: Year) -> Elements
         ensures year { result.year ≡ year }
         ensures list { result.list ≡ gtin_entry gtin.now ∷ [] }
+        ensures reads { IsElements year (canonical result.list) result.list }
     {
         let mut text = Text::new();
         let mut cuts = Cuts::new();

@@ -48,7 +48,7 @@ fn first_with(table: &[AiFamily], text: &[u8]) -> Option<AiFamily>
 }
 
 /// The family of the AI that the text begins with.
-pub fn family_at(text: &[u8]) -> Option<AiFamily>
+pub(crate) fn family_at(text: &[u8]) -> Option<AiFamily>
     ensures row { option_map (λ f. row_with f text.now) result ≡ row_at text.now }
     ensures within { IfSome result (λ f. length f.least.now ≤ length text.now) }
     ensures short { IfSome result (λ f. length f.least.now ≤ 4) }

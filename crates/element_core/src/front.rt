@@ -79,7 +79,11 @@ fn row_fault(year: Year, place: usize, family: &AiFamily, value: &[u8]) -> Optio
 }
 
 /// The element at the front of a text, or the fault there.
-pub fn element_at<'a>(year: Year, place: usize, text: &'a [u8]) -> Result<Front<'a>, ElementFault>
+pub(crate) fn element_at<'a>(
+    year: Year,
+    place: usize,
+    text: &'a [u8],
+) -> Result<Front<'a>, ElementFault>
     ensures found { IfOk result
         (λ f. Begins year (record { ai = f.ai.now; value = f.value.now }) text.now f.rest.now) }
     ensures fault { IfErr result (λ e. fault_at year place text.now ≡ Some e) }

@@ -33,7 +33,7 @@ fn push_element(line: &mut ArrayString<288>, ai: &[u8], value: &[u8])
 }
 
 /// The line of the elements that stand in an ASCII text.
-pub fn line_of(text: &[u8], cuts: &[Cut]) -> ArrayString<288>
+pub(crate) fn line_of(text: &[u8], cuts: &[Cut]) -> ArrayString<288>
     requires ascii { All (λ b. b < 128) text.now }
     requires cuts { AreCuts (length text.now) cuts.now }
     requires room { length (hri (elements_in text.now cuts.now)) ≤ 288 }

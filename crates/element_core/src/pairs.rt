@@ -38,7 +38,7 @@ fn pair_fault(year: Year, i: usize, pair: &Pair) -> Option<ElementFault>
 }
 
 /// The fault of the first faulty pair.
-pub fn first_fault(year: Year, pairs: &[Pair]) -> Option<ElementFault>
+pub(crate) fn first_fault(year: Year, pairs: &[Pair]) -> Option<ElementFault>
     ensures { result ≡ entries_fault year 0 (entries_of pairs.now) }
 {
     for (i, pair) in pairs.iter().enumerate() {
@@ -50,7 +50,7 @@ pub fn first_fault(year: Year, pairs: &[Pair]) -> Option<ElementFault>
 }
 
 /// Whether a separator stands after the pair, where it is not the last.
-pub fn needs_separator(ai: &[u8]) -> bool
+pub(crate) fn needs_separator(ai: &[u8]) -> bool
     ensures { result ≡ not (is_some (predefined_length ai.now)) }
 {
     if ai.len() < 2 {

@@ -253,7 +253,7 @@ const FAMILIES: [AiFamily; 34] = [
 ];
 
 /// All families of the table.
-pub fn all_families() -> &'static [AiFamily]
+pub(crate) fn all_families() -> &'static [AiFamily]
     ensures { map family_of result.now ≡ families }
 {
     &FAMILIES

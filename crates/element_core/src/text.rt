@@ -12,7 +12,7 @@ pub type Text = ArrayVec<u8, 192>;
 pub const SEPARATOR: u8 = 29;
 
 /// A text of these bytes.
-pub fn copied(bytes: &[u8]) -> Text
+pub(crate) fn copied(bytes: &[u8]) -> Text
     requires { length bytes.now ≤ 192 }
     ensures { result.items ≡ bytes.now }
 {

@@ -127,7 +127,7 @@ fn dates_exist(year: Year, family: &AiFamily, value: &[u8]) -> bool
 }
 
 /// The first test that a value of a right length fails.
-pub fn value_fault(
+pub(crate) fn value_fault(
     year: Year,
     place: usize,
     family: &AiFamily,
@@ -148,7 +148,7 @@ pub fn value_fault(
 }
 
 /// The least number of bytes of a value.
-pub fn least_length(family: &AiFamily) -> usize
+pub(crate) fn least_length(family: &AiFamily) -> usize
     ensures { result ≡ least_of (parts_of family.now) }
 {
     match &family.second {
@@ -158,7 +158,7 @@ pub fn least_length(family: &AiFamily) -> usize
 }
 
 /// The greatest number of bytes of a value.
-pub fn greatest_length(family: &AiFamily) -> usize
+pub(crate) fn greatest_length(family: &AiFamily) -> usize
     ensures { result ≡ greatest_of (parts_of family.now) }
 {
     match &family.second {

@@ -5,7 +5,8 @@ use Rattle.std.proofs.lemmas.Bool.{eq-eqb, ne_eqb, cases_eq}
 use Rattle.std.proofs.lemmas.List.{append-nil, get_or-map, get_or-set_other, get_or-set_same, length-map, length-set, map-append, map-set}
 use Rattle.std.proofs.lemmas.List.FromFn.{fill_by_all, get_or-map-range_with_len, length-map-range_with_len, map-range_with_len_more}
 use Rattle.std.proofs.lemmas.List.Elements.{filter-append}
-use Rattle.gs1_hub.specs.Feeds.{Fields, feed_of, feeds_of, lane_of, row_of}
+use Rattle.gs1_hub.specs.Feeds.{feed_of, feeds_of, lane_of, row_of}
+use Rattle.gs1_hub.specs.Records.{Fields}
 
 -- one more feed, with no row yet
 pub one_more_feed : {V : Type 0} (f : V → List (List ℕ)) (feeds new : List V) (v : V) (n : ℕ) → new ≡ feeds ++ v ∷ [] → f v ≡ [] → map f feeds ≡ feeds_of n []

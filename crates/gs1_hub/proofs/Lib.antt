@@ -1,10 +1,13 @@
 pub mod Capped
+pub mod CheckFacts
+pub mod CommandFacts
 pub mod Decimals
+pub mod DigitFacts
 pub mod FeedFacts
 pub mod FieldFaults
 pub mod FieldWords
 pub mod FirstFault
-pub mod Numbers
+pub mod Matches
 pub mod Reaching
 pub mod ReportFacts
 pub mod TwoFields

@@ -1,17 +1,9 @@
 -- The report as lines come.
 use Rattle.std.proofs.Common.{◌+◌, ◌++◌, ◌≡◌, ◌∙◌, ◌∷◌, List, [], ap, append_assoc, arith, length, sym, ℕ}
 use Rattle.std.specs.List.{AllZip}
-use Rattle.std.specs.Str.{IsAscii}
 use Rattle.std.proofs.lemmas.List.{append-nil}
-use Rattle.std.proofs.lemmas.Str.Ascii.{IsAscii-cons, IsAscii-nil}
-use Rattle.digits_core.specs.Digits.{AreDigits, ascii_of}
-use Rattle.scan_core.specs.declared.answer.EanAnswer.{EanAnswer}
+use Rattle.scan_core.specs.declared.answer.Answer.{Answer}
 use Rattle.gs1_hub.specs.Report.{lanes_from, line_of, lines_from}
-
--- the text of digits is ASCII
-pub digits_ascii : (ds : List ℕ) → AreDigits ds → IsAscii (ascii_of ds)
-digits_ascii [] h = IsAscii-nil
-digits_ascii (d ∷ ds) h = IsAscii-cons (d + 48) (ascii_of ds) (omega (arith, h.0)) (digits_ascii ds h.1)
 
 module _ {A B : Type 0} (R : A → B → Type 0) where
   -- one more pair at the end
@@ -22,7 +14,7 @@ module _ {A B : Type 0} (R : A → B → Type 0) where
   zip_more (a ∷ xs) (b ∷ ys) x y h r = (h.0, zip_more xs ys x y h.1 r)
 
 -- one more line
-pub one_more_line : (lane number : ℕ) (answers : List EanAnswer) (a : EanAnswer)
+pub one_more_line : (lane number : ℕ) (answers : List Answer) (a : Answer)
     → lines_from lane number (answers ++ a ∷ []) ≡ lines_from lane number answers ++ line_of lane (number + length answers) a
 one_more_line lane number [] a =
     append-nil (line_of lane number a) ∙ ap (λ k. line_of lane k a) (omega arith)
@@ -31,7 +23,7 @@ one_more_line lane number (b ∷ answers) a =
     ∙ sym (append_assoc (line_of lane number b) (lines_from lane (number + 1) answers) (line_of lane (number + length (b ∷ answers)) a))
 
 -- the lines of one more lane
-pub one_more_lane : (lane : ℕ) (all : List (List EanAnswer)) (answers : List EanAnswer)
+pub one_more_lane : (lane : ℕ) (all : List (List Answer)) (answers : List Answer)
     → lanes_from lane (all ++ answers ∷ []) ≡ lanes_from lane all ++ lines_from (lane + length all) 0 answers
 one_more_lane lane [] answers =
     append-nil (lines_from lane 0 answers) ∙ ap (λ k. lines_from k 0 answers) (omega arith)

@@ -3,7 +3,7 @@ use Rattle.std.specs.Prelude.{◌≡◌, ◌≢◌, ⊤, List, [], Option, Some,
 use Rattle.clap.specs.Words.{IsAmong, Row, Text, fault_of, subcommand_of}
 use Rattle.clap.specs.declared.error.kind.ErrorKind.{ErrorKind}
 use Rattle.clap.specs.declared.error.kind.ErrorKind.TheVariants as kind
-use Rattle.gs1_hub.specs.CommandLine.{HasNumber, hub_app}
+use Rattle.gs1_hub.specs.CommandLine.{HasNumber, HasYear, hub_app}
 use Rattle.gs1_hub.specs.declared.options.LaneOptions.{LaneOptions}
 use Rattle.gs1_hub.specs.declared.words.Asked.{Asked}
 use Rattle.gs1_hub.specs.declared.words.Asked.TheVariants as asked
@@ -13,10 +13,11 @@ use Rattle.gs1_hub.specs.declared.words.WordsFault.TheVariants as fault
 -- the numbers of the command `lanes`
 abbrev pub HasLanes : List Row → LaneOptions → Type 0
 HasLanes rows o = HasNumber (codes "lanes") 1 16 rows o.lanes
-    × HasNumber (codes "workers") 1 16 rows o.workers × HasNumber (codes "year") 1951 2149 rows o.year
+    × HasNumber (codes "workers") 1 16 rows o.workers × HasYear rows o.year
 
 -- the command of this name, with its numbers
 abbrev pub AsksIn : Text → List Row → Asked → Type 0
+AsksIn name rows (asked.Check year) = (name ≡ codes "check") × HasYear rows year
 AsksIn name rows (asked.Lanes o) = (name ≡ codes "lanes") × HasLanes rows o
 
 -- the command and its numbers, by the name and the matches of a subcommand

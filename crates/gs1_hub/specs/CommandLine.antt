@@ -14,9 +14,17 @@ number_rule name least most = record (new_rule name) {
   parser = Some (vp.Signed (pos least) (pos most));
 }
 
+-- `--year Y`, the reference year of dates
+abbrev pub year_rule : Rule
+year_rule = number_rule (codes "year") 1951 2149
+
+-- `check --year Y`
+abbrev pub check_app : App
+check_app = with_rule (new_app (codes "check")) year_rule
+
 -- `lanes --lanes N --workers K --year Y`
 abbrev pub lanes_app : App
-lanes_app = with_rule (with_rule (with_rule (new_app (codes "lanes")) (number_rule (codes "lanes") 1 16)) (number_rule (codes "workers") 1 16)) (number_rule (codes "year") 1951 2149)
+lanes_app = with_rule (with_rule (with_rule (new_app (codes "lanes")) (number_rule (codes "lanes") 1 16)) (number_rule (codes "workers") 1 16)) year_rule
 
 -- a command is wanted, and there is no command `help`
 abbrev pub hub_top : App
@@ -24,10 +32,14 @@ hub_top = let fresh = new_app (codes "gs1_hub") in record fresh { top = record f
 
 -- the program with its commands
 abbrev pub hub_app : App
-hub_app = with_subcommand hub_top lanes_app.top
+hub_app = with_subcommand (with_subcommand hub_top check_app.top) lanes_app.top
 
 -- among the matches of a command, this number stands under the name, and it lies in the range
 abbrev pub HasNumber : Text → ℕ → ℕ → List Row → ℕ → Type 0
 HasNumber name least most rows n = (t : Text) × (one_of name rows ≡ Some t)
     × IsNumeral 10 (without_leading_plus t) × (n ≡ digits_value 10 (without_leading_plus t))
     × (least ≤ n) × (n ≤ most)
+
+-- the same of the reference year
+abbrev pub HasYear : List Row → ℕ → Type 0
+HasYear = HasNumber (codes "year") 1951 2149

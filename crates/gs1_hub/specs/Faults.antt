@@ -6,8 +6,8 @@ use Rattle.gs1_hub.specs.declared.fault.CommandFault.{CommandFault}
 use Rattle.gs1_hub.specs.declared.fault.CommandFault.TheVariants as command
 use Rattle.gs1_hub.specs.declared.fault.RecordFault.{RecordFault}
 use Rattle.gs1_hub.specs.declared.fault.RecordFault.TheVariants as fault
-use Rattle.gs1_hub.specs.declared.fault.RowRefusal.{RowRefusal}
-use Rattle.gs1_hub.specs.declared.fault.RowRefusal.TheVariants as refusal
+use Rattle.gs1_hub.specs.declared.fault.RecordRefusal.{RecordRefusal}
+use Rattle.gs1_hub.specs.declared.fault.RecordRefusal.TheVariants as refusal
 use Rattle.gs1_hub.specs.declared.words.WordsFault.{WordsFault}
 use Rattle.gs1_hub.specs.declared.words.WordsFault.TheVariants as words
 
@@ -20,6 +20,7 @@ words_fault_text (words.Help text) = string_bytes text
 -- of a record: `refused`, its number and its name
 abbrev pub record_fault_text : RecordFault → List ℕ
 record_fault_text fault.Csv = codes "refused 39 Csv"
+record_fault_text fault.Kind = codes "refused 40 Kind"
 record_fault_text fault.BadLane = codes "refused 41 BadLane"
 record_fault_text fault.BadRuns = codes "refused 18 BadRuns"
 record_fault_text fault.TooWide = codes "refused 17 TooWide"
@@ -30,8 +31,19 @@ of_input input.ReadFault = command.ReadFault
 of_input input.InputSize = command.InputSize
 of_input input.NoMemory = command.NoMemory
 
+-- a failed write and a refused growth, as the command's
+abbrev pub failed_write : CommandFault
+failed_write = command.WriteFault
+
+abbrev pub no_memory : CommandFault
+no_memory = command.NoMemory
+
+-- a refused growth, as a record's refusal
+abbrev pub no_room : RecordRefusal
+no_room = refusal.NoMemory
+
 -- a refusal of the record at this index, as the command's
-abbrev pub refusal_at : ℕ → RowRefusal → CommandFault
+abbrev pub refusal_at : ℕ → RecordRefusal → CommandFault
 refusal_at index (refusal.Record f) = command.Record index f
 refusal_at index refusal.NoMemory = command.NoMemory
 

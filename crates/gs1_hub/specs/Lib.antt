@@ -1,7 +1,9 @@
 pub mod Asking
+pub mod Checks
 pub mod CommandLine
+pub mod Commands
 pub mod Faults
 pub mod Feeds
-pub mod Lanes
+pub mod Records
 pub mod Report
 pub mod Widths

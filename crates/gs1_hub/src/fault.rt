@@ -1,8 +1,9 @@
 //! Why a command is refused as a whole.
 ghost use Rattle.std.specs.Prelude.{Some, ◌≡◌};
-ghost use Rattle.gs1_hub.specs.Faults.{of_input, record_fault_text, refusal_at};
+ghost use Rattle.gs1_hub.specs.Faults.{failed_write, no_memory, no_room, of_input, record_fault_text, refusal_at};
 
-use digits_core::InputFault;
+use digits_core::{Failed, InputFault};
+use std::alloc::AllocError;
 use std::fmt;
 use thiserror::Error;
 
@@ -11,6 +12,8 @@ use thiserror::Error;
 pub enum RecordFault {
     /// It has not two fields.
     Csv,
+    /// Its first field is no kind of text that is checked.
+    Kind,
     /// Its first field is no lane: one or two digits, below the number of lanes.
     BadLane,
     /// Its second field is no odd number of widths of one to five digits with one space between
@@ -26,6 +29,7 @@ impl fmt::Display for RecordFault {
     fn fmt<W: fmt::Write>(&self, f: &mut fmt::Formatter<W>) -> fmt::Result {
         match self {
             RecordFault::Csv => write!(f, "refused 39 Csv"),
+            RecordFault::Kind => write!(f, "refused 40 Kind"),
             RecordFault::BadLane => write!(f, "refused 41 BadLane"),
             RecordFault::BadRuns => write!(f, "refused 18 BadRuns"),
             RecordFault::TooWide => write!(f, "refused 17 TooWide"),
@@ -65,23 +69,47 @@ impl From<InputFault> for CommandFault {
     }
 }
 
-/// Why a record gives no row.
+impl From<Failed> for CommandFault {
+    ghost from_gives = { λ failed command. command ≡ failed_write };
+
+    fn from(_: Failed) -> CommandFault {
+        CommandFault::WriteFault
+    }
+}
+
+impl From<AllocError> for CommandFault {
+    ghost from_gives = { λ refused command. command ≡ no_memory };
+
+    fn from(_: AllocError) -> CommandFault {
+        CommandFault::NoMemory
+    }
+}
+
+/// Why a record is not taken.
 #[derive(Clone, Copy, Debug, PartialEq, Eq)]
-pub enum RowRefusal {
+pub enum RecordRefusal {
     /// It has a fault.
     Record(RecordFault),
     /// A growth was refused.
     NoMemory,
 }
 
-impl RowRefusal {
+impl From<AllocError> for RecordRefusal {
+    ghost from_gives = { λ refused refusal. refusal ≡ no_room };
+
+    fn from(_: AllocError) -> RecordRefusal {
+        RecordRefusal::NoMemory
+    }
+}
+
+impl RecordRefusal {
     /// The refusal of the input whose record at this index is refused.
     pub fn at(self, index: usize) -> CommandFault
         ensures { result ≡ refusal_at index self }
     {
         match self {
-            RowRefusal::Record(fault) => CommandFault::Record(index, fault),
-            RowRefusal::NoMemory => CommandFault::NoMemory,
+            RecordRefusal::Record(fault) => CommandFault::Record(index, fault),
+            RecordRefusal::NoMemory => CommandFault::NoMemory,
         }
     }
 }

@@ -1,25 +1,63 @@
 //! The program: GS1 bar codes from the command line.
 #![tactic(auto)]
 
-ghost use Rattle.std.specs.Prelude.{◌≡◌, IfOk};
+ghost use Rattle.std.specs.Prelude.{◌≡◌, ◌≢◌, ◌↔◌, true, false, IfErr, IfOk, IsErrOf, OnOk};
+ghost use Rattle.std.specs.Io.KnownBytes.{Appends};
 ghost use Rattle.std.specs.Process.{exit_status};
+ghost use Rattle.digits_core.specs.Bytes.{TookFront};
+ghost use Rattle.gs1_hub.specs.Commands.{OutputOf, Refuses, Writes, test_of};
 ghost use Rattle.gs1_hub.specs.Faults.{status_of, words_status};
 
+mod ascii;
+mod check;
+mod check_answer;
+mod command_line;
+mod element_field;
 mod fault;
 mod feeds;
 mod lanes;
 mod options;
+mod records;
 mod report;
 #[cfg(test)]
 mod tests;
 mod widths;
 mod words;
 
+use crate::check::run_check;
 use crate::fault::CommandFault;
+use crate::lanes::run_lanes;
 use crate::words::{Asked, WordsFault, read_words};
-use digits_core::{FromReader, ToWriter};
+use digits_core::{FromReader, Sink, Source, ToWriter};
+use std::alloc::Global;
 use std::process::ExitCode;
 use std::{env, io};
+
+/// Runs the command that is asked for.
+fn run<S: Source, W: Sink>(
+    alloc: Global,
+    asked: Asked,
+    source: &mut S,
+    sink: &mut W,
+) -> Result<(), CommandFault>
+    ensures ok { OnOk result (Writes (test_of asked) (OutputOf asked) Appends
+        (S.left source.old) (S.left source.new) (W.taken sink.old) (W.taken sink.new)) }
+    ensures cut { IsErrOf result CommandFault.WriteFault
+        → Writes (test_of asked) (OutputOf asked) TookFront
+        (S.left source.old) (S.left source.new) (W.taken sink.old) (W.taken sink.new) }
+    ensures refused { IfErr result
+        (Refuses (test_of asked) (S.left source.old) (S.left source.new)) }
+    ensures unwritten { IfErr result (λ e. e ≢ CommandFault.WriteFault → sink.new ≡ sink.old) }
+    ensures read { S.failed source.old ≡ false
+        → (IsErrOf result CommandFault.ReadFault ↔ (S.failed source.new ≡ true)) }
+    ensures write { W.failed sink.old ≡ false
+        → (IsErrOf result CommandFault.WriteFault ↔ (W.failed sink.new ≡ true)) }
+{
+    match asked {
+        Asked::Check(year) => run_check(alloc, year, source, sink),
+        Asked::Lanes(options) => run_lanes(alloc, options, source, sink),
+    }
+}
 
 /// The exit status of a command that has run. A refusal is told on standard error.
 fn finish(rt: &impl Eprint, ran: Result<(), CommandFault>) -> io::Result<ExitCode>
@@ -65,13 +103,10 @@ fn main(rt: HostRuntime) -> io::Result<ExitCode> {
         Err(_) => Err(WordsFault::Words),
     };
     match asked {
-        Ok(Asked::Lanes(options)) => {
+        Ok(asked) => {
             let mut source = FromReader::new(rt.reader());
             let mut sink = ToWriter::new(io::writer(&rt));
-            finish(
-                &rt,
-                lanes::run_lanes(rt.alloc(), options, &mut source, &mut sink),
-            )
+            finish(&rt, run(rt.alloc(), asked, &mut source, &mut sink))
         }
         Err(fault) => explain(&rt, &fault),
     }

@@ -2,6 +2,8 @@
 ghost use Rattle.std.specs.Prelude.{◌≡◌, ◌↔◌, IfSome, IsSome};
 ghost use Rattle.std.specs.Int.{IsInRange};
 
+use element_core::Year;
+
 /// The numbers of the command `lanes`.
 #[derive(Clone, Copy, Debug, PartialEq, Eq)]
 pub struct LaneOptions {
@@ -9,11 +11,10 @@ pub struct LaneOptions {
     pub lanes: u8,
     /// How many workers read rows, 1 to 16.
     pub workers: u8,
-    /// The year that dates of two digits are read by, 1951 to 2149.
-    pub year: u16,
+    /// The year that dates of two digits are read by.
+    pub year: Year,
     ghost some_lanes: { IsInRange 1 16 lanes },
     ghost some_workers: { IsInRange 1 16 workers },
-    ghost near_year: { IsInRange 1951 2149 year },
 }
 
 impl LaneOptions {
@@ -24,9 +25,12 @@ impl LaneOptions {
         ensures numbers { IfSome result (λ o. (o.lanes ≡ lanes) × (o.workers ≡ workers)
             × (o.year ≡ year)) }
     {
-        if lanes < 1 || lanes > 16 || workers < 1 || workers > 16 || year < 1951 || year > 2149 {
+        if lanes < 1 || lanes > 16 || workers < 1 || workers > 16 {
             return None;
         }
+        let Some(year) = Year::new(year) else {
+            return None;
+        };
         Some(LaneOptions {
             lanes,
             workers,

@@ -1,17 +1,21 @@
 //! One of each answer and refusal, with the text that is printed, and inputs and outputs that fail.
 
 mod adapters;
+mod checks;
 mod fakes;
 mod numbers;
 mod rows;
+mod symbols;
+mod words;
 
 use crate::fault::CommandFault;
-use crate::lanes::run_lanes;
 use crate::options::LaneOptions;
-use crate::words::{Asked, WordsFault, read_words};
-use digits_core::{FromReader, Gtin, ToWriter, check_digit};
+use crate::run;
+use crate::words::Asked;
+use digits_core::{FromReader, ToWriter};
+use element_core::Year;
 use fakes::{Breaking, Endless, Narrow};
-use std::alloc::{AllocError, Global};
+use std::alloc::Global;
 use std::test::Fail;
 
 // The symbol of 9501101530003, at one dot a module: its runs but for the two light ends.
@@ -26,17 +30,22 @@ const WRONG_CHECK_DIGIT: &str = "1 1 1 1 2 3 1 1 1 2 3 1 2 2 2 2 2 2 1 1 1 2 3 2
 const WIDE_SPACE: &str = "1 1 1 1 2 3 1 1 1 2 3 1 2 2 2 2 2 2 1 1 1 2 3 2 2 2 1 1 1 1 1 \
                           1 1 2 3 1 1 4 1 1 3 2 1 1 3 2 1 1 3 2 1 1 1 5 1 1 1 1 1";
 
-/// What a run of `lanes` prints: its output, or else the line of its fault.
-fn printed(alloc: Global, lanes: u8, input: &str) -> Result<String, Fail> {
-    let options = LaneOptions::new(lanes, 1, 2026).ok_or("options")?;
-    let mut source = FromReader::new(input.as_bytes());
+/// What a run of a command prints: its output, or else the line of its fault.
+fn outcome(alloc: Global, asked: Asked, input: &[u8]) -> Result<String, Fail> {
+    let mut source = FromReader::new(input);
     let mut sink = ToWriter::new(Vec::new(alloc));
-    let ran = run_lanes(alloc, options, &mut source, &mut sink);
+    let ran = run(alloc, asked, &mut source, &mut sink);
     let written = String::from_utf8(sink.into_inner()).ok().ok_or("text")?;
     match ran {
         Ok(()) => Ok(written),
         Err(fault) => Ok(format!(in alloc; "{written}{fault}")?),
     }
+}
+
+/// What a run of `lanes` prints.
+fn printed(alloc: Global, lanes: u8, input: &str) -> Result<String, Fail> {
+    let options = LaneOptions::new(lanes, 1, 2026).ok_or("options")?;
+    outcome(alloc, Asked::Lanes(options), input.as_bytes())
 }
 
 #[test]
@@ -136,102 +145,45 @@ fn refuses_faulty_records(rt: HostRuntime) -> Result<(), Fail> {
 fn passes_failures_on(rt: HostRuntime) -> Result<(), Fail> {
     let alloc = rt.alloc();
     let options = LaneOptions::new(1, 1, 2026).ok_or("options")?;
-    let mut unwritten = ToWriter::new(Vec::new(alloc));
+    let year = Year::new(2026).ok_or("a year")?;
+    for (asked, input, output) in [
+        (
+            Asked::Lanes(options),
+            "0,1\n0,0 1 0\n",
+            "0 0 refused 19 Blank\n0 1 refused 20 RunCount\n",
+        ),
+        (
+            Asked::Check(year),
+            "digit,12\ngtin,12\ntext,10AB^21C\n",
+            "digit 3\nrefused 1 Length\nhri (10)AB(21)C\n",
+        ),
+    ] {
+        let mut unwritten = ToWriter::new(Vec::new(alloc));
+        let fault = run(alloc, asked, &mut Breaking::new(), &mut unwritten)
+            .err()
+            .ok_or("a fault")?;
+        assert_eq!(rt; fault.to_string(alloc)?.as_str(), "refused 37 ReadFault");
+        let fault = run(alloc, asked, &mut Endless, &mut unwritten)
+            .err()
+            .ok_or("a fault")?;
+        assert_eq!(rt; fault.to_string(alloc)?.as_str(), "refused 44 InputSize");
+        assert_eq!(rt; unwritten.into_inner().len(), 0);
 
-    let fault = run_lanes(alloc, options, &mut Breaking::new(), &mut unwritten)
-        .err()
-        .ok_or("a fault")?;
-    assert_eq!(rt; fault.to_string(alloc)?.as_str(), "refused 37 ReadFault");
+        let mut narrow = Narrow::new(alloc, 100);
+        let mut source = FromReader::new(input.as_bytes());
+        run(alloc, asked, &mut source, &mut narrow)?;
+        let text = output.as_bytes();
+        assert_eq!(rt; narrow.taken(), text);
 
-    let fault = run_lanes(alloc, options, &mut Endless, &mut unwritten)
-        .err()
-        .ok_or("a fault")?;
-    assert_eq!(rt; fault.to_string(alloc)?.as_str(), "refused 44 InputSize");
-    assert_eq!(rt; unwritten.into_inner().len(), 0);
-
-    let mut narrow = Narrow::new(alloc, 100);
-    let mut source = FromReader::new(b"0,1\n0,0 1 0\n".as_slice());
-    run_lanes(alloc, options, &mut source, &mut narrow)?;
-    let text = b"0 0 refused 19 Blank\n0 1 refused 20 RunCount\n".as_slice();
-    assert_eq!(rt; narrow.taken(), text);
-
-    let mut short = Narrow::new(alloc, 25);
-    let mut source = FromReader::new(b"0,1\n0,0 1 0\n".as_slice());
-    let fault = run_lanes(alloc, options, &mut source, &mut short)
-        .err()
-        .ok_or("a fault")?;
-    assert_eq!(rt; fault.to_string(alloc)?.as_str(), "refused 38 WriteFault");
-    assert_eq!(rt; short.taken(), &text[..25]);
-
+        let mut short = Narrow::new(alloc, 25);
+        let mut source = FromReader::new(input.as_bytes());
+        let fault = run(alloc, asked, &mut source, &mut short)
+            .err()
+            .ok_or("a fault")?;
+        assert_eq!(rt; fault.to_string(alloc)?.as_str(), "refused 38 WriteFault");
+        assert_eq!(rt; short.taken(), text.get(..25).ok_or("25 bytes")?);
+    }
     let text = CommandFault::NoMemory.to_string(alloc)?;
     assert_eq!(rt; text.as_str(), "refused 43 NoMemory");
-    Ok(())
-}
-
-/// The words of a command line, with one space between them.
-fn words_of(alloc: Global, text: &str) -> Result<Vec<String>, AllocError> {
-    let mut words = Vec::new(alloc);
-    for word in text.split(' ') {
-        words.push(String::from_str(alloc, word)?)?;
-    }
-    Ok(words)
-}
-
-#[test]
-fn reads_words(rt: HostRuntime) -> Result<(), Fail> {
-    let alloc = rt.alloc();
-    for (text, lanes, workers, year) in [
-        (
-            "gs1_hub lanes --lanes 3 --workers=16 --year 2026",
-            3,
-            16,
-            2026,
-        ),
-        (
-            "gs1_hub lanes --year 1951 --workers 1 --lanes 16",
-            16,
-            1,
-            1951,
-        ),
-    ] {
-        let words = words_of(alloc, text)?;
-        let Ok(Asked::Lanes(options)) = read_words(alloc, words.as_slice()) else {
-            return Err(Fail::from("a command"));
-        };
-        let wanted = LaneOptions::new(lanes, workers, year).ok_or("options")?;
-        assert_eq!(rt; options, wanted, "{text}");
-    }
-    for text in [
-        "gs1_hub",
-        "gs1_hub help",
-        "gs1_hub check --year 2026",
-        "gs1_hub lanes",
-        "gs1_hub lanes --lanes 1 --workers 1",
-        "gs1_hub lanes --lanes 0 --workers 1 --year 2026",
-        "gs1_hub lanes --lanes 17 --workers 1 --year 2026",
-        "gs1_hub lanes --lanes 1 --workers 17 --year 2026",
-        "gs1_hub lanes --lanes 1 --workers 1 --year 1950",
-        "gs1_hub lanes --lanes 1 --workers 1 --year 2150",
-        "gs1_hub lanes --lanes 1 --lanes 1 --workers 1 --year 2026",
-        "gs1_hub lanes --lanes 1 --workers 1 --year 2026 more",
-    ] {
-        let words = words_of(alloc, text)?;
-        let fault = read_words(alloc, words.as_slice()).err().ok_or("a fault")?;
-        assert_eq!(rt;
-            fault.to_string(alloc)?.as_str(),
-            "refused 42 Words",
-            "{text}"
-        );
-    }
-    for (text, part) in [
-        ("gs1_hub --help", "lanes"),
-        ("gs1_hub lanes --help", "--workers"),
-    ] {
-        let words = words_of(alloc, text)?;
-        let fault = read_words(alloc, words.as_slice()).err().ok_or("help")?;
-        let help = fault.to_string(alloc)?;
-        assert!(rt; matches!(fault, WordsFault::Help(_)), "{text}");
-        assert!(rt; help.as_str().contains(part), "{text}");
-    }
     Ok(())
 }

@@ -6,7 +6,7 @@ ghost use Rattle.std.specs.Str.Parse.{digits_value};
 ghost use Rattle.gs1_hub.specs.Widths.{are_widths, field_fault, number_in, widths_in, words_of};
 ghost use Rattle.gs1_hub.specs.declared.fault.RecordFault.{RecordFault};
 
-use crate::fault::{RecordFault, RowRefusal};
+use crate::fault::{RecordFault, RecordRefusal};
 use scan_core::{RunFault, Runs};
 use std::alloc::Global;
 
@@ -44,45 +44,45 @@ pub fn number_in(text: &[u8], most: usize) -> Option<u32>
 
 /// Puts the widths that a field shows into `widths`, each above 65,535 as 65,535, and says whether
 /// there is one such.
-fn read_widths(field: &[u8], widths: &mut Vec<u16>) -> Result<bool, RowRefusal>
+fn read_widths(field: &[u8], widths: &mut Vec<u16>) -> Result<bool, RecordRefusal>
     ensures words { OnOk result (are_widths (words_of field.now) ≡ true) }
     ensures widths { OnOk result (widths.new.items ≡ map (min 65535) (widths_in field.now)) }
     ensures wide { IfOk result (λ is_wide. is_wide ≡ list_any (nat_lt 65535) (widths_in field.now)) }
-    ensures refused { (f : RecordFault) → result ≡ Err (RowRefusal.Record f)
+    ensures refused { (f : RecordFault) → result ≡ Err (RecordRefusal.Record f)
         → field_fault field.now ≡ Some f }
 {
     widths.clear();
     let mut is_wide = false;
     'words: for word in field.split(|byte| *byte == b' ') {
         let Some(width) = number_in(word, 5) else {
-            return Err(RowRefusal::Record(RecordFault::BadRuns));
+            return Err(RecordRefusal::Record(RecordFault::BadRuns));
         };
         is_wide = is_wide || width > 65_535;
         if widths.push(width.min(65_535) as u16).is_err() {
-            return Err(RowRefusal::NoMemory);
+            return Err(RecordRefusal::NoMemory);
         }
     }
     Ok(is_wide)
 }
 
 /// The row that a field shows. `widths` is room to work in.
-pub fn read_runs(alloc: Global, field: &[u8], widths: &mut Vec<u16>) -> Result<Runs, RowRefusal>
+pub fn read_runs(alloc: Global, field: &[u8], widths: &mut Vec<u16>) -> Result<Runs, RecordRefusal>
     ensures ok { IfOk result (λ runs. runs ≡ widths_in field.now) }
     ensures taken { OnOk result (field_fault field.now ≡ None) }
-    ensures refused { (f : RecordFault) → result ≡ Err (RowRefusal.Record f)
+    ensures refused { (f : RecordFault) → result ≡ Err (RecordRefusal.Record f)
         → field_fault field.now ≡ Some f }
 {
     let is_wide = read_widths(field, widths)?;
     match Runs::of_widths(alloc, widths.as_slice()) {
         Ok(runs) => {
             if is_wide {
-                Err(RowRefusal::Record(RecordFault::TooWide))
+                Err(RecordRefusal::Record(RecordFault::TooWide))
             } else {
                 Ok(runs)
             }
         }
-        Err(RunFault::BadRuns) => Err(RowRefusal::Record(RecordFault::BadRuns)),
-        Err(RunFault::TooWide) => Err(RowRefusal::Record(RecordFault::TooWide)),
-        Err(RunFault::NoMemory) => Err(RowRefusal::NoMemory),
+        Err(RunFault::BadRuns) => Err(RecordRefusal::Record(RecordFault::BadRuns)),
+        Err(RunFault::TooWide) => Err(RecordRefusal::Record(RecordFault::TooWide)),
+        Err(RunFault::NoMemory) => Err(RecordRefusal::NoMemory),
     }
 }

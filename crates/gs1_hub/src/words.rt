@@ -1,23 +1,25 @@
 //! The words of the command line.
-ghost use Rattle.std.specs.Prelude.{Some, ◌≡◌, ◌<◌, ◌≤◌, ℕ, IfOk, IfSome, IfNone, IfErr, map, string_bytes, false, codes};
-ghost use Rattle.clap.specs.Words.{app_of, found_of, kind_of, rows_of, rule_of, subcommand_rows_of};
-ghost use Rattle.clap.specs.declared.builder.command.Command.TheViews.{out-Command};
+ghost use Rattle.std.specs.Prelude.{Some, ℕ, IfOk, IfSome, IfNone, IfErr, map, string_bytes};
+ghost use Rattle.clap.specs.Words.{found_of, kind_of, rows_of, subcommand_rows_of};
 ghost use Rattle.gs1_hub.specs.Asking.{Asks, AsksIn, HasLanes, Explains, FaultOfKind, WordsAsk};
-ghost use Rattle.gs1_hub.specs.CommandLine.{HasNumber, hub_app, lanes_app, number_rule};
+ghost use Rattle.gs1_hub.specs.CommandLine.{HasNumber, HasYear};
 ghost use Rattle.gs1_hub.specs.Faults.{words_fault_text};
 ghost use Rattle.gs1_hub.specs.declared.words.Asked.{Asked};
 ghost use Rattle.gs1_hub.specs.declared.options.LaneOptions.{LaneOptions};
 
+use crate::command_line::hub_command;
 use crate::options::LaneOptions;
-use clap::builder::ValueParser;
 use clap::error::ErrorKind;
-use clap::{Arg, ArgAction, ArgMatches, Command, Error};
-use std::alloc::{AllocError, Global};
+use clap::{ArgMatches, Error};
+use element_core::Year;
+use std::alloc::Global;
 use std::fmt;
 
 /// What the words ask for.
 #[derive(Clone, Copy)]
 pub enum Asked {
+    /// Texts are to be checked, dates under this reference year.
+    Check(Year),
     /// The rows of these lanes are to be read.
     Lanes(LaneOptions),
 }
@@ -45,40 +47,8 @@ impl fmt::Display for WordsFault {
     }
 }
 
-/// The option `--name`, which is required and takes a number from `least` to `most`.
-fn number<'a>(alloc: Global, name: &'a str, least: u16, most: u16) -> Arg<'a>
-    ensures rule { rule_of result ≡ number_rule name.now least most }
-    ensures own { result.global ≡ false }
-{
-    let reader = ValueParser::Signed(i64::from(least), i64::from(most));
-    Arg::new(alloc, name)
-        .long(name)
-        .action(ArgAction::Set)
-        .required(true)
-        .value_parser(reader)
-}
-
-fn lanes_command<'a>(alloc: Global) -> Result<Command<'a>, AllocError>
-    ensures app { IfOk result (λ c. app_of c ≡ lanes_app) }
-    ensures own { IfOk result (λ c. (out-Command c).has_globals ≡ false) }
-{
-    Command::new(alloc, "lanes")
-        .arg(number(alloc, "lanes", 1, 16))?
-        .arg(number(alloc, "workers", 1, 16))?
-        .arg(number(alloc, "year", 1951, 2149))
-}
-
-fn hub_command<'a>(alloc: Global) -> Result<Command<'a>, AllocError>
-    ensures { IfOk result (λ c. app_of c ≡ hub_app) }
-{
-    Command::new(alloc, "gs1_hub")
-        .disable_help_subcommand(true)
-        .subcommand_required(true)
-        .subcommand(lanes_command(alloc)?)
-}
-
 /// The number under this name, where it lies in the range.
-fn number_in(matches: &ArgMatches<'_>, name: &str, least: u16, most: u16) -> Option<u16>
+fn number_named(matches: &ArgMatches<'_>, name: &str, least: u16, most: u16) -> Option<u16>
     ensures some { IfSome result (HasNumber name.now least most (rows_of (found_of matches.now))) }
     ensures none { IfNone result ((n : ℕ)
         → HasNumber name.now least most (rows_of (found_of matches.now)) n → ⊥) }
@@ -93,24 +63,37 @@ fn number_in(matches: &ArgMatches<'_>, name: &str, least: u16, most: u16) -> Opt
     }
 }
 
+/// The year under `--year`, where it is a reference year.
+fn year_named(matches: &ArgMatches<'_>) -> Option<Year>
+    ensures some { IfSome result (HasYear (rows_of (found_of matches.now))) }
+    ensures none { IfNone result ((y : ℕ) → HasYear (rows_of (found_of matches.now)) y → ⊥) }
+{
+    let Some(number) = number_named(matches, "year", 1951, 2149) else {
+        return None;
+    };
+    Year::new(number)
+}
+
 /// The numbers of the command `lanes`.
 fn lane_options(matches: &ArgMatches<'_>) -> Option<LaneOptions>
     ensures some { IfSome result (HasLanes (rows_of (found_of matches.now))) }
     ensures none { IfNone result ((o : LaneOptions)
         → HasLanes (rows_of (found_of matches.now)) o → ⊥) }
 {
-    let lanes = number_in(matches, "lanes", 1, 16);
-    let workers = number_in(matches, "workers", 1, 16);
-    let year = number_in(matches, "year", 1951, 2149);
-    if let (Some(lanes), Some(workers), Some(year)) = (lanes, workers, year) {
-        Some(LaneOptions {
-            lanes: lanes as u8,
-            workers: workers as u8,
-            year,
-        })
-    } else {
-        None
-    }
+    let Some(lanes) = number_named(matches, "lanes", 1, 16) else {
+        return None;
+    };
+    let Some(workers) = number_named(matches, "workers", 1, 16) else {
+        return None;
+    };
+    let Some(year) = year_named(matches) else {
+        return None;
+    };
+    Some(LaneOptions {
+        lanes: lanes as u8,
+        workers: workers as u8,
+        year,
+    })
 }
 
 /// What the matches of a command ask for.
@@ -120,6 +103,10 @@ fn asked_by(name: &str, matches: &ArgMatches<'_>) -> Option<Asked>
         → AsksIn name.now (rows_of (found_of matches.now)) a → ⊥) }
 {
     match name {
+        "check" => match year_named(matches) {
+            Some(year) => Some(Asked::Check(year)),
+            None => None,
+        },
         "lanes" => match lane_options(matches) {
             Some(options) => Some(Asked::Lanes(options)),
             None => None,

@@ -1,9 +1,15 @@
 pub mod AnswerFacts
 pub mod CandidateFacts
+pub mod ContentFacts
 pub mod CutFacts
 pub mod DotFacts
+pub mod EanMeasures
+pub mod FoundFacts
 pub mod ReplacedFacts
+pub mod LengthFacts
 pub mod RoundingFacts
 pub mod RowFacts
+pub mod ShownFacts
+pub mod StageFacts
 pub mod TurnedFacts
 pub mod WayFacts

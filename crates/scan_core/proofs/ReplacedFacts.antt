@@ -1,5 +1,6 @@
--- A symbol with the digit of one character replaced is a symbol with a wrong check digit.
-use Rattle.std.proofs.Common.{◌≡◌, ◌≢◌, ℕ, zero, suc, ◌<◌, List, [], ◌∷◌, length, set, refl, ◌∙◌, get_or}
+-- A symbol with one character replaced is a symbol with a wrong check digit or check character.
+use Rattle.std.proofs.Common.{◌≡◌, ◌≢◌, ℕ, zero, suc, ◌<◌, ◌==◌, Bool, true, false, List, [], ◌∷◌, length, set, Result, Err, refl, ◌∙◌, get_or, arith, if◌then◌else◌}
+use Rattle.std.proofs.lemmas.Bool.Decides.{nat_tests}
 use Rattle.std.specs.List.{AllByRecursion}
 use Rattle.std.proofs.lemmas.List.{length-set}
 use Rattle.digits_core.specs.Digits.{AreDigits, IsChecked}
@@ -8,8 +9,13 @@ use Rattle.ean_code.specs.Symbols.Kind.{Ean13, Ean8, UpcE}
 use Rattle.ean_code.specs.Spelling.{IsGtinOf, IsSpelled}
 use Rattle.ean_code.specs.Laws.{ReplacedIsUnchecked}
 use Rattle.ean_code.specs.declared.reading.Spelled.TheVariants.{BadCheck}
+use Rattle.code128_code.specs.Symbols.{mod103}
+use Rattle.code128_code.specs.Texts.{gs1_text, set_of, symbol_text}
+use Rattle.code128_code.specs.declared.fault.Code128Fault.{Code128Fault}
+use Rattle.code128_code.specs.declared.fault.Code128Fault.TheVariants.{CheckCharacter}
+use Rattle.scan_core.specs.declared.fault.RowFault.TheVariants.{SymbolCheckDigit, Code128}
 use Rattle.scan_core.specs.Showing.{carrier_of}
-use Rattle.scan_core.specs.Answers.{Spells}
+use Rattle.scan_core.specs.Answers.{Spells, row_text}
 
 -- a digit put among digits
 each-set : (P : ℕ → Type 0) (ds : List ℕ) (k d : ℕ) → AllByRecursion P ds → P d → AllByRecursion P (set ds k d)
@@ -17,15 +23,15 @@ each-set P [] k d each new = tt
 each-set P (x ∷ ds) zero d each new = (new, each.1)
 each-set P (x ∷ ds) (suc k) d each new = (each.0, each-set P ds k d each.1 new)
 
-spells_of : (kind : Kind) (modules : List ℕ) → IsSpelled kind modules BadCheck → Spells (carrier_of kind) modules BadCheck
-spells_of Ean13 modules bad = bad
-spells_of Ean8 modules bad = bad
-spells_of UpcE modules bad = bad
+spells_of : (kind : Kind) (modules : List ℕ) → IsSpelled kind modules BadCheck → Spells (carrier_of kind) modules (Err SymbolCheckDigit)
+spells_of Ean13 modules bad = (bad, refl)
+spells_of Ean8 modules bad = (bad, refl)
+spells_of UpcE modules bad = (bad, refl)
 
 pub replaced_spells : (kind : Kind) → ReplacedIsUnchecked kind → (digits gtin : List ℕ) (k d : ℕ)
     → length digits ≡ digit_count kind → AreDigits digits → IsGtinOf kind digits gtin → IsChecked gtin
     → IsCheckedPlace kind k → d < 10 → d ≢ get_or digits k 0
-    → Spells (carrier_of kind) (widths_of kind (set digits k d)) BadCheck
+    → Spells (carrier_of kind) (widths_of kind (set digits k d)) (Err SymbolCheckDigit)
 replaced_spells kind law digits gtin k d count valid number checked place low other =
     let symbol : IsEanSymbol kind (widths_of kind (set digits k d)) (set digits k d) = record {
       count = length-set digits k d ∙ count;
@@ -34,3 +40,16 @@ replaced_spells kind law digits gtin k d count valid number checked place low ot
     } in
     spells_of kind (widths_of kind (set digits k d))
     (set digits k d, symbol, λ g. law digits gtin g k d count valid number checked place low other)
+
+-- ---- Code 128
+
+if_wrong : (right : Bool) (r : Result (List ℕ) Code128Fault) → right ≡ false
+    → Err (Code128 CheckCharacter) ≡ row_text (if right then r else Err CheckCharacter)
+if_wrong true r e = absurd cc
+if_wrong false r e = refl
+
+-- a symbol whose check character is wrong has that fault
+pub wrong_character : (start : ℕ) (values : List ℕ) (check : ℕ) → check ≢ mod103 start values
+    → Err (Code128 CheckCharacter) ≡ row_text (symbol_text start values check)
+wrong_character start values check wrong =
+    if_wrong (check == mod103 start values) (gs1_text (set_of start) values) (grind (arith, nat_tests, wrong))

@@ -1,17 +1,19 @@
 -- A row with its runs in reverse is a row, and has the same answer.
-use Rattle.std.proofs.Common.{◌≡◌, ℕ, ◌+◌, ◌-◌, ◌<◌, ◌≤◌, true, List, [], ◌∷◌, length, drop, min, reverse, sum, Contains, sym, ap, subst, ◌∙◌, inl, inr, arith, get_or}
+use Rattle.std.proofs.Common.{◌≡◌, ℕ, ◌+◌, ◌-◌, ◌<◌, ◌≤◌, true, List, [], ◌∷◌, length, drop, min, reverse, sum, Contains, Result, Ok, Err, sym, ap, subst, ◌∙◌, inl, inr, arith, get_or}
 use Rattle.std.specs.List.{AllByRecursion}
 use Rattle.std.proofs.lemmas.Bool.{cases_lt}
 use Rattle.std.proofs.lemmas.List.{ext_get_or, get_or-drop, get_or-reverse, get_or-take, length-drop, length-reverse, length-take, reverse-append, reverse-reverse}
 use Rattle.scan_core.specs.declared.carrier.Carrier.{Carrier}
+use Rattle.scan_core.specs.declared.stage.Stage.{Stage}
+use Rattle.scan_core.specs.declared.stage.Stage.TheVariants as stages
 use Rattle.scan_core.specs.declared.fault.RowFault.{RowFault}
-use Rattle.scan_core.specs.declared.fault.RowFault.TheVariants.{Blank, RunCount, QuietZone, Modules, Pattern, SymbolCheckDigit}
-use Rattle.scan_core.specs.declared.answer.EanAnswer.{EanAnswer}
-use Rattle.scan_core.specs.declared.answer.EanAnswer.TheVariants.{Read, Refused}
+use Rattle.scan_core.specs.declared.fault.RowFault.TheVariants.{Blank, RunCount, QuietZone, Modules, Pattern, SymbolCheckDigit, Code128, Elements}
+use Rattle.scan_core.specs.declared.answer.Answer.{Answer}
+use Rattle.scan_core.specs.declared.answer.Answer.TheVariants.{Read, Refused}
 use Rattle.scan_core.specs.Row.{IsRow, dots_of, inner}
 use Rattle.scan_core.specs.Showing.{IsCandidate, IsQuiet, Rounds, Shows, Way, along}
 use Rattle.scan_core.specs.Showing.Way.{Forwards, Backwards}
-use Rattle.scan_core.specs.Answers.{Fails, FailsAt, IsAnswer, IsRefused}
+use Rattle.scan_core.specs.Answers.{Fails, FailsAt, IsAnswer, IsRefused, Tells}
 use Rattle.scan_core.proofs.RowFacts.{each-push, has_dark, has_no_dark}
 use Rattle.scan_core.proofs.WayFacts.{sum-reverse}
 
@@ -90,20 +92,17 @@ module _ (runs : List ℕ) (some : 0 < length runs) where
     form = s.form;
   }
 
-  fails_turned : (f : RowFault) (c : Carrier) (N : ℕ) → Fails runs c N f → Fails (reverse runs) c N f
-  fails_turned QuietZone c N h = λ quiet. h (quiet_back N quiet)
-  fails_turned Modules c N h =
+  fails_turned : (f : Stage) (c : Carrier) (N : ℕ) → Fails runs c N f → Fails (reverse runs) c N f
+  fails_turned stages.QuietZone c N h = λ quiet. h (quiet_back N quiet)
+  fails_turned stages.Modules c N h =
       (quiet_turned runs N some h.0, λ way ms r. h.1 (other_way way) ms (subst (λ ws. Rounds ws N ms) (along_turned way runs) r))
-  fails_turned Pattern c N h = (
+  fails_turned stages.Pattern c N h = (
     quiet_turned runs N some h.0,
     (other_way h.1.0, h.1.1, subst (λ ws. Rounds ws N h.1.1) (sym (along_other h.1.0 runs)) h.1.2),
     λ way ms r. h.2 (other_way way) ms (subst (λ ws. Rounds ws N ms) (along_turned way runs) r),
   )
-  fails_turned Blank c N h = h
-  fails_turned RunCount c N h = h
-  fails_turned SymbolCheckDigit c N h = h
 
-  fails_at_turned : (f : RowFault) → FailsAt runs f → FailsAt (reverse runs) f
+  fails_at_turned : (f : Stage) → FailsAt runs f → FailsAt (reverse runs) f
   fails_at_turned f a = record {
     carrier = a.carrier;
     N = a.N;
@@ -112,6 +111,9 @@ module _ (runs : List ℕ) (some : 0 < length runs) where
     none_later = λ d M h.
         let o = a.none_later d M (subst (λ n. IsCandidate d n M) (count_turned runs) h) in (o.0, fails_turned o.0 d M o.1, o.2);
   }
+
+  tells_turned : (c : Carrier) (x : Result (List ℕ) RowFault) → Tells runs c x → Tells (reverse runs) c x
+  tells_turned c x t = (other_way t.0, t.1, shows_turned c t.0 t.1 t.2, t.3)
 
 -- ---- answers
 
@@ -129,16 +131,18 @@ module _ (runs : List ℕ) (row : IsRow runs) where
   not_empty : 0 < length runs
   not_empty = let odd = row.odd_number in omega arith
 
-  refused_turned : (f : RowFault) → IsRefused runs f → IsRefused (reverse runs) f
-  refused_turned Blank light = λ dark.
+  refused_turned : (year : ℕ) (f : RowFault) → IsRefused runs year f → IsRefused (reverse runs) year f
+  refused_turned year Blank light = λ dark.
       light (subst (λ ws. Contains (dots_of ws) true) (reverse-reverse runs) (dark_turned (reverse runs) (IsRow-reverse runs row) dark))
-  refused_turned RunCount a =
+  refused_turned year RunCount a =
       (dark_turned runs row a.0, λ c N h. a.1 c N (subst (λ n. IsCandidate c n N) (count_turned runs) h))
-  refused_turned QuietZone a = fails_at_turned runs not_empty QuietZone a
-  refused_turned Modules a = fails_at_turned runs not_empty Modules a
-  refused_turned Pattern a = fails_at_turned runs not_empty Pattern a
-  refused_turned SymbolCheckDigit a = (a.0, other_way a.1, a.2, shows_turned runs not_empty a.0 a.1 a.2 a.3, a.4)
+  refused_turned year QuietZone a = fails_at_turned runs not_empty stages.QuietZone a
+  refused_turned year Modules a = fails_at_turned runs not_empty stages.Modules a
+  refused_turned year Pattern a = fails_at_turned runs not_empty stages.Pattern a
+  refused_turned year SymbolCheckDigit a = (a.0, tells_turned runs not_empty a.0 (Err SymbolCheckDigit) a.1)
+  refused_turned year (Code128 fault) a = (a.0, tells_turned runs not_empty a.0 (Err (Code128 fault)) a.1)
+  refused_turned year (Elements fault) a = (a.0, a.1, tells_turned runs not_empty a.0 (Ok a.1) a.2, a.3)
 
-  pub turned_row : (x : EanAnswer) → IsAnswer runs x → IsAnswer (reverse runs) x
-  turned_row (Read c gtin) a = (other_way a.0, a.1, shows_turned runs not_empty c a.0 a.1 a.2, a.3)
-  turned_row (Refused fault) a = refused_turned fault a
+  pub turned_row : (year : ℕ) (x : Answer) → IsAnswer runs year x → IsAnswer (reverse runs) year x
+  turned_row year (Read c listing) a = (a.0, tells_turned runs not_empty c (Ok a.0) a.1, a.2, a.3)
+  turned_row year (Refused fault) a = refused_turned year fault a

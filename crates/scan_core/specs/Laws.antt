@@ -1,14 +1,18 @@
 -- Laws about rows.
-use Rattle.std.specs.Prelude.{None, ◌≡◌, ◌≢◌, ◌<◌, ◌↔◌, ℕ, List, length, reverse, slice_index, slice_set}
+use Rattle.std.specs.Prelude.{None, ◌≡◌, ◌≢◌, ◌<◌, ◌↔◌, ℕ, List, length, reverse, sum, slice_index, slice_set}
 use Rattle.digits_core.specs.Digits.{AreDigits, IsChecked}
 use Rattle.ean_code.specs.Spelling.{IsGtinOf}
 use Rattle.ean_code.specs.Symbols.{Kind, IsCheckedPlace, digit_count, widths_of}
+use Rattle.element_core.specs.declared.fault.ElementFault.TheVariants.{TooLong}
+use Rattle.code128_code.specs.Symbols.{IsCode128Symbol, characters_of, mod103}
+use Rattle.code128_code.specs.declared.fault.Code128Fault.TheVariants.{CheckCharacter}
 use Rattle.scan_core.specs.declared.carrier.Carrier.{Carrier}
-use Rattle.scan_core.specs.declared.fault.RowFault.TheVariants.{SymbolCheckDigit}
-use Rattle.scan_core.specs.declared.answer.EanAnswer.{EanAnswer}
-use Rattle.scan_core.specs.declared.answer.EanAnswer.TheVariants.{Refused}
+use Rattle.scan_core.specs.declared.carrier.Carrier.TheVariants.{Gs1128}
+use Rattle.scan_core.specs.declared.fault.RowFault.TheVariants.{SymbolCheckDigit, Code128, Elements}
+use Rattle.scan_core.specs.declared.answer.Answer.{Answer}
+use Rattle.scan_core.specs.declared.answer.Answer.TheVariants.{Refused}
 use Rattle.scan_core.specs.Row.{IsRow, dots_of, runs_fault}
-use Rattle.scan_core.specs.Showing.{Shows, Way, carrier_of}
+use Rattle.scan_core.specs.Showing.{HasForm, IsCandidate, Shows, Way, carrier_of}
 use Rattle.scan_core.specs.Answers.{IsAnswer}
 
 -- a row shows at most one symbol, and reads as it in one way
@@ -22,16 +26,18 @@ OneSymbol =
 
 -- a row has at most one answer
 abbrev pub OneAnswer : Type 0
-OneAnswer = (runs : List ℕ) (x y : EanAnswer) → IsRow runs → IsAnswer runs x → IsAnswer runs y → x ≡ y
+OneAnswer =
+    (runs : List ℕ) (year : ℕ) (x y : Answer) → IsRow runs → IsAnswer runs year x → IsAnswer runs year y → x ≡ y
 
--- a row turned end for end has the same answer, be it a number or a refusal
+-- a row turned end for end has the same answer, be it elements or a refusal
 abbrev pub TurnedRow : Type 0
-TurnedRow = (runs : List ℕ) (answer : EanAnswer) → IsRow runs → IsAnswer runs answer → IsAnswer (reverse runs) answer
+TurnedRow =
+    (runs : List ℕ) (year : ℕ) (answer : Answer) → IsRow runs → IsAnswer runs year answer → IsAnswer (reverse runs) year answer
 
 -- a row that shows a number's symbol with one character at a checked place replaced by another of its number set is refused for its check digit
 abbrev pub ReplacementIsNoticed : Type 0
 ReplacementIsNoticed =
-    (kind : Kind) (digits gtin runs : List ℕ) (k d : ℕ) (way : Way)
+    (kind : Kind) (digits gtin runs : List ℕ) (k d year : ℕ) (way : Way)
     → IsRow runs
     → length digits ≡ digit_count kind
     → AreDigits digits
@@ -41,7 +47,29 @@ ReplacementIsNoticed =
     → d < 10
     → d ≢ slice_index digits k
     → Shows runs (carrier_of kind) way (widths_of kind (slice_set digits k d))
-    → IsAnswer runs (Refused SymbolCheckDigit)
+    → IsAnswer runs year (Refused SymbolCheckDigit)
+
+-- a row that shows a Code 128 symbol whose check character was right, with one start, data or check character replaced by another, is refused for
+-- its check character
+abbrev pub ReplacedCharacterIsNoticed : Type 0
+ReplacedCharacterIsNoticed =
+    (start other last k v year : ℕ) (values others modules replaced runs : List ℕ) (way : Way)
+    → IsRow runs
+    → IsCode128Symbol start values (mod103 start values) modules
+    → IsCode128Symbol other others last replaced
+    → k < length (characters_of start values (mod103 start values))
+    → v ≢ slice_index (characters_of start values (mod103 start values)) k
+    → characters_of other others last ≡ slice_set (characters_of start values (mod103 start values)) k v
+    → Shows runs Gs1128 way replaced
+    → IsAnswer runs year (Refused (Code128 CheckCharacter))
+
+-- no row is refused for the length of its text
+abbrev pub NeverTooLong : Type 0
+NeverTooLong = (runs : List ℕ) (year : ℕ) → IsAnswer runs year (Refused (Elements TooLong)) → ⊥
+
+-- a symbol of a carrier has as many widths and modules as the carrier says
+abbrev pub SymbolMeasures : Type 0
+SymbolMeasures = (carrier : Carrier) (modules : List ℕ) → HasForm carrier modules → IsCandidate carrier (length modules) (sum modules)
 
 -- widths are a row exactly where they have no fault
 abbrev pub RowOrFault : Type 0

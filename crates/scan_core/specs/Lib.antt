@@ -1,8 +1,14 @@
+pub use Rattle.element_core.specs.Elements
+pub use Rattle.element_core.specs.Faults as ElementFaults
 pub use Rattle.ean_code.specs.Spelling
 pub use Rattle.ean_code.specs.Symbols
+pub use Rattle.code128_code.specs.Faults as Code128Faults
+pub use Rattle.code128_code.specs.Symbols as Code128Symbols
+pub use Rattle.code128_code.specs.Texts
 pub mod Answers
 pub mod Bits
 pub mod Faults
 pub mod Laws
+pub mod Reading
 pub mod Row
 pub mod Showing

@@ -1,10 +1,11 @@
--- The symbol that a row shows (ISO/IEC 15420; GS1 General Specifications, section 5.2).
+-- The symbol that a row shows (ISO/IEC 15420 and 15417; GS1 General Specifications, section 5).
 use Rattle.std.specs.Prelude.{◌≡◌, ℕ, ◌+◌, ◌-◌, ◌*◌, ◌≤◌, List, length, reverse, sum, slice_index}
 use Rattle.std.specs.List.{AllZip}
 use Rattle.ean_code.specs.Symbols.{IsEanSymbol, Kind}
 use Rattle.ean_code.specs.Symbols.Kind.{Ean13 as KindEan13, Ean8 as KindEan8, UpcE as KindUpcE}
+use Rattle.code128_code.specs.Symbols.{IsCode128Symbol}
 use Rattle.scan_core.specs.declared.carrier.Carrier.{Carrier}
-use Rattle.scan_core.specs.declared.carrier.Carrier.TheVariants.{Ean13, Ean8, UpcE}
+use Rattle.scan_core.specs.declared.carrier.Carrier.TheVariants.{Ean13, Ean8, UpcE, Gs1128}
 use Rattle.scan_core.specs.Row.{inner}
 
 -- how far two numbers are apart
@@ -26,11 +27,12 @@ pub record IsQuiet (runs : List ℕ) (N : ℕ) : Type 0 where
   pub left : 5 * sum (inner runs) ≤ slice_index runs 0 * N
   pub right : 5 * sum (inner runs) ≤ slice_index runs (length runs - 1) * N
 
--- a symbol of the carrier has n runs and is N modules wide
+-- a symbol of the carrier has n runs and is N modules wide; one of GS1-128 has k start, data and check characters
 abbrev pub IsCandidate : Carrier → ℕ → ℕ → Type 0
 IsCandidate Ean13 n N = (n ≡ 59) × (N ≡ 95)
 IsCandidate Ean8 n N = (n ≡ 43) × (N ≡ 67)
 IsCandidate UpcE n N = (n ≡ 33) × (N ≡ 51)
+IsCandidate Gs1128 n N = (k : ℕ) × (3 ≤ k) × (k ≤ 98) × (n ≡ 6 * k + 7) × (N ≡ 11 * k + 13)
 
 -- the carrier of the symbols of this kind
 abbrev pub carrier_of : Kind → Carrier
@@ -43,6 +45,7 @@ abbrev pub HasForm : Carrier → List ℕ → Type 0
 HasForm Ean13 modules = (digits : List ℕ) × IsEanSymbol KindEan13 modules digits
 HasForm Ean8 modules = (digits : List ℕ) × IsEanSymbol KindEan8 modules digits
 HasForm UpcE modules = (digits : List ℕ) × IsEanSymbol KindUpcE modules digits
+HasForm Gs1128 modules = (start : ℕ) × (values : List ℕ) × (check : ℕ) × IsCode128Symbol start values check modules
 
 -- from left to right, or from right to left
 pub data Way : Type 0 where

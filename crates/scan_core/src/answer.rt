@@ -1,78 +1,120 @@
-//! What a row of an EAN symbol says.
-ghost use Rattle.scan_core.specs.Answers.{IsAnswer, Spells, SpellsSomeWay};
+//! What a row says.
+ghost use Rattle.std.specs.Prelude.{◌≡◌, ◌≢◌, IfErr, IfOk, ℕ, length, sum};
+ghost use Rattle.scan_core.specs.Answers.{Fails, FailsAt, IsAnswer, IsRefused, Tells};
+ghost use Rattle.scan_core.specs.Reading.{content_of};
+ghost use Rattle.scan_core.specs.Row.{IsRow, inner};
+ghost use Rattle.scan_core.specs.Showing.{IsCandidate};
 
-use crate::carrier::{Carrier, candidate};
+use crate::carrier::{Candidate, Carrier, fixed_candidate, gs1128_candidate};
 use crate::fault::RowFault;
 use crate::rounding::{is_quiet, round, total_dots};
 use crate::runs::{Runs, inner};
-use digits_core::Gtin;
-use ean_code::{Modules, Spelled, read_ean8, read_ean13, read_upce};
+use crate::stage::{Stage, later};
+use crate::symbol::{Symbol, read_some_way};
+use element_core::{Elements, Year};
 
 /// What a row says.
-#[derive(Clone, Copy, Debug, PartialEq, Eq)]
-pub enum EanAnswer {
-    /// The number that a symbol of this carrier shows.
+#[derive(Debug, Drop)]
+pub enum Answer {
+    /// The elements that a symbol of this carrier says.
     Read {
         /// The symbol's kind.
         carrier: Carrier,
-        /// Its number.
-        gtin: Gtin,
+        /// Its elements, dates under the reference year; of EAN and UPC the one element of its GTIN.
+        elements: Elements,
     },
     /// The row is not read.
     Refused(RowFault),
 }
 
-/// What the modules spell as a symbol of the carrier.
-fn spelled(carrier: Carrier, modules: &Modules) -> Spelled
-    ensures { Spells carrier modules.now result }
+/// A symbol that a row shows.
+#[derive(Drop)]
+struct Shown {
+    carrier: Carrier,
+    symbol: Symbol,
+}
+
+/// The symbol that the row shows as a candidate, or the stage at which the row fails as one. Its
+/// runs between the light ends are `total` dots.
+fn try_candidate(widths: &[u16], total: u32, candidate: Candidate) -> Result<Shown, Stage>
+    requires row { IsRow widths.now }
+    requires sum { total ≡ sum (inner widths.now) }
+    requires counted { IsCandidate candidate.carrier (length (inner widths.now)) candidate.count }
+    ensures shown { IfOk result (λ s. Tells widths.now s.carrier (content_of s.symbol)) }
+    ensures fails { IfErr result (λ stage. Fails widths.now candidate.carrier candidate.count stage) }
 {
-    match carrier {
-        Carrier::Ean13 => read_ean13(modules),
-        Carrier::Ean8 => read_ean8(modules),
-        Carrier::UpcE => read_upce(modules),
+    if !is_quiet(widths, total, candidate.count) {
+        return Err(Stage::QuietZone);
+    }
+    let Some(modules) = round(inner(widths), total, candidate.count) else {
+        return Err(Stage::Modules);
+    };
+    match read_some_way(candidate.carrier, modules) {
+        Some(symbol) => Ok(Shown {
+            carrier: candidate.carrier,
+            symbol,
+        }),
+        None => Err(Stage::Pattern),
     }
 }
 
-/// What the modules of a row spell as a symbol of the carrier, read from the left or else from the
-/// right.
-fn spelled_some_way(carrier: Carrier, mut modules: Modules) -> Spelled
-    ensures { SpellsSomeWay carrier modules result }
+/// The symbol that the row shows as one of the candidates, or the later one of the stages at which
+/// it fails as them.
+fn try_both(widths: &[u16], total: u32, fixed: Candidate, gs1128: Candidate) -> Result<Shown, Stage>
+    requires row { IsRow widths.now }
+    requires sum { total ≡ sum (inner widths.now) }
+    requires counted { IsCandidate fixed.carrier (length (inner widths.now)) fixed.count }
+    requires counted_gs1128 { IsCandidate gs1128.carrier (length (inner widths.now)) gs1128.count }
+    requires fixed { fixed.carrier ≢ Carrier.Gs1128 }
+    requires gs1128 { gs1128.carrier ≡ Carrier.Gs1128 }
+    ensures shown { IfOk result (λ s. Tells widths.now s.carrier (content_of s.symbol)) }
+    ensures fails { IfErr result (λ stage. FailsAt widths.now stage) }
 {
-    match spelled(carrier, &modules) {
-        Spelled::NoPattern => {
-            modules.reverse();
-            spelled(carrier, &modules)
-        }
-        forwards => forwards,
+    match try_candidate(widths, total, fixed) {
+        Ok(shown) => Ok(shown),
+        Err(stage) => match try_candidate(widths, total, gs1128) {
+            Ok(shown) => Ok(shown),
+            Err(other) => Err(later(stage, other)),
+        },
     }
 }
 
-/// What the row says, read from the left or from the right as a symbol of EAN or UPC
-/// (ISO/IEC 15420).
-///
-/// A run is rounded to the nearest number of modules, by at most a third of one; the symbol's own
-/// width says how wide a module is.
-pub fn read_ean(runs: &Runs) -> EanAnswer
-    ensures { IsAnswer runs.now result }
+/// The symbol that the row shows, or why it is refused.
+fn find_symbol(widths: &[u16]) -> Result<Shown, RowFault>
+    requires { IsRow widths.now }
+    ensures shown { IfOk result (λ s. Tells widths.now s.carrier (content_of s.symbol)) }
+    ensures refused { IfErr result (λ fault. (year : ℕ) → IsRefused widths.now year fault) }
 {
-    let widths = runs.widths();
     if widths.len() == 1 {
-        return EanAnswer::Refused(RowFault::Blank);
+        return Err(RowFault::Blank);
     }
     let inner = inner(widths);
-    let Some((carrier, count)) = candidate(inner.len()) else {
-        return EanAnswer::Refused(RowFault::RunCount);
-    };
     let total = total_dots(inner);
-    if !is_quiet(widths, total, count) {
-        return EanAnswer::Refused(RowFault::QuietZone);
+    match (fixed_candidate(inner.len()), gs1128_candidate(inner.len())) {
+        (Some(fixed), Some(gs1128)) => Ok(try_both(widths, total, fixed, gs1128)?),
+        (Some(fixed), None) => Ok(try_candidate(widths, total, fixed)?),
+        (None, Some(gs1128)) => Ok(try_candidate(widths, total, gs1128)?),
+        (None, None) => Err(RowFault::RunCount),
     }
-    let Some(modules) = round(inner, total, count) else {
-        return EanAnswer::Refused(RowFault::Modules);
+}
+
+/// What the row says, read from the left or from the right (GS1 General Specifications, section 5;
+/// ISO/IEC 15420 and 15417): the elements of the one symbol that it shows, or why it is refused.
+///
+/// A run is rounded to the nearest number of modules, by at most a third of one; the symbol's own
+/// width says how wide a module is. Both light ends have to be five modules wide.
+pub fn read_row(runs: &Runs, year: Year) -> Answer
+    ensures { IsAnswer runs.now year result }
+{
+    let shown = match find_symbol(runs.widths()) {
+        Ok(shown) => shown,
+        Err(fault) => return Answer::Refused(fault),
     };
-    match spelled_some_way(carrier, modules) {
-        Spelled::NoPattern => EanAnswer::Refused(RowFault::Pattern),
-        Spelled::BadCheck => EanAnswer::Refused(RowFault::SymbolCheckDigit),
-        Spelled::Found(gtin) => EanAnswer::Read { carrier, gtin },
+    match shown.symbol.elements(year) {
+        Ok(elements) => Answer::Read {
+            carrier: shown.carrier,
+            elements,
+        },
+        Err(fault) => Answer::Refused(fault),
     }
 }

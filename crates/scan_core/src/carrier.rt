@@ -1,5 +1,5 @@
 //! The carriers that a row can show.
-ghost use Rattle.std.specs.Prelude.{ℕ, IfNone, IfSome};
+ghost use Rattle.std.specs.Prelude.{◌≡◌, ◌≢◌, ℕ, IfNone, IfSome};
 ghost use Rattle.scan_core.specs.Showing.{IsCandidate};
 
 /// A kind of symbol that a row can show.
@@ -11,17 +11,54 @@ pub enum Carrier {
     Ean8,
     /// UPC-E (ISO/IEC 15420): 33 runs, 51 modules wide.
     UpcE,
+    /// GS1-128 (ISO/IEC 15417): of k start, data and check characters, k from 3 to 98, 6k + 7 runs,
+    /// 11k + 13 modules wide.
+    Gs1128,
 }
 
-/// The carrier whose symbols have so many runs, and how many modules wide they are.
-pub(crate) fn candidate(run_count: usize) -> Option<(Carrier, u16)>
-    ensures found { IfSome result (λ c. IsCandidate c.0 run_count c.1) }
-    ensures none { IfNone result ((c : Carrier) (N : ℕ) → IsCandidate c run_count N → ⊥) }
+/// A carrier whose symbols have as many runs as a row.
+#[derive(Clone, Copy)]
+pub(crate) struct Candidate {
+    pub(crate) carrier: Carrier,
+    /// How many modules wide these symbols are.
+    pub(crate) count: u16,
+}
+
+/// The carrier whose symbols all have so many runs.
+pub(crate) fn fixed_candidate(run_count: usize) -> Option<Candidate>
+    ensures found { IfSome result (λ c. IsCandidate c.carrier run_count c.count) }
+    ensures fixed { IfSome result (λ c. c.carrier ≢ Carrier.Gs1128) }
+    ensures none { IfNone result ((c : Carrier) (N : ℕ) → c ≢ Carrier.Gs1128 → IsCandidate c run_count N → ⊥) }
 {
     match run_count {
-        33 => Some((Carrier::UpcE, 51)),
-        43 => Some((Carrier::Ean8, 67)),
-        59 => Some((Carrier::Ean13, 95)),
+        33 => Some(Candidate {
+            carrier: Carrier::UpcE,
+            count: 51,
+        }),
+        43 => Some(Candidate {
+            carrier: Carrier::Ean8,
+            count: 67,
+        }),
+        59 => Some(Candidate {
+            carrier: Carrier::Ean13,
+            count: 95,
+        }),
         _ => None,
     }
+}
+
+/// GS1-128, where its symbols have so many runs.
+pub(crate) fn gs1128_candidate(run_count: usize) -> Option<Candidate>
+    ensures found { IfSome result (λ c. IsCandidate c.carrier run_count c.count) }
+    ensures gs1128 { IfSome result (λ c. c.carrier ≡ Carrier.Gs1128) }
+    ensures none { IfNone result ((N : ℕ) → IsCandidate Carrier.Gs1128 run_count N → ⊥) }
+{
+    if run_count < 25 || 595 < run_count || run_count % 6 != 1 {
+        return None;
+    }
+    let characters = (run_count - 7) / 6;
+    Some(Candidate {
+        carrier: Carrier::Gs1128,
+        count: 11 * characters as u16 + 13,
+    })
 }

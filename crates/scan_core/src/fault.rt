@@ -1,8 +1,13 @@
 //! Why widths are no row, and why a row is not read.
 ghost use Rattle.std.specs.Prelude.{Some, ◌≡◌};
 ghost use Rattle.scan_core.specs.Faults.{row_fault_text, run_fault_text};
+ghost use Rattle.scan_core.specs.Reading.{stage_fault};
+ghost use Rattle.scan_core.specs.declared.fault.RowFault.TheVariants as row_faults;
 ghost use Rattle.scan_core.specs.declared.fault.RunFault.TheVariants.{NoMemory};
 
+use crate::stage::Stage;
+use code128_code::Code128Fault;
+use element_core::ElementFault;
 use std::alloc::AllocFailed;
 use std::fmt;
 
@@ -25,8 +30,11 @@ impl<T: Drop> From<AllocFailed<T>> for RunFault {
     }
 }
 
-/// Why a row is not read: the first of these tests that it fails. From the quiet zone on they are
-/// made for a carrier whose symbols have as many runs.
+/// Why a row is not read: the first of these tests that it fails.
+///
+/// `QuietZone`, `Modules` and `Pattern` are made for a carrier whose symbols have as many runs. With
+/// 43 runs there are two; where the row is a symbol of neither, the later one of their faults is
+/// told. The tests after them are of the one symbol that the row shows.
 #[derive(Clone, Copy, Debug, PartialEq, Eq)]
 pub enum RowFault {
     /// No dot is dark.
@@ -41,6 +49,38 @@ pub enum RowFault {
     Pattern,
     /// The check digit that the symbol shows is not that of its number.
     SymbolCheckDigit,
+    /// The values of the Code 128 symbol say no text.
+    Code128(Code128Fault),
+    /// The text of the symbol is no element string; the place is an offset in the text.
+    Elements(ElementFault),
+}
+
+impl From<Stage> for RowFault {
+    ghost from_gives = { λ stage fault. fault ≡ stage_fault stage };
+
+    fn from(stage: Stage) -> RowFault {
+        match stage {
+            Stage::QuietZone => RowFault::QuietZone,
+            Stage::Modules => RowFault::Modules,
+            Stage::Pattern => RowFault::Pattern,
+        }
+    }
+}
+
+impl From<Code128Fault> for RowFault {
+    ghost from_gives = { λ fault wrapped. wrapped ≡ row_faults.Code128 fault };
+
+    fn from(fault: Code128Fault) -> RowFault {
+        RowFault::Code128(fault)
+    }
+}
+
+impl From<ElementFault> for RowFault {
+    ghost from_gives = { λ fault wrapped. wrapped ≡ row_faults.Elements fault };
+
+    fn from(fault: ElementFault) -> RowFault {
+        RowFault::Elements(fault)
+    }
 }
 
 impl fmt::Display for RunFault {
@@ -66,6 +106,8 @@ impl fmt::Display for RowFault {
             RowFault::Modules => write!(f, "refused 22 Modules"),
             RowFault::Pattern => write!(f, "refused 23 Pattern"),
             RowFault::SymbolCheckDigit => write!(f, "refused 24 SymbolCheckDigit"),
+            RowFault::Code128(fault) => fault.fmt(f),
+            RowFault::Elements(fault) => fault.fmt(f),
         }
     }
 }

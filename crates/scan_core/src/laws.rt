@@ -1,21 +1,25 @@
 //! Laws about the definitions, each the contract of a function that does nothing.
-ghost use Rattle.scan_core.specs.Laws.{DotsDetermine, OneAnswer, OneSymbol, ReplacementIsNoticed, RowOrFault, TurnedDots, TurnedRow};
-
-use ean_code::{one_reading, one_way, replaced_is_unchecked};
+ghost use Rattle.scan_core.specs.Laws.{DotsDetermine, NeverTooLong, OneAnswer, OneSymbol, ReplacedCharacterIsNoticed, ReplacementIsNoticed, RowOrFault, SymbolMeasures, TurnedDots, TurnedRow};
 
 /// A row shows at most one symbol, and reads as it in one way.
 pub fn one_symbol()
     ensures { OneSymbol }
 {
-    one_way();
+    ean_code::one_way();
+    code128_code::one_way();
+    code128_code::measures();
 }
 
-/// A row has at most one answer; `read_ean` shows that it has one.
+/// A row has at most one answer; `read_row` shows that it has one.
 pub fn one_answer()
     ensures { OneAnswer }
 {
-    one_reading();
-    one_way();
+    ean_code::one_reading();
+    ean_code::one_way();
+    code128_code::one_reading();
+    code128_code::one_way();
+    code128_code::measures();
+    element_core::one_answer();
 }
 
 /// A row turned end for end has the same answer.
@@ -28,7 +32,29 @@ pub fn turned_row()
 pub fn replacement_is_noticed()
     ensures { ReplacementIsNoticed }
 {
-    replaced_is_unchecked();
+    ean_code::replaced_is_unchecked();
+}
+
+/// One start, data or check character of a Code 128 symbol replaced by another is noticed by the
+/// check character.
+pub fn replaced_character_is_noticed()
+    ensures { ReplacedCharacterIsNoticed }
+{
+    code128_code::replaced_is_unchecked();
+}
+
+/// No row is refused for the length of its text.
+pub fn never_too_long()
+    ensures { NeverTooLong }
+{
+    code128_code::said_is_short();
+}
+
+/// A symbol has as many widths, and as many modules in all, as its carrier says.
+pub fn symbol_measures()
+    ensures { SymbolMeasures }
+{
+    code128_code::measures();
 }
 
 /// Widths are a row exactly where they have no fault.

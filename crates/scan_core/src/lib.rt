@@ -1,4 +1,5 @@
-//! Rows of dots as runs of widths, and what they show: rounded to modules, then read as symbols.
+//! Rows of dots as runs of widths, and what they say: rounded to modules, read as symbols, and the
+//! symbols' text as elements.
 #![tactic(auto)]
 
 mod answer;
@@ -7,12 +8,14 @@ mod fault;
 mod laws;
 mod rounding;
 mod runs;
+mod stage;
+mod symbol;
 
-pub use answer::{EanAnswer, read_ean};
+pub use answer::{Answer, read_row};
 pub use carrier::Carrier;
 pub use fault::{RowFault, RunFault};
 pub use laws::{
-    dots_determine, one_answer, one_symbol, replacement_is_noticed, row_or_fault, turned_dots,
-    turned_row,
+    dots_determine, never_too_long, one_answer, one_symbol, replaced_character_is_noticed,
+    replacement_is_noticed, row_or_fault, symbol_measures, turned_dots, turned_row,
 };
 pub use runs::Runs;

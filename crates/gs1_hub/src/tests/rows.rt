@@ -1,139 +1,213 @@
-//! Rows of each carrier, in both directions, and rows that are nearly read.
+//! What `lanes` answers to rows of each carrier, in both directions, and rows that are cut.
 
-use super::printed;
-use digits_core::Gtin;
-use ean_code::{Modules, ean8, ean13, upce};
+use super::outcome;
+use crate::options::LaneOptions;
+use crate::words::Asked;
 use scan_core::{RunFault, Runs};
 use std::alloc::{AllocError, Global};
 use std::test::Fail;
 
-// 9501101530003 as EAN-13, its light ends included, at one dot a module.
-const EAN13: &[u16] = &[
-    11, 1, 1, 1, 1, 2, 3, 1, 1, 1, 2, 3, 1, 2, 2, 2, 2, 2, 2, 1, 1, 1, 2, 3, 2, 2, 2, 1, 1, 1, 1,
-    1, 1, 1, 2, 3, 1, 1, 4, 1, 1, 3, 2, 1, 1, 3, 2, 1, 1, 3, 2, 1, 1, 1, 4, 1, 1, 1, 1, 1, 7,
-];
+// The symbols at one dot a module, without their light ends: guard patterns and characters as the
+// standards print them.
+const EAN13: &str = "111 1231 1123 1222 2221 1123 2221 11111 1231 1411 3211 3211 3211 1411 111";
 
-// 96385074 as EAN-8.
-const EAN8: &[u16] = &[
-    7, 1, 1, 1, 3, 1, 1, 2, 1, 1, 1, 4, 1, 4, 1, 1, 1, 2, 1, 3, 1, 1, 1, 1, 1, 1, 2, 3, 1, 3, 2, 1,
-    1, 1, 3, 1, 2, 1, 1, 3, 2, 1, 1, 1, 7,
-];
+const EAN8: &str = "111 3112 1114 1411 1213 11111 1231 3211 1312 1132 111";
 
-// 01234565 as UPC-E.
-const UPCE: &[u16] = &[
-    9, 1, 1, 1, 1, 2, 2, 2, 2, 1, 2, 2, 1, 4, 1, 1, 2, 3, 1, 1, 1, 3, 2, 1, 1, 1, 1, 4, 1, 1, 1, 1,
-    1, 1, 7,
-];
+const UPCE: &str = "111 1222 2122 1411 2311 1321 1114 111111";
 
-/// The row at so many dots a module.
-fn scaled(alloc: Global, row: &[u16], dots: u16) -> Result<Vec<u16>, AllocError> {
+const STOP: &str = "2331112";
+
+/// A row: a light end, the widths of the groups at so many dots a module, and another light end.
+fn row(alloc: Global, ends: (u16, u16), groups: &str, dots: u16) -> Result<Vec<u16>, AllocError> {
     let mut widths = Vec::new(alloc);
-    for width in row {
-        widths.push(width.saturating_mul(dots))?;
+    widths.push(ends.0)?;
+    for digit in groups.bytes() {
+        if digit.is_ascii_digit() {
+            widths.push(u16::from(digit - b'0').saturating_mul(dots))?;
+        }
     }
+    widths.push(ends.1)?;
     Ok(widths)
 }
 
 /// The row with other runs at some places.
-fn changed(alloc: Global, row: &[u16], runs: &[(usize, u16)]) -> Result<Vec<u16>, AllocError> {
-    let mut widths = row.to_vec(alloc)?;
+fn changed(mut row: Vec<u16>, runs: &[(usize, u16)]) -> Vec<u16> {
     for (place, width) in runs {
-        if let Some(run) = widths.get_mut(*place) {
+        if let Some(run) = row.get_mut(*place) {
             *run = *width;
         }
     }
-    Ok(widths)
+    row
 }
 
-/// The line that answers the row, in one direction.
-fn line(alloc: Global, row: &[u16]) -> Result<String, Fail> {
+/// The line that answers the row, under the reference year.
+fn line(alloc: Global, row: &[u16], year: u16) -> Result<String, Fail> {
     let mut input = String::from_str(alloc, "0,")?;
     for (place, width) in row.iter().enumerate() {
         let gap = if place == 0 { "" } else { " " };
         let word = format!(in alloc; "{gap}{width}")?;
         input.push_str(word.as_str())?;
     }
-    printed(alloc, 1, input.as_str())
+    let options = LaneOptions::new(1, 1, year).ok_or("options")?;
+    outcome(alloc, Asked::Lanes(options), input.as_str().as_bytes())
 }
 
-/// Whether the row has this answer in both directions.
-fn has_answer(alloc: Global, row: &[u16], answer: &str) -> Result<bool, Fail> {
+/// Whether the row has this answer under the year, in both directions.
+fn says(alloc: Global, row: &[u16], year: u16, answer: &str) -> Result<bool, Fail> {
     let wanted = format!(in alloc; "0 0 {answer}\n")?;
     let mut row = row.to_vec(alloc)?;
-    let forwards = line(alloc, row.as_slice())?;
+    let forwards = line(alloc, row.as_slice(), year)?;
     row.reverse();
-    let backwards = line(alloc, row.as_slice())?;
+    let backwards = line(alloc, row.as_slice(), year)?;
     Ok(forwards == wanted && backwards == wanted)
 }
 
+/// Whether the Code 128 symbol of these characters, between light ends of ten modules, has this
+/// answer.
+fn code128_says(alloc: Global, characters: &str, year: u16, answer: &str) -> Result<bool, Fail> {
+    let groups = format!(in alloc; "{characters} {STOP}")?;
+    let widths = row(alloc, (10, 10), groups.as_str(), 1)?;
+    says(alloc, widths.as_slice(), year, answer)
+}
+
 #[test]
-fn reads_each_carrier_in_both_directions(rt: HostRuntime) -> Result<(), Fail> {
+fn reads_each_carrier(rt: HostRuntime) -> Result<(), Fail> {
     let alloc = rt.alloc();
-    for (row, answer) in [
-        (EAN13, "]E0 (01)09501101530003"),
-        (EAN8, "]E4 (01)00000096385074"),
-        (UPCE, "]E0 (01)00012345000065"),
+    for (ends, groups, answer) in [
+        ((11, 7), EAN13, "]E0 (01)09501101530003"),
+        ((7, 7), EAN8, "]E4 (01)00000096385074"),
+        ((9, 7), UPCE, "]E0 (01)00012345000065"),
     ] {
-        assert!(rt; has_answer(alloc, row, answer)?);
-        assert!(rt; has_answer(alloc, scaled(alloc, row, 4)?.as_slice(), answer)?);
+        let widths = row(alloc, ends, groups, 1)?;
+        assert!(rt; says(alloc, widths.as_slice(), 2026, answer)?, "{groups}");
     }
+    // 43 runs, as an EAN-8 has.
+    let characters = "211232 411131 112133 321122 322112 121421";
+    assert!(rt; code128_says(alloc, characters, 2026, "]C1 (422)528")?);
+    // A date under two reference years.
+    let characters = "211232 411131 123221 212222 222221 322211 124211";
+    assert!(rt; code128_says(alloc, characters, 2026, "]C1 (17)000229")?);
+    assert!(rt; code128_says(alloc, characters, 2060, "refused 9 ValueDate 0")?);
     Ok(())
 }
 
 #[test]
 fn refuses_what_is_nearly_read(rt: HostRuntime) -> Result<(), Fail> {
     let alloc = rt.alloc();
-    // The sets of the check digit 4 in place of those of 5.
-    let other_sets = changed(
-        alloc,
-        UPCE,
-        &[
-            (12, 1),
-            (13, 1),
-            (14, 4),
-            (15, 1),
-            (20, 1),
-            (21, 2),
-            (22, 3),
-            (23, 1),
-        ],
-    )?;
-    assert!(rt; has_answer(alloc, other_sets.as_slice(), "refused 24 SymbolCheckDigit")?);
+    // The number sets of the check digit 4 in place of those of 5.
+    let widths = row(alloc, (9, 7), "111 1222 2122 1141 2311 1231 1114 111111", 1)?;
+    assert!(rt;
+        says(
+            alloc,
+            widths.as_slice(),
+            2026,
+            "refused 24 SymbolCheckDigit"
+        )?
+    );
 
     // At exactly a third of a module, and a dot past it.
-    let thirds = changed(alloc, scaled(alloc, EAN8, 3)?.as_slice(), &[(3, 4), (4, 8)])?;
-    assert!(rt; has_answer(alloc, thirds.as_slice(), "]E4 (01)00000096385074")?);
-    let halves = changed(alloc, scaled(alloc, EAN8, 2)?.as_slice(), &[(3, 3), (4, 5)])?;
-    assert!(rt; has_answer(alloc, halves.as_slice(), "refused 22 Modules")?);
+    let thirds = changed(row(alloc, (21, 21), EAN8, 3)?, &[(3, 4), (4, 8)]);
+    assert!(rt; says(alloc, thirds.as_slice(), 2026, "]E4 (01)00000096385074")?);
+    let halves = changed(row(alloc, (14, 14), EAN8, 2)?, &[(3, 3), (4, 5)]);
+    assert!(rt; says(alloc, halves.as_slice(), 2026, "refused 22 Modules")?);
 
     // A first character of number set B.
-    let of_b = changed(alloc, EAN8, &[(4, 2), (5, 1), (6, 1), (7, 3)])?;
-    assert!(rt; has_answer(alloc, of_b.as_slice(), "refused 23 Pattern")?);
+    let of_b = row(
+        alloc,
+        (7, 7),
+        "111 2113 1114 1411 1213 11111 1231 3211 1312 1132 111",
+        1,
+    )?;
+    assert!(rt; says(alloc, of_b.as_slice(), 2026, "refused 23 Pattern")?);
 
-    // A quiet zone of less than five modules, of exactly five, and at one end alone.
-    for (left, right, answer) in [
-        (4, 7, "refused 21 QuietZone"),
-        (5, 5, "]E0 (01)09501101530003"),
-        (11, 4, "refused 21 QuietZone"),
-    ] {
-        let row = changed(alloc, EAN13, &[(0, left), (60, right)])?;
-        assert!(rt; has_answer(alloc, row.as_slice(), answer)?);
+    // Too narrow a light end of an EAN-8, which is wide enough for a GS1-128 of as many runs.
+    let narrow = row(alloc, (14, 21), EAN8, 3)?;
+    assert!(rt; says(alloc, narrow.as_slice(), 2026, "refused 22 Modules")?);
+    for (left, answer) in [(4, "refused 21 QuietZone"), (5, "]E0 (01)09501101530003")] {
+        let widths = row(alloc, (left, 7), EAN13, 1)?;
+        assert!(rt; says(alloc, widths.as_slice(), 2026, answer)?);
     }
-    let row = changed(alloc, scaled(alloc, EAN8, 3)?.as_slice(), &[(0, 14)])?;
-    assert!(rt; has_answer(alloc, row.as_slice(), "refused 21 QuietZone")?);
     Ok(())
 }
 
 #[test]
-fn refuses_other_numbers_of_runs(rt: HostRuntime) -> Result<(), Fail> {
+fn refuses_rows_of_no_carrier(rt: HostRuntime) -> Result<(), Fail> {
     let alloc = rt.alloc();
-    for count in [1, 19, 31, 45, 57, 61, 601] {
-        let mut row = Vec::new(alloc);
-        for _ in 0..count + 2 {
-            row.push(9)?;
-        }
-        assert!(rt; has_answer(alloc, row.as_slice(), "refused 20 RunCount")?);
+    for width in [0, 100, 65_535] {
+        assert!(rt; says(alloc, &[width], 2026, "refused 19 Blank")?);
     }
+    assert!(rt; says(alloc, &[0, 65_535, 0], 2026, "refused 20 RunCount")?);
+    for (count, answer) in [
+        (19, "refused 20 RunCount"),
+        (25, "refused 23 Pattern"),
+        (57, "refused 20 RunCount"),
+        (595, "refused 23 Pattern"),
+        (601, "refused 20 RunCount"),
+    ] {
+        let mut widths = Vec::new(alloc);
+        widths.push(100)?;
+        for _ in 0..count {
+            widths.push(9)?;
+        }
+        widths.push(100)?;
+        assert!(rt; says(alloc, widths.as_slice(), 2026, answer)?, "{count}");
+    }
+    Ok(())
+}
+
+#[test]
+fn refuses_code_128_symbols_by_their_values(rt: HostRuntime) -> Result<(), Fail> {
+    let alloc = rt.alloc();
+    for (characters, answer) in [
+        ("211214 411131 411311 111341", "refused 16 CodeSet"),
+        (
+            "211214 411131 114131 411113",
+            "refused 15 FunctionCharacter",
+        ),
+        ("211232 112232 122231", "refused 14 NotGs1"),
+        ("211232 411131 222122", "refused 4 Empty"),
+        ("211232 112232 113222", "refused 13 CheckCharacter"),
+        ("211232 411131 411131 411131", "refused 5 UnknownAi 0"),
+        ("211232 411131 221231 231212 411131 112412", "]C1 (20)11"),
+        (
+            "211232 411131 221231 231212 411131 411131 121124",
+            "refused 5 UnknownAi 5",
+        ),
+    ] {
+        assert!(rt;
+            code128_says(alloc, characters, 2026, answer)?,
+            "{characters}"
+        );
+    }
+    Ok(())
+}
+
+#[test]
+fn reads_the_widest_rows_and_the_longest_symbol(rt: HostRuntime) -> Result<(), Fail> {
+    let alloc = rt.alloc();
+    // 65,427 dots, and 65,535 with a wider light end.
+    let widths = row(alloc, (6369, 4053), EAN13, 579)?;
+    assert!(rt; says(alloc, widths.as_slice(), 2026, "]E0 (01)09501101530003")?);
+    let widths = row(alloc, (6369, 4161), EAN13, 579)?;
+    assert!(rt; says(alloc, widths.as_slice(), 2026, "]E0 (01)09501101530003")?);
+    let widths = row(alloc, (6369, 4162), EAN13, 579)?;
+    let fault = Runs::of_widths(alloc, widths.as_slice())
+        .err()
+        .ok_or("a fault")?;
+    assert_eq!(rt; fault.to_string(alloc)?.as_str(), "refused 17 TooWide");
+
+    // 595 runs: 98 start, data and check characters.
+    let mut characters = String::from_str(alloc, "211232 411131 221231 231212 412121")?;
+    let mut answer = String::from_str(alloc, "]C1 (20)11(91)")?;
+    for (last, tail) in [(" 411131 111143", "(92)"), (" 111323", "")] {
+        for _ in 0..45 {
+            characters.push_str(" 212222")?;
+            answer.push_str("00")?;
+        }
+        characters.push_str(last)?;
+        answer.push_str(tail)?;
+    }
+    assert!(rt; code128_says(alloc, characters.as_str(), 2026, answer.as_str())?);
     Ok(())
 }
 
@@ -170,32 +244,5 @@ fn cuts_rows(rt: HostRuntime) -> Result<(), Fail> {
         let found = Runs::of_widths(alloc, widths).err().ok_or("a fault")?;
         assert_eq!(rt; found.to_string(alloc)?.as_str(), fault);
     }
-    Ok(())
-}
-
-/// Whether the modules are the row's runs but for its light ends.
-fn is_row(modules: Option<Modules>, row: &[u16]) -> bool {
-    let Some(modules) = modules else {
-        return false;
-    };
-    let mut widths = modules.widths().iter();
-    for run in row.iter().skip(1).take(row.len().saturating_sub(2)) {
-        match widths.next() {
-            Some(width) if u16::from(*width) == *run => {}
-            _ => return false,
-        }
-    }
-    widths.next().is_none()
-}
-
-#[test]
-fn draws_symbols(rt: HostRuntime) -> Result<(), Fail> {
-    let gtin = Gtin::read(b"9501101530003").ok().ok_or("a number")?;
-    assert!(rt; is_row(ean13(&gtin), EAN13));
-    assert!(rt; ean8(&gtin).is_none() && upce(&gtin).is_none());
-    let gtin = Gtin::read(b"96385074").ok().ok_or("a number")?;
-    assert!(rt; is_row(ean8(&gtin), EAN8));
-    let gtin = Gtin::read(b"012345000065").ok().ok_or("a number")?;
-    assert!(rt; is_row(upce(&gtin), UPCE));
     Ok(())
 }

@@ -1,4 +1,4 @@
-use Rattle.std.proofs.Common.{◌≡◌, ℕ, List, [], ◌∷◌, ◌++◌, ◌-◌, ◌∙◌, sym, ap, not, subst, take, get_or}
+use Rattle.std.proofs.Common.{rules, ◌≡◌, ℕ, List, [], ◌∷◌, ◌++◌, ◌-◌, ◌∙◌, sym, subst, take, get_or}
 use Rattle.std.proofs.lemmas.Option.{IfSome_then}
 use Rattle.digits_core.specs.Digits.{IsChecked, digits_of}
 use Rattle.ean_code.specs.Symbols.{IsEanSymbol, widths_of}
@@ -6,12 +6,12 @@ use Rattle.ean_code.specs.Symbols.Kind.{UpcE}
 use Rattle.ean_code.specs.Widths.{AreModules}
 use Rattle.ean_code.proofs.Drawn.{symbol_valid}
 use Rattle.ean_code.proofs.Expanded.{upce_drawn, upce_of, upce_stands}
-use Rattle.ean_code.proofs.Options.{not_none, some_of}
+use Rattle.ean_code.proofs.Options.{not_none}
 use Rattle.ean_code.proofs.drawing.upce.Goals as goal
 
 pub returns-in_default-clause-none : goal.returns-in_default-clause-none
 returns-in_default-clause-none c = λ modules s.
-    let checked : IsChecked c.args.gtin.now = some_of (IsChecked c.args.gtin.now) c.as12.result (c.is_none.ensures ∙ ap not c.if-is_none.false) c.as12.ensures.checked in
+    let checked : IsChecked c.args.gtin.now = search rules in
     c.in_default.ensures.none (take 6 s.0) (get_or s.0 6 0) (upce_of modules s.0 c.args.gtin.now s.1 s.2 checked)
 
 pub returns-clause-some : goal.returns-clause-some

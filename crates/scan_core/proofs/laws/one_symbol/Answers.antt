@@ -1,11 +1,11 @@
 use Rattle.ean_code.specs.Symbols.Kind.{Ean13, Ean8, UpcE}
-use Rattle.scan_core.proofs.AnswerFacts.{EachOneWay, one_symbol as law}
+use Rattle.scan_core.proofs.ShownFacts.{EachOneWay, one_symbol as law}
 use Rattle.scan_core.proofs.laws.one_symbol.Goals as goal
 
-each_way : (c : goal.After-one_way) → EachOneWay
+each_way : (c : goal.After-measures) → EachOneWay
 each_way c Ean13 = c.one_way.ensures.ean13
 each_way c Ean8 = c.one_way.ensures.ean8
 each_way c UpcE = c.one_way.ensures.upce
 
 pub returns : goal.returns
-returns c = law (each_way c)
+returns c = law (record { ean = each_way c; code = c.one_way-2.ensures; measures = c.measures.ensures })

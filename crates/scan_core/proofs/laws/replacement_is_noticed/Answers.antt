@@ -12,10 +12,12 @@ each_kind c Ean8 = c.replaced_is_unchecked.ensures.ean8
 each_kind c UpcE = c.replaced_is_unchecked.ensures.upce
 
 pub returns : goal.returns
-returns c = λ kind digits gtin runs k d way row count valid number checked place low other shows. (
+returns c = λ kind digits gtin runs k d year way row count valid number checked place low other shows. (
   carrier_of kind,
-  way,
-  widths_of kind (set digits k d),
-  shows,
-  replaced_spells kind (each_kind c kind) digits gtin k d count valid number checked place low other,
+  (
+    way,
+    widths_of kind (set digits k d),
+    shows,
+    replaced_spells kind (each_kind c kind) digits gtin k d count valid number checked place low other,
+  ),
 )

@@ -10,7 +10,7 @@ padded_shown : (n : ℕ) (text ds : List ℕ) → length text ≡ 14 → n ≤ 1
     × (ds ≡ padded (drop n ds) → list_all (λ b. b == 48) (take n text) ≡ true))
 padded_shown n text ds long few valid is = rw is at (padded_from n text long few valid)
 
-pub returns : goal.returns
-returns c =
+pub returns-clause-zeros : goal.returns-clause-zeros
+returns-clause-zeros c =
     let both = padded_shown c.args.count c.self.inside.digits c.args.self.now c.self.told c.requires c.self.invariant.0 c.self.view_is in
     rw c.are_zeros.ensures both

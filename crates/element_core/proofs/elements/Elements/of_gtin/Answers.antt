@@ -1,6 +1,6 @@
-use Rattle.std.proofs.Common.{◌≡◌, ◌∷◌, [], ◌∙◌, sym, ap, length, rules, arith}
+use Rattle.std.proofs.Common.{subst, ◌≡◌, ◌∷◌, [], ◌∙◌, sym, ap, length, rules, arith}
 use Rattle.digits_core.specs.Digits.{ascii_of}
-use Rattle.element_core.specs.Elements.{canonical, gtin_entry}
+use Rattle.element_core.specs.Elements.{IsElements, canonical, gtin_entry}
 use Rattle.element_core.specs.Drafts.{elements_in}
 use Rattle.element_core.proofs.GtinLemmas.{gtin_elements}
 use Rattle.element_core.proofs.elements.Elements.of_gtin.Goals as goal
@@ -18,3 +18,9 @@ invariant_of-result c =
       canonical_text = whole;
       elements = gtin_elements c.args.year g c.append.new.text.items es c.digits14.ensures.digits c.digits14.ensures.checked long es_is whole;
     }
+
+pub returns-clause-reads : goal.returns-clause-reads
+returns-clause-reads c =
+    let es = elements_in c.append.new.text.items c.append.new.cuts.items in
+    let made = invariant_of-result c in
+    subst (λ text. IsElements c.args.year text es) made.canonical_text made.elements

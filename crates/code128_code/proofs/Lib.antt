@@ -1,0 +1,11 @@
+pub mod CodedFacts
+pub mod DataFacts
+pub mod Examples
+pub mod FrontFacts
+pub mod LookupFacts
+pub mod PartFacts
+pub mod ReplacedFacts
+pub mod SaidFacts
+pub mod SayFacts
+pub mod SymbolFacts
+pub mod TextFacts

@@ -1,0 +1,5 @@
+use Rattle.code128_code.proofs.CodedFacts.{coded_is_short as law}
+use Rattle.code128_code.proofs.laws.coded_is_short.Goals as goal
+
+pub returns : goal.returns
+returns c = law

@@ -1,0 +1,5 @@
+use Rattle.code128_code.proofs.SymbolFacts.{measures as law}
+use Rattle.code128_code.proofs.laws.measures.Goals as goal
+
+pub returns : goal.returns
+returns c = law

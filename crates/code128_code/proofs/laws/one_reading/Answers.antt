@@ -1,0 +1,5 @@
+use Rattle.code128_code.proofs.SymbolFacts.{one_reading as law}
+use Rattle.code128_code.proofs.laws.one_reading.Goals as goal
+
+pub returns : goal.returns
+returns c = law

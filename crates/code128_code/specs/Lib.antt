@@ -1,0 +1,9 @@
+pub use Rattle.element_core.specs.Elements
+pub use Rattle.ean_code.specs.Widths
+pub mod Characters
+pub mod Coding
+pub mod Faults
+pub mod Laws
+pub mod Steps
+pub mod Symbols
+pub mod Texts

@@ -1,0 +1,116 @@
+-- What the values of a Code 128 symbol say in the code sets A, B and C (ISO/IEC 15417, code set tables; GS1 General Specifications, section 5.4).
+-- What is encoded is what is read.
+use Rattle.std.specs.Prelude.{◌≡◌, ℕ, ◌+◌, ◌-◌, ◌/◌, ◌%◌, ◌<◌, ◌≤◌, ◌==◌, Bool, true, false, List, [], ◌∷◌, ◌++◌, Result, Ok, Err, nat_lt, if◌then◌else◌}
+use Rattle.code128_code.specs.declared.code_set.CodeSet.{CodeSet}
+use Rattle.code128_code.specs.declared.code_set.CodeSet.TheVariants.{A, B, C}
+use Rattle.code128_code.specs.declared.meanings.Meaning.{Meaning}
+use Rattle.code128_code.specs.declared.meanings.Meaning.TheVariants.{Byte, Digits, Latch, Shift, Function}
+use Rattle.code128_code.specs.declared.fault.Code128Fault.{Code128Fault}
+use Rattle.code128_code.specs.declared.fault.Code128Fault.TheVariants as faults
+use Rattle.code128_code.specs.Symbols.{IsCode128Symbol, mod103}
+
+-- ---- one value
+
+-- the byte of a value 0 to 95 in code set A
+abbrev pub byte_a : ℕ → ℕ
+byte_a v = if nat_lt v 64 then v + 32 else v - 64
+
+-- the byte of a value 0 to 95 in code set B
+abbrev pub byte_b : ℕ → ℕ
+byte_b v = v + 32
+
+-- the byte of a value 0 to 95 after a SHIFT: from the other one of A and B
+abbrev pub shifted_byte : CodeSet → ℕ → ℕ
+shifted_byte A v = byte_b v
+shifted_byte B v = byte_a v
+shifted_byte C v = byte_a v
+
+-- the two digits of a value 0 to 99 in code set C
+abbrev pub two_digits : ℕ → List ℕ
+two_digits v = (48 + v / 10) ∷ (48 + v % 10) ∷ []
+
+-- what a value means in a code set; FNC1, value 102, is a separator
+abbrev pub meaning : CodeSet → ℕ → Meaning
+meaning A v =
+    if nat_lt v 96 then Byte (byte_a v)
+    else if v == 98 then Shift
+    else if v == 99 then Latch C
+    else if v == 100 then Latch B
+    else if v == 102 then Byte 29
+    else Function
+meaning B v =
+    if nat_lt v 96 then Byte (byte_b v)
+    else if v == 98 then Shift
+    else if v == 99 then Latch C
+    else if v == 101 then Latch A
+    else if v == 102 then Byte 29
+    else Function
+meaning C v =
+    if nat_lt v 100 then Digits v
+    else if v == 100 then Latch B
+    else if v == 101 then Latch A
+    else if v == 102 then Byte 29
+    else Function
+
+-- ---- lists of values
+
+-- bytes before a text, if there is one
+abbrev pub before : List ℕ → Result (List ℕ) Code128Fault → Result (List ℕ) Code128Fault
+before bytes (Ok text) = Ok (bytes ++ text)
+before bytes (Err fault) = Err fault
+
+-- what a value says in a code set before what the values after it say, in their code set and with the first of them shifted or not
+abbrev pub says : Meaning → CodeSet → (CodeSet → Bool → Result (List ℕ) Code128Fault) → Result (List ℕ) Code128Fault
+says (Byte b) set after = before (b ∷ []) (after set false)
+says (Digits v) set after = before (two_digits v) (after set false)
+says (Latch other) set after = after other false
+says Shift set after = after set true
+says Function set after = Err faults.FunctionCharacter
+
+-- the text of values from a code set on, the first of them after a SHIFT or not; or the fault of the first value that has no meaning there
+abbrev pub text_by : CodeSet → Bool → List ℕ → Result (List ℕ) Code128Fault
+text_by set false [] = Ok []
+text_by set true [] = Err faults.CodeSet
+text_by set false (v ∷ values) = says (meaning set v) set (λ next shifted. text_by next shifted values)
+text_by set true (v ∷ values) =
+    if nat_lt v 96 then before (shifted_byte set v ∷ []) (text_by set false values) else Err faults.CodeSet
+
+-- ---- symbols
+
+-- the code set of a start character: A, B and C are 103, 104 and 105
+abbrev pub set_of : ℕ → CodeSet
+set_of start = if start == 103 then A else if start == 104 then B else C
+
+-- the text of the data values of a symbol, the first of which is FNC1 in a GS1-128 symbol
+abbrev pub gs1_text : CodeSet → List ℕ → Result (List ℕ) Code128Fault
+gs1_text set [] = Err faults.NotGs1
+gs1_text set (v ∷ values) = if v == 102 then text_by set false values else Err faults.NotGs1
+
+-- the text of a symbol with this start character, these data values and this check character, or its first fault
+abbrev pub symbol_text : ℕ → List ℕ → ℕ → Result (List ℕ) Code128Fault
+symbol_text start values check =
+    if check == mod103 start values then gs1_text (set_of start) values else Err faults.CheckCharacter
+
+-- the modules are a GS1-128 symbol with its right check character, and its values after the first say this text
+pub record IsGs1Symbol (modules text : List ℕ) : Type 0 where
+  pub start : ℕ
+  pub values : List ℕ
+  pub symbol : IsCode128Symbol start (102 ∷ values) (mod103 start (102 ∷ values)) modules
+  pub says : text_by (set_of start) false values ≡ Ok text
+
+-- ---- the same by whole values, from the left
+
+-- from the first code set on these values say this text, each value or SHIFT with the value after it in turn, and leave the second code set
+pub data Says : CodeSet → List ℕ → List ℕ → CodeSet → Type 0 where
+  nothing : (set : CodeSet) → Says set [] [] set
+  byte : (set to : CodeSet) (v b : ℕ) (values text : List ℕ) → meaning set v ≡ Byte b → Says set values text to → Says set (v ∷ values) (b ∷ text) to
+  digits : (set to : CodeSet) (v d : ℕ) (values text : List ℕ) → meaning set v ≡ Digits d → Says set values text to → Says set (v ∷ values) (two_digits d ++ text) to
+  latch : (set other to : CodeSet) (v : ℕ) (values text : List ℕ) → meaning set v ≡ Latch other → Says other values text to → Says set (v ∷ values) text to
+  shift : (set to : CodeSet) (v w : ℕ) (values text : List ℕ) → meaning set v ≡ Shift → w < 96 → Says set values text to → Says set (v ∷ w ∷ values) (shifted_byte set w ∷ text) to
+
+-- the first of these values has this fault in the code set: it is FNC2, FNC3 or FNC4, or a SHIFT without a value 0 to 95 after it
+abbrev pub HasFault : CodeSet → List ℕ → Code128Fault → Type 0
+HasFault set (v ∷ values) faults.FunctionCharacter = meaning set v ≡ Function
+HasFault set (v ∷ []) faults.CodeSet = meaning set v ≡ Shift
+HasFault set (v ∷ w ∷ values) faults.CodeSet = (meaning set v ≡ Shift) × (96 ≤ w)
+HasFault _ _ _ = ⊥

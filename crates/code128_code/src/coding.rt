@@ -1,0 +1,147 @@
+//! The values that are printed for an element string.
+ghost use Rattle.std.specs.Prelude.{◌≡◌, ◌≢◌, ◌↔◌, ◌≤◌, ◌<◌, true, false, IsTrue, drop, length, slice_index};
+ghost use Rattle.std.specs.List.{list_all};
+ghost use Rattle.arrayvec.specs.ArrayVec.{array_vec_len};
+ghost use Rattle.code128_code.specs.Coding.{data_values, digits_ahead, has_even_run, is_coded_byte, pair};
+ghost use Rattle.code128_code.specs.Steps.{all_coded};
+
+use crate::meanings::{FNC1, SEPARATOR};
+use arrayvec::ArrayVec;
+
+/// The value that changes from code set C to B.
+const CODE_B: u8 = 100;
+
+/// The value that changes from code set B to C.
+const CODE_C: u8 = 99;
+
+/// What was coded of a text so far.
+#[derive(Drop)]
+struct Coder {
+    values: ArrayVec<u8, 96>,
+    /// Whether the code set is C, and not B.
+    in_c: bool,
+}
+
+/// How many digits stand without a break at the front.
+fn run_length(text: &[u8]) -> usize
+    ensures value { result ≡ digits_ahead text.now }
+    ensures within { result ≤ length text.now }
+{
+    for i in 0..text.len() {
+        if !text[i].is_ascii_digit() {
+            return i;
+        }
+    }
+    text.len()
+}
+
+/// Whether an even number of digits stands at the front, four or more.
+fn is_even_run(text: &[u8]) -> bool
+    ensures { result ≡ has_even_run text.now }
+{
+    let digits = run_length(text);
+    digits >= 4 && digits % 2 == 0
+}
+
+/// Whether two digits stand at the front.
+fn is_pair(text: &[u8]) -> bool
+    ensures { IsTrue result ↔ (2 ≤ digits_ahead text.now) }
+{
+    if text.len() < 2 {
+        return false;
+    }
+    if !text[0].is_ascii_digit() {
+        return false;
+    }
+    text[1].is_ascii_digit()
+}
+
+/// The value of the two digits at the front.
+fn pair_at_front(text: &[u8]) -> u8
+    requires { 2 ≤ digits_ahead text.now }
+    ensures { result ≡ pair (slice_index text.now 0) (slice_index text.now 1) }
+{
+    10 * (text[0] - b'0') + (text[1] - b'0')
+}
+
+/// Codes the front of a text in code set C, and gives the number of bytes that it took.
+fn put_in_c(coder: &mut Coder, text: &[u8]) -> usize
+    requires some { 0 < length text.now }
+    requires set { coder.old.in_c ≡ true }
+    requires byte { slice_index text.now 0 ≢ 29 }
+    requires valid { IsTrue (list_all is_coded_byte text.now) }
+    requires room { length (all_coded coder.old text.now) ≤ 96 }
+    ensures whole { all_coded coder.new (drop result text.now) ≡ all_coded coder.old text.now }
+    ensures some { 1 ≤ result }
+    ensures within { result ≤ length text.now }
+{
+    if is_pair(text) {
+        coder.values.push(pair_at_front(text));
+        return 2;
+    }
+    coder.values.push(CODE_B);
+    coder.values.push(text[0] - 32);
+    coder.in_c = false;
+    1
+}
+
+/// Codes the front of a text in code set B, and gives the number of bytes that it took.
+fn put_in_b(coder: &mut Coder, text: &[u8]) -> usize
+    requires some { 0 < length text.now }
+    requires set { coder.old.in_c ≡ false }
+    requires byte { slice_index text.now 0 ≢ 29 }
+    requires valid { IsTrue (list_all is_coded_byte text.now) }
+    requires room { length (all_coded coder.old text.now) ≤ 96 }
+    ensures whole { all_coded coder.new (drop result text.now) ≡ all_coded coder.old text.now }
+    ensures some { 1 ≤ result }
+    ensures within { result ≤ length text.now }
+{
+    if is_even_run(text) {
+        coder.values.push(CODE_C);
+        coder.values.push(pair_at_front(text));
+        coder.in_c = true;
+        return 2;
+    }
+    coder.values.push(text[0] - 32);
+    1
+}
+
+/// Codes the front of a text, and gives the number of bytes that it took.
+fn put_front(coder: &mut Coder, text: &[u8]) -> usize
+    requires some { 0 < length text.now }
+    requires valid { IsTrue (list_all is_coded_byte text.now) }
+    requires room { length (all_coded coder.old text.now) ≤ 96 }
+    ensures whole { all_coded coder.new (drop result text.now) ≡ all_coded coder.old text.now }
+    ensures some { 1 ≤ result }
+    ensures within { result ≤ length text.now }
+{
+    if text[0] == SEPARATOR {
+        coder.values.push(FNC1);
+        return 1;
+    }
+    if coder.in_c {
+        return put_in_c(coder, text);
+    }
+    put_in_b(coder, text)
+}
+
+/// The data values that are printed for an element string: FNC1 and the text, from code set C on.
+pub(crate) fn values_of(text: &[u8]) -> ArrayVec<u8, 96>
+    requires few { length text.now ≤ 48 }
+    requires valid { IsTrue (list_all is_coded_byte text.now) }
+    requires digits { 2 ≤ digits_ahead text.now }
+    ensures values { result.items ≡ data_values text.now }
+    ensures few { array_vec_len result ≤ 49 }
+{
+    let mut coder = Coder {
+        values: ArrayVec::new(),
+        in_c: true,
+    };
+    coder.values.push(FNC1);
+    let mut rest = text;
+    while !rest.is_empty() {
+        let taken = put_front(&mut coder, rest);
+        rest = &rest[taken..];
+    }
+    coder.values
+}

@@ -1,0 +1,45 @@
+//! Why values say no element string, and why elements are not encoded.
+ghost use Rattle.std.specs.Prelude.{Some, codes};
+ghost use Rattle.code128_code.specs.Faults.{code128_fault_text};
+
+use std::fmt;
+
+/// Why the values of a Code 128 symbol say no text: the first of these tests that they fail, and of
+/// values without a meaning the first from the left.
+#[derive(Clone, Copy, Debug, PartialEq, Eq)]
+pub enum Code128Fault {
+    /// The check character is wrong.
+    CheckCharacter,
+    /// The first value is not FNC1, so the symbol is no GS1-128.
+    NotGs1,
+    /// A value is FNC2, FNC3 or FNC4.
+    FunctionCharacter,
+    /// A SHIFT has no value 0 to 95 after it.
+    CodeSet,
+}
+
+impl fmt::Display for Code128Fault {
+    ghost output = { λ fault. Some (code128_fault_text fault) };
+
+    fn fmt<W: fmt::Write>(&self, f: &mut fmt::Formatter<W>) -> fmt::Result {
+        match self {
+            Code128Fault::CheckCharacter => write!(f, "refused 13 CheckCharacter"),
+            Code128Fault::NotGs1 => write!(f, "refused 14 NotGs1"),
+            Code128Fault::FunctionCharacter => write!(f, "refused 15 FunctionCharacter"),
+            Code128Fault::CodeSet => write!(f, "refused 16 CodeSet"),
+        }
+    }
+}
+
+/// The canonical text of elements has more than 48 bytes, which is more than one symbol may print
+/// (GS1 General Specifications, section 5.4).
+#[derive(Clone, Copy, Debug, PartialEq, Eq)]
+pub struct TooManyCharacters;
+
+impl fmt::Display for TooManyCharacters {
+    ghost output = { λ _. Some (codes "refused 12 TooManyCharacters") };
+
+    fn fmt<W: fmt::Write>(&self, f: &mut fmt::Formatter<W>) -> fmt::Result {
+        write!(f, "refused 12 TooManyCharacters")
+    }
+}

@@ -1,0 +1,52 @@
+//! Laws of the definitions: each function does nothing, and its contract is the law.
+ghost use Rattle.std.specs.Prelude.{List, ℕ};
+ghost use Rattle.code128_code.specs.Laws.{CodedIsSaid, CodedIsShort, Measures, ModulesSay, OneReading, OneWay, ReplacedIsUnchecked, SaidIsShort, TextOrFault};
+ghost use Rattle.code128_code.specs.declared.code_set.CodeSet.{CodeSet};
+
+/// A symbol has one start character, one list of data values and one check character.
+pub fn one_reading()
+    ensures { OneReading }
+{}
+
+/// No symbol is one when it is read backwards.
+pub fn one_way()
+    ensures { OneWay }
+{}
+
+/// A symbol of k start, data and check characters, k from 3 to 98, has 6k + 7 widths of 11k + 13
+/// modules, and its outer bars are two modules wide.
+pub fn measures()
+    ensures { Measures }
+{}
+
+/// Where the check character is right, one start, data or check character replaced by another
+/// leaves a wrong one.
+pub fn replaced_is_unchecked()
+    ensures { ReplacedIsUnchecked }
+{}
+
+/// A symbol's values say a text exactly where its modules are the GS1-128 symbol of that text.
+pub fn modules_say()
+    ensures { ModulesSay }
+{}
+
+/// The values that are printed for a text say that text.
+pub fn coded_is_said()
+    ensures { CodedIsSaid }
+{}
+
+/// The values that are printed for an element string are at most as many as its bytes.
+pub fn coded_is_short()
+    ensures { CodedIsShort }
+{}
+
+/// Values say at most two bytes each.
+pub fn said_is_short()
+    ensures { SaidIsShort }
+{}
+
+/// Values have a text exactly where each has a meaning in turn, and otherwise the fault of the
+/// first that has none.
+pub fn text_or_fault()
+    ensures { (set : CodeSet) (values : List ℕ) → TextOrFault set values }
+{}

@@ -1,0 +1,98 @@
+//! What the values of symbol characters mean in the code sets.
+ghost use Rattle.std.specs.Prelude.{◌≡◌, ◌<◌};
+ghost use Rattle.code128_code.specs.Texts.{byte_a, meaning};
+ghost use Rattle.code128_code.specs.declared.code_set.CodeSet.TheVariants.{A, B, C};
+
+use crate::code_set::CodeSet;
+
+/// The value of FNC1 in each code set.
+pub(crate) const FNC1: u8 = 102;
+
+/// The byte that a GS1-128 symbol says by FNC1 after its first value: the separator, ASCII GS.
+pub(crate) const SEPARATOR: u8 = 29;
+
+/// What a value means in a code set (ISO/IEC 15417, code set tables).
+#[derive(Clone, Copy, Debug, PartialEq, Eq)]
+pub enum Meaning {
+    /// One byte.
+    Byte(u8),
+    /// The two digits of a number below 100.
+    Digits(u8),
+    /// From the next value on another code set.
+    Latch(CodeSet),
+    /// The next value alone is of the other one of code sets A and B.
+    Shift,
+    /// FNC2, FNC3 or FNC4, which no GS1-128 symbol has.
+    Function,
+}
+
+/// The byte of a value 0 to 95 in code set A.
+pub(crate) fn byte_of_a(value: u8) -> u8
+    requires { value < 96 }
+    ensures { result ≡ byte_a value }
+{
+    if value < 64 { value + 32 } else { value - 64 }
+}
+
+fn meaning_in_a(value: u8) -> Meaning
+    ensures { result ≡ meaning A value }
+{
+    if value < 96 {
+        Meaning::Byte(byte_of_a(value))
+    } else if value == 98 {
+        Meaning::Shift
+    } else if value == 99 {
+        Meaning::Latch(CodeSet::C)
+    } else if value == 100 {
+        Meaning::Latch(CodeSet::B)
+    } else if value == FNC1 {
+        Meaning::Byte(SEPARATOR)
+    } else {
+        Meaning::Function
+    }
+}
+
+fn meaning_in_b(value: u8) -> Meaning
+    ensures { result ≡ meaning B value }
+{
+    if value < 96 {
+        Meaning::Byte(value + 32)
+    } else if value == 98 {
+        Meaning::Shift
+    } else if value == 99 {
+        Meaning::Latch(CodeSet::C)
+    } else if value == 101 {
+        Meaning::Latch(CodeSet::A)
+    } else if value == FNC1 {
+        Meaning::Byte(SEPARATOR)
+    } else {
+        Meaning::Function
+    }
+}
+
+fn meaning_in_c(value: u8) -> Meaning
+    ensures { result ≡ meaning C value }
+{
+    if value < 100 {
+        Meaning::Digits(value)
+    } else if value == 100 {
+        Meaning::Latch(CodeSet::B)
+    } else if value == 101 {
+        Meaning::Latch(CodeSet::A)
+    } else if value == FNC1 {
+        Meaning::Byte(SEPARATOR)
+    } else {
+        Meaning::Function
+    }
+}
+
+/// What a value means in a code set.
+pub(crate) fn meaning_of(set: CodeSet, value: u8) -> Meaning
+    ensures { result ≡ meaning set value }
+{
+    match set {
+        CodeSet::A => meaning_in_a(value),
+        CodeSet::B => meaning_in_b(value),
+        CodeSet::C => meaning_in_c(value),
+    }
+}

@@ -1,0 +1,122 @@
+//! Reads the values of a Code 128 symbol from its widths.
+ghost use Rattle.std.specs.Prelude.{◌≡◌, ◌≢◌, ◌↔◌, ◌+◌, ◌%◌, ◌<◌, ◌≤◌, ℕ, List, IfNone, IfSome, IsTrue, length};
+ghost use Rattle.std.specs.List.{AllByRecursion, flat_map};
+ghost use Rattle.ean_code.specs.Widths.{AreWidths};
+ghost use Rattle.code128_code.specs.Characters.{pattern, stop};
+ghost use Rattle.code128_code.specs.Symbols.{AreValues, IsCode128Symbol};
+
+use crate::lookup::character;
+use crate::patterns::STOP;
+use crate::symbol_values::Values;
+use arrayvec::ArrayVec;
+use ean_code::Modules;
+
+/// The value 0 to 105 of the symbol character with these widths.
+fn value_of(widths: &[u8]) -> Option<u8>
+    requires six { length widths.now ≡ 6 }
+    requires valid { AreWidths widths.now }
+    ensures found { IfSome result (λ v. (v < 106) × (pattern v ≡ widths.now)) }
+    ensures none { IfNone result ((v : ℕ) → v < 106 → pattern v ≢ widths.now) }
+{
+    let first = u16::from(widths[0] - 1) * 4 + u16::from(widths[1] - 1);
+    let second = u16::from(widths[2] - 1) * 4 + u16::from(widths[3] - 1);
+    let third = u16::from(widths[4] - 1) * 4 + u16::from(widths[5] - 1);
+    character((first * 16 + second) * 16 + third)
+}
+
+/// The start character with these widths.
+fn start_of(widths: &[u8]) -> Option<u8>
+    requires six { length widths.now ≡ 6 }
+    requires valid { AreWidths widths.now }
+    ensures found { IfSome result (λ v. (103 ≤ v) × (v ≤ 105) × (pattern v ≡ widths.now)) }
+    ensures none { IfNone result ((v : ℕ) → 103 ≤ v → v ≤ 105 → pattern v ≢ widths.now) }
+{
+    let Some(value) = value_of(widths) else {
+        return None;
+    };
+    if value < 103 {
+        return None;
+    }
+    Some(value)
+}
+
+/// The data or check character with these widths.
+fn data_of(widths: &[u8]) -> Option<u8>
+    requires six { length widths.now ≡ 6 }
+    requires valid { AreWidths widths.now }
+    ensures found { IfSome result (λ v. (v ≤ 102) × (pattern v ≡ widths.now)) }
+    ensures none { IfNone result ((v : ℕ) → v ≤ 102 → pattern v ≢ widths.now) }
+{
+    let Some(value) = value_of(widths) else {
+        return None;
+    };
+    if value > 102 {
+        return None;
+    }
+    Some(value)
+}
+
+/// The data values, at most 96, whose characters have these widths.
+fn data_values(widths: &[u8]) -> Option<ArrayVec<u8, 96>>
+    requires few { length widths.now ≤ 576 }
+    requires sixes { length widths.now % 6 ≡ 0 }
+    requires valid { AreWidths widths.now }
+    ensures found { IfSome result (λ vs. AreValues vs.items
+        × (flat_map pattern vs.items ≡ widths.now)) }
+    ensures none { IfNone result ((vs : List ℕ) → AreValues vs → flat_map pattern vs ≢ widths.now) }
+{
+    let mut values = ArrayVec::new();
+    for i in 0..widths.len() / 6 {
+        let Some(value) = data_of(&widths[6 * i..6 * i + 6]) else {
+            return None;
+        };
+        values.push(value);
+    }
+    Some(values)
+}
+
+/// Whether these are the widths of the stop character.
+fn is_stop(widths: &[u8]) -> bool
+    ensures { IsTrue result ↔ (widths.now ≡ stop) }
+{
+    widths == STOP.as_slice()
+}
+
+/// Whether a symbol may have this number of widths: six for each of 3 to 98 characters, and seven
+/// for the stop.
+fn is_symbol_length(count: usize) -> bool
+    ensures { IsTrue result ↔ ((25 ≤ count) × (count % 6 ≡ 1)) }
+{
+    count >= 25 && count % 6 == 1
+}
+
+/// The start, data and check characters that these modules show, read forwards alone: none where
+/// they are no Code 128 symbol with 1 to 96 data values (ISO/IEC 15417, symbol structure).
+pub fn values(modules: &Modules) -> Option<Values>
+    ensures some { IfSome result (λ v. IsCode128Symbol v.start v.values.items v.check modules.now) }
+    ensures none { IfNone result ((start : ℕ) (values : List ℕ) (check : ℕ)
+        → IsCode128Symbol start values check modules.now → ⊥) }
+{
+    let widths = modules.widths();
+    if !is_symbol_length(widths.len()) {
+        return None;
+    }
+    let end = widths.len() - 7;
+    if !is_stop(&widths[end..]) {
+        return None;
+    }
+    let Some(start) = start_of(&widths[..6]) else {
+        return None;
+    };
+    let Some(values) = data_values(&widths[6..end - 6]) else {
+        return None;
+    };
+    let Some(check) = data_of(&widths[end - 6..end]) else {
+        return None;
+    };
+    Some(Values {
+        start,
+        values,
+        check,
+    })
+}

@@ -1,0 +1,188 @@
+//! Texts that are checked: one of each answer and of each refusal, with the line that is printed.
+
+use super::outcome;
+use crate::words::Asked;
+use element_core::{Elements, Year};
+use std::alloc::Global;
+use std::test::Fail;
+
+/// What `check` prints under the year 2026.
+fn checked(alloc: Global, input: &str) -> Result<String, Fail> {
+    checked_in(alloc, 2026, input)
+}
+
+fn checked_in(alloc: Global, year: u16, input: &str) -> Result<String, Fail> {
+    let year = Year::new(year).ok_or("a year")?;
+    outcome(alloc, Asked::Check(year), input.as_bytes())
+}
+
+/// Whether the record has this line.
+fn has_line(alloc: Global, record: &str, line: &str) -> Result<bool, Fail> {
+    let wanted = format!(in alloc; "{line}\n")?;
+    Ok(checked(alloc, record)? == wanted)
+}
+
+#[test]
+fn checks_digits(rt: HostRuntime) -> Result<(), Fail> {
+    for (record, line) in [
+        ("digit,950110153000", "digit 3"),
+        ("digit,0", "digit 0"),
+        ("digit,10614141234567890", "digit 8"),
+        ("digit,", "refused 1 Length"),
+        ("digit,106141412345678908", "refused 1 Length"),
+        ("digit,12 4", "refused 2 NotDigit 2"),
+        ("gtin,9501101530003", "gtin 09501101530003"),
+        ("gtin,96385074", "gtin 00000096385074"),
+        ("gtin,012345000065", "gtin 00012345000065"),
+        ("gtin,09501101530003", "gtin 09501101530003"),
+        ("gtin,", "refused 1 Length"),
+        ("gtin,123", "refused 1 Length"),
+        ("gtin,950110153000X", "refused 2 NotDigit 12"),
+        ("gtin,9501101530004", "refused 3 CheckDigit"),
+        ("upce,01234505", "gtin 00012000003455"),
+        ("upce,01234531", "gtin 00012300000451"),
+        ("upce,01234543", "gtin 00012340000053"),
+        ("upce,01234596", "gtin 00012345000096"),
+        ("upce,01234565", "gtin 00012345000065"),
+        ("upce,01200003", "gtin 00012000000003"),
+        ("upce,01200033", "gtin 00012000000003"),
+        ("upce,01234564", "refused 3 CheckDigit"),
+        ("upce,", "refused 1 Length"),
+        ("upce,1234565", "refused 1 Length"),
+        ("upce,012345650", "refused 1 Length"),
+        ("upce,11234565", "refused 1 Length"),
+        ("upce,11234564", "refused 1 Length"),
+        ("upce,1123456X", "refused 2 NotDigit 7"),
+        ("upce,X1234565", "refused 2 NotDigit 0"),
+    ] {
+        assert!(rt; has_line(rt.alloc(), record, line)?, "{record}");
+    }
+    Ok(())
+}
+
+#[test]
+fn checks_element_strings(rt: HostRuntime) -> Result<(), Fail> {
+    for (record, line) in [
+        ("text,0109501101530003", "hri (01)09501101530003"),
+        ("text,10AB^17261231", "hri (10)AB(17)261231"),
+        ("text,10AB\u{1d}17261231", "hri (10)AB(17)261231"),
+        ("text,1726123110AB", "hri (17)261231(10)AB"),
+        ("text,10AB17261231", "hri (10)AB17261231"),
+        ("text,10A^", "hri (10)A"),
+        ("text,10A\u{1d}", "hri (10)A"),
+        ("text,0109501101530003^10A", "hri (01)09501101530003(10)A"),
+        ("text,\"10A,B\"", "hri (10)A,B"),
+        ("text,422528", "hri (422)528"),
+        ("text,17260200", "hri (17)260200"),
+        ("text,17240229", "hri (17)240229"),
+        ("text,", "refused 4 Empty"),
+        ("text,^", "refused 5 UnknownAi 0"),
+        ("text,^10A", "refused 5 UnknownAi 0"),
+        ("text,10AB^^21C", "refused 5 UnknownAi 5"),
+        ("text,10A^^", "refused 5 UnknownAi 4"),
+        ("text,0109501101530003^^10A", "refused 5 UnknownAi 17"),
+        ("text,0309501101530003", "refused 5 UnknownAi 0"),
+        ("text,0109501101530", "refused 6 ValueLength 0"),
+        ("text,10", "refused 6 ValueLength 0"),
+        ("text,10^", "refused 6 ValueLength 0"),
+        ("text,10A#", "refused 7 ValueCharacter 0"),
+        ("text,10A B", "refused 7 ValueCharacter 0"),
+        ("text,10A\0", "refused 7 ValueCharacter 0"),
+        ("text,10A\u{7f}", "refused 7 ValueCharacter 0"),
+        ("text,10\u{e9}", "refused 7 ValueCharacter 0"),
+        ("text,010950110153000X", "refused 7 ValueCharacter 0"),
+        ("text,010950110153000310A#", "refused 7 ValueCharacter 16"),
+        ("text,0109501101530004", "refused 8 ValueCheckDigit 0"),
+        ("text,17250229", "refused 9 ValueDate 0"),
+        ("text,10AB^17261301", "refused 9 ValueDate 5"),
+        ("text,4225281", "refused 10 MissingSeparator 0"),
+    ] {
+        assert!(rt; has_line(rt.alloc(), record, line)?, "{record}");
+    }
+    Ok(())
+}
+
+/// A record whose text has 187 bytes and the end that is given.
+fn long_record(alloc: Global, end: &str) -> Result<String, Fail> {
+    let mut record = String::from_str(alloc, "text,")?;
+    for start in ["91", "^92"] {
+        record.push_str(start)?;
+        for _ in 0..90 {
+            record.push_str("A")?;
+        }
+    }
+    record.push_str("^1")?;
+    record.push_str(end)?;
+    Ok(record)
+}
+
+#[test]
+fn takes_192_bytes_of_text(rt: HostRuntime) -> Result<(), Fail> {
+    let alloc = rt.alloc();
+    let longest = long_record(alloc, "0ABCD")?;
+    assert_eq!(rt; longest.len(), 5 + 192);
+    let line = checked(alloc, longest.as_str())?;
+    assert!(rt; line.as_str().starts_with("hri (91)AA"));
+    assert!(rt; line.as_str().ends_with("AA(10)ABCD\n"));
+    let longer = long_record(alloc, "0ABCDE")?;
+    assert!(rt; has_line(alloc, longer.as_str(), "refused 11 TooLong")?);
+    let worse = long_record(alloc, "##^^##")?;
+    assert!(rt; has_line(alloc, worse.as_str(), "refused 11 TooLong")?);
+    Ok(())
+}
+
+#[test]
+fn reads_dates_by_the_year(rt: HostRuntime) -> Result<(), Fail> {
+    for (reference, text, day) in [
+        (2026, b"17260200", (2026, 2, 28)),
+        (2026, b"17240229", (2024, 2, 29)),
+        (2026, b"17760101", (2076, 1, 1)),
+        (2026, b"17770101", (1977, 1, 1)),
+        (2080, b"17291231", (2129, 12, 31)),
+        (2080, b"17301231", (2130, 12, 31)),
+        (2080, b"17311231", (2031, 12, 31)),
+        (2026, b"17000229", (2000, 2, 29)),
+    ] {
+        let year = Year::new(reference).ok_or("a year")?;
+        let elements = Elements::parse(text.as_slice(), year).ok().ok_or("a list")?;
+        if elements.len() == 0 {
+            return Err(Fail::from("an element"));
+        }
+        let date = elements.element(0).date.ok_or("a date")?;
+        assert_eq!(rt; (date.year(), date.month(), date.day()), day);
+    }
+    for (reference, line) in [
+        (2026, "hri (17)000229\n"),
+        (2060, "refused 9 ValueDate 0\n"),
+    ] {
+        let found = checked_in(rt.alloc(), reference, "text,17000229")?;
+        assert_eq!(rt; found.as_str(), line);
+    }
+    Ok(())
+}
+
+#[test]
+fn answers_records_in_order(rt: HostRuntime) -> Result<(), Fail> {
+    for (input, wanted) in [
+        ("", ""),
+        ("\n\n", ""),
+        (
+            "\u{feff}digit,12\r\n\n\"gtin\",123\ntext,10A\ndigit,12",
+            "digit 3\nrefused 1 Length\nhri (10)A\ndigit 3\n",
+        ),
+        ("digit", "record 0: refused 39 Csv"),
+        ("digit,1,", "record 0: refused 39 Csv"),
+        ("sku,1,", "record 0: refused 39 Csv"),
+        ("sku,1", "record 0: refused 40 Kind"),
+        (",1", "record 0: refused 40 Kind"),
+        ("Digit,1", "record 0: refused 40 Kind"),
+        ("digit ,1", "record 0: refused 40 Kind"),
+        ("digits,1", "record 0: refused 40 Kind"),
+        ("gtin,123\n\nsku,1\ndigit\n", "record 1: refused 40 Kind"),
+        ("gtin,123\ndigit\nsku,1\n", "record 1: refused 39 Csv"),
+    ] {
+        let found = checked(rt.alloc(), input)?;
+        assert_eq!(rt; found.as_str(), wanted, "{input}");
+    }
+    Ok(())
+}

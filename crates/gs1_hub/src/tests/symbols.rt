@@ -1,0 +1,232 @@
+//! Symbols: their modules, and the values and texts of those of Code 128.
+
+use arrayvec::ArrayVec;
+use code128_code::{
+    Code128Fault, TooManyCharacters, Values, character, check_character, encode, text_of, values,
+};
+use digits_core::Gtin;
+use ean_code::{Modules, ean8, ean13, upce};
+use element_core::{Elements, Year};
+use std::test::Fail;
+
+// (422)528: start C, FNC1, 42, 25, 28, the check character 66 and stop.
+const COUNTRY: [u8; 43] = [
+    2, 1, 1, 2, 3, 2, 4, 1, 1, 1, 3, 1, 1, 1, 2, 1, 3, 3, 3, 2, 1, 1, 2, 2, 3, 2, 2, 1, 1, 2, 1, 2,
+    1, 4, 2, 1, 2, 3, 3, 1, 1, 1, 2,
+];
+
+/// The elements of a text.
+fn elements_of(text: &[u8]) -> Result<Elements, Fail> {
+    let year = Year::new(2026).ok_or("a year")?;
+    let elements = Elements::parse(text, year)?;
+    Ok(elements)
+}
+
+/// The values of a symbol, its check character right or wrong.
+fn shown(start: u8, data: &[u8], check: u8) -> Values {
+    let mut values = ArrayVec::new();
+    let _ = values.try_extend_from_slice(data);
+    Values {
+        start,
+        values,
+        check,
+    }
+}
+
+/// The sum of the widths.
+fn total(modules: &Modules) -> usize {
+    let mut sum: usize = 0;
+    for width in modules.widths() {
+        sum = sum.saturating_add(usize::from(*width));
+    }
+    sum
+}
+
+#[test]
+fn encodes_and_reads_again(rt: HostRuntime) -> Result<(), Fail> {
+    for (text, data, check) in [
+        (
+            b"0109501101530003".as_slice(),
+            [102, 1, 9, 50, 11, 1, 53, 0, 3].as_slice(),
+            71,
+        ),
+        (b"422528".as_slice(), [102, 42, 25, 28].as_slice(), 66),
+        (
+            b"10AB\x1d17261231".as_slice(),
+            [102, 10, 100, 33, 34, 102, 99, 17, 26, 12, 31].as_slice(),
+            81,
+        ),
+        (
+            b"1726123110AB".as_slice(),
+            [102, 17, 26, 12, 31, 10, 100, 33, 34].as_slice(),
+            101,
+        ),
+        (
+            b"10A12345".as_slice(),
+            [102, 10, 100, 33, 17, 99, 23, 45].as_slice(),
+            5,
+        ),
+    ] {
+        assert_eq!(rt; check_character(105, data), check);
+        let modules = encode(&elements_of(text)?)?;
+        let found = values(&modules).ok_or("a symbol")?;
+        assert_eq!(rt; found.start, 105);
+        assert_eq!(rt; found.values.as_slice(), data);
+        assert_eq!(rt; found.check, check);
+        let said = text_of(&found)?;
+        assert_eq!(rt; said.as_slice(), text);
+        let characters = data.len() + 2;
+        assert_eq!(rt; modules.widths().len(), 6 * characters + 7);
+        assert_eq!(rt; total(&modules), 11 * characters + 13);
+    }
+    Ok(())
+}
+
+#[test]
+fn draws_the_printed_widths(rt: HostRuntime) -> Result<(), Fail> {
+    let mut modules = encode(&elements_of(b"422528")?)?;
+    assert_eq!(rt; modules.widths(), COUNTRY.as_slice());
+    modules.reverse();
+    assert!(rt; values(&modules).is_none());
+    let drawn = Modules::of(&COUNTRY).ok_or("modules")?;
+    assert!(rt; values(&drawn).is_some());
+    // 211232, the start character C, and widths that no character has.
+    assert_eq!(rt; character(0b01_00_00_01_10_01), Some(105));
+    assert_eq!(rt; character(0), None);
+    assert_eq!(rt; character(4096), None);
+    Ok(())
+}
+
+#[test]
+fn encodes_48_characters(rt: HostRuntime) -> Result<(), Fail> {
+    let mut text = [b'A'; 49];
+    text[0] = b'9';
+    text[1] = b'1';
+    let modules = encode(&elements_of(&text[..48])?)?;
+    // 49 data characters, start and check character: 51 of eleven modules, and thirteen.
+    assert_eq!(rt; total(&modules), 574);
+    assert!(rt; encode(&elements_of(&text)?) == Err(TooManyCharacters));
+    let fault = TooManyCharacters.to_string(rt.alloc())?;
+    assert_eq!(rt; fault.as_str(), "refused 12 TooManyCharacters");
+    Ok(())
+}
+
+#[test]
+fn says_the_text_in_each_code_set(rt: HostRuntime) -> Result<(), Fail> {
+    for (start, data, check, text) in [
+        (105, [102].as_slice(), 1, b"".as_slice()),
+        (105, [102, 102].as_slice(), 102, b"\x1d".as_slice()),
+        (
+            105,
+            [102, 20, 11, 102].as_slice(),
+            70,
+            b"2011\x1d".as_slice(),
+        ),
+        (103, [102, 33, 98, 65, 33].as_slice(), 63, b"AaA".as_slice()),
+        (103, [102, 93].as_slice(), 82, b"\x1d".as_slice()),
+        (104, [102, 33, 101, 33, 99].as_slice(), 69, b"AA".as_slice()),
+    ] {
+        let said = text_of(&shown(start, data, check))?;
+        assert_eq!(rt; said.as_slice(), text);
+    }
+    Ok(())
+}
+
+#[test]
+fn refuses_values_without_a_text(rt: HostRuntime) -> Result<(), Fail> {
+    for (start, data, check, fault, line) in [
+        (
+            105,
+            [12].as_slice(),
+            15,
+            Code128Fault::CheckCharacter,
+            "refused 13 CheckCharacter",
+        ),
+        (
+            104,
+            [102, 100].as_slice(),
+            96,
+            Code128Fault::CheckCharacter,
+            "refused 13 CheckCharacter",
+        ),
+        (
+            105,
+            [12].as_slice(),
+            14,
+            Code128Fault::NotGs1,
+            "refused 14 NotGs1",
+        ),
+        (
+            104,
+            [102, 100].as_slice(),
+            97,
+            Code128Fault::FunctionCharacter,
+            "refused 15 FunctionCharacter",
+        ),
+        (
+            104,
+            [102, 98].as_slice(),
+            93,
+            Code128Fault::CodeSet,
+            "refused 16 CodeSet",
+        ),
+        (
+            104,
+            [102, 98, 96].as_slice(),
+            72,
+            Code128Fault::CodeSet,
+            "refused 16 CodeSet",
+        ),
+        (
+            103,
+            [102, 98, 98, 101].as_slice(),
+            69,
+            Code128Fault::CodeSet,
+            "refused 16 CodeSet",
+        ),
+    ] {
+        let found = text_of(&shown(start, data, check)).err().ok_or("a fault")?;
+        assert!(rt; found == fault);
+        assert_eq!(rt; found.to_string(rt.alloc())?.as_str(), line);
+    }
+    Ok(())
+}
+
+/// Whether the modules are these widths, written as groups of digits.
+fn has_widths(modules: Option<Modules>, groups: &str) -> bool {
+    let Some(modules) = modules else {
+        return false;
+    };
+    let mut widths = modules.widths().iter();
+    for digit in groups.bytes() {
+        if digit.is_ascii_digit() {
+            match widths.next() {
+                Some(width) if *width == digit - b'0' => {}
+                _ => return false,
+            }
+        }
+    }
+    widths.next().is_none()
+}
+
+#[test]
+fn draws_symbols_of_ean_and_upc(rt: HostRuntime) -> Result<(), Fail> {
+    let gtin = Gtin::read(b"9501101530003").ok().ok_or("a number")?;
+    assert!(rt;
+        has_widths(
+            ean13(&gtin),
+            "111 1231 1123 1222 2221 1123 2221 11111 1231 1411 3211 3211 3211 1411 111"
+        )
+    );
+    assert!(rt; ean8(&gtin).is_none() && upce(&gtin).is_none());
+    let gtin = Gtin::read(b"96385074").ok().ok_or("a number")?;
+    assert!(rt;
+        has_widths(
+            ean8(&gtin),
+            "111 3112 1114 1411 1213 11111 1231 3211 1312 1132 111"
+        )
+    );
+    let gtin = Gtin::read(b"012345000065").ok().ok_or("a number")?;
+    assert!(rt; has_widths(upce(&gtin), "111 1222 2122 1411 2311 1321 1114 111111"));
+    Ok(())
+}

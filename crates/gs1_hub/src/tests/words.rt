@@ -1,0 +1,99 @@
+//! Command lines: what they ask for, which are refused, and which ask for help.
+
+use crate::options::LaneOptions;
+use crate::words::{Asked, WordsFault, read_words};
+use std::alloc::{AllocError, Global};
+use std::test::Fail;
+
+/// The words of a command line, with one space between them.
+fn words_of(alloc: Global, text: &str) -> Result<Vec<String>, AllocError> {
+    let mut words = Vec::new(alloc);
+    for word in text.split(' ') {
+        words.push(String::from_str(alloc, word)?)?;
+    }
+    Ok(words)
+}
+
+/// The year that texts are to be checked under.
+fn checked_year(asked: Asked) -> Option<u16> {
+    match asked {
+        Asked::Check(year) => Some(year.number()),
+        Asked::Lanes(_) => None,
+    }
+}
+
+#[test]
+fn reads_words(rt: HostRuntime) -> Result<(), Fail> {
+    let alloc = rt.alloc();
+    for (text, lanes, workers, year) in [
+        (
+            "gs1_hub lanes --lanes 3 --workers=16 --year 2026",
+            3,
+            16,
+            2026,
+        ),
+        (
+            "gs1_hub lanes --year 1951 --workers 1 --lanes 16",
+            16,
+            1,
+            1951,
+        ),
+    ] {
+        let words = words_of(alloc, text)?;
+        let Ok(Asked::Lanes(options)) = read_words(alloc, words.as_slice()) else {
+            return Err(Fail::from("a command"));
+        };
+        let wanted = LaneOptions::new(lanes, workers, year).ok_or("options")?;
+        assert_eq!(rt; options, wanted, "{text}");
+    }
+    for (text, number) in [
+        ("gs1_hub check --year 2149", 2149),
+        ("gs1_hub check --year=1951", 1951),
+    ] {
+        let words = words_of(alloc, text)?;
+        let asked = read_words(alloc, words.as_slice()).ok().ok_or("a command")?;
+        assert_eq!(rt; checked_year(asked), Some(number), "{text}");
+    }
+    Ok(())
+}
+
+#[test]
+fn refuses_words(rt: HostRuntime) -> Result<(), Fail> {
+    let alloc = rt.alloc();
+    for text in [
+        "gs1_hub",
+        "gs1_hub help",
+        "gs1_hub print",
+        "gs1_hub check",
+        "gs1_hub check --year 1950",
+        "gs1_hub check --year 2150",
+        "gs1_hub check --year 2026 --lanes 1",
+        "gs1_hub lanes",
+        "gs1_hub lanes --lanes 1 --workers 1",
+        "gs1_hub lanes --lanes 0 --workers 1 --year 2026",
+        "gs1_hub lanes --lanes 17 --workers 1 --year 2026",
+        "gs1_hub lanes --lanes 1 --workers 17 --year 2026",
+        "gs1_hub lanes --lanes 1 --workers 1 --year 1950",
+        "gs1_hub lanes --lanes 1 --workers 1 --year 2150",
+        "gs1_hub lanes --lanes 1 --lanes 1 --workers 1 --year 2026",
+        "gs1_hub lanes --lanes 1 --workers 1 --year 2026 more",
+    ] {
+        let words = words_of(alloc, text)?;
+        let fault = read_words(alloc, words.as_slice()).err().ok_or("a fault")?;
+        let line = fault.to_string(alloc)?;
+        assert_eq!(rt; line.as_str(), "refused 42 Words", "{text}");
+    }
+    for (text, part) in [
+        ("gs1_hub --help", "check"),
+        ("gs1_hub --help", "lanes"),
+        ("gs1_hub check --help", "--year"),
+        ("gs1_hub lanes --help", "--workers"),
+    ] {
+        let words = words_of(alloc, text)?;
+        let fault = read_words(alloc, words.as_slice()).err().ok_or("help")?;
+        let help = fault.to_string(alloc)?;
+        assert!(rt; matches!(fault, WordsFault::Help(_)), "{text}");
+        assert!(rt; help.as_str().contains(part), "{text}");
+    }
+    Ok(())
+}

@@ -1,0 +1,120 @@
+-- A row shows at most one symbol.
+use Rattle.std.proofs.Common.{◌≡◌, ℕ, ◌+◌, ◌<◌, List, [], ◌∷◌, length, reverse, sum, refl, sym, ap, subst, ◌∙◌, arith, get_or}
+use Rattle.std.proofs.lemmas.List.{reverse-reverse}
+use Rattle.std.proofs.lemmas.List.Elements.{AllZip-get_or}
+use Rattle.ean_code.specs.Symbols.{Kind}
+use Rattle.ean_code.specs.Symbols.Kind.{Ean13 as KindEan13, Ean8 as KindEan8, UpcE as KindUpcE}
+use Rattle.ean_code.specs.Laws.{OneWay as OneEanWay}
+use Rattle.code128_code.specs.Laws.{Measures as CodeMeasures, OneWay as OneCodeWay}
+use Rattle.scan_core.specs.declared.carrier.Carrier.{Carrier}
+use Rattle.scan_core.specs.declared.carrier.Carrier.TheVariants.{Ean13, Ean8, UpcE, Gs1128}
+use Rattle.scan_core.specs.Row.{IsRow, inner}
+use Rattle.scan_core.specs.Showing.{HasForm, IsCandidate, IsRun, Rounds, Shows, Way, along}
+use Rattle.scan_core.specs.Showing.Way.{Forwards, Backwards}
+use Rattle.scan_core.proofs.CandidateFacts.{candidate_dots}
+use Rattle.scan_core.proofs.EanMeasures.{outer_bars}
+use Rattle.scan_core.proofs.WayFacts.{one_lying, rounds_lying}
+
+-- no symbol of an EAN or UPC kind is one backwards
+abbrev pub EachOneWay : Type 0
+EachOneWay = (kind : Kind) → OneEanWay kind
+
+-- what holds of the symbols of each carrier
+pub record SymbolLaws : Type 0 where
+  pub ean : EachOneWay
+  pub code : OneCodeWay
+  pub measures : CodeMeasures
+
+-- a symbol measures what its carrier says
+pub code_measures : CodeMeasures → (ms : List ℕ) → HasForm Gs1128 ms → IsCandidate Gs1128 (length ms) (sum ms)
+code_measures law ms f =
+    let m = law f.0 f.2 f.1 ms f.3 in (length f.1 + 2, m.least, m.greatest, m.count, m.total)
+
+module _ (laws : SymbolLaws) where
+  one_form : (c : Carrier) (ms : List ℕ) → HasForm c ms → HasForm c (reverse ms) → ⊥
+  one_form Ean13 ms e f = laws.ean KindEan13 ms e.0 f.0 e.1 f.1
+  one_form Ean8 ms e f = laws.ean KindEan8 ms e.0 f.0 e.1 f.1
+  one_form UpcE ms e f = laws.ean KindUpcE ms e.0 f.0 e.1 f.1
+  one_form Gs1128 ms e f = laws.code e.0 f.0 e.2 f.2 e.1 f.1 ms e.3 f.3
+
+  -- what lies in one way in a row has the form in one way
+  one_way : (c : Carrier) (v w : Way) (ms ks : List ℕ) → HasForm c ms → HasForm c ks → along v ms ≡ along w ks → (v ≡ w) × (ms ≡ ks)
+  one_way c Forwards Forwards ms ks f g e = (refl, e)
+  one_way c Forwards Backwards ms ks f g e = absurd (one_form c ks g (subst (HasForm c) e f))
+  one_way c Backwards Forwards ms ks f g e = absurd (one_form c ms f (subst (HasForm c) (sym e) g))
+  one_way c Backwards Backwards ms ks f g e = (refl, sym (reverse-reverse ms) ∙ ap reverse e ∙ reverse-reverse ks)
+
+  -- ---- 43 runs: EAN-8 has outer bars of one module, GS1-128 of two
+
+  -- a run of one module among 67 is narrower than one of two among 79
+  narrower : (W w : ℕ) → 0 < W → IsRun 67 W w 1 → IsRun 79 W w 2 → ⊥
+  narrower W w pos a b = let high = a.near in let low = b.near in omega arith
+
+  first_run : (N : ℕ) (runs ms : List ℕ) → 0 < sum runs → Rounds runs N ms → IsRun N (sum runs) (get_or runs 0 0) (get_or ms 0 0)
+  first_run N [] ms pos h = absurd (omega arith)
+  first_run N (w ∷ runs) ms pos h = AllZip-get_or (IsRun N (sum (w ∷ runs))) (w ∷ runs) ms 0 0 0 h (omega arith)
+
+  -- the first bar, either way
+  bar_of_ean8 : (v : Way) (ms : List ℕ) → HasForm Ean8 ms → get_or (along v ms) 0 0 ≡ 1
+  bar_of_ean8 Forwards ms f = (outer_bars ms f.0 f.1).0
+  bar_of_ean8 Backwards ms f = (outer_bars ms f.0 f.1).1
+
+  bar_of_gs1128 : (v : Way) (ms : List ℕ) → HasForm Gs1128 ms → get_or (along v ms) 0 0 ≡ 2
+  bar_of_gs1128 Forwards ms f = (laws.measures f.0 f.2 f.1 ms f.3).first_bar
+  bar_of_gs1128 Backwards ms f = (laws.measures f.0 f.2 f.1 ms f.3).last_bar
+
+  -- no row is both
+  overlap : (v w : Way) (runs ms ks : List ℕ) → 0 < sum runs → Rounds (along v runs) 67 ms → Rounds (along w runs) 79 ks
+      → HasForm Ean8 ms → HasForm Gs1128 ks → ⊥
+  overlap v w runs ms ks pos a b f g =
+      narrower (sum runs) (get_or runs 0 0) pos
+      (subst (IsRun 67 (sum runs) (get_or runs 0 0)) (bar_of_ean8 v ms f) (first_run 67 runs (along v ms) pos (rounds_lying v runs 67 ms a)))
+      (subst (IsRun 79 (sum runs) (get_or runs 0 0)) (bar_of_gs1128 w ks g) (first_run 79 runs (along w ks) pos (rounds_lying w runs 79 ks b)))
+
+-- two candidates of a row are of one carrier, or 43 runs are taken as both
+data Meet : Carrier → Carrier → ℕ → ℕ → Type 0 where
+  same_carrier : {c : Carrier} {N : ℕ} → Meet c c N N
+  ean_first : Meet Ean8 Gs1128 67 79
+  ean_second : Meet Gs1128 Ean8 79 67
+
+met_at : (c : Carrier) (N M : ℕ) → N ≡ M → Meet c c N M
+met_at c N M e = subst (λ K. Meet c c N K) e same_carrier
+
+meet : (a b : Carrier) (n N M : ℕ) → IsCandidate a n N → IsCandidate b n M → Meet a b N M
+meet Ean13 Ean13 n N M x y = met_at Ean13 N M (omega arith)
+meet Ean8 Ean8 n N M x y = met_at Ean8 N M (omega arith)
+meet UpcE UpcE n N M x y = met_at UpcE N M (omega arith)
+meet Gs1128 Gs1128 n N M x y =
+    let i = x.3 in let j = y.3 in let p = x.4 in let q = y.4 in met_at Gs1128 N M (omega arith)
+meet Ean8 Gs1128 n N M x y =
+    let j = y.3 in let q = y.4 in let p = x.1 in let i = x.0 in
+    let a : 67 ≡ N = omega arith in let b : 79 ≡ M = omega arith in
+    subst (λ K. Meet Ean8 Gs1128 K M) a (subst (λ K. Meet Ean8 Gs1128 67 K) b ean_first)
+meet Gs1128 Ean8 n N M x y =
+    let j = x.3 in let q = x.4 in let p = y.1 in let i = y.0 in
+    let a : 79 ≡ N = omega arith in let b : 67 ≡ M = omega arith in
+    subst (λ K. Meet Gs1128 Ean8 K M) a (subst (λ K. Meet Gs1128 Ean8 79 K) b ean_second)
+meet Ean13 Ean8 n N M x y = absurd (omega arith)
+meet Ean13 UpcE n N M x y = absurd (omega arith)
+meet Ean13 Gs1128 n N M x y = absurd (let i = x.0 in let j = y.3 in omega arith)
+meet Ean8 Ean13 n N M x y = absurd (omega arith)
+meet Ean8 UpcE n N M x y = absurd (omega arith)
+meet UpcE Ean13 n N M x y = absurd (omega arith)
+meet UpcE Ean8 n N M x y = absurd (omega arith)
+meet UpcE Gs1128 n N M x y = absurd (let i = x.0 in let j = y.3 in omega arith)
+meet Gs1128 Ean13 n N M x y = absurd (let i = y.0 in let j = x.3 in omega arith)
+meet Gs1128 UpcE n N M x y = absurd (let i = y.0 in let j = x.3 in omega arith)
+
+settle : SymbolLaws → (a b : Carrier) (N M : ℕ) → Meet a b N M → (v w : Way) (runs ms ks : List ℕ) → 0 < sum runs
+    → Rounds (along v runs) N ms → Rounds (along w runs) M ks → HasForm a ms → HasForm b ks → (a ≡ b) × (v ≡ w) × (ms ≡ ks)
+settle laws a b N M same_carrier v w runs ms ks pos x y f g =
+    let one = one_way laws a v w ms ks f g (one_lying v w runs N ms ks pos x y) in (refl, one.0, one.1)
+settle laws a b N M ean_first v w runs ms ks pos x y f g = absurd (overlap laws v w runs ms ks pos x y f g)
+settle laws a b N M ean_second v w runs ms ks pos x y f g = absurd (overlap laws w v runs ks ms pos y x g f)
+
+-- a row shows one symbol, one way
+pub one_symbol : SymbolLaws → (runs : List ℕ) (c d : Carrier) (v w : Way) (ms ks : List ℕ) → IsRow runs → Shows runs c v ms → Shows runs d w ks
+    → (c ≡ d) × (v ≡ w) × (ms ≡ ks)
+one_symbol laws runs c d v w ms ks row s t =
+    settle laws c d s.N t.N (meet c d (length (inner runs)) s.N t.N s.candidate t.candidate) v w (inner runs) ms ks
+    (candidate_dots runs c s.N row s.candidate) s.rounds t.rounds s.form t.form

@@ -1,0 +1,32 @@
+use Rattle.std.proofs.Common.{rules}
+use Rattle.scan_core.specs.Reading.{content_of}
+use Rattle.scan_core.specs.Row.{inner}
+use Rattle.scan_core.specs.Showing.{IsQuiet, Rounds}
+use Rattle.scan_core.proofs.FoundFacts.{fails_pattern, fails_rounding, found_tells}
+use Rattle.scan_core.proofs.answer.try_candidate.Goals as goal
+
+pub returns-in_default-clause-fails : goal.returns-in_default-clause-fails
+returns-in_default-clause-fails c =
+    let runs = c.args.widths.now in
+    let N = c.args.candidate.count in
+    let quiet : IsQuiet runs N = search rules in
+    fails_rounding runs c.args.candidate.carrier N quiet (λ modules h. c.in_default.ensures.none modules (rw c.inner.ensures h))
+
+pub returns-in-Some-read_some_way-clause-shown : goal.returns-in-Some-read_some_way-clause-shown
+returns-in-Some-read_some_way-clause-shown c =
+    let runs = c.args.widths.now in
+    let N = c.args.candidate.count in
+    let modules = c.in-Some.modules in
+    let rounds : Rounds (inner runs) N modules = rw c.inner.ensures at c.in-Some.ensures.found in
+    let quiet : IsQuiet runs N = search rules in
+    let found = c.in-Some-read_some_way.ensures.found in
+    found_tells runs c.args.candidate.carrier N modules c.requires.counted quiet rounds (content_of c.in-Some-read_some_way.symbol) found.0 found.1
+
+pub returns-in-None-clause-fails : goal.returns-in-None-clause-fails
+returns-in-None-clause-fails c =
+    let runs = c.args.widths.now in
+    let N = c.args.candidate.count in
+    let modules = c.in-Some.modules in
+    let rounds : Rounds (inner runs) N modules = rw c.inner.ensures at c.in-Some.ensures.found in
+    let quiet : IsQuiet runs N = search rules in
+    fails_pattern runs c.args.candidate.carrier N modules c.requires.counted quiet rounds c.requires.row c.in-None.ensures.none

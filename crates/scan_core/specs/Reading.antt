@@ -1,0 +1,38 @@
+-- What the reader of a row comes by on its way to the answer.
+use Rattle.std.specs.Prelude.{◌≡◌, ℕ, List, ◌++◌, Result, Ok, Err, codes}
+use Rattle.digits_core.specs.Digits.{ascii_of}
+use Rattle.element_core.specs.Elements.{IsElements, FirstFault, Listing}
+use Rattle.element_core.specs.declared.fault.ElementFault.{ElementFault}
+use Rattle.code128_code.specs.Texts.{symbol_text}
+use Rattle.scan_core.specs.declared.fault.RowFault.{RowFault}
+use Rattle.scan_core.specs.declared.fault.RowFault.TheVariants.{QuietZone, Modules, Pattern, SymbolCheckDigit, Elements}
+use Rattle.scan_core.specs.declared.stage.Stage.{Stage}
+use Rattle.scan_core.specs.declared.stage.Stage.TheVariants as stages
+use Rattle.scan_core.specs.declared.symbol.Symbol.{Symbol}
+use Rattle.scan_core.specs.declared.symbol.Symbol.TheVariants.{Number, BadCheckDigit, Characters}
+use Rattle.scan_core.specs.Answers.{row_text}
+
+-- the fault of a row that fails at this stage
+abbrev pub stage_fault : Stage → RowFault
+stage_fault stages.QuietZone = QuietZone
+stage_fault stages.Modules = Modules
+stage_fault stages.Pattern = Pattern
+
+-- the later one of two stages
+abbrev pub later : Stage → Stage → Stage
+later stages.QuietZone stage = stage
+later stages.Modules stages.Pattern = stages.Pattern
+later stages.Modules _ = stages.Modules
+later stages.Pattern _ = stages.Pattern
+
+-- what a symbol spells, by what it was found to be
+abbrev pub content_of : Symbol → Result (List ℕ) RowFault
+content_of (Number gtin) = Ok (codes "01" ++ ascii_of gtin)
+content_of BadCheckDigit = Err SymbolCheckDigit
+content_of (Characters values) = row_text (symbol_text values.start values.values.items values.check)
+
+-- under this reference year these are the elements of what is spelled, or this is the fault
+abbrev pub IsReadAs : ℕ → Result (List ℕ) RowFault → Result Listing RowFault → Type 0
+IsReadAs year (Ok text) (Ok listing) = (listing.year ≡ year) × IsElements year text listing.list
+IsReadAs year (Ok text) (Err fault) = (first : ElementFault) × FirstFault year text first × (fault ≡ Elements first)
+IsReadAs year (Err fault) read = read ≡ Err fault

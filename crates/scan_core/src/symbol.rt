@@ -1,0 +1,82 @@
+//! The symbol that modules are, and what it says.
+ghost use Rattle.std.specs.Prelude.{IfNone, IfSome, List, ℕ};
+ghost use Rattle.ean_code.specs.Spelling.{IsSpelled};
+ghost use Rattle.ean_code.specs.Symbols.{IsEanSymbol, Kind};
+ghost use Rattle.scan_core.specs.Answers.{Spells, SpellsNumber};
+ghost use Rattle.scan_core.specs.Reading.{IsReadAs, content_of};
+ghost use Rattle.scan_core.specs.Showing.{HasForm, Way, along};
+
+use crate::carrier::Carrier;
+use crate::fault::RowFault;
+use code128_code::{Values, text_of, values};
+use digits_core::Gtin;
+use ean_code::{Modules, Spelled, read_ean8, read_ean13, read_upce};
+use element_core::{Elements, Year};
+
+/// What a symbol is found to be.
+#[derive(Drop)]
+pub(crate) enum Symbol {
+    /// One of EAN or UPC, of this GTIN.
+    Number(Gtin),
+    /// One of EAN or UPC whose check digit is wrong.
+    BadCheckDigit,
+    /// One of Code 128, of these values.
+    Characters(Values),
+}
+
+/// The symbol of EAN or UPC that was found, if it was one.
+fn number(spelled: Spelled) -> Option<Symbol>
+    ensures found { (kind : Kind) (modules : List ℕ) → IsSpelled kind modules spelled
+        → IfSome result (λ s. SpellsNumber kind modules (content_of s)) }
+    ensures none { (kind : Kind) (modules : List ℕ) → IsSpelled kind modules spelled
+        → IfNone result (((digits : List ℕ) × IsEanSymbol kind modules digits) → ⊥) }
+{
+    match spelled {
+        Spelled::NoPattern => None,
+        Spelled::BadCheck => Some(Symbol::BadCheckDigit),
+        Spelled::Found(gtin) => Some(Symbol::Number(gtin)),
+    }
+}
+
+/// The symbol of the carrier that the modules are, read from the left.
+fn read_symbol(carrier: Carrier, modules: &Modules) -> Option<Symbol>
+    ensures found { IfSome result (λ s. Spells carrier modules.now (content_of s)) }
+    ensures none { IfNone result (HasForm carrier modules.now → ⊥) }
+{
+    match carrier {
+        Carrier::Ean13 => number(read_ean13(modules)),
+        Carrier::Ean8 => number(read_ean8(modules)),
+        Carrier::UpcE => number(read_upce(modules)),
+        Carrier::Gs1128 => values(modules).map(Symbol::Characters),
+    }
+}
+
+/// The symbol of the carrier that the modules are, read from the left or else from the right.
+pub(crate) fn read_some_way(carrier: Carrier, mut modules: Modules) -> Option<Symbol>
+    ensures found { IfSome result (λ s. (way : Way) × Spells carrier (along way modules) (content_of s)) }
+    ensures none { IfNone result ((way : Way) → HasForm carrier (along way modules) → ⊥) }
+{
+    match read_symbol(carrier, &modules) {
+        Some(forwards) => Some(forwards),
+        None => {
+            modules.reverse();
+            read_symbol(carrier, &modules)
+        }
+    }
+}
+
+impl Symbol {
+    /// The elements that the symbol says, dates under the reference year.
+    pub(crate) fn elements(&self, year: Year) -> Result<Elements, RowFault>
+        ensures { IsReadAs year (content_of self.now) result }
+    {
+        match self {
+            Symbol::Number(gtin) => Ok(Elements::of_gtin(gtin, year)),
+            Symbol::BadCheckDigit => Err(RowFault::SymbolCheckDigit),
+            Symbol::Characters(values) => {
+                let text = text_of(values)?;
+                Ok(Elements::parse(text.as_slice(), year)?)
+            }
+        }
+    }
+}
