@@ -1,0 +1,186 @@
+-- A bar row of a printed label shows the label's symbol.
+use Rattle.std.proofs.lemmas.Slice.Zip.{AllZip-long}
+use Rattle.std.proofs.lemmas.List.Elements.{All-contains, All-replicate}
+use Rattle.std.specs.Prelude.{Contains}
+use Rattle.std.proofs.Common.{◌≡◌, ℕ, ◌+◌, ◌-◌, ◌*◌, ◌%◌, ◌<◌, ◌≤◌, ◌&&◌, true, List, [], ◌∷◌, ◌++◌, Ok, length, map, sum, refl, sym, ap, ap₂, subst, ◌∙◌, get_or, arith, replicate, false, Bool}
+use Rattle.std.specs.List.{AllZip, AllByRecursion}
+use Rattle.std.proofs.lemmas.List.{length-append, length-map, take_at, get_or_push}
+use Rattle.std.proofs.lemmas.Bool.{le-leb, lt-ltb}
+use Rattle.std.proofs.lemmas.Option.{get_or_from_slice_get, slice_get_within, slice_get_past}
+use Rattle.ean_code.specs.Symbols.Kind.{Ean13 as KindEan13, Ean8 as KindEan8, UpcE as KindUpcE}
+use Rattle.ean_code.specs.Widths.{AreWidths}
+use Rattle.element_core.specs.Elements.{canonical}
+use Rattle.code128_code.specs.Coding.{data_values}
+use Rattle.code128_code.specs.Laws.{ModulesSay}
+use Rattle.code128_code.specs.Symbols.{mod103}
+use Rattle.scan_core.specs.declared.carrier.Carrier.{Carrier}
+use Rattle.scan_core.specs.declared.carrier.Carrier.TheVariants.{Ean13 as CarrierEan13, Ean8 as CarrierEan8, UpcE as CarrierUpcE, Gs1128 as CarrierGs1128}
+use Rattle.scan_core.specs.Laws.{DotsDetermine, OneAnswer, SymbolMeasures}
+use Rattle.scan_core.specs.Row.{IsRow, dots_of, inner}
+use Rattle.scan_core.specs.Answers.{IsAnswer, Spells, row_text}
+use Rattle.scan_core.specs.declared.answer.Answer.TheVariants.{Read}
+use Rattle.scan_core.specs.Showing.{HasForm, IsCandidate, IsQuiet, IsRun, Rounds, Shows}
+use Rattle.scan_core.specs.Showing.Way.{Forwards}
+use Rattle.sheet_core.specs.declared.label.Label.{Label}
+use Rattle.sheet_core.specs.declared.label.Label.TheVariants.{Ean13, UpcA, Ean8, UpcE, Gs1128}
+use Rattle.sheet_core.specs.Drawing.{bar_dots, cell_count, is_bar_row}
+use Rattle.sheet_core.specs.Grids.{Cells, IsGrid}
+use Rattle.sheet_core.specs.Labels.{Drawn, FitsCell, IsDrawn, IsLabelSymbol, carrier_of, label_text}
+use Rattle.sheet_core.specs.Laws.{BarRowsAnswer, BarRowsShow, EmptyCellsAreBlank}
+use Rattle.sheet_core.proofs.CellFacts.{cell_runs, printed_runs, reach, sum-cell_runs, sum-wider}
+use Rattle.sheet_core.proofs.CornerFacts.{empty_row, label_row}
+use Rattle.sheet_core.proofs.LabelFacts.{all_at, drawn_at, symbol_of_upce}
+use Rattle.sheet_core.proofs.WidthFacts.{code128_widths, ean_widths}
+
+exact : (N k m : ℕ) → 1 ≤ m → m ≤ 4 → IsRun N (k * N) (k * m) m
+exact N k m low high =
+    let same : k * m * N ≡ m * (k * N) = grind arith in
+    record { least = low; most = high; near = omega arith }
+
+rounds_each : (N k : ℕ) (ms : List ℕ) → AreWidths ms → AllZip (IsRun N (k * N)) (map (λ m. k * m) ms) ms
+rounds_each N k [] h = tt
+rounds_each N k (m ∷ ms) h = (exact N k m h.0.0 h.0.1, rounds_each N k ms h.1)
+
+pub rounds : (k : ℕ) (ms : List ℕ) → AreWidths ms → Rounds (map (λ m. k * m) ms) (sum ms) ms
+rounds k ms h = subst (λ W. AllZip (IsRun (sum ms) W) (map (λ m. k * m) ms) ms) (sym (sum-wider k ms)) (rounds_each (sum ms) k ms h)
+
+pub inner-cell_runs : (g : Cells) (s : Drawn) → inner (cell_runs g s) ≡ map (λ m. g.dots * m) s.modules
+inner-cell_runs g s =
+    let bars : List ℕ = map (λ m. g.dots * m) s.modules in
+    let end : ℕ = g.width - (s.quiet_left + sum s.modules) * g.dots in
+    let n = length-append bars (end ∷ []) in
+    take_at bars (end ∷ []) (length (cell_runs g s) - 2) (omega arith)
+
+times : (a b n : ℕ) → a ≤ b → a * n ≤ b * n
+times a b n h = grind arith
+
+quiet : (g : Cells) (s : Drawn) → 5 ≤ s.quiet_left → 5 ≤ s.quiet_right → FitsCell g s → IsQuiet (cell_runs g s) (sum s.modules)
+quiet g s left right fits =
+    let N = sum s.modules in
+    let k = g.dots in
+    let end : ℕ = g.width - (s.quiet_left + N) * k in
+    let bars : List ℕ = map (λ m. k * m) s.modules in
+    let total : sum (inner (cell_runs g s)) ≡ k * N = ap sum (inner-cell_runs g s) ∙ sum-wider k s.modules in
+    let l : 5 * k * N ≤ s.quiet_left * k * N = grind arith in
+    let r : 5 * k ≤ end = let e = (reach g s fits).1 in let m : 5 * k ≤ s.quiet_right * k = grind arith in omega arith in
+    let rn = times (5 * k) end N r in
+    let n = length-append bars (end ∷ []) in
+    let last : get_or (cell_runs g s) (length (cell_runs g s) - 1) 0 ≡ end = get_or_push (s.quiet_left * k ∷ bars) end 0 (length (cell_runs g s) - 1) (omega arith) in
+    record {
+      left = rw total (let e : 5 * (k * N) ≡ 5 * k * N = grind arith in omega arith);
+      right = rw (total, last) (let e : 5 * (k * N) ≡ 5 * k * N = grind arith in omega arith);
+    }
+
+-- what is needed of a symbol
+record Fit (c : Carrier) (ms : List ℕ) : Type 0 where
+  candidate : IsCandidate c (length ms) (sum ms)
+  odd : length ms % 2 ≡ 1
+  widths : AreWidths ms
+  form : HasForm c ms
+
+odd_count : (c : Carrier) (n N : ℕ) → IsCandidate c n N → n % 2 ≡ 1
+odd_count CarrierEan13 n N h = ap (λ k. k % 2) h.0
+odd_count CarrierEan8 n N h = ap (λ k. k % 2) h.0
+odd_count CarrierUpcE n N h = ap (λ k. k % 2) h.0
+odd_count CarrierGs1128 n N h = let k : ℕ = h.0 in let e = h.3 in omega arith
+
+fit_by : SymbolMeasures → (c : Carrier) (ms : List ℕ) → HasForm c ms → AreWidths ms → Fit c ms
+fit_by measures c ms form widths = let m = measures c ms form in record { candidate = m; odd = odd_count c (length ms) (sum ms) m; widths = widths; form = form }
+
+fit : SymbolMeasures → (label : Label) (ms : List ℕ) → IsLabelSymbol label ms → Fit (carrier_of label) ms
+fit measures (Ean13 g) ms h = fit_by measures CarrierEan13 ms (h.0, h.1) (ean_widths KindEan13 ms h.0 h.1)
+fit measures (UpcA g) ms h = fit_by measures CarrierEan13 ms (h.1.0, h.1.1) (ean_widths KindEan13 ms h.1.0 h.1.1)
+fit measures (Ean8 g) ms h = fit_by measures CarrierEan8 ms (h.0, h.1) (ean_widths KindEan8 ms h.0 h.1)
+fit measures (UpcE g) ms h = fit_by measures CarrierUpcE ms (h.0 ++ h.1 ∷ [], h.3) (ean_widths KindUpcE ms (h.0 ++ h.1 ∷ []) h.3)
+fit measures (Gs1128 l) ms h =
+    let text : List ℕ = canonical l.list in
+    let values : List ℕ = data_values text in
+    fit_by measures CarrierGs1128 ms (105, values, mod103 105 values, h.drawn) (code128_widths 105 (mod103 105 values) values ms h.drawn)
+
+zones : (label : Label) (s : Drawn) → IsDrawn label s → (5 ≤ s.quiet_left) × (5 ≤ s.quiet_right)
+zones (Ean13 g) s h = let l = h.left in let r = h.right in (omega arith, omega arith)
+zones (UpcA g) s h = let l = h.left in let r = h.right in (omega arith, omega arith)
+zones (Ean8 g) s h = let l = h.left in let r = h.right in (omega arith, omega arith)
+zones (UpcE g) s h = let l = h.left in let r = h.right in (omega arith, omega arith)
+zones (Gs1128 l) s h = let a = h.left in let r = h.right in (omega arith, omega arith)
+
+-- runs of an odd number of widths, each with a dot, in a cell
+cell_row : (g : Cells) (s : Drawn) → 0 < g.dots → g.width ≤ 4096 → length s.modules % 2 ≡ 1 → AreWidths s.modules → FitsCell g s → IsRow (cell_runs g s)
+cell_row g s pos small odd widths fits =
+    let bars : List ℕ = map (λ m. g.dots * m) s.modules in
+    let end : ℕ = g.width - (s.quiet_left + sum s.modules) * g.dots in
+    let n = length-append bars (end ∷ []) in
+    let count = length-map s.modules (λ m. g.dots * m) in
+    record {
+      odd_number = omega arith;
+      each_inner = subst (AllByRecursion (λ w. 1 ≤ w)) (sym (inner-cell_runs g s)) (wide g.dots pos s.modules widths);
+      at_most = let t = sum-cell_runs g s fits in omega arith;
+    }
+  where
+    times_left : (k m : ℕ) → 1 ≤ k → 1 ≤ m → 1 ≤ k * m
+    times_left k m h l = grind arith
+
+    wide : (k : ℕ) → 0 < k → (ms : List ℕ) → AreWidths ms → AllByRecursion (λ w. 1 ≤ w) (map (λ m. k * m) ms)
+    wide k pos [] h = tt
+    wide k pos (m ∷ ms) h = (times_left k m pos h.0.0, wide k pos ms h.1)
+
+-- a row with the dots of a bar row of a label's cell shows the label's symbol
+pub printed_shows : DotsDetermine → SymbolMeasures → (g : Cells) (label : Label) (s : Drawn) (runs : List ℕ) → IsGrid g → IsDrawn label s → FitsCell g s
+    → IsRow runs → dots_of runs ≡ bar_dots g s → Shows runs (carrier_of label) Forwards s.modules
+printed_shows one_row measures g label s runs grid drawn fits row dots =
+    let ms : List ℕ = s.modules in
+    let f = fit measures label ms drawn.symbol in
+    let z = zones label s drawn in
+    let some = grid.dots_least in let few = grid.width_most in
+    let printed : IsRow (cell_runs g s) = cell_row g s (omega arith) (omega arith) f.odd f.widths fits in
+    let same : cell_runs g s ≡ runs = one_row (cell_runs g s) runs printed row (printed_runs g s (omega arith) f.odd fits ∙ sym dots) in
+    let inside = inner-cell_runs g s in
+    let shown : Shows (cell_runs g s) (carrier_of label) Forwards ms = record {
+      N = sum ms;
+      candidate = subst (λ n. IsCandidate (carrier_of label) n (sum ms)) (sym (ap length inside ∙ length-map ms (λ m. g.dots * m))) f.candidate;
+      quiet = quiet g s z.0 z.1 fits;
+      rounds = subst (λ xs. Rounds xs (sum ms) ms) (sym inside) (rounds g.dots ms f.widths);
+      form = f.form;
+    } in
+    subst (λ rs. Shows rs (carrier_of label) Forwards ms) same shown
+
+pub bar_rows_show : DotsDetermine → SymbolMeasures → BarRowsShow
+bar_rows_show one_row measures labels g sheets i cell y label sheet runs printed at within low high here row dots =
+    let grid = printed.grid in
+    let place : ℕ = i * cell_count g + cell in
+    let found = slice_get_within labels place label here in
+    let d = drawn_at labels printed.symbols place label printed.drawn found (sym (get_or_from_slice_get labels place label label here)) in
+    let fits = all_at (FitsCell g) printed.symbols place d.s printed.fit d.here in
+    let columns = grid.columns_least in
+    let bar : is_bar_row g y ≡ true = ap₂ (λ a b. a && b) (le-leb g.dots y low) (lt-ltb (y + g.dots) g.height high) in
+    let cells = label_row printed.symbols g i sheet cell y d.s (printed.shown.each i sheet at) (omega arith) within (omega arith) bar d.here in
+    (d.s.modules, d.drawn.symbol, printed_shows one_row measures g label d.s runs grid d.drawn fits row (dots ∙ cells))
+
+-- a label's symbol spells its text
+spelled : ModulesSay → (label : Label) (ms : List ℕ) → IsLabelSymbol label ms → Spells (carrier_of label) ms (Ok (label_text label))
+spelled say (Ean13 g) ms h = (g, h, refl)
+spelled say (UpcA g) ms h = (g, h.1, refl)
+spelled say (Ean8 g) ms h = (g, h, refl)
+spelled say (UpcE g) ms h = let s = symbol_of_upce g ms h in (g, (s.0, s.1, s.2, h.2.spelling.checked), refl)
+spelled say (Gs1128 l) ms h =
+    let text : List ℕ = canonical l.list in
+    let values : List ℕ = data_values text in
+    (105, values, mod103 105 values, h.drawn, ap row_text (sym ((say 105 (mod103 105 values) values ms text h.drawn).1 h.says)))
+
+pub bar_rows_answer : DotsDetermine → SymbolMeasures → ModulesSay → OneAnswer → BarRowsAnswer
+bar_rows_answer one_row measures say one labels g sheets i cell y label sheet runs year list printed at within low high here row dots elements =
+    let shown = bar_rows_show one_row measures labels g sheets i cell y label sheet runs printed at within low high here row dots in
+    let read : IsAnswer runs year (Read (carrier_of label) (record { year = year; list = list })) =
+    (label_text label, (Forwards, shown.0, shown.2, spelled say label shown.0 shown.1), refl, elements) in
+    (read, λ answer is. one runs year answer (Read (carrier_of label) (record { year = year; list = list })) row is read)
+
+pub empty_cells_are_blank : EmptyCellsAreBlank
+empty_cells_are_blank labels g sheets i cell y sheet runs year printed at within low past dots dark =
+    let grid = printed.grid in
+    let columns = grid.columns_least in
+    let long = AllZip-long IsDrawn labels printed.symbols printed.drawn in
+    let none = slice_get_past printed.symbols (i * cell_count g + cell) (omega arith) in
+    let light = dots ∙ empty_row printed.symbols g i sheet cell y (printed.shown.each i sheet at) (omega arith) within low none in
+    let found : Contains (replicate g.width false) true = subst (λ ds. Contains ds true) light dark in
+    let wrong : true ≡ false = All-contains (λ (d : Bool). d ≡ false) (replicate g.width false) true (All-replicate (λ (d : Bool). d ≡ false) g.width false refl) found in
+    absurd cc

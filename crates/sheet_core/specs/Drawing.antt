@@ -1,0 +1,80 @@
+-- What is printed: the dots of labels in the cells of sheets.
+-- Each row through the bars of a label's cell says the label's elements.
+use Rattle.std.specs.Prelude.{◌≡◌, ℕ, ◌+◌, ◌-◌, ◌*◌, ◌/◌, ◌%◌, ◌<◌, ◌&&◌, nat_lt, nat_le, Bool, true, false, Option, Some, None, List, length, map, take, slice_get, slice_index_or}
+use Rattle.std.specs.List.{AllByRecursion, AllZip, range_with_len}
+use Rattle.scan_core.specs.Row.{dots_from}
+use Rattle.sheet_core.specs.declared.fault.SheetFault.{SheetFault}
+use Rattle.sheet_core.specs.declared.fault.SheetFault.TheVariants.{LabelKind, LabelWidth, NoMemory}
+use Rattle.sheet_core.specs.declared.label.Label.{Label}
+use Rattle.sheet_core.specs.Bitmaps.{Bitmap, IsBitmap, dot_of}
+use Rattle.sheet_core.specs.Grids.{Cells, IsGrid}
+use Rattle.sheet_core.specs.Labels.{Drawn, FitsCell, IsDrawn, IsPrintable}
+
+-- whether module i of a symbol is in a bar; each module that is in none, or is none of the symbol, is light
+abbrev pub is_bar : List ℕ → ℕ → Bool
+is_bar modules i = slice_index_or (dots_from true modules) i false
+
+-- dot x of a bar row of a cell: the symbol begins after its left quiet zone
+abbrev pub bar_dot : Cells → Drawn → ℕ → Bool
+bar_dot g s x = nat_le (s.quiet_left * g.dots) x && is_bar s.modules ((x - s.quiet_left * g.dots) / g.dots)
+
+-- the dots of a bar row of a cell
+abbrev pub bar_dots : Cells → Drawn → List Bool
+bar_dots g s = map (bar_dot g s) (range_with_len 0 g.width)
+
+-- the rows of a cell that bars stand in: all but a module's above and below
+abbrev pub is_bar_row : Cells → ℕ → Bool
+is_bar_row g y = nat_le g.dots y && nat_lt (y + g.dots) g.height
+
+-- dot (x, y) of a cell; a cell without a label is light
+abbrev pub cell_dot : Cells → Option Drawn → ℕ → ℕ → Bool
+cell_dot g None x y = false
+cell_dot g (Some s) x y = is_bar_row g y && bar_dot g s x
+
+-- the cells of a sheet
+abbrev pub cell_count : Cells → ℕ
+cell_count g = g.columns * g.rows
+
+-- the cell of a sheet over dot (x, y); cells count row by row
+abbrev pub cell_over : Cells → ℕ → ℕ → ℕ
+cell_over g x y = y / g.height * g.columns + x / g.width
+
+-- dot (x, y) of a sheet; what is drawn of labels fills the cells in their order, sheet after sheet
+abbrev pub dot : List Drawn → Cells → ℕ → ℕ → ℕ → Bool
+dot symbols g sheet x y =
+    cell_dot g (slice_get symbols (sheet * cell_count g + cell_over g x y)) (x % g.width) (y % g.height)
+
+-- the bitmap is this sheet
+pub record IsSheet (symbols : List Drawn) (g : Cells) (sheet : ℕ) (s : Bitmap) : Type 0 where
+  pub width : s.width ≡ g.columns * g.width
+  pub height : s.height ≡ g.rows * g.height
+  pub bitmap : IsBitmap s
+  pub dots : (x y : ℕ) → x < s.width → y < s.height → dot_of s x y ≡ dot symbols g sheet x y
+
+-- these are all sheets, as many as it takes
+pub record AreSheets (symbols : List Drawn) (g : Cells) (sheets : List Bitmap) : Type 0 where
+  pub count : length sheets ≡ (length symbols + (cell_count g - 1)) / cell_count g
+  pub each : (i : ℕ) (s : Bitmap) → slice_get sheets i ≡ Some s → IsSheet symbols g i s
+
+-- the sheets are those of labels that each have a symbol which fits its cell
+pub record ArePrinted (labels : List Label) (g : Cells) (sheets : List Bitmap) : Type 0 where
+  pub grid : IsGrid g
+  pub symbols : List Drawn
+  pub drawn : AllZip IsDrawn labels symbols
+  pub fit : AllByRecursion (FitsCell g) symbols
+  pub shown : AreSheets symbols g sheets
+
+-- why labels are not printed: the first that has no symbol or does not fit its cell
+abbrev pub IsSheetFault : Cells → List Label → SheetFault → Type 0
+IsSheetFault g labels (LabelKind i) =
+    (label : Label)
+    × (slice_get labels i ≡ Some label)
+    × AllByRecursion (IsPrintable g) (take i labels)
+    × ((s : Drawn) → IsDrawn label s → ⊥)
+IsSheetFault g labels (LabelWidth i) =
+    (label : Label) × (s : Drawn)
+    × (slice_get labels i ≡ Some label)
+    × AllByRecursion (IsPrintable g) (take i labels)
+    × IsDrawn label s
+    × (FitsCell g s → ⊥)
+IsSheetFault g labels NoMemory = ⊥

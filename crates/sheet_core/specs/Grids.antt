@@ -1,0 +1,25 @@
+-- Grids of cells of one size, in dots.
+use Rattle.std.specs.Prelude.{ℕ, ◌*◌, ◌<◌, ◌≤◌}
+
+-- cells of one size, in rows and columns; a module is so many dots wide
+pub record Cells : Type 0 where
+  pub dots : ℕ
+  pub width : ℕ
+  pub height : ℕ
+  pub columns : ℕ
+  pub rows : ℕ
+
+-- what a grid may be: its numbers, bars below and above which a module stays light, and a sheet of at most 16,384 by 16,384 dots
+pub record IsGrid (g : Cells) : Type 0 where
+  pub dots_least : 1 ≤ g.dots
+  pub dots_most : g.dots ≤ 8
+  pub width_least : 1 ≤ g.width
+  pub width_most : g.width ≤ 4096
+  pub height_least : 2 * g.dots < g.height
+  pub height_most : g.height ≤ 1024
+  pub columns_least : 1 ≤ g.columns
+  pub columns_most : g.columns ≤ 16
+  pub rows_least : 1 ≤ g.rows
+  pub rows_most : g.rows ≤ 64
+  pub wide_most : g.columns * g.width ≤ 16384
+  pub high_most : g.rows * g.height ≤ 16384

@@ -1,0 +1,91 @@
+-- Laws about printed sheets and PBM files.
+use Rattle.std.specs.Prelude.{◌≡◌, ◌↔◌, ℕ, ◌+◌, ◌*◌, ◌<◌, ◌≤◌, List, [], ◌++◌, length, Ok, Some, slice_get}
+use Rattle.std.specs.List.{AllByRecursion}
+use Rattle.element_core.specs.Elements.{Entry, IsElements}
+use Rattle.scan_core.specs.Answers.{IsAnswer}
+use Rattle.scan_core.specs.declared.answer.Answer.{Answer}
+use Rattle.scan_core.specs.declared.answer.Answer.TheVariants.{Read, Refused}
+use Rattle.scan_core.specs.declared.fault.RowFault.TheVariants.{Blank}
+use Rattle.scan_core.specs.Row.{IsRow, dots_of}
+use Rattle.scan_core.specs.Showing.{Shows}
+use Rattle.scan_core.specs.Showing.Way.{Forwards}
+use Rattle.sheet_core.specs.declared.pbm_state.Size.{Size}
+use Rattle.sheet_core.specs.declared.label.Label.{Label}
+use Rattle.sheet_core.specs.Bitmaps.{Bitmap, IsBitmap, cell_dots}
+use Rattle.sheet_core.specs.Drawing.{ArePrinted, cell_count}
+use Rattle.sheet_core.specs.Grids.{Cells}
+use Rattle.sheet_core.specs.Labels.{Drawn, IsDrawn, IsLabelSymbol, carrier_of, label_text}
+use Rattle.sheet_core.specs.PbmGrammar.{IsHeader, IsPbm}
+use Rattle.sheet_core.specs.PbmHeaders.{header_of}
+use Rattle.sheet_core.specs.PbmImages.{images_of, pbm_of}
+
+-- what is drawn of a label is one symbol with its quiet zones
+abbrev pub OneDrawn : Type 0
+OneDrawn = (label : Label) (s t : Drawn) → IsDrawn label s → IsDrawn label t → s ≡ t
+
+-- each row through the bars of a printed label's cell shows the label's symbol, from left to right
+abbrev pub BarRowsShow : Type 0
+BarRowsShow =
+    (labels : List Label) (g : Cells) (sheets : List Bitmap) (i cell y : ℕ) (label : Label) (sheet : Bitmap) (runs : List ℕ)
+    → ArePrinted labels g sheets
+    → slice_get sheets i ≡ Some sheet
+    → cell < cell_count g
+    → g.dots ≤ y
+    → y + g.dots < g.height
+    → slice_get labels (i * cell_count g + cell) ≡ Some label
+    → IsRow runs
+    → dots_of runs ≡ cell_dots g sheet cell y
+    → (modules : List ℕ) × IsLabelSymbol label modules × Shows runs (carrier_of label) Forwards modules
+
+-- under a reference year under which the label's text says these elements, each row through the bars of its cell says the label's carrier and
+-- these elements, and nothing else
+abbrev pub BarRowsAnswer : Type 0
+BarRowsAnswer =
+    (labels : List Label) (g : Cells) (sheets : List Bitmap) (i cell y : ℕ) (label : Label) (sheet : Bitmap) (runs : List ℕ) (year : ℕ) (list : List Entry)
+    → ArePrinted labels g sheets
+    → slice_get sheets i ≡ Some sheet
+    → cell < cell_count g
+    → g.dots ≤ y
+    → y + g.dots < g.height
+    → slice_get labels (i * cell_count g + cell) ≡ Some label
+    → IsRow runs
+    → dots_of runs ≡ cell_dots g sheet cell y
+    → IsElements year (label_text label) list
+    → IsAnswer runs year (Read (carrier_of label) (record { year = year; list = list }))
+    × ((answer : Answer) → IsAnswer runs year answer → answer ≡ Read (carrier_of label) (record { year = year; list = list }))
+
+-- each row of a cell of a printed sheet that has no label is refused as blank
+abbrev pub EmptyCellsAreBlank : Type 0
+EmptyCellsAreBlank =
+    (labels : List Label) (g : Cells) (sheets : List Bitmap) (i cell y : ℕ) (sheet : Bitmap) (runs : List ℕ) (year : ℕ)
+    → ArePrinted labels g sheets
+    → slice_get sheets i ≡ Some sheet
+    → cell < cell_count g
+    → y < g.height
+    → length labels ≤ i * cell_count g + cell
+    → dots_of runs ≡ cell_dots g sheet cell y
+    → IsAnswer runs year (Refused Blank)
+
+-- sheets that are written, at most 4,096, are read as the same sheets
+abbrev pub WrittenIsRead : Type 0
+WrittenIsRead = (sheets : List Bitmap) → AllByRecursion IsBitmap sheets → length sheets ≤ 4096 → images_of (pbm_of sheets) ≡ (Ok sheets, [])
+
+-- printed sheets, at most 4,096, that are written are read as the same sheets
+abbrev pub PrintedIsRead : Type 0
+PrintedIsRead =
+    (labels : List Label) (g : Cells) (sheets : List Bitmap)
+    → ArePrinted labels g sheets → length sheets ≤ 4096 → images_of (pbm_of sheets) ≡ (Ok sheets, [])
+
+-- what is read as a header, before whatever follows it, is exactly the headers of at most 4,096 bytes
+abbrev pub HeadersAreRead : Type 0
+HeadersAreRead =
+    (bytes : List ℕ) (size : Size)
+    → ((rest : List ℕ) → header_of (bytes ++ rest) ≡ (Ok size, rest)) ↔ (IsHeader bytes size × (length bytes ≤ 4096))
+
+-- what is read as a file is exactly the files of at most 4,096 images
+abbrev pub FilesAreRead : Type 0
+FilesAreRead = (bytes : List ℕ) (sheets : List Bitmap) → (images_of bytes ≡ (Ok sheets, [])) ↔ (IsPbm bytes sheets × (length sheets ≤ 4096))
+
+-- a file of at most 4,096 images shows one list of sheets
+abbrev pub OneReading : Type 0
+OneReading = (bytes : List ℕ) (sheets others : List Bitmap) → length sheets ≤ 4096 → length others ≤ 4096 → IsPbm bytes sheets → IsPbm bytes others → sheets ≡ others

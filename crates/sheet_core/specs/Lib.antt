@@ -1,0 +1,12 @@
+pub use Rattle.scan_core.specs.Bits
+pub use Rattle.scan_core.specs.Row
+pub mod Bitmaps
+pub mod Drawing
+pub mod Faults
+pub mod Grids
+pub mod Labels
+pub mod Laws
+pub mod Lines
+pub mod PbmGrammar
+pub mod PbmHeaders
+pub mod PbmImages

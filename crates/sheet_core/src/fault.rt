@@ -1,0 +1,107 @@
+//! Why a grid, labels or images are refused.
+ghost use Rattle.std.specs.Prelude.{Some, ◌≡◌, codes};
+ghost use Rattle.sheet_core.specs.Faults.{pbm_fault_text, sheet_fault_text};
+
+use std::alloc::AllocFailed;
+use std::fmt;
+
+/// A grid is outside the limits.
+#[derive(Clone, Copy, Debug, PartialEq, Eq)]
+pub struct BadGrid;
+
+/// A growth was refused.
+#[derive(Clone, Copy, Debug, PartialEq, Eq)]
+pub struct NoMemory;
+
+/// The writer failed.
+#[derive(Clone, Copy, Debug, PartialEq, Eq)]
+pub struct WriteFault;
+
+/// Why labels are not printed.
+#[derive(Clone, Copy, Debug, PartialEq, Eq)]
+pub enum SheetFault {
+    /// The label at this index has no such symbol.
+    LabelKind(usize),
+    /// The label at this index is wider than its cell.
+    LabelWidth(usize),
+    /// A growth was refused.
+    NoMemory,
+}
+
+/// Why bytes are no images, or could not be read.
+#[derive(Clone, Copy, Debug, PartialEq, Eq)]
+pub enum PbmFault {
+    /// An image does not begin with `P4`.
+    NotP4,
+    /// A byte cannot stand at its place in a header, or lies past the 4,096 bytes of one.
+    PbmHeader,
+    /// The input ends within an image.
+    Truncated,
+    /// A width or height is 0 or above 65,535, or there are more than 4,096 images.
+    PbmSize,
+    /// A read failed.
+    ReadFault,
+    /// A growth was refused.
+    NoMemory,
+}
+
+impl<T: Drop> From<AllocFailed<T>> for SheetFault {
+    ghost use Rattle.sheet_core.specs.declared.fault.SheetFault.TheVariants.{NoMemory};
+
+    ghost from_gives = { λ _ fault. fault ≡ NoMemory };
+
+    fn from(_: AllocFailed<T>) -> SheetFault {
+        SheetFault::NoMemory
+    }
+}
+
+impl fmt::Display for BadGrid {
+    ghost output = { λ fault. Some (codes "refused 25 BadGrid") };
+
+    fn fmt<W: fmt::Write>(&self, f: &mut fmt::Formatter<W>) -> fmt::Result {
+        write!(f, "refused 25 BadGrid")
+    }
+}
+
+impl fmt::Display for NoMemory {
+    ghost output = { λ fault. Some (codes "refused 43 NoMemory") };
+
+    fn fmt<W: fmt::Write>(&self, f: &mut fmt::Formatter<W>) -> fmt::Result {
+        write!(f, "refused 43 NoMemory")
+    }
+}
+
+impl fmt::Display for WriteFault {
+    ghost output = { λ fault. Some (codes "refused 38 WriteFault") };
+
+    fn fmt<W: fmt::Write>(&self, f: &mut fmt::Formatter<W>) -> fmt::Result {
+        write!(f, "refused 38 WriteFault")
+    }
+}
+
+impl fmt::Display for SheetFault {
+    ghost output = { λ fault. Some (sheet_fault_text fault) };
+
+    fn fmt<W: fmt::Write>(&self, f: &mut fmt::Formatter<W>) -> fmt::Result {
+        match self {
+            SheetFault::LabelKind(label) => write!(f, "refused 26 LabelKind {label}"),
+            SheetFault::LabelWidth(label) => write!(f, "refused 27 LabelWidth {label}"),
+            SheetFault::NoMemory => write!(f, "refused 43 NoMemory"),
+        }
+    }
+}
+
+impl fmt::Display for PbmFault {
+    ghost output = { λ fault. Some (pbm_fault_text fault) };
+
+    fn fmt<W: fmt::Write>(&self, f: &mut fmt::Formatter<W>) -> fmt::Result {
+        match self {
+            PbmFault::NotP4 => write!(f, "refused 28 NotP4"),
+            PbmFault::PbmHeader => write!(f, "refused 29 PbmHeader"),
+            PbmFault::Truncated => write!(f, "refused 30 Truncated"),
+            PbmFault::PbmSize => write!(f, "refused 31 PbmSize"),
+            PbmFault::ReadFault => write!(f, "refused 37 ReadFault"),
+            PbmFault::NoMemory => write!(f, "refused 43 NoMemory"),
+        }
+    }
+}

@@ -1,0 +1,164 @@
+//! Labels.
+ghost use Rattle.std.specs.Prelude.{◌≡◌, ◌≤◌, ℕ, List, IfNone, IfSome, drop};
+ghost use Rattle.digits_core.specs.Digits.{padded};
+ghost use Rattle.ean_code.specs.Spelling.{IsSpelled};
+ghost use Rattle.ean_code.specs.Symbols.Kind.{Ean13, Ean8};
+ghost use Rattle.ean_code.specs.declared.reading.Spelled.TheVariants.{Found};
+ghost use Rattle.element_core.specs.Elements.{canonical};
+ghost use Rattle.sheet_core.specs.Labels.{Drawn, IsDrawn, IsLabelSymbol, IsPrintedGs1128, carrier_of, gtin_text, label_text, quiet_left_of, quiet_right_of};
+
+use crate::symbol::Symbol;
+use code128_code::encode;
+use digits_core::Gtin;
+use ean_code::{Modules, ean8, ean13, upce};
+use element_core::{Elements, Text};
+use scan_core::Carrier;
+
+/// What is printed in a cell.
+#[derive(Drop)]
+pub enum Label {
+    /// An EAN-13 (ISO/IEC 15420), of a GTIN of at most 13 digits.
+    Ean13(Gtin),
+    /// A UPC-A (ISO/IEC 15420), of a GTIN of at most 12 digits.
+    UpcA(Gtin),
+    /// An EAN-8 (ISO/IEC 15420), of a GTIN of 8 digits.
+    Ean8(Gtin),
+    /// A UPC-E (ISO/IEC 15420), of a GTIN of 12 digits that can be written with six.
+    UpcE(Gtin),
+    /// A GS1-128 (ISO/IEC 15417), of elements whose canonical text has at most 48 characters.
+    Gs1128(Elements),
+}
+
+/// The element string of a GTIN.
+fn gtin_text(gtin: &Gtin) -> Text
+    ensures { result.items ≡ gtin_text gtin.now }
+{
+    let mut text = Text::new();
+    let _ = text.try_extend_from_slice(b"01");
+    let _ = text.try_extend_from_slice(&gtin.digits14());
+    text
+}
+
+/// The EAN-13 of a GTIN of at most 13 digits.
+fn ean13_of(gtin: &Gtin) -> Option<Modules>
+    ensures some { IfSome result (λ modules. IsSpelled Ean13 modules (Found gtin.now)) }
+    ensures none { IfNone result ((modules : List ℕ) → IsSpelled Ean13 modules (Found gtin.now) → ⊥) }
+{
+    // Its contract says that the check digit is right.
+    let _ = gtin.digits14();
+    ean13(gtin)
+}
+
+/// The EAN-8 of a GTIN of 8 digits.
+fn ean8_of(gtin: &Gtin) -> Option<Modules>
+    ensures some { IfSome result (λ modules. IsSpelled Ean8 modules (Found gtin.now)) }
+    ensures none { IfNone result ((modules : List ℕ) → IsSpelled Ean8 modules (Found gtin.now) → ⊥) }
+{
+    // Its contract says that the check digit is right.
+    let _ = gtin.digits14();
+    ean8(gtin)
+}
+
+/// The EAN-13 of a GTIN of at most 12 digits.
+fn upca(gtin: &Gtin) -> Option<Modules>
+    ensures some { IfSome result (λ modules. (gtin.now ≡ padded (drop 2 gtin.now)) × IsSpelled Ean13 modules (Found gtin.now)) }
+    ensures none { IfNone result ((modules : List ℕ) → (gtin.now ≡ padded (drop 2 gtin.now)) × IsSpelled Ean13 modules (Found gtin.now) → ⊥) }
+{
+    if gtin.as12().is_none() {
+        return None;
+    }
+    ean13(gtin)
+}
+
+/// The GS1-128 of elements, if their canonical text has at most 48 characters.
+fn gs1128(elements: &Elements) -> Option<Modules>
+    ensures some { IfSome result (IsPrintedGs1128 (canonical elements.now.list)) }
+    ensures none { IfNone result ((modules : List ℕ) → IsPrintedGs1128 (canonical elements.now.list) modules → ⊥) }
+{
+    match encode(elements) {
+        Ok(modules) => Some(modules),
+        Err(_) => None,
+    }
+}
+
+impl Label {
+    /// What the label says, as an element string (GS1 General Specifications, section 7.8).
+    pub fn text(&self) -> Text
+        ensures { result.items ≡ label_text self.now }
+    {
+        match self {
+            Label::Ean13(gtin) | Label::UpcA(gtin) | Label::Ean8(gtin) | Label::UpcE(gtin) => {
+                gtin_text(gtin)
+            }
+            Label::Gs1128(elements) => elements.text(),
+        }
+    }
+
+    /// The carrier that its symbol is read as.
+    pub fn carrier(&self) -> Carrier
+        ensures { result ≡ carrier_of self.now }
+    {
+        match self {
+            Label::Ean13(_) | Label::UpcA(_) => Carrier::Ean13,
+            Label::Ean8(_) => Carrier::Ean8,
+            Label::UpcE(_) => Carrier::UpcE,
+            Label::Gs1128(_) => Carrier::Gs1128,
+        }
+    }
+
+    /// The modules of the label's symbol, if it has one.
+    fn modules(&self) -> Option<Modules>
+        ensures some { IfSome result (IsLabelSymbol self.now) }
+        ensures none { IfNone result ((modules : List ℕ) → IsLabelSymbol self.now modules → ⊥) }
+    {
+        match self {
+            Label::Ean13(gtin) => ean13_of(gtin),
+            Label::UpcA(gtin) => upca(gtin),
+            Label::Ean8(gtin) => ean8_of(gtin),
+            Label::UpcE(gtin) => upce(gtin),
+            Label::Gs1128(elements) => gs1128(elements),
+        }
+    }
+
+    /// The nominal quiet zones left and right of the symbol, in modules.
+    fn quiet_zones(&self) -> (u8, u8)
+        ensures left { result.0 ≡ quiet_left_of self.now }
+        ensures right { result.1 ≡ quiet_right_of self.now }
+        ensures few { (result.0 ≤ 11) × (result.1 ≤ 11) }
+    {
+        match self {
+            Label::Ean13(_) => (11, 7),
+            Label::UpcA(_) => (9, 9),
+            Label::Ean8(_) => (7, 7),
+            Label::UpcE(_) => (9, 7),
+            Label::Gs1128(_) => (10, 10),
+        }
+    }
+
+    /// What is drawn of the label, if it has a symbol.
+    pub(crate) fn symbol(&self) -> Option<Symbol>
+        ensures some { IfSome result (IsDrawn self.now) }
+        ensures none { IfNone result ((s : Drawn) → IsDrawn self.now s → ⊥) }
+    {
+        let Some(modules) = self.modules() else {
+            return None;
+        };
+        let (quiet_left, quiet_right) = self.quiet_zones();
+        Some(Symbol {
+            modules,
+            quiet_left,
+            quiet_right,
+        })
+    }
+
+    /// What is drawn of a label that has a symbol.
+    pub(crate) fn drawn(&self) -> Symbol
+        requires { (s : Drawn) × IsDrawn self.now s }
+        ensures { IsDrawn self.now result }
+    {
+        match self.symbol() {
+            Some(symbol) => symbol,
+            None => unreachable!(),
+        }
+    }
+}

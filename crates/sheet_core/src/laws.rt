@@ -1,0 +1,59 @@
+//! Laws about the definitions, each the contract of a function that does nothing.
+ghost use Rattle.sheet_core.specs.Laws.{BarRowsAnswer, BarRowsShow, EmptyCellsAreBlank, FilesAreRead, HeadersAreRead, OneDrawn, OneReading, PrintedIsRead, WrittenIsRead};
+
+use code128_code::modules_say;
+use scan_core::{dots_determine, one_answer, symbol_measures};
+
+/// What is drawn of a label is one symbol with its quiet zones.
+pub fn one_drawn()
+    ensures { OneDrawn }
+{}
+
+/// Each row through the bars of a printed label's cell shows the label's symbol, from left to right.
+pub fn bar_rows_show()
+    ensures { BarRowsShow }
+{
+    dots_determine();
+    symbol_measures();
+}
+
+/// Each row through the bars of a printed label's cell says the label's carrier and the elements that
+/// its text says under the reference year, and nothing else.
+pub fn bar_rows_answer()
+    ensures { BarRowsAnswer }
+{
+    dots_determine();
+    symbol_measures();
+    modules_say();
+    one_answer();
+}
+
+/// Each row of a cell of a printed sheet that has no label is refused as blank.
+pub fn empty_cells_are_blank()
+    ensures { EmptyCellsAreBlank }
+{}
+
+/// Sheets that are written, at most 4,096, are read as the same sheets.
+pub fn written_is_read()
+    ensures { WrittenIsRead }
+{}
+
+/// Printed sheets, at most 4,096, that are written are read as the same sheets.
+pub fn printed_is_read()
+    ensures { PrintedIsRead }
+{}
+
+/// What is read as a header is exactly the headers of at most 4,096 bytes.
+pub fn headers_are_read()
+    ensures { HeadersAreRead }
+{}
+
+/// What is read as a file is exactly the files of at most 4,096 images.
+pub fn files_are_read()
+    ensures { FilesAreRead }
+{}
+
+/// A file of at most 4,096 images shows one list of sheets.
+pub fn one_reading()
+    ensures { OneReading }
+{}

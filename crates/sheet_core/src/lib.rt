@@ -1,0 +1,27 @@
+//! Labels as dots on sheets, and sheets as PBM images.
+#![tactic(auto)]
+
+mod fault;
+mod grid;
+mod label;
+mod laws;
+mod line;
+mod pbm_header;
+mod pbm_read;
+mod pbm_state;
+mod pbm_write;
+mod print;
+mod sheet;
+mod symbol;
+
+pub use fault::{BadGrid, NoMemory, PbmFault, SheetFault, WriteFault};
+pub use grid::Grid;
+pub use label::Label;
+pub use laws::{
+    bar_rows_answer, bar_rows_show, empty_cells_are_blank, files_are_read, headers_are_read,
+    one_drawn, one_reading, printed_is_read, written_is_read,
+};
+pub use pbm_read::read_pbm;
+pub use pbm_write::write_pbm;
+pub use print::print_sheets;
+pub use sheet::Sheet;

@@ -1,0 +1,84 @@
+//! Lines of dots, packed with a byte's high bit first.
+ghost use Rattle.std.specs.Prelude.{◌≡◌, ◌+◌, ◌-◌, ◌*◌, ◌^◌, ◌<◌, ◌≤◌, ◌==◌, ◌&&◌, ◌||◌, ℕ, List, false, true, length, map, nat_le, nat_lt, replicate, slice_index_or, sum};
+ghost use Rattle.std.specs.List.{AllByRecursion, AllZip};
+ghost use Rattle.scan_core.specs.Bits.{dot_at};
+ghost use Rattle.scan_core.specs.Row.{dots_from};
+ghost use Rattle.sheet_core.specs.Bitmaps.{stride};
+ghost use Rattle.sheet_core.specs.Labels.{Drawn, FitsCell, IsDrawn};
+ghost use Rattle.sheet_core.specs.Lines.{IsLine};
+
+use crate::grid::Grid;
+use crate::label::Label;
+use crate::sheet::stride;
+use arrayvec::ArrayVec;
+
+/// The bytes of the widest line of a grid, 16,384 dots.
+const LONGEST: usize = 2_048;
+
+/// A line of light dots.
+pub(crate) fn light_line(width: u16) -> ArrayVec<u8, LONGEST>
+    requires { width ≤ 16384 }
+    ensures { result.items ≡ replicate (stride width) 0 }
+{
+    let mut line = ArrayVec::new();
+    for _ in 0..stride(width) {
+        line.push(0);
+    }
+    line
+}
+
+/// Makes dot `x` dark.
+fn set_dot(line: &mut [u8], x: usize)
+    requires { x < 8 * length line.old }
+    ensures { (k : ℕ) → dot_at line.new k ≡ ((k == x) || dot_at line.old k) }
+{
+    line[x / 8] |= 1 << (7 - x % 8);
+}
+
+/// Makes `count` dots dark, from dot `from` on.
+fn darken(line: &mut [u8], from: usize, count: usize)
+    requires within { from + count ≤ 8 * length line.old }
+    requires few { from + count < 2 ^ 16 }
+    ensures { (k : ℕ) → dot_at line.new k ≡ ((nat_le from k && nat_lt k (from + count)) || dot_at line.old k) }
+{
+    for x in from..from + count {
+        set_dot(line, x);
+    }
+}
+
+/// Draws the bars of a symbol from dot `from` on, each module `dots` wide.
+fn draw(line: &mut [u8], from: usize, modules: &[u8], dots: usize)
+    requires within { from + dots * sum modules.now ≤ 8 * length line.old }
+    requires few { from + dots * sum modules.now < 2 ^ 16 }
+    ensures { (k : ℕ) → dot_at line.new k
+        ≡ ((nat_le from k && slice_index_or (dots_from true (map (λ m. dots * m) modules.now)) (k - from) false) || dot_at line.old k) }
+{
+    let mut at = from;
+    let mut dark = true;
+    for module in modules {
+        let width = usize::from(*module) * dots;
+        if dark {
+            darken(line, at, width);
+        }
+        at += width;
+        dark = !dark;
+    }
+}
+
+/// Draws a bar row of a row of cells on light dots.
+pub(crate) fn draw_line(line: &mut [u8], grid: &Grid, labels: &[Label])
+    requires light { line.old ≡ replicate (stride (grid.now.columns * grid.now.width)) 0 }
+    requires few { length labels.now ≤ grid.now.columns }
+    requires symbols { (symbols : List Drawn) × AllZip IsDrawn labels.now symbols × AllByRecursion (FitsCell grid.now) symbols }
+    ensures { (symbols : List Drawn) → AllZip IsDrawn labels.now symbols → IsLine grid.now symbols line.new }
+{
+    let width = usize::from(grid.cell_width);
+    let dots = usize::from(grid.module_dots);
+    let mut at = 0usize;
+    for label in labels {
+        let symbol = label.drawn();
+        let from = at + usize::from(symbol.quiet_left) * dots;
+        draw(line, from, symbol.modules.widths(), dots);
+        at += width;
+    }
+}

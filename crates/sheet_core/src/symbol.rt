@@ -1,0 +1,46 @@
+//! Symbols as they are drawn.
+ghost use Rattle.std.specs.Prelude.{◌≡◌, ◌≤◌, ◌+◌, ◌*◌, ◌↔◌, IsTrue, sum};
+ghost use Rattle.sheet_core.specs.Labels.{FitsCell};
+
+use crate::grid::Grid;
+use ean_code::Modules;
+use std::marker::Model;
+
+/// A symbol and its quiet zones, in modules.
+#[derive(Drop)]
+pub(crate) struct Symbol {
+    pub(crate) modules: Modules,
+    pub(crate) quiet_left: u8,
+    pub(crate) quiet_right: u8,
+}
+
+impl Model for Symbol {
+    ghost use Rattle.std.specs.Prelude.{◌≤◌};
+    ghost use Rattle.sheet_core.specs.Labels.{Drawn};
+
+    ghost Value = { Drawn };
+
+    ghost view = { λ s. record { modules = s.modules; quiet_left = s.quiet_left; quiet_right = s.quiet_right } };
+
+    ghost invariant = { λ s. (s.quiet_left ≤ 11) × (s.quiet_right ≤ 11) };
+}
+
+/// The widths of modules together.
+fn total(modules: &Modules) -> u32
+    ensures sum { result ≡ sum modules.now }
+    ensures most { result ≤ 2380 }
+{
+    modules.widths().iter().map(|width| u32::from(*width)).sum()
+}
+
+impl Symbol {
+    /// Whether the symbol and its quiet zones fit a cell.
+    pub(crate) fn fits(&self, grid: &Grid) -> bool
+        ensures { IsTrue result ↔ FitsCell grid.now self.now }
+    {
+        let modules = u32::from(self.quiet_left)
+            + total(&self.modules)
+            + u32::from(self.quiet_right);
+        modules * u32::from(grid.module_dots) <= u32::from(grid.cell_width)
+    }
+}
