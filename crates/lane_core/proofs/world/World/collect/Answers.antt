@@ -1,0 +1,23 @@
+use Rattle.std.proofs.Common.{◌≡◌, true, false, sym, ◌∙◌}
+use Rattle.lane_core.specs.declared.event.Event.TheVariants.{Collect}
+use Rattle.lane_core.specs.Holding.{held}
+use Rattle.lane_core.proofs.ShowFacts.{collect_done, result_is_new, shown_after}
+use Rattle.lane_core.proofs.world.World.collect.Goals as goal
+
+pub invariant_of-self-in-Ok : goal.invariant_of-self-in-Ok
+invariant_of-self-in-Ok c =
+    shown_after (held c.self.inside) _ Collect _ c.self.invariant
+    (collect_done (held c.self.inside) c.in-Some.delivery c.pop_front.new.self.items c.take_in.new.self c.in-Some.ensures.items c.in-Ok.ensures.taken)
+
+-- no result is a stranger
+pub unreachable-requires : goal.unreachable-requires
+unreachable-requires c =
+    let new = result_is_new (held c.self.inside) c.in-Some.delivery c.pop_front.new.self.items c.in-Some.ensures.items c.self.invariant in
+    let refused = rw c.in-Err-Stranger.field-0-is at c.in-Err-Stranger.ensures.refused in
+    let both : true ≡ false = sym new ∙ refused.0 in
+    absurd (cc)
+
+pub returns-in-Ok-clause-steps : goal.returns-in-Ok-clause-steps
+returns-in-Ok-clause-steps c =
+    rw (← c.self.view_is)
+    (collect_done (held c.self.inside) c.in-Some.delivery c.pop_front.new.self.items c.take_in.new.self c.in-Some.ensures.items c.in-Ok.ensures.taken)

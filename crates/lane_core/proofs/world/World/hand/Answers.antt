@@ -1,0 +1,81 @@
+use Rattle.std.proofs.Common.{◌≡◌, ◌<◌, [], ◌∷◌, ◌++◌, false, length, Bor, ap, ◌∙◌, arith}
+use Rattle.lane_core.specs.declared.event.Event.TheVariants.{Hand}
+use Rattle.lane_core.specs.declared.job.Plain.{Plain}
+use Rattle.lane_core.specs.Contents.{lane_of}
+use Rattle.lane_core.specs.Desk.{IsNext, has_next}
+use Rattle.lane_core.specs.Holding.{held, lane_held}
+use Rattle.lane_core.proofs.HandShowFacts.{hand_done, hand_enabled, hand_none, if_none, if_some}
+use Rattle.lane_core.proofs.HeldFacts.{count_held, lane_at, lane_put, lane_same}
+use Rattle.lane_core.proofs.LaneShowFacts.{hand_past}
+use Rattle.lane_core.proofs.ShowFacts.{shown_after}
+use Rattle.lane_core.proofs.world.World.hand.Goals as goal
+
+pub returns-then-at-len-clause-steps : goal.returns-then-at-len-clause-steps
+returns-then-at-len-clause-steps c =
+    let count = count_held c.self.inside.lanes.items in
+    rw (← c.self.view_is) (hand_past (held c.self.inside) c.args.lane (omega arith))
+
+pub returns-then-is_none-clause-steps : goal.returns-then-is_none-clause-steps
+returns-then-is_none-clause-steps c =
+    let none = if_none c.next.result (has_next c.self.inside.deliverer c.args.lane ≡ false) c.if-is_none.ensures c.next.ensures.none in
+    rw (← c.self.view_is) (hand_none (held c.self.inside) c.args.lane none)
+
+pub invariant_of-self : goal.invariant_of-self
+invariant_of-self c =
+    let less : c.args.lane < length c.self.inside.lanes.items = omega arith in
+    let x = c.index_mut.result.now in
+    let same = lane_same c.self.inside.lanes.items c.args.lane x record { closed = x.closed; issued = x.issued; handed = c.reserve.new.self; polled = x.polled } less c.index_mut.ensures.value (λ i. lane_of x.closed x.issued (c.reserve.ensures.items i) x.polled) in
+    rw same c.self.invariant
+
+pub returns-then-is_err-clause-refused : goal.returns-then-is_err-clause-refused
+returns-then-is_err-clause-refused c =
+    let less : c.args.lane < length c.self.inside.lanes.items = omega arith in
+    let x = c.index_mut.result.now in
+    let next = if_some c.next.result (λ (y : Bor Plain). IsNext c.self.inside.deliverer c.args.lane y.now) c.if-is_none.ensures c.next.ensures.some in
+    rw (← c.self.view_is) (hand_enabled (held c.self.inside) c.args.lane (lane_held x) next.0.now (lane_at c.self.inside.lanes.items c.args.lane x less c.index_mut.ensures.value) next.1)
+
+pub returns-then-is_err-clause-unchanged : goal.returns-then-is_err-clause-unchanged
+returns-then-is_err-clause-unchanged c =
+    let less : c.args.lane < length c.self.inside.lanes.items = omega arith in
+    let x = c.index_mut.result.now in
+    let same = lane_same c.self.inside.lanes.items c.args.lane x record { closed = x.closed; issued = x.issued; handed = c.reserve.new.self; polled = x.polled } less c.index_mut.ensures.value (λ i. lane_of x.closed x.issued (c.reserve.ensures.items i) x.polled) in
+    rw same c.self.view_is
+
+pub invariant_of-self-in_default : goal.invariant_of-self-in_default
+invariant_of-self-in_default c =
+    let less : c.args.lane < length c.self.inside.lanes.items = omega arith in
+    let x = c.index_mut.result.now in
+    let same = lane_same c.self.inside.lanes.items c.args.lane x record { closed = x.closed; issued = x.issued; handed = c.reserve.new.self; polled = x.polled } less c.index_mut.ensures.value (λ i. lane_of x.closed x.issued (c.reserve.ensures.items i) x.polled) in
+    rw (same, c.in_default.ensures.none.1) c.self.invariant
+
+pub returns-in_default-clause-steps : goal.returns-in_default-clause-steps
+returns-in_default-clause-steps c =
+    let less : c.args.lane < length c.self.inside.lanes.items = omega arith in
+    let x = c.index_mut.result.now in
+    let same = lane_same c.self.inside.lanes.items c.args.lane x record { closed = x.closed; issued = x.issued; handed = c.reserve.new.self; polled = x.polled } less c.index_mut.ensures.value (λ i. lane_of x.closed x.issued (c.reserve.ensures.items i) x.polled) in
+    rw (← c.self.view_is) (rw (same, c.in_default.ensures.none.1) (hand_none (held c.self.inside) c.args.lane c.in_default.ensures.none.0))
+
+pub returns-in_default-clause-disabled : goal.returns-in_default-clause-disabled
+returns-in_default-clause-disabled c =
+    let less : c.args.lane < length c.self.inside.lanes.items = omega arith in
+    let x = c.index_mut.result.now in
+    let same = lane_same c.self.inside.lanes.items c.args.lane x record { closed = x.closed; issued = x.issued; handed = c.reserve.new.self; polled = x.polled } less c.index_mut.ensures.value (λ i. lane_of x.closed x.issued (c.reserve.ensures.items i) x.polled) in
+    λ _. rw (same, c.in_default.ensures.none.1) c.self.view_is
+
+pub invariant_of-self-2 : goal.invariant_of-self-2
+invariant_of-self-2 c =
+    let less : c.args.lane < length c.self.inside.lanes.items = omega arith in
+    let x = c.index_mut.result.now in
+    let y = c.in-Some.delivery in
+    let items = c.push_reserved.ensures.items ∙ ap (λ xs. xs ++ y ∷ []) c.reserve.ensures.items in
+    let put = lane_put c.self.inside.lanes.items c.args.lane record { closed = x.closed; issued = x.issued; handed = c.push_reserved.new.self; polled = x.polled } _ (λ i. lane_of x.closed x.issued (items i) x.polled) in
+    rw put (shown_after (held c.self.inside) _ (Hand c.args.lane) _ c.self.invariant (hand_done (held c.self.inside) c.args.lane (lane_held x) y c.take_next.new.self (lane_at c.self.inside.lanes.items c.args.lane x less c.index_mut.ensures.value) c.in-Some.ensures.some))
+
+pub returns-clause-steps : goal.returns-clause-steps
+returns-clause-steps c =
+    let less : c.args.lane < length c.self.inside.lanes.items = omega arith in
+    let x = c.index_mut.result.now in
+    let y = c.in-Some.delivery in
+    let items = c.push_reserved.ensures.items ∙ ap (λ xs. xs ++ y ∷ []) c.reserve.ensures.items in
+    let put = lane_put c.self.inside.lanes.items c.args.lane record { closed = x.closed; issued = x.issued; handed = c.push_reserved.new.self; polled = x.polled } _ (λ i. lane_of x.closed x.issued (items i) x.polled) in
+    rw (← c.self.view_is) (rw put (hand_done (held c.self.inside) c.args.lane (lane_held x) y c.take_next.new.self (lane_at c.self.inside.lanes.items c.args.lane x less c.index_mut.ensures.value) c.in-Some.ensures.some))

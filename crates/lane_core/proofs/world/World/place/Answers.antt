@@ -1,0 +1,47 @@
+use Rattle.std.proofs.Common.{◌<◌, length, arith, sym, ap, ◌∙◌}
+use Rattle.lane_core.specs.Holding.{held, lane_held}
+use Rattle.lane_core.specs.Machine.{handed_of, polled_of}
+use Rattle.lane_core.specs.Tickets.{is_held_by}
+use Rattle.lane_core.proofs.HeldFacts.{lane_at}
+use Rattle.lane_core.proofs.SeenFacts.{outbox_true, polled_true, seen, waits}
+use Rattle.lane_core.proofs.world.World.place.Goals as goal
+
+pub returns-then-index-clause-none : goal.returns-then-index-clause-none
+returns-then-index-clause-none c =
+    let l = c.args.ticket.lane in
+    let lanes = c.self.inside.lanes.items in
+    let less : l < length lanes = omega arith in
+    rw (← c.self.view_is) (λ s reached shows.
+    let a = seen (held c.self.inside) s l (lane_held c.index.result.now) reached shows (lane_at lanes l c.index.result.now less c.index.ensures) in
+    let b = a.issued in omega arith)
+
+pub returns-then-index-2-clause-found : goal.returns-then-index-2-clause-found
+returns-then-index-2-clause-found c =
+    let l = c.args.ticket.lane in
+    let lanes = c.self.inside.lanes.items in
+    let less : l < length lanes = omega arith in
+    rw (← c.self.view_is) (λ s reached shows.
+    let a = seen (held c.self.inside) s l (lane_held c.index-2.result.now) reached shows (lane_at lanes l c.index-2.result.now less c.index-2.ensures) in
+    let b = a.polled in polled_true c.args.ticket.number (polled_of s l) (omega arith))
+
+pub returns-then-index-len-clause-found : goal.returns-then-index-len-clause-found
+returns-then-index-len-clause-found c =
+    let l = c.args.ticket.lane in
+    let lanes = c.self.inside.lanes.items in
+    let less : l < length lanes = omega arith in
+    rw (← c.self.view_is) (λ s reached shows.
+    let a = (seen (held c.self.inside) s l (lane_held c.index-2.result.now) reached shows (lane_at lanes l c.index-2.result.now less c.index-2.ensures)).polled in
+    let b = (seen (held c.self.inside) s l (lane_held c.index-3.result.now) reached shows (lane_at lanes l c.index-3.result.now less c.index-3.ensures)).handed in
+    outbox_true c.args.ticket.number (polled_of s l) (handed_of s l) (omega arith) (omega arith))
+
+pub returns-clause-found : goal.returns-clause-found
+returns-clause-found c =
+    let l = c.args.ticket.lane in
+    let lanes = c.self.inside.lanes.items in
+    let less : l < length lanes = omega arith in
+    let workers = ap (is_held_by l c.args.ticket.number) (sym c.deref.ensures.value) ∙ (sym c.is_held.ensures ∙ c.if-is_held.false) in
+    rw (← c.self.view_is) (λ s reached shows.
+    let a = (seen (held c.self.inside) s l (lane_held c.index.result.now) reached shows (lane_at lanes l c.index.result.now less c.index.ensures)).issued in
+    let b = (seen (held c.self.inside) s l (lane_held c.index-3.result.now) reached shows (lane_at lanes l c.index-3.result.now less c.index-3.ensures)).handed in
+    waits (held c.self.inside) s l c.args.ticket.number reached shows (omega arith) (omega arith)
+    (sym c.is_job_of.ensures ∙ c.if-is_job_of.false) workers (sym c.is_result_of.ensures ∙ c.if-is_result_of.false))

@@ -1,0 +1,69 @@
+use Rattle.std.proofs.Common.{◌+◌, ◌<◌, ◌^◌, [], ◌∷◌, ◌++◌, length, ap, ◌∙◌, arith}
+use Rattle.lane_core.specs.declared.event.Event.TheVariants.{Submit}
+use Rattle.lane_core.specs.declared.job.Plain.{Plain}
+use Rattle.lane_core.specs.declared.lane.Lane.{Lane}
+use Rattle.lane_core.specs.Plain.{plain_of}
+use Rattle.lane_core.specs.Holding.{held, lane_held}
+use Rattle.lane_core.proofs.HeldFacts.{count_held, lane_at, same_lane}
+use Rattle.lane_core.proofs.LaneShowFacts.{submit_closed, submit_done, submit_full, submit_past}
+use Rattle.lane_core.proofs.ListFacts.{map_put}
+use Rattle.lane_core.proofs.ShowFacts.{shown_after}
+use Rattle.lane_core.proofs.world.World.submit.Goals as goal
+
+pub returns-then-at-len-clause-steps : goal.returns-then-at-len-clause-steps
+returns-then-at-len-clause-steps c =
+    let count = count_held c.self.inside.lanes.items in
+    rw (← c.self.view_is) (submit_past (held c.self.inside) c.args.lane c.args.row (omega arith))
+
+pub returns-then-index-clause-steps : goal.returns-then-index-clause-steps
+returns-then-index-clause-steps c =
+    let less : c.args.lane < length c.self.inside.lanes.items = omega arith in
+    rw (← c.self.view_is) (submit_closed (held c.self.inside) c.args.lane c.args.row (lane_held c.index.result.now) (lane_at c.self.inside.lanes.items c.args.lane c.index.result.now less c.index.ensures) c.if-index.true)
+
+pub returns-then-issued-from-clause-steps : goal.returns-then-issued-from-clause-steps
+returns-then-issued-from-clause-steps c =
+    let less : c.args.lane < length c.self.inside.lanes.items = omega arith in
+    rw (← c.self.view_is) (submit_full (held c.self.inside) c.args.lane c.args.row (lane_held c.index-2.result.now) (lane_at c.self.inside.lanes.items c.args.lane c.index-2.result.now less c.index-2.ensures) (omega arith))
+
+pub invariant_of-self : goal.invariant_of-self
+invariant_of-self c =
+    let less : c.args.lane < length c.self.inside.lanes.items = omega arith in
+    let lanes = c.self.inside.lanes.items in
+    let x = c.index_mut.result.now in
+    let at = lane_at lanes c.args.lane x less c.index_mut.ensures.value in
+    let open_ = ap (λ (x : Lane). x.closed) (same_lane lanes c.args.lane x c.index.result.now less c.index_mut.ensures.value c.index.ensures) ∙ c.if-index.false in
+    let issued = ap (λ (x : Lane). x.issued) (same_lane lanes c.args.lane c.index-2.result.now x less c.index-2.ensures c.index_mut.ensures.value) in
+    let room : x.issued < 2 ^ 32 = omega arith in
+    let job = c.new.ensures ∙ (λ i. plain_of c.args.lane (issued i) c.self.inside.year c.args.row) in
+    let jobs = c.in-Ok.ensures.items ∙ (λ i. c.self.inside.jobs.items ++ job i ∷ []) in
+    let steps = submit_done (held c.self.inside) c.args.lane c.args.row (lane_held x) at open_ room in
+    rw (issued, map_put lane_held lanes c.args.lane record { closed = x.closed; issued = x.issued + 1; handed = x.handed; polled = x.polled }, jobs)
+    (shown_after (held c.self.inside) _ (Submit c.args.lane c.args.row) _ c.self.invariant steps)
+
+pub returns-in-Ok-clause-steps : goal.returns-in-Ok-clause-steps
+returns-in-Ok-clause-steps c =
+    let less : c.args.lane < length c.self.inside.lanes.items = omega arith in
+    let lanes = c.self.inside.lanes.items in
+    let x = c.index_mut.result.now in
+    let at = lane_at lanes c.args.lane x less c.index_mut.ensures.value in
+    let open_ = ap (λ (x : Lane). x.closed) (same_lane lanes c.args.lane x c.index.result.now less c.index_mut.ensures.value c.index.ensures) ∙ c.if-index.false in
+    let issued = ap (λ (x : Lane). x.issued) (same_lane lanes c.args.lane c.index-2.result.now x less c.index-2.ensures c.index_mut.ensures.value) in
+    let room : x.issued < 2 ^ 32 = omega arith in
+    let job = c.new.ensures ∙ (λ i. plain_of c.args.lane (issued i) c.self.inside.year c.args.row) in
+    let jobs = c.in-Ok.ensures.items ∙ (λ i. c.self.inside.jobs.items ++ job i ∷ []) in
+    let steps = submit_done (held c.self.inside) c.args.lane c.args.row (lane_held x) at open_ room in
+    rw (← c.self.view_is)
+    (rw (issued, map_put lane_held lanes c.args.lane record { closed = x.closed; issued = x.issued + 1; handed = x.handed; polled = x.polled }, jobs)
+    steps)
+
+pub returns-in-Err-clause-refused : goal.returns-in-Err-clause-refused
+returns-in-Err-clause-refused c =
+    let less : c.args.lane < length c.self.inside.lanes.items = omega arith in
+    let lanes = c.self.inside.lanes.items in
+    let x = c.index-2.result.now in
+    let at = lane_at lanes c.args.lane x less c.index-2.ensures in
+    let open_ = ap (λ (x : Lane). x.closed) (same_lane lanes c.args.lane x c.index.result.now less c.index-2.ensures c.index.ensures) ∙ c.if-index.false in
+    let room : x.issued < 2 ^ 32 = omega arith in
+    let steps = submit_done (held c.self.inside) c.args.lane c.args.row (lane_held x) at open_ room in
+    let row = c.into_row.ensures ∙ ap (λ (x : Plain). x.widths) (c.in-Err.ensures.value_returned ∙ c.new.ensures) in
+    rw (← c.self.view_is) ((λ i. Submit c.args.lane (row i)), λ s reached shows. (steps s reached shows).0)

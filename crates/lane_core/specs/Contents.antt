@@ -1,0 +1,72 @@
+-- What a world keeps, and the state of the machine that it shows.
+use Rattle.std.specs.Prelude.{◌≡◌, ◌||◌, ℕ, Bool, nat_lt, is_some, true, false, List, Option, map, length, take}
+use Rattle.lane_core.specs.declared.event.Event.{Event}
+use Rattle.lane_core.specs.declared.event.Event.TheVariants.{Submit, Take, Post, Collect, Hand, Poll, Close}
+use Rattle.lane_core.specs.declared.job.Plain.{Plain}
+use Rattle.lane_core.specs.Desk.{Desk, was_taken}
+use Rattle.lane_core.specs.Machine.{LaneState, State, IsReached, after, handed_of, step}
+use Rattle.lane_core.specs.Tickets.{is_among}
+use Rattle.lane_core.specs.Weights.{SameItems}
+
+-- of a lane: whether it is closed, how many tickets it has issued, what it was handed, and how much of that it has polled
+pub record LaneContents : Type 0 where
+  pub closed : Bool
+  pub issued : ℕ
+  pub handed : List Plain
+  pub polled : ℕ
+
+-- of all: the reference year, the lanes, the job queue, what each worker holds, the result queue, and the deliverer
+pub record Contents : Type 0 where
+  pub year : ℕ
+  pub lanes : List LaneContents
+  pub jobs : List Plain
+  pub workers : List (Option Plain)
+  pub results : List Plain
+  pub desk : Desk
+
+abbrev pub lane_of : Bool → ℕ → List Plain → ℕ → LaneContents
+lane_of closed issued handed polled = record { closed = closed; issued = issued; handed = handed; polled = polled }
+
+abbrev pub contents : ℕ → List LaneContents → List Plain → List (Option Plain) → List Plain → Desk → Contents
+contents year lanes jobs workers results desk = record { year = year; lanes = lanes; jobs = jobs; workers = workers; results = results; desk = desk }
+
+-- a lane keeps what it was handed: the first of what it has submitted
+abbrev pub shown_lane : LaneState → LaneContents
+shown_lane v = lane_of v.closed (length v.submitted) (take v.handed v.submitted) v.polled
+
+-- the world shows this state of the machine; what waits may stand in another order
+pub record Shows (c : Contents) (s : State) : Type 0 where
+  pub year : c.year ≡ s.year
+  pub lanes : c.lanes ≡ map shown_lane s.lanes
+  pub jobs : c.jobs ≡ s.jobs
+  pub workers : c.workers ≡ s.workers
+  pub results : c.results ≡ s.results
+  pub nexts : c.desk.nexts ≡ map (λ v. v.handed) s.lanes
+  pub waiting : SameItems c.desk.waiting s.waiting
+  pub known : (l k : ℕ) → was_taken c.desk l k ≡ (nat_lt k (handed_of s l) || is_among l k s.waiting)
+
+-- it shows a state that some events lead to
+abbrev pub IsShown : Contents → Type 0
+IsShown c = (s : State) × IsReached s × Shows c s
+
+-- the event is done or not, as the machine says, and the world shows the state after it
+abbrev pub Steps : Contents → Event → Bool → Contents → Type 0
+Steps c e done d = (s : State) → IsReached s → Shows c s → (is_some (step s e) ≡ done) × Shows d (after s e)
+
+-- the event is not disabled
+abbrev pub IsEnabled : Contents → Event → Type 0
+IsEnabled c e = (s : State) → IsReached s → Shows c s → is_some (step s e) ≡ true
+
+-- whether an event makes a queue, the deliverer or an outbox longer
+abbrev pub takes_memory : Event → Bool
+takes_memory (Submit l row) = true
+takes_memory (Take w) = false
+takes_memory (Post w) = true
+takes_memory Collect = true
+takes_memory (Hand l) = true
+takes_memory (Poll l) = false
+takes_memory (Close l) = false
+
+-- what is so of each state that the world can show
+abbrev pub Says : Contents → (State → Type 0) → Type 0
+Says c P = (s : State) → IsReached s → Shows c s → P s

@@ -1,0 +1,77 @@
+-- What a deliverer keeps, and how its calls change it.
+use Rattle.std.specs.Prelude.{◌≡◌, ◌==◌, ◌&&◌, ◌||◌, ◌+◌, ℕ, Bool, true, false, not, nat_lt, List, length, slice_index, slice_set, Contains}
+use Rattle.std.specs.List.{list_any}
+use Rattle.lane_core.specs.declared.job.Plain.{Plain}
+use Rattle.lane_core.specs.declared.fault.TakeFault.{TakeFault}
+use Rattle.lane_core.specs.declared.fault.TakeFault.TheVariants.{Stranger, NoMemory}
+use Rattle.lane_core.specs.declared.ticket.Ticket.{Ticket}
+use Rattle.lane_core.specs.Tickets.{is_among, is_ticket_of}
+use Rattle.lane_core.specs.Weights.{weigh}
+
+-- each lane's next number, the deliveries that wait, and the tickets that were taken out of turn
+pub record Desk : Type 0 where
+  pub nexts : List ℕ
+  pub waiting : List Plain
+  pub out : List Ticket
+
+abbrev pub desk : List ℕ → List Plain → List Ticket → Desk
+desk nexts waiting out = record { nexts = nexts; waiting = waiting; out = out }
+
+-- how many lanes there are
+abbrev pub lanes_of : Desk → ℕ
+lanes_of d = length d.nexts
+
+-- the number that lane l is given next
+abbrev pub next_of : Desk → ℕ → ℕ
+next_of d l = slice_index d.nexts l
+
+-- whether lane l's number k was taken out of turn
+abbrev pub is_out : ℕ → ℕ → List Ticket → Bool
+is_out l k ts = list_any (λ t. (t.lane == l) && (t.number == k)) ts
+
+-- whether lane l's number k was taken in: it was given to the lane, or waits, or was taken out of turn
+abbrev pub was_taken : Desk → ℕ → ℕ → Bool
+was_taken d l k = nat_lt k (next_of d l) || is_among l k d.waiting || is_out l k d.out
+
+-- whether its lane is there and its number was not taken in
+abbrev pub is_new : Desk → Plain → Bool
+is_new d x = nat_lt x.lane (lanes_of d) && not (was_taken d x.lane x.number)
+
+-- x was taken in: it waits, beside what waited before
+pub record TakesIn (d : Desk) (x : Plain) (e : Desk) : Type 0 where
+  pub new : is_new d x ≡ true
+  pub nexts : e.nexts ≡ d.nexts
+  pub waiting : (h : Plain → ℕ) → weigh h e.waiting ≡ weigh h d.waiting + h x
+  pub known : (l k : ℕ) → was_taken e l k ≡ (was_taken d l k || is_ticket_of l k x)
+
+-- x comes back, as a stranger exactly where it is not new
+abbrev pub IsRefused : Desk → Plain → TakeFault → Type 0
+IsRefused d x (Stranger y) = (is_new d x ≡ false) × (y ≡ x)
+IsRefused d x (NoMemory y) = (is_new d x ≡ true) × (y ≡ x)
+
+-- whether lane l's next number waits
+abbrev pub has_next : Desk → ℕ → Bool
+has_next d l = is_among l (next_of d l) d.waiting
+
+-- x waits, as lane l's next number
+pub record IsNext (d : Desk) (l : ℕ) (x : Plain) : Type 0 where
+  pub lane : x.lane ≡ l
+  pub number : x.number ≡ next_of d l
+  pub waits : Contains d.waiting x
+
+-- x waits no more, and nothing else has changed of what waits and what was taken in
+pub record Leaves (d : Desk) (x : Plain) (e : Desk) : Type 0 where
+  pub waiting : (h : Plain → ℕ) → weigh h d.waiting ≡ weigh h e.waiting + h x
+  pub known : (l k : ℕ) → was_taken e l k ≡ was_taken d l k
+
+-- lane l was given x, its next number
+pub record GivesNext (d : Desk) (l : ℕ) (x : Plain) (e : Desk) : Type 0 where
+  pub lane : x.lane ≡ l
+  pub number : x.number ≡ next_of d l
+  pub nexts : e.nexts ≡ slice_set d.nexts l (next_of d l + 1)
+  pub leaves : Leaves d x e
+
+-- x was taken out of turn: no lane's next number moves
+pub record GivesAny (d : Desk) (x : Plain) (e : Desk) : Type 0 where
+  pub nexts : e.nexts ≡ d.nexts
+  pub leaves : Leaves d x e

@@ -1,0 +1,14 @@
+pub use Rattle.scan_core.specs.Answers
+pub mod Contents
+pub mod Desk
+pub mod Drawer
+pub mod Faults
+pub mod History
+pub mod Holding
+pub mod Issuing
+pub mod Machine
+pub mod Plain
+pub mod Settling
+pub mod Tickets
+pub mod Weights
+pub mod Whereabouts

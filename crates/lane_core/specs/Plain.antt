@@ -1,0 +1,7 @@
+-- What a job and a delivery are, as numbers and lists of numbers.
+use Rattle.std.specs.Prelude.{ℕ, List}
+use Rattle.lane_core.specs.declared.job.Plain.{Plain}
+
+-- the item of this lane and number, with its reference year and its row's widths
+abbrev pub plain_of : ℕ → ℕ → ℕ → List ℕ → Plain
+plain_of lane number year widths = record { lane = lane; number = number; year = year; widths = widths }

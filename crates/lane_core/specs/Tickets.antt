@@ -1,0 +1,26 @@
+-- The tickets of jobs and deliveries.
+use Rattle.std.specs.Prelude.{◌==◌, ◌&&◌, ℕ, suc, Bool, true, List, [], ◌∷◌, Option, option_to_list}
+use Rattle.std.specs.List.{list_any}
+use Rattle.lane_core.specs.declared.job.Plain.{Plain}
+use Rattle.lane_core.specs.Weights.{once, weigh}
+
+-- whether it is lane l's number k
+abbrev pub is_ticket_of : ℕ → ℕ → Plain → Bool
+is_ticket_of l k x = (x.lane == l) && (x.number == k)
+
+-- whether lane l's number k is one of these
+abbrev pub is_among : ℕ → ℕ → List Plain → Bool
+is_among l k xs = list_any (is_ticket_of l k) xs
+
+-- whether a worker holds it
+abbrev pub is_held_by : ℕ → ℕ → List (Option Plain) → Bool
+is_held_by l k workers = list_any (λ o. is_among l k (option_to_list o)) workers
+
+-- how often it is
+abbrev pub times : ℕ → ℕ → List Plain → ℕ
+times l k xs = weigh (λ x. once (is_ticket_of l k x)) xs
+
+-- they are the lane's numbers from n on, in order
+abbrev pub numbered : ℕ → ℕ → List Plain → Bool
+numbered lane n [] = true
+numbered lane n (x ∷ xs) = (x.lane == lane) && ((x.number == n) && numbered lane (suc n) xs)

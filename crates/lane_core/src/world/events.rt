@@ -1,0 +1,205 @@
+//! What each event does.
+ghost use Rattle.std.specs.Prelude.{◌≡◌, IfErr, IfOk, OnErr, false, length, true};
+ghost use Rattle.lane_core.specs.Contents.{IsEnabled, Steps, takes_memory};
+
+use super::World;
+use crate::delivery::decode;
+use crate::event::Event;
+use crate::fault::{NoMemory, TakeFault};
+use crate::job::Job;
+use crate::ticket::Ticket;
+use scan_core::Runs;
+use std::mem;
+
+impl World {
+    /// Does the event: true where it was done, false where it was disabled and changed nothing.
+    ///
+    /// An event that the machine allows comes back where memory for it was refused; nothing has
+    /// changed then.
+    pub fn step(&mut self, event: Event) -> Result<bool, Event>
+        ensures steps { IfOk result (λ done. Steps self.old event done self.new) }
+        ensures disabled { IfOk result (λ done. done ≡ false → self.new ≡ self.old) }
+        ensures refused { IfErr result (λ back. (back ≡ event) × IsEnabled self.old event) }
+        ensures growth { IfErr result (λ back. takes_memory back ≡ true) }
+        ensures unchanged { OnErr result (self.new ≡ self.old) }
+        ensures lanes { length self.new.lanes ≡ length self.old.lanes }
+    {
+        match event {
+            Event::Submit(lane, row) => self.submit(lane, row),
+            Event::Take(worker) => Ok(self.take(worker)),
+            Event::Post(worker) => match self.post(worker) {
+                Ok(done) => Ok(done),
+                Err(NoMemory) => Err(Event::Post(worker)),
+            },
+            Event::Collect => match self.collect() {
+                Ok(done) => Ok(done),
+                Err(NoMemory) => Err(Event::Collect),
+            },
+            Event::Hand(lane) => match self.hand(lane) {
+                Ok(done) => Ok(done),
+                Err(NoMemory) => Err(Event::Hand(lane)),
+            },
+            Event::Poll(lane) => Ok(self.poll(lane)),
+            Event::Close(lane) => Ok(self.close(lane)),
+        }
+    }
+
+    /// The row is queued under its lane's next ticket.
+    fn submit(&mut self, lane: u8, row: Runs) -> Result<bool, Event>
+        ensures steps { IfOk result (λ done. Steps self.old (Event.Submit lane row) done self.new) }
+        ensures disabled { IfOk result (λ done. done ≡ false → self.new ≡ self.old) }
+        ensures refused { IfErr result (λ back. (back ≡ Event.Submit lane row) × IsEnabled self.old (Event.Submit lane row)) }
+        ensures unchanged { OnErr result (self.new ≡ self.old) }
+        ensures lanes { length self.new.lanes ≡ length self.old.lanes }
+    {
+        let at = lane as usize;
+        if at >= self.lanes.len() {
+            return Ok(false);
+        }
+        if self.lanes[at].closed {
+            return Ok(false);
+        }
+        let issued = self.lanes[at].issued;
+        if issued > u64::from(u32::MAX) {
+            return Ok(false);
+        }
+        let ticket = Ticket {
+            lane,
+            number: issued as u32,
+        };
+        match self.jobs.push_back(Job::new(ticket, row, self.year)) {
+            Ok(()) => {
+                self.lanes[at].issued = issued + 1;
+                Ok(true)
+            }
+            Err(failed) => Err(Event::Submit(lane, failed.value.into_row())),
+        }
+    }
+
+    /// The worker takes the first job of the queue.
+    fn take(&mut self, worker: u32) -> bool
+        ensures steps { Steps self.old (Event.Take worker) result self.new }
+        ensures disabled { result ≡ false → self.new ≡ self.old }
+        ensures lanes { length self.new.lanes ≡ length self.old.lanes }
+    {
+        let at = worker as usize;
+        if at >= self.workers.len() {
+            return false;
+        }
+        if self.workers[at].is_some() {
+            return false;
+        }
+        let Some(job) = self.jobs.pop_front() else {
+            return false;
+        };
+        self.workers[at] = Some(job);
+        true
+    }
+
+    /// The worker queues the delivery of its job.
+    fn post(&mut self, worker: u32) -> Result<bool, NoMemory>
+        ensures steps { IfOk result (λ done. Steps self.old (Event.Post worker) done self.new) }
+        ensures disabled { IfOk result (λ done. done ≡ false → self.new ≡ self.old) }
+        ensures refused { OnErr result (IsEnabled self.old (Event.Post worker)) }
+        ensures unchanged { OnErr result (self.new ≡ self.old) }
+        ensures lanes { length self.new.lanes ≡ length self.old.lanes }
+    {
+        let at = worker as usize;
+        if at >= self.workers.len() {
+            return Ok(false);
+        }
+        if self.workers[at].is_none() {
+            return Ok(false);
+        }
+        if self.results.reserve(1).is_err() {
+            return Err(NoMemory);
+        }
+        let Some(job) = mem::replace(&mut self.workers[at], None) else {
+            return Ok(false);
+        };
+        self.results.push_back_reserved(decode(job));
+        Ok(true)
+    }
+
+    /// The deliverer takes in the first delivery of the queue.
+    fn collect(&mut self) -> Result<bool, NoMemory>
+        ensures steps { IfOk result (λ done. Steps self.old Event.Collect done self.new) }
+        ensures disabled { IfOk result (λ done. done ≡ false → self.new ≡ self.old) }
+        ensures refused { OnErr result (IsEnabled self.old Event.Collect) }
+        ensures unchanged { OnErr result (self.new ≡ self.old) }
+        ensures lanes { length self.new.lanes ≡ length self.old.lanes }
+    {
+        let Some(delivery) = self.results.pop_front() else {
+            return Ok(false);
+        };
+        match self.deliverer.take_in(delivery) {
+            Ok(()) => Ok(true),
+            Err(TakeFault::NoMemory(delivery)) => {
+                self.results.push_front_reserved(delivery);
+                Err(NoMemory)
+            }
+            Err(TakeFault::Stranger(_)) => unreachable!(),
+        }
+    }
+
+    /// The lane's outbox is given the lane's next number.
+    fn hand(&mut self, lane: u8) -> Result<bool, NoMemory>
+        ensures steps { IfOk result (λ done. Steps self.old (Event.Hand lane) done self.new) }
+        ensures disabled { IfOk result (λ done. done ≡ false → self.new ≡ self.old) }
+        ensures refused { OnErr result (IsEnabled self.old (Event.Hand lane)) }
+        ensures unchanged { OnErr result (self.new ≡ self.old) }
+        ensures lanes { length self.new.lanes ≡ length self.old.lanes }
+    {
+        let at = lane as usize;
+        if at >= self.lanes.len() {
+            return Ok(false);
+        }
+        if self.deliverer.next(lane).is_none() {
+            return Ok(false);
+        }
+        let outbox = &mut self.lanes[at].handed;
+        if outbox.reserve(1).is_err() {
+            return Err(NoMemory);
+        }
+        let Some(delivery) = self.deliverer.take_next(lane) else {
+            return Ok(false);
+        };
+        outbox.push_reserved(delivery);
+        Ok(true)
+    }
+
+    /// The lane takes the first of its outbox.
+    fn poll(&mut self, lane: u8) -> bool
+        ensures steps { Steps self.old (Event.Poll lane) result self.new }
+        ensures disabled { result ≡ false → self.new ≡ self.old }
+        ensures lanes { length self.new.lanes ≡ length self.old.lanes }
+    {
+        let at = lane as usize;
+        if at >= self.lanes.len() {
+            return false;
+        }
+        let polled = self.lanes[at].polled;
+        if polled >= self.lanes[at].handed.len() {
+            return false;
+        }
+        self.lanes[at].polled = polled + 1;
+        true
+    }
+
+    /// The lane submits no more rows.
+    fn close(&mut self, lane: u8) -> bool
+        ensures steps { Steps self.old (Event.Close lane) result self.new }
+        ensures disabled { result ≡ false → self.new ≡ self.old }
+        ensures lanes { length self.new.lanes ≡ length self.old.lanes }
+    {
+        let at = lane as usize;
+        if at >= self.lanes.len() {
+            return false;
+        }
+        if self.lanes[at].closed {
+            return false;
+        }
+        self.lanes[at].closed = true;
+        true
+    }
+}
