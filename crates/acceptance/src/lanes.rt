@@ -1,0 +1,223 @@
+//! The tickets of a lane, deliveries out of order, and the machine event by event.
+ghost use Rattle.std.specs.Prelude.{◌<◌, IfOk, length};
+ghost use Rattle.lane_core.specs.Desk.{lanes_of};
+
+use element_core::Year;
+use lane_core::{
+    Deliverer, Delivery, Event, Job, NoMemory, Place, TakeFault, Ticket, Ticketer, World, decode,
+};
+use scan_core::{Answer, Carrier, Runs};
+use std::alloc::Global;
+use std::test::Fail;
+
+// 9501101530003 as EAN-13, its light ends included, at one dot a module.
+const EAN13: &[u16] = &[
+    11, 1, 1, 1, 1, 2, 3, 1, 1, 1, 2, 3, 1, 2, 2, 2, 2, 2, 2, 1, 1, 1, 2, 3, 2, 2, 2, 1, 1, 1, 1,
+    1, 1, 1, 2, 3, 1, 1, 4, 1, 1, 3, 2, 1, 1, 3, 2, 1, 1, 3, 2, 1, 1, 1, 4, 1, 1, 1, 1, 1, 7,
+];
+
+// 96385074 as EAN-8.
+const EAN8: &[u16] = &[
+    7, 1, 1, 1, 3, 1, 1, 2, 1, 1, 1, 4, 1, 4, 1, 1, 1, 2, 1, 3, 1, 1, 1, 1, 1, 1, 2, 3, 1, 3, 2, 1,
+    1, 1, 3, 1, 2, 1, 1, 3, 2, 1, 1, 1, 7,
+];
+
+/// A row, and the reference year.
+fn row(alloc: Global, widths: &[u16]) -> Result<Runs, Fail> {
+    Ok(Runs::of_widths(alloc, widths).ok().ok_or("row")?)
+}
+
+/// The delivery of an EAN-13 row under the ticket.
+fn delivery(alloc: Global, lane: u8, number: u32) -> Result<Delivery, Fail> {
+    let year = Year::new(2026).ok_or("year")?;
+    Ok(decode(Job::new(Ticket { lane, number }, row(alloc, EAN13)?, year)))
+}
+
+/// Whether it is the lane's delivery of that number.
+fn is_number(found: Option<Delivery>, lane: u8, number: u32) -> bool {
+    match found {
+        Some(delivery) => delivery.ticket() == Ticket { lane, number },
+        None => false,
+    }
+}
+
+/// Whether it came back as a stranger.
+fn is_stranger(taken: Result<(), TakeFault>) -> bool {
+    matches!(taken, Err(TakeFault::Stranger(_)))
+}
+
+#[test]
+fn issues_each_number_once(rt: HostRuntime) -> Result<(), Fail> {
+    let mut two = Ticketer::new(3, 2);
+    assert_eq!(rt; two.issue(), Some(Ticket { lane: 3, number: 0 }));
+    assert_eq!(rt; two.issue(), Some(Ticket { lane: 3, number: 1 }));
+    assert_eq!(rt; two.issue(), None);
+    assert_eq!(rt; two.issue(), None);
+    let mut none = Ticketer::new(3, 0);
+    assert_eq!(rt; none.issue(), None);
+    Ok(())
+}
+
+/// Whether the delivery is taken in, or else comes back as a stranger.
+fn is_taken(deliverer: &mut Deliverer, delivery: Delivery) -> bool
+    requires { 0 < lanes_of deliverer.old }
+    ensures { 0 < lanes_of deliverer.new }
+{
+    !is_stranger(deliverer.take_in(delivery))
+}
+
+/// Whether lane 0 is given this number next.
+fn gives(deliverer: &mut Deliverer, number: u32) -> bool
+    requires { 0 < lanes_of deliverer.old }
+    ensures { 0 < lanes_of deliverer.new }
+{
+    is_number(deliverer.take_next(0), 0, number)
+}
+
+#[test]
+fn hands_deliveries_by_number(rt: HostRuntime) -> Result<(), Fail> {
+    let alloc = rt.alloc();
+    let mut deliverer = Deliverer::new(alloc, 1).ok().ok_or("deliverer")?;
+    assert!(rt; is_taken(&mut deliverer, delivery(alloc, 0, 1)?));
+    assert!(rt; deliverer.next(0).is_none());
+    assert!(rt; is_taken(&mut deliverer, delivery(alloc, 0, 0)?));
+    assert!(rt; !is_taken(&mut deliverer, delivery(alloc, 0, 0)?));
+    assert!(rt; !is_taken(&mut deliverer, delivery(alloc, 5, 0)?));
+    assert!(rt; gives(&mut deliverer, 0));
+    assert!(rt; gives(&mut deliverer, 1));
+    assert!(rt; deliverer.take_next(0).is_none());
+    Ok(())
+}
+
+#[test]
+fn takes_one_out_of_turn(rt: HostRuntime) -> Result<(), Fail> {
+    let alloc = rt.alloc();
+    let mut deliverer = Deliverer::new(alloc, 1).ok().ok_or("deliverer")?;
+    assert!(rt; is_taken(&mut deliverer, delivery(alloc, 0, 3)?));
+    assert!(rt; deliverer.next(0).is_none());
+    assert!(rt; is_number(deliverer.take_any(), 0, 3));
+    assert!(rt; deliverer.take_any().is_none());
+    assert!(rt; is_stranger(deliverer.take_in(delivery(alloc, 0, 3)?)));
+    Ok(())
+}
+
+/// A world of one lane.
+fn one_lane(alloc: Global, workers: u32) -> Result<World, Fail>
+    ensures { IfOk result (λ world. 0 < length world.lanes) }
+{
+    let year = Year::new(2026).ok_or("year")?;
+    match World::new(alloc, 1, workers, year) {
+        Ok(world) => Ok(world),
+        Err(_) => Err(Fail::from("memory")),
+    }
+}
+
+/// Whether the event was done.
+fn done(world: &mut World, event: Event) -> Result<bool, Fail>
+    requires { 0 < length world.old.lanes }
+    ensures { 0 < length world.new.lanes }
+{
+    match world.step(event) {
+        Ok(done) => Ok(done),
+        Err(_) => Err(Fail::from("memory")),
+    }
+}
+
+/// Whether the lane has polled these numbers, each answered as the carrier's.
+fn has_polled(world: &World, lane: u8, carriers: &[Carrier]) -> bool
+    requires { lane < length world.now.lanes }
+{
+    let polled = world.polled(lane);
+    polled.len() == carriers.len()
+        && polled.iter().zip(carriers.iter()).all(|(delivery, wanted)| {
+            matches!(delivery.answer(), Answer::Read { carrier, .. } if carrier == wanted)
+        })
+}
+
+/// Two rows are submitted and taken, and the second is posted and collected.
+fn bring_the_second(alloc: Global, world: &mut World) -> Result<bool, Fail>
+    requires { 0 < length world.old.lanes }
+    ensures { 0 < length world.new.lanes }
+{
+    let submitted = done(world, Event::Submit(0, row(alloc, EAN13)?))?
+        && done(world, Event::Submit(0, row(alloc, EAN8)?))?;
+    let taken = done(world, Event::Take(0))? && done(world, Event::Take(1))?;
+    Ok(submitted && taken && done(world, Event::Post(1))? && done(world, Event::Collect)?)
+}
+
+/// The first is posted and collected, and both are handed.
+fn hand_both(world: &mut World) -> Result<bool, Fail>
+    requires { 0 < length world.old.lanes }
+    ensures { 0 < length world.new.lanes }
+{
+    let collected = done(world, Event::Post(0))? && done(world, Event::Collect)?;
+    Ok(collected && done(world, Event::Hand(0))? && done(world, Event::Hand(0))?)
+}
+
+#[test]
+fn polls_in_order_what_was_posted_out_of_order(rt: HostRuntime) -> Result<(), Fail> {
+    let alloc = rt.alloc();
+    let mut world = one_lane(alloc, 2)?;
+    assert!(rt; bring_the_second(alloc, &mut world)?);
+    assert!(rt; !done(&mut world, Event::Hand(0))?);
+    assert!(rt; hand_both(&mut world)?);
+    assert!(rt; done(&mut world, Event::Poll(0))?);
+    assert!(rt; has_polled(&world, 0, &[Carrier::Ean13]));
+    assert!(rt; done(&mut world, Event::Close(0))?);
+    assert!(rt; !done(&mut world, Event::Submit(0, row(alloc, EAN8)?))?);
+    assert!(rt; done(&mut world, Event::Poll(0))?);
+    assert!(rt; !done(&mut world, Event::Poll(0))?);
+    assert!(rt; has_polled(&world, 0, &[Carrier::Ean13, Carrier::Ean8]));
+    Ok(())
+}
+
+#[test]
+fn tells_where_each_ticket_is(rt: HostRuntime) -> Result<(), Fail> {
+    let alloc = rt.alloc();
+    let mut world = one_lane(alloc, 2)?;
+    let first = Ticket { lane: 0, number: 0 };
+    let second = Ticket { lane: 0, number: 1 };
+    assert_eq!(rt; world.place(first), None);
+    assert!(rt; bring_the_second(alloc, &mut world)?);
+    assert_eq!(rt; world.place(first), Some(Place::Worker));
+    assert_eq!(rt; world.place(second), Some(Place::Waiting));
+    assert!(rt; hand_both(&mut world)?);
+    assert_eq!(rt; world.place(second), Some(Place::Outbox));
+    assert!(rt; done(&mut world, Event::Poll(0))?);
+    assert_eq!(rt; world.place(first), Some(Place::Polled));
+    assert_eq!(rt; world.issued(0), 2);
+    assert!(rt; !world.is_closed(0));
+    Ok(())
+}
+
+#[test]
+fn passes_over_what_cannot_be_done(rt: HostRuntime) -> Result<(), Fail> {
+    let alloc = rt.alloc();
+    let mut world = one_lane(alloc, 1)?;
+    assert!(rt; !done(&mut world, Event::Post(0))?);
+    assert!(rt; !done(&mut world, Event::Collect)?);
+    assert!(rt; !done(&mut world, Event::Poll(0))?);
+    assert!(rt; !done(&mut world, Event::Take(7))?);
+    assert!(rt; !done(&mut world, Event::Close(4))?);
+    assert!(rt; done(&mut world, Event::Close(0))?);
+    assert!(rt; !done(&mut world, Event::Close(0))?);
+    Ok(())
+}
+
+#[test]
+fn gives_a_job_and_its_parts_back(rt: HostRuntime) -> Result<(), Fail> {
+    let alloc = rt.alloc();
+    let year = Year::new(2026).ok_or("year")?;
+    let ticket = Ticket { lane: 2, number: 9 };
+    let job = Job::new(ticket, row(alloc, EAN8)?, year);
+    assert_eq!(rt; job.ticket(), ticket);
+    assert_eq!(rt; job.row().widths(), EAN8);
+    assert_eq!(rt; job.year(), year);
+    let delivery = decode(Job::new(ticket, job.into_row(), year));
+    assert_eq!(rt; delivery.ticket(), ticket);
+    assert_eq!(rt; delivery.row().widths(), EAN8);
+    assert_eq!(rt; delivery.year(), year);
+    let text = format!(in alloc; "{} {}", TakeFault::Stranger(delivery), NoMemory)?;
+    assert_eq!(rt; text.as_str(), "refused 32 Stranger refused 43 NoMemory");
+    Ok(())
+}

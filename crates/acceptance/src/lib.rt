@@ -1,0 +1,9 @@
+//! What the crates do together, against values from outside: tests alone.
+#![tactic(auto)]
+
+#[cfg(test)]
+mod lanes;
+#[cfg(test)]
+mod serving;
+#[cfg(test)]
+mod sheets;

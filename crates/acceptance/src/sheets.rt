@@ -1,0 +1,503 @@
+//! Printed labels, images read and written, and readers and writers that fail.
+ghost use Rattle.std.specs.Prelude.{None, ◌≡◌};
+
+use code128_code::encode;
+use digits_core::{Failed, FromReader, Gtin, Sink, Source, ToWriter};
+use element_core::{Elements, Year};
+use scan_core::{Answer, Carrier, Runs, read_row};
+use sheet_core::{Grid, Label, PbmFault, Sheet, SheetFault, print_sheets, read_pbm, write_pbm};
+use std::alloc::{AllocError, Global};
+use std::test::Fail;
+
+// An image of ten by two dots, in turn light and dark, with a comment.
+const IMAGE: &[u8] = b"P4\n# a\n10 2\n\xAA\x80\x55\x40";
+
+// The printed label of 9501101530003 in a cell of 113 by 3 dots.
+const PRINTED: &[u8] = b"P4\n113 3\n\
+    \x00\x00\x00\x00\x00\x00\x00\x00\x00\x00\x00\x00\x00\x00\x00\
+    \x00\x15\x8A\x76\x66\x53\x99\x54\xE8\x5C\xB9\x72\x85\x40\x00\
+    \x00\x00\x00\x00\x00\x00\x00\x00\x00\x00\x00\x00\x00\x00\x00";
+
+/// Gives a text a byte at a time, and fails at a place in it.
+#[derive(Drop)]
+struct Breaking<'a> {
+    text: &'a [u8],
+    given: usize,
+    fails_at: usize,
+    has_failed: bool,
+}
+
+impl<'a> Breaking<'a> {
+    fn new(text: &'a [u8], fails_at: usize) -> Breaking<'a> {
+        Breaking {
+            text,
+            given: 0,
+            fails_at,
+            has_failed: false,
+        }
+    }
+}
+
+impl<'a> Source for Breaking<'a> {
+    ghost left = { λ s. None };
+
+    ghost failed = { λ s. s.has_failed };
+
+    fn read(&mut self, buf: &mut [u8]) -> Result<usize, Failed> {
+        if self.has_failed || self.given >= self.fails_at {
+            self.has_failed = true;
+            return Err(Failed);
+        }
+        match self.text.get(self.given) {
+            Some(byte) if !buf.is_empty() => {
+                buf[0] = *byte;
+                self.given = self.given.saturating_add(1);
+                Ok(1)
+            }
+            _ => Ok(0),
+        }
+    }
+}
+
+/// Takes a byte at a time, as many as it has room for, and then fails.
+#[derive(Drop)]
+struct Narrow {
+    taken: Vec<u8>,
+    room: usize,
+    has_failed: bool,
+}
+
+impl Narrow {
+    fn new(alloc: Global, room: usize) -> Narrow {
+        Narrow {
+            taken: Vec::new(alloc),
+            room,
+            has_failed: false,
+        }
+    }
+}
+
+impl Sink for Narrow {
+    ghost taken = { λ s. None };
+
+    ghost failed = { λ s. s.has_failed };
+
+    fn write(&mut self, bytes: &[u8]) -> Result<usize, Failed> {
+        if bytes.is_empty() {
+            return Ok(0);
+        }
+        if self.has_failed || self.taken.len() >= self.room || self.taken.push(bytes[0]).is_err() {
+            self.has_failed = true;
+            return Err(Failed);
+        }
+        Ok(1)
+    }
+}
+
+/// The sheets of a file.
+fn read(alloc: Global, file: &[u8]) -> Result<Vec<Sheet>, PbmFault> {
+    let mut source = FromReader::new(file);
+    read_pbm(alloc, &mut source)
+}
+
+/// How many sheets a file has, or the line of its fault.
+fn answer(alloc: Global, file: &[u8]) -> Result<String, AllocError> {
+    match read(alloc, file) {
+        Ok(sheets) => {
+            let count = sheets.len();
+            format!(in alloc; "{count} sheets")
+        }
+        Err(fault) => format!(in alloc; "{fault}"),
+    }
+}
+
+/// The bytes that sheets are written as.
+fn written(alloc: Global, sheets: &[Sheet]) -> Result<Vec<u8>, Fail> {
+    let mut sink = ToWriter::new(Vec::new(alloc));
+    write_pbm(sheets, &mut sink).ok().ok_or("write")?;
+    Ok(sink.into_inner())
+}
+
+/// The dots of a row of a sheet, dark as 1.
+fn row(alloc: Global, sheet: &Sheet, y: u16) -> Result<String, AllocError> {
+    let mut text = String::new(alloc);
+    for x in 0..sheet.width() {
+        text.push(if sheet.dot(x, y) { '1' } else { '0' })?;
+    }
+    Ok(text)
+}
+
+fn elements(text: &str, year: u16) -> Result<Elements, Fail> {
+    let year = Year::new(year).ok_or("year")?;
+    Ok(
+        Elements::parse(text.as_bytes(), year)
+            .ok()
+            .ok_or("elements")?,
+    )
+}
+
+/// The cells of a grid: how wide and high they are, and in how many columns and rows.
+#[derive(Clone, Copy)]
+struct Shape {
+    width: u16,
+    height: u16,
+    columns: u16,
+    rows: u16,
+}
+
+/// Row `y` of a cell.
+fn row_of_cell(
+    alloc: Global,
+    sheet: &Sheet,
+    grid: &Grid,
+    shape: Shape,
+    cell: u16,
+    y: u16,
+) -> Result<Runs, Fail>
+    requires width { grid.now.width ≡ shape.width }
+    requires height { grid.now.height ≡ shape.height }
+    requires columns { grid.now.columns ≡ shape.columns }
+    requires rows { grid.now.rows ≡ shape.rows }
+{
+    if u32::from(sheet.width()) != u32::from(shape.columns) * u32::from(shape.width) {
+        return Err(Fail::from("the grid's width"));
+    }
+    if u32::from(sheet.height()) != u32::from(shape.rows) * u32::from(shape.height) {
+        return Err(Fail::from("the grid's height"));
+    }
+    if u32::from(cell) >= u32::from(shape.columns) * u32::from(shape.rows) {
+        return Err(Fail::from("a cell"));
+    }
+    if y >= shape.height {
+        return Err(Fail::from("a row of the cell"));
+    }
+    Ok(sheet.cell_row(alloc, grid, cell, y).ok().ok_or("row")?)
+}
+
+/// What a row says under a year.
+fn line(alloc: Global, runs: &Runs, year: u16) -> Result<String, Fail> {
+    match read_row(runs, Year::new(year).ok_or("year")?) {
+        Answer::Read { carrier, elements } => {
+            let id = match carrier {
+                Carrier::Ean13 | Carrier::UpcE => "]E0",
+                Carrier::Ean8 => "]E4",
+                Carrier::Gs1128 => "]C1",
+            };
+            let hri = elements.hri();
+            let text = hri.as_str();
+            Ok(format!(in alloc; "{id} {text}")?)
+        }
+        Answer::Refused(fault) => Ok(format!(in alloc; "{fault}")?),
+    }
+}
+
+fn gtin(digits: &str) -> Result<Gtin, Fail> {
+    Ok(Gtin::read(digits.as_bytes()).ok().ok_or("gtin")?)
+}
+
+/// How many sheets labels are printed on, or the line of their fault.
+fn print(alloc: Global, labels: &[Label], grid: Grid) -> Result<String, AllocError> {
+    match print_sheets(alloc, labels, grid) {
+        Ok(sheets) => {
+            let count = sheets.len();
+            format!(in alloc; "{count} sheets")
+        }
+        Err(fault) => format!(in alloc; "{fault}"),
+    }
+}
+
+#[test]
+fn refuses_grids_outside_the_limits(_rt: HostRuntime) -> Result<(), Fail> {
+    Grid::new(1, 113, 3, 1, 1).ok().ok_or("least")?;
+    Grid::new(8, 1024, 256, 16, 64).ok().ok_or("greatest")?;
+    for (module, width, height, columns, rows) in [
+        (1, 113, 2, 1, 1),
+        (1, 1025, 3, 16, 1),
+        (0, 113, 3, 1, 1),
+        (9, 113, 20, 1, 1),
+        (1, 4097, 3, 1, 1),
+        (1, 113, 1025, 1, 1),
+        (1, 113, 3, 17, 1),
+        (1, 113, 3, 1, 65),
+        (1, 113, 257, 1, 64),
+    ] {
+        Grid::new(module, width, height, columns, rows)
+            .err()
+            .ok_or("bad grid")?;
+    }
+    Ok(())
+}
+
+#[test]
+fn prints_a_label_as_its_bytes(rt: HostRuntime) -> Result<(), Fail> {
+    let alloc = rt.alloc();
+    let grid = Grid::new(1, 113, 3, 1, 1).ok().ok_or("grid")?;
+    let labels = [Label::Ean13(gtin("9501101530003")?)];
+    let sheets = print_sheets(alloc, &labels, grid).ok().ok_or("print")?;
+    let bytes = written(alloc, sheets.as_slice())?;
+    assert_eq!(rt; bytes.as_slice(), PRINTED);
+    let read = read(alloc, PRINTED).ok().ok_or("read")?;
+    let again = written(alloc, read.as_slice())?;
+    assert_eq!(rt; again.as_slice(), PRINTED);
+    Ok(())
+}
+
+#[test]
+fn prints_labels_that_fit(rt: HostRuntime) -> Result<(), Fail> {
+    let alloc = rt.alloc();
+    let number = gtin("9501101530003")?;
+    let suppressed = gtin("012345000065")?;
+    let short = gtin("96385074")?;
+    let wide = Grid::new(2, 226, 5, 2, 2).ok().ok_or("wide")?;
+    let narrow = Grid::new(2, 225, 5, 2, 2).ok().ok_or("narrow")?;
+    let few = Grid::new(1, 81, 3, 1, 1).ok().ok_or("few")?;
+    for (label, grid, wanted) in [
+        (Label::Ean13(number), wide, "1 sheets"),
+        (Label::Ean13(number), narrow, "refused 27 LabelWidth 0"),
+        (Label::UpcA(suppressed), wide, "1 sheets"),
+        (Label::UpcA(number), wide, "refused 26 LabelKind 0"),
+        (Label::UpcE(suppressed), wide, "1 sheets"),
+        (Label::UpcE(number), wide, "refused 26 LabelKind 0"),
+        (Label::Ean8(short), few, "1 sheets"),
+        (Label::Ean8(number), wide, "refused 26 LabelKind 0"),
+    ] {
+        let found = print(alloc, &[label], grid)?;
+        assert_eq!(rt; found.as_str(), wanted);
+    }
+    // Of several labels the first that is not printed is answered, its kind before its width.
+    let labels = [Label::Ean13(number), Label::Ean8(number)];
+    let found = print(alloc, &labels, narrow)?;
+    assert_eq!(rt; found.as_str(), "refused 27 LabelWidth 0");
+    let found = print(alloc, &labels, wide)?;
+    assert_eq!(rt; found.as_str(), "refused 26 LabelKind 1");
+    let found = print(alloc, &[], wide)?;
+    assert_eq!(rt; found.as_str(), "0 sheets");
+    Ok(())
+}
+
+#[test]
+fn fills_sheets_row_by_row(rt: HostRuntime) -> Result<(), Fail> {
+    let alloc = rt.alloc();
+    let Ok(grid) = Grid::new(1, 113, 3, 2, 2) else {
+        return Err(Fail::from("grid"));
+    };
+    let shape = Shape {
+        width: 113,
+        height: 3,
+        columns: 2,
+        rows: 2,
+    };
+    let number = gtin("9501101530003")?;
+    let labels = [
+        Label::Ean13(number),
+        Label::Ean8(gtin("96385074")?),
+        Label::UpcE(gtin("012345000065")?),
+        Label::Ean13(number),
+        Label::UpcA(gtin("012345000065")?),
+    ];
+    let sheets = print_sheets(alloc, &labels, grid).ok().ok_or("print")?;
+    assert_eq!(rt; sheets.len(), 2);
+    for (sheet, cell, left, runs) in [
+        (0, 0, 11, 61),
+        (0, 1, 7, 45),
+        (0, 2, 9, 35),
+        (0, 3, 11, 61),
+        (1, 0, 9, 61),
+        (1, 1, 113, 1),
+        (1, 3, 113, 1),
+    ] {
+        let sheet = sheets.get(sheet).ok_or("sheet")?;
+        let found = row_of_cell(alloc, sheet, &grid, shape, cell, 1)?;
+        assert_eq!(rt; found.widths().first(), Some(&left));
+        assert_eq!(rt; found.widths().len(), runs);
+        let above = row_of_cell(alloc, sheet, &grid, shape, cell, 0)?;
+        assert_eq!(rt; above.widths(), [113].as_slice());
+        let below = row_of_cell(alloc, sheet, &grid, shape, cell, 2)?;
+        assert_eq!(rt; below.widths(), [113].as_slice());
+    }
+    assert_eq!(rt; labels[1].text().as_slice(), b"0100000096385074".as_slice());
+    Ok(())
+}
+
+#[test]
+fn reads_images(rt: HostRuntime) -> Result<(), Fail> {
+    let alloc = rt.alloc();
+    let padded = b"P4\n# a\n10 2\n\xAA\xBF\x55\x40";
+    for file in [IMAGE, padded] {
+        let sheets = read(alloc, file).ok().ok_or("read")?;
+        assert_eq!(rt; sheets.len(), 1);
+        assert_eq!(rt; (sheets[0].width(), sheets[0].height()), (10, 2));
+        let first = row(alloc, &sheets[0], 0)?;
+        assert_eq!(rt; first.as_str(), "1010101010");
+        let second = row(alloc, &sheets[0], 1)?;
+        assert_eq!(rt; second.as_str(), "0101010101");
+        let runs = sheets[0].row(alloc, 0).ok().ok_or("row")?;
+        assert_eq!(rt; runs.widths(), [0, 1, 1, 1, 1, 1, 1, 1, 1, 1, 1].as_slice());
+        let bytes = written(alloc, sheets.as_slice())?;
+        assert_eq!(rt; bytes.as_slice(), b"P4\n10 2\n\xAA\x80\x55\x40".as_slice());
+    }
+    for (file, wanted) in [
+        (b"".as_slice(), "0 sheets"),
+        (b"P1\n# a\n10 2\n\xAA\x80\x55\x40", "refused 28 NotP4"),
+        (b"P4\n# a\n10 2\n\xAA\x80\x55", "refused 30 Truncated"),
+        (b"P4\n# a\n0 2\n", "refused 31 PbmSize"),
+        (b"P4\nx", "refused 29 PbmHeader"),
+        (b"P4#a\r1#b\n1\t\x80", "1 sheets"),
+        (b"P4 1 1#", "refused 29 PbmHeader"),
+        (b"P4 0001 65536 ", "refused 31 PbmSize"),
+        (b"P4 65535 65535 abc", "refused 30 Truncated"),
+        (b"P4 1 1 \x80P4 1 1 \x00", "2 sheets"),
+        (b"P4 1 1 \x80\n", "refused 28 NotP4"),
+        (b"P4 1 1 \x80P", "refused 30 Truncated"),
+    ] {
+        let found = answer(alloc, file)?;
+        assert_eq!(rt; found.as_str(), wanted);
+    }
+    Ok(())
+}
+
+#[test]
+fn keeps_the_limits_of_files(rt: HostRuntime) -> Result<(), Fail> {
+    let alloc = rt.alloc();
+    for (zeros, wanted) in [(4088, "1 sheets"), (4089, "refused 29 PbmHeader")] {
+        let mut file = Vec::new(alloc);
+        file.extend_from_slice(b"P4 ")?;
+        for _ in 0..zeros {
+            file.push(b'0')?;
+        }
+        file.extend_from_slice(b"1 01\n\x80")?;
+        let found = answer(alloc, file.as_slice())?;
+        assert_eq!(rt; found.as_str(), wanted);
+    }
+    let mut file = Vec::new(alloc);
+    for _ in 0..4096 {
+        file.extend_from_slice(b"P4 1 1 \x80")?;
+    }
+    let found = answer(alloc, file.as_slice())?;
+    assert_eq!(rt; found.as_str(), "4096 sheets");
+    file.push(b'P')?;
+    let found = answer(alloc, file.as_slice())?;
+    assert_eq!(rt; found.as_str(), "refused 31 PbmSize");
+    Ok(())
+}
+
+#[test]
+fn reads_fronts_of_files(rt: HostRuntime) -> Result<(), Fail> {
+    let alloc = rt.alloc();
+    let mut twice = IMAGE.to_vec(alloc)?;
+    twice.extend_from_slice(IMAGE)?;
+    for count in 0..33 {
+        let wanted = match count {
+            0 => "0 sheets",
+            16 => "1 sheets",
+            32 => "2 sheets",
+            _ => "refused 30 Truncated",
+        };
+        let found = answer(alloc, &twice[..count])?;
+        assert_eq!(rt; found.as_str(), wanted);
+    }
+    for place in 0..17 {
+        let mut source = Breaking::new(IMAGE, place);
+        let fault = read_pbm(alloc, &mut source).err().ok_or("fault")?;
+        assert_eq!(rt; fault, PbmFault::ReadFault);
+    }
+    Ok(())
+}
+
+#[test]
+fn writes_fronts_of_files(rt: HostRuntime) -> Result<(), Fail> {
+    let alloc = rt.alloc();
+    let sheets = read(alloc, PRINTED).ok().ok_or("read")?;
+    for room in 0..55 {
+        let mut sink = Narrow::new(alloc, room);
+        let wrote = write_pbm(sheets.as_slice(), &mut sink);
+        assert_eq!(rt; wrote.is_ok(), room == 54);
+        assert_eq!(rt; sink.taken.as_slice(), &PRINTED[..room]);
+    }
+    Ok(())
+}
+
+#[test]
+fn prints_48_characters(rt: HostRuntime) -> Result<(), Fail> {
+    let alloc = rt.alloc();
+    let Ok(wide) = Grid::new(1, 594, 4, 1, 1) else {
+        return Err(Fail::from("wide"));
+    };
+    let shape = Shape {
+        width: 594,
+        height: 4,
+        columns: 1,
+        rows: 1,
+    };
+    let narrow = Grid::new(1, 593, 4, 1, 1).ok().ok_or("narrow")?;
+    let longest = "91AAAAAAAAAAAAAAAAAAAAAAAAAAAAAAAAAAAAAAAAAAAAAA";
+    let labels = [Label::Gs1128(elements(longest, 2026)?)];
+    assert_eq!(rt; labels[0].text().len(), 48);
+    let sheets = print_sheets(alloc, &labels, wide).ok().ok_or("print")?;
+    let sheet = sheets.first().ok_or("sheet")?;
+    for y in 1..3 {
+        let runs = row_of_cell(alloc, sheet, &wide, shape, 0, y)?;
+        let found = line(alloc, &runs, 2026)?;
+        let wanted = "]C1 (91)AAAAAAAAAAAAAAAAAAAAAAAAAAAAAAAAAAAAAAAAAAAAAA";
+        assert_eq!(rt; found.as_str(), wanted);
+    }
+    let found = print(alloc, &labels, narrow)?;
+    assert_eq!(rt; found.as_str(), "refused 27 LabelWidth 0");
+    let longer = elements("91AAAAAAAAAAAAAAAAAAAAAAAAAAAAAAAAAAAAAAAAAAAAAAA", 2026)?;
+    encode(&longer).err().ok_or("too many characters")?;
+    let found = print(alloc, &[Label::Gs1128(longer)], wide)?;
+    assert_eq!(rt; found.as_str(), "refused 26 LabelKind 0");
+    Ok(())
+}
+
+#[test]
+fn reads_each_bar_row_as_its_label(rt: HostRuntime) -> Result<(), Fail> {
+    let alloc = rt.alloc();
+    let Ok(grid) = Grid::new(2, 400, 12, 3, 3) else {
+        return Err(Fail::from("grid"));
+    };
+    let shape = Shape {
+        width: 400,
+        height: 12,
+        columns: 3,
+        rows: 3,
+    };
+    let number = gtin("9501101530003")?;
+    let suppressed = gtin("012345000065")?;
+    let labels = [
+        Label::Ean13(number),
+        Label::UpcA(suppressed),
+        Label::Ean8(gtin("96385074")?),
+        Label::UpcE(suppressed),
+        Label::Gs1128(elements("10AB\x1d17261231", 2026)?),
+        Label::Gs1128(elements("17000229", 2026)?),
+    ];
+    let sheets = print_sheets(alloc, &labels, grid).ok().ok_or("print")?;
+    let sheet = sheets.first().ok_or("sheet")?;
+    for (cell, wanted) in [
+        (0, "]E0 (01)09501101530003"),
+        (1, "]E0 (01)00012345000065"),
+        (2, "]E4 (01)00000096385074"),
+        (3, "]E0 (01)00012345000065"),
+        (4, "]C1 (10)AB(17)261231"),
+        (5, "]C1 (17)000229"),
+        (6, "refused 19 Blank"),
+        (8, "refused 19 Blank"),
+    ] {
+        for y in 0..12 {
+            let runs = row_of_cell(alloc, sheet, &grid, shape, cell, y)?;
+            let found = line(alloc, &runs, 2026)?;
+            let wanted = if 2 <= y && y < 10 {
+                wanted
+            } else {
+                "refused 19 Blank"
+            };
+            assert_eq!(rt; found.as_str(), wanted);
+        }
+    }
+    // Under a later reference year the label means a day of 2100, which has no such day.
+    let runs = row_of_cell(alloc, sheet, &grid, shape, 5, 5)?;
+    let found = line(alloc, &runs, 2060)?;
+    assert_eq!(rt; found.as_str(), "refused 9 ValueDate 0");
+    Ok(())
+}
