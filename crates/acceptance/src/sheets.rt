@@ -119,7 +119,10 @@ fn written(alloc: Global, sheets: &[Sheet]) -> Result<Vec<u8>, Fail> {
 }
 
 /// The dots of a row of a sheet, dark as 1.
-fn row(alloc: Global, sheet: &Sheet, y: u16) -> Result<String, AllocError> {
+fn row(alloc: Global, sheet: &Sheet, y: u16) -> Result<String, Fail> {
+    if y >= sheet.height() {
+        return Err(Fail::from("a row of the sheet"));
+    }
     let mut text = String::new(alloc);
     for x in 0..sheet.width() {
         text.push(if sheet.dot(x, y) { '1' } else { '0' })?;
