@@ -126,4 +126,5 @@ def main():
         print(f"{rng.randrange(lanes)},{' '.join(map(str, widths))}")
 
 
-main()
+if __name__ == "__main__":
+    main()

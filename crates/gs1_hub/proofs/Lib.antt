@@ -7,6 +7,8 @@ pub mod FeedFacts
 pub mod FieldFaults
 pub mod FieldWords
 pub mod FirstFault
+pub mod Flags
+pub mod LineFacts
 pub mod Matches
 pub mod Reaching
 pub mod ReportFacts

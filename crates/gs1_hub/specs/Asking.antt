@@ -3,8 +3,9 @@ use Rattle.std.specs.Prelude.{◌≡◌, ◌≢◌, ⊤, List, [], Option, Some,
 use Rattle.clap.specs.Words.{IsAmong, Row, Text, fault_of, subcommand_of}
 use Rattle.clap.specs.declared.error.kind.ErrorKind.{ErrorKind}
 use Rattle.clap.specs.declared.error.kind.ErrorKind.TheVariants as kind
-use Rattle.gs1_hub.specs.CommandLine.{HasNumber, HasYear, hub_app}
+use Rattle.gs1_hub.specs.CommandLine.{HasFlag, HasNumber, HasYear, hub_app}
 use Rattle.gs1_hub.specs.declared.options.LaneOptions.{LaneOptions}
+use Rattle.gs1_hub.specs.declared.options.PrintOptions.{PrintOptions}
 use Rattle.gs1_hub.specs.declared.words.Asked.{Asked}
 use Rattle.gs1_hub.specs.declared.words.Asked.TheVariants as asked
 use Rattle.gs1_hub.specs.declared.words.WordsFault.{WordsFault}
@@ -15,9 +16,16 @@ abbrev pub HasLanes : List Row → LaneOptions → Type 0
 HasLanes rows o = HasNumber (codes "lanes") 1 16 rows o.lanes
     × HasNumber (codes "workers") 1 16 rows o.workers × HasYear rows o.year
 
+-- the numbers of the command `print`, and whether it is to print text
+abbrev pub HasPrint : List Row → PrintOptions → Type 0
+HasPrint rows o = HasNumber (codes "module") 1 8 rows o.module_dots × HasNumber (codes "width") 1 4096 rows o.width
+    × HasNumber (codes "height") 1 1024 rows o.height × HasNumber (codes "columns") 1 16 rows o.columns
+    × HasNumber (codes "rows") 1 64 rows o.rows × HasYear rows o.year × HasFlag (codes "text") rows o.text
+
 -- the command of this name, with its numbers
 abbrev pub AsksIn : Text → List Row → Asked → Type 0
 AsksIn name rows (asked.Check year) = (name ≡ codes "check") × HasYear rows year
+AsksIn name rows (asked.Print o) = (name ≡ codes "print") × HasPrint rows o
 AsksIn name rows (asked.Lanes o) = (name ≡ codes "lanes") × HasLanes rows o
 
 -- the command and its numbers, by the name and the matches of a subcommand

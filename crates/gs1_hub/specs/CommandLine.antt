@@ -1,8 +1,8 @@
 -- The command line of the program, as `clap` reads it.
-use Rattle.std.specs.Prelude.{◌≡◌, ◌≤◌, ℕ, pos, List, Some, true, codes}
+use Rattle.std.specs.Prelude.{◌≡◌, ◌≤◌, ℕ, pos, Bool, List, Some, true, false, codes}
 use Rattle.std.specs.Str.Parse.{IsNumeral, digits_value, without_leading_plus}
 use Rattle.clap.specs.Words.{App, Row, Rule, Text, new_app, new_rule, one_of, with_rule, with_subcommand}
-use Rattle.clap.specs.declared.builder.ArgAction.TheVariants.{Set}
+use Rattle.clap.specs.declared.builder.ArgAction.TheVariants.{Set, SetTrue}
 use Rattle.clap.specs.declared.builder.value_parser.ValueParser.TheVariants as vp
 
 -- `--name N`, which is required and lies from `least` to `most`
@@ -14,6 +14,13 @@ number_rule name least most = record (new_rule name) {
   parser = Some (vp.Signed (pos least) (pos most));
 }
 
+-- `--name`, which has no value and may be left out
+abbrev pub flag_rule : Text → Rule
+flag_rule name = record (new_rule name) {
+  long = Some name;
+  action = Some SetTrue;
+}
+
 -- `--year Y`, the reference year of dates
 abbrev pub year_rule : Rule
 year_rule = number_rule (codes "year") 1951 2149
@@ -21,6 +28,18 @@ year_rule = number_rule (codes "year") 1951 2149
 -- `check --year Y`
 abbrev pub check_app : App
 check_app = with_rule (new_app (codes "check")) year_rule
+
+-- `--module M --width W --height H`, in dots
+abbrev pub with_cell : App → App
+with_cell a = with_rule (with_rule (with_rule a (number_rule (codes "module") 1 8)) (number_rule (codes "width") 1 4096)) (number_rule (codes "height") 1 1024)
+
+-- `--columns C --rows R`
+abbrev pub with_places : App → App
+with_places a = with_rule (with_rule a (number_rule (codes "columns") 1 16)) (number_rule (codes "rows") 1 64)
+
+-- `print --module M --width W --height H --columns C --rows R --year Y [--text]`
+abbrev pub print_app : App
+print_app = with_rule (with_rule (with_places (with_cell (new_app (codes "print")))) year_rule) (flag_rule (codes "text"))
 
 -- `lanes --lanes N --workers K --year Y`
 abbrev pub lanes_app : App
@@ -30,9 +49,13 @@ lanes_app = with_rule (with_rule (with_rule (new_app (codes "lanes")) (number_ru
 abbrev pub hub_top : App
 hub_top = let fresh = new_app (codes "gs1_hub") in record fresh { top = record fresh.top { disable_help_subcommand = true; subcommand_required = true } }
 
+-- the program with the commands that take texts
+abbrev pub text_app : App
+text_app = with_subcommand (with_subcommand hub_top check_app.top) print_app.top
+
 -- the program with its commands
 abbrev pub hub_app : App
-hub_app = with_subcommand (with_subcommand hub_top check_app.top) lanes_app.top
+hub_app = with_subcommand text_app lanes_app.top
 
 -- among the matches of a command, this number stands under the name, and it lies in the range
 abbrev pub HasNumber : Text → ℕ → ℕ → List Row → ℕ → Type 0
@@ -43,3 +66,11 @@ HasNumber name least most rows n = (t : Text) × (one_of name rows ≡ Some t)
 -- the same of the reference year
 abbrev pub HasYear : List Row → ℕ → Type 0
 HasYear = HasNumber (codes "year") 1951 2149
+
+-- the flag of this name stands among them, or not
+abbrev pub flag_text : Bool → Text
+flag_text true = codes "true"
+flag_text false = codes "false"
+
+abbrev pub HasFlag : Text → List Row → Bool → Type 0
+HasFlag name rows is_set = one_of name rows ≡ Some (flag_text is_set)

@@ -1,7 +1,11 @@
 -- The texts of faults, and how those of one layer become those of the next.
 use Rattle.std.specs.Prelude.{ℕ, List, Result, Ok, Err, codes, string_bytes}
+use Rattle.digits_core.specs.Faults.{digit_fault_text}
 use Rattle.digits_core.specs.declared.source.InputFault.{InputFault}
 use Rattle.digits_core.specs.declared.source.InputFault.TheVariants as input
+use Rattle.element_core.specs.Faults.{element_fault_text}
+use Rattle.sheet_core.specs.declared.fault.SheetFault.{SheetFault}
+use Rattle.sheet_core.specs.declared.fault.SheetFault.TheVariants as sheet
 use Rattle.gs1_hub.specs.declared.fault.CommandFault.{CommandFault}
 use Rattle.gs1_hub.specs.declared.fault.CommandFault.TheVariants as command
 use Rattle.gs1_hub.specs.declared.fault.RecordFault.{RecordFault}
@@ -17,13 +21,15 @@ words_fault_text words.Words = codes "refused 42 Words"
 words_fault_text words.NoMemory = codes "refused 43 NoMemory"
 words_fault_text (words.Help text) = string_bytes text
 
--- of a record: `refused`, its number and its name
+-- of a record: `refused`, its number, its name and, where it has one, its place in the second field
 abbrev pub record_fault_text : RecordFault → List ℕ
 record_fault_text fault.Csv = codes "refused 39 Csv"
 record_fault_text fault.Kind = codes "refused 40 Kind"
 record_fault_text fault.BadLane = codes "refused 41 BadLane"
 record_fault_text fault.BadRuns = codes "refused 18 BadRuns"
 record_fault_text fault.TooWide = codes "refused 17 TooWide"
+record_fault_text (fault.Digits f) = digit_fault_text f
+record_fault_text (fault.Elements f) = element_fault_text f
 
 -- a fault of the reading, as the command's
 abbrev pub of_input : InputFault → CommandFault
@@ -37,6 +43,20 @@ failed_write = command.WriteFault
 
 abbrev pub no_memory : CommandFault
 no_memory = command.NoMemory
+
+-- a grid outside the limits, as the command's
+abbrev pub bad_grid : CommandFault
+bad_grid = command.BadGrid
+
+-- a fault of labels, as the command's
+abbrev pub of_sheets : SheetFault → CommandFault
+of_sheets (sheet.LabelKind i) = command.LabelKind i
+of_sheets (sheet.LabelWidth i) = command.LabelWidth i
+of_sheets sheet.NoMemory = command.NoMemory
+
+-- a record's fault, as its refusal
+abbrev pub of_record : RecordFault → RecordRefusal
+of_record f = refusal.Record f
 
 -- a refused growth, as a record's refusal
 abbrev pub no_room : RecordRefusal

@@ -4,6 +4,7 @@ pub mod CommandLine
 pub mod Commands
 pub mod Faults
 pub mod Feeds
+pub mod Prints
 pub mod Records
 pub mod Report
 pub mod Widths

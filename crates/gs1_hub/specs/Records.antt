@@ -1,5 +1,6 @@
 -- The records of an input, and the first that is refused.
-use Rattle.std.specs.Prelude.{◌≡◌, ◌+◌, ⊤, ℕ, List, [], ◌∷◌, Option, Some, None}
+use Rattle.std.specs.Prelude.{◌≡◌, ⊤, ℕ, List, Option, Some, None, slice_get, take}
+use Rattle.std.specs.List.{AllByRecursion}
 use Rattle.csv.specs.Reading.{default_config, records, strip_bom}
 use Rattle.gs1_hub.specs.declared.fault.CommandFault.{CommandFault}
 use Rattle.gs1_hub.specs.declared.fault.CommandFault.TheVariants as command
@@ -13,28 +14,32 @@ Fields = List (List ℕ)
 abbrev pub records_of : List ℕ → List Fields
 records_of bytes = records default_config (strip_bom bytes)
 
--- why a command refuses a record, if it refuses it
-abbrev pub Test : Type 0
-Test = Fields → Option RecordFault
+-- a record has this fault, or none
+abbrev pub Test : Type 1
+Test = Fields → Option RecordFault → Type 0
 
--- a fault at this index, or else what comes later
-abbrev pub found_at : ℕ → Option RecordFault → Option (ℕ × RecordFault) → Option (ℕ × RecordFault)
-found_at i (Some f) later = Some (i, f)
-found_at i None later = later
+-- the test by a rule that computes the fault
+abbrev pub computed : (Fields → Option RecordFault) → Test
+computed fault_of fields fault = fault_of fields ≡ fault
 
--- the first faulty record from an index on, with its fault
-abbrev pub first_fault_from : Test → ℕ → List Fields → Option (ℕ × RecordFault)
-first_fault_from test i [] = None
-first_fault_from test i (r ∷ rs) = found_at i (test r) (first_fault_from test (i + 1) rs)
+-- no record is faulty
+abbrev pub NoneFaulty : Test → List Fields → Type 0
+NoneFaulty test rows = AllByRecursion (λ r. test r None) rows
 
--- the first faulty record, with its fault
-abbrev pub first_fault : Test → List Fields → Option (ℕ × RecordFault)
-first_fault test = first_fault_from test 0
+-- the first faulty record has this index and this fault
+pub record IsFirstFault (test : Test) (rows : List Fields) (i : ℕ) (f : RecordFault) : Type 0 where
+  pub fields : Fields
+  pub here : slice_get rows i ≡ Some fields
+  pub before : NoneFaulty test (take i rows)
+  pub faulty : test fields (Some f)
 
 -- the refusal names the first faulty record, or memory
 abbrev pub NamesFirst : Test → List Fields → CommandFault → Type 0
-NamesFirst test rows (command.Record i f) = first_fault test rows ≡ Some (i, f)
+NamesFirst test rows (command.Record i f) = IsFirstFault test rows i f
 NamesFirst test rows command.NoMemory = ⊤
 NamesFirst test rows command.ReadFault = ⊥
 NamesFirst test rows command.WriteFault = ⊥
 NamesFirst test rows command.InputSize = ⊥
+NamesFirst test rows command.BadGrid = ⊥
+NamesFirst test rows (command.LabelKind i) = ⊥
+NamesFirst test rows (command.LabelWidth i) = ⊥

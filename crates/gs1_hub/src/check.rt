@@ -4,6 +4,7 @@ ghost use Rattle.std.specs.Io.KnownBytes.{Appends};
 ghost use Rattle.digits_core.specs.Bytes.{TookFront};
 ghost use Rattle.gs1_hub.specs.Checks.{IsCheckReport, check_fault};
 ghost use Rattle.gs1_hub.specs.Commands.{Refuses, Writes};
+ghost use Rattle.gs1_hub.specs.Records.{computed};
 
 use crate::check_answer::{answer_to, kind_named};
 use crate::fault::{CommandFault, RecordFault, RecordRefusal};
@@ -23,7 +24,7 @@ struct CheckRecords {
 impl Intake for CheckRecords {
     type Made = String;
 
-    ghost fault = { λ records. check_fault };
+    ghost fault = { λ records. computed check_fault };
 
     ghost makes = { λ records rows lines. IsCheckReport records.year rows (string_bytes lines) };
 
@@ -51,13 +52,13 @@ pub fn run_check<S: Source, W: Sink>(
     source: &mut S,
     sink: &mut W,
 ) -> Result<(), CommandFault>
-    ensures ok { OnOk result (Writes check_fault (IsCheckReport year) Appends
+    ensures ok { OnOk result (Writes (computed check_fault) (IsCheckReport year) Appends
         (S.left source.old) (S.left source.new) (W.taken sink.old) (W.taken sink.new)) }
     ensures cut { IsErrOf result CommandFault.WriteFault
-        → Writes check_fault (IsCheckReport year) TookFront
+        → Writes (computed check_fault) (IsCheckReport year) TookFront
         (S.left source.old) (S.left source.new) (W.taken sink.old) (W.taken sink.new) }
     ensures refused { IfErr result
-        (Refuses check_fault (S.left source.old) (S.left source.new)) }
+        (Refuses (computed check_fault) (S.left source.old) (S.left source.new)) }
     ensures unwritten { IfErr result (λ e. e ≢ CommandFault.WriteFault → sink.new ≡ sink.old) }
     ensures read { S.failed source.old ≡ false
         → (IsErrOf result CommandFault.ReadFault ↔ (S.failed source.new ≡ true)) }

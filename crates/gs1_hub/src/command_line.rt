@@ -2,7 +2,7 @@
 ghost use Rattle.std.specs.Prelude.{◌≡◌, IfOk, false};
 ghost use Rattle.clap.specs.Words.{app_of, rule_of};
 ghost use Rattle.clap.specs.declared.builder.command.Command.TheViews.{out-Command};
-ghost use Rattle.gs1_hub.specs.CommandLine.{check_app, hub_app, lanes_app, number_rule, year_rule};
+ghost use Rattle.gs1_hub.specs.CommandLine.{check_app, flag_rule, hub_app, lanes_app, number_rule, print_app, text_app, with_cell, with_places, year_rule};
 
 use clap::builder::ValueParser;
 use clap::{Arg, ArgAction, Command};
@@ -21,6 +21,14 @@ fn number<'a>(alloc: Global, name: &'a str, least: u16, most: u16) -> Arg<'a>
         .value_parser(reader)
 }
 
+/// The option `--name`, which has no value and may be left out.
+fn flag<'a>(alloc: Global, name: &'a str) -> Arg<'a>
+    ensures rule { rule_of result ≡ flag_rule name.now }
+    ensures own { result.global ≡ false }
+{
+    Arg::new(alloc, name).long(name).action(ArgAction::SetTrue)
+}
+
 /// The option `--year`, the reference year of dates.
 fn year<'a>(alloc: Global) -> Arg<'a>
     ensures rule { rule_of result ≡ year_rule }
@@ -36,6 +44,39 @@ fn check_command<'a>(alloc: Global) -> Result<Command<'a>, AllocError>
     Command::new(alloc, "check").arg(year(alloc))
 }
 
+/// The command with the options of a cell: how wide a module is, and how wide and high the cell.
+fn with_cell<'a>(alloc: Global, command: Command<'a>) -> Result<Command<'a>, AllocError>
+    ensures app { IfOk result (λ c. app_of c ≡ with_cell (app_of command.entry)) }
+    ensures own { (out-Command command.entry).has_globals ≡ false
+        → IfOk result (λ c. (out-Command c).has_globals ≡ false) }
+{
+    command
+        .arg(number(alloc, "module", 1, 8))?
+        .arg(number(alloc, "width", 1, 4096))?
+        .arg(number(alloc, "height", 1, 1024))
+}
+
+/// The command with the options of a sheet: how many columns and rows of cells it has.
+fn with_places<'a>(alloc: Global, command: Command<'a>) -> Result<Command<'a>, AllocError>
+    ensures app { IfOk result (λ c. app_of c ≡ with_places (app_of command.entry)) }
+    ensures own { (out-Command command.entry).has_globals ≡ false
+        → IfOk result (λ c. (out-Command c).has_globals ≡ false) }
+{
+    command
+        .arg(number(alloc, "columns", 1, 16))?
+        .arg(number(alloc, "rows", 1, 64))
+}
+
+fn print_command<'a>(alloc: Global) -> Result<Command<'a>, AllocError>
+    ensures app { IfOk result (λ c. app_of c ≡ print_app) }
+    ensures own { IfOk result (λ c. (out-Command c).has_globals ≡ false) }
+{
+    let sized = with_cell(alloc, Command::new(alloc, "print"))?;
+    with_places(alloc, sized)?
+        .arg(year(alloc))?
+        .arg(flag(alloc, "text"))
+}
+
 fn lanes_command<'a>(alloc: Global) -> Result<Command<'a>, AllocError>
     ensures app { IfOk result (λ c. app_of c ≡ lanes_app) }
     ensures own { IfOk result (λ c. (out-Command c).has_globals ≡ false) }
@@ -46,13 +87,20 @@ fn lanes_command<'a>(alloc: Global) -> Result<Command<'a>, AllocError>
         .arg(year(alloc))
 }
 
-/// The program with its commands.
-pub fn hub_command<'a>(alloc: Global) -> Result<Command<'a>, AllocError>
-    ensures { IfOk result (λ c. app_of c ≡ hub_app) }
+/// The program with the commands that take texts.
+fn text_commands<'a>(alloc: Global) -> Result<Command<'a>, AllocError>
+    ensures { IfOk result (λ c. app_of c ≡ text_app) }
 {
     Command::new(alloc, "gs1_hub")
         .disable_help_subcommand(true)
         .subcommand_required(true)
         .subcommand(check_command(alloc)?)?
-        .subcommand(lanes_command(alloc)?)
+        .subcommand(print_command(alloc)?)
+}
+
+/// The program with its commands.
+pub fn hub_command<'a>(alloc: Global) -> Result<Command<'a>, AllocError>
+    ensures { IfOk result (λ c. app_of c ≡ hub_app) }
+{
+    text_commands(alloc)?.subcommand(lanes_command(alloc)?)
 }

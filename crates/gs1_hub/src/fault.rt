@@ -1,8 +1,10 @@
 //! Why a command is refused as a whole.
 ghost use Rattle.std.specs.Prelude.{Some, ◌≡◌};
-ghost use Rattle.gs1_hub.specs.Faults.{failed_write, no_memory, no_room, of_input, record_fault_text, refusal_at};
+ghost use Rattle.gs1_hub.specs.Faults.{bad_grid, failed_write, no_memory, no_room, of_input, of_record, of_sheets, record_fault_text, refusal_at};
 
-use digits_core::{Failed, InputFault};
+use digits_core::{DigitFault, Failed, InputFault};
+use element_core::ElementFault;
+use sheet_core::{BadGrid, SheetFault, WriteFault};
 use std::alloc::AllocError;
 use std::fmt;
 use thiserror::Error;
@@ -12,7 +14,7 @@ use thiserror::Error;
 pub enum RecordFault {
     /// It has not two fields.
     Csv,
-    /// Its first field is no kind of text that is checked.
+    /// Its first field is no kind of text that the command takes.
     Kind,
     /// Its first field is no lane: one or two digits, below the number of lanes.
     BadLane,
@@ -21,6 +23,10 @@ pub enum RecordFault {
     BadRuns,
     /// Its widths have a sum above 65,535.
     TooWide,
+    /// Its second field is no GTIN.
+    Digits(DigitFault),
+    /// Its second field is no element string.
+    Elements(ElementFault),
 }
 
 impl fmt::Display for RecordFault {
@@ -33,6 +39,8 @@ impl fmt::Display for RecordFault {
             RecordFault::BadLane => write!(f, "refused 41 BadLane"),
             RecordFault::BadRuns => write!(f, "refused 18 BadRuns"),
             RecordFault::TooWide => write!(f, "refused 17 TooWide"),
+            RecordFault::Digits(fault) => write!(f, "{fault}"),
+            RecordFault::Elements(fault) => write!(f, "{fault}"),
         }
     }
 }
@@ -55,6 +63,15 @@ pub enum CommandFault {
     /// The input has more bytes than a command reads.
     #[error("refused 44 InputSize")]
     InputSize,
+    /// The numbers of the grid are wrong together.
+    #[error("refused 25 BadGrid")]
+    BadGrid,
+    /// The label at this index, from 0, is the first that is not printed, and has no such symbol.
+    #[error("refused 26 LabelKind {0}")]
+    LabelKind(usize),
+    /// The label at this index, from 0, is the first that is not printed, and is wider than its cell.
+    #[error("refused 27 LabelWidth {0}")]
+    LabelWidth(usize),
 }
 
 impl From<InputFault> for CommandFault {
@@ -77,6 +94,34 @@ impl From<Failed> for CommandFault {
     }
 }
 
+impl From<BadGrid> for CommandFault {
+    ghost from_gives = { λ refused command. command ≡ bad_grid };
+
+    fn from(_: BadGrid) -> CommandFault {
+        CommandFault::BadGrid
+    }
+}
+
+impl From<SheetFault> for CommandFault {
+    ghost from_gives = { λ fault command. command ≡ of_sheets fault };
+
+    fn from(fault: SheetFault) -> CommandFault {
+        match fault {
+            SheetFault::LabelKind(index) => CommandFault::LabelKind(index),
+            SheetFault::LabelWidth(index) => CommandFault::LabelWidth(index),
+            SheetFault::NoMemory => CommandFault::NoMemory,
+        }
+    }
+}
+
+impl From<WriteFault> for CommandFault {
+    ghost from_gives = { λ failed command. command ≡ failed_write };
+
+    fn from(_: WriteFault) -> CommandFault {
+        CommandFault::WriteFault
+    }
+}
+
 impl From<AllocError> for CommandFault {
     ghost from_gives = { λ refused command. command ≡ no_memory };
 
@@ -92,6 +137,14 @@ pub enum RecordRefusal {
     Record(RecordFault),
     /// A growth was refused.
     NoMemory,
+}
+
+impl From<RecordFault> for RecordRefusal {
+    ghost from_gives = { λ fault refusal. refusal ≡ of_record fault };
+
+    fn from(fault: RecordFault) -> RecordRefusal {
+        RecordRefusal::Record(fault)
+    }
 }
 
 impl From<AllocError> for RecordRefusal {

@@ -2,6 +2,7 @@
 ghost use Rattle.std.specs.Prelude.{None, Some, [], ◌≡◌, ◌<◌, false, map, IfNone, IfOk, IfSome, OnOk};
 ghost use Rattle.csv.specs.Records.{fields_of};
 ghost use Rattle.gs1_hub.specs.Feeds.{feeds_of, is_lane, lane_of, lanes_fault, row_of};
+ghost use Rattle.gs1_hub.specs.Records.{computed};
 ghost use Rattle.gs1_hub.specs.Widths.{number_in};
 ghost use Rattle.gs1_hub.specs.declared.fault.RecordFault.{RecordFault};
 
@@ -83,7 +84,7 @@ pub struct LaneRecords {
 impl Intake for LaneRecords {
     type Made = Feeds;
 
-    ghost fault = { λ records. lanes_fault records.lanes };
+    ghost fault = { λ records. computed (lanes_fault records.lanes) };
 
     ghost makes = { λ records rows feeds. map (λ feed. feed.items) feeds.rows.items
         ≡ feeds_of records.lanes rows };

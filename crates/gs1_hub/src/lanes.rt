@@ -4,6 +4,7 @@ ghost use Rattle.std.specs.Io.KnownBytes.{Appends};
 ghost use Rattle.digits_core.specs.Bytes.{TookFront};
 ghost use Rattle.gs1_hub.specs.Commands.{Refuses, Writes};
 ghost use Rattle.gs1_hub.specs.Feeds.{lanes_fault};
+ghost use Rattle.gs1_hub.specs.Records.{computed};
 ghost use Rattle.gs1_hub.specs.Report.{IsLaneReport};
 
 use crate::fault::CommandFault;
@@ -24,13 +25,13 @@ pub fn run_lanes<S: Source, W: Sink>(
     source: &mut S,
     sink: &mut W,
 ) -> Result<(), CommandFault>
-    ensures ok { OnOk result (Writes (lanes_fault options.lanes) (IsLaneReport options.lanes options.year) Appends
+    ensures ok { OnOk result (Writes (computed (lanes_fault options.lanes)) (IsLaneReport options.lanes options.year) Appends
         (S.left source.old) (S.left source.new) (W.taken sink.old) (W.taken sink.new)) }
     ensures cut { IsErrOf result CommandFault.WriteFault
-        → Writes (lanes_fault options.lanes) (IsLaneReport options.lanes options.year) TookFront
+        → Writes (computed (lanes_fault options.lanes)) (IsLaneReport options.lanes options.year) TookFront
         (S.left source.old) (S.left source.new) (W.taken sink.old) (W.taken sink.new) }
     ensures refused { IfErr result
-        (Refuses (lanes_fault options.lanes) (S.left source.old) (S.left source.new)) }
+        (Refuses (computed (lanes_fault options.lanes)) (S.left source.old) (S.left source.new)) }
     ensures unwritten { IfErr result (λ e. e ≢ CommandFault.WriteFault → sink.new ≡ sink.old) }
     ensures read { S.failed source.old ≡ false
         → (IsErrOf result CommandFault.ReadFault ↔ (S.failed source.new ≡ true)) }

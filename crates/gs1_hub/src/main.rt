@@ -5,7 +5,7 @@ ghost use Rattle.std.specs.Prelude.{◌≡◌, ◌≢◌, ◌↔◌, true, false
 ghost use Rattle.std.specs.Io.KnownBytes.{Appends};
 ghost use Rattle.std.specs.Process.{exit_status};
 ghost use Rattle.digits_core.specs.Bytes.{TookFront};
-ghost use Rattle.gs1_hub.specs.Commands.{OutputOf, Refuses, Writes, test_of};
+ghost use Rattle.gs1_hub.specs.Commands.{OutputOf, RefusesAsked, Writes, test_of};
 ghost use Rattle.gs1_hub.specs.Faults.{status_of, words_status};
 
 mod ascii;
@@ -15,6 +15,9 @@ mod command_line;
 mod element_field;
 mod fault;
 mod feeds;
+mod label_lines;
+mod label_print;
+mod label_record;
 mod lanes;
 mod options;
 mod records;
@@ -26,6 +29,7 @@ mod words;
 
 use crate::check::run_check;
 use crate::fault::CommandFault;
+use crate::label_print::run_print;
 use crate::lanes::run_lanes;
 use crate::words::{Asked, WordsFault, read_words};
 use digits_core::{FromReader, Sink, Source, ToWriter};
@@ -46,7 +50,7 @@ fn run<S: Source, W: Sink>(
         → Writes (test_of asked) (OutputOf asked) TookFront
         (S.left source.old) (S.left source.new) (W.taken sink.old) (W.taken sink.new) }
     ensures refused { IfErr result
-        (Refuses (test_of asked) (S.left source.old) (S.left source.new)) }
+        (RefusesAsked asked (S.left source.old) (S.left source.new)) }
     ensures unwritten { IfErr result (λ e. e ≢ CommandFault.WriteFault → sink.new ≡ sink.old) }
     ensures read { S.failed source.old ≡ false
         → (IsErrOf result CommandFault.ReadFault ↔ (S.failed source.new ≡ true)) }
@@ -55,6 +59,7 @@ fn run<S: Source, W: Sink>(
 {
     match asked {
         Asked::Check(year) => run_check(alloc, year, source, sink),
+        Asked::Print(options) => run_print(alloc, options, source, sink),
         Asked::Lanes(options) => run_lanes(alloc, options, source, sink),
     }
 }

@@ -1,5 +1,5 @@
 //! The numbers that a command takes.
-ghost use Rattle.std.specs.Prelude.{◌≡◌, ◌↔◌, IfSome, IsSome};
+ghost use Rattle.std.specs.Prelude.{◌≡◌, ◌↔◌, IfSome, IsSome, IsTrue};
 ghost use Rattle.std.specs.Int.{IsInRange};
 
 use element_core::Year;
@@ -35,6 +35,77 @@ impl LaneOptions {
             lanes,
             workers,
             year,
+        })
+    }
+}
+
+/// The numbers of the command `print`. The widths, heights and modules are in dots.
+#[derive(Clone, Copy, Debug, PartialEq, Eq)]
+pub struct PrintOptions {
+    /// How wide a module is, 1 to 8 dots.
+    pub module_dots: u16,
+    /// How wide a cell is, 1 to 4,096 dots.
+    pub width: u16,
+    /// How high a cell is, 1 to 1,024 dots.
+    pub height: u16,
+    /// How many columns of cells a sheet has, 1 to 16.
+    pub columns: u16,
+    /// How many rows of cells a sheet has, 1 to 64.
+    pub rows: u16,
+    /// The year that dates of two digits are read by.
+    pub year: Year,
+    /// Whether lines are printed in place of images.
+    pub text: bool,
+    ghost some_dots: { IsInRange 1 8 module_dots },
+    ghost some_width: { IsInRange 1 4096 width },
+    ghost some_height: { IsInRange 1 1024 height },
+    ghost some_columns: { IsInRange 1 16 columns },
+    ghost some_rows: { IsInRange 1 64 rows },
+}
+
+/// Whether a number lies in a range, its ends included.
+fn is_within(number: u16, least: u16, most: u16) -> bool
+    ensures { IsTrue result ↔ IsInRange least most number }
+{
+    least <= number && number <= most
+}
+
+impl PrintOptions {
+    /// These numbers, or none where one of them alone lies outside its range. What they may be
+    /// together is for the grid that is made of them.
+    pub fn new(
+        module_dots: u16,
+        width: u16,
+        height: u16,
+        columns: u16,
+        rows: u16,
+        year: u16,
+        text: bool,
+    ) -> Option<PrintOptions>
+        ensures taken { IsSome result ↔ (IsInRange 1 8 module_dots × IsInRange 1 4096 width
+            × IsInRange 1 1024 height × IsInRange 1 16 columns × IsInRange 1 64 rows
+            × IsInRange 1951 2149 year) }
+        ensures cells { IfSome result (λ o. (o.module_dots ≡ module_dots) × (o.width ≡ width)
+            × (o.height ≡ height) × (o.columns ≡ columns) × (o.rows ≡ rows)) }
+        ensures rest { IfSome result (λ o. (o.year ≡ year) × (o.text ≡ text)) }
+    {
+        if !is_within(module_dots, 1, 8) || !is_within(width, 1, 4096) {
+            return None;
+        }
+        if !is_within(height, 1, 1024) || !is_within(columns, 1, 16) || !is_within(rows, 1, 64) {
+            return None;
+        }
+        let Some(year) = Year::new(year) else {
+            return None;
+        };
+        Some(PrintOptions {
+            module_dots,
+            width,
+            height,
+            columns,
+            rows,
+            year,
+            text,
         })
     }
 }

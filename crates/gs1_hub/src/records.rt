@@ -2,7 +2,7 @@
 ghost use Rattle.std.specs.Prelude.{None, Some, [], ◌≡◌, ◌≢◌, ◌∷◌, ◌++◌, ◌↔◌, ◌≤◌, List, Option, length, true, false, IfErr, IfNone, IfSome, IsErrOf, OnOk};
 ghost use Rattle.csv.specs.Records.{fields_of};
 ghost use Rattle.gs1_hub.specs.Commands.{Refuses, Takes};
-ghost use Rattle.gs1_hub.specs.Records.{Fields, NamesFirst, first_fault, records_of};
+ghost use Rattle.gs1_hub.specs.Records.{Fields, NamesFirst, NoneFaulty, Test, records_of};
 ghost use Rattle.gs1_hub.specs.declared.fault.RecordFault.{RecordFault};
 
 use crate::fault::{CommandFault, RecordRefusal};
@@ -18,8 +18,8 @@ pub trait Intake {
     /// What it makes.
     type Made;
 
-    // Why it refuses a record, if it does.
-    ghost fault: { Self → Fields → Option RecordFault };
+    // Which records it refuses, and why.
+    ghost fault: { Self → Test };
     // This is what it makes of these records.
     ghost makes: { Self → List Fields → Self.Made → Type 0 };
 
@@ -28,9 +28,9 @@ pub trait Intake {
         requires { (rows : List Fields) × makes self.now rows made.old }
         ensures made { OnOk result ((rows : List Fields) → makes self.now rows made.old
             → makes self.now (rows ++ fields_of fields.now ∷ []) made.new) }
-        ensures taken { OnOk result (fault self.now (fields_of fields.now) ≡ None) }
+        ensures taken { OnOk result (fault self.now (fields_of fields.now) None) }
         ensures refused { (f : RecordFault) → result ≡ Err (RecordRefusal.Record f)
-            → fault self.now (fields_of fields.now) ≡ Some f };
+            → fault self.now (fields_of fields.now) (Some f) };
 }
 
 /// The fields of a record that has two.
@@ -60,7 +60,7 @@ fn read_records<I: Intake>(
     requires start { I.makes intake.now [] made.old }
     requires few { length bytes.now ≤ INPUT_LIMIT }
     ensures ok { OnOk result (I.makes intake.now (records_of bytes.now) made.new) }
-    ensures taken { OnOk result (first_fault (I.fault intake.now) (records_of bytes.now) ≡ None) }
+    ensures taken { OnOk result (NoneFaulty (I.fault intake.now) (records_of bytes.now)) }
     ensures refused { IfErr result (NamesFirst (I.fault intake.now) (records_of bytes.now)) }
 {
     let reader = ReaderBuilder::new()

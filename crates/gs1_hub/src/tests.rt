@@ -4,6 +4,7 @@ mod adapters;
 mod checks;
 mod fakes;
 mod numbers;
+mod prints;
 mod rows;
 mod symbols;
 mod words;

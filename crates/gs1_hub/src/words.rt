@@ -1,14 +1,15 @@
 //! The words of the command line.
-ghost use Rattle.std.specs.Prelude.{Some, ℕ, IfOk, IfSome, IfNone, IfErr, map, string_bytes};
+ghost use Rattle.std.specs.Prelude.{Bool, Some, ℕ, IfOk, IfSome, IfNone, IfErr, map, string_bytes};
 ghost use Rattle.clap.specs.Words.{found_of, kind_of, rows_of, subcommand_rows_of};
-ghost use Rattle.gs1_hub.specs.Asking.{Asks, AsksIn, HasLanes, Explains, FaultOfKind, WordsAsk};
-ghost use Rattle.gs1_hub.specs.CommandLine.{HasNumber, HasYear};
+ghost use Rattle.gs1_hub.specs.Asking.{Asks, AsksIn, HasLanes, HasPrint, Explains, FaultOfKind, WordsAsk};
+ghost use Rattle.gs1_hub.specs.CommandLine.{HasFlag, HasNumber, HasYear};
 ghost use Rattle.gs1_hub.specs.Faults.{words_fault_text};
 ghost use Rattle.gs1_hub.specs.declared.words.Asked.{Asked};
 ghost use Rattle.gs1_hub.specs.declared.options.LaneOptions.{LaneOptions};
+ghost use Rattle.gs1_hub.specs.declared.options.PrintOptions.{PrintOptions};
 
 use crate::command_line::hub_command;
-use crate::options::LaneOptions;
+use crate::options::{LaneOptions, PrintOptions};
 use clap::error::ErrorKind;
 use clap::{ArgMatches, Error};
 use element_core::Year;
@@ -20,6 +21,8 @@ use std::fmt;
 pub enum Asked {
     /// Texts are to be checked, dates under this reference year.
     Check(Year),
+    /// Labels are to be printed.
+    Print(PrintOptions),
     /// The rows of these lanes are to be read.
     Lanes(LaneOptions),
 }
@@ -74,6 +77,52 @@ fn year_named(matches: &ArgMatches<'_>) -> Option<Year>
     Year::new(number)
 }
 
+/// Whether the flag of this name is set.
+fn flag_named(matches: &ArgMatches<'_>, name: &str) -> Option<bool>
+    ensures some { IfSome result (HasFlag name.now (rows_of (found_of matches.now))) }
+    ensures none { IfNone result ((b : Bool) → HasFlag name.now (rows_of (found_of matches.now)) b → ⊥) }
+{
+    matches.get_one::<bool>(name)
+}
+
+/// The numbers of the command `print`.
+fn print_options(matches: &ArgMatches<'_>) -> Option<PrintOptions>
+    ensures some { IfSome result (HasPrint (rows_of (found_of matches.now))) }
+    ensures none { IfNone result ((o : PrintOptions)
+        → HasPrint (rows_of (found_of matches.now)) o → ⊥) }
+{
+    let Some(module_dots) = number_named(matches, "module", 1, 8) else {
+        return None;
+    };
+    let Some(width) = number_named(matches, "width", 1, 4096) else {
+        return None;
+    };
+    let Some(height) = number_named(matches, "height", 1, 1024) else {
+        return None;
+    };
+    let Some(columns) = number_named(matches, "columns", 1, 16) else {
+        return None;
+    };
+    let Some(rows) = number_named(matches, "rows", 1, 64) else {
+        return None;
+    };
+    let Some(year) = year_named(matches) else {
+        return None;
+    };
+    let Some(text) = flag_named(matches, "text") else {
+        return None;
+    };
+    Some(PrintOptions {
+        module_dots,
+        width,
+        height,
+        columns,
+        rows,
+        year,
+        text,
+    })
+}
+
 /// The numbers of the command `lanes`.
 fn lane_options(matches: &ArgMatches<'_>) -> Option<LaneOptions>
     ensures some { IfSome result (HasLanes (rows_of (found_of matches.now))) }
@@ -105,6 +154,10 @@ fn asked_by(name: &str, matches: &ArgMatches<'_>) -> Option<Asked>
     match name {
         "check" => match year_named(matches) {
             Some(year) => Some(Asked::Check(year)),
+            None => None,
+        },
+        "print" => match print_options(matches) {
+            Some(options) => Some(Asked::Print(options)),
             None => None,
         },
         "lanes" => match lane_options(matches) {

@@ -1,6 +1,6 @@
 //! Command lines: what they ask for, which are refused, and which ask for help.
 
-use crate::options::LaneOptions;
+use crate::options::{LaneOptions, PrintOptions};
 use crate::words::{Asked, WordsFault, read_words};
 use std::alloc::{AllocError, Global};
 use std::test::Fail;
@@ -18,7 +18,7 @@ fn words_of(alloc: Global, text: &str) -> Result<Vec<String>, AllocError> {
 fn checked_year(asked: Asked) -> Option<u16> {
     match asked {
         Asked::Check(year) => Some(year.number()),
-        Asked::Lanes(_) => None,
+        Asked::Print(_) | Asked::Lanes(_) => None,
     }
 }
 
@@ -58,6 +58,33 @@ fn reads_words(rt: HostRuntime) -> Result<(), Fail> {
 }
 
 #[test]
+fn reads_words_of_print(rt: HostRuntime) -> Result<(), Fail> {
+    let alloc = rt.alloc();
+    for (text, wanted) in [
+        (
+            "gs1_hub print --module 1 --width 113 --height 3 --columns 2 --rows 4 --year 2026",
+            PrintOptions::new(1, 113, 3, 2, 4, 2026, false),
+        ),
+        (
+            "gs1_hub print --text --year=1951 --rows 64 --columns 16 --height 1024 --width 4096 \
+             --module 8",
+            PrintOptions::new(8, 4096, 1024, 16, 64, 1951, true),
+        ),
+        (
+            "gs1_hub print --module 2 --width 113 --text --height 3 --columns 1 --rows 1 --year 2026",
+            PrintOptions::new(2, 113, 3, 1, 1, 2026, true),
+        ),
+    ] {
+        let words = words_of(alloc, text)?;
+        let Ok(Asked::Print(options)) = read_words(alloc, words.as_slice()) else {
+            return Err(Fail::from("a command"));
+        };
+        assert_eq!(rt; Some(options), wanted, "{text}");
+    }
+    Ok(())
+}
+
+#[test]
 fn refuses_words(rt: HostRuntime) -> Result<(), Fail> {
     let alloc = rt.alloc();
     for text in [
@@ -77,6 +104,14 @@ fn refuses_words(rt: HostRuntime) -> Result<(), Fail> {
         "gs1_hub lanes --lanes 1 --workers 1 --year 2150",
         "gs1_hub lanes --lanes 1 --lanes 1 --workers 1 --year 2026",
         "gs1_hub lanes --lanes 1 --workers 1 --year 2026 more",
+        "gs1_hub print --module 1 --width 113 --height 3 --columns 1 --rows 1",
+        "gs1_hub print --module 9 --width 113 --height 3 --columns 1 --rows 1 --year 2026",
+        "gs1_hub print --module 1 --width 4097 --height 3 --columns 1 --rows 1 --year 2026",
+        "gs1_hub print --module 1 --width 113 --height 0 --columns 1 --rows 1 --year 2026",
+        "gs1_hub print --module 1 --width 113 --height 3 --columns 17 --rows 1 --year 2026",
+        "gs1_hub print --module 1 --width 113 --height 3 --columns 1 --rows 65 --year 2026",
+        "gs1_hub print --module 1 --width 113 --height 3 --columns 1 --rows 1 --year 2150",
+        "gs1_hub print --module 1 --width 113 --height 3 --columns 1 --rows 1 --year 2026 --text 1",
     ] {
         let words = words_of(alloc, text)?;
         let fault = read_words(alloc, words.as_slice()).err().ok_or("a fault")?;
@@ -88,6 +123,7 @@ fn refuses_words(rt: HostRuntime) -> Result<(), Fail> {
         ("gs1_hub --help", "lanes"),
         ("gs1_hub check --help", "--year"),
         ("gs1_hub lanes --help", "--workers"),
+        ("gs1_hub print --help", "--text"),
     ] {
         let words = words_of(alloc, text)?;
         let fault = read_words(alloc, words.as_slice()).err().ok_or("help")?;

@@ -4,7 +4,7 @@ use Rattle.csv.specs.Records.{fields_of}
 use Rattle.csv.specs.declared.parser.State.TheVariants as st
 use Rattle.csv.proofs.ReadFacts.{rows-end, rows-more}
 use Rattle.gs1_hub.specs.Faults.{refusal_at}
-use Rattle.gs1_hub.specs.Records.{NamesFirst, Test, first_fault, records_of}
+use Rattle.gs1_hub.specs.Records.{IsFirstFault, NamesFirst, Test, records_of}
 use Rattle.gs1_hub.specs.declared.fault.RecordFault.{RecordFault}
 use Rattle.gs1_hub.specs.declared.fault.RecordRefusal.{RecordRefusal}
 use Rattle.gs1_hub.specs.declared.fault.RecordRefusal.TheVariants as refusal
@@ -32,12 +32,12 @@ records-init g c =
       source = fr.source;
       reached = (sym fr.state, refl);
       index = refl;
-      none = refl;
+      none = tt;
       made = c.requires.start;
     }
 
 -- the refusal of the next record names it
-named : (test : Test) (index : ℕ) (rows : List (List (List ℕ))) (r : RecordRefusal) → ((f : RecordFault) → r ≡ refusal.Record f → first_fault test rows ≡ Some (index, f))
+named : (test : Test) (index : ℕ) (rows : List (List (List ℕ))) (r : RecordRefusal) → ((f : RecordFault) → r ≡ refusal.Record f → IsFirstFault test rows index f)
     → NamesFirst test rows (refusal_at index r)
 named test index rows (refusal.Record f) why = why f refl
 named test index rows refusal.NoMemory why = tt
@@ -79,7 +79,7 @@ records-preserved g c =
       source = more.1;
       reached = more.2;
       index = omega (arith, inv.index, length-append inv.rows (fields ∷ []));
-      none = first_miss (g.I.Intake.fault c.args.intake.now) 0 inv.rows fields inv.none c.in-Ok-take.ensures.taken;
+      none = first_miss (g.I.Intake.fault c.args.intake.now) inv.rows fields inv.none c.in-Ok-take.ensures.taken;
       made = c.in-Ok-take.ensures.made inv.rows inv.made;
     }
 

@@ -1,8 +1,10 @@
-use Rattle.std.proofs.Common.{◌≡◌, inl, inr, ap, subst, List, map, string_bytes}
-use Rattle.clap.specs.Words.{App, HasKind, Text, app_of, fault_of, is_simple_and_free, kind_of}
+use Rattle.std.proofs.Common.{◌≡◌, [], inl, inr, ap, refl, subst, List, map, string_bytes}
+use Rattle.clap.specs.Words.{App, HasKind, HasMatchesOf, Text, app_of, fault_of, is_simple_and_free, kind_of, subcommand_rows_of}
 use Rattle.clap.specs.declared.error.Error.{Error}
-use Rattle.gs1_hub.specs.Asking.{Explains, FaultOfKind}
+use Rattle.clap.specs.declared.parser.matches.ArgMatches.{ArgMatches}
+use Rattle.gs1_hub.specs.Asking.{Asks, Explains, FaultOfKind, WordsAsk}
 use Rattle.gs1_hub.specs.CommandLine.{hub_app}
+use Rattle.gs1_hub.specs.declared.words.Asked.{Asked}
 use Rattle.gs1_hub.specs.declared.words.WordsFault.{WordsFault}
 use Rattle.gs1_hub.specs.declared.words.WordsFault.TheVariants as fault
 use Rattle.gs1_hub.proofs.words.read_words.Goals as goal
@@ -24,3 +26,17 @@ returns-in-Err-clause-refused c =
     let is : app_of c.in-Ok.hub ≡ hub_app = c.in-Ok.ensures in
     explained_of (app_of c.in-Ok.hub) (map string_bytes c.args.words.now) c.in-Err.error c.fault_from.result is
     (c.in-Err.ensures.kinds (ap is_simple_and_free is)) c.fault_from.ensures
+
+-- what the matches of the command that was built ask for
+asked_by_hub : (a : App) (words : List Text) (m : ArgMatches) (x : Asked) → a ≡ hub_app → HasMatchesOf a words m → fault_of a words ≡ []
+    → Asks (subcommand_rows_of m) x → WordsAsk words x
+asked_by_hub a words m x is matches none asks =
+    let same = subst (λ b. HasMatchesOf b words m) is matches in
+    (subst (λ b. fault_of b words ≡ []) is none, subst (λ t. Asks t x) (same refl).1 asks)
+
+pub returns-in-Some-clause-asked : goal.returns-in-Some-clause-asked
+returns-in-Some-clause-asked c =
+    let is : app_of c.in-Ok.hub ≡ hub_app = c.in-Ok.ensures in
+    let taken = c.in-Ok-try_get_matches_from.ensures in
+    asked_by_hub (app_of c.in-Ok.hub) (map string_bytes c.args.words.now) c.in-Ok-try_get_matches_from.matches c.in-Some.asked is
+    taken.matches (taken.kinds (ap is_simple_and_free is)) c.in-Some.ensures.some

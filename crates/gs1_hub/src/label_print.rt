@@ -1,0 +1,107 @@
+//! The command `print`: records of a kind and a text in, the images of their labels out.
+ghost use Rattle.std.specs.Prelude.{◌≡◌, ◌≢◌, ◌↔◌, List, ℕ, true, false, IfErr, IsErrOf, OnOk};
+ghost use Rattle.std.specs.List.{AllZip};
+ghost use Rattle.std.specs.Io.KnownBytes.{Appends};
+ghost use Rattle.digits_core.specs.Bytes.{TookFront};
+ghost use Rattle.gs1_hub.specs.Commands.{RefusesPrint, Writes};
+ghost use Rattle.gs1_hub.specs.Prints.{IsLabelOf, IsPrint, IsPrinted, IsUnprinted, cells_of, print_test};
+
+use crate::fault::{CommandFault, RecordRefusal};
+use crate::label_lines::label_lines;
+use crate::label_record::label_of;
+use crate::options::PrintOptions;
+use crate::records::{Intake, read_input};
+use csv::ByteRecord;
+use digits_core::{Sink, Source, write_all};
+use element_core::Year;
+use sheet_core::{Grid, Label, print_sheets, write_pbm};
+use std::alloc::Global;
+
+/// The records that are printed, element strings under a reference year.
+#[derive(Clone, Copy)]
+struct LabelRecords {
+    year: Year,
+}
+
+impl Intake for LabelRecords {
+    type Made = Vec<Label>;
+
+    ghost fault = { λ records. print_test records.year };
+
+    ghost makes = { λ records rows labels. AllZip (IsLabelOf records.year) rows labels.items };
+
+    fn take(&self, labels: &mut Vec<Label>, fields: &ByteRecord) -> Result<(), RecordRefusal> {
+        let label = label_of(fields, self.year)?;
+        if labels.push(label).is_err() {
+            return Err(RecordRefusal::NoMemory);
+        }
+        Ok(())
+    }
+}
+
+/// Writes labels as they are asked for.
+fn write_labels<W: Sink>(
+    alloc: Global,
+    options: PrintOptions,
+    grid: Grid,
+    labels: &[Label],
+    sink: &mut W,
+) -> Result<(), CommandFault>
+    requires { grid ≡ cells_of options }
+    ensures ok { OnOk result ((text : List ℕ) × IsPrinted (cells_of options) options.text labels.now text
+        × Appends (W.taken sink.old) (W.taken sink.new) text) }
+    ensures cut { IsErrOf result CommandFault.WriteFault
+        → (text : List ℕ) × IsPrinted (cells_of options) options.text labels.now text
+        × TookFront (W.taken sink.old) (W.taken sink.new) text }
+    ensures refused { IfErr result (IsUnprinted (cells_of options) labels.now) }
+    ensures unwritten { IfErr result (λ e. e ≢ CommandFault.WriteFault → sink.new ≡ sink.old) }
+    ensures write { W.failed sink.old ≡ false
+        → (IsErrOf result CommandFault.WriteFault ↔ (W.failed sink.new ≡ true)) }
+{
+    let sheets = print_sheets(alloc, labels, grid)?;
+    if options.text {
+        let cells = usize::from(options.columns) * usize::from(options.rows);
+        let text = label_lines(alloc, labels, cells, options.year)?;
+        write_all(sink, text.as_str().as_bytes())?;
+    } else {
+        write_pbm(sheets.as_slice(), sink)?;
+    }
+    Ok(())
+}
+
+/// Prints the labels that a source gives, as images of the sheets that they fill, or where text is
+/// asked for a line for each.
+///
+/// The source gives CSV records of two fields: a kind, `ean13`, `upca`, `ean8` or `upce` with a GTIN,
+/// or `gs1128` with an element string. A grid outside its limits is refused before any input is read.
+/// Nothing is written unless the whole input is taken and every label is printed.
+pub fn run_print<S: Source, W: Sink>(
+    alloc: Global,
+    options: PrintOptions,
+    source: &mut S,
+    sink: &mut W,
+) -> Result<(), CommandFault>
+    ensures ok { OnOk result (Writes (print_test options.year) (IsPrint options) Appends
+        (S.left source.old) (S.left source.new) (W.taken sink.old) (W.taken sink.new)) }
+    ensures cut { IsErrOf result CommandFault.WriteFault
+        → Writes (print_test options.year) (IsPrint options) TookFront
+        (S.left source.old) (S.left source.new) (W.taken sink.old) (W.taken sink.new) }
+    ensures refused { IfErr result (RefusesPrint options (S.left source.old) (S.left source.new)) }
+    ensures unwritten { IfErr result (λ e. e ≢ CommandFault.WriteFault → sink.new ≡ sink.old) }
+    ensures read { S.failed source.old ≡ false
+        → (IsErrOf result CommandFault.ReadFault ↔ (S.failed source.new ≡ true)) }
+    ensures write { W.failed sink.old ≡ false
+        → (IsErrOf result CommandFault.WriteFault ↔ (W.failed sink.new ≡ true)) }
+{
+    let grid = Grid::new(
+        options.module_dots,
+        options.width,
+        options.height,
+        options.columns,
+        options.rows,
+    )?;
+    let records = LabelRecords { year: options.year };
+    let mut labels = Vec::new(alloc);
+    read_input(alloc, &records, &mut labels, source)?;
+    write_labels(alloc, options, grid, labels.as_slice(), sink)
+}

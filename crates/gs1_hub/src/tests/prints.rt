@@ -1,0 +1,257 @@
+//! Labels that are printed: the bytes of their sheets, their lines, each refusal and their order.
+
+use super::fakes::{Breaking, Endless, Narrow};
+use super::outcome;
+use crate::options::PrintOptions;
+use crate::run;
+use crate::words::Asked;
+use digits_core::{FromReader, ToWriter};
+use std::alloc::{AllocError, Global};
+use std::test::Fail;
+
+// The record of a label of 113 modules with its quiet zones.
+const RECORD: &str = "ean13,9501101530003\n";
+
+// The dots of that label at one dot a module, in a cell of 113 by 3 dots.
+const DOTS: &[u8] = b"\x00\x00\x00\x00\x00\x00\x00\x00\x00\x00\x00\x00\x00\x00\x00\
+    \x00\x15\x8A\x76\x66\x53\x99\x54\xE8\x5C\xB9\x72\x85\x40\x00\
+    \x00\x00\x00\x00\x00\x00\x00\x00\x00\x00\x00\x00\x00\x00\x00";
+
+// The headers of images of one such cell, and of two.
+const LOW: &[u8] = b"P4\n113 3\n";
+
+const HIGH: &[u8] = b"P4\n113 6\n";
+
+// A cell of those without a label.
+const LIGHT: &[u8] = &[0; 45];
+
+/// The command `print` with a grid of such cells at one dot a module.
+fn asked(width: u16, height: u16, columns: u16, rows: u16, text: bool) -> Result<Asked, Fail> {
+    let options = PrintOptions::new(1, width, height, columns, rows, 2026, text);
+    Ok(Asked::Print(options.ok_or("options")?))
+}
+
+/// The bytes that the command writes.
+fn printed(alloc: Global, asked: Asked, input: &str) -> Result<Vec<u8>, Fail> {
+    let mut source = FromReader::new(input.as_bytes());
+    let mut sink = ToWriter::new(Vec::new(alloc));
+    run(alloc, asked, &mut source, &mut sink)?;
+    Ok(sink.into_inner())
+}
+
+/// Appends an image: its header, then cells with the label, then cells without one.
+fn push_image(
+    bytes: &mut Vec<u8>,
+    header: &[u8],
+    labelled: usize,
+    light: usize,
+) -> Result<(), AllocError> {
+    bytes.extend_from_slice(header)?;
+    for _ in 0..labelled {
+        bytes.extend_from_slice(DOTS)?;
+    }
+    for _ in 0..light {
+        bytes.extend_from_slice(LIGHT)?;
+    }
+    Ok(())
+}
+
+#[test]
+fn prints_sheets(rt: HostRuntime) -> Result<(), Fail> {
+    let alloc = rt.alloc();
+    for (rows, header, records, images, labelled, light) in [
+        (1, LOW, 0, 0, 0, 0),
+        (1, LOW, 1, 1, 1, 0),
+        (1, LOW, 2, 2, 1, 0),
+        (2, HIGH, 1, 1, 1, 1),
+        (2, HIGH, 2, 1, 2, 0),
+    ] {
+        let mut input = String::new(alloc);
+        for _ in 0..records {
+            input.push_str(RECORD)?;
+        }
+        let mut wanted = Vec::new(alloc);
+        for _ in 0..images {
+            push_image(&mut wanted, header, labelled, light)?;
+        }
+        let found = printed(alloc, asked(113, 3, 1, rows, false)?, input.as_str())?;
+        assert_eq!(rt; found.as_slice(), wanted.as_slice());
+    }
+    Ok(())
+}
+
+#[test]
+fn prints_lines(rt: HostRuntime) -> Result<(), Fail> {
+    let alloc = rt.alloc();
+    let found = outcome(alloc, asked(113, 3, 1, 1, true)?, RECORD.as_bytes())?;
+    assert_eq!(rt; found.as_str(), "0 0 ean13 (01)09501101530003\n");
+    let input = "ean13,00012345000065\nupca,012345000065\nean8,96385074\nupce,0012345000065\n\
+                 gs1128,10AB^17261231\n";
+    let found = outcome(alloc, asked(200, 3, 2, 1, true)?, input.as_bytes())?;
+    assert_eq!(rt;
+        found.as_str(),
+        "0 0 ean13 (01)00012345000065\n0 1 upca (01)00012345000065\n\
+                                    1 0 ean8 (01)00000096385074\n1 1 upce (01)00012345000065\n\
+                                    2 0 gs1128 (10)AB(17)261231\n"
+    );
+    Ok(())
+}
+
+#[test]
+fn refuses_records(rt: HostRuntime) -> Result<(), Fail> {
+    let alloc = rt.alloc();
+    let mut long = String::from_str(alloc, "gs1128,")?;
+    for _ in 0..193 {
+        long.push('1')?;
+    }
+    let long = long.as_str();
+    for (input, wanted) in [
+        ("ean13", "record 0: refused 39 Csv"),
+        ("ean13,9501101530003,", "record 0: refused 39 Csv"),
+        ("sku,1", "record 0: refused 40 Kind"),
+        ("gtin,9501101530003", "record 0: refused 40 Kind"),
+        ("EAN13,9501101530003", "record 0: refused 40 Kind"),
+        ("ean13,123", "record 0: refused 1 Length"),
+        ("upce,0123456X", "record 0: refused 2 NotDigit 7"),
+        ("upca,950110153000X", "record 0: refused 2 NotDigit 12"),
+        ("ean8,9501101530004", "record 0: refused 3 CheckDigit"),
+        ("gs1128,", "record 0: refused 4 Empty"),
+        ("gs1128,10AB^^21C", "record 0: refused 5 UnknownAi 5"),
+        ("gs1128,0109501101530", "record 0: refused 6 ValueLength 0"),
+        ("gs1128,10A#", "record 0: refused 7 ValueCharacter 0"),
+        (
+            "gs1128,0109501101530004",
+            "record 0: refused 8 ValueCheckDigit 0",
+        ),
+        ("gs1128,10A^17250229", "record 0: refused 9 ValueDate 4"),
+        ("gs1128,4225281", "record 0: refused 10 MissingSeparator 0"),
+        (long, "record 0: refused 11 TooLong"),
+        (
+            "upce,9501101530003\n\nean8,96385074\ngs1128,x\nsku\n",
+            "record 2: refused 5 UnknownAi 0",
+        ),
+        ("upce,9501101530003\nsku,1\n", "record 1: refused 40 Kind"),
+        ("upce,9501101530003", "refused 26 LabelKind 0"),
+        (
+            "ean13,9501101530003\nean8,9501101530003\n",
+            "refused 26 LabelKind 1",
+        ),
+        (
+            "gs1128,17261231\ngs1128,0109501101530003\nupce,9501101530003\n",
+            "refused 27 LabelWidth 1",
+        ),
+    ] {
+        for text in [false, true] {
+            let found = outcome(alloc, asked(113, 3, 2, 2, text)?, input.as_bytes())?;
+            assert_eq!(rt; found.as_str(), wanted, "{input}");
+        }
+    }
+    Ok(())
+}
+
+#[test]
+fn refuses_what_does_not_fit(rt: HostRuntime) -> Result<(), Fail> {
+    let alloc = rt.alloc();
+    let mut letters = String::from_str(alloc, "gs1128,91")?;
+    for _ in 0..46 {
+        letters.push('A')?;
+    }
+    let most = letters.as_str();
+    let over = format!(in alloc; "{most}A")?;
+    for (module_dots, width, height, columns, input, wanted) in [
+        (1, 594, 3, 1, most, None),
+        (1, 593, 3, 1, most, Some("refused 27 LabelWidth 0")),
+        (1, 4096, 3, 1, over.as_str(), Some("refused 26 LabelKind 0")),
+        (2, 226, 5, 1, RECORD, None),
+        (2, 225, 5, 1, RECORD, Some("refused 27 LabelWidth 0")),
+        (1, 113, 2, 1, RECORD, Some("refused 25 BadGrid")),
+        (1, 1025, 3, 16, RECORD, Some("refused 25 BadGrid")),
+        (1, 113, 2, 1, "sku", Some("refused 25 BadGrid")),
+    ] {
+        let options = PrintOptions::new(module_dots, width, height, columns, 1, 2026, true);
+        let asked = Asked::Print(options.ok_or("options")?);
+        let found = outcome(alloc, asked, input.as_bytes())?;
+        match wanted {
+            Some(fault) => assert_eq!(rt; found.as_str(), fault, "{input}"),
+            None => assert!(rt; found.as_str().starts_with("0 0 "), "{input}"),
+        }
+    }
+    Ok(())
+}
+
+#[test]
+fn takes_numbers_in_their_ranges(rt: HostRuntime) -> Result<(), Fail> {
+    for (module_dots, width, height, columns, rows, year, is_taken) in [
+        (1, 1, 1, 1, 1, 1951, true),
+        (8, 4096, 1024, 16, 64, 2149, true),
+        (0, 1, 1, 1, 1, 2026, false),
+        (9, 1, 1, 1, 1, 2026, false),
+        (1, 0, 1, 1, 1, 2026, false),
+        (1, 4097, 1, 1, 1, 2026, false),
+        (1, 1, 0, 1, 1, 2026, false),
+        (1, 1, 1025, 1, 1, 2026, false),
+        (1, 1, 1, 0, 1, 2026, false),
+        (1, 1, 1, 17, 1, 2026, false),
+        (1, 1, 1, 1, 0, 2026, false),
+        (1, 1, 1, 1, 65, 2026, false),
+        (1, 1, 1, 1, 1, 1950, false),
+        (1, 1, 1, 1, 1, 2150, false),
+    ] {
+        let found = PrintOptions::new(module_dots, width, height, columns, rows, year, false);
+        assert_eq!(rt; found.is_some(), is_taken);
+    }
+    Ok(())
+}
+
+#[test]
+fn passes_failures_on(rt: HostRuntime) -> Result<(), Fail> {
+    let alloc = rt.alloc();
+    let mut image = Vec::new(alloc);
+    push_image(&mut image, LOW, 1, 0)?;
+    let line = b"0 0 ean13 (01)09501101530003\n".as_slice();
+    for (text, output) in [(false, image.as_slice()), (true, line)] {
+        let asked = asked(113, 3, 1, 1, text)?;
+        let mut unwritten = ToWriter::new(Vec::new(alloc));
+        let fault = run(alloc, asked, &mut Breaking::new(), &mut unwritten)
+            .err()
+            .ok_or("a fault")?;
+        assert_eq!(rt; fault.to_string(alloc)?.as_str(), "refused 37 ReadFault");
+        let fault = run(alloc, asked, &mut Endless, &mut unwritten)
+            .err()
+            .ok_or("a fault")?;
+        assert_eq!(rt; fault.to_string(alloc)?.as_str(), "refused 44 InputSize");
+        assert_eq!(rt; unwritten.into_inner().len(), 0);
+
+        let mut narrow = Narrow::new(alloc, 100);
+        run(
+            alloc,
+            asked,
+            &mut FromReader::new(RECORD.as_bytes()),
+            &mut narrow,
+        )?;
+        assert_eq!(rt; narrow.taken(), output);
+        let mut short = Narrow::new(alloc, 25);
+        let fault = run(
+            alloc,
+            asked,
+            &mut FromReader::new(RECORD.as_bytes()),
+            &mut short,
+        )
+        .err()
+        .ok_or("a fault")?;
+        assert_eq!(rt; fault.to_string(alloc)?.as_str(), "refused 38 WriteFault");
+        assert_eq!(rt; short.taken(), output.get(..25).ok_or("25 bytes")?);
+    }
+    // A grid is refused before the input is read.
+    let mut sink = ToWriter::new(Vec::new(alloc));
+    let fault = run(
+        alloc,
+        asked(113, 2, 1, 1, false)?,
+        &mut Breaking::new(),
+        &mut sink,
+    )
+    .err()
+    .ok_or("a fault")?;
+    assert_eq!(rt; fault.to_string(alloc)?.as_str(), "refused 25 BadGrid");
+    Ok(())
+}
