@@ -1,4 +1,5 @@
 pub mod DigitTexts
+pub mod GtinFacts
 pub mod Lines
 pub mod Suppression
 pub mod Weights

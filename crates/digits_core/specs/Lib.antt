@@ -2,4 +2,5 @@ pub mod Bytes
 pub mod Digits
 pub mod Faults
 pub mod Gtins
+pub mod Laws
 pub mod Upce

@@ -3,6 +3,7 @@
 
 mod fault;
 mod gtin;
+mod laws;
 mod payload;
 mod sink;
 mod source;
@@ -10,6 +11,7 @@ mod upce;
 
 pub use fault::DigitFault;
 pub use gtin::Gtin;
+pub use laws::gtins_are_checked;
 pub use payload::check_digit;
 pub use sink::{Sink, ToWriter, write_all};
 pub use source::{Failed, FromReader, InputFault, Source, read_all};

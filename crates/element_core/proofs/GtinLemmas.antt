@@ -3,10 +3,10 @@ use Rattle.std.proofs.Common.{◌≡◌, ℕ, ◌+◌, ◌%◌, true, eqb, List,
 use Rattle.std.specs.Prelude.{Contains, codes}
 use Rattle.std.specs.List.{list_all}
 use Rattle.std.proofs.lemmas.Bool.{and_from, le-leb, eq-eqb}
-use Rattle.std.proofs.lemmas.List.{take_all}
+use Rattle.std.proofs.lemmas.List.{length-map, take_all}
 use Rattle.digits_core.specs.Digits.{AreDigits, IsChecked, ascii_of, digits_of, weighted}
 use Rattle.element_core.specs.Table.{Row, ai_rows, families, n_check}
-use Rattle.element_core.specs.Elements.{Entry, IsElement, IsElements, IsValue, canonical, gtin_entry, is_digit}
+use Rattle.element_core.specs.Elements.{Entry, GtinReads, IsElement, IsElements, IsValue, canonical, gtin_entry, is_digit}
 use Rattle.element_core.proofs.Canonical.{canonical_reads}
 
 gtin_row : Row
@@ -48,3 +48,8 @@ gtin_elements year g text es digits checked long es_is text_is =
     let same : text ≡ canonical one = text_is ∙ ap canonical es_is in
     let size : length (canonical one) ≡ 16 = omega (arith, long) in
     subst (IsElements year text) (sym es_is) (subst (λ (t : List ℕ). IsElements year t one) (sym same) (record { some = omega arith; fits = omega arith; reads = canonical_reads year one ((gtin_row, is), tt) }))
+
+pub gtin_reads : GtinReads
+gtin_reads gtin year long digits checked =
+    let shown : length (ascii_of gtin) ≡ 14 = length-map gtin (λ d. d + 48) ∙ long in
+    gtin_elements year gtin (canonical (gtin_entry gtin ∷ [])) (gtin_entry gtin ∷ []) digits checked shown refl refl

@@ -8,7 +8,7 @@ use Rattle.element_core.specs.declared.fault.ElementFault.TheVariants.{Empty, Un
 use Rattle.element_core.specs.declared.part.Part.{Part}
 use Rattle.element_core.specs.declared.part.PartKind.{PartKind}
 use Rattle.element_core.specs.declared.part.PartKind.TheVariants.{Digits, Characters}
-use Rattle.digits_core.specs.Digits.{ascii_of, digits_of, weighted}
+use Rattle.digits_core.specs.Digits.{AreDigits, IsChecked, ascii_of, digits_of, weighted}
 use Rattle.element_core.specs.Days.{day_of}
 use Rattle.element_core.specs.Table.{Row, ai_rows, row_at, least_of, greatest_of, predefined_length, is_dated}
 
@@ -228,3 +228,8 @@ EachText = (year : ℕ) (text : List ℕ) →
 abbrev pub DatedElements : Type 0
 DatedElements = (year : ℕ) (row : Row) (e : Entry) → IsElement year row e
     → is_some (entry_day year e) ≡ is_dated row.parts
+
+-- the element of a GTIN is read back from its text, under each reference year
+abbrev pub GtinReads : Type 0
+GtinReads = (gtin : List ℕ) (year : ℕ) → length gtin ≡ 14 → AreDigits gtin → IsChecked gtin
+    → IsElements year (canonical (gtin_entry gtin ∷ [])) (gtin_entry gtin ∷ [])

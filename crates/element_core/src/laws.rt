@@ -2,7 +2,7 @@
 
 ghost use Rattle.element_core.specs.Days.{DayZero, YearWindow};
 ghost use Rattle.element_core.specs.Table.{NoAiBeginsAnother, FirstDigitsDecide, PartsHaveOneLength};
-ghost use Rattle.element_core.specs.Elements.{CanonicalReads, DatedElements, EachText, OneAnswer};
+ghost use Rattle.element_core.specs.Elements.{CanonicalReads, DatedElements, EachText, GtinReads, OneAnswer};
 ghost use Rattle.element_core.specs.Pieces.{ReadsPieces};
 
 /// No AI of the table is the beginning of another.
@@ -23,6 +23,11 @@ pub fn one_answer()
 /// The canonical text of a list is an element string of the same list, and no longer.
 pub fn canonical_reads()
     ensures { CanonicalReads }
+{}
+
+/// The element of a GTIN is read back from its text, under each reference year.
+pub fn gtin_reads()
+    ensures { GtinReads }
 {}
 
 /// Each text is a list of elements or has a first fault.

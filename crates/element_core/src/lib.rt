@@ -23,7 +23,7 @@ pub use element::Element;
 pub use elements::Elements;
 pub use fault::ElementFault;
 pub use laws::{
-    canonical_reads, dated_elements, day_zero, each_text, first_digits_decide,
+    canonical_reads, dated_elements, day_zero, each_text, first_digits_decide, gtin_reads,
     no_ai_begins_another, one_answer, parts_have_one_length, reads_pieces, year_window,
 };
 pub use pairs::Pair;

@@ -1,6 +1,9 @@
+pub mod BesideFacts
 pub mod Capped
 pub mod CheckFacts
+pub mod ColumnFacts
 pub mod CommandFacts
+pub mod CountFacts
 pub mod Decimals
 pub mod DigitFacts
 pub mod FeedFacts
@@ -8,8 +11,11 @@ pub mod FieldFaults
 pub mod FieldWords
 pub mod FirstFault
 pub mod Flags
+pub mod LabelReadings
 pub mod LineFacts
 pub mod Matches
+pub mod PlaceFacts
 pub mod Reaching
 pub mod ReportFacts
+pub mod ScannedFacts
 pub mod TwoFields

@@ -1,11 +1,13 @@
 -- What the words ask for.
-use Rattle.std.specs.Prelude.{◌≡◌, ◌≢◌, ⊤, List, [], Option, Some, None, codes}
+use Rattle.std.specs.Prelude.{◌≡◌, ◌≢◌, ◌⊎◌, ⊤, List, [], Option, Some, None, codes}
 use Rattle.clap.specs.Words.{IsAmong, Row, Text, fault_of, subcommand_of}
 use Rattle.clap.specs.declared.error.kind.ErrorKind.{ErrorKind}
 use Rattle.clap.specs.declared.error.kind.ErrorKind.TheVariants as kind
 use Rattle.gs1_hub.specs.CommandLine.{HasFlag, HasNumber, HasYear, hub_app}
+use Rattle.gs1_hub.specs.declared.options.GridOptions.{GridOptions}
 use Rattle.gs1_hub.specs.declared.options.LaneOptions.{LaneOptions}
 use Rattle.gs1_hub.specs.declared.options.PrintOptions.{PrintOptions}
+use Rattle.gs1_hub.specs.declared.options.ScanOptions.{ScanOptions}
 use Rattle.gs1_hub.specs.declared.words.Asked.{Asked}
 use Rattle.gs1_hub.specs.declared.words.Asked.TheVariants as asked
 use Rattle.gs1_hub.specs.declared.words.WordsFault.{WordsFault}
@@ -16,17 +18,26 @@ abbrev pub HasLanes : List Row → LaneOptions → Type 0
 HasLanes rows o = HasNumber (codes "lanes") 1 16 rows o.lanes
     × HasNumber (codes "workers") 1 16 rows o.workers × HasYear rows o.year
 
+-- the numbers of a grid
+abbrev pub HasGrid : List Row → GridOptions → Type 0
+HasGrid rows o = HasNumber (codes "module") 1 8 rows o.module_dots × HasNumber (codes "width") 1 4096 rows o.width
+    × HasNumber (codes "height") 1 1024 rows o.height × HasNumber (codes "columns") 1 16 rows o.columns
+    × HasNumber (codes "rows") 1 64 rows o.rows
+
 -- the numbers of the command `print`, and whether it is to print text
 abbrev pub HasPrint : List Row → PrintOptions → Type 0
-HasPrint rows o = HasNumber (codes "module") 1 8 rows o.module_dots × HasNumber (codes "width") 1 4096 rows o.width
-    × HasNumber (codes "height") 1 1024 rows o.height × HasNumber (codes "columns") 1 16 rows o.columns
-    × HasNumber (codes "rows") 1 64 rows o.rows × HasYear rows o.year × HasFlag (codes "text") rows o.text
+HasPrint rows o = HasGrid rows o.grid × HasYear rows o.year × HasFlag (codes "text") rows o.text
+
+-- the numbers of the command `scan`
+abbrev pub HasScan : List Row → ScanOptions → Type 0
+HasScan rows o = HasGrid rows o.grid × HasNumber (codes "workers") 1 16 rows o.workers × HasYear rows o.year
 
 -- the command of this name, with its numbers
 abbrev pub AsksIn : Text → List Row → Asked → Type 0
 AsksIn name rows (asked.Check year) = (name ≡ codes "check") × HasYear rows year
 AsksIn name rows (asked.Print o) = (name ≡ codes "print") × HasPrint rows o
 AsksIn name rows (asked.Lanes o) = (name ≡ codes "lanes") × HasLanes rows o
+AsksIn name rows (asked.Scan o) = (name ≡ codes "scan") × HasScan rows o
 
 -- the command and its numbers, by the name and the matches of a subcommand
 abbrev pub Asks : Option (Text × List Row) → Asked → Type 0
@@ -51,4 +62,4 @@ Explains words fault.NoMemory = ⊤
 abbrev pub FaultOfKind : ErrorKind → WordsFault → Type 0
 FaultOfKind k fault.Words = (k ≢ kind.OutOfMemory) × (k ≢ kind.DisplayHelp)
 FaultOfKind k (fault.Help text) = k ≡ kind.DisplayHelp
-FaultOfKind k fault.NoMemory = ⊤
+FaultOfKind k fault.NoMemory = (k ≡ kind.OutOfMemory) ⊎ (k ≡ kind.DisplayHelp)

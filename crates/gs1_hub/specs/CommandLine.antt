@@ -45,6 +45,10 @@ print_app = with_rule (with_rule (with_places (with_cell (new_app (codes "print"
 abbrev pub lanes_app : App
 lanes_app = with_rule (with_rule (with_rule (new_app (codes "lanes")) (number_rule (codes "lanes") 1 16)) (number_rule (codes "workers") 1 16)) year_rule
 
+-- `scan --module M --width W --height H --columns C --rows R --workers K --year Y`
+abbrev pub scan_app : App
+scan_app = with_rule (with_rule (with_places (with_cell (new_app (codes "scan")))) (number_rule (codes "workers") 1 16)) year_rule
+
 -- a command is wanted, and there is no command `help`
 abbrev pub hub_top : App
 hub_top = let fresh = new_app (codes "gs1_hub") in record fresh { top = record fresh.top { disable_help_subcommand = true; subcommand_required = true } }
@@ -55,7 +59,7 @@ text_app = with_subcommand (with_subcommand hub_top check_app.top) print_app.top
 
 -- the program with its commands
 abbrev pub hub_app : App
-hub_app = with_subcommand text_app lanes_app.top
+hub_app = with_subcommand (with_subcommand text_app lanes_app.top) scan_app.top
 
 -- among the matches of a command, this number stands under the name, and it lies in the range
 abbrev pub HasNumber : Text → ℕ → ℕ → List Row → ℕ → Type 0

@@ -4,6 +4,8 @@ use Rattle.digits_core.specs.Faults.{digit_fault_text}
 use Rattle.digits_core.specs.declared.source.InputFault.{InputFault}
 use Rattle.digits_core.specs.declared.source.InputFault.TheVariants as input
 use Rattle.element_core.specs.Faults.{element_fault_text}
+use Rattle.sheet_core.specs.declared.fault.PbmFault.{PbmFault}
+use Rattle.sheet_core.specs.declared.fault.PbmFault.TheVariants as pbm
 use Rattle.sheet_core.specs.declared.fault.SheetFault.{SheetFault}
 use Rattle.sheet_core.specs.declared.fault.SheetFault.TheVariants as sheet
 use Rattle.gs1_hub.specs.declared.fault.CommandFault.{CommandFault}
@@ -53,6 +55,15 @@ abbrev pub of_sheets : SheetFault → CommandFault
 of_sheets (sheet.LabelKind i) = command.LabelKind i
 of_sheets (sheet.LabelWidth i) = command.LabelWidth i
 of_sheets sheet.NoMemory = command.NoMemory
+
+-- a fault of images, as the command's
+abbrev pub of_images : PbmFault → CommandFault
+of_images pbm.NotP4 = command.NotP4
+of_images pbm.PbmHeader = command.PbmHeader
+of_images pbm.Truncated = command.Truncated
+of_images pbm.PbmSize = command.PbmSize
+of_images pbm.ReadFault = command.ReadFault
+of_images pbm.NoMemory = command.NoMemory
 
 -- a record's fault, as its refusal
 abbrev pub of_record : RecordFault → RecordRefusal

@@ -16,6 +16,7 @@ use Rattle.sheet_core.specs.declared.fault.SheetFault.TheVariants as sheet
 use Rattle.sheet_core.specs.declared.label.Label.{Label}
 use Rattle.sheet_core.specs.declared.label.Label.TheVariants as label
 use Rattle.gs1_hub.specs.Checks.{spelled_text}
+use Rattle.gs1_hub.specs.Grids.{cells_of}
 use Rattle.gs1_hub.specs.Records.{Fields, Test}
 use Rattle.gs1_hub.specs.declared.fault.CommandFault.{CommandFault}
 use Rattle.gs1_hub.specs.declared.fault.CommandFault.TheVariants as command
@@ -101,10 +102,6 @@ print_test year _ o = Some fault.Csv ≡ o
 
 -- ---- what is written
 
--- the cells that are asked for
-abbrev pub cells_of : PrintOptions → Cells
-cells_of o = record { dots = o.module_dots; width = o.width; height = o.height; columns = o.columns; rows = o.rows }
-
 -- the name of a label's kind
 abbrev pub kind_name : Label → List ℕ
 kind_name (label.Ean13 gtin) = codes "ean13"
@@ -113,13 +110,17 @@ kind_name (label.Ean8 gtin) = codes "ean8"
 kind_name (label.UpcE gtin) = codes "upce"
 kind_name (label.Gs1128 es) = codes "gs1128"
 
+-- the elements that a label says
+abbrev pub label_list : Label → List Entry
+label_list (label.Ean13 gtin) = gtin_entry gtin ∷ []
+label_list (label.UpcA gtin) = gtin_entry gtin ∷ []
+label_list (label.Ean8 gtin) = gtin_entry gtin ∷ []
+label_list (label.UpcE gtin) = gtin_entry gtin ∷ []
+label_list (label.Gs1128 es) = es.list
+
 -- the human-readable line of a label
 abbrev pub label_hri : Label → List ℕ
-label_hri (label.Ean13 gtin) = hri (gtin_entry gtin ∷ [])
-label_hri (label.UpcA gtin) = hri (gtin_entry gtin ∷ [])
-label_hri (label.Ean8 gtin) = hri (gtin_entry gtin ∷ [])
-label_hri (label.UpcE gtin) = hri (gtin_entry gtin ∷ [])
-label_hri (label.Gs1128 es) = hri es.list
+label_hri l = hri (label_list l)
 
 -- a line: the sheet, the cell in it, the kind, the human-readable line and a line feed
 abbrev pub label_line : ℕ → ℕ → Label → List ℕ
@@ -140,7 +141,7 @@ IsPrinted g false labels text = (sheets : List Bitmap) × ArePrinted labels g sh
 
 -- the same of the labels of these records, in a grid
 abbrev pub IsPrint : PrintOptions → List Fields → List ℕ → Type 0
-IsPrint o rows text = IsGrid (cells_of o) × (labels : List Label) × AllZip (IsLabelOf o.year) rows labels × IsPrinted (cells_of o) o.text labels text
+IsPrint o rows text = IsGrid (cells_of o.grid) × (labels : List Label) × AllZip (IsLabelOf o.year) rows labels × IsPrinted (cells_of o.grid) o.text labels text
 
 -- why nothing is written of labels: the first that has no symbol or does not fit its cell
 abbrev pub IsUnprinted : Cells → List Label → CommandFault → Type 0
@@ -148,7 +149,4 @@ IsUnprinted g labels (command.LabelKind i) = IsSheetFault g labels (sheet.LabelK
 IsUnprinted g labels (command.LabelWidth i) = IsSheetFault g labels (sheet.LabelWidth i)
 IsUnprinted g labels command.WriteFault = ⊤
 IsUnprinted g labels command.NoMemory = ⊤
-IsUnprinted g labels command.ReadFault = ⊥
-IsUnprinted g labels command.InputSize = ⊥
-IsUnprinted g labels command.BadGrid = ⊥
-IsUnprinted g labels (command.Record i f) = ⊥
+IsUnprinted g labels _ = ⊥

@@ -37,9 +37,4 @@ pub record IsFirstFault (test : Test) (rows : List Fields) (i : ℕ) (f : Record
 abbrev pub NamesFirst : Test → List Fields → CommandFault → Type 0
 NamesFirst test rows (command.Record i f) = IsFirstFault test rows i f
 NamesFirst test rows command.NoMemory = ⊤
-NamesFirst test rows command.ReadFault = ⊥
-NamesFirst test rows command.WriteFault = ⊥
-NamesFirst test rows command.InputSize = ⊥
-NamesFirst test rows command.BadGrid = ⊥
-NamesFirst test rows (command.LabelKind i) = ⊥
-NamesFirst test rows (command.LabelWidth i) = ⊥
+NamesFirst test rows _ = ⊥

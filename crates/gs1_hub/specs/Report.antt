@@ -1,5 +1,5 @@
 -- The report: the answers to the rows of each lane, one line each.
-use Rattle.std.specs.Prelude.{◌≡◌, ◌+◌, ◌++◌, ℕ, List, [], ◌∷◌, codes}
+use Rattle.std.specs.Prelude.{◌≡◌, ◌+◌, ◌++◌, ⊤, ℕ, List, [], ◌∷◌, codes}
 use Rattle.std.specs.Fmt.{decimal}
 use Rattle.std.specs.List.{AllZip}
 use Rattle.element_core.specs.Elements.{hri}
@@ -9,8 +9,12 @@ use Rattle.scan_core.specs.declared.carrier.Carrier.{Carrier}
 use Rattle.scan_core.specs.declared.carrier.Carrier.TheVariants as carrier
 use Rattle.scan_core.specs.declared.answer.Answer.{Answer}
 use Rattle.scan_core.specs.declared.answer.Answer.TheVariants as answer
+use Rattle.lane_core.specs.declared.job.Plain.{Plain}
+use Rattle.hub_core.specs.Laws.{AreAnswersOf}
 use Rattle.gs1_hub.specs.Feeds.{feeds_of}
 use Rattle.gs1_hub.specs.Records.{Fields}
+use Rattle.gs1_hub.specs.declared.fault.CommandFault.{CommandFault}
+use Rattle.gs1_hub.specs.declared.fault.CommandFault.TheVariants as command
 
 -- the symbology identifier of a carrier (GS1 General Specifications, section 5.1.3)
 abbrev pub identifier : Carrier → List ℕ
@@ -42,6 +46,10 @@ lanes_from lane (answers ∷ rest) = lines_from lane 0 answers ++ lanes_from (la
 abbrev pub report : List (List Answer) → List ℕ
 report = lanes_from 0
 
+-- the text is the report of the answers of these deliveries
+abbrev pub IsReportOf : List (List Plain) → List ℕ → Type 0
+IsReportOf lists text = (answers : List (List Answer)) × AllZip AreAnswersOf lists answers × (text ≡ report answers)
+
 -- the text is the report of the answers to these rows under the reference year
 abbrev pub IsReport : ℕ → List (List (List ℕ)) → List ℕ → Type 0
 IsReport year feeds text =
@@ -50,3 +58,10 @@ IsReport year feeds text =
 -- the same of the rows that records give each lane
 abbrev pub IsLaneReport : ℕ → ℕ → List Fields → List ℕ → Type 0
 IsLaneReport lanes year rows text = IsReport year (feeds_of lanes rows) text
+
+-- rows were taken, and what is left is to serve them: only memory, a thread or the sink may be wanting
+abbrev pub StopsServing : CommandFault → Type 0
+StopsServing command.NoMemory = ⊤
+StopsServing command.NoThread = ⊤
+StopsServing command.WriteFault = ⊤
+StopsServing _ = ⊥

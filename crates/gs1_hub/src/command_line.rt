@@ -2,7 +2,7 @@
 ghost use Rattle.std.specs.Prelude.{◌≡◌, IfOk, false};
 ghost use Rattle.clap.specs.Words.{app_of, rule_of};
 ghost use Rattle.clap.specs.declared.builder.command.Command.TheViews.{out-Command};
-ghost use Rattle.gs1_hub.specs.CommandLine.{check_app, flag_rule, hub_app, lanes_app, number_rule, print_app, text_app, with_cell, with_places, year_rule};
+ghost use Rattle.gs1_hub.specs.CommandLine.{check_app, flag_rule, hub_app, lanes_app, number_rule, print_app, scan_app, text_app, with_cell, with_places, year_rule};
 
 use clap::builder::ValueParser;
 use clap::{Arg, ArgAction, Command};
@@ -87,6 +87,16 @@ fn lanes_command<'a>(alloc: Global) -> Result<Command<'a>, AllocError>
         .arg(year(alloc))
 }
 
+fn scan_command<'a>(alloc: Global) -> Result<Command<'a>, AllocError>
+    ensures app { IfOk result (λ c. app_of c ≡ scan_app) }
+    ensures own { IfOk result (λ c. (out-Command c).has_globals ≡ false) }
+{
+    let sized = with_cell(alloc, Command::new(alloc, "scan"))?;
+    with_places(alloc, sized)?
+        .arg(number(alloc, "workers", 1, 16))?
+        .arg(year(alloc))
+}
+
 /// The program with the commands that take texts.
 fn text_commands<'a>(alloc: Global) -> Result<Command<'a>, AllocError>
     ensures { IfOk result (λ c. app_of c ≡ text_app) }
@@ -102,5 +112,7 @@ fn text_commands<'a>(alloc: Global) -> Result<Command<'a>, AllocError>
 pub fn hub_command<'a>(alloc: Global) -> Result<Command<'a>, AllocError>
     ensures { IfOk result (λ c. app_of c ≡ hub_app) }
 {
-    text_commands(alloc)?.subcommand(lanes_command(alloc)?)
+    text_commands(alloc)?
+        .subcommand(lanes_command(alloc)?)?
+        .subcommand(scan_command(alloc)?)
 }

@@ -1,11 +1,11 @@
 //! Why a command is refused as a whole.
 ghost use Rattle.std.specs.Prelude.{Some, ◌≡◌};
-ghost use Rattle.gs1_hub.specs.Faults.{bad_grid, failed_write, no_memory, no_room, of_input, of_record, of_sheets, record_fault_text, refusal_at};
+ghost use Rattle.gs1_hub.specs.Faults.{bad_grid, failed_write, no_memory, no_room, of_images, of_input, of_record, of_sheets, record_fault_text, refusal_at};
 
 use digits_core::{DigitFault, Failed, InputFault};
 use element_core::ElementFault;
-use sheet_core::{BadGrid, SheetFault, WriteFault};
-use std::alloc::AllocError;
+use sheet_core::{BadGrid, NoMemory, PbmFault, SheetFault, WriteFault};
+use std::alloc::{AllocError, AllocFailed};
 use std::fmt;
 use thiserror::Error;
 
@@ -72,6 +72,22 @@ pub enum CommandFault {
     /// The label at this index, from 0, is the first that is not printed, and is wider than its cell.
     #[error("refused 27 LabelWidth {0}")]
     LabelWidth(usize),
+    /// An image does not begin with `P4`.
+    #[error("refused 28 NotP4")]
+    NotP4,
+    /// A byte cannot stand at its place in the header of an image, or lies past the 4,096 bytes of one.
+    #[error("refused 29 PbmHeader")]
+    PbmHeader,
+    /// The input ends within an image.
+    #[error("refused 30 Truncated")]
+    Truncated,
+    /// A width or height of an image is 0 or above 65,535, there are more than 4,096 images, or one has not
+    /// the size of the grid.
+    #[error("refused 31 PbmSize")]
+    PbmSize,
+    /// A thread could not be started.
+    #[error("refused 36 NoThread")]
+    NoThread,
 }
 
 impl From<InputFault> for CommandFault {
@@ -114,11 +130,42 @@ impl From<SheetFault> for CommandFault {
     }
 }
 
+impl From<PbmFault> for CommandFault {
+    ghost from_gives = { λ fault command. command ≡ of_images fault };
+
+    fn from(fault: PbmFault) -> CommandFault {
+        match fault {
+            PbmFault::NotP4 => CommandFault::NotP4,
+            PbmFault::PbmHeader => CommandFault::PbmHeader,
+            PbmFault::Truncated => CommandFault::Truncated,
+            PbmFault::PbmSize => CommandFault::PbmSize,
+            PbmFault::ReadFault => CommandFault::ReadFault,
+            PbmFault::NoMemory => CommandFault::NoMemory,
+        }
+    }
+}
+
 impl From<WriteFault> for CommandFault {
     ghost from_gives = { λ failed command. command ≡ failed_write };
 
     fn from(_: WriteFault) -> CommandFault {
         CommandFault::WriteFault
+    }
+}
+
+impl From<NoMemory> for CommandFault {
+    ghost from_gives = { λ refused command. command ≡ no_memory };
+
+    fn from(_: NoMemory) -> CommandFault {
+        CommandFault::NoMemory
+    }
+}
+
+impl<T: Drop> From<AllocFailed<T>> for CommandFault {
+    ghost from_gives = { λ refused command. command ≡ no_memory };
+
+    fn from(_: AllocFailed<T>) -> CommandFault {
+        CommandFault::NoMemory
     }
 }
 

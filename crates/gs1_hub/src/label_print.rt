@@ -4,7 +4,8 @@ ghost use Rattle.std.specs.List.{AllZip};
 ghost use Rattle.std.specs.Io.KnownBytes.{Appends};
 ghost use Rattle.digits_core.specs.Bytes.{TookFront};
 ghost use Rattle.gs1_hub.specs.Commands.{RefusesPrint, Writes};
-ghost use Rattle.gs1_hub.specs.Prints.{IsLabelOf, IsPrint, IsPrinted, IsUnprinted, cells_of, print_test};
+ghost use Rattle.gs1_hub.specs.Grids.{cells_of};
+ghost use Rattle.gs1_hub.specs.Prints.{IsLabelOf, IsPrint, IsPrinted, IsUnprinted, print_test};
 
 use crate::fault::{CommandFault, RecordRefusal};
 use crate::label_lines::label_lines;
@@ -47,20 +48,20 @@ fn write_labels<W: Sink>(
     labels: &[Label],
     sink: &mut W,
 ) -> Result<(), CommandFault>
-    requires { grid ≡ cells_of options }
-    ensures ok { OnOk result ((text : List ℕ) × IsPrinted (cells_of options) options.text labels.now text
+    requires { grid ≡ cells_of options.grid }
+    ensures ok { OnOk result ((text : List ℕ) × IsPrinted (cells_of options.grid) options.text labels.now text
         × Appends (W.taken sink.old) (W.taken sink.new) text) }
     ensures cut { IsErrOf result CommandFault.WriteFault
-        → (text : List ℕ) × IsPrinted (cells_of options) options.text labels.now text
+        → (text : List ℕ) × IsPrinted (cells_of options.grid) options.text labels.now text
         × TookFront (W.taken sink.old) (W.taken sink.new) text }
-    ensures refused { IfErr result (IsUnprinted (cells_of options) labels.now) }
+    ensures refused { IfErr result (IsUnprinted (cells_of options.grid) labels.now) }
     ensures unwritten { IfErr result (λ e. e ≢ CommandFault.WriteFault → sink.new ≡ sink.old) }
     ensures write { W.failed sink.old ≡ false
         → (IsErrOf result CommandFault.WriteFault ↔ (W.failed sink.new ≡ true)) }
 {
     let sheets = print_sheets(alloc, labels, grid)?;
     if options.text {
-        let cells = usize::from(options.columns) * usize::from(options.rows);
+        let cells = usize::from(options.grid.columns) * usize::from(options.grid.rows);
         let text = label_lines(alloc, labels, cells, options.year)?;
         write_all(sink, text.as_str().as_bytes())?;
     } else {
@@ -93,13 +94,7 @@ pub fn run_print<S: Source, W: Sink>(
     ensures write { W.failed sink.old ≡ false
         → (IsErrOf result CommandFault.WriteFault ↔ (W.failed sink.new ≡ true)) }
 {
-    let grid = Grid::new(
-        options.module_dots,
-        options.width,
-        options.height,
-        options.columns,
-        options.rows,
-    )?;
+    let grid = options.grid.grid()?;
     let records = LabelRecords { year: options.year };
     let mut labels = Vec::new(alloc);
     read_input(alloc, &records, &mut labels, source)?;

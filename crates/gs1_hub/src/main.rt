@@ -5,12 +5,13 @@ ghost use Rattle.std.specs.Prelude.{◌≡◌, ◌≢◌, ◌↔◌, true, false
 ghost use Rattle.std.specs.Io.KnownBytes.{Appends};
 ghost use Rattle.std.specs.Process.{exit_status};
 ghost use Rattle.digits_core.specs.Bytes.{TookFront};
-ghost use Rattle.gs1_hub.specs.Commands.{OutputOf, RefusesAsked, Writes, test_of};
+ghost use Rattle.gs1_hub.specs.Commands.{RefusesAsked, WritesAsked};
 ghost use Rattle.gs1_hub.specs.Faults.{status_of, words_status};
 
 mod ascii;
 mod check;
 mod check_answer;
+mod columns;
 mod command_line;
 mod element_field;
 mod fault;
@@ -19,9 +20,12 @@ mod label_lines;
 mod label_print;
 mod label_record;
 mod lanes;
+mod laws;
 mod options;
 mod records;
 mod report;
+mod serving;
+mod sheet_scan;
 #[cfg(test)]
 mod tests;
 mod widths;
@@ -31,23 +35,28 @@ use crate::check::run_check;
 use crate::fault::CommandFault;
 use crate::label_print::run_print;
 use crate::lanes::run_lanes;
+use crate::sheet_scan::run_scan;
 use crate::words::{Asked, WordsFault, read_words};
 use digits_core::{FromReader, Sink, Source, ToWriter};
+use hub_core::{Gate, OpenGate};
 use std::alloc::Global;
 use std::process::ExitCode;
+use std::sync::Wait;
+use std::thread::Threads;
 use std::{env, io};
 
-/// Runs the command that is asked for.
-fn run<S: Source, W: Sink>(
+/// Runs the command that is asked for. The gate is for the workers of those that read rows.
+fn run<R: Threads + Wait + Sync, S: Source, W: Sink, G: Gate + Sync>(
+    rt: &R,
     alloc: Global,
     asked: Asked,
     source: &mut S,
     sink: &mut W,
+    gate: &G,
 ) -> Result<(), CommandFault>
-    ensures ok { OnOk result (Writes (test_of asked) (OutputOf asked) Appends
+    ensures ok { OnOk result (WritesAsked asked Appends
         (S.left source.old) (S.left source.new) (W.taken sink.old) (W.taken sink.new)) }
-    ensures cut { IsErrOf result CommandFault.WriteFault
-        → Writes (test_of asked) (OutputOf asked) TookFront
+    ensures cut { IsErrOf result CommandFault.WriteFault → WritesAsked asked TookFront
         (S.left source.old) (S.left source.new) (W.taken sink.old) (W.taken sink.new) }
     ensures refused { IfErr result
         (RefusesAsked asked (S.left source.old) (S.left source.new)) }
@@ -60,7 +69,8 @@ fn run<S: Source, W: Sink>(
     match asked {
         Asked::Check(year) => run_check(alloc, year, source, sink),
         Asked::Print(options) => run_print(alloc, options, source, sink),
-        Asked::Lanes(options) => run_lanes(alloc, options, source, sink),
+        Asked::Lanes(options) => run_lanes(rt, alloc, options, source, sink, gate),
+        Asked::Scan(options) => run_scan(rt, alloc, options, source, sink, gate),
     }
 }
 
@@ -111,7 +121,8 @@ fn main(rt: HostRuntime) -> io::Result<ExitCode> {
         Ok(asked) => {
             let mut source = FromReader::new(rt.reader());
             let mut sink = ToWriter::new(io::writer(&rt));
-            finish(&rt, run(rt.alloc(), asked, &mut source, &mut sink))
+            let ran = run(&rt, rt.alloc(), asked, &mut source, &mut sink, &OpenGate);
+            finish(&rt, ran)
         }
         Err(fault) => explain(&rt, &fault),
     }

@@ -1,11 +1,11 @@
 //! The lines that answer rows.
 ghost use Rattle.std.specs.Prelude.{◌≡◌, ◌++◌, List, IfOk, OnOk, map, string_bytes};
-ghost use Rattle.scan_core.specs.Answers.{Reads};
 ghost use Rattle.scan_core.specs.declared.answer.Answer.{Answer};
-ghost use Rattle.gs1_hub.specs.Report.{IsReport, identifier, line_of, lines_from};
+ghost use Rattle.hub_core.specs.Laws.{AreAnswersOf};
+ghost use Rattle.gs1_hub.specs.Report.{IsReportOf, identifier, line_of, lines_from};
 
-use element_core::Year;
-use scan_core::{Answer, Carrier, Runs, read_row};
+use lane_core::Delivery;
+use scan_core::{Answer, Carrier};
 use std::alloc::{AllocError, Global};
 use std::fmt::Write;
 
@@ -42,23 +42,23 @@ fn push_line(
 }
 
 /// Appends the lines of a lane.
-fn push_lane(text: &mut String, lane: usize, rows: &[Runs], year: Year) -> Result<(), AllocError>
-    ensures { OnOk result ((answers : List Answer) × Reads rows.now year answers
+fn push_lane(text: &mut String, lane: usize, list: &[Delivery]) -> Result<(), AllocError>
+    ensures { OnOk result ((answers : List Answer) × AreAnswersOf list.now answers
         × (string_bytes text.new ≡ string_bytes text.old ++ lines_from lane 0 answers)) }
 {
-    'rows: for (number, runs) in rows.iter().enumerate() {
-        push_line(text, lane, number, &read_row(runs, year))?;
+    'deliveries: for (number, delivery) in list.iter().enumerate() {
+        push_line(text, lane, number, delivery.answer())?;
     }
     Ok(())
 }
 
-/// The report of the rows of each lane.
-pub fn report(alloc: Global, feeds: &[Vec<Runs>], year: Year) -> Result<String, AllocError>
-    ensures { IfOk result (λ text. IsReport year (map (λ feed. feed.items) feeds.now) (string_bytes text)) }
+/// The report of each lane's deliveries.
+pub fn report(alloc: Global, lists: &[Vec<Delivery>]) -> Result<String, AllocError>
+    ensures { IfOk result (λ text. IsReportOf (map (λ list. list.items) lists.now) (string_bytes text)) }
 {
     let mut text = String::new(alloc);
-    'lanes: for (lane, rows) in feeds.iter().enumerate() {
-        push_lane(&mut text, lane, rows.as_slice(), year)?;
+    'lanes: for (lane, list) in lists.iter().enumerate() {
+        push_lane(&mut text, lane, list.as_slice())?;
     }
     Ok(text)
 }

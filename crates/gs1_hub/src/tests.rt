@@ -3,9 +3,11 @@
 mod adapters;
 mod checks;
 mod fakes;
+mod gates;
 mod numbers;
 mod prints;
 mod rows;
+mod scans;
 mod symbols;
 mod words;
 
@@ -16,8 +18,10 @@ use crate::words::Asked;
 use digits_core::{FromReader, ToWriter};
 use element_core::Year;
 use fakes::{Breaking, Endless, Narrow};
-use std::alloc::Global;
+use hub_core::{Gate, OpenGate};
+use std::sync::Wait;
 use std::test::Fail;
+use std::thread::Threads;
 
 // The symbol of 9501101530003, at one dot a module: its runs but for the two light ends.
 const SYMBOL: &str = "1 1 1 1 2 3 1 1 1 2 3 1 2 2 2 2 2 2 1 1 1 2 3 2 2 2 1 1 1 1 1 \
@@ -31,11 +35,34 @@ const WRONG_CHECK_DIGIT: &str = "1 1 1 1 2 3 1 1 1 2 3 1 2 2 2 2 2 2 1 1 1 2 3 2
 const WIDE_SPACE: &str = "1 1 1 1 2 3 1 1 1 2 3 1 2 2 2 2 2 2 1 1 1 2 3 2 2 2 1 1 1 1 1 \
                           1 1 2 3 1 1 4 1 1 3 2 1 1 3 2 1 1 3 2 1 1 1 5 1 1 1 1 1";
 
-/// What a run of a command prints: its output, or else the line of its fault.
-fn outcome(alloc: Global, asked: Asked, input: &[u8]) -> Result<String, Fail> {
+// The row of 96385074 as EAN-8, its light ends included, at one dot a module.
+const EAN8: &str = "7 1 1 1 3 1 1 2 1 1 1 4 1 4 1 1 1 2 1 3 1 1 1 1 1 1 2 3 1 3 2 1 \
+                    1 1 3 1 2 1 1 3 2 1 1 1 7";
+
+// The row of (422)528 as GS1-128, its light ends included, at one dot a module.
+const GS1128: &str = "10 2 1 1 2 3 2 4 1 1 1 3 1 1 1 2 1 3 3 3 2 1 1 2 2 3 2 2 1 1 2 1 2 \
+                      1 4 2 1 2 3 3 1 1 1 2 10";
+
+/// What a run of a command prints: its output, and where it is refused the line of its fault.
+fn outcome<R: Threads + Wait + AllocGlobal + Sync>(
+    rt: &R,
+    asked: Asked,
+    input: &[u8],
+) -> Result<String, Fail> {
+    outcome_at(rt, asked, input, &OpenGate)
+}
+
+/// The same where the workers pass this gate.
+fn outcome_at<R: Threads + Wait + AllocGlobal + Sync, G: Gate + Sync>(
+    rt: &R,
+    asked: Asked,
+    input: &[u8],
+    gate: &G,
+) -> Result<String, Fail> {
+    let alloc = rt.alloc();
     let mut source = FromReader::new(input);
     let mut sink = ToWriter::new(Vec::new(alloc));
-    let ran = run(alloc, asked, &mut source, &mut sink);
+    let ran = run(rt, alloc, asked, &mut source, &mut sink, gate);
     let written = String::from_utf8(sink.into_inner()).ok().ok_or("text")?;
     match ran {
         Ok(()) => Ok(written),
@@ -43,10 +70,15 @@ fn outcome(alloc: Global, asked: Asked, input: &[u8]) -> Result<String, Fail> {
     }
 }
 
-/// What a run of `lanes` prints.
-fn printed(alloc: Global, lanes: u8, input: &str) -> Result<String, Fail> {
-    let options = LaneOptions::new(lanes, 1, 2026).ok_or("options")?;
-    outcome(alloc, Asked::Lanes(options), input.as_bytes())
+/// What a run of `lanes` by so many workers prints.
+fn printed<R: Threads + Wait + AllocGlobal + Sync>(
+    rt: &R,
+    lanes: u8,
+    workers: u8,
+    input: &str,
+) -> Result<String, Fail> {
+    let options = LaneOptions::new(lanes, workers, 2026).ok_or("options")?;
+    outcome(rt, Asked::Lanes(options), input.as_bytes())
 }
 
 #[test]
@@ -64,12 +96,12 @@ fn answers_each_row(rt: HostRuntime) -> Result<(), Fail> {
     ] {
         let input = format!(in alloc; "0,{left} {symbol} {right}\n")?;
         let wanted = format!(in alloc; "0 0 {answer}\n")?;
-        let found = printed(alloc, 1, input.as_str())?;
+        let found = printed(&rt, 1, 1, input.as_str())?;
         assert_eq!(rt; found.as_str(), wanted.as_str(), "{input}");
     }
     for width in ["0", "100", "65535"] {
         let input = format!(in alloc; "0,{width}")?;
-        let found = printed(alloc, 1, input.as_str())?;
+        let found = printed(&rt, 1, 1, input.as_str())?;
         assert_eq!(rt; found.as_str(), "0 0 refused 19 Blank\n", "{input}");
     }
     Ok(())
@@ -91,19 +123,45 @@ fn orders_lines_by_lane_and_number(rt: HostRuntime) -> Result<(), Fail> {
              2 0 refused 19 Blank\n2 1 refused 20 RunCount\n",
         ),
     ] {
-        let found = printed(alloc, lanes, input)?;
+        let found = printed(&rt, lanes, 1, input)?;
         assert_eq!(rt; found.as_str(), wanted, "{input}");
     }
     let mut many = String::new(alloc);
     for _ in 0..11 {
         many.push_str("0,0\n")?;
     }
-    let found = printed(alloc, 1, many.as_str())?;
+    let found = printed(&rt, 1, 1, many.as_str())?;
     assert!(rt;
         found
             .as_str()
             .ends_with("\n0 9 refused 19 Blank\n0 10 refused 19 Blank\n")
     );
+    Ok(())
+}
+
+#[test]
+fn reads_lanes_by_any_number_of_workers(rt: HostRuntime) -> Result<(), Fail> {
+    let alloc = rt.alloc();
+    let input = format!(in alloc;
+        "1,{EAN8}\n2,11 {SYMBOL} 7\n2,100\n2,11 {SYMBOL} 7\n2,{EAN8}\n2,{GS1128}\n"
+    )?;
+    let wanted = "1 0 ]E4 (01)00000096385074\n\
+                  2 0 ]E0 (01)09501101530003\n\
+                  2 1 refused 19 Blank\n\
+                  2 2 ]E0 (01)09501101530003\n\
+                  2 3 ]E4 (01)00000096385074\n\
+                  2 4 ]C1 (422)528\n";
+    let beyond = format!(in alloc; "3,11 {SYMBOL} 7\n{input}")?;
+    for workers in [1, 2, 16] {
+        let found = printed(&rt, 3, workers, input.as_str())?;
+        assert_eq!(rt; found.as_str(), wanted, "{workers} workers");
+        let found = printed(&rt, 3, workers, beyond.as_str())?;
+        assert_eq!(rt;
+            found.as_str(),
+            "record 0: refused 41 BadLane",
+            "{workers} workers"
+        );
+    }
     Ok(())
 }
 
@@ -136,7 +194,7 @@ fn refuses_faulty_records(rt: HostRuntime) -> Result<(), Fail> {
         ("7,\n0\n", "record 0: refused 41 BadLane"),
         ("0,99999\n7,\n0\n", "record 0: refused 17 TooWide"),
     ] {
-        let found = printed(rt.alloc(), 2, input)?;
+        let found = printed(&rt, 2, 1, input)?;
         assert_eq!(rt; found.as_str(), wanted, "{input}");
     }
     Ok(())
@@ -160,11 +218,18 @@ fn passes_failures_on(rt: HostRuntime) -> Result<(), Fail> {
         ),
     ] {
         let mut unwritten = ToWriter::new(Vec::new(alloc));
-        let fault = run(alloc, asked, &mut Breaking::new(), &mut unwritten)
-            .err()
-            .ok_or("a fault")?;
+        let fault = run(
+            &rt,
+            alloc,
+            asked,
+            &mut Breaking::new(b"0"),
+            &mut unwritten,
+            &OpenGate,
+        )
+        .err()
+        .ok_or("a fault")?;
         assert_eq!(rt; fault.to_string(alloc)?.as_str(), "refused 37 ReadFault");
-        let fault = run(alloc, asked, &mut Endless, &mut unwritten)
+        let fault = run(&rt, alloc, asked, &mut Endless, &mut unwritten, &OpenGate)
             .err()
             .ok_or("a fault")?;
         assert_eq!(rt; fault.to_string(alloc)?.as_str(), "refused 44 InputSize");
@@ -172,13 +237,13 @@ fn passes_failures_on(rt: HostRuntime) -> Result<(), Fail> {
 
         let mut narrow = Narrow::new(alloc, 100);
         let mut source = FromReader::new(input.as_bytes());
-        run(alloc, asked, &mut source, &mut narrow)?;
+        run(&rt, alloc, asked, &mut source, &mut narrow, &OpenGate)?;
         let text = output.as_bytes();
         assert_eq!(rt; narrow.taken(), text);
 
         let mut short = Narrow::new(alloc, 25);
         let mut source = FromReader::new(input.as_bytes());
-        let fault = run(alloc, asked, &mut source, &mut short)
+        let fault = run(&rt, alloc, asked, &mut source, &mut short, &OpenGate)
             .err()
             .ok_or("a fault")?;
         assert_eq!(rt; fault.to_string(alloc)?.as_str(), "refused 38 WriteFault");
@@ -186,5 +251,7 @@ fn passes_failures_on(rt: HostRuntime) -> Result<(), Fail> {
     }
     let text = CommandFault::NoMemory.to_string(alloc)?;
     assert_eq!(rt; text.as_str(), "refused 43 NoMemory");
+    let text = CommandFault::NoThread.to_string(alloc)?;
+    assert_eq!(rt; text.as_str(), "refused 36 NoThread");
     Ok(())
 }

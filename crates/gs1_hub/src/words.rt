@@ -1,15 +1,17 @@
 //! The words of the command line.
 ghost use Rattle.std.specs.Prelude.{Bool, Some, ℕ, IfOk, IfSome, IfNone, IfErr, map, string_bytes};
 ghost use Rattle.clap.specs.Words.{found_of, kind_of, rows_of, subcommand_rows_of};
-ghost use Rattle.gs1_hub.specs.Asking.{Asks, AsksIn, HasLanes, HasPrint, Explains, FaultOfKind, WordsAsk};
+ghost use Rattle.gs1_hub.specs.Asking.{Asks, AsksIn, HasGrid, HasLanes, HasPrint, HasScan, Explains, FaultOfKind, WordsAsk};
 ghost use Rattle.gs1_hub.specs.CommandLine.{HasFlag, HasNumber, HasYear};
 ghost use Rattle.gs1_hub.specs.Faults.{words_fault_text};
 ghost use Rattle.gs1_hub.specs.declared.words.Asked.{Asked};
+ghost use Rattle.gs1_hub.specs.declared.options.GridOptions.{GridOptions};
 ghost use Rattle.gs1_hub.specs.declared.options.LaneOptions.{LaneOptions};
 ghost use Rattle.gs1_hub.specs.declared.options.PrintOptions.{PrintOptions};
+ghost use Rattle.gs1_hub.specs.declared.options.ScanOptions.{ScanOptions};
 
 use crate::command_line::hub_command;
-use crate::options::{LaneOptions, PrintOptions};
+use crate::options::{GridOptions, LaneOptions, PrintOptions, ScanOptions};
 use clap::error::ErrorKind;
 use clap::{ArgMatches, Error};
 use element_core::Year;
@@ -25,6 +27,8 @@ pub enum Asked {
     Print(PrintOptions),
     /// The rows of these lanes are to be read.
     Lanes(LaneOptions),
+    /// The sheets of these images are to be read.
+    Scan(ScanOptions),
 }
 
 /// Why no command is run.
@@ -85,11 +89,11 @@ fn flag_named(matches: &ArgMatches<'_>, name: &str) -> Option<bool>
     matches.get_one::<bool>(name)
 }
 
-/// The numbers of the command `print`.
-fn print_options(matches: &ArgMatches<'_>) -> Option<PrintOptions>
-    ensures some { IfSome result (HasPrint (rows_of (found_of matches.now))) }
-    ensures none { IfNone result ((o : PrintOptions)
-        → HasPrint (rows_of (found_of matches.now)) o → ⊥) }
+/// The numbers of a grid.
+fn grid_options(matches: &ArgMatches<'_>) -> Option<GridOptions>
+    ensures some { IfSome result (HasGrid (rows_of (found_of matches.now))) }
+    ensures none { IfNone result ((o : GridOptions)
+        → HasGrid (rows_of (found_of matches.now)) o → ⊥) }
 {
     let Some(module_dots) = number_named(matches, "module", 1, 8) else {
         return None;
@@ -106,21 +110,31 @@ fn print_options(matches: &ArgMatches<'_>) -> Option<PrintOptions>
     let Some(rows) = number_named(matches, "rows", 1, 64) else {
         return None;
     };
+    Some(GridOptions {
+        module_dots,
+        width,
+        height,
+        columns,
+        rows,
+    })
+}
+
+/// The numbers of the command `print`.
+fn print_options(matches: &ArgMatches<'_>) -> Option<PrintOptions>
+    ensures some { IfSome result (HasPrint (rows_of (found_of matches.now))) }
+    ensures none { IfNone result ((o : PrintOptions)
+        → HasPrint (rows_of (found_of matches.now)) o → ⊥) }
+{
+    let Some(grid) = grid_options(matches) else {
+        return None;
+    };
     let Some(year) = year_named(matches) else {
         return None;
     };
     let Some(text) = flag_named(matches, "text") else {
         return None;
     };
-    Some(PrintOptions {
-        module_dots,
-        width,
-        height,
-        columns,
-        rows,
-        year,
-        text,
-    })
+    Some(PrintOptions { grid, year, text })
 }
 
 /// The numbers of the command `lanes`.
@@ -145,6 +159,28 @@ fn lane_options(matches: &ArgMatches<'_>) -> Option<LaneOptions>
     })
 }
 
+/// The numbers of the command `scan`.
+fn scan_options(matches: &ArgMatches<'_>) -> Option<ScanOptions>
+    ensures some { IfSome result (HasScan (rows_of (found_of matches.now))) }
+    ensures none { IfNone result ((o : ScanOptions)
+        → HasScan (rows_of (found_of matches.now)) o → ⊥) }
+{
+    let Some(grid) = grid_options(matches) else {
+        return None;
+    };
+    let Some(workers) = number_named(matches, "workers", 1, 16) else {
+        return None;
+    };
+    let Some(year) = year_named(matches) else {
+        return None;
+    };
+    Some(ScanOptions {
+        grid,
+        workers: workers as u8,
+        year,
+    })
+}
+
 /// What the matches of a command ask for.
 fn asked_by(name: &str, matches: &ArgMatches<'_>) -> Option<Asked>
     ensures some { IfSome result (AsksIn name.now (rows_of (found_of matches.now))) }
@@ -162,6 +198,10 @@ fn asked_by(name: &str, matches: &ArgMatches<'_>) -> Option<Asked>
         },
         "lanes" => match lane_options(matches) {
             Some(options) => Some(Asked::Lanes(options)),
+            None => None,
+        },
+        "scan" => match scan_options(matches) {
+            Some(options) => Some(Asked::Scan(options)),
             None => None,
         },
         _ => None,

@@ -59,10 +59,10 @@ even_colour true (suc (suc n)) e = even_colour true n (omega arith)
 even_colour false (suc (suc n)) e = even_colour false n (omega arith)
 
 -- the runs after the first of a row, of which all but the last have dots
-abbrev HaveDots : List ℕ → Type 0
+abbrev pub HaveDots : List ℕ → Type 0
 HaveDots ws = AllByRecursion (λ w. 1 ≤ w) (take (length ws - 1) ws)
 
-rest_have : (w x : ℕ) (ws : List ℕ) → HaveDots (w ∷ x ∷ ws) → (1 ≤ w) × HaveDots (x ∷ ws)
+pub rest_have : (w x : ℕ) (ws : List ℕ) → HaveDots (w ∷ x ∷ ws) → (1 ≤ w) × HaveDots (x ∷ ws)
 rest_have w x ws each =
     let n : length (w ∷ x ∷ ws) - 1 ≡ suc (length ws) = omega arith in
     let m : length ws ≡ length (x ∷ ws) - 1 = omega arith in

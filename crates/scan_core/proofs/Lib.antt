@@ -8,6 +8,7 @@ pub mod FoundFacts
 pub mod ReplacedFacts
 pub mod LengthFacts
 pub mod RoundingFacts
+pub mod RunsOfDots
 pub mod RowFacts
 pub mod ShownFacts
 pub mod StageFacts

@@ -1,5 +1,5 @@
 -- Laws about rows.
-use Rattle.std.specs.Prelude.{None, ◌≡◌, ◌≢◌, ◌<◌, ◌↔◌, ℕ, List, length, reverse, sum, slice_index, slice_set}
+use Rattle.std.specs.Prelude.{None, ◌≡◌, ◌≢◌, ◌<◌, ◌≤◌, ◌↔◌, ℕ, Bool, List, length, reverse, sum, slice_index, slice_set}
 use Rattle.digits_core.specs.Digits.{AreDigits, IsChecked}
 use Rattle.ean_code.specs.Spelling.{IsGtinOf}
 use Rattle.ean_code.specs.Symbols.{Kind, IsCheckedPlace, digit_count, widths_of}
@@ -78,6 +78,10 @@ RowOrFault = (widths : List ℕ) → IsRow widths ↔ (runs_fault widths ≡ Non
 -- a row's dots determine its runs
 abbrev pub DotsDetermine : Type 0
 DotsDetermine = (a b : List ℕ) → IsRow a → IsRow b → dots_of a ≡ dots_of b → a ≡ b
+
+-- dots, at most 65,535, are those of a row
+abbrev pub DotsMakeRow : Type 0
+DotsMakeRow = (dots : List Bool) → length dots ≤ 65535 → (runs : List ℕ) × IsRow runs × (dots_of runs ≡ dots)
 
 -- a row turned end for end has its dots in reverse
 abbrev pub TurnedDots : Type 0

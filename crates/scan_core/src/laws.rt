@@ -1,5 +1,5 @@
 //! Laws about the definitions, each the contract of a function that does nothing.
-ghost use Rattle.scan_core.specs.Laws.{DotsDetermine, NeverTooLong, OneAnswer, OneSymbol, ReplacedCharacterIsNoticed, ReplacementIsNoticed, RowOrFault, SymbolMeasures, TurnedDots, TurnedRow};
+ghost use Rattle.scan_core.specs.Laws.{DotsDetermine, DotsMakeRow, NeverTooLong, OneAnswer, OneSymbol, ReplacedCharacterIsNoticed, ReplacementIsNoticed, RowOrFault, SymbolMeasures, TurnedDots, TurnedRow};
 
 /// A row shows at most one symbol, and reads as it in one way.
 pub fn one_symbol()
@@ -65,6 +65,11 @@ pub fn row_or_fault()
 /// A row's dots determine its runs.
 pub fn dots_determine()
     ensures { DotsDetermine }
+{}
+
+/// Dots, at most 65,535, are those of a row.
+pub fn dots_make_row()
+    ensures { DotsMakeRow }
 {}
 
 /// A row turned end for end has its dots in reverse.

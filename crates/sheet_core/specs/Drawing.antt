@@ -35,6 +35,10 @@ cell_dot g (Some s) x y = is_bar_row g y && bar_dot g s x
 abbrev pub cell_count : Cells → ℕ
 cell_count g = g.columns * g.rows
 
+-- how many sheets so many labels fill
+abbrev pub sheet_count : Cells → ℕ → ℕ
+sheet_count g count = (count + (cell_count g - 1)) / cell_count g
+
 -- the cell of a sheet over dot (x, y); cells count row by row
 abbrev pub cell_over : Cells → ℕ → ℕ → ℕ
 cell_over g x y = y / g.height * g.columns + x / g.width
@@ -53,7 +57,7 @@ pub record IsSheet (symbols : List Drawn) (g : Cells) (sheet : ℕ) (s : Bitmap)
 
 -- these are all sheets, as many as it takes
 pub record AreSheets (symbols : List Drawn) (g : Cells) (sheets : List Bitmap) : Type 0 where
-  pub count : length sheets ≡ (length symbols + (cell_count g - 1)) / cell_count g
+  pub count : length sheets ≡ sheet_count g (length symbols)
   pub each : (i : ℕ) (s : Bitmap) → slice_get sheets i ≡ Some s → IsSheet symbols g i s
 
 -- the sheets are those of labels that each have a symbol which fits its cell

@@ -4,22 +4,32 @@ use super::outcome;
 use crate::words::Asked;
 use element_core::{Elements, Year};
 use std::alloc::Global;
+use std::sync::Wait;
 use std::test::Fail;
+use std::thread::Threads;
 
 /// What `check` prints under the year 2026.
-fn checked(alloc: Global, input: &str) -> Result<String, Fail> {
-    checked_in(alloc, 2026, input)
+fn checked<R: Threads + Wait + AllocGlobal + Sync>(rt: &R, input: &str) -> Result<String, Fail> {
+    checked_in(rt, 2026, input)
 }
 
-fn checked_in(alloc: Global, year: u16, input: &str) -> Result<String, Fail> {
+fn checked_in<R: Threads + Wait + AllocGlobal + Sync>(
+    rt: &R,
+    year: u16,
+    input: &str,
+) -> Result<String, Fail> {
     let year = Year::new(year).ok_or("a year")?;
-    outcome(alloc, Asked::Check(year), input.as_bytes())
+    outcome(rt, Asked::Check(year), input.as_bytes())
 }
 
 /// Whether the record has this line.
-fn has_line(alloc: Global, record: &str, line: &str) -> Result<bool, Fail> {
-    let wanted = format!(in alloc; "{line}\n")?;
-    Ok(checked(alloc, record)? == wanted)
+fn has_line<R: Threads + Wait + AllocGlobal + Sync>(
+    rt: &R,
+    record: &str,
+    line: &str,
+) -> Result<bool, Fail> {
+    let wanted = format!(in rt.alloc(); "{line}\n")?;
+    Ok(checked(rt, record)? == wanted)
 }
 
 #[test]
@@ -55,7 +65,7 @@ fn checks_digits(rt: HostRuntime) -> Result<(), Fail> {
         ("upce,1123456X", "refused 2 NotDigit 7"),
         ("upce,X1234565", "refused 2 NotDigit 0"),
     ] {
-        assert!(rt; has_line(rt.alloc(), record, line)?, "{record}");
+        assert!(rt; has_line(&rt, record, line)?, "{record}");
     }
     Ok(())
 }
@@ -97,7 +107,7 @@ fn checks_element_strings(rt: HostRuntime) -> Result<(), Fail> {
         ("text,10AB^17261301", "refused 9 ValueDate 5"),
         ("text,4225281", "refused 10 MissingSeparator 0"),
     ] {
-        assert!(rt; has_line(rt.alloc(), record, line)?, "{record}");
+        assert!(rt; has_line(&rt, record, line)?, "{record}");
     }
     Ok(())
 }
@@ -121,13 +131,13 @@ fn takes_192_bytes_of_text(rt: HostRuntime) -> Result<(), Fail> {
     let alloc = rt.alloc();
     let longest = long_record(alloc, "0ABCD")?;
     assert_eq!(rt; longest.len(), 5 + 192);
-    let line = checked(alloc, longest.as_str())?;
+    let line = checked(&rt, longest.as_str())?;
     assert!(rt; line.as_str().starts_with("hri (91)AA"));
     assert!(rt; line.as_str().ends_with("AA(10)ABCD\n"));
     let longer = long_record(alloc, "0ABCDE")?;
-    assert!(rt; has_line(alloc, longer.as_str(), "refused 11 TooLong")?);
+    assert!(rt; has_line(&rt, longer.as_str(), "refused 11 TooLong")?);
     let worse = long_record(alloc, "##^^##")?;
-    assert!(rt; has_line(alloc, worse.as_str(), "refused 11 TooLong")?);
+    assert!(rt; has_line(&rt, worse.as_str(), "refused 11 TooLong")?);
     Ok(())
 }
 
@@ -155,7 +165,7 @@ fn reads_dates_by_the_year(rt: HostRuntime) -> Result<(), Fail> {
         (2026, "hri (17)000229\n"),
         (2060, "refused 9 ValueDate 0\n"),
     ] {
-        let found = checked_in(rt.alloc(), reference, "text,17000229")?;
+        let found = checked_in(&rt, reference, "text,17000229")?;
         assert_eq!(rt; found.as_str(), line);
     }
     Ok(())
@@ -181,7 +191,7 @@ fn answers_records_in_order(rt: HostRuntime) -> Result<(), Fail> {
         ("gtin,123\n\nsku,1\ndigit\n", "record 1: refused 40 Kind"),
         ("gtin,123\ndigit\nsku,1\n", "record 1: refused 39 Csv"),
     ] {
-        let found = checked(rt.alloc(), input)?;
+        let found = checked(&rt, input)?;
         assert_eq!(rt; found.as_str(), wanted, "{input}");
     }
     Ok(())

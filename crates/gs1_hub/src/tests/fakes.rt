@@ -4,35 +4,39 @@ ghost use Rattle.std.specs.Prelude.{None, false};
 use digits_core::{Failed, Sink, Source};
 use std::alloc::Global;
 
-/// Gives a byte, and then fails.
+/// Gives some bytes, one at a time, and then fails.
 #[derive(Drop)]
-pub struct Breaking {
-    is_begun: bool,
+pub struct Breaking<'a> {
+    left: &'a [u8],
     has_failed: bool,
 }
 
-impl Breaking {
-    pub fn new() -> Breaking {
+impl<'a> Breaking<'a> {
+    pub fn new(bytes: &'a [u8]) -> Breaking<'a> {
         Breaking {
-            is_begun: false,
+            left: bytes,
             has_failed: false,
         }
     }
 }
 
-impl Source for Breaking {
+impl<'a> Source for Breaking<'a> {
     ghost left = { λ s. None };
 
     ghost failed = { λ s. s.has_failed };
 
     fn read(&mut self, buf: &mut [u8]) -> Result<usize, Failed> {
-        if self.is_begun || self.has_failed || buf.is_empty() {
-            self.has_failed = true;
-            return Err(Failed);
+        match self.left.split_first() {
+            Some((first, left)) if !self.has_failed && !buf.is_empty() => {
+                buf[0] = *first;
+                self.left = left;
+                Ok(1)
+            }
+            _ => {
+                self.has_failed = true;
+                Err(Failed)
+            }
         }
-        self.is_begun = true;
-        buf[0] = b'0';
-        Ok(1)
     }
 }
 

@@ -6,21 +6,24 @@ use crate::options::PrintOptions;
 use crate::run;
 use crate::words::Asked;
 use digits_core::{FromReader, ToWriter};
-use std::alloc::{AllocError, Global};
+use hub_core::OpenGate;
+use std::alloc::AllocError;
+use std::sync::Wait;
 use std::test::Fail;
+use std::thread::Threads;
 
 // The record of a label of 113 modules with its quiet zones.
 const RECORD: &str = "ean13,9501101530003\n";
 
 // The dots of that label at one dot a module, in a cell of 113 by 3 dots.
-const DOTS: &[u8] = b"\x00\x00\x00\x00\x00\x00\x00\x00\x00\x00\x00\x00\x00\x00\x00\
+pub const DOTS: &[u8] = b"\x00\x00\x00\x00\x00\x00\x00\x00\x00\x00\x00\x00\x00\x00\x00\
     \x00\x15\x8A\x76\x66\x53\x99\x54\xE8\x5C\xB9\x72\x85\x40\x00\
     \x00\x00\x00\x00\x00\x00\x00\x00\x00\x00\x00\x00\x00\x00\x00";
 
 // The headers of images of one such cell, and of two.
-const LOW: &[u8] = b"P4\n113 3\n";
+pub const LOW: &[u8] = b"P4\n113 3\n";
 
-const HIGH: &[u8] = b"P4\n113 6\n";
+pub const HIGH: &[u8] = b"P4\n113 6\n";
 
 // A cell of those without a label.
 const LIGHT: &[u8] = &[0; 45];
@@ -32,15 +35,20 @@ fn asked(width: u16, height: u16, columns: u16, rows: u16, text: bool) -> Result
 }
 
 /// The bytes that the command writes.
-fn printed(alloc: Global, asked: Asked, input: &str) -> Result<Vec<u8>, Fail> {
+fn printed<R: Threads + Wait + AllocGlobal + Sync>(
+    rt: &R,
+    asked: Asked,
+    input: &str,
+) -> Result<Vec<u8>, Fail> {
+    let alloc = rt.alloc();
     let mut source = FromReader::new(input.as_bytes());
     let mut sink = ToWriter::new(Vec::new(alloc));
-    run(alloc, asked, &mut source, &mut sink)?;
+    run(rt, alloc, asked, &mut source, &mut sink, &OpenGate)?;
     Ok(sink.into_inner())
 }
 
 /// Appends an image: its header, then cells with the label, then cells without one.
-fn push_image(
+pub fn push_image(
     bytes: &mut Vec<u8>,
     header: &[u8],
     labelled: usize,
@@ -74,7 +82,7 @@ fn prints_sheets(rt: HostRuntime) -> Result<(), Fail> {
         for _ in 0..images {
             push_image(&mut wanted, header, labelled, light)?;
         }
-        let found = printed(alloc, asked(113, 3, 1, rows, false)?, input.as_str())?;
+        let found = printed(&rt, asked(113, 3, 1, rows, false)?, input.as_str())?;
         assert_eq!(rt; found.as_slice(), wanted.as_slice());
     }
     Ok(())
@@ -83,11 +91,11 @@ fn prints_sheets(rt: HostRuntime) -> Result<(), Fail> {
 #[test]
 fn prints_lines(rt: HostRuntime) -> Result<(), Fail> {
     let alloc = rt.alloc();
-    let found = outcome(alloc, asked(113, 3, 1, 1, true)?, RECORD.as_bytes())?;
+    let found = outcome(&rt, asked(113, 3, 1, 1, true)?, RECORD.as_bytes())?;
     assert_eq!(rt; found.as_str(), "0 0 ean13 (01)09501101530003\n");
     let input = "ean13,00012345000065\nupca,012345000065\nean8,96385074\nupce,0012345000065\n\
                  gs1128,10AB^17261231\n";
-    let found = outcome(alloc, asked(200, 3, 2, 1, true)?, input.as_bytes())?;
+    let found = outcome(&rt, asked(200, 3, 2, 1, true)?, input.as_bytes())?;
     assert_eq!(rt;
         found.as_str(),
         "0 0 ean13 (01)00012345000065\n0 1 upca (01)00012345000065\n\
@@ -142,7 +150,7 @@ fn refuses_records(rt: HostRuntime) -> Result<(), Fail> {
         ),
     ] {
         for text in [false, true] {
-            let found = outcome(alloc, asked(113, 3, 2, 2, text)?, input.as_bytes())?;
+            let found = outcome(&rt, asked(113, 3, 2, 2, text)?, input.as_bytes())?;
             assert_eq!(rt; found.as_str(), wanted, "{input}");
         }
     }
@@ -170,7 +178,7 @@ fn refuses_what_does_not_fit(rt: HostRuntime) -> Result<(), Fail> {
     ] {
         let options = PrintOptions::new(module_dots, width, height, columns, 1, 2026, true);
         let asked = Asked::Print(options.ok_or("options")?);
-        let found = outcome(alloc, asked, input.as_bytes())?;
+        let found = outcome(&rt, asked, input.as_bytes())?;
         match wanted {
             Some(fault) => assert_eq!(rt; found.as_str(), fault, "{input}"),
             None => assert!(rt; found.as_str().starts_with("0 0 "), "{input}"),
@@ -212,11 +220,18 @@ fn passes_failures_on(rt: HostRuntime) -> Result<(), Fail> {
     for (text, output) in [(false, image.as_slice()), (true, line)] {
         let asked = asked(113, 3, 1, 1, text)?;
         let mut unwritten = ToWriter::new(Vec::new(alloc));
-        let fault = run(alloc, asked, &mut Breaking::new(), &mut unwritten)
-            .err()
-            .ok_or("a fault")?;
+        let fault = run(
+            &rt,
+            alloc,
+            asked,
+            &mut Breaking::new(b"0"),
+            &mut unwritten,
+            &OpenGate,
+        )
+        .err()
+        .ok_or("a fault")?;
         assert_eq!(rt; fault.to_string(alloc)?.as_str(), "refused 37 ReadFault");
-        let fault = run(alloc, asked, &mut Endless, &mut unwritten)
+        let fault = run(&rt, alloc, asked, &mut Endless, &mut unwritten, &OpenGate)
             .err()
             .ok_or("a fault")?;
         assert_eq!(rt; fault.to_string(alloc)?.as_str(), "refused 44 InputSize");
@@ -224,18 +239,22 @@ fn passes_failures_on(rt: HostRuntime) -> Result<(), Fail> {
 
         let mut narrow = Narrow::new(alloc, 100);
         run(
+            &rt,
             alloc,
             asked,
             &mut FromReader::new(RECORD.as_bytes()),
             &mut narrow,
+            &OpenGate,
         )?;
         assert_eq!(rt; narrow.taken(), output);
         let mut short = Narrow::new(alloc, 25);
         let fault = run(
+            &rt,
             alloc,
             asked,
             &mut FromReader::new(RECORD.as_bytes()),
             &mut short,
+            &OpenGate,
         )
         .err()
         .ok_or("a fault")?;
@@ -245,10 +264,12 @@ fn passes_failures_on(rt: HostRuntime) -> Result<(), Fail> {
     // A grid is refused before the input is read.
     let mut sink = ToWriter::new(Vec::new(alloc));
     let fault = run(
+        &rt,
         alloc,
         asked(113, 2, 1, 1, false)?,
-        &mut Breaking::new(),
+        &mut Breaking::new(b"0"),
         &mut sink,
+        &OpenGate,
     )
     .err()
     .ok_or("a fault")?;

@@ -5,7 +5,9 @@ use crate::options::LaneOptions;
 use crate::words::Asked;
 use scan_core::{RunFault, Runs};
 use std::alloc::{AllocError, Global};
+use std::sync::Wait;
 use std::test::Fail;
+use std::thread::Threads;
 
 // The symbols at one dot a module, without their light ends: guard patterns and characters as the
 // standards print them.
@@ -41,7 +43,12 @@ fn changed(mut row: Vec<u16>, runs: &[(usize, u16)]) -> Vec<u16> {
 }
 
 /// The line that answers the row, under the reference year.
-fn line(alloc: Global, row: &[u16], year: u16) -> Result<String, Fail> {
+fn line<R: Threads + Wait + AllocGlobal + Sync>(
+    rt: &R,
+    row: &[u16],
+    year: u16,
+) -> Result<String, Fail> {
+    let alloc = rt.alloc();
     let mut input = String::from_str(alloc, "0,")?;
     for (place, width) in row.iter().enumerate() {
         let gap = if place == 0 { "" } else { " " };
@@ -49,25 +56,37 @@ fn line(alloc: Global, row: &[u16], year: u16) -> Result<String, Fail> {
         input.push_str(word.as_str())?;
     }
     let options = LaneOptions::new(1, 1, year).ok_or("options")?;
-    outcome(alloc, Asked::Lanes(options), input.as_str().as_bytes())
+    outcome(rt, Asked::Lanes(options), input.as_str().as_bytes())
 }
 
 /// Whether the row has this answer under the year, in both directions.
-fn says(alloc: Global, row: &[u16], year: u16, answer: &str) -> Result<bool, Fail> {
+fn says<R: Threads + Wait + AllocGlobal + Sync>(
+    rt: &R,
+    row: &[u16],
+    year: u16,
+    answer: &str,
+) -> Result<bool, Fail> {
+    let alloc = rt.alloc();
     let wanted = format!(in alloc; "0 0 {answer}\n")?;
     let mut row = row.to_vec(alloc)?;
-    let forwards = line(alloc, row.as_slice(), year)?;
+    let forwards = line(rt, row.as_slice(), year)?;
     row.reverse();
-    let backwards = line(alloc, row.as_slice(), year)?;
+    let backwards = line(rt, row.as_slice(), year)?;
     Ok(forwards == wanted && backwards == wanted)
 }
 
 /// Whether the Code 128 symbol of these characters, between light ends of ten modules, has this
 /// answer.
-fn code128_says(alloc: Global, characters: &str, year: u16, answer: &str) -> Result<bool, Fail> {
+fn code128_says<R: Threads + Wait + AllocGlobal + Sync>(
+    rt: &R,
+    characters: &str,
+    year: u16,
+    answer: &str,
+) -> Result<bool, Fail> {
+    let alloc = rt.alloc();
     let groups = format!(in alloc; "{characters} {STOP}")?;
     let widths = row(alloc, (10, 10), groups.as_str(), 1)?;
-    says(alloc, widths.as_slice(), year, answer)
+    says(rt, widths.as_slice(), year, answer)
 }
 
 #[test]
@@ -79,15 +98,15 @@ fn reads_each_carrier(rt: HostRuntime) -> Result<(), Fail> {
         ((9, 7), UPCE, "]E0 (01)00012345000065"),
     ] {
         let widths = row(alloc, ends, groups, 1)?;
-        assert!(rt; says(alloc, widths.as_slice(), 2026, answer)?, "{groups}");
+        assert!(rt; says(&rt, widths.as_slice(), 2026, answer)?, "{groups}");
     }
     // 43 runs, as an EAN-8 has.
     let characters = "211232 411131 112133 321122 322112 121421";
-    assert!(rt; code128_says(alloc, characters, 2026, "]C1 (422)528")?);
+    assert!(rt; code128_says(&rt, characters, 2026, "]C1 (422)528")?);
     // A date under two reference years.
     let characters = "211232 411131 123221 212222 222221 322211 124211";
-    assert!(rt; code128_says(alloc, characters, 2026, "]C1 (17)000229")?);
-    assert!(rt; code128_says(alloc, characters, 2060, "refused 9 ValueDate 0")?);
+    assert!(rt; code128_says(&rt, characters, 2026, "]C1 (17)000229")?);
+    assert!(rt; code128_says(&rt, characters, 2060, "refused 9 ValueDate 0")?);
     Ok(())
 }
 
@@ -96,20 +115,13 @@ fn refuses_what_is_nearly_read(rt: HostRuntime) -> Result<(), Fail> {
     let alloc = rt.alloc();
     // The number sets of the check digit 4 in place of those of 5.
     let widths = row(alloc, (9, 7), "111 1222 2122 1141 2311 1231 1114 111111", 1)?;
-    assert!(rt;
-        says(
-            alloc,
-            widths.as_slice(),
-            2026,
-            "refused 24 SymbolCheckDigit"
-        )?
-    );
+    assert!(rt; says(&rt, widths.as_slice(), 2026, "refused 24 SymbolCheckDigit")?);
 
     // At exactly a third of a module, and a dot past it.
     let thirds = changed(row(alloc, (21, 21), EAN8, 3)?, &[(3, 4), (4, 8)]);
-    assert!(rt; says(alloc, thirds.as_slice(), 2026, "]E4 (01)00000096385074")?);
+    assert!(rt; says(&rt, thirds.as_slice(), 2026, "]E4 (01)00000096385074")?);
     let halves = changed(row(alloc, (14, 14), EAN8, 2)?, &[(3, 3), (4, 5)]);
-    assert!(rt; says(alloc, halves.as_slice(), 2026, "refused 22 Modules")?);
+    assert!(rt; says(&rt, halves.as_slice(), 2026, "refused 22 Modules")?);
 
     // A first character of number set B.
     let of_b = row(
@@ -118,14 +130,14 @@ fn refuses_what_is_nearly_read(rt: HostRuntime) -> Result<(), Fail> {
         "111 2113 1114 1411 1213 11111 1231 3211 1312 1132 111",
         1,
     )?;
-    assert!(rt; says(alloc, of_b.as_slice(), 2026, "refused 23 Pattern")?);
+    assert!(rt; says(&rt, of_b.as_slice(), 2026, "refused 23 Pattern")?);
 
     // Too narrow a light end of an EAN-8, which is wide enough for a GS1-128 of as many runs.
     let narrow = row(alloc, (14, 21), EAN8, 3)?;
-    assert!(rt; says(alloc, narrow.as_slice(), 2026, "refused 22 Modules")?);
+    assert!(rt; says(&rt, narrow.as_slice(), 2026, "refused 22 Modules")?);
     for (left, answer) in [(4, "refused 21 QuietZone"), (5, "]E0 (01)09501101530003")] {
         let widths = row(alloc, (left, 7), EAN13, 1)?;
-        assert!(rt; says(alloc, widths.as_slice(), 2026, answer)?);
+        assert!(rt; says(&rt, widths.as_slice(), 2026, answer)?);
     }
     Ok(())
 }
@@ -134,9 +146,9 @@ fn refuses_what_is_nearly_read(rt: HostRuntime) -> Result<(), Fail> {
 fn refuses_rows_of_no_carrier(rt: HostRuntime) -> Result<(), Fail> {
     let alloc = rt.alloc();
     for width in [0, 100, 65_535] {
-        assert!(rt; says(alloc, &[width], 2026, "refused 19 Blank")?);
+        assert!(rt; says(&rt, &[width], 2026, "refused 19 Blank")?);
     }
-    assert!(rt; says(alloc, &[0, 65_535, 0], 2026, "refused 20 RunCount")?);
+    assert!(rt; says(&rt, &[0, 65_535, 0], 2026, "refused 20 RunCount")?);
     for (count, answer) in [
         (19, "refused 20 RunCount"),
         (25, "refused 23 Pattern"),
@@ -150,14 +162,13 @@ fn refuses_rows_of_no_carrier(rt: HostRuntime) -> Result<(), Fail> {
             widths.push(9)?;
         }
         widths.push(100)?;
-        assert!(rt; says(alloc, widths.as_slice(), 2026, answer)?, "{count}");
+        assert!(rt; says(&rt, widths.as_slice(), 2026, answer)?, "{count}");
     }
     Ok(())
 }
 
 #[test]
 fn refuses_code_128_symbols_by_their_values(rt: HostRuntime) -> Result<(), Fail> {
-    let alloc = rt.alloc();
     for (characters, answer) in [
         ("211214 411131 411311 111341", "refused 16 CodeSet"),
         (
@@ -175,7 +186,7 @@ fn refuses_code_128_symbols_by_their_values(rt: HostRuntime) -> Result<(), Fail>
         ),
     ] {
         assert!(rt;
-            code128_says(alloc, characters, 2026, answer)?,
+            code128_says(&rt, characters, 2026, answer)?,
             "{characters}"
         );
     }
@@ -187,9 +198,9 @@ fn reads_the_widest_rows_and_the_longest_symbol(rt: HostRuntime) -> Result<(), F
     let alloc = rt.alloc();
     // 65,427 dots, and 65,535 with a wider light end.
     let widths = row(alloc, (6369, 4053), EAN13, 579)?;
-    assert!(rt; says(alloc, widths.as_slice(), 2026, "]E0 (01)09501101530003")?);
+    assert!(rt; says(&rt, widths.as_slice(), 2026, "]E0 (01)09501101530003")?);
     let widths = row(alloc, (6369, 4161), EAN13, 579)?;
-    assert!(rt; says(alloc, widths.as_slice(), 2026, "]E0 (01)09501101530003")?);
+    assert!(rt; says(&rt, widths.as_slice(), 2026, "]E0 (01)09501101530003")?);
     let widths = row(alloc, (6369, 4162), EAN13, 579)?;
     let fault = Runs::of_widths(alloc, widths.as_slice())
         .err()
@@ -207,7 +218,7 @@ fn reads_the_widest_rows_and_the_longest_symbol(rt: HostRuntime) -> Result<(), F
         characters.push_str(last)?;
         answer.push_str(tail)?;
     }
-    assert!(rt; code128_says(alloc, characters.as_str(), 2026, answer.as_str())?);
+    assert!(rt; code128_says(&rt, characters.as_str(), 2026, answer.as_str())?);
     Ok(())
 }
 

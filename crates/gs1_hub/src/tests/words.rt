@@ -1,6 +1,6 @@
 //! Command lines: what they ask for, which are refused, and which ask for help.
 
-use crate::options::{LaneOptions, PrintOptions};
+use crate::options::{LaneOptions, PrintOptions, ScanOptions};
 use crate::words::{Asked, WordsFault, read_words};
 use std::alloc::{AllocError, Global};
 use std::test::Fail;
@@ -18,7 +18,7 @@ fn words_of(alloc: Global, text: &str) -> Result<Vec<String>, AllocError> {
 fn checked_year(asked: Asked) -> Option<u16> {
     match asked {
         Asked::Check(year) => Some(year.number()),
-        Asked::Print(_) | Asked::Lanes(_) => None,
+        Asked::Print(_) | Asked::Lanes(_) | Asked::Scan(_) => None,
     }
 }
 
@@ -85,6 +85,61 @@ fn reads_words_of_print(rt: HostRuntime) -> Result<(), Fail> {
 }
 
 #[test]
+fn reads_words_of_scan(rt: HostRuntime) -> Result<(), Fail> {
+    let alloc = rt.alloc();
+    for (text, wanted) in [
+        (
+            "gs1_hub scan --module 1 --width 113 --height 3 --columns 2 --rows 4 --workers 5 --year 2026",
+            ScanOptions::new(1, 113, 3, 2, 4, 5, 2026),
+        ),
+        (
+            "gs1_hub scan --workers=16 --year=1951 --rows 64 --columns 16 --height 1024 --width 4096 \
+             --module 8",
+            ScanOptions::new(8, 4096, 1024, 16, 64, 16, 1951),
+        ),
+    ] {
+        let words = words_of(alloc, text)?;
+        let Ok(Asked::Scan(options)) = read_words(alloc, words.as_slice()) else {
+            return Err(Fail::from("a command"));
+        };
+        assert_eq!(rt; Some(options), wanted, "{text}");
+    }
+    Ok(())
+}
+
+#[test]
+fn refuses_words_of_scan(rt: HostRuntime) -> Result<(), Fail> {
+    let alloc = rt.alloc();
+    for options in [
+        "",
+        " --width 113 --height 3 --columns 1 --rows 1 --workers 1 --year 2026",
+        " --module 1 --height 3 --columns 1 --rows 1 --workers 1 --year 2026",
+        " --module 1 --width 113 --columns 1 --rows 1 --workers 1 --year 2026",
+        " --module 1 --width 113 --height 3 --rows 1 --workers 1 --year 2026",
+        " --module 1 --width 113 --height 3 --columns 1 --workers 1 --year 2026",
+        " --module 1 --width 113 --height 3 --columns 1 --rows 1 --year 2026",
+        " --module 1 --width 113 --height 3 --columns 1 --rows 1 --workers 1",
+        " --module 0 --width 113 --height 3 --columns 1 --rows 1 --workers 1 --year 2026",
+        " --module 1 --width 0 --height 3 --columns 1 --rows 1 --workers 1 --year 2026",
+        " --module 1 --width 113 --height 1025 --columns 1 --rows 1 --workers 1 --year 2026",
+        " --module 1 --width 113 --height 3 --columns 17 --rows 1 --workers 1 --year 2026",
+        " --module 1 --width 113 --height 3 --columns 1 --rows 65 --workers 1 --year 2026",
+        " --module 1 --width 113 --height 3 --columns 1 --rows 1 --workers 0 --year 2026",
+        " --module 1 --width 113 --height 3 --columns 1 --rows 1 --workers 17 --year 2026",
+        " --module 1 --width 113 --height 3 --columns 1 --rows 1 --workers 1 --year 2150",
+        " --module 1 --width 113 --height 3 --columns 1 --rows 1 --workers 1 --year 2026 more",
+        " --module 1 --width 113 --height 3 --columns 1 --rows 1 --workers 1 --year 2026 --text",
+    ] {
+        let text = format!(in alloc; "gs1_hub scan{options}")?;
+        let words = words_of(alloc, text.as_str())?;
+        let fault = read_words(alloc, words.as_slice()).err().ok_or("a fault")?;
+        let line = fault.to_string(alloc)?;
+        assert_eq!(rt; line.as_str(), "refused 42 Words", "{text}");
+    }
+    Ok(())
+}
+
+#[test]
 fn refuses_words(rt: HostRuntime) -> Result<(), Fail> {
     let alloc = rt.alloc();
     for text in [
@@ -120,10 +175,18 @@ fn refuses_words(rt: HostRuntime) -> Result<(), Fail> {
     }
     for (text, part) in [
         ("gs1_hub --help", "check"),
+        ("gs1_hub --help", "scan"),
         ("gs1_hub --help", "lanes"),
         ("gs1_hub check --help", "--year"),
         ("gs1_hub lanes --help", "--workers"),
         ("gs1_hub print --help", "--text"),
+        ("gs1_hub scan --help", "--module"),
+        ("gs1_hub scan --help", "--width"),
+        ("gs1_hub scan --help", "--height"),
+        ("gs1_hub scan --help", "--columns"),
+        ("gs1_hub scan --help", "--rows"),
+        ("gs1_hub scan --help", "--workers"),
+        ("gs1_hub scan --help", "--year"),
     ] {
         let words = words_of(alloc, text)?;
         let fault = read_words(alloc, words.as_slice()).err().ok_or("help")?;

@@ -1,17 +1,17 @@
-use Rattle.std.proofs.Common.{◌≡◌, ◌∙◌, map, string_bytes, subst}
-use Rattle.digits_core.specs.Bytes.{TookFront}
-use Rattle.gs1_hub.specs.Feeds.{feeds_of, lanes_fault}
-use Rattle.gs1_hub.specs.Records.{computed}
-use Rattle.gs1_hub.specs.Report.{IsLaneReport, IsReport}
-use Rattle.gs1_hub.proofs.CommandFacts.{written}
+use Rattle.std.proofs.Common.{arith}
+use Rattle.gs1_hub.specs.Records.{records_of}
+use Rattle.gs1_hub.proofs.CountFacts.{lanes_counts, records_few}
 use Rattle.gs1_hub.proofs.lanes.run_lanes.Goals as goal
 
-pub returns-in_err-write_all-clause-cut : goal.returns-in_err-write_all-clause-cut
-returns-in_err-write_all-clause-cut g c = λ same.
-    let lanes = c.args.options.lanes in
-    let feeds = c.read_input.new.made.rows.items in
-    let text = string_bytes c.in_ok-text.text in
-    let answered = subst (λ rows. IsReport c.args.options.year (map (λ feed. feed.items) rows) text) c.as_slice.ensures.value c.in_ok-text.ensures in
-    written (computed (lanes_fault lanes)) (λ rows. map (λ feed. feed.items) feeds ≡ feeds_of lanes rows) (IsLaneReport lanes c.args.options.year) TookFront text c.as_bytes.result.now
-    (g.S.Source.left c.args.source.now) (g.S.Source.left c.read_input.new.source) (g.W.Sink.taken c.args.sink.now) (g.W.Sink.taken c.write_all.new.sink)
-    c.in_ok-read_input.ensures.ok (λ rows are. subst (λ f. IsReport c.args.options.year f text) are answered) (c.as_bytes.ensures.value ∙ c.as_str.ensures.value) c.in_err-write_all.ensures.err
+pub write_answers-requires-after_bounds : goal.write_answers-requires-after_bounds
+write_answers-requires-after_bounds g c κs within =
+    let taken = c.in_ok-read_input.ensures.ok in
+    let rows = records_of taken.0 in
+    let few = records_few taken.0 in
+    rw taken.4 (lanes_counts c.args.options.lanes c.args.options.workers rows c.args.options.some_lanes c.args.options.some_workers (omega (arith, few, taken.2)))
+
+pub returns-clause-cut : goal.returns-clause-cut
+returns-clause-cut g c = λ same.
+    let taken = c.in_ok-read_input.ensures.ok in
+    let cut = c.write_answers.ensures.cut same in
+    (taken.0, taken.1, taken.2, taken.3, (cut.0, rw taken.4 at cut.1, cut.2))

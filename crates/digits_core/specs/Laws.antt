@@ -1,0 +1,10 @@
+-- Laws about GTINs.
+use Rattle.std.specs.Prelude.{◌≡◌, ℕ, List, None, length}
+use Rattle.digits_core.specs.Digits.{AreDigits, IsChecked, digits_of, padded}
+use Rattle.digits_core.specs.Gtins.{gtin_fault}
+
+-- a text without a fault shows 14 digits, the last of which is the check digit of the others
+abbrev pub GtinsAreChecked : Type 0
+GtinsAreChecked =
+    (text : List ℕ) → gtin_fault text ≡ None
+    → (length (padded (digits_of text)) ≡ 14) × AreDigits (padded (digits_of text)) × IsChecked (padded (digits_of text))

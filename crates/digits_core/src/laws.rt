@@ -1,0 +1,7 @@
+//! Laws about the definitions, each the contract of a function that does nothing.
+ghost use Rattle.digits_core.specs.Laws.{GtinsAreChecked};
+
+/// A text without a fault shows 14 digits, the last of which is the check digit of the others.
+pub fn gtins_are_checked()
+    ensures { GtinsAreChecked }
+{}

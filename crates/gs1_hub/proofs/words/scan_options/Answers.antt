@@ -1,0 +1,10 @@
+use Rattle.gs1_hub.proofs.words.scan_options.Goals as goal
+
+pub returns-in_default-clause-none : goal.returns-in_default-clause-none
+returns-in_default-clause-none c = λ o h. (rw c.in_default.is at c.grid_options.ensures.none) o.grid h.0
+
+pub returns-in_default-number_named-clause-none : goal.returns-in_default-number_named-clause-none
+returns-in_default-number_named-clause-none c = λ o h. (rw c.in_default-number_named.is at c.number_named.ensures.none) o.workers h.1
+
+pub returns-in_default-year_named-clause-none : goal.returns-in_default-year_named-clause-none
+returns-in_default-year_named-clause-none c = λ o h. (rw c.in_default-year_named.is at c.year_named.ensures.none) o.year h.2

@@ -1,0 +1,89 @@
+-- Laws about what the commands write and read.
+use Rattle.std.specs.Prelude.{◌≡◌, ◌↔◌, ◌≤◌, ◌<◌, ◌+◌, ◌*◌, ◌/◌, ℕ, false, List, Option, Some, None, length, map, slice_get}
+use Rattle.std.specs.List.{AllZip, flat_map, range_with_len}
+use Rattle.scan_core.specs.Answers.{Reads}
+use Rattle.scan_core.specs.declared.answer.Answer.{Answer}
+use Rattle.scan_core.specs.declared.answer.Answer.TheVariants.{Read, Refused}
+use Rattle.scan_core.specs.declared.fault.RowFault.TheVariants.{Blank}
+use Rattle.scan_core.specs.Row.{IsRow, dots_of}
+use Rattle.sheet_core.specs.Bitmaps.{Bitmap, cell_dots}
+use Rattle.sheet_core.specs.Drawing.{cell_count, sheet_count}
+use Rattle.sheet_core.specs.Grids.{Cells}
+use Rattle.sheet_core.specs.Labels.{carrier_of}
+use Rattle.sheet_core.specs.declared.label.Label.{Label}
+use Rattle.gs1_hub.specs.Grids.{cells_of}
+use Rattle.gs1_hub.specs.Prints.{IsLabelOf, IsPrint, label_list}
+use Rattle.gs1_hub.specs.Records.{Fields}
+use Rattle.gs1_hub.specs.Report.{report}
+use Rattle.gs1_hub.specs.Scans.{AreColumns, AreImages, IsScan, column_cells}
+use Rattle.gs1_hub.specs.declared.options.PrintOptions.{PrintOptions}
+use Rattle.gs1_hub.specs.declared.options.ScanOptions.{ScanOptions}
+
+-- what a scan answers for a cell: the carrier and the elements of its label, or that it is blank
+abbrev pub cell_answer : ℕ → Option Label → Answer
+cell_answer year (Some l) = Read (carrier_of l) (record { year = year; list = label_list l })
+cell_answer year None = Refused Blank
+
+-- the answers of a column of a sheet, from the top; labels fill the cells in their order, sheet after sheet
+abbrev pub sheet_answers : Cells → ℕ → List Label → ℕ → ℕ → List Answer
+sheet_answers g year labels column sheet = map (λ cell. cell_answer year (slice_get labels (sheet * cell_count g + cell))) (column_cells g column)
+
+-- the answers of a column, sheet after sheet
+abbrev pub column_answers : Cells → ℕ → List Label → ℕ → List Answer
+column_answers g year labels column = flat_map (sheet_answers g year labels column) (range_with_len 0 (sheet_count g (length labels)))
+
+-- the report of labels: the answer of each cell, column by column
+abbrev pub labels_report : Cells → ℕ → List Label → List ℕ
+labels_report g year labels = report (map (column_answers g year labels) (range_with_len 0 g.columns))
+
+-- of what `print` writes as at most 4,096 images, a scan in the same grid and year answers for each cell the carrier and the elements of its label, or that it is blank
+abbrev pub PrintedIsAnswered : Type 0
+PrintedIsAnswered =
+    (print : PrintOptions) (scan : ScanOptions) (rows : List Fields) (bytes : List ℕ)
+    → print.text ≡ false
+    → cells_of scan.grid ≡ cells_of print.grid
+    → scan.year ≡ print.year
+    → sheet_count (cells_of scan.grid) (length rows) ≤ 4096
+    → IsPrint print rows bytes
+    → (labels : List Label) × AllZip (IsLabelOf print.year) rows labels
+    × ((sheets : List Bitmap) (feeds : List (List (List ℕ))) (answers : List (List Answer))
+    → AreImages scan bytes sheets
+    → AreColumns (cells_of scan.grid) sheets feeds
+    → AllZip (λ rows read. Reads rows scan.year read) feeds answers
+    → answers ≡ map (column_answers (cells_of scan.grid) scan.year labels) (range_with_len 0 scan.grid.columns))
+
+-- so `scan` takes it, and what it writes is one text, the report of the labels
+abbrev pub PrintedIsScanned : Type 0
+PrintedIsScanned =
+    (print : PrintOptions) (scan : ScanOptions) (rows : List Fields) (bytes : List ℕ)
+    → print.text ≡ false
+    → cells_of scan.grid ≡ cells_of print.grid
+    → scan.year ≡ print.year
+    → sheet_count (cells_of scan.grid) (length rows) ≤ 4096
+    → IsPrint print rows bytes
+    → (labels : List Label) × AllZip (IsLabelOf print.year) rows labels
+    × ((text : List ℕ) → IsScan scan bytes text ↔ (text ≡ labels_report (cells_of scan.grid) scan.year labels))
+
+-- the same by place: a column has an answer for each row of cells of each sheet, and that of row r of sheet i answers the label that was printed there
+abbrev pub AnswersByPlace : Type 0
+AnswersByPlace =
+    (g : Cells) (year : ℕ) (labels : List Label) (column : ℕ)
+    → (length (column_answers g year labels column) ≡ sheet_count g (length labels) * g.rows)
+    × ((sheet row : ℕ) → sheet < sheet_count g (length labels) → row < g.rows
+    → slice_get (column_answers g year labels column) (sheet * g.rows + row)
+    ≡ Some (cell_answer year (slice_get labels (sheet * cell_count g + (row * g.columns + column)))))
+
+-- the rows of a column by place: there is one for each row of cells of each sheet, and that of row r of sheet i has the dots of the middle row of the cell there
+abbrev pub RowsByPlace : Type 0
+RowsByPlace =
+    (g : Cells) (sheets : List Bitmap) (feeds : List (List (List ℕ))) (column : ℕ)
+    → AreColumns g sheets feeds
+    → column < g.columns
+    → (rows : List (List ℕ)) × (slice_get feeds column ≡ Some rows) × (length rows ≡ length sheets * g.rows)
+    × ((sheet row : ℕ) (s : Bitmap) → slice_get sheets sheet ≡ Some s → row < g.rows
+    → (runs : List ℕ) × (slice_get rows (sheet * g.rows + row) ≡ Some runs)
+    × (IsRow runs × (dots_of runs ≡ cell_dots g s (row * g.columns + column) (g.height / 2))))
+
+-- of bytes, `scan` writes one text at most
+abbrev pub OneScan : Type 0
+OneScan = (o : ScanOptions) (bytes text other : List ℕ) → IsScan o bytes text → IsScan o bytes other → text ≡ other

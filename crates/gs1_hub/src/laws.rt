@@ -1,0 +1,58 @@
+//! Laws about what the commands write and read, each the contract of a function that does nothing.
+ghost use Rattle.gs1_hub.specs.Laws.{AnswersByPlace, OneScan, PrintedIsAnswered, PrintedIsScanned, RowsByPlace};
+
+use digits_core::gtins_are_checked;
+use element_core::{canonical_reads, gtin_reads};
+use scan_core::{dots_determine, dots_make_row, one_answer};
+use sheet_core::{bar_rows_answer, empty_cells_are_blank, printed_is_read};
+
+/// Of what `print` writes as at most 4,096 images, a scan in the same grid and year answers for each
+/// cell the carrier and the elements of its label, or that it is blank.
+pub fn printed_is_answered()
+    ensures { PrintedIsAnswered }
+{
+    gtins_are_checked();
+    gtin_reads();
+    canonical_reads();
+    printed_is_read();
+    bar_rows_answer();
+    empty_cells_are_blank();
+    dots_determine();
+    dots_make_row();
+    one_answer();
+}
+
+/// So `scan` takes it, and what it writes is one text, the report of the labels.
+pub fn printed_is_scanned()
+    ensures { PrintedIsScanned }
+{
+    gtins_are_checked();
+    gtin_reads();
+    canonical_reads();
+    printed_is_read();
+    bar_rows_answer();
+    empty_cells_are_blank();
+    dots_determine();
+    dots_make_row();
+    one_answer();
+}
+
+/// A scan of labels has an answer for each row of cells of each sheet, which answers the label that was
+/// printed there.
+pub fn answers_by_place()
+    ensures { AnswersByPlace }
+{}
+
+/// A column has a row for each row of cells of each sheet, with the dots of the middle row of the cell
+/// there.
+pub fn rows_by_place()
+    ensures { RowsByPlace }
+{}
+
+/// Of the same bytes `scan` writes one text at most.
+pub fn one_scan()
+    ensures { OneScan }
+{
+    dots_determine();
+    one_answer();
+}

@@ -1,0 +1,366 @@
+//! Images that are scanned: the lines of their columns, each refusal, and inputs and outputs that fail.
+
+use super::fakes::{Breaking, Narrow};
+use super::outcome;
+use super::prints::{DOTS, HIGH, LOW, push_image};
+use crate::options::{PrintOptions, ScanOptions};
+use crate::run;
+use crate::words::Asked;
+use digits_core::{FromReader, ToWriter};
+use hub_core::OpenGate;
+use std::alloc::{AllocError, Global};
+use std::sync::Wait;
+use std::test::Fail;
+use std::thread::Threads;
+
+// One label of each kind, and GS1-128 twice.
+const LABELS: &str = "ean13,9501101530003\nupca,012345000065\nean8,96385074\nupce,012345000065\n\
+                      gs1128,0109501101530003^17261231\ngs1128,10AB^17261231\n";
+
+// The line of the label that is drawn by hand.
+const LINE: &str = "0 0 ]E0 (01)09501101530003\n";
+
+/// The command `scan` at one dot a module, by a worker and under the year 2026.
+fn asked(width: u16, height: u16, columns: u16, rows: u16) -> Result<Asked, Fail> {
+    let options = ScanOptions::new(1, width, height, columns, rows, 1, 2026);
+    Ok(Asked::Scan(options.ok_or("options")?))
+}
+
+/// What `scan` prints of images with a cell of 113 by 3 dots.
+fn scanned<R: Threads + Wait + AllocGlobal + Sync>(rt: &R, images: &[u8]) -> Result<String, Fail> {
+    outcome(rt, asked(113, 3, 1, 1)?, images)
+}
+
+/// The images of labels in cells of 211 by 3 dots, printed under the year 2026.
+fn images<R: Threads + Wait + AllocGlobal + Sync>(
+    rt: &R,
+    columns: u16,
+    rows: u16,
+    labels: &str,
+) -> Result<Vec<u8>, Fail> {
+    let options = PrintOptions::new(1, 211, 3, columns, rows, 2026, false).ok_or("options")?;
+    let mut source = FromReader::new(labels.as_bytes());
+    let mut sink = ToWriter::new(Vec::new(rt.alloc()));
+    run(
+        rt,
+        rt.alloc(),
+        Asked::Print(options),
+        &mut source,
+        &mut sink,
+        &OpenGate,
+    )?;
+    Ok(sink.into_inner())
+}
+
+/// An image of light dots: its header, then so many bytes.
+fn light(alloc: Global, header: &str, count: usize) -> Result<Vec<u8>, AllocError> {
+    let mut bytes = header.as_bytes().to_vec(alloc)?;
+    for _ in 0..count {
+        bytes.push(0)?;
+    }
+    Ok(bytes)
+}
+
+#[test]
+fn reads_printed_labels(rt: HostRuntime) -> Result<(), Fail> {
+    let alloc = rt.alloc();
+    for (rows, header, sheets, labelled, empty, wanted) in [
+        (1, LOW, 0, 0, 0, ""),
+        (1, LOW, 1, 1, 0, LINE),
+        (1, LOW, 1, 0, 1, "0 0 refused 19 Blank\n"),
+        (
+            2,
+            HIGH,
+            1,
+            1,
+            1,
+            "0 0 ]E0 (01)09501101530003\n0 1 refused 19 Blank\n",
+        ),
+        (
+            2,
+            HIGH,
+            2,
+            2,
+            0,
+            "0 0 ]E0 (01)09501101530003\n0 1 ]E0 (01)09501101530003\n\
+             0 2 ]E0 (01)09501101530003\n0 3 ]E0 (01)09501101530003\n",
+        ),
+    ] {
+        let mut bytes = Vec::new(alloc);
+        for _ in 0..sheets {
+            push_image(&mut bytes, header, labelled, empty)?;
+        }
+        let found = outcome(&rt, asked(113, 3, 1, rows)?, bytes.as_slice())?;
+        assert_eq!(rt; found.as_str(), wanted);
+    }
+    Ok(())
+}
+
+#[test]
+fn reads_the_middle_rows_of_cells(rt: HostRuntime) -> Result<(), Fail> {
+    let alloc = rt.alloc();
+    let rows = DOTS.get(15..).ok_or("rows")?;
+    let label = rows.get(..15).ok_or("a row")?;
+    let dark = [0xff; 15].as_slice();
+    for (height, header, place, wanted) in [
+        (3, "P4\n113 3\n", 0, "0 0 refused 20 RunCount\n"),
+        (3, "P4\n113 3\n", 1, LINE),
+        (3, "P4\n113 3\n", 2, "0 0 refused 20 RunCount\n"),
+        (4, "P4\n113 4\n", 1, "0 0 refused 20 RunCount\n"),
+        (4, "P4\n113 4\n", 2, LINE),
+        (5, "P4\n113 5\n", 2, LINE),
+    ] {
+        let mut bytes = header.as_bytes().to_vec(alloc)?;
+        for row in 0..height {
+            bytes.extend_from_slice(if row == place { label } else { dark })?;
+        }
+        let found = outcome(&rt, asked(113, height, 1, 1)?, bytes.as_slice())?;
+        assert_eq!(rt; found.as_str(), wanted, "{place} of {height}");
+    }
+    Ok(())
+}
+
+#[test]
+fn reads_dates_by_the_year(rt: HostRuntime) -> Result<(), Fail> {
+    let bytes = images(&rt, 1, 1, "gs1128,17000229\n")?;
+    for (year, wanted) in [
+        (2026, "0 0 ]C1 (17)000229\n"),
+        (2060, "0 0 refused 9 ValueDate 0\n"),
+    ] {
+        let options = ScanOptions::new(1, 211, 3, 1, 1, 1, year).ok_or("options")?;
+        let found = outcome(&rt, Asked::Scan(options), bytes.as_slice())?;
+        assert_eq!(rt; found.as_str(), wanted);
+    }
+    Ok(())
+}
+
+#[test]
+fn orders_lines_by_column_and_number(rt: HostRuntime) -> Result<(), Fail> {
+    for (columns, rows, wanted) in [
+        (
+            2,
+            2,
+            "0 0 ]E0 (01)09501101530003\n\
+             0 1 ]E4 (01)00000096385074\n\
+             0 2 ]C1 (01)09501101530003(17)261231\n\
+             0 3 refused 19 Blank\n\
+             1 0 ]E0 (01)00012345000065\n\
+             1 1 ]E0 (01)00012345000065\n\
+             1 2 ]C1 (10)AB(17)261231\n\
+             1 3 refused 19 Blank\n",
+        ),
+        (
+            4,
+            1,
+            "0 0 ]E0 (01)09501101530003\n\
+             0 1 ]C1 (01)09501101530003(17)261231\n\
+             1 0 ]E0 (01)00012345000065\n\
+             1 1 ]C1 (10)AB(17)261231\n\
+             2 0 ]E4 (01)00000096385074\n\
+             2 1 refused 19 Blank\n\
+             3 0 ]E0 (01)00012345000065\n\
+             3 1 refused 19 Blank\n",
+        ),
+        (
+            1,
+            5,
+            "0 0 ]E0 (01)09501101530003\n\
+             0 1 ]E0 (01)00012345000065\n\
+             0 2 ]E4 (01)00000096385074\n\
+             0 3 ]E0 (01)00012345000065\n\
+             0 4 ]C1 (01)09501101530003(17)261231\n\
+             0 5 ]C1 (10)AB(17)261231\n\
+             0 6 refused 19 Blank\n\
+             0 7 refused 19 Blank\n\
+             0 8 refused 19 Blank\n\
+             0 9 refused 19 Blank\n",
+        ),
+    ] {
+        let bytes = images(&rt, columns, rows, LABELS)?;
+        for workers in [1, 2, 3, 16] {
+            let options = ScanOptions::new(1, 211, 3, columns, rows, workers, 2026);
+            let asked = Asked::Scan(options.ok_or("options")?);
+            let found = outcome(&rt, asked, bytes.as_slice())?;
+            assert_eq!(rt;
+                found.as_str(),
+                wanted,
+                "{columns} by {rows}, {workers} workers"
+            );
+        }
+    }
+    Ok(())
+}
+
+#[test]
+fn refuses_images(rt: HostRuntime) -> Result<(), Fail> {
+    let alloc = rt.alloc();
+    for (header, count, wanted) in [
+        ("P1\n113 3\n", 45, "refused 28 NotP4"),
+        ("p4\n113 3\n", 45, "refused 28 NotP4"),
+        ("\nP4\n113 3\n", 45, "refused 28 NotP4"),
+        ("P4\n113 3\n", 46, "refused 28 NotP4"),
+        ("P4113 3\n", 45, "refused 29 PbmHeader"),
+        ("P4\n113,3\n", 45, "refused 29 PbmHeader"),
+        ("P4\n113 -3\n", 45, "refused 29 PbmHeader"),
+        ("P4\n113 3", 45, "refused 29 PbmHeader"),
+        ("P", 0, "refused 30 Truncated"),
+        ("P4\n113 3", 0, "refused 30 Truncated"),
+        ("P4\n113 3\n", 0, "refused 30 Truncated"),
+        ("P4\n113 3\n", 44, "refused 30 Truncated"),
+        ("P4\n0 3\n", 45, "refused 31 PbmSize"),
+        ("P4\n113 0\n", 45, "refused 31 PbmSize"),
+        ("P4\n65536 3\n", 45, "refused 31 PbmSize"),
+        ("P4\n114 3\n", 45, "refused 31 PbmSize"),
+        ("P4\n112 3\n", 42, "refused 31 PbmSize"),
+        ("P4\n113 4\n", 60, "refused 31 PbmSize"),
+        ("P4\n113 2\n", 30, "refused 31 PbmSize"),
+        ("P4\n3 113\n", 113, "refused 31 PbmSize"),
+        ("P4\n226 3\n", 87, "refused 31 PbmSize"),
+    ] {
+        let bytes = light(alloc, header, count)?;
+        let found = scanned(&rt, bytes.as_slice())?;
+        assert_eq!(rt; found.as_str(), wanted, "{header}");
+        // The same after an image that is taken.
+        let mut second = Vec::new(alloc);
+        push_image(&mut second, LOW, 1, 0)?;
+        second.extend_from_slice(bytes.as_slice())?;
+        let found = scanned(&rt, second.as_slice())?;
+        assert_eq!(rt; found.as_str(), wanted, "second {header}");
+    }
+    Ok(())
+}
+
+#[test]
+fn reads_all_images_before_their_sizes_count(rt: HostRuntime) -> Result<(), Fail> {
+    let alloc = rt.alloc();
+    for (header, count, wanted) in [
+        ("P4\n113 3\n", 45, "refused 31 PbmSize"),
+        ("P4\n113 3\n", 44, "refused 30 Truncated"),
+        ("P4\n113 x\n", 45, "refused 29 PbmHeader"),
+        ("P1\n113 3\n", 45, "refused 28 NotP4"),
+    ] {
+        let mut bytes = light(alloc, "P4\n113 4\n", 60)?;
+        let last = light(alloc, header, count)?;
+        bytes.extend_from_slice(last.as_slice())?;
+        let found = scanned(&rt, bytes.as_slice())?;
+        assert_eq!(rt; found.as_str(), wanted, "{header}");
+    }
+    Ok(())
+}
+
+#[test]
+fn refuses_grids_before_reading(rt: HostRuntime) -> Result<(), Fail> {
+    let alloc = rt.alloc();
+    for (module_dots, width, height, columns, rows) in [
+        (1, 113, 2, 1, 1),
+        (2, 226, 4, 1, 1),
+        (8, 904, 16, 1, 1),
+        (1, 1025, 3, 16, 1),
+        (1, 113, 257, 1, 64),
+    ] {
+        let options = ScanOptions::new(module_dots, width, height, columns, rows, 1, 2026);
+        let asked = Asked::Scan(options.ok_or("options")?);
+        for input in [b"".as_slice(), b"P1"] {
+            let found = outcome(&rt, asked, input)?;
+            assert_eq!(rt; found.as_str(), "refused 25 BadGrid");
+        }
+        let mut sink = ToWriter::new(Vec::new(alloc));
+        let mut source = Breaking::new(b"");
+        let fault = run(&rt, alloc, asked, &mut source, &mut sink, &OpenGate)
+            .err()
+            .ok_or("a fault")?;
+        assert_eq!(rt; fault.to_string(alloc)?.as_str(), "refused 25 BadGrid");
+    }
+    Ok(())
+}
+
+#[test]
+fn passes_failed_reads_on(rt: HostRuntime) -> Result<(), Fail> {
+    let alloc = rt.alloc();
+    let mut bytes = Vec::new(alloc);
+    push_image(&mut bytes, LOW, 1, 0)?;
+    push_image(&mut bytes, LOW, 1, 0)?;
+    // Before the first image, in its header, in its dots, and after its last byte.
+    for count in [0, 1, 8, 9, 40, 54, 55, 108] {
+        let front = bytes.as_slice().get(..count).ok_or("a front")?;
+        let mut source = Breaking::new(front);
+        let mut sink = ToWriter::new(Vec::new(alloc));
+        let fault = run(
+            &rt,
+            alloc,
+            asked(113, 3, 1, 1)?,
+            &mut source,
+            &mut sink,
+            &OpenGate,
+        )
+        .err()
+        .ok_or("a fault")?;
+        assert_eq!(rt;
+            fault.to_string(alloc)?.as_str(),
+            "refused 37 ReadFault",
+            "{count}"
+        );
+        assert_eq!(rt; sink.into_inner().len(), 0);
+    }
+    Ok(())
+}
+
+#[test]
+fn passes_failed_writes_on(rt: HostRuntime) -> Result<(), Fail> {
+    let alloc = rt.alloc();
+    let mut bytes = Vec::new(alloc);
+    push_image(&mut bytes, LOW, 1, 0)?;
+    for room in [0, 1, 26, 27] {
+        let mut source = FromReader::new(bytes.as_slice());
+        let mut sink = Narrow::new(alloc, room);
+        let ran = run(
+            &rt,
+            alloc,
+            asked(113, 3, 1, 1)?,
+            &mut source,
+            &mut sink,
+            &OpenGate,
+        );
+        let line = match ran {
+            Ok(()) => String::new(alloc),
+            Err(fault) => fault.to_string(alloc)?,
+        };
+        let wanted = if room < LINE.len() {
+            "refused 38 WriteFault"
+        } else {
+            ""
+        };
+        assert_eq!(rt; line.as_str(), wanted, "{room}");
+        let front = LINE.as_bytes().get(..room).ok_or("a front")?;
+        assert_eq!(rt; sink.taken(), front);
+    }
+    Ok(())
+}
+
+#[test]
+fn takes_numbers_in_their_ranges(rt: HostRuntime) -> Result<(), Fail> {
+    for (module_dots, width, height, columns, rows, workers, year, is_taken) in [
+        (1, 1, 1, 1, 1, 1, 1951, true),
+        (8, 4096, 1024, 16, 64, 16, 2149, true),
+        (1, 4096, 1, 16, 1, 16, 1951, true),
+        (0, 1, 1, 1, 1, 1, 2026, false),
+        (9, 1, 1, 1, 1, 1, 2026, false),
+        (1, 0, 1, 1, 1, 1, 2026, false),
+        (1, 4097, 1, 1, 1, 1, 2026, false),
+        (1, 1, 0, 1, 1, 1, 2026, false),
+        (1, 1, 1025, 1, 1, 1, 2026, false),
+        (1, 1, 1, 0, 1, 1, 2026, false),
+        (1, 1, 1, 17, 1, 1, 2026, false),
+        (1, 1, 1, 1, 0, 1, 2026, false),
+        (1, 1, 1, 1, 65, 1, 2026, false),
+        (1, 1, 1, 1, 1, 0, 2026, false),
+        (1, 1, 1, 1, 1, 17, 2026, false),
+        (1, 1, 1, 1, 1, 255, 2026, false),
+        (1, 1, 1, 1, 1, 1, 1950, false),
+        (1, 1, 1, 1, 1, 1, 2150, false),
+    ] {
+        let found = ScanOptions::new(module_dots, width, height, columns, rows, workers, year);
+        assert_eq!(rt; found.is_some(), is_taken);
+    }
+    Ok(())
+}
