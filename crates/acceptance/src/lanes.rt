@@ -2,30 +2,14 @@
 ghost use Rattle.std.specs.Prelude.{◌<◌, IfOk, length};
 ghost use Rattle.lane_core.specs.Desk.{lanes_of};
 
+use crate::rows::{EAN8, EAN13, row};
 use element_core::Year;
 use lane_core::{
     Deliverer, Delivery, Event, Job, NoMemory, Place, TakeFault, Ticket, Ticketer, World, decode,
 };
-use scan_core::{Answer, Carrier, Runs};
+use scan_core::{Answer, Carrier};
 use std::alloc::Global;
 use std::test::Fail;
-
-// 9501101530003 as EAN-13, its light ends included, at one dot a module.
-const EAN13: &[u16] = &[
-    11, 1, 1, 1, 1, 2, 3, 1, 1, 1, 2, 3, 1, 2, 2, 2, 2, 2, 2, 1, 1, 1, 2, 3, 2, 2, 2, 1, 1, 1, 1,
-    1, 1, 1, 2, 3, 1, 1, 4, 1, 1, 3, 2, 1, 1, 3, 2, 1, 1, 3, 2, 1, 1, 1, 4, 1, 1, 1, 1, 1, 7,
-];
-
-// 96385074 as EAN-8.
-const EAN8: &[u16] = &[
-    7, 1, 1, 1, 3, 1, 1, 2, 1, 1, 1, 4, 1, 4, 1, 1, 1, 2, 1, 3, 1, 1, 1, 1, 1, 1, 2, 3, 1, 3, 2, 1,
-    1, 1, 3, 1, 2, 1, 1, 3, 2, 1, 1, 1, 7,
-];
-
-/// A row, and the reference year.
-fn row(alloc: Global, widths: &[u16]) -> Result<Runs, Fail> {
-    Ok(Runs::of_widths(alloc, widths).ok().ok_or("row")?)
-}
 
 /// The delivery of an EAN-13 row under the ticket.
 fn delivery(alloc: Global, lane: u8, number: u32) -> Result<Delivery, Fail> {

@@ -2,8 +2,14 @@
 #![tactic(auto)]
 
 #[cfg(test)]
+mod hubs;
+#[cfg(test)]
 mod lanes;
+#[cfg(test)]
+mod rows;
 #[cfg(test)]
 mod serving;
 #[cfg(test)]
 mod sheets;
+#[cfg(test)]
+mod station;

@@ -1,5 +1,6 @@
 //! Feeds served by workers beside each other.
 
+use crate::rows::{EAN8, EAN13, row};
 use element_core::Year;
 use hub_core::{Gate, OpenGate, serve};
 use lane_core::{Delivery, Ticket};
@@ -11,18 +12,6 @@ use std::thread;
 
 /// How often a held row looks whether it may go on.
 const TURN_LIMIT: u64 = 50_000_000;
-
-// 9501101530003 as EAN-13, its light ends included, at one dot a module.
-const EAN13: &[u16] = &[
-    11, 1, 1, 1, 1, 2, 3, 1, 1, 1, 2, 3, 1, 2, 2, 2, 2, 2, 2, 1, 1, 1, 2, 3, 2, 2, 2, 1, 1, 1, 1,
-    1, 1, 1, 2, 3, 1, 1, 4, 1, 1, 3, 2, 1, 1, 3, 2, 1, 1, 3, 2, 1, 1, 1, 4, 1, 1, 1, 1, 1, 7,
-];
-
-// 96385074 as EAN-8.
-const EAN8: &[u16] = &[
-    7, 1, 1, 1, 3, 1, 1, 2, 1, 1, 1, 4, 1, 4, 1, 1, 1, 2, 1, 3, 1, 1, 1, 1, 1, 1, 2, 3, 1, 3, 2, 1,
-    1, 1, 3, 1, 2, 1, 1, 3, 2, 1, 1, 1, 7,
-];
 
 /// Holds number 0 until number 1 has come, and counts how often each comes.
 #[derive(Drop)]
@@ -74,7 +63,7 @@ fn feeds(alloc: Global, lanes: &[&[&[u16]]]) -> Result<Vec<Vec<Runs>>, Fail> {
     for rows in lanes {
         let mut feed = Vec::new(alloc);
         for widths in *rows {
-            feed.push(Runs::of_widths(alloc, widths).map_err(|_| "runs")?)?;
+            feed.push(row(alloc, widths)?)?;
         }
         feeds.push(feed)?;
     }

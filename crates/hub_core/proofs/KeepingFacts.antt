@@ -6,13 +6,13 @@ use Rattle.lane_core.specs.Desk.{Desk, GivesNext, TakesIn, desk, has_next, is_ne
 use Rattle.lane_core.specs.declared.job.Plain.{Plain}
 use Rattle.lane_core.specs.Tickets.{is_among, is_ticket_of, numbered, times}
 use Rattle.lane_core.specs.Weights.{once, weigh}
-use Rattle.hub_core.specs.Keeping.{Keeps, NoneWaits, NoneWaitsBut, are_in_order}
+use Rattle.hub_core.specs.Keeping.{Keeps}
 use Rattle.hub_core.specs.Serving.{weigh_all}
 use Rattle.hub_core.proofs.WeightFacts.{empties_at}
 use Rattle.hub_core.proofs.OrderFacts.{below_one_more, few_once, in_order_from, not_once, numbered_more, once_not, once_so, other_lane, own_ticket, same_lane, so_once, times_in_order}
 
 -- a ticket is among those that it is found of
-among_times : (l k : ℕ) (xs : List Plain) → is_among l k xs ≡ true → 1 ≤ times l k xs
+pub among_times : (l k : ℕ) (xs : List Plain) → is_among l k xs ≡ true → 1 ≤ times l k xs
 among_times l k [] e = absurd (false≢true e)
 among_times l k (x ∷ xs) e =
     elim (or_cases (is_ticket_of l k x) (is_among l k xs) e) [
@@ -75,100 +75,6 @@ gives_keeps d e l x gs low g keeps =
       ];
     }
 
-pub gives_others : (d e : Desk) (l : ℕ) (x : Plain) → GivesNext d l x e → NoneWaitsBut l d → NoneWaitsBut l e
-gives_others d e l x g others m low has =
-    elim (cases_eq m l) [
-      | inl is ↦ is
-      | inr apart ↦
-          let next = next_other d e l m x apart g in
-          let there = among_times m (next_of d m) e.waiting (ap (λ n. is_among m n e.waiting) (sym next) ∙ has) in
-          let gone = g.leaves.waiting (λ y. once (is_ticket_of m (next_of d m) y)) in
-          let long : lanes_of e ≡ lanes_of d = ap length g.nexts ∙ length-set d.nexts l (next_of d l + 1) in
-          others m (omega arith) (times_among m (next_of d m) d.waiting (omega arith))
-    ]
-
--- a delivery was taken in
-pub takes_others : (d e : Desk) (x : Plain) → TakesIn d x e → NoneWaits d → NoneWaitsBut x.lane e
-takes_others d e x t none l low has =
-    elim (cases_eq l x.lane) [
-      | inl is ↦ is
-      | inr apart ↦
-          let next : next_of e l ≡ next_of d l = ap (λ ns. get_or ns l 0) t.nexts in
-          let there = among_times l (next_of d l) e.waiting (ap (λ n. is_among l n e.waiting) (sym next) ∙ has) in
-          let more = t.waiting (λ y. once (is_ticket_of l (next_of d l) y)) in
-          let other = other_lane l (next_of d l) x (λ is. apart (sym is)) in
-          let long = ap length t.nexts in
-          absurd (both_ways (has_next d l) (none l (omega arith)) (times_among l (next_of d l) d.waiting (omega arith)))
-    ]
-
--- what the lanes were given is in order
-pub keeps_in_order : (d : Desk) (gs : List (List Plain)) → Keeps d gs → are_in_order 0 gs ≡ true
-keeps_in_order d gs keeps = in_order_from 0 gs (λ i l is. subst (λ j. numbered j 0 (get_or gs i []) ≡ true) (let e : i ≡ l = omega arith in e) (keeps.in_order i))
-
--- past the end there is nothing
-past_end : (lists : List (List Plain)) (i : ℕ) → length lists ≤ i → get_or lists i [] ≡ []
-past_end [] i h = refl
-past_end (xs ∷ lists) zero h = absurd (omega arith)
-past_end (xs ∷ lists) (suc i) h = past_end lists i (omega arith)
-
--- a ticket that is owed is of a lane that is there
-there_from : (owed : List (List Plain)) (l k : ℕ) → k < length (get_or owed l []) → l < length owed
-there_from owed l k h =
-    elim (cases_lt l (length owed)) [
-      | inl low ↦ low
-      | inr past ↦ absurd (omega (arith, ap length (past_end owed l past)))
-    ]
-
--- how often a ticket was given
-given_times : (d : Desk) (gs : List (List Plain)) (l k : ℕ) → Keeps d gs → weigh_all (λ y. once (is_ticket_of l k y)) gs ≡ once (ltb k (next_of d l))
-given_times d gs l k keeps = times_in_order l k 0 l gs (keeps_in_order d gs keeps) (omega arith) ∙ ap (λ n. once (ltb k n)) (keeps.counted l)
-
-owed_times : (owed : List (List Plain)) (l k : ℕ) → are_in_order 0 owed ≡ true → weigh_all (λ y. once (is_ticket_of l k y)) owed ≡ once (ltb k (length (get_or owed l [])))
-owed_times owed l k order = times_in_order l k 0 l owed order (omega arith)
-
--- what is owed and not yet taken in is new
-pub is_new_from : (d : Desk) (gs owed : List (List Plain)) (x : Plain) (rest : (Plain → ℕ) → ℕ) → Keeps d gs → are_in_order 0 owed ≡ true → length owed ≡ lanes_of d
-    → ((h : Plain → ℕ) → (weigh h d.waiting + weigh_all h gs) + (h x + rest h) ≡ weigh_all h owed) → is_new d x ≡ true
-is_new_from d gs owed x rest keeps order long all =
-    let l = x.lane in
-    let k = x.number in
-    let len = length (get_or owed l []) in
-    let sum = all (λ y. once (is_ticket_of l k y)) in
-    let mine = once_so (is_ticket_of l k x) (own_ticket l k x refl refl) in
-    let once_owed = owed_times owed l k order in
-    let once_given = given_times d gs l k keeps in
-    let few = few_once (ltb k len) in
-    let taken = keeps.taken l k in
-    let fits : k < len = ltb-true k len (so_once (ltb k len) (omega arith)) in
-    let low = there_from owed l k fits in
-    and_from (ltb l (lanes_of d)) (not (was_taken d l k)) (lt-ltb l (lanes_of d) (omega arith)) (ap not (not_once (was_taken d l k) (omega arith)))
-
--- where no next number waits and all that is owed was taken in, nothing waits
-none_waiting : (ws : List Plain) (next len : ℕ → ℕ) → ((l k : ℕ) → times l k ws + once (ltb k (next l)) ≡ once (ltb k (len l)))
-    → ((l : ℕ) → 0 < len l → is_among l (next l) ws ≡ false) → ws ≡ []
-none_waiting [] next len all none = refl
-none_waiting (x ∷ xs) next len all none =
-    let l = x.lane in
-    let k = x.number in
-    let n = next l in
-    let mine = once_so (is_ticket_of l k x) (own_ticket l k x refl refl) in
-    let at = all l k in
-    let few = few_once (ltb k (len l)) in
-    let fits : k < len l = ltb-true k (len l) (so_once (ltb k (len l)) (omega arith)) in
-    let before : n ≤ k = elim (cases_lt k n) [ inl h ↦ absurd (omega (arith, once_so (ltb k n) (lt-ltb k n h))) | inr h ↦ h ] in
-    let at_next = all l n in
-    let not_given = once_not (ltb n n) (le-ltb n n (omega arith)) in
-    let owed = once_so (ltb n (len l)) (lt-ltb n (len l) (omega arith)) in
-    absurd (both_ways (is_among l n (x ∷ xs)) (none l (omega arith)) (times_among l n (x ∷ xs) (omega arith)))
-
-pub none_left : (d : Desk) (gs owed : List (List Plain)) → Keeps d gs → NoneWaits d → are_in_order 0 owed ≡ true → length owed ≡ lanes_of d
-    → ((h : Plain → ℕ) → weigh h d.waiting + weigh_all h gs ≡ weigh_all h owed) → d.waiting ≡ []
-none_left d gs owed keeps none order long all =
-    none_waiting d.waiting (next_of d) (λ l. length (get_or owed l []))
-    (λ l k. let sum = all (λ y. once (is_ticket_of l k y)) in omega (arith, owed_times owed l k order, given_times d gs l k keeps))
-    (λ l some. none l (omega (arith, there_from owed l 0 some)))
-
--- n zeros
 abbrev zeros : ℕ → List ℕ
 zeros n = replicate n 0
 

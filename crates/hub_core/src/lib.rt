@@ -1,15 +1,41 @@
 //! The scanning hub: lanes' rows are answered by workers beside each other.
 #![tactic(auto)]
 
-mod dealing;
+mod beside;
+mod closed_lane;
+mod collect;
+mod deliverer_seat;
+mod driving;
+mod emptying;
 mod fault;
+mod feed;
+mod feeds;
 mod gate;
-mod gathering;
+mod hub;
+mod idle;
+mod lane_seat;
 mod laws;
+mod lists;
+mod next_ticket;
+mod parts;
+mod rule;
 mod serving;
-mod working;
+mod settle;
+mod shape;
+mod submit;
+mod work;
+mod worker_seat;
 
-pub use fault::ServeFault;
+pub use closed_lane::ClosedLane;
+pub use deliverer_seat::{Collected, DelivererSeat, Handed};
+pub use fault::{HubFault, ServeFault, SubmitFault};
 pub use gate::{Gate, OpenGate};
-pub use laws::{answers_are_read, served_by_place};
+pub use hub::Hub;
+pub use lane_seat::LaneSeat;
+pub use laws::{answers_are_read, served_by_place, settled_are_read};
+pub use parts::Parts;
+pub use rule::{OneForOne, Trace};
 pub use serving::serve;
+pub use settle::Unsettled;
+pub use shape::Shape;
+pub use worker_seat::{Worked, WorkerSeat};

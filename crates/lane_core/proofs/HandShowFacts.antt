@@ -172,10 +172,6 @@ hand_enabled c l x y at next = λ s r shows.
     ap (λ o. is_some o) (ap (hand s l) f.1 ∙ (λ i. cond (waits i) (Some (state s.year (set s.lanes l (lane_state v.submitted v.closed v.polled (v.handed + 1))) s.jobs s.workers s.results (without l v.handed s.waiting))) None))
 
 -- of a result that is none, and of one that is there
-pub if_none : {X : Type 0} (o : Option X) (P : Type 0) → is_some o ≡ false → IfNone o P → P
-if_none None P e h = h
-if_none (Some x) P e h = absurd (cc)
-
 pub if_some : {X : Type 0} (o : Option X) (P : X → Type 0) → is_some o ≡ true → IfSome o P → (x : X) × P x
 if_some None P e h = absurd (cc)
 if_some (Some x) P e h = (x, h)

@@ -1,3 +1,4 @@
+pub mod ClaimFacts
 pub mod DeskFacts
 pub mod DrawerFacts
 pub mod GoodFacts
@@ -7,8 +8,11 @@ pub mod HistoryFacts
 pub mod LaneFacts
 pub mod LaneShowFacts
 pub mod ListFacts
+pub mod NextFacts
+pub mod PlaceFacts
 pub mod PolledFacts
 pub mod QueueFacts
+pub mod ReadFacts
 pub mod SameFacts
 pub mod SeenFacts
 pub mod SettlingFacts

@@ -17,7 +17,7 @@ nothing_else f t (x ∷ xs) zero_else none =
     let rest = nothing_else f t xs (λ j u e. zero_else (suc j) u e) (omega arith) in omega arith
 
 -- of several members, the one that passes the test has the whole weight
-only : {S : Type 0} (f : S → ℕ) (t : S → Bool) (ss : List S) (i : ℕ) (s : S) → slice_get ss i ≡ Some s
+pub only : {S : Type 0} (f : S → ℕ) (t : S → Bool) (ss : List S) (i : ℕ) (s : S) → slice_get ss i ≡ Some s
     → ((j : ℕ) (u : S) → slice_get ss j ≡ Some u → t u ≡ false → f u ≡ 0)
     → weigh (λ u. once (t u)) ss ≤ 1 → t s ≡ true → weigh f ss ≡ f s
 only f t [] i s e zero_else one is = absurd (cc)
@@ -32,17 +32,6 @@ only f t (x ∷ xs) (suc i) s e zero_else one is =
     let out : t x ≡ false = false_from (t x) (omega arith) in
     let here = zero_else 0 x refl out in
     let rest = only f t xs i s e (λ j u e'. zero_else (suc j) u e') (omega arith) is in omega arith
-
--- one lane among several: its two lists are the same
-pub lanes_settle : (accounts : List Account) → AreNumbered accounts → ((i : ℕ) (a : Account) → slice_get accounts i ≡ Some a → numbered a.lane 0 a.received ≡ true) → EachLaneOnce accounts
-    → ((h : Plain → ℕ) → weigh (λ a. weigh h a.submitted) accounts ≡ weigh (λ a. weigh h a.received) accounts)
-    → (i : ℕ) (a : Account) → slice_get accounts i ≡ Some a → a.submitted ≡ a.received
-lanes_settle accounts out back one same i a e =
-    same_lists a.lane 0 a.submitted a.received (out i a e) (back i a e) (λ h.
-    let cut : Plain → ℕ = λ x. cond (x.lane == a.lane) (h x) 0 in
-    let p = only (λ (u : Account). weigh cut u.submitted) (λ (u : Account). u.lane == a.lane) accounts i a e (λ j u e' no. other_lane a.lane u.lane 0 h u.submitted (out j u e') no) (one a.lane) (eq_self a.lane) in
-    let q = only (λ (u : Account). weigh cut u.received) (λ (u : Account). u.lane == a.lane) accounts i a e (λ j u e' no. other_lane a.lane u.lane 0 h u.received (back j u e') no) (one a.lane) (eq_self a.lane) in
-    sym (own_lane a.lane 0 h a.submitted (out i a e)) ∙ (sym p ∙ (same cut ∙ (q ∙ own_lane a.lane 0 h a.received (back i a e)))))
 
 weigh_le : {S : Type 0} (f g : S → ℕ) (ss : List S) → ((j : ℕ) (u : S) → slice_get ss j ≡ Some u → f u ≤ g u) → weigh f ss ≤ weigh g ss
 weigh_le f g [] each = omega arith

@@ -1,6 +1,6 @@
 -- Several lanes whose rows went from place to place: what can be said of their lists, whoever carried them.
-use Rattle.std.specs.Prelude.{◌≡◌, ◌==◌, ◌&&◌, ◌+◌, ◌<◌, ◌≤◌, ℕ, suc, Bool, true, not, nat_lt, cond, List, [], ◌∷◌, ◌++◌, Some, slice_get}
-use Rattle.std.specs.List.{fold}
+use Rattle.std.specs.Prelude.{◌≡◌, ◌==◌, ◌&&◌, ◌+◌, ◌<◌, ◌≤◌, ℕ, suc, Bool, true, not, nat_lt, cond, List, [], ◌∷◌, ◌++◌, Some, length, slice_get, take}
+use Rattle.std.specs.List.{fold, list_all}
 use Rattle.lane_core.specs.declared.job.Plain.{Plain}
 use Rattle.lane_core.specs.Tickets.{is_among, numbered, times}
 use Rattle.lane_core.specs.Weights.{OneForOne, SameItems, once, weigh}
@@ -36,10 +36,6 @@ AreNumbered accounts = (i : ℕ) (a : Account) → slice_get accounts i ≡ Some
 abbrev pub EachLaneOnce : List Account → Type 0
 EachLaneOnce accounts = (l : ℕ) → weigh (λ a. once (a.lane == l)) accounts ≤ 1
 
--- where each ticket comes once at most, for lanes that are there, nothing is set aside
-abbrev pub NoneAside : Type 0
-NoneAside = (n : ℕ) (xs : List Plain) → ((l k : ℕ) → times l k xs ≤ 1) → weigh (λ x. once (is_elsewhere n x)) xs ≡ 0 → sifted n xs ≡ xs
-
 -- a lane's numbers in order are all kept
 abbrev pub KeptWhole : Type 0
 KeptWhole = (lane n : ℕ) (xs : List Plain) → numbered lane n xs ≡ true → kept lane n xs ≡ xs
@@ -48,19 +44,15 @@ KeptWhole = (lane n : ℕ) (xs : List Plain) → numbered lane n xs ≡ true →
 abbrev pub SameLists : Type 0
 SameLists = (lane n : ℕ) (xs ys : List Plain) → numbered lane n xs ≡ true → numbered lane n ys ≡ true → SameItems xs ys → xs ≡ ys
 
--- no ticket is submitted twice
-abbrev pub SubmittedOnce : Type 0
-SubmittedOnce = (accounts : List Account) → AreNumbered accounts → EachLaneOnce accounts → (l k : ℕ) → weigh (λ a. times l k a.submitted) accounts ≤ 1
-
--- where the lanes together received what they submitted, each its own numbers in order, each received its own rows
-abbrev pub LanesSettle : Type 0
-LanesSettle =
+-- where the lanes together received no more than they submitted, each its own numbers in order, each received the first of its own rows
+abbrev pub ReceivedFirst : Type 0
+ReceivedFirst =
     (accounts : List Account)
     → AreNumbered accounts
     → ((i : ℕ) (a : Account) → slice_get accounts i ≡ Some a → numbered a.lane 0 a.received ≡ true)
     → EachLaneOnce accounts
-    → ((h : Plain → ℕ) → weigh (λ a. weigh h a.submitted) accounts ≡ weigh (λ a. weigh h a.received) accounts)
-    → (i : ℕ) (a : Account) → slice_get accounts i ≡ Some a → a.submitted ≡ a.received
+    → ((h : Plain → ℕ) → weigh (λ a. weigh h a.received) accounts ≤ weigh (λ a. weigh h a.submitted) accounts)
+    → (i : ℕ) (a : Account) → slice_get accounts i ≡ Some a → take (length a.received) a.submitted ≡ a.received
 
 -- where both queues are one for one and nothing was lost on the way, nothing was set aside, and all that was submitted is in some place
 abbrev pub AllFound : Type 0
@@ -75,3 +67,37 @@ AllFound =
     → ((h : Plain → ℕ) → weigh h (sifted n collected) ≡ (weigh h waiting + weigh h hand) + sent h)
     → (sifted n collected ≡ collected)
     × ((h : Plain → ℕ) → weigh (λ a. weigh h a.submitted) accounts ≡ ((((weigh h jobs + weigh h hands) + weigh h results) + weigh h waiting) + weigh h hand) + sent h)
+
+-- whether each number is no less than the one before it
+abbrev pub rises : List Plain → Bool
+rises [] = true
+rises (x ∷ []) = true
+rises (x ∷ (y ∷ ys)) = not (nat_lt y.number x.number) && rises (y ∷ ys)
+
+-- a lane, what it has submitted and polled, and what it is given of all that was found
+pub record Claim : Type 0 where
+  pub lane : ℕ
+  pub submitted : List Plain
+  pub polled : List Plain
+  pub given : List Plain
+
+-- its lists are its numbers in order, and what it is given is its own, by rising number
+pub record IsClaim (c : Claim) : Type 0 where
+  pub submitted : numbered c.lane 0 c.submitted ≡ true
+  pub polled : numbered c.lane 0 c.polled ≡ true
+  pub own : list_all (λ x. x.lane == c.lane) c.given ≡ true
+  pub rising : rises c.given ≡ true
+
+-- nothing of a lane was dropped as long as less than its due was given
+abbrev pub GivesDue : Claim → List Plain → Type 0
+GivesDue c dropped = length c.polled + length c.given < length c.submitted → weigh (λ x. once (x.lane == c.lane)) dropped ≡ 0
+
+-- where all that the lanes had not polled was found, and each was given of it up to its due, each was given what it had not polled
+abbrev pub ClaimsSettle : Type 0
+ClaimsSettle =
+    (claims : List Claim) (found dropped : List Plain)
+    → ((i : ℕ) (c : Claim) → slice_get claims i ≡ Some c → IsClaim c × GivesDue c dropped)
+    → ((l : ℕ) → weigh (λ c. once (c.lane == l)) claims ≤ 1)
+    → ((h : Plain → ℕ) → weigh (λ c. weigh h c.submitted) claims ≡ weigh (λ c. weigh h c.polled) claims + weigh h found)
+    → ((h : Plain → ℕ) → weigh (λ c. weigh h c.given) claims + weigh h dropped ≡ weigh h found)
+    → (i : ℕ) (c : Claim) → slice_get claims i ≡ Some c → c.polled ++ c.given ≡ c.submitted

@@ -1,5 +1,5 @@
 //! Hands each lane its deliveries by number, whatever order they come in.
-ghost use Rattle.std.specs.Prelude.{◌≡◌, ◌<◌, ◌≤◌, [], replicate, false, IfErr, IfOk, IfNone, IfSome, OnErr, OnOk};
+ghost use Rattle.std.specs.Prelude.{◌≡◌, ◌<◌, ◌≤◌, ◌↔◌, [], replicate, true, false, IsSome, IfErr, IfOk, IfNone, IfSome, OnErr, OnOk};
 ghost use Rattle.lane_core.specs.Desk.{desk, lanes_of, next_of, was_taken, has_next, TakesIn, IsRefused, IsNext, GivesNext, GivesAny};
 
 use crate::delivery::Delivery;
@@ -103,7 +103,7 @@ impl Deliverer {
     pub fn next(&self, lane: u8) -> Option<&Delivery>
         requires { lane < lanes_of self.now }
         ensures some { IfSome result (λ x. IsNext self.now lane x.now) }
-        ensures none { IfNone result (has_next self.now lane ≡ false) }
+        ensures exactly { IsSome result ↔ (has_next self.now lane ≡ true) }
     {
         let ticket = self.next_ticket(lane)?;
         self.waiting.get(&ticket)

@@ -1,7 +1,8 @@
 //! Laws about the machine and about lists of tickets: each function does nothing, and its contract is the law.
 ghost use Rattle.lane_core.specs.History.{DoneStaysDone, ListsGrow, NothingAfterClose, PolledInOrder, QueuesKeep};
-ghost use Rattle.lane_core.specs.Settling.{AllFound, KeptWhole, LanesSettle, NoneAside, SameLists, SubmittedOnce};
-ghost use Rattle.lane_core.specs.Whereabouts.{TicketsOnce};
+ghost use Rattle.lane_core.specs.Reading.{AnswersAreRead};
+ghost use Rattle.lane_core.specs.Settling.{AllFound, ClaimsSettle, KeptWhole, ReceivedFirst, SameLists};
+ghost use Rattle.lane_core.specs.Whereabouts.{LostIsNone, TicketsOnce};
 
 /// Each issued ticket is in one place, once, and no other is in any.
 pub fn tickets_once()
@@ -33,11 +34,6 @@ pub fn done_stays_done()
     ensures { DoneStaysDone }
 {}
 
-/// Where each ticket comes once at most, for lanes that are there, a deliverer sets none aside.
-pub fn none_aside()
-    ensures { NoneAside }
-{}
-
 /// A lane's numbers in order are all kept.
 pub fn kept_whole()
     ensures { KeptWhole }
@@ -48,18 +44,29 @@ pub fn same_lists()
     ensures { SameLists }
 {}
 
-/// Lanes that each submit their numbers in order submit no ticket twice.
-pub fn submitted_once()
-    ensures { SubmittedOnce }
-{}
-
-/// Where lanes together received what they submitted, each its own numbers in order, each received
-/// its own rows.
-pub fn lanes_settle()
-    ensures { LanesSettle }
+/// Where lanes together received no more than they submitted, each its own numbers in order, each
+/// received the first of its own rows.
+pub fn received_first()
+    ensures { ReceivedFirst }
 {}
 
 /// Where queues, workers and deliverer lose nothing, all that was submitted is in some place.
 pub fn all_found()
     ensures { AllFound }
+{}
+
+/// The answers of deliveries of one reference year are those to their rows.
+pub fn answers_are_read()
+    ensures { AnswersAreRead }
+{}
+
+/// Where all that lanes had not polled was found, and each was given of it up to its due, each was
+/// given what it had not polled.
+pub fn claims_settle()
+    ensures { ClaimsSettle }
+{}
+
+/// Where nothing was lost, each ticket is in one place.
+pub fn lost_is_none()
+    ensures { LostIsNone }
 {}

@@ -20,8 +20,9 @@ pub use event::Event;
 pub use fault::{NoMemory, TakeFault};
 pub use job::{Job, Plain};
 pub use laws::{
-    all_found, done_stays_done, kept_whole, lanes_settle, lists_grow, none_aside,
-    nothing_after_close, polled_in_order, queues_keep, same_lists, submitted_once, tickets_once,
+    all_found, answers_are_read, claims_settle, done_stays_done, kept_whole, lists_grow,
+    lost_is_none, nothing_after_close, polled_in_order, queues_keep, received_first, same_lists,
+    tickets_once,
 };
 pub use place::Place;
 pub use ticket::Ticket;

@@ -7,6 +7,7 @@ use Rattle.lane_core.specs.declared.ticket.Ticket.{Ticket}
 use Rattle.lane_core.specs.Drawer.{are_tied}
 use Rattle.lane_core.specs.Desk.{desk, next_of, IsNext}
 use Rattle.lane_core.specs.Tickets.{is_among}
+use Rattle.lane_core.proofs.NextFacts.{has_some, some_has}
 use Rattle.lane_core.proofs.DrawerFacts.{Finds, both_true, eq_from, finds_at, found_among, found_ticket}
 use Rattle.lane_core.proofs.deliverer.Deliverer.next.Goals as goal
 
@@ -33,9 +34,12 @@ returns-clause-some c =
     rw (← c.self.view_is)
     (some_next c.self.inside.nexts.items c.self.inside.waiting.entries c.self.inside.out.items c.args.lane t.number at _ (finds_at t c.args.lane t.number c.in_ok-ticket.ensures.some.0 refl) c.self.invariant.0 c.get.result c.get.ensures.value c.get.ensures.member)
 
-pub returns-clause-none : goal.returns-clause-none
-returns-clause-none c =
+pub returns-clause-exactly : goal.returns-clause-exactly
+returns-clause-exactly c =
     let t = c.in_ok-ticket.ticket in
+    let d = desk c.self.inside.nexts.items (values_of c.self.inside.waiting.entries) c.self.inside.out.items in
     let at = c.in_ok-ticket.ensures.some.1 ∙ ap (λ d. next_of d c.args.lane) (sym c.self.view_is) in
+    let found = some_next c.self.inside.nexts.items c.self.inside.waiting.entries c.self.inside.out.items c.args.lane t.number at _ (finds_at t c.args.lane t.number c.in_ok-ticket.ensures.some.0 refl) c.self.invariant.0 c.get.result c.get.ensures.value c.get.ensures.member in
+    let missed = none_next c.args.lane (next_of d c.args.lane) _ c.self.inside.waiting.entries (finds_at t c.args.lane _ c.in_ok-ticket.ensures.some.0 at) c.self.invariant.0 c.get.result c.get.ensures.value in
     rw (← c.self.view_is)
-    (none_next c.args.lane (next_of (desk c.self.inside.nexts.items (values_of c.self.inside.waiting.entries) c.self.inside.out.items) c.args.lane) _ c.self.inside.waiting.entries (finds_at t c.args.lane _ c.in_ok-ticket.ensures.some.0 at) c.self.invariant.0 c.get.result c.get.ensures.value)
+    ((λ e. some_has (λ x. x.now) d c.args.lane c.get.result found e), (λ e. has_some (λ x. x.now) d c.args.lane c.get.result missed e))

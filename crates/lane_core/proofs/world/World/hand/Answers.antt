@@ -4,9 +4,10 @@ use Rattle.lane_core.specs.declared.job.Plain.{Plain}
 use Rattle.lane_core.specs.Contents.{lane_of}
 use Rattle.lane_core.specs.Desk.{IsNext, has_next}
 use Rattle.lane_core.specs.Holding.{held, lane_held}
-use Rattle.lane_core.proofs.HandShowFacts.{hand_done, hand_enabled, hand_none, if_none, if_some}
+use Rattle.lane_core.proofs.HandShowFacts.{hand_done, hand_enabled, hand_none, if_some}
 use Rattle.lane_core.proofs.HeldFacts.{count_held, lane_at, lane_put, lane_same}
 use Rattle.lane_core.proofs.LaneShowFacts.{hand_past}
+use Rattle.lane_core.proofs.NextFacts.{none_has}
 use Rattle.lane_core.proofs.ShowFacts.{shown_after}
 use Rattle.lane_core.proofs.world.World.hand.Goals as goal
 
@@ -17,7 +18,7 @@ returns-then-at-len-clause-steps c =
 
 pub returns-then-is_none-clause-steps : goal.returns-then-is_none-clause-steps
 returns-then-is_none-clause-steps c =
-    let none = if_none c.next.result (has_next c.self.inside.deliverer c.args.lane ≡ false) c.if-is_none.ensures c.next.ensures.none in
+    let none = none_has (λ x. x.now) c.self.inside.deliverer c.args.lane c.next.result c.if-is_none.ensures c.next.ensures.exactly.1 in
     rw (← c.self.view_is) (hand_none (held c.self.inside) c.args.lane none)
 
 pub invariant_of-self : goal.invariant_of-self

@@ -1,0 +1,66 @@
+use Rattle.std.proofs.Common.{rules, ◌≡◌, get_or, ◌+◌, ◌<◌, ◌≤◌, ℕ, [], List, length, refl, sym, ap, ◌∙◌, arith, replicate, ◌∷◌, map, true}
+use Rattle.std.specs.List.{slice_get}
+use Rattle.std.proofs.lemmas.List.{length-replicate}
+use Rattle.crossbeam_queue.specs.Passes.{view}
+use Rattle.lane_core.specs.declared.job.Plain.{Plain}
+use Rattle.lane_core.specs.Desk.{Desk}
+use Rattle.hub_core.specs.Lanes.{submitted}
+use Rattle.hub_core.specs.Serving.{numbered_rows}
+use Rattle.hub_core.specs.Shapes.{is_allowed}
+use Rattle.hub_core.proofs.NewFacts.{fresh_stocks, given_none, has_each, left_of_jobs, left_of_results, no_rows, ring_of, same_ends, small}
+use Rattle.hub_core.proofs.hub.Hub.new.Goals as goal
+
+pub invariant_of-deliverer : goal.invariant_of-deliverer
+invariant_of-deliverer g c =
+    let few = small c.args.shape (search rules) in
+    let j = left_of_jobs _ _ _ c.args.shape.lanes c.args.shape.workers few.0 few.1 c.in_ok-jobs.ensures.3 c.in_ok-lanes.ensures.left.1 c.in_ok-workers.ensures.jobs.1 in
+    let r = left_of_results _ _ c.args.shape.workers few.1 c.in_ok-results.ensures.3 c.in_ok-workers.ensures.results.1 in
+    record {
+      idle_at_jobs = (j.0, j.1);
+      parts = (j.2, r.2);
+      collects_only = r.0;
+      stocks = fresh_stocks c.from.result c.from-capacity.result c.in_ok-lanes.rings.items c.in_ok-deliverer.deliverer _ c.in_ok-deliverer.ensures (c.in_ok-lanes.ensures.rings.0 ∙ sym c.from.ensures) c.in_ok-lanes.ensures.rings.1 r.1;
+    }
+
+pub returns-clause-seats : goal.returns-clause-seats
+returns-clause-seats g c =
+    let few = small c.args.shape (search rules) in
+    let j = left_of_jobs _ _ _ c.args.shape.lanes c.args.shape.workers few.0 few.1 c.in_ok-jobs.ensures.3 c.in_ok-lanes.ensures.left.1 c.in_ok-workers.ensures.jobs.1 in
+    let r = left_of_results _ _ c.args.shape.workers few.1 c.in_ok-results.ensures.3 c.in_ok-workers.ensures.results.1 in
+    let rings = c.in_ok-lanes.ensures.rings in
+    let made = ap (λ v. v.items) c.of.ensures in
+    record {
+      lanes = λ k d less.
+          let p = c.in_ok-lanes.ensures.seats k d less in
+          let q = c.in_ok-lanes.ensures.paired k d less in
+          record {
+            pass = p.0;
+            ring = ring_of _ c.in_ok-lanes.rings.items (get_or c.in_ok-lanes.lanes.items k d) made q;
+            lane = omega (arith, q.0, rings.0);
+            limit = (let n = ap length p.1.0 in omega arith);
+            rows = no_rows _ c.args.year _ p.1.0;
+          };
+      workers = λ k d less. let p = c.in_ok-workers.ensures.seats k d less in record { takes = p.0; posts = p.1 };
+      deliverer = record {
+        jobs = c.in_ok-workers.ensures.jobs.0;
+        results = c.in_ok-workers.ensures.results.0;
+        rings = same_ends _ c.in_ok-lanes.rings.items made;
+        lanes = ap (λ (e : Desk). length e.nexts) c.in_ok-deliverer.ensures ∙ (length-replicate c.from.result 0 ∙ c.from.ensures);
+        parts_of_jobs = j.3;
+        parts_of_results = r.3;
+      };
+      each_lane = has_each c.args.shape.lanes _ c.in_ok-lanes.ensures.lanes;
+      each_worker = c.in_ok-workers.ensures.count;
+    }
+
+pub returns-clause-unused : goal.returns-clause-unused
+returns-clause-unused g c =
+    let few = small c.args.shape (search rules) in
+    let r = left_of_results _ _ c.args.shape.workers few.1 c.in_ok-results.ensures.3 c.in_ok-workers.ensures.results.1 in
+    record {
+      lanes = λ k d less. (c.in_ok-lanes.ensures.seats k d less).1;
+      workers = λ k d less. (c.in_ok-workers.ensures.seats k d less).2;
+      none_collected = r.1;
+      empty_hand = refl;
+      none_handed = λ l. given_none c.from-capacity.result c.in_ok-lanes.rings.items l c.in_ok-lanes.ensures.rings.1;
+    }

@@ -1,0 +1,37 @@
+use Rattle.std.proofs.Common.{rules, ◌≡◌, ◌-◌, List, ◌∷◌, [], length, length-append, subst, ap, arith, sym, ◌∙◌}
+use Rattle.std.specs.List.{All}
+use Rattle.std.proofs.lemmas.List.Elements.{All-push}
+use Rattle.crossbeam_queue.specs.Passes.{view, Pass, IsPassOf}
+use Rattle.rtrb.specs.Ring.{IsPair}
+use Rattle.lane_core.specs.declared.job.Plain.{Plain}
+use Rattle.hub_core.specs.declared.rule.Trace.{Trace}
+use Rattle.hub_core.specs.declared.lane_seat.LaneSeat.{LaneSeat}
+use Rattle.hub_core.specs.Fresh.{HasDoneNothing, IsPairedIn, IsUnsent}
+use Rattle.hub_core.specs.Rings.{PopEnd, PushEnd}
+use Rattle.hub_core.proofs.RuleFacts.{forks}
+use Rattle.hub_core.proofs.PartFacts.{cut_more, lanes_more, paired_more}
+use Rattle.hub_core.proofs.parts.make_lanes.Goals as goal
+
+pub another-pass-requires-clause-rule : goal.another-pass-requires-clause-rule
+another-pass-requires-clause-rule c = forks _ _ (let e = ap (λ (v : Trace). v.parts) c.loop-lane.invariant.left in omega arith)
+
+pub loop-lane-preserved : goal.loop-lane-preserved
+loop-lane-preserved c =
+    let seat = c.lane_seat-seat.result in
+    let made = c.lane_seat-seat.ensures in
+    let inv = c.loop-lane.invariant in
+    let new = c.in_ok-producer.ensures in
+    let pair : IsPair c.in_ok-producer.producer seat.ring = subst (λ (r : PopEnd). IsPair c.in_ok-producer.producer r) (sym made.2) new.pair in
+    let p = paired_more c.loop-lane.rings.items c.loop-lane.seats.items c.in_ok-producer.producer seat inv.paired (made.0 ∙ sym inv.count) pair in
+    let q = c.another-pass.ensures in
+    record {
+      of_jobs = search rules;
+      left = q.rule.0 ∙ cut_more (view c.args.all_jobs.now) (view c.loop-lane.all_jobs) c.loop-lane.lane inv.left;
+      lanes = lanes_more c.loop-lane.seats.items c.push_reserved.new.self.items seat c.loop-lane.lane inv.lanes c.push_reserved.ensures.items made.0;
+      seats = subst (λ (l : List LaneSeat). All (λ (s : LaneSeat). IsPassOf c.args.jobs.now s.pass × HasDoneNothing s) l) (sym c.push_reserved.ensures.items)
+          (All-push (λ (s : LaneSeat). IsPassOf c.args.jobs.now s.pass × HasDoneNothing s) c.loop-lane.seats.items seat inv.seats (search rules));
+      count = ap length c.push_reserved-in-loop-lane.ensures.items ∙ omega (arith, length-append c.loop-lane.rings.items (c.in_ok-producer.producer ∷ []));
+      filled = search rules;
+      unsent = subst (λ (l : List PushEnd). All (IsUnsent c.args.capacity) l) (sym c.push_reserved-in-loop-lane.ensures.items) (All-push (IsUnsent c.args.capacity) c.loop-lane.rings.items c.in_ok-producer.producer inv.unsent (new.producer.0, new.producer.2));
+      paired = subst (λ (x : List PushEnd × List LaneSeat). All (IsPairedIn x.0) x.1) (λ i. (sym c.push_reserved-in-loop-lane.ensures.items i, sym c.push_reserved.ensures.items i)) p;
+    }

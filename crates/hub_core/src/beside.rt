@@ -1,0 +1,159 @@
+//! A thread for each worker's seat.
+ghost use Rattle.std.specs.Prelude.{◌≡◌, ◌≢◌, [], ◌≤◌, ◌<◌, All, IfOk, IfErr, ◌+◌, true, vec_len, vec_capacity};
+ghost use Rattle.hub_core.specs.Hubs.{IsWorkerOf};
+
+use crate::fault::ServeFault;
+use crate::gate::Gate;
+use crate::hub::Hub;
+use crate::idle::{ASLEEP, Idle};
+use crate::worker_seat::{Worked, WorkerSeat};
+use std::alloc::Global;
+use std::sync::Wait;
+use std::sync::atomic::{AtomicU64, Ordering};
+use std::thread;
+use std::thread::{Promise, PromisedHandle, Scope, Threads};
+
+/// The value of the word that tells workers to stop.
+const TOLD: u64 = 1;
+
+/// A worker's seat comes back as one of this hub.
+#[derive(Clone, Copy)]
+struct OfHub<'a>(&'a Hub);
+
+impl<'a> Promise<WorkerSeat> for OfHub<'a> {
+    ghost use Rattle.hub_core.specs.Hubs.{IsWorkerOf};
+
+    ghost kept_by = { λ p r. IsWorkerOf p.0.now r };
+}
+
+/// Works until it is told to stop and then finds nothing to do.
+fn run_worker<R: Wait, G: Gate>(
+    rt: &R,
+    hub: &Hub,
+    seat: WorkerSeat,
+    stop: &AtomicU64,
+    gate: &G,
+) -> WorkerSeat
+    requires { IsWorkerOf hub.now seat }
+    ensures { IsWorkerOf hub.now result }
+{
+    let mut seat = seat;
+    let mut idle = Idle::new();
+    for _ in rt.forever() {
+        let told = stop.load(Ordering::SeqCst) != ASLEEP;
+        if hub.work(rt, &mut seat, gate) == Worked::Posted {
+            idle.busy();
+        } else if told {
+            break;
+        } else {
+            idle.rest(rt, stop);
+        }
+    }
+    seat
+}
+
+/// Tells all workers to stop, those too that sleep.
+fn tell_to_stop(stop: &AtomicU64) {
+    stop.store(TOLD, Ordering::SeqCst);
+    stop.wake_all();
+}
+
+/// Joins all threads.
+fn join_all<'a>(
+    rt: &impl Threads,
+    hub: &'a Hub,
+    back: &mut Vec<WorkerSeat>,
+    handles: Vec<PromisedHandle<WorkerSeat, OfHub<'a>>>,
+)
+    requires of_hub { All (IsWorkerOf hub.now) back.old.items × All (λ h. h.promise.0.now ≡ hub.now) handles.items }
+    requires room { vec_len back.old + vec_len handles ≤ vec_capacity back.old }
+    ensures seats { All (IsWorkerOf hub.now) back.new.items }
+    ensures count { vec_len back.new ≡ vec_len back.old + vec_len handles.entry }
+{
+    for handle in handles {
+        back.push_reserved(handle.join(rt));
+    }
+}
+
+/// Starts a thread for each worker. False where one could not be started.
+fn start_all<'s, 'e: 's, R: Threads + Wait + Sync, G: Gate + Sync>(
+    rt: &'e R,
+    hub: &'e Hub,
+    scope: &'s Scope<'s, &'e ()>,
+    seats: Vec<WorkerSeat>,
+    stop: &'e AtomicU64,
+    gate: &'e G,
+    handles: &mut Vec<PromisedHandle<WorkerSeat, OfHub<'e>>>,
+) -> bool
+    requires of_hub { All (IsWorkerOf hub.now) seats.items × All (λ h. h.promise.0.now ≡ hub.now) handles.old.items }
+    requires room { vec_len handles.old + vec_len seats ≤ vec_capacity handles.old }
+    ensures of_hub { All (λ h. h.promise.0.now ≡ hub.entry.now) handles.new.items }
+    ensures count { (vec_len handles.new ≤ vec_len handles.old + vec_len seats) × (result ≡ true → vec_len handles.new ≡ vec_len handles.old + vec_len seats) }
+{
+    for seat in seats {
+        let started = scope.spawn_with(
+            OfHub(hub),
+            move || -> WorkerSeat
+                requires { IsWorkerOf hub.now seat }
+                ensures { IsWorkerOf hub.entry.now result }
+            { run_worker(rt, hub, seat, stop, gate) },
+        );
+        match started {
+            Ok(handle) => handles.push_reserved(handle),
+            Err(_) => return false,
+        }
+    }
+    true
+}
+
+/// Runs the workers beside a task of the calling thread.
+pub(crate) fn beside<
+    'e,
+    R: Threads + Wait + Sync,
+    G: Gate + Sync,
+    F: FnOnce() -> T + Drop,
+    T: Drop,
+>(
+    rt: &'e R,
+    alloc: Global,
+    hub: &'e Hub,
+    seats: Vec<WorkerSeat>,
+    gate: &'e G,
+    task: F,
+) -> Result<(Vec<WorkerSeat>, T), ServeFault>
+    requires { All (IsWorkerOf hub.now) seats.items × F.pre task }
+    ensures seats { IfOk result (λ v. All (IsWorkerOf hub.now) v.0.items × (vec_len v.0 ≡ vec_len seats)) }
+    ensures task { IfOk result (λ v. F.post task v.1) }
+    ensures refused { IfErr result (λ e. e ≢ ServeFault.BadCount) }
+{
+    let flag = AtomicU64::new(ASLEEP);
+    let stop = &flag;
+    let count = seats.len();
+    let Ok(mut back) = Vec::with_capacity(alloc, count) else {
+        return Err(ServeFault::NoMemory);
+    };
+    thread::scope(
+        thread::scope_env(),
+        rt,
+        |scope| -> Result<(Vec<WorkerSeat>, T), ServeFault>
+            requires { All (IsWorkerOf hub.now) seats.items × F.pre task × (back.items ≡ []) × (vec_len back ≡ 0) × (vec_capacity back ≡ vec_len seats) }
+            ensures seats { IfOk result (λ v. All (IsWorkerOf hub.entry.now) v.0.items × (vec_len v.0 ≡ vec_len seats)) }
+            ensures task { IfOk result (λ v. F.post task v.1) }
+            ensures refused { IfErr result (λ e. e ≢ ServeFault.BadCount) }
+        {
+            let Ok(mut handles) = Vec::with_capacity(alloc, seats.len()) else {
+                return Err(ServeFault::NoMemory);
+            };
+            let started = start_all(rt, hub, scope, seats, stop, gate, &mut handles);
+            if !started {
+                tell_to_stop(stop);
+                join_all(rt, hub, &mut back, handles);
+                return Err(ServeFault::NoThread);
+            }
+            let done = task();
+            tell_to_stop(stop);
+            join_all(rt, hub, &mut back, handles);
+            Ok((back, done))
+        },
+    )
+}

@@ -1,0 +1,105 @@
+//! A lane that is served: its seat, the rows that it has not submitted, and what it has polled.
+ghost use Rattle.std.specs.Prelude.{◌≡◌, ◌+◌, ◌≤◌, vec_len, vec_capacity};
+ghost use Rattle.hub_core.specs.Lanes.{issued_of, polled};
+
+use crate::fault::SubmitFault;
+use crate::hub::Hub;
+use crate::lane_seat::LaneSeat;
+use lane_core::Delivery;
+use scan_core::Runs;
+use std::sync::Wait;
+
+/// How many rows a lane submits, or polls, before it is the next lane's turn.
+const RUN: u32 = 64;
+
+/// How many rows of a lane may be under way, so that few answers wait for one that is late.
+const MOST_UNDER_WAY: u32 = 1_024;
+
+/// A lane's seat, the rows that it has not submitted, the last first, and what it has polled, in a
+/// list with room for all its rows.
+#[derive(Drop)]
+pub(crate) struct Feed {
+    pub(crate) seat: LaneSeat,
+    pub(crate) rows: Vec<Runs>,
+    pub(crate) list: Vec<Delivery>,
+    ghost listed: { list.items ≡ polled seat },
+    ghost room: { issued_of seat + vec_len rows ≤ vec_capacity list },
+}
+
+impl Feed {
+    ghost use Rattle.std.specs.Prelude.{◌≡◌, [], true};
+    ghost use Rattle.hub_core.specs.Feeds.{IsDone, IsFeedOf, IsSameFeed};
+    ghost use Rattle.hub_core.specs.declared.hub.Hub.{Hub};
+
+    /// Submits the next row, where there is one, few are under way, and the queue of jobs has room.
+    fn submit_next<R: Wait>(&mut self, rt: &R, hub: &Hub) -> bool
+        requires { IsFeedOf hub.now self.old }
+        ensures of_hub { IsFeedOf hub.now self.new }
+        ensures same { IsSameFeed self.old self.new }
+    {
+        if self.seat.issued - self.seat.polled >= MOST_UNDER_WAY {
+            return false;
+        }
+        let Some(row) = self.rows.pop() else {
+            return false;
+        };
+        match hub.submit(rt, &mut self.seat, row) {
+            Ok(_) => true,
+            Err(SubmitFault::Full(row)) => {
+                self.rows.push_reserved(row);
+                false
+            }
+            Err(SubmitFault::Spent(_)) => unreachable!(),
+        }
+    }
+
+    /// Polls the next delivery, where it is seen.
+    fn poll_next(&mut self) -> bool
+        ensures of_hub { (h : Hub) → IsFeedOf h self.old → IsFeedOf h self.new }
+        ensures same { IsSameFeed self.old self.new }
+    {
+        let Some(delivery) = self.seat.poll() else {
+            return false;
+        };
+        self.list.push_reserved(delivery);
+        true
+    }
+
+    /// Submits the next rows, as far as it can. Answers whether there was one.
+    pub(crate) fn submit_rows<R: Wait>(&mut self, rt: &R, hub: &Hub) -> bool
+        requires { IsFeedOf hub.now self.old }
+        ensures of_hub { IsFeedOf hub.now self.new }
+        ensures same { IsSameFeed self.old self.new }
+    {
+        let mut any = false;
+        for _i in 0..RUN {
+            if !self.submit_next(rt, hub) {
+                break;
+            }
+            any = true;
+        }
+        any
+    }
+
+    /// Polls the next deliveries, as many as are seen. Answers whether there was one.
+    pub(crate) fn poll_all(&mut self) -> bool
+        ensures of_hub { (h : Hub) → IsFeedOf h self.old → IsFeedOf h self.new }
+        ensures same { IsSameFeed self.old self.new }
+    {
+        let mut any = false;
+        for _i in 0..RUN {
+            if !self.poll_next() {
+                break;
+            }
+            any = true;
+        }
+        any
+    }
+
+    /// Whether each row was submitted and its delivery polled.
+    pub(crate) fn is_done(&self) -> bool
+        ensures { result ≡ true → IsDone self.now }
+    {
+        self.rows.is_empty() && self.seat.polled == self.seat.issued
+    }
+}
