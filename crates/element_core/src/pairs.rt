@@ -7,7 +7,7 @@ ghost use Rattle.element_core.specs.Pairs.{entry_of, entries_of, entry_fault, en
 use crate::family::family_at;
 use crate::fault::ElementFault;
 use crate::text::Text;
-use crate::value::{greatest_length, least_length, value_fault};
+use crate::value::row_fault;
 use crate::year::Year;
 
 /// An AI and a value, which need not belong together.
@@ -31,10 +31,7 @@ fn pair_fault(year: Year, i: usize, pair: &Pair) -> Option<ElementFault>
     if ai.len() != family.least.len() {
         return Some(ElementFault::UnknownAi(i));
     }
-    if value.len() < least_length(&family) || greatest_length(&family) < value.len() {
-        return Some(ElementFault::ValueLength(i));
-    }
-    value_fault(year, i, &family, value)
+    row_fault(year, i, ElementFault::ValueLength(i), &family, value)
 }
 
 /// The fault of the first faulty pair.

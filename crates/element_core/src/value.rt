@@ -1,10 +1,10 @@
 //! The tests of an element's value.
 
-ghost use Rattle.std.specs.Prelude.{◌≡◌, ◌≤◌, length, take, drop};
-ghost use Rattle.element_core.specs.Elements.{belongs, has_characters, has_check_digit, has_date, each_part, value_fault};
+ghost use Rattle.std.specs.Prelude.{◌≡◌, ◌≤◌, [], length, take, drop};
+ghost use Rattle.element_core.specs.Elements.{belongs, has_characters, has_check_digit, has_date, each_part, row_fault, value_fault};
 ghost use Rattle.digits_core.specs.Digits.{digits_of, weighted};
 ghost use Rattle.element_core.specs.Table.{least_of, greatest_of};
-ghost use Rattle.element_core.specs.Families.{parts_of};
+ghost use Rattle.element_core.specs.Families.{parts_of, row_with};
 
 use crate::date::date_of;
 use crate::family::AiFamily;
@@ -127,12 +127,7 @@ fn dates_exist(year: Year, family: &AiFamily, value: &[u8]) -> bool
 }
 
 /// The first test that a value of a right length fails.
-pub(crate) fn value_fault(
-    year: Year,
-    place: usize,
-    family: &AiFamily,
-    value: &[u8],
-) -> Option<ElementFault>
+fn value_fault(year: Year, place: usize, family: &AiFamily, value: &[u8]) -> Option<ElementFault>
     ensures { result ≡ value_fault year place (parts_of family.now) value.now }
 {
     if !characters_right(family, value) {
@@ -148,7 +143,7 @@ pub(crate) fn value_fault(
 }
 
 /// The least number of bytes of a value.
-pub(crate) fn least_length(family: &AiFamily) -> usize
+fn least_length(family: &AiFamily) -> usize
     ensures { result ≡ least_of (parts_of family.now) }
 {
     match &family.second {
@@ -165,4 +160,23 @@ pub(crate) fn greatest_length(family: &AiFamily) -> usize
         Some(part) => family.first.greatest as usize + part.greatest as usize,
         None => family.first.greatest as usize,
     }
+}
+
+/// The first test that a value fails, where `too_long` is the fault of one that is too long.
+pub(crate) fn row_fault(
+    year: Year,
+    place: usize,
+    too_long: ElementFault,
+    family: &AiFamily,
+    value: &[u8],
+) -> Option<ElementFault>
+    ensures { result ≡ row_fault year place too_long (row_with family.now []) value.now }
+{
+    if value.len() < least_length(family) {
+        return Some(ElementFault::ValueLength(place));
+    }
+    if greatest_length(family) < value.len() {
+        return Some(too_long);
+    }
+    value_fault(year, place, family, value)
 }
