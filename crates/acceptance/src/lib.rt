@@ -4,6 +4,8 @@
 #[cfg(test)]
 mod adapters;
 #[cfg(test)]
+mod elements;
+#[cfg(test)]
 mod lanes;
 #[cfg(test)]
 mod serving;

@@ -4,7 +4,7 @@ use Rattle.std.specs.List.{list_all}
 use Rattle.code128_code.specs.declared.code_set.CodeSet.{CodeSet}
 use Rattle.code128_code.specs.declared.code_set.CodeSet.TheVariants.{C}
 use Rattle.code128_code.specs.declared.fault.Code128Fault.{Code128Fault}
-use Rattle.code128_code.specs.Coding.{coded, digits_ahead, is_coded_byte}
+use Rattle.code128_code.specs.Coding.{coded, data_values, digits_ahead, is_coded_byte}
 use Rattle.code128_code.specs.Symbols.{IsCode128Symbol, characters_of, mod103}
 use Rattle.code128_code.specs.Texts.{HasFault, IsGs1Symbol, Says, symbol_text, text_by}
 
@@ -53,6 +53,11 @@ ModulesSay = (start check : ℕ) (values modules text : List ℕ)
 -- the values that are printed for a text say that text
 abbrev pub CodedIsSaid : Type 0
 CodedIsSaid = (text : List ℕ) → IsTrue (list_all is_coded_byte text) → text_by C false (coded true text) ≡ Ok text
+
+-- so the symbol that is printed for a text is the GS1-128 symbol of that text
+abbrev pub PrintedIsSaid : Type 0
+PrintedIsSaid = (text modules : List ℕ) → IsTrue (list_all is_coded_byte text)
+    → IsCode128Symbol 105 (data_values text) (mod103 105 (data_values text)) modules → IsGs1Symbol modules text
 
 -- they are at most as many as the bytes of a text that begins with two digits, as each element string does
 abbrev pub CodedIsShort : Type 0

@@ -20,7 +20,7 @@ pub use drawing::encode;
 pub use fault::{Code128Fault, TooManyCharacters};
 pub use laws::{
     coded_is_said, coded_is_short, measures, modules_say, one_reading, one_way,
-    replaced_is_unchecked, said_is_short, text_or_fault,
+    printed_is_said, replaced_is_unchecked, said_is_short, text_or_fault,
 };
 pub use lookup::character;
 pub use reading::values;
