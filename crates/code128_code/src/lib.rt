@@ -19,8 +19,8 @@ pub use check::check_character;
 pub use drawing::encode;
 pub use fault::{Code128Fault, TooManyCharacters};
 pub use laws::{
-    coded_is_said, coded_is_short, measures, modules_say, one_reading, one_way,
-    printed_is_said, replaced_is_unchecked, said_is_short, text_or_fault,
+    coded_is_said, coded_is_short, measures, modules_say, one_reading, one_way, printed_is_said,
+    replaced_is_unchecked, said_is_short, text_or_fault,
 };
 pub use lookup::character;
 pub use reading::values;

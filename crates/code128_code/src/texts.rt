@@ -2,7 +2,7 @@
 ghost use Rattle.std.specs.Prelude.{◌≡◌, ◌↔◌, ◌+◌, ◌<◌, ◌≤◌, ◌∷◌, ℕ, List, true, false, IfErr, IfOk, IsTrue, OnOk, Err, Ok, length, slice_get, Some};
 ghost use Rattle.arrayvec.specs.ArrayVec.{array_vec_len};
 ghost use Rattle.code128_code.specs.Steps.{all_said};
-ghost use Rattle.code128_code.specs.Texts.{set_of, shifted_byte, symbol_text, text_by};
+ghost use Rattle.code128_code.specs.Texts.{set_of, shifted_byte, symbol_text, text_from};
 
 use crate::check::check_character;
 use crate::code_set::CodeSet;
@@ -85,8 +85,8 @@ fn take(reader: &mut Reader, value: u8) -> Result<(), Code128Fault>
 /// The text of values from a code set on.
 fn text_from(set: CodeSet, values: &[u8]) -> Result<Text, Code128Fault>
     requires { length values.now ≤ 95 }
-    ensures ok { IfOk result (λ text. text_by set false values.now ≡ Ok text.items) }
-    ensures err { IfErr result (λ f. text_by set false values.now ≡ Err f) }
+    ensures ok { IfOk result (λ text. text_from set values.now ≡ Ok text.items) }
+    ensures err { IfErr result (λ f. text_from set values.now ≡ Err f) }
     ensures len { IfOk result (λ text. array_vec_len text ≤ 190) }
 {
     let mut reader = Reader {
