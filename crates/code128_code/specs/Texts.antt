@@ -7,6 +7,7 @@ use Rattle.code128_code.specs.declared.meanings.Meaning.{Meaning}
 use Rattle.code128_code.specs.declared.meanings.Meaning.TheVariants.{Byte, Digits, Latch, Shift, Function}
 use Rattle.code128_code.specs.declared.fault.Code128Fault.{Code128Fault}
 use Rattle.code128_code.specs.declared.fault.Code128Fault.TheVariants as faults
+use Rattle.code128_code.specs.Characters.{code_a, code_b, code_c, fnc1, shift_value, start_a, start_b}
 use Rattle.code128_code.specs.Symbols.{IsCode128Symbol, mod103}
 
 -- ---- one value
@@ -33,23 +34,23 @@ two_digits v = (48 + v / 10) ∷ (48 + v % 10) ∷ []
 abbrev pub meaning : CodeSet → ℕ → Meaning
 meaning A v =
     if nat_lt v 96 then Byte (byte_a v)
-    else if v == 98 then Shift
-    else if v == 99 then Latch C
-    else if v == 100 then Latch B
-    else if v == 102 then Byte 29
+    else if v == shift_value then Shift
+    else if v == code_c then Latch C
+    else if v == code_b then Latch B
+    else if v == fnc1 then Byte 29
     else Function
 meaning B v =
     if nat_lt v 96 then Byte (byte_b v)
-    else if v == 98 then Shift
-    else if v == 99 then Latch C
-    else if v == 101 then Latch A
-    else if v == 102 then Byte 29
+    else if v == shift_value then Shift
+    else if v == code_c then Latch C
+    else if v == code_a then Latch A
+    else if v == fnc1 then Byte 29
     else Function
 meaning C v =
     if nat_lt v 100 then Digits v
-    else if v == 100 then Latch B
-    else if v == 101 then Latch A
-    else if v == 102 then Byte 29
+    else if v == code_b then Latch B
+    else if v == code_a then Latch A
+    else if v == fnc1 then Byte 29
     else Function
 
 -- ---- lists of values
@@ -79,12 +80,12 @@ text_from set (v ∷ w ∷ values) =
 
 -- the code set of a start character: A, B and C are 103, 104 and 105
 abbrev pub set_of : ℕ → CodeSet
-set_of start = if start == 103 then A else if start == 104 then B else C
+set_of start = if start == start_a then A else if start == start_b then B else C
 
 -- the text of the data values of a symbol, the first of which is FNC1 in a GS1-128 symbol
 abbrev pub gs1_text : CodeSet → List ℕ → Result (List ℕ) Code128Fault
 gs1_text set [] = Err faults.NotGs1
-gs1_text set (v ∷ values) = if v == 102 then text_from set values else Err faults.NotGs1
+gs1_text set (v ∷ values) = if v == fnc1 then text_from set values else Err faults.NotGs1
 
 -- the text of a symbol with this start character, these data values and this check character, or its first fault
 abbrev pub symbol_text : ℕ → List ℕ → ℕ → Result (List ℕ) Code128Fault
@@ -95,7 +96,7 @@ symbol_text start values check =
 pub record IsGs1Symbol (modules text : List ℕ) : Type 0 where
   pub start : ℕ
   pub values : List ℕ
-  pub symbol : IsCode128Symbol start (102 ∷ values) (mod103 start (102 ∷ values)) modules
+  pub symbol : IsCode128Symbol start (fnc1 ∷ values) (mod103 start (fnc1 ∷ values)) modules
   pub says : text_from (set_of start) values ≡ Ok text
 
 -- ---- the same by whole values, from the left

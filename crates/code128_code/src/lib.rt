@@ -12,6 +12,7 @@ mod lookup;
 mod meanings;
 mod patterns;
 mod reading;
+mod special_values;
 mod symbol_values;
 mod texts;
 

@@ -7,7 +7,8 @@ ghost use Rattle.code128_code.specs.Texts.{set_of, shifted_byte, symbol_text, te
 use crate::check::check_character;
 use crate::code_set::CodeSet;
 use crate::fault::Code128Fault;
-use crate::meanings::{FNC1, Meaning, byte_of_a, meaning_of};
+use crate::meanings::{Meaning, byte_of_a, meaning_of};
+use crate::special_values::{FNC1, START_A, START_B};
 use crate::symbol_values::Values;
 use element_core::Text;
 
@@ -107,9 +108,9 @@ fn text_from(set: CodeSet, values: &[u8]) -> Result<Text, Code128Fault>
 fn start_set(start: u8) -> CodeSet
     ensures { result ≡ set_of start }
 {
-    if start == 103 {
+    if start == START_A {
         CodeSet::A
-    } else if start == 104 {
+    } else if start == START_B {
         CodeSet::B
     } else {
         CodeSet::C
