@@ -19,7 +19,7 @@ entries_of pairs = map entry_of pairs
 abbrev pub entry_fault_by : ℕ → ℕ → Entry → Option Row → Option ElementFault
 entry_fault_by year i e None = Some (UnknownAi i)
 entry_fault_by year i e (Some row) =
-    if not (length e.ai == length row.ai) then Some (UnknownAi i) else row_fault year i (ValueLength i) row e.value
+    if not (length e.ai == length row.ai) then Some (UnknownAi i) else row_fault year i (ValueLength i) row.parts e.value
 
 -- the fault of an entry at an index
 abbrev pub entry_fault : ℕ → ℕ → Entry → Option ElementFault

@@ -3,7 +3,7 @@
 ghost use Rattle.std.specs.Prelude.{◌≡◌, ◌+◌, ◌≤◌, length, take, drop, [], Some, IfOk, IfErr, is_some, ◌<◌};
 ghost use Rattle.element_core.specs.Elements.{Begins, Entry, field_of, fault_at, value_in, after_separator};
 ghost use Rattle.element_core.specs.Table.{predefined_length};
-ghost use Rattle.element_core.specs.Families.{parts_of, family_of, row_with};
+ghost use Rattle.element_core.specs.Families.{family_of, row_with};
 
 use crate::family::{AiFamily, family_at};
 use crate::fault::ElementFault;
@@ -46,10 +46,11 @@ fn skip_separator(text: &[u8]) -> &[u8]
 
 /// How long the value is that stands at the front of the text.
 fn value_length(family: &AiFamily, text: &[u8]) -> usize
+    requires { length family.now.parts.now ≤ 2 }
     ensures { result ≡ length (value_in (row_with family.now []) (field_of text.now)) }
 {
     let field = field_length(text);
-    let greatest = greatest_length(family);
+    let greatest = greatest_length(family.parts);
     if family.predefined && greatest < field {
         greatest
     } else {
@@ -59,6 +60,7 @@ fn value_length(family: &AiFamily, text: &[u8]) -> usize
 
 /// The value at the front of the text, and what is after it.
 fn value_of<'a>(family: &AiFamily, text: &'a [u8]) -> (&'a [u8], &'a [u8])
+    requires { length family.now.parts.now ≤ 2 }
     ensures value { result.0.now ≡ value_in (row_with family.now []) (field_of text.now) }
     ensures after { result.1.now ≡ drop (length result.0.now) text.now }
 {
@@ -83,7 +85,7 @@ pub(crate) fn element_at<'a>(
     let (ai, tail) = text.split_at(family.least.len());
     let (value, after) = value_of(&family, tail);
     let too_long = ElementFault::MissingSeparator(place);
-    if let Some(fault) = row_fault(year, place, too_long, &family, value) {
+    if let Some(fault) = row_fault(year, place, too_long, family.parts, value) {
         return Err(fault);
     }
     let rest = skip_separator(after);
