@@ -45,7 +45,10 @@ fn pairs_are_elements_or_have_a_first_fault(rt: HostRuntime) -> Result<(), Fail>
         (&[("0109", "501101530003")], "refused 5 UnknownAi 0"),
         (&[("10", "AB"), ("03", "1")], "refused 5 UnknownAi 1"),
         (&[("01", "950110153000")], "refused 6 ValueLength 0"),
-        (&[("10", "123456789012345678901")], "refused 6 ValueLength 0"),
+        (
+            &[("10", "123456789012345678901")],
+            "refused 6 ValueLength 0",
+        ),
         (&[("10", "A\x1DB")], "refused 7 ValueCharacter 0"),
         (&[("01", "09501101530004")], "refused 8 ValueCheckDigit 0"),
         (&[("17", "261301")], "refused 9 ValueDate 0"),
