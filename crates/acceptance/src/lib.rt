@@ -2,6 +2,10 @@
 #![tactic(auto)]
 
 #[cfg(test)]
+mod adapters;
+#[cfg(test)]
+mod elements;
+#[cfg(test)]
 mod hubs;
 #[cfg(test)]
 mod lanes;

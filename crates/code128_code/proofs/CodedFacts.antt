@@ -5,21 +5,21 @@ use Rattle.std.proofs.lemmas.Bool.{cases_Bool, and_parts, or_cases, eqb-true, le
 use Rattle.element_core.specs.Elements.{is_digit}
 use Rattle.code128_code.specs.declared.code_set.CodeSet.{CodeSet}
 use Rattle.code128_code.specs.declared.code_set.CodeSet.TheVariants.{B, C}
-use Rattle.code128_code.specs.declared.meanings.Meaning.{Meaning}
 use Rattle.code128_code.specs.declared.meanings.Meaning.TheVariants.{Byte, Digits}
 use Rattle.code128_code.specs.Coding.{coded, digits_ahead, has_even_run, is_coded_byte, pair}
 use Rattle.code128_code.specs.Laws.{CodedIsSaid, CodedIsShort}
-use Rattle.code128_code.specs.Texts.{before, meaning, says, text_by, two_digits}
+use Rattle.code128_code.specs.Texts.{before, meaning, text_from, two_digits}
+use Rattle.code128_code.proofs.SaidFacts.{plain_step}
 
 abbrev set_by : Bool → CodeSet
 set_by true = C
 set_by false = B
 
-say : (s : CodeSet) (v : ℕ) (values : List ℕ) (b : ℕ) (text : List ℕ) → meaning s v ≡ Byte b → text_by s false values ≡ Ok text → text_by s false (v ∷ values) ≡ Ok (b ∷ text)
-say s v values b text e more = ap (λ (m : Meaning). says m s (λ r shift. text_by r shift values)) e ∙ ap (before (b ∷ [])) more
+say : (s : CodeSet) (v : ℕ) (values : List ℕ) (b : ℕ) (text : List ℕ) → meaning s v ≡ Byte b → text_from s values ≡ Ok text → text_from s (v ∷ values) ≡ Ok (b ∷ text)
+say s v values b text e more = plain_step s false v values _ refl e ∙ ap (before (b ∷ [])) more
 
-say_pair : (s : CodeSet) (v : ℕ) (values : List ℕ) (d : ℕ) (text : List ℕ) → meaning s v ≡ Digits d → text_by s false values ≡ Ok text → text_by s false (v ∷ values) ≡ Ok (two_digits d ++ text)
-say_pair s v values d text e more = ap (λ (m : Meaning). says m s (λ r shift. text_by r shift values)) e ∙ ap (before (two_digits d)) more
+say_pair : (s : CodeSet) (v : ℕ) (values : List ℕ) (d : ℕ) (text : List ℕ) → meaning s v ≡ Digits d → text_from s values ≡ Ok text → text_from s (v ∷ values) ≡ Ok (two_digits d ++ text)
+say_pair s v values d text e more = plain_step s false v values _ refl e ∙ ap (before (two_digits d)) more
 
 -- a byte in set B
 pub letter : (b : ℕ) → is_coded_byte b ≡ true → eqb b 29 ≡ false → meaning B (b - 32) ≡ Byte b
@@ -46,7 +46,7 @@ pair_says a b h k =
     let second : 48 + pair a b % 10 ≡ b = omega arith in
     (rw (lt-ltb (pair a b) 100 (omega arith)) refl, rw (first, second) refl)
 
-say_digits : (a b : ℕ) (values text : List ℕ) → is_digit a ≡ true → is_digit b ≡ true → text_by C false values ≡ Ok text → text_by C false (pair a b ∷ values) ≡ Ok (a ∷ b ∷ text)
+say_digits : (a b : ℕ) (values text : List ℕ) → is_digit a ≡ true → is_digit b ≡ true → text_from C values ≡ Ok text → text_from C (pair a b ∷ values) ≡ Ok (a ∷ b ∷ text)
 say_digits a b values text h k more =
     let p = pair_says a b h k in
     say_pair C (pair a b) values (pair a b) text p.0 more ∙ ap (λ (ds : List ℕ). Ok (ds ++ text)) p.1
@@ -66,7 +66,7 @@ two a b text h =
 pub run_is : (a b : ℕ) (text : List ℕ) → has_even_run (a ∷ b ∷ text) ≡ true → 4 ≤ digits_ahead (a ∷ b ∷ text)
 run_is a b text h = leb-true 4 (digits_ahead (a ∷ b ∷ text)) (and_parts _ _ h).0
 
-read : (text : List ℕ) (in_c : Bool) → list_all is_coded_byte text ≡ true → text_by (set_by in_c) false (coded in_c text) ≡ Ok text
+read : (text : List ℕ) (in_c : Bool) → list_all is_coded_byte text ≡ true → text_from (set_by in_c) (coded in_c text) ≡ Ok text
 read [] true h = refl
 read [] false h = refl
 read (b ∷ []) true h =

@@ -8,7 +8,8 @@ use Rattle.code128_code.specs.declared.fault.Code128Fault.TheVariants as faults
 use Rattle.code128_code.specs.declared.meanings.Meaning.{Meaning}
 use Rattle.code128_code.specs.declared.meanings.Meaning.TheVariants.{Byte, Digits, Latch, Shift, Function}
 use Rattle.code128_code.specs.Laws.{SaidIsShort}
-use Rattle.code128_code.specs.Texts.{before, meaning, says, shifted_byte, text_by, two_digits}
+use Rattle.code128_code.specs.Steps.{text_by}
+use Rattle.code128_code.specs.Texts.{before, meaning, says, shifted_byte, two_digits}
 
 -- bytes before bytes before a text
 pub before-before : (xs ys : List ℕ) (r : Result (List ℕ) Code128Fault) → before (xs ++ ys) r ≡ before xs (before ys r)
@@ -28,9 +29,14 @@ pub shifted_step : (set : CodeSet) (shift : Bool) (v : ℕ) (rest : List ℕ) �
 shifted_step set true v rest e h = rw (lt-ltb v 96 h) refl
 shifted_step set false v rest e h = cc
 
+-- a value before those after it
+pub step_is : (set : CodeSet) (v : ℕ) (rest : List ℕ) → text_by set false (v ∷ rest) ≡ says (meaning set v) set (λ next. text_by next false rest) (text_by set true rest)
+step_is set v [] = refl
+step_is set v (w ∷ values) = refl
+
 -- a value that no SHIFT stands before
-pub plain_step : (set : CodeSet) (shift : Bool) (v : ℕ) (rest : List ℕ) (m : Meaning) → shift ≡ false → meaning set v ≡ m → text_by set shift (v ∷ rest) ≡ says m set (λ next shifted. text_by next shifted rest)
-plain_step set false v rest m e h = ap (λ n. says n set (λ next shifted. text_by next shifted rest)) h
+pub plain_step : (set : CodeSet) (shift : Bool) (v : ℕ) (rest : List ℕ) (m : Meaning) → shift ≡ false → meaning set v ≡ m → text_by set shift (v ∷ rest) ≡ says m set (λ next. text_by next false rest) (text_by set true rest)
+plain_step set false v rest m e h = step_is set v rest ∙ ap (λ n. says n set (λ next. text_by next false rest) (text_by set true rest)) h
 plain_step set true v rest m e h = cc
 
 -- ---- at most two bytes for each value
@@ -38,7 +44,7 @@ plain_step set true v rest m e h = cc
 -- what holds of a value by its meaning, where it holds of what follows
 short_says : (m : Meaning) (set : CodeSet) (values text : List ℕ)
     → ((s : CodeSet) (shift : Bool) (t : List ℕ) → text_by s shift values ≡ Ok t → length t ≤ 2 * length values)
-    → says m set (λ next shifted. text_by next shifted values) ≡ Ok text → length text ≤ 2 * (1 + length values)
+    → says m set (λ next. text_by next false values) (text_by set true values) ≡ Ok text → length text ≤ 2 * (1 + length values)
 short_says (Byte b) set values text ih e =
     let p = before-ok (b ∷ []) (text_by set false values) text e in
     let less = ih set false p.0 p.1 in let long = ap length p.2 in omega arith
@@ -52,7 +58,7 @@ short_says Function set values text ih e = cc
 short : (values : List ℕ) (set : CodeSet) (shift : Bool) (text : List ℕ) → text_by set shift values ≡ Ok text → length text ≤ 2 * length values
 short [] set false text e = let h : [] ≡ text = cc in let long = ap length h in omega arith
 short [] set true text e = cc
-short (v ∷ values) set false text e = let less = short_says (meaning set v) set values text (short values) e in omega arith
+short (v ∷ values) set false text e = let less = short_says (meaning set v) set values text (short values) (sym (step_is set v values) ∙ e) in omega arith
 short (v ∷ values) set true text e =
     elim (cases_Bool (nat_lt v 96)) [
       | inl low ↦

@@ -1,10 +1,10 @@
 -- The text of a symbol is that of its modules.
-use Rattle.std.proofs.Common.{◌≡◌, ℕ, false, List, [], ◌∷◌, Ok, Err, refl, sym, ap, ap₂, subst, ◌∙◌, eq-eqb, inl, inr}
+use Rattle.std.proofs.Common.{◌≡◌, ℕ, List, [], ◌∷◌, Ok, Err, refl, sym, ap, ap₂, subst, ◌∙◌, eq-eqb, inl, inr}
 use Rattle.std.proofs.lemmas.Bool.{cases_eq, ne_eqb}
 use Rattle.code128_code.specs.declared.fault.Code128Fault.TheVariants as faults
 use Rattle.code128_code.specs.Laws.{ModulesSay}
 use Rattle.code128_code.specs.Symbols.{IsCode128Symbol, mod103}
-use Rattle.code128_code.specs.Texts.{IsGs1Symbol, gs1_text, set_of, symbol_text, text_by}
+use Rattle.code128_code.specs.Texts.{IsGs1Symbol, gs1_text, set_of, symbol_text, text_from}
 use Rattle.code128_code.proofs.SymbolFacts.{one_reading}
 
 gs1_symbol : (s c : ℕ) (vs ms text : List ℕ) → IsCode128Symbol s vs c ms → c ≡ mod103 s vs → gs1_text (set_of s) vs ≡ Ok text → IsGs1Symbol ms text
@@ -13,7 +13,7 @@ gs1_symbol s c (v ∷ vs) ms text e right h =
     elim (cases_eq v 102) [
       | inl first ↦
           let all : v ∷ vs ≡ 102 ∷ vs = ap (λ n. n ∷ vs) first in
-          let test : gs1_text (set_of s) (v ∷ vs) ≡ text_by (set_of s) false vs = rw (eq-eqb v 102 first) refl in
+          let test : gs1_text (set_of s) (v ∷ vs) ≡ text_from (set_of s) vs = rw (eq-eqb v 102 first) refl in
           record {
             start = s;
             values = vs;
@@ -36,7 +36,7 @@ told : (s c : ℕ) (vs ms text : List ℕ) → IsCode128Symbol s vs c ms → IsG
 told s c vs ms text e g =
     let values : List ℕ = 102 ∷ g.values in
     let same = one_reading s g.start c (mod103 g.start values) vs values ms e g.symbol in
-    let right : symbol_text g.start values (mod103 g.start values) ≡ text_by (set_of g.start) false g.values =
+    let right : symbol_text g.start values (mod103 g.start values) ≡ text_from (set_of g.start) g.values =
     rw (eq-eqb (mod103 g.start values) (mod103 g.start values) refl) refl in
     ap₂ (λ n xs. symbol_text n xs c) same.0 same.1 ∙ ap (symbol_text g.start values) same.2 ∙ right ∙ g.says
 

@@ -8,9 +8,10 @@ use Rattle.code128_code.specs.declared.fault.Code128Fault.TheVariants as faults
 use Rattle.code128_code.specs.declared.meanings.Meaning.{Meaning}
 use Rattle.code128_code.specs.declared.meanings.Meaning.TheVariants.{Byte, Digits, Latch, Shift, Function}
 use Rattle.code128_code.specs.Laws.{TextOrFault}
-use Rattle.code128_code.specs.Texts.{HasFault, Says, before, meaning, says, shifted_byte, text_by, two_digits}
+use Rattle.code128_code.specs.Steps.{text_by}
+use Rattle.code128_code.specs.Texts.{HasFault, Says, before, meaning, says, shifted_byte, two_digits}
 use Rattle.code128_code.specs.Texts.Says.{byte, digits, latch, nothing, shift}
-use Rattle.code128_code.proofs.SaidFacts.{before-before, before-ok, plain_step, shifted_step}
+use Rattle.code128_code.proofs.SaidFacts.{before-before, before-ok, plain_step, shifted_step, step_is}
 
 -- ---- a text
 
@@ -21,7 +22,7 @@ Told true set values text = (u : ℕ) → meaning set u ≡ Shift → (to : Code
 
 told_says : (m : Meaning) (set : CodeSet) (v : ℕ) (values text : List ℕ) → meaning set v ≡ m
     → ((s : CodeSet) (b : Bool) (t : List ℕ) → text_by s b values ≡ Ok t → Told b s values t)
-    → says m set (λ next shifted. text_by next shifted values) ≡ Ok text → (to : CodeSet) × Says set (v ∷ values) text to
+    → says m set (λ next. text_by next false values) (text_by set true values) ≡ Ok text → (to : CodeSet) × Says set (v ∷ values) text to
 told_says (Byte b) set v values text e ih h =
     let p = before-ok (b ∷ []) (text_by set false values) text h in
     let q = ih set false p.0 p.1 in
@@ -37,7 +38,7 @@ told_says Function set v values text e ih h = cc
 told : (values : List ℕ) (set : CodeSet) (b : Bool) (text : List ℕ) → text_by set b values ≡ Ok text → Told b set values text
 told [] set false text e = let h : [] ≡ text = cc in (set, subst (λ t. Says set [] t set) h (nothing set))
 told [] set true text e = cc
-told (v ∷ values) set false text e = told_says (meaning set v) set v values text refl (told values) e
+told (v ∷ values) set false text e = told_says (meaning set v) set v values text refl (told values) (sym (step_is set v values) ∙ e)
 told (w ∷ values) set true text e = λ u m.
     elim (cases_Bool (nat_lt w 96)) [
       | inl low ↦
@@ -88,7 +89,7 @@ before-err bytes (Err g) f e = e
 
 failed_says : (m : Meaning) (set : CodeSet) (v : ℕ) (values : List ℕ) (f : Code128Fault) → meaning set v ≡ m
     → ((s : CodeSet) (b : Bool) (g : Code128Fault) → text_by s b values ≡ Err g → Failed b s values g)
-    → says m set (λ next shifted. text_by next shifted values) ≡ Err f → FailsAt set (v ∷ values) f
+    → says m set (λ next. text_by next false values) (text_by set true values) ≡ Err f → FailsAt set (v ∷ values) f
 failed_says (Byte b) set v values f e ih h =
     let q = ih set false f (before-err (b ∷ []) (text_by set false values) f h) in
     (v ∷ q.0, q.1, b ∷ q.2, q.3, ap (λ vs. v ∷ vs) q.4, byte set q.3 v b q.0 q.2 e q.5, q.6)
@@ -106,7 +107,7 @@ failed_says Function set v values f e ih h =
 failed : (values : List ℕ) (set : CodeSet) (b : Bool) (f : Code128Fault) → text_by set b values ≡ Err f → Failed b set values f
 failed [] set false f e = cc
 failed [] set true f e = λ u m. let is : faults.CodeSet ≡ f = cc in ([], u ∷ [], [], set, refl, nothing set, subst (HasFault set (u ∷ [])) is m)
-failed (v ∷ values) set false f e = failed_says (meaning set v) set v values f refl (failed values) e
+failed (v ∷ values) set false f e = failed_says (meaning set v) set v values f refl (failed values) (sym (step_is set v values) ∙ e)
 failed (w ∷ values) set true f e = λ u m.
     elim (cases_Bool (nat_lt w 96)) [
       | inl low ↦

@@ -22,6 +22,31 @@ patterns =
 abbrev pub six : ℕ → List ℕ
 six n = n / 100000 % 10 ∷ n / 10000 % 10 ∷ n / 1000 % 10 ∷ n / 100 % 10 ∷ n / 10 % 10 ∷ n % 10 ∷ []
 
+-- the values that are no data: SHIFT, the code sets C, B and A, FNC1, and the start characters A, B and C
+abbrev pub shift_value : ℕ
+shift_value = 98
+
+abbrev pub code_c : ℕ
+code_c = 99
+
+abbrev pub code_b : ℕ
+code_b = 100
+
+abbrev pub code_a : ℕ
+code_a = 101
+
+abbrev pub fnc1 : ℕ
+fnc1 = 102
+
+abbrev pub start_a : ℕ
+start_a = 103
+
+abbrev pub start_b : ℕ
+start_b = 104
+
+abbrev pub start_c : ℕ
+start_c = 105
+
 -- the widths of the character of a value
 abbrev pub pattern : ℕ → List ℕ
 pattern v = six (slice_index patterns v)

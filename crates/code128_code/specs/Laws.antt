@@ -1,12 +1,12 @@
 -- What holds of Code 128 symbols whatever reads them.
-use Rattle.std.specs.Prelude.{◌≡◌, ◌≢◌, ◌↔◌, ℕ, ◌+◌, ◌*◌, ◌<◌, ◌≤◌, true, false, List, ◌++◌, length, sum, reverse, slice_index, slice_set, Ok, Err, IsTrue}
+use Rattle.std.specs.Prelude.{◌≡◌, ◌≢◌, ◌↔◌, ℕ, ◌+◌, ◌*◌, ◌<◌, ◌≤◌, true, List, ◌++◌, length, sum, reverse, slice_index, slice_set, Ok, Err, IsTrue}
 use Rattle.std.specs.List.{list_all}
 use Rattle.code128_code.specs.declared.code_set.CodeSet.{CodeSet}
 use Rattle.code128_code.specs.declared.code_set.CodeSet.TheVariants.{C}
 use Rattle.code128_code.specs.declared.fault.Code128Fault.{Code128Fault}
-use Rattle.code128_code.specs.Coding.{coded, digits_ahead, is_coded_byte}
+use Rattle.code128_code.specs.Coding.{coded, data_values, digits_ahead, is_coded_byte}
 use Rattle.code128_code.specs.Symbols.{IsCode128Symbol, characters_of, mod103}
-use Rattle.code128_code.specs.Texts.{HasFault, IsGs1Symbol, Says, symbol_text, text_by}
+use Rattle.code128_code.specs.Texts.{HasFault, IsGs1Symbol, Says, symbol_text, text_from}
 
 -- a symbol has one start character, one list of data values and one check character
 abbrev pub OneReading : Type 0
@@ -52,7 +52,12 @@ ModulesSay = (start check : ℕ) (values modules text : List ℕ)
 
 -- the values that are printed for a text say that text
 abbrev pub CodedIsSaid : Type 0
-CodedIsSaid = (text : List ℕ) → IsTrue (list_all is_coded_byte text) → text_by C false (coded true text) ≡ Ok text
+CodedIsSaid = (text : List ℕ) → IsTrue (list_all is_coded_byte text) → text_from C (coded true text) ≡ Ok text
+
+-- so the symbol that is printed for a text is the GS1-128 symbol of that text
+abbrev pub PrintedIsSaid : Type 0
+PrintedIsSaid = (text modules : List ℕ) → IsTrue (list_all is_coded_byte text)
+    → IsCode128Symbol 105 (data_values text) (mod103 105 (data_values text)) modules → IsGs1Symbol modules text
 
 -- they are at most as many as the bytes of a text that begins with two digits, as each element string does
 abbrev pub CodedIsShort : Type 0
@@ -60,10 +65,10 @@ CodedIsShort = (text : List ℕ) → 2 ≤ digits_ahead text → length (coded t
 
 -- values say at most two bytes each
 abbrev pub SaidIsShort : Type 0
-SaidIsShort = (set : CodeSet) (values text : List ℕ) → text_by set false values ≡ Ok text → length text ≤ 2 * length values
+SaidIsShort = (set : CodeSet) (values text : List ℕ) → text_from set values ≡ Ok text → length text ≤ 2 * length values
 
 -- values have a text exactly where each has a meaning in turn; the fault is that of the first that has none
 pub record TextOrFault (set : CodeSet) (values : List ℕ) : Type 0 where
-  pub text : (text : List ℕ) → (text_by set false values ≡ Ok text) ↔ ((to : CodeSet) × Says set values text to)
-  pub fault : (fault : Code128Fault) → (text_by set false values ≡ Err fault)
+  pub text : (text : List ℕ) → (text_from set values ≡ Ok text) ↔ ((to : CodeSet) × Says set values text to)
+  pub fault : (fault : Code128Fault) → (text_from set values ≡ Err fault)
       ↔ ((front : List ℕ) × (rest : List ℕ) × (said : List ℕ) × (to : CodeSet) × (values ≡ front ++ rest) × Says set front said to × HasFault to rest fault)

@@ -1,12 +1,13 @@
 -- What the values of a Code 128 symbol say in the code sets A, B and C (ISO/IEC 15417, code set tables; GS1 General Specifications, section 5.4).
 -- What is encoded is what is read.
-use Rattle.std.specs.Prelude.{◌≡◌, ℕ, ◌+◌, ◌-◌, ◌/◌, ◌%◌, ◌<◌, ◌≤◌, ◌==◌, Bool, true, false, List, [], ◌∷◌, ◌++◌, Result, Ok, Err, nat_lt, if◌then◌else◌}
+use Rattle.std.specs.Prelude.{◌≡◌, ℕ, ◌+◌, ◌-◌, ◌/◌, ◌%◌, ◌<◌, ◌≤◌, ◌==◌, List, [], ◌∷◌, ◌++◌, Result, Ok, Err, nat_lt, if◌then◌else◌}
 use Rattle.code128_code.specs.declared.code_set.CodeSet.{CodeSet}
 use Rattle.code128_code.specs.declared.code_set.CodeSet.TheVariants.{A, B, C}
 use Rattle.code128_code.specs.declared.meanings.Meaning.{Meaning}
 use Rattle.code128_code.specs.declared.meanings.Meaning.TheVariants.{Byte, Digits, Latch, Shift, Function}
 use Rattle.code128_code.specs.declared.fault.Code128Fault.{Code128Fault}
 use Rattle.code128_code.specs.declared.fault.Code128Fault.TheVariants as faults
+use Rattle.code128_code.specs.Characters.{code_a, code_b, code_c, fnc1, shift_value, start_a, start_b}
 use Rattle.code128_code.specs.Symbols.{IsCode128Symbol, mod103}
 
 -- ---- one value
@@ -33,23 +34,23 @@ two_digits v = (48 + v / 10) ∷ (48 + v % 10) ∷ []
 abbrev pub meaning : CodeSet → ℕ → Meaning
 meaning A v =
     if nat_lt v 96 then Byte (byte_a v)
-    else if v == 98 then Shift
-    else if v == 99 then Latch C
-    else if v == 100 then Latch B
-    else if v == 102 then Byte 29
+    else if v == shift_value then Shift
+    else if v == code_c then Latch C
+    else if v == code_b then Latch B
+    else if v == fnc1 then Byte 29
     else Function
 meaning B v =
     if nat_lt v 96 then Byte (byte_b v)
-    else if v == 98 then Shift
-    else if v == 99 then Latch C
-    else if v == 101 then Latch A
-    else if v == 102 then Byte 29
+    else if v == shift_value then Shift
+    else if v == code_c then Latch C
+    else if v == code_a then Latch A
+    else if v == fnc1 then Byte 29
     else Function
 meaning C v =
     if nat_lt v 100 then Digits v
-    else if v == 100 then Latch B
-    else if v == 101 then Latch A
-    else if v == 102 then Byte 29
+    else if v == code_b then Latch B
+    else if v == code_a then Latch A
+    else if v == fnc1 then Byte 29
     else Function
 
 -- ---- lists of values
@@ -59,32 +60,32 @@ abbrev pub before : List ℕ → Result (List ℕ) Code128Fault → Result (List
 before bytes (Ok text) = Ok (bytes ++ text)
 before bytes (Err fault) = Err fault
 
--- what a value says in a code set before what the values after it say, in their code set and with the first of them shifted or not
-abbrev pub says : Meaning → CodeSet → (CodeSet → Bool → Result (List ℕ) Code128Fault) → Result (List ℕ) Code128Fault
-says (Byte b) set after = before (b ∷ []) (after set false)
-says (Digits v) set after = before (two_digits v) (after set false)
-says (Latch other) set after = after other false
-says Shift set after = after set true
-says Function set after = Err faults.FunctionCharacter
+-- what a value says in a code set: its meaning before what is said after it, in the code set from there on; or else what is said after a SHIFT
+abbrev pub says : Meaning → CodeSet → (CodeSet → Result (List ℕ) Code128Fault) → Result (List ℕ) Code128Fault → Result (List ℕ) Code128Fault
+says (Byte b) set after shifted = before (b ∷ []) (after set)
+says (Digits v) set after shifted = before (two_digits v) (after set)
+says (Latch other) set after shifted = after other
+says Shift set after shifted = shifted
+says Function set after shifted = Err faults.FunctionCharacter
 
--- the text of values from a code set on, the first of them after a SHIFT or not; or the fault of the first value that has no meaning there
-abbrev pub text_by : CodeSet → Bool → List ℕ → Result (List ℕ) Code128Fault
-text_by set false [] = Ok []
-text_by set true [] = Err faults.CodeSet
-text_by set false (v ∷ values) = says (meaning set v) set (λ next shifted. text_by next shifted values)
-text_by set true (v ∷ values) =
-    if nat_lt v 96 then before (shifted_byte set v ∷ []) (text_by set false values) else Err faults.CodeSet
+-- the text of values from a code set on, or the fault of the first that has no meaning there; a SHIFT takes the value after it, 0 to 95
+abbrev pub text_from : CodeSet → List ℕ → Result (List ℕ) Code128Fault
+text_from set [] = Ok []
+text_from set (v ∷ []) = says (meaning set v) set (λ next. Ok []) (Err faults.CodeSet)
+text_from set (v ∷ w ∷ values) =
+    says (meaning set v) set (λ next. text_from next (w ∷ values))
+    (if nat_lt w 96 then before (shifted_byte set w ∷ []) (text_from set values) else Err faults.CodeSet)
 
 -- ---- symbols
 
 -- the code set of a start character: A, B and C are 103, 104 and 105
 abbrev pub set_of : ℕ → CodeSet
-set_of start = if start == 103 then A else if start == 104 then B else C
+set_of start = if start == start_a then A else if start == start_b then B else C
 
 -- the text of the data values of a symbol, the first of which is FNC1 in a GS1-128 symbol
 abbrev pub gs1_text : CodeSet → List ℕ → Result (List ℕ) Code128Fault
 gs1_text set [] = Err faults.NotGs1
-gs1_text set (v ∷ values) = if v == 102 then text_by set false values else Err faults.NotGs1
+gs1_text set (v ∷ values) = if v == fnc1 then text_from set values else Err faults.NotGs1
 
 -- the text of a symbol with this start character, these data values and this check character, or its first fault
 abbrev pub symbol_text : ℕ → List ℕ → ℕ → Result (List ℕ) Code128Fault
@@ -95,8 +96,8 @@ symbol_text start values check =
 pub record IsGs1Symbol (modules text : List ℕ) : Type 0 where
   pub start : ℕ
   pub values : List ℕ
-  pub symbol : IsCode128Symbol start (102 ∷ values) (mod103 start (102 ∷ values)) modules
-  pub says : text_by (set_of start) false values ≡ Ok text
+  pub symbol : IsCode128Symbol start (fnc1 ∷ values) (mod103 start (fnc1 ∷ values)) modules
+  pub says : text_from (set_of start) values ≡ Ok text
 
 -- ---- the same by whole values, from the left
 

@@ -5,14 +5,9 @@ ghost use Rattle.arrayvec.specs.ArrayVec.{array_vec_len};
 ghost use Rattle.code128_code.specs.Coding.{data_values, digits_ahead, has_even_run, is_coded_byte, pair};
 ghost use Rattle.code128_code.specs.Steps.{all_coded};
 
-use crate::meanings::{FNC1, SEPARATOR};
+use crate::meanings::SEPARATOR;
+use crate::special_values::{CODE_B, CODE_C, FNC1};
 use arrayvec::ArrayVec;
-
-/// The value that changes from code set C to B.
-const CODE_B: u8 = 100;
-
-/// The value that changes from code set B to C.
-const CODE_C: u8 = 99;
 
 /// What was coded of a text so far.
 #[derive(Drop)]

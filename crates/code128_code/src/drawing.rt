@@ -9,12 +9,10 @@ use crate::check::check_character;
 use crate::coding::values_of;
 use crate::fault::TooManyCharacters;
 use crate::patterns::{push_character, push_characters, push_stop};
+use crate::special_values::START_C;
 use arrayvec::ArrayVec;
 use ean_code::Modules;
 use element_core::Elements;
-
-/// The start character of code set C.
-const START_C: u8 = 105;
 
 /// The symbol of a start character, data values and a check character.
 fn symbol(start: u8, values: &[u8], check: u8) -> Modules

@@ -1,6 +1,6 @@
 //! Laws of the definitions: each function does nothing, and its contract is the law.
 ghost use Rattle.std.specs.Prelude.{List, ℕ};
-ghost use Rattle.code128_code.specs.Laws.{CodedIsSaid, CodedIsShort, Measures, ModulesSay, OneReading, OneWay, ReplacedIsUnchecked, SaidIsShort, TextOrFault};
+ghost use Rattle.code128_code.specs.Laws.{CodedIsSaid, CodedIsShort, Measures, ModulesSay, OneReading, OneWay, PrintedIsSaid, ReplacedIsUnchecked, SaidIsShort, TextOrFault};
 ghost use Rattle.code128_code.specs.declared.code_set.CodeSet.{CodeSet};
 
 /// A symbol has one start character, one list of data values and one check character.
@@ -33,6 +33,11 @@ pub fn modules_say()
 /// The values that are printed for a text say that text.
 pub fn coded_is_said()
     ensures { CodedIsSaid }
+{}
+
+/// The symbol that is printed for a text is the GS1-128 symbol of that text.
+pub fn printed_is_said()
+    ensures { PrintedIsSaid }
 {}
 
 /// The values that are printed for an element string are at most as many as its bytes.

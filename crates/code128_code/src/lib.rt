@@ -12,6 +12,7 @@ mod lookup;
 mod meanings;
 mod patterns;
 mod reading;
+mod special_values;
 mod symbol_values;
 mod texts;
 
@@ -19,7 +20,7 @@ pub use check::check_character;
 pub use drawing::encode;
 pub use fault::{Code128Fault, TooManyCharacters};
 pub use laws::{
-    coded_is_said, coded_is_short, measures, modules_say, one_reading, one_way,
+    coded_is_said, coded_is_short, measures, modules_say, one_reading, one_way, printed_is_said,
     replaced_is_unchecked, said_is_short, text_or_fault,
 };
 pub use lookup::character;

@@ -4,9 +4,7 @@ ghost use Rattle.code128_code.specs.Texts.{byte_a, meaning};
 ghost use Rattle.code128_code.specs.declared.code_set.CodeSet.TheVariants.{A, B, C};
 
 use crate::code_set::CodeSet;
-
-/// The value of FNC1 in each code set.
-pub(crate) const FNC1: u8 = 102;
+use crate::special_values::{CODE_A, CODE_B, CODE_C, FNC1, SHIFT};
 
 /// The byte that a GS1-128 symbol says by FNC1 after its first value: the separator, ASCII GS.
 pub(crate) const SEPARATOR: u8 = 29;
@@ -39,11 +37,11 @@ fn meaning_in_a(value: u8) -> Meaning
 {
     if value < 96 {
         Meaning::Byte(byte_of_a(value))
-    } else if value == 98 {
+    } else if value == SHIFT {
         Meaning::Shift
-    } else if value == 99 {
+    } else if value == CODE_C {
         Meaning::Latch(CodeSet::C)
-    } else if value == 100 {
+    } else if value == CODE_B {
         Meaning::Latch(CodeSet::B)
     } else if value == FNC1 {
         Meaning::Byte(SEPARATOR)
@@ -57,11 +55,11 @@ fn meaning_in_b(value: u8) -> Meaning
 {
     if value < 96 {
         Meaning::Byte(value + 32)
-    } else if value == 98 {
+    } else if value == SHIFT {
         Meaning::Shift
-    } else if value == 99 {
+    } else if value == CODE_C {
         Meaning::Latch(CodeSet::C)
-    } else if value == 101 {
+    } else if value == CODE_A {
         Meaning::Latch(CodeSet::A)
     } else if value == FNC1 {
         Meaning::Byte(SEPARATOR)
@@ -75,9 +73,9 @@ fn meaning_in_c(value: u8) -> Meaning
 {
     if value < 100 {
         Meaning::Digits(value)
-    } else if value == 100 {
+    } else if value == CODE_B {
         Meaning::Latch(CodeSet::B)
-    } else if value == 101 {
+    } else if value == CODE_A {
         Meaning::Latch(CodeSet::A)
     } else if value == FNC1 {
         Meaning::Byte(SEPARATOR)

@@ -7,6 +7,7 @@ ghost use Rattle.code128_code.specs.Symbols.{AreValues, IsCode128Symbol};
 
 use crate::lookup::character;
 use crate::patterns::STOP;
+use crate::special_values::{FNC1, START_A};
 use crate::symbol_values::Values;
 use arrayvec::ArrayVec;
 use ean_code::Modules;
@@ -34,7 +35,7 @@ fn start_of(widths: &[u8]) -> Option<u8>
     let Some(value) = value_of(widths) else {
         return None;
     };
-    if value < 103 {
+    if value < START_A {
         return None;
     }
     Some(value)
@@ -50,7 +51,7 @@ fn data_of(widths: &[u8]) -> Option<u8>
     let Some(value) = value_of(widths) else {
         return None;
     };
-    if value > 102 {
+    if value > FNC1 {
         return None;
     }
     Some(value)

@@ -2,12 +2,13 @@
 ghost use Rattle.std.specs.Prelude.{◌≡◌, ◌↔◌, ◌+◌, ◌<◌, ◌≤◌, ◌∷◌, ℕ, List, true, false, IfErr, IfOk, IsTrue, OnOk, Err, Ok, length, slice_get, Some};
 ghost use Rattle.arrayvec.specs.ArrayVec.{array_vec_len};
 ghost use Rattle.code128_code.specs.Steps.{all_said};
-ghost use Rattle.code128_code.specs.Texts.{set_of, shifted_byte, symbol_text, text_by};
+ghost use Rattle.code128_code.specs.Texts.{set_of, shifted_byte, symbol_text, text_from};
 
 use crate::check::check_character;
 use crate::code_set::CodeSet;
 use crate::fault::Code128Fault;
-use crate::meanings::{FNC1, Meaning, byte_of_a, meaning_of};
+use crate::meanings::{Meaning, byte_of_a, meaning_of};
+use crate::special_values::{FNC1, START_A, START_B};
 use crate::symbol_values::Values;
 use element_core::Text;
 
@@ -85,8 +86,8 @@ fn take(reader: &mut Reader, value: u8) -> Result<(), Code128Fault>
 /// The text of values from a code set on.
 fn text_from(set: CodeSet, values: &[u8]) -> Result<Text, Code128Fault>
     requires { length values.now ≤ 95 }
-    ensures ok { IfOk result (λ text. text_by set false values.now ≡ Ok text.items) }
-    ensures err { IfErr result (λ f. text_by set false values.now ≡ Err f) }
+    ensures ok { IfOk result (λ text. text_from set values.now ≡ Ok text.items) }
+    ensures err { IfErr result (λ f. text_from set values.now ≡ Err f) }
     ensures len { IfOk result (λ text. array_vec_len text ≤ 190) }
 {
     let mut reader = Reader {
@@ -107,9 +108,9 @@ fn text_from(set: CodeSet, values: &[u8]) -> Result<Text, Code128Fault>
 fn start_set(start: u8) -> CodeSet
     ensures { result ≡ set_of start }
 {
-    if start == 103 {
+    if start == START_A {
         CodeSet::A
-    } else if start == 104 {
+    } else if start == START_B {
         CodeSet::B
     } else {
         CodeSet::C

@@ -260,7 +260,7 @@ shape_by false true r d check = record { count = refl; last = refl }
 shape_by false false true d check = record { count = refl; last = refl }
 shape_by false false false d check = record { count = refl; last = refl }
 
-expanded_shape : (six : List ℕ) (check : ℕ) → Twelve check (upce_expanded six check)
+pub expanded_shape : (six : List ℕ) (check : ℕ) → Twelve check (upce_expanded six check)
 expanded_shape six check = let d : ℕ → ℕ = slice_index six in shape_by (nat_le (d 5) 2) (d 5 == 3) (d 5 == 4) d check
 
 -- twelve digits, padded, are one number

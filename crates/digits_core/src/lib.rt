@@ -11,7 +11,7 @@ mod upce;
 
 pub use fault::DigitFault;
 pub use gtin::Gtin;
-pub use laws::gtins_are_checked;
+pub use laws::{gtins_are_checked, one_first_spelling};
 pub use payload::check_digit;
 pub use sink::{Sink, ToWriter, write_all};
 pub use source::{Failed, FromReader, InputFault, Source, read_all};

@@ -1,10 +1,11 @@
 //! Writers that tell what they took, and whether they have failed.
-ghost use Rattle.std.specs.Prelude.{◌≡◌, ◌↔◌, ◌<◌, ◌≤◌, ℕ, List, Option, Bool, true, false, length, IfOk, OnOk, OnErr, IsErr};
+ghost use Rattle.std.specs.Prelude.{◌≡◌, ◌↔◌, ◌<◌, ◌≤◌, ℕ, List, Option, Bool, true, false, length, IfOk, OnOk, OnErr, IsErr, IsTrue};
 ghost use Rattle.std.specs.Io.KnownBytes.{Appends, WriteAppends};
 ghost use Rattle.digits_core.specs.Bytes.{TookFront};
 
 use crate::source::Failed;
 use std::io::Write;
+use std::marker::Model;
 
 /// A writer that tells what it took and whether it has failed.
 pub trait Sink {
@@ -14,12 +15,14 @@ pub trait Sink {
     ghost failed: { Self → Bool };
 
     /// Writes a front of the bytes and says how many they are, at least one of a piece that has some.
+    /// After a failure each write is one.
     fn write(&mut self, bytes: &[u8]) -> Result<usize, Failed>
         ensures bound { IfOk result (λ n. n ≤ length bytes.now) }
         ensures some { IfOk result (λ n. 0 < length bytes.now → 0 < n) }
         ensures bytes { WriteAppends (taken self.old) (taken self.new) result bytes.now }
         ensures ok { OnOk result (failed self.new ≡ failed self.old) }
-        ensures err { OnErr result (failed self.new ≡ true) };
+        ensures err { OnErr result (failed self.new ≡ true) }
+        ensures again { IsTrue (failed self.old) → IsErr result };
 }
 
 /// A sink over any writer. An interruption is a failure, and so is a write that takes nothing of a
@@ -30,10 +33,18 @@ pub struct ToWriter<W: Write> {
     has_failed: bool,
 }
 
+impl<W: Write> Model for ToWriter<W> {
+    ghost use Rattle.digits_core.specs.Bytes.{Tracked};
+
+    ghost Value = { Tracked W };
+
+    ghost view = { λ s. record { inner = s.writer; has_failed = s.has_failed } };
+}
+
 impl<W: Write> ToWriter<W> {
     /// A sink that has not failed.
     pub fn new(writer: W) -> ToWriter<W>
-        ensures { result ≡ record { writer = writer; has_failed = false } }
+        ensures { result ≡ record { inner = writer; has_failed = false } }
     {
         ToWriter {
             writer,
@@ -43,7 +54,7 @@ impl<W: Write> ToWriter<W> {
 
     /// The writer.
     pub fn into_inner(self) -> W
-        ensures { result ≡ self.writer }
+        ensures { result ≡ self.inner }
     {
         let ToWriter {
             writer,
@@ -54,7 +65,7 @@ impl<W: Write> ToWriter<W> {
 }
 
 impl<W: Write> Sink for ToWriter<W> {
-    ghost taken = { λ s. W.contents s.writer };
+    ghost taken = { λ s. W.contents s.inner };
 
     ghost failed = { λ s. s.has_failed };
 

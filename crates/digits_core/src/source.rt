@@ -1,10 +1,13 @@
 //! Readers that tell their bytes, and whether they have failed.
-ghost use Rattle.std.specs.Prelude.{◌≡◌, ◌↔◌, ◌≤◌, ℕ, List, Option, Bool, true, false, length, IfOk, OnOk, OnErr, IsErrOf};
+ghost use Rattle.std.specs.Prelude.{◌≡◌, ◌↔◌, ◌≤◌, ℕ, List, Option, Bool, true, false, length, IfOk, OnOk, OnErr, IsErr, IsErrOf, IsTrue, Some};
 ghost use Rattle.std.specs.Io.KnownBytes.{ReadConsumes};
+ghost use Rattle.digits_core.specs.Faults.{input_fault_text};
 ghost use Rattle.digits_core.specs.Bytes.{GaveAll, GaveAtMost, GaveMoreThan};
 
 use std::alloc::Global;
+use std::fmt;
 use std::io::Read;
+use std::marker::Model;
 
 /// A read or a write failed. What it was asked of has failed from then on.
 #[derive(Clone, Copy, Debug, PartialEq, Eq)]
@@ -18,12 +21,13 @@ pub trait Source {
     ghost failed: { Self → Bool };
 
     /// Reads at most as many bytes as `buf` has, into its front, and says how many; 0 into a buffer
-    /// that is not empty is the end. An interruption is a failure.
+    /// that is not empty is the end. An interruption is a failure, and after a failure each read is one.
     fn read(&mut self, buf: &mut [u8]) -> Result<usize, Failed>
         ensures bound { IfOk result (λ n. n ≤ length buf.new) }
         ensures bytes { ReadConsumes (left self.old) (left self.new) result buf.new }
         ensures ok { OnOk result (failed self.new ≡ failed self.old) }
-        ensures err { OnErr result (failed self.new ≡ true) };
+        ensures err { OnErr result (failed self.new ≡ true) }
+        ensures again { IsTrue (failed self.old) → IsErr result };
 }
 
 /// A source over any reader. An interruption is a failure, and a failed one is not read again.
@@ -33,10 +37,18 @@ pub struct FromReader<R: Read> {
     has_failed: bool,
 }
 
+impl<R: Read> Model for FromReader<R> {
+    ghost use Rattle.digits_core.specs.Bytes.{Tracked};
+
+    ghost Value = { Tracked R };
+
+    ghost view = { λ s. record { inner = s.reader; has_failed = s.has_failed } };
+}
+
 impl<R: Read> FromReader<R> {
     /// A source that has not failed.
     pub fn new(reader: R) -> FromReader<R>
-        ensures { result ≡ record { reader = reader; has_failed = false } }
+        ensures { result ≡ record { inner = reader; has_failed = false } }
     {
         FromReader {
             reader,
@@ -46,7 +58,7 @@ impl<R: Read> FromReader<R> {
 }
 
 impl<R: Read> Source for FromReader<R> {
-    ghost left = { λ s. R.remaining s.reader };
+    ghost left = { λ s. R.remaining s.inner };
 
     ghost failed = { λ s. s.has_failed };
 
@@ -76,6 +88,18 @@ pub enum InputFault {
     InputSize,
     /// A growth was refused.
     NoMemory,
+}
+
+impl fmt::Display for InputFault {
+    ghost output = { λ fault. Some (input_fault_text fault) };
+
+    fn fmt<W: fmt::Write>(&self, f: &mut fmt::Formatter<W>) -> fmt::Result {
+        match self {
+            InputFault::ReadFault => write!(f, "refused 37 ReadFault"),
+            InputFault::InputSize => write!(f, "refused 44 InputSize"),
+            InputFault::NoMemory => write!(f, "refused 43 NoMemory"),
+        }
+    }
 }
 
 /// All that a source still gives, at most `limit` bytes. The read that goes past the limit is the

@@ -9,6 +9,7 @@ pub mod Options
 pub mod ParityRows
 pub mod Readings
 pub mod Replaced
+pub mod SpelledAnswers
 pub mod Texts
 pub mod Turned
 pub mod TurnedUpce

@@ -3,13 +3,18 @@ use Rattle.std.specs.Prelude.{◌≡◌, ◌≢◌, ◌<◌, ℕ, List, [], ◌�
 use Rattle.std.specs.List.{flat_map}
 use Rattle.digits_core.specs.Digits.{AreDigits, IsChecked}
 use Rattle.ean_code.specs.NumberSets.{four}
-use Rattle.ean_code.specs.Spelling.{IsGtinOf}
+use Rattle.ean_code.specs.declared.reading.Spelled.{Spelled}
+use Rattle.ean_code.specs.Spelling.{IsGtinOf, IsSpelled}
 use Rattle.ean_code.specs.Symbols.{normal_guard, centre_guard, special_guard, Kind, IsCheckedPlace, IsEanSymbol, digit_count, widths_of}
 use Rattle.ean_code.specs.Symbols.Kind.{Ean13, Ean8, UpcE}
 
 -- a symbol shows one list of digits
 abbrev pub OneReading : Type 0
 OneReading = (kind : Kind) (modules ds es : List ℕ) → IsEanSymbol kind modules ds → IsEanSymbol kind modules es → ds ≡ es
+
+-- modules have one answer of a reader
+abbrev pub OneAnswer : Type 0
+OneAnswer = (kind : Kind) (modules : List ℕ) (a b : Spelled) → IsSpelled kind modules a → IsSpelled kind modules b → a ≡ b
 
 -- no symbol of this kind is one of this kind backwards
 abbrev pub OneWay : Kind → Type 0

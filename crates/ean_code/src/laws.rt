@@ -1,10 +1,15 @@
 //! Laws of the symbols, each the contract of a function.
-ghost use Rattle.ean_code.specs.Laws.{OneReading, OneWay, PrintedEan13, PrintedEan8, PrintedUpcE, ReplacedIsUnchecked};
+ghost use Rattle.ean_code.specs.Laws.{OneAnswer, OneReading, OneWay, PrintedEan13, PrintedEan8, PrintedUpcE, ReplacedIsUnchecked};
 ghost use Rattle.ean_code.specs.Symbols.Kind.{Ean13, Ean8, UpcE};
 
 /// A symbol shows one list of digits.
 pub fn one_reading()
     ensures { OneReading }
+{}
+
+/// Modules have at most one answer as symbols of a kind.
+pub fn one_answer()
+    ensures { OneAnswer }
 {}
 
 /// No symbol is one of its kind when it is read backwards.

@@ -10,6 +10,6 @@ mod reading;
 mod rows;
 
 pub use drawing::{ean8, ean13, upce};
-pub use laws::{one_reading, one_way, printed_symbols, replaced_is_unchecked};
+pub use laws::{one_answer, one_reading, one_way, printed_symbols, replaced_is_unchecked};
 pub use modules::Modules;
 pub use reading::{Spelled, read_ean8, read_ean13, read_upce};

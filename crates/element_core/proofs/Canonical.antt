@@ -35,7 +35,7 @@ decided r (Some all) h = sym (and_parts _ _ (and_parts _ _ h).0).0
 pub is_some-predefined_length : (year : ℕ) (row : Row) (e : Entry) → IsElement year row e → is_some (predefined_length e.ai) ≡ row.predefined
 is_some-predefined_length year row e is = ap (λ (a : List ℕ). is_some (predefined_length a)) is.ai ∙ decided row (predefined_length row.ai) (all_at (λ r. first_digits_decide r (predefined_length r.ai)) ai_rows row is.listed digits_decide)
 
-or_true : (b : Bool) → (b || true) ≡ true
+pub or_true : (b : Bool) → (b || true) ≡ true
 or_true true = refl
 or_true false = refl
 

@@ -6,8 +6,8 @@ use Rattle.std.proofs.lemmas.Bool.{cases_Bool, eqb-true, cases_lt, le-leb, lt-le
 use Rattle.std.proofs.lemmas.Bool.Decides.{nat_tests}
 use Rattle.std.proofs.lemmas.List.{length-take-le}
 use Rattle.element_core.specs.declared.family.AiFamily.{AiFamily}
-use Rattle.element_core.specs.Table.{Family, Row, is_short_ai, from, ais, row_in, rows_of, families, ai_rows, begins, row_at}
-use Rattle.element_core.proofs.TableLaws.{each_is_short}
+use Rattle.element_core.specs.Table.{Family, Row, has_few_parts, is_short_ai, from, ais, row_in, rows_of, families, ai_rows, begins, row_at}
+use Rattle.element_core.proofs.TableLaws.{each_has_few_parts, each_is_short}
 use Rattle.element_core.proofs.Look.{all_at, row_is}
 use Rattle.element_core.specs.Families.{family_of, is_in_family, row_with, row_by}
 
@@ -158,3 +158,9 @@ family_short f text e within =
     let row = row_with f text in
     let k = leb-true (length row.ai) 4 (all_at is_short_ai ai_rows row (row_is row text (sym e)).0 each_is_short) in
     omega (arith, length-take-le (length f.least.now) text within)
+
+-- and its values two parts at most
+pub family_few : (f : AiFamily) (text : List ℕ) → Some (row_with f text) ≡ row_at text → length f.parts.now ≤ 2
+family_few f text e =
+    let row = row_with f text in
+    leb-true (length row.parts) 2 (all_at has_few_parts ai_rows row (row_is row text (sym e)).0 each_has_few_parts)

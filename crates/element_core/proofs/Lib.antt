@@ -8,6 +8,7 @@ pub mod FamilyLemmas
 pub mod Growth
 pub mod Total
 pub mod PairLemmas
+pub mod PairFaults
 pub mod Letters
 pub mod DayLemmas
 pub mod PieceLemmas

@@ -1,12 +1,12 @@
 -- Pairs that are elements.
-use Rattle.std.proofs.Common.{◌≡◌, ◌⊎◌, ℕ, ◌+◌, ◌<◌, ◌≤◌, Bool, true, false, eqb, ltb, not, ◌||◌, List, [], ◌∷◌, ◌++◌, length, take, drop, get_or, Option, Some, None, refl, sym, ap, subst, ◌∙◌, append_assoc, arith, inl, inr, length-append, length-drop}
+use Rattle.std.proofs.Common.{◌≡◌, ◌⊎◌, ℕ, ◌+◌, ◌<◌, ◌≤◌, Bool, eqb, not, List, [], ◌∷◌, ◌++◌, length, take, drop, get_or, Option, Some, None, refl, sym, ap, subst, ◌∙◌, append_assoc, arith, inl, inr, length-append, length-drop}
 use Rattle.std.proofs.lemmas.Bool.{eqb-true, le-ltb, lt-ltb, ne_eqb, not-false}
 use Rattle.std.proofs.lemmas.List.{nil_from_length, append-nil, length_push, take-append-drop, drop_more, take_more, map-append}
 use Rattle.element_core.specs.declared.fault.ElementFault.{ElementFault}
 use Rattle.element_core.specs.declared.fault.ElementFault.TheVariants.{UnknownAi, ValueLength, TooLong}
 use Rattle.element_core.specs.declared.pairs.Pair.{Pair}
-use Rattle.element_core.specs.Table.{Row, row_at, least_of, greatest_of}
-use Rattle.element_core.specs.Elements.{Entry, IsElement, IsElements, AreElements, Reads, row_fault, canonical}
+use Rattle.element_core.specs.Table.{Row, row_at}
+use Rattle.element_core.specs.Elements.{Entry, IsElement, IsElements, AreElements, Reads, canonical}
 use Rattle.element_core.specs.Growing.{gap, last_gap}
 use Rattle.element_core.specs.Pairs.{entry_of, entries_of, entry_fault, entry_fault_by, entries_fault, list_fault, or_else}
 use Rattle.element_core.proofs.Look.{begins-split, row_is}
@@ -14,11 +14,7 @@ use Rattle.element_core.proofs.Shown.{passes, no_fault_fits}
 use Rattle.element_core.proofs.Canonical.{canonical_reads}
 use Rattle.element_core.proofs.Growth.{canonical-push, few_elements}
 
-or_parts : (x y : Bool) → (x || y) ≡ false → (x ≡ false) × (y ≡ false)
-or_parts true y e = absurd cc
-or_parts false y e = (refl, e)
-
-seen : {X : Type 0} (o : Option X) → (o ≡ None) ⊎ ((x : X) × (o ≡ Some x))
+pub seen : {X : Type 0} (o : Option X) → (o ≡ None) ⊎ ((x : X) × (o ≡ Some x))
 seen None = inl refl
 seen (Some x) = inr (x, refl)
 
@@ -32,18 +28,13 @@ entry_valid year i e none =
           let r = row_is row e.ai found.1 in
           let k : entry_fault_by year i e (Some row) ≡ None = sym (ap (entry_fault_by year i e) found.1) ∙ none in
           let p = passes (not (eqb (length e.ai) (length row.ai))) (UnknownAi i) _ k in
-          let q = passes (ltb (length e.value) (least_of row.parts) || ltb (greatest_of row.parts) (length e.value)) (ValueLength i) _ p.1 in
-          let lengths = or_parts (ltb (length e.value) (least_of row.parts)) (ltb (greatest_of row.parts) (length e.value)) q.0 in
-          let long = lengths.0 in
-          let short = lengths.1 in
           let same = eqb-true (length e.ai) (length row.ai) (not-false _ p.0) in
-          let whole : row_fault year i row e.value ≡ None = rw (long, short) q.1 in
           let ai = begins-split row.ai e.ai r.1 in
           let nothing : drop (length row.ai) e.ai ≡ [] = nil_from_length (drop (length row.ai) e.ai) (omega (arith, length-drop (length row.ai) e.ai)) in
-          (row, record { listed = r.0; ai = ai ∙ ap (λ (t : List ℕ). row.ai ++ t) nothing ∙ append-nil row.ai; value = no_fault_fits year i row e.value whole })
+          (row, record { listed = r.0; ai = ai ∙ ap (λ (t : List ℕ). row.ai ++ t) nothing ∙ append-nil row.ai; value = no_fault_fits year i (ValueLength i) row e.value p.1 })
     ]
 
-or_else-none : (a b : Option ElementFault) → or_else a b ≡ None → (a ≡ None) × (b ≡ None)
+pub or_else-none : (a b : Option ElementFault) → or_else a b ≡ None → (a ≡ None) × (b ≡ None)
 or_else-none None b e = (refl, e)
 or_else-none (Some f) b e = absurd cc
 

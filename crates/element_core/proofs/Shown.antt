@@ -14,17 +14,17 @@ pub passes : (b : Bool) (f : ElementFault) (x : Option ElementFault) → cond b 
 passes true f x e = absurd cc
 passes false f x e = (refl, e)
 
-fits_no_fault : (year place : ℕ) (row : Row) (v : List ℕ) → IsValue year row.parts v → row_fault year place row v ≡ None
-fits_no_fault year place row v fits =
+pub fits_no_fault : (year place : ℕ) (long : ElementFault) (row : Row) (v : List ℕ) → IsValue year row.parts v → row_fault year place long row.parts v ≡ None
+fits_no_fault year place long row v fits =
     let characters = fits.characters in
     let check_digits = fits.check_digits in
     let dates = fits.dates in
     rw (le-ltb (length v) (least_of row.parts) fits.least, le-ltb (greatest_of row.parts) (length v) fits.greatest, characters, check_digits, dates) refl
 
-pub no_fault_fits : (year place : ℕ) (row : Row) (v : List ℕ) → row_fault year place row v ≡ None → IsValue year row.parts v
-no_fault_fits year place row v e =
+pub no_fault_fits : (year place : ℕ) (long : ElementFault) (row : Row) (v : List ℕ) → row_fault year place long row.parts v ≡ None → IsValue year row.parts v
+no_fault_fits year place long row v e =
     let p = passes (ltb (length v) (least_of row.parts)) (ValueLength place) _ e in
-    let q = passes (ltb (greatest_of row.parts) (length v)) (MissingSeparator place) _ p.1 in
+    let q = passes (ltb (greatest_of row.parts) (length v)) long _ p.1 in
     let r = passes (not (each_part has_characters row.parts v)) (ValueCharacter place) _ q.1 in
     let s = passes (not (each_part has_check_digit row.parts v)) (ValueCheckDigit place) _ r.1 in
     let t = passes (not (each_part (has_date year) row.parts v)) (ValueDate place) _ s.1 in
@@ -68,7 +68,7 @@ shows year e text rest b =
       ai_is = b.element.ai;
       value_is = sym value_is;
       rest_is = b.rest_is ∙ ap after_separator (sym after_is);
-      no_fault = λ place. ap (fault_by year place text) row_is ∙ ap (row_fault year place row) value_is ∙ fits_no_fault year place row e.value fits;
+      no_fault = λ place. ap (fault_by year place text) row_is ∙ ap (row_fault year place (MissingSeparator place) row.parts) value_is ∙ fits_no_fault year place (MissingSeparator place) row e.value fits;
     }
 
 -- a value that is shown stands at the front of what follows the AI
@@ -86,7 +86,7 @@ stands year place row text found none =
     let r = row_listed row text found in
     let tail = drop (length row.ai) text in
     let s = value_splits row tail in
-    let fits = no_fault_fits year place row (shown_value row text) (sym (ap (fault_by year place text) found) ∙ none) in
+    let fits = no_fault_fits year place (MissingSeparator place) row (shown_value row text) (sym (ap (fault_by year place text) found) ∙ none) in
     let after_is : drop (length (shown_value row text)) tail ≡ s.0 = ap (drop (length (shown_value row text))) s.1 ∙ drop_at (shown_value row text) s.0 (length (shown_value row text)) refl in
     record {
       row = row;
@@ -115,12 +115,12 @@ moved year text a b v w r t p q e x =
 
 -- the same, as the code finds it
 pub stands_as : (year place n : ℕ) (row : Row) (text ai tail value rest : List ℕ) → row_at text ≡ Some row → n ≤ length text → row.ai ≡ take n text → ai ≡ take n text → tail ≡ drop n text
-    → value ≡ value_in row (field_of tail) → rest ≡ after_separator (drop (length value) tail) → row_fault year place row value ≡ None → Begins year (record { ai = ai; value = value }) text rest
+    → value ≡ value_in row (field_of tail) → rest ≡ after_separator (drop (length value) tail) → row_fault year place (MissingSeparator place) row.parts value ≡ None → Begins year (record { ai = ai; value = value }) text rest
 stands_as year place n row text ai tail value rest found within row_ai ai_is tail_is value_is rest_is none =
     let len : length row.ai ≡ n = ap length row_ai ∙ length-take-le n text within in
     let left : tail ≡ drop (length row.ai) text = tail_is ∙ ap (λ (k : ℕ). drop k text) (sym len) in
     let shown : value ≡ shown_value row text = value_is ∙ ap (λ (t : List ℕ). value_in row (field_of t)) left in
-    let no_fault : fault_at year place text ≡ None = ap (fault_by year place text) found ∙ ap (row_fault year place row) (sym shown) ∙ none in
+    let no_fault : fault_at year place text ≡ None = ap (fault_by year place text) found ∙ ap (row_fault year place (MissingSeparator place) row.parts) (sym shown) ∙ none in
     let rest_shown : rest ≡ shown_rest row text = rest_is ∙ ap (λ (v : List ℕ). after_separator (drop (length v) tail)) shown ∙ ap (λ (t : List ℕ). after_separator (drop (length (shown_value row text)) t)) left in
     let b = stands year place row text found no_fault in
     moved year text row.ai ai (shown_value row text) value (shown_rest row text) rest (sym (ai_is ∙ sym row_ai)) (sym shown) (sym rest_shown) b

@@ -1,7 +1,7 @@
 -- What is computed over the whole table.
 use Rattle.std.proofs.Common.{◌≡◌, true, [], None, refl}
 use Rattle.std.specs.List.{list_all}
-use Rattle.element_core.specs.Table.{families, ai_rows, NoAiBeginsAnother, FirstDigitsDecide, PartsHaveOneLength, begins_with_digit, is_long_enough, is_short_ai, is_of_digits, row_at}
+use Rattle.element_core.specs.Table.{families, ai_rows, NoAiBeginsAnother, FirstDigitsDecide, PartsHaveOneLength, begins_with_digit, is_long_enough, has_few_parts, is_short_ai, is_of_digits, row_at}
 
 pub no_ai_begins_another : NoAiBeginsAnother
 unfolding families ai_rows
@@ -26,6 +26,10 @@ each_is_long_enough = refl
 pub each_is_short : list_all is_short_ai ai_rows ≡ true
 unfolding families ai_rows
 each_is_short = refl
+
+pub each_has_few_parts : list_all has_few_parts ai_rows ≡ true
+unfolding families ai_rows
+each_has_few_parts = refl
 
 pub each_is_of_digits : list_all is_of_digits ai_rows ≡ true
 unfolding families ai_rows

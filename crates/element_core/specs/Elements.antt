@@ -122,17 +122,17 @@ value_fault year place parts value =
     else if not (each_part (has_date year) parts value) then Some (ValueDate place)
     else None
 
--- the first test that a value of this row fails
-abbrev pub row_fault : ℕ → ℕ → Row → List ℕ → Option ElementFault
-row_fault year place row value =
-    if nat_lt (length value) (least_of row.parts) then Some (ValueLength place)
-    else if nat_lt (greatest_of row.parts) (length value) then Some (MissingSeparator place)
-    else value_fault year place row.parts value
+-- the first test that a value of these parts fails, where this is the fault of one that is too long
+abbrev pub row_fault : ℕ → ℕ → ElementFault → List Part → List ℕ → Option ElementFault
+row_fault year place too_long parts value =
+    if nat_lt (length value) (least_of parts) then Some (ValueLength place)
+    else if nat_lt (greatest_of parts) (length value) then Some too_long
+    else value_fault year place parts value
 
 -- the fault at the beginning of a text, by the row of its AI
 abbrev pub fault_by : ℕ → ℕ → List ℕ → Option Row → Option ElementFault
 fault_by year place text None = Some (UnknownAi place)
-fault_by year place text (Some row) = row_fault year place row (value_in row (field_of (drop (length row.ai) text)))
+fault_by year place text (Some row) = row_fault year place (MissingSeparator place) row.parts (value_in row (field_of (drop (length row.ai) text)))
 
 -- the fault at the beginning of a text, of which the element stands at this place
 abbrev pub fault_at : ℕ → ℕ → List ℕ → Option ElementFault

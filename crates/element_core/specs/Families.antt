@@ -1,16 +1,11 @@
 -- Families of AIs as the code keeps them.
-use Rattle.std.specs.Prelude.{ℕ, Bool, true, false, ◌&&◌, List, [], ◌∷◌, length, take, nat_le, Option, Some, None, option_to_list, if◌then◌else◌}
+use Rattle.std.specs.Prelude.{ℕ, Bool, true, false, ◌&&◌, List, [], ◌∷◌, length, take, nat_le, Option, Some, None, if◌then◌else◌}
 use Rattle.element_core.specs.declared.family.AiFamily.{AiFamily}
-use Rattle.element_core.specs.declared.part.Part.{Part}
 use Rattle.element_core.specs.Table.{Family, Row, row_in}
-
--- the parts of a family, one or two
-abbrev pub parts_of : AiFamily → List Part
-parts_of f = f.first ∷ option_to_list f.second
 
 -- the family as the table has it
 abbrev pub family_of : AiFamily → Family
-family_of f = record { least = f.least.now; greatest = f.greatest.now; parts = parts_of f; predefined = f.predefined }
+family_of f = record { least = f.least.now; greatest = f.greatest.now; parts = f.parts.now; predefined = f.predefined }
 
 -- whether the text begins with an AI each of whose digits lies between those of the two
 abbrev pub is_in_family : List ℕ → List ℕ → List ℕ → Bool

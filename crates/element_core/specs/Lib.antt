@@ -7,6 +7,7 @@ pub mod Families
 pub mod Faults
 pub mod Growing
 pub mod Pairs
+pub mod PartTests
 pub mod Pieces
 pub mod Rows
 pub mod Table

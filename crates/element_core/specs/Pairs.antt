@@ -1,10 +1,11 @@
 -- Elements that are given as pairs.
-use Rattle.std.specs.Prelude.{ℕ, ◌+◌, ◌||◌, not, List, [], ◌∷◌, length, map, Option, Some, None, nat_lt, ◌==◌, if◌then◌else◌}
+use Rattle.std.specs.Prelude.{◌≡◌, ◌⊎◌, ◌↔◌, ℕ, ◌+◌, ◌<◌, ◌≤◌, ◌++◌, not, List, [], ◌∷◌, length, map, Option, Some, None, Contains, IsTrue, nat_lt, ◌==◌, if◌then◌else◌}
+use Rattle.std.specs.List.{list_all}
 use Rattle.element_core.specs.declared.fault.ElementFault.{ElementFault}
 use Rattle.element_core.specs.declared.fault.ElementFault.TheVariants.{Empty, UnknownAi, ValueLength, TooLong}
 use Rattle.element_core.specs.declared.pairs.Pair.{Pair}
-use Rattle.element_core.specs.Table.{Row, row_at, least_of, greatest_of}
-use Rattle.element_core.specs.Elements.{Entry, value_fault, canonical}
+use Rattle.element_core.specs.Table.{Row, ai_rows, row_at, least_of, greatest_of}
+use Rattle.element_core.specs.Elements.{Entry, IsElements, row_fault, fault_at, canonical}
 
 -- the entry of a pair
 abbrev pub entry_of : Pair → Entry
@@ -18,9 +19,7 @@ entries_of pairs = map entry_of pairs
 abbrev pub entry_fault_by : ℕ → ℕ → Entry → Option Row → Option ElementFault
 entry_fault_by year i e None = Some (UnknownAi i)
 entry_fault_by year i e (Some row) =
-    if not (length e.ai == length row.ai) then Some (UnknownAi i)
-    else if nat_lt (length e.value) (least_of row.parts) || nat_lt (greatest_of row.parts) (length e.value) then Some (ValueLength i)
-    else value_fault year i row.parts e.value
+    if not (length e.ai == length row.ai) then Some (UnknownAi i) else row_fault year i (ValueLength i) row.parts e.value
 
 -- the fault of an entry at an index
 abbrev pub entry_fault : ℕ → ℕ → Entry → Option ElementFault
@@ -41,3 +40,31 @@ abbrev pub list_fault : ℕ → List Entry → Option ElementFault
 list_fault year es =
     if length es == 0 then Some Empty
     else or_else (entries_fault year 0 es) (if nat_lt 192 (length (canonical es)) then Some TooLong else None)
+
+-- ---- laws
+
+-- pairs have no fault exactly where they are the elements of their canonical text
+abbrev pub FaultlessPairs : Type 0
+FaultlessPairs = (year : ℕ) (es : List Entry) → (list_fault year es ≡ None) ↔ IsElements year (canonical es) es
+
+-- the AI of the entry is exactly that of a row of the table
+pub record HasRow (e : Entry) (row : Row) : Type 0 where
+  pub listed : Contains ai_rows row
+  pub ai : e.ai ≡ row.ai
+
+-- no row has the AI of a pair that is refused for it
+abbrev pub UnknownPairs : Type 0
+UnknownPairs = (year i : ℕ) (e : Entry) → ((row : Row) → HasRow e row → ⊥) → entry_fault year i e ≡ Some (UnknownAi i)
+
+-- a value of a wrong length is refused for it
+abbrev pub PairLengths : Type 0
+PairLengths = (year i : ℕ) (row : Row) (e : Entry) → HasRow e row
+    → (length e.value < least_of row.parts) ⊎ (greatest_of row.parts < length e.value)
+    → entry_fault year i e ≡ Some (ValueLength i)
+
+-- at the right length a pair without a separator in its value has the fault of the text of AI and value
+abbrev pub PairsAsTexts : Type 0
+PairsAsTexts = (year i : ℕ) (row : Row) (e : Entry) → HasRow e row
+    → least_of row.parts ≤ length e.value → length e.value ≤ greatest_of row.parts
+    → IsTrue (list_all (λ b. not (b == 29)) e.value)
+    → entry_fault year i e ≡ fault_at year i (e.ai ++ e.value)

@@ -182,6 +182,10 @@ is_long_enough row = nat_le (if row.predefined then 4 else 3) (length row.ai + l
 abbrev pub is_short_ai : Row → Bool
 is_short_ai row = nat_le (length row.ai) 4
 
+-- a value has two parts at most
+abbrev pub has_few_parts : Row → Bool
+has_few_parts row = nat_le (length row.parts) 2
+
 -- an AI is of digits, two at least
 abbrev pub is_of_digits : Row → Bool
 is_of_digits row = nat_le 2 (length row.ai) && list_all (λ a. nat_le 48 a && nat_le a 57) row.ai

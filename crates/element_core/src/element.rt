@@ -3,7 +3,6 @@
 ghost use Rattle.std.specs.Prelude.{◌≡◌, ◌≤◌, length};
 ghost use Rattle.element_core.specs.Days.{IsDay};
 ghost use Rattle.element_core.specs.Elements.{entry_day};
-ghost use Rattle.element_core.specs.Families.{parts_of};
 ghost use Rattle.element_core.specs.Table.{is_dated};
 
 use crate::date::date_of;
@@ -25,12 +24,9 @@ pub struct Element {
 
 /// Whether a value of the family is a date.
 fn is_dated(family: &AiFamily) -> bool
-    ensures { result ≡ is_dated (parts_of family.now) }
+    ensures { result ≡ is_dated family.now.parts.now }
 {
-    match &family.second {
-        Some(second) => family.first.date || second.date,
-        None => family.first.date,
-    }
+    family.parts.iter().any(|part| part.date)
 }
 
 /// The day of an element, where its AI is one of a date.

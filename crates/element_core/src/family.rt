@@ -14,10 +14,8 @@ pub struct AiFamily {
     pub least: &'static [u8],
     /// The greatest AI, as long as the least.
     pub greatest: &'static [u8],
-    /// The first part of the value, or the whole.
-    pub first: Part,
-    /// The part after it, if there is one.
-    pub second: Option<Part>,
+    /// The parts of the value, one or two.
+    pub parts: &'static [Part],
     /// Whether the first two digits say how long an element is.
     pub predefined: bool,
 }
@@ -52,6 +50,7 @@ pub(crate) fn family_at(text: &[u8]) -> Option<AiFamily>
     ensures row { option_map (λ f. row_with f text.now) result ≡ row_at text.now }
     ensures within { IfSome result (λ f. length f.least.now ≤ length text.now) }
     ensures short { IfSome result (λ f. length f.least.now ≤ 4) }
+    ensures few { IfSome result (λ f. length f.parts.now ≤ 2) }
 {
     first_with(all_families(), text)
 }

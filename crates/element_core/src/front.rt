@@ -1,14 +1,14 @@
 //! The element at the front of a text.
 
 ghost use Rattle.std.specs.Prelude.{◌≡◌, ◌+◌, ◌≤◌, length, take, drop, [], Some, IfOk, IfErr, is_some, ◌<◌};
-ghost use Rattle.element_core.specs.Elements.{Begins, Entry, field_of, fault_at, row_fault, value_in, after_separator};
+ghost use Rattle.element_core.specs.Elements.{Begins, Entry, field_of, fault_at, value_in, after_separator};
 ghost use Rattle.element_core.specs.Table.{predefined_length};
-ghost use Rattle.element_core.specs.Families.{parts_of, family_of, row_with};
+ghost use Rattle.element_core.specs.Families.{family_of, row_with};
 
 use crate::family::{AiFamily, family_at};
 use crate::fault::ElementFault;
 use crate::text::SEPARATOR;
-use crate::value::{greatest_length, least_length, value_fault};
+use crate::value::{greatest_length, row_fault};
 use crate::year::Year;
 
 /// An element and what is after it.
@@ -46,10 +46,11 @@ fn skip_separator(text: &[u8]) -> &[u8]
 
 /// How long the value is that stands at the front of the text.
 fn value_length(family: &AiFamily, text: &[u8]) -> usize
+    requires { length family.now.parts.now ≤ 2 }
     ensures { result ≡ length (value_in (row_with family.now []) (field_of text.now)) }
 {
     let field = field_length(text);
-    let greatest = greatest_length(family);
+    let greatest = greatest_length(family.parts);
     if family.predefined && greatest < field {
         greatest
     } else {
@@ -59,23 +60,11 @@ fn value_length(family: &AiFamily, text: &[u8]) -> usize
 
 /// The value at the front of the text, and what is after it.
 fn value_of<'a>(family: &AiFamily, text: &'a [u8]) -> (&'a [u8], &'a [u8])
+    requires { length family.now.parts.now ≤ 2 }
     ensures value { result.0.now ≡ value_in (row_with family.now []) (field_of text.now) }
     ensures after { result.1.now ≡ drop (length result.0.now) text.now }
 {
     text.split_at(value_length(family, text))
-}
-
-/// The first test that a value fails.
-fn row_fault(year: Year, place: usize, family: &AiFamily, value: &[u8]) -> Option<ElementFault>
-    ensures { result ≡ row_fault year place (row_with family.now []) value.now }
-{
-    if value.len() < least_length(family) {
-        return Some(ElementFault::ValueLength(place));
-    }
-    if greatest_length(family) < value.len() {
-        return Some(ElementFault::MissingSeparator(place));
-    }
-    value_fault(year, place, family, value)
 }
 
 /// The element at the front of a text, or the fault there.
@@ -95,7 +84,8 @@ pub(crate) fn element_at<'a>(
     };
     let (ai, tail) = text.split_at(family.least.len());
     let (value, after) = value_of(&family, tail);
-    if let Some(fault) = row_fault(year, place, &family, value) {
+    let too_long = ElementFault::MissingSeparator(place);
+    if let Some(fault) = row_fault(year, place, too_long, family.parts, value) {
         return Err(fault);
     }
     let rest = skip_separator(after);

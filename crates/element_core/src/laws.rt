@@ -3,6 +3,7 @@
 ghost use Rattle.element_core.specs.Days.{DayZero, YearWindow};
 ghost use Rattle.element_core.specs.Table.{NoAiBeginsAnother, FirstDigitsDecide, PartsHaveOneLength};
 ghost use Rattle.element_core.specs.Elements.{CanonicalReads, DatedElements, EachText, GtinReads, OneAnswer};
+ghost use Rattle.element_core.specs.Pairs.{FaultlessPairs, PairLengths, PairsAsTexts, UnknownPairs};
 ghost use Rattle.element_core.specs.Pieces.{ReadsPieces};
 
 /// No AI of the table is the beginning of another.
@@ -60,4 +61,17 @@ pub fn day_zero()
 /// An element has a date exactly where its AI is one of a date.
 pub fn dated_elements()
     ensures { DatedElements }
+{}
+
+/// Pairs have no fault exactly where they are the elements of their canonical text.
+pub fn faultless_pairs()
+    ensures { FaultlessPairs }
+{}
+
+/// The fault of a pair: its AI, then the length of its value, then what the text of the two would be
+/// refused for.
+pub fn pair_faults()
+    ensures unknown { UnknownPairs }
+    ensures lengths { PairLengths }
+    ensures texts { PairsAsTexts }
 {}

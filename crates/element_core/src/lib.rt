@@ -23,8 +23,9 @@ pub use element::Element;
 pub use elements::Elements;
 pub use fault::ElementFault;
 pub use laws::{
-    canonical_reads, dated_elements, day_zero, each_text, first_digits_decide, gtin_reads,
-    no_ai_begins_another, one_answer, parts_have_one_length, reads_pieces, year_window,
+    canonical_reads, dated_elements, day_zero, each_text, faultless_pairs, first_digits_decide,
+    gtin_reads, no_ai_begins_another, one_answer, pair_faults, parts_have_one_length, reads_pieces,
+    year_window,
 };
 pub use pairs::Pair;
 pub use part::{Part, PartKind};

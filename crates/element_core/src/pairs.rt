@@ -1,13 +1,13 @@
 //! Elements that are given as pairs.
 
-ghost use Rattle.std.specs.Prelude.{◌≡◌, ◌<◌, ◌≤◌, length, None, Some, IfOk, IfErr, not, is_some};
-ghost use Rattle.element_core.specs.Table.{predefined_length};
+ghost use Rattle.std.specs.Prelude.{◌≡◌, ◌<◌, ◌≤◌, length, None, Some, IfOk, IfErr, IsSome, not, is_some};
+ghost use Rattle.element_core.specs.Table.{predefined_length, row_at};
 ghost use Rattle.element_core.specs.Pairs.{entry_of, entries_of, entry_fault, entries_fault};
 
 use crate::family::family_at;
 use crate::fault::ElementFault;
 use crate::text::Text;
-use crate::value::{greatest_length, least_length, value_fault};
+use crate::value::row_fault;
 use crate::year::Year;
 
 /// An AI and a value, which need not belong together.
@@ -31,10 +31,7 @@ fn pair_fault(year: Year, i: usize, pair: &Pair) -> Option<ElementFault>
     if ai.len() != family.least.len() {
         return Some(ElementFault::UnknownAi(i));
     }
-    if value.len() < least_length(&family) || greatest_length(&family) < value.len() {
-        return Some(ElementFault::ValueLength(i));
-    }
-    value_fault(year, i, &family, value)
+    row_fault(year, i, ElementFault::ValueLength(i), family.parts, value)
 }
 
 /// The fault of the first faulty pair.
@@ -49,15 +46,13 @@ pub(crate) fn first_fault(year: Year, pairs: &[Pair]) -> Option<ElementFault>
     None
 }
 
-/// Whether a separator stands after the pair, where it is not the last.
+/// Whether a separator stands after a pair with an AI of the table, where it is not the last.
 pub(crate) fn needs_separator(ai: &[u8]) -> bool
+    requires { IsSome (row_at ai.now) }
     ensures { result ≡ not (is_some (predefined_length ai.now)) }
 {
-    if ai.len() < 2 {
-        return true;
+    match family_at(ai) {
+        Some(family) => !family.predefined,
+        None => true,
     }
-    let tens = ai[0].saturating_sub(b'0') as u16;
-    let ones = ai[1].saturating_sub(b'0') as u16;
-    let first = 10 * tens + ones;
-    !matches!(first, 0..=4 | 11..=20 | 31..=36 | 41)
 }

@@ -1,13 +1,12 @@
 //! The tests of an element's value.
 
-ghost use Rattle.std.specs.Prelude.{◌≡◌, ◌≤◌, length, take, drop};
-ghost use Rattle.element_core.specs.Elements.{belongs, has_characters, has_check_digit, has_date, each_part, value_fault};
+ghost use Rattle.std.specs.Prelude.{◌≡◌, ◌≤◌, [], length, take, drop};
+ghost use Rattle.element_core.specs.Elements.{belongs, has_characters, has_check_digit, has_date, each_part, row_fault, value_fault};
 ghost use Rattle.digits_core.specs.Digits.{digits_of, weighted};
 ghost use Rattle.element_core.specs.Table.{least_of, greatest_of};
-ghost use Rattle.element_core.specs.Families.{parts_of};
+ghost use Rattle.element_core.specs.PartTests.{passes};
 
 use crate::date::date_of;
-use crate::family::AiFamily;
 use crate::fault::ElementFault;
 use crate::part::{Part, PartKind};
 use crate::year::Year;
@@ -84,85 +83,100 @@ fn split<'a>(part: &Part, value: &'a [u8]) -> (&'a [u8], &'a [u8])
     }
 }
 
-/// Whether each part has the characters that it may have.
-fn characters_right(family: &AiFamily, value: &[u8]) -> bool
-    ensures { result ≡ each_part has_characters (parts_of family.now) value.now }
+/// A test of each part of a value.
+#[derive(Clone, Copy)]
+pub enum PartTest {
+    /// It has the characters that it may have.
+    Characters,
+    /// Its check digit is right.
+    CheckDigit,
+    /// Where it is a date, it names a day under the reference year.
+    Date(Year),
+}
+
+/// Whether the bytes of a part pass a test.
+fn passes(test: &PartTest, part: &Part, bytes: &[u8]) -> bool
+    requires { length bytes.now ≤ 255 }
+    ensures { result ≡ passes test.now part.now bytes.now }
 {
-    let (front, rest) = split(&family.first, value);
-    if !has_characters(&family.first, front) {
-        return false;
-    }
-    match &family.second {
-        Some(part) => has_characters(part, split(part, rest).0),
-        None => true,
+    match test {
+        PartTest::Characters => has_characters(part, bytes),
+        PartTest::CheckDigit => has_check_digit(part, bytes),
+        PartTest::Date(year) => has_date(*year, part, bytes),
     }
 }
 
-/// Whether each part has its check digit right.
-fn check_digits_right(family: &AiFamily, value: &[u8]) -> bool
-    ensures { result ≡ each_part has_check_digit (parts_of family.now) value.now }
+/// Whether each part of a value passes a test.
+fn each_part(test: &PartTest, parts: &[Part], value: &[u8]) -> bool
+    ensures { result ≡ each_part (passes test.now) parts.now value.now }
 {
-    let (front, rest) = split(&family.first, value);
-    if !has_check_digit(&family.first, front) {
-        return false;
+    let mut rest = value;
+    for part in parts {
+        let (front, after) = split(part, rest);
+        if !passes(test, part, front) {
+            return false;
+        }
+        rest = after;
     }
-    match &family.second {
-        Some(part) => has_check_digit(part, split(part, rest).0),
-        None => true,
-    }
-}
-
-/// Whether each part that is a date names a day.
-fn dates_exist(year: Year, family: &AiFamily, value: &[u8]) -> bool
-    ensures { result ≡ each_part (has_date year) (parts_of family.now) value.now }
-{
-    let (front, rest) = split(&family.first, value);
-    if !has_date(year, &family.first, front) {
-        return false;
-    }
-    match &family.second {
-        Some(part) => has_date(year, part, split(part, rest).0),
-        None => true,
-    }
+    true
 }
 
 /// The first test that a value of a right length fails.
-pub(crate) fn value_fault(
-    year: Year,
-    place: usize,
-    family: &AiFamily,
-    value: &[u8],
-) -> Option<ElementFault>
-    ensures { result ≡ value_fault year place (parts_of family.now) value.now }
+fn value_fault(year: Year, place: usize, parts: &[Part], value: &[u8]) -> Option<ElementFault>
+    ensures { result ≡ value_fault year place parts.now value.now }
 {
-    if !characters_right(family, value) {
+    if !each_part(&PartTest::Characters, parts, value) {
         return Some(ElementFault::ValueCharacter(place));
     }
-    if !check_digits_right(family, value) {
+    if !each_part(&PartTest::CheckDigit, parts, value) {
         return Some(ElementFault::ValueCheckDigit(place));
     }
-    if !dates_exist(year, family, value) {
+    if !each_part(&PartTest::Date(year), parts, value) {
         return Some(ElementFault::ValueDate(place));
     }
     None
 }
 
 /// The least number of bytes of a value.
-pub(crate) fn least_length(family: &AiFamily) -> usize
-    ensures { result ≡ least_of (parts_of family.now) }
+fn least_length(parts: &[Part]) -> usize
+    requires { length parts.now ≤ 2 }
+    ensures { result ≡ least_of parts.now }
 {
-    match &family.second {
-        Some(part) => family.first.least as usize + part.least as usize,
-        None => family.first.least as usize,
+    let mut sum = 0;
+    for part in parts {
+        sum += usize::from(part.least);
     }
+    sum
 }
 
 /// The greatest number of bytes of a value.
-pub(crate) fn greatest_length(family: &AiFamily) -> usize
-    ensures { result ≡ greatest_of (parts_of family.now) }
+pub(crate) fn greatest_length(parts: &[Part]) -> usize
+    requires { length parts.now ≤ 2 }
+    ensures { result ≡ greatest_of parts.now }
 {
-    match &family.second {
-        Some(part) => family.first.greatest as usize + part.greatest as usize,
-        None => family.first.greatest as usize,
+    let mut sum = 0;
+    for part in parts {
+        sum += usize::from(part.greatest);
     }
+    sum
+}
+
+/// The first test that a value fails, where `too_long` is the fault of one that is too long.
+pub(crate) fn row_fault(
+    year: Year,
+    place: usize,
+    too_long: ElementFault,
+    parts: &[Part],
+    value: &[u8],
+) -> Option<ElementFault>
+    requires { length parts.now ≤ 2 }
+    ensures { result ≡ row_fault year place too_long parts.now value.now }
+{
+    if value.len() < least_length(parts) {
+        return Some(ElementFault::ValueLength(place));
+    }
+    if greatest_length(parts) < value.len() {
+        return Some(too_long);
+    }
+    value_fault(year, place, parts, value)
 }

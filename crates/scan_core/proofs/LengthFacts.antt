@@ -12,7 +12,7 @@ use Rattle.ean_code.specs.Symbols.{Kind, digit_count}
 use Rattle.ean_code.specs.Symbols.Kind.{Ean13 as KindEan13, Ean8 as KindEan8, UpcE as KindUpcE}
 use Rattle.code128_code.specs.Laws.{SaidIsShort}
 use Rattle.code128_code.specs.Symbols.{mod103}
-use Rattle.code128_code.specs.Texts.{gs1_text, set_of, symbol_text, text_by}
+use Rattle.code128_code.specs.Texts.{gs1_text, set_of, symbol_text, text_from}
 use Rattle.code128_code.specs.declared.code_set.CodeSet.{CodeSet}
 use Rattle.code128_code.specs.declared.fault.Code128Fault.{Code128Fault}
 use Rattle.code128_code.specs.declared.fault.Code128Fault.TheVariants.{CheckCharacter, NotGs1}
@@ -69,7 +69,7 @@ code_fits law set values text false few e = absurd cc
 code_fits law set [] text true few e = absurd cc
 code_fits law set (v ∷ values) text true few e = first (v == 102) e
   where
-    first : (b : Bool) → (if b then text_by set false values else Err NotGs1) ≡ Ok text → length text ≤ 192
+    first : (b : Bool) → (if b then text_from set values else Err NotGs1) ≡ Ok text → length text ≤ 192
     first true e = let short = law set values text e in omega arith
     first false e = absurd cc
 

@@ -24,12 +24,12 @@ headers_are_read bytes size = (
 )
 
 -- an image that is read
-record OneImage (bytes rest : List ℕ) (s : Bitmap) : Type 0 where
-  image : List ℕ
-  joined : bytes ≡ image ++ rest
-  is : IsImage image s
+pub record OneImage (bytes rest : List ℕ) (s : Bitmap) : Type 0 where
+  pub image : List ℕ
+  pub joined : bytes ≡ image ++ rest
+  pub is : IsImage image s
 
-one_image : (bytes rest : List ℕ) (s : Bitmap) → image_of bytes ≡ (Ok s, rest) → OneImage bytes rest s
+pub one_image : (bytes rest : List ℕ) (s : Bitmap) → image_of bytes ≡ (Ok s, rest) → OneImage bytes rest s
 one_image bytes rest s e =
     let h = raster_more (header_of bytes) s rest [] e in
     let size : Size = h.0 in
@@ -98,6 +98,21 @@ images_are (suc limit) (b ∷ bytes) sheets e =
     subst (λ n. Images (b ∷ bytes) n sheets) (let n : limit + 1 ≡ suc limit = omega arith in n)
     (with_image limit (b ∷ bytes) sheets (image_of (b ∷ bytes)) (λ rest s h. one_image (b ∷ bytes) rest s h) (λ rest ss h. images_are limit rest ss h) e)
 
+-- an image by its pieces is read before others
+pub image_first : (limit : ℕ) (i others : List ℕ) (s : Bitmap) → IsImage i s → images_by (suc limit) (i ++ others) ≡ with_first s (images_by limit others)
+image_first limit i others s m =
+    let known : header_of m.header ≡ (Ok m.size, []) = ap header_of (sym (append-nil m.header)) ∙ grammar_read m.header [] m.size m.header_is m.short in
+    let first : image_of (m.header ++ (m.rows ++ others)) ≡ (Ok (bitmap_of m.size m.rows), others) = image_by m.header m.rows others m.size known m.count in
+    let bytes : i ++ others ≡ m.header ++ (m.rows ++ others) = ap (λ bs. bs ++ others) m.joined ∙ append_assoc m.header m.rows others in
+    let begins : m.header ++ (m.rows ++ others) ≡ 80 ∷ tail_of m.header_is (m.rows ++ others) = ap (λ bs. bs ++ (m.rows ++ others)) m.header_is.joined in
+    ap (images_by (suc limit)) (bytes ∙ begins)
+    ∙ ap (λ bs. with_others (images_by limit) (image_of bs)) (sym begins)
+    ∙ ap (with_others (images_by limit)) first
+    ∙ ap (λ x. with_first x (images_by limit others)) (sym m.shown)
+  where
+    tail_of : {header : List ℕ} {size : Size} → IsHeader header size → List ℕ → List ℕ
+    tail_of h rest = (52 ∷ (concat h.before ++ (h.width ++ (concat h.between ++ (h.height ++ h.last ∷ []))))) ++ rest
+
 -- a file by its pieces is read
 pieces_read : (limit : ℕ) (images : List (List ℕ)) (sheets : List Bitmap) → AllZip IsImage images sheets → length sheets ≤ limit → images_by limit (concat images) ≡ (Ok sheets, [])
 pieces_read zero [] [] h few = refl
@@ -105,21 +120,7 @@ pieces_read (suc limit) [] [] h few = refl
 pieces_read limit [] (s ∷ sheets) h few = absurd h
 pieces_read limit (i ∷ images) [] h few = absurd h
 pieces_read zero (i ∷ images) (s ∷ sheets) h few = absurd (omega arith)
-pieces_read (suc limit) (i ∷ images) (s ∷ sheets) h few =
-    let m = h.0 in
-    let known : header_of m.header ≡ (Ok m.size, []) = ap header_of (sym (append-nil m.header)) ∙ grammar_read m.header [] m.size m.header_is m.short in
-    let others : List ℕ = concat images in
-    let first : image_of (m.header ++ (m.rows ++ others)) ≡ (Ok (bitmap_of m.size m.rows), others) = image_by m.header m.rows others m.size known m.count in
-    let bytes : i ++ others ≡ m.header ++ (m.rows ++ others) = ap (λ bs. bs ++ others) m.joined ∙ append_assoc m.header m.rows others in
-    let begins : m.header ++ (m.rows ++ others) ≡ 80 ∷ tail_of m.header_is (m.rows ++ others) = ap (λ bs. bs ++ (m.rows ++ others)) m.header_is.joined in
-    ap (images_by (suc limit)) (bytes ∙ begins)
-    ∙ ap (λ bs. with_others (images_by limit) (image_of bs)) (sym begins)
-    ∙ ap (with_others (images_by limit)) first
-    ∙ ap (with_first (bitmap_of m.size m.rows)) (pieces_read limit images sheets h.1 (omega arith))
-    ∙ ap (λ x. (Ok (x ∷ sheets), [])) (sym m.shown)
-  where
-    tail_of : {header : List ℕ} {size : Size} → IsHeader header size → List ℕ → List ℕ
-    tail_of h rest = (52 ∷ (concat h.before ++ (h.width ++ (concat h.between ++ (h.height ++ h.last ∷ []))))) ++ rest
+pieces_read (suc limit) (i ∷ images) (s ∷ sheets) h few = image_first limit i (concat images) s h.0 ∙ ap (with_first s) (pieces_read limit images sheets h.1 (omega arith))
 
 pub files_are_read : FilesAreRead
 files_are_read bytes sheets = (

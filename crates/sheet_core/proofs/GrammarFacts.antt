@@ -10,26 +10,26 @@ use Rattle.sheet_core.specs.declared.pbm_state.State.{State}
 use Rattle.sheet_core.specs.declared.pbm_state.State.TheVariants.{Start, Magic, Blanks, Number, Comment}
 use Rattle.sheet_core.specs.declared.pbm_state.Step.TheVariants.{Goes, Done, Refused}
 use Rattle.sheet_core.specs.PbmHeaders.{is_white, is_line_end, is_digit, is_size, grown, step, after, header_by}
-use Rattle.sheet_core.specs.PbmGrammar.{IsComment, IsBlank, AreBlanks, number_from, IsNumber, IsHeader}
+use Rattle.sheet_core.specs.PbmGrammar.{IsComment, IsBlank, AreBlanks, number_from, IsNumeral, IsNumber, IsHeader}
 
 -- these bytes lead from a state to another
 pub record Leads (s t : State) (bytes : List ℕ) : Type 0 where
   pub at : (limit : ℕ) (more : List ℕ) → header_by (limit + length bytes) s (bytes ++ more) ≡ header_by limit t more
 
-nothing : (s : State) → Leads s s []
+pub nothing : (s : State) → Leads s s []
 nothing s = record { at = λ limit more. ap (λ n. header_by n s more) (let e : limit + length {A = ℕ} [] ≡ limit = omega arith in e) }
 
-one : (s t : State) (b : ℕ) → step s b ≡ Goes t → Leads s t (b ∷ [])
+pub one : (s t : State) (b : ℕ) → step s b ≡ Goes t → Leads s t (b ∷ [])
 one s t b e = record { at = λ limit more. ap (λ n. header_by n s (b ∷ more)) (add-one limit) ∙ ap (λ x. after x (λ t. header_by limit t more) more) e }
 
-both : (s t u : State) (xs ys : List ℕ) → Leads s t xs → Leads t u ys → Leads s u (xs ++ ys)
+pub both : (s t u : State) (xs ys : List ℕ) → Leads s t xs → Leads t u ys → Leads s u (xs ++ ys)
 both s t u xs ys h k = record {
   at = λ limit more.
       ap₂ (λ n bytes. header_by n s bytes) (let l = length-append xs ys in let e : limit + length (xs ++ ys) ≡ (limit + length ys) + length xs = omega arith in e) (append_assoc xs ys more)
       ∙ h.at (limit + length ys) (ys ++ more) ∙ k.at limit more;
 }
 
-comment_text : (w : Option ℕ) (text : List ℕ) → AllByRecursion (λ b. is_line_end b ≡ false) text → Leads (Comment w) (Comment w) text
+pub comment_text : (w : Option ℕ) (text : List ℕ) → AllByRecursion (λ b. is_line_end b ≡ false) text → Leads (Comment w) (Comment w) text
 comment_text w [] h = nothing (Comment w)
 comment_text w (b ∷ text) h =
     both (Comment w) (Comment w) (Comment w) (b ∷ []) text (one (Comment w) (Comment w) b (ap (λ x. if x then Goes (Blanks w true) else Goes (Comment w)) h.0)) (comment_text w text h.1)
@@ -53,20 +53,20 @@ blank w some (b ∷ bytes) h =
           (both (Blanks w some) (Comment w) (Blanks w true) (35 ∷ []) bytes (one (Blanks w some) (Comment w) 35 refl) (comment w bytes sharp.1))
     ]
 
-blanks : (w : Option ℕ) (all : List (List ℕ)) → AllByRecursion IsBlank all → Leads (Blanks w true) (Blanks w true) (concat all)
+pub blanks : (w : Option ℕ) (all : List (List ℕ)) → AllByRecursion IsBlank all → Leads (Blanks w true) (Blanks w true) (concat all)
 blanks w [] h = nothing (Blanks w true)
 blanks w (x ∷ all) h = both (Blanks w true) (Blanks w true) (Blanks w true) x (concat all) (blank w true x h.0) (blanks w all h.1)
 
-blanks_first : (w : Option ℕ) (all : List (List ℕ)) → AreBlanks all → Leads (Blanks w false) (Blanks w true) (concat all)
+pub blanks_first : (w : Option ℕ) (all : List (List ℕ)) → AreBlanks all → Leads (Blanks w false) (Blanks w true) (concat all)
 blanks_first w [] h = absurd (let n = h.some in omega arith)
 blanks_first w (x ∷ all) h = both (Blanks w false) (Blanks w true) (Blanks w true) x (concat all) (blank w false x h.each.0) (blanks w all h.each.1)
 
 -- ---- numbers
 
-of_digit : (b : ℕ) → is_digit b ≡ true → (is_white b ≡ false) × ((b == 35) ≡ false) × (b ≤ 57)
+pub of_digit : (b : ℕ) → is_digit b ≡ true → (is_white b ≡ false) × ((b == 35) ≡ false) × (b ≤ 57)
 of_digit b h = (grind (arith, nat_tests), grind (arith, nat_tests), grind (arith, nat_tests))
 
-of_white : (b : ℕ) → is_white b ≡ true → is_digit b ≡ false
+pub of_white : (b : ℕ) → is_white b ≡ true → is_digit b ≡ false
 of_white b h = grind (arith, nat_tests)
 
 abbrev capped : ℕ → List ℕ → ℕ
@@ -97,21 +97,26 @@ first w b h =
     ∙ ap (λ x. if x then Goes (Comment w) else if is_digit b then Goes (Number w (b - 48)) else Refused PbmHeader) t.1
     ∙ ap (λ x. if x then Goes (Number w (b - 48)) else Refused PbmHeader) h
 
-number : (w : Option ℕ) (n : ℕ) (ds : List ℕ) → IsNumber ds n → Leads (Blanks w true) (Number w n) ds
-number w n [] h = absurd (let s = h.some in omega arith)
-number w n (b ∷ ds) h =
+-- a number of any size; what is above 65,535 stays so
+pub numeral : (w : Option ℕ) (n : ℕ) (ds : List ℕ) → IsNumeral ds n → Leads (Blanks w true) (Number w (min n 65536)) ds
+numeral w n [] h = absurd (let s = h.some in omega arith)
+numeral w n (b ∷ ds) h =
     let low = (of_digit b h.each.0).2 in
-    let v = h.value in let m = h.most in
-    let value : capped (b - 48) ds ≡ n =
-    ap (λ k. capped k ds) (let e : b - 48 ≡ min (10 * 0 + (b - 48)) 65536 = omega arith in e) ∙ capped_is ds (10 * 0 + (b - 48)) ∙ (omega arith) in
+    let value : capped (b - 48) ds ≡ min n 65536 =
+    ap (λ k. capped k ds) (let e : b - 48 ≡ min (10 * 0 + (b - 48)) 65536 = omega arith in e) ∙ capped_is ds (10 * 0 + (b - 48)) ∙ ap (λ k. min k 65536) (sym h.value) in
     subst (λ k. Leads (Blanks w true) (Number w k) (b ∷ ds)) value
     (both (Blanks w true) (Number w (b - 48)) (Number w (capped (b - 48) ds)) (b ∷ []) ds (one (Blanks w true) (Number w (b - 48)) b (first w b h.each.0)) (digits w (b - 48) ds h.each.1))
 
-sized : (n : ℕ) → 1 ≤ n → n ≤ 65535 → is_size n ≡ true
+pub number : (w : Option ℕ) (n : ℕ) (ds : List ℕ) → IsNumber ds n → Leads (Blanks w true) (Number w n) ds
+number w n ds h =
+    let most = h.most in
+    subst (λ k. Leads (Blanks w true) (Number w k) ds) (let e : min n 65536 ≡ n = omega arith in e) (numeral w n ds h.numeral)
+
+pub sized : (n : ℕ) → 1 ≤ n → n ≤ 65535 → is_size n ≡ true
 sized n a b = grind (arith, nat_tests)
 
 -- a blank that ends the width
-blank_after : (n : ℕ) → is_size n ≡ true → (bytes : List ℕ) → IsBlank bytes → Leads (Number None n) (Blanks (Some n) true) bytes
+pub blank_after : (n : ℕ) → is_size n ≡ true → (bytes : List ℕ) → IsBlank bytes → Leads (Number None n) (Blanks (Some n) true) bytes
 blank_after n size [] h = absurd h
 blank_after n size (b ∷ bytes) h =
     elim h [
@@ -127,7 +132,7 @@ blank_after n size (b ∷ bytes) h =
           (one (Number None n) (Comment (Some n)) 35 (ap (λ x. if x then Goes (Comment (Some n)) else Refused PbmSize) size)) (comment (Some n) bytes sharp.1))
     ]
 
-blanks_after : (n : ℕ) → is_size n ≡ true → (all : List (List ℕ)) → AreBlanks all → Leads (Number None n) (Blanks (Some n) true) (concat all)
+pub blanks_after : (n : ℕ) → is_size n ≡ true → (all : List (List ℕ)) → AreBlanks all → Leads (Number None n) (Blanks (Some n) true) (concat all)
 blanks_after n size [] h = absurd (let s = h.some in omega arith)
 blanks_after n size (x ∷ all) h = both (Number None n) (Blanks (Some n) true) (Blanks (Some n) true) x (concat all) (blank_after n size x h.each.0) (blanks (Some n) all h.each.1)
 

@@ -132,9 +132,11 @@ first_digit m b P bytes d h = record {
   digits = b ∷ h.digits;
   rest = h.rest;
   is = record {
-    some = omega arith;
-    each = (d, h.each);
-    value = h.value ∙ ap (λ k. number_from k h.digits) (let e : b - 48 ≡ 10 * 0 + (b - 48) = omega arith in e);
+    numeral = record {
+      some = omega arith;
+      each = (d, h.each);
+      value = h.value ∙ ap (λ k. number_from k h.digits) (let e : b - 48 ≡ 10 * 0 + (b - 48) = omega arith in e);
+    };
     least = h.least;
     most = h.most;
   };
@@ -153,23 +155,23 @@ blank_first P bytes h = record { blanks = []; rest = bytes; each = tt; enough = 
 
 -- ---- what a step was
 
-if_is : (c : Bool) (x y z : Step) → (if c then x else y) ≡ z → ((c ≡ true) × (x ≡ z)) ⊎ ((c ≡ false) × (y ≡ z))
+pub if_is : (c : Bool) (x y z : Step) → (if c then x else y) ≡ z → ((c ≡ true) × (x ≡ z)) ⊎ ((c ≡ false) × (y ≡ z))
 if_is true x y z e = inl (refl, e)
 if_is false x y z e = inr (refl, e)
 
-refused_goes : (f : PbmFault) (t : State) → Refused f ≡ Goes t → ⊥
+pub refused_goes : (f : PbmFault) (t : State) → Refused f ≡ Goes t → ⊥
 refused_goes f t e = cc
 
-done_goes : (size : Size) (t : State) → Done size ≡ Goes t → ⊥
+pub done_goes : (size : Size) (t : State) → Done size ≡ Goes t → ⊥
 done_goes size t e = cc
 
-goes_done : (s : State) (size : Size) → Goes s ≡ Done size → ⊥
+pub goes_done : (s : State) (size : Size) → Goes s ≡ Done size → ⊥
 goes_done s size e = cc
 
-refused_done : (f : PbmFault) (size : Size) → Refused f ≡ Done size → ⊥
+pub refused_done : (f : PbmFault) (size : Size) → Refused f ≡ Done size → ⊥
 refused_done f size e = cc
 
-same_state : (s t : State) → Goes s ≡ Goes t → s ≡ t
+pub same_state : (s t : State) → Goes s ≡ Goes t → s ≡ t
 same_state s t e = cc
 
 same_size : (s t : Size) → Done s ≡ Done t → s ≡ t

@@ -1,13 +1,17 @@
 pub mod BandFacts
+pub mod BeginningFacts
+pub mod BeginningsRead
 pub mod CellFacts
 pub mod CellLineFacts
 pub mod CornerFacts
 pub mod Examples
 pub mod FileFacts
 pub mod FilePieces
+pub mod FileRefusals
 pub mod HeaderFacts
 pub mod HeaderFronts
 pub mod HeaderPieces
+pub mod HeaderRefusals
 pub mod ImageFacts
 pub mod LabelFacts
 pub mod LineFacts

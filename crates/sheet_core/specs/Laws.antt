@@ -1,5 +1,5 @@
 -- Laws about printed sheets and PBM files.
-use Rattle.std.specs.Prelude.{◌≡◌, ◌↔◌, ℕ, ◌+◌, ◌*◌, ◌<◌, ◌≤◌, List, [], ◌++◌, length, Ok, Some, slice_get}
+use Rattle.std.specs.Prelude.{◌≡◌, ◌↔◌, ℕ, ◌+◌, ◌*◌, ◌<◌, ◌≤◌, List, [], ◌++◌, length, Err, Ok, Some, slice_get}
 use Rattle.std.specs.List.{AllByRecursion}
 use Rattle.element_core.specs.Elements.{Entry, IsElements}
 use Rattle.scan_core.specs.Answers.{IsAnswer}
@@ -9,6 +9,7 @@ use Rattle.scan_core.specs.declared.fault.RowFault.TheVariants.{Blank}
 use Rattle.scan_core.specs.Row.{IsRow, dots_of}
 use Rattle.scan_core.specs.Showing.{Shows}
 use Rattle.scan_core.specs.Showing.Way.{Forwards}
+use Rattle.sheet_core.specs.declared.fault.PbmFault.{PbmFault}
 use Rattle.sheet_core.specs.declared.pbm_state.Size.{Size}
 use Rattle.sheet_core.specs.declared.label.Label.{Label}
 use Rattle.sheet_core.specs.Bitmaps.{Bitmap, IsBitmap, cell_dots}
@@ -18,6 +19,7 @@ use Rattle.sheet_core.specs.Labels.{Drawn, IsDrawn, IsLabelSymbol, carrier_of, l
 use Rattle.sheet_core.specs.PbmGrammar.{IsHeader, IsPbm}
 use Rattle.sheet_core.specs.PbmHeaders.{header_of}
 use Rattle.sheet_core.specs.PbmImages.{images_of, pbm_of}
+use Rattle.sheet_core.specs.PbmRefusals.{RefusesFile, RefusesHeader}
 
 -- what is drawn of a label is one symbol with its quiet zones
 abbrev pub OneDrawn : Type 0
@@ -85,6 +87,14 @@ HeadersAreRead =
 -- what is read as a file is exactly the files of at most 4,096 images
 abbrev pub FilesAreRead : Type 0
 FilesAreRead = (bytes : List ℕ) (sheets : List Bitmap) → (images_of bytes ≡ (Ok sheets, [])) ↔ (IsPbm bytes sheets × (length sheets ≤ 4096))
+
+-- what is refused as a header, up to the byte that decides, is exactly what the grammar refuses for this
+abbrev pub HeadersAreRefused : Type 0
+HeadersAreRefused = (fault : PbmFault) (bytes : List ℕ) → (header_of bytes ≡ (Err fault, [])) ↔ RefusesHeader fault bytes
+
+-- the same of a file
+abbrev pub FilesAreRefused : Type 0
+FilesAreRefused = (fault : PbmFault) (bytes : List ℕ) → (images_of bytes ≡ (Err fault, [])) ↔ RefusesFile fault bytes
 
 -- a file of at most 4,096 images shows one list of sheets
 abbrev pub OneReading : Type 0

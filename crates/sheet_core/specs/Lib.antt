@@ -10,3 +10,4 @@ pub mod Lines
 pub mod PbmGrammar
 pub mod PbmHeaders
 pub mod PbmImages
+pub mod PbmRefusals

@@ -29,11 +29,15 @@ abbrev pub number_from : ℕ → List ℕ → ℕ
 number_from n [] = n
 number_from n (b ∷ digits) = number_from (10 * n + (b - 48)) digits
 
--- the digits, one at least, say a width or a height; zeros may come first
-pub record IsNumber (digits : List ℕ) (n : ℕ) : Type 0 where
+-- the digits, one at least, say this number; zeros may come first
+pub record IsNumeral (digits : List ℕ) (n : ℕ) : Type 0 where
   pub some : 0 < length digits
   pub each : AllByRecursion (λ b. IsTrue (is_digit b)) digits
   pub value : n ≡ number_from 0 digits
+
+-- they say a width or a height
+pub record IsNumber (digits : List ℕ) (n : ℕ) : Type 0 where
+  pub numeral : IsNumeral digits n
   pub least : 1 ≤ n
   pub most : n ≤ 65535
 

@@ -1,5 +1,5 @@
 //! Laws about the definitions, each the contract of a function that does nothing.
-ghost use Rattle.sheet_core.specs.Laws.{BarRowsAnswer, BarRowsShow, EmptyCellsAreBlank, FilesAreRead, HeadersAreRead, OneDrawn, OneReading, PrintedIsRead, WrittenIsRead};
+ghost use Rattle.sheet_core.specs.Laws.{BarRowsAnswer, BarRowsShow, EmptyCellsAreBlank, FilesAreRead, FilesAreRefused, HeadersAreRead, HeadersAreRefused, OneDrawn, OneReading, PrintedIsRead, WrittenIsRead};
 
 use code128_code::modules_say;
 use scan_core::{dots_determine, one_answer, symbol_measures};
@@ -51,6 +51,16 @@ pub fn headers_are_read()
 /// What is read as a file is exactly the files of at most 4,096 images.
 pub fn files_are_read()
     ensures { FilesAreRead }
+{}
+
+/// A header is refused, at the byte that decides, exactly for what its grammar says.
+pub fn headers_are_refused()
+    ensures { HeadersAreRefused }
+{}
+
+/// A file is refused exactly for the first image that its grammar refuses, or for more than 4,096 images.
+pub fn files_are_refused()
+    ensures { FilesAreRefused }
 {}
 
 /// A file of at most 4,096 images shows one list of sheets.

@@ -83,7 +83,7 @@ impl Sink for Narrow {
     ghost failed = { λ s. s.has_failed };
 
     fn write(&mut self, bytes: &[u8]) -> Result<usize, Failed> {
-        if bytes.is_empty() {
+        if !self.has_failed && bytes.is_empty() {
             return Ok(0);
         }
         if self.has_failed || self.taken.len() >= self.room || self.taken.push(bytes[0]).is_err() {

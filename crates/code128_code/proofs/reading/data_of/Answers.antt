@@ -2,8 +2,8 @@ use Rattle.std.proofs.Common.{◌∙◌, arith, sym}
 use Rattle.code128_code.proofs.LookupFacts.{same_value}
 use Rattle.code128_code.proofs.reading.data_of.Goals as goal
 
-pub returns-then-value-gt102-clause-none : goal.returns-then-value-gt102-clause-none
-returns-then-value-gt102-clause-none c =
+pub returns-then-value-gt-FNC1-clause-none : goal.returns-then-value-gt-FNC1-clause-none
+returns-then-value-gt-FNC1-clause-none c =
     λ v h e. let found = c.in-Some.ensures.found in
     let same = same_value c.in-Some.value v found.0 (omega arith) (found.1 ∙ sym e) in
-    let high = c.if-value-gt102.true in omega arith
+    let high = c.if-value-gt-FNC1.true in omega arith

@@ -1,13 +1,14 @@
-use Rattle.std.proofs.Common.{◌≡◌, ◌+◌, ◌++◌, ◌∷◌, [], ◌<◌, length, drop, sym, ap, ◌∙◌, arith, List, ℕ, not, refl}
-use Rattle.std.specs.Prelude.{is_some}
+use Rattle.std.proofs.Common.{◌≡◌, ◌+◌, ◌++◌, ◌∷◌, [], ◌<◌, length, drop, sym, ap, subst, take, ◌∙◌, arith, List, ℕ, not, refl}
+use Rattle.std.specs.Prelude.{IsSome, is_some}
 use Rattle.std.proofs.lemmas.Grind.{common_steps}
 use Rattle.std.proofs.lemmas.List.{length-map, take_all}
-use Rattle.element_core.specs.Table.{predefined_length}
-use Rattle.element_core.specs.Elements.{Entry, canonical}
+use Rattle.element_core.specs.Table.{predefined_length, row_at}
+use Rattle.element_core.specs.Elements.{AreElements, Entry, canonical}
 use Rattle.element_core.specs.Growing.{gap, last_gap}
 use Rattle.element_core.specs.Drafts.{element_by, elements_in}
 use Rattle.element_core.specs.Pairs.{entry_of, entries_of}
 use Rattle.element_core.proofs.Growth.{separator_for-gap, last_gap-push}
+use Rattle.element_core.proofs.PairFaults.{known_pair}
 use Rattle.element_core.proofs.Unique.{same_element}
 use Rattle.element_core.proofs.PairLemmas.{Adds, adds, entries_valid, entries_split, entries_more, too_long, fits, finished}
 use Rattle.element_core.proofs.elements.Elements.of_pairs.Goals as goal
@@ -81,3 +82,13 @@ returns-clause-only c =
     let short = i.fits in
     let k = known c in
     fits c.args.year (entries_of c.args.pairs.now) k.0 (sym c.first_fault.ensures ∙ c.in_default.is) (omega (arith, ap length i.canonical_text, ap (λ (es : List Entry). length (canonical es)) k.1))
+
+pub needs_separator-separate-requires : goal.needs_separator-separate-requires
+needs_separator-separate-requires c =
+    let pairs = c.args.pairs.now in
+    let i = c.loop-pair.pair-index in
+    let pair = c.pair-item.result in
+    let none = sym c.first_fault.ensures ∙ c.in_default.is in
+    subst (λ (a : List ℕ). IsSome (row_at a)) (sym c.as_slice-ai.ensures.value)
+    (known_pair c.args.year (entries_of (take i pairs)) (entry_of pair) (entries_of (drop (i + 1) pairs))
+    (subst (AreElements c.args.year) (entries_split pairs i pair c.loop-pair-test.true c.pair-item.is) (entries_valid c.args.year 0 (entries_of pairs) none)))

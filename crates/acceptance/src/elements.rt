@@ -1,0 +1,100 @@
+//! Elements that are given as pairs, and rows of the table of AIs.
+
+use element_core::{Elements, Pair, Part, PartKind, Text, Year, ai_row};
+use std::alloc::Global;
+use std::test::Fail;
+
+// A value of 90 characters, the most that AI 91 takes.
+const NINETY: &str =
+    "ABCDEFGHIJABCDEFGHIJABCDEFGHIJABCDEFGHIJABCDEFGHIJABCDEFGHIJABCDEFGHIJABCDEFGHIJABCDEFGHIJ";
+
+fn text(bytes: &str) -> Result<Text, Fail> {
+    let mut text = Text::new();
+    text.try_extend_from_slice(bytes.as_bytes())
+        .ok()
+        .ok_or("at most 192 bytes")?;
+    Ok(text)
+}
+
+/// The human-readable line of pairs in 2026, or the line of their fault.
+fn line(alloc: Global, pairs: &[(&str, &str)]) -> Result<String, Fail> {
+    let mut list = Vec::new(alloc);
+    for (ai, value) in pairs {
+        list.push(Pair {
+            ai: text(ai)?,
+            value: text(value)?,
+        })?;
+    }
+    let year = Year::new(2026).ok_or("year")?;
+    match Elements::of_pairs(list.as_slice(), year) {
+        Ok(elements) => {
+            let hri = elements.hri();
+            let line = hri.as_str();
+            Ok(format!(in alloc; "{line}")?)
+        }
+        Err(fault) => Ok(format!(in alloc; "{fault}")?),
+    }
+}
+
+#[test]
+fn pairs_are_elements_or_have_a_first_fault(rt: HostRuntime) -> Result<(), Fail> {
+    let alloc = rt.alloc();
+    let cases: &[(&[(&str, &str)], &str)] = &[
+        (&[("10", "AB"), ("17", "261231")], "(10)AB(17)261231"),
+        (&[], "refused 4 Empty"),
+        (&[("0109", "501101530003")], "refused 5 UnknownAi 0"),
+        (&[("10", "AB"), ("03", "1")], "refused 5 UnknownAi 1"),
+        (&[("01", "950110153000")], "refused 6 ValueLength 0"),
+        (
+            &[("10", "123456789012345678901")],
+            "refused 6 ValueLength 0",
+        ),
+        (&[("10", "A\x1DB")], "refused 7 ValueCharacter 0"),
+        (&[("01", "09501101530004")], "refused 8 ValueCheckDigit 0"),
+        (&[("17", "261301")], "refused 9 ValueDate 0"),
+        (
+            &[("91", NINETY), ("92", NINETY), ("93", NINETY)],
+            "refused 11 TooLong",
+        ),
+    ];
+    for (pairs, expected) in cases {
+        assert_eq!(rt; line(alloc, pairs)?.as_str(), *expected);
+    }
+    Ok(())
+}
+
+#[test]
+fn the_row_of_an_ai_has_its_parts(rt: HostRuntime) -> Result<(), Fail> {
+    let row = ai_row(b"0109501101530003").ok_or("01")?;
+    assert_eq!(rt; row.ai.as_slice(), b"01".as_slice());
+    assert!(rt; row.predefined);
+    let gtin = Part {
+        kind: PartKind::Digits,
+        least: 14,
+        greatest: 14,
+        check: true,
+        date: false,
+    };
+    assert_eq!(rt; row.parts.as_slice(), [gtin].as_slice());
+    let row = ai_row(b"253").ok_or("253")?;
+    let number = Part {
+        kind: PartKind::Digits,
+        least: 13,
+        greatest: 13,
+        check: true,
+        date: false,
+    };
+    let serial = Part {
+        kind: PartKind::Characters,
+        least: 0,
+        greatest: 17,
+        check: false,
+        date: false,
+    };
+    assert!(rt; !row.predefined);
+    assert_eq!(rt; row.parts.as_slice(), [number, serial].as_slice());
+    for none in ["", "1", "03", "3106", "8006"] {
+        assert!(rt; ai_row(none.as_bytes()).is_none());
+    }
+    Ok(())
+}

@@ -1,0 +1,5 @@
+use Rattle.sheet_core.proofs.FileRefusals.{files_are_refused as law}
+use Rattle.sheet_core.proofs.laws.files_are_refused.Goals as goal
+
+pub returns : goal.returns
+returns c = law
