@@ -5,11 +5,11 @@ use Rattle.std.specs.Result.{OnOk}
 use Rattle.sheet_core.specs.Bitmaps.{Bitmap}
 use Rattle.sheet_core.specs.Grids.{IsGrid}
 use Rattle.sheet_core.specs.PbmImages.{Reads, images_of}
-use Rattle.gs1_hub.specs.Commands.{Takes, Writes, WritesScan}
-use Rattle.gs1_hub.specs.Grids.{cells_of}
-use Rattle.gs1_hub.specs.Records.{Fields, Test, records_of}
-use Rattle.gs1_hub.specs.Report.{IsReport}
-use Rattle.gs1_hub.specs.Scans.{AreColumns, have_size}
+use Rattle.gs1_hub.specs.Commands.{Writes, WritesScan}
+use Rattle.line_core.specs.Grids.{cells_of}
+use Rattle.line_core.specs.input.Records.{Fields, Takes, Test, records_of}
+use Rattle.line_core.specs.answers.Reports.{IsReport}
+use Rattle.line_core.specs.scan.Columns.{AreColumns, have_size}
 use Rattle.gs1_hub.specs.declared.options.ScanOptions.{ScanOptions}
 
 -- records were taken, and a sink took this of their text

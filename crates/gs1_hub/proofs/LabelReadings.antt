@@ -7,11 +7,11 @@ use Rattle.element_core.specs.Elements.{CanonicalReads, GtinReads, IsElements, g
 use Rattle.sheet_core.specs.Labels.{gtin_text, label_text}
 use Rattle.sheet_core.specs.declared.label.Label.{Label}
 use Rattle.sheet_core.specs.declared.label.Label.TheVariants as label
-use Rattle.gs1_hub.specs.Checks.{spelled_text}
-use Rattle.gs1_hub.specs.Prints.{IsElementLabel, IsGtinLabel, IsLabelAs, IsLabelBy, IsLabelOf, label_list, print_kind_named}
-use Rattle.gs1_hub.specs.Records.{Fields}
-use Rattle.gs1_hub.specs.declared.label_record.PrintKind.{PrintKind}
-use Rattle.gs1_hub.specs.declared.label_record.PrintKind.TheVariants as kind
+use Rattle.line_core.specs.input.Spelling.{spelled_text}
+use Rattle.line_core.specs.print.Labels.{IsElementLabel, IsGtinLabel, IsLabelAs, IsLabelBy, IsLabelOf, label_list, print_kind_named}
+use Rattle.line_core.specs.input.Records.{Fields}
+use Rattle.line_core.specs.declared.print.label_record.PrintKind.{PrintKind}
+use Rattle.line_core.specs.declared.print.label_record.PrintKind.TheVariants as kind
 
 -- under this reference year the label's text says its elements
 abbrev pub Says : ℕ → Label → Type 0

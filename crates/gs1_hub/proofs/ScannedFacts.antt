@@ -18,12 +18,14 @@ use Rattle.sheet_core.specs.Labels.{IsDrawn}
 use Rattle.sheet_core.specs.Laws.{BarRowsAnswer, EmptyCellsAreBlank, PrintedIsRead}
 use Rattle.sheet_core.specs.PbmImages.{images_of}
 use Rattle.sheet_core.specs.declared.label.Label.{Label}
-use Rattle.gs1_hub.specs.Grids.{cells_of}
+use Rattle.line_core.specs.Grids.{cells_of}
 use Rattle.gs1_hub.specs.Laws.{OneScan, PrintedIsAnswered, PrintedIsScanned, cell_answer, column_answers, labels_report, sheet_answers}
-use Rattle.gs1_hub.specs.Prints.{IsLabelOf, IsPrint, IsPrinted, label_list}
-use Rattle.gs1_hub.specs.Records.{Fields}
-use Rattle.gs1_hub.specs.Report.{report}
-use Rattle.gs1_hub.specs.Scans.{AreColumns, AreImages, IsScan, HaveDots, column_cells, column_dots, has_size, have_size}
+use Rattle.line_core.specs.print.Labels.{IsLabelOf, label_list}
+use Rattle.gs1_hub.specs.Prints.{IsPrint, IsPrinted}
+use Rattle.line_core.specs.input.Records.{Fields}
+use Rattle.line_core.specs.answers.Reports.{report}
+use Rattle.line_core.specs.scan.Columns.{AreColumns, HaveDots, column_cells, column_dots, has_size, have_size}
+use Rattle.gs1_hub.specs.Scans.{AreImages, IsScan}
 use Rattle.gs1_hub.proofs.BesideFacts.{apart, below, beside, beside-flat_map, beside-map, map_beside, same_beside}
 use Rattle.gs1_hub.specs.declared.options.PrintOptions.{PrintOptions}
 use Rattle.gs1_hub.specs.declared.options.ScanOptions.{ScanOptions}

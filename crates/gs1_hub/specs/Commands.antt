@@ -7,13 +7,15 @@ use Rattle.sheet_core.specs.Grids.{IsGrid}
 use Rattle.sheet_core.specs.PbmImages.{Reads, images_of}
 use Rattle.sheet_core.specs.declared.fault.PbmFault.TheVariants as pbm
 use Rattle.sheet_core.specs.declared.label.Label.{Label}
-use Rattle.gs1_hub.specs.Checks.{IsCheckReport, check_fault}
-use Rattle.gs1_hub.specs.Feeds.{lanes_fault}
-use Rattle.gs1_hub.specs.Grids.{cells_of}
-use Rattle.gs1_hub.specs.Prints.{IsLabelOf, IsPrint, IsUnprinted, print_test}
-use Rattle.gs1_hub.specs.Records.{Fields, IsFirstFault, NoneFaulty, Test, computed, records_of}
-use Rattle.gs1_hub.specs.Report.{IsLaneReport}
-use Rattle.gs1_hub.specs.Scans.{AreImages, IsScan, have_size}
+use Rattle.line_core.specs.check.Checks.{IsCheckReport, check_fault}
+use Rattle.line_core.specs.answers.Reports.{IsReport}
+use Rattle.line_core.specs.lanes.Feeds.{feeds_of, lanes_fault}
+use Rattle.line_core.specs.Grids.{cells_of}
+use Rattle.line_core.specs.print.Labels.{IsLabelOf, print_test}
+use Rattle.gs1_hub.specs.Prints.{IsPrint, IsUnprinted}
+use Rattle.line_core.specs.input.Records.{Fields, IsFirstFault, Takes, Test, computed, most_bytes, records_of}
+use Rattle.gs1_hub.specs.Scans.{AreImages, IsScan}
+use Rattle.line_core.specs.scan.Columns.{have_size}
 use Rattle.gs1_hub.specs.declared.fault.CommandFault.{CommandFault}
 use Rattle.gs1_hub.specs.declared.fault.CommandFault.TheVariants as command
 use Rattle.gs1_hub.specs.declared.options.PrintOptions.{PrintOptions}
@@ -21,14 +23,9 @@ use Rattle.gs1_hub.specs.declared.options.ScanOptions.{ScanOptions}
 use Rattle.gs1_hub.specs.declared.words.Asked.{Asked}
 use Rattle.gs1_hub.specs.declared.words.Asked.TheVariants as asked
 
--- how many bytes a command reads
-abbrev pub most_bytes : ℕ
-most_bytes = 16777216
-
--- a source gave all its bytes, no record of them is faulty, and this is true of the records
-abbrev pub Takes : Test → (List Fields → Type 0) → Option (List ℕ) → Option (List ℕ) → Type 0
-Takes test made left rest = (bytes : List ℕ) × GaveAll left rest bytes × (length bytes ≤ most_bytes)
-    × NoneFaulty test (records_of bytes) × made (records_of bytes)
+-- the text is the report of the answers to the rows that records give each lane, under the reference year
+abbrev pub IsLaneReport : ℕ → ℕ → List Fields → List ℕ → Type 0
+IsLaneReport lanes year rows text = IsReport year (feeds_of lanes rows) text
 
 -- and of the text that is written of the records, a sink took this
 abbrev pub Writes : Test → (List Fields → List ℕ → Type 0) → (Option (List ℕ) → Option (List ℕ) → List ℕ → Type 0) → Option (List ℕ) → Option (List ℕ) → Option (List ℕ) → Option (List ℕ) → Type 0

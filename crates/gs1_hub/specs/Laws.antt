@@ -11,11 +11,13 @@ use Rattle.sheet_core.specs.Drawing.{cell_count, sheet_count}
 use Rattle.sheet_core.specs.Grids.{Cells}
 use Rattle.sheet_core.specs.Labels.{carrier_of}
 use Rattle.sheet_core.specs.declared.label.Label.{Label}
-use Rattle.gs1_hub.specs.Grids.{cells_of}
-use Rattle.gs1_hub.specs.Prints.{IsLabelOf, IsPrint, label_list}
-use Rattle.gs1_hub.specs.Records.{Fields}
-use Rattle.gs1_hub.specs.Report.{report}
-use Rattle.gs1_hub.specs.Scans.{AreColumns, AreImages, IsScan, column_cells}
+use Rattle.line_core.specs.Grids.{cells_of}
+use Rattle.line_core.specs.print.Labels.{IsLabelOf, label_list}
+use Rattle.gs1_hub.specs.Prints.{IsPrint}
+use Rattle.line_core.specs.input.Records.{Fields}
+use Rattle.line_core.specs.answers.Reports.{report}
+use Rattle.line_core.specs.scan.Columns.{AreColumns, column_cells}
+use Rattle.gs1_hub.specs.Scans.{AreImages, IsScan}
 use Rattle.gs1_hub.specs.declared.options.PrintOptions.{PrintOptions}
 use Rattle.gs1_hub.specs.declared.options.ScanOptions.{ScanOptions}
 

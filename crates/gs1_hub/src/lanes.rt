@@ -2,18 +2,15 @@
 ghost use Rattle.std.specs.Prelude.{◌≡◌, ◌≢◌, ◌↔◌, true, false, IfErr, IsErrOf, OnOk};
 ghost use Rattle.std.specs.Io.KnownBytes.{Appends};
 ghost use Rattle.digits_core.specs.Bytes.{TookFront};
-ghost use Rattle.gs1_hub.specs.Commands.{RefusesLanes, Writes};
-ghost use Rattle.gs1_hub.specs.Feeds.{lanes_fault};
-ghost use Rattle.gs1_hub.specs.Records.{computed};
-ghost use Rattle.gs1_hub.specs.Report.{IsLaneReport};
+ghost use Rattle.gs1_hub.specs.Commands.{IsLaneReport, RefusesLanes, Writes};
+ghost use Rattle.line_core.specs.lanes.Feeds.{lanes_fault};
+ghost use Rattle.line_core.specs.input.Records.{computed};
 
 use crate::fault::CommandFault;
-use crate::feeds::{Feeds, LaneRecords};
 use crate::options::LaneOptions;
-use crate::records::read_input;
-use crate::serving::write_answers;
-use digits_core::{Sink, Source};
+use digits_core::{Sink, Source, write_all};
 use hub_core::Gate;
+use line_core::{answer_lines, read_feeds};
 use std::alloc::Global;
 use std::sync::Wait;
 use std::thread::Threads;
@@ -44,19 +41,8 @@ pub fn run_lanes<R: Threads + Wait + Sync, S: Source, W: Sink, G: Gate + Sync>(
     ensures write { W.failed sink.old ≡ false
         → (IsErrOf result CommandFault.WriteFault ↔ (W.failed sink.new ≡ true)) }
 {
-    let records = LaneRecords {
-        alloc,
-        lanes: options.lanes,
-    };
-    let mut feeds = Feeds::new(alloc, options.lanes)?;
-    read_input(alloc, &records, &mut feeds, source)?;
-    write_answers(
-        rt,
-        alloc,
-        feeds.rows,
-        options.workers,
-        options.year,
-        sink,
-        gate,
-    )
+    let feeds = read_feeds(alloc, options.lanes, source)?;
+    let lines = answer_lines(rt, alloc, feeds, options.workers, options.year, gate)?;
+    write_all(sink, lines.as_str().as_bytes())?;
+    Ok(())
 }

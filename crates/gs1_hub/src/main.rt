@@ -8,34 +8,23 @@ ghost use Rattle.digits_core.specs.Bytes.{TookFront};
 ghost use Rattle.gs1_hub.specs.Commands.{RefusesAsked, WritesAsked};
 ghost use Rattle.gs1_hub.specs.Faults.{status_of, words_status};
 
-mod ascii;
 mod check;
-mod check_answer;
-mod columns;
 mod command_line;
-mod element_field;
 mod fault;
-mod feeds;
-mod label_lines;
-mod label_print;
-mod label_record;
 mod lanes;
 mod laws;
 mod options;
-mod records;
-mod report;
-mod serving;
-mod sheet_scan;
+mod print;
+mod scan;
 #[cfg(test)]
 mod tests;
-mod widths;
 mod words;
 
 use crate::check::run_check;
 use crate::fault::CommandFault;
-use crate::label_print::run_print;
 use crate::lanes::run_lanes;
-use crate::sheet_scan::run_scan;
+use crate::print::run_print;
+use crate::scan::run_scan;
 use crate::words::{Asked, WordsFault, read_words};
 use digits_core::{FromReader, Sink, Source, ToWriter};
 use hub_core::{Gate, OpenGate};
