@@ -1,7 +1,8 @@
--- What a run of a command leaves, by its test of records and by what it writes of those that pass.
-use Rattle.std.specs.Prelude.{◌≡◌, ◌≤◌, ◌⊎◌, ⊤, ℕ, false, List, [], Option, Ok, Err, length}
+-- What a command writes of the bytes that it reads, why it refuses them, and what a run of it leaves.
+use Rattle.std.specs.Prelude.{◌≡◌, ◌≢◌, ◌↔◌, ◌≤◌, ◌⊎◌, ⊤, ℕ, Bool, false, true, List, [], Option, Result, Ok, Err, IfErr, IsErrOf, OnOk, length}
+use Rattle.std.specs.Io.KnownBytes.{Appends}
 use Rattle.std.specs.List.{AllZip}
-use Rattle.digits_core.specs.Bytes.{GaveAll, GaveAtMost, GaveMoreThan}
+use Rattle.digits_core.specs.Bytes.{GaveAll, TookFront}
 use Rattle.sheet_core.specs.Bitmaps.{Bitmap}
 use Rattle.sheet_core.specs.Grids.{IsGrid}
 use Rattle.sheet_core.specs.PbmImages.{Reads, images_of}
@@ -13,34 +14,51 @@ use Rattle.line_core.specs.lanes.Feeds.{feeds_of, lanes_fault}
 use Rattle.line_core.specs.Grids.{cells_of}
 use Rattle.line_core.specs.print.Labels.{IsLabelOf, print_test}
 use Rattle.gs1_hub.specs.Prints.{IsPrint, IsUnprinted}
-use Rattle.line_core.specs.input.Records.{Fields, IsFirstFault, Takes, Test, computed, most_bytes, records_of}
+use Rattle.line_core.specs.input.Records.{Fields, NoneFaulty, Refuses, Takes, Test, computed, most_bytes, records_of}
+use Rattle.line_core.specs.declared.input.fault.RecordsFault.TheVariants as records
 use Rattle.gs1_hub.specs.Scans.{AreImages, IsScan}
 use Rattle.line_core.specs.scan.Columns.{have_size}
 use Rattle.gs1_hub.specs.declared.fault.CommandFault.{CommandFault}
 use Rattle.gs1_hub.specs.declared.fault.CommandFault.TheVariants as command
+use Rattle.gs1_hub.specs.declared.options.LaneOptions.{LaneOptions}
 use Rattle.gs1_hub.specs.declared.options.PrintOptions.{PrintOptions}
 use Rattle.gs1_hub.specs.declared.options.ScanOptions.{ScanOptions}
 use Rattle.gs1_hub.specs.declared.words.Asked.{Asked}
 use Rattle.gs1_hub.specs.declared.words.Asked.TheVariants as asked
 
--- the text is the report of the answers to the rows that records give each lane, under the reference year
-abbrev pub IsLaneReport : ℕ → ℕ → List Fields → List ℕ → Type 0
-IsLaneReport lanes year rows text = IsReport year (feeds_of lanes rows) text
+-- a command: what it writes of the bytes that it reads, and why it refuses what a source had left and has left now
+pub record Command : Type 1 where
+  pub writes : List ℕ → List ℕ → Type 0
+  pub refuses : Option (List ℕ) → Option (List ℕ) → CommandFault → Type 0
 
--- and of the text that is written of the records, a sink took this
-abbrev pub Writes : Test → (List Fields → List ℕ → Type 0) → (Option (List ℕ) → Option (List ℕ) → List ℕ → Type 0) → Option (List ℕ) → Option (List ℕ) → Option (List ℕ) → Option (List ℕ) → Type 0
-Writes test output took left rest before after =
-    Takes test (λ rows. (text : List ℕ) × output rows text × took before after text) left rest
+-- a source gave all its bytes, and of the text that a command writes of them a sink took this
+abbrev pub Wrote : Command → (Option (List ℕ) → Option (List ℕ) → List ℕ → Type 0) → Option (List ℕ) → Option (List ℕ) → Option (List ℕ) → Option (List ℕ) → Type 0
+Wrote c took left rest before after = (bytes text : List ℕ) × GaveAll left rest bytes × c.writes bytes text × took before after text
 
--- why the input is refused
-abbrev pub Refuses : Test → Option (List ℕ) → Option (List ℕ) → CommandFault → Type 0
-Refuses test left rest command.ReadFault = GaveAtMost most_bytes left rest
-Refuses test left rest command.InputSize = GaveMoreThan most_bytes left rest
-Refuses test left rest (command.Record i f) = (bytes : List ℕ) × GaveAll left rest bytes
-    × (length bytes ≤ most_bytes) × IsFirstFault test (records_of bytes) i f
-Refuses test left rest command.WriteFault = ⊤
-Refuses test left rest command.NoMemory = ⊤
-Refuses test left rest _ = ⊥
+-- what a run of a command leaves of a source and of a sink: the sink took the whole text; or a front of it, where a write failed; or nothing, and the refusal names its cause. Where they had not failed before, a read or write fault comes exactly where one fails
+pub record Ran {S W : Type 0} (c : Command) (left : S → Option (List ℕ)) (source_failed : S → Bool) (taken : W → Option (List ℕ)) (sink_failed : W → Bool)
+    (source rest : S) (sink after : W) (result : Result (Unit {0}) CommandFault) : Type 0 where
+  pub ok : OnOk result (Wrote c Appends (left source) (left rest) (taken sink) (taken after))
+  pub cut : IsErrOf result command.WriteFault → Wrote c TookFront (left source) (left rest) (taken sink) (taken after)
+  pub refused : IfErr result (c.refuses (left source) (left rest))
+  pub unwritten : IfErr result (λ f. f ≢ command.WriteFault → after ≡ sink)
+  pub read : source_failed source ≡ false → (IsErrOf result command.ReadFault ↔ (source_failed rest ≡ true))
+  pub write : sink_failed sink ≡ false → (IsErrOf result command.WriteFault ↔ (sink_failed after ≡ true))
+
+-- ---- commands over records
+
+-- what is written of bytes whose records have no fault
+abbrev pub WritesRecords : Test → (List Fields → List ℕ → Type 0) → List ℕ → List ℕ → Type 0
+WritesRecords test output bytes text = (length bytes ≤ most_bytes) × NoneFaulty test (records_of bytes) × output (records_of bytes) text
+
+-- why the records are refused
+abbrev pub RefusesRecords : Test → Option (List ℕ) → Option (List ℕ) → CommandFault → Type 0
+RefusesRecords test left rest command.ReadFault = Refuses test left rest records.ReadFault
+RefusesRecords test left rest command.InputSize = Refuses test left rest records.InputSize
+RefusesRecords test left rest (command.Record i f) = Refuses test left rest (records.Record i f)
+RefusesRecords test left rest command.WriteFault = ⊤
+RefusesRecords test left rest command.NoMemory = ⊤
+RefusesRecords test left rest _ = ⊥
 
 -- records were taken, and their labels are not printed for this
 abbrev pub RefusesLabels : PrintOptions → Option (List ℕ) → Option (List ℕ) → CommandFault → Type 0
@@ -52,16 +70,12 @@ abbrev pub RefusesPrint : PrintOptions → Option (List ℕ) → Option (List �
 RefusesPrint o left rest command.BadGrid = (IsGrid (cells_of o.grid) → ⊥) × (rest ≡ left)
 RefusesPrint o left rest (command.LabelKind i) = IsGrid (cells_of o.grid) × RefusesLabels o left rest (command.LabelKind i)
 RefusesPrint o left rest (command.LabelWidth i) = IsGrid (cells_of o.grid) × RefusesLabels o left rest (command.LabelWidth i)
-RefusesPrint o left rest f = IsGrid (cells_of o.grid) × Refuses (print_test o.year) left rest f
+RefusesPrint o left rest f = IsGrid (cells_of o.grid) × RefusesRecords (print_test o.year) left rest f
 
 -- why `lanes` refuses the input: the records, then a thread that could not be started
 abbrev pub RefusesLanes : ℕ → Option (List ℕ) → Option (List ℕ) → CommandFault → Type 0
 RefusesLanes lanes left rest command.NoThread = Takes (computed (lanes_fault lanes)) (λ rows. ⊤) left rest
-RefusesLanes lanes left rest f = Refuses (computed (lanes_fault lanes)) left rest f
-
--- a source gave all its bytes, and of the text that `scan` writes of them a sink took this
-abbrev pub WritesScan : ScanOptions → (Option (List ℕ) → Option (List ℕ) → List ℕ → Type 0) → Option (List ℕ) → Option (List ℕ) → Option (List ℕ) → Option (List ℕ) → Type 0
-WritesScan o took left rest before after = (bytes : List ℕ) × GaveAll left rest bytes × (text : List ℕ) × IsScan o bytes text × took before after text
+RefusesLanes lanes left rest f = RefusesRecords (computed (lanes_fault lanes)) left rest f
 
 -- a source gave all its bytes, and they are images of which one has not the grid's size
 abbrev pub GaveOtherSize : ScanOptions → Option (List ℕ) → Option (List ℕ) → Type 0
@@ -87,16 +101,25 @@ RefusesScan o left rest f = IsGrid (cells_of o.grid) × RefusesImages o left res
 
 -- ---- each command
 
--- what a command writes of what a source gave, and a sink took
-abbrev pub WritesAsked : Asked → (Option (List ℕ) → Option (List ℕ) → List ℕ → Type 0) → Option (List ℕ) → Option (List ℕ) → Option (List ℕ) → Option (List ℕ) → Type 0
-WritesAsked (asked.Check year) = Writes (computed check_fault) (IsCheckReport year)
-WritesAsked (asked.Print o) = Writes (print_test o.year) (IsPrint o)
-WritesAsked (asked.Lanes o) = Writes (computed (lanes_fault o.lanes)) (IsLaneReport o.lanes o.year)
-WritesAsked (asked.Scan o) = WritesScan o
+-- a line for each record, under the reference year
+abbrev pub check_command : ℕ → Command
+check_command year = record { writes = WritesRecords (computed check_fault) (IsCheckReport year); refuses = RefusesRecords (computed check_fault) }
 
--- why it refuses the input
-abbrev pub RefusesAsked : Asked → Option (List ℕ) → Option (List ℕ) → CommandFault → Type 0
-RefusesAsked (asked.Check year) = Refuses (computed check_fault)
-RefusesAsked (asked.Print o) = RefusesPrint o
-RefusesAsked (asked.Lanes o) = RefusesLanes o.lanes
-RefusesAsked (asked.Scan o) = RefusesScan o
+-- the labels of the records, as images of sheets or as lines
+abbrev pub print_command : PrintOptions → Command
+print_command o = record { writes = WritesRecords (print_test o.year) (IsPrint o); refuses = RefusesPrint o }
+
+-- the report of the answers to the rows that records give each lane
+abbrev pub lanes_command : LaneOptions → Command
+lanes_command o = record { writes = WritesRecords (computed (lanes_fault o.lanes)) (λ rows text. IsReport o.year (feeds_of o.lanes rows) text); refuses = RefusesLanes o.lanes }
+
+-- the report of the answers to the rows of the columns of images
+abbrev pub scan_command : ScanOptions → Command
+scan_command o = record { writes = IsScan o; refuses = RefusesScan o }
+
+-- the command that is asked for
+abbrev pub command_of : Asked → Command
+command_of (asked.Check year) = check_command year
+command_of (asked.Print o) = print_command o
+command_of (asked.Lanes o) = lanes_command o
+command_of (asked.Scan o) = scan_command o

@@ -4,7 +4,7 @@ ghost use Rattle.std.specs.Io.KnownBytes.{Appends};
 ghost use Rattle.digits_core.specs.Bytes.{TookFront};
 ghost use Rattle.line_core.specs.check.Checks.{IsCheckReport, check_fault};
 ghost use Rattle.line_core.specs.input.Records.{computed};
-ghost use Rattle.gs1_hub.specs.Commands.{Refuses, Writes};
+ghost use Rattle.gs1_hub.specs.Commands.{Ran, check_command};
 
 use crate::fault::CommandFault;
 use digits_core::{Sink, Source, write_all};
@@ -23,18 +23,8 @@ pub fn run_check<S: Source, W: Sink>(
     source: &mut S,
     sink: &mut W,
 ) -> Result<(), CommandFault>
-    ensures ok { OnOk result (Writes (computed check_fault) (IsCheckReport year) Appends
-        (S.left source.old) (S.left source.new) (W.taken sink.old) (W.taken sink.new)) }
-    ensures cut { IsErrOf result CommandFault.WriteFault
-        → Writes (computed check_fault) (IsCheckReport year) TookFront
-        (S.left source.old) (S.left source.new) (W.taken sink.old) (W.taken sink.new) }
-    ensures refused { IfErr result
-        (Refuses (computed check_fault) (S.left source.old) (S.left source.new)) }
-    ensures unwritten { IfErr result (λ e. e ≢ CommandFault.WriteFault → sink.new ≡ sink.old) }
-    ensures read { S.failed source.old ≡ false
-        → (IsErrOf result CommandFault.ReadFault ↔ (S.failed source.new ≡ true)) }
-    ensures write { W.failed sink.old ≡ false
-        → (IsErrOf result CommandFault.WriteFault ↔ (W.failed sink.new ≡ true)) }
+    ensures { Ran (check_command year) S.left S.failed W.taken W.failed
+        source.old source.new sink.old sink.new result }
 {
     let lines = check_lines(alloc, year, source)?;
     write_all(sink, lines.as_str().as_bytes())?;

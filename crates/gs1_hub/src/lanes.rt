@@ -2,7 +2,7 @@
 ghost use Rattle.std.specs.Prelude.{◌≡◌, ◌≢◌, ◌↔◌, true, false, IfErr, IsErrOf, OnOk};
 ghost use Rattle.std.specs.Io.KnownBytes.{Appends};
 ghost use Rattle.digits_core.specs.Bytes.{TookFront};
-ghost use Rattle.gs1_hub.specs.Commands.{IsLaneReport, RefusesLanes, Writes};
+ghost use Rattle.gs1_hub.specs.Commands.{Ran, lanes_command};
 ghost use Rattle.line_core.specs.lanes.Feeds.{lanes_fault};
 ghost use Rattle.line_core.specs.input.Records.{computed};
 
@@ -28,18 +28,8 @@ pub fn run_lanes<R: Threads + Wait + Sync, S: Source, W: Sink, G: Gate + Sync>(
     sink: &mut W,
     gate: &G,
 ) -> Result<(), CommandFault>
-    ensures ok { OnOk result (Writes (computed (lanes_fault options.lanes)) (IsLaneReport options.lanes options.year) Appends
-        (S.left source.old) (S.left source.new) (W.taken sink.old) (W.taken sink.new)) }
-    ensures cut { IsErrOf result CommandFault.WriteFault
-        → Writes (computed (lanes_fault options.lanes)) (IsLaneReport options.lanes options.year) TookFront
-        (S.left source.old) (S.left source.new) (W.taken sink.old) (W.taken sink.new) }
-    ensures refused { IfErr result
-        (RefusesLanes options.lanes (S.left source.old) (S.left source.new)) }
-    ensures unwritten { IfErr result (λ e. e ≢ CommandFault.WriteFault → sink.new ≡ sink.old) }
-    ensures read { S.failed source.old ≡ false
-        → (IsErrOf result CommandFault.ReadFault ↔ (S.failed source.new ≡ true)) }
-    ensures write { W.failed sink.old ≡ false
-        → (IsErrOf result CommandFault.WriteFault ↔ (W.failed sink.new ≡ true)) }
+    ensures { Ran (lanes_command options) S.left S.failed W.taken W.failed
+        source.old source.new sink.old sink.new result }
 {
     let feeds = read_feeds(alloc, options.lanes, source)?;
     let lines = answer_lines(rt, alloc, feeds, options.workers, options.year, gate)?;

@@ -3,7 +3,7 @@ ghost use Rattle.std.specs.Prelude.{◌≡◌, ◌≢◌, ◌↔◌, List, ℕ, 
 ghost use Rattle.std.specs.List.{AllZip};
 ghost use Rattle.std.specs.Io.KnownBytes.{Appends};
 ghost use Rattle.digits_core.specs.Bytes.{TookFront};
-ghost use Rattle.gs1_hub.specs.Commands.{RefusesPrint, Writes};
+ghost use Rattle.gs1_hub.specs.Commands.{Ran, print_command};
 ghost use Rattle.line_core.specs.Grids.{cells_of};
 ghost use Rattle.line_core.specs.print.Labels.{IsLabelOf, print_test};
 ghost use Rattle.gs1_hub.specs.Prints.{IsPrint, IsPrinted, IsUnprinted};
@@ -57,17 +57,8 @@ pub fn run_print<S: Source, W: Sink>(
     source: &mut S,
     sink: &mut W,
 ) -> Result<(), CommandFault>
-    ensures ok { OnOk result (Writes (print_test options.year) (IsPrint options) Appends
-        (S.left source.old) (S.left source.new) (W.taken sink.old) (W.taken sink.new)) }
-    ensures cut { IsErrOf result CommandFault.WriteFault
-        → Writes (print_test options.year) (IsPrint options) TookFront
-        (S.left source.old) (S.left source.new) (W.taken sink.old) (W.taken sink.new) }
-    ensures refused { IfErr result (RefusesPrint options (S.left source.old) (S.left source.new)) }
-    ensures unwritten { IfErr result (λ e. e ≢ CommandFault.WriteFault → sink.new ≡ sink.old) }
-    ensures read { S.failed source.old ≡ false
-        → (IsErrOf result CommandFault.ReadFault ↔ (S.failed source.new ≡ true)) }
-    ensures write { W.failed sink.old ≡ false
-        → (IsErrOf result CommandFault.WriteFault ↔ (W.failed sink.new ≡ true)) }
+    ensures { Ran (print_command options) S.left S.failed W.taken W.failed
+        source.old source.new sink.old sink.new result }
 {
     let grid = options.grid.grid()?;
     let labels = read_labels(alloc, options.year, source)?;

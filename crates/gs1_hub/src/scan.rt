@@ -2,7 +2,7 @@
 ghost use Rattle.std.specs.Prelude.{◌≡◌, ◌≢◌, ◌↔◌, true, false, IfErr, IsErrOf, OnOk};
 ghost use Rattle.std.specs.Io.KnownBytes.{Appends};
 ghost use Rattle.digits_core.specs.Bytes.{TookFront};
-ghost use Rattle.gs1_hub.specs.Commands.{RefusesScan, WritesScan};
+ghost use Rattle.gs1_hub.specs.Commands.{Ran, scan_command};
 
 use crate::fault::CommandFault;
 use crate::options::ScanOptions;
@@ -29,16 +29,8 @@ pub fn run_scan<R: Threads + Wait + Sync, S: Source, W: Sink, G: Gate + Sync>(
     sink: &mut W,
     gate: &G,
 ) -> Result<(), CommandFault>
-    ensures ok { OnOk result (WritesScan options Appends
-        (S.left source.old) (S.left source.new) (W.taken sink.old) (W.taken sink.new)) }
-    ensures cut { IsErrOf result CommandFault.WriteFault → WritesScan options TookFront
-        (S.left source.old) (S.left source.new) (W.taken sink.old) (W.taken sink.new) }
-    ensures refused { IfErr result (RefusesScan options (S.left source.old) (S.left source.new)) }
-    ensures unwritten { IfErr result (λ e. e ≢ CommandFault.WriteFault → sink.new ≡ sink.old) }
-    ensures read { S.failed source.old ≡ false
-        → (IsErrOf result CommandFault.ReadFault ↔ (S.failed source.new ≡ true)) }
-    ensures write { W.failed sink.old ≡ false
-        → (IsErrOf result CommandFault.WriteFault ↔ (W.failed sink.new ≡ true)) }
+    ensures { Ran (scan_command options) S.left S.failed W.taken W.failed
+        source.old source.new sink.old sink.new result }
 {
     let grid = options.grid.grid()?;
     let sheets = read_pbm(alloc, source)?;

@@ -1,13 +1,21 @@
-use Rattle.std.proofs.Common.{◌∙◌, string_bytes}
-use Rattle.digits_core.specs.Bytes.{TookFront}
+use Rattle.std.proofs.Common.{◌∙◌, rules, string_bytes}
 use Rattle.line_core.specs.check.Checks.{IsCheckReport, check_fault}
 use Rattle.line_core.specs.input.Records.{computed}
-use Rattle.gs1_hub.proofs.CommandFacts.{written}
+use Rattle.gs1_hub.specs.Commands.{check_command}
+use Rattle.gs1_hub.proofs.CommandFacts.{records_cut}
 use Rattle.gs1_hub.proofs.check.run_check.Goals as goal
 
-pub returns-in_err-write_all-clause-cut : goal.returns-in_err-write_all-clause-cut
-returns-in_err-write_all-clause-cut g c = λ same.
+pub returns-in_err-write_all : goal.returns-in_err-write_all
+returns-in_err-write_all g c =
+    let year = c.args.year in
     let lines = string_bytes c.in_ok-lines.lines in
-    written (computed check_fault) (λ rows. IsCheckReport c.args.year rows lines) (IsCheckReport c.args.year) TookFront lines c.as_bytes.result.now
-    (g.S.Source.left c.args.source.now) (g.S.Source.left c.check_lines.new.source) (g.W.Sink.taken c.args.sink.now) (g.W.Sink.taken c.write_all.new.sink)
-    c.in_ok-lines.ensures.ok (λ rows it. it) (c.as_bytes.ensures.value ∙ c.as_str.ensures.value) c.in_err-write_all.ensures.err
+    record {
+      ok = search rules;
+      cut = λ same. records_cut (computed check_fault) (λ rows. IsCheckReport year rows lines) (IsCheckReport year) (check_command year).refuses lines c.as_bytes.result.now
+          (g.S.Source.left c.args.source.now) (g.S.Source.left c.check_lines.new.source) (g.W.Sink.taken c.args.sink.now) (g.W.Sink.taken c.write_all.new.sink)
+          c.in_ok-lines.ensures.ok (λ rows it. it) (c.as_bytes.ensures.value ∙ c.as_str.ensures.value) c.in_err-write_all.ensures.err;
+      refused = search rules;
+      unwritten = search rules;
+      read = search rules;
+      write = search rules;
+    }
