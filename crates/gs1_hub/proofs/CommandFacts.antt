@@ -7,17 +7,17 @@ use Rattle.sheet_core.specs.Grids.{IsGrid}
 use Rattle.sheet_core.specs.PbmImages.{Reads, images_of}
 use Rattle.line_core.specs.Grids.{cells_of}
 use Rattle.line_core.specs.answers.Reports.{IsReport}
-use Rattle.line_core.specs.input.Records.{Fields, Takes, Test, records_of}
+use Rattle.line_core.specs.input.Records.{Meaning, Takes}
 use Rattle.line_core.specs.scan.Columns.{AreColumns, have_size}
 use Rattle.gs1_hub.specs.Commands.{WritesRecords, Wrote, scan_command}
 use Rattle.gs1_hub.specs.declared.options.ScanOptions.{ScanOptions}
 
 -- records were taken, and a sink took a front of their text
-pub records_cut : (test : Test) (made : List Fields → Type 0) (output : List Fields → List ℕ → Type 0) (refuses : _)
-    (text sent : List ℕ) (left rest before after : Option (List ℕ)) → Takes test made left rest → ((rows : List Fields) → made rows → output rows text)
-    → sent ≡ text → TookFront before after sent → Wrote (record { writes = WritesRecords test output; refuses = refuses }) TookFront left rest before after
-records_cut test made output refuses text sent left rest before after h shows is sunk =
-    (h.0, text, h.1, (h.2, h.3, shows (records_of h.0) h.4), subst (λ t. TookFront before after t) is sunk)
+pub records_cut : {Item : Type 0} (means : Meaning Item) (made : List Item → Type 0) (output : List Item → List ℕ → Type 0) (refuses : _)
+    (text sent : List ℕ) (left rest before after : Option (List ℕ)) → Takes means made left rest → ((items : List Item) → made items → output items text)
+    → sent ≡ text → TookFront before after sent → Wrote (record { writes = WritesRecords means output; refuses = refuses }) TookFront left rest before after
+records_cut means made output refuses text sent left rest before after h shows is sunk =
+    (h.0, text, h.1, (h.2, h.3, shows h.2 h.4), subst (λ t. TookFront before after t) is sunk)
 
 -- images were taken, and a sink took a front of the report of the rows of their columns
 pub images_cut : (o : ScanOptions) (left rest before after : Option (List ℕ)) (sheets : List Bitmap) (feeds : List (List (List ℕ))) (text sent : List ℕ)

@@ -1,20 +1,18 @@
 -- What a command writes of the bytes that it reads, why it refuses them, and what a run of it leaves.
-use Rattle.std.specs.Prelude.{◌≡◌, ◌≢◌, ◌↔◌, ◌≤◌, ◌⊎◌, ⊤, ℕ, Bool, false, true, List, [], Option, Result, Ok, Err, IfErr, IsErrOf, OnOk, length}
+use Rattle.std.specs.Prelude.{◌≡◌, ◌≢◌, ◌↔◌, ◌⊎◌, ⊤, ℕ, Bool, false, true, List, [], Option, Result, Ok, Err, IfErr, IsErrOf, OnOk}
 use Rattle.std.specs.Io.KnownBytes.{Appends}
-use Rattle.std.specs.List.{AllZip}
 use Rattle.digits_core.specs.Bytes.{GaveAll, TookFront}
 use Rattle.sheet_core.specs.Bitmaps.{Bitmap}
 use Rattle.sheet_core.specs.Grids.{IsGrid}
 use Rattle.sheet_core.specs.PbmImages.{Reads, images_of}
 use Rattle.sheet_core.specs.declared.fault.PbmFault.TheVariants as pbm
-use Rattle.sheet_core.specs.declared.label.Label.{Label}
-use Rattle.line_core.specs.check.Checks.{IsCheckReport, check_fault}
+use Rattle.line_core.specs.check.Checks.{check_meaning, check_report}
 use Rattle.line_core.specs.answers.Reports.{IsReport}
-use Rattle.line_core.specs.lanes.Feeds.{feeds_of, lanes_fault}
+use Rattle.line_core.specs.lanes.Feeds.{feeds_of, lanes_meaning}
 use Rattle.line_core.specs.Grids.{cells_of}
-use Rattle.line_core.specs.print.Labels.{IsLabelOf, print_test}
+use Rattle.line_core.specs.print.Labels.{print_meaning}
 use Rattle.gs1_hub.specs.Prints.{IsPrint, IsUnprinted}
-use Rattle.line_core.specs.input.Records.{Fields, NoneFaulty, Refuses, Takes, Test, computed, most_bytes, records_of}
+use Rattle.line_core.specs.input.Records.{Mean, Meaning, Refuses, Takes}
 use Rattle.line_core.specs.declared.input.fault.RecordsFault.TheVariants as records
 use Rattle.gs1_hub.specs.Scans.{AreImages, IsScan}
 use Rattle.line_core.specs.scan.Columns.{have_size}
@@ -47,35 +45,34 @@ pub record Ran {S W : Type 0} (c : Command) (left : S → Option (List ℕ)) (so
 
 -- ---- commands over records
 
--- what is written of bytes whose records have no fault
-abbrev pub WritesRecords : Test → (List Fields → List ℕ → Type 0) → List ℕ → List ℕ → Type 0
-WritesRecords test output bytes text = (length bytes ≤ most_bytes) × NoneFaulty test (records_of bytes) × output (records_of bytes) text
+-- what is written of bytes whose records mean items
+abbrev pub WritesRecords : {Item : Type 0} → Meaning Item → (List Item → List ℕ → Type 0) → List ℕ → List ℕ → Type 0
+WritesRecords means output bytes text = (items : List _) × Mean means bytes items × output items text
 
 -- why the records are refused
-abbrev pub RefusesRecords : Test → Option (List ℕ) → Option (List ℕ) → CommandFault → Type 0
-RefusesRecords test left rest command.ReadFault = Refuses test left rest records.ReadFault
-RefusesRecords test left rest command.InputSize = Refuses test left rest records.InputSize
-RefusesRecords test left rest (command.Record i f) = Refuses test left rest (records.Record i f)
-RefusesRecords test left rest command.WriteFault = ⊤
-RefusesRecords test left rest command.NoMemory = ⊤
-RefusesRecords test left rest _ = ⊥
+abbrev pub RefusesRecords : {Item : Type 0} → Meaning Item → Option (List ℕ) → Option (List ℕ) → CommandFault → Type 0
+RefusesRecords means left rest command.ReadFault = Refuses means left rest records.ReadFault
+RefusesRecords means left rest command.InputSize = Refuses means left rest records.InputSize
+RefusesRecords means left rest (command.Record i f) = Refuses means left rest (records.Record i f)
+RefusesRecords means left rest command.WriteFault = ⊤
+RefusesRecords means left rest command.NoMemory = ⊤
+RefusesRecords means left rest _ = ⊥
 
 -- records were taken, and their labels are not printed for this
 abbrev pub RefusesLabels : PrintOptions → Option (List ℕ) → Option (List ℕ) → CommandFault → Type 0
-RefusesLabels o left rest f = Takes (print_test o.year) (λ rows. (labels : List Label) × AllZip (IsLabelOf o.year) rows labels
-    × IsUnprinted (cells_of o.grid) labels f) left rest
+RefusesLabels o left rest f = Takes (print_meaning o.year) (λ labels. IsUnprinted (cells_of o.grid) labels f) left rest
 
 -- why `print` refuses the input: the grid, before a byte is read, then the records, then the labels
 abbrev pub RefusesPrint : PrintOptions → Option (List ℕ) → Option (List ℕ) → CommandFault → Type 0
 RefusesPrint o left rest command.BadGrid = (IsGrid (cells_of o.grid) → ⊥) × (rest ≡ left)
 RefusesPrint o left rest (command.LabelKind i) = IsGrid (cells_of o.grid) × RefusesLabels o left rest (command.LabelKind i)
 RefusesPrint o left rest (command.LabelWidth i) = IsGrid (cells_of o.grid) × RefusesLabels o left rest (command.LabelWidth i)
-RefusesPrint o left rest f = IsGrid (cells_of o.grid) × RefusesRecords (print_test o.year) left rest f
+RefusesPrint o left rest f = IsGrid (cells_of o.grid) × RefusesRecords (print_meaning o.year) left rest f
 
 -- why `lanes` refuses the input: the records, then a thread that could not be started
 abbrev pub RefusesLanes : ℕ → Option (List ℕ) → Option (List ℕ) → CommandFault → Type 0
-RefusesLanes lanes left rest command.NoThread = Takes (computed (lanes_fault lanes)) (λ rows. ⊤) left rest
-RefusesLanes lanes left rest f = RefusesRecords (computed (lanes_fault lanes)) left rest f
+RefusesLanes lanes left rest command.NoThread = Takes (lanes_meaning lanes) (λ rows. ⊤) left rest
+RefusesLanes lanes left rest f = RefusesRecords (lanes_meaning lanes) left rest f
 
 -- a source gave all its bytes, and they are images of which one has not the grid's size
 abbrev pub GaveOtherSize : ScanOptions → Option (List ℕ) → Option (List ℕ) → Type 0
@@ -103,15 +100,15 @@ RefusesScan o left rest f = IsGrid (cells_of o.grid) × RefusesImages o left res
 
 -- a line for each record, under the reference year
 abbrev pub check_command : ℕ → Command
-check_command year = record { writes = WritesRecords (computed check_fault) (IsCheckReport year); refuses = RefusesRecords (computed check_fault) }
+check_command year = record { writes = WritesRecords (check_meaning year) (λ answers text. text ≡ check_report answers); refuses = RefusesRecords (check_meaning year) }
 
 -- the labels of the records, as images of sheets or as lines
 abbrev pub print_command : PrintOptions → Command
-print_command o = record { writes = WritesRecords (print_test o.year) (IsPrint o); refuses = RefusesPrint o }
+print_command o = record { writes = WritesRecords (print_meaning o.year) (IsPrint o); refuses = RefusesPrint o }
 
 -- the report of the answers to the rows that records give each lane
 abbrev pub lanes_command : LaneOptions → Command
-lanes_command o = record { writes = WritesRecords (computed (lanes_fault o.lanes)) (λ rows text. IsReport o.year (feeds_of o.lanes rows) text); refuses = RefusesLanes o.lanes }
+lanes_command o = record { writes = WritesRecords (lanes_meaning o.lanes) (λ rows text. IsReport o.year (feeds_of o.lanes rows) text); refuses = RefusesLanes o.lanes }
 
 -- the report of the answers to the rows of the columns of images
 abbrev pub scan_command : ScanOptions → Command

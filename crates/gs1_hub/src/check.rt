@@ -1,9 +1,4 @@
 //! The command `check`: records of a kind and a text in, a line for each out.
-ghost use Rattle.std.specs.Prelude.{◌≡◌, ◌≢◌, ◌↔◌, true, false, IfErr, IsErrOf, OnOk};
-ghost use Rattle.std.specs.Io.KnownBytes.{Appends};
-ghost use Rattle.digits_core.specs.Bytes.{TookFront};
-ghost use Rattle.line_core.specs.check.Checks.{IsCheckReport, check_fault};
-ghost use Rattle.line_core.specs.input.Records.{computed};
 ghost use Rattle.gs1_hub.specs.Commands.{Ran, check_command};
 
 use crate::fault::CommandFault;

@@ -1,10 +1,5 @@
 //! The command `lanes`: records in, the answers of each lane out.
-ghost use Rattle.std.specs.Prelude.{◌≡◌, ◌≢◌, ◌↔◌, true, false, IfErr, IsErrOf, OnOk};
-ghost use Rattle.std.specs.Io.KnownBytes.{Appends};
-ghost use Rattle.digits_core.specs.Bytes.{TookFront};
 ghost use Rattle.gs1_hub.specs.Commands.{Ran, lanes_command};
-ghost use Rattle.line_core.specs.lanes.Feeds.{lanes_fault};
-ghost use Rattle.line_core.specs.input.Records.{computed};
 
 use crate::fault::CommandFault;
 use crate::options::LaneOptions;

@@ -1,10 +1,8 @@
 //! The program: GS1 bar codes from the command line.
 #![tactic(auto)]
 
-ghost use Rattle.std.specs.Prelude.{◌≡◌, ◌≢◌, ◌↔◌, true, false, IfErr, IfOk, IsErrOf, OnOk};
-ghost use Rattle.std.specs.Io.KnownBytes.{Appends};
+ghost use Rattle.std.specs.Prelude.{◌≡◌, IfOk};
 ghost use Rattle.std.specs.Process.{exit_status};
-ghost use Rattle.digits_core.specs.Bytes.{TookFront};
 ghost use Rattle.gs1_hub.specs.Commands.{Ran, command_of};
 ghost use Rattle.gs1_hub.specs.Faults.{status_of, words_status};
 

@@ -1,12 +1,10 @@
 //! The command `print`: records of a kind and a text in, the images of their labels out.
 ghost use Rattle.std.specs.Prelude.{◌≡◌, ◌≢◌, ◌↔◌, List, ℕ, true, false, IfErr, IsErrOf, OnOk};
-ghost use Rattle.std.specs.List.{AllZip};
 ghost use Rattle.std.specs.Io.KnownBytes.{Appends};
 ghost use Rattle.digits_core.specs.Bytes.{TookFront};
 ghost use Rattle.gs1_hub.specs.Commands.{Ran, print_command};
 ghost use Rattle.line_core.specs.Grids.{cells_of};
-ghost use Rattle.line_core.specs.print.Labels.{IsLabelOf, print_test};
-ghost use Rattle.gs1_hub.specs.Prints.{IsPrint, IsPrinted, IsUnprinted};
+ghost use Rattle.gs1_hub.specs.Prints.{IsPrinted, IsUnprinted};
 
 use crate::fault::CommandFault;
 use crate::options::PrintOptions;

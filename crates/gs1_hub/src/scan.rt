@@ -1,7 +1,4 @@
 //! The command `scan`: images of sheets in, the answers of their columns out.
-ghost use Rattle.std.specs.Prelude.{◌≡◌, ◌≢◌, ◌↔◌, true, false, IfErr, IsErrOf, OnOk};
-ghost use Rattle.std.specs.Io.KnownBytes.{Appends};
-ghost use Rattle.digits_core.specs.Bytes.{TookFront};
 ghost use Rattle.gs1_hub.specs.Commands.{Ran, scan_command};
 
 use crate::fault::CommandFault;

@@ -4,14 +4,15 @@ use Rattle.std.specs.List.{filter, range_with_len}
 use Rattle.std.proofs.lemmas.Bool.Decides.{nat_tests}
 use Rattle.std.proofs.lemmas.List.{length-map}
 use Rattle.std.proofs.lemmas.List.Filters.{length-filter_both}
+use Rattle.std.proofs.lemmas.Slice.Zip.{AllZip-long}
 use Rattle.csv.specs.Machine.{Read, next_record}
 use Rattle.csv.specs.Reading.{default_config, records_from, records_next, strip_bom}
 use Rattle.csv.specs.declared.parser.Config.{Config}
 use Rattle.csv.specs.declared.parser.State.{State}
 use Rattle.csv.specs.declared.parser.State.TheVariants as st
 use Rattle.hub_core.specs.Serving.{are_short}
-use Rattle.line_core.specs.lanes.Feeds.{feed_of, feeds_of, lane_of, row_of}
-use Rattle.line_core.specs.input.Records.{Fields, most_bytes, records_of}
+use Rattle.line_core.specs.lanes.Feeds.{LaneRow, feed_of, feeds_of}
+use Rattle.line_core.specs.input.Records.{Mean, Meaning, records_of}
 use Rattle.line_core.proofs.input.Reaching.{stripped_short}
 
 -- one record more, or none
@@ -32,10 +33,10 @@ records_few bytes =
     omega (arith, few, stripped_short bytes)
 
 -- a lane has as many rows as there are records at most
-feed_short : (rows : List Fields) (lane : ℕ) → length (feed_of lane rows) ≤ length rows
+feed_short : (rows : List LaneRow) (lane : ℕ) → length (feed_of lane rows) ≤ length rows
 feed_short rows lane =
-    let both = length-filter_both (λ (r : Fields). lane_of r == lane) (λ r. not (lane_of r == lane)) (λ r. refl) rows in
-    omega (arith, both, length-map (filter (λ (r : Fields). lane_of r == lane) rows) row_of)
+    let both = length-filter_both (λ (r : LaneRow). r.0 == lane) (λ r. not (r.0 == lane)) (λ r. refl) rows in
+    omega (arith, both, length-map (filter (λ (r : LaneRow). r.0 == lane) rows) (λ x. x.1))
 
 all_short : (f : ℕ → List (List ℕ)) (most : (k : ℕ) → length (f k) ≤ 4294967295) (ks : List ℕ) → are_short (map f ks) ≡ true
 all_short f most [] = refl
@@ -44,8 +45,9 @@ all_short f most (k ∷ ks) =
     let low : nat_le (length (f k)) 4294967295 ≡ true = grind (arith, nat_tests) in
     rw (low, all_short f most ks) refl
 
--- what a source gave has feeds that are short enough to be served
-pub feeds_short : (lanes : ℕ) (bytes : List ℕ) → length bytes ≤ most_bytes → are_short (feeds_of lanes (records_of bytes)) ≡ true
-feeds_short lanes bytes small =
+-- what the records of an input mean has feeds that are short enough to be served
+pub feeds_short : (lanes : ℕ) (means : Meaning LaneRow) (bytes : List ℕ) (rows : List LaneRow) → Mean means bytes rows → are_short (feeds_of lanes rows) ≡ true
+feeds_short lanes means bytes rows h =
     let few = records_few bytes in
-    all_short (λ lane. feed_of lane (records_of bytes)) (λ lane. let short = feed_short (records_of bytes) lane in omega (arith, short, few, small)) (range_with_len 0 lanes)
+    let long = AllZip-long _ (records_of bytes) rows h.1 in
+    all_short (λ lane. feed_of lane rows) (λ lane. let short = feed_short rows lane in omega (arith, short, few, long, h.0)) (range_with_len 0 lanes)

@@ -1,7 +1,6 @@
 -- What `check` answers to a record: a kind and a text.
-use Rattle.std.specs.Prelude.{◌≡◌, ◌==◌, ◌&&◌, ◌++◌, ◌<◌, ◌-◌, nat_le, ℕ, List, [], ◌∷◌, Option, Some, None, length, flat_map, slice_index, slice_range, codes, if◌then◌else◌}
+use Rattle.std.specs.Prelude.{◌≡◌, ◌==◌, ◌&&◌, ◌++◌, ◌<◌, ◌-◌, nat_le, ℕ, List, [], ◌∷◌, Option, Some, None, Result, Ok, Err, length, flat_map, slice_index, slice_range, codes, if◌then◌else◌}
 use Rattle.std.specs.Fmt.{decimal}
-use Rattle.std.specs.List.{AllZip}
 use Rattle.std.specs.Str.{bytes_eq}
 use Rattle.digits_core.specs.Digits.{IsChecked, ascii_of, digits_of, padded}
 use Rattle.digits_core.specs.Faults.{digit_fault_text}
@@ -11,7 +10,7 @@ use Rattle.digits_core.specs.declared.fault.DigitFault.{DigitFault}
 use Rattle.digits_core.specs.declared.fault.DigitFault.TheVariants as digits
 use Rattle.element_core.specs.Elements.{FirstFault, IsElements, hri}
 use Rattle.element_core.specs.Faults.{element_fault_text}
-use Rattle.line_core.specs.input.Records.{Fields}
+use Rattle.line_core.specs.input.Records.{Meaning}
 use Rattle.line_core.specs.input.Spelling.{spelled_text}
 use Rattle.line_core.specs.declared.check.answer.CheckAnswer.{CheckAnswer}
 use Rattle.line_core.specs.declared.check.answer.CheckAnswer.TheVariants as answer
@@ -91,23 +90,15 @@ IsAnswerAs year kind.Upce text a = IsUpceAnswer text a
 IsAnswerAs year kind.Text text a = IsTextAnswer year text a
 
 -- the same by the name of the kind
-abbrev pub IsAnswerBy : ℕ → Option CheckKind → List ℕ → CheckAnswer → Type 0
-IsAnswerBy year (Some kind) text a = IsAnswerAs year kind text a
-IsAnswerBy year None text a = ⊥
+abbrev pub IsAnswerBy : ℕ → Option CheckKind → List ℕ → Result CheckAnswer RecordFault → Type 0
+IsAnswerBy year (Some kind) text (Ok a) = IsAnswerAs year kind text a
+IsAnswerBy year (Some kind) text (Err f) = ⊥
+IsAnswerBy year None text r = r ≡ Err fault.Kind
 
--- the answer to a record
-abbrev pub IsCheckAnswer : ℕ → Fields → CheckAnswer → Type 0
-IsCheckAnswer year (name ∷ text ∷ []) a = IsAnswerBy year (kind_named name) text a
-IsCheckAnswer year _ a = ⊥
-
--- why a record refuses the input, if it does: the number of its fields, then its kind
-abbrev pub kind_fault : Option CheckKind → Option RecordFault
-kind_fault (Some kind) = None
-kind_fault None = Some fault.Kind
-
-abbrev pub check_fault : Fields → Option RecordFault
-check_fault (name ∷ text ∷ []) = kind_fault (kind_named name)
-check_fault _ = Some fault.Csv
+-- what a record means: the answer to its text, or its fault: the number of its fields, then its kind
+abbrev pub check_meaning : ℕ → Meaning CheckAnswer
+check_meaning year (name ∷ text ∷ []) r = IsAnswerBy year (kind_named name) text r
+check_meaning year _ r = r ≡ Err fault.Csv
 
 -- ---- lines
 
@@ -119,7 +110,6 @@ check_text (answer.Read es) = codes "hri " ++ hri es.list
 check_text (answer.BadDigits f) = digit_fault_text f
 check_text (answer.BadElements f) = element_fault_text f
 
--- the text is the lines of the answers to these records
-abbrev pub IsCheckReport : ℕ → List Fields → List ℕ → Type 0
-IsCheckReport year rows text = (answers : List CheckAnswer) × AllZip (IsCheckAnswer year) rows answers
-    × (text ≡ flat_map (λ a. check_text a ++ (10 ∷ [])) answers)
+-- the lines of answers
+abbrev pub check_report : List CheckAnswer → List ℕ
+check_report answers = flat_map (λ a. check_text a ++ (10 ∷ [])) answers

@@ -1,6 +1,6 @@
 -- The records of an input, and the first that is refused.
-use Rattle.std.specs.Prelude.{◌≡◌, ◌≤◌, ⊤, ℕ, List, Option, Some, None, length, slice_get, take}
-use Rattle.std.specs.List.{AllByRecursion}
+use Rattle.std.specs.Prelude.{◌≡◌, ◌≤◌, ⊤, ℕ, List, Option, Result, Ok, Err, Some, length, slice_get, take}
+use Rattle.std.specs.List.{AllZip}
 use Rattle.digits_core.specs.Bytes.{GaveAll, GaveAtMost, GaveMoreThan}
 use Rattle.csv.specs.Reading.{default_config, records, strip_bom}
 use Rattle.line_core.specs.declared.input.fault.RecordsFault.{RecordsFault}
@@ -15,44 +15,44 @@ Fields = List (List ℕ)
 abbrev pub records_of : List ℕ → List Fields
 records_of bytes = records default_config (strip_bom bytes)
 
--- a record has this fault, or none
-abbrev pub Test : Type 1
-Test = Fields → Option RecordFault → Type 0
+-- what the fields of a record mean: an item, or a fault
+abbrev pub Meaning : Type 0 → Type 1
+Meaning Item = Fields → Result Item RecordFault → Type 0
 
--- the test by a rule that computes the fault
-abbrev pub computed : (Fields → Option RecordFault) → Test
-computed fault_of fields fault = fault_of fields ≡ fault
+-- each record means the item that stands beside it
+abbrev pub AreItems : {Item : Type 0} → Meaning Item → List Fields → List Item → Type 0
+AreItems means rows items = AllZip (λ fields item. means fields (Ok item)) rows items
 
--- no record is faulty
-abbrev pub NoneFaulty : Test → List Fields → Type 0
-NoneFaulty test rows = AllByRecursion (λ r. test r None) rows
-
--- the first faulty record has this index and this fault
-pub record IsFirstFault (test : Test) (rows : List Fields) (i : ℕ) (f : RecordFault) : Type 0 where
+-- the first record that means no item has this index and this fault
+pub record IsFirstFault {Item : Type 0} (means : Meaning Item) (rows : List Fields) (i : ℕ) (f : RecordFault) : Type 0 where
   pub fields : Fields
   pub here : slice_get rows i ≡ Some fields
-  pub before : NoneFaulty test (take i rows)
-  pub faulty : test fields (Some f)
+  pub items : List Item
+  pub before : AreItems means (take i rows) items
+  pub faulty : means fields (Err f)
 
 -- the refusal names the first faulty record, or memory
-abbrev pub NamesFirst : Test → List Fields → RecordsFault → Type 0
-NamesFirst test rows (refused.Record i f) = IsFirstFault test rows i f
-NamesFirst test rows refused.NoMemory = ⊤
-NamesFirst test rows _ = ⊥
+abbrev pub NamesFirst : {Item : Type 0} → Meaning Item → List Fields → RecordsFault → Type 0
+NamesFirst means rows (refused.Record i f) = IsFirstFault means rows i f
+NamesFirst means rows refused.NoMemory = ⊤
+NamesFirst means rows _ = ⊥
 
 -- how many bytes a command reads
 abbrev pub most_bytes : ℕ
 most_bytes = 16777216
 
--- a source gave all its bytes, no record of them is faulty, and this is true of the records
-abbrev pub Takes : Test → (List Fields → Type 0) → Option (List ℕ) → Option (List ℕ) → Type 0
-Takes test made left rest = (bytes : List ℕ) × GaveAll left rest bytes × (length bytes ≤ most_bytes)
-    × NoneFaulty test (records_of bytes) × made (records_of bytes)
+-- the records of these bytes, which are not too many, mean these items
+abbrev pub Mean : {Item : Type 0} → Meaning Item → List ℕ → List Item → Type 0
+Mean means bytes items = (length bytes ≤ most_bytes) × AreItems means (records_of bytes) items
+
+-- a source gave all its bytes, and this is true of the items that they mean
+abbrev pub Takes : {Item : Type 0} → Meaning Item → (List Item → Type 0) → Option (List ℕ) → Option (List ℕ) → Type 0
+Takes means made left rest = (bytes : List ℕ) × GaveAll left rest bytes × (items : List _) × Mean means bytes items × made items
 
 -- why the records are refused
-abbrev pub Refuses : Test → Option (List ℕ) → Option (List ℕ) → RecordsFault → Type 0
-Refuses test left rest refused.ReadFault = GaveAtMost most_bytes left rest
-Refuses test left rest refused.InputSize = GaveMoreThan most_bytes left rest
-Refuses test left rest (refused.Record i f) = (bytes : List ℕ) × GaveAll left rest bytes
-    × (length bytes ≤ most_bytes) × IsFirstFault test (records_of bytes) i f
-Refuses test left rest refused.NoMemory = ⊤
+abbrev pub Refuses : {Item : Type 0} → Meaning Item → Option (List ℕ) → Option (List ℕ) → RecordsFault → Type 0
+Refuses means left rest refused.ReadFault = GaveAtMost most_bytes left rest
+Refuses means left rest refused.InputSize = GaveMoreThan most_bytes left rest
+Refuses means left rest (refused.Record i f) = (bytes : List ℕ) × GaveAll left rest bytes
+    × (length bytes ≤ most_bytes) × IsFirstFault means (records_of bytes) i f
+Refuses means left rest refused.NoMemory = ⊤

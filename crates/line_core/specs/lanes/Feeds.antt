@@ -1,8 +1,8 @@
 -- The rows that records give each lane.
-use Rattle.std.specs.Prelude.{◌==◌, ◌&&◌, nat_lt, ℕ, Bool, List, [], ◌∷◌, Option, Some, get_or, map, if◌then◌else◌}
+use Rattle.std.specs.Prelude.{◌≡◌, ◌==◌, ◌&&◌, nat_lt, ℕ, Bool, List, [], ◌∷◌, Option, Some, None, Result, Ok, Err, map, if◌then◌else◌}
 use Rattle.std.specs.List.{filter, range_with_len}
 use Rattle.std.specs.Str.Parse.{digits_value}
-use Rattle.line_core.specs.input.Records.{Fields}
+use Rattle.line_core.specs.input.Records.{Fields, Meaning}
 use Rattle.line_core.specs.lanes.Widths.{field_fault, is_number, widths_in}
 use Rattle.line_core.specs.declared.input.fault.RecordFault.{RecordFault}
 use Rattle.line_core.specs.declared.input.fault.RecordFault.TheVariants as fault
@@ -11,22 +11,27 @@ use Rattle.line_core.specs.declared.input.fault.RecordFault.TheVariants as fault
 abbrev pub is_lane : ℕ → List ℕ → Bool
 is_lane lanes text = is_number 2 text && nat_lt (digits_value 10 text) lanes
 
--- why a record gives no row, if it gives none: the number of its fields, then its lane, then its widths
-abbrev pub lanes_fault : ℕ → Fields → Option RecordFault
-lanes_fault lanes (lane ∷ row ∷ []) = if is_lane lanes lane then field_fault row else Some fault.BadLane
-lanes_fault lanes _ = Some fault.Csv
+-- a row of a lane
+abbrev pub LaneRow : Type 0
+LaneRow = ℕ × List ℕ
 
--- the lane of a record, and its row
-abbrev pub lane_of : Fields → ℕ
-lane_of fields = digits_value 10 (get_or fields 0 [])
+-- the row of a field, unless it has a fault
+abbrev pub row_or : Option RecordFault → LaneRow → Result LaneRow RecordFault
+row_or None row = Ok row
+row_or (Some f) row = Err f
 
-abbrev pub row_of : Fields → List ℕ
-row_of fields = widths_in (get_or fields 1 [])
+-- what a record means: a row of a lane, or its fault: the number of its fields, then its lane, then its widths
+abbrev pub lane_row : ℕ → Fields → Result LaneRow RecordFault
+lane_row lanes (lane ∷ widths ∷ []) = if is_lane lanes lane then row_or (field_fault widths) (digits_value 10 lane, widths_in widths) else Err fault.BadLane
+lane_row lanes _ = Err fault.Csv
+
+abbrev pub lanes_meaning : ℕ → Meaning LaneRow
+lanes_meaning lanes fields r = r ≡ lane_row lanes fields
 
 -- the rows of a lane, in the order of their records
-abbrev pub feed_of : ℕ → List Fields → List (List ℕ)
-feed_of lane rows = map row_of (filter (λ r. lane_of r == lane) rows)
+abbrev pub feed_of : ℕ → List LaneRow → List (List ℕ)
+feed_of lane rows = map (λ r. r.1) (filter (λ r. r.0 == lane) rows)
 
 -- the rows of each lane
-abbrev pub feeds_of : ℕ → List Fields → List (List (List ℕ))
+abbrev pub feeds_of : ℕ → List LaneRow → List (List (List ℕ))
 feeds_of lanes rows = map (λ lane. feed_of lane rows) (range_with_len 0 lanes)

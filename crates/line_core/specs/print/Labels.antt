@@ -1,15 +1,16 @@
 -- The labels of records, each a kind and a text, and their lines.
-use Rattle.std.specs.Prelude.{◌≡◌, ◌++◌, ◌+◌, ◌/◌, ◌%◌, ℕ, List, [], ◌∷◌, Option, Some, None, codes, if◌then◌else◌}
+use Rattle.std.specs.Prelude.{◌≡◌, ◌++◌, ◌+◌, ◌/◌, ◌%◌, ℕ, List, [], ◌∷◌, Option, Some, None, Result, Ok, Err, codes, if◌then◌else◌}
 use Rattle.std.specs.Fmt.{decimal}
 use Rattle.std.specs.Str.{bytes_eq}
 use Rattle.digits_core.specs.Digits.{digits_of, padded}
 use Rattle.digits_core.specs.Gtins.{gtin_fault}
 use Rattle.digits_core.specs.declared.fault.DigitFault.{DigitFault}
+use Rattle.element_core.specs.declared.fault.ElementFault.{ElementFault}
 use Rattle.element_core.specs.Elements.{Entry, FirstFault, IsElements, Listing, gtin_entry, hri}
 use Rattle.sheet_core.specs.declared.label.Label.{Label}
 use Rattle.sheet_core.specs.declared.label.Label.TheVariants as label
 use Rattle.line_core.specs.input.Spelling.{spelled_text}
-use Rattle.line_core.specs.input.Records.{Fields, Test}
+use Rattle.line_core.specs.input.Records.{Meaning}
 use Rattle.line_core.specs.declared.input.fault.RecordFault.{RecordFault}
 use Rattle.line_core.specs.declared.input.fault.RecordFault.TheVariants as fault
 use Rattle.line_core.specs.declared.print.label_record.PrintKind.{PrintKind}
@@ -25,69 +26,40 @@ print_kind_named name =
     else if bytes_eq name (codes "gs1128") then Some kind.Gs1128
     else None
 
--- ---- labels
-
--- the label made of the GTIN that a text shows (GS1 General Specifications, section 3.3)
-abbrev pub IsGtinLabel : (List ℕ → Label) → List ℕ → Label → Type 0
-IsGtinLabel make text l = (gtin_fault text ≡ None) × (l ≡ make (padded (digits_of text)))
-
--- the label of the elements that a text says (section 7.8)
-abbrev pub IsElementLabel : ℕ → List ℕ → Label → Type 0
-IsElementLabel year text l = (es : Listing) × (l ≡ label.Gs1128 es) × (es.year ≡ year) × IsElements year text es.list
-
--- the label of a field, as one of this kind
-abbrev pub IsLabelAs : ℕ → PrintKind → List ℕ → Label → Type 0
-IsLabelAs year kind.Ean13 field l = IsGtinLabel label.Ean13 field l
-IsLabelAs year kind.UpcA field l = IsGtinLabel label.UpcA field l
-IsLabelAs year kind.Ean8 field l = IsGtinLabel label.Ean8 field l
-IsLabelAs year kind.UpcE field l = IsGtinLabel label.UpcE field l
-IsLabelAs year kind.Gs1128 field l = IsElementLabel year (spelled_text field) l
-
--- the same by the name of the kind
-abbrev pub IsLabelBy : ℕ → Option PrintKind → List ℕ → Label → Type 0
-IsLabelBy year (Some kind) field l = IsLabelAs year kind field l
-IsLabelBy year None field l = ⊥
-
--- the label of a record
-abbrev pub IsLabelOf : ℕ → Fields → Label → Type 0
-IsLabelOf year (name ∷ field ∷ []) l = IsLabelBy year (print_kind_named name) field l
-IsLabelOf year _ l = ⊥
-
--- ---- records that give no label
-
 -- a fault of digits, as the record's
 abbrev pub of_digits : Option DigitFault → Option RecordFault
 of_digits (Some f) = Some (fault.Digits f)
 of_digits None = None
 
--- a text says elements, or has this first fault
-abbrev pub IsElementTest : ℕ → List ℕ → Option RecordFault → Type 0
-IsElementTest year text None = (es : List Entry) × IsElements year text es
-IsElementTest year text (Some (fault.Elements f)) = FirstFault year text f
-IsElementTest year text (Some (fault.Digits f)) = ⊥
-IsElementTest year text (Some fault.Csv) = ⊥
-IsElementTest year text (Some fault.Kind) = ⊥
-IsElementTest year text (Some fault.BadLane) = ⊥
-IsElementTest year text (Some fault.BadRuns) = ⊥
-IsElementTest year text (Some fault.TooWide) = ⊥
+-- ---- labels
 
--- a field as one of this kind has this fault, or none
-abbrev pub IsFieldTest : ℕ → PrintKind → List ℕ → Option RecordFault → Type 0
-IsFieldTest year kind.Ean13 field o = of_digits (gtin_fault field) ≡ o
-IsFieldTest year kind.UpcA field o = of_digits (gtin_fault field) ≡ o
-IsFieldTest year kind.Ean8 field o = of_digits (gtin_fault field) ≡ o
-IsFieldTest year kind.UpcE field o = of_digits (gtin_fault field) ≡ o
-IsFieldTest year kind.Gs1128 field o = IsElementTest year (spelled_text field) o
+-- the label of a GTIN, or the fault of its digits
+abbrev pub IsGtinLabel : (List ℕ → Label) → List ℕ → Result Label RecordFault → Type 0
+IsGtinLabel make text (Ok l) = (gtin_fault text ≡ None) × (l ≡ make (padded (digits_of text)))
+IsGtinLabel make text (Err f) = of_digits (gtin_fault text) ≡ Some f
+
+-- the label of the elements that a text says (section 7.8), or their first fault
+abbrev pub IsElementLabel : ℕ → List ℕ → Result Label RecordFault → Type 0
+IsElementLabel year text (Ok l) = (es : Listing) × (l ≡ label.Gs1128 es) × (es.year ≡ year) × IsElements year text es.list
+IsElementLabel year text (Err f) = (e : ElementFault) × (f ≡ fault.Elements e) × FirstFault year text e
+
+-- the label of a field, as one of this kind, or its fault
+abbrev pub IsLabelAs : ℕ → PrintKind → List ℕ → Result Label RecordFault → Type 0
+IsLabelAs year kind.Ean13 field r = IsGtinLabel label.Ean13 field r
+IsLabelAs year kind.UpcA field r = IsGtinLabel label.UpcA field r
+IsLabelAs year kind.Ean8 field r = IsGtinLabel label.Ean8 field r
+IsLabelAs year kind.UpcE field r = IsGtinLabel label.UpcE field r
+IsLabelAs year kind.Gs1128 field r = IsElementLabel year (spelled_text field) r
 
 -- the same by the name of the kind
-abbrev pub IsKindTest : ℕ → Option PrintKind → List ℕ → Option RecordFault → Type 0
-IsKindTest year (Some kind) field o = IsFieldTest year kind field o
-IsKindTest year None field o = Some fault.Kind ≡ o
+abbrev pub IsLabelBy : ℕ → Option PrintKind → List ℕ → Result Label RecordFault → Type 0
+IsLabelBy year (Some kind) field r = IsLabelAs year kind field r
+IsLabelBy year None field r = r ≡ Err fault.Kind
 
--- a record has this fault, or none: the number of its fields, then its kind, then its second field
-abbrev pub print_test : ℕ → Test
-print_test year (name ∷ field ∷ []) o = IsKindTest year (print_kind_named name) field o
-print_test year _ o = Some fault.Csv ≡ o
+-- what a record means: a label, or its fault: the number of its fields, then its kind, then its second field
+abbrev pub print_meaning : ℕ → Meaning Label
+print_meaning year (name ∷ field ∷ []) r = IsLabelBy year (print_kind_named name) field r
+print_meaning year _ r = r ≡ Err fault.Csv
 
 -- ---- what is written
 

@@ -1,9 +1,9 @@
 //! Records of a kind and a text in, a line for each out.
 ghost use Rattle.std.specs.Prelude.{◌≡◌, ◌↔◌, true, false, IfErr, IfOk, IsErrOf, string_bytes};
-ghost use Rattle.line_core.specs.check.Checks.{IsCheckReport, check_fault};
-ghost use Rattle.line_core.specs.input.Records.{Refuses, Takes, computed};
+ghost use Rattle.line_core.specs.check.Checks.{check_meaning, check_report};
+ghost use Rattle.line_core.specs.input.Records.{Refuses, Takes};
 
-use crate::check::answer::{answer_to, kind_named};
+use crate::check::answer::{CheckAnswer, answer_to, kind_named};
 use crate::input::fault::{RecordFault, RecordRefusal, RecordsFault};
 use crate::input::records::{Intake, read_input, two_fields};
 use csv::ByteRecord;
@@ -19,11 +19,13 @@ struct CheckRecords {
 }
 
 impl Intake for CheckRecords {
+    type Item = CheckAnswer;
+
     type Made = String;
 
-    ghost fault = { λ records. computed check_fault };
+    ghost means = { λ records. check_meaning records.year };
 
-    ghost makes = { λ records rows lines. IsCheckReport records.year rows (string_bytes lines) };
+    ghost makes = { λ records answers lines. string_bytes lines ≡ check_report answers };
 
     fn take(&self, lines: &mut String, fields: &ByteRecord) -> Result<(), RecordRefusal> {
         let Some((name, text)) = two_fields(fields) else {
@@ -47,10 +49,10 @@ pub fn check_lines<S: Source>(
     year: Year,
     source: &mut S,
 ) -> Result<String, RecordsFault>
-    ensures ok { IfOk result (λ lines. Takes (computed check_fault)
-        (λ rows. IsCheckReport year rows (string_bytes lines)) (S.left source.old) (S.left source.new)) }
+    ensures ok { IfOk result (λ lines. Takes (check_meaning year)
+        (λ answers. string_bytes lines ≡ check_report answers) (S.left source.old) (S.left source.new)) }
     ensures refused { IfErr result
-        (Refuses (computed check_fault) (S.left source.old) (S.left source.new)) }
+        (Refuses (check_meaning year) (S.left source.old) (S.left source.new)) }
     ensures fault { S.failed source.old ≡ false
         → (IsErrOf result RecordsFault.ReadFault ↔ (S.failed source.new ≡ true)) }
 {

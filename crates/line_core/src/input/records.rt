@@ -1,7 +1,7 @@
 //! The records of an input, which a command takes one after another.
 ghost use Rattle.std.specs.Prelude.{None, Some, [], ◌≡◌, ◌≢◌, ◌∷◌, ◌++◌, ◌↔◌, ◌≤◌, List, Option, length, true, false, IfErr, IfNone, IfSome, IsErrOf, OnOk};
 ghost use Rattle.csv.specs.Records.{fields_of};
-ghost use Rattle.line_core.specs.input.Records.{Fields, NamesFirst, NoneFaulty, Refuses, Takes, Test, records_of};
+ghost use Rattle.line_core.specs.input.Records.{AreItems, Meaning, NamesFirst, Refuses, Takes, records_of};
 ghost use Rattle.line_core.specs.declared.input.fault.RecordFault.{RecordFault};
 
 use crate::input::fault::{RecordRefusal, RecordsFault};
@@ -14,22 +14,24 @@ pub const INPUT_LIMIT: usize = 16_777_216;
 
 /// What a command makes of records.
 pub trait Intake {
-    /// What it makes.
+    /// What a record means to it.
+    type Item;
+    /// What it makes of the items.
     type Made;
 
-    // Which records it refuses, and why.
-    ghost fault: { Self → Test };
-    // This is what it makes of these records.
-    ghost makes: { Self → List Fields → Self.Made → Type 0 };
+    // A record means this item, or has this fault.
+    ghost means: { Self → Meaning Self.Item };
+    // This is what it makes of these items.
+    ghost makes: { Self → List Self.Item → Self.Made → Type 0 };
 
     /// Takes one more record.
     fn take(&self, made: &mut Self::Made, fields: &ByteRecord) -> Result<(), RecordRefusal>
-        requires { (rows : List Fields) × makes self.now rows made.old }
-        ensures made { OnOk result ((rows : List Fields) → makes self.now rows made.old
-            → makes self.now (rows ++ fields_of fields.now ∷ []) made.new) }
-        ensures taken { OnOk result (fault self.now (fields_of fields.now) None) }
+        requires { (items : List Self.Item) × makes self.now items made.old }
+        ensures taken { OnOk result ((item : Self.Item) × means self.now (fields_of fields.now) (Ok item)
+            × ((items : List Self.Item) → makes self.now items made.old
+            → makes self.now (items ++ item ∷ []) made.new)) }
         ensures refused { (f : RecordFault) → result ≡ Err (RecordRefusal.Record f)
-            → fault self.now (fields_of fields.now) (Some f) };
+            → means self.now (fields_of fields.now) (Err f) };
 }
 
 /// The fields of a record that has two.
@@ -58,9 +60,9 @@ fn read_records<I: Intake>(
 ) -> Result<(), RecordsFault>
     requires start { I.makes intake.now [] made.old }
     requires few { length bytes.now ≤ INPUT_LIMIT }
-    ensures ok { OnOk result (I.makes intake.now (records_of bytes.now) made.new) }
-    ensures taken { OnOk result (NoneFaulty (I.fault intake.now) (records_of bytes.now)) }
-    ensures refused { IfErr result (NamesFirst (I.fault intake.now) (records_of bytes.now)) }
+    ensures ok { OnOk result ((items : List I.Item) × AreItems (I.means intake.now) (records_of bytes.now) items
+        × I.makes intake.now items made.new) }
+    ensures refused { IfErr result (NamesFirst (I.means intake.now) (records_of bytes.now)) }
 {
     let reader = ReaderBuilder::new()
         .has_headers(false)
@@ -91,10 +93,10 @@ pub fn read_input<I: Intake, S: Source>(
     source: &mut S,
 ) -> Result<(), RecordsFault>
     requires { I.makes intake.now [] made.old }
-    ensures ok { OnOk result (Takes (I.fault intake.now)
-        (λ rows. I.makes intake.now rows made.new) (S.left source.old) (S.left source.new)) }
+    ensures ok { OnOk result (Takes (I.means intake.now)
+        (λ items. I.makes intake.now items made.new) (S.left source.old) (S.left source.new)) }
     ensures refused { IfErr result
-        (Refuses (I.fault intake.now) (S.left source.old) (S.left source.new)) }
+        (Refuses (I.means intake.now) (S.left source.old) (S.left source.new)) }
     ensures fault { S.failed source.old ≡ false
         → (IsErrOf result RecordsFault.ReadFault ↔ (S.failed source.new ≡ true)) }
 {

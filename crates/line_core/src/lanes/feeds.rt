@@ -2,8 +2,8 @@
 ghost use Rattle.std.specs.Prelude.{None, Some, [], ◌≡◌, ◌<◌, ◌↔◌, false, length, map, true, IfErr, IfNone, IfOk, IfSome, IsErrOf, OnOk};
 ghost use Rattle.csv.specs.Records.{fields_of};
 ghost use Rattle.hub_core.specs.Serving.{are_short};
-ghost use Rattle.line_core.specs.lanes.Feeds.{feeds_of, is_lane, lane_of, lanes_fault, row_of};
-ghost use Rattle.line_core.specs.input.Records.{Refuses, Takes, computed};
+ghost use Rattle.line_core.specs.lanes.Feeds.{feeds_of, is_lane, lanes_meaning};
+ghost use Rattle.line_core.specs.input.Records.{Refuses, Takes};
 ghost use Rattle.line_core.specs.lanes.Widths.{number_in};
 ghost use Rattle.line_core.specs.declared.input.fault.RecordFault.{RecordFault};
 
@@ -34,12 +34,10 @@ fn read_record(
     fields: &ByteRecord,
     widths: &mut Vec<u16>,
 ) -> Result<(u8, Runs), RecordRefusal>
-    ensures lane { IfOk result (λ p. p.0 ≡ lane_of (fields_of fields.now)) }
-    ensures low { IfOk result (λ p. p.0 < lanes) }
-    ensures row { IfOk result (λ p. p.1 ≡ row_of (fields_of fields.now)) }
-    ensures taken { OnOk result (lanes_fault lanes (fields_of fields.now) ≡ None) }
+    ensures row { IfOk result (λ row. lanes_meaning lanes (fields_of fields.now) (Ok row)) }
+    ensures low { IfOk result (λ row. row.0 < lanes) }
     ensures refused { (f : RecordFault) → result ≡ Err (RecordRefusal.Record f)
-        → lanes_fault lanes (fields_of fields.now) ≡ Some f }
+        → lanes_meaning lanes (fields_of fields.now) (Err f) }
 {
     let Some((first, second)) = two_fields(fields) else {
         return Err(RecordRefusal::Record(RecordFault::Csv));
@@ -84,9 +82,11 @@ struct LaneRecords {
 }
 
 impl Intake for LaneRecords {
+    type Item = (u8, Runs);
+
     type Made = Feeds;
 
-    ghost fault = { λ records. computed (lanes_fault records.lanes) };
+    ghost means = { λ records. lanes_meaning records.lanes };
 
     ghost makes = { λ records rows feeds. map (λ feed. feed.items) feeds.rows.items
         ≡ feeds_of records.lanes rows };
@@ -109,12 +109,12 @@ pub fn read_feeds<S: Source>(
     lanes: u8,
     source: &mut S,
 ) -> Result<Vec<Vec<Runs>>, RecordsFault>
-    ensures ok { IfOk result (λ v. Takes (computed (lanes_fault lanes))
+    ensures ok { IfOk result (λ v. Takes (lanes_meaning lanes)
         (λ rows. map (λ feed. feed.items) v.items ≡ feeds_of lanes rows) (S.left source.old) (S.left source.new)) }
     ensures count { IfOk result (λ v. length v.items ≡ lanes) }
     ensures short { IfOk result (λ v. are_short (map (λ feed. feed.items) v.items) ≡ true) }
     ensures refused { IfErr result
-        (Refuses (computed (lanes_fault lanes)) (S.left source.old) (S.left source.new)) }
+        (Refuses (lanes_meaning lanes) (S.left source.old) (S.left source.new)) }
     ensures fault { S.failed source.old ≡ false
         → (IsErrOf result RecordsFault.ReadFault ↔ (S.failed source.new ≡ true)) }
 {

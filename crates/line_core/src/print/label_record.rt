@@ -3,7 +3,7 @@ ghost use Rattle.std.specs.Prelude.{None, Some, ◌≡◌, IfErr, IfOk, OnOk};
 ghost use Rattle.csv.specs.Records.{fields_of};
 ghost use Rattle.digits_core.specs.Digits.{digits_of, padded};
 ghost use Rattle.digits_core.specs.Gtins.{gtin_fault};
-ghost use Rattle.line_core.specs.print.Labels.{IsFieldTest, IsLabelAs, IsLabelOf, of_digits, print_kind_named, print_test};
+ghost use Rattle.line_core.specs.print.Labels.{IsLabelAs, of_digits, print_kind_named, print_meaning};
 
 use crate::input::element_field::read_elements;
 use crate::input::fault::RecordFault;
@@ -61,9 +61,7 @@ fn gtin_in(field: &[u8]) -> Result<Gtin, RecordFault>
 
 /// The label of a field, as one of this kind.
 fn label_as(kind: PrintKind, field: &[u8], year: Year) -> Result<Label, RecordFault>
-    ensures ok { IfOk result (IsLabelAs year kind field.now) }
-    ensures taken { OnOk result (IsFieldTest year kind field.now None) }
-    ensures refused { IfErr result (λ f. IsFieldTest year kind field.now (Some f)) }
+    ensures { IsLabelAs year kind field.now result }
 {
     match kind {
         PrintKind::Ean13 => Ok(Label::Ean13(gtin_in(field)?)),
@@ -79,9 +77,7 @@ fn label_as(kind: PrintKind, field: &[u8], year: Year) -> Result<Label, RecordFa
 
 /// The label of a record.
 pub fn label_of(fields: &ByteRecord, year: Year) -> Result<Label, RecordFault>
-    ensures ok { IfOk result (IsLabelOf year (fields_of fields.now)) }
-    ensures taken { OnOk result (print_test year (fields_of fields.now) None) }
-    ensures refused { IfErr result (λ f. print_test year (fields_of fields.now) (Some f)) }
+    ensures { print_meaning year (fields_of fields.now) result }
 {
     let Some((name, field)) = two_fields(fields) else {
         return Err(RecordFault::Csv);

@@ -1,8 +1,7 @@
 //! Records of a kind and a text in, a label for each out.
 ghost use Rattle.std.specs.Prelude.{◌≡◌, ◌↔◌, true, false, IfErr, IfOk, IsErrOf};
-ghost use Rattle.std.specs.List.{AllZip};
 ghost use Rattle.line_core.specs.input.Records.{Refuses, Takes};
-ghost use Rattle.line_core.specs.print.Labels.{IsLabelOf, print_test};
+ghost use Rattle.line_core.specs.print.Labels.{print_meaning};
 
 use crate::input::fault::{RecordRefusal, RecordsFault};
 use crate::input::records::{Intake, read_input};
@@ -20,11 +19,13 @@ struct LabelRecords {
 }
 
 impl Intake for LabelRecords {
+    type Item = Label;
+
     type Made = Vec<Label>;
 
-    ghost fault = { λ records. print_test records.year };
+    ghost means = { λ records. print_meaning records.year };
 
-    ghost makes = { λ records rows labels. AllZip (IsLabelOf records.year) rows labels.items };
+    ghost makes = { λ records items labels. labels.items ≡ items };
 
     fn take(&self, labels: &mut Vec<Label>, fields: &ByteRecord) -> Result<(), RecordRefusal> {
         let label = label_of(fields, self.year)?;
@@ -44,10 +45,10 @@ pub fn read_labels<S: Source>(
     year: Year,
     source: &mut S,
 ) -> Result<Vec<Label>, RecordsFault>
-    ensures ok { IfOk result (λ labels. Takes (print_test year)
-        (λ rows. AllZip (IsLabelOf year) rows labels.items) (S.left source.old) (S.left source.new)) }
+    ensures ok { IfOk result (λ labels. Takes (print_meaning year)
+        (λ items. labels.items ≡ items) (S.left source.old) (S.left source.new)) }
     ensures refused { IfErr result
-        (Refuses (print_test year) (S.left source.old) (S.left source.new)) }
+        (Refuses (print_meaning year) (S.left source.old) (S.left source.new)) }
     ensures fault { S.failed source.old ≡ false
         → (IsErrOf result RecordsFault.ReadFault ↔ (S.failed source.new ≡ true)) }
 {

@@ -1,6 +1,5 @@
-use Rattle.std.proofs.Common.{◌∙◌, rules, string_bytes}
-use Rattle.line_core.specs.check.Checks.{IsCheckReport, check_fault}
-use Rattle.line_core.specs.input.Records.{computed}
+use Rattle.std.proofs.Common.{◌≡◌, ◌∙◌, rules, string_bytes}
+use Rattle.line_core.specs.check.Checks.{check_meaning, check_report}
 use Rattle.gs1_hub.specs.Commands.{check_command}
 use Rattle.gs1_hub.proofs.CommandFacts.{records_cut}
 use Rattle.gs1_hub.proofs.check.run_check.Goals as goal
@@ -11,9 +10,9 @@ returns-in_err-write_all g c =
     let lines = string_bytes c.in_ok-lines.lines in
     record {
       ok = search rules;
-      cut = λ same. records_cut (computed check_fault) (λ rows. IsCheckReport year rows lines) (IsCheckReport year) (check_command year).refuses lines c.as_bytes.result.now
+      cut = λ same. records_cut (check_meaning year) (λ answers. lines ≡ check_report answers) (λ answers text. text ≡ check_report answers) (check_command year).refuses lines c.as_bytes.result.now
           (g.S.Source.left c.args.source.now) (g.S.Source.left c.check_lines.new.source) (g.W.Sink.taken c.args.sink.now) (g.W.Sink.taken c.write_all.new.sink)
-          c.in_ok-lines.ensures.ok (λ rows it. it) (c.as_bytes.ensures.value ∙ c.as_str.ensures.value) c.in_err-write_all.ensures.err;
+          c.in_ok-lines.ensures.ok (λ answers it. it) (c.as_bytes.ensures.value ∙ c.as_str.ensures.value) c.in_err-write_all.ensures.err;
       refused = search rules;
       unwritten = search rules;
       read = search rules;

@@ -4,11 +4,12 @@ use Rattle.csv.specs.Records.{fields_of}
 use Rattle.csv.specs.declared.parser.State.TheVariants as st
 use Rattle.csv.proofs.ReadFacts.{rows-end, rows-more}
 use Rattle.line_core.specs.input.Faults.{refusal_at}
-use Rattle.line_core.specs.input.Records.{IsFirstFault, NamesFirst, Test, records_of}
+use Rattle.line_core.specs.input.Records.{IsFirstFault, Meaning, NamesFirst, records_of}
 use Rattle.line_core.specs.declared.input.fault.RecordFault.{RecordFault}
 use Rattle.line_core.specs.declared.input.fault.RecordRefusal.{RecordRefusal}
 use Rattle.line_core.specs.declared.input.fault.RecordRefusal.TheVariants as refusal
-use Rattle.line_core.proofs.input.FirstFault.{first_at, first_miss}
+use Rattle.line_core.proofs.input.FirstFault.{first_at}
+use Rattle.line_core.proofs.Beside.{zip_more}
 use Rattle.line_core.proofs.input.Reaching.{are_front, are_records, reached_few, stripped_short}
 use Rattle.line_core.proofs.input.records.read_records.Goals as goal
 
@@ -32,15 +33,16 @@ records-init g c =
       source = fr.source;
       reached = (sym fr.state, refl);
       index = refl;
-      none = tt;
+      items = [];
+      taken = tt;
       made = c.requires.start;
     }
 
 -- the refusal of the next record names it
-named : (test : Test) (index : ℕ) (rows : List (List (List ℕ))) (r : RecordRefusal) → ((f : RecordFault) → r ≡ refusal.Record f → IsFirstFault test rows index f)
-    → NamesFirst test rows (refusal_at index r)
-named test index rows (refusal.Record f) why = why f refl
-named test index rows refusal.NoMemory why = tt
+named : {Item : Type 0} (means : Meaning Item) (index : ℕ) (rows : List (List (List ℕ))) (r : RecordRefusal) → ((f : RecordFault) → r ≡ refusal.Record f → IsFirstFault means rows index f)
+    → NamesFirst means rows (refusal_at index r)
+named means index rows (refusal.Record f) why = why f refl
+named means index rows refusal.NoMemory why = tt
 
 pub returns-in-Err-take-clause-refused : goal.returns-in-Err-take-clause-refused
 returns-in-Err-take-clause-refused g c =
@@ -50,8 +52,8 @@ returns-in-Err-take-clause-refused g c =
     let fields = fields_of c.in-Ok.record in
     let more = rows-more (λ (s : Bor (List ℕ)). Some s.now) c.records.next-iterator.rdr c.next.new.self.rdr fields default_config st.StartRecord (strip_bom c.args.bytes.now) inv.rest inv.rows inv.config inv.source inv.reached s.0 in
     let front = are_front default_config c.next.new.self.rdr.state (strip_bom c.args.bytes.now) more.0 (inv.rows ++ (fields ∷ [])) more.2 in
-    rw c.at.ensures (named (g.I.Intake.fault c.args.intake.now) c.records.index (records_of c.args.bytes.now) c.in-Err-take.refusal (λ f is.
-    first_at (g.I.Intake.fault c.args.intake.now) inv.rows fields front.0 (records_of c.args.bytes.now) c.records.index f front.1 inv.index inv.none
+    rw c.at.ensures (named (g.I.Intake.means c.args.intake.now) c.records.index (records_of c.args.bytes.now) c.in-Err-take.refusal (λ f is.
+    first_at (g.I.Intake.means c.args.intake.now) inv.rows inv.items fields front.0 (records_of c.args.bytes.now) c.records.index f front.1 inv.index inv.taken
     (c.in-Err-take.ensures.refused f (ap (λ (r : RecordRefusal). Err r) is))))
 
 pub overflow_add-index : goal.overflow_add-index
@@ -79,8 +81,9 @@ records-preserved g c =
       source = more.1;
       reached = more.2;
       index = omega (arith, inv.index, length-append inv.rows (fields ∷ []));
-      none = first_miss (g.I.Intake.fault c.args.intake.now) inv.rows fields inv.none c.in-Ok-take.ensures.taken;
-      made = c.in-Ok-take.ensures.made inv.rows inv.made;
+      items = inv.items ++ c.in-Ok-take.ensures.taken.0 ∷ [];
+      taken = zip_more _ inv.rows inv.items fields c.in-Ok-take.ensures.taken.0 inv.taken c.in-Ok-take.ensures.taken.1;
+      made = c.in-Ok-take.ensures.taken.2 inv.items inv.made;
     }
 
 pub returns-clause-ok : goal.returns-clause-ok
@@ -89,12 +92,4 @@ returns-clause-ok g c =
     let s = rw c.in-None.is at ((c.next.ensures.steps inv.turns inv.plain).0 inv.ready) in
     let all = are_records default_config (strip_bom c.args.bytes.now) inv.rows
     (c.records.next-iterator.rdr.state, inv.rest, inv.reached, rows-end (λ (s : Bor (List ℕ)). Some s.now) c.records.next-iterator.rdr c.next.new.self.rdr [] default_config inv.rest inv.config inv.source s) in
-    rw (← all) inv.made
-
-pub returns-clause-taken : goal.returns-clause-taken
-returns-clause-taken g c =
-    let inv = c.records.invariant in
-    let s = rw c.in-None.is at ((c.next.ensures.steps inv.turns inv.plain).0 inv.ready) in
-    let all = are_records default_config (strip_bom c.args.bytes.now) inv.rows
-    (c.records.next-iterator.rdr.state, inv.rest, inv.reached, rows-end (λ (s : Bor (List ℕ)). Some s.now) c.records.next-iterator.rdr c.next.new.self.rdr [] default_config inv.rest inv.config inv.source s) in
-    rw (← all) inv.none
+    (inv.items, rw (← all) inv.taken, inv.made)

@@ -2,7 +2,7 @@ use Rattle.std.proofs.Common.{◌≡◌, ◌<◌, ℕ, List, Some, length, true}
 use Rattle.csv.specs.Reading.{Reached, Ready, default_config, source_of, strip_bom}
 use Rattle.csv.specs.declared.parser.State.TheVariants as st
 use Rattle.csv.specs.declared.reader.Trim.TheVariants as trim
-use Rattle.line_core.specs.input.Records.{Fields, NoneFaulty}
+use Rattle.line_core.specs.input.Records.{AreItems, Fields}
 use Rattle.line_core.proofs.input.records.read_records.Given as goal
 
 abbrev pub invariant-records : goal.invariant-records
@@ -17,6 +17,7 @@ invariant-records g l = record {
   source : source_of (λ s. Some s.now) l.next-iterator.rdr ≡ Some rest;
   reached : Reached default_config st.StartRecord (strip_bom l.fn.bytes) rows l.next-iterator.rdr.state rest;
   index : l.index ≡ length rows;
-  none : NoneFaulty (g.I.Intake.fault l.intake) rows;
-  made : g.I.Intake.makes l.intake rows l.made;
+  items : List _;
+  taken : AreItems (g.I.Intake.means l.intake) rows items;
+  made : g.I.Intake.makes l.intake items l.made;
 }
