@@ -1,17 +1,17 @@
 -- The texts of the labels of records say their elements.
-use Rattle.std.proofs.Common.{ℕ, List, [], ◌∷◌, Option, Some, None, sym, subst}
-use Rattle.std.specs.List.{AllByRecursion, AllZip}
+use Rattle.std.proofs.Common.{ℕ, List, [], ◌∷◌, Ok, Option, Some, None, sym, subst}
+use Rattle.std.specs.List.{AllByRecursion}
 use Rattle.digits_core.specs.Digits.{digits_of, padded}
 use Rattle.digits_core.specs.Laws.{GtinsAreChecked}
 use Rattle.element_core.specs.Elements.{CanonicalReads, GtinReads, IsElements, gtin_entry}
 use Rattle.sheet_core.specs.Labels.{gtin_text, label_text}
 use Rattle.sheet_core.specs.declared.label.Label.{Label}
 use Rattle.sheet_core.specs.declared.label.Label.TheVariants as label
-use Rattle.gs1_hub.specs.Checks.{spelled_text}
-use Rattle.gs1_hub.specs.Prints.{IsElementLabel, IsGtinLabel, IsLabelAs, IsLabelBy, IsLabelOf, label_list, print_kind_named}
-use Rattle.gs1_hub.specs.Records.{Fields}
-use Rattle.gs1_hub.specs.declared.label_record.PrintKind.{PrintKind}
-use Rattle.gs1_hub.specs.declared.label_record.PrintKind.TheVariants as kind
+use Rattle.line_core.specs.input.Spelling.{spelled_text}
+use Rattle.line_core.specs.print.Labels.{IsElementLabel, IsGtinLabel, IsLabelAs, IsLabelBy, label_list, print_kind_named, print_meaning}
+use Rattle.line_core.specs.input.Records.{AreItems, Fields}
+use Rattle.line_core.specs.declared.print.label_record.PrintKind.{PrintKind}
+use Rattle.line_core.specs.declared.print.label_record.PrintKind.TheVariants as kind
 
 -- under this reference year the label's text says its elements
 abbrev pub Says : ℕ → Label → Type 0
@@ -20,33 +20,33 @@ Says year l = IsElements year (label_text l) (label_list l)
 module _ (checked : GtinsAreChecked) (gtin : GtinReads) (canonical : CanonicalReads) (year : ℕ) where
   -- the label of a GTIN, whichever says its element
   of_gtin : (make : List ℕ → Label) → ((g : List ℕ) → IsElements year (gtin_text g) (gtin_entry g ∷ []) → Says year (make g))
-      → (text : List ℕ) (l : Label) → IsGtinLabel make text l → Says year l
+      → (text : List ℕ) (l : Label) → IsGtinLabel make text (Ok l) → Says year l
   of_gtin make says text l h =
       let g : List ℕ = padded (digits_of text) in
       let is = checked text h.0 in
       subst (Says year) (sym h.1) (says g (gtin g year is.0 is.1 is.2))
 
-  of_elements : (text : List ℕ) (l : Label) → IsElementLabel year text l → Says year l
+  of_elements : (text : List ℕ) (l : Label) → IsElementLabel year text (Ok l) → Says year l
   of_elements text l h = subst (Says year) (sym h.1) (canonical year text h.0.list h.3).0
 
-  by_kind : (k : PrintKind) (field : List ℕ) (l : Label) → IsLabelAs year k field l → Says year l
+  by_kind : (k : PrintKind) (field : List ℕ) (l : Label) → IsLabelAs year k field (Ok l) → Says year l
   by_kind kind.Ean13 field l h = of_gtin label.Ean13 (λ g r. r) field l h
   by_kind kind.UpcA field l h = of_gtin label.UpcA (λ g r. r) field l h
   by_kind kind.Ean8 field l h = of_gtin label.Ean8 (λ g r. r) field l h
   by_kind kind.UpcE field l h = of_gtin label.UpcE (λ g r. r) field l h
   by_kind kind.Gs1128 field l h = of_elements (spelled_text field) l h
 
-  by_name : (o : Option PrintKind) (field : List ℕ) (l : Label) → IsLabelBy year o field l → Says year l
+  by_name : (o : Option PrintKind) (field : List ℕ) (l : Label) → IsLabelBy year o field (Ok l) → Says year l
   by_name (Some k) field l h = by_kind k field l h
-  by_name None field l h = absurd h
+  by_name None field l h = cc h
 
-  of_record : (row : Fields) (l : Label) → IsLabelOf year row l → Says year l
-  of_record [] l h = absurd h
-  of_record (name ∷ []) l h = absurd h
+  of_record : (row : Fields) (l : Label) → print_meaning year row (Ok l) → Says year l
+  of_record [] l h = cc h
+  of_record (name ∷ []) l h = cc h
   of_record (name ∷ field ∷ []) l h = by_name (print_kind_named name) field l h
-  of_record (name ∷ field ∷ other ∷ more) l h = absurd h
+  of_record (name ∷ field ∷ other ∷ more) l h = cc h
 
-  pub labels_say : (rows : List Fields) (labels : List Label) → AllZip (IsLabelOf year) rows labels → AllByRecursion (Says year) labels
+  pub labels_say : (rows : List Fields) (labels : List Label) → AreItems (print_meaning year) rows labels → AllByRecursion (Says year) labels
   labels_say [] [] h = tt
   labels_say [] (l ∷ labels) h = absurd h
   labels_say (row ∷ rows) [] h = absurd h

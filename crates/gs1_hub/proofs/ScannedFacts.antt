@@ -18,12 +18,14 @@ use Rattle.sheet_core.specs.Labels.{IsDrawn}
 use Rattle.sheet_core.specs.Laws.{BarRowsAnswer, EmptyCellsAreBlank, PrintedIsRead}
 use Rattle.sheet_core.specs.PbmImages.{images_of}
 use Rattle.sheet_core.specs.declared.label.Label.{Label}
-use Rattle.gs1_hub.specs.Grids.{cells_of}
+use Rattle.line_core.specs.Grids.{cells_of}
 use Rattle.gs1_hub.specs.Laws.{OneScan, PrintedIsAnswered, PrintedIsScanned, cell_answer, column_answers, labels_report, sheet_answers}
-use Rattle.gs1_hub.specs.Prints.{IsLabelOf, IsPrint, IsPrinted, label_list}
-use Rattle.gs1_hub.specs.Records.{Fields}
-use Rattle.gs1_hub.specs.Report.{report}
-use Rattle.gs1_hub.specs.Scans.{AreColumns, AreImages, IsScan, HaveDots, column_cells, column_dots, has_size, have_size}
+use Rattle.line_core.specs.print.Labels.{label_list, print_meaning}
+use Rattle.gs1_hub.specs.Prints.{IsPrint, IsPrinted}
+use Rattle.line_core.specs.input.Records.{AreItems, Fields}
+use Rattle.line_core.specs.answers.Reports.{report}
+use Rattle.line_core.specs.scan.Columns.{AreColumns, HaveDots, column_cells, column_dots, has_size, have_size}
+use Rattle.gs1_hub.specs.Scans.{AreImages, IsScan}
 use Rattle.gs1_hub.proofs.BesideFacts.{apart, below, beside, beside-flat_map, beside-map, map_beside, same_beside}
 use Rattle.gs1_hub.specs.declared.options.PrintOptions.{PrintOptions}
 use Rattle.gs1_hub.specs.declared.options.ScanOptions.{ScanOptions}
@@ -148,28 +150,25 @@ one_list bytes sheets others e f =
     cc
 
 -- what is printed is taken, and its rows have the labels' answers
-scanned_so : ((year : ℕ) (rows : List Fields) (labels : List Label) → AllZip (IsLabelOf year) rows labels → AllByRecursion (Says year) labels)
+scanned_so : ((year : ℕ) (rows : List Fields) (labels : List Label) → AreItems (print_meaning year) rows labels → AllByRecursion (Says year) labels)
     → PrintedIsRead → BarRowsAnswer → EmptyCellsAreBlank → DotsMakeRow
-    → (print : PrintOptions) (scan : ScanOptions) (rows : List Fields) (bytes : List ℕ)
-    → print.text ≡ false → cells_of scan.grid ≡ cells_of print.grid → scan.year ≡ print.year → sheet_count (cells_of scan.grid) (length rows) ≤ 4096 → IsPrint print rows bytes
-    → (labels : List Label) × AllZip (IsLabelOf print.year) rows labels
-    × (sheets : List Bitmap) × AreImages scan bytes sheets
+    → (print : PrintOptions) (scan : ScanOptions) (rows : List Fields) (labels : List Label) (bytes : List ℕ)
+    → print.text ≡ false → cells_of scan.grid ≡ cells_of print.grid → scan.year ≡ print.year → sheet_count (cells_of scan.grid) (length labels) ≤ 4096 → AreItems (print_meaning print.year) rows labels → IsPrint print labels bytes
+    → (sheets : List Bitmap) × AreImages scan bytes sheets
     × (feeds : List (List (List ℕ))) × AreColumns (cells_of scan.grid) sheets feeds
     × AllZip (λ rows read. Reads rows scan.year read) feeds (map (column_answers (cells_of scan.grid) scan.year labels) (range_with_len 0 scan.grid.columns))
-scanned_so say read bars blank make print scan rows bytes image same_cells same_year few printed =
+scanned_so say read bars blank make print scan rows labels bytes image same_cells same_year few mean printed =
     let g = cells_of scan.grid in
-    let labels : List Label = printed.1 in
-    let in_print_grid : IsPrinted (cells_of print.grid) false labels bytes = subst (λ b. IsPrinted (cells_of print.grid) b labels bytes) image printed.3 in
+    let in_print_grid : IsPrinted (cells_of print.grid) false labels bytes = subst (λ b. IsPrinted (cells_of print.grid) b labels bytes) image printed.1 in
     let written : IsPrinted g false labels bytes = subst (λ h. IsPrinted h false labels bytes) (sym same_cells) in_print_grid in
     let sheets : List Bitmap = written.0 in
     let are = written.1 in
-    let says : AllByRecursion (Says scan.year) labels = subst (λ y. AllByRecursion (Says y) labels) (sym same_year) (say print.year rows labels printed.2) in
+    let says : AllByRecursion (Says scan.year) labels = subst (λ y. AllByRecursion (Says y) labels) (sym same_year) (say print.year rows labels mean) in
     let count = counted bars blank make labels g sheets scan.year are says in
-    let long = AllZip-long (IsLabelOf print.year) rows labels printed.2 in
-    let fits : length sheets ≤ 4096 = rw (count, long) few in
+    let fits : length sheets ≤ 4096 = rw count few in
     let images : AreImages scan bytes sheets = (are.grid, ap images_of written.2 ∙ read labels g sheets are fits, sizes labels g sheets are) in
     let told = columns_answered bars blank make labels g sheets scan.year are says in
-    (labels, printed.2, sheets, images, told.0, told.1, told.2)
+    (sheets, images, told.0, told.1, told.2)
 
 -- what a scan of them answers is that
 answered_so : DotsDetermine → OneAnswer → (scan : ScanOptions) (bytes : List ℕ) (sheets : List Bitmap) (feeds : List (List (List ℕ))) (answers : List (List Answer))
@@ -182,25 +181,22 @@ answered_so determine one scan bytes sheets feeds answers images are reads other
     let columns : AreColumns g sheets rows = subst (λ ss. AreColumns g ss rows) same cover in
     columns_once determine one scan.year g sheets rows feeds said answers columns told are reads
 
-pub printed_is_answered : ((year : ℕ) (rows : List Fields) (labels : List Label) → AllZip (IsLabelOf year) rows labels → AllByRecursion (Says year) labels)
+pub printed_is_answered : ((year : ℕ) (rows : List Fields) (labels : List Label) → AreItems (print_meaning year) rows labels → AllByRecursion (Says year) labels)
     → PrintedIsRead → BarRowsAnswer → EmptyCellsAreBlank → DotsDetermine → DotsMakeRow → OneAnswer → PrintedIsAnswered
-printed_is_answered say read bars blank determine make one print scan rows bytes image same_cells same_year few printed =
-    let p = scanned_so say read bars blank make print scan rows bytes image same_cells same_year few printed in
-    let answers : List (List Answer) = map (column_answers (cells_of scan.grid) scan.year p.0) (range_with_len 0 scan.grid.columns) in
-    (p.0, p.1, answered_so determine one scan bytes p.2 p.4 answers p.3 p.5 p.6)
+printed_is_answered say read bars blank determine make one print scan rows labels bytes image same_cells same_year few mean printed =
+    let p = scanned_so say read bars blank make print scan rows labels bytes image same_cells same_year few mean printed in
+    let answers : List (List Answer) = map (column_answers (cells_of scan.grid) scan.year labels) (range_with_len 0 scan.grid.columns) in
+    answered_so determine one scan bytes p.0 p.2 answers p.1 p.3 p.4
 
-pub printed_is_scanned : ((year : ℕ) (rows : List Fields) (labels : List Label) → AllZip (IsLabelOf year) rows labels → AllByRecursion (Says year) labels)
+pub printed_is_scanned : ((year : ℕ) (rows : List Fields) (labels : List Label) → AreItems (print_meaning year) rows labels → AllByRecursion (Says year) labels)
     → PrintedIsRead → BarRowsAnswer → EmptyCellsAreBlank → DotsDetermine → DotsMakeRow → OneAnswer → PrintedIsScanned
-printed_is_scanned say read bars blank determine make one print scan rows bytes image same_cells same_year few printed =
-    let p = scanned_so say read bars blank make print scan rows bytes image same_cells same_year few printed in
-    let answers : List (List Answer) = map (column_answers (cells_of scan.grid) scan.year p.0) (range_with_len 0 scan.grid.columns) in
-    let scanned : IsScan scan bytes (labels_report (cells_of scan.grid) scan.year p.0) = (p.2, p.3, p.4, p.5, (answers, p.6, refl)) in (
-      p.0,
-      p.1,
-      λ text. (
-        λ h. h.4.2 ∙ ap report (answered_so determine one scan bytes p.2 p.4 answers p.3 p.5 p.6 h.0 h.2 h.4.0 h.1 h.3 h.4.1),
-        λ e. subst (IsScan scan bytes) (sym e) scanned,
-      ),
+printed_is_scanned say read bars blank determine make one print scan rows labels bytes image same_cells same_year few mean printed =
+    let p = scanned_so say read bars blank make print scan rows labels bytes image same_cells same_year few mean printed in
+    let answers : List (List Answer) = map (column_answers (cells_of scan.grid) scan.year labels) (range_with_len 0 scan.grid.columns) in
+    let scanned : IsScan scan bytes (labels_report (cells_of scan.grid) scan.year labels) = (p.0, p.1, p.2, p.3, (answers, p.4, refl)) in
+    λ text. (
+      λ h. h.4.2 ∙ ap report (answered_so determine one scan bytes p.0 p.2 answers p.1 p.3 p.4 h.0 h.2 h.4.0 h.1 h.3 h.4.1),
+      λ e. subst (IsScan scan bytes) (sym e) scanned,
     )
 
 pub one_scan : DotsDetermine → OneAnswer → OneScan

@@ -4,7 +4,7 @@ use Rattle.clap.specs.Words.{IsAmong, Row, Text, fault_of, subcommand_of}
 use Rattle.clap.specs.declared.error.kind.ErrorKind.{ErrorKind}
 use Rattle.clap.specs.declared.error.kind.ErrorKind.TheVariants as kind
 use Rattle.gs1_hub.specs.CommandLine.{HasFlag, HasNumber, HasYear, hub_app}
-use Rattle.gs1_hub.specs.declared.options.GridOptions.{GridOptions}
+use Rattle.line_core.specs.declared.grid.GridOptions.{GridOptions}
 use Rattle.gs1_hub.specs.declared.options.LaneOptions.{LaneOptions}
 use Rattle.gs1_hub.specs.declared.options.PrintOptions.{PrintOptions}
 use Rattle.gs1_hub.specs.declared.options.ScanOptions.{ScanOptions}

@@ -1,70 +1,78 @@
--- What a run of a command leaves, by its test of records and by what it writes of those that pass.
-use Rattle.std.specs.Prelude.{◌≡◌, ◌≤◌, ◌⊎◌, ⊤, ℕ, false, List, [], Option, Ok, Err, length}
-use Rattle.std.specs.List.{AllZip}
-use Rattle.digits_core.specs.Bytes.{GaveAll, GaveAtMost, GaveMoreThan}
+-- What a command writes of the bytes that it reads, why it refuses them, and what a run of it leaves.
+use Rattle.std.specs.Prelude.{◌≡◌, ◌≢◌, ◌↔◌, ◌⊎◌, ⊤, ℕ, Bool, false, true, List, [], Option, Result, Ok, Err, IfErr, IsErrOf, OnOk}
+use Rattle.std.specs.Io.KnownBytes.{Appends}
+use Rattle.digits_core.specs.Bytes.{GaveAll, TookFront}
 use Rattle.sheet_core.specs.Bitmaps.{Bitmap}
 use Rattle.sheet_core.specs.Grids.{IsGrid}
 use Rattle.sheet_core.specs.PbmImages.{Reads, images_of}
 use Rattle.sheet_core.specs.declared.fault.PbmFault.TheVariants as pbm
-use Rattle.sheet_core.specs.declared.label.Label.{Label}
-use Rattle.gs1_hub.specs.Checks.{IsCheckReport, check_fault}
-use Rattle.gs1_hub.specs.Feeds.{lanes_fault}
-use Rattle.gs1_hub.specs.Grids.{cells_of}
-use Rattle.gs1_hub.specs.Prints.{IsLabelOf, IsPrint, IsUnprinted, print_test}
-use Rattle.gs1_hub.specs.Records.{Fields, IsFirstFault, NoneFaulty, Test, computed, records_of}
-use Rattle.gs1_hub.specs.Report.{IsLaneReport}
-use Rattle.gs1_hub.specs.Scans.{AreImages, IsScan, have_size}
+use Rattle.line_core.specs.check.Checks.{check_meaning, check_report}
+use Rattle.line_core.specs.answers.Reports.{IsReport}
+use Rattle.line_core.specs.lanes.Feeds.{feeds_of, lanes_meaning}
+use Rattle.line_core.specs.Grids.{cells_of}
+use Rattle.line_core.specs.print.Labels.{print_meaning}
+use Rattle.gs1_hub.specs.Prints.{IsPrint, IsUnprinted}
+use Rattle.line_core.specs.input.Records.{Mean, Meaning, Refuses, Takes}
+use Rattle.line_core.specs.declared.input.fault.RecordsFault.TheVariants as records
+use Rattle.gs1_hub.specs.Scans.{AreImages, IsScan}
+use Rattle.line_core.specs.scan.Columns.{have_size}
 use Rattle.gs1_hub.specs.declared.fault.CommandFault.{CommandFault}
 use Rattle.gs1_hub.specs.declared.fault.CommandFault.TheVariants as command
+use Rattle.gs1_hub.specs.declared.options.LaneOptions.{LaneOptions}
 use Rattle.gs1_hub.specs.declared.options.PrintOptions.{PrintOptions}
 use Rattle.gs1_hub.specs.declared.options.ScanOptions.{ScanOptions}
 use Rattle.gs1_hub.specs.declared.words.Asked.{Asked}
 use Rattle.gs1_hub.specs.declared.words.Asked.TheVariants as asked
 
--- how many bytes a command reads
-abbrev pub most_bytes : ℕ
-most_bytes = 16777216
+-- a command: what it writes of the bytes that it reads, and why it refuses what a source had left and has left now
+pub record Command : Type 1 where
+  pub writes : List ℕ → List ℕ → Type 0
+  pub refuses : Option (List ℕ) → Option (List ℕ) → CommandFault → Type 0
 
--- a source gave all its bytes, no record of them is faulty, and this is true of the records
-abbrev pub Takes : Test → (List Fields → Type 0) → Option (List ℕ) → Option (List ℕ) → Type 0
-Takes test made left rest = (bytes : List ℕ) × GaveAll left rest bytes × (length bytes ≤ most_bytes)
-    × NoneFaulty test (records_of bytes) × made (records_of bytes)
+-- a source gave all its bytes, and of the text that a command writes of them a sink took this
+abbrev pub Wrote : Command → (Option (List ℕ) → Option (List ℕ) → List ℕ → Type 0) → Option (List ℕ) → Option (List ℕ) → Option (List ℕ) → Option (List ℕ) → Type 0
+Wrote c took left rest before after = (bytes text : List ℕ) × GaveAll left rest bytes × c.writes bytes text × took before after text
 
--- and of the text that is written of the records, a sink took this
-abbrev pub Writes : Test → (List Fields → List ℕ → Type 0) → (Option (List ℕ) → Option (List ℕ) → List ℕ → Type 0) → Option (List ℕ) → Option (List ℕ) → Option (List ℕ) → Option (List ℕ) → Type 0
-Writes test output took left rest before after =
-    Takes test (λ rows. (text : List ℕ) × output rows text × took before after text) left rest
+-- what a run of a command leaves of a source and of a sink: the sink took the whole text; or a front of it, where a write failed; or nothing, and the refusal names its cause. Where they had not failed before, a read or write fault comes exactly where one fails
+pub record Ran {S W : Type 0} (c : Command) (left : S → Option (List ℕ)) (source_failed : S → Bool) (taken : W → Option (List ℕ)) (sink_failed : W → Bool)
+    (source rest : S) (sink after : W) (result : Result (Unit {0}) CommandFault) : Type 0 where
+  pub ok : OnOk result (Wrote c Appends (left source) (left rest) (taken sink) (taken after))
+  pub cut : IsErrOf result command.WriteFault → Wrote c TookFront (left source) (left rest) (taken sink) (taken after)
+  pub refused : IfErr result (c.refuses (left source) (left rest))
+  pub unwritten : IfErr result (λ f. f ≢ command.WriteFault → after ≡ sink)
+  pub read : source_failed source ≡ false → (IsErrOf result command.ReadFault ↔ (source_failed rest ≡ true))
+  pub write : sink_failed sink ≡ false → (IsErrOf result command.WriteFault ↔ (sink_failed after ≡ true))
 
--- why the input is refused
-abbrev pub Refuses : Test → Option (List ℕ) → Option (List ℕ) → CommandFault → Type 0
-Refuses test left rest command.ReadFault = GaveAtMost most_bytes left rest
-Refuses test left rest command.InputSize = GaveMoreThan most_bytes left rest
-Refuses test left rest (command.Record i f) = (bytes : List ℕ) × GaveAll left rest bytes
-    × (length bytes ≤ most_bytes) × IsFirstFault test (records_of bytes) i f
-Refuses test left rest command.WriteFault = ⊤
-Refuses test left rest command.NoMemory = ⊤
-Refuses test left rest _ = ⊥
+-- ---- commands over records
+
+-- what is written of bytes whose records mean items
+abbrev pub WritesRecords : {Item : Type 0} → Meaning Item → (List Item → List ℕ → Type 0) → List ℕ → List ℕ → Type 0
+WritesRecords means output bytes text = (items : List _) × Mean means bytes items × output items text
+
+-- why the records are refused
+abbrev pub RefusesRecords : {Item : Type 0} → Meaning Item → Option (List ℕ) → Option (List ℕ) → CommandFault → Type 0
+RefusesRecords means left rest command.ReadFault = Refuses means left rest records.ReadFault
+RefusesRecords means left rest command.InputSize = Refuses means left rest records.InputSize
+RefusesRecords means left rest (command.Record i f) = Refuses means left rest (records.Record i f)
+RefusesRecords means left rest command.WriteFault = ⊤
+RefusesRecords means left rest command.NoMemory = ⊤
+RefusesRecords means left rest _ = ⊥
 
 -- records were taken, and their labels are not printed for this
 abbrev pub RefusesLabels : PrintOptions → Option (List ℕ) → Option (List ℕ) → CommandFault → Type 0
-RefusesLabels o left rest f = Takes (print_test o.year) (λ rows. (labels : List Label) × AllZip (IsLabelOf o.year) rows labels
-    × IsUnprinted (cells_of o.grid) labels f) left rest
+RefusesLabels o left rest f = Takes (print_meaning o.year) (λ labels. IsUnprinted (cells_of o.grid) labels f) left rest
 
 -- why `print` refuses the input: the grid, before a byte is read, then the records, then the labels
 abbrev pub RefusesPrint : PrintOptions → Option (List ℕ) → Option (List ℕ) → CommandFault → Type 0
 RefusesPrint o left rest command.BadGrid = (IsGrid (cells_of o.grid) → ⊥) × (rest ≡ left)
 RefusesPrint o left rest (command.LabelKind i) = IsGrid (cells_of o.grid) × RefusesLabels o left rest (command.LabelKind i)
 RefusesPrint o left rest (command.LabelWidth i) = IsGrid (cells_of o.grid) × RefusesLabels o left rest (command.LabelWidth i)
-RefusesPrint o left rest f = IsGrid (cells_of o.grid) × Refuses (print_test o.year) left rest f
+RefusesPrint o left rest f = IsGrid (cells_of o.grid) × RefusesRecords (print_meaning o.year) left rest f
 
 -- why `lanes` refuses the input: the records, then a thread that could not be started
 abbrev pub RefusesLanes : ℕ → Option (List ℕ) → Option (List ℕ) → CommandFault → Type 0
-RefusesLanes lanes left rest command.NoThread = Takes (computed (lanes_fault lanes)) (λ rows. ⊤) left rest
-RefusesLanes lanes left rest f = Refuses (computed (lanes_fault lanes)) left rest f
-
--- a source gave all its bytes, and of the text that `scan` writes of them a sink took this
-abbrev pub WritesScan : ScanOptions → (Option (List ℕ) → Option (List ℕ) → List ℕ → Type 0) → Option (List ℕ) → Option (List ℕ) → Option (List ℕ) → Option (List ℕ) → Type 0
-WritesScan o took left rest before after = (bytes : List ℕ) × GaveAll left rest bytes × (text : List ℕ) × IsScan o bytes text × took before after text
+RefusesLanes lanes left rest command.NoThread = Takes (lanes_meaning lanes) (λ rows. ⊤) left rest
+RefusesLanes lanes left rest f = RefusesRecords (lanes_meaning lanes) left rest f
 
 -- a source gave all its bytes, and they are images of which one has not the grid's size
 abbrev pub GaveOtherSize : ScanOptions → Option (List ℕ) → Option (List ℕ) → Type 0
@@ -90,16 +98,25 @@ RefusesScan o left rest f = IsGrid (cells_of o.grid) × RefusesImages o left res
 
 -- ---- each command
 
--- what a command writes of what a source gave, and a sink took
-abbrev pub WritesAsked : Asked → (Option (List ℕ) → Option (List ℕ) → List ℕ → Type 0) → Option (List ℕ) → Option (List ℕ) → Option (List ℕ) → Option (List ℕ) → Type 0
-WritesAsked (asked.Check year) = Writes (computed check_fault) (IsCheckReport year)
-WritesAsked (asked.Print o) = Writes (print_test o.year) (IsPrint o)
-WritesAsked (asked.Lanes o) = Writes (computed (lanes_fault o.lanes)) (IsLaneReport o.lanes o.year)
-WritesAsked (asked.Scan o) = WritesScan o
+-- a line for each record, under the reference year
+abbrev pub check_command : ℕ → Command
+check_command year = record { writes = WritesRecords (check_meaning year) (λ answers text. text ≡ check_report answers); refuses = RefusesRecords (check_meaning year) }
 
--- why it refuses the input
-abbrev pub RefusesAsked : Asked → Option (List ℕ) → Option (List ℕ) → CommandFault → Type 0
-RefusesAsked (asked.Check year) = Refuses (computed check_fault)
-RefusesAsked (asked.Print o) = RefusesPrint o
-RefusesAsked (asked.Lanes o) = RefusesLanes o.lanes
-RefusesAsked (asked.Scan o) = RefusesScan o
+-- the labels of the records, as images of sheets or as lines
+abbrev pub print_command : PrintOptions → Command
+print_command o = record { writes = WritesRecords (print_meaning o.year) (IsPrint o); refuses = RefusesPrint o }
+
+-- the report of the answers to the rows that records give each lane
+abbrev pub lanes_command : LaneOptions → Command
+lanes_command o = record { writes = WritesRecords (lanes_meaning o.lanes) (λ rows text. IsReport o.year (feeds_of o.lanes rows) text); refuses = RefusesLanes o.lanes }
+
+-- the report of the answers to the rows of the columns of images
+abbrev pub scan_command : ScanOptions → Command
+scan_command o = record { writes = IsScan o; refuses = RefusesScan o }
+
+-- the command that is asked for
+abbrev pub command_of : Asked → Command
+command_of (asked.Check year) = check_command year
+command_of (asked.Print o) = print_command o
+command_of (asked.Lanes o) = lanes_command o
+command_of (asked.Scan o) = scan_command o

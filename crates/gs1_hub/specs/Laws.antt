@@ -11,11 +11,13 @@ use Rattle.sheet_core.specs.Drawing.{cell_count, sheet_count}
 use Rattle.sheet_core.specs.Grids.{Cells}
 use Rattle.sheet_core.specs.Labels.{carrier_of}
 use Rattle.sheet_core.specs.declared.label.Label.{Label}
-use Rattle.gs1_hub.specs.Grids.{cells_of}
-use Rattle.gs1_hub.specs.Prints.{IsLabelOf, IsPrint, label_list}
-use Rattle.gs1_hub.specs.Records.{Fields}
-use Rattle.gs1_hub.specs.Report.{report}
-use Rattle.gs1_hub.specs.Scans.{AreColumns, AreImages, IsScan, column_cells}
+use Rattle.line_core.specs.Grids.{cells_of}
+use Rattle.line_core.specs.print.Labels.{label_list, print_meaning}
+use Rattle.gs1_hub.specs.Prints.{IsPrint}
+use Rattle.line_core.specs.input.Records.{AreItems, Fields}
+use Rattle.line_core.specs.answers.Reports.{report}
+use Rattle.line_core.specs.scan.Columns.{AreColumns, column_cells}
+use Rattle.gs1_hub.specs.Scans.{AreImages, IsScan}
 use Rattle.gs1_hub.specs.declared.options.PrintOptions.{PrintOptions}
 use Rattle.gs1_hub.specs.declared.options.ScanOptions.{ScanOptions}
 
@@ -36,33 +38,33 @@ column_answers g year labels column = flat_map (sheet_answers g year labels colu
 abbrev pub labels_report : Cells → ℕ → List Label → List ℕ
 labels_report g year labels = report (map (column_answers g year labels) (range_with_len 0 g.columns))
 
--- of what `print` writes as at most 4,096 images, a scan in the same grid and year answers for each cell the carrier and the elements of its label, or that it is blank
+-- of what `print` writes of the labels of records as at most 4,096 images, a scan in the same grid and year answers for each cell the carrier and the elements of its label, or that it is blank
 abbrev pub PrintedIsAnswered : Type 0
 PrintedIsAnswered =
-    (print : PrintOptions) (scan : ScanOptions) (rows : List Fields) (bytes : List ℕ)
+    (print : PrintOptions) (scan : ScanOptions) (rows : List Fields) (labels : List Label) (bytes : List ℕ)
     → print.text ≡ false
     → cells_of scan.grid ≡ cells_of print.grid
     → scan.year ≡ print.year
-    → sheet_count (cells_of scan.grid) (length rows) ≤ 4096
-    → IsPrint print rows bytes
-    → (labels : List Label) × AllZip (IsLabelOf print.year) rows labels
-    × ((sheets : List Bitmap) (feeds : List (List (List ℕ))) (answers : List (List Answer))
+    → sheet_count (cells_of scan.grid) (length labels) ≤ 4096
+    → AreItems (print_meaning print.year) rows labels
+    → IsPrint print labels bytes
+    → (sheets : List Bitmap) (feeds : List (List (List ℕ))) (answers : List (List Answer))
     → AreImages scan bytes sheets
     → AreColumns (cells_of scan.grid) sheets feeds
     → AllZip (λ rows read. Reads rows scan.year read) feeds answers
-    → answers ≡ map (column_answers (cells_of scan.grid) scan.year labels) (range_with_len 0 scan.grid.columns))
+    → answers ≡ map (column_answers (cells_of scan.grid) scan.year labels) (range_with_len 0 scan.grid.columns)
 
 -- so `scan` takes it, and what it writes is one text, the report of the labels
 abbrev pub PrintedIsScanned : Type 0
 PrintedIsScanned =
-    (print : PrintOptions) (scan : ScanOptions) (rows : List Fields) (bytes : List ℕ)
+    (print : PrintOptions) (scan : ScanOptions) (rows : List Fields) (labels : List Label) (bytes : List ℕ)
     → print.text ≡ false
     → cells_of scan.grid ≡ cells_of print.grid
     → scan.year ≡ print.year
-    → sheet_count (cells_of scan.grid) (length rows) ≤ 4096
-    → IsPrint print rows bytes
-    → (labels : List Label) × AllZip (IsLabelOf print.year) rows labels
-    × ((text : List ℕ) → IsScan scan bytes text ↔ (text ≡ labels_report (cells_of scan.grid) scan.year labels))
+    → sheet_count (cells_of scan.grid) (length labels) ≤ 4096
+    → AreItems (print_meaning print.year) rows labels
+    → IsPrint print labels bytes
+    → (text : List ℕ) → IsScan scan bytes text ↔ (text ≡ labels_report (cells_of scan.grid) scan.year labels)
 
 -- the same by place: a column has an answer for each row of cells of each sheet, and that of row r of sheet i answers the label that was printed there
 abbrev pub AnswersByPlace : Type 0

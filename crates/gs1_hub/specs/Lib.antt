@@ -1,13 +1,7 @@
 pub mod Asking
-pub mod Checks
 pub mod CommandLine
 pub mod Commands
 pub mod Faults
-pub mod Feeds
-pub mod Grids
 pub mod Laws
 pub mod Prints
-pub mod Records
-pub mod Report
 pub mod Scans
-pub mod Widths

@@ -1,49 +1,12 @@
 //! Why a command is refused as a whole.
-ghost use Rattle.std.specs.Prelude.{Some, ◌≡◌};
-ghost use Rattle.gs1_hub.specs.Faults.{bad_grid, failed_write, no_memory, no_room, of_images, of_input, of_record, of_sheets, record_fault_text, refusal_at};
+ghost use Rattle.std.specs.Prelude.{◌≡◌};
+ghost use Rattle.gs1_hub.specs.Faults.{bad_grid, failed_write, no_memory, of_answers, of_images, of_records, of_sheets};
 
-use digits_core::{DigitFault, Failed, InputFault};
-use element_core::ElementFault;
+use digits_core::Failed;
+use line_core::{AnswerFault, RecordFault, RecordsFault};
 use sheet_core::{BadGrid, NoMemory, PbmFault, SheetFault, WriteFault};
 use std::alloc::{AllocError, AllocFailed};
-use std::fmt;
 use thiserror::Error;
-
-/// What is wrong with a record of the input.
-#[derive(Clone, Copy, Debug, PartialEq, Eq)]
-pub enum RecordFault {
-    /// It has not two fields.
-    Csv,
-    /// Its first field is no kind of text that the command takes.
-    Kind,
-    /// Its first field is no lane: one or two digits, below the number of lanes.
-    BadLane,
-    /// Its second field is no odd number of widths of one to five digits with one space between
-    /// them, or a width other than the first and the last is 0.
-    BadRuns,
-    /// Its widths have a sum above 65,535.
-    TooWide,
-    /// Its second field is no GTIN.
-    Digits(DigitFault),
-    /// Its second field is no element string.
-    Elements(ElementFault),
-}
-
-impl fmt::Display for RecordFault {
-    ghost output = { λ fault. Some (record_fault_text fault) };
-
-    fn fmt<W: fmt::Write>(&self, f: &mut fmt::Formatter<W>) -> fmt::Result {
-        match self {
-            RecordFault::Csv => write!(f, "refused 39 Csv"),
-            RecordFault::Kind => write!(f, "refused 40 Kind"),
-            RecordFault::BadLane => write!(f, "refused 41 BadLane"),
-            RecordFault::BadRuns => write!(f, "refused 18 BadRuns"),
-            RecordFault::TooWide => write!(f, "refused 17 TooWide"),
-            RecordFault::Digits(fault) => write!(f, "{fault}"),
-            RecordFault::Elements(fault) => write!(f, "{fault}"),
-        }
-    }
-}
 
 /// Why a command as a whole is refused.
 #[derive(Clone, Copy, Debug, PartialEq, Eq, Error)]
@@ -90,14 +53,26 @@ pub enum CommandFault {
     NoThread,
 }
 
-impl From<InputFault> for CommandFault {
-    ghost from_gives = { λ fault command. command ≡ of_input fault };
+impl From<RecordsFault> for CommandFault {
+    ghost from_gives = { λ fault command. command ≡ of_records fault };
 
-    fn from(fault: InputFault) -> CommandFault {
+    fn from(fault: RecordsFault) -> CommandFault {
         match fault {
-            InputFault::ReadFault => CommandFault::ReadFault,
-            InputFault::InputSize => CommandFault::InputSize,
-            InputFault::NoMemory => CommandFault::NoMemory,
+            RecordsFault::ReadFault => CommandFault::ReadFault,
+            RecordsFault::InputSize => CommandFault::InputSize,
+            RecordsFault::Record(index, fault) => CommandFault::Record(index, fault),
+            RecordsFault::NoMemory => CommandFault::NoMemory,
+        }
+    }
+}
+
+impl From<AnswerFault> for CommandFault {
+    ghost from_gives = { λ fault command. command ≡ of_answers fault };
+
+    fn from(fault: AnswerFault) -> CommandFault {
+        match fault {
+            AnswerFault::NoThread => CommandFault::NoThread,
+            AnswerFault::NoMemory => CommandFault::NoMemory,
         }
     }
 }
@@ -174,42 +149,5 @@ impl From<AllocError> for CommandFault {
 
     fn from(_: AllocError) -> CommandFault {
         CommandFault::NoMemory
-    }
-}
-
-/// Why a record is not taken.
-#[derive(Clone, Copy, Debug, PartialEq, Eq)]
-pub enum RecordRefusal {
-    /// It has a fault.
-    Record(RecordFault),
-    /// A growth was refused.
-    NoMemory,
-}
-
-impl From<RecordFault> for RecordRefusal {
-    ghost from_gives = { λ fault refusal. refusal ≡ of_record fault };
-
-    fn from(fault: RecordFault) -> RecordRefusal {
-        RecordRefusal::Record(fault)
-    }
-}
-
-impl From<AllocError> for RecordRefusal {
-    ghost from_gives = { λ refused refusal. refusal ≡ no_room };
-
-    fn from(_: AllocError) -> RecordRefusal {
-        RecordRefusal::NoMemory
-    }
-}
-
-impl RecordRefusal {
-    /// The refusal of the input whose record at this index is refused.
-    pub fn at(self, index: usize) -> CommandFault
-        ensures { result ≡ refusal_at index self }
-    {
-        match self {
-            RecordRefusal::Record(fault) => CommandFault::Record(index, fault),
-            RecordRefusal::NoMemory => CommandFault::NoMemory,
-        }
     }
 }

@@ -1,41 +1,28 @@
 //! The program: GS1 bar codes from the command line.
 #![tactic(auto)]
 
-ghost use Rattle.std.specs.Prelude.{◌≡◌, ◌≢◌, ◌↔◌, true, false, IfErr, IfOk, IsErrOf, OnOk};
-ghost use Rattle.std.specs.Io.KnownBytes.{Appends};
+ghost use Rattle.std.specs.Prelude.{◌≡◌, IfOk};
 ghost use Rattle.std.specs.Process.{exit_status};
-ghost use Rattle.digits_core.specs.Bytes.{TookFront};
-ghost use Rattle.gs1_hub.specs.Commands.{RefusesAsked, WritesAsked};
+ghost use Rattle.gs1_hub.specs.Commands.{Ran, command_of};
 ghost use Rattle.gs1_hub.specs.Faults.{status_of, words_status};
 
-mod ascii;
 mod check;
-mod check_answer;
-mod columns;
 mod command_line;
-mod element_field;
 mod fault;
-mod feeds;
-mod label_lines;
-mod label_print;
-mod label_record;
 mod lanes;
 mod laws;
 mod options;
-mod records;
-mod report;
-mod serving;
-mod sheet_scan;
+mod print;
+mod scan;
 #[cfg(test)]
 mod tests;
-mod widths;
 mod words;
 
 use crate::check::run_check;
 use crate::fault::CommandFault;
-use crate::label_print::run_print;
 use crate::lanes::run_lanes;
-use crate::sheet_scan::run_scan;
+use crate::print::run_print;
+use crate::scan::run_scan;
 use crate::words::{Asked, WordsFault, read_words};
 use digits_core::{FromReader, Sink, Source, ToWriter};
 use hub_core::{Gate, OpenGate};
@@ -54,17 +41,8 @@ fn run<R: Threads + Wait + Sync, S: Source, W: Sink, G: Gate + Sync>(
     sink: &mut W,
     gate: &G,
 ) -> Result<(), CommandFault>
-    ensures ok { OnOk result (WritesAsked asked Appends
-        (S.left source.old) (S.left source.new) (W.taken sink.old) (W.taken sink.new)) }
-    ensures cut { IsErrOf result CommandFault.WriteFault → WritesAsked asked TookFront
-        (S.left source.old) (S.left source.new) (W.taken sink.old) (W.taken sink.new) }
-    ensures refused { IfErr result
-        (RefusesAsked asked (S.left source.old) (S.left source.new)) }
-    ensures unwritten { IfErr result (λ e. e ≢ CommandFault.WriteFault → sink.new ≡ sink.old) }
-    ensures read { S.failed source.old ≡ false
-        → (IsErrOf result CommandFault.ReadFault ↔ (S.failed source.new ≡ true)) }
-    ensures write { W.failed sink.old ≡ false
-        → (IsErrOf result CommandFault.WriteFault ↔ (W.failed sink.new ≡ true)) }
+    ensures { Ran (command_of asked) S.left S.failed W.taken W.failed
+        source.old source.new sink.old sink.new result }
 {
     match asked {
         Asked::Check(year) => run_check(alloc, year, source, sink),

@@ -5,16 +5,17 @@ ghost use Rattle.gs1_hub.specs.Asking.{Asks, AsksIn, HasGrid, HasLanes, HasPrint
 ghost use Rattle.gs1_hub.specs.CommandLine.{HasFlag, HasNumber, HasYear};
 ghost use Rattle.gs1_hub.specs.Faults.{words_fault_text};
 ghost use Rattle.gs1_hub.specs.declared.words.Asked.{Asked};
-ghost use Rattle.gs1_hub.specs.declared.options.GridOptions.{GridOptions};
+ghost use Rattle.line_core.specs.declared.grid.GridOptions.{GridOptions};
 ghost use Rattle.gs1_hub.specs.declared.options.LaneOptions.{LaneOptions};
 ghost use Rattle.gs1_hub.specs.declared.options.PrintOptions.{PrintOptions};
 ghost use Rattle.gs1_hub.specs.declared.options.ScanOptions.{ScanOptions};
 
 use crate::command_line::hub_command;
-use crate::options::{GridOptions, LaneOptions, PrintOptions, ScanOptions};
+use crate::options::{LaneOptions, PrintOptions, ScanOptions};
 use clap::error::ErrorKind;
 use clap::{ArgMatches, Error};
 use element_core::Year;
+use line_core::GridOptions;
 use std::alloc::Global;
 use std::fmt;
 

@@ -1,13 +1,20 @@
-use Rattle.std.proofs.Common.{◌∙◌, string_bytes}
-use Rattle.digits_core.specs.Bytes.{TookFront}
-use Rattle.gs1_hub.specs.Checks.{IsCheckReport, check_fault}
-use Rattle.gs1_hub.specs.Records.{computed}
-use Rattle.gs1_hub.proofs.CommandFacts.{written}
+use Rattle.std.proofs.Common.{◌≡◌, ◌∙◌, rules, string_bytes}
+use Rattle.line_core.specs.check.Checks.{check_meaning, check_report}
+use Rattle.gs1_hub.specs.Commands.{check_command}
+use Rattle.gs1_hub.proofs.CommandFacts.{records_cut}
 use Rattle.gs1_hub.proofs.check.run_check.Goals as goal
 
-pub returns-in_err-write_all-clause-cut : goal.returns-in_err-write_all-clause-cut
-returns-in_err-write_all-clause-cut g c = λ same.
-    let lines = string_bytes c.read_input.new.made in
-    written (computed check_fault) (λ rows. IsCheckReport c.args.year rows lines) (IsCheckReport c.args.year) TookFront lines c.as_bytes.result.now
-    (g.S.Source.left c.args.source.now) (g.S.Source.left c.read_input.new.source) (g.W.Sink.taken c.args.sink.now) (g.W.Sink.taken c.write_all.new.sink)
-    c.in_ok-read_input.ensures.ok (λ rows it. it) (c.as_bytes.ensures.value ∙ c.as_str.ensures.value) c.in_err-write_all.ensures.err
+pub returns-in_err-write_all : goal.returns-in_err-write_all
+returns-in_err-write_all g c =
+    let year = c.args.year in
+    let lines = string_bytes c.in_ok-lines.lines in
+    record {
+      ok = search rules;
+      cut = λ same. records_cut (check_meaning year) (λ answers. lines ≡ check_report answers) (λ answers text. text ≡ check_report answers) (check_command year).refuses lines c.as_bytes.result.now
+          (g.S.Source.left c.args.source.now) (g.S.Source.left c.check_lines.new.source) (g.W.Sink.taken c.args.sink.now) (g.W.Sink.taken c.write_all.new.sink)
+          c.in_ok-lines.ensures.ok (λ answers it. it) (c.as_bytes.ensures.value ∙ c.as_str.ensures.value) c.in_err-write_all.ensures.err;
+      refused = search rules;
+      unwritten = search rules;
+      read = search rules;
+      write = search rules;
+    }

@@ -1,0 +1,64 @@
+//! The command `print`: records of a kind and a text in, the images of their labels out.
+ghost use Rattle.std.specs.Prelude.{◌≡◌, ◌≢◌, ◌↔◌, List, ℕ, true, false, IfErr, IsErrOf, OnOk};
+ghost use Rattle.std.specs.Io.KnownBytes.{Appends};
+ghost use Rattle.digits_core.specs.Bytes.{TookFront};
+ghost use Rattle.gs1_hub.specs.Commands.{Ran, print_command};
+ghost use Rattle.line_core.specs.Grids.{cells_of};
+ghost use Rattle.gs1_hub.specs.Prints.{IsPrinted, IsUnprinted};
+
+use crate::fault::CommandFault;
+use crate::options::PrintOptions;
+use digits_core::{Sink, Source, write_all};
+use line_core::{label_lines, read_labels};
+use sheet_core::{Grid, Label, print_sheets, write_pbm};
+use std::alloc::Global;
+
+/// Writes labels as they are asked for.
+fn write_labels<W: Sink>(
+    alloc: Global,
+    options: PrintOptions,
+    grid: Grid,
+    labels: &[Label],
+    sink: &mut W,
+) -> Result<(), CommandFault>
+    requires { grid ≡ cells_of options.grid }
+    ensures ok { OnOk result ((text : List ℕ) × IsPrinted (cells_of options.grid) options.text labels.now text
+        × Appends (W.taken sink.old) (W.taken sink.new) text) }
+    ensures cut { IsErrOf result CommandFault.WriteFault
+        → (text : List ℕ) × IsPrinted (cells_of options.grid) options.text labels.now text
+        × TookFront (W.taken sink.old) (W.taken sink.new) text }
+    ensures refused { IfErr result (IsUnprinted (cells_of options.grid) labels.now) }
+    ensures unwritten { IfErr result (λ e. e ≢ CommandFault.WriteFault → sink.new ≡ sink.old) }
+    ensures write { W.failed sink.old ≡ false
+        → (IsErrOf result CommandFault.WriteFault ↔ (W.failed sink.new ≡ true)) }
+{
+    let sheets = print_sheets(alloc, labels, grid)?;
+    if options.text {
+        let cells = usize::from(options.grid.columns) * usize::from(options.grid.rows);
+        let text = label_lines(alloc, labels, cells, options.year)?;
+        write_all(sink, text.as_str().as_bytes())?;
+    } else {
+        write_pbm(sheets.as_slice(), sink)?;
+    }
+    Ok(())
+}
+
+/// Prints the labels that a source gives, as images of the sheets that they fill, or where text is
+/// asked for a line for each.
+///
+/// The source gives CSV records of two fields: a kind, `ean13`, `upca`, `ean8` or `upce` with a GTIN,
+/// or `gs1128` with an element string. A grid outside its limits is refused before any input is read.
+/// Nothing is written unless the whole input is taken and every label is printed.
+pub fn run_print<S: Source, W: Sink>(
+    alloc: Global,
+    options: PrintOptions,
+    source: &mut S,
+    sink: &mut W,
+) -> Result<(), CommandFault>
+    ensures { Ran (print_command options) S.left S.failed W.taken W.failed
+        source.old source.new sink.old sink.new result }
+{
+    let grid = options.grid.grid()?;
+    let labels = read_labels(alloc, options.year, source)?;
+    write_labels(alloc, options, grid, labels.as_slice(), sink)
+}

@@ -1,0 +1,44 @@
+//! The command `scan`: images of sheets in, the answers of their columns out.
+ghost use Rattle.gs1_hub.specs.Commands.{Ran, scan_command};
+
+use crate::fault::CommandFault;
+use crate::options::ScanOptions;
+use digits_core::{Sink, Source, write_all};
+use hub_core::Gate;
+use line_core::{answer_lines, are_of_size, column_feeds};
+use sheet_core::{files_are_read, read_pbm};
+use std::alloc::Global;
+use std::sync::Wait;
+use std::thread::Threads;
+
+/// Answers the rows of sheets that a source gives as PBM images, a line for each, column by column
+/// and by number. Workers read them beside each other, and each passes the gate before a row.
+///
+/// Column `c` of the grid is lane `c`; its rows are the middle rows of its cells, from top to
+/// bottom, sheet after sheet. A grid outside its limits is refused before any input is read, and an
+/// image of another size than the grid's once all images are read. Nothing is written unless the
+/// whole input is taken.
+pub fn run_scan<R: Threads + Wait + Sync, S: Source, W: Sink, G: Gate + Sync>(
+    rt: &R,
+    alloc: Global,
+    options: ScanOptions,
+    source: &mut S,
+    sink: &mut W,
+    gate: &G,
+) -> Result<(), CommandFault>
+    ensures { Ran (scan_command options) S.left S.failed W.taken W.failed
+        source.old source.new sink.old sink.new result }
+{
+    let grid = options.grid.grid()?;
+    let sheets = read_pbm(alloc, source)?;
+    if !are_of_size(options.grid, sheets.as_slice()) {
+        return Err(CommandFault::PbmSize);
+    }
+    // The law by which there are few images, and so few rows.
+    files_are_read();
+    let feeds = column_feeds(alloc, options.grid, grid, sheets.as_slice())?;
+    drop(sheets);
+    let lines = answer_lines(rt, alloc, feeds, options.workers, options.year, gate)?;
+    write_all(sink, lines.as_str().as_bytes())?;
+    Ok(())
+}

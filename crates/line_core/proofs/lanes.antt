@@ -1,0 +1,5 @@
+pub mod Capped
+pub mod FeedCounts
+pub mod FeedFacts
+pub mod FieldFaults
+pub mod FieldWords

@@ -1,0 +1,7 @@
+pub mod Grids
+pub mod answers
+pub mod check
+pub mod input
+pub mod lanes
+pub mod print
+pub mod scan

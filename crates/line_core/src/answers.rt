@@ -1,0 +1,3 @@
+//! Rows that are answered: the report of their answers.
+mod report;
+pub mod serving;

@@ -1,0 +1,4 @@
+//! Records that are checked: a kind and a text, answered by a line.
+pub mod answer;
+mod ascii;
+pub mod lines;

@@ -1,0 +1,105 @@
+//! The records of an input, which a command takes one after another.
+ghost use Rattle.std.specs.Prelude.{None, Some, [], ◌≡◌, ◌≢◌, ◌∷◌, ◌++◌, ◌↔◌, ◌≤◌, List, Option, length, true, false, IfErr, IfNone, IfSome, IsErrOf, OnOk};
+ghost use Rattle.csv.specs.Records.{fields_of};
+ghost use Rattle.line_core.specs.input.Records.{AreItems, Meaning, NamesFirst, Refuses, Takes, records_of};
+ghost use Rattle.line_core.specs.declared.input.fault.RecordFault.{RecordFault};
+
+use crate::input::fault::{RecordRefusal, RecordsFault};
+use csv::{ByteRecord, ErrorKind, ReaderBuilder};
+use digits_core::{Source, read_all};
+use std::alloc::Global;
+
+/// How many bytes a command reads at most.
+pub const INPUT_LIMIT: usize = 16_777_216;
+
+/// What a command makes of records.
+pub trait Intake {
+    /// What a record means to it.
+    type Item;
+    /// What it makes of the items.
+    type Made;
+
+    // A record means this item, or has this fault.
+    ghost means: { Self → Meaning Self.Item };
+    // This is what it makes of these items.
+    ghost makes: { Self → List Self.Item → Self.Made → Type 0 };
+
+    /// Takes one more record.
+    fn take(&self, made: &mut Self::Made, fields: &ByteRecord) -> Result<(), RecordRefusal>
+        requires { (items : List Self.Item) × makes self.now items made.old }
+        ensures taken { OnOk result ((item : Self.Item) × means self.now (fields_of fields.now) (Ok item)
+            × ((items : List Self.Item) → makes self.now items made.old
+            → makes self.now (items ++ item ∷ []) made.new)) }
+        ensures refused { (f : RecordFault) → result ≡ Err (RecordRefusal.Record f)
+            → means self.now (fields_of fields.now) (Err f) };
+}
+
+/// The fields of a record that has two.
+pub fn two_fields(fields: &ByteRecord) -> Option<(&[u8], &[u8])>
+    ensures some { IfSome result (λ p. fields_of fields.now ≡ p.0.now ∷ p.1.now ∷ []) }
+    ensures none { IfNone result (length (fields_of fields.now) ≢ 2) }
+{
+    if fields.len() != 2 {
+        return None;
+    }
+    let Some(first) = fields.get(0) else {
+        return None;
+    };
+    let Some(second) = fields.get(1) else {
+        return None;
+    };
+    Some((first, second))
+}
+
+/// Takes the records of the bytes.
+fn read_records<I: Intake>(
+    alloc: Global,
+    intake: &I,
+    made: &mut I::Made,
+    bytes: &[u8],
+) -> Result<(), RecordsFault>
+    requires start { I.makes intake.now [] made.old }
+    requires few { length bytes.now ≤ INPUT_LIMIT }
+    ensures ok { OnOk result ((items : List I.Item) × AreItems (I.means intake.now) (records_of bytes.now) items
+        × I.makes intake.now items made.new) }
+    ensures refused { IfErr result (NamesFirst (I.means intake.now) (records_of bytes.now)) }
+{
+    let reader = ReaderBuilder::new()
+        .has_headers(false)
+        .flexible(true)
+        .from_reader(alloc, bytes);
+    let mut index = 0usize;
+    'records: for next in reader.into_byte_records() {
+        let record = match next {
+            Ok(record) => record,
+            Err(error) => match error.into_kind() {
+                ErrorKind::OutOfMemory | ErrorKind::Io(_) => return Err(RecordsFault::NoMemory),
+                _ => unreachable!(),
+            },
+        };
+        match intake.take(made, &record) {
+            Ok(()) => index += 1,
+            Err(refusal) => return Err(refusal.at(index)),
+        }
+    }
+    Ok(())
+}
+
+/// Takes the records that a source gives.
+pub fn read_input<I: Intake, S: Source>(
+    alloc: Global,
+    intake: &I,
+    made: &mut I::Made,
+    source: &mut S,
+) -> Result<(), RecordsFault>
+    requires { I.makes intake.now [] made.old }
+    ensures ok { OnOk result (Takes (I.means intake.now)
+        (λ items. I.makes intake.now items made.new) (S.left source.old) (S.left source.new)) }
+    ensures refused { IfErr result
+        (Refuses (I.means intake.now) (S.left source.old) (S.left source.new)) }
+    ensures fault { S.failed source.old ≡ false
+        → (IsErrOf result RecordsFault.ReadFault ↔ (S.failed source.new ≡ true)) }
+{
+    let bytes = read_all(alloc, source, INPUT_LIMIT)?;
+    read_records(alloc, intake, made, bytes.as_slice())
+}

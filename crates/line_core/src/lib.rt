@@ -1,0 +1,20 @@
+//! Records in, lines out: what the records of an input mean to each command, and the lines that answer
+//! them.
+#![tactic(auto)]
+
+mod answers;
+mod check;
+mod grid;
+mod input;
+mod lanes;
+mod print;
+mod scan;
+
+pub use answers::serving::{AnswerFault, answer_lines};
+pub use check::lines::check_lines;
+pub use grid::GridOptions;
+pub use input::fault::{RecordFault, RecordsFault};
+pub use lanes::feeds::read_feeds;
+pub use print::label_lines::label_lines;
+pub use print::labels::read_labels;
+pub use scan::columns::{are_of_size, column_feeds};

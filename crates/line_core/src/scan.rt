@@ -1,0 +1,2 @@
+//! Sheets that are scanned: the rows of their columns.
+pub mod columns;
