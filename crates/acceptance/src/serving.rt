@@ -1,6 +1,6 @@
 //! Feeds served by workers beside each other.
 
-use crate::rows::{EAN8, EAN13, row};
+use crate::rows::{EAN8, EAN13, GS1_128, row};
 use element_core::Year;
 use hub_core::{Gate, OpenGate, serve};
 use lane_core::{Delivery, Ticket};
@@ -13,46 +13,64 @@ use std::thread;
 /// How often a held row looks whether it may go on.
 const TURN_LIMIT: u64 = 50_000_000;
 
-/// Holds number 0 until number 1 has come, and counts how often each comes.
+/// Holds number 0 until the last number has come, and counts how often each comes.
 #[derive(Drop)]
-struct Pairing {
-    first: AtomicU64,
-    second: AtomicU64,
-    other: AtomicU64,
+struct Holding {
+    last: u32,
+    firsts: AtomicU64,
+    between: AtomicU64,
+    lasts: AtomicU64,
+    others: AtomicU64,
     limits_met: AtomicU64,
 }
 
-impl Pairing {
-    fn new() -> Pairing {
-        Pairing {
-            first: AtomicU64::new(0),
-            second: AtomicU64::new(0),
-            other: AtomicU64::new(0),
+impl Holding {
+    fn until(last: u32) -> Holding {
+        Holding {
+            last,
+            firsts: AtomicU64::new(0),
+            between: AtomicU64::new(0),
+            lasts: AtomicU64::new(0),
+            others: AtomicU64::new(0),
             limits_met: AtomicU64::new(0),
         }
     }
 
-    /// Waits until number 1 has come, or as long as it may.
+    /// Waits until the last number has come, or as long as it may.
     fn hold(&self) {
         for _ in 0..TURN_LIMIT {
-            if self.second.load(Ordering::SeqCst) > 0 {
+            if self.lasts.load(Ordering::SeqCst) > 0 {
                 return;
             }
             thread::yield_now();
         }
         self.limits_met.fetch_add(1, Ordering::SeqCst);
     }
+
+    /// How often the first, those between, the last and any other came, and how often a wait was
+    /// ended by its limit.
+    fn counts(&self) -> [u64; 5] {
+        [
+            self.firsts.load(Ordering::SeqCst),
+            self.between.load(Ordering::SeqCst),
+            self.lasts.load(Ordering::SeqCst),
+            self.others.load(Ordering::SeqCst),
+            self.limits_met.load(Ordering::SeqCst),
+        ]
+    }
 }
 
-impl Gate for Pairing {
+impl Gate for Holding {
     fn pass(&self, ticket: Ticket) {
-        if ticket.lane != 0 || ticket.number > 1 {
-            self.other.fetch_add(1, Ordering::SeqCst);
-        } else if ticket.number == 1 {
-            self.second.fetch_add(1, Ordering::SeqCst);
-        } else {
-            self.first.fetch_add(1, Ordering::SeqCst);
+        if ticket.lane != 0 || ticket.number > self.last {
+            self.others.fetch_add(1, Ordering::SeqCst);
+        } else if ticket.number == self.last {
+            self.lasts.fetch_add(1, Ordering::SeqCst);
+        } else if ticket.number == 0 {
+            self.firsts.fetch_add(1, Ordering::SeqCst);
             self.hold();
+        } else {
+            self.between.fetch_add(1, Ordering::SeqCst);
         }
     }
 }
@@ -91,19 +109,73 @@ fn shown(alloc: Global, lists: &[Vec<Delivery>]) -> Result<String, Fail> {
 fn two_workers_run_beside_each_other(rt: HostRuntime) -> Result<(), Fail> {
     let alloc = rt.alloc();
     let year = Year::new(2026).ok_or("year")?;
-    let gate = Pairing::new();
-    let rows = feeds(alloc, &[&[EAN13, EAN8]])?;
-    let lists = serve(&rt, alloc, rows, 2, year, &gate)?;
-    assert_eq!(rt; gate.first.load(Ordering::SeqCst), 1);
-    assert_eq!(rt; gate.second.load(Ordering::SeqCst), 1);
-    assert_eq!(rt; gate.other.load(Ordering::SeqCst), 0);
-    assert_eq!(rt; gate.limits_met.load(Ordering::SeqCst), 0);
-    let text = shown(alloc, lists.as_slice())?;
+    let gate = Holding::until(1);
+    let lists = serve(&rt, alloc, feeds(alloc, &[&[EAN13, EAN8]])?, 2, year, &gate)?;
+    assert_eq!(rt; gate.counts(), [1, 0, 1, 0, 0]);
     assert_eq!(rt;
-        text.as_str(),
+        shown(alloc, lists.as_slice())?.as_str(),
         "0: 0/0 61 Read { carrier: Ean13\n\
          0: 0/1 45 Read { carrier: Ean8\n",
     );
+    Ok(())
+}
+
+#[test]
+fn a_worker_that_is_held_holds_no_other_row(rt: HostRuntime) -> Result<(), Fail> {
+    let alloc = rt.alloc();
+    let year = Year::new(2026).ok_or("year")?;
+    let gate = Holding::until(2);
+    let lists = serve(
+        &rt,
+        alloc,
+        feeds(alloc, &[&[EAN13, EAN8, GS1_128]])?,
+        2,
+        year,
+        &gate,
+    )?;
+    assert_eq!(rt; gate.counts(), [1, 1, 1, 0, 0]);
+    assert_eq!(rt;
+        shown(alloc, lists.as_slice())?.as_str(),
+        "0: 0/0 61 Read { carrier: Ean13\n\
+         0: 0/1 45 Read { carrier: Ean8\n\
+         0: 0/2 45 Read { carrier: Gs1128\n",
+    );
+    Ok(())
+}
+
+#[test]
+fn many_rows_and_workers_change_no_order(rt: HostRuntime) -> Result<(), Fail> {
+    let alloc = rt.alloc();
+    let year = Year::new(2026).ok_or("year")?;
+    for workers in [1, 4, 16] {
+        let mut rows = Vec::new(alloc);
+        for lane in 0..16usize {
+            let mut feed = Vec::new(alloc);
+            for number in 0..lane * 40 {
+                let widths = if (lane + number) % 3 == 0 {
+                    EAN13
+                } else {
+                    EAN8
+                };
+                feed.push(row(alloc, widths)?)?;
+            }
+            rows.push(feed)?;
+        }
+        let lists = serve(&rt, alloc, rows, workers, year, &OpenGate)?;
+        assert_eq!(rt; lists.len(), 16);
+        for (lane, list) in lists.iter().enumerate() {
+            assert_eq!(rt; list.len(), lane * 40);
+            for (number, delivery) in list.iter().enumerate() {
+                let wanted = if (lane + number) % 3 == 0 {
+                    EAN13
+                } else {
+                    EAN8
+                };
+                assert_eq!(rt; delivery.ticket().number as usize, number);
+                assert_eq!(rt; delivery.row().widths(), wanted);
+            }
+        }
+    }
     Ok(())
 }
 
