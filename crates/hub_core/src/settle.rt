@@ -52,6 +52,7 @@ fn give_all<R: Wait>(
 {
     pour_all(rt, hub, lists, lanes, workers, deliverer);
     sort_all(lists);
+    // Laws, by which the clauses follow: none of these calls does anything.
     kept_whole();
     received_first();
     all_found();
