@@ -4,5 +4,6 @@ pub mod CountFacts
 pub mod Flags
 pub mod LabelReadings
 pub mod Matches
+pub mod OnceFacts
 pub mod PlaceFacts
 pub mod ScannedFacts
