@@ -1,4 +1,5 @@
 pub mod BesideFacts
+pub mod CheckOnce
 pub mod CommandFacts
 pub mod CountFacts
 pub mod Flags

@@ -13,7 +13,7 @@ use Rattle.sheet_core.specs.Labels.{carrier_of}
 use Rattle.sheet_core.specs.declared.label.Label.{Label}
 use Rattle.line_core.specs.Grids.{cells_of}
 use Rattle.line_core.specs.print.Labels.{label_list, print_meaning}
-use Rattle.gs1_hub.specs.Commands.{Command, lanes_command, scan_command}
+use Rattle.gs1_hub.specs.Commands.{Command, check_command, lanes_command, scan_command}
 use Rattle.gs1_hub.specs.declared.options.LaneOptions.{LaneOptions}
 use Rattle.gs1_hub.specs.Prints.{IsPrint}
 use Rattle.line_core.specs.input.Records.{AreItems, Fields}
@@ -91,6 +91,9 @@ RowsByPlace =
 -- of the same bytes a command writes one text at most
 abbrev pub WritesOnce : Command → Type 0
 WritesOnce c = (bytes text other : List ℕ) → c.writes bytes text → c.writes bytes other → text ≡ other
+
+abbrev pub OneCheck : Type 0
+OneCheck = (year : ℕ) → WritesOnce (check_command year)
 
 abbrev pub OneLanes : Type 0
 OneLanes = (o : LaneOptions) → WritesOnce (lanes_command o)

@@ -1,5 +1,5 @@
 //! Laws about what the commands write and read, each the contract of a function that does nothing.
-ghost use Rattle.gs1_hub.specs.Laws.{AnswersByPlace, OneLanes, OneScan, PrintedIsAnswered, PrintedIsScanned, RowsByPlace};
+ghost use Rattle.gs1_hub.specs.Laws.{AnswersByPlace, OneCheck, OneLanes, OneScan, PrintedIsAnswered, PrintedIsScanned, RowsByPlace};
 
 use digits_core::gtins_are_checked;
 use element_core::{canonical_reads, gtin_reads};
@@ -55,6 +55,13 @@ pub fn one_scan()
 {
     dots_determine();
     one_answer();
+}
+
+/// Of the same bytes `check` writes one text at most.
+pub fn one_check()
+    ensures { OneCheck }
+{
+    element_core::one_answer();
 }
 
 /// Of the same bytes `lanes` writes one text at most.
