@@ -1,8 +1,10 @@
 pub mod BesideFacts
+pub mod CheckOnce
 pub mod CommandFacts
 pub mod CountFacts
 pub mod Flags
 pub mod LabelReadings
 pub mod Matches
+pub mod OnceFacts
 pub mod PlaceFacts
 pub mod ScannedFacts

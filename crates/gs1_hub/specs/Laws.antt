@@ -13,6 +13,8 @@ use Rattle.sheet_core.specs.Labels.{carrier_of}
 use Rattle.sheet_core.specs.declared.label.Label.{Label}
 use Rattle.line_core.specs.Grids.{cells_of}
 use Rattle.line_core.specs.print.Labels.{label_list, print_meaning}
+use Rattle.gs1_hub.specs.Commands.{Command, check_command, lanes_command, scan_command}
+use Rattle.gs1_hub.specs.declared.options.LaneOptions.{LaneOptions}
 use Rattle.gs1_hub.specs.Prints.{IsPrint}
 use Rattle.line_core.specs.input.Records.{AreItems, Fields}
 use Rattle.line_core.specs.answers.Reports.{report}
@@ -86,6 +88,15 @@ RowsByPlace =
     → (runs : List ℕ) × (slice_get rows (sheet * g.rows + row) ≡ Some runs)
     × (IsRow runs × (dots_of runs ≡ cell_dots g s (row * g.columns + column) (g.height / 2))))
 
--- of bytes, `scan` writes one text at most
+-- of the same bytes a command writes one text at most
+abbrev pub WritesOnce : Command → Type 0
+WritesOnce c = (bytes text other : List ℕ) → c.writes bytes text → c.writes bytes other → text ≡ other
+
+abbrev pub OneCheck : Type 0
+OneCheck = (year : ℕ) → WritesOnce (check_command year)
+
+abbrev pub OneLanes : Type 0
+OneLanes = (o : LaneOptions) → WritesOnce (lanes_command o)
+
 abbrev pub OneScan : Type 0
-OneScan = (o : ScanOptions) (bytes text other : List ℕ) → IsScan o bytes text → IsScan o bytes other → text ≡ other
+OneScan = (o : ScanOptions) → WritesOnce (scan_command o)

@@ -1,9 +1,9 @@
 //! Laws about what the commands write and read, each the contract of a function that does nothing.
-ghost use Rattle.gs1_hub.specs.Laws.{AnswersByPlace, OneScan, PrintedIsAnswered, PrintedIsScanned, RowsByPlace};
+ghost use Rattle.gs1_hub.specs.Laws.{AnswersByPlace, OneCheck, OneLanes, OneScan, PrintedIsAnswered, PrintedIsScanned, RowsByPlace};
 
 use digits_core::gtins_are_checked;
 use element_core::{canonical_reads, gtin_reads};
-use scan_core::{dots_determine, dots_make_row, one_answer};
+use scan_core::{dots_determine, dots_make_row, one_answer, row_or_fault};
 use sheet_core::{bar_rows_answer, empty_cells_are_blank, printed_is_read};
 
 /// Of what `print` writes as at most 4,096 images, a scan in the same grid and year answers for each
@@ -54,5 +54,20 @@ pub fn one_scan()
     ensures { OneScan }
 {
     dots_determine();
+    one_answer();
+}
+
+/// Of the same bytes `check` writes one text at most.
+pub fn one_check()
+    ensures { OneCheck }
+{
+    element_core::one_answer();
+}
+
+/// Of the same bytes `lanes` writes one text at most.
+pub fn one_lanes()
+    ensures { OneLanes }
+{
+    row_or_fault();
     one_answer();
 }
