@@ -1,6 +1,6 @@
 -- The stages at which the candidates of a row fail.
 use Rattle.std.proofs.Common.{◌≡◌, ◌≢◌, ℕ, ◌<◌, ◌≤◌, ◌==◌, List, length, refl, sym, ap, subst, ◌∙◌, arith, inl, inr, if◌then◌else◌}
-use Rattle.std.proofs.lemmas.Bool.{cases_lt}
+use Rattle.std.proofs.lemmas.Bool.{cases_lt, le-ltb, lt-ltb}
 use Rattle.scan_core.specs.declared.carrier.Carrier.{Carrier}
 use Rattle.scan_core.specs.declared.carrier.Carrier.TheVariants.{Gs1128}
 use Rattle.scan_core.specs.declared.stage.Stage.{Stage}
@@ -59,22 +59,10 @@ never f runs c w ms s a = let o = a.none_later c s.N s.candidate in not_shown o.
 -- ---- the stage of one candidate, or of two
 
 is_second : (a b : Stage) → number_of a < number_of b → later a b ≡ b
-is_second QuietZone b less = refl
-is_second Modules QuietZone less = absurd (omega arith)
-is_second Modules Modules less = refl
-is_second Modules Pattern less = refl
-is_second Pattern QuietZone less = absurd (omega arith)
-is_second Pattern Modules less = absurd (omega arith)
-is_second Pattern Pattern less = refl
+is_second a b less = rw (lt-ltb (number_of a) (number_of b) less) refl
 
 is_first : (a b : Stage) → number_of b ≤ number_of a → later a b ≡ a
-is_first QuietZone QuietZone more = refl
-is_first QuietZone Modules more = absurd (omega arith)
-is_first QuietZone Pattern more = absurd (omega arith)
-is_first Modules QuietZone more = refl
-is_first Modules Modules more = refl
-is_first Modules Pattern more = absurd (omega arith)
-is_first Pattern b more = refl
+is_first a b more = rw (le-ltb (number_of a) (number_of b) more) refl
 
 module _ (runs : List ℕ) where
   -- the fault of the one candidate, where it is not GS1-128

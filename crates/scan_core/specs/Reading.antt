@@ -1,5 +1,5 @@
 -- What the reader of a row comes by on its way to the answer.
-use Rattle.std.specs.Prelude.{◌≡◌, ℕ, List, ◌++◌, Result, Ok, Err, codes}
+use Rattle.std.specs.Prelude.{◌≡◌, ℕ, List, ◌++◌, Result, Ok, Err, codes, nat_lt, if◌then◌else◌}
 use Rattle.digits_core.specs.Digits.{ascii_of}
 use Rattle.element_core.specs.Elements.{IsElements, FirstFault, Listing}
 use Rattle.element_core.specs.declared.fault.ElementFault.{ElementFault}
@@ -10,7 +10,7 @@ use Rattle.scan_core.specs.declared.stage.Stage.{Stage}
 use Rattle.scan_core.specs.declared.stage.Stage.TheVariants as stages
 use Rattle.scan_core.specs.declared.symbol.Symbol.{Symbol}
 use Rattle.scan_core.specs.declared.symbol.Symbol.TheVariants.{Number, BadCheckDigit, Characters}
-use Rattle.scan_core.specs.Answers.{row_text}
+use Rattle.scan_core.specs.Answers.{number_of, row_text}
 
 -- the fault of a row that fails at this stage
 abbrev pub stage_fault : Stage → RowFault
@@ -20,10 +20,7 @@ stage_fault stages.Pattern = Pattern
 
 -- the later one of two stages
 abbrev pub later : Stage → Stage → Stage
-later stages.QuietZone stage = stage
-later stages.Modules stages.Pattern = stages.Pattern
-later stages.Modules _ = stages.Modules
-later stages.Pattern _ = stages.Pattern
+later first second = if nat_lt (number_of first) (number_of second) then second else first
 
 -- what a symbol spells, by what it was found to be
 abbrev pub content_of : Symbol → Result (List ℕ) RowFault

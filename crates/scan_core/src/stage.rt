@@ -3,7 +3,7 @@ ghost use Rattle.std.specs.Prelude.{◌≡◌};
 ghost use Rattle.scan_core.specs.Reading.{later};
 
 /// A test that a row has to pass as a symbol of a carrier, in the order in which they are made.
-#[derive(Clone, Copy)]
+#[derive(Clone, Copy, PartialEq, Eq, PartialOrd, Ord)]
 pub(crate) enum Stage {
     /// Both light ends are wide enough.
     QuietZone,
@@ -17,10 +17,5 @@ pub(crate) enum Stage {
 pub(crate) fn later(first: Stage, second: Stage) -> Stage
     ensures { result ≡ later first second }
 {
-    match (first, second) {
-        (Stage::QuietZone, _) => second,
-        (_, Stage::QuietZone) => first,
-        (Stage::Modules, Stage::Modules) => Stage::Modules,
-        _ => Stage::Pattern,
-    }
+    first.max(second)
 }
