@@ -4,7 +4,7 @@ use Rattle.std.specs.Io.KnownBytes.{IsAtEnd}
 use Rattle.digits_core.specs.Bytes.{TookFront}
 use Rattle.sheet_core.specs.Bitmaps.{Bitmap}
 use Rattle.sheet_core.specs.Grids.{IsGrid}
-use Rattle.sheet_core.specs.PbmImages.{Reads, images_of}
+use Rattle.sheet_core.specs.pbm.Images.{Reads, images_of}
 use Rattle.line_core.specs.Grids.{cells_of}
 use Rattle.line_core.specs.answers.Reports.{IsReport}
 use Rattle.line_core.specs.input.Records.{Meaning, Takes}

@@ -16,7 +16,7 @@ use Rattle.sheet_core.specs.Drawing.{ArePrinted, cell_count, sheet_count}
 use Rattle.sheet_core.specs.Grids.{Cells}
 use Rattle.sheet_core.specs.Labels.{IsDrawn}
 use Rattle.sheet_core.specs.Laws.{BarRowsAnswer, EmptyCellsAreBlank, PrintedIsRead}
-use Rattle.sheet_core.specs.PbmImages.{images_of}
+use Rattle.sheet_core.specs.pbm.Images.{images_of}
 use Rattle.sheet_core.specs.declared.label.Label.{Label}
 use Rattle.line_core.specs.Grids.{cells_of}
 use Rattle.gs1_hub.specs.Laws.{OneScan, PrintedIsAnswered, PrintedIsScanned, cell_answer, column_answers, labels_report, sheet_answers}

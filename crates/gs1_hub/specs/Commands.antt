@@ -4,7 +4,7 @@ use Rattle.std.specs.Io.KnownBytes.{Appends}
 use Rattle.digits_core.specs.Bytes.{GaveAll, TookFront}
 use Rattle.sheet_core.specs.Bitmaps.{Bitmap}
 use Rattle.sheet_core.specs.Grids.{IsGrid}
-use Rattle.sheet_core.specs.PbmImages.{Reads, images_of}
+use Rattle.sheet_core.specs.pbm.Images.{Reads, images_of}
 use Rattle.sheet_core.specs.declared.fault.PbmFault.TheVariants as pbm
 use Rattle.line_core.specs.check.Checks.{check_meaning, check_report}
 use Rattle.line_core.specs.answers.Reports.{IsReport}

@@ -5,7 +5,7 @@ use Rattle.sheet_core.specs.Bitmaps.{Bitmap}
 use Rattle.sheet_core.specs.Drawing.{ArePrinted, IsSheetFault, cell_count}
 use Rattle.sheet_core.specs.Grids.{Cells, IsGrid}
 use Rattle.sheet_core.specs.Labels.{IsPrintable}
-use Rattle.sheet_core.specs.PbmImages.{pbm_of}
+use Rattle.sheet_core.specs.pbm.Images.{pbm_of}
 use Rattle.sheet_core.specs.declared.fault.SheetFault.TheVariants as sheet
 use Rattle.sheet_core.specs.declared.label.Label.{Label}
 use Rattle.line_core.specs.Grids.{cells_of}

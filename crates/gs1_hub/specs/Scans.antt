@@ -2,7 +2,7 @@
 use Rattle.std.specs.Prelude.{◌≡◌, ℕ, true, List, [], Ok}
 use Rattle.sheet_core.specs.Bitmaps.{Bitmap}
 use Rattle.sheet_core.specs.Grids.{IsGrid}
-use Rattle.sheet_core.specs.PbmImages.{images_of}
+use Rattle.sheet_core.specs.pbm.Images.{images_of}
 use Rattle.line_core.specs.Grids.{cells_of}
 use Rattle.line_core.specs.answers.Reports.{IsReport}
 use Rattle.line_core.specs.scan.Columns.{AreColumns, have_size}

@@ -7,7 +7,7 @@ use Rattle.scan_core.specs.Bits.{dots_at}
 use Rattle.sheet_core.specs.declared.fault.PbmFault.TheVariants.{NotP4, PbmHeader, PbmSize, Truncated}
 use Rattle.sheet_core.specs.Bitmaps.{Bitmap}
 use Rattle.sheet_core.specs.Drawing.{bar_dots}
-use Rattle.sheet_core.specs.PbmImages.{images_of}
+use Rattle.sheet_core.specs.pbm.Images.{images_of}
 
 -- 9501101530003 at one dot a module in a cell of 113 dots
 printed : dots_at (0x00 ∷ 0x15 ∷ 0x8A ∷ 0x76 ∷ 0x66 ∷ 0x53 ∷ 0x99 ∷ 0x54 ∷ 0xE8 ∷ 0x5C ∷ 0xB9 ∷ 0x72 ∷ 0x85 ∷ 0x40 ∷ 0x00 ∷ []) 0 113

@@ -10,16 +10,16 @@ use Rattle.scan_core.specs.Row.{IsRow, dots_of}
 use Rattle.scan_core.specs.Showing.{Shows}
 use Rattle.scan_core.specs.Showing.Way.{Forwards}
 use Rattle.sheet_core.specs.declared.fault.PbmFault.{PbmFault}
-use Rattle.sheet_core.specs.declared.pbm_state.Size.{Size}
+use Rattle.sheet_core.specs.declared.pbm.state.Size.{Size}
 use Rattle.sheet_core.specs.declared.label.Label.{Label}
 use Rattle.sheet_core.specs.Bitmaps.{Bitmap, IsBitmap, cell_dots}
 use Rattle.sheet_core.specs.Drawing.{ArePrinted, cell_count}
 use Rattle.sheet_core.specs.Grids.{Cells}
 use Rattle.sheet_core.specs.Labels.{Drawn, IsDrawn, IsLabelSymbol, carrier_of, label_text}
-use Rattle.sheet_core.specs.PbmGrammar.{IsHeader, IsPbm}
-use Rattle.sheet_core.specs.PbmHeaders.{header_of}
-use Rattle.sheet_core.specs.PbmImages.{images_of, pbm_of}
-use Rattle.sheet_core.specs.PbmRefusals.{RefusesFile, RefusesHeader}
+use Rattle.sheet_core.specs.pbm.Grammar.{IsHeader, IsPbm}
+use Rattle.sheet_core.specs.pbm.Headers.{header_of}
+use Rattle.sheet_core.specs.pbm.Images.{images_of, pbm_of}
+use Rattle.sheet_core.specs.pbm.Refusals.{RefusesFile, RefusesHeader}
 
 -- what is drawn of a label is one symbol with its quiet zones
 abbrev pub OneDrawn : Type 0

@@ -7,7 +7,4 @@ pub mod Grids
 pub mod Labels
 pub mod Laws
 pub mod Lines
-pub mod PbmGrammar
-pub mod PbmHeaders
-pub mod PbmImages
-pub mod PbmRefusals
+pub mod pbm

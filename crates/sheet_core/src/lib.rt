@@ -6,10 +6,7 @@ mod grid;
 mod label;
 mod laws;
 mod line;
-mod pbm_header;
-mod pbm_read;
-mod pbm_state;
-mod pbm_write;
+mod pbm;
 mod print;
 mod sheet;
 mod symbol;
@@ -22,7 +19,7 @@ pub use laws::{
     headers_are_read, headers_are_refused, one_drawn, one_reading, printed_is_read,
     written_is_read,
 };
-pub use pbm_read::read_pbm;
-pub use pbm_write::write_pbm;
+pub use pbm::read::read_pbm;
+pub use pbm::write::write_pbm;
 pub use print::print_sheets;
 pub use sheet::Sheet;

@@ -1,4 +1,4 @@
-use Rattle.sheet_core.proofs.FilePieces.{files_are_read as law}
+use Rattle.sheet_core.proofs.pbm.FilePieces.{files_are_read as law}
 use Rattle.sheet_core.proofs.laws.files_are_read.Goals as goal
 
 pub returns : goal.returns

@@ -1,4 +1,4 @@
-use Rattle.sheet_core.proofs.FilePieces.{one_reading as law}
+use Rattle.sheet_core.proofs.pbm.FilePieces.{one_reading as law}
 use Rattle.sheet_core.proofs.laws.one_reading.Goals as goal
 
 pub returns : goal.returns

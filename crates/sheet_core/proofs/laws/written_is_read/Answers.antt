@@ -1,4 +1,4 @@
-use Rattle.sheet_core.proofs.WrittenFacts.{images_read}
+use Rattle.sheet_core.proofs.pbm.WrittenFacts.{images_read}
 use Rattle.sheet_core.proofs.laws.written_is_read.Goals as goal
 
 pub returns : goal.returns

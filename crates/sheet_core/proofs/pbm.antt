@@ -1,0 +1,13 @@
+pub mod BeginningFacts
+pub mod BeginningsRead
+pub mod FileFacts
+pub mod FilePieces
+pub mod FileRefusals
+pub mod GrammarFacts
+pub mod HeaderFacts
+pub mod HeaderFronts
+pub mod HeaderPieces
+pub mod HeaderRefusals
+pub mod ImageFacts
+pub mod PadFacts
+pub mod WrittenFacts

@@ -1,0 +1,4 @@
+pub mod Grammar
+pub mod Headers
+pub mod Images
+pub mod Refusals

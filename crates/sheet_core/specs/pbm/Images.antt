@@ -1,0 +1,107 @@
+-- PBM files: the one form in which they are written, and what bytes are, image by image (netpbm, pbm(5)).
+-- Sheets that are written are read as the same sheets, and what is read is exactly what has the pieces of images.
+use Rattle.std.specs.Prelude.{◌≡◌, ◌⊎◌, ℕ, zero, suc, ◌+◌, ◌-◌, ◌*◌, ◌%◌, ◌^◌, ◌<◌, ◌≤◌, ◌==◌, nat_lt, Bool, true, List, [], ◌∷◌, ◌++◌, Option, length, map, take, drop, slice_index, Result, Ok, Err, if◌then◌else◌}
+use Rattle.std.specs.List.{flat_map, range_with_len}
+use Rattle.std.specs.Io.KnownBytes.{Consumes, IsAtEnd}
+use Rattle.sheet_core.specs.declared.fault.PbmFault.{PbmFault}
+use Rattle.sheet_core.specs.declared.fault.PbmFault.TheVariants.{NotP4, PbmHeader, Truncated, PbmSize, ReadFault, NoMemory}
+use Rattle.sheet_core.specs.declared.pbm.state.Size.{Size}
+use Rattle.sheet_core.specs.Bitmaps.{Bitmap, pad, stride}
+use Rattle.sheet_core.specs.pbm.Headers.{header_of, header_text}
+
+-- ---- written
+
+-- a sheet as an image
+abbrev pub image : Bitmap → List ℕ
+image s = header_text s.width s.height ++ s.bytes
+
+-- sheets as a file
+abbrev pub pbm_of : List Bitmap → List ℕ
+pbm_of sheets = flat_map image sheets
+
+-- ---- read
+
+-- byte i of rows of that width, with its pad bits made 0
+abbrev pub unpadded_at : ℕ → List ℕ → ℕ → ℕ
+unpadded_at width bytes i =
+    if (i + 1) % stride width == 0 then slice_index bytes i - slice_index bytes i % 2 ^ pad width else slice_index bytes i
+
+-- the rows with their pad bits made 0
+abbrev pub unpadded : ℕ → List ℕ → List ℕ
+unpadded width bytes = map (unpadded_at width bytes) (range_with_len 0 (length bytes))
+
+-- the sheet of that size that rows show
+abbrev pub bitmap_of : Size → List ℕ → Bitmap
+bitmap_of size bytes = record { width = size.width; height = size.height; bytes = unpadded size.width bytes }
+
+-- the image after its header, and the bytes after the image or after the one that refuses it
+abbrev pub raster : Result Size PbmFault × List ℕ → Result Bitmap PbmFault × List ℕ
+raster (Err fault, rest) = (Err fault, rest)
+raster (Ok size, rest) =
+    if nat_lt (length rest) (stride size.width * size.height) then (Err Truncated, [])
+    else (Ok (bitmap_of size (take (stride size.width * size.height) rest)), drop (stride size.width * size.height) rest)
+
+-- the same of bytes that begin with an image
+abbrev pub image_of : List ℕ → Result Bitmap PbmFault × List ℕ
+image_of bytes = raster (header_of bytes)
+
+-- a sheet before others
+abbrev pub with_first : Bitmap → Result (List Bitmap) PbmFault × List ℕ → Result (List Bitmap) PbmFault × List ℕ
+with_first s (Ok sheets, rest) = (Ok (s ∷ sheets), rest)
+with_first s (Err fault, rest) = (Err fault, rest)
+
+-- the first image and then the others
+abbrev pub with_others : (List ℕ → Result (List Bitmap) PbmFault × List ℕ) → Result Bitmap PbmFault × List ℕ → Result (List Bitmap) PbmFault × List ℕ
+with_others others (Ok s, rest) = with_first s (others rest)
+with_others others (Err fault, rest) = (Err fault, rest)
+
+-- all images, so many at most, or the first refusal, and the bytes after the one that decides
+abbrev pub images_by : ℕ → List ℕ → Result (List Bitmap) PbmFault × List ℕ
+images_by limit [] = (Ok [], [])
+images_by zero (b ∷ bytes) = (Err PbmSize, bytes)
+images_by (suc limit) (b ∷ bytes) = with_others (images_by limit) (image_of (b ∷ bytes))
+
+-- the same of a file, of at most 4,096 images
+abbrev pub images_of : List ℕ → Result (List Bitmap) PbmFault × List ℕ
+images_of bytes = images_by 4096 bytes
+
+-- ---- what a reader took
+
+-- no byte is refused: the bytes are whole, or the front of something
+abbrev pub IsOpen : {A : Type 0} → Result A PbmFault × List ℕ → Type 0
+IsOpen {A} r = (r ≡ (Err Truncated, [])) ⊎ ((x : A) × (r ≡ (Ok x, [])))
+
+-- the bytes are all that was read for this answer: none after the one that decides, and none refused where reading stopped for another cause
+abbrev pub Tells : {A : Type 0} → Result A PbmFault × List ℕ → Option (List ℕ) → Result A PbmFault → Type 0
+Tells r left (Ok x) = r ≡ (Ok x, [])
+Tells r left (Err Truncated) = (r ≡ (Err Truncated, [])) × IsAtEnd left
+Tells r left (Err ReadFault) = IsOpen r
+Tells r left (Err NoMemory) = IsOpen r
+Tells r left (Err NotP4) = r ≡ (Err NotP4, [])
+Tells r left (Err PbmHeader) = r ≡ (Err PbmHeader, [])
+Tells r left (Err PbmSize) = r ≡ (Err PbmSize, [])
+
+-- a reader gave bytes that tell this answer
+pub record Reads {A : Type 0} (told : List ℕ → Result A PbmFault × List ℕ) (old new : Option (List ℕ)) (answer : Result A PbmFault) : Type 0 where
+  pub bytes : List ℕ
+  pub consumed : Consumes old new bytes
+  pub tells : Tells (told bytes) new answer
+
+-- a reader has failed where `ReadFault` says so, and nothing else was a failure
+abbrev pub FailsFor : {A : Type 0} → Bool → Bool → Result A PbmFault → Type 0
+FailsFor old new (Err ReadFault) = new ≡ true
+FailsFor old new (Ok x) = new ≡ old
+FailsFor old new (Err NotP4) = new ≡ old
+FailsFor old new (Err PbmHeader) = new ≡ old
+FailsFor old new (Err Truncated) = new ≡ old
+FailsFor old new (Err PbmSize) = new ≡ old
+FailsFor old new (Err NoMemory) = new ≡ old
+
+-- so many bytes did not come: the input ended, or reading them stopped for another cause
+abbrev pub StopsBefore : ℕ → Option (List ℕ) → Option (List ℕ) → PbmFault → Type 0
+StopsBefore count old new Truncated = (bytes : List ℕ) × Consumes old new bytes × (length bytes < count) × IsAtEnd new
+StopsBefore count old new ReadFault = (bytes : List ℕ) × Consumes old new bytes × (length bytes ≤ count)
+StopsBefore count old new NoMemory = (bytes : List ℕ) × Consumes old new bytes × (length bytes ≤ count)
+StopsBefore count old new NotP4 = ⊥
+StopsBefore count old new PbmHeader = ⊥
+StopsBefore count old new PbmSize = ⊥

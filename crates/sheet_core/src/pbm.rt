@@ -1,0 +1,5 @@
+//! Sheets as PBM images.
+pub mod header;
+pub mod read;
+pub mod state;
+pub mod write;

@@ -1,0 +1,149 @@
+//! Reads sheets from PBM images.
+ghost use Rattle.std.specs.Prelude.{[], ◌≡◌, ◌∷◌, ◌≤◌, ◌<◌, ◌↔◌, true, false, Ok, Err, IfErr, IfOk, IsErrOf, IsTrue, OnOk, MatchOption, MatchResult, ◌*◌, ◌-◌, ◌%◌, ◌^◌, length};
+ghost use Rattle.std.specs.Io.KnownBytes.{Consumes, IsAtEnd, Keeps};
+ghost use Rattle.sheet_core.specs.Bitmaps.{stride, pad};
+ghost use Rattle.sheet_core.specs.pbm.Headers.{header_of, is_size};
+ghost use Rattle.sheet_core.specs.pbm.Images.{FailsFor, Reads, StopsBefore, image_of, images_of, unpadded};
+
+use crate::fault::PbmFault;
+use crate::pbm::header::step;
+use crate::pbm::state::{Size, State, Step};
+use crate::sheet::{Sheet, stride};
+use digits_core::{Failed, Source};
+use std::alloc::Global;
+
+/// How many bytes of an image are asked for at a time, at most.
+const CHUNK: usize = 4_096;
+
+/// The next byte, or none at the end.
+fn next<R: Source>(reader: &mut R) -> Result<Option<u8>, Failed>
+    ensures byte { MatchResult result
+        (λ next. (R.failed reader.new ≡ R.failed reader.old) × MatchOption next
+        (Consumes (R.left reader.old) (R.left reader.new) [] × IsAtEnd (R.left reader.new))
+        (λ b. Consumes (R.left reader.old) (R.left reader.new) (b ∷ [])))
+        (λ e. (R.failed reader.new ≡ true) × Keeps (R.left reader.old) (R.left reader.new)) }
+{
+    let mut buffer = [0u8; 1];
+    let count = reader.read(&mut buffer)?;
+    if count == 0 {
+        return Ok(None);
+    }
+    Ok(Some(buffer[0]))
+}
+
+/// The size in a header that begins with this byte. No byte after the one that decides is read.
+fn read_header<R: Source>(reader: &mut R, first: u8) -> Result<Size, PbmFault>
+    ensures read { Reads (λ bytes. header_of (first ∷ bytes)) (R.left reader.old) (R.left reader.new) result }
+    ensures size { IfOk result (λ size. IsTrue (is_size size.width) × IsTrue (is_size size.height)) }
+    ensures failed { FailsFor (R.failed reader.old) (R.failed reader.new) result }
+{
+    let mut state = State::Start;
+    let mut byte = first;
+    for k in 0..4096u16 {
+        match step(state, byte) {
+            Step::Done(size) => return Ok(size),
+            Step::Refused(fault) => return Err(fault),
+            Step::Goes(reached) => state = reached,
+        }
+        match next(reader) {
+            Err(_) => return Err(PbmFault::ReadFault),
+            Ok(None) => return Err(PbmFault::Truncated),
+            Ok(Some(b)) => byte = b,
+        }
+    }
+    Err(PbmFault::PbmHeader)
+}
+
+/// The next bytes, so many, and none after them. Memory is taken as they come.
+fn read_bytes<R: Source>(alloc: Global, reader: &mut R, count: usize) -> Result<Vec<u8>, PbmFault>
+    ensures ok { IfOk result (λ v. Consumes (R.left reader.old) (R.left reader.new) v.items) }
+    ensures count { IfOk result (λ v. length v.items ≡ count) }
+    ensures stopped { IfErr result (StopsBefore count (R.left reader.old) (R.left reader.new)) }
+    ensures failed { FailsFor (R.failed reader.old) (R.failed reader.new) result }
+{
+    let mut bytes = Vec::new(alloc);
+    let mut chunk = [0u8; CHUNK];
+    'reads: while bytes.len() < count {
+        let missing = (count - bytes.len()).min(CHUNK);
+        let Ok(read) = reader.read(&mut chunk[..missing]) else {
+            return Err(PbmFault::ReadFault);
+        };
+        if read == 0 {
+            return Err(PbmFault::Truncated);
+        }
+        if bytes.extend_from_slice(&chunk[..read]).is_err() {
+            return Err(PbmFault::NoMemory);
+        }
+    }
+    Ok(bytes)
+}
+
+/// The byte with its low bits, so many, made 0.
+fn without_low_bits(byte: u8, count: usize) -> u8
+    requires { count ≤ 7 }
+    ensures { result ≡ byte - byte % 2 ^ count }
+{
+    byte >> count << count
+}
+
+/// Makes the pad bits of rows 0.
+fn clear_pads(bytes: &mut [u8], size: Size)
+    requires wide { 1 ≤ size.width }
+    requires count { length bytes.old ≡ stride size.width * size.height }
+    ensures { bytes.new ≡ unpadded size.width bytes.old }
+{
+    let stride = stride(size.width);
+    let pad = 8 * stride - usize::from(size.width);
+    for row in 0..usize::from(size.height) {
+        let last = stride * row + (stride - 1);
+        bytes[last] = without_low_bits(bytes[last], pad);
+    }
+}
+
+/// The sheet of an image that begins with this byte. No byte after the one that decides is read.
+fn read_image<R: Source>(alloc: Global, reader: &mut R, first: u8) -> Result<Sheet, PbmFault>
+    ensures read { Reads (λ bytes. image_of (first ∷ bytes)) (R.left reader.old) (R.left reader.new) result }
+    ensures failed { FailsFor (R.failed reader.old) (R.failed reader.new) result }
+{
+    let size = read_header(reader, first)?;
+    let count = stride(size.width) * usize::from(size.height);
+    let mut bytes = read_bytes(alloc, reader, count)?;
+    clear_pads(bytes.as_mut_slice(), size);
+    Ok(Sheet {
+        width: size.width,
+        height: size.height,
+        bytes,
+    })
+}
+
+/// The sheets of all PBM images that the reader has (netpbm, pbm(5)), at most 4,096 of them, each with a
+/// header of at most 4,096 bytes. An empty input has none.
+///
+/// The first byte that cannot be refuses the whole, and none after it is read: `NotP4`, `PbmHeader` or
+/// `PbmSize`; an end within an image is `Truncated`. Memory is taken as bytes come.
+pub fn read_pbm<R: Source>(alloc: Global, reader: &mut R) -> Result<Vec<Sheet>, PbmFault>
+    ensures ok { IfOk result (λ sheets. Reads images_of (R.left reader.old) (R.left reader.new) (Ok sheets.items)) }
+    ensures end { OnOk result (IsAtEnd (R.left reader.new)) }
+    ensures err { IfErr result (λ fault. Reads images_of (R.left reader.old) (R.left reader.new) (Err fault)) }
+    ensures fault { R.failed reader.old ≡ false
+        → (IsErrOf result PbmFault.ReadFault ↔ (R.failed reader.new ≡ true)) }
+{
+    let mut sheets = Vec::new(alloc);
+    for _ in 0..4096u16 {
+        match next(reader) {
+            Err(_) => return Err(PbmFault::ReadFault),
+            Ok(None) => return Ok(sheets),
+            Ok(Some(first)) => {
+                let sheet = read_image(alloc, reader, first)?;
+                let Ok(()) = sheets.push(sheet) else {
+                    return Err(PbmFault::NoMemory);
+                };
+            }
+        }
+    }
+    match next(reader) {
+        Err(_) => Err(PbmFault::ReadFault),
+        Ok(None) => Ok(sheets),
+        Ok(Some(_)) => Err(PbmFault::PbmSize),
+    }
+}
