@@ -4,9 +4,11 @@ use Rattle.std.specs.Prelude.{is_some}
 use Rattle.std.proofs.lemmas.Bool.{cases_Bool, and_parts, not-true, ne_eqb, leb-true}
 use Rattle.std.proofs.lemmas.List.{append-nil, nil_from_length}
 use Rattle.element_core.specs.Table.{Row, ai_rows, first_digits_decide, predefined_length, begins_with_digit}
-use Rattle.element_core.specs.Elements.{Entry, IsElement, AreElements, Begins, Reads, is_closed, after_separator, separator_for, canonical, CanonicalReads}
+use Rattle.element_core.specs.Elements.{Entry, IsElement, AreElements, separator_for, canonical, CanonicalReads}
+use Rattle.element_core.specs.Fronts.{Begins, is_closed, after_separator, ReadsFromLeft}
 use Rattle.element_core.proofs.TableLaws.{each_begins_with_digit, first_digits_decide as digits_decide}
 use Rattle.element_core.proofs.Look.{all_at}
+use Rattle.element_core.proofs.PieceLemmas.{from_left, to_pieces}
 use Rattle.element_core.proofs.Unique.{not_stuck, stuck_at_end, IsStuck}
 
 kept : (ai rest : List ℕ) → begins_with_digit ai ≡ true → after_separator (ai ++ rest) ≡ ai ++ rest
@@ -39,7 +41,7 @@ pub or_true : (b : Bool) → (b || true) ≡ true
 or_true true = refl
 or_true false = refl
 
-pub canonical_reads : (year : ℕ) (es : List Entry) → AreElements year es → Reads year (canonical es) es []
+pub canonical_reads : (year : ℕ) (es : List Entry) → AreElements year es → ReadsFromLeft year (canonical es) es []
 canonical_reads year [] are = refl
 canonical_reads year (e ∷ []) are =
     ([], record { row = are.0.0; element = are.0.1; after = []; text_is = sym (append-nil (e.ai ++ e.value)); closed = or_true are.0.0.predefined; rest_is = refl }, refl)
@@ -55,7 +57,7 @@ canonical_reads year (e ∷ f ∷ es) are =
     let m = made (is_some (predefined_length e.ai)) known in
     (c, record { row = are.0.0; element = are.0.1; after = separator_for e ++ c; text_is = append_assoc (e.ai ++ e.value) (separator_for e) c; closed = m.0; rest_is = m.1 }, more)
 
-pub elements_are : (year : ℕ) (text : List ℕ) (es : List Entry) (rest : List ℕ) → Reads year text es rest → AreElements year es
+pub elements_are : (year : ℕ) (text : List ℕ) (es : List Entry) (rest : List ℕ) → ReadsFromLeft year text es rest → AreElements year es
 elements_are year text [] rest r = tt
 elements_are year text (e ∷ es) rest r = ((r.1.row, r.1.element), elements_are year r.0 es rest r.2)
 
@@ -77,7 +79,7 @@ cases_zero : (n : ℕ) → (n ≡ 0) ⊎ (0 < n)
 cases_zero zero = inl refl
 cases_zero (suc n) = inr (omega arith)
 
-nothing : (year : ℕ) (text : List ℕ) (e : Entry) (es : List Entry) (rest : List ℕ) → length text ≡ 0 → Reads year text (e ∷ es) rest → ⊥
+nothing : (year : ℕ) (text : List ℕ) (e : Entry) (es : List Entry) (rest : List ℕ) → length text ≡ 0 → ReadsFromLeft year text (e ∷ es) rest → ⊥
 nothing year text e es rest z r = not_stuck year e text r.0 r.1 (subst (IsStuck year) (sym (nil_from_length text z)) (stuck_at_end year))
 
 rest_shorter : (after rest : List ℕ) → rest ≡ after_separator after → length rest ≤ length after
@@ -99,10 +101,10 @@ begins_shorter year e text rest b =
     (omega (arith, ap length b.text_is, length-append (e.ai ++ e.value) b.after, length-append e.ai e.value, rest_shorter b.after rest b.rest_is), some)
 
 -- a text that is read on is not empty
-some_left : (year : ℕ) (text : List ℕ) (e : Entry) (es : List Entry) (rest : List ℕ) → Reads year text (e ∷ es) rest → 0 < length text
+some_left : (year : ℕ) (text : List ℕ) (e : Entry) (es : List Entry) (rest : List ℕ) → ReadsFromLeft year text (e ∷ es) rest → 0 < length text
 some_left year text e es rest r = let s = begins_shorter year e text r.0 r.1 in let t = s.0 in let u = s.1 in omega arith
 
-pub canonical_shorter : (year : ℕ) (text : List ℕ) (es : List Entry) (rest : List ℕ) → Reads year text es rest → length (canonical es) + length rest ≤ length text
+pub canonical_shorter : (year : ℕ) (text : List ℕ) (es : List Entry) (rest : List ℕ) → ReadsFromLeft year text es rest → length (canonical es) + length rest ≤ length text
 canonical_shorter year text [] rest r = omega (arith, ap length r)
 canonical_shorter year text (e ∷ []) rest r =
     let s = begins_shorter year e text r.0 r.1 in let t = s.0 in
@@ -116,14 +118,14 @@ canonical_shorter year text (e ∷ f ∷ es) rest r =
     omega (arith, ap length b.text_is, length-append (e.ai ++ e.value) b.after, length-append (e.ai ++ e.value ++ separator_for e) (canonical (f ∷ es)), length-append (e.ai ++ e.value) (separator_for e), sep, k, more)
 
 -- the canonical text of a list of elements is not empty
-canonical_some : (year : ℕ) (text : List ℕ) (es : List Entry) → 0 < length text → Reads year text es [] → 0 < length (canonical es)
+canonical_some : (year : ℕ) (text : List ℕ) (es : List Entry) → 0 < length text → ReadsFromLeft year text es [] → 0 < length (canonical es)
 canonical_some year text es some r =
     elim (cases_zero (length (canonical es))) [
       | inl z ↦ absurd (no_elements es z some r)
       | inr s ↦ s
     ]
   where
-    no_elements : (es : List Entry) → length (canonical es) ≡ 0 → 0 < length text → Reads year text es [] → ⊥
+    no_elements : (es : List Entry) → length (canonical es) ≡ 0 → 0 < length text → ReadsFromLeft year text es [] → ⊥
     no_elements [] z some r = omega (arith, ap length r)
     no_elements (e ∷ es) z some r = nothing year (canonical (e ∷ es)) e es [] z (canonical_reads year (e ∷ es) (elements_are year text (e ∷ es) [] r))
 
@@ -131,5 +133,7 @@ pub canonical_law : CanonicalReads
 canonical_law = λ year text es is.
     let fits = is.fits in
     let some = is.some in
-    let shorter : length (canonical es) ≤ length text = omega (arith, canonical_shorter year text es [] is.reads) in
-    (record { some = canonical_some year text es some is.reads; fits = omega arith; reads = canonical_reads year es (elements_are year text es [] is.reads) }, shorter)
+    let reads = from_left year text es [] is.reads in
+    let shorter : length (canonical es) ≤ length text = omega (arith, canonical_shorter year text es [] reads) in
+    let again = to_pieces year (canonical es) es [] (canonical_reads year es (elements_are year text es [] reads)) in
+    (record { some = canonical_some year text es some reads; fits = omega arith; reads = again }, shorter)

@@ -7,7 +7,8 @@ use Rattle.element_core.specs.declared.part.Part.{Part}
 use Rattle.element_core.specs.declared.part.PartKind.{PartKind}
 use Rattle.element_core.specs.declared.part.PartKind.TheVariants.{Digits, Characters}
 use Rattle.element_core.specs.Table.{Row, least_of, greatest_of}
-use Rattle.element_core.specs.Elements.{belongs, has_characters, each_part, is_closed, field_of, value_in}
+use Rattle.element_core.specs.Elements.{belongs, has_characters, each_part, field_of, value_in}
+use Rattle.element_core.specs.Fronts.{is_closed}
 
 -- no byte is a separator
 abbrev pub is_plain : List ℕ → Bool

@@ -5,16 +5,18 @@ use Rattle.std.proofs.lemmas.Bool.{cases_Bool, leb-true}
 use Rattle.std.proofs.lemmas.List.{append-nil, nil_from_length, map_push, take_at, drop_at, drop-append-le, take-append-le, length_push}
 use Rattle.element_core.specs.declared.draft.Cut.{Cut}
 use Rattle.element_core.specs.Table.{Row, ai_rows, least_of, is_long_enough, predefined_length}
-use Rattle.element_core.specs.Elements.{Entry, IsElement, AreElements, Begins, Reads, IsElements, StopsWith, FirstFault, fault_at, separator_for, canonical}
+use Rattle.element_core.specs.Elements.{Entry, IsElement, AreElements, IsElements, StopsWith, FirstFault, fault_at, separator_for, canonical}
+use Rattle.element_core.specs.Fronts.{Begins, ReadsFromLeft}
 use Rattle.element_core.specs.Growing.{gap, last_gap}
 use Rattle.element_core.specs.Drafts.{element_by, elements_in, AreCuts}
 use Rattle.element_core.proofs.TableLaws.{each_is_long_enough}
 use Rattle.element_core.proofs.Look.{all_at}
 use Rattle.element_core.specs.declared.fault.ElementFault.{ElementFault}
 use Rattle.element_core.proofs.Unique.{right_size}
+use Rattle.element_core.proofs.PieceLemmas.{to_pieces}
 use Rattle.element_core.proofs.Canonical.{is_some-predefined_length, canonical_shorter, elements_are, canonical_law}
 
-pub reads-push : (year : ℕ) (text : List ℕ) (es : List Entry) (e : Entry) (mid rest : List ℕ) → Reads year text es mid → Begins year e mid rest → Reads year text (es ++ e ∷ []) rest
+pub reads-push : (year : ℕ) (text : List ℕ) (es : List Entry) (e : Entry) (mid rest : List ℕ) → ReadsFromLeft year text es mid → Begins year e mid rest → ReadsFromLeft year text (es ++ e ∷ []) rest
 reads-push year text [] e mid rest r b = (rest, subst (λ (t : List ℕ). Begins year e t rest) (sym r) b, refl)
 reads-push year text (f ∷ es) e mid rest r b = (r.0, r.1, reads-push year r.0 es e mid rest r.2 b)
 
@@ -105,13 +107,13 @@ appended text sep ai value new cuts c are new_is start middle end =
 
 -- one element more, while a text is read
 pub record Grows (year : ℕ) (text out : List ℕ) (es : List Entry) (separate : Bool) (e : Entry) (rest : List ℕ) : Type 0 where
-  pub reads : Reads year text (es ++ e ∷ []) rest
+  pub reads : ReadsFromLeft year text (es ++ e ∷ []) rest
   pub canonical_text : out ++ gap separate ++ (e.ai ++ e.value) ≡ canonical (es ++ e ∷ [])
   pub room : length (out ++ gap separate ++ (e.ai ++ e.value)) ≤ length text
   pub places : 4 * (length es + 1) ≤ length text + 1
   pub gap_is : last_gap (es ++ e ∷ []) ≡ separator_for e
 
-pub grows : (year : ℕ) (text out : List ℕ) (es : List Entry) (separate : Bool) (e : Entry) (mid rest : List ℕ) → Reads year text es mid → out ≡ canonical es → last_gap es ≡ gap separate → Begins year e mid rest → Grows year text out es separate e rest
+pub grows : (year : ℕ) (text out : List ℕ) (es : List Entry) (separate : Bool) (e : Entry) (mid rest : List ℕ) → ReadsFromLeft year text es mid → out ≡ canonical es → last_gap es ≡ gap separate → Begins year e mid rest → Grows year text out es separate e rest
 grows year text out es separate e mid rest reads out_is gap_is begins =
     let more = reads-push year text es e mid rest reads begins in
     let longer : out ++ gap separate ++ (e.ai ++ e.value) ≡ canonical (es ++ e ∷ []) = rw (out_is, ← gap_is) (sym (canonical-push es e)) in
@@ -126,16 +128,16 @@ grows year text out es separate e mid rest reads out_is gap_is begins =
     }
 
 -- nothing is left
-pub whole : (year : ℕ) (text out : List ℕ) (cuts : List Cut) (rest : List ℕ) → 0 < length text → length text ≤ 192 → length rest ≡ 0 → Reads year text (elements_in out cuts) rest → out ≡ canonical (elements_in out cuts) → IsElements year text (elements_in out cuts) × IsElements year out (elements_in out cuts)
+pub whole : (year : ℕ) (text out : List ℕ) (cuts : List Cut) (rest : List ℕ) → 0 < length text → length text ≤ 192 → length rest ≡ 0 → ReadsFromLeft year text (elements_in out cuts) rest → out ≡ canonical (elements_in out cuts) → IsElements year text (elements_in out cuts) × IsElements year out (elements_in out cuts)
 whole year text out cuts rest some fits empty reads out_is =
     let es = elements_in out cuts in
-    let is : IsElements year text es = record { some = some; fits = fits; reads = subst (λ (r : List ℕ). Reads year text es r) (nil_from_length rest empty) reads } in
+    let is : IsElements year text es = record { some = some; fits = fits; reads = to_pieces year text es [] (subst (λ (r : List ℕ). ReadsFromLeft year text es r) (nil_from_length rest empty) reads) } in
     (is, subst (λ (t : List ℕ). IsElements year t es) (sym out_is) (canonical_law year text es is).0)
 
-pub stops : (year : ℕ) (text : List ℕ) (es : List Entry) (rest : List ℕ) (f : ElementFault) → 0 < length text → length text ≤ 192 → Reads year text es rest → 0 < length rest → fault_at year (length text - length rest) rest ≡ Some f → FirstFault year text f
+pub stops : (year : ℕ) (text : List ℕ) (es : List Entry) (rest : List ℕ) (f : ElementFault) → 0 < length text → length text ≤ 192 → ReadsFromLeft year text es rest → 0 < length rest → fault_at year (length text - length rest) rest ≡ Some f → FirstFault year text f
 stops year text es rest f some fits reads left fault =
     let short = canonical_shorter year text es rest reads in
-    let s : StopsWith year text f = record { before = es; rest = rest; reads = reads; some = left; place = length text - length rest; place_is = omega arith; fault = fault } in
+    let s : StopsWith year text f = record { before = es; rest = rest; reads = to_pieces year text es rest reads; some = left; place = length text - length rest; place_is = omega arith; fault = fault } in
     subst (λ (o : Option ElementFault). MatchOption o (StopsWith year text f) (λ g. f ≡ g)) (sym (right_size text some fits)) s
 
 gap-not : (p : Bool) → gap (not p) ≡ cond p [] (29 ∷ [])

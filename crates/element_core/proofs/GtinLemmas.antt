@@ -7,6 +7,7 @@ use Rattle.std.proofs.lemmas.List.{length-map, take_all}
 use Rattle.digits_core.specs.Digits.{AreDigits, IsChecked, ascii_of, digits_of, weighted}
 use Rattle.element_core.specs.Table.{Row, ai_rows, families, n_check}
 use Rattle.element_core.specs.Elements.{Entry, GtinReads, IsElement, IsElements, IsValue, canonical, gtin_entry, is_digit}
+use Rattle.element_core.proofs.PieceLemmas.{to_pieces}
 use Rattle.element_core.proofs.Canonical.{canonical_reads}
 
 gtin_row : Row
@@ -47,7 +48,7 @@ gtin_elements year g text es digits checked long es_is text_is =
     let one : List Entry = gtin_entry g ∷ [] in
     let same : text ≡ canonical one = text_is ∙ ap canonical es_is in
     let size : length (canonical one) ≡ 16 = omega (arith, long) in
-    subst (IsElements year text) (sym es_is) (subst (λ (t : List ℕ). IsElements year t one) (sym same) (record { some = omega arith; fits = omega arith; reads = canonical_reads year one ((gtin_row, is), tt) }))
+    subst (IsElements year text) (sym es_is) (subst (λ (t : List ℕ). IsElements year t one) (sym same) (record { some = omega arith; fits = omega arith; reads = to_pieces year (canonical one) one [] (canonical_reads year one ((gtin_row, is), tt)) }))
 
 pub gtin_reads : GtinReads
 gtin_reads gtin year long digits checked =

@@ -12,6 +12,7 @@ use Rattle.element_core.specs.Table.{Row, ai_rows, greatest_of, is_of_digits, pr
 use Rattle.element_core.specs.Elements.{Entry, IsElement, AreElements, IsElements, belongs, between, is_digit, is_character, is_text_byte, begins_with_digits, is_printable, has_characters, each_part, separator_for, canonical}
 use Rattle.element_core.proofs.TableLaws.{each_is_of_digits}
 use Rattle.element_core.proofs.Look.{all_at}
+use Rattle.element_core.proofs.PieceLemmas.{from_left}
 use Rattle.element_core.proofs.Canonical.{elements_are}
 
 or_right : (x y : Bool) → y ≡ true → (x || y) ≡ true
@@ -90,7 +91,7 @@ canonical_printable year e (f ∷ es) are =
 
 pub listing_printable : (year : ℕ) (text : List ℕ) (es : List Entry) → IsElements year text es → text ≡ canonical es → is_printable text ≡ true
 listing_printable year text [] is text_is = absurd (let some = is.some in omega (arith, ap length text_is))
-listing_printable year text (e ∷ es) is text_is = ap is_printable text_is ∙ canonical_printable year e es (elements_are year text (e ∷ es) [] is.reads)
+listing_printable year text (e ∷ es) is text_is = ap is_printable text_is ∙ canonical_printable year e es (elements_are year text (e ∷ es) [] (from_left year text (e ∷ es) [] is.reads))
 
 below_128 : (b : ℕ) → is_text_byte b ≡ true → b < 128
 below_128 b h =

@@ -1,6 +1,7 @@
 -- How long the human-readable line is.
 use Rattle.std.proofs.Common.{◌≡◌, ℕ, ◌+◌, ◌*◌, ◌≤◌, List, [], ◌∷◌, ◌++◌, length, ap, arith, length-append}
 use Rattle.element_core.specs.Elements.{Entry, IsElements, canonical, hri, separator_for}
+use Rattle.element_core.proofs.PieceLemmas.{from_left}
 use Rattle.element_core.proofs.Canonical.{elements_are}
 use Rattle.element_core.proofs.Growth.{few_elements}
 
@@ -14,4 +15,4 @@ hri_length (e ∷ f ∷ es) =
 pub hri_fits : (year : ℕ) (text : List ℕ) (es : List Entry) → IsElements year text es → text ≡ canonical es → length (hri es) ≤ 288
 hri_fits year text es is text_is =
     let fits = is.fits in
-    omega (arith, hri_length es, few_elements year es (elements_are year text es [] is.reads), ap length text_is)
+    omega (arith, hri_length es, few_elements year es (elements_are year text es [] (from_left year text es [] is.reads)), ap length text_is)

@@ -8,6 +8,7 @@ use Rattle.element_core.specs.declared.fault.ElementFault.TheVariants.{Empty, Va
 use Rattle.element_core.specs.Table.{ai_rows, is_of_digits, predefined_length, Row, begins, row_at, least_of, greatest_of}
 use Rattle.element_core.specs.Elements.{Entry, IsElement, IsElements, AreElements, value_in, field_of, row_fault, value_fault, fault_by, canonical}
 use Rattle.element_core.specs.Pairs.{FaultlessPairs, HasRow, PairLengths, PairsAsTexts, UnknownPairs, entry_fault, entry_fault_by, entries_fault, list_fault}
+use Rattle.element_core.proofs.PieceLemmas.{from_left, to_pieces}
 use Rattle.element_core.proofs.Canonical.{canonical_reads, elements_are, or_true}
 use Rattle.element_core.proofs.Fields.{value_in_field}
 use Rattle.element_core.proofs.Growth.{few_elements}
@@ -99,8 +100,8 @@ faultless_pairs = λ year es. (
   λ none.
       let f = faultless year es none in
       let are = entries_valid year 0 es f.entries in
-      record { some = omega (arith, f.some, few_elements year es are); fits = f.short; reads = canonical_reads year es are },
-  λ is. fits year es (some_of year es is) (no_faults year 0 es (elements_are year (canonical es) es [] is.reads)) is.fits,
+      record { some = omega (arith, f.some, few_elements year es are); fits = f.short; reads = to_pieces year (canonical es) es [] (canonical_reads year es are) },
+  λ is. fits year es (some_of year es is) (no_faults year 0 es (elements_are year (canonical es) es [] (from_left year (canonical es) es [] is.reads))) is.fits,
 )
 
 -- each of the elements has its AI in the table

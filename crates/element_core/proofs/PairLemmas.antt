@@ -11,6 +11,7 @@ use Rattle.element_core.specs.Growing.{gap, last_gap}
 use Rattle.element_core.specs.Pairs.{entry_of, entries_of, entry_fault, entry_fault_by, entries_fault, list_fault, or_else}
 use Rattle.element_core.proofs.Look.{begins-split, row_is}
 use Rattle.element_core.proofs.Shown.{passes, no_fault_fits}
+use Rattle.element_core.proofs.PieceLemmas.{to_pieces}
 use Rattle.element_core.proofs.Canonical.{canonical_reads}
 use Rattle.element_core.proofs.Growth.{canonical-push, few_elements}
 
@@ -101,4 +102,4 @@ pub finished : (year : ℕ) (out : List ℕ) (es all : List Entry) → AreElemen
 finished year out es all are is out_is some short =
     let these = subst (AreElements year) (sym is) are in
     let few = few_elements year es these in
-    record { some = omega (arith, ap length is, ap length out_is, few); fits = short; reads = subst (λ (t : List ℕ). Reads year t es []) (sym out_is) (canonical_reads year es these) }
+    record { some = omega (arith, ap length is, ap length out_is, few); fits = short; reads = subst (λ (t : List ℕ). Reads year t es []) (sym out_is) (to_pieces year (canonical es) es [] (canonical_reads year es these)) }

@@ -1,8 +1,8 @@
--- A text that is read is joined pieces.
+-- Joined pieces are what is read from the left.
 use Rattle.std.proofs.Common.{◌≡◌, ℕ, Bool, true, false, eqb, not, ◌||◌, List, [], ◌∷◌, ◌++◌, map, refl, sym, ap, subst, ◌∙◌, append_assoc, eqb-true, inl, inr}
 use Rattle.std.proofs.lemmas.Bool.{cases_Bool, not-true}
-use Rattle.element_core.specs.Elements.{Entry, Reads, is_closed, after_separator}
-use Rattle.element_core.specs.Pieces.{Piece, separator, joined, is_empty, begins_with_separator, IsPiece, ArePieces, IsJoined, ReadsPieces}
+use Rattle.element_core.specs.Elements.{Entry, Piece, separator, joined, is_empty, begins_with_separator, IsPiece, ArePieces, Reads}
+use Rattle.element_core.specs.Fronts.{ReadsFromLeft, ReadsPieces, is_closed, after_separator}
 
 -- what is after a value is its separator and the rest
 parted : (after : List ℕ) → after ≡ separator (begins_with_separator after) ++ after_separator after
@@ -37,7 +37,8 @@ own_there (b ∷ after) =
 regroup : (ai value sep left rest : List ℕ) → ai ++ value ++ (sep ++ (left ++ rest)) ≡ ai ++ value ++ sep ++ left ++ rest
 regroup ai value sep left rest = simp append_assoc
 
-to_pieces : (year : ℕ) (text : List ℕ) (es : List Entry) (rest : List ℕ) → Reads year text es rest → IsJoined year text es rest
+-- what is read from the left is joined pieces
+pub to_pieces : (year : ℕ) (text : List ℕ) (es : List Entry) (rest : List ℕ) → ReadsFromLeft year text es rest → Reads year text es rest
 to_pieces year text [] rest r = record { pieces = []; elements = refl; pieces_are = tt; text_is = r }
 to_pieces year text (e ∷ es) rest r =
     let b = r.1 in
@@ -72,7 +73,7 @@ closed_by : (p separated : Bool) (left : List ℕ) → (p || (separated || is_em
 closed_by p true left h own = (or_last p, refl)
 closed_by p false left h own = (ended p left h, kept left own)
 
-from_pieces : (year : ℕ) (pieces : List Piece) (rest : List ℕ) → ArePieces year pieces rest → Reads year (joined pieces ++ rest) (map (λ p. p.element) pieces) rest
+from_pieces : (year : ℕ) (pieces : List Piece) (rest : List ℕ) → ArePieces year pieces rest → ReadsFromLeft year (joined pieces ++ rest) (map (λ p. p.element) pieces) rest
 from_pieces year [] rest are = refl
 from_pieces year (p ∷ pieces) rest are =
     let left = joined pieces ++ rest in
@@ -80,8 +81,11 @@ from_pieces year (p ∷ pieces) rest are =
     let c = closed_by q.row.predefined p.separated left q.ends q.own in
     (left, record { row = q.row; element = q.element; after = separator p.separated ++ left; text_is = sym (regroup p.element.ai p.element.value (separator p.separated) (joined pieces) rest); closed = c.0; rest_is = c.1 }, from_pieces year pieces rest are.1)
 
+-- what joined pieces are is read from the left
+pub from_left : (year : ℕ) (text : List ℕ) (es : List Entry) (rest : List ℕ) → Reads year text es rest → ReadsFromLeft year text es rest
+from_left year text es rest j =
+    subst (λ (t : List ℕ). ReadsFromLeft year t es rest) (sym j.text_is)
+    (subst (λ (fs : List Entry). ReadsFromLeft year (joined j.pieces ++ rest) fs rest) (sym j.elements) (from_pieces year j.pieces rest j.pieces_are))
+
 pub reads_pieces : ReadsPieces
-reads_pieces = λ year text es rest. (
-  λ r. to_pieces year text es rest r,
-  λ j. subst (λ (t : List ℕ). Reads year t es rest) (sym j.text_is) (subst (λ (fs : List Entry). Reads year (joined j.pieces ++ rest) fs rest) (sym j.elements) (from_pieces year j.pieces rest j.pieces_are)),
-)
+reads_pieces = λ year text es rest. (λ j. from_left year text es rest j, λ r. to_pieces year text es rest r)

@@ -6,8 +6,10 @@ use Rattle.std.proofs.lemmas.List.{nil_from_length}
 use Rattle.element_core.specs.declared.fault.ElementFault.{ElementFault}
 use Rattle.element_core.specs.declared.fault.ElementFault.TheVariants.{Empty, TooLong}
 use Rattle.element_core.specs.Table.{row_at}
-use Rattle.element_core.specs.Elements.{Entry, Reads, IsElements, StopsWith, FirstFault, size_fault, fault_by, fault_at, EachText}
+use Rattle.element_core.specs.Elements.{Entry, IsElements, StopsWith, FirstFault, size_fault, fault_by, fault_at, EachText}
+use Rattle.element_core.specs.Fronts.{ReadsFromLeft}
 use Rattle.element_core.proofs.Shown.{stands, shown_value, shown_rest}
+use Rattle.element_core.proofs.PieceLemmas.{to_pieces}
 use Rattle.element_core.proofs.Canonical.{begins_shorter, canonical_shorter}
 use Rattle.element_core.proofs.Unique.{right_size}
 
@@ -15,7 +17,7 @@ use Rattle.element_core.proofs.Unique.{right_size}
 record ReadsTo (year whole : ℕ) (text : List ℕ) : Type 0 where
   es : List Entry
   rest : List ℕ
-  reads : Reads year text es rest
+  reads : ReadsFromLeft year text es rest
   ends : (length rest ≡ 0) ⊎ ((0 < length rest) × ((f : ElementFault) × (fault_at year (whole - length rest) rest ≡ Some f)))
 
 seen : {X : Type 0} (o : Option X) → (o ≡ None) ⊎ ((x : X) × (o ≡ Some x))
@@ -48,11 +50,11 @@ at_size year text f o e h = subst (λ (p : Option ElementFault). MatchOption p (
 answer : (year : ℕ) (text : List ℕ) → 0 < length text → length text ≤ 192 → ReadsTo year (length text) text → ((es : List Entry) × IsElements year text es) ⊎ ((f : ElementFault) × FirstFault year text f)
 answer year text some fits r =
     elim r.ends [
-      | inl none ↦ inl (r.es, record { some = some; fits = fits; reads = subst (λ (t : List ℕ). Reads year text r.es t) (nil_from_length r.rest none) r.reads })
+      | inl none ↦ inl (r.es, record { some = some; fits = fits; reads = to_pieces year text r.es [] (subst (λ (t : List ℕ). ReadsFromLeft year text r.es t) (nil_from_length r.rest none) r.reads) })
       | inr f ↦
           let short = canonical_shorter year text r.es r.rest r.reads in
           let place_is : length text - length r.rest + length r.rest ≡ length text = omega arith in
-          inr (f.1.0, at_size year text f.1.0 None (right_size text some fits) (record { before = r.es; rest = r.rest; reads = r.reads; some = f.0; place = length text - length r.rest; place_is = place_is; fault = f.1.1 }))
+          inr (f.1.0, at_size year text f.1.0 None (right_size text some fits) (record { before = r.es; rest = r.rest; reads = to_pieces year text r.es r.rest r.reads; some = f.0; place = length text - length r.rest; place_is = place_is; fault = f.1.1 }))
     ]
 
 pub each_text : EachText

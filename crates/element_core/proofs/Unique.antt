@@ -5,8 +5,10 @@ use Rattle.std.proofs.lemmas.Bool.{le-ltb, ne_eqb}
 use Rattle.element_core.specs.declared.fault.ElementFault.{ElementFault}
 use Rattle.element_core.specs.declared.fault.ElementFault.TheVariants.{UnknownAi}
 use Rattle.element_core.specs.Table.{Row}
-use Rattle.element_core.specs.Elements.{Entry, Begins, Reads, IsElements, StopsWith, FirstFault, size_fault, fault_by, fault_at, OneAnswer, Listing}
+use Rattle.element_core.specs.Elements.{Entry, IsElements, StopsWith, FirstFault, size_fault, fault_by, fault_at, OneAnswer, Listing}
+use Rattle.element_core.specs.Fronts.{Begins, ReadsFromLeft}
 use Rattle.element_core.proofs.TableLaws.{none_begins_nothing}
+use Rattle.element_core.proofs.PieceLemmas.{from_left}
 use Rattle.element_core.proofs.Shown.{shows, shown_value, shown_rest}
 
 pub same_element : (e f : Entry) → e.ai ≡ f.ai → e.value ≡ f.value → e ≡ f
@@ -39,13 +41,13 @@ pub not_stuck : (year : ℕ) (e : Entry) (text rest : List ℕ) → Begins year 
 not_stuck year e text rest b s = let n = (shows year e text rest b).no_fault s.place in let f = s.fault in cc
 
 -- two readings up to where nothing begins are one
-pub reads_once : (year : ℕ) (text : List ℕ) (es fs : List Entry) (rest more : List ℕ) → Reads year text es rest → Reads year text fs more → IsStuck year rest → IsStuck year more → (es ≡ fs) × (rest ≡ more)
+pub reads_once : (year : ℕ) (text : List ℕ) (es fs : List Entry) (rest more : List ℕ) → ReadsFromLeft year text es rest → ReadsFromLeft year text fs more → IsStuck year rest → IsStuck year more → (es ≡ fs) × (rest ≡ more)
 reads_once year text [] [] rest more p q s t = (refl, sym p ∙ q)
 reads_once year text [] (f ∷ fs) rest more p q s t = absurd (not_stuck year f text q.0 q.1 (subst (IsStuck year) (sym p) s))
 reads_once year text (e ∷ es) [] rest more p q s t = absurd (not_stuck year e text p.0 p.1 (subst (IsStuck year) (sym q) t))
 reads_once year text (e ∷ es) (f ∷ fs) rest more p q s t =
     let first = begins_once year e f text p.0 q.0 p.1 q.1 in
-    let same = reads_once year p.0 es fs rest more p.2 (subst (λ (m : List ℕ). Reads year m fs more) (sym first.1) q.2) s t in
+    let same = reads_once year p.0 es fs rest more p.2 (subst (λ (m : List ℕ). ReadsFromLeft year m fs more) (sym first.1) q.2) s t in
     (let h = first.0 in let k = same.0 in cc, same.1)
 
 stuck : (year : ℕ) (text : List ℕ) (f : ElementFault) (s : StopsWith year text f) → IsStuck year s.rest
@@ -59,7 +61,7 @@ same_fault f g e = cc
 
 stops_once : (year : ℕ) (text : List ℕ) (f g : ElementFault) → StopsWith year text f → StopsWith year text g → f ≡ g
 stops_once year text f g s t =
-    let same = reads_once year text s.before t.before s.rest t.rest s.reads t.reads (stuck year text f s) (stuck year text g t) in
+    let same = reads_once year text s.before t.before s.rest t.rest (from_left year text s.before s.rest s.reads) (from_left year text t.before t.rest t.reads) (stuck year text f s) (stuck year text g t) in
     let sp = s.place_is in
     let tp = t.place_is in
     let places : s.place ≡ t.place = omega (arith, ap length same.1) in
@@ -77,13 +79,13 @@ right_size text some fits =
 not_both : (year : ℕ) (text : List ℕ) (es : List Entry) (f : ElementFault) → IsElements year text es → FirstFault year text f → ⊥
 not_both year text es f is fault =
     let s = subst (λ (o : Option ElementFault). MatchOption o (StopsWith year text f) (λ g. f ≡ g)) (right_size text is.some is.fits) fault in
-    let same = reads_once year text es s.before [] s.rest is.reads s.reads (stuck_at_end year) (stuck year text f s) in
+    let same = reads_once year text es s.before [] s.rest (from_left year text es [] is.reads) (from_left year text s.before s.rest s.reads) (stuck_at_end year) (stuck year text f s) in
     let some = s.some in
     omega (arith, ap length same.1)
 
 pub one_answer : OneAnswer
 one_answer = λ year text. (
-  λ es fs p q. (reads_once year text es fs [] [] p.reads q.reads (stuck_at_end year) (stuck_at_end year)).0,
+  λ es fs p q. (reads_once year text es fs [] [] (from_left year text es [] p.reads) (from_left year text fs [] q.reads) (stuck_at_end year) (stuck_at_end year)).0,
   λ f g p q. faults_once year text f g (size_fault text) p q,
   λ es f p q. not_both year text es f p q,
 )

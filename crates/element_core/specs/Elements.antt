@@ -1,7 +1,7 @@
 -- Element strings: which texts they are, and the first fault of a text that is none
 -- (GS1 General Specifications, section 7.8).
 -- A text says one list of elements or has one first fault. A canonical text reads back as its elements.
-use Rattle.std.specs.Prelude.{◌≡◌, ◌⊎◌, ℕ, ◌+◌, ◌%◌, ◌<◌, ◌≤◌, Bool, true, false, ◌&&◌, ◌||◌, not, List, [], ◌∷◌, ◌++◌, length, take, drop, Option, Some, None, IsTrue, MatchOption, Contains, nat_lt, nat_le, ◌==◌, if◌then◌else◌, is_some, flat_map, codes}
+use Rattle.std.specs.Prelude.{◌≡◌, ◌⊎◌, ℕ, ◌+◌, ◌%◌, ◌<◌, ◌≤◌, Bool, true, false, ◌&&◌, ◌||◌, not, List, [], ◌∷◌, ◌++◌, length, take, drop, Option, Some, None, IsTrue, MatchOption, Contains, nat_lt, nat_le, ◌==◌, if◌then◌else◌, is_some, flat_map, map, codes}
 use Rattle.std.specs.List.{list_all, AllByRecursion}
 use Rattle.element_core.specs.declared.fault.ElementFault.{ElementFault}
 use Rattle.element_core.specs.declared.fault.ElementFault.TheVariants.{Empty, UnknownAi, ValueLength, ValueCharacter, ValueCheckDigit, ValueDate, MissingSeparator, TooLong}
@@ -73,29 +73,55 @@ pub record IsElement (year : ℕ) (row : Row) (e : Entry) : Type 0 where
 abbrev pub AreElements : ℕ → List Entry → Type 0
 AreElements year es = AllByRecursion (λ e. (row : Row) × IsElement year row e) es
 
--- a text that is empty or begins with a separator
-abbrev pub is_closed : List ℕ → Bool
-is_closed [] = true
-is_closed (b ∷ text) = b == 29
+-- ---- joined pieces
 
--- the text without the one separator that may stand first
-abbrev pub after_separator : List ℕ → List ℕ
-after_separator [] = []
-after_separator (b ∷ text) = if b == 29 then text else b ∷ text
+-- an element, and whether a separator stands after it
+pub record Piece : Type 0 where
+  pub element : Entry
+  pub separated : Bool
 
--- the text is the element, at most one separator, and the rest; without one it ends there or the length is predefined
-pub record Begins (year : ℕ) (e : Entry) (text rest : List ℕ) : Type 0 where
+-- the separator of a piece, if it has one
+abbrev pub separator : Bool → List ℕ
+separator separated = if separated then 29 ∷ [] else []
+
+-- the AI, the value and the separator
+abbrev pub piece_text : Piece → List ℕ
+piece_text p = p.element.ai ++ p.element.value ++ separator p.separated
+
+-- the pieces, one after another
+abbrev pub joined : List Piece → List ℕ
+joined pieces = flat_map piece_text pieces
+
+-- whether nothing is left of a text
+abbrev pub is_empty : List ℕ → Bool
+is_empty [] = true
+is_empty (b ∷ text) = false
+
+-- whether a separator stands first
+abbrev pub begins_with_separator : List ℕ → Bool
+begins_with_separator [] = false
+begins_with_separator (b ∷ text) = b == 29
+
+-- a piece before what is left of the text
+pub record IsPiece (year : ℕ) (p : Piece) (left : List ℕ) : Type 0 where
   pub row : Row
-  pub element : IsElement year row e
-  pub after : List ℕ
-  pub text_is : text ≡ e.ai ++ e.value ++ after
-  pub closed : IsTrue (row.predefined || is_closed after)
-  pub rest_is : rest ≡ after_separator after
+  pub element : IsElement year row p.element
+  -- it has a separator, or its length is predefined, or the text ends with it
+  pub ends : IsTrue (row.predefined || (p.separated || is_empty left))
+  -- a separator that stands directly after its value is its own
+  pub own : IsTrue (p.separated || not (begins_with_separator left))
 
--- the text is these elements one after another, and the rest
-abbrev pub Reads : ℕ → List ℕ → List Entry → List ℕ → Type 0
-Reads year text [] rest = text ≡ rest
-Reads year text (e ∷ es) rest = (mid : List ℕ) × Begins year e text mid × Reads year mid es rest
+-- each is a piece before what follows it
+abbrev pub ArePieces : ℕ → List Piece → List ℕ → Type 0
+ArePieces year [] rest = Unit {0}
+ArePieces year (p ∷ pieces) rest = IsPiece year p (joined pieces ++ rest) × ArePieces year pieces rest
+
+-- the text is joined pieces of these elements, and the rest
+pub record Reads (year : ℕ) (text : List ℕ) (es : List Entry) (rest : List ℕ) : Type 0 where
+  pub pieces : List Piece
+  pub elements : es ≡ map (λ p. p.element) pieces
+  pub pieces_are : ArePieces year pieces rest
+  pub text_is : text ≡ joined pieces ++ rest
 
 -- the element string of this list
 pub record IsElements (year : ℕ) (text : List ℕ) (es : List Entry) : Type 0 where

@@ -5,9 +5,9 @@ pub mod Drafts
 pub mod Elements
 pub mod Families
 pub mod Faults
+pub mod Fronts
 pub mod Growing
 pub mod Pairs
 pub mod PartTests
-pub mod Pieces
 pub mod Rows
 pub mod Table

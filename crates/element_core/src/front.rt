@@ -1,7 +1,8 @@
 //! The element at the front of a text.
 
 ghost use Rattle.std.specs.Prelude.{◌≡◌, ◌+◌, ◌≤◌, length, take, drop, [], Some, IfOk, IfErr, is_some, ◌<◌};
-ghost use Rattle.element_core.specs.Elements.{Begins, Entry, field_of, fault_at, value_in, after_separator};
+ghost use Rattle.element_core.specs.Elements.{Entry, field_of, fault_at, value_in};
+ghost use Rattle.element_core.specs.Fronts.{Begins, after_separator};
 ghost use Rattle.element_core.specs.Table.{predefined_length};
 ghost use Rattle.element_core.specs.Families.{family_of, row_with};
 

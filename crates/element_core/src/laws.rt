@@ -4,7 +4,7 @@ ghost use Rattle.element_core.specs.Days.{DayZero, YearWindow};
 ghost use Rattle.element_core.specs.Table.{NoAiBeginsAnother, FirstDigitsDecide, PartsHaveOneLength};
 ghost use Rattle.element_core.specs.Elements.{CanonicalReads, DatedElements, EachText, GtinReads, OneAnswer};
 ghost use Rattle.element_core.specs.Pairs.{FaultlessPairs, PairLengths, PairsAsTexts, UnknownPairs};
-ghost use Rattle.element_core.specs.Pieces.{ReadsPieces};
+ghost use Rattle.element_core.specs.Fronts.{ReadsPieces};
 
 /// No AI of the table is the beginning of another.
 pub fn no_ai_begins_another()
@@ -36,8 +36,8 @@ pub fn each_text()
     ensures { EachText }
 {}
 
-/// What is read of a text from the left is its joined pieces: AI, value, and at most one separator,
-/// which stands after each piece that is neither predefined nor the last.
+/// Joined pieces (AI, value, and at most one separator, which stands after each piece that is neither
+/// predefined nor the last) are what is read of a text from the left, element by element.
 pub fn reads_pieces()
     ensures { ReadsPieces }
 {}

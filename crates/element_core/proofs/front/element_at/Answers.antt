@@ -2,7 +2,7 @@ use Rattle.std.proofs.Common.{sym, ap, refl, ◌∙◌, List, ℕ, length, arith
 use Rattle.std.specs.Prelude.{is_some}
 use Rattle.element_core.specs.Families.{row_with}
 use Rattle.element_core.specs.Table.{predefined_length}
-use Rattle.element_core.specs.Elements.{after_separator}
+use Rattle.element_core.specs.Fronts.{after_separator}
 use Rattle.element_core.proofs.Look.{row_is, predefined_is}
 use Rattle.element_core.proofs.Shown.{stands_as}
 use Rattle.element_core.proofs.Canonical.{begins_shorter}

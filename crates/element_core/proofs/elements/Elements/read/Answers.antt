@@ -1,4 +1,4 @@
-use Rattle.std.proofs.Common.{◌≡◌, ◌<◌, ◌≤◌, length, sym, ap, ◌∙◌, arith}
+use Rattle.std.proofs.Common.{◌≡◌, ◌<◌, ◌≤◌, length, refl, sym, ap, ◌∙◌, arith}
 use Rattle.std.proofs.lemmas.List.{length-map}
 use Rattle.std.proofs.lemmas.Result.{err_from_is_err_and}
 use Rattle.std.proofs.lemmas.Grind.{common_steps}
@@ -50,3 +50,11 @@ invariant_of-result c =
     let empty : length c.loop-rest.rest.now ≡ 0 = grind (arith, common_steps) in
     let w = whole c.args.year c.args.text.now c.loop-rest.out.items c.loop-rest.cuts.items c.loop-rest.rest.now some fits empty c.loop-rest.invariant.reads c.loop-rest.invariant.canonical_text in
     record { cuts = c.loop-rest.invariant.cuts; canonical_text = c.loop-rest.invariant.canonical_text; elements = w.1 }
+
+pub returns-clause-ok : goal.returns-clause-ok
+returns-clause-ok c =
+    let some : 0 < length c.args.text.now = grind (arith, common_steps) in
+    let fits : length c.args.text.now ≤ 192 = omega arith in
+    let empty : length c.loop-rest.rest.now ≡ 0 = grind (arith, common_steps) in
+    let w = whole c.args.year c.args.text.now c.loop-rest.out.items c.loop-rest.cuts.items c.loop-rest.rest.now some fits empty c.loop-rest.invariant.reads c.loop-rest.invariant.canonical_text in
+    (refl, w.0)
