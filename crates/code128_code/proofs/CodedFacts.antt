@@ -6,12 +6,12 @@ use Rattle.element_core.specs.Elements.{is_digit}
 use Rattle.code128_code.specs.declared.code_set.CodeSet.{CodeSet}
 use Rattle.code128_code.specs.declared.code_set.CodeSet.TheVariants.{B, C}
 use Rattle.code128_code.specs.declared.meanings.Meaning.TheVariants.{Byte, Digits}
-use Rattle.code128_code.specs.Coding.{coded, digits_ahead, has_even_run, is_coded_byte, pair}
-use Rattle.code128_code.specs.Laws.{CodedIsSaid, CodedIsShort}
+use Rattle.code128_code.specs.Coding.{digits_ahead, is_coded_byte, pair}
+use Rattle.code128_code.specs.Steps.{coded_on, has_even_run}
 use Rattle.code128_code.specs.Texts.{before, meaning, text_from, two_digits}
 use Rattle.code128_code.proofs.SaidFacts.{plain_step}
 
-abbrev set_by : Bool → CodeSet
+abbrev pub set_by : Bool → CodeSet
 set_by true = C
 set_by false = B
 
@@ -66,7 +66,7 @@ two a b text h =
 pub run_is : (a b : ℕ) (text : List ℕ) → has_even_run (a ∷ b ∷ text) ≡ true → 4 ≤ digits_ahead (a ∷ b ∷ text)
 run_is a b text h = leb-true 4 (digits_ahead (a ∷ b ∷ text)) (and_parts _ _ h).0
 
-read : (text : List ℕ) (in_c : Bool) → list_all is_coded_byte text ≡ true → text_from (set_by in_c) (coded in_c text) ≡ Ok text
+read : (text : List ℕ) (in_c : Bool) → list_all is_coded_byte text ≡ true → text_from (set_by in_c) (coded_on in_c text) ≡ Ok text
 read [] true h = refl
 read [] false h = refl
 read (b ∷ []) true h =
@@ -82,29 +82,30 @@ read (b ∷ []) false h =
 read (a ∷ b ∷ text) true h =
     let p = and_parts (is_coded_byte a) (list_all is_coded_byte (b ∷ text)) h in
     elim (cases_Bool (eqb a 29)) [
-      | inl here ↦ rw here (rw (eqb-true a 29 here) (say C 102 (coded true (b ∷ text)) 29 (b ∷ text) refl (read (b ∷ text) true p.1)))
+      | inl here ↦ rw here (rw (eqb-true a 29 here) (say C 102 (coded_on true (b ∷ text)) 29 (b ∷ text) refl (read (b ∷ text) true p.1)))
       | inr here ↦ elim (cases_Bool (leb 2 (digits_ahead (a ∷ b ∷ text)))) [
         | inl enough ↦
             let d = two a b text (leb-true 2 _ enough) in
-            rw (here, enough) (say_digits a b (coded true text) text d.0 d.1 (read text true (and_parts _ _ p.1).1))
-        | inr few ↦ rw (here, few) (say B (a - 32) (coded false (b ∷ text)) a (b ∷ text) (letter a p.0 here) (read (b ∷ text) false p.1))
+            rw (here, enough) (say_digits a b (coded_on true text) text d.0 d.1 (read text true (and_parts _ _ p.1).1))
+        | inr few ↦ rw (here, few) (say B (a - 32) (coded_on false (b ∷ text)) a (b ∷ text) (letter a p.0 here) (read (b ∷ text) false p.1))
       ]
     ]
 read (a ∷ b ∷ text) false h =
     let p = and_parts (is_coded_byte a) (list_all is_coded_byte (b ∷ text)) h in
     elim (cases_Bool (eqb a 29)) [
-      | inl here ↦ rw here (rw (eqb-true a 29 here) (say B 102 (coded false (b ∷ text)) 29 (b ∷ text) refl (read (b ∷ text) false p.1)))
+      | inl here ↦ rw here (rw (eqb-true a 29 here) (say B 102 (coded_on false (b ∷ text)) 29 (b ∷ text) refl (read (b ∷ text) false p.1)))
       | inr here ↦ elim (cases_Bool (has_even_run (a ∷ b ∷ text))) [
         | inl run ↦
             let four = run_is a b text run in
             let d = two a b text (omega arith) in
-            rw (here, run) (say_digits a b (coded true text) text d.0 d.1 (read text true (and_parts _ _ p.1).1))
-        | inr none ↦ rw (here, none) (say B (a - 32) (coded false (b ∷ text)) a (b ∷ text) (letter a p.0 here) (read (b ∷ text) false p.1))
+            rw (here, run) (say_digits a b (coded_on true text) text d.0 d.1 (read text true (and_parts _ _ p.1).1))
+        | inr none ↦ rw (here, none) (say B (a - 32) (coded_on false (b ∷ text)) a (b ∷ text) (letter a p.0 here) (read (b ∷ text) false p.1))
       ]
     ]
 
-pub coded_is_said : CodedIsSaid
-coded_is_said = λ text h. read text true h
+-- what is coded from code set C on says the text
+pub on_is_said : (text : List ℕ) → list_all is_coded_byte text ≡ true → text_from C (coded_on true text) ≡ Ok text
+on_is_said text h = read text true h
 
 digits-tail : (a b : ℕ) (text : List ℕ) (n : ℕ) → n + 2 ≤ digits_ahead (a ∷ b ∷ text) → n ≤ digits_ahead text
 digits-tail a b text n h =
@@ -113,9 +114,9 @@ digits-tail a b text n h =
     omega arith
 
 record IsShort (text : List ℕ) : Type 0 where
-  from_c : length (coded true text) ≤ length text + 1
-  from_b : length (coded false text) ≤ length text
-  from_pair : 2 ≤ digits_ahead text → length (coded true text) ≤ length text
+  from_c : length (coded_on true text) ≤ length text + 1
+  from_b : length (coded_on false text) ≤ length text
+  from_pair : 2 ≤ digits_ahead text → length (coded_on true text) ≤ length text
 
 is_short : (text : List ℕ) → IsShort text
 is_short [] = record { from_c = omega arith; from_b = omega arith; from_pair = λ h. omega arith }
@@ -139,7 +140,7 @@ is_short (a ∷ b ∷ text) =
       | inr here ↦ elim (cases_Bool (has_even_run (a ∷ b ∷ text))) [
         | inl run ↦
             let four = run_is a b text run in
-            let more : length (coded true text) ≤ length text = rest_pair (digits-tail a b text 2 (omega arith)) in
+            let more : length (coded_on true text) ≤ length text = rest_pair (digits-tail a b text 2 (omega arith)) in
             record { from_c = rw (here, le-leb 2 (digits_ahead (a ∷ b ∷ text)) (omega arith)) (omega arith); from_b = rw (here, run) (omega arith); from_pair = λ h. rw (here, le-leb 2 (digits_ahead (a ∷ b ∷ text)) h) (omega arith) }
         | inr none ↦ elim (cases_Bool (leb 2 (digits_ahead (a ∷ b ∷ text)))) [
           | inl enough ↦ record { from_c = rw (here, enough) (omega arith); from_b = rw (here, none) (omega arith); from_pair = λ h. rw (here, enough) (omega arith) }
@@ -148,5 +149,6 @@ is_short (a ∷ b ∷ text) =
       ]
     ]
 
-pub coded_is_short : CodedIsShort
-coded_is_short = λ text h. (is_short text).from_pair h
+-- and is no longer than a text that begins with two digits
+pub on_is_short : (text : List ℕ) → 2 ≤ digits_ahead text → length (coded_on true text) ≤ length text
+on_is_short text h = (is_short text).from_pair h

@@ -1,13 +1,16 @@
 -- The data values of an element string: few, and each of a data character.
-use Rattle.std.proofs.Common.{◌≡◌, ℕ, zero, suc, ◌-◌, ◌≤◌, Bool, true, false, eqb, leb, ◌&&◌, ◌||◌, List, [], ◌∷◌, length, refl, arith, inl, inr, drop, take}
+use Rattle.std.proofs.Common.{◌≡◌, ℕ, zero, suc, ◌-◌, ◌≤◌, Bool, true, false, eqb, leb, ◌&&◌, ◌||◌, List, [], ◌∷◌, length, refl, sym, subst, arith, inl, inr, drop, take}
 use Rattle.std.specs.List.{list_all}
 use Rattle.std.proofs.lemmas.Bool.{cases_Bool, and_parts, or_cases, eqb-true, leb-true, le-leb, both_ways}
 use Rattle.std.proofs.lemmas.List.{length-drop, take_all}
 use Rattle.std.proofs.Math.Bool.{or-true}
 use Rattle.element_core.specs.Elements.{begins_with_digits, between, is_character, is_digit, is_printable, is_text_byte}
-use Rattle.code128_code.specs.Coding.{coded, data_values, digits_ahead, has_even_run, is_coded_byte, pair}
+use Rattle.code128_code.specs.Characters.{fnc1}
+use Rattle.code128_code.specs.Coding.{data_values, digits_ahead, is_coded_byte, pair}
+use Rattle.code128_code.specs.Steps.{coded_on, has_even_run}
 use Rattle.code128_code.specs.Symbols.{AreValues}
-use Rattle.code128_code.proofs.CodedFacts.{coded_is_short, digit_is, run_is, two}
+use Rattle.code128_code.proofs.CodedFacts.{digit_is, on_is_short, run_is, two}
+use Rattle.code128_code.proofs.RunFacts.{coded_is}
 
 -- what is left from a place on
 pub rest_of : (xs : List ℕ) (n : ℕ) → take (length xs - n) (drop n xs) ≡ drop n xs
@@ -19,8 +22,8 @@ list_all-drop p (suc n) [] h = h
 list_all-drop p (suc n) (x ∷ xs) h = list_all-drop p n xs (and_parts (p x) (list_all p xs) h).1
 
 -- the data values of a text that begins with two digits
-pub few_values : (text : List ℕ) → length text ≤ 48 → 2 ≤ digits_ahead text → length (data_values text) ≤ 49
-few_values text few h = let short = coded_is_short text h in omega arith
+pub few_values : (text : List ℕ) → length text ≤ 48 → 2 ≤ digits_ahead text → length (fnc1 ∷ coded_on true text) ≤ 49
+few_values text few h = let short = on_is_short text h in omega arith
 
 letter_valid : (b : ℕ) → is_coded_byte b ≡ true → eqb b 29 ≡ false → b - 32 ≤ 102
 letter_valid b h apart =
@@ -35,7 +38,7 @@ pair_valid a b h k =
     let x1 = x.1 in let y1 = y.1 in omega arith
 
 -- each is a data value
-pub coded_valid : (text : List ℕ) (in_c : Bool) → list_all is_coded_byte text ≡ true → AreValues (coded in_c text)
+pub coded_valid : (text : List ℕ) (in_c : Bool) → list_all is_coded_byte text ≡ true → AreValues (coded_on in_c text)
 coded_valid [] true h = tt
 coded_valid [] false h = tt
 coded_valid (b ∷ []) true h =
@@ -73,7 +76,7 @@ coded_valid (a ∷ b ∷ text) false h =
     ]
 
 pub data_valid : (text : List ℕ) → list_all is_coded_byte text ≡ true → AreValues (data_values text)
-data_valid text h = (omega arith, coded_valid text true h)
+data_valid text h = (omega arith, subst AreValues (sym (coded_is text)) (coded_valid text true h))
 
 -- the characters of an element string stand in code set B
 between_coded : (m n b : ℕ) → 32 ≤ m → n ≤ 127 → between m n b ≡ true → (leb 32 b && leb b 127) ≡ true

@@ -2,7 +2,8 @@
 use Rattle.std.proofs.Common.{◌≡◌, ℕ, ◌+◌, ◌-◌, ◌<◌, ◌≤◌, Bool, true, false, leb, List, [], ◌∷◌, ◌++◌, length, refl, sym, ap, ◌∙◌, arith, inl, inr, append_assoc, drop, eq-eqb, get_or, ◌≢◌}
 use Rattle.std.proofs.lemmas.Bool.{cases_Bool, and_parts, leb-true, le-leb, lt-leb, ne_eqb}
 use Rattle.element_core.specs.Elements.{is_digit}
-use Rattle.code128_code.specs.Coding.{coded, digits_ahead, has_even_run, pair}
+use Rattle.code128_code.specs.Coding.{digits_ahead, pair}
+use Rattle.code128_code.specs.Steps.{coded_on, has_even_run}
 use Rattle.code128_code.proofs.CodedFacts.{two}
 
 -- one more value
@@ -26,20 +27,20 @@ ahead_pair [] h x y = absurd (omega arith)
 ahead_pair (a ∷ []) h x y = absurd (omega arith)
 ahead_pair (a ∷ b ∷ text) h x y = let e : digits_ahead (a ∷ b ∷ text) ≡ 1 + (1 + digits_ahead text) = rw (x, y) refl in omega arith
 
-pub separator_coded : (in_c : Bool) (text : List ℕ) → 0 < length text → get_or text 0 0 ≡ 29 → coded in_c text ≡ 102 ∷ coded in_c (drop 1 text)
+pub separator_coded : (in_c : Bool) (text : List ℕ) → 0 < length text → get_or text 0 0 ≡ 29 → coded_on in_c text ≡ 102 ∷ coded_on in_c (drop 1 text)
 separator_coded in_c [] h e = absurd (omega arith)
 separator_coded true (b ∷ []) h e = rw (eq-eqb b 29 e) refl
 separator_coded false (b ∷ []) h e = rw (eq-eqb b 29 e) refl
 separator_coded true (a ∷ b ∷ text) h e = rw (eq-eqb a 29 e) refl
 separator_coded false (a ∷ b ∷ text) h e = rw (eq-eqb a 29 e) refl
 
-pub pair_coded : (in_c : Bool) (text : List ℕ) → in_c ≡ true → get_or text 0 0 ≢ 29 → 2 ≤ digits_ahead text → coded in_c text ≡ pair (get_or text 0 0) (get_or text 1 0) ∷ coded in_c (drop 2 text)
+pub pair_coded : (in_c : Bool) (text : List ℕ) → in_c ≡ true → get_or text 0 0 ≢ 29 → 2 ≤ digits_ahead text → coded_on in_c text ≡ pair (get_or text 0 0) (get_or text 1 0) ∷ coded_on in_c (drop 2 text)
 pair_coded false text e ne h = cc
 pair_coded true [] e ne h = absurd (omega arith)
 pair_coded true (a ∷ []) e ne h = absurd (let p = (pair_ahead (a ∷ []) h).0 in omega arith)
 pair_coded true (a ∷ b ∷ text) e ne h = rw (ne_eqb a 29 ne, le-leb 2 (digits_ahead (a ∷ b ∷ text)) h) refl
 
-pub letter_coded_c : (in_c : Bool) (text : List ℕ) → in_c ≡ true → 0 < length text → get_or text 0 0 ≢ 29 → (2 ≤ digits_ahead text → ⊥) → coded in_c text ≡ 100 ∷ (get_or text 0 0 - 32) ∷ coded false (drop 1 text)
+pub letter_coded_c : (in_c : Bool) (text : List ℕ) → in_c ≡ true → 0 < length text → get_or text 0 0 ≢ 29 → (2 ≤ digits_ahead text → ⊥) → coded_on in_c text ≡ 100 ∷ (get_or text 0 0 - 32) ∷ coded_on false (drop 1 text)
 letter_coded_c false text e some ne few = cc
 letter_coded_c true [] e some ne few = absurd (omega arith)
 letter_coded_c true (a ∷ []) e some ne few = rw (ne_eqb a 29 ne) refl
@@ -47,13 +48,13 @@ letter_coded_c true (a ∷ b ∷ text) e some ne few =
     let test : leb 2 (digits_ahead (a ∷ b ∷ text)) ≡ false = lt-leb 2 (digits_ahead (a ∷ b ∷ text)) (omega arith) in
     rw (ne_eqb a 29 ne, test) refl
 
-pub run_coded : (in_c : Bool) (text : List ℕ) → in_c ≡ false → get_or text 0 0 ≢ 29 → has_even_run text ≡ true → coded in_c text ≡ 99 ∷ pair (get_or text 0 0) (get_or text 1 0) ∷ coded true (drop 2 text)
+pub run_coded : (in_c : Bool) (text : List ℕ) → in_c ≡ false → get_or text 0 0 ≢ 29 → has_even_run text ≡ true → coded_on in_c text ≡ 99 ∷ pair (get_or text 0 0) (get_or text 1 0) ∷ coded_on true (drop 2 text)
 run_coded true text e ne h = cc
 run_coded false [] e ne h = cc
 run_coded false (a ∷ []) e ne h = absurd (let p = leb-true 4 (digits_ahead (a ∷ [])) (and_parts _ _ h).0 in let q = (pair_ahead (a ∷ []) (omega arith)).0 in omega arith)
 run_coded false (a ∷ b ∷ text) e ne h = rw (ne_eqb a 29 ne, h) refl
 
-pub letter_coded_b : (in_c : Bool) (text : List ℕ) → in_c ≡ false → 0 < length text → get_or text 0 0 ≢ 29 → has_even_run text ≡ false → coded in_c text ≡ (get_or text 0 0 - 32) ∷ coded in_c (drop 1 text)
+pub letter_coded_b : (in_c : Bool) (text : List ℕ) → in_c ≡ false → 0 < length text → get_or text 0 0 ≢ 29 → has_even_run text ≡ false → coded_on in_c text ≡ (get_or text 0 0 - 32) ∷ coded_on in_c (drop 1 text)
 letter_coded_b true text e some ne h = cc
 letter_coded_b false [] e some ne h = absurd (omega arith)
 letter_coded_b false (a ∷ []) e some ne h = rw (ne_eqb a 29 ne) refl

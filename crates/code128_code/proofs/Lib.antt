@@ -5,6 +5,7 @@ pub mod FrontFacts
 pub mod LookupFacts
 pub mod PartFacts
 pub mod ReplacedFacts
+pub mod RunFacts
 pub mod SaidFacts
 pub mod SayFacts
 pub mod SymbolFacts

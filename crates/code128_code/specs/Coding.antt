@@ -1,39 +1,78 @@
--- The values that are printed for an element string: a fixed rule of this product, in code sets B and C.
-use Rattle.std.specs.Prelude.{ℕ, ◌+◌, ◌-◌, ◌*◌, ◌%◌, ◌==◌, Bool, true, false, ◌&&◌, ◌||◌, List, [], ◌∷◌, nat_le, if◌then◌else◌}
+-- The values that are printed for an element string, in code sets B and C: a fixed rule of this product, with the standard's rules for a change
+-- of code set (ISO/IEC 15417, use of start, code set and shift characters).
+use Rattle.std.specs.Prelude.{ℕ, ◌+◌, ◌-◌, ◌*◌, ◌%◌, ◌==◌, Bool, ◌&&◌, ◌||◌, List, [], ◌∷◌, ◌++◌, length, map, nat_le, nat_lt, if◌then◌else◌}
 use Rattle.element_core.specs.Elements.{is_digit}
+use Rattle.code128_code.specs.declared.code_set.CodeSet.{CodeSet}
+use Rattle.code128_code.specs.declared.code_set.CodeSet.TheVariants.{B, C}
 use Rattle.code128_code.specs.Characters.{code_b, code_c, fnc1}
 
--- how many digits stand without a break at the front
-abbrev pub digits_ahead : List ℕ → ℕ
-digits_ahead [] = 0
-digits_ahead (b ∷ text) = if is_digit b then 1 + digits_ahead text else 0
+-- ---- runs of digits
 
--- an even number of digits at the front, four or more
-abbrev pub has_even_run : List ℕ → Bool
-has_even_run text = nat_le 4 (digits_ahead text) && (digits_ahead text % 2 == 0)
+-- all digits that stand together, or another byte
+pub data Run : Type 0 where
+  Digits : List ℕ → Run
+  Other : ℕ → Run
+
+-- a digit before runs belongs to the run that stands first
+abbrev pub with_digit : ℕ → List Run → List Run
+with_digit d [] = Digits (d ∷ []) ∷ []
+with_digit d (Digits ds ∷ runs) = Digits (d ∷ ds) ∷ runs
+with_digit d (Other b ∷ runs) = Digits (d ∷ []) ∷ Other b ∷ runs
+
+-- the runs of a text
+abbrev pub runs_of : List ℕ → List Run
+runs_of [] = []
+runs_of (b ∷ text) = if is_digit b then with_digit b (runs_of text) else Other b ∷ runs_of text
+
+-- ---- their values
+
+-- the value of a byte in code set B
+abbrev pub letter : ℕ → ℕ
+letter b = b - 32
 
 -- the value of two digits in code set C
 abbrev pub pair : ℕ → ℕ → ℕ
 pair a b = 10 * (a - 48) + (b - 48)
 
--- The values of a text from code set C on, or else from B. A separator is FNC1, 102, in both. In C two digits are one value; where no two stand,
--- 100 changes to B. In B 99 changes to C where an even number of digits stands, four or more; every other byte is one value.
-abbrev pub coded : Bool → List ℕ → List ℕ
-coded in_c [] = []
-coded true (b ∷ []) = if b == 29 then fnc1 ∷ [] else code_b ∷ (b - 32) ∷ []
-coded false (b ∷ []) = if b == 29 then fnc1 ∷ [] else (b - 32) ∷ []
-coded true (a ∷ b ∷ text) =
-    if a == 29 then fnc1 ∷ coded true (b ∷ text)
-    else if nat_le 2 (digits_ahead (a ∷ b ∷ text)) then pair a b ∷ coded true text
-    else code_b ∷ (a - 32) ∷ coded false (b ∷ text)
-coded false (a ∷ b ∷ text) =
-    if a == 29 then fnc1 ∷ coded false (b ∷ text)
-    else if has_even_run (a ∷ b ∷ text) then code_c ∷ pair a b ∷ coded true text
-    else (a - 32) ∷ coded false (b ∷ text)
+-- Digits where code set C is in use, before what follows in the code set that they leave: two are one value, and before a last one that is left
+-- over the code set changes to B.
+abbrev pub digits_in_c : List ℕ → (CodeSet → List ℕ) → List ℕ
+digits_in_c [] after = after C
+digits_in_c (d ∷ []) after = code_b ∷ letter d ∷ after B
+digits_in_c (a ∷ b ∷ digits) after = pair a b ∷ digits_in_c digits after
 
--- the data values of the symbol that is printed for a text: FNC1 and the text, from code set C on
+-- Digits where code set B is in use: fewer than four are a value each. Before four or more the code set changes to C, where they are odd in number
+-- after the first of them.
+abbrev pub digits_in_b : List ℕ → (CodeSet → List ℕ) → List ℕ
+digits_in_b [] after = after B
+digits_in_b (d ∷ digits) after =
+    if nat_lt (length (d ∷ digits)) 4 then map letter (d ∷ digits) ++ after B
+    else if length (d ∷ digits) % 2 == 0 then code_c ∷ digits_in_c (d ∷ digits) after
+    else letter d ∷ code_c ∷ digits_in_c digits after
+
+-- The values of runs where this code set, C or else B, is in use. A separator is FNC1 in both; before another byte that is no digit the code set
+-- changes from C to B.
+abbrev pub coded_runs : CodeSet → List Run → List ℕ
+coded_runs set [] = []
+coded_runs C (Digits digits ∷ runs) = digits_in_c digits (λ next. coded_runs next runs)
+coded_runs C (Other b ∷ runs) = if b == 29 then fnc1 ∷ coded_runs C runs else code_b ∷ letter b ∷ coded_runs B runs
+coded_runs _ (Digits digits ∷ runs) = digits_in_b digits (λ next. coded_runs next runs)
+coded_runs _ (Other b ∷ runs) = if b == 29 then fnc1 ∷ coded_runs B runs else letter b ∷ coded_runs B runs
+
+-- the values of a text, from code set C on
+abbrev pub coded : List ℕ → List ℕ
+coded text = coded_runs C (runs_of text)
+
+-- the data values of the symbol that is printed for a text: FNC1 and the text
 abbrev pub data_values : List ℕ → List ℕ
-data_values text = fnc1 ∷ coded true text
+data_values text = fnc1 ∷ coded text
+
+-- ---- the texts that have values
+
+-- how many digits stand without a break at the front
+abbrev pub digits_ahead : List ℕ → ℕ
+digits_ahead [] = 0
+digits_ahead (b ∷ text) = if is_digit b then 1 + digits_ahead text else 0
 
 -- a byte that code set B or FNC1 has
 abbrev pub is_coded_byte : ℕ → Bool

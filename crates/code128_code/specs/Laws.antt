@@ -52,7 +52,7 @@ ModulesSay = (start check : ℕ) (values modules text : List ℕ)
 
 -- the values that are printed for a text say that text
 abbrev pub CodedIsSaid : Type 0
-CodedIsSaid = (text : List ℕ) → IsTrue (list_all is_coded_byte text) → text_from C (coded true text) ≡ Ok text
+CodedIsSaid = (text : List ℕ) → IsTrue (list_all is_coded_byte text) → text_from C (coded text) ≡ Ok text
 
 -- so the symbol that is printed for a text is the GS1-128 symbol of that text
 abbrev pub PrintedIsSaid : Type 0
@@ -61,7 +61,7 @@ PrintedIsSaid = (text modules : List ℕ) → IsTrue (list_all is_coded_byte tex
 
 -- they are at most as many as the bytes of a text that begins with two digits, as each element string does
 abbrev pub CodedIsShort : Type 0
-CodedIsShort = (text : List ℕ) → 2 ≤ digits_ahead text → length (coded true text) ≤ length text
+CodedIsShort = (text : List ℕ) → 2 ≤ digits_ahead text → length (coded text) ≤ length text
 
 -- values say at most two bytes each
 abbrev pub SaidIsShort : Type 0

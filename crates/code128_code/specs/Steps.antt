@@ -1,11 +1,12 @@
 -- How far a reader or a coder has come.
-use Rattle.std.specs.Prelude.{ℕ, Bool, true, false, List, [], ◌∷◌, ◌++◌, Result, Err, nat_lt, if◌then◌else◌}
+use Rattle.std.specs.Prelude.{ℕ, ◌-◌, ◌%◌, ◌==◌, ◌&&◌, Bool, true, false, List, [], ◌∷◌, ◌++◌, Result, Err, nat_le, nat_lt, if◌then◌else◌}
 use Rattle.code128_code.specs.declared.code_set.CodeSet.{CodeSet}
 use Rattle.code128_code.specs.declared.coding.Coder.{Coder}
 use Rattle.code128_code.specs.declared.fault.Code128Fault.{Code128Fault}
 use Rattle.code128_code.specs.declared.fault.Code128Fault.TheVariants as faults
 use Rattle.code128_code.specs.declared.texts.Reader.{Reader}
-use Rattle.code128_code.specs.Coding.{coded}
+use Rattle.code128_code.specs.Characters.{code_b, code_c, fnc1}
+use Rattle.code128_code.specs.Coding.{digits_ahead, pair}
 use Rattle.code128_code.specs.Texts.{before, shifted_byte, text_from}
 
 -- the text of the values that are left, after a SHIFT or not
@@ -18,6 +19,25 @@ text_by set true (w ∷ values) = if nat_lt w 96 then before (shifted_byte set w
 abbrev pub all_said : Reader → List ℕ → Result (List ℕ) Code128Fault
 all_said reader rest = before reader.text.items (text_by reader.set reader.shifted rest)
 
+-- an even number of digits at the front, four or more
+abbrev pub has_even_run : List ℕ → Bool
+has_even_run text = nat_le 4 (digits_ahead text) && (digits_ahead text % 2 == 0)
+
+-- The values of a text from code set C on, or else from B. A separator is FNC1, 102, in both. In C two digits are one value; where no two stand,
+-- 100 changes to B. In B 99 changes to C where an even number of digits stands, four or more; every other byte is one value.
+abbrev pub coded_on : Bool → List ℕ → List ℕ
+coded_on in_c [] = []
+coded_on true (b ∷ []) = if b == 29 then fnc1 ∷ [] else code_b ∷ (b - 32) ∷ []
+coded_on false (b ∷ []) = if b == 29 then fnc1 ∷ [] else (b - 32) ∷ []
+coded_on true (a ∷ b ∷ text) =
+    if a == 29 then fnc1 ∷ coded_on true (b ∷ text)
+    else if nat_le 2 (digits_ahead (a ∷ b ∷ text)) then pair a b ∷ coded_on true text
+    else code_b ∷ (a - 32) ∷ coded_on false (b ∷ text)
+coded_on false (a ∷ b ∷ text) =
+    if a == 29 then fnc1 ∷ coded_on false (b ∷ text)
+    else if has_even_run (a ∷ b ∷ text) then code_c ∷ pair a b ∷ coded_on true text
+    else (a - 32) ∷ coded_on false (b ∷ text)
+
 -- the values of what was coded and of the text that is left
 abbrev pub all_coded : Coder → List ℕ → List ℕ
-all_coded coder rest = coder.values.items ++ coded coder.in_c rest
+all_coded coder rest = coder.values.items ++ coded_on coder.in_c rest

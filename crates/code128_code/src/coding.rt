@@ -2,8 +2,8 @@
 ghost use Rattle.std.specs.Prelude.{◌≡◌, ◌≢◌, ◌↔◌, ◌≤◌, ◌<◌, true, false, IsTrue, drop, length, slice_index};
 ghost use Rattle.std.specs.List.{list_all};
 ghost use Rattle.arrayvec.specs.ArrayVec.{array_vec_len};
-ghost use Rattle.code128_code.specs.Coding.{data_values, digits_ahead, has_even_run, is_coded_byte, pair};
-ghost use Rattle.code128_code.specs.Steps.{all_coded};
+ghost use Rattle.code128_code.specs.Coding.{data_values, digits_ahead, is_coded_byte, pair};
+ghost use Rattle.code128_code.specs.Steps.{all_coded, has_even_run};
 
 use crate::meanings::SEPARATOR;
 use crate::special_values::{CODE_B, CODE_C, FNC1};

@@ -1,10 +1,12 @@
-use Rattle.std.proofs.Common.{ℕ, List, ◌∙◌, ap, arith, length, subst, sym}
+use Rattle.std.proofs.Common.{◌≡◌, ℕ, List, ◌∙◌, ap, arith, length, subst, sym}
 use Rattle.std.specs.List.{list_all}
 use Rattle.std.specs.Prelude.{IsTrue}
 use Rattle.std.proofs.lemmas.List.{length-append}
-use Rattle.code128_code.specs.Coding.{coded, is_coded_byte}
-use Rattle.code128_code.specs.Steps.{all_coded}
+use Rattle.std.proofs.lemmas.Grind.{common_steps}
+use Rattle.code128_code.specs.Coding.{is_coded_byte}
+use Rattle.code128_code.specs.Steps.{all_coded, coded_on}
 use Rattle.code128_code.proofs.DataFacts.{few_values, list_all-drop, rest_of}
+use Rattle.code128_code.proofs.RunFacts.{coded_whole}
 use Rattle.code128_code.proofs.coding.values_of.Goals as goal
 
 pub put_front-taken-requires-clause-room : goal.put_front-taken-requires-clause-room
@@ -25,4 +27,9 @@ pub returns-clause-few : goal.returns-clause-few
 returns-clause-few c =
     let few = few_values c.args.text.now c.requires.few c.requires.digits in
     let same = ap length c.loop-rest.invariant.whole in
-    let parts = length-append c.loop-rest.coder.values.items (coded c.loop-rest.coder.in_c c.loop-rest.rest.now) in omega arith
+    let parts = length-append c.loop-rest.coder.values.items (coded_on c.loop-rest.coder.in_c c.loop-rest.rest.now) in omega arith
+
+pub returns-clause-values : goal.returns-clause-values
+returns-clause-values c =
+    let none : length c.loop-rest.rest.now ≡ 0 = grind (arith, common_steps) in
+    coded_whole c.loop-rest.coder.values.items c.loop-rest.rest.now c.args.text.now c.loop-rest.coder.in_c none c.loop-rest.invariant.whole

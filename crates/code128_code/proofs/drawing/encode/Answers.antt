@@ -4,7 +4,7 @@ use Rattle.std.specs.List.{list_all}
 use Rattle.element_core.specs.Elements.{canonical}
 use Rattle.code128_code.specs.Coding.{coded, data_values, is_coded_byte}
 use Rattle.code128_code.specs.Symbols.{AreValues, IsCode128Symbol, mod103}
-use Rattle.code128_code.proofs.CodedFacts.{coded_is_said}
+use Rattle.code128_code.proofs.RunFacts.{coded_is_said}
 use Rattle.code128_code.proofs.DataFacts.{data_valid, printable_coded}
 use Rattle.code128_code.proofs.drawing.encode.Goals as goal
 
@@ -28,7 +28,7 @@ returns-clause-says c =
     c.check_character-check.ensures.value ∙ ap (mod103 105) (c.as_slice-2.ensures.value ∙ values) in
     record {
       start = 105;
-      values = coded true text;
+      values = coded text;
       symbol =
           subst (λ k. IsCode128Symbol 105 (data_values text) k c.symbol.result) check
           (subst (λ vs. IsCode128Symbol 105 vs c.check_character-check.result c.symbol.result) (c.as_slice-3.ensures.value ∙ values) c.symbol.ensures);
