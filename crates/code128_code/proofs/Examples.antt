@@ -1,9 +1,9 @@
 -- Printed symbols and their texts.
 use Rattle.std.proofs.Common.{◌≡◌, [], ◌∷◌, ◌++◌, Ok, Err, refl}
 use Rattle.std.specs.Prelude.{codes}
-use Rattle.std.specs.List.{flat_map}
+use Rattle.std.specs.List.{concat}
 use Rattle.code128_code.specs.declared.fault.Code128Fault.TheVariants as faults
-use Rattle.code128_code.specs.Characters.{patterns, six, stop}
+use Rattle.code128_code.specs.Characters.{patterns, stop}
 use Rattle.code128_code.specs.Coding.{data_values}
 use Rattle.code128_code.specs.Symbols.{mod103, widths_of}
 use Rattle.code128_code.specs.Texts.{symbol_text}
@@ -22,7 +22,7 @@ odd_run : (data_values (codes "10A12345") ≡ 102 ∷ 10 ∷ 100 ∷ 33 ∷ 17 �
 odd_run = (refl, refl)
 
 country : (mod103 105 (data_values (codes "422528")) ≡ 66)
-    × (widths_of 105 (data_values (codes "422528")) 66 ≡ flat_map six (211232 ∷ 411131 ∷ 112133 ∷ 321122 ∷ 322112 ∷ 121421 ∷ []) ++ stop)
+    × (widths_of 105 (data_values (codes "422528")) 66 ≡ concat ((2 ∷ 1 ∷ 1 ∷ 2 ∷ 3 ∷ 2 ∷ []) ∷ (4 ∷ 1 ∷ 1 ∷ 1 ∷ 3 ∷ 1 ∷ []) ∷ (1 ∷ 1 ∷ 2 ∷ 1 ∷ 3 ∷ 3 ∷ []) ∷ (3 ∷ 2 ∷ 1 ∷ 1 ∷ 2 ∷ 2 ∷ []) ∷ (3 ∷ 2 ∷ 2 ∷ 1 ∷ 1 ∷ 2 ∷ []) ∷ (1 ∷ 2 ∷ 1 ∷ 4 ∷ 2 ∷ 1 ∷ []) ∷ []) ++ stop)
 unfolding patterns
 country = (refl, refl)
 

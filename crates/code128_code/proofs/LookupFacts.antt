@@ -65,9 +65,16 @@ unfoldable pub shown : List ℕ → ℕ
 shown ws = get_or VALUES (packed_widths ws) 255
 
 -- each character is six widths, and is read as itself
+six_tested : all_below (λ v. length (pattern v) == 6) 106 ≡ true
+unfolding patterns
+six_tested = refl
+
+pub length-pattern : (v : ℕ) → v < 106 → length (pattern v) ≡ 6
+length-pattern v h = eqb-true _ _ (all_below-at (λ v. length (pattern v) == 6) 106 six_tested v h)
+
 pub code : IsCode (λ v. v < 106) 6 pattern shown
 unfolding shown
-code = record { width = λ v h. refl; back = λ v h. value_at v 255 h }
+code = record { width = length-pattern; back = λ v h. value_at v 255 h }
 
 widths_tested : all_below (λ v. are_widths (pattern v)) 106 ≡ true
 unfolding patterns
@@ -91,10 +98,6 @@ unpacked (a ∷ b ∷ c ∷ d ∷ e ∷ f ∷ []) (g ∷ h ∷ i ∷ j ∷ k ∷
     let w = last_digit 0 0 a g v.0.0 v.0.1 u.0.0 u.0.1 t.0 in
     ap₂ (λ x xs. x ∷ xs) w.1 (ap₂ (λ x xs. x ∷ xs) t.1 (ap₂ (λ x xs. x ∷ xs) s.1 (ap₂ (λ x xs. x ∷ xs) r.1 (ap₂ (λ x xs. x ∷ xs) q.1 (ap (λ x. x ∷ []) p.1)))))
 unpacked ws us m n a b eq = absurd (omega arith)
-
-pub six_more : (x a b c d e f : List ℕ) (p q r s t u : ℕ) → a ≡ x ++ p ∷ [] → b ≡ a ++ q ∷ [] → c ≡ b ++ r ∷ [] → d ≡ c ++ s ∷ [] → e ≡ d ++ t ∷ [] → f ≡ e ++ u ∷ []
-    → f ≡ x ++ (p ∷ q ∷ r ∷ s ∷ t ∷ u ∷ [])
-six_more x a b c d e f p q r s t u i j k l m n = rw (n, m, l, k, j, i) (simp append_assoc)
 
 -- two values of one character are the same
 pub same_value : (v w : ℕ) → v < 106 → w < 106 → pattern v ≡ pattern w → v ≡ w

@@ -11,7 +11,7 @@ use Rattle.ean_code.proofs.Cells.{all_below, all_below-at, AllByRecursion-append
 use Rattle.code128_code.specs.Characters.{pattern, patterns, stop}
 use Rattle.code128_code.specs.Laws.{Measures, OneReading, OneWay}
 use Rattle.code128_code.specs.Symbols.{AreValues, IsCode128Symbol, characters_of, widths_of}
-use Rattle.code128_code.proofs.LookupFacts.{code, pattern_valid, shown}
+use Rattle.code128_code.proofs.LookupFacts.{code, length-pattern, pattern_valid, shown}
 
 -- a fact that holds of each value holds at each place
 pub valid_at : (vs : List ℕ) (i : ℕ) → AreValues vs → i < length vs → get_or vs i 0 ≤ 102
@@ -51,9 +51,6 @@ module _ (s : ℕ) (vs : List ℕ) (c : ℕ) (ms : List ℕ) (e : IsCode128Symbo
   characters_shown : cells 6 shown (length (characters_of s vs c)) ms ≡ characters_of s vs c
   characters_shown = ap (cells 6 shown (length (characters_of s vs c))) e.widths ∙ cells-flat_map _ 6 pattern shown code (characters_of s vs c) stop all_valid
 
-  begins : shown (take 6 ms) ≡ s
-  begins = ap (λ m. shown (take 6 m)) e.widths ∙ code.back s (let h = e.start_greatest in omega arith)
-
   -- a symbol that is turned begins with a turned stop
   turned : take 6 (reverse ms) ≡ 2 ∷ 1 ∷ 1 ∷ 1 ∷ 3 ∷ 3 ∷ []
   turned = ap (λ m. take 6 (reverse m)) e.widths ∙ ap (take 6) (reverse-append (flat_map pattern (characters_of s vs c)) stop)
@@ -61,11 +58,20 @@ module _ (s : ℕ) (vs : List ℕ) (c : ℕ) (ms : List ℕ) (e : IsCode128Symbo
   parts : ms ≡ pattern s ++ (flat_map pattern vs ++ (pattern c ++ stop))
   parts = e.widths ∙ widths-parts s vs c
 
+  start_six : length (pattern s) ≡ 6
+  start_six = length-pattern s (let h = e.start_greatest in omega arith)
+
+  check_six : length (pattern c) ≡ 6
+  check_six = length-pattern c (let h = e.check_valid in omega arith)
+
   pub start_part : take 6 ms ≡ pattern s
-  start_part = ap (take 6) parts
+  start_part = ap (take 6) parts ∙ take_at (pattern s) (flat_map pattern vs ++ (pattern c ++ stop)) 6 start_six
+
+  begins : shown (take 6 ms) ≡ s
+  begins = ap shown start_part ∙ code.back s (let h = e.start_greatest in omega arith)
 
   after_start : drop 6 ms ≡ flat_map pattern vs ++ (pattern c ++ stop)
-  after_start = ap (drop 6) parts
+  after_start = ap (drop 6) parts ∙ drop_at (pattern s) (flat_map pattern vs ++ (pattern c ++ stop)) 6 start_six
 
   pub data_part : (n : ℕ) → n ≡ length vs * 6 → take n (drop 6 ms) ≡ flat_map pattern vs
   data_part n same = ap (take n) after_start ∙ take_at (flat_map pattern vs) (pattern c ++ stop) n (length-data vs e.valid ∙ sym same)
@@ -79,12 +85,15 @@ module _ (s : ℕ) (vs : List ℕ) (c : ℕ) (ms : List ℕ) (e : IsCode128Symbo
       ∙ drop_at (flat_map pattern vs) (pattern c ++ stop) (length vs * 6) (length-data vs e.valid)
 
   pub check_part : (n : ℕ) → n ≡ length vs * 6 + 6 → take 6 (drop n ms) ≡ pattern c
-  check_part n same = ap (take 6) (after_data n same)
+  check_part n same = ap (take 6) (after_data n same) ∙ take_at (pattern c) stop 6 check_six
 
   pub stop_part : (n : ℕ) → n ≡ length vs * 6 + 12 → drop n ms ≡ stop
   stop_part n same =
       let split : n ≡ (length vs * 6 + 6) + 6 = omega arith in
-      ap (λ k. drop k ms) split ∙ sym (drop-drop 6 (length vs * 6 + 6) ms) ∙ ap (drop 6) (after_data (length vs * 6 + 6) refl)
+      ap (λ k. drop k ms) split
+      ∙ sym (drop-drop 6 (length vs * 6 + 6) ms)
+      ∙ ap (drop 6) (after_data (length vs * 6 + 6) refl)
+      ∙ drop_at (pattern c) stop 6 check_six
 
 pub last_same : (xs ys : List ℕ) (x y : ℕ) → xs ++ x ∷ [] ≡ ys ++ y ∷ [] → (xs ≡ ys) × (x ≡ y)
 last_same [] [] x y e = (refl, cc)
@@ -136,6 +145,10 @@ total_of_all [] h = refl
 total_of_all (v ∷ vs) h =
     let one = total_of v h.0 in let more = total_of_all vs h.1 in let all = sum-append (pattern v) (flat_map pattern vs) in omega arith
 
+first_of : (xs ys : List ℕ) → 0 < length xs → get_or (xs ++ ys) 0 0 ≡ get_or xs 0 0
+first_of [] ys some = absurd (omega arith)
+first_of (x ∷ xs) ys some = refl
+
 pub measures : Measures
 measures s c vs ms e =
     let low = e.start_least in let high = e.start_greatest in let some = e.some in let few = e.few in
@@ -152,7 +165,7 @@ measures s c vs ms e =
       greatest = omega arith;
       count = omega arith;
       total = total;
-      first_bar = ap (λ m. get_or m 0 0) e.widths ∙ bar;
+      first_bar = ap (λ m. get_or m 0 0) (e.widths ∙ widths-parts s vs c) ∙ first_of (pattern s) _ (omega (arith, length-pattern s (omega arith))) ∙ bar;
       last_bar = ap (λ m. get_or (reverse m) 0 0) e.widths ∙ ap (λ m. get_or m 0 0) (reverse-append (flat_map pattern (characters_of s vs c)) stop);
     }
 
@@ -197,7 +210,7 @@ pub no_gap : (ws : List ℕ) (i : ℕ) → i < length ws / 6 → ((v : ℕ) → 
 no_gap ws i lt none vs h e =
     let count : length ws ≡ length vs * 6 = sym (ap length e) ∙ length-data vs h in
     let low : i < length vs = omega arith in
-    let cell = cell_at (λ v. v < 106) 6 pattern (λ v h. refl) vs i 0 (characters_valid vs h) low in
+    let cell = cell_at (λ v. v < 106) 6 pattern length-pattern vs i 0 (characters_valid vs h) low in
     none (get_or vs i 0) (valid_at vs i h low) (sym cell ∙ ap (λ m. take 6 (drop (6 * i) m)) e ∙ sym (part-taken ws i))
 
 pub one_more : (ws : List ℕ) (i : ℕ) (found : List ℕ) (v : ℕ) → flat_map pattern found ≡ take (6 * i) ws → pattern v ≡ part_of ws i → flat_map pattern (found ++ v ∷ []) ≡ take (6 * (i + 1)) ws
