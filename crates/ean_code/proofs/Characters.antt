@@ -15,13 +15,13 @@ number ws = fold (λ n w. 10 * n + w) 0 ws
 
 -- the place of the widths in both sets, one after the other
 abbrev pub place : List ℕ → ℕ
-place ws = position_or_len (λ n. n == number ws) (set_a ++ set_b)
+place ws = position_or_len (λ entry. number entry == number ws) (set_a ++ set_b)
 
 abbrev pub left_char : List ℕ → Bool × ℕ
 left_char ws = (nat_le 10 (place ws), place ws % 10)
 
 abbrev pub right_digit : List ℕ → ℕ
-right_digit ws = position_or_len (λ n. n == number ws) set_a
+right_digit ws = position_or_len (λ entry. number entry == number ws) set_a
 
 pub same_bool : (a b : Bool) → beq a b ≡ true → a ≡ b
 same_bool true true e = refl
@@ -42,12 +42,20 @@ left_back b d h =
     let parts = and_parts _ _ (all_below-at (left_ok b) 10 (left_tested b) d h) in
     ap₂ (λ (x : Bool) (y : ℕ). (x, y)) (same_bool _ _ parts.0) (eqb-true _ _ parts.1)
 
+-- a character has four widths
+left_four : (b : Bool) → all_below (λ d. length (left_widths (b, d)) == 4) 10 ≡ true
+left_four true = refl
+left_four false = refl
+
+pub length-left : (b : Bool) (d : ℕ) → d < 10 → length (left_widths (b, d)) ≡ 4
+length-left b d h = eqb-true _ _ (all_below-at (λ d. length (left_widths (b, d)) == 4) 10 (left_four b) d h)
+
 pub left_code : IsCode (λ (x : Bool × ℕ). x.1 < 10) 4 left_widths left_char
-left_code = record { width = λ x h. refl; back = λ x h. left_back x.0 x.1 h }
+left_code = record { width = λ x h. length-left x.0 x.1 h; back = λ x h. left_back x.0 x.1 h }
 
 pub right_code : IsCode (λ d. d < 10) 4 right_widths right_digit
 right_code = record {
-  width = λ d h. refl;
+  width = λ d h. length-left false d h;
   back = λ d h. eqb-true _ _ (all_below-at (λ d. right_digit (right_widths d) == d) 10 refl d h);
 }
 

@@ -21,7 +21,7 @@ pub no_gap : (ws : List ℕ) (i : ℕ) → i < length ws / 4 → ((b : Bool) (d 
 no_gap ws i lt none cs h e =
     let count : length ws ≡ length cs * 4 = sym (ap length e) ∙ length-cells _ 4 left_widths left_char left_code cs h in
     let low : i < length cs = omega arith in
-    let cell = cell_at (λ (x : Bool × ℕ). x.1 < 10) 4 left_widths (λ x h. refl) cs i (false, 0) h low in
+    let cell = cell_at (λ (x : Bool × ℕ). x.1 < 10) 4 left_widths left_code.width cs i (false, 0) h low in
     let four : (4 * i + 4) - 4 * i ≡ 4 = omega arith in
     let part : slice_range ws (4 * i) (4 * i + 4) ≡ take 4 (drop (4 * i) ws) = ap (λ n. take n (drop (4 * i) ws)) four in
     let c = get_or cs i (false, 0) in

@@ -4,14 +4,14 @@ use Rattle.std.specs.Prelude.{if◌then◌else◌}
 use Rattle.std.specs.Bool.{beq}
 use Rattle.std.specs.List.{flat_map, AllByRecursion, zip}
 use Rattle.std.proofs.lemmas.Bool.{and_parts}
-use Rattle.std.proofs.lemmas.List.{length-take, reverse-append, reverse-reverse, append_cancel_left, append_cancel_right, append_assoc}
+use Rattle.std.proofs.lemmas.List.{length-append, length-take, reverse-append, reverse-reverse, append_cancel_left, append_cancel_right, append_assoc}
 use Rattle.std.proofs.lemmas.Slice.Zip.{firsts-zip}
 use Rattle.digits_core.specs.Digits.{AreDigits}
 use Rattle.ean_code.specs.NumberSets.{left_widths, upce_rows, row_of}
 use Rattle.ean_code.specs.Symbols.{normal_guard, special_guard, IsEanSymbol}
 use Rattle.ean_code.specs.Symbols.Kind.{UpcE}
 use Rattle.ean_code.proofs.Cells.{all_below, all_below-at, AllByRecursion-take, AllByRecursion-reverse, reverse-flat_map, same, same-true}
-use Rattle.ean_code.proofs.Characters.{digit_at, same_bool, pairs_valid, firsts}
+use Rattle.ean_code.proofs.Characters.{digit_at, length-left, same_bool, pairs_valid, firsts}
 use Rattle.ean_code.proofs.ParityRows.{length-upce_row}
 
 -- a character that begins 1 1 1 is the digit 6 of set A
@@ -51,16 +51,28 @@ pub shift : (a b c d p q r s : ℕ) (xs ys : List ℕ) → a ∷ b ∷ c ∷ d �
     → (a ∷ b ∷ c ∷ [] ≡ normal_guard) × (d ≡ s) × (xs ≡ r ∷ q ∷ p ∷ ys)
 shift a b c d p q r s xs ys e = (cc, cc, cc)
 
+-- a list of four
+as_four : (ws : List ℕ) → length ws ≡ 4 → ws ≡ get_or ws 0 0 ∷ get_or ws 1 0 ∷ get_or ws 2 0 ∷ get_or ws 3 0 ∷ []
+as_four (a ∷ b ∷ c ∷ d ∷ []) h = refl
+as_four [] h = absurd (omega arith)
+as_four (a ∷ []) h = absurd (omega arith)
+as_four (a ∷ b ∷ []) h = absurd (omega arith)
+as_four (a ∷ b ∷ c ∷ []) h = absurd (omega arith)
+as_four (a ∷ b ∷ c ∷ d ∷ e ∷ ws) h = absurd (omega arith)
+
 pub all_sixes : (cs ds : List (Bool × ℕ)) → AllByRecursion (λ (x : Bool × ℕ). x.1 < 10) cs → AllByRecursion (λ (x : Bool × ℕ). x.1 < 10) ds
     → flat_map left_widths cs ++ normal_guard ≡ normal_guard ++ flat_map (λ x. reverse (left_widths x)) ds → AllByRecursion (λ (x : Bool × ℕ). x.0 ≡ false) cs
 all_sixes [] ds v u e = tt
-all_sixes (c ∷ cs) [] v u e = absurd (let n = ap length e in omega arith)
+all_sixes (c ∷ cs) [] v u e = absurd (omega (arith, ap length e, length-append (left_widths c ++ flat_map left_widths cs) normal_guard, length-append (left_widths c) (flat_map left_widths cs), length-left c.0 c.1 v.0))
 all_sixes (c ∷ cs) (d ∷ ds) v u e =
-    let parts = shift _ _ _ _ _ _ _ _ _ _ e in
-    let one = six_a c.0 c.1 v.0 parts.0 in
+    let rest = flat_map (λ (x : Bool × ℕ). reverse (left_widths x)) ds in
+    let here = as_four (left_widths c) (length-left c.0 c.1 v.0) in
+    let there = as_four (left_widths d) (length-left d.0 d.1 u.0) in
+    let parts = shift _ _ _ _ _ _ _ _ _ _
+    (ap (λ w. (w ++ flat_map left_widths cs) ++ normal_guard) (sym here) ∙ e ∙ ap (λ w. normal_guard ++ (reverse w ++ rest)) there) in
+    let one = six_a c.0 c.1 v.0 (ap (take 3) here ∙ parts.0) in
     let four_at : get_or (left_widths d) 3 0 ≡ 4 = sym parts.1 ∙ ap (λ w. get_or w 3 0) one.0 in
     let other = six_from_four d.0 d.1 u.0 four_at in
-    let rest = flat_map (λ (x : Bool × ℕ). reverse (left_widths x)) ds in
     (one.1, all_sixes cs ds v.1 u.1 (parts.2 ∙ ap (λ w. get_or w 2 0 ∷ get_or w 1 0 ∷ get_or w 0 0 ∷ rest) other))
 
 pub turned_short : (g l h : List ℕ) → reverse (g ++ (l ++ h)) ≡ reverse h ++ (reverse l ++ reverse g)

@@ -1,8 +1,7 @@
 -- What holds of the symbols whatever reads them.
 use Rattle.std.specs.Prelude.{◌≡◌, ◌≢◌, ◌<◌, ℕ, List, [], ◌∷◌, ◌++◌, length, reverse, slice_index, slice_set}
-use Rattle.std.specs.List.{flat_map}
+use Rattle.std.specs.List.{concat}
 use Rattle.digits_core.specs.Digits.{AreDigits, IsChecked}
-use Rattle.ean_code.specs.NumberSets.{four}
 use Rattle.ean_code.specs.declared.reading.Spelled.{Spelled}
 use Rattle.ean_code.specs.Spelling.{IsGtinOf, IsSpelled}
 use Rattle.ean_code.specs.Symbols.{normal_guard, centre_guard, special_guard, Kind, IsCheckedPlace, IsEanSymbol, digit_count, widths_of}
@@ -40,9 +39,9 @@ abbrev pub PrintedEan13 : Type 0
 PrintedEan13 =
     widths_of Ean13 (9 ∷ 5 ∷ 0 ∷ 1 ∷ 1 ∷ 0 ∷ 1 ∷ 5 ∷ 3 ∷ 0 ∷ 0 ∷ 0 ∷ 3 ∷ [])
     ≡ normal_guard
-    ++ (flat_map four (1231 ∷ 1123 ∷ 1222 ∷ 2221 ∷ 1123 ∷ 2221 ∷ [])
+    ++ (concat ((1 ∷ 2 ∷ 3 ∷ 1 ∷ []) ∷ (1 ∷ 1 ∷ 2 ∷ 3 ∷ []) ∷ (1 ∷ 2 ∷ 2 ∷ 2 ∷ []) ∷ (2 ∷ 2 ∷ 2 ∷ 1 ∷ []) ∷ (1 ∷ 1 ∷ 2 ∷ 3 ∷ []) ∷ (2 ∷ 2 ∷ 2 ∷ 1 ∷ []) ∷ [])
     ++ (centre_guard
-    ++ (flat_map four (1231 ∷ 1411 ∷ 3211 ∷ 3211 ∷ 3211 ∷ 1411 ∷ [])
+    ++ (concat ((1 ∷ 2 ∷ 3 ∷ 1 ∷ []) ∷ (1 ∷ 4 ∷ 1 ∷ 1 ∷ []) ∷ (3 ∷ 2 ∷ 1 ∷ 1 ∷ []) ∷ (3 ∷ 2 ∷ 1 ∷ 1 ∷ []) ∷ (3 ∷ 2 ∷ 1 ∷ 1 ∷ []) ∷ (1 ∷ 4 ∷ 1 ∷ 1 ∷ []) ∷ [])
     ++ normal_guard)))
 
 -- the printed symbol 96385074
@@ -50,13 +49,13 @@ abbrev pub PrintedEan8 : Type 0
 PrintedEan8 =
     widths_of Ean8 (9 ∷ 6 ∷ 3 ∷ 8 ∷ 5 ∷ 0 ∷ 7 ∷ 4 ∷ [])
     ≡ normal_guard
-    ++ (flat_map four (3112 ∷ 1114 ∷ 1411 ∷ 1213 ∷ [])
+    ++ (concat ((3 ∷ 1 ∷ 1 ∷ 2 ∷ []) ∷ (1 ∷ 1 ∷ 1 ∷ 4 ∷ []) ∷ (1 ∷ 4 ∷ 1 ∷ 1 ∷ []) ∷ (1 ∷ 2 ∷ 1 ∷ 3 ∷ []) ∷ [])
     ++ (centre_guard
-    ++ (flat_map four (1231 ∷ 3211 ∷ 1312 ∷ 1132 ∷ [])
+    ++ (concat ((1 ∷ 2 ∷ 3 ∷ 1 ∷ []) ∷ (3 ∷ 2 ∷ 1 ∷ 1 ∷ []) ∷ (1 ∷ 3 ∷ 1 ∷ 2 ∷ []) ∷ (1 ∷ 1 ∷ 3 ∷ 2 ∷ []) ∷ [])
     ++ normal_guard)))
 
 -- the printed symbol 01234565, of which the bars show the last seven digits
 abbrev pub PrintedUpcE : Type 0
 PrintedUpcE =
     widths_of UpcE (1 ∷ 2 ∷ 3 ∷ 4 ∷ 5 ∷ 6 ∷ 5 ∷ [])
-    ≡ normal_guard ++ (flat_map four (1222 ∷ 2122 ∷ 1411 ∷ 2311 ∷ 1321 ∷ 1114 ∷ []) ++ special_guard)
+    ≡ normal_guard ++ (concat ((1 ∷ 2 ∷ 2 ∷ 2 ∷ []) ∷ (2 ∷ 1 ∷ 2 ∷ 2 ∷ []) ∷ (1 ∷ 4 ∷ 1 ∷ 1 ∷ []) ∷ (2 ∷ 3 ∷ 1 ∷ 1 ∷ []) ∷ (1 ∷ 3 ∷ 2 ∷ 1 ∷ []) ∷ (1 ∷ 1 ∷ 1 ∷ 4 ∷ []) ∷ []) ++ special_guard)

@@ -1,26 +1,26 @@
 -- The characters of EAN and UPC symbols, and the number sets that they are drawn in (ISO/IEC 15420, symbol character encodation).
-use Rattle.std.specs.Prelude.{ℕ, ◌/◌, ◌%◌, ◌<◌, Bool, true, false, List, [], ◌∷◌, slice_index, slice_index_or, if◌then◌else◌}
+use Rattle.std.specs.Prelude.{ℕ, ◌<◌, Bool, true, false, List, [], ◌∷◌, slice_index_or, if◌then◌else◌}
 use Rattle.std.specs.List.{flat_map, zip, AllByRecursion}
 
--- four widths, written as one number
-abbrev pub four : ℕ → List ℕ
-four n = n / 1000 % 10 ∷ n / 100 % 10 ∷ n / 10 % 10 ∷ n % 10 ∷ []
+-- the widths of the digits 0 to 9 in number set A, four each, the space first; set C has them too, the bar first
+abbrev pub set_a : List (List ℕ)
+set_a =
+    (3 ∷ 2 ∷ 1 ∷ 1 ∷ []) ∷ (2 ∷ 2 ∷ 2 ∷ 1 ∷ []) ∷ (2 ∷ 1 ∷ 2 ∷ 2 ∷ []) ∷ (1 ∷ 4 ∷ 1 ∷ 1 ∷ []) ∷ (1 ∷ 1 ∷ 3 ∷ 2 ∷ [])
+    ∷ (1 ∷ 2 ∷ 3 ∷ 1 ∷ []) ∷ (1 ∷ 1 ∷ 1 ∷ 4 ∷ []) ∷ (1 ∷ 3 ∷ 1 ∷ 2 ∷ []) ∷ (1 ∷ 2 ∷ 1 ∷ 3 ∷ []) ∷ (3 ∷ 1 ∷ 1 ∷ 2 ∷ []) ∷ []
 
--- the widths of the digits 0 to 9 in number set A, the space first; set C has them too, the bar first
-abbrev pub set_a : List ℕ
-set_a = 3211 ∷ 2221 ∷ 2122 ∷ 1411 ∷ 1132 ∷ 1231 ∷ 1114 ∷ 1312 ∷ 1213 ∷ 3112 ∷ []
-
--- the widths of the digits 0 to 9 in number set B, the space first
-abbrev pub set_b : List ℕ
-set_b = 1123 ∷ 1222 ∷ 2212 ∷ 1141 ∷ 2311 ∷ 1321 ∷ 4111 ∷ 2131 ∷ 3121 ∷ 2113 ∷ []
+-- the widths of the digits 0 to 9 in number set B, four each, the space first
+abbrev pub set_b : List (List ℕ)
+set_b =
+    (1 ∷ 1 ∷ 2 ∷ 3 ∷ []) ∷ (1 ∷ 2 ∷ 2 ∷ 2 ∷ []) ∷ (2 ∷ 2 ∷ 1 ∷ 2 ∷ []) ∷ (1 ∷ 1 ∷ 4 ∷ 1 ∷ []) ∷ (2 ∷ 3 ∷ 1 ∷ 1 ∷ [])
+    ∷ (1 ∷ 3 ∷ 2 ∷ 1 ∷ []) ∷ (4 ∷ 1 ∷ 1 ∷ 1 ∷ []) ∷ (2 ∷ 1 ∷ 3 ∷ 1 ∷ []) ∷ (3 ∷ 1 ∷ 2 ∷ 1 ∷ []) ∷ (2 ∷ 1 ∷ 1 ∷ 3 ∷ []) ∷ []
 
 -- a character left of the centre: whether it is of set B and not of set A, and its digit
 abbrev pub left_widths : Bool × ℕ → List ℕ
-left_widths (of_b, d) = four (slice_index (if of_b then set_b else set_a) d)
+left_widths (of_b, d) = slice_index_or (if of_b then set_b else set_a) d []
 
 -- a character right of the centre, of set C
 abbrev pub right_widths : ℕ → List ℕ
-right_widths d = four (slice_index set_a d)
+right_widths d = slice_index_or set_a d []
 
 -- each has a digit
 abbrev pub AreCharacters : List (Bool × ℕ) → Type 0

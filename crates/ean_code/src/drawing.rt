@@ -36,11 +36,9 @@ fn push_character(widths: &mut ArrayVec<u8, 595>, of_b: bool, digit: u8)
     ensures len { array_vec_len widths.new ≡ array_vec_len widths.old + 4 }
 {
     let set = if of_b { &SET_B } else { &SET_A };
-    let pattern = set[usize::from(digit)];
-    widths.push((pattern / 1000 % 10) as u8);
-    widths.push((pattern / 100 % 10) as u8);
-    widths.push((pattern / 10 % 10) as u8);
-    widths.push((pattern % 10) as u8);
+    widths
+        .try_extend_from_slice(&set[usize::from(digit)])
+        .unwrap();
 }
 
 /// Appends ASCII digits as characters left of the centre, in these number sets.

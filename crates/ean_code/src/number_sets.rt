@@ -1,6 +1,6 @@
 //! The characters of EAN symbols and the number sets that they are drawn in
 //! (ISO/IEC 15420, symbol character encodation).
-ghost use Rattle.std.specs.Prelude.{◌≡◌, ◌≢◌, ◌<◌, ◌≤◌, ◌%◌, ℕ, Bool, List, EachIndex, IfNone, IfSome, length, slice_index};
+ghost use Rattle.std.specs.Prelude.{◌≡◌, ◌≢◌, ◌↔◌, ◌<◌, ◌≤◌, ◌%◌, ℕ, Bool, List, [], IfNone, IfSome, IsTrue, length, slice_index_or};
 ghost use Rattle.std.specs.List.{flat_map};
 ghost use Rattle.ean_code.specs.Widths.{AreWidths};
 ghost use Rattle.ean_code.specs.NumberSets.{AreCharacters, left_widths};
@@ -12,19 +12,53 @@ pub(crate) const A: bool = false;
 
 pub(crate) const B: bool = true;
 
-/// The widths of the digits 0 to 9 in number set A, four digits for four widths, the space first.
-/// Number set C has them too, the bar first.
-pub(crate) const SET_A: [u32; 10] = [3211, 2221, 2122, 1411, 1132, 1231, 1114, 1312, 1213, 3112];
+/// The widths of the digits 0 to 9 in number set A, four each, the space first. Number set C has them
+/// too, the bar first.
+pub(crate) const SET_A: [[u8; 4]; 10] = [
+    [3, 2, 1, 1],
+    [2, 2, 2, 1],
+    [2, 1, 2, 2],
+    [1, 4, 1, 1],
+    [1, 1, 3, 2],
+    [1, 2, 3, 1],
+    [1, 1, 1, 4],
+    [1, 3, 1, 2],
+    [1, 2, 1, 3],
+    [3, 1, 1, 2],
+];
 
-/// The widths of the digits 0 to 9 in number set B, the space first.
-pub(crate) const SET_B: [u32; 10] = [1123, 1222, 2212, 1141, 2311, 1321, 4111, 2131, 3121, 2113];
+/// The widths of the digits 0 to 9 in number set B, four each, the space first.
+pub(crate) const SET_B: [[u8; 4]; 10] = [
+    [1, 1, 2, 3],
+    [1, 2, 2, 2],
+    [2, 2, 1, 2],
+    [1, 1, 4, 1],
+    [2, 3, 1, 1],
+    [1, 3, 2, 1],
+    [4, 1, 1, 1],
+    [2, 1, 3, 1],
+    [3, 1, 2, 1],
+    [2, 1, 1, 3],
+];
 
-/// The place of a character's widths in a number set.
-fn place(set: &[u32], pattern: u32) -> Option<usize>
-    ensures found { IfSome result (λ i. (i < length set.now) × (slice_index set.now i ≡ pattern)) }
-    ensures none { IfNone result (EachIndex set.now (λ i. slice_index set.now i ≢ pattern)) }
+/// Whether these are the widths of an entry.
+fn are_same(widths: &[u8], entry: &[u8]) -> bool
+    ensures { IsTrue result ↔ (entry.now ≡ widths.now) }
 {
-    set.iter().position(|entry| *entry == pattern)
+    entry == widths
+}
+
+/// The digit that has these widths in a number set.
+fn digit_in(set: &[[u8; 4]; 10], widths: &[u8]) -> Option<u8>
+    ensures found { IfSome result (λ d. (d < 10) × (slice_index_or set.now d [] ≡ widths.now)) }
+    ensures none { IfNone result ((d : ℕ) → d < 10 → slice_index_or set.now d [] ≢ widths.now) }
+{
+    for digit in 0..10 {
+        if are_same(widths, &set[usize::from(digit)]) {
+            return Some(digit);
+        }
+    }
+    None
 }
 
 /// The character that has these widths: whether it is of number set B, and its digit.
@@ -34,17 +68,13 @@ fn character(widths: &[u8]) -> Option<(bool, u8)>
     ensures found { IfSome result (λ c. (c.1 < 10) × (left_widths c ≡ widths.now)) }
     ensures none { IfNone result ((b : Bool) (d : ℕ) → d < 10 → left_widths (b, d) ≢ widths.now) }
 {
-    let pattern = u32::from(widths[0]) * 1000
-        + u32::from(widths[1]) * 100
-        + u32::from(widths[2]) * 10
-        + u32::from(widths[3]);
-    if let Some(digit) = place(&SET_A, pattern) {
-        return Some((A, digit as u8));
+    if let Some(digit) = digit_in(&SET_A, widths) {
+        return Some((A, digit));
     }
-    let Some(digit) = place(&SET_B, pattern) else {
+    let Some(digit) = digit_in(&SET_B, widths) else {
         return None;
     };
-    Some((B, digit as u8))
+    Some((B, digit))
 }
 
 /// The characters, at most six, that the widths are joined of.

@@ -4,7 +4,7 @@ use Rattle.std.specs.List.{AllByRecursion}
 use Rattle.std.proofs.lemmas.List.{get_or_append_left, length-append, length-reverse, reverse-append}
 use Rattle.std.proofs.lemmas.List.Sums.{sum_by-append}
 use Rattle.digits_core.specs.Digits.{AreDigits}
-use Rattle.ean_code.specs.NumberSets.{four, set_a, set_b, left_widths, right_widths, left_part, right_part, row_of, ean13_rows, ean8_row, upce_rows}
+use Rattle.ean_code.specs.NumberSets.{set_a, set_b, left_widths, right_widths, left_part, right_part, row_of, ean13_rows, ean8_row, upce_rows}
 use Rattle.ean_code.specs.Symbols.{IsEanSymbol, centre_guard, normal_guard, special_guard, two_halves}
 use Rattle.ean_code.specs.Symbols.Kind.{Ean13, Ean8, UpcE}
 
@@ -32,22 +32,22 @@ each-drop P zero xs each = each
 each-drop P (suc n) [] each = tt
 each-drop P (suc n) (x ∷ xs) each = each-drop P n xs each.1
 
--- each character has seven modules
-abbrev IsSeven : ℕ → Type 0
-IsSeven n = sum (four n) ≡ 7
+-- each character has four widths of seven modules
+abbrev IsSeven : List ℕ → Type 0
+IsSeven widths = Measures widths 4 7
 
 sevens_a : AllByRecursion IsSeven set_a
-sevens_a = (refl, (refl, (refl, (refl, (refl, (refl, (refl, (refl, (refl, (refl, tt))))))))))
+sevens_a = ((refl, refl), ((refl, refl), ((refl, refl), ((refl, refl), ((refl, refl), ((refl, refl), ((refl, refl), ((refl, refl), ((refl, refl), ((refl, refl), tt))))))))))
 
 sevens_b : AllByRecursion IsSeven set_b
-sevens_b = (refl, (refl, (refl, (refl, (refl, (refl, (refl, (refl, (refl, (refl, tt))))))))))
+sevens_b = ((refl, refl), ((refl, refl), ((refl, refl), ((refl, refl), ((refl, refl), ((refl, refl), ((refl, refl), ((refl, refl), ((refl, refl), ((refl, refl), tt))))))))))
 
 right_cell : (d : ℕ) → d < 10 → Measures (right_widths d) 4 7
-right_cell d low = (refl, each-at IsSeven set_a d 0 sevens_a low)
+right_cell d low = each-at IsSeven set_a d [] sevens_a low
 
 left_cell : (b : Bool) (d : ℕ) → d < 10 → Measures (left_widths (b, d)) 4 7
-left_cell true d low = (refl, each-at IsSeven set_b d 0 sevens_b low)
-left_cell false d low = (refl, each-at IsSeven set_a d 0 sevens_a low)
+left_cell true d low = each-at IsSeven set_b d [] sevens_b low
+left_cell false d low = each-at IsSeven set_a d [] sevens_a low
 
 right_measures : (ds : List ℕ) → AreDigits ds → Measures (right_part ds) (4 * length ds) (7 * length ds)
 right_measures [] each = (refl, refl)
