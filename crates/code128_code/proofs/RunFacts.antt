@@ -1,5 +1,5 @@
 -- What is coded from the left, byte by byte, are the values of the runs.
-use Rattle.std.proofs.Common.{◌≡◌, ℕ, ◌+◌, ◌-◌, ◌%◌, ◌≤◌, Bool, true, false, eqb, leb, ◌&&◌, List, [], ◌∷◌, ◌++◌, length, Ok, refl, sym, ap, subst, ◌∙◌, arith, inl, inr, eq-eqb}
+use Rattle.std.proofs.Common.{◌≡◌, ℕ, ◌+◌, ◌%◌, ◌≤◌, Bool, true, false, eqb, leb, List, [], ◌∷◌, ◌++◌, length, refl, sym, ap, subst, ◌∙◌, arith, inl, inr, eq-eqb}
 use Rattle.std.proofs.lemmas.Bool.{cases_Bool, cases_lt, and_parts, eqb-true, leb-false, leb-true, le-leb, le-ltb, lt-ltb, ne_eqb}
 use Rattle.std.proofs.lemmas.List.{append-nil}
 use Rattle.element_core.specs.Elements.{is_digit}
@@ -10,7 +10,7 @@ use Rattle.code128_code.specs.Coding.Run.{Digits, Other}
 use Rattle.code128_code.specs.Laws.{CodedIsSaid, CodedIsShort}
 use Rattle.code128_code.specs.Steps.{coded_on, has_even_run}
 use Rattle.code128_code.specs.Texts.{text_from}
-use Rattle.code128_code.proofs.CodedFacts.{on_is_said, on_is_short, run_is, set_by, two}
+use Rattle.code128_code.proofs.CodedFacts.{on_is_said, on_is_short, set_by, two}
 
 -- how long the run of digits is that stands first
 abbrev run_length : List Run → ℕ

@@ -1,5 +1,5 @@
 -- What holds of Code 128 symbols whatever reads them.
-use Rattle.std.specs.Prelude.{◌≡◌, ◌≢◌, ◌↔◌, ℕ, ◌+◌, ◌*◌, ◌<◌, ◌≤◌, true, List, ◌++◌, length, sum, reverse, slice_index, slice_set, Ok, Err, IsTrue}
+use Rattle.std.specs.Prelude.{◌≡◌, ◌≢◌, ◌↔◌, ℕ, ◌+◌, ◌*◌, ◌<◌, ◌≤◌, List, ◌++◌, length, sum, reverse, slice_index, slice_set, Ok, Err, IsTrue}
 use Rattle.std.specs.List.{list_all}
 use Rattle.code128_code.specs.declared.code_set.CodeSet.{CodeSet}
 use Rattle.code128_code.specs.declared.code_set.CodeSet.TheVariants.{C}

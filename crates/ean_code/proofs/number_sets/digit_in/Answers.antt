@@ -1,4 +1,4 @@
-use Rattle.std.proofs.Common.{◌≡◌, ◌∙◌, [], true, sym, ap, arith}
+use Rattle.std.proofs.Common.{◌≡◌, ◌∙◌, [], true, ap, arith}
 use Rattle.std.specs.Prelude.{slice_index_or}
 use borrow.Author.Count.{below_more}
 use Rattle.ean_code.proofs.number_sets.digit_in.Goals as goal
