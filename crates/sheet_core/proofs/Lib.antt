@@ -17,6 +17,7 @@ pub mod LabelFacts
 pub mod LineFacts
 pub mod WidthFacts
 pub mod PadFacts
+pub mod PrintedOnce
 pub mod GrammarFacts
 pub mod SheetFacts
 pub mod ShowFacts

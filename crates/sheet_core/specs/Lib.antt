@@ -11,3 +11,4 @@ pub mod PbmGrammar
 pub mod PbmHeaders
 pub mod PbmImages
 pub mod PbmRefusals
+pub mod PrintLaws
