@@ -7,4 +7,5 @@ pub mod LabelReadings
 pub mod Matches
 pub mod OnceFacts
 pub mod PlaceFacts
+pub mod PrintOnce
 pub mod ScannedFacts

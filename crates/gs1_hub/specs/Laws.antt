@@ -10,10 +10,11 @@ use Rattle.sheet_core.specs.Bitmaps.{Bitmap, cell_dots}
 use Rattle.sheet_core.specs.Drawing.{cell_count, sheet_count}
 use Rattle.sheet_core.specs.Grids.{Cells}
 use Rattle.sheet_core.specs.Labels.{carrier_of}
+use Rattle.sheet_core.specs.PrintLaws.{AreBytes}
 use Rattle.sheet_core.specs.declared.label.Label.{Label}
 use Rattle.line_core.specs.Grids.{cells_of}
 use Rattle.line_core.specs.print.Labels.{label_list, print_meaning}
-use Rattle.gs1_hub.specs.Commands.{Command, check_command, lanes_command, scan_command}
+use Rattle.gs1_hub.specs.Commands.{Command, check_command, lanes_command, print_command, scan_command}
 use Rattle.gs1_hub.specs.declared.options.LaneOptions.{LaneOptions}
 use Rattle.gs1_hub.specs.Prints.{IsPrint}
 use Rattle.line_core.specs.input.Records.{AreItems, Fields}
@@ -100,3 +101,8 @@ OneLanes = (o : LaneOptions) → WritesOnce (lanes_command o)
 
 abbrev pub OneScan : Type 0
 OneScan = (o : ScanOptions) → WritesOnce (scan_command o)
+
+-- the same of texts of bytes, for images are fixed by their dots alone where these are packed in bytes
+abbrev pub OnePrint : Type 0
+OnePrint = (o : PrintOptions) (bytes text other : List ℕ) → AreBytes text → AreBytes other
+    → (print_command o).writes bytes text → (print_command o).writes bytes other → text ≡ other
