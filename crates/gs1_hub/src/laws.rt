@@ -1,5 +1,5 @@
 //! Laws about what the commands write and read, each the contract of a function that does nothing.
-ghost use Rattle.gs1_hub.specs.Laws.{AnswersByPlace, OneCheck, OneLanes, OnePrint, OneScan, PrintedIsAnswered, PrintedIsScanned, RowsByPlace};
+ghost use Rattle.gs1_hub.specs.Laws.{AnswersByPlace, OneCheck, OneLanes, OnePrint, OneScan, PrintedIsAnswered, PrintedIsScanned, RowsByPlace, TakenAsk};
 
 use digits_core::gtins_are_checked;
 use element_core::{canonical_reads, gtin_reads};
@@ -79,3 +79,8 @@ pub fn one_print()
     element_core::one_answer();
     one_printed();
 }
+
+/// Words in which `clap` finds no fault ask for a command with its numbers, each in its range.
+pub fn taken_words_ask()
+    ensures { TakenAsk }
+{}
