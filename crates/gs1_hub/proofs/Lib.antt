@@ -1,3 +1,4 @@
+pub mod AskedFacts
 pub mod BesideFacts
 pub mod CheckOnce
 pub mod CommandFacts
@@ -5,6 +6,10 @@ pub mod CountFacts
 pub mod Flags
 pub mod LabelReadings
 pub mod Matches
+pub mod NumberRows
 pub mod OnceFacts
 pub mod PlaceFacts
+pub mod PrintOnce
 pub mod ScannedFacts
+pub mod TakenWords
+pub mod WalkKeeps

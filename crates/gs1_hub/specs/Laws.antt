@@ -1,6 +1,7 @@
 -- Laws about what the commands write and read.
-use Rattle.std.specs.Prelude.{◌≡◌, ◌↔◌, ◌≤◌, ◌<◌, ◌+◌, ◌*◌, ◌/◌, ℕ, false, List, Option, Some, None, length, map, slice_get}
+use Rattle.std.specs.Prelude.{◌≡◌, ◌↔◌, ◌≤◌, ◌<◌, ◌+◌, ◌*◌, ◌/◌, ℕ, false, List, [], Option, Some, None, length, map, slice_get}
 use Rattle.std.specs.List.{AllZip, flat_map, range_with_len}
+use Rattle.clap.specs.Words.{Text, fault_of}
 use Rattle.scan_core.specs.Answers.{Reads}
 use Rattle.scan_core.specs.declared.answer.Answer.{Answer}
 use Rattle.scan_core.specs.declared.answer.Answer.TheVariants.{Read, Refused}
@@ -10,10 +11,14 @@ use Rattle.sheet_core.specs.Bitmaps.{Bitmap, cell_dots}
 use Rattle.sheet_core.specs.Drawing.{cell_count, sheet_count}
 use Rattle.sheet_core.specs.Grids.{Cells}
 use Rattle.sheet_core.specs.Labels.{carrier_of}
+use Rattle.sheet_core.specs.PrintLaws.{AreBytes}
 use Rattle.sheet_core.specs.declared.label.Label.{Label}
 use Rattle.line_core.specs.Grids.{cells_of}
 use Rattle.line_core.specs.print.Labels.{label_list, print_meaning}
-use Rattle.gs1_hub.specs.Commands.{Command, check_command, lanes_command, scan_command}
+use Rattle.gs1_hub.specs.Asking.{WordsAsk}
+use Rattle.gs1_hub.specs.CommandLine.{hub_app}
+use Rattle.gs1_hub.specs.declared.words.Asked.{Asked}
+use Rattle.gs1_hub.specs.Commands.{Command, check_command, lanes_command, print_command, scan_command}
 use Rattle.gs1_hub.specs.declared.options.LaneOptions.{LaneOptions}
 use Rattle.gs1_hub.specs.Prints.{IsPrint}
 use Rattle.line_core.specs.input.Records.{AreItems, Fields}
@@ -100,3 +105,12 @@ OneLanes = (o : LaneOptions) → WritesOnce (lanes_command o)
 
 abbrev pub OneScan : Type 0
 OneScan = (o : ScanOptions) → WritesOnce (scan_command o)
+
+-- the same of texts of bytes, for images are fixed by their dots alone where these are packed in bytes
+abbrev pub OnePrint : Type 0
+OnePrint = (o : PrintOptions) (bytes text other : List ℕ) → AreBytes text → AreBytes other
+    → (print_command o).writes bytes text → (print_command o).writes bytes other → text ≡ other
+
+-- words in which `clap` finds no fault ask for a command with its numbers
+abbrev pub TakenAsk : Type 0
+TakenAsk = (words : List Text) → fault_of hub_app words ≡ [] → (asked : Asked) × WordsAsk words asked

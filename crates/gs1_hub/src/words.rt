@@ -248,7 +248,7 @@ pub fn read_words(alloc: Global, words: &[String]) -> Result<Asked, WordsFault>
     };
     match asked_of(&matches) {
         Some(asked) => Ok(asked),
-        // Words that clap takes have every number; tests alone show it.
-        None => Err(WordsFault::NoMemory),
+        // Words that clap takes have every number.
+        None => unreachable!(),
     }
 }

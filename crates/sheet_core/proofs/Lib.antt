@@ -5,6 +5,7 @@ pub mod CornerFacts
 pub mod Examples
 pub mod LabelFacts
 pub mod LineFacts
+pub mod PrintedOnce
 pub mod SheetFacts
 pub mod ShowFacts
 pub mod WidthFacts

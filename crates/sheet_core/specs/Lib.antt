@@ -8,3 +8,4 @@ pub mod Labels
 pub mod Laws
 pub mod Lines
 pub mod pbm
+pub mod PrintLaws

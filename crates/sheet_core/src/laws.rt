@@ -1,5 +1,6 @@
 //! Laws about the definitions, each the contract of a function that does nothing.
 ghost use Rattle.sheet_core.specs.Laws.{BarRowsAnswer, BarRowsShow, EmptyCellsAreBlank, FilesAreRead, FilesAreRefused, HeadersAreRead, HeadersAreRefused, OneDrawn, OneReading, PrintedIsRead, WrittenIsRead};
+ghost use Rattle.sheet_core.specs.PrintLaws.{OneBitmap, OnePrinted};
 
 use code128_code::modules_say;
 use scan_core::{dots_determine, one_answer, symbol_measures};
@@ -66,4 +67,14 @@ pub fn files_are_refused()
 /// A file of at most 4,096 images shows one list of sheets.
 pub fn one_reading()
     ensures { OneReading }
+{}
+
+/// A bitmap of bytes is fixed by its width, its height and its dots.
+pub fn one_bitmap()
+    ensures { OneBitmap }
+{}
+
+/// Labels are printed in a grid as one list of sheets.
+pub fn one_printed()
+    ensures { OnePrinted }
 {}

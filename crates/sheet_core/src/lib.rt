@@ -16,8 +16,8 @@ pub use grid::Grid;
 pub use label::Label;
 pub use laws::{
     bar_rows_answer, bar_rows_show, empty_cells_are_blank, files_are_read, files_are_refused,
-    headers_are_read, headers_are_refused, one_drawn, one_reading, printed_is_read,
-    written_is_read,
+    headers_are_read, headers_are_refused, one_bitmap, one_drawn, one_printed, one_reading,
+    printed_is_read, written_is_read,
 };
 pub use pbm::read::read_pbm;
 pub use pbm::write::write_pbm;

@@ -64,16 +64,12 @@ impl fmt::Display for CheckAnswer {
 pub fn kind_named(name: &[u8]) -> Option<CheckKind>
     ensures { result ≡ kind_named name.now }
 {
-    if name == b"digit".as_slice() {
-        Some(CheckKind::Digit)
-    } else if name == b"gtin".as_slice() {
-        Some(CheckKind::Gtin)
-    } else if name == b"upce".as_slice() {
-        Some(CheckKind::Upce)
-    } else if name == b"text".as_slice() {
-        Some(CheckKind::Text)
-    } else {
-        None
+    match name {
+        b"digit" => Some(CheckKind::Digit),
+        b"gtin" => Some(CheckKind::Gtin),
+        b"upce" => Some(CheckKind::Upce),
+        b"text" => Some(CheckKind::Text),
+        _ => None,
     }
 }
 

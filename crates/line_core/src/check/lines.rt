@@ -28,12 +28,8 @@ impl Intake for CheckRecords {
     ghost makes = { λ records answers lines. string_bytes lines ≡ check_report answers };
 
     fn take(&self, lines: &mut String, fields: &ByteRecord) -> Result<(), RecordRefusal> {
-        let Some((name, text)) = two_fields(fields) else {
-            return Err(RecordRefusal::Record(RecordFault::Csv));
-        };
-        let Some(kind) = kind_named(name) else {
-            return Err(RecordRefusal::Record(RecordFault::Kind));
-        };
+        let (name, text) = two_fields(fields).ok_or(RecordFault::Csv)?;
+        let kind = kind_named(name).ok_or(RecordFault::Kind)?;
         let answer = answer_to(kind, text, self.year);
         writeln!(lines, "{answer}")?;
         Ok(())

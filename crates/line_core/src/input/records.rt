@@ -42,13 +42,7 @@ pub fn two_fields(fields: &ByteRecord) -> Option<(&[u8], &[u8])>
     if fields.len() != 2 {
         return None;
     }
-    let Some(first) = fields.get(0) else {
-        return None;
-    };
-    let Some(second) = fields.get(1) else {
-        return None;
-    };
-    Some((first, second))
+    Some((fields.get(0)?, fields.get(1)?))
 }
 
 /// Takes the records of the bytes.

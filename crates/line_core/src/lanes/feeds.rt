@@ -39,12 +39,8 @@ fn read_record(
     ensures refused { (f : RecordFault) → result ≡ Err (RecordRefusal.Record f)
         → lanes_meaning lanes (fields_of fields.now) (Err f) }
 {
-    let Some((first, second)) = two_fields(fields) else {
-        return Err(RecordRefusal::Record(RecordFault::Csv));
-    };
-    let Some(lane) = lane_in(first, lanes) else {
-        return Err(RecordRefusal::Record(RecordFault::BadLane));
-    };
+    let (first, second) = two_fields(fields).ok_or(RecordFault::Csv)?;
+    let lane = lane_in(first, lanes).ok_or(RecordFault::BadLane)?;
     let runs = read_runs(alloc, second, widths)?;
     Ok((lane, runs))
 }

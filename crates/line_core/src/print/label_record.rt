@@ -53,10 +53,7 @@ fn gtin_in(field: &[u8]) -> Result<Gtin, RecordFault>
     ensures taken { OnOk result (gtin_fault field.now ≡ None) }
     ensures refused { IfErr result (λ f. of_digits (gtin_fault field.now) ≡ Some f) }
 {
-    match Gtin::read(field) {
-        Ok(gtin) => Ok(gtin),
-        Err(fault) => Err(RecordFault::Digits(fault)),
-    }
+    Gtin::read(field).map_err(RecordFault::Digits)
 }
 
 /// The label of a field, as one of this kind.
@@ -79,11 +76,7 @@ fn label_as(kind: PrintKind, field: &[u8], year: Year) -> Result<Label, RecordFa
 pub fn label_of(fields: &ByteRecord, year: Year) -> Result<Label, RecordFault>
     ensures { print_meaning year (fields_of fields.now) result }
 {
-    let Some((name, field)) = two_fields(fields) else {
-        return Err(RecordFault::Csv);
-    };
-    let Some(kind) = print_kind_named(name) else {
-        return Err(RecordFault::Kind);
-    };
+    let (name, field) = two_fields(fields).ok_or(RecordFault::Csv)?;
+    let kind = print_kind_named(name).ok_or(RecordFault::Kind)?;
     label_as(kind, field, year)
 }

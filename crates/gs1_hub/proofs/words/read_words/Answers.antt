@@ -1,4 +1,4 @@
-use Rattle.std.proofs.Common.{◌≡◌, [], inl, inr, ap, refl, subst, List, map, string_bytes}
+use Rattle.std.proofs.Common.{◌≡◌, [], inl, inr, ap, refl, subst, sym, List, map, string_bytes}
 use Rattle.clap.specs.Words.{App, HasKind, HasMatchesOf, Text, app_of, fault_of, is_simple_and_free, kind_of, subcommand_rows_of}
 use Rattle.clap.specs.declared.error.Error.{Error}
 use Rattle.clap.specs.declared.parser.matches.ArgMatches.{ArgMatches}
@@ -7,6 +7,7 @@ use Rattle.gs1_hub.specs.CommandLine.{hub_app}
 use Rattle.gs1_hub.specs.declared.words.Asked.{Asked}
 use Rattle.gs1_hub.specs.declared.words.WordsFault.{WordsFault}
 use Rattle.gs1_hub.specs.declared.words.WordsFault.TheVariants as fault
+use Rattle.gs1_hub.proofs.AskedFacts.{asked_for}
 use Rattle.gs1_hub.proofs.words.read_words.Goals as goal
 
 -- what the fault says of the words
@@ -34,8 +35,21 @@ asked_by_hub a words m x is matches none asks =
     let same = subst (λ b. HasMatchesOf b words m) is matches in
     (subst (λ b. fault_of b words ≡ []) is none, subst (λ t. Asks t x) (same refl).1 asks)
 
-pub returns-in-Some-clause-asked : goal.returns-in-Some-clause-asked
-returns-in-Some-clause-asked c =
+-- words that `clap` takes ask for a command with its numbers
+never : (a : App) (words : List Text) (m : ArgMatches) → a ≡ hub_app → HasMatchesOf a words m → fault_of a words ≡ [] → ((x : Asked) → Asks (subcommand_rows_of m) x → ⊥) → ⊥
+never a words m is matches none nothing =
+    let same = subst (λ b. HasMatchesOf b words m) is matches in
+    let found = asked_for words (subst (λ b. fault_of b words ≡ []) is none) in
+    nothing found.0 (subst (λ t. Asks t found.0) (sym (same refl).1) found.1)
+
+pub unreachable-requires : goal.unreachable-requires
+unreachable-requires c =
+    let is : app_of c.in-Ok.hub ≡ hub_app = c.in-Ok.ensures in
+    let taken = c.in-Ok-try_get_matches_from.ensures in
+    never (app_of c.in-Ok.hub) (map string_bytes c.args.words.now) c.in-Ok-try_get_matches_from.matches is taken.matches (taken.kinds (ap is_simple_and_free is)) c.in-None.ensures.none
+
+pub returns-clause-asked : goal.returns-clause-asked
+returns-clause-asked c =
     let is : app_of c.in-Ok.hub ≡ hub_app = c.in-Ok.ensures in
     let taken = c.in-Ok-try_get_matches_from.ensures in
     asked_by_hub (app_of c.in-Ok.hub) (map string_bytes c.args.words.now) c.in-Ok-try_get_matches_from.matches c.in-Some.asked is

@@ -7,7 +7,7 @@ pub returns-clause-taken : goal.returns-clause-taken
 returns-clause-taken c =
     let answer = c.answer_to-answer.result in (
       answer,
-      answer_by_kind c.args.self.now.year (fields_of c.args.fields.now) c.in-Some.name.now c.in-Some.text.now c.in-Some-kind_named.kind answer
-          c.in-Some.ensures.some (sym c.in-Some-kind_named.is ∙ c.kind_named.ensures) c.answer_to-answer.ensures,
+      answer_by_kind c.args.self.now.year (fields_of c.args.fields.now) c.in_ok-name.name.now c.in_ok-name.text.now c.in_ok-kind.kind answer
+          (rw c.in_ok-name.ensures.ok_part at c.two_fields.ensures.some) (sym c.in_ok-kind.ensures.ok_part ∙ c.kind_named.ensures) c.answer_to-answer.ensures,
       λ answers before. one_more_check answers answer (string_bytes c.args.lines.now) (string_bytes c.writeln.new.self) c.in_ok-writeln.ensures.bytes before,
     )

@@ -1,0 +1,100 @@
+-- Words that `clap` takes ask for a command with its numbers.
+use Rattle.std.proofs.Common.{◌≡◌, ◌++◌, List, [], ◌∷◌, codes, refl, subst, sym}
+use Rattle.clap.specs.Faults.{fault_of}
+use Rattle.clap.specs.Simple.{subcommand_of}
+use Rattle.clap.specs.Walk.{Row, Rule, Text, rows_after}
+use Rattle.gs1_hub.specs.Asking.{Asks, AsksIn}
+use Rattle.gs1_hub.specs.CommandLine.{hub_app}
+use Rattle.gs1_hub.specs.Laws.{TakenAsk}
+use Rattle.gs1_hub.specs.declared.words.Asked.{Asked}
+use Rattle.gs1_hub.specs.declared.words.Asked.TheVariants as asked
+use Rattle.gs1_hub.proofs.NumberRows.{Passed, flag, help}
+use Rattle.gs1_hub.proofs.TakenWords.{Range, flag_beside, named, number_beside, number_of, numbers, required, shape}
+
+abbrev year : Range
+year = (codes "year", 1951, 2149)
+
+abbrev grid : List Range → List Range
+grid more = (codes "module", 1, 8) ∷ (codes "width", 1, 4096) ∷ (codes "height", 1, 1024) ∷ (codes "columns", 1, 16) ∷ (codes "rows", 1, 64) ∷ more
+
+abbrev workers : Range
+workers = (codes "workers", 1, 16)
+
+abbrev lanes : Range
+lanes = (codes "lanes", 1, 16)
+
+-- what the rows of a command of this name ask for
+AskedIn : Text → List Row → Type 0
+AskedIn name rows = (a : Asked) × AsksIn name rows a
+
+abbrev check_rules : List Rule
+check_rules = numbers (year ∷ []) ++ help ∷ []
+
+check_asked : (words : List Text) → Passed (shape (codes "check") check_rules) words → AskedIn (codes "check") (rows_after check_rules [] words)
+unfolding AskedIn
+check_asked words p =
+    let given = required (codes "check") check_rules (rows_after check_rules [] words) p.checked in
+    let y = number_of (codes "check") (year ∷ []) words p (codes "year") 1951 2149 refl (given.0 refl) in
+    (asked.Check y.0, (refl, y.1))
+
+abbrev print_rules : List Rule
+print_rules = numbers (grid (year ∷ [])) ++ flag (codes "text") ∷ help ∷ []
+
+print_asked : (words : List Text) → Passed (shape (codes "print") print_rules) words → AskedIn (codes "print") (rows_after print_rules [] words)
+unfolding AskedIn
+print_asked words p =
+    let given = required (codes "print") print_rules (rows_after print_rules [] words) p.checked in
+    let number = number_beside (codes "print") (codes "text") refl (grid (year ∷ [])) words p in
+    let m = number (codes "module") 1 8 refl refl (given.0 refl) in
+    let w = number (codes "width") 1 4096 refl refl (given.1.0 refl) in
+    let h = number (codes "height") 1 1024 refl refl (given.1.1.0 refl) in
+    let c = number (codes "columns") 1 16 refl refl (given.1.1.1.0 refl) in
+    let r = number (codes "rows") 1 64 refl refl (given.1.1.1.1.0 refl) in
+    let y = number (codes "year") 1951 2149 refl refl (given.1.1.1.1.1.0 refl) in
+    let t = flag_beside (codes "print") (codes "text") refl (grid (year ∷ [])) words p refl in (
+      asked.Print (record { grid = record { module_dots = m.0; width = w.0; height = h.0; columns = c.0; rows = r.0; some_dots = (m.1.4, m.1.5); some_width = (w.1.4, w.1.5); some_height = (h.1.4, h.1.5); some_columns = (c.1.4, c.1.5); some_rows = (r.1.4, r.1.5) }; year = y.0; text = t.0 }),
+      (refl, ((m.1, w.1, h.1, c.1, r.1), y.1, t.1)),
+    )
+
+abbrev lanes_rules : List Rule
+lanes_rules = numbers (lanes ∷ workers ∷ year ∷ []) ++ help ∷ []
+
+lanes_asked : (words : List Text) → Passed (shape (codes "lanes") lanes_rules) words → AskedIn (codes "lanes") (rows_after lanes_rules [] words)
+unfolding AskedIn
+lanes_asked words p =
+    let given = required (codes "lanes") lanes_rules (rows_after lanes_rules [] words) p.checked in
+    let number = number_of (codes "lanes") (lanes ∷ workers ∷ year ∷ []) words p in
+    let n = number (codes "lanes") 1 16 refl (given.0 refl) in
+    let k = number (codes "workers") 1 16 refl (given.1.0 refl) in
+    let y = number (codes "year") 1951 2149 refl (given.1.1.0 refl) in
+    (asked.Lanes (record { lanes = n.0; workers = k.0; year = y.0; some_lanes = (n.1.4, n.1.5); some_workers = (k.1.4, k.1.5) }), (refl, (n.1, k.1, y.1)))
+
+abbrev scan_rules : List Rule
+scan_rules = numbers (grid (workers ∷ year ∷ [])) ++ help ∷ []
+
+scan_asked : (words : List Text) → Passed (shape (codes "scan") scan_rules) words → AskedIn (codes "scan") (rows_after scan_rules [] words)
+unfolding AskedIn
+scan_asked words p =
+    let given = required (codes "scan") scan_rules (rows_after scan_rules [] words) p.checked in
+    let number = number_of (codes "scan") (grid (workers ∷ year ∷ [])) words p in
+    let m = number (codes "module") 1 8 refl (given.0 refl) in
+    let w = number (codes "width") 1 4096 refl (given.1.0 refl) in
+    let h = number (codes "height") 1 1024 refl (given.1.1.0 refl) in
+    let c = number (codes "columns") 1 16 refl (given.1.1.1.0 refl) in
+    let r = number (codes "rows") 1 64 refl (given.1.1.1.1.0 refl) in
+    let k = number (codes "workers") 1 16 refl (given.1.1.1.1.1.0 refl) in
+    let y = number (codes "year") 1951 2149 refl (given.1.1.1.1.1.1.0 refl) in (
+      asked.Scan (record { grid = record { module_dots = m.0; width = w.0; height = h.0; columns = c.0; rows = r.0; some_dots = (m.1.4, m.1.5); some_width = (w.1.4, w.1.5); some_height = (h.1.4, h.1.5); some_columns = (c.1.4, c.1.5); some_rows = (r.1.4, r.1.5) }; workers = k.0; year = y.0; some_workers = (k.1.4, k.1.5) }),
+      (refl, ((m.1, w.1, h.1, c.1, r.1), k.1, y.1)),
+    )
+
+pub asked_for : (words : List Text) → fault_of hub_app words ≡ [] → (a : Asked) × Asks (subcommand_of hub_app words) a
+unfolding AskedIn
+asked_for words none =
+    let found = named AskedIn words (check_asked, (print_asked, (lanes_asked, (scan_asked, tt)))) none in
+    (found.2.0, subst (λ o. Asks o found.2.0) (sym found.1) found.2.1)
+
+pub taken_words_ask : TakenAsk
+taken_words_ask words none =
+    let found = asked_for words none in
+    (found.0, (none, found.1))
