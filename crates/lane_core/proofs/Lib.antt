@@ -9,6 +9,7 @@ pub mod LaneFacts
 pub mod LaneShowFacts
 pub mod ListFacts
 pub mod NextFacts
+pub mod OnePlaceFacts
 pub mod PlaceFacts
 pub mod PolledFacts
 pub mod QueueFacts

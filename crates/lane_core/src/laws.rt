@@ -1,12 +1,17 @@
 //! Laws about the machine and about lists of tickets: each function does nothing, and its contract is the law.
 ghost use Rattle.lane_core.specs.History.{DoneStaysDone, ListsGrow, NothingAfterClose, PolledInOrder, QueuesKeep};
-ghost use Rattle.lane_core.specs.Reading.{AnswersAreRead};
+ghost use Rattle.lane_core.specs.Reading.{AnswersAreRead, PolledAreRead};
 ghost use Rattle.lane_core.specs.Settling.{AllFound, ClaimsSettle, KeptWhole, ReceivedFirst, SameLists};
-ghost use Rattle.lane_core.specs.Whereabouts.{LostIsNone, TicketsOnce};
+ghost use Rattle.lane_core.specs.Whereabouts.{LostIsNone, OnePlace, TicketsOnce};
 
 /// Each issued ticket is in one place, once, and no other is in any.
 pub fn tickets_once()
     ensures { TicketsOnce }
+{}
+
+/// No ticket is in two places: where `World::place` finds it, and nowhere else.
+pub fn one_place()
+    ensures { OnePlace }
 {}
 
 /// Both queues lose nothing and add nothing.
@@ -58,6 +63,11 @@ pub fn all_found()
 /// The answers of deliveries of one reference year are those to their rows.
 pub fn answers_are_read()
     ensures { AnswersAreRead }
+{}
+
+/// The answers of what a lane has polled are those to its rows.
+pub fn polled_are_read()
+    ensures { PolledAreRead }
 {}
 
 /// Where all that lanes had not polled was found, and each was given of it up to its due, each was
