@@ -106,8 +106,12 @@ fn start_all<'s, 'e: 's, R: Threads + Wait + Sync, G: Gate + Sync>(
     true
 }
 
-/// Runs the workers beside a task of the calling thread.
-pub(crate) fn beside<
+/// Runs the workers, each on a thread of its own, beside a task of the calling thread. Once the task has
+/// ended they are told to stop, and each stops when it then finds no job or no place for its answer.
+///
+/// All threads have ended when it returns. `NoThread` says that a thread could not be started,
+/// `NoMemory` that memory was refused: the task has not begun then, and the seats are dropped.
+pub fn run_workers<
     'e,
     R: Threads + Wait + Sync,
     G: Gate + Sync,

@@ -26,6 +26,7 @@ mod submit;
 mod work;
 mod worker_seat;
 
+pub use beside::run_workers;
 pub use closed_lane::ClosedLane;
 pub use deliverer_seat::{Collected, DelivererSeat, Handed};
 pub use fault::{HubFault, ServeFault, SubmitFault};
