@@ -155,6 +155,49 @@ fn hubs_of_each_size_answer_each_lane(rt: HostRuntime) -> Result<(), Fail> {
 }
 
 #[test]
+fn a_spent_lane_is_told_before_a_full_queue(rt: HostRuntime) -> Result<(), Fail> {
+    let alloc = rt.alloc();
+    let mut hub = Station::new(&rt, alloc, shape(2, 1, 1))?;
+    let cases = [
+        (0, EAN13, "0/0"),
+        (0, GS1_128, "refused 35 Spent 45"),
+        (1, EAN8, "refused 34 Full 45"),
+    ];
+    for (lane, widths, told) in cases {
+        let row = row(alloc, widths)?;
+        assert_eq!(rt; hub.submit(&rt, alloc, lane, row)?.as_str(), told);
+    }
+    assert_eq!(rt; hub.work(&rt, 0)?, Worked::Posted);
+    assert_eq!(rt;
+        hub.submit(&rt, alloc, 0, row(alloc, GS1_128)?)?.as_str(),
+        "refused 35 Spent 45"
+    );
+    assert_eq!(rt;
+        hub.submit(&rt, alloc, 1, row(alloc, EAN8)?)?.as_str(),
+        "1/0"
+    );
+    assert_eq!(rt; (hub.issued(0)?, hub.issued(1)?), (1, 1));
+    Ok(())
+}
+
+#[test]
+fn seats_are_settled_in_any_order(rt: HostRuntime) -> Result<(), Fail> {
+    let alloc = rt.alloc();
+    let mut hub = Station::new(&rt, alloc, shape(3, 4, 1))?;
+    for (lane, widths) in [EAN13, EAN8, GS1_128].into_iter().enumerate() {
+        hub.submit(&rt, alloc, lane, row(alloc, widths)?)?;
+    }
+    assert_eq!(rt; hub.work(&rt, 2)?, Worked::Posted);
+    let lists = hub.close(alloc)?.turned().settle(&rt, alloc)?;
+    assert_eq!(rt; lists.len(), 3);
+    assert!(rt; lists.iter().all(|list| list.len() == 1));
+    assert!(rt; is_answer(lists[0].get(0), 0, 0, Carrier::Ean13));
+    assert!(rt; is_answer(lists[1].get(0), 1, 0, Carrier::Ean8));
+    assert!(rt; is_answer(lists[2].get(0), 2, 0, Carrier::Gs1128));
+    Ok(())
+}
+
+#[test]
 fn a_hub_that_did_nothing_is_settled(rt: HostRuntime) -> Result<(), Fail> {
     let alloc = rt.alloc();
     let lists = Station::new(&rt, alloc, shape(3, 2, 1))?

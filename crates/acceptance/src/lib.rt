@@ -6,6 +6,8 @@ mod adapters;
 #[cfg(test)]
 mod elements;
 #[cfg(test)]
+mod held;
+#[cfg(test)]
 mod hubs;
 #[cfg(test)]
 mod lanes;

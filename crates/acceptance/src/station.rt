@@ -1,18 +1,21 @@
 //! A hub with all its seats at hand, for tests that use them one by one.
-ghost use Rattle.std.specs.Prelude.{◌≡◌, IfOk, length};
+ghost use Rattle.std.specs.Prelude.{◌≡◌, ◌<◌, All, IfOk, length};
 ghost use Rattle.hub_core.specs.Delivering.{lane_count};
-ghost use Rattle.hub_core.specs.Hubs.{AreAllSeats};
+ghost use Rattle.hub_core.specs.Hubs.{AreAllSeats, IsDelivererOf, IsLaneOf};
+ghost use Rattle.hub_core.specs.Lanes.{numbers_of};
 
+use crate::held::{LaneGate, first_polled};
 use element_core::Year;
 use hub_core::{
     ClosedLane, Collected, DelivererSeat, Handed, Hub, LaneSeat, OpenGate, Parts, Shape,
-    SubmitFault, Worked, WorkerSeat,
+    SubmitFault, Unsettled, Worked, WorkerSeat, run_workers,
 };
 use lane_core::{Delivery, Ticket};
 use scan_core::{Answer, Carrier, Runs};
 use std::alloc::Global;
 use std::sync::Wait;
 use std::test::Fail;
+use std::thread::Threads;
 
 /// A hub and all its seats.
 #[derive(Drop)]
@@ -134,6 +137,50 @@ impl Station {
         Ok(self.lanes[lane].poll())
     }
 
+    /// Runs the workers on threads of their own, and opens the gate once the lane has polled a delivery:
+    /// the station, and what was polled.
+    pub fn poll_and_open<R: Threads + Wait + Sync>(
+        self,
+        rt: &R,
+        alloc: Global,
+        gate: &LaneGate,
+        lane: usize,
+    ) -> Result<(Station, Option<Delivery>), Fail> {
+        let Station {
+            hub,
+            lanes,
+            workers,
+            deliverer,
+        } = self;
+        if lane >= lanes.len() {
+            return Err(Fail::from("lane"));
+        }
+        let shared = &hub;
+        let task = move || -> (Vec<LaneSeat>, DelivererSeat, Option<Delivery>)
+            requires { All (IsLaneOf shared.now) lanes.items × IsDelivererOf shared.now deliverer × (lane < length lanes.items) }
+            ensures lanes { All (IsLaneOf shared.entry.now) result.0.items × (numbers_of result.0.items ≡ numbers_of lanes.items) }
+            ensures deliverer { IsDelivererOf shared.entry.now result.1 }
+        {
+            let mut lanes = lanes;
+            let mut deliverer = deliverer;
+            let polled = first_polled(rt, shared, &mut lanes[lane], &mut deliverer);
+            gate.open();
+            (lanes, deliverer, polled)
+        };
+        match run_workers(rt, alloc, shared, workers, gate, task) {
+            Ok((workers, (lanes, deliverer, polled))) => {
+                let station = Station {
+                    hub,
+                    lanes,
+                    workers,
+                    deliverer,
+                };
+                Ok((station, polled))
+            }
+            Err(_) => Err(Fail::from("workers")),
+        }
+    }
+
     /// The station with all its lanes closed.
     pub fn close(self, alloc: Global) -> Result<Closed, Fail> {
         let Station {
@@ -176,7 +223,14 @@ impl Closed {
         Ok(self.lanes[lane].poll())
     }
 
-    /// The lists that settling gives.
+    /// The same with the seats of the lanes, and those of the workers, in the other order.
+    pub fn turned(mut self) -> Closed {
+        self.lanes.reverse();
+        self.workers.reverse();
+        self
+    }
+
+    /// The lists that settling gives; where memory was refused, those that settling again gives.
     pub fn settle<R: Wait>(self, rt: &R, alloc: Global) -> Result<Vec<Vec<Delivery>>, Fail> {
         let Closed {
             hub,
@@ -184,6 +238,15 @@ impl Closed {
             workers,
             deliverer,
         } = self;
+        let Unsettled {
+            hub,
+            lanes,
+            workers,
+            deliverer,
+        } = match hub.settle(rt, alloc, lanes, workers, deliverer) {
+            Ok(lists) => return Ok(lists),
+            Err(unsettled) => unsettled,
+        };
         match hub.settle(rt, alloc, lanes, workers, deliverer) {
             Ok(lists) => Ok(lists),
             Err(_) => Err(Fail::from("memory")),
