@@ -111,13 +111,7 @@ fn start_all<'s, 'e: 's, R: Threads + Wait + Sync, G: Gate + Sync>(
 ///
 /// All threads have ended when it returns. `NoThread` says that a thread could not be started,
 /// `NoMemory` that memory was refused: the task has not begun then, and the seats are dropped.
-pub fn run_workers<
-    'e,
-    R: Threads + Wait + Sync,
-    G: Gate + Sync,
-    F: FnOnce() -> T + Drop,
-    T: Drop,
->(
+pub fn run_workers<'e, R: Threads + Wait + Sync, G: Gate + Sync, F: FnOnce() -> T + Drop, T: Drop>(
     rt: &'e R,
     alloc: Global,
     hub: &'e Hub,
