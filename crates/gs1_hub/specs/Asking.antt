@@ -49,12 +49,12 @@ abbrev pub WordsAsk : List Text → Asked → Type 0
 WordsAsk words a = (fault_of hub_app words ≡ []) × Asks (subcommand_of hub_app words) a
 
 -- `clap` finds a fault in the words, other than that they ask for help
-abbrev pub IsRefused : List Text → Type 0
-IsRefused words = (k : ErrorKind) × IsAmong k (fault_of hub_app words) × (k ≢ kind.DisplayHelp)
+abbrev pub AreFaulty : List Text → Type 0
+AreFaulty words = (k : ErrorKind) × IsAmong k (fault_of hub_app words) × (k ≢ kind.DisplayHelp)
 
 -- what each fault says of the words
 abbrev pub Explains : List Text → WordsFault → Type 0
-Explains words fault.Words = IsRefused words
+Explains words fault.Words = AreFaulty words
 Explains words (fault.Help text) = IsAmong kind.DisplayHelp (fault_of hub_app words)
 Explains words fault.NoMemory = ⊤
 

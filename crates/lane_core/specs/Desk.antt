@@ -45,9 +45,9 @@ pub record TakesIn (d : Desk) (x : Plain) (e : Desk) : Type 0 where
   pub known : (l k : ℕ) → was_taken e l k ≡ (was_taken d l k || is_ticket_of l k x)
 
 -- x comes back, as a stranger exactly where it is not new
-abbrev pub IsRefused : Desk → Plain → TakeFault → Type 0
-IsRefused d x (Stranger y) = (is_new d x ≡ false) × (y ≡ x)
-IsRefused d x (NoMemory y) = (is_new d x ≡ true) × (y ≡ x)
+abbrev pub ComesBack : Desk → Plain → TakeFault → Type 0
+ComesBack d x (Stranger y) = (is_new d x ≡ false) × (y ≡ x)
+ComesBack d x (NoMemory y) = (is_new d x ≡ true) × (y ≡ x)
 
 -- whether lane l's next number waits
 abbrev pub has_next : Desk → ℕ → Bool

@@ -1,6 +1,6 @@
 //! Hands each lane its deliveries by number, whatever order they come in.
 ghost use Rattle.std.specs.Prelude.{◌≡◌, ◌<◌, ◌≤◌, ◌↔◌, [], replicate, true, false, IsSome, IfErr, IfOk, IfNone, IfSome, OnErr, OnOk};
-ghost use Rattle.lane_core.specs.Desk.{desk, lanes_of, next_of, was_taken, has_next, TakesIn, IsRefused, IsNext, GivesNext, GivesAny};
+ghost use Rattle.lane_core.specs.Desk.{desk, lanes_of, next_of, was_taken, has_next, TakesIn, ComesBack, IsNext, GivesNext, GivesAny};
 
 use crate::delivery::Delivery;
 use crate::fault::{NoMemory, TakeFault};
@@ -66,7 +66,7 @@ impl Deliverer {
     /// only memory can be wanting. Either way nothing changes, and it comes back.
     pub fn take_in(&mut self, delivery: Delivery) -> Result<(), TakeFault>
         ensures taken { OnOk result (TakesIn self.old delivery self.new) }
-        ensures refused { IfErr result (IsRefused self.old delivery) }
+        ensures refused { IfErr result (ComesBack self.old delivery) }
         ensures unchanged { OnErr result (self.new ≡ self.old) }
         ensures lanes { lanes_of self.new ≡ lanes_of self.old }
     {
