@@ -1,17 +1,19 @@
 -- What is drawn, and that it is a symbol's.
-use Rattle.std.proofs.Common.{◌≡◌, ℕ, zero, suc, ◌+◌, ◌*◌, ◌-◌, ◌%◌, ◌<◌, ◌≤◌, Bool, true, false, List, [], ◌∷◌, ◌++◌, length, take, drop, replicate, refl, sym, ap, subst, ◌∙◌, arith, get_or, add-one}
-use Rattle.std.specs.List.{flat_map, AllByRecursion, zip}
+use Rattle.std.proofs.Common.{◌≡◌, ℕ, zero, suc, ◌+◌, ◌*◌, ◌-◌, ◌%◌, ◌<◌, ◌≤◌, true, List, [], ◌∷◌, ◌++◌, length, take, drop, replicate, refl, sym, ap, subst, ◌∙◌, arith, get_or, add-one}
+use Rattle.std.specs.List.{flat_map, AllByRecursion}
 use Rattle.std.proofs.lemmas.List.{length-map, get_or-map, length-take, length-drop, append-nil, length-append, take-map, drop-map}
 use Rattle.std.proofs.lemmas.List.Concat.{flat_map-append}
-use Rattle.std.proofs.lemmas.Slice.Zip.{get_or-zip, length-zip}
 use Rattle.std.proofs.Math.Seq.{take-suc}
 use Rattle.digits_core.specs.Digits.{AreAsciiDigits, AreDigits, digits_of}
-use Rattle.ean_code.specs.NumberSets.{left_widths, right_widths, left_part, right_part, ean8_row, ean13_rows, upce_rows, row_of}
+use Rattle.ean_code.specs.declared.number_sets.Character.{Character}
+use Rattle.ean_code.specs.declared.number_sets.NumberSet.{NumberSet}
+use Rattle.ean_code.specs.declared.number_sets.NumberSet.TheVariants.{A, B}
+use Rattle.ean_code.specs.NumberSets.{characters_in, in_set, left_widths, right_widths, left_part, right_part, ean8_row, ean13_rows, upce_rows, row_of}
 use Rattle.ean_code.specs.Symbols.{Kind, IsEanSymbol, digit_count, normal_guard, centre_guard, special_guard, two_halves, widths_of}
 use Rattle.ean_code.specs.Symbols.Kind.{Ean13, Ean8, UpcE}
 use Rattle.ean_code.specs.Widths.{AreWidths, AreModules}
 use Rattle.ean_code.proofs.Cells.{all_below, all_below-at, AllByRecursion-append, AllByRecursion-take, AllByRecursion-drop, length-cells}
-use Rattle.ean_code.proofs.Characters.{digit_at, left_code, right_code, pairs_valid, left_char, right_digit}
+use Rattle.ean_code.proofs.Characters.{characters_valid, digit_at, get_or-characters, left_code, length-characters, right_code, left_char, right_digit}
 use Rattle.ean_code.proofs.ParityRows.{length-row, length-upce_row}
 use Rattle.ean_code.proofs.Texts.{AreDigits-shown}
 use Rattle.ean_code.proofs.Widths.{are_widths, AreWidths-from}
@@ -31,17 +33,16 @@ right_more text i h =
     flat_map-take right_widths (digits_of text) i 0 low
     ∙ ap (λ d. flat_map right_widths (take i (digits_of text)) ++ right_widths d) (get_or-map (λ b. b - 48) text i 0 0 h)
 
-pub left_more : (row : List Bool) (text : List ℕ) (i : ℕ) → i < length row → length row ≡ length text
-    → flat_map left_widths (take (i + 1) (zip row (digits_of text)))
-    ≡ flat_map left_widths (take i (zip row (digits_of text))) ++ left_widths (get_or row i false, get_or text i 0 - 48)
+pub left_more : (row : List NumberSet) (text : List ℕ) (i : ℕ) → i < length row → length row ≡ length text
+    → flat_map left_widths (take (i + 1) (characters_in row (digits_of text)))
+    ≡ flat_map left_widths (take i (characters_in row (digits_of text))) ++ left_widths (in_set (get_or row i A) (get_or text i 0 - 48))
 left_more row text i h e =
     let ds : List ℕ = digits_of text in
-    let long : length ds ≡ length text = length-map text (λ b. b - 48) in
-    let low : i < length (zip row ds) = subst (λ n. i < n) (sym (length-zip row ds)) (omega arith) in
-    let under : i < length ds = omega arith in
-    flat_map-take left_widths (zip row ds) i (false, 0) low
-    ∙ ap (λ c. flat_map left_widths (take i (zip row ds)) ++ left_widths c)
-    (get_or-zip row ds i (false, 0) h under ∙ ap (λ d. (get_or row i false, d)) (get_or-map (λ b. b - 48) text i 0 0 (omega arith)))
+    let long : length ds ≡ length row = length-map text (λ b. b - 48) ∙ sym e in
+    let low : i < length (characters_in row ds) = subst (λ n. i < n) (sym (length-characters row ds (length row) refl long)) h in
+    flat_map-take left_widths (characters_in row ds) i (in_set A 0) low
+    ∙ ap (λ c. flat_map left_widths (take i (characters_in row ds)) ++ left_widths c)
+    (get_or-characters row ds i A h (omega arith) ∙ ap (in_set (get_or row i A)) (get_or-map (λ b. b - 48) text i 0 0 (omega arith)))
 
 -- the digits of a part of a text
 pub part_shown : (n i : ℕ) (text : List ℕ) → digits_of (take n (drop i text)) ≡ take n (drop i (digits_of text))
@@ -51,29 +52,29 @@ pub digit_shown : (i : ℕ) (text : List ℕ) → i < length text → get_or (di
 digit_shown i text h = get_or-map (λ b. b - 48) text i 0 0 h
 
 -- each character has widths of 1 to 4 modules
-left_tested : (b : Bool) → all_below (λ d. are_widths (left_widths (b, d))) 10 ≡ true
-left_tested true = refl
-left_tested false = refl
+left_tested : (s : NumberSet) → all_below (λ d. are_widths (left_widths (in_set s d))) 10 ≡ true
+left_tested A = refl
+left_tested B = refl
 
-left_valid : (c : Bool × ℕ) → c.1 < 10 → AreWidths (left_widths c)
-left_valid c h = AreWidths-from (left_widths (c.0, c.1)) (all_below-at (λ d. are_widths (left_widths (c.0, d))) 10 (left_tested c.0) c.1 h)
+pub left_valid : (c : Character) → c.digit < 10 → AreWidths (left_widths c)
+left_valid c h = AreWidths-from (left_widths c) (all_below-at (λ d. are_widths (left_widths (in_set c.set d))) 10 (left_tested c.set) c.digit h)
 
 right_valid : (d : ℕ) → d < 10 → AreWidths (right_widths d)
-right_valid d h = left_valid (false, d) h
+right_valid d h = left_valid (in_set A d) h
 
 AreWidths-flat_map : {X : Type 0} (P : X → Type 0) (f : X → List ℕ) → ((x : X) → P x → AreWidths (f x)) → (xs : List X) → AllByRecursion P xs → AreWidths (flat_map f xs)
 AreWidths-flat_map P f each [] h = tt
 AreWidths-flat_map P f each (x ∷ xs) h = AllByRecursion-append _ (f x) (flat_map f xs) (each x h.0) (AreWidths-flat_map P f each xs h.1)
 
-left_part_valid : (row : List Bool) (ds : List ℕ) → AreDigits ds → AreWidths (left_part row ds)
-left_part_valid row ds v = AreWidths-flat_map _ left_widths left_valid (zip row ds) (pairs_valid row ds v)
+left_part_valid : (row : List NumberSet) (ds : List ℕ) → AreDigits ds → AreWidths (left_part row ds)
+left_part_valid row ds v = AreWidths-flat_map _ left_widths left_valid (characters_in row ds) (characters_valid row ds v)
 
 right_part_valid : (ds : List ℕ) → AreDigits ds → AreWidths (right_part ds)
 right_part_valid ds v = AreWidths-flat_map _ right_widths right_valid ds v
 
-length-left_part : (n : ℕ) (row : List Bool) (ds : List ℕ) → AreDigits ds → length row ≡ n → length ds ≡ n → length (left_part row ds) ≡ n * 4
+length-left_part : (n : ℕ) (row : List NumberSet) (ds : List ℕ) → AreDigits ds → length row ≡ n → length ds ≡ n → length (left_part row ds) ≡ n * 4
 length-left_part n row ds v r l =
-    length-cells _ 4 left_widths left_char left_code (zip row ds) (pairs_valid row ds v) ∙ ap (λ k. k * 4) (length-zip row ds ∙ (omega arith))
+    length-cells _ 4 left_widths left_char left_code (characters_in row ds) (characters_valid row ds v) ∙ ap (λ k. k * 4) (length-characters row ds n r l)
 
 length-right_part : (n : ℕ) (ds : List ℕ) → AreDigits ds → length ds ≡ n → length (right_part ds) ≡ n * 4
 length-right_part n ds v l = length-cells _ 4 right_widths right_digit right_code ds v ∙ ap (λ k. k * 4) l
@@ -108,7 +109,7 @@ upce_valid left ll lv =
 pub symbol_valid : (kind : Kind) (ds : List ℕ) → length ds ≡ digit_count kind → AreDigits ds → AreModules (widths_of kind ds)
 symbol_valid Ean13 ds e v =
     let small = digit_at 0 ds v (omega arith) in
-    let row : List Bool = row_of ean13_rows (get_or ds 0 0) in
+    let row : List NumberSet = row_of ean13_rows (get_or ds 0 0) in
     let six : length row ≡ 6 = length-row (get_or ds 0 0) small in
     let lv : AreDigits (take 6 (drop 1 ds)) = AllByRecursion-take _ 6 (drop 1 ds) (AllByRecursion-drop _ 1 ds v) in
     let rv : AreDigits (drop 7 ds) = AllByRecursion-drop _ 7 ds v in
@@ -123,7 +124,7 @@ symbol_valid Ean8 ds e v =
     halves_valid 4 _ _ (omega arith) (length-left_part 4 ean8_row _ lv refl ll) (length-right_part 4 _ rv rl) (left_part_valid ean8_row _ lv) (right_part_valid _ rv)
 symbol_valid UpcE ds e v =
     let small = digit_at 6 ds v (omega arith) in
-    let row : List Bool = row_of upce_rows (get_or ds 6 0) in
+    let row : List NumberSet = row_of upce_rows (get_or ds 6 0) in
     let six : length row ≡ 6 = length-upce_row (get_or ds 6 0) small in
     let lv : AreDigits (take 6 ds) = AllByRecursion-take _ 6 ds v in
     let ll : length (take 6 ds) ≡ 6 = length-take 6 ds ∙ (omega arith) in

@@ -1,14 +1,15 @@
 -- The parts that a symbol is read by, from its widths and to them.
-use Rattle.std.proofs.Common.{◌≡◌, ℕ, ◌*◌, Bool, true, not, List, [], ◌∷◌, ◌++◌, length, take, drop, refl, sym, ap, ap₂, subst, ◌∙◌, arith}
+use Rattle.std.proofs.Common.{◌≡◌, ℕ, ◌*◌, true, List, [], ◌∷◌, ◌++◌, length, take, drop, refl, sym, ap, ap₂, subst, ◌∙◌, arith}
 use Rattle.std.specs.List.{flat_map, AllByRecursion, list_all}
 use Rattle.std.proofs.lemmas.List.{length-map, take_at, drop_at}
-use Rattle.ean_code.specs.NumberSets.{AreCharacters, left_widths, right_widths, right_part}
+use Rattle.ean_code.specs.declared.number_sets.Character.{Character}
+use Rattle.ean_code.specs.NumberSets.{AreCharacters, character_digits, is_a, left_widths, right_widths, right_part}
 use Rattle.ean_code.specs.Parts.{AreFramed, AreFramedSix, AreHalves, AreSix}
 use Rattle.ean_code.specs.Symbols.{normal_guard, centre_guard, special_guard, two_halves}
 use Rattle.ean_code.specs.Widths.{AreWidths}
 use Rattle.ean_code.proofs.Cells.{length-cells}
-use Rattle.ean_code.proofs.Characters.{left_char, left_code, right_code, right_digit, seconds}
-use Rattle.ean_code.proofs.Joined.{AreDigits-seconds, rights-of_a, same_characters}
+use Rattle.ean_code.proofs.Characters.{left_char, left_code, right_code, right_digit}
+use Rattle.ean_code.proofs.Joined.{AreDigits-characters, rights-of_a, same_characters}
 
 -- lists joined of parts of the same lengths have the same parts
 append_parts : (xs ys us vs : List ℕ) → length xs ≡ length us → xs ++ ys ≡ us ++ vs → (xs ≡ us) × (ys ≡ vs)
@@ -29,11 +30,11 @@ framed_valid half ws l r h v =
     let two = AllByRecursion-parts _ l (centre_guard ++ (r ++ normal_guard)) one.1 in
     let three = AllByRecursion-parts _ centre_guard (r ++ normal_guard) two.1 in (two.0, (AllByRecursion-parts _ r normal_guard three.1).0)
 
-pub length-lefts : (cs : List (Bool × ℕ)) (n : ℕ) → AreCharacters cs → length cs ≡ n → length (flat_map left_widths cs) ≡ 4 * n
+pub length-lefts : (cs : List Character) (n : ℕ) → AreCharacters cs → length cs ≡ n → length (flat_map left_widths cs) ≡ 4 * n
 length-lefts cs n v e = length-cells _ 4 left_widths left_char left_code cs v ∙ (omega arith)
 
 -- the widths of so many characters on either side
-pub framed_of : (n : ℕ) (ws : List ℕ) (ls : List (Bool × ℕ)) (rs : List ℕ) → AreHalves n ws ls rs → AreFramed (4 * n) ws (flat_map left_widths ls) (right_part rs)
+pub framed_of : (n : ℕ) (ws : List ℕ) (ls : List Character) (rs : List ℕ) → AreHalves n ws ls rs → AreFramed (4 * n) ws (flat_map left_widths ls) (right_part rs)
 framed_of n ws ls rs h = record {
   left_count = length-lefts ls n h.left_valid h.left_count;
   right_count = length-cells _ 4 right_widths right_digit right_code rs h.right_valid ∙ ap (λ k. k * 4) h.right_count ∙ (omega arith);
@@ -45,8 +46,8 @@ same_framed half ws l r m q h k =
     let one = append_parts l (centre_guard ++ (r ++ normal_guard)) m (centre_guard ++ (q ++ normal_guard)) (h.left_count ∙ sym k.left_count) (ap (drop 3) (sym h.shown ∙ k.shown)) in
     let two = append_parts r normal_guard q normal_guard (h.right_count ∙ sym k.right_count) (ap (drop 5) one.1) in (one.0, two.0)
 
-pub found_halves : (n : ℕ) (ws l r : List ℕ) (ls rs : List (Bool × ℕ)) → AreFramed (4 * n) ws l r → AreCharacters ls → flat_map left_widths ls ≡ l → AreCharacters rs → flat_map left_widths rs ≡ r
-    → list_all (λ c. not c.0) rs ≡ true → AreHalves n ws ls (seconds rs)
+pub found_halves : (n : ℕ) (ws l r : List ℕ) (ls rs : List Character) → AreFramed (4 * n) ws l r → AreCharacters ls → flat_map left_widths ls ≡ l → AreCharacters rs → flat_map left_widths rs ≡ r
+    → list_all (λ c. is_a c.set) rs ≡ true → AreHalves n ws ls (character_digits rs)
 found_halves n ws l r ls rs h lv le rv re a =
     let lc = length-cells _ 4 left_widths left_char left_code ls lv in
     let rc = length-cells _ 4 left_widths left_char left_code rs rv in
@@ -58,12 +59,12 @@ found_halves n ws l r ls rs h lv le rv re a =
       left_count = omega arith;
       right_count = length-map rs _ ∙ (omega arith);
       left_valid = lv;
-      right_valid = AreDigits-seconds rs rv;
+      right_valid = AreDigits-characters rs rv;
       shown = h.shown ∙ ap₂ two_halves (sym le) (sym re ∙ rights-of_a rs a);
     }
 
 -- the characters at the left are determined
-pub same_left : (n : ℕ) (ws : List ℕ) (ls ks : List (Bool × ℕ)) (rs qs : List ℕ) → AreHalves n ws ls rs → AreHalves n ws ks qs → ls ≡ ks
+pub same_left : (n : ℕ) (ws : List ℕ) (ls ks : List Character) (rs qs : List ℕ) → AreHalves n ws ls rs → AreHalves n ws ks qs → ls ≡ ks
 same_left n ws ls ks rs qs h k =
     same_characters ls ks h.left_valid k.left_valid (same_framed (4 * n) ws _ _ _ _ (framed_of n ws ls rs h) (framed_of n ws ks qs k)).0
 
@@ -73,18 +74,18 @@ six_valid ws six h v =
     let all : AreWidths (normal_guard ++ (six ++ special_guard)) = subst AreWidths h.shown v in
     let one = AllByRecursion-parts _ normal_guard (six ++ special_guard) all in (AllByRecursion-parts _ six special_guard one.1).0
 
-pub framed_six_of : (ws : List ℕ) (cs : List (Bool × ℕ)) → AreSix ws cs → AreFramedSix ws (flat_map left_widths cs)
+pub framed_six_of : (ws : List ℕ) (cs : List Character) → AreSix ws cs → AreFramedSix ws (flat_map left_widths cs)
 framed_six_of ws cs h = record { count = length-lefts cs 6 h.valid h.count; shown = h.shown }
 
 pub same_framed_six : (ws six other : List ℕ) → AreFramedSix ws six → AreFramedSix ws other → six ≡ other
 same_framed_six ws six other h k = (append_parts six special_guard other special_guard (h.count ∙ sym k.count) (ap (drop 3) (sym h.shown ∙ k.shown))).0
 
-pub found_six : (ws six : List ℕ) (cs : List (Bool × ℕ)) → AreFramedSix ws six → AreCharacters cs → flat_map left_widths cs ≡ six → AreSix ws cs
+pub found_six : (ws six : List ℕ) (cs : List Character) → AreFramedSix ws six → AreCharacters cs → flat_map left_widths cs ≡ six → AreSix ws cs
 found_six ws six cs h v e =
     let lc = length-cells _ 4 left_widths left_char left_code cs v in
     let n = h.count in
     let la = ap length e in
     record { count = omega arith; valid = v; shown = h.shown ∙ ap (λ x. normal_guard ++ (x ++ special_guard)) (sym e) }
 
-pub same_six : (ws : List ℕ) (ls ks : List (Bool × ℕ)) → AreSix ws ls → AreSix ws ks → ls ≡ ks
+pub same_six : (ws : List ℕ) (ls ks : List Character) → AreSix ws ls → AreSix ws ks → ls ≡ ks
 same_six ws ls ks h k = same_characters ls ks h.valid k.valid (same_framed_six ws _ _ (framed_six_of ws ls h) (framed_six_of ws ks k))

@@ -5,11 +5,14 @@ pub mod Expanded
 pub mod Found
 pub mod Halves
 pub mod Joined
+pub mod LookupFacts
 pub mod Options
 pub mod ParityRows
 pub mod Readings
 pub mod Replaced
+pub mod RowTables
 pub mod SpelledAnswers
+pub mod Tables
 pub mod Texts
 pub mod Turned
 pub mod TurnedUpce

@@ -1,22 +1,20 @@
 -- A symbol shows one list of digits.
 use Rattle.std.proofs.Common.{◌≡◌, ℕ, ◌<◌, List, [], ◌∷◌, ◌++◌, length, take, drop, refl, sym, ap, ap₂, subst, ◌∙◌, arith, eqb-true, get_or}
-use Rattle.std.specs.List.{zip}
 use Rattle.std.proofs.lemmas.Bool.{and_parts}
 use Rattle.std.proofs.lemmas.List.{take-append-drop, length-take, length-drop, drop_more, drop_all}
-use Rattle.std.proofs.lemmas.Slice.Zip.{firsts-zip, seconds-zip}
 use Rattle.digits_core.specs.Digits.{AreDigits}
-use Rattle.ean_code.specs.NumberSets.{left_part, right_part, ean8_row, ean13_rows, upce_rows, row_of}
+use Rattle.ean_code.specs.NumberSets.{character_digits, character_sets, characters_in, left_part, right_part, ean8_row, ean13_rows, upce_rows, row_of}
 use Rattle.ean_code.specs.Symbols.{normal_guard, centre_guard, special_guard, Kind, IsEanSymbol}
 use Rattle.ean_code.specs.Symbols.Kind.{Ean13, Ean8, UpcE}
 use Rattle.ean_code.proofs.Cells.{all_below-at, cells, AllByRecursion-take, AllByRecursion-drop}
-use Rattle.ean_code.proofs.Characters.{right_digit, lefts, lefts-drawn, drop-left_part, rights-drawn, firsts, seconds}
+use Rattle.ean_code.proofs.Characters.{right_digit, lefts, lefts-drawn, drop-left_part, rights-drawn, digits-characters, sets-characters}
 use Rattle.ean_code.proofs.ParityRows.{row_place, row_ok, rows_tested}
 
 -- the digits that modules show, if they show some
 abbrev pub shown : Kind → List ℕ → List ℕ
-shown Ean13 ms = row_place ean13_rows (firsts (lefts 6 ms)) ∷ (seconds (lefts 6 ms) ++ cells 4 right_digit 6 (drop 5 (drop 24 (drop 3 ms))))
-shown Ean8 ms = seconds (lefts 4 ms) ++ cells 4 right_digit 4 (drop 5 (drop 16 (drop 3 ms)))
-shown UpcE ms = seconds (lefts 6 ms) ++ row_place upce_rows (firsts (lefts 6 ms)) ∷ []
+shown Ean13 ms = row_place ean13_rows (character_sets (lefts 6 ms)) ∷ (character_digits (lefts 6 ms) ++ cells 4 right_digit 6 (drop 5 (drop 24 (drop 3 ms))))
+shown Ean8 ms = character_digits (lefts 4 ms) ++ cells 4 right_digit 4 (drop 5 (drop 16 (drop 3 ms)))
+shown UpcE ms = character_digits (lefts 6 ms) ++ row_place upce_rows (character_sets (lefts 6 ms)) ∷ []
 
 pub drawn13 : (d : ℕ) (ls rs : List ℕ) → d < 10 → AreDigits ls → AreDigits rs → length ls ≡ 6 → length rs ≡ 6
     → shown Ean13 (normal_guard ++ (left_part (row_of ean13_rows d) ls ++ (centre_guard ++ (right_part rs ++ normal_guard)))) ≡ d ∷ (ls ++ rs)
@@ -27,9 +25,9 @@ drawn13 d ls rs small lv rv ll rl =
     let six : length row ≡ 6 = eqb-true _ _ tested.1 in
     let left = lefts-drawn 6 row ls rest six ll lv in
     let right = ap (λ ms. cells 4 right_digit 6 (drop 5 ms)) (drop-left_part 6 row ls rest six ll lv 24 refl) ∙ rights-drawn 6 rs normal_guard rl rv in
-    let first : row_place ean13_rows (firsts (zip row ls)) ≡ d = ap (row_place ean13_rows) (firsts-zip row ls (ll ∙ sym six)) ∙ eqb-true _ _ tested.0 in
-    let others : seconds (zip row ls) ≡ ls = seconds-zip row ls (ll ∙ sym six) in
-    ap₂ (λ a b. a ∷ b) (ap (λ cs. row_place ean13_rows (firsts cs)) left ∙ first) (ap₂ (λ a b. a ++ b) (ap seconds left ∙ others) right)
+    let first : row_place ean13_rows (character_sets (characters_in row ls)) ≡ d = ap (row_place ean13_rows) (sets-characters row ls (ll ∙ sym six)) ∙ eqb-true _ _ tested.0 in
+    let others : character_digits (characters_in row ls) ≡ ls = digits-characters row ls (ll ∙ sym six) in
+    ap₂ (λ a b. a ∷ b) (ap (λ cs. row_place ean13_rows (character_sets cs)) left ∙ first) (ap₂ (λ a b. a ++ b) (ap character_digits left ∙ others) right)
 
 pub shown13 : (ms ds : List ℕ) → IsEanSymbol Ean13 ms ds → shown Ean13 ms ≡ ds
 shown13 ms [] e = absurd (let none = e.count in omega arith)
@@ -46,7 +44,7 @@ drawn8 ls rs lv rv ll rl =
     let rest = centre_guard ++ (right_part rs ++ normal_guard) in
     let left = lefts-drawn 4 ean8_row ls rest refl ll lv in
     let right = ap (λ ms. cells 4 right_digit 4 (drop 5 ms)) (drop-left_part 4 ean8_row ls rest refl ll lv 16 refl) ∙ rights-drawn 4 rs normal_guard rl rv in
-    ap₂ (λ a b. a ++ b) (ap seconds left ∙ seconds-zip ean8_row ls ll) right
+    ap₂ (λ a b. a ++ b) (ap character_digits left ∙ digits-characters ean8_row ls ll) right
 
 pub shown8 : (ms ds : List ℕ) → IsEanSymbol Ean8 ms ds → shown Ean8 ms ≡ ds
 shown8 ms ds e =
@@ -63,8 +61,8 @@ drawnE ls c lv small ll =
     let tested = and_parts _ _ (all_below-at (row_ok upce_rows) 10 rows_tested.1 c small) in
     let six : length row ≡ 6 = eqb-true _ _ tested.1 in
     let left = lefts-drawn 6 row ls (special_guard) six ll lv in
-    let check : row_place upce_rows (firsts (zip row ls)) ≡ c = ap (row_place upce_rows) (firsts-zip row ls (ll ∙ sym six)) ∙ eqb-true _ _ tested.0 in
-    ap₂ (λ a b. a ++ b ∷ []) (ap seconds left ∙ seconds-zip row ls (ll ∙ sym six)) (ap (λ cs. row_place upce_rows (firsts cs)) left ∙ check)
+    let check : row_place upce_rows (character_sets (characters_in row ls)) ≡ c = ap (row_place upce_rows) (sets-characters row ls (ll ∙ sym six)) ∙ eqb-true _ _ tested.0 in
+    ap₂ (λ a b. a ++ b ∷ []) (ap character_digits left ∙ digits-characters row ls (ll ∙ sym six)) (ap (λ cs. row_place upce_rows (character_sets cs)) left ∙ check)
 
 pub shownE : (ms ds : List ℕ) → IsEanSymbol UpcE ms ds → shown UpcE ms ≡ ds
 shownE ms ds e =

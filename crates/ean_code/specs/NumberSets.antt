@@ -1,6 +1,9 @@
 -- The characters of EAN and UPC symbols, and the number sets that they are drawn in (ISO/IEC 15420, symbol character encodation).
-use Rattle.std.specs.Prelude.{ℕ, ◌<◌, Bool, true, false, List, [], ◌∷◌, slice_index_or, if◌then◌else◌}
-use Rattle.std.specs.List.{flat_map, zip, AllByRecursion}
+use Rattle.std.specs.Prelude.{ℕ, ◌+◌, ◌*◌, ◌<◌, Bool, true, false, List, [], ◌∷◌, map, slice_index_or, if◌then◌else◌}
+use Rattle.std.specs.List.{flat_map, fold, zip, AllByRecursion}
+use Rattle.ean_code.specs.declared.number_sets.Character.{Character}
+use Rattle.ean_code.specs.declared.number_sets.NumberSet.{NumberSet}
+use Rattle.ean_code.specs.declared.number_sets.NumberSet.TheVariants.{A, B}
 
 -- the widths of the digits 0 to 9 in number set A, four each, the space first; set C has them too, the bar first
 abbrev pub set_a : List (List ℕ)
@@ -14,28 +17,63 @@ set_b =
     (1 ∷ 1 ∷ 2 ∷ 3 ∷ []) ∷ (1 ∷ 2 ∷ 2 ∷ 2 ∷ []) ∷ (2 ∷ 2 ∷ 1 ∷ 2 ∷ []) ∷ (1 ∷ 1 ∷ 4 ∷ 1 ∷ []) ∷ (2 ∷ 3 ∷ 1 ∷ 1 ∷ [])
     ∷ (1 ∷ 3 ∷ 2 ∷ 1 ∷ []) ∷ (4 ∷ 1 ∷ 1 ∷ 1 ∷ []) ∷ (2 ∷ 1 ∷ 3 ∷ 1 ∷ []) ∷ (3 ∷ 1 ∷ 2 ∷ 1 ∷ []) ∷ (2 ∷ 1 ∷ 1 ∷ 3 ∷ []) ∷ []
 
--- a character left of the centre: whether it is of set B and not of set A, and its digit
-abbrev pub left_widths : Bool × ℕ → List ℕ
-left_widths (of_b, d) = slice_index_or (if of_b then set_b else set_a) d []
+-- the widths of the digits 0 to 9 in a number set left of the centre
+abbrev pub widths_in : NumberSet → List (List ℕ)
+widths_in A = set_a
+widths_in B = set_b
 
--- a character right of the centre, of set C
+-- the widths of a character left of the centre: those of its digit in its number set
+abbrev pub left_widths : Character → List ℕ
+left_widths c = slice_index_or (widths_in c.set) c.digit []
+
+-- the widths of a digit right of the centre, in number set C
 abbrev pub right_widths : ℕ → List ℕ
 right_widths d = slice_index_or set_a d []
 
--- each has a digit
-abbrev pub AreCharacters : List (Bool × ℕ) → Type 0
-AreCharacters cs = AllByRecursion (λ (c : Bool × ℕ). c.1 < 10) cs
+-- the digit in this number set
+abbrev pub in_set : NumberSet → ℕ → Character
+in_set s d = record { set = s; digit = d }
 
--- number set A
-abbrev A : Bool
-A = false
+-- number set B, or else A
+abbrev pub set_of : Bool → NumberSet
+set_of of_b = if of_b then B else A
 
--- number set B
-abbrev B : Bool
-B = true
+-- the character that is of number set B or else of A, and has this digit
+abbrev pub character_of : Bool × ℕ → Character
+character_of (of_b, d) = in_set (set_of of_b) d
+
+-- each has a digit 0 to 9
+abbrev pub AreCharacters : List Character → Type 0
+AreCharacters cs = AllByRecursion (λ (c : Character). c.digit < 10) cs
+
+-- the digits of characters
+abbrev pub character_digits : List Character → List ℕ
+character_digits cs = map (λ c. c.digit) cs
+
+-- the number sets of characters
+abbrev pub character_sets : List Character → List NumberSet
+character_sets cs = map (λ c. c.set) cs
+
+-- digits as characters, each in the number set at its place
+abbrev pub characters_in : List NumberSet → List ℕ → List Character
+characters_in row ds = map (λ (c : NumberSet × ℕ). in_set c.0 c.1) (zip row ds)
+
+-- whether it is number set A
+abbrev pub is_a : NumberSet → Bool
+is_a A = true
+is_a B = false
+
+-- a number set as a bit
+abbrev pub bit_of : NumberSet → ℕ
+bit_of A = 0
+bit_of B = 1
+
+-- number sets as one number, a bit each, the first highest
+abbrev pub packed_sets : List NumberSet → ℕ
+packed_sets sets = fold (λ n s. 2 * n + bit_of s) 0 sets
 
 -- the number sets of the left six of an EAN-13, by its first digit, which they alone show
-abbrev pub ean13_rows : List (List Bool)
+abbrev pub ean13_rows : List (List NumberSet)
 ean13_rows =
     (A ∷ A ∷ A ∷ A ∷ A ∷ A ∷ [])
     ∷ (A ∷ A ∷ B ∷ A ∷ B ∷ B ∷ [])
@@ -50,11 +88,11 @@ ean13_rows =
     ∷ []
 
 -- the number sets of the left four of an EAN-8
-abbrev pub ean8_row : List Bool
+abbrev pub ean8_row : List NumberSet
 ean8_row = A ∷ A ∷ A ∷ A ∷ []
 
 -- the number sets of the six of a UPC-E, by its check digit, which they alone show
-abbrev pub upce_rows : List (List Bool)
+abbrev pub upce_rows : List (List NumberSet)
 upce_rows =
     (B ∷ B ∷ B ∷ A ∷ A ∷ A ∷ [])
     ∷ (B ∷ B ∷ A ∷ B ∷ A ∷ A ∷ [])
@@ -69,12 +107,12 @@ upce_rows =
     ∷ []
 
 -- the row of this digit
-abbrev pub row_of : List (List Bool) → ℕ → List Bool
+abbrev pub row_of : List (List NumberSet) → ℕ → List NumberSet
 row_of rows d = slice_index_or rows d []
 
 -- digits drawn in these number sets, left of the centre
-abbrev pub left_part : List Bool → List ℕ → List ℕ
-left_part row ds = flat_map left_widths (zip row ds)
+abbrev pub left_part : List NumberSet → List ℕ → List ℕ
+left_part row ds = flat_map left_widths (characters_in row ds)
 
 -- digits drawn in number set C, right of the centre
 abbrev pub right_part : List ℕ → List ℕ

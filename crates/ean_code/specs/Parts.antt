@@ -1,7 +1,8 @@
 -- The parts that a symbol is read by.
-use Rattle.std.specs.Prelude.{◌≡◌, ℕ, Bool, List, ◌++◌, length}
+use Rattle.std.specs.Prelude.{◌≡◌, ℕ, List, ◌++◌, length}
 use Rattle.std.specs.List.{flat_map}
 use Rattle.digits_core.specs.Digits.{AreAsciiDigits, AreDigits, digits_of}
+use Rattle.ean_code.specs.declared.number_sets.Character.{Character}
 use Rattle.ean_code.specs.NumberSets.{AreCharacters, left_widths, right_part}
 use Rattle.ean_code.specs.Symbols.{Kind, IsEanSymbol, normal_guard, special_guard, two_halves}
 
@@ -17,7 +18,7 @@ pub record AreFramedSix (widths six : List ℕ) : Type 0 where
   pub shown : widths ≡ normal_guard ++ (six ++ special_guard)
 
 -- so many characters left of a centre guard pattern, and as many digits right of it, have these widths
-pub record AreHalves (count : ℕ) (widths : List ℕ) (left : List (Bool × ℕ)) (right : List ℕ) : Type 0 where
+pub record AreHalves (count : ℕ) (widths : List ℕ) (left : List Character) (right : List ℕ) : Type 0 where
   pub left_count : length left ≡ count
   pub right_count : length right ≡ count
   pub left_valid : AreCharacters left
@@ -25,7 +26,7 @@ pub record AreHalves (count : ℕ) (widths : List ℕ) (left : List (Bool × ℕ
   pub shown : widths ≡ two_halves (flat_map left_widths left) (right_part right)
 
 -- the six characters before a special guard pattern have these widths
-pub record AreSix (widths : List ℕ) (left : List (Bool × ℕ)) : Type 0 where
+pub record AreSix (widths : List ℕ) (left : List Character) : Type 0 where
   pub count : length left ≡ 6
   pub valid : AreCharacters left
   pub shown : widths ≡ normal_guard ++ (flat_map left_widths left ++ special_guard)

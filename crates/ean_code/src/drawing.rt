@@ -8,7 +8,7 @@ ghost use Rattle.ean_code.specs.Symbols.{two_halves, widths_of};
 ghost use Rattle.ean_code.specs.Symbols.Kind.{Ean13, Ean8, UpcE};
 
 use crate::modules::Modules;
-use crate::number_sets::{SET_A, SET_B};
+use crate::number_sets::{Character, NumberSet};
 use crate::rows::{EAN8_ROW, ean13_row, upce_row};
 use arrayvec::ArrayVec;
 use digits_core::{Gtin, upce_suppress};
@@ -28,21 +28,18 @@ fn push_guard(widths: &mut ArrayVec<u8, 595>, guard: &[u8])
     widths.try_extend_from_slice(guard).unwrap();
 }
 
-/// Appends a character of number set B, or else of A, which right of the centre is C.
-fn push_character(widths: &mut ArrayVec<u8, 595>, of_b: bool, digit: u8)
+/// Appends a character.
+fn push_character(widths: &mut ArrayVec<u8, 595>, character: Character)
     requires room { array_vec_len widths.old + 4 ≤ 595 }
-    requires digit { digit < 10 }
-    ensures items { widths.new.items ≡ widths.old.items ++ left_widths (of_b, digit) }
+    requires digit { character.digit < 10 }
+    ensures items { widths.new.items ≡ widths.old.items ++ left_widths character }
     ensures len { array_vec_len widths.new ≡ array_vec_len widths.old + 4 }
 {
-    let set = if of_b { &SET_B } else { &SET_A };
-    widths
-        .try_extend_from_slice(&set[usize::from(digit)])
-        .unwrap();
+    widths.try_extend_from_slice(character.widths()).unwrap();
 }
 
 /// Appends ASCII digits as characters left of the centre, in these number sets.
-fn push_left(widths: &mut ArrayVec<u8, 595>, row: &[bool], digits: &[u8])
+fn push_left(widths: &mut ArrayVec<u8, 595>, row: &[NumberSet], digits: &[u8])
     requires room { array_vec_len widths.old + 4 * length digits.now ≤ 595 }
     requires row { length row.now ≡ length digits.now }
     requires digits { AreAsciiDigits digits.now }
@@ -50,11 +47,15 @@ fn push_left(widths: &mut ArrayVec<u8, 595>, row: &[bool], digits: &[u8])
     ensures len { array_vec_len widths.new ≡ array_vec_len widths.old + 4 * length digits.now }
 {
     for i in 0..digits.len() {
-        push_character(widths, row[i], digits[i] - b'0');
+        let character = Character {
+            set: row[i],
+            digit: digits[i] - b'0',
+        };
+        push_character(widths, character);
     }
 }
 
-/// Appends ASCII digits as characters right of the centre, in number set C.
+/// Appends ASCII digits as characters right of the centre, in number set C, which has the widths of A.
 fn push_right(widths: &mut ArrayVec<u8, 595>, digits: &[u8])
     requires room { array_vec_len widths.old + 4 * length digits.now ≤ 595 }
     requires digits { AreAsciiDigits digits.now }
@@ -62,12 +63,16 @@ fn push_right(widths: &mut ArrayVec<u8, 595>, digits: &[u8])
     ensures len { array_vec_len widths.new ≡ array_vec_len widths.old + 4 * length digits.now }
 {
     for i in 0..digits.len() {
-        push_character(widths, false, digits[i] - b'0');
+        let character = Character {
+            set: NumberSet::A,
+            digit: digits[i] - b'0',
+        };
+        push_character(widths, character);
     }
 }
 
 /// The widths of a symbol with these ASCII digits left and right of its centre guard pattern.
-fn halves(row: &[bool], left: &[u8], right: &[u8]) -> ArrayVec<u8, 595>
+fn halves(row: &[NumberSet], left: &[u8], right: &[u8]) -> ArrayVec<u8, 595>
     requires left { length left.now ≤ 6 }
     requires right { length right.now ≤ 6 }
     requires row { length row.now ≡ length left.now }

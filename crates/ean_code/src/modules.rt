@@ -45,6 +45,14 @@ fn are_modules(widths: &[u8]) -> bool
 }
 
 impl Modules {
+    /// The modules with the widths of this list, which is taken whole.
+    pub fn new(widths: ArrayVec<u8, 595>) -> Modules
+        requires { AreModules widths.items }
+        ensures { result ≡ widths.items }
+    {
+        Modules { widths }
+    }
+
     /// The modules with these widths: none unless each is 1 to 4, and they are odd in number and at
     /// most 595.
     pub fn of(widths: &[u8]) -> Option<Modules>

@@ -1,20 +1,32 @@
 //! The characters of EAN symbols and the number sets that they are drawn in
 //! (ISO/IEC 15420, symbol character encodation).
-ghost use Rattle.std.specs.Prelude.{◌≡◌, ◌≢◌, ◌↔◌, ◌<◌, ◌≤◌, ◌%◌, ℕ, Bool, List, [], IfNone, IfSome, IsTrue, length, slice_index_or};
+ghost use Rattle.std.specs.Prelude.{◌≡◌, ◌≢◌, ◌<◌, ◌≤◌, ◌%◌, List, IfNone, IfSome, length};
 ghost use Rattle.std.specs.List.{flat_map};
 ghost use Rattle.ean_code.specs.Widths.{AreWidths};
-ghost use Rattle.ean_code.specs.NumberSets.{AreCharacters, left_widths};
+ghost use Rattle.ean_code.specs.NumberSets.{AreCharacters, bit_of, is_a, left_widths, set_of};
 
+use crate::lookup::character;
 use arrayvec::ArrayVec;
 
-// Number set A or B of a character left of the centre.
-pub(crate) const A: bool = false;
+/// A number set of the characters left of the centre.
+#[derive(Clone, Copy, Default)]
+pub(crate) enum NumberSet {
+    #[default]
+    A,
+    B,
+}
 
-pub(crate) const B: bool = true;
+/// A character left of the centre.
+#[derive(Clone, Copy, Default)]
+pub(crate) struct Character {
+    pub(crate) set: NumberSet,
+    /// 0 to 9.
+    pub(crate) digit: u8,
+}
 
 /// The widths of the digits 0 to 9 in number set A, four each, the space first. Number set C has them
 /// too, the bar first.
-pub(crate) const SET_A: [[u8; 4]; 10] = [
+const SET_A: [[u8; 4]; 10] = [
     [3, 2, 1, 1],
     [2, 2, 2, 1],
     [2, 1, 2, 2],
@@ -28,7 +40,7 @@ pub(crate) const SET_A: [[u8; 4]; 10] = [
 ];
 
 /// The widths of the digits 0 to 9 in number set B, four each, the space first.
-pub(crate) const SET_B: [[u8; 4]; 10] = [
+const SET_B: [[u8; 4]; 10] = [
     [1, 1, 2, 3],
     [1, 2, 2, 2],
     [2, 2, 1, 2],
@@ -41,55 +53,80 @@ pub(crate) const SET_B: [[u8; 4]; 10] = [
     [2, 1, 1, 3],
 ];
 
-/// Whether these are the widths of an entry.
-fn are_same(widths: &[u8], entry: &[u8]) -> bool
-    ensures { IsTrue result ↔ (entry.now ≡ widths.now) }
-{
-    entry == widths
-}
-
-/// The digit that has these widths in a number set.
-fn digit_in(set: &[[u8; 4]; 10], widths: &[u8]) -> Option<u8>
-    ensures found { IfSome result (λ d. (d < 10) × (slice_index_or set.now d [] ≡ widths.now)) }
-    ensures none { IfNone result ((d : ℕ) → d < 10 → slice_index_or set.now d [] ≢ widths.now) }
-{
-    for digit in 0..10 {
-        if are_same(widths, &set[usize::from(digit)]) {
-            return Some(digit);
+impl NumberSet {
+    /// Whether it is number set A.
+    pub(crate) fn is_a(self) -> bool
+        ensures { result ≡ is_a self }
+    {
+        match self {
+            NumberSet::A => true,
+            NumberSet::B => false,
         }
     }
-    None
+
+    /// 0 for number set A, and 1 for B.
+    pub(crate) fn bit(self) -> usize
+        ensures value { result ≡ bit_of self }
+        ensures low { result < 2 }
+    {
+        match self {
+            NumberSet::A => 0,
+            NumberSet::B => 1,
+        }
+    }
 }
 
-/// The character that has these widths: whether it is of number set B, and its digit.
-fn character(widths: &[u8]) -> Option<(bool, u8)>
+impl Character {
+    /// Its widths, the space first.
+    pub(crate) fn widths(self) -> &'static [u8]
+        requires { self.digit < 10 }
+        ensures value { result.now ≡ left_widths self }
+        ensures four { length result.now ≡ 4 }
+    {
+        let set = match self.set {
+            NumberSet::A => &SET_A,
+            NumberSet::B => &SET_B,
+        };
+        &set[usize::from(self.digit)]
+    }
+}
+
+/// Number set B, or else A.
+fn set_of(of_b: bool) -> NumberSet
+    ensures { result ≡ set_of of_b }
+{
+    if of_b { NumberSet::B } else { NumberSet::A }
+}
+
+/// The character that has these widths.
+fn character_with(widths: &[u8]) -> Option<Character>
     requires four { length widths.now ≡ 4 }
     requires valid { AreWidths widths.now }
-    ensures found { IfSome result (λ c. (c.1 < 10) × (left_widths c ≡ widths.now)) }
-    ensures none { IfNone result ((b : Bool) (d : ℕ) → d < 10 → left_widths (b, d) ≢ widths.now) }
+    ensures found { IfSome result (λ c. (c.digit < 10) × (left_widths c ≡ widths.now)) }
+    ensures none { IfNone result ((c : Character) → c.digit < 10 → left_widths c ≢ widths.now) }
 {
-    if let Some(digit) = digit_in(&SET_A, widths) {
-        return Some((A, digit));
-    }
-    let Some(digit) = digit_in(&SET_B, widths) else {
+    let first = (widths[0] - 1) * 4 + (widths[1] - 1);
+    let last = (widths[2] - 1) * 4 + (widths[3] - 1);
+    let Some((of_b, digit)) = character(first * 16 + last) else {
         return None;
     };
-    Some((B, digit))
+    let set = set_of(of_b);
+    Some(Character { set, digit })
 }
 
 /// The characters, at most six, that the widths are joined of.
-pub(crate) fn characters(widths: &[u8]) -> Option<ArrayVec<(bool, u8), 6>>
+pub(crate) fn characters(widths: &[u8]) -> Option<ArrayVec<Character, 6>>
     requires few { length widths.now ≤ 24 }
     requires fours { length widths.now % 4 ≡ 0 }
     requires valid { AreWidths widths.now }
     ensures found { IfSome result (λ cs. AreCharacters cs.items
         × (flat_map left_widths cs.items ≡ widths.now)) }
-    ensures none { IfNone result ((cs : List (Bool × ℕ)) → AreCharacters cs
+    ensures none { IfNone result ((cs : List Character) → AreCharacters cs
         → flat_map left_widths cs ≢ widths.now) }
 {
     let mut found = ArrayVec::new();
     for i in 0..widths.len() / 4 {
-        let Some(next) = character(&widths[4 * i..4 * i + 4]) else {
+        let Some(next) = character_with(&widths[4 * i..4 * i + 4]) else {
             return None;
         };
         found.push(next);

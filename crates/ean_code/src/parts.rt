@@ -1,10 +1,11 @@
 //! Tells the parts of symbols apart: guard patterns and characters.
-ghost use Rattle.std.specs.Prelude.{◌≡◌, ◌↔◌, ◌≤◌, ℕ, Bool, List, IfNone, IfSome, IsTrue, length, map, not, replicate};
+ghost use Rattle.std.specs.Prelude.{◌≡◌, ◌↔◌, ◌≤◌, ℕ, List, IfNone, IfSome, IsTrue, length, replicate};
 ghost use Rattle.std.specs.List.{list_all};
+ghost use Rattle.ean_code.specs.NumberSets.{character_digits, is_a};
 ghost use Rattle.ean_code.specs.Parts.{AreFramed, AreFramedSix, AreHalves, AreSix};
 ghost use Rattle.ean_code.specs.Widths.{AreWidths};
 
-use crate::number_sets::characters;
+use crate::number_sets::{Character, characters};
 use arrayvec::ArrayVec;
 
 /// Whether each width is one module, as in a guard pattern.
@@ -15,10 +16,10 @@ fn is_guard(widths: &[u8]) -> bool
 }
 
 /// Whether each character is of number set A, or right of the centre of C.
-pub(crate) fn are_of_a(characters: &[(bool, u8)]) -> bool
-    ensures { result ≡ list_all (λ c. not c.0) characters.now }
+pub(crate) fn are_of_a(characters: &[Character]) -> bool
+    ensures { result ≡ list_all (λ c. is_a c.set) characters.now }
 {
-    characters.iter().all(|character| !character.0)
+    characters.iter().all(|character| character.set.is_a())
 }
 
 /// The widths left and right of the centre guard pattern, so many on either side.
@@ -50,11 +51,11 @@ fn framed(widths: &[u8], half: usize) -> Option<(&[u8], &[u8])>
 pub(crate) fn halves(
     widths: &[u8],
     count: usize,
-) -> Option<(ArrayVec<(bool, u8), 6>, ArrayVec<(bool, u8), 6>)>
+) -> Option<(ArrayVec<Character, 6>, ArrayVec<Character, 6>)>
     requires few { count ≤ 6 }
     requires valid { AreWidths widths.now }
-    ensures found { IfSome result (λ h. AreHalves count widths.now h.0.items (map (λ c. c.1) h.1.items)) }
-    ensures none { IfNone result ((left : List (Bool × ℕ)) (right : List ℕ) → AreHalves count widths.now left right → ⊥) }
+    ensures found { IfSome result (λ h. AreHalves count widths.now h.0.items (character_digits h.1.items)) }
+    ensures none { IfNone result ((left : List Character) (right : List ℕ) → AreHalves count widths.now left right → ⊥) }
 {
     let Some((left, right)) = framed(widths, 4 * count) else {
         return None;
@@ -91,10 +92,10 @@ fn framed_six(widths: &[u8]) -> Option<&[u8]>
 }
 
 /// The six characters of a UPC-E.
-pub(crate) fn six(widths: &[u8]) -> Option<ArrayVec<(bool, u8), 6>>
+pub(crate) fn six(widths: &[u8]) -> Option<ArrayVec<Character, 6>>
     requires { AreWidths widths.now }
     ensures found { IfSome result (λ cs. AreSix widths.now cs.items) }
-    ensures none { IfNone result ((cs : List (Bool × ℕ)) → AreSix widths.now cs → ⊥) }
+    ensures none { IfNone result ((cs : List Character) → AreSix widths.now cs → ⊥) }
 {
     let Some(six) = framed_six(widths) else {
         return None;

@@ -1,8 +1,8 @@
 //! Reads EAN-13, EAN-8 and UPC-E symbols from their widths.
-ghost use Rattle.std.specs.Prelude.{◌≡◌, ◌+◌, ◌≤◌, ◌++◌, ℕ, List, IfNone, IfSome, length, map};
+ghost use Rattle.std.specs.Prelude.{◌≡◌, ◌+◌, ◌≤◌, ◌++◌, ℕ, List, IfNone, IfSome, length};
 ghost use Rattle.arrayvec.specs.ArrayVec.{array_vec_len};
 ghost use Rattle.digits_core.specs.Digits.{ascii_of};
-ghost use Rattle.ean_code.specs.NumberSets.{AreCharacters};
+ghost use Rattle.ean_code.specs.NumberSets.{AreCharacters, character_digits};
 ghost use Rattle.ean_code.specs.Parts.{IsTextOf};
 ghost use Rattle.ean_code.specs.Spelling.{IsSpelled};
 ghost use Rattle.ean_code.specs.Symbols.{IsEanSymbol};
@@ -10,6 +10,7 @@ ghost use Rattle.ean_code.specs.Symbols.Kind.{Ean13, Ean8, UpcE};
 ghost use Rattle.ean_code.specs.Widths.{AreWidths};
 
 use crate::modules::Modules;
+use crate::number_sets::Character;
 use crate::parts::{are_of_a, halves, six};
 use crate::rows::{first_digit, last_digit};
 use arrayvec::ArrayVec;
@@ -27,13 +28,13 @@ pub enum Spelled {
 }
 
 /// Appends the digits of characters, in ASCII.
-fn push_digits(text: &mut ArrayVec<u8, 13>, characters: &[(bool, u8)])
+fn push_digits(text: &mut ArrayVec<u8, 13>, characters: &[Character])
     requires room { array_vec_len text.old + length characters.now ≤ 13 }
     requires valid { AreCharacters characters.now }
-    ensures { text.new.items ≡ text.old.items ++ ascii_of (map (λ c. c.1) characters.now) }
+    ensures { text.new.items ≡ text.old.items ++ ascii_of (character_digits characters.now) }
 {
     for i in 0..characters.len() {
-        text.push(b'0' + characters[i].1);
+        text.push(b'0' + characters[i].digit);
     }
 }
 

@@ -1,5 +1,7 @@
-use Rattle.std.proofs.Common.{◌≡◌, ℕ, Bool, true, not, sym, ap, ◌∙◌}
+use Rattle.std.proofs.Common.{◌≡◌, true, sym, ap, ◌∙◌}
 use Rattle.std.specs.List.{list_all}
+use Rattle.ean_code.specs.declared.number_sets.Character.{Character}
+use Rattle.ean_code.specs.NumberSets.{is_a}
 use Rattle.ean_code.proofs.Halves.{framed_of, framed_valid, found_halves, same_framed}
 use Rattle.ean_code.proofs.Joined.{AreCharacters-as_a, all_of_a, as_a, rights-as_a, same_characters}
 use Rattle.ean_code.proofs.parts.halves.Goals as goal
@@ -28,7 +30,7 @@ returns-then-not-are_of_a-clause-none c = λ ls rs h.
     let same = same_framed _ c.args.widths.now _ _ _ _ (framed_of c.args.count c.args.widths.now ls rs h) c.in-Some.ensures.found in
     let found = c.in-Some-characters-2.ensures.found in
     let right : c.in-Some-characters-2.right.items ≡ as_a rs = same_characters _ _ found.0 (AreCharacters-as_a rs h.right_valid) (found.1 ∙ sym same.1 ∙ rights-as_a rs) in
-    let all : list_all (λ (x : Bool × ℕ). not x.0) c.as_slice.result.now ≡ true = ap (list_all (λ (x : Bool × ℕ). not x.0)) (c.as_slice.ensures.value ∙ right) ∙ all_of_a rs in
+    let all : list_all (λ (c : Character). is_a c.set) c.as_slice.result.now ≡ true = ap (list_all (λ (c : Character). is_a c.set)) (c.as_slice.ensures.value ∙ right) ∙ all_of_a rs in
     let said = c.are_of_a.ensures in let failed = c.if-not-are_of_a.true in cc
 
 pub returns-clause-found : goal.returns-clause-found
@@ -36,4 +38,4 @@ returns-clause-found c =
     let left = c.in-Some-characters.ensures.found in
     let right = c.in-Some-characters-2.ensures.found in
     found_halves c.args.count c.args.widths.now _ _ _ _ c.in-Some.ensures.found left.0 left.1 right.0 right.1
-    (sym (ap (list_all (λ (x : Bool × ℕ). not x.0)) c.as_slice.ensures.value) ∙ sym c.are_of_a.ensures ∙ c.if-not-are_of_a.false)
+    (sym (ap (list_all (λ (c : Character). is_a c.set)) c.as_slice.ensures.value) ∙ sym c.are_of_a.ensures ∙ c.if-not-are_of_a.false)

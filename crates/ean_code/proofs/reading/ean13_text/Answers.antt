@@ -1,8 +1,7 @@
 use Rattle.std.proofs.Common.{◌≡◌, ℕ, ◌+◌, List, [], ◌∷◌, ◌++◌, ◌∙◌, sym, ap, ap₂, subst, get_or, arith}
 use Rattle.digits_core.specs.Digits.{ascii_of}
-use Rattle.ean_code.specs.NumberSets.{AreCharacters}
+use Rattle.ean_code.specs.NumberSets.{AreCharacters, character_digits, character_sets}
 use Rattle.ean_code.specs.Symbols.Kind.{Ean13}
-use Rattle.ean_code.proofs.Characters.{firsts, seconds}
 use Rattle.ean_code.proofs.Found.{first_small, found13, halves13, row13}
 use Rattle.ean_code.proofs.Halves.{same_left}
 use Rattle.ean_code.proofs.Joined.{AreCharacters-from}
@@ -13,7 +12,7 @@ pub returns-in_default-first_digit-clause-none : goal.returns-in_default-first_d
 returns-in_default-first_digit-clause-none c = λ ds e.
     let ws : List ℕ = c.args.widths.now in
     let same = same_left 6 ws _ _ _ _ c.in-Some.ensures.found (halves13 ws ds e) in
-    c.in_default-first_digit.ensures.none (get_or ds 0 0) (first_small ws ds e) (ap firsts (c.as_slice.ensures.value ∙ same) ∙ row13 ws ds e)
+    c.in_default-first_digit.ensures.none (get_or ds 0 0) (first_small ws ds e) (ap character_sets (c.as_slice.ensures.value ∙ same) ∙ row13 ws ds e)
 
 pub push_digits-requires-2-clause-valid : goal.push_digits-requires-2-clause-valid
 push_digits-requires-2-clause-valid c =
@@ -24,11 +23,11 @@ returns-clause-found c =
     let found = c.in-Some.ensures.found in
     let first = c.in-Some-first_digit.ensures.found in
     let d : ℕ = c.in-Some-first_digit.first in
-    let row = ap firsts (sym c.as_slice.ensures.value) ∙ first.1 in
+    let row = ap character_sets (sym c.as_slice.ensures.value) ∙ first.1 in
     let order : 48 + d ≡ d + 48 = omega arith in
     let begun : c.push.new.self.items ≡ (d + 48) ∷ [] = c.push.ensures.items ∙ ap₂ (λ t b. t ++ b ∷ []) c.new-text.ensures order in
-    text_of Ean13 c.args.widths.now (d ∷ (seconds c.in-Some.left.items ++ seconds c.in-Some.right.items)) c.push_digits-2.new.text.items
-    (two_parts ((d + 48) ∷ []) _ _ (seconds c.in-Some.left.items) (seconds c.in-Some.right.items)
-    (c.push_digits.ensures ∙ ap₂ (λ t cs. t ++ ascii_of (seconds cs)) begun c.as_slice-2.ensures.value)
-    (c.push_digits-2.ensures ∙ ap (λ cs. c.push_digits.new.text.items ++ ascii_of (seconds cs)) c.as_slice-3.ensures.value))
-    (found13 c.args.widths.now d c.in-Some.left.items (seconds c.in-Some.right.items) found first.0 row)
+    text_of Ean13 c.args.widths.now (d ∷ (character_digits c.in-Some.left.items ++ character_digits c.in-Some.right.items)) c.push_digits-2.new.text.items
+    (two_parts ((d + 48) ∷ []) _ _ (character_digits c.in-Some.left.items) (character_digits c.in-Some.right.items)
+    (c.push_digits.ensures ∙ ap₂ (λ t cs. t ++ ascii_of (character_digits cs)) begun c.as_slice-2.ensures.value)
+    (c.push_digits-2.ensures ∙ ap (λ cs. c.push_digits.new.text.items ++ ascii_of (character_digits cs)) c.as_slice-3.ensures.value))
+    (found13 c.args.widths.now d c.in-Some.left.items (character_digits c.in-Some.right.items) found first.0 row)

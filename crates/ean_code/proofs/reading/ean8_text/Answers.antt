@@ -1,9 +1,9 @@
-use Rattle.std.proofs.Common.{◌≡◌, ℕ, Bool, true, not, List, [], ◌++◌, ◌∙◌, sym, ap, ap₂, subst, take}
+use Rattle.std.proofs.Common.{◌≡◌, ℕ, true, List, [], ◌++◌, ◌∙◌, sym, ap, ap₂, subst, take}
 use Rattle.std.specs.List.{list_all}
 use Rattle.digits_core.specs.Digits.{ascii_of}
-use Rattle.ean_code.specs.NumberSets.{AreCharacters}
+use Rattle.ean_code.specs.declared.number_sets.Character.{Character}
+use Rattle.ean_code.specs.NumberSets.{AreCharacters, character_digits, is_a}
 use Rattle.ean_code.specs.Symbols.Kind.{Ean8}
-use Rattle.ean_code.proofs.Characters.{seconds}
 use Rattle.ean_code.proofs.Found.{found8, halves8}
 use Rattle.ean_code.proofs.Halves.{same_left}
 use Rattle.ean_code.proofs.Joined.{AreCharacters-from, of_a-row}
@@ -14,7 +14,7 @@ pub returns-then-not-are_of_a-clause-none : goal.returns-then-not-are_of_a-claus
 returns-then-not-are_of_a-clause-none c = λ ds e.
     let ws : List ℕ = c.args.widths.now in
     let same = same_left 4 ws _ _ _ _ c.in-Some.ensures.found (halves8 ws ds e) in
-    let all : list_all (λ (x : Bool × ℕ). not x.0) c.as_slice.result.now ≡ true = ap (list_all (λ (x : Bool × ℕ). not x.0)) (c.as_slice.ensures.value ∙ same) ∙ of_a-row 4 (take 4 ds) in
+    let all : list_all (λ (c : Character). is_a c.set) c.as_slice.result.now ≡ true = ap (list_all (λ (c : Character). is_a c.set)) (c.as_slice.ensures.value ∙ same) ∙ of_a-row 4 (take 4 ds) in
     let said = c.are_of_a.ensures in let failed = c.if-not-are_of_a.true in cc
 
 pub push_digits-requires-2-clause-valid : goal.push_digits-requires-2-clause-valid
@@ -24,10 +24,10 @@ push_digits-requires-2-clause-valid c =
 pub returns-clause-found : goal.returns-clause-found
 returns-clause-found c =
     let found = c.in-Some.ensures.found in
-    let of_a : list_all (λ (x : Bool × ℕ). not x.0) c.in-Some.left.items ≡ true =
-    sym (ap (list_all (λ (x : Bool × ℕ). not x.0)) c.as_slice.ensures.value) ∙ sym c.are_of_a.ensures ∙ c.if-not-are_of_a.false in
-    text_of Ean8 c.args.widths.now (seconds c.in-Some.left.items ++ seconds c.in-Some.right.items) c.push_digits-2.new.text.items
-    (two_parts [] _ _ (seconds c.in-Some.left.items) (seconds c.in-Some.right.items)
-    (c.push_digits.ensures ∙ ap₂ (λ t cs. t ++ ascii_of (seconds cs)) c.new-text.ensures c.as_slice-2.ensures.value)
-    (c.push_digits-2.ensures ∙ ap (λ cs. c.push_digits.new.text.items ++ ascii_of (seconds cs)) c.as_slice-3.ensures.value))
-    (found8 c.args.widths.now c.in-Some.left.items (seconds c.in-Some.right.items) found of_a)
+    let of_a : list_all (λ (c : Character). is_a c.set) c.in-Some.left.items ≡ true =
+    sym (ap (list_all (λ (c : Character). is_a c.set)) c.as_slice.ensures.value) ∙ sym c.are_of_a.ensures ∙ c.if-not-are_of_a.false in
+    text_of Ean8 c.args.widths.now (character_digits c.in-Some.left.items ++ character_digits c.in-Some.right.items) c.push_digits-2.new.text.items
+    (two_parts [] _ _ (character_digits c.in-Some.left.items) (character_digits c.in-Some.right.items)
+    (c.push_digits.ensures ∙ ap₂ (λ t cs. t ++ ascii_of (character_digits cs)) c.new-text.ensures c.as_slice-2.ensures.value)
+    (c.push_digits-2.ensures ∙ ap (λ cs. c.push_digits.new.text.items ++ ascii_of (character_digits cs)) c.as_slice-3.ensures.value))
+    (found8 c.args.widths.now c.in-Some.left.items (character_digits c.in-Some.right.items) found of_a)

@@ -1,5 +1,5 @@
 use Rattle.std.proofs.Common.{ℕ, List, ◌∙◌, ap, get_or}
-use Rattle.ean_code.proofs.Characters.{firsts}
+use Rattle.ean_code.specs.NumberSets.{character_sets}
 use Rattle.ean_code.proofs.Found.{last_small, rowE, sixE}
 use Rattle.ean_code.proofs.Halves.{same_six}
 use Rattle.ean_code.proofs.reading.upce_text.Goals as goal
@@ -8,4 +8,4 @@ pub returns-in_default-last_digit-clause-none : goal.returns-in_default-last_dig
 returns-in_default-last_digit-clause-none c = λ ds e.
     let ws : List ℕ = c.args.widths.now in
     let same = same_six ws _ _ c.in-Some.ensures.found (sixE ws ds e) in
-    c.in_default-last_digit.ensures.none (get_or ds 6 0) (last_small ws ds e) (ap firsts (c.as_slice.ensures.value ∙ same) ∙ rowE ws ds e)
+    c.in_default-last_digit.ensures.none (get_or ds 6 0) (last_small ws ds e) (ap character_sets (c.as_slice.ensures.value ∙ same) ∙ rowE ws ds e)

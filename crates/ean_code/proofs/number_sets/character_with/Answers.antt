@@ -1,0 +1,20 @@
+use Rattle.std.proofs.Common.{◌∙◌, ap, sym}
+use Rattle.ean_code.specs.NumberSets.{character_of, left_widths}
+use Rattle.ean_code.specs.Widths.{packed_widths}
+use Rattle.ean_code.proofs.Characters.{length-left}
+use Rattle.ean_code.proofs.Drawn.{left_valid}
+use Rattle.ean_code.proofs.LookupFacts.{packed_four, unpacked}
+use Rattle.ean_code.proofs.number_sets.character_with.Goals as goal
+
+pub returns-in_default-clause-none : goal.returns-in_default-clause-none
+returns-in_default-clause-none c = λ x h e. c.in_default.ensures.none x h (ap packed_widths e ∙ sym (packed_four c.args.widths.now c.requires.four))
+
+pub returns-clause-found : goal.returns-clause-found
+returns-clause-found c =
+    let found = c.in-Some.ensures.found in
+    let x = character_of (c.in-Some.of_b, c.in-Some.digit) in
+    rw c.set_of-set.ensures (
+      found.0,
+      unpacked (left_widths x) c.args.widths.now (length-left x.set x.digit found.0) c.requires.four (left_valid x found.0) c.requires.valid
+          (found.1 ∙ packed_four c.args.widths.now c.requires.four),
+    )

@@ -1,0 +1,16 @@
+use Rattle.std.proofs.Common.{◌∙◌}
+use Rattle.std.proofs.lemmas.List.{length-map}
+use Rattle.ean_code.specs.declared.rows.TheConstants.{EAN13_DIGITS}
+use Rattle.ean_code.specs.NumberSets.{character_sets, ean13_rows}
+use Rattle.ean_code.proofs.ParityRows.{length-row}
+use Rattle.ean_code.proofs.RowTables.{ean13_table, row_found, row_none}
+use Rattle.ean_code.proofs.rows.first_digit.Goals as goal
+
+pub returns-then-digit-clause-none : goal.returns-then-digit-clause-none
+returns-then-digit-clause-none c =
+    row_none ean13_rows EAN13_DIGITS ean13_table (character_sets c.args.left.now) c.packed_row.result 0 c.packed_row.ensures.value c.if-digit.true
+
+pub returns-else-digit-clause-found : goal.returns-else-digit-clause-found
+returns-else-digit-clause-found c =
+    row_found ean13_rows EAN13_DIGITS ean13_table length-row (character_sets c.args.left.now) c.packed_row.result 0 (length-map c.args.left.now _ ∙ c.requires)
+    c.packed_row.ensures.value c.packed_row.ensures.low c.if-digit.false
