@@ -1,64 +1,24 @@
 -- What the tables hold, by tests that compute.
-use Rattle.std.proofs.Common.{◌≡◌, ◌≢◌, ℕ, zero, suc, ◌+◌, ◌-◌, ◌*◌, ◌<◌, ◌≤◌, Bool, true, false, ◌&&◌, ◌==◌, nat_lt, List, [], ◌∷◌, length, refl, sym, ap, ap₂, subst, ◌∙◌, arith, eqb-true, inl, inr, zero-add, add-zero, get_or}
-use Rattle.std.specs.Prelude.{if◌then◌else◌}
-use Rattle.std.proofs.lemmas.Bool.{and_parts, cases_eq, ltb-true, ne_eqb}
-use Rattle.std.proofs.lemmas.List.{get_or_default}
-use Rattle.ean_code.specs.Widths.{AreWidths}
+use Rattle.std.proofs.Common.{◌≡◌, ◌≢◌, ℕ, ◌+◌, ◌-◌, ◌*◌, ◌<◌, ◌≤◌, true, ◌==◌, List, [], ◌∷◌, length, refl, sym, ap, ap₂, ◌∙◌, arith, eqb-true, get_or}
+use Rattle.ean_code.specs.Widths.{AreWidths, packed_widths}
 use Rattle.ean_code.proofs.Cells.{all_below, all_below-at, IsCode}
+use Rattle.ean_code.proofs.Tables.{IsTable, entry_found, key_low, number_at}
 use Rattle.ean_code.proofs.Widths.{are_widths, AreWidths-from}
 use Rattle.code128_code.specs.declared.lookup.TheConstants.{VALUES}
-use Rattle.code128_code.specs.Characters.{packed_widths, pattern, patterns}
+use Rattle.code128_code.specs.Characters.{pattern, patterns}
 
--- no value, or one whose pattern packs to the place
-abbrev entry_ok : ℕ → ℕ → Bool
-entry_ok i e = if e == 255 then true else (nat_lt e 106 && (packed_widths (pattern e) == i))
-
--- each entry, the first at place i
-abbrev entries_ok : ℕ → List ℕ → Bool
-entries_ok i [] = true
-entries_ok i (e ∷ es) = entry_ok i e && entries_ok (i + 1) es
-
-entries_tested : entries_ok 0 VALUES ≡ true
+values_table : IsTable 106 4096 (λ v. packed_widths (pattern v)) VALUES
 unfolding patterns
-entries_tested = refl
-
-values_tested : all_below (λ v. get_or VALUES (packed_widths (pattern v)) 255 == v) 106 ≡ true
-unfolding patterns
-values_tested = refl
-
-low_tested : all_below (λ v. nat_lt (packed_widths (pattern v)) 4096) 106 ≡ true
-unfolding patterns
-low_tested = refl
-
-entry_value : (i e : ℕ) → entry_ok i e ≡ true → e ≢ 255 → (e < 106) × (packed_widths (pattern e) ≡ i)
-entry_value i e h ne =
-    elim (cases_eq e 255) [
-      | inl same ↦ absurd (ne same)
-      | inr other ↦
-          let test : (e == 255) ≡ false = ne_eqb e 255 other in
-          let rest : (nat_lt e 106 && (packed_widths (pattern e) == i)) ≡ true = subst (λ b. (if b then true else (nat_lt e 106 && (packed_widths (pattern e) == i))) ≡ true) test h in
-          let parts = and_parts _ _ rest in (ltb-true e 106 parts.0, eqb-true _ _ parts.1)
-    ]
-
-entries_ok-at : (i : ℕ) (es : List ℕ) → entries_ok i es ≡ true → (k d : ℕ) → k < length es → entry_ok (i + k) (get_or es k d) ≡ true
-entries_ok-at i [] h k d lt = absurd (omega arith)
-entries_ok-at i (e ∷ es) h zero d lt = rw add-zero (and_parts (entry_ok i e) _ h).0
-entries_ok-at i (e ∷ es) h (suc k) d lt =
-    let rest = entries_ok-at (i + 1) es (and_parts (entry_ok i e) _ h).1 k d (omega arith) in
-    let at : (i + 1) + k ≡ i + suc k = omega arith in subst (λ n. entry_ok n (get_or es k d) ≡ true) at rest
+values_table = record { long = refl; entries = refl; low = refl; numbers = refl }
 
 pub value_found : (i d : ℕ) → i < 4096 → get_or VALUES i d ≢ 255 → (get_or VALUES i d < 106) × (packed_widths (pattern (get_or VALUES i d)) ≡ i)
-value_found i d lt ne =
-    let ok : entry_ok (0 + i) (get_or VALUES i d) ≡ true = entries_ok-at 0 VALUES entries_tested i d lt in
-    entry_value i (get_or VALUES i d) (subst (λ n. entry_ok n (get_or VALUES i d) ≡ true) (zero-add i) ok) ne
+value_found i d lt ne = entry_found 106 4096 (λ v. packed_widths (pattern v)) VALUES values_table i d lt ne
 
 pub packed_low : (v : ℕ) → v < 106 → packed_widths (pattern v) < 4096
-packed_low v h = ltb-true _ _ (all_below-at (λ v. nat_lt (packed_widths (pattern v)) 4096) 106 low_tested v h)
+packed_low v h = key_low 106 4096 (λ v. packed_widths (pattern v)) VALUES values_table v h
 
 pub value_at : (v d : ℕ) → v < 106 → get_or VALUES (packed_widths (pattern v)) d ≡ v
-value_at v d h =
-    get_or_default VALUES (packed_widths (pattern v)) d 255 (packed_low v h)
-    ∙ eqb-true _ _ (all_below-at (λ v. get_or VALUES (packed_widths (pattern v)) 255 == v) 106 values_tested v h)
+value_at v d h = number_at 106 4096 (λ v. packed_widths (pattern v)) VALUES values_table v d h
 
 -- the value that widths show
 unfoldable pub shown : List ℕ → ℕ

@@ -1,6 +1,5 @@
 -- The symbol characters of Code 128 (ISO/IEC 15417, symbol character encodation).
-use Rattle.std.specs.Prelude.{ℕ, ◌+◌, ◌-◌, ◌*◌, List, [], ◌∷◌, slice_index_or}
-use Rattle.std.specs.List.{fold}
+use Rattle.std.specs.Prelude.{ℕ, List, [], ◌∷◌, slice_index_or}
 
 -- the widths in modules of the values 0 to 102 and of the start characters A, B and C, which are 103 to 105: six each, the bar first
 unfoldable pub patterns : List (List ℕ)
@@ -65,7 +64,3 @@ pattern v = slice_index_or patterns v []
 -- the widths of the stop character
 abbrev pub stop : List ℕ
 stop = 2 ∷ 3 ∷ 3 ∷ 1 ∷ 1 ∷ 1 ∷ 2 ∷ []
-
--- widths as one number: each less one in two bits, the first highest
-abbrev pub packed_widths : List ℕ → ℕ
-packed_widths widths = fold (λ n w. 4 * n + (w - 1)) 0 widths

@@ -1,6 +1,7 @@
 //! The value of a symbol character by its widths.
 ghost use Rattle.std.specs.Prelude.{◌≡◌, ◌≢◌, ◌<◌, ℕ, IfNone, IfSome};
-ghost use Rattle.code128_code.specs.Characters.{packed_widths, pattern};
+ghost use Rattle.ean_code.specs.Widths.{packed_widths};
+ghost use Rattle.code128_code.specs.Characters.{pattern};
 
 /// The entry of widths that no character has.
 const NONE: u8 = 255;

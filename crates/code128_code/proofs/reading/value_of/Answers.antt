@@ -1,7 +1,8 @@
 use Rattle.std.proofs.Common.{◌≡◌, ℕ, List, ◌+◌, ◌*◌, ◌∙◌, ap, sym}
 use Rattle.std.proofs.lemmas.Option.{IfSome_then}
 use Rattle.ean_code.proofs.Options.{IfNone_then}
-use Rattle.code128_code.specs.Characters.{packed_widths, pattern}
+use Rattle.ean_code.specs.Widths.{packed_widths}
+use Rattle.code128_code.specs.Characters.{pattern}
 use Rattle.code128_code.proofs.LookupFacts.{length-pattern, packed_six, pattern_valid, unpacked}
 use Rattle.code128_code.proofs.reading.value_of.Goals as goal
 
