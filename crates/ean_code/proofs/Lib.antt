@@ -6,6 +6,7 @@ pub mod Found
 pub mod Halves
 pub mod Joined
 pub mod LookupFacts
+pub mod Measures
 pub mod Options
 pub mod ParityRows
 pub mod Readings

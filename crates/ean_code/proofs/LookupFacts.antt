@@ -1,11 +1,11 @@
 -- What the table of characters holds, by tests that compute.
-use Rattle.std.proofs.Common.{◌≡◌, ◌≢◌, ℕ, ◌+◌, ◌-◌, ◌*◌, ◌%◌, ◌<◌, ◌≤◌, Bool, true, ◌&&◌, ◌==◌, nat_le, List, [], ◌∷◌, length, refl, ap, ap₂, ◌∙◌, arith, eqb-true, get_or}
+use Rattle.std.proofs.Common.{◌≡◌, ◌≢◌, ℕ, ◌+◌, ◌-◌, ◌*◌, ◌%◌, ◌<◌, ◌≤◌, Bool, true, not, ◌&&◌, ◌==◌, nat_le, List, [], ◌∷◌, length, refl, ap, ap₂, ◌∙◌, arith, eqb-true, get_or}
 use Rattle.std.proofs.lemmas.Bool.{and_parts}
 use Rattle.ean_code.specs.declared.lookup.TheConstants.{CHARACTERS}
 use Rattle.ean_code.specs.declared.number_sets.Character.{Character}
 use Rattle.ean_code.specs.declared.number_sets.NumberSet.{NumberSet}
 use Rattle.ean_code.specs.declared.number_sets.NumberSet.TheVariants.{A, B}
-use Rattle.ean_code.specs.NumberSets.{character_of, in_set, left_widths}
+use Rattle.ean_code.specs.NumberSets.{character_of, in_set, is_a, left_widths}
 use Rattle.ean_code.specs.Widths.{AreWidths, packed_widths}
 use Rattle.ean_code.proofs.Cells.{all_below, all_below-at}
 use Rattle.ean_code.proofs.Characters.{same_set, same_set-true}
@@ -45,10 +45,21 @@ entry_back : (s : NumberSet) (d : ℕ) → d < 10 → entry_character (entry_of 
 entry_back s d h =
     let parts = and_parts _ _ (all_below-at (entry_back_ok s) 10 (entries_back s) d h) in ap₂ in_set (same_set-true _ _ parts.0) (eqb-true _ _ parts.1)
 
-pub no_character : (i d : ℕ) → get_or CHARACTERS i d ≡ 255 → (c : Character) → c.digit < 10 → packed_widths (left_widths c) ≢ i
+no_character : (i d : ℕ) → get_or CHARACTERS i d ≡ 255 → (c : Character) → c.digit < 10 → packed_widths (left_widths c) ≢ i
 no_character i d none c h same =
     none_found 20 256 character_key CHARACTERS characters_table (omega arith) i d none (entry_of c.set c.digit) (entry_low c.set c.digit h)
     (ap (λ x. packed_widths (left_widths x)) (entry_back c.set c.digit h) ∙ same)
+
+pub no_pair : (i d : ℕ) → get_or CHARACTERS i d ≡ 255 → (c : Bool × ℕ) → c.1 < 10 → packed_widths (left_widths (character_of c)) ≢ i
+no_pair i d none c h = no_character i d none (character_of c) h
+
+-- a character as whether it is of number set B, and its digit
+abbrev pub pair_of : Character → Bool × ℕ
+pair_of c = (not (is_a c.set), c.digit)
+
+pub of_pair : (s : NumberSet) (d : ℕ) → character_of (pair_of (in_set s d)) ≡ in_set s d
+of_pair A d = refl
+of_pair B d = refl
 
 -- numbers by their last digit in base four
 last_digit : (m n x y : ℕ) → 1 ≤ x → x ≤ 4 → 1 ≤ y → y ≤ 4 → 4 * m + (x - 1) ≡ 4 * n + (y - 1) → (m ≡ n) × (x ≡ y)

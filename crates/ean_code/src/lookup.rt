@@ -1,8 +1,7 @@
 //! The character of a number set by its widths.
-ghost use Rattle.std.specs.Prelude.{◌≡◌, ◌≢◌, ◌<◌, IfNone, IfSome};
+ghost use Rattle.std.specs.Prelude.{◌≡◌, ◌≢◌, ◌<◌, ℕ, Bool, IfNone, IfSome};
 ghost use Rattle.ean_code.specs.NumberSets.{character_of, left_widths};
 ghost use Rattle.ean_code.specs.Widths.{packed_widths};
-ghost use Rattle.ean_code.specs.declared.number_sets.Character.{Character};
 
 /// The entry of widths that no character has.
 const NONE: u8 = 255;
@@ -33,7 +32,7 @@ static CHARACTERS: [u8; 256] = [
 /// digit 0 to 9. None where no character has them (ISO/IEC 15420, symbol character encodation).
 pub fn character(packed: u8) -> Option<(bool, u8)>
     ensures found { IfSome result (λ c. (c.1 < 10) × (packed_widths (left_widths (character_of c)) ≡ packed)) }
-    ensures none { IfNone result ((c : Character) → c.digit < 10 → packed_widths (left_widths c) ≢ packed) }
+    ensures none { IfNone result ((c : Bool × ℕ) → c.1 < 10 → packed_widths (left_widths (character_of c)) ≢ packed) }
 {
     let entry = CHARACTERS[packed as usize];
     if entry == NONE {

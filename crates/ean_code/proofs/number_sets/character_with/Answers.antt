@@ -3,11 +3,12 @@ use Rattle.ean_code.specs.NumberSets.{character_of, left_widths}
 use Rattle.ean_code.specs.Widths.{packed_widths}
 use Rattle.ean_code.proofs.Characters.{length-left}
 use Rattle.ean_code.proofs.Drawn.{left_valid}
-use Rattle.ean_code.proofs.LookupFacts.{packed_four, unpacked}
+use Rattle.ean_code.proofs.LookupFacts.{of_pair, packed_four, pair_of, unpacked}
 use Rattle.ean_code.proofs.number_sets.character_with.Goals as goal
 
 pub returns-in_default-clause-none : goal.returns-in_default-clause-none
-returns-in_default-clause-none c = λ x h e. c.in_default.ensures.none x h (ap packed_widths e ∙ sym (packed_four c.args.widths.now c.requires.four))
+returns-in_default-clause-none c = λ x h e.
+    c.in_default.ensures.none (pair_of x) h (ap (λ y. packed_widths (left_widths y)) (of_pair x.set x.digit) ∙ ap packed_widths e ∙ sym (packed_four c.args.widths.now c.requires.four))
 
 pub returns-clause-found : goal.returns-clause-found
 returns-clause-found c =
