@@ -38,6 +38,13 @@ few_runs Ean8 n N a = let e = a.0 in (omega arith, omega arith, omega arith)
 few_runs UpcE n N a = let e = a.0 in (omega arith, omega arith, omega arith)
 few_runs Gs1128 n N a = let l = a.1 in let m = a.2 in let e = a.3 in (omega arith, omega arith, omega arith)
 
+-- a symbol is at most 1,091 modules wide
+pub most_modules : (c : Carrier) (n N : ℕ) → IsCandidate c n N → N ≤ 1091
+most_modules Ean13 n N a = let e = a.1 in omega arith
+most_modules Ean8 n N a = let e = a.1 in omega arith
+most_modules UpcE n N a = let e = a.1 in omega arith
+most_modules Gs1128 n N a = let m = a.2 in let e = a.4 in omega arith
+
 -- a row with a candidate has runs of dark dots, and of dots at all
 pub candidate_dark : (runs : List ℕ) (c : Carrier) (N : ℕ) → IsRow runs → IsCandidate c (length (inner runs)) N → Contains (dots_of runs) true
 candidate_dark runs c N row h =

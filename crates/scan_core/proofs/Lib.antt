@@ -3,13 +3,13 @@ pub mod CandidateFacts
 pub mod ContentFacts
 pub mod CutFacts
 pub mod DotFacts
-pub mod EanMeasures
 pub mod FoundFacts
-pub mod ReplacedFacts
 pub mod LengthFacts
+pub mod OuterBars
+pub mod ReplacedFacts
 pub mod RoundingFacts
-pub mod RunsOfDots
 pub mod RowFacts
+pub mod RunsOfDots
 pub mod ShownFacts
 pub mod StageFacts
 pub mod TurnedFacts

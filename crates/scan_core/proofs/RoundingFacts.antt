@@ -1,8 +1,8 @@
 -- Runs are at most one list of modules.
-use Rattle.std.proofs.Common.{◌≡◌, ℕ, ◌+◌, ◌*◌, ◌<◌, ◌≤◌, List, [], ◌∷◌, sum, refl, ap₂, arith, inl, inr}
+use Rattle.std.proofs.Common.{◌≡◌, ℕ, ◌+◌, ◌*◌, ◌<◌, ◌≤◌, List, [], ◌∷◌, sum, refl, subst, ap₂, arith, inl, inr}
 use Rattle.std.specs.List.{AllZip, AllByRecursion}
 use Rattle.std.proofs.lemmas.Bool.{cases_lt}
-use Rattle.scan_core.specs.Showing.{IsRun, Rounds}
+use Rattle.scan_core.specs.Showing.{IsRun, Rounds, gap}
 
 -- no run is two numbers of modules
 not_less : (N W w m k : ℕ) → 0 < W → IsRun N W w m → IsRun N W w k → m < k → ⊥
@@ -15,6 +15,23 @@ one_run N W w m k pos a b =
     elim (cases_lt m k) [
       | inl less ↦ absurd (not_less N W w m k pos a b less)
       | inr rest ↦ elim (cases_lt k m) [ inl more ↦ absurd (not_less N W w k m pos b a more) | inr same ↦ omega arith ]
+    ]
+
+more_modules : (m k W : ℕ) → m < k → m * W + W ≤ k * W
+more_modules m k W lt = let more : (m + 1) * W ≤ k * W = grind arith in omega arith
+
+-- a run that is not the modules nearest to it, to within a third of one, is none
+pub not_near : (N W w k m : ℕ) → 1 ≤ k → (1 < k → 3 * (k * W) ≤ 3 * (w * N) + W) → (k < 4 → 3 * (w * N) < 3 * (k * W) + 2 * W) → W < gap (3 * (w * N)) (3 * (k * W)) → IsRun N W w m → ⊥
+not_near N W w k m one reached passed far run =
+    let near = run.near in
+    let least = run.least in
+    let most = run.most in
+    elim (cases_lt m k) [
+      | inl less ↦ let more = more_modules m k W less in let low = reached (omega arith) in omega arith
+      | inr rest ↦ elim (cases_lt k m) [
+        | inl more ↦ let beyond = more_modules k m W more in let high = passed (omega arith) in omega arith
+        | inr other ↦ let same : m ≡ k = omega arith in let here : 3 * gap (w * N) (k * W) ≤ W = subst (λ i. 3 * gap (w * N) (i * W) ≤ W) same near in omega arith
+      ]
     ]
 
 one_list : (N W : ℕ) → 0 < W → (ws ms ks : List ℕ) → AllZip (IsRun N W) ws ms → AllZip (IsRun N W) ws ks → ms ≡ ks

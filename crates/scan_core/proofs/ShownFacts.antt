@@ -12,7 +12,7 @@ use Rattle.scan_core.specs.Row.{IsRow, inner}
 use Rattle.scan_core.specs.Showing.{HasForm, IsCandidate, IsRun, Rounds, Shows, Way, along}
 use Rattle.scan_core.specs.Showing.Way.{Forwards, Backwards}
 use Rattle.scan_core.proofs.CandidateFacts.{candidate_dots}
-use Rattle.scan_core.proofs.EanMeasures.{outer_bars}
+use Rattle.scan_core.proofs.OuterBars.{outer_bars}
 use Rattle.scan_core.proofs.WayFacts.{one_lying, rounds_lying}
 
 -- no symbol of an EAN or UPC kind is one backwards

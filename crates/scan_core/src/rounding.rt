@@ -1,5 +1,5 @@
 //! Widths in dots rounded to modules.
-ghost use Rattle.std.specs.Prelude.{◌≡◌, ◌+◌, ◌<◌, ◌≤◌, ◌↔◌, ◌^◌, ◌%◌, IfNone, IfSome, IsTrue, ℕ, List, length, sum};
+ghost use Rattle.std.specs.Prelude.{◌≡◌, ◌+◌, ◌*◌, ◌<◌, ◌≤◌, ◌↔◌, ◌^◌, ◌%◌, IfNone, IfSome, IsTrue, ℕ, List, length, sum};
 ghost use Rattle.scan_core.specs.Row.{inner};
 ghost use Rattle.scan_core.specs.Showing.{IsQuiet, IsRun, Rounds};
 
@@ -27,19 +27,42 @@ pub(crate) fn is_quiet(widths: &[u16], total: u32, count: u16) -> bool
     least <= left && least <= right
 }
 
+/// The number of modules, 1 to 4, that `thirds` is nearest to, where three times `total` is one module.
+fn nearest(thirds: u32, total: u32) -> u8
+    requires narrow { total ≤ 65535 }
+    ensures least { 1 ≤ result }
+    ensures most { result ≤ 4 }
+    ensures reached { 1 < result → 3 * (result * total) ≤ thirds + total }
+    ensures passed { result < 4 → thirds < 3 * (result * total) + 2 * total }
+{
+    if thirds < 5 * total {
+        return 1;
+    }
+    if thirds < 8 * total {
+        return 2;
+    }
+    if thirds < 11 * total {
+        return 3;
+    }
+    4
+}
+
 /// The modules of a run of `width` dots, where `total` dots are `count` modules.
+///
+/// In 32 bits: `count` is at most 1,091, the modules of the longest symbol.
 fn modules_of(width: u16, total: u32, count: u16) -> Option<u8>
+    requires narrow { total ≤ 65535 }
+    requires short { count ≤ 1091 }
     ensures found { IfSome result (λ m. IsRun count total width m) }
     ensures none { IfNone result ((m : ℕ) → IsRun count total width m → ⊥) }
 {
-    let dots = u64::from(width) * u64::from(count);
-    for modules in 1..5u8 {
-        let nominal = u64::from(modules) * u64::from(total);
-        if 3 * dots.abs_diff(nominal) <= u64::from(total) {
-            return Some(modules);
-        }
+    let thirds = 3 * (u32::from(width) * u32::from(count));
+    let modules = nearest(thirds, total);
+    if thirds.abs_diff(3 * (u32::from(modules) * total)) <= total {
+        Some(modules)
+    } else {
+        None
     }
-    None
 }
 
 /// The modules that the runs of a symbol, `total` dots and `count` modules together, round to.
@@ -47,15 +70,17 @@ pub(crate) fn round(inner: &[u16], total: u32, count: u16) -> Option<Modules>
     requires few { length inner.now ≤ 595 }
     requires odd { length inner.now % 2 ≡ 1 }
     requires sum { total ≡ sum inner.now }
+    requires narrow { total ≤ 65535 }
+    requires short { count ≤ 1091 }
     ensures found { IfSome result (λ modules. Rounds inner.now count modules) }
     ensures none { IfNone result ((modules : List ℕ) → Rounds inner.now count modules → ⊥) }
 {
-    let mut found = ArrayVec::<u8, 595>::new();
+    let mut found = ArrayVec::new();
     for width in inner {
         let Some(modules) = modules_of(*width, total, count) else {
             return None;
         };
         found.push(modules);
     }
-    Modules::of(found.as_slice())
+    Some(Modules::new(found))
 }

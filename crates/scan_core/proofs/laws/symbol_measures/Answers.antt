@@ -1,7 +1,7 @@
 use Rattle.scan_core.specs.declared.carrier.Carrier.TheVariants.{Ean13, Ean8, UpcE, Gs1128}
 use Rattle.scan_core.specs.Laws.{SymbolMeasures}
 use Rattle.code128_code.specs.Laws.{Measures}
-use Rattle.scan_core.proofs.EanMeasures.{ean13_measures, ean8_measures, upce_measures}
+use Rattle.ean_code.proofs.Measures.{ean13_measures, ean8_measures, upce_measures}
 use Rattle.scan_core.proofs.ShownFacts.{code_measures}
 use Rattle.scan_core.proofs.laws.symbol_measures.Goals as goal
 

@@ -1,8 +1,7 @@
-use Rattle.std.proofs.Common.{◌≡◌, sum, length, get_or, ap, subst, ◌∙◌, arith, ◌≤◌, ◌%◌, Option, Some, None, IsSome, IfNone}
+use Rattle.std.proofs.Common.{◌≡◌, sum, length, get_or, ap, subst, ◌∙◌, arith, ◌≤◌, ◌%◌}
 use Rattle.std.specs.List.{AllZip}
 use Rattle.std.proofs.lemmas.List.{get_or_default, take_all}
 use Rattle.std.proofs.lemmas.List.Elements.{AllZip-get_or, all_zip_more}
-use Rattle.ean_code.specs.Widths.{AreModules}
 use Rattle.scan_core.specs.Showing.{IsRun}
 use Rattle.scan_core.proofs.RoundingFacts.{rounded_widths}
 use Rattle.scan_core.proofs.rounding.round.Goals as goal
@@ -27,19 +26,12 @@ loop-width-preserved c =
           (all_zip_more R runs c.loop-width.found.items i width c.in-Some.modules (omega arith) (get_or_default runs i 0 width (omega arith)) c.loop-width.invariant.read c.in-Some.ensures.found);
     }
 
--- where there is a value nothing is owed of there being none
-some_owes : {X : Type 0} (o : Option X) (P : Type 0) → IsSome o → IfNone o P
-some_owes (Some x) P h = tt
-some_owes None P h = absurd cc
-
-pub returns-clause-none : goal.returns-clause-none
-returns-clause-none c =
+pub new-requires : goal.new-requires
+new-requires c =
     let runs = c.args.inner.now in
     let found = c.loop-width.found.items in
     let R = IsRun c.args.count c.args.total in
     let all : AllZip R runs found = subst (λ xs. AllZip R xs found) (take_all c.loop-width.width-index runs (omega arith)) c.loop-width.invariant.read in
     let same : length found ≡ length runs = omega arith in
     let few : length found ≤ 595 = omega arith in
-    let odd : length found % 2 ≡ 1 = ap (λ n. n % 2) same ∙ c.requires.odd in
-    let are : AreModules found = (few, odd, rounded_widths c.args.count c.args.total runs found all) in
-    some_owes c.of.result _ (c.of.ensures.valid.1 (rw c.as_slice.ensures.value are))
+    let odd : length found % 2 ≡ 1 = ap (λ n. n % 2) same ∙ c.requires.odd in (few, odd, rounded_widths c.args.count c.args.total runs found all)
