@@ -27,6 +27,15 @@ pub(crate) fn is_quiet(widths: &[u16], total: u32, count: u16) -> bool
     least <= left && least <= right
 }
 
+/// 1 where `thirds` comes up to the threshold, and else 0.
+fn reaches(thirds: u32, threshold: u32) -> u8
+    ensures reached { threshold ≤ thirds → result ≡ 1 }
+    ensures below { thirds < threshold → result ≡ 0 }
+    ensures most { result ≤ 1 }
+{
+    u8::from(threshold <= thirds)
+}
+
 /// The number of modules, 1 to 4, that `thirds` is nearest to, where three times `total` is one module.
 fn nearest(thirds: u32, total: u32) -> u8
     requires narrow { total ≤ 65535 }
@@ -35,16 +44,7 @@ fn nearest(thirds: u32, total: u32) -> u8
     ensures reached { 1 < result → 3 * (result * total) ≤ thirds + total }
     ensures passed { result < 4 → thirds < 3 * (result * total) + 2 * total }
 {
-    if thirds < 5 * total {
-        return 1;
-    }
-    if thirds < 8 * total {
-        return 2;
-    }
-    if thirds < 11 * total {
-        return 3;
-    }
-    4
+    1 + reaches(thirds, 5 * total) + reaches(thirds, 8 * total) + reaches(thirds, 11 * total)
 }
 
 /// The modules of a run of `width` dots, where `total` dots are `count` modules.
