@@ -2,7 +2,7 @@
 use Rattle.std.proofs.Common.{◌≡◌, ◌≢◌, ◌==◌, ◌||◌, ◌+◌, ◌<◌, ◌≤◌, ◌∷◌, ◌∙◌, ◌++◌, [], Bool, List, ℕ, zero, suc, ap, arith, get_or, inl, inr, length, ltb, map, not, refl, replicate, set, subst, sym, true, false}
 use Rattle.std.proofs.lemmas.Bool.{and_from, both_ways, cases_eq, cases_Bool, cases_lt, false≢true, le-ltb, lt-ltb, ltb-true, or_cases, or_left, or_right}
 use Rattle.std.proofs.lemmas.List.{get_or-set_other, get_or-set_same, length-append, length-map, length-replicate, length-set}
-use Rattle.lane_core.specs.Desk.{Desk, GivesNext, TakesIn, desk, has_next, is_new, is_out, lanes_of, next_of, was_taken}
+use Rattle.lane_core.specs.Desk.{Desk, GivesNext, TakesIn, has_next, is_known, is_new, lanes_of, new_desk, next_of, was_taken}
 use Rattle.lane_core.specs.declared.job.Plain.{Plain}
 use Rattle.lane_core.specs.Tickets.{is_among, is_ticket_of, numbered, times}
 use Rattle.lane_core.specs.Weights.{once, weigh}
@@ -88,7 +88,7 @@ neither true b e = refl
 neither false b e = e
 
 -- a deliverer that took nothing in, and lanes that were given nothing
-pub fresh_keeps : {V : Type 0} (n : ℕ) (vs : List V) (d : Desk) → d ≡ desk (replicate n 0) [] [] → length vs ≡ n → Keeps d (map (λ _. []) vs)
+pub fresh_keeps : {V : Type 0} (n : ℕ) (vs : List V) (d : Desk) → d ≡ new_desk n → length vs ≡ n → Keeps d (map (λ _. []) vs)
 fresh_keeps n vs d is long =
     let nexts = ap (λ (t : Desk). t.nexts) is in
     let next : (l : ℕ) → next_of d l ≡ 0 = λ l. ap (λ ns. get_or ns l 0) nexts ∙ zeros_at n l 0 refl in
@@ -98,11 +98,8 @@ fresh_keeps n vs d is long =
       counted = λ l. ap length (empties_at vs l) ∙ sym (next l);
       taken = λ l k.
           let waiting = ap (λ (t : Desk). t.waiting) is in
-          let out = ap (λ (t : Desk). t.out) is in
-          let w = ap (is_among l k) waiting in
-          let o = ap (is_out l k) out in
-          let first = neither (ltb k (next_of d l)) (is_among l k d.waiting) w in
-          let was : was_taken d l k ≡ ltb k (next_of d l) = neither (ltb k (next_of d l) || is_among l k d.waiting) (is_out l k d.out) o ∙ first in
+          let known = ap (λ (t : Desk). is_known l k t.known) is in
+          let was : was_taken d l k ≡ ltb k (next_of d l) = neither (ltb k (next_of d l)) (is_known l k d.known) known in
           let taken = ap once was in
           let t = ap (times l k) waiting in
           omega arith;

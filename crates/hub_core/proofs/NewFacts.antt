@@ -6,7 +6,7 @@ use Rattle.std.proofs.lemmas.Bool.Decides.{nat_tests}
 use Rattle.std.proofs.lemmas.List.{length-map}
 use Rattle.rtrb.specs.Ring.{IsPair, SameProducer, sent}
 use Rattle.lane_core.specs.declared.job.Plain.{Plain}
-use Rattle.lane_core.specs.Desk.{Desk, desk, was_taken}
+use Rattle.lane_core.specs.Desk.{Desk, new_desk, was_taken}
 use Rattle.lane_core.specs.Weights.{once, weigh}
 use Rattle.hub_core.specs.declared.rule.Trace.{Trace}
 use Rattle.hub_core.specs.declared.shape.Shape.{Shape}
@@ -80,7 +80,7 @@ none_so false e = refl
 not_below : (k : ℕ) → once (nat_lt k 0) ≡ 0
 not_below k = grind (arith, nat_tests)
 
-pub fresh_stocks : (n capacity : ℕ) (rings : List PushEnd) (d : Desk) (collected : List Plain) → d ≡ desk (replicate n 0) [] [] → length rings ≡ n → All (IsUnsent capacity) rings → collected ≡ []
+pub fresh_stocks : (n capacity : ℕ) (rings : List PushEnd) (d : Desk) (collected : List Plain) → d ≡ new_desk n → length rings ≡ n → All (IsUnsent capacity) rings → collected ≡ []
     → Stocks d collected [] (all_sent rings)
 fresh_stocks n capacity rings d collected is long unsent none =
     let given = unsent_all capacity rings unsent in

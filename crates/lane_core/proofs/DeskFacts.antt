@@ -1,82 +1,26 @@
--- How a deliverer's desk changes with its map.
-use Rattle.std.proofs.Common.{◌≡◌, ◌≢◌, ℕ, ◌+◌, ◌<◌, ◌==◌, ◌&&◌, ◌||◌, not, nat_lt, Bool, true, false, List, [], ◌∷◌, ◌++◌, length, slice_set, get_or, zero, suc, ◌⊎◌, inl, inr, ⊎_elim, refl, sym, ap, ◌∙◌, arith}
+-- How a deliverer's desk changes with what the deliverer keeps.
+use Rattle.std.proofs.Common.{◌≡◌, ◌≢◌, ℕ, ◌+◌, ◌<◌, ◌^◌, ◌==◌, ◌&&◌, ◌||◌, not, nat_lt, Bool, true, false, List, [], ◌∷◌, ◌++◌, length, replicate, set, get_or, zero, suc, ◌⊎◌, inl, inr, ⊎_elim, refl, sym, ap, ◌∙◌, subst, arith}
 use Rattle.std.specs.Map.{values_of}
 use Rattle.std.proofs.lemmas.Bool.Decides.{nat_tests}
 use Rattle.std.proofs.lemmas.Grind.{get_or-set_at}
-use Rattle.std.proofs.lemmas.List.{get_or-set_other}
+use Rattle.std.proofs.lemmas.List.{get_or-set_other, length-replicate, length-set}
 use Rattle.std.proofs.lemmas.List.Folds.{list_any-append}
+use Rattle.lane_core.specs.declared.head.Head.{Head}
+use Rattle.lane_core.specs.declared.head.Head.TheVariants.{Missing, Here, Out}
 use Rattle.lane_core.specs.declared.job.Plain.{Plain}
 use Rattle.lane_core.specs.declared.ticket.Ticket.{Ticket}
-use Rattle.lane_core.specs.Tickets.{is_ticket_of, is_among}
-use Rattle.lane_core.specs.Desk.{desk, next_of, is_out, was_taken, TakesIn, GivesNext, GivesAny}
-use Rattle.lane_core.proofs.DrawerFacts.{MoreBy}
+use Rattle.lane_core.specs.Desk.{GivesAny, GivesNext, TakesIn, desk, is_known, new_desk, was_taken}
+use Rattle.lane_core.specs.Drawer.{Advances, AreIndexed, AreKept, IsHeadOf, are_tied, come_tickets, desk_of, has_come, head_at, is_tied, waiting_at, waiting_of}
+use Rattle.lane_core.specs.Tickets.{is_among, is_ticket_of}
+use Rattle.lane_core.specs.Weights.{weigh}
+use Rattle.lane_core.proofs.DrawerFacts.{MoreBy, both_true, eq_from, or_assoc}
+use Rattle.lane_core.proofs.HeadFacts.{own_parts, set_weight}
+use Rattle.lane_core.proofs.WeightFacts.{eq_self, ne_false, weigh-append}
 
 pub or_parts : (a b c : Bool) → (a || b || c) ≡ false → (a ≡ false) × (b ≡ false) × (c ≡ false)
 or_parts true b c e = absurd (cc)
 or_parts false true c e = absurd (cc)
 or_parts false false c e = (refl, refl, e)
-
-last_to_end : (a r t o : Bool) → (a || (r || t) || o) ≡ (a || r || o || t)
-last_to_end true r t o = refl
-last_to_end false true t o = refl
-last_to_end false false true true = refl
-last_to_end false false true false = refl
-last_to_end false false false o = or_end o
-  where
-    or_end : (o : Bool) → o ≡ (o || false)
-    or_end true = refl
-    or_end false = refl
-
-is_below : (m n : ℕ) → m < n → nat_lt m n ≡ true
-is_below m n h = grind (arith, nat_tests)
-
--- a delivery was put in
-pub took : (nexts : List ℕ) (es fs : List (Ticket × Plain)) (out : List Ticket) (x : Plain) → x.lane < length nexts
-    → was_taken (desk nexts (values_of es) out) x.lane x.number ≡ false → MoreBy es x fs
-    → TakesIn (desk nexts (values_of es) out) x (desk nexts (values_of fs) out)
-took nexts es fs out x there fresh more = record {
-  new = (λ i. is_below x.lane (length nexts) there i && not (fresh i));
-  nexts = refl;
-  waiting = more.weight;
-  known = λ l k. ap (λ b. nat_lt k (next_of (desk nexts (values_of es) out) l) || b || is_out l k out) (more.among l k) ∙ last_to_end (nat_lt k (next_of (desk nexts (values_of es) out) l)) (is_among l k (values_of es)) (is_ticket_of l k x) (is_out l k out);
-}
-
-swap_in : (a r t o : Bool) → (a || r || (t || o)) ≡ (a || (r || t) || o)
-swap_in true r t o = refl
-swap_in false true t o = refl
-swap_in false false t o = refl
-
-or_last : (a r o t : Bool) → (a || r || (o || (t || false))) ≡ (a || (r || t) || o)
-or_last true r o t = refl
-or_last false true o t = refl
-or_last false false true true = refl
-or_last false false true false = refl
-or_last false false false true = refl
-or_last false false false false = refl
-
--- a delivery was taken out of turn
-pub took_out : (nexts : List ℕ) (es fs : List (Ticket × Plain)) (out : List Ticket) (t : Ticket) (x : Plain) → x.lane ≡ t.lane → x.number ≡ t.number → MoreBy fs x es
-    → GivesAny (desk nexts (values_of es) out) x (desk nexts (values_of fs) (out ++ t ∷ []))
-took_out nexts es fs out t x lane number less = record {
-  nexts = refl;
-  leaves = record {
-    waiting = less.weight;
-    known = λ l k.
-        let given = nat_lt k (next_of (desk nexts (values_of es) out) l) in
-        let more : is_out l k (out ++ t ∷ []) ≡ (is_out l k out || (((t.lane == l) && (t.number == k)) || false)) = list_any-append (λ (t : Ticket). (t.lane == l) && (t.number == k)) out (t ∷ []) in
-        ap (λ b. given || is_among l k (values_of fs) || b) more
-        ∙ (or_last given (is_among l k (values_of fs)) (is_out l k out) ((t.lane == l) && (t.number == k))
-        ∙ (ap (λ b. given || (is_among l k (values_of fs) || b) || is_out l k out) (λ i. (sym lane i == l) && (sym number i == k))
-        ∙ ap (λ b. given || b || is_out l k out) (sym (less.among l k))));
-  };
-}
-
-or_next : (a t r o : Bool) → ((a || t) || r || o) ≡ (a || (r || t) || o)
-or_next true t r o = refl
-or_next false true true o = refl
-or_next false true false o = refl
-or_next false false true o = refl
-or_next false false false o = refl
 
 pub same_or : (k l : ℕ) → (k ≡ l) ⊎ (k ≢ l)
 same_or zero zero = inl refl
@@ -84,34 +28,365 @@ same_or zero (suc l) = inr (λ h. omega arith)
 same_or (suc k) zero = inr (λ h. omega arith)
 same_or (suc k) (suc l) = ⊎_elim (λ (h : k ≡ l). inl (ap suc h)) (λ (n : k ≢ l). inr (λ h. n (omega arith))) (same_or k l)
 
-one_more : (m l k n p : ℕ) → m ≡ l → p ≡ n → nat_lt k (n + 1) ≡ (nat_lt k p || ((l == m) && (n == k)))
-one_more m l k n p e f = grind (arith, nat_tests)
+is_below : (m n : ℕ) → m < n → nat_lt m n ≡ true
+is_below m n h = grind (arith, nat_tests)
 
-no_more : (m l k n p : ℕ) → m ≢ l → nat_lt k p ≡ (nat_lt k p || ((l == m) && (n == k)))
-no_more m l k n p e = grind (arith, nat_tests)
+-- whether lane l's number k was taken in: it is below the lane's next number, or is that and has come, or is a later one that is known
+abbrev took_in : List ℕ → List Head → List Ticket → ℕ → ℕ → Bool
+took_in nexts hs ks l k = nat_lt k (get_or nexts l 0) || ((get_or nexts l 0 == k) && has_come (head_at hs l)) || is_known l k ks
 
--- one more number below the next, of lane l alone
-next_more : (nexts : List ℕ) (l m k : ℕ) → l < length nexts
-    → nat_lt k (get_or (slice_set nexts l (get_or nexts l 0 + 1)) m 0) ≡ (nat_lt k (get_or nexts m 0) || ((l == m) && (get_or nexts l 0 == k)))
-next_more nexts l m k there = ⊎_elim
-    (λ (e : m ≡ l). ap (λ n. nat_lt k n) (get_or-set_at nexts l m (get_or nexts l 0 + 1) 0 e there) ∙ one_more m l k (get_or nexts l 0) (get_or nexts m 0) e (ap (λ j. get_or nexts j 0) e))
-    (λ (e : m ≢ l). ap (λ n. nat_lt k n) (get_or-set_other nexts l m (get_or nexts l 0 + 1) 0 e) ∙ no_more m l k (get_or nexts l 0) (get_or nexts m 0) e)
-    (same_or m l)
+none_below : (b : ℕ) (ns : List ℕ) (hs : List Head) (m k : ℕ) → m < b → is_known m k (come_tickets b ns hs) ≡ false
+none_below b [] hs m k less = refl
+none_below b (n ∷ ns) [] m k less = refl
+none_below b (n ∷ ns) (Missing ∷ hs) m k less = none_below (suc b) ns hs m k (omega arith)
+none_below b (n ∷ ns) (Here x ∷ hs) m k less = (λ i. (ne_false b m (λ e. absurd (omega arith)) i && (n == k)) || none_below (suc b) ns hs m k (omega arith) i)
+none_below b (n ∷ ns) (Out ∷ hs) m k less = (λ i. (ne_false b m (λ e. absurd (omega arith)) i && (n == k)) || none_below (suc b) ns hs m k (omega arith) i)
 
--- the lane was given its next number
-pub gave : (nexts : List ℕ) (es fs : List (Ticket × Plain)) (out : List Ticket) (l : ℕ) (x : Plain) → l < length nexts → x.lane ≡ l → x.number ≡ get_or nexts l 0 → MoreBy fs x es
-    → GivesNext (desk nexts (values_of es) out) l x (desk (slice_set nexts l (get_or nexts l 0 + 1)) (values_of fs) out)
-gave nexts es fs out l x there lane number less = record {
-  lane = lane;
-  number = number;
+and_false : (b : Bool) → (b && false) ≡ false
+and_false true = refl
+and_false false = refl
+
+come_at : (b j m k : ℕ) (ns : List ℕ) (hs : List Head) → length hs ≡ length ns → m ≡ b + j
+    → is_known m k (come_tickets b ns hs) ≡ ((get_or ns j 0 == k) && has_come (head_at hs j))
+come_at b j m k [] [] long at = sym (and_false (0 == k))
+come_at b j m k [] (h ∷ hs) long at = absurd (omega arith)
+come_at b j m k (n ∷ ns) [] long at = absurd (omega arith)
+come_at b zero m k (n ∷ ns) (Missing ∷ hs) long at = none_below (suc b) ns hs m k (omega arith) ∙ sym (and_false (n == k))
+come_at b zero m k (n ∷ ns) (Here x ∷ hs) long at = (λ i. (same_at i && (n == k)) || none_below (suc b) ns hs m k (omega arith) i) ∙ last_false (n == k)
+  where
+    same_at : (b == m) ≡ true
+    same_at = ap (λ j. b == j) (let c : m ≡ b = omega arith in c) ∙ eq_self b
+
+    last_false : (c : Bool) → ((true && c) || false) ≡ (c && true)
+    last_false true = refl
+    last_false false = refl
+come_at b zero m k (n ∷ ns) (Out ∷ hs) long at = (λ i. (same_at i && (n == k)) || none_below (suc b) ns hs m k (omega arith) i) ∙ last_false (n == k)
+  where
+    same_at : (b == m) ≡ true
+    same_at = ap (λ j. b == j) (let c : m ≡ b = omega arith in c) ∙ eq_self b
+
+    last_false : (c : Bool) → ((true && c) || false) ≡ (c && true)
+    last_false true = refl
+    last_false false = refl
+come_at b (suc j) m k (n ∷ ns) (Missing ∷ hs) long at = come_at (suc b) j m k ns hs (omega arith) (omega arith)
+come_at b (suc j) m k (n ∷ ns) (Here x ∷ hs) long at =
+    ap (λ c. (c && (n == k)) || is_known m k (come_tickets (suc b) ns hs)) (ne_false b m (λ e. absurd (omega arith))) ∙ come_at (suc b) j m k ns hs (omega arith) (omega arith)
+come_at b (suc j) m k (n ∷ ns) (Out ∷ hs) long at =
+    ap (λ c. (c && (n == k)) || is_known m k (come_tickets (suc b) ns hs)) (ne_false b m (λ e. absurd (omega arith))) ∙ come_at (suc b) j m k ns hs (omega arith) (omega arith)
+
+pub was_is : (nexts : List ℕ) (hs : List Head) (es : List (Ticket × Plain)) (ks : List Ticket) → length hs ≡ length nexts → (l k : ℕ)
+    → was_taken (desk_of nexts hs es ks) l k ≡ took_in nexts hs ks l k
+was_is nexts hs es ks long l k =
+    let more : is_known l k (come_tickets 0 nexts hs ++ ks) ≡ (is_known l k (come_tickets 0 nexts hs) || is_known l k ks) = list_any-append (λ (t : Ticket). (t.lane == l) && (t.number == k)) (come_tickets 0 nexts hs) ks in
+    ap (λ b. nat_lt k (get_or nexts l 0) || b) (more ∙ ap (λ b. b || is_known l k ks) (come_at 0 l l k nexts hs long (omega arith)))
+    ∙ or_assoc (nat_lt k (get_or nexts l 0)) ((get_or nexts l 0 == k) && has_come (head_at hs l)) (is_known l k ks)
+
+weigh_both : (h : Plain → ℕ) (hs : List Head) (es : List (Ticket × Plain)) → weigh h (waiting_at hs ++ values_of es) ≡ weigh h (waiting_at hs) + weigh h (values_of es)
+weigh_both h hs es = weigh-append h (waiting_at hs) (values_of es)
+
+head_set : (hs : List Head) (l : ℕ) (a : Head) → l < length hs → head_at (set hs l a) l ≡ a
+head_set hs l a low = get_or-set_at hs l l a Missing refl low
+
+head_other : (hs : List Head) (l m : ℕ) (a : Head) → m ≢ l → head_at (set hs l a) m ≡ head_at hs m
+head_other hs l m a other = get_or-set_other hs l m a Missing other
+
+-- lane l's head is another, of the same number
+pub kept_set : (nexts : List ℕ) (hs : List Head) (es : List (Ticket × Plain)) (ks : List Ticket) (l : ℕ) (a : Head)
+    → AreKept nexts hs es ks → l < length nexts → IsHeadOf l (get_or nexts l 0) a → AreKept nexts (set hs l a) es ks
+kept_set nexts hs es ks l a kept low own = record {
+  lanes = length-set hs l a ∙ kept.lanes;
+  own = λ m less. ⊎_elim
+      (λ (e : m ≡ l). subst (λ j. IsHeadOf j (get_or nexts j 0) (head_at (set hs l a) j)) (sym e) (subst (IsHeadOf l (get_or nexts l 0)) (sym (head_set hs l a (let n = kept.lanes in omega arith))) own))
+      (λ (other : m ≢ l). subst (IsHeadOf m (get_or nexts m 0)) (sym (head_other hs l m a other)) (kept.own m less))
+      (same_or m l);
+  indexed = kept.indexed;
+  apart = kept.apart;
+}
+
+none_come : (a : Head) → has_come a ≡ false → (h : Plain → ℕ) → weigh h (waiting_of a) ≡ 0
+none_come Missing e h = refl
+none_come (Here x) e h = absurd (cc)
+none_come Out e h = absurd (cc)
+
+-- lane l's next number was not taken in, so there is none of it
+not_come : (nexts : List ℕ) (hs : List Head) (ks : List Ticket) (l : ℕ) → took_in nexts hs ks l (get_or nexts l 0) ≡ false → has_come (head_at hs l) ≡ false
+not_come nexts hs ks l fresh =
+    let n = get_or nexts l 0 in
+    let p = (or_parts (nat_lt n n) ((n == n) && has_come (head_at hs l)) (is_known l n ks) fresh).1 in
+    sym (ap (λ b. b && has_come (head_at hs l)) (eq_self n)) ∙ p
+
+come_in : (a e k t come : Bool) → come ≡ false → t ≡ e → (a || (e && true) || k) ≡ ((a || (e && come) || k) || t)
+come_in true e k t come c s = refl
+come_in false true k t false c s = sym (or_true k t s)
+  where
+    or_true : (k t : Bool) → t ≡ true → (k || t) ≡ true
+    or_true true t s = refl
+    or_true false t s = s
+come_in false false true t false c s = refl
+come_in false false false t false c s = sym s
+come_in false e k t true c s = absurd (cc)
+
+or_none : (a b : Bool) → b ≡ false → a ≡ (a || b)
+or_none true b e = refl
+or_none false b e = sym e
+
+-- a delivery came that is its lane's next number
+pub took_next : (nexts : List ℕ) (hs : List Head) (es : List (Ticket × Plain)) (ks : List Ticket) (l : ℕ) (x : Plain)
+    → AreKept nexts hs es ks → l < length nexts → x.lane ≡ l → x.number ≡ get_or nexts l 0 → was_taken (desk_of nexts hs es ks) x.lane x.number ≡ false
+    → TakesIn (desk_of nexts hs es ks) x (desk_of nexts (set hs l (Here x)) es ks)
+took_next nexts hs es ks l x kept low lane number fresh =
+    let n = get_or nexts l 0 in
+    let there : l < length hs = let c = kept.lanes in omega arith in
+    let none = not_come nexts hs ks l (sym (was_is nexts hs es ks kept.lanes l n) ∙ (sym (λ i. was_taken (desk_of nexts hs es ks) (lane i) (number i)) ∙ fresh)) in
+    let long : length (set hs l (Here x)) ≡ length nexts = length-set hs l (Here x) ∙ kept.lanes in
+    record {
+      new = (λ i. is_below x.lane (length nexts) (let c = lane in omega arith) i && not (fresh i));
+      nexts = refl;
+      waiting = λ h.
+          let new = weigh_both h (set hs l (Here x)) es in
+          let old = weigh_both h hs es in
+          let put = set_weight h hs l (Here x) there in
+          let was = none_come (head_at hs l) none h in
+          omega arith;
+      known = λ m k. was_is nexts (set hs l (Here x)) es ks long m k ∙ (⊎_elim
+          (λ (e : m ≡ l).
+          let same : is_ticket_of m k x ≡ (get_or nexts m 0 == k) =
+          (λ i. (lane i == m) && (number i == k)) ∙ (ap (λ j. (l == j) && (n == k)) e ∙ (ap (λ b. b && (n == k)) (eq_self l) ∙ ap (λ j. get_or nexts j 0 == k) (sym e))) in
+          ap (λ b. nat_lt k (get_or nexts m 0) || ((get_or nexts m 0 == k) && b) || is_known m k ks) (ap (λ j. has_come (head_at (set hs l (Here x)) j)) e ∙ ap has_come (head_set hs l (Here x) there))
+          ∙ come_in (nat_lt k (get_or nexts m 0)) (get_or nexts m 0 == k) (is_known m k ks) (is_ticket_of m k x) (has_come (head_at hs m)) (ap (λ j. has_come (head_at hs j)) e ∙ none) same)
+          (λ (other : m ≢ l).
+          ap (λ (a : Head). nat_lt k (get_or nexts m 0) || ((get_or nexts m 0 == k) && has_come a) || is_known m k ks) (head_other hs l m (Here x) other)
+          ∙ or_none (took_in nexts hs ks m k) (is_ticket_of m k x) (ap (λ b. b && (x.number == k)) (ne_false x.lane m (λ e. other (sym e ∙ lane)))))
+          (same_or m l)
+          ∙ ap (λ b. b || is_ticket_of m k x) (sym (was_is nexts hs es ks kept.lanes m k)));
+    }
+
+last_in : (a b k t : Bool) → (a || b || (k || t)) ≡ ((a || b || k) || t)
+last_in true b k t = refl
+last_in false true k t = refl
+last_in false false true t = refl
+last_in false false false t = refl
+
+-- a delivery came that is a later number
+pub took_later : (nexts : List ℕ) (hs : List Head) (es fs : List (Ticket × Plain)) (ks ts : List Ticket) (x : Plain)
+    → length hs ≡ length nexts → x.lane < length nexts → was_taken (desk_of nexts hs es ks) x.lane x.number ≡ false → MoreBy es x fs → ((l k : ℕ) → is_known l k ts ≡ (is_known l k ks || is_ticket_of l k x))
+    → TakesIn (desk_of nexts hs es ks) x (desk_of nexts hs fs ts)
+took_later nexts hs es fs ks ts x long low fresh more known = record {
+  new = (λ i. is_below x.lane (length nexts) low i && not (fresh i));
+  nexts = refl;
+  waiting = λ h.
+      let new = weigh_both h hs fs in
+      let old = weigh_both h hs es in
+      let put = more.weight h in
+      omega arith;
+  known = λ l k.
+      let given = nat_lt k (get_or nexts l 0) in
+      let next = (get_or nexts l 0 == k) && has_come (head_at hs l) in
+      was_is nexts hs fs ts long l k
+      ∙ (ap (λ b. given || next || b) (known l k)
+      ∙ (last_in given next (is_known l k ks) (is_ticket_of l k x)
+      ∙ ap (λ b. b || is_ticket_of l k x) (sym (was_is nexts hs es ks long l k))));
+}
+
+false_and : (b : Bool) → (b ≡ true → ⊥) → b ≡ false
+false_and false other = refl
+false_and true other = absurd (other refl)
+
+or_of : (a b : Bool) → (a || b) ≡ true → (a ≡ true) ⊎ (b ≡ true)
+or_of true b e = inl refl
+or_of false b e = inr e
+
+or_left : (a b : Bool) → a ≡ true → (a || b) ≡ true
+or_left true b e = refl
+or_left false b e = absurd (cc)
+
+or_right : (a b : Bool) → b ≡ true → (a || b) ≡ true
+or_right true b e = refl
+or_right false b e = e
+
+pub kept_later : (nexts : List ℕ) (hs : List Head) (es fs : List (Ticket × Plain)) (ks ts : List Ticket) (x : Plain)
+    → AreKept nexts hs es ks → x.number ≢ get_or nexts x.lane 0 → MoreBy es x fs → are_tied fs ≡ true → ((l k : ℕ) → is_known l k ts ≡ (is_known l k ks || is_ticket_of l k x))
+    → AreKept nexts hs fs ts
+kept_later nexts hs es fs ks ts x kept later more tied known = record {
+  lanes = kept.lanes;
+  own = kept.own;
+  indexed = record {
+    tied = tied;
+    among = λ l k is. known l k ∙ ⊎_elim
+        (λ (e : is_among l k (values_of es) ≡ true). or_left (is_known l k ks) (is_ticket_of l k x) (kept.indexed.among l k e))
+        (λ (e : is_ticket_of l k x ≡ true). or_right (is_known l k ks) (is_ticket_of l k x) e)
+        (or_of (is_among l k (values_of es)) (is_ticket_of l k x) (sym (more.among l k) ∙ is));
+  };
+  apart = λ l low small. known l (get_or nexts l 0) ∙ (λ i. kept.apart l low small i || false_and (is_ticket_of l (get_or nexts l 0) x) (λ e.
+      let p = both_true (x.lane == l) (x.number == get_or nexts l 0) e in
+      later (eq_from x.number (get_or nexts l 0) p.1 ∙ ap (λ j. get_or nexts j 0) (sym (eq_from x.lane l p.0)))) i);
+}
+
+one_more : (n k : ℕ) → nat_lt k (n + 1) ≡ (nat_lt k n || (n == k))
+one_more n k = grind (arith, nat_tests)
+
+next_in : (a e k : Bool) → ((a || e) || k) ≡ (a || (e && true) || k)
+next_in true e k = refl
+next_in false true k = refl
+next_in false false k = refl
+
+-- lane l was given its next number, and what there is of the number after it is known as much as it was
+pub gave : (nexts : List ℕ) (hs : List Head) (es fs : List (Ticket × Plain)) (ks ts : List Ticket) (l : ℕ) (x : Plain) (a : Head)
+    → l < length nexts → length hs ≡ length nexts → head_at hs l ≡ Here x → IsHeadOf l (get_or nexts l 0) (Here x)
+    → ((h : Plain → ℕ) → weigh h (values_of es) ≡ weigh h (waiting_of a) + weigh h (values_of fs))
+    → ((k : ℕ) → (((get_or nexts l 0 + 1 == k) && has_come a) || is_known l k ts) ≡ is_known l k ks)
+    → ((m k : ℕ) → m ≢ l → is_known m k ts ≡ is_known m k ks)
+    → GivesNext (desk_of nexts hs es ks) l x (desk_of (set nexts l (get_or nexts l 0 + 1)) (set (set hs l Missing) l a) fs ts)
+gave nexts hs es fs ks ts l x a low lanes here own weight same others =
+    let n = get_or nexts l 0 in
+    let p = own_parts l n x own in
+    let there : l < length hs = omega arith in
+    let there' : l < length (set hs l Missing) = let c = length-set hs l Missing in omega arith in
+    let long : length (set (set hs l Missing) l a) ≡ length (set nexts l (n + 1)) = length-set (set hs l Missing) l a ∙ (length-set hs l Missing ∙ (lanes ∙ sym (length-set nexts l (n + 1)))) in
+    record {
+      lane = p.0;
+      number = p.1;
+      nexts = refl;
+      leaves = record {
+        waiting = λ h.
+            let old = weigh_both h hs es in
+            let new = weigh_both h (set (set hs l Missing) l a) fs in
+            let out = set_weight h hs l Missing there in
+            let back = set_weight h (set hs l Missing) l a there' in
+            let was = ap (λ (b : Head). weigh h (waiting_of b)) here in
+            let now = ap (λ (b : Head). weigh h (waiting_of b)) (head_set hs l Missing there) in
+            let moved = weight h in
+            omega arith;
+        known = λ m k. was_is (set nexts l (n + 1)) (set (set hs l Missing) l a) fs ts long m k ∙ (⊎_elim
+            (λ (e : m ≡ l). subst (λ j. took_in (set nexts l (n + 1)) (set (set hs l Missing) l a) ts j k ≡ took_in nexts hs ks j k) (sym e)
+            ((λ i. nat_lt k (get_or-set_at nexts l l (n + 1) 0 refl low i) || ((get_or-set_at nexts l l (n + 1) 0 refl low i == k) && has_come (head_set (set hs l Missing) l a there' i)) || is_known l k ts)
+            ∙ (sym (or_assoc (nat_lt k (n + 1)) ((n + 1 == k) && has_come a) (is_known l k ts)) ∙ ap (λ b. nat_lt k (n + 1) || b) (same k)
+            ∙ (ap (λ b. b || is_known l k ks) (one_more n k)
+            ∙ (next_in (nat_lt k n) (n == k) (is_known l k ks)
+            ∙ ap (λ (b : Head). nat_lt k n || ((n == k) && has_come b) || is_known l k ks) (sym here))))))
+            (λ (other : m ≢ l).
+            (λ i. nat_lt k (get_or-set_other nexts l m (n + 1) 0 other i) || ((get_or-set_other nexts l m (n + 1) 0 other i == k) && has_come ((head_other (set hs l Missing) l m a other ∙ head_other hs l m Missing other) i)) || others m k other i))
+            (same_or m l)
+            ∙ sym (was_is nexts hs es ks lanes m k));
+      };
+    }
+
+-- and it is kept as it should be
+pub kept_next : (nexts : List ℕ) (hs : List Head) (es fs : List (Ticket × Plain)) (ks ts : List Ticket) (l : ℕ) (a : Head)
+    → AreKept nexts hs es ks → l < length nexts → IsHeadOf l (get_or nexts l 0 + 1) a → AreIndexed fs ts
+    → (get_or nexts l 0 + 1 < 2 ^ 32 → is_known l (get_or nexts l 0 + 1) ts ≡ false)
+    → ((m k : ℕ) → m ≢ l → is_known m k ts ≡ is_known m k ks)
+    → AreKept (set nexts l (get_or nexts l 0 + 1)) (set (set hs l Missing) l a) fs ts
+kept_next nexts hs es fs ks ts l a kept low own indexed gone others =
+    let n = get_or nexts l 0 in
+    let there : l < length hs = let c = kept.lanes in omega arith in
+    let there' : l < length (set hs l Missing) = let c = length-set hs l Missing in omega arith in
+    let long = length-set nexts l (n + 1) in
+    record {
+      lanes = length-set (set hs l Missing) l a ∙ (length-set hs l Missing ∙ (kept.lanes ∙ sym long));
+      own = λ m less. ⊎_elim
+          (λ (e : m ≡ l). subst (λ j. IsHeadOf j (get_or (set nexts l (n + 1)) j 0) (head_at (set (set hs l Missing) l a) j)) (sym e)
+          (subst (λ (q : ℕ × Head). IsHeadOf l q.0 q.1) (λ i. (sym (get_or-set_at nexts l l (n + 1) 0 refl low) i, sym (head_set (set hs l Missing) l a there') i)) own))
+          (λ (other : m ≢ l). subst (λ (q : ℕ × Head). IsHeadOf m q.0 q.1)
+          (λ i. (sym (get_or-set_other nexts l m (n + 1) 0 other) i, sym (head_other (set hs l Missing) l m a other ∙ head_other hs l m Missing other) i))
+          (kept.own m (omega arith)))
+          (same_or m l);
+      indexed = indexed;
+      apart = λ m less small. ⊎_elim
+          (λ (e : m ≡ l).
+          let at : get_or (set nexts l (n + 1)) m 0 ≡ n + 1 = ap (λ j. get_or (set nexts l (n + 1)) j 0) e ∙ get_or-set_at nexts l l (n + 1) 0 refl low in
+          (λ i. is_known (e i) (at i) ts) ∙ gone (omega arith))
+          (λ (other : m ≢ l).
+          let at = get_or-set_other nexts l m (n + 1) 0 other in
+          ap (λ k. is_known m k ts) at ∙ (others m (get_or nexts m 0) other ∙ kept.apart m (omega arith) (omega arith)))
+          (same_or m l);
+    }
+
+-- the number after it is known as much as it was
+pub known_same : (l n : ℕ) (es fs : List (Ticket × Plain)) (ks ts : List Ticket) (a : Head) → Advances l n es ks fs ts a
+    → (k : ℕ) → (((n == k) && has_come a) || is_known l k ts) ≡ is_known l k ks
+known_same l n es fs ks ts a moved k = ap (λ b. ((b && (n == k)) && has_come a) || is_known l k ts) (sym (eq_self l)) ∙ moved.same l k
+
+pub others_same : (l n : ℕ) (es fs : List (Ticket × Plain)) (ks ts : List Ticket) (a : Head) → Advances l n es ks fs ts a
+    → (m k : ℕ) → m ≢ l → is_known m k ts ≡ is_known m k ks
+others_same l n es fs ks ts a moved m k other = ap (λ b. ((b && (n == k)) && has_come a) || is_known m k ts) (sym (ne_false l m (λ e. other (sym e)))) ∙ moved.same m k
+
+-- a delivery of a later number was taken out of turn
+pub took_out : (nexts : List ℕ) (hs : List Head) (es fs : List (Ticket × Plain)) (ks : List Ticket) (t : Ticket) (x : Plain) → es ≡ (t, x) ∷ fs
+    → GivesAny (desk_of nexts hs es ks) x (desk_of nexts hs fs ks)
+took_out nexts hs es fs ks t x is = record {
   nexts = refl;
   leaves = record {
-    waiting = less.weight;
-    known = λ m k.
-        let given = nat_lt k (get_or nexts m 0) in
-        ap (λ b. b || is_among m k (values_of fs) || is_out m k out) (next_more nexts l m k there)
-        ∙ (or_next given ((l == m) && (get_or nexts l 0 == k)) (is_among m k (values_of fs)) (is_out m k out)
-        ∙ (ap (λ b. given || (is_among m k (values_of fs) || b) || is_out m k out) (λ i. (sym lane i == m) && (sym number i == k))
-        ∙ ap (λ b. given || b || is_out m k out) (sym (less.among m k))));
+    waiting = λ h.
+        let old = weigh_both h hs es in
+        let new = weigh_both h hs fs in
+        let first = ap (λ gs. weigh h (values_of gs)) is in
+        omega arith;
+    known = λ l k. refl;
   };
+}
+
+pub kept_out : (nexts : List ℕ) (hs : List Head) (es fs : List (Ticket × Plain)) (ks : List Ticket) (t : Ticket) (x : Plain) → es ≡ (t, x) ∷ fs
+    → AreKept nexts hs es ks → AreKept nexts hs fs ks
+kept_out nexts hs es fs ks t x is kept = record {
+  lanes = kept.lanes;
+  own = kept.own;
+  indexed = record {
+    tied = (both_true (is_tied (t, x)) (are_tied fs) (sym (ap are_tied is) ∙ kept.indexed.tied)).1;
+    among = λ l k e. kept.indexed.among l k (ap (λ gs. is_among l k (values_of gs)) is ∙ or_right (is_ticket_of l k x) (is_among l k (values_of fs)) e);
+  };
+  apart = kept.apart;
+}
+
+-- and one that waited as its lane's next number
+pub took_head : (nexts : List ℕ) (hs : List Head) (es : List (Ticket × Plain)) (ks : List Ticket) (l : ℕ) (x : Plain) → length hs ≡ length nexts → l < length hs → head_at hs l ≡ Here x
+    → GivesAny (desk_of nexts hs es ks) x (desk_of nexts (set hs l Out) es ks)
+took_head nexts hs es ks l x long low here = record {
+  nexts = refl;
+  leaves = record {
+    waiting = λ h.
+        let old = weigh_both h hs es in
+        let new = weigh_both h (set hs l Out) es in
+        let put = set_weight h hs l Out low in
+        let was = ap (λ (b : Head). weigh h (waiting_of b)) here in
+        omega arith;
+    known = λ m k. was_is nexts (set hs l Out) es ks (length-set hs l Out ∙ long) m k ∙ (ap (λ b. nat_lt k (get_or nexts m 0) || ((get_or nexts m 0 == k) && b) || is_known m k ks) (⊎_elim
+        (λ (e : m ≡ l). ap (λ j. has_come (head_at (set hs l Out) j)) e ∙ (ap has_come (head_set hs l Out low) ∙ (sym (ap has_come here) ∙ ap (λ j. has_come (head_at hs j)) (sym e))))
+        (λ (other : m ≢ l). ap has_come (head_other hs l m Out other))
+        (same_or m l))
+        ∙ sym (was_is nexts hs es ks long m k));
+  };
+}
+
+-- a number that was not taken in is not known as a later one, and so none such waits
+pub not_known : (nexts : List ℕ) (hs : List Head) (es : List (Ticket × Plain)) (ks : List Ticket) (l k : ℕ) → length hs ≡ length nexts → was_taken (desk_of nexts hs es ks) l k ≡ false → is_known l k ks ≡ false
+not_known nexts hs es ks l k long fresh =
+    (or_parts (nat_lt k (get_or nexts l 0)) ((get_or nexts l 0 == k) && has_come (head_at hs l)) (is_known l k ks) (sym (was_is nexts hs es ks long l k) ∙ fresh)).2
+
+pub not_later : (es : List (Ticket × Plain)) (ks : List Ticket) (l k : ℕ) → AreIndexed es ks → is_known l k ks ≡ false → is_among l k (values_of es) ≡ false
+not_later es ks l k indexed none = false_and (is_among l k (values_of es)) (λ is. let c : true ≡ false = sym (indexed.among l k is) ∙ none in cc)
+
+none_yet : (n : ℕ) → waiting_at (replicate n Missing) ≡ []
+none_yet zero = refl
+none_yet (suc n) = none_yet n
+
+none_come_yet : (l n : ℕ) → come_tickets l (replicate n 0) (replicate n Missing) ≡ []
+none_come_yet l zero = refl
+none_come_yet l (suc n) = none_come_yet (suc l) n
+
+-- a deliverer that took nothing in
+pub new_is : (n : ℕ) → desk_of (replicate n 0) (replicate n Missing) [] [] ≡ new_desk n
+new_is n = λ i. desk (replicate n 0) (none_yet n i ++ []) (none_come_yet 0 n i ++ [])
+
+missing_at : (n l : ℕ) → head_at (replicate n Missing) l ≡ Missing
+missing_at zero l = refl
+missing_at (suc n) zero = refl
+missing_at (suc n) (suc l) = missing_at n l
+
+pub new_kept : (n : ℕ) → AreKept (replicate n 0) (replicate n Missing) [] []
+new_kept n = record {
+  lanes = length-replicate n Missing ∙ sym (length-replicate n 0);
+  own = λ l low. subst (IsHeadOf l (get_or (replicate n 0) l 0)) (sym (missing_at n l)) tt;
+  indexed = record { tied = refl; among = λ l k is. absurd (cc) };
+  apart = λ l low small. refl;
 }

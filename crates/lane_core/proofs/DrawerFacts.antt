@@ -1,16 +1,20 @@
--- What stands in a deliverer's map under a ticket.
+-- What stands in a deliverer's map under a ticket, and which tickets are known.
 use Rattle.std.proofs.Common.{◌≡◌, ℕ, ◌+◌, ◌<◌, ◌≤◌, ◌^◌, ◌==◌, ◌&&◌, ◌||◌, nat_lt, cond, Bool, true, false, List, [], ◌∷◌, length, Option, Some, refl, sym, ap, ◌∙◌, subst, arith}
 use Rattle.std.specs.Map.{lookup, remove_entry, values_of}
 use Rattle.std.specs.Ordering.{is_eq, nat_cmp, ordering_then, match_ordering}
 use Rattle.std.specs.declared.cmp.Ordering.{Ordering}
 use Rattle.std.specs.declared.cmp.Ordering.TheVariants.{Less, Equal, Greater}
 use Rattle.std.specs.BTreeMap.{insert_entry, is_at}
+use Rattle.std.specs.BTreeSet.{insert_key}
+use Rattle.std.specs.List.{list_any}
+use Rattle.std.specs.Set.{remove_key}
 use Rattle.std.specs.Option.{is_some}
 use Rattle.std.proofs.lemmas.Bool.Decides.{nat_tests}
 use Rattle.std.proofs.lemmas.Grind.{common_steps}
 use Rattle.lane_core.specs.declared.job.Plain.{Plain}
 use Rattle.lane_core.specs.declared.ticket.Ticket.{Ticket}
 use Rattle.lane_core.specs.Tickets.{is_ticket_of, is_among}
+use Rattle.lane_core.specs.Desk.{is_known}
 use Rattle.lane_core.specs.Drawer.{are_tied, is_tied}
 use Rattle.lane_core.specs.Weights.{weigh}
 
@@ -114,7 +118,7 @@ or_swap true false = refl
 or_swap false true = refl
 or_swap false false = refl
 
-or_assoc : (a b c : Bool) → (a || (b || c)) ≡ ((a || b) || c)
+pub or_assoc : (a b c : Bool) → (a || (b || c)) ≡ ((a || b) || c)
 or_assoc true b c = refl
 or_assoc false b c = refl
 
@@ -190,3 +194,69 @@ gone_tied test (e ∷ es) tied =
 -- a delivery under its own ticket is tied
 pub own_tied : (t : Ticket) (x : Plain) → t.lane ≡ x.lane → t.number ≡ x.number → t.number < 2 ^ 32 → is_tied (t, x) ≡ true
 own_tied t x lane number less = grind (arith, nat_tests)
+
+-- a look-up finds what is known
+pub any_finds : (test : Ticket → Bool) (l k : ℕ) → Finds test l k → (ts : List Ticket) → list_any test ts ≡ is_known l k ts
+any_finds test l k finds [] = refl
+any_finds test l k finds (t ∷ ts) = (λ i. finds t i || any_finds test l k finds ts i)
+
+same_ticket : (a t : Ticket) → is_eq (ordering_then (nat_cmp a.lane t.lane) (nat_cmp a.number t.number)) ≡ true → (l k : ℕ) → ((t.lane == l) && (t.number == k)) ≡ ((a.lane == l) && (a.number == k))
+same_ticket a t is l k =
+    let s = both_true (t.lane == a.lane) (t.number == a.number) (sym (finds_own a t) ∙ is) in
+    (λ i. (eq_from t.lane a.lane s.0 i == l) && (eq_from t.number a.number s.1 i == k))
+
+own_is : (t : Ticket) → ((t.lane == t.lane) && (t.number == t.number)) ≡ true
+own_is t = grind (arith, nat_tests)
+
+or_none : (a b : Bool) → (a || b) ≡ false → (a ≡ false) × (b ≡ false)
+or_none true b e = absurd (cc)
+or_none false b e = (refl, e)
+
+-- the order of tickets
+abbrev pub cmp_tickets : Ticket → Ticket → Ordering
+cmp_tickets a t = ordering_then (nat_cmp a.lane t.lane) (nat_cmp a.number t.number)
+
+twice : (a b c : Bool) → a ≡ c → (a || b) ≡ ((a || b) || c)
+twice true b c e = refl
+twice false true c e = refl
+twice false false true e = absurd (cc)
+twice false false false e = refl
+
+put_at : (t u : Ticket) (l k : ℕ) (ts : List Ticket) → is_known l k (insert_key cmp_tickets ts t) ≡ (is_known l k ts || ((t.lane == l) && (t.number == k)))
+    → (o : Ordering) → cmp_tickets t u ≡ o
+    → is_known l k (match_ordering o (t ∷ u ∷ ts) (u ∷ ts) (u ∷ insert_key cmp_tickets ts t)) ≡ (is_known l k (u ∷ ts) || ((t.lane == l) && (t.number == k)))
+put_at t u l k ts later Less e = or_swap ((t.lane == l) && (t.number == k)) (is_known l k (u ∷ ts))
+put_at t u l k ts later Equal e = twice ((u.lane == l) && (u.number == k)) (is_known l k ts) ((t.lane == l) && (t.number == k)) (same_ticket t u (ap is_eq e) l k)
+put_at t u l k ts later Greater e = ap (λ b. ((u.lane == l) && (u.number == k)) || b) later ∙ or_assoc ((u.lane == l) && (u.number == k)) (is_known l k ts) ((t.lane == l) && (t.number == k))
+
+-- one more ticket is known
+pub put_known : (t : Ticket) (l k : ℕ) (ts : List Ticket) → is_known l k (insert_key cmp_tickets ts t) ≡ (is_known l k ts || ((t.lane == l) && (t.number == k)))
+put_known t l k [] = or_swap ((t.lane == l) && (t.number == k)) false
+put_known t l k (u ∷ ts) = put_at t u l k ts (put_known t l k ts) (cmp_tickets t u) refl
+
+out_at : (t u : Ticket) (ts : List Ticket) → remove_key (is_at (cmp_tickets t)) (insert_key cmp_tickets ts t) ≡ ts → ((u.lane == t.lane) && (u.number == t.number)) ≡ false
+    → (o : Ordering) → cmp_tickets t u ≡ o → remove_key (is_at (cmp_tickets t)) (match_ordering o (t ∷ u ∷ ts) (u ∷ ts) (u ∷ insert_key cmp_tickets ts t)) ≡ u ∷ ts
+out_at t u ts later other Less e = ap (λ b. cond b (u ∷ ts) (t ∷ remove_key (is_at (cmp_tickets t)) (u ∷ ts))) (finds_own t t ∙ own_is t)
+out_at t u ts later other Equal e = absurd (let c : true ≡ false = sym (ap is_eq e) ∙ (finds_own t u ∙ other) in cc)
+out_at t u ts later other Greater e =
+    ap (λ b. cond b (insert_key cmp_tickets ts t) (u ∷ remove_key (is_at (cmp_tickets t)) (insert_key cmp_tickets ts t))) (ap is_eq e) ∙ ap (λ us. u ∷ us) later
+
+-- a ticket that was not known, put in and taken out again
+pub put_gone : (t : Ticket) (ts : List Ticket) → is_known t.lane t.number ts ≡ false → remove_key (is_at (cmp_tickets t)) (insert_key cmp_tickets ts t) ≡ ts
+put_gone t [] absent = ap (λ b. cond b [] (t ∷ [])) (finds_own t t ∙ own_is t)
+put_gone t (u ∷ ts) absent =
+    let p = or_none ((u.lane == t.lane) && (u.number == t.number)) (is_known t.lane t.number ts) absent in
+    out_at t u ts (put_gone t ts p.1) p.0 (cmp_tickets t u) refl
+
+gone_at : (test : Ticket → Bool) (l k m n : ℕ) → Finds test l k → ((l == m) && (k == n)) ≡ false → (t : Ticket) (ts : List Ticket) → is_known m n (remove_key test ts) ≡ is_known m n ts
+    → (b : Bool) → test t ≡ b → is_known m n (cond b ts (t ∷ remove_key test ts)) ≡ is_known m n (t ∷ ts)
+gone_at test l k m n finds other t ts later true e =
+    let s = both_true (t.lane == l) (t.number == k) (sym (finds t) ∙ e) in
+    let no : ((t.lane == m) && (t.number == n)) ≡ false = (λ i. (eq_from t.lane l s.0 i == m) && (eq_from t.number k s.1 i == n)) ∙ other in
+    sym (ap (λ b. b || is_known m n ts) no)
+gone_at test l k m n finds other t ts later false e = ap (λ b. ((t.lane == m) && (t.number == n)) || b) later
+
+-- the other tickets are known as before
+pub gone_known : (test : Ticket → Bool) (l k : ℕ) → Finds test l k → (m n : ℕ) → ((l == m) && (k == n)) ≡ false → (ts : List Ticket) → is_known m n (remove_key test ts) ≡ is_known m n ts
+gone_known test l k finds m n other [] = refl
+gone_known test l k finds m n other (t ∷ ts) = gone_at test l k m n finds other t ts (gone_known test l k finds m n other ts) (test t) refl

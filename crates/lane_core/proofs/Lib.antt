@@ -1,8 +1,10 @@
+pub mod AdvanceFacts
 pub mod ClaimFacts
 pub mod DeskFacts
 pub mod DrawerFacts
 pub mod GoodFacts
 pub mod HandShowFacts
+pub mod HeadFacts
 pub mod HeldFacts
 pub mod HistoryFacts
 pub mod LaneFacts
@@ -20,5 +22,6 @@ pub mod SettlingFacts
 pub mod ShowFacts
 pub mod SiftFacts
 pub mod StepFacts
+pub mod TakingFacts
 pub mod UnderWay
 pub mod WeightFacts

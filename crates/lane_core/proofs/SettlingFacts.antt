@@ -1,12 +1,12 @@
 -- Several lanes: what all of them weigh, and what one of them does.
-use Rattle.std.proofs.Common.{◌≡◌, ℕ, ◌+◌, ◌<◌, ◌≤◌, ◌==◌, cond, Bool, true, false, zero, suc, List, [], ◌∷◌, Some, refl, sym, ap, ◌∙◌, arith}
+use Rattle.std.proofs.Common.{◌≡◌, ℕ, ◌+◌, ◌<◌, ◌≤◌, ◌==◌, Bool, true, false, zero, suc, List, [], ◌∷◌, Some, refl, ap, ◌∙◌, arith}
 use Rattle.std.specs.List.{slice_get}
 use Rattle.lane_core.specs.declared.job.Plain.{Plain}
 use Rattle.lane_core.specs.Settling.{Account, AreNumbered, EachLaneOnce, is_elsewhere, sifted}
-use Rattle.lane_core.specs.Tickets.{is_ticket_of, numbered, times}
+use Rattle.lane_core.specs.Tickets.{is_ticket_of, times}
 use Rattle.lane_core.specs.Weights.{OneForOne, once, weigh}
-use Rattle.lane_core.proofs.SiftFacts.{all_here, none_aside, other_lane, own_lane, same_lists, ticket_once}
-use Rattle.lane_core.proofs.WeightFacts.{eq_self, false_from, weigh_at}
+use Rattle.lane_core.proofs.SiftFacts.{all_here, none_aside, ticket_once}
+use Rattle.lane_core.proofs.WeightFacts.{false_from, weigh_at}
 
 -- where no member passes the test
 nothing_else : {S : Type 0} (f : S → ℕ) (t : S → Bool) (ss : List S) → ((j : ℕ) (u : S) → slice_get ss j ≡ Some u → t u ≡ false → f u ≡ 0)

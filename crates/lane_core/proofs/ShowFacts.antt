@@ -8,7 +8,7 @@ use Rattle.lane_core.specs.declared.event.Event.{Event}
 use Rattle.lane_core.specs.declared.event.Event.TheVariants.{Take, Post, Collect}
 use Rattle.lane_core.specs.declared.job.Plain.{Plain}
 use Rattle.lane_core.specs.Contents.{Contents, IsShown, Shows, Steps, contents, lane_of, shown_lane}
-use Rattle.lane_core.specs.Desk.{Desk, TakesIn, desk, is_new, was_taken}
+use Rattle.lane_core.specs.Desk.{Desk, TakesIn, is_new, new_desk, was_taken}
 use Rattle.lane_core.specs.Machine.{LaneState, State, after, collect, handed_of, issued_of, lane_state, of_lane, or_same, post, start, step, take_job}
 use Rattle.lane_core.specs.Tickets.{is_among, is_ticket_of, times}
 use Rattle.lane_core.specs.Weights.{once}
@@ -154,12 +154,8 @@ zeros zero l = refl
 zeros (suc n) zero = refl
 zeros (suc n) (suc l) = zeros n l
 
-or_falses : (b : Bool) → (b || false || false) ≡ (b || false)
-or_falses true = refl
-or_falses false = refl
-
 -- a new world
-pub start_shown : (lanes workers year : ℕ) → Shows (contents year (replicate lanes (lane_of false 0 [] 0)) [] (replicate workers None) [] (desk (replicate lanes 0) [] [])) (start lanes workers year)
+pub start_shown : (lanes workers year : ℕ) → Shows (contents year (replicate lanes (lane_of false 0 [] 0)) [] (replicate workers None) [] (new_desk lanes)) (start lanes workers year)
 start_shown lanes workers year =
     let fresh = lane_state [] false 0 0 in
     record {
@@ -170,8 +166,8 @@ start_shown lanes workers year =
       results = refl;
       nexts = sym (map_each (λ (v : LaneState). v.handed) lanes fresh);
       waiting = λ h. refl;
-      known = λ l k. or_falses (nat_lt k (get_or (replicate lanes 0) l 0)) ∙ ap (λ n. nat_lt k n || false) (zeros lanes l ∙ sym (of_fresh 0 (λ v. v.handed) fresh lanes l refl));
+      known = λ l k. ap (λ n. nat_lt k n || false) (zeros lanes l ∙ sym (of_fresh 0 (λ v. v.handed) fresh lanes l refl));
     }
 
-pub start_is_shown : (lanes workers year : ℕ) → IsShown (contents year (replicate lanes (lane_of false 0 [] 0)) [] (replicate workers None) [] (desk (replicate lanes 0) [] []))
+pub start_is_shown : (lanes workers year : ℕ) → IsShown (contents year (replicate lanes (lane_of false 0 [] 0)) [] (replicate workers None) [] (new_desk lanes))
 start_is_shown lanes workers year = (start lanes workers year, (lanes, workers, year, [], refl), start_shown lanes workers year)

@@ -1,5 +1,5 @@
 -- What a deliverer keeps, and how its calls change it.
-use Rattle.std.specs.Prelude.{◌≡◌, ◌==◌, ◌&&◌, ◌||◌, ◌+◌, ℕ, Bool, true, false, not, nat_lt, List, length, slice_index, slice_set, Contains}
+use Rattle.std.specs.Prelude.{◌≡◌, ◌==◌, ◌&&◌, ◌||◌, ◌+◌, ℕ, Bool, true, false, not, nat_lt, List, [], length, replicate, slice_index, slice_set, Contains}
 use Rattle.std.specs.List.{list_any}
 use Rattle.lane_core.specs.declared.job.Plain.{Plain}
 use Rattle.lane_core.specs.declared.fault.TakeFault.{TakeFault}
@@ -8,14 +8,18 @@ use Rattle.lane_core.specs.declared.ticket.Ticket.{Ticket}
 use Rattle.lane_core.specs.Tickets.{is_among, is_ticket_of}
 use Rattle.lane_core.specs.Weights.{weigh}
 
--- each lane's next number, the deliveries that wait, and the tickets that were taken out of turn
+-- each lane's next number, the deliveries that wait, and the tickets that were taken in of numbers that no lane was given
 pub record Desk : Type 0 where
   pub nexts : List ℕ
   pub waiting : List Plain
-  pub out : List Ticket
+  pub known : List Ticket
 
 abbrev pub desk : List ℕ → List Plain → List Ticket → Desk
-desk nexts waiting out = record { nexts = nexts; waiting = waiting; out = out }
+desk nexts waiting known = record { nexts = nexts; waiting = waiting; known = known }
+
+-- the desk of so many lanes at which nothing was taken in
+abbrev pub new_desk : ℕ → Desk
+new_desk lanes = desk (replicate lanes 0) [] []
 
 -- how many lanes there are
 abbrev pub lanes_of : Desk → ℕ
@@ -25,13 +29,13 @@ lanes_of d = length d.nexts
 abbrev pub next_of : Desk → ℕ → ℕ
 next_of d l = slice_index d.nexts l
 
--- whether lane l's number k was taken out of turn
-abbrev pub is_out : ℕ → ℕ → List Ticket → Bool
-is_out l k ts = list_any (λ t. (t.lane == l) && (t.number == k)) ts
+-- whether lane l's number k is one of these
+abbrev pub is_known : ℕ → ℕ → List Ticket → Bool
+is_known l k tickets = list_any (λ t. (t.lane == l) && (t.number == k)) tickets
 
--- whether lane l's number k was taken in: it was given to the lane, or waits, or was taken out of turn
+-- whether lane l's number k was taken in: it was given to the lane, or is known, whether it waits still or was taken out of turn
 abbrev pub was_taken : Desk → ℕ → ℕ → Bool
-was_taken d l k = nat_lt k (next_of d l) || is_among l k d.waiting || is_out l k d.out
+was_taken d l k = nat_lt k (next_of d l) || is_known l k d.known
 
 -- whether its lane is there and its number was not taken in
 abbrev pub is_new : Desk → Plain → Bool

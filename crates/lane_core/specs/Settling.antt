@@ -2,7 +2,7 @@
 use Rattle.std.specs.Prelude.{◌≡◌, ◌==◌, ◌&&◌, ◌+◌, ◌<◌, ◌≤◌, ℕ, suc, Bool, true, not, nat_lt, cond, List, [], ◌∷◌, ◌++◌, Some, length, slice_get, take}
 use Rattle.std.specs.List.{fold, list_all}
 use Rattle.lane_core.specs.declared.job.Plain.{Plain}
-use Rattle.lane_core.specs.Tickets.{is_among, numbered, times}
+use Rattle.lane_core.specs.Tickets.{is_among, numbered}
 use Rattle.lane_core.specs.Weights.{OneForOne, SameItems, once, weigh}
 
 -- whether its lane is none of the first n

@@ -1,51 +1,94 @@
 //! Hands each lane its deliveries by number, whatever order they come in.
-ghost use Rattle.std.specs.Prelude.{◌≡◌, ◌<◌, ◌≤◌, ◌↔◌, [], replicate, true, false, IsSome, IfErr, IfOk, IfNone, IfSome, OnErr, OnOk};
-ghost use Rattle.lane_core.specs.Desk.{desk, lanes_of, next_of, was_taken, has_next, TakesIn, ComesBack, IsNext, GivesNext, GivesAny};
+ghost use Rattle.std.specs.Prelude.{◌≡◌, ◌≢◌, ◌<◌, ◌≤◌, ◌↔◌, ◌^◌, [], replicate, true, false, IsSome, IfErr, IfOk, IfNone, IfSome, OnErr, OnOk};
+ghost use Rattle.lane_core.specs.declared.head.Head.TheVariants.{Missing};
+ghost use Rattle.lane_core.specs.Drawer.{Advances, AreIndexed};
+ghost use Rattle.lane_core.specs.Desk.{lanes_of, new_desk, was_taken, has_next, TakesIn, ComesBack, IsNext, GivesNext, GivesAny};
 
 use crate::delivery::Delivery;
 use crate::fault::{NoMemory, TakeFault};
+use crate::head::{Head, take_first};
 use crate::ticket::Ticket;
 use std::alloc::Global;
-use std::collections::BTreeMap;
+use std::collections::{BTreeMap, BTreeSet};
 use std::marker::Model;
 
 /// Keeps deliveries until their lane is given them, each lane by number from 0.
 ///
-/// Its memory goes with what waits and what was taken out of turn, not with what has passed through.
+/// Its memory goes with the lanes, with what waits and with what was taken out of turn, not with what
+/// has passed through. A delivery that comes as its lane's next number is put nowhere else; any other
+/// call looks up at most two tickets.
 #[derive(Debug, Drop)]
 pub struct Deliverer {
     nexts: Vec<u64>,
-    waiting: BTreeMap<Ticket, Delivery>,
-    /// What `take_any` took; it has room for all that waits.
-    out: Vec<Ticket>,
+    /// What there is of each lane's next number.
+    heads: Vec<Head>,
+    /// What waits of later numbers.
+    later: BTreeMap<Ticket, Delivery>,
+    /// The tickets of later numbers that were taken in, whether they still wait or not.
+    known: BTreeSet<Ticket>,
 }
 
 impl Model for Deliverer {
-    ghost use Rattle.std.specs.Prelude.{◌≡◌, ◌+◌, ◌≤◌, true, length, vec_len, vec_capacity};
-    ghost use Rattle.std.specs.BTreeMap.{values};
-    ghost use Rattle.lane_core.specs.Desk.{Desk, desk};
-    ghost use Rattle.lane_core.specs.Drawer.{are_tied};
+    ghost use Rattle.lane_core.specs.Desk.{Desk};
+    ghost use Rattle.lane_core.specs.Drawer.{AreKept, desk_of};
 
     ghost Value = { Desk };
 
-    ghost view = { λ d. desk d.nexts.items (values d.waiting) d.out.items };
+    ghost view = { λ d. desk_of d.nexts.items d.heads.items d.later.entries d.known.keys };
 
-    ghost invariant = { λ d. (are_tied d.waiting.entries ≡ true) × (vec_len d.out + length d.waiting.entries ≤ vec_capacity d.out) };
+    ghost invariant = { λ d. AreKept d.nexts.items d.heads.items d.later.entries d.known.keys };
+}
+
+/// Heads of lanes whose first number was not taken in.
+fn missing_heads(alloc: Global, count: u16) -> Result<Vec<Head>, NoMemory>
+    ensures { IfOk result (λ heads. heads.items ≡ replicate count Missing) }
+{
+    let Ok(mut heads) = Vec::with_capacity(alloc, usize::from(count)) else {
+        return Err(NoMemory);
+    };
+    for _i in 0..count {
+        heads.push_reserved(Head::Missing);
+    }
+    Ok(heads)
+}
+
+/// What there is of the lane's number `next`, which is its next from now on and no later one.
+fn advance(
+    later: &mut BTreeMap<Ticket, Delivery>,
+    known: &mut BTreeSet<Ticket>,
+    lane: u8,
+    next: u64,
+) -> Head
+    requires { AreIndexed later.old.entries known.old.keys }
+    ensures { Advances lane next later.old.entries known.old.keys later.new.entries known.new.keys result }
+{
+    let Ok(number) = u32::try_from(next) else {
+        return Head::Missing;
+    };
+    let ticket = Ticket { lane, number };
+    if !known.remove(&ticket) {
+        return Head::Missing;
+    }
+    match later.remove(&ticket) {
+        Some(delivery) => Head::Here(delivery),
+        None => Head::Out,
+    }
 }
 
 impl Deliverer {
     /// A deliverer of these lanes; each lane's next number is 0.
     pub fn new(alloc: Global, lanes: u16) -> Result<Deliverer, NoMemory>
         requires { lanes ≤ 256 }
-        ensures { IfOk result (λ d. d ≡ desk (replicate lanes 0) [] []) }
+        ensures { IfOk result (λ d. d ≡ new_desk lanes) }
     {
         let Ok(nexts) = vec![in alloc; 0; usize::from(lanes)] else {
             return Err(NoMemory);
         };
         Ok(Deliverer {
             nexts,
-            waiting: BTreeMap::new(alloc),
-            out: Vec::new(alloc),
+            heads: missing_heads(alloc, lanes)?,
+            later: BTreeMap::new(alloc),
+            known: BTreeSet::new(alloc),
         })
     }
 
@@ -54,10 +97,11 @@ impl Deliverer {
         requires { ticket.lane < lanes_of self.now }
         ensures { result ≡ was_taken self.now ticket.lane ticket.number }
     {
-        let given = u64::from(ticket.number) < self.nexts[usize::from(ticket.lane)];
-        let waits = self.waiting.contains_key(&ticket);
-        let out = self.out.contains(&ticket);
-        given | waits | out
+        let lane = usize::from(ticket.lane);
+        let number = u64::from(ticket.number);
+        let given = number < self.nexts[lane];
+        let is_next = number == self.nexts[lane];
+        given | (is_next & self.heads[lane].has_come()) | self.known.contains(&ticket)
     }
 
     /// Keeps the delivery until its lane is given it.
@@ -71,32 +115,24 @@ impl Deliverer {
         ensures lanes { lanes_of self.new ≡ lanes_of self.old }
     {
         let ticket = delivery.ticket();
-        if usize::from(ticket.lane) >= self.nexts.len() || self.was_taken(ticket) {
+        let lane = usize::from(ticket.lane);
+        if lane >= self.nexts.len() || self.was_taken(ticket) {
             return Err(TakeFault::Stranger(delivery));
         }
-        if self.out.reserve(self.waiting.len() + 1).is_err() {
+        if u64::from(ticket.number) == self.nexts[lane] {
+            self.heads[lane] = Head::Here(delivery);
+            return Ok(());
+        }
+        let Ok(_) = self.known.insert(ticket) else {
             return Err(TakeFault::NoMemory(delivery));
-        }
-        match self.waiting.insert(ticket, delivery) {
+        };
+        match self.later.insert(ticket, delivery) {
             Ok(_) => Ok(()),
-            Err(failed) => Err(TakeFault::NoMemory(failed.value.1)),
+            Err(failed) => {
+                self.known.remove(&ticket);
+                Err(TakeFault::NoMemory(failed.value.1))
+            }
         }
-    }
-
-    /// The ticket of the lane's next number; none where there is no such number.
-    fn next_ticket(&self, lane: u8) -> Option<Ticket>
-        requires { lane < lanes_of self.now }
-        ensures some { IfSome result (λ t. (t.lane ≡ lane) × (t.number ≡ next_of self.now lane)) }
-        ensures none { IfNone result (has_next self.now lane ≡ false) }
-    {
-        let next = self.nexts[usize::from(lane)];
-        if next > u64::from(u32::MAX) {
-            return None;
-        }
-        Some(Ticket {
-            lane,
-            number: next as u32,
-        })
     }
 
     /// The lane's next number, where it waits.
@@ -105,8 +141,10 @@ impl Deliverer {
         ensures some { IfSome result (λ x. IsNext self.now lane x.now) }
         ensures exactly { IsSome result ↔ (has_next self.now lane ≡ true) }
     {
-        let ticket = self.next_ticket(lane)?;
-        self.waiting.get(&ticket)
+        match &self.heads[usize::from(lane)] {
+            Head::Here(delivery) => Some(delivery),
+            _ => None,
+        }
     }
 
     /// Gives the lane its next number, where it waits; else nothing changes.
@@ -116,9 +154,11 @@ impl Deliverer {
         ensures none { IfNone result ((has_next self.old lane ≡ false) × (self.new ≡ self.old)) }
         ensures lanes { lanes_of self.new ≡ lanes_of self.old }
     {
-        let ticket = self.next_ticket(lane)?;
-        let delivery = self.waiting.remove(&ticket)?;
-        self.nexts[usize::from(lane)] += 1;
+        let index = usize::from(lane);
+        let delivery = self.heads[index].take(Head::Missing)?;
+        let next = self.nexts[index] + 1;
+        self.nexts[index] = next;
+        self.heads[index] = advance(&mut self.later, &mut self.known, lane, next);
         Some(delivery)
     }
 
@@ -129,8 +169,9 @@ impl Deliverer {
         ensures none { IfNone result (((self.old).waiting ≡ []) × (self.new ≡ self.old)) }
         ensures lanes { lanes_of self.new ≡ lanes_of self.old }
     {
-        let (ticket, delivery) = self.waiting.pop_first()?;
-        self.out.push_reserved(ticket);
-        Some(delivery)
+        match self.later.pop_first() {
+            Some((_, delivery)) => Some(delivery),
+            None => take_first(self.heads.as_mut_slice()),
+        }
     }
 }

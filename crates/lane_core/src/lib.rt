@@ -6,6 +6,7 @@ mod deliverer;
 mod delivery;
 mod event;
 mod fault;
+mod head;
 mod job;
 mod lane;
 mod laws;

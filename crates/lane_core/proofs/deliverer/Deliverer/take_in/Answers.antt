@@ -1,35 +1,73 @@
-use Rattle.std.proofs.Common.{rules, ◌≡◌, ◌+◌, ◌<◌, ◌≤◌, ◌^◌, length, vec_len, vec_capacity, false, ap, ◌∙◌, sym}
-use Rattle.std.specs.Map.{values_of}
-use Rattle.lane_core.specs.Desk.{desk, was_taken}
-use Rattle.lane_core.proofs.DeskFacts.{or_parts, took}
-use Rattle.lane_core.proofs.DrawerFacts.{MoreBy, finds_own, found_among, own_tied, put_more, put_tied}
+use Rattle.std.proofs.Common.{rules, ◌≡◌, ◌<◌, ◌^◌, length, get_or, slice_set, sym, ap, ◌∙◌, arith}
+use Rattle.std.proofs.lemmas.Grind.{common_steps}
+use Rattle.std.specs.BTreeMap.{is_at}
+use Rattle.std.specs.Set.{remove_key}
+use Rattle.lane_core.specs.declared.head.Head.TheVariants.{Here}
+use Rattle.lane_core.specs.Desk.{was_taken}
+use Rattle.lane_core.specs.Drawer.{desk_of}
+use Rattle.lane_core.proofs.DrawerFacts.{cmp_tickets}
+use Rattle.lane_core.proofs.TakingFacts.{head_kept, head_taken, keys_back, later_kept, later_taken}
 use Rattle.lane_core.proofs.deliverer.Deliverer.take_in.Goals as goal
-use Rattle.lane_core.proofs.deliverer.Deliverer.take_in.Goals.{Joined-insert-2}
 
-fresh : (c : Joined-insert-2) → was_taken (desk c.self.inside.nexts.items (values_of c.self.inside.waiting.entries) c.self.inside.out.items) c.ticket-ticket.result.lane c.ticket-ticket.result.number ≡ false
-fresh c = ap (λ d. was_taken d c.ticket-ticket.result.lane c.ticket-ticket.result.number) c.self.view_is ∙ (sym c.was_taken.ensures ∙ c.if-was_taken.false)
+next : (c : goal.Joined-index_mut) → c.ticket-ticket.result.number ≡ get_or c.self.inside.nexts.items c.args.delivery.lane 0
+next c =
+    let lane : c.from-lane.result ≡ c.args.delivery.lane = c.from-lane.ensures ∙ c.ticket-ticket.ensures.lane in
+    let low : c.args.delivery.lane < length c.self.inside.nexts.items = search rules in
+    let at : c.index.result.now ≡ get_or c.self.inside.nexts.items c.args.delivery.lane 0 = grind (arith, common_steps) in
+    sym c.from.ensures ∙ (c.if-from-index.true ∙ at)
 
-more : (c : Joined-insert-2) → MoreBy c.self.inside.waiting.entries c.args.delivery c.insert.new.self.entries
-more c =
-    let absent = found_among _ c.ticket-ticket.result.lane c.ticket-ticket.result.number (finds_own c.ticket-ticket.result) c.self.inside.waiting.entries c.self.invariant.0 ∙ (or_parts _ _ _ (fresh c)).1 in
-    rw c.in-Ok.ensures.entries (put_more _ c.ticket-ticket.result c.args.delivery c.self.inside.waiting.entries absent)
+heads : (c : goal.Joined-index_mut) → slice_set c.self.inside.heads.items c.from-lane.result (Here c.args.delivery) ≡ slice_set c.self.inside.heads.items c.args.delivery.lane (Here c.args.delivery)
+heads c = λ i. slice_set c.self.inside.heads.items ((c.from-lane.ensures ∙ c.ticket-ticket.ensures.lane) i) (Here c.args.delivery)
 
-bounded : (c : Joined-insert-2) → c.ticket-ticket.result.number < 2 ^ 32
-bounded c = search rules
+pub invariant_of-self : goal.invariant_of-self
+invariant_of-self c =
+    let lane : c.from-lane.result ≡ c.args.delivery.lane = c.from-lane.ensures ∙ c.ticket-ticket.ensures.lane in
+    let low : c.args.delivery.lane < length c.self.inside.nexts.items = search rules in
+    let small : c.ticket-ticket.result.number < 2 ^ 32 = search rules in
+    let fresh = ap (λ d. was_taken d c.ticket-ticket.result.lane c.ticket-ticket.result.number) c.self.view_is ∙ (sym c.was_taken.ensures ∙ c.if-was_taken.false) in
+    rw (heads c) (head_kept _ _ _ _ c.self.invariant c.ticket-ticket.result c.args.delivery c.ticket-ticket.ensures.lane c.ticket-ticket.ensures.number small low fresh (next c))
 
-enough : (c : Joined-insert-2) → vec_len c.reserve.new.self + length c.insert.new.self.entries ≤ vec_capacity c.reserve.new.self
-enough c = let count : length c.insert.new.self.entries ≡ length c.self.inside.waiting.entries + 1 = (more c).count in search rules
+pub returns-then-from-index-clause-taken : goal.returns-then-from-index-clause-taken
+returns-then-from-index-clause-taken c =
+    let lane : c.from-lane.result ≡ c.args.delivery.lane = c.from-lane.ensures ∙ c.ticket-ticket.ensures.lane in
+    let low : c.args.delivery.lane < length c.self.inside.nexts.items = search rules in
+    let small : c.ticket-ticket.result.number < 2 ^ 32 = search rules in
+    let fresh = ap (λ d. was_taken d c.ticket-ticket.result.lane c.ticket-ticket.result.number) c.self.view_is ∙ (sym c.was_taken.ensures ∙ c.if-was_taken.false) in
+    rw (← c.self.view_is) (rw (heads c) (head_taken _ _ _ _ c.self.invariant c.ticket-ticket.result c.args.delivery c.ticket-ticket.ensures.lane c.ticket-ticket.ensures.number small low fresh (next c)))
 
-pub invariant_of-self-in-Ok : goal.invariant_of-self-in-Ok
-invariant_of-self-in-Ok c =
-    let absent = found_among _ c.ticket-ticket.result.lane c.ticket-ticket.result.number (finds_own c.ticket-ticket.result) c.self.inside.waiting.entries c.self.invariant.0 ∙ (or_parts _ _ _ (fresh c)).1 in
-    let own = own_tied c.ticket-ticket.result c.args.delivery c.ticket-ticket.ensures.lane c.ticket-ticket.ensures.number (bounded c) in
-    (rw c.in-Ok.ensures.entries (put_tied _ c.ticket-ticket.result c.args.delivery c.self.inside.waiting.entries own c.self.invariant.0 absent), enough c)
+pub invariant_of-self-in-Ok-insert : goal.invariant_of-self-in-Ok-insert
+invariant_of-self-in-Ok-insert c =
+    let lane : c.from-lane.result ≡ c.args.delivery.lane = c.from-lane.ensures ∙ c.ticket-ticket.ensures.lane in
+    let low : c.args.delivery.lane < length c.self.inside.nexts.items = search rules in
+    let small : c.ticket-ticket.result.number < 2 ^ 32 = search rules in
+    let fresh = ap (λ d. was_taken d c.ticket-ticket.result.lane c.ticket-ticket.result.number) c.self.view_is ∙ (sym c.was_taken.ensures ∙ c.if-was_taken.false) in
+    let at : c.index.result.now ≡ get_or c.self.inside.nexts.items c.args.delivery.lane 0 = grind (arith, common_steps) in
+    rw (c.in-Ok-insert.ensures.entries, c.in-Ok.ensures.keys)
+    (later_kept _ _ _ _ c.self.invariant c.ticket-ticket.result c.args.delivery c.ticket-ticket.ensures.lane c.ticket-ticket.ensures.number small low fresh (λ e. c.if-from-index.false (c.from.ensures ∙ (e ∙ sym at))))
 
-pub returns-in-Ok-clause-taken : goal.returns-in-Ok-clause-taken
-returns-in-Ok-clause-taken c =
-    let d = desk c.self.inside.nexts.items (values_of c.self.inside.waiting.entries) c.self.inside.out.items in
-    let new = sym (λ i. was_taken d (c.ticket-ticket.ensures.lane i) (c.ticket-ticket.ensures.number i)) ∙ fresh c in
+pub returns-in-Ok-insert-clause-taken : goal.returns-in-Ok-insert-clause-taken
+returns-in-Ok-insert-clause-taken c =
+    let lane : c.from-lane.result ≡ c.args.delivery.lane = c.from-lane.ensures ∙ c.ticket-ticket.ensures.lane in
+    let low : c.args.delivery.lane < length c.self.inside.nexts.items = search rules in
+    let small : c.ticket-ticket.result.number < 2 ^ 32 = search rules in
+    let fresh = ap (λ d. was_taken d c.ticket-ticket.result.lane c.ticket-ticket.result.number) c.self.view_is ∙ (sym c.was_taken.ensures ∙ c.if-was_taken.false) in
     rw (← c.self.view_is)
-    (rw c.reserve.ensures.items
-    (took c.self.inside.nexts.items c.self.inside.waiting.entries c.insert.new.self.entries c.self.inside.out.items c.args.delivery (search rules) new (more c)))
+    (rw (c.in-Ok-insert.ensures.entries, c.in-Ok.ensures.keys)
+    (later_taken _ _ _ _ c.self.invariant c.ticket-ticket.result c.args.delivery c.ticket-ticket.ensures.lane c.ticket-ticket.ensures.number small low fresh))
+
+same_keys : (c : goal.After-remove) → c.remove.new.self.keys ≡ c.self.inside.known.keys
+same_keys c =
+    let lane : c.from-lane.result ≡ c.args.delivery.lane = c.from-lane.ensures ∙ c.ticket-ticket.ensures.lane in
+    let low : c.args.delivery.lane < length c.self.inside.nexts.items = search rules in
+    let small : c.ticket-ticket.result.number < 2 ^ 32 = search rules in
+    let fresh = ap (λ d. was_taken d c.ticket-ticket.result.lane c.ticket-ticket.result.number) c.self.view_is ∙ (sym c.was_taken.ensures ∙ c.if-was_taken.false) in
+    c.remove.ensures.keys
+    ∙ (ap (λ ks. remove_key (is_at (cmp_tickets c.ticket-ticket.result)) ks) c.in-Ok.ensures.keys
+    ∙ keys_back _ _ _ _ c.self.invariant c.ticket-ticket.result c.args.delivery c.ticket-ticket.ensures.lane c.ticket-ticket.ensures.number small low fresh)
+
+pub invariant_of-self-in-Err : goal.invariant_of-self-in-Err
+invariant_of-self-in-Err c = rw (c.in-Err.ensures.err, same_keys c) c.self.invariant
+
+pub returns-clause-unchanged : goal.returns-clause-unchanged
+returns-clause-unchanged c =
+    rw (← c.self.view_is) (λ i. desk_of c.self.inside.nexts.items c.self.inside.heads.items (c.in-Err.ensures.err i) (same_keys c i))

@@ -1,37 +1,74 @@
-use Rattle.std.proofs.Common.{◌≡◌, ◌<◌, ◌≤◌, ◌+◌, ◌==◌, length, slice_set, get_or, ap, ◌∙◌, sym, arith}
+use Rattle.std.proofs.Common.{◌≡◌, ◌<◌, ◌+◌, length, get_or, slice_set, ap, ◌∙◌, subst, arith}
 use Rattle.std.proofs.lemmas.Grind.{common_steps}
-use Rattle.std.specs.Map.{values_of}
-use Rattle.std.specs.Option.{is_some}
-use Rattle.lane_core.specs.Desk.{desk, next_of}
-use Rattle.lane_core.proofs.DeskFacts.{gave}
-use Rattle.lane_core.proofs.DrawerFacts.{both_true, eq_from, finds_at, found_among, found_ticket, gone_more, gone_tied}
+use Rattle.lane_core.specs.declared.head.Head.TheVariants.{Missing, Here}
+use Rattle.lane_core.specs.Drawer.{Advances, IsHeadOf, desk_of, head_at, is_here}
+use Rattle.lane_core.proofs.DeskFacts.{gave, kept_next, known_same, others_same}
+use Rattle.lane_core.proofs.HeadFacts.{next_waits, own_parts}
+use Rattle.lane_core.proofs.ListFacts.{placed, set_same}
 use Rattle.lane_core.proofs.deliverer.Deliverer.take_next.Goals as goal
+use Rattle.lane_core.proofs.deliverer.Deliverer.take_next.Goals.{After-row_known-1, Joined-index_mut-advance}
 
 pub returns-in_err-delivery-clause-none : goal.returns-in_err-delivery-clause-none
 returns-in_err-delivery-clause-none c =
-    let at = c.in_ok-ticket.ensures.some.1 ∙ ap (λ d. next_of d c.args.lane) (sym c.self.view_is) in
-    let none = sym (found_among _ c.args.lane (get_or c.self.inside.nexts.items c.args.lane 0) (finds_at c.in_ok-ticket.ticket c.args.lane _ c.in_ok-ticket.ensures.some.0 at) c.self.inside.waiting.entries c.self.invariant.0) ∙ ap (λ o. is_some o) (sym c.in_err-delivery.ensures.value) in
-    rw c.from_residual-in_err-delivery.ensures
-    (rw (← c.self.view_is) (none, ap (λ es. desk c.self.inside.nexts.items (values_of es) c.self.inside.out.items) c.in_err-delivery.ensures.unchanged))
+    let heads = c.self.inside.heads.items in
+    let low : c.args.lane < length c.self.inside.nexts.items = rw (← c.self.view_is) at c.requires in
+    let there : c.args.lane < length heads = let n = c.self.invariant.lanes in omega arith in
+    let at : head_at heads c.args.lane ≡ c.index_mut.result.now = grind (arith, common_steps) in
+    let none = next_waits c.self.inside.nexts.items heads c.self.inside.later.entries c.self.inside.known.keys c.args.lane c.self.invariant low ∙ (ap is_here at ∙ c.in_err-delivery.ensures.none.0) in
+    let same : slice_set heads c.from-index.result c.take.new.self ≡ heads =
+    (λ i. slice_set heads (c.from-index.ensures i) (c.in_err-delivery.ensures.none.1 i)) ∙ set_same heads c.args.lane c.index_mut.result.now (placed heads c.args.lane c.index_mut.result.now there (grind (arith, common_steps))) in
+    rw c.from_residual.ensures
+    (rw (← c.self.view_is) (none, ap (λ hs. desk_of c.self.inside.nexts.items hs c.self.inside.later.entries c.self.inside.known.keys) same))
+
+low_of : (c : Joined-index_mut-advance) → c.args.lane < length c.self.inside.nexts.items
+low_of c = rw (← c.self.view_is) at c.requires
+
+at_of : (c : Joined-index_mut-advance) → c.index.result.now ≡ get_or c.self.inside.nexts.items c.args.lane 0
+at_of c = let low = low_of c in grind (arith, common_steps)
+
+here_of : (c : Joined-index_mut-advance) → head_at c.self.inside.heads.items c.args.lane ≡ Here c.in_ok-delivery.delivery
+here_of c =
+    let low = low_of c in
+    let lanes = c.self.invariant.lanes in
+    let at : head_at c.self.inside.heads.items c.args.lane ≡ c.index_mut.result.now = grind (arith, common_steps) in
+    at ∙ c.in_ok-delivery.ensures.some.0
+
+own_of : (c : Joined-index_mut-advance) → IsHeadOf c.args.lane (get_or c.self.inside.nexts.items c.args.lane 0) (Here c.in_ok-delivery.delivery)
+own_of c = subst (IsHeadOf c.args.lane (get_or c.self.inside.nexts.items c.args.lane 0)) (here_of c) (c.self.invariant.own c.args.lane (low_of c))
+
+pub overflow_add-next : goal.overflow_add-next
+overflow_add-next c =
+    let low : c.args.lane < length c.self.inside.nexts.items = rw (← c.self.view_is) at c.requires in
+    let lanes = c.self.invariant.lanes in
+    let at : c.index.result.now ≡ get_or c.self.inside.nexts.items c.args.lane 0 = grind (arith, common_steps) in
+    let head : head_at c.self.inside.heads.items c.args.lane ≡ c.index_mut.result.now = grind (arith, common_steps) in
+    let own = subst (IsHeadOf c.args.lane (get_or c.self.inside.nexts.items c.args.lane 0)) (head ∙ c.in_ok-delivery.ensures.some.0) (c.self.invariant.own c.args.lane low) in
+    let small = (own_parts c.args.lane (get_or c.self.inside.nexts.items c.args.lane 0) c.in_ok-delivery.delivery own).2 in
+    omega arith
+
+advanced : (c : Joined-index_mut-advance)
+    → Advances c.args.lane (get_or c.self.inside.nexts.items c.args.lane 0 + 1) c.self.inside.later.entries c.self.inside.known.keys c.advance.new.later.entries c.advance.new.known.keys c.advance.result
+advanced c = subst (λ n. Advances c.args.lane (n + 1) c.self.inside.later.entries c.self.inside.known.keys c.advance.new.later.entries c.advance.new.known.keys c.advance.result) (at_of c) c.advance.ensures
+
+nexts_of : (c : Joined-index_mut-advance)
+    → slice_set c.self.inside.nexts.items c.from-index.result (c.index.result.now + 1) ≡ slice_set c.self.inside.nexts.items c.args.lane (get_or c.self.inside.nexts.items c.args.lane 0 + 1)
+nexts_of c = λ i. slice_set c.self.inside.nexts.items (c.from-index.ensures i) (at_of c i + 1)
+
+heads_of : (c : Joined-index_mut-advance)
+    → slice_set (slice_set c.self.inside.heads.items c.from-index.result c.take.new.self) c.from-index.result c.advance.result ≡ slice_set (slice_set c.self.inside.heads.items c.args.lane Missing) c.args.lane c.advance.result
+heads_of c = λ i. slice_set (slice_set c.self.inside.heads.items (c.from-index.ensures i) (c.in_ok-delivery.ensures.some.1 i)) (c.from-index.ensures i) c.advance.result
 
 pub invariant_of-self-2 : goal.invariant_of-self-2
 invariant_of-self-2 c =
-    let fewer : length c.remove.new.self.entries ≤ length c.self.inside.waiting.entries = omega (arith, c.in_ok-delivery.ensures.len) in
-    let room = c.self.invariant.1 in (
-      rw c.remove.ensures.entries (gone_tied _ c.self.inside.waiting.entries c.self.invariant.0),
-      omega arith,
-    )
+    let a = advanced c in
+    rw (nexts_of c, heads_of c)
+    (kept_next c.self.inside.nexts.items c.self.inside.heads.items c.self.inside.later.entries c.advance.new.later.entries c.self.inside.known.keys c.advance.new.known.keys c.args.lane c.advance.result
+    c.self.invariant (low_of c) a.own a.indexed a.gone (others_same c.args.lane _ _ _ _ _ c.advance.result a))
 
 pub returns-clause-some : goal.returns-clause-some
 returns-clause-some c =
-    let at = c.in_ok-ticket.ensures.some.1 ∙ ap (λ d. next_of d c.args.lane) (sym c.self.view_is) in
-    let x = c.in_ok-delivery.delivery in
-    let es = c.self.inside.waiting.entries in
-    let n = get_or c.self.inside.nexts.items c.args.lane 0 in
-    let own = both_true (x.lane == c.args.lane) (x.number == n) (found_ticket _ c.args.lane n (finds_at c.in_ok-ticket.ticket c.args.lane n c.in_ok-ticket.ensures.some.0 at) es x c.self.invariant.0 (sym c.in_ok-delivery.ensures.value)) in
-    let there : c.args.lane < length c.self.inside.nexts.items = rw (← c.self.view_is) at c.requires in
-    let less = rw (← c.remove.ensures.entries) at (gone_more _ es x (sym c.in_ok-delivery.ensures.value)) in
-    let moved : slice_set c.self.inside.nexts.items c.from.result (c.index_mut.result.now + 1) ≡ slice_set c.self.inside.nexts.items c.args.lane (n + 1) = grind (arith, common_steps) in
+    let a = advanced c in
     rw (← c.self.view_is)
-    (rw moved
-    (gave c.self.inside.nexts.items es c.remove.new.self.entries c.self.inside.out.items c.args.lane x there (eq_from x.lane c.args.lane own.0) (eq_from x.number n own.1) less))
+    (rw (nexts_of c, heads_of c)
+    (gave c.self.inside.nexts.items c.self.inside.heads.items c.self.inside.later.entries c.advance.new.later.entries c.self.inside.known.keys c.advance.new.known.keys c.args.lane c.in_ok-delivery.delivery c.advance.result
+    (low_of c) c.self.invariant.lanes (here_of c) (own_of c) a.waiting (known_same c.args.lane _ _ _ _ _ c.advance.result a) (others_same c.args.lane _ _ _ _ _ c.advance.result a)))

@@ -1,17 +1,25 @@
-use Rattle.std.proofs.Common.{◌≡◌, ◌||◌, nat_lt, Bool, ap, ◌∙◌, get_or, arith}
+use Rattle.std.proofs.Common.{◌≡◌, ◌==◌, ◌&&◌, ◌||◌, nat_lt, Bool, true, false, sym, ap, ◌∙◌, get_or, arith}
 use Rattle.std.proofs.lemmas.Grind.{common_steps}
-use Rattle.lane_core.specs.Desk.{was_taken, is_out}
-use Rattle.lane_core.proofs.DrawerFacts.{finds_own, found_among}
+use Rattle.lane_core.specs.Desk.{is_known, was_taken}
+use Rattle.lane_core.specs.Drawer.{has_come, head_at}
+use Rattle.lane_core.proofs.DeskFacts.{was_is}
+use Rattle.lane_core.proofs.DrawerFacts.{any_finds, finds_own}
 use Rattle.lane_core.proofs.deliverer.Deliverer.was_taken.Goals as goal
 
-either_of : (a b x c d y : Bool) → a ≡ c → b ≡ d → x ≡ y → (a || b || x) ≡ (c || d || y)
-either_of a b x c d y e f g = λ i. e i || f i || g i
+either_of : (a b x c d y : Bool) → a ≡ c → b ≡ d → x ≡ y → ((a || b) || x) ≡ (c || d || y)
+either_of true b x c d y e f g = ap (λ n. n || d || y) e
+either_of false b x c d y e f g = (λ i. f i || g i) ∙ ap (λ n. n || d || y) e
 
 pub returns : goal.returns
 returns c =
     let lane = c.args.ticket.lane in
     let number = c.args.ticket.number in
-    let given : nat_lt c.from.result c.index.result.now ≡ nat_lt number (get_or c.self.inside.nexts.items lane 0) = grind (arith, common_steps) in
-    let waits = c.contains_key-waits.ensures ∙ found_among _ lane number (finds_own c.args.ticket) c.self.inside.waiting.entries c.self.invariant.0 in
-    let out : c.contains-out.result ≡ is_out lane number c.self.inside.out.items = rw c.deref.ensures.value at c.contains-out.ensures.value in
-    either_of _ _ _ _ _ _ given waits out ∙ ap (λ d. was_taken d lane number) c.self.view_is
+    let nexts = c.self.inside.nexts.items in
+    let heads = c.self.inside.heads.items in
+    let given : nat_lt c.from-number.result c.index.result.now ≡ nat_lt number (get_or nexts lane 0) = grind (arith, common_steps) in
+    let is_next : (c.from-number.result == c.index-2.result.now) ≡ (get_or nexts lane 0 == number) = grind (arith, common_steps) in
+    let come : c.has_come.result ≡ has_come (head_at heads lane) = grind (arith, common_steps) in
+    let later : c.contains.result ≡ is_known lane number c.self.inside.known.keys = c.contains.ensures ∙ any_finds _ lane number (finds_own c.args.ticket) c.self.inside.known.keys in
+    either_of _ _ _ _ _ _ given (λ i. is_next i && come i) later
+    ∙ (sym (was_is nexts heads c.self.inside.later.entries c.self.inside.known.keys c.self.invariant.lanes lane number)
+    ∙ ap (λ d. was_taken d lane number) c.self.view_is)

@@ -1,0 +1,9 @@
+use Rattle.std.proofs.Common.{rules, ◌≡◌, ◌∙◌, replicate}
+use Rattle.lane_core.specs.Drawer.{desk_of}
+use Rattle.lane_core.proofs.DeskFacts.{new_is}
+use Rattle.lane_core.proofs.deliverer.Deliverer.new.Goals as goal
+
+pub returns : goal.returns
+returns c =
+    let nexts : c.in-Ok.nexts.items ≡ replicate c.args.lanes 0 = search rules in
+    (λ i. desk_of (nexts i) (c.in_ok-missing_heads.ensures i) (c.new.ensures.empty i) (c.new-2.ensures.empty i)) ∙ new_is c.args.lanes
