@@ -1,5 +1,5 @@
 //! Prints labels as PBM images, with one row of dots in memory.
-ghost use Rattle.std.specs.Prelude.{◌≡◌, ◌≢◌, ◌*◌, ◌≤◌, ◌↔◌, [], ℕ, List, true, false, IfErr, IsErr, IsErrOf, OnErr, OnOk, length};
+ghost use Rattle.std.specs.Prelude.{◌≡◌, ◌≢◌, ◌*◌, ◌<◌, ◌≤◌, ◌↔◌, [], ℕ, List, true, false, IfErr, IsErr, IsErrOf, OnErr, OnOk, length};
 ghost use Rattle.std.specs.Io.KnownBytes.{Appends};
 ghost use Rattle.std.specs.List.{AllByRecursion, AllZip};
 ghost use Rattle.digits_core.specs.Bytes.{TookFront};
@@ -16,19 +16,52 @@ use crate::line::draw_line;
 use crate::pbm::write::header;
 use crate::print::{check_labels, part};
 use crate::sheet::stride;
+use arrayvec::ArrayVec;
 use digits_core::{Failed, Sink, write_all};
 use std::alloc::Global;
 
-/// Writes a row of dots so many times.
+/// How many bytes of equal rows are written at once, at most.
+const PIECE: usize = 8_192;
+
+/// The bytes of a row of dots so many times.
+fn piece_of(line: &[u8], count: usize) -> ArrayVec<u8, PIECE>
+    requires { count * length line.now ≤ 8192 }
+    ensures { result.items ≡ rows_of count line.now }
+{
+    let mut piece = ArrayVec::new();
+    for _ in 0..count {
+        // There is room.
+        let _ = piece.try_extend_from_slice(line);
+    }
+    piece
+}
+
+/// Writes a piece so many times.
+fn write_pieces<W: Sink>(piece: &[u8], count: usize, sink: &mut W) -> Result<(), Failed>
+    ensures ok { OnOk result (Appends (W.taken sink.old) (W.taken sink.new) (rows_of count piece.now)) }
+    ensures err { OnErr result (TookFront (W.taken sink.old) (W.taken sink.new) (rows_of count piece.now)) }
+    ensures fault { W.failed sink.old ≡ false → (IsErr result ↔ (W.failed sink.new ≡ true)) }
+{
+    for _ in 0..count {
+        write_all(sink, piece)?;
+    }
+    Ok(())
+}
+
+/// Writes a row of dots so many times, as many at once as a piece holds.
 fn write_rows<W: Sink>(line: &[u8], count: u16, sink: &mut W) -> Result<(), Failed>
+    requires some { 0 < length line.now }
+    requires short { length line.now ≤ 2048 }
     ensures ok { OnOk result (Appends (W.taken sink.old) (W.taken sink.new) (rows_of count line.now)) }
     ensures err { OnErr result (TookFront (W.taken sink.old) (W.taken sink.new) (rows_of count line.now)) }
     ensures fault { W.failed sink.old ≡ false → (IsErr result ↔ (W.failed sink.new ≡ true)) }
 {
-    for _ in 0..count {
-        write_all(sink, line)?;
-    }
-    Ok(())
+    let count = usize::from(count);
+    let each = (PIECE / line.len()).min(count).max(1);
+    let piece = piece_of(line, each);
+    write_pieces(piece.as_slice(), count / each, sink)?;
+    let rest = count % each * line.len();
+    write_all(sink, &piece.as_slice()[..rest])
 }
 
 /// Writes the dot rows of a row of cells, each of which is made in `line`.
@@ -107,7 +140,8 @@ fn write_sheets<W: Sink>(
 }
 
 /// Writes labels as PBM images of the sheets that they fill in a grid, the bytes that `write_pbm` writes
-/// of what `print_sheets` gives. It takes memory for one row of dots alone.
+/// of what `print_sheets` gives. It takes memory for one row of dots alone, and writes equal rows together,
+/// in pieces of at most 8,192 bytes.
 ///
 /// All labels are looked at first, in their order, then the memory is taken, and then bytes go out. So
 /// after `LabelKind`, `LabelWidth`, both as of `print_sheets`, and `NoMemory` nothing was written; after
