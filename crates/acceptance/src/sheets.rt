@@ -5,7 +5,10 @@ use code128_code::encode;
 use digits_core::{Failed, FromReader, Gtin, Sink, Source, ToWriter};
 use element_core::{Elements, Year};
 use scan_core::{Answer, Carrier, Runs, read_row};
-use sheet_core::{Grid, Label, PbmFault, Sheet, SheetFault, print_sheets, read_pbm, write_pbm};
+use sheet_core::{
+    Grid, Label, PbmFault, PrintFault, Sheet, SheetFault, print_pbm, print_sheets, read_pbm,
+    write_pbm,
+};
 use std::alloc::{AllocError, Global};
 use std::test::Fail;
 
@@ -116,6 +119,13 @@ fn written(alloc: Global, sheets: &[Sheet]) -> Result<Vec<u8>, Fail> {
     let mut sink = ToWriter::new(Vec::new(alloc));
     write_pbm(sheets, &mut sink).ok().ok_or("write")?;
     Ok(sink.into_inner())
+}
+
+/// The bytes that labels are printed as, and whether they are.
+fn printed(alloc: Global, labels: &[Label], grid: Grid) -> (Vec<u8>, Result<(), PrintFault>) {
+    let mut sink = ToWriter::new(Vec::new(alloc));
+    let outcome = print_pbm(alloc, labels, grid, &mut sink);
+    (sink.into_inner(), outcome)
 }
 
 /// The dots of a row of a sheet, dark as 1.
@@ -239,6 +249,12 @@ fn prints_a_label_as_its_bytes(rt: HostRuntime) -> Result<(), Fail> {
     let sheets = print_sheets(alloc, &labels, grid).ok().ok_or("print")?;
     let bytes = written(alloc, sheets.as_slice())?;
     assert_eq!(rt; bytes.as_slice(), PRINTED);
+    let (bytes, outcome) = printed(alloc, &labels, grid);
+    assert_eq!(rt; outcome, Ok(()));
+    assert_eq!(rt; bytes.as_slice(), PRINTED);
+    let (bytes, outcome) = printed(alloc, &[], grid);
+    assert_eq!(rt; outcome, Ok(()));
+    assert_eq!(rt; bytes.len(), 0);
     let read = read(alloc, PRINTED).ok().ok_or("read")?;
     let again = written(alloc, read.as_slice())?;
     assert_eq!(rt; again.as_slice(), PRINTED);
@@ -299,6 +315,10 @@ fn fills_sheets_row_by_row(rt: HostRuntime) -> Result<(), Fail> {
         Label::UpcA(gtin("012345000065")?),
     ];
     let sheets = print_sheets(alloc, &labels, grid).ok().ok_or("print")?;
+    let bytes = written(alloc, sheets.as_slice())?;
+    let (found, outcome) = printed(alloc, &labels, grid);
+    assert_eq!(rt; outcome, Ok(()));
+    assert_eq!(rt; found.as_slice(), bytes.as_slice());
     assert_eq!(rt; sheets.len(), 2);
     for (sheet, cell, left, runs) in [
         (0, 0, 11, 61),
@@ -421,6 +441,25 @@ fn writes_fronts_of_files(rt: HostRuntime) -> Result<(), Fail> {
 }
 
 #[test]
+fn prints_fronts_of_files(rt: HostRuntime) -> Result<(), Fail> {
+    let alloc = rt.alloc();
+    let grid = Grid::new(1, 113, 3, 1, 1).ok().ok_or("grid")?;
+    let labels = [Label::Ean13(gtin("9501101530003")?)];
+    for room in 0..55 {
+        let mut sink = Narrow::new(alloc, room);
+        let outcome = print_pbm(alloc, &labels, grid, &mut sink);
+        let wanted = if room == 54 {
+            Ok(())
+        } else {
+            Err(PrintFault::WriteFault)
+        };
+        assert_eq!(rt; outcome, wanted);
+        assert_eq!(rt; sink.taken.as_slice(), &PRINTED[..room]);
+    }
+    Ok(())
+}
+
+#[test]
 fn prints_48_characters(rt: HostRuntime) -> Result<(), Fail> {
     let alloc = rt.alloc();
     let Ok(wide) = Grid::new(1, 594, 4, 1, 1) else {
@@ -446,6 +485,9 @@ fn prints_48_characters(rt: HostRuntime) -> Result<(), Fail> {
     }
     let found = print(alloc, &labels, narrow)?;
     assert_eq!(rt; found.as_str(), "refused 27 LabelWidth 0");
+    let (bytes, outcome) = printed(alloc, &labels, narrow);
+    assert_eq!(rt; outcome, Err(PrintFault::Sheet(SheetFault::LabelWidth(0))));
+    assert_eq!(rt; bytes.len(), 0);
     let longer = elements("91AAAAAAAAAAAAAAAAAAAAAAAAAAAAAAAAAAAAAAAAAAAAAAA", 2026)?;
     encode(&longer).err().ok_or("too many characters")?;
     let found = print(alloc, &[Label::Gs1128(longer)], wide)?;
@@ -476,6 +518,10 @@ fn reads_each_bar_row_as_its_label(rt: HostRuntime) -> Result<(), Fail> {
         Label::Gs1128(elements("17000229", 2026)?),
     ];
     let sheets = print_sheets(alloc, &labels, grid).ok().ok_or("print")?;
+    let bytes = written(alloc, sheets.as_slice())?;
+    let (found, outcome) = printed(alloc, &labels, grid);
+    assert_eq!(rt; outcome, Ok(()));
+    assert_eq!(rt; found.as_slice(), bytes.as_slice());
     let sheet = sheets.first().ok_or("sheet")?;
     for (cell, wanted) in [
         (0, "]E0 (01)09501101530003"),

@@ -4,14 +4,25 @@ ghost use Rattle.std.specs.Io.KnownBytes.{Appends};
 ghost use Rattle.digits_core.specs.Bytes.{TookFront};
 ghost use Rattle.gs1_hub.specs.Commands.{Ran, print_command};
 ghost use Rattle.line_core.specs.Grids.{cells_of};
-ghost use Rattle.gs1_hub.specs.Prints.{IsPrinted, IsUnprinted};
+ghost use Rattle.gs1_hub.specs.Prints.{IsPrinted, IsUnprinted, of_prints};
 
 use crate::fault::CommandFault;
 use crate::options::PrintOptions;
 use digits_core::{Sink, Source, write_all};
 use line_core::{label_lines, read_labels};
-use sheet_core::{Grid, Label, print_sheets, write_pbm};
+use sheet_core::{Grid, Label, PrintFault, check_labels, print_pbm};
 use std::alloc::Global;
+
+impl From<PrintFault> for CommandFault {
+    ghost from_gives = { λ fault command. command ≡ of_prints fault };
+
+    fn from(fault: PrintFault) -> CommandFault {
+        match fault {
+            PrintFault::Sheet(fault) => CommandFault::from(fault),
+            PrintFault::WriteFault => CommandFault::WriteFault,
+        }
+    }
+}
 
 /// Writes labels as they are asked for.
 fn write_labels<W: Sink>(
@@ -32,13 +43,13 @@ fn write_labels<W: Sink>(
     ensures write { W.failed sink.old ≡ false
         → (IsErrOf result CommandFault.WriteFault ↔ (W.failed sink.new ≡ true)) }
 {
-    let sheets = print_sheets(alloc, labels, grid)?;
     if options.text {
+        check_labels(labels, &grid)?;
         let cells = usize::from(options.grid.columns) * usize::from(options.grid.rows);
         let text = label_lines(alloc, labels, cells, options.year)?;
         write_all(sink, text.as_str().as_bytes())?;
     } else {
-        write_pbm(sheets.as_slice(), sink)?;
+        print_pbm(alloc, labels, grid, sink)?;
     }
     Ok(())
 }

@@ -38,7 +38,7 @@ rows_more n line = ap (λ k. rows_of k line) (let e : n + 1 ≡ suc n = omega ar
         append_nil_of (x ∷ xs) = ap (λ ys. x ∷ ys) (append_nil_of xs)
     turned (suc n) = ap (λ ys. line ++ ys) (turned n) ∙ sym (append_assoc line (rows_of n line) line)
 
-length-rows : (n : ℕ) (line : List ℕ) → length (rows_of n line) ≡ n * length line
+pub length-rows : (n : ℕ) (line : List ℕ) → length (rows_of n line) ≡ n * length line
 length-rows zero line = omega arith
 length-rows (suc n) line = length-append line (rows_of n line) ∙ ap (λ k. length line + k) (length-rows n line) ∙ (let e : length line + n * length line ≡ suc n * length line = grind arith in e)
 

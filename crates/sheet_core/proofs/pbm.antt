@@ -10,4 +10,5 @@ pub mod HeaderPieces
 pub mod HeaderRefusals
 pub mod ImageFacts
 pub mod PadFacts
+pub mod PrintFacts
 pub mod WrittenFacts

@@ -3,6 +3,8 @@
 use Rattle.std.specs.Prelude.{◌≡◌, ℕ, ◌+◌, ◌-◌, ◌*◌, ◌/◌, ◌%◌, ◌<◌, ◌&&◌, nat_lt, nat_le, Bool, true, false, Option, Some, None, List, length, map, take, slice_get, slice_index_or}
 use Rattle.std.specs.List.{AllByRecursion, AllZip, range_with_len}
 use Rattle.scan_core.specs.Row.{dots_from}
+use Rattle.sheet_core.specs.declared.fault.PrintFault.{PrintFault}
+use Rattle.sheet_core.specs.declared.fault.PrintFault.TheVariants.{Sheet, WriteFault}
 use Rattle.sheet_core.specs.declared.fault.SheetFault.{SheetFault}
 use Rattle.sheet_core.specs.declared.fault.SheetFault.TheVariants.{LabelKind, LabelWidth, NoMemory}
 use Rattle.sheet_core.specs.declared.label.Label.{Label}
@@ -82,3 +84,10 @@ IsSheetFault g labels (LabelWidth i) =
     × IsDrawn label s
     × (FitsCell g s → ⊥)
 IsSheetFault g labels NoMemory = ⊥
+
+-- why labels are not printed as images: the first that has no symbol or does not fit its cell; where all are printed, a growth or a write that failed
+abbrev pub IsPrintFault : Cells → List Label → PrintFault → Type 0
+IsPrintFault g labels (Sheet (LabelKind i)) = IsSheetFault g labels (LabelKind i)
+IsPrintFault g labels (Sheet (LabelWidth i)) = IsSheetFault g labels (LabelWidth i)
+IsPrintFault g labels (Sheet NoMemory) = AllByRecursion (IsPrintable g) labels
+IsPrintFault g labels WriteFault = AllByRecursion (IsPrintable g) labels

@@ -3,6 +3,8 @@ use Rattle.std.specs.Prelude.{ℕ, List, ◌++◌, codes}
 use Rattle.std.specs.Fmt.{decimal}
 use Rattle.sheet_core.specs.declared.fault.SheetFault.{SheetFault}
 use Rattle.sheet_core.specs.declared.fault.SheetFault.TheVariants.{LabelKind, LabelWidth, NoMemory}
+use Rattle.sheet_core.specs.declared.fault.PrintFault.{PrintFault}
+use Rattle.sheet_core.specs.declared.fault.PrintFault.TheVariants.{Sheet, WriteFault}
 use Rattle.sheet_core.specs.declared.fault.PbmFault.{PbmFault}
 use Rattle.sheet_core.specs.declared.fault.PbmFault.TheVariants.{NotP4, PbmHeader, Truncated, PbmSize, ReadFault, NoMemory as PbmNoMemory}
 
@@ -11,6 +13,11 @@ abbrev pub sheet_fault_text : SheetFault → List ℕ
 sheet_fault_text (LabelKind i) = codes "refused 26 LabelKind " ++ decimal i
 sheet_fault_text (LabelWidth i) = codes "refused 27 LabelWidth " ++ decimal i
 sheet_fault_text NoMemory = codes "refused 43 NoMemory"
+
+-- of labels that are not printed as images
+abbrev pub print_fault_text : PrintFault → List ℕ
+print_fault_text (Sheet fault) = sheet_fault_text fault
+print_fault_text WriteFault = codes "refused 38 WriteFault"
 
 -- of bytes that are no images, or were not read
 abbrev pub pbm_fault_text : PbmFault → List ℕ

@@ -30,6 +30,10 @@ abbrev pub band : Cells → List ℕ → List ℕ
 band g line =
     let light : List ℕ = rows_of g.dots (replicate (length line) 0) in light ++ (rows_of (g.height - 2 * g.dots) line ++ light)
 
+-- the bytes are those of a row of cells
+abbrev pub IsBand : Cells → List Drawn → List ℕ → Type 0
+IsBand g symbols bytes = (line : List ℕ) × IsLine g symbols line × (bytes ≡ band g line)
+
 -- the labels of a row of cells
 abbrev pub row_labels : {A : Type 0} → Cells → List A → ℕ → List A
 row_labels g labels row = take g.columns (drop (row * g.columns) labels)

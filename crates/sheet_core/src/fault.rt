@@ -1,7 +1,8 @@
 //! Why a grid, labels or images are refused.
 ghost use Rattle.std.specs.Prelude.{Some, ◌≡◌, codes};
-ghost use Rattle.sheet_core.specs.Faults.{pbm_fault_text, sheet_fault_text};
+ghost use Rattle.sheet_core.specs.Faults.{pbm_fault_text, print_fault_text, sheet_fault_text};
 
+use digits_core::Failed;
 use std::alloc::AllocFailed;
 use std::fmt;
 
@@ -28,6 +29,15 @@ pub enum SheetFault {
     NoMemory,
 }
 
+/// Why labels are not printed as images.
+#[derive(Clone, Copy, Debug, PartialEq, Eq)]
+pub enum PrintFault {
+    /// A label is not printed, or a growth was refused.
+    Sheet(SheetFault),
+    /// The writer failed.
+    WriteFault,
+}
+
 /// Why bytes are no images, or could not be read.
 #[derive(Clone, Copy, Debug, PartialEq, Eq)]
 pub enum PbmFault {
@@ -52,6 +62,26 @@ impl<T: Drop> From<AllocFailed<T>> for SheetFault {
 
     fn from(_: AllocFailed<T>) -> SheetFault {
         SheetFault::NoMemory
+    }
+}
+
+impl From<SheetFault> for PrintFault {
+    ghost use Rattle.sheet_core.specs.declared.fault.PrintFault.TheVariants.{Sheet};
+
+    ghost from_gives = { λ sheet fault. fault ≡ Sheet sheet };
+
+    fn from(fault: SheetFault) -> PrintFault {
+        PrintFault::Sheet(fault)
+    }
+}
+
+impl From<Failed> for PrintFault {
+    ghost use Rattle.sheet_core.specs.declared.fault.PrintFault.TheVariants.{WriteFault};
+
+    ghost from_gives = { λ _ fault. fault ≡ WriteFault };
+
+    fn from(_: Failed) -> PrintFault {
+        PrintFault::WriteFault
     }
 }
 
@@ -87,6 +117,17 @@ impl fmt::Display for SheetFault {
             SheetFault::LabelKind(label) => write!(f, "refused 26 LabelKind {label}"),
             SheetFault::LabelWidth(label) => write!(f, "refused 27 LabelWidth {label}"),
             SheetFault::NoMemory => write!(f, "refused 43 NoMemory"),
+        }
+    }
+}
+
+impl fmt::Display for PrintFault {
+    ghost output = { λ fault. Some (print_fault_text fault) };
+
+    fn fmt<W: fmt::Write>(&self, f: &mut fmt::Formatter<W>) -> fmt::Result {
+        match self {
+            PrintFault::Sheet(fault) => write!(f, "{fault}"),
+            PrintFault::WriteFault => WriteFault.fmt(f),
         }
     }
 }

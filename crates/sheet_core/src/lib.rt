@@ -11,7 +11,7 @@ mod print;
 mod sheet;
 mod symbol;
 
-pub use fault::{BadGrid, NoMemory, PbmFault, SheetFault, WriteFault};
+pub use fault::{BadGrid, NoMemory, PbmFault, PrintFault, SheetFault, WriteFault};
 pub use grid::Grid;
 pub use label::Label;
 pub use laws::{
@@ -19,7 +19,8 @@ pub use laws::{
     headers_are_read, headers_are_refused, one_bitmap, one_drawn, one_printed, one_reading,
     printed_is_read, written_is_read,
 };
+pub use pbm::print::print_pbm;
 pub use pbm::read::read_pbm;
 pub use pbm::write::write_pbm;
-pub use print::print_sheets;
+pub use print::{check_labels, print_sheets};
 pub use sheet::Sheet;

@@ -13,8 +13,10 @@ use crate::line::{draw_line, light_line};
 use crate::sheet::{Sheet, stride};
 use std::alloc::{AllocError, Global};
 
-/// Whether each label is printed: it has a symbol, which fits its cell.
-fn check_labels(labels: &[Label], grid: &Grid) -> Result<(), SheetFault>
+/// Whether all labels are printed: each has a symbol, which fits its cell with its quiet zones. They are
+/// looked at in order; the first without such a symbol is `LabelKind`, the first that is too wide
+/// `LabelWidth`, whichever comes first, with its index. It takes no memory.
+pub fn check_labels(labels: &[Label], grid: &Grid) -> Result<(), SheetFault>
     ensures ok { OnOk result (AllByRecursion (IsPrintable grid.now) labels.now) }
     ensures err { IfErr result (IsSheetFault grid.now labels.now) }
 {
@@ -30,7 +32,7 @@ fn check_labels(labels: &[Label], grid: &Grid) -> Result<(), SheetFault>
 }
 
 /// The labels from an index on, `count` of them or all that there are.
-fn part(labels: &[Label], from: usize, count: usize) -> &[Label]
+pub(crate) fn part(labels: &[Label], from: usize, count: usize) -> &[Label]
     ensures { result.now ≡ take count (drop from labels.now) }
 {
     let rest = &labels[from.min(labels.len())..];

@@ -27,7 +27,7 @@ fn push_number(text: &mut ArrayVec<u8, HEADER>, number: u16)
 }
 
 /// The header of an image of this size, in dots.
-fn header(width: u16, height: u16) -> ArrayVec<u8, HEADER>
+pub(crate) fn header(width: u16, height: u16) -> ArrayVec<u8, HEADER>
     ensures { result.items ≡ header_text width height }
 {
     let mut text = ArrayVec::new();
