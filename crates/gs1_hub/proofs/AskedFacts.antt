@@ -3,25 +3,27 @@ use Rattle.std.proofs.Common.{◌≡◌, ◌++◌, List, [], ◌∷◌, codes, r
 use Rattle.clap.specs.Faults.{fault_of}
 use Rattle.clap.specs.Simple.{subcommand_of}
 use Rattle.clap.specs.Walk.{Row, Rule, Text, rows_after}
+use Rattle.line_core.specs.Numbers.{most_columns, most_dots, most_height, most_rows, most_width}
 use Rattle.gs1_hub.specs.Asking.{Asks, AsksIn}
 use Rattle.gs1_hub.specs.CommandLine.{hub_app}
 use Rattle.gs1_hub.specs.Laws.{TakenAsk}
+use Rattle.gs1_hub.specs.Numbers.{first_year, last_year, most_lanes, most_workers}
 use Rattle.gs1_hub.specs.declared.words.Asked.{Asked}
 use Rattle.gs1_hub.specs.declared.words.Asked.TheVariants as asked
 use Rattle.gs1_hub.proofs.NumberRows.{Passed, flag, help}
 use Rattle.gs1_hub.proofs.TakenWords.{Range, flag_beside, named, number_beside, number_of, numbers, required, shape}
 
 abbrev year : Range
-year = (codes "year", 1951, 2149)
+year = (codes "year", first_year, last_year)
 
 abbrev grid : List Range → List Range
-grid more = (codes "module", 1, 8) ∷ (codes "width", 1, 4096) ∷ (codes "height", 1, 1024) ∷ (codes "columns", 1, 16) ∷ (codes "rows", 1, 64) ∷ more
+grid more = (codes "module", 1, most_dots) ∷ (codes "width", 1, most_width) ∷ (codes "height", 1, most_height) ∷ (codes "columns", 1, most_columns) ∷ (codes "rows", 1, most_rows) ∷ more
 
 abbrev workers : Range
-workers = (codes "workers", 1, 16)
+workers = (codes "workers", 1, most_workers)
 
 abbrev lanes : Range
-lanes = (codes "lanes", 1, 16)
+lanes = (codes "lanes", 1, most_lanes)
 
 -- what the rows of a command of this name ask for
 AskedIn : Text → List Row → Type 0
@@ -34,7 +36,7 @@ check_asked : (words : List Text) → Passed (shape (codes "check") check_rules)
 unfolding AskedIn
 check_asked words p =
     let given = required (codes "check") check_rules (rows_after check_rules [] words) p.checked in
-    let y = number_of (codes "check") (year ∷ []) words p (codes "year") 1951 2149 refl (given.0 refl) in
+    let y = number_of (codes "check") (year ∷ []) words p (codes "year") first_year last_year refl (given.0 refl) in
     (asked.Check y.0, (refl, y.1))
 
 abbrev print_rules : List Rule
@@ -45,15 +47,15 @@ unfolding AskedIn
 print_asked words p =
     let given = required (codes "print") print_rules (rows_after print_rules [] words) p.checked in
     let number = number_beside (codes "print") (codes "text") refl (grid (year ∷ [])) words p in
-    let m = number (codes "module") 1 8 refl refl (given.0 refl) in
-    let w = number (codes "width") 1 4096 refl refl (given.1.0 refl) in
-    let h = number (codes "height") 1 1024 refl refl (given.1.1.0 refl) in
-    let c = number (codes "columns") 1 16 refl refl (given.1.1.1.0 refl) in
-    let r = number (codes "rows") 1 64 refl refl (given.1.1.1.1.0 refl) in
-    let y = number (codes "year") 1951 2149 refl refl (given.1.1.1.1.1.0 refl) in
+    let m = number (codes "module") 1 most_dots refl refl (given.0 refl) in
+    let w = number (codes "width") 1 most_width refl refl (given.1.0 refl) in
+    let h = number (codes "height") 1 most_height refl refl (given.1.1.0 refl) in
+    let c = number (codes "columns") 1 most_columns refl refl (given.1.1.1.0 refl) in
+    let r = number (codes "rows") 1 most_rows refl refl (given.1.1.1.1.0 refl) in
+    let y = number (codes "year") first_year last_year refl refl (given.1.1.1.1.1.0 refl) in
     let t = flag_beside (codes "print") (codes "text") refl (grid (year ∷ [])) words p refl in (
-      asked.Print (record { grid = record { module_dots = m.0; width = w.0; height = h.0; columns = c.0; rows = r.0; some_dots = (m.1.4, m.1.5); some_width = (w.1.4, w.1.5); some_height = (h.1.4, h.1.5); some_columns = (c.1.4, c.1.5); some_rows = (r.1.4, r.1.5) }; year = y.0; text = t.0 }),
-      (refl, ((m.1, w.1, h.1, c.1, r.1), y.1, t.1)),
+      asked.Print (record { grid = record { module_dots = m.0; width = w.0; height = h.0; columns = c.0; rows = r.0; numbers = (m.1.1, w.1.1, h.1.1, c.1.1, r.1.1) }; year = y.0; text = t.0 }),
+      (refl, ((m.1.0, w.1.0, h.1.0, c.1.0, r.1.0, (m.1.1, w.1.1, h.1.1, c.1.1, r.1.1)), y.1, t.1)),
     )
 
 abbrev lanes_rules : List Rule
@@ -64,10 +66,10 @@ unfolding AskedIn
 lanes_asked words p =
     let given = required (codes "lanes") lanes_rules (rows_after lanes_rules [] words) p.checked in
     let number = number_of (codes "lanes") (lanes ∷ workers ∷ year ∷ []) words p in
-    let n = number (codes "lanes") 1 16 refl (given.0 refl) in
-    let k = number (codes "workers") 1 16 refl (given.1.0 refl) in
-    let y = number (codes "year") 1951 2149 refl (given.1.1.0 refl) in
-    (asked.Lanes (record { lanes = n.0; workers = k.0; year = y.0; some_lanes = (n.1.4, n.1.5); some_workers = (k.1.4, k.1.5) }), (refl, (n.1, k.1, y.1)))
+    let n = number (codes "lanes") 1 most_lanes refl (given.0 refl) in
+    let k = number (codes "workers") 1 most_workers refl (given.1.0 refl) in
+    let y = number (codes "year") first_year last_year refl (given.1.1.0 refl) in
+    (asked.Lanes (record { lanes = n.0; workers = k.0; year = y.0; some_lanes = n.1.1; some_workers = k.1.1 }), (refl, (n.1.0, n.1.1, k.1, y.1)))
 
 abbrev scan_rules : List Rule
 scan_rules = numbers (grid (workers ∷ year ∷ [])) ++ help ∷ []
@@ -77,15 +79,15 @@ unfolding AskedIn
 scan_asked words p =
     let given = required (codes "scan") scan_rules (rows_after scan_rules [] words) p.checked in
     let number = number_of (codes "scan") (grid (workers ∷ year ∷ [])) words p in
-    let m = number (codes "module") 1 8 refl (given.0 refl) in
-    let w = number (codes "width") 1 4096 refl (given.1.0 refl) in
-    let h = number (codes "height") 1 1024 refl (given.1.1.0 refl) in
-    let c = number (codes "columns") 1 16 refl (given.1.1.1.0 refl) in
-    let r = number (codes "rows") 1 64 refl (given.1.1.1.1.0 refl) in
-    let k = number (codes "workers") 1 16 refl (given.1.1.1.1.1.0 refl) in
-    let y = number (codes "year") 1951 2149 refl (given.1.1.1.1.1.1.0 refl) in (
-      asked.Scan (record { grid = record { module_dots = m.0; width = w.0; height = h.0; columns = c.0; rows = r.0; some_dots = (m.1.4, m.1.5); some_width = (w.1.4, w.1.5); some_height = (h.1.4, h.1.5); some_columns = (c.1.4, c.1.5); some_rows = (r.1.4, r.1.5) }; workers = k.0; year = y.0; some_workers = (k.1.4, k.1.5) }),
-      (refl, ((m.1, w.1, h.1, c.1, r.1), k.1, y.1)),
+    let m = number (codes "module") 1 most_dots refl (given.0 refl) in
+    let w = number (codes "width") 1 most_width refl (given.1.0 refl) in
+    let h = number (codes "height") 1 most_height refl (given.1.1.0 refl) in
+    let c = number (codes "columns") 1 most_columns refl (given.1.1.1.0 refl) in
+    let r = number (codes "rows") 1 most_rows refl (given.1.1.1.1.0 refl) in
+    let k = number (codes "workers") 1 most_workers refl (given.1.1.1.1.1.0 refl) in
+    let y = number (codes "year") first_year last_year refl (given.1.1.1.1.1.1.0 refl) in (
+      asked.Scan (record { grid = record { module_dots = m.0; width = w.0; height = h.0; columns = c.0; rows = r.0; numbers = (m.1.1, w.1.1, h.1.1, c.1.1, r.1.1) }; workers = k.0; year = y.0; some_workers = k.1.1 }),
+      (refl, ((m.1.0, w.1.0, h.1.0, c.1.0, r.1.0, (m.1.1, w.1.1, h.1.1, c.1.1, r.1.1)), k.1, y.1)),
     )
 
 pub asked_for : (words : List Text) → fault_of hub_app words ≡ [] → (a : Asked) × Asks (subcommand_of hub_app words) a

@@ -1,5 +1,6 @@
 -- What stands under a name among the rows of a command whose words have no fault.
 use Rattle.std.proofs.Common.{◌≡◌, ◌∙◌, ◌⊎◌, ◌≤◌, ◌++◌, ℕ, pos, Bool, true, false, ◌&&◌, ◌||◌, ◌==◌, List, [], ◌∷◌, Option, Some, None, refl, sym, ap, subst, inl, inr, arith, length, cond, find, bytes_eq, append-nil, eqb-true, unwrap_or, is_some}
+use Rattle.std.specs.Int.{IsInRange}
 use Rattle.std.specs.List.{AllByRecursion}
 use Rattle.std.specs.Option.{option_map_or}
 use Rattle.std.specs.Str.Parse.{IsNumeral, digits_value, starts_with_minus, without_leading_plus}
@@ -239,15 +240,19 @@ pub rows_hold : (s : Shape) (words : List Text) (P : List Row → Type 0) → Al
 rows_hold s words P each none passed =
     settle_keeps s.rules s.args_override_self P each (walk s.rules [] nothing_held words).held passed.settles (walk_keeps s [] P each words (walk_from nothing_held) passed.walked none)
 
+-- a number of the range stands under the name
+abbrev pub HasNumberIn : Text → ℕ → ℕ → List Row → ℕ → Type 0
+HasNumberIn name least most rows n = HasNumber name rows n × IsInRange least most n
+
 -- the rows of a number and of a flag, with what is required
-pub given_number : (name : Text) (least most : ℕ) (rows : List Row) → Holds name (GivesNumber least most) rows → is_given name rows ≡ true → (n : ℕ) × HasNumber name least most rows n
+pub given_number : (name : Text) (least most : ℕ) (rows : List Row) → Holds name (GivesNumber least most) rows → is_given name rows ≡ true → (n : ℕ) × HasNumberIn name least most rows n
 given_number name least most rows h given = go (find (λ r. bytes_eq r.id name) rows) refl given
   where
-    go : (o : Option Row) → find (λ r. bytes_eq r.id name) rows ≡ o → option_map_or (λ r. explicit_source r.source) o false ≡ true → (n : ℕ) × HasNumber name least most rows n
+    go : (o : Option Row) → find (λ r. bytes_eq r.id name) rows ≡ o → option_map_or (λ r. explicit_source r.source) o false ≡ true → (n : ℕ) × HasNumberIn name least most rows n
     go None e f = cc f
     go (Some r) e f =
         let good = h r e in
-        (digits_value 10 (without_leading_plus good.0), (good.0, rw e good.1, good.2, refl, good.3, good.4))
+        (digits_value 10 (without_leading_plus good.0), ((good.0, rw e good.1, good.2, refl), (good.3, good.4)))
 
 pub given_flag : (name : Text) (rows : List Row) → Holds name GivesFlag rows → has_row name rows ≡ true → (b : Bool) × HasFlag name rows b
 given_flag name rows h has = go (find (λ r. bytes_eq r.id name) rows) refl (found rows has)

@@ -19,9 +19,9 @@ use Rattle.sheet_core.specs.Laws.{BarRowsAnswer, EmptyCellsAreBlank, PrintedIsRe
 use Rattle.sheet_core.specs.pbm.Images.{images_of}
 use Rattle.sheet_core.specs.declared.label.Label.{Label}
 use Rattle.line_core.specs.Grids.{cells_of}
-use Rattle.gs1_hub.specs.Laws.{OneScan, PrintedIsAnswered, PrintedIsScanned, cell_answer, column_answers, labels_report, sheet_answers}
+use Rattle.gs1_hub.specs.Laws.{IsPrintFor, OneScan, PrintedIsAnswered, PrintedIsScanned, cell_answer, column_answers, labels_report, sheet_answers}
 use Rattle.line_core.specs.print.Labels.{label_list, print_meaning}
-use Rattle.gs1_hub.specs.Prints.{IsPrint, IsPrinted}
+use Rattle.gs1_hub.specs.Prints.{IsPrinted}
 use Rattle.line_core.specs.input.Records.{AreItems, Fields}
 use Rattle.line_core.specs.answers.Reports.{report}
 use Rattle.line_core.specs.scan.Columns.{AreColumns, HaveDots, column_cells, column_dots, has_size, have_size}
@@ -152,20 +152,19 @@ one_list bytes sheets others e f =
 -- what is printed is taken, and its rows have the labels' answers
 scanned_so : ((year : ℕ) (rows : List Fields) (labels : List Label) → AreItems (print_meaning year) rows labels → AllByRecursion (Says year) labels)
     → PrintedIsRead → BarRowsAnswer → EmptyCellsAreBlank → DotsMakeRow
-    → (print : PrintOptions) (scan : ScanOptions) (rows : List Fields) (labels : List Label) (bytes : List ℕ)
-    → print.text ≡ false → cells_of scan.grid ≡ cells_of print.grid → scan.year ≡ print.year → sheet_count (cells_of scan.grid) (length labels) ≤ 4096 → AreItems (print_meaning print.year) rows labels → IsPrint print labels bytes
+    → (scan : ScanOptions) (print : PrintOptions) (rows : List Fields) (labels : List Label) (bytes : List ℕ) → IsPrintFor scan print rows labels bytes
     → (sheets : List Bitmap) × AreImages scan bytes sheets
     × (feeds : List (List (List ℕ))) × AreColumns (cells_of scan.grid) sheets feeds
     × AllZip (λ rows read. Reads rows scan.year read) feeds (map (column_answers (cells_of scan.grid) scan.year labels) (range_with_len 0 scan.grid.columns))
-scanned_so say read bars blank make print scan rows labels bytes image same_cells same_year few mean printed =
+scanned_so say read bars blank make scan print rows labels bytes p =
     let g = cells_of scan.grid in
-    let in_print_grid : IsPrinted (cells_of print.grid) false labels bytes = subst (λ b. IsPrinted (cells_of print.grid) b labels bytes) image printed.1 in
-    let written : IsPrinted g false labels bytes = subst (λ h. IsPrinted h false labels bytes) (sym same_cells) in_print_grid in
+    let in_print_grid : IsPrinted (cells_of print.grid) false labels bytes = subst (λ b. IsPrinted (cells_of print.grid) b labels bytes) p.images p.printed.1 in
+    let written : IsPrinted g false labels bytes = subst (λ h. IsPrinted h false labels bytes) (sym p.same_grid) in_print_grid in
     let sheets : List Bitmap = written.0 in
     let are = written.1 in
-    let says : AllByRecursion (Says scan.year) labels = subst (λ y. AllByRecursion (Says y) labels) (sym same_year) (say print.year rows labels mean) in
+    let says : AllByRecursion (Says scan.year) labels = subst (λ y. AllByRecursion (Says y) labels) (sym p.same_year) (say print.year rows labels p.mean) in
     let count = counted bars blank make labels g sheets scan.year are says in
-    let fits : length sheets ≤ 4096 = rw count few in
+    let fits : length sheets ≤ 4096 = rw count p.few in
     let images : AreImages scan bytes sheets = (are.grid, ap images_of written.2 ∙ read labels g sheets are fits, sizes labels g sheets are) in
     let told = columns_answered bars blank make labels g sheets scan.year are says in
     (sheets, images, told.0, told.1, told.2)
@@ -183,19 +182,19 @@ answered_so determine one scan bytes sheets feeds answers images are reads other
 
 pub printed_is_answered : ((year : ℕ) (rows : List Fields) (labels : List Label) → AreItems (print_meaning year) rows labels → AllByRecursion (Says year) labels)
     → PrintedIsRead → BarRowsAnswer → EmptyCellsAreBlank → DotsDetermine → DotsMakeRow → OneAnswer → PrintedIsAnswered
-printed_is_answered say read bars blank determine make one print scan rows labels bytes image same_cells same_year few mean printed =
-    let p = scanned_so say read bars blank make print scan rows labels bytes image same_cells same_year few mean printed in
+printed_is_answered say read bars blank determine make one scan print rows labels bytes h =
+    let p = scanned_so say read bars blank make scan print rows labels bytes h in
     let answers : List (List Answer) = map (column_answers (cells_of scan.grid) scan.year labels) (range_with_len 0 scan.grid.columns) in
     answered_so determine one scan bytes p.0 p.2 answers p.1 p.3 p.4
 
 pub printed_is_scanned : ((year : ℕ) (rows : List Fields) (labels : List Label) → AreItems (print_meaning year) rows labels → AllByRecursion (Says year) labels)
     → PrintedIsRead → BarRowsAnswer → EmptyCellsAreBlank → DotsDetermine → DotsMakeRow → OneAnswer → PrintedIsScanned
-printed_is_scanned say read bars blank determine make one print scan rows labels bytes image same_cells same_year few mean printed =
-    let p = scanned_so say read bars blank make print scan rows labels bytes image same_cells same_year few mean printed in
+printed_is_scanned say read bars blank determine make one scan print rows labels bytes h =
+    let p = scanned_so say read bars blank make scan print rows labels bytes h in
     let answers : List (List Answer) = map (column_answers (cells_of scan.grid) scan.year labels) (range_with_len 0 scan.grid.columns) in
     let scanned : IsScan scan bytes (labels_report (cells_of scan.grid) scan.year labels) = (p.0, p.1, p.2, p.3, (answers, p.4, refl)) in
     λ text. (
-      λ h. h.4.2 ∙ ap report (answered_so determine one scan bytes p.0 p.2 answers p.1 p.3 p.4 h.0 h.2 h.4.0 h.1 h.3 h.4.1),
+      λ k. k.4.2 ∙ ap report (answered_so determine one scan bytes p.0 p.2 answers p.1 p.3 p.4 k.0 k.2 k.4.0 k.1 k.3 k.4.1),
       λ e. subst (IsScan scan bytes) (sym e) scanned,
     )
 

@@ -10,8 +10,8 @@ use Rattle.clap.specs.Simple.{App, Shape, argument_words, built, built_leaf, ent
 use Rattle.clap.specs.Faults.{check_fault, defaults_fault, entered_fault, fault_of, level_fault, settle_fault, walk_fault}
 use Rattle.clap.specs.declared.error.kind.ErrorKind.TheVariants as kind
 use Rattle.clap.specs.declared.parser.matches.ValueSource.TheVariants.{DefaultValue}
-use Rattle.gs1_hub.specs.CommandLine.{HasFlag, HasNumber, hub_app}
-use Rattle.gs1_hub.proofs.NumberRows.{GivesFlag, GivesNumber, Holds, Passed, at_end, flag, flag_keeps_flag, flag_keeps_number, given_flag, given_number, held_rows, help, help_keeps, no_kind, number, one_more, option_keeps_flag, option_keeps_number, passed_of, rows_hold}
+use Rattle.gs1_hub.specs.CommandLine.{HasFlag, hub_app}
+use Rattle.gs1_hub.proofs.NumberRows.{GivesFlag, GivesNumber, HasNumberIn, Holds, Passed, at_end, flag, flag_keeps_flag, flag_keeps_number, given_flag, given_number, held_rows, help, help_keeps, no_kind, number, one_more, option_keeps_flag, option_keeps_number, passed_of, rows_hold}
 use Rattle.gs1_hub.proofs.WalkKeeps.{Keeps, first_none, found_has, second_none}
 
 -- ---- the command that the words name
@@ -136,7 +136,7 @@ required name rules rows e = all_given rows rules (go (list_any (λ a. a.require
 -- a number of a command whose options are all numbers
 pub number_of : (command : Text) (qs : List Range) (words : List Text) → Passed (shape command (numbers qs ++ help ∷ [])) words → (name : Text) (least most : ℕ)
     → fits name least most qs ≡ true → is_given name (rows_after (numbers qs ++ help ∷ []) [] words) ≡ true
-    → (n : ℕ) × HasNumber name least most (rows_after (numbers qs ++ help ∷ []) [] words) n
+    → (n : ℕ) × HasNumberIn name least most (rows_after (numbers qs ++ help ∷ []) [] words) n
 number_of command qs words passed name least most one given =
     let s : Shape = shape command (numbers qs ++ help ∷ []) in
     let P : List Row → Type 0 = Holds name (GivesNumber least most) in
@@ -181,7 +181,7 @@ module _ (command text : Text) (own : bytes_eq text text ≡ true) (qs : List Ra
       after_numbers qs (flag text ∷ help ∷ []) held ∙ plain_default (with_default held (flag text)) help refl
 
   pub number_beside : (name : Text) (least most : ℕ) → fits name least most qs ≡ true → bytes_eq text name ≡ false
-      → is_given name (rows_after (numbers qs ++ flag text ∷ help ∷ []) [] words) ≡ true → (n : ℕ) × HasNumber name least most (rows_after (numbers qs ++ flag text ∷ help ∷ []) [] words) n
+      → is_given name (rows_after (numbers qs ++ flag text ∷ help ∷ []) [] words) ≡ true → (n : ℕ) × HasNumberIn name least most (rows_after (numbers qs ++ flag text ∷ help ∷ []) [] words) n
   number_beside name least most one other given =
       let s : Shape = shape command (numbers qs ++ flag text ∷ help ∷ []) in
       let P : List Row → Type 0 = Holds name (GivesNumber least most) in

@@ -1,9 +1,11 @@
 -- What the words ask for.
-use Rattle.std.specs.Prelude.{◌≡◌, ◌≢◌, ◌⊎◌, ⊤, List, [], Option, Some, None, codes}
+use Rattle.std.specs.Prelude.{◌≡◌, ◌≢◌, ◌⊎◌, ⊤, ℕ, List, [], Option, Some, None, codes}
 use Rattle.clap.specs.Words.{IsAmong, Row, Text, fault_of, subcommand_of}
 use Rattle.clap.specs.declared.error.kind.ErrorKind.{ErrorKind}
 use Rattle.clap.specs.declared.error.kind.ErrorKind.TheVariants as kind
 use Rattle.gs1_hub.specs.CommandLine.{HasFlag, HasNumber, HasYear, hub_app}
+use Rattle.gs1_hub.specs.Numbers.{IsLaneCount, IsWorkerCount}
+use Rattle.line_core.specs.Numbers.{AreGridNumbers}
 use Rattle.line_core.specs.declared.grid.GridOptions.{GridOptions}
 use Rattle.gs1_hub.specs.declared.options.LaneOptions.{LaneOptions}
 use Rattle.gs1_hub.specs.declared.options.PrintOptions.{PrintOptions}
@@ -13,16 +15,19 @@ use Rattle.gs1_hub.specs.declared.words.Asked.TheVariants as asked
 use Rattle.gs1_hub.specs.declared.words.WordsFault.{WordsFault}
 use Rattle.gs1_hub.specs.declared.words.WordsFault.TheVariants as fault
 
--- the numbers of the command `lanes`
-abbrev pub HasLanes : List Row → LaneOptions → Type 0
-HasLanes rows o = HasNumber (codes "lanes") 1 16 rows o.lanes
-    × HasNumber (codes "workers") 1 16 rows o.workers × HasYear rows o.year
+-- so many workers
+abbrev pub HasWorkers : List Row → ℕ → Type 0
+HasWorkers rows workers = HasNumber (codes "workers") rows workers × IsWorkerCount workers
 
--- the numbers of a grid
+-- the numbers of the command `lanes`, each in its range
+abbrev pub HasLanes : List Row → LaneOptions → Type 0
+HasLanes rows o = HasNumber (codes "lanes") rows o.lanes × IsLaneCount o.lanes × HasWorkers rows o.workers × HasYear rows o.year
+
+-- the numbers of a grid, each in its range
 abbrev pub HasGrid : List Row → GridOptions → Type 0
-HasGrid rows o = HasNumber (codes "module") 1 8 rows o.module_dots × HasNumber (codes "width") 1 4096 rows o.width
-    × HasNumber (codes "height") 1 1024 rows o.height × HasNumber (codes "columns") 1 16 rows o.columns
-    × HasNumber (codes "rows") 1 64 rows o.rows
+HasGrid rows o = HasNumber (codes "module") rows o.module_dots × HasNumber (codes "width") rows o.width
+    × HasNumber (codes "height") rows o.height × HasNumber (codes "columns") rows o.columns × HasNumber (codes "rows") rows o.rows
+    × AreGridNumbers o.module_dots o.width o.height o.columns o.rows
 
 -- the numbers of the command `print`, and whether it is to print text
 abbrev pub HasPrint : List Row → PrintOptions → Type 0
@@ -30,7 +35,7 @@ HasPrint rows o = HasGrid rows o.grid × HasYear rows o.year × HasFlag (codes "
 
 -- the numbers of the command `scan`
 abbrev pub HasScan : List Row → ScanOptions → Type 0
-HasScan rows o = HasGrid rows o.grid × HasNumber (codes "workers") 1 16 rows o.workers × HasYear rows o.year
+HasScan rows o = HasGrid rows o.grid × HasWorkers rows o.workers × HasYear rows o.year
 
 -- the command of this name, with its numbers
 abbrev pub AsksIn : Text → List Row → Asked → Type 0

@@ -1,9 +1,11 @@
 -- The command line of the program, as `clap` reads it.
-use Rattle.std.specs.Prelude.{◌≡◌, ◌≤◌, ℕ, pos, Bool, List, Some, true, false, codes}
+use Rattle.std.specs.Prelude.{◌≡◌, ℕ, pos, Bool, List, Some, true, false, codes}
 use Rattle.std.specs.Str.Parse.{IsNumeral, digits_value, without_leading_plus}
 use Rattle.clap.specs.Words.{App, Row, Rule, Text, new_app, new_rule, one_of, with_rule, with_subcommand}
 use Rattle.clap.specs.declared.builder.ArgAction.TheVariants.{Set, SetTrue}
 use Rattle.clap.specs.declared.builder.value_parser.ValueParser.TheVariants as vp
+use Rattle.line_core.specs.Numbers.{most_columns, most_dots, most_height, most_rows, most_width}
+use Rattle.gs1_hub.specs.Numbers.{IsReferenceYear, first_year, last_year, most_lanes, most_workers}
 
 -- `--name N`, which is required and lies from `least` to `most`
 abbrev pub number_rule : Text → ℕ → ℕ → Rule
@@ -23,7 +25,7 @@ flag_rule name = record (new_rule name) {
 
 -- `--year Y`, the reference year of dates
 abbrev pub year_rule : Rule
-year_rule = number_rule (codes "year") 1951 2149
+year_rule = number_rule (codes "year") first_year last_year
 
 -- `check --year Y`
 abbrev pub check_app : App
@@ -31,11 +33,11 @@ check_app = with_rule (new_app (codes "check")) year_rule
 
 -- `--module M --width W --height H`, in dots
 abbrev pub with_cell : App → App
-with_cell a = with_rule (with_rule (with_rule a (number_rule (codes "module") 1 8)) (number_rule (codes "width") 1 4096)) (number_rule (codes "height") 1 1024)
+with_cell a = with_rule (with_rule (with_rule a (number_rule (codes "module") 1 most_dots)) (number_rule (codes "width") 1 most_width)) (number_rule (codes "height") 1 most_height)
 
 -- `--columns C --rows R`
 abbrev pub with_places : App → App
-with_places a = with_rule (with_rule a (number_rule (codes "columns") 1 16)) (number_rule (codes "rows") 1 64)
+with_places a = with_rule (with_rule a (number_rule (codes "columns") 1 most_columns)) (number_rule (codes "rows") 1 most_rows)
 
 -- `print --module M --width W --height H --columns C --rows R --year Y [--text]`
 abbrev pub print_app : App
@@ -43,11 +45,11 @@ print_app = with_rule (with_rule (with_places (with_cell (new_app (codes "print"
 
 -- `lanes --lanes N --workers K --year Y`
 abbrev pub lanes_app : App
-lanes_app = with_rule (with_rule (with_rule (new_app (codes "lanes")) (number_rule (codes "lanes") 1 16)) (number_rule (codes "workers") 1 16)) year_rule
+lanes_app = with_rule (with_rule (with_rule (new_app (codes "lanes")) (number_rule (codes "lanes") 1 most_lanes)) (number_rule (codes "workers") 1 most_workers)) year_rule
 
 -- `scan --module M --width W --height H --columns C --rows R --workers K --year Y`
 abbrev pub scan_app : App
-scan_app = with_rule (with_rule (with_places (with_cell (new_app (codes "scan")))) (number_rule (codes "workers") 1 16)) year_rule
+scan_app = with_rule (with_rule (with_places (with_cell (new_app (codes "scan")))) (number_rule (codes "workers") 1 most_workers)) year_rule
 
 -- a command is wanted, and there is no command `help`
 abbrev pub hub_top : App
@@ -61,15 +63,14 @@ text_app = with_subcommand (with_subcommand hub_top check_app.top) print_app.top
 abbrev pub hub_app : App
 hub_app = with_subcommand (with_subcommand text_app lanes_app.top) scan_app.top
 
--- among the matches of a command, this number stands under the name, and it lies in the range
-abbrev pub HasNumber : Text → ℕ → ℕ → List Row → ℕ → Type 0
-HasNumber name least most rows n = (t : Text) × (one_of name rows ≡ Some t)
+-- among the matches of a command, this number stands under the name
+abbrev pub HasNumber : Text → List Row → ℕ → Type 0
+HasNumber name rows n = (t : Text) × (one_of name rows ≡ Some t)
     × IsNumeral 10 (without_leading_plus t) × (n ≡ digits_value 10 (without_leading_plus t))
-    × (least ≤ n) × (n ≤ most)
 
--- the same of the reference year
+-- and this reference year
 abbrev pub HasYear : List Row → ℕ → Type 0
-HasYear = HasNumber (codes "year") 1951 2149
+HasYear rows year = HasNumber (codes "year") rows year × IsReferenceYear year
 
 -- the flag of this name stands among them, or not
 abbrev pub flag_text : Bool → Text

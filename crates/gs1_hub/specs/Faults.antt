@@ -1,9 +1,16 @@
 -- The texts of faults, and how those of one layer become those of the next.
-use Rattle.std.specs.Prelude.{ℕ, List, Result, Ok, Err, codes, string_bytes}
+use Rattle.std.specs.Prelude.{◌++◌, ℕ, List, Result, Ok, Err, codes, string_bytes}
+use Rattle.std.specs.Fmt.{decimal}
+use Rattle.digits_core.specs.Faults.{input_fault_text}
+use Rattle.digits_core.specs.declared.source.InputFault.TheVariants as input
+use Rattle.sheet_core.specs.Faults.{pbm_fault_text, sheet_fault_text}
 use Rattle.sheet_core.specs.declared.fault.PbmFault.{PbmFault}
 use Rattle.sheet_core.specs.declared.fault.PbmFault.TheVariants as pbm
 use Rattle.sheet_core.specs.declared.fault.SheetFault.{SheetFault}
 use Rattle.sheet_core.specs.declared.fault.SheetFault.TheVariants as sheet
+use Rattle.hub_core.specs.Faults.{serve_fault_text}
+use Rattle.hub_core.specs.declared.fault.ServeFault.TheVariants as serve
+use Rattle.line_core.specs.input.Faults.{record_fault_text}
 use Rattle.line_core.specs.declared.answers.serving.AnswerFault.{AnswerFault}
 use Rattle.line_core.specs.declared.answers.serving.AnswerFault.TheVariants as answers
 use Rattle.line_core.specs.declared.input.fault.RecordsFault.{RecordsFault}
@@ -13,10 +20,26 @@ use Rattle.gs1_hub.specs.declared.fault.CommandFault.TheVariants as command
 use Rattle.gs1_hub.specs.declared.words.WordsFault.{WordsFault}
 use Rattle.gs1_hub.specs.declared.words.WordsFault.TheVariants as words
 
--- of words that ask for no command: `refused`, its number and its name, or the help that they ask for
+-- of a command: `refused`, its number, its name and, where it has one, the label's index; of a record its index and its fault
+abbrev pub command_fault_text : CommandFault → List ℕ
+command_fault_text command.ReadFault = input_fault_text input.ReadFault
+command_fault_text command.InputSize = input_fault_text input.InputSize
+command_fault_text command.NoMemory = input_fault_text input.NoMemory
+command_fault_text command.WriteFault = codes "refused 38 WriteFault"
+command_fault_text (command.Record i f) = codes "record " ++ decimal i ++ codes ": " ++ record_fault_text f
+command_fault_text command.BadGrid = codes "refused 25 BadGrid"
+command_fault_text (command.LabelKind i) = sheet_fault_text (sheet.LabelKind i)
+command_fault_text (command.LabelWidth i) = sheet_fault_text (sheet.LabelWidth i)
+command_fault_text command.NotP4 = pbm_fault_text pbm.NotP4
+command_fault_text command.PbmHeader = pbm_fault_text pbm.PbmHeader
+command_fault_text command.Truncated = pbm_fault_text pbm.Truncated
+command_fault_text command.PbmSize = pbm_fault_text pbm.PbmSize
+command_fault_text command.NoThread = serve_fault_text serve.NoThread
+
+-- of words that ask for no command; or the help that they ask for
 abbrev pub words_fault_text : WordsFault → List ℕ
 words_fault_text words.Words = codes "refused 42 Words"
-words_fault_text words.NoMemory = codes "refused 43 NoMemory"
+words_fault_text words.NoMemory = command_fault_text command.NoMemory
 words_fault_text (words.Help text) = string_bytes text
 
 -- a fault of the records, as the command's

@@ -45,16 +45,20 @@ column_answers g year labels column = flat_map (sheet_answers g year labels colu
 abbrev pub labels_report : Cells → ℕ → List Label → List ℕ
 labels_report g year labels = report (map (column_answers g year labels) (range_with_len 0 g.columns))
 
--- of what `print` writes of the labels of records as at most 4,096 images, a scan in the same grid and year answers for each cell the carrier and the elements of its label, or that it is blank
+-- what `print` writes of the labels of records as at most 4,096 images, for a scan in the same grid and year
+pub record IsPrintFor (scan : ScanOptions) (print : PrintOptions) (rows : List Fields) (labels : List Label) (bytes : List ℕ) : Type 0 where
+  pub images : print.text ≡ false
+  pub same_grid : cells_of scan.grid ≡ cells_of print.grid
+  pub same_year : scan.year ≡ print.year
+  pub few : sheet_count (cells_of scan.grid) (length labels) ≤ 4096
+  pub mean : AreItems (print_meaning print.year) rows labels
+  pub printed : IsPrint print labels bytes
+
+-- of that the scan answers for each cell the carrier and the elements of its label, or that it is blank
 abbrev pub PrintedIsAnswered : Type 0
 PrintedIsAnswered =
-    (print : PrintOptions) (scan : ScanOptions) (rows : List Fields) (labels : List Label) (bytes : List ℕ)
-    → print.text ≡ false
-    → cells_of scan.grid ≡ cells_of print.grid
-    → scan.year ≡ print.year
-    → sheet_count (cells_of scan.grid) (length labels) ≤ 4096
-    → AreItems (print_meaning print.year) rows labels
-    → IsPrint print labels bytes
+    (scan : ScanOptions) (print : PrintOptions) (rows : List Fields) (labels : List Label) (bytes : List ℕ)
+    → IsPrintFor scan print rows labels bytes
     → (sheets : List Bitmap) (feeds : List (List (List ℕ))) (answers : List (List Answer))
     → AreImages scan bytes sheets
     → AreColumns (cells_of scan.grid) sheets feeds
@@ -64,13 +68,8 @@ PrintedIsAnswered =
 -- so `scan` takes it, and what it writes is one text, the report of the labels
 abbrev pub PrintedIsScanned : Type 0
 PrintedIsScanned =
-    (print : PrintOptions) (scan : ScanOptions) (rows : List Fields) (labels : List Label) (bytes : List ℕ)
-    → print.text ≡ false
-    → cells_of scan.grid ≡ cells_of print.grid
-    → scan.year ≡ print.year
-    → sheet_count (cells_of scan.grid) (length labels) ≤ 4096
-    → AreItems (print_meaning print.year) rows labels
-    → IsPrint print labels bytes
+    (scan : ScanOptions) (print : PrintOptions) (rows : List Fields) (labels : List Label) (bytes : List ℕ)
+    → IsPrintFor scan print rows labels bytes
     → (text : List ℕ) → IsScan scan bytes text ↔ (text ≡ labels_report (cells_of scan.grid) scan.year labels)
 
 -- the same by place: a column has an answer for each row of cells of each sheet, and that of row r of sheet i answers the label that was printed there

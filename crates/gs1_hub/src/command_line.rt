@@ -4,8 +4,10 @@ ghost use Rattle.clap.specs.Words.{app_of, rule_of};
 ghost use Rattle.clap.specs.declared.builder.command.Command.TheViews.{out-Command};
 ghost use Rattle.gs1_hub.specs.CommandLine.{check_app, flag_rule, hub_app, lanes_app, number_rule, print_app, scan_app, text_app, with_cell, with_places, year_rule};
 
+use crate::options::{FIRST_YEAR, LAST_YEAR, MOST_LANES, MOST_WORKERS};
 use clap::builder::ValueParser;
 use clap::{Arg, ArgAction, Command};
+use line_core::{MOST_COLUMNS, MOST_HEIGHT, MOST_MODULE_DOTS, MOST_ROWS, MOST_WIDTH};
 use std::alloc::{AllocError, Global};
 
 /// The option `--name`, which is required and takes a number from `least` to `most`.
@@ -34,7 +36,7 @@ fn year<'a>(alloc: Global) -> Arg<'a>
     ensures rule { rule_of result ≡ year_rule }
     ensures own { result.global ≡ false }
 {
-    number(alloc, "year", 1951, 2149)
+    number(alloc, "year", FIRST_YEAR, LAST_YEAR)
 }
 
 fn check_command<'a>(alloc: Global) -> Result<Command<'a>, AllocError>
@@ -51,9 +53,9 @@ fn with_cell<'a>(alloc: Global, command: Command<'a>) -> Result<Command<'a>, All
         → IfOk result (λ c. (out-Command c).has_globals ≡ false) }
 {
     command
-        .arg(number(alloc, "module", 1, 8))?
-        .arg(number(alloc, "width", 1, 4096))?
-        .arg(number(alloc, "height", 1, 1024))
+        .arg(number(alloc, "module", 1, MOST_MODULE_DOTS))?
+        .arg(number(alloc, "width", 1, MOST_WIDTH))?
+        .arg(number(alloc, "height", 1, MOST_HEIGHT))
 }
 
 /// The command with the options of a sheet: how many columns and rows of cells it has.
@@ -63,8 +65,8 @@ fn with_places<'a>(alloc: Global, command: Command<'a>) -> Result<Command<'a>, A
         → IfOk result (λ c. (out-Command c).has_globals ≡ false) }
 {
     command
-        .arg(number(alloc, "columns", 1, 16))?
-        .arg(number(alloc, "rows", 1, 64))
+        .arg(number(alloc, "columns", 1, MOST_COLUMNS))?
+        .arg(number(alloc, "rows", 1, MOST_ROWS))
 }
 
 fn print_command<'a>(alloc: Global) -> Result<Command<'a>, AllocError>
@@ -82,8 +84,8 @@ fn lanes_command<'a>(alloc: Global) -> Result<Command<'a>, AllocError>
     ensures own { IfOk result (λ c. (out-Command c).has_globals ≡ false) }
 {
     Command::new(alloc, "lanes")
-        .arg(number(alloc, "lanes", 1, 16))?
-        .arg(number(alloc, "workers", 1, 16))?
+        .arg(number(alloc, "lanes", 1, u16::from(MOST_LANES)))?
+        .arg(number(alloc, "workers", 1, u16::from(MOST_WORKERS)))?
         .arg(year(alloc))
 }
 
@@ -93,7 +95,7 @@ fn scan_command<'a>(alloc: Global) -> Result<Command<'a>, AllocError>
 {
     let sized = with_cell(alloc, Command::new(alloc, "scan"))?;
     with_places(alloc, sized)?
-        .arg(number(alloc, "workers", 1, 16))?
+        .arg(number(alloc, "workers", 1, u16::from(MOST_WORKERS)))?
         .arg(year(alloc))
 }
 

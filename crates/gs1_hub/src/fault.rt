@@ -1,56 +1,67 @@
 //! Why a command is refused as a whole.
-ghost use Rattle.std.specs.Prelude.{◌≡◌};
-ghost use Rattle.gs1_hub.specs.Faults.{bad_grid, failed_write, no_memory, of_answers, of_images, of_records, of_sheets};
+ghost use Rattle.std.specs.Prelude.{Some, ◌≡◌};
+ghost use Rattle.gs1_hub.specs.Faults.{bad_grid, command_fault_text, failed_write, no_memory, of_answers, of_images, of_records, of_sheets};
 
-use digits_core::Failed;
+use digits_core::{Failed, InputFault};
+use hub_core::ServeFault;
 use line_core::{AnswerFault, RecordFault, RecordsFault};
-use sheet_core::{BadGrid, NoMemory, PbmFault, SheetFault, WriteFault};
-use std::alloc::{AllocError, AllocFailed};
-use thiserror::Error;
+use sheet_core::{BadGrid, PbmFault, SheetFault, WriteFault};
+use std::alloc::AllocError;
+use std::fmt;
 
 /// Why a command as a whole is refused.
-#[derive(Clone, Copy, Debug, PartialEq, Eq, Error)]
+#[derive(Clone, Copy, Debug, PartialEq, Eq)]
 pub enum CommandFault {
     /// A read of the input failed.
-    #[error("refused 37 ReadFault")]
     ReadFault,
     /// A write of the output failed.
-    #[error("refused 38 WriteFault")]
     WriteFault,
     /// The record at this index, from 0, is the first that has a fault.
-    #[error("record {0}: {1}")]
     Record(usize, RecordFault),
     /// A growth was refused.
-    #[error("refused 43 NoMemory")]
     NoMemory,
     /// The input has more bytes than a command reads.
-    #[error("refused 44 InputSize")]
     InputSize,
     /// The numbers of the grid are wrong together.
-    #[error("refused 25 BadGrid")]
     BadGrid,
     /// The label at this index, from 0, is the first that is not printed, and has no such symbol.
-    #[error("refused 26 LabelKind {0}")]
     LabelKind(usize),
     /// The label at this index, from 0, is the first that is not printed, and is wider than its cell.
-    #[error("refused 27 LabelWidth {0}")]
     LabelWidth(usize),
     /// An image does not begin with `P4`.
-    #[error("refused 28 NotP4")]
     NotP4,
     /// A byte cannot stand at its place in the header of an image, or lies past the 4,096 bytes of one.
-    #[error("refused 29 PbmHeader")]
     PbmHeader,
     /// The input ends within an image.
-    #[error("refused 30 Truncated")]
     Truncated,
     /// A width or height of an image is 0 or above 65,535, there are more than 4,096 images, or one has not
     /// the size of the grid.
-    #[error("refused 31 PbmSize")]
     PbmSize,
     /// A thread could not be started.
-    #[error("refused 36 NoThread")]
     NoThread,
+}
+
+// Each text is that of the fault that it is made from.
+impl fmt::Display for CommandFault {
+    ghost output = { λ fault. Some (command_fault_text fault) };
+
+    fn fmt<W: fmt::Write>(&self, f: &mut fmt::Formatter<W>) -> fmt::Result {
+        match self {
+            CommandFault::ReadFault => InputFault::ReadFault.fmt(f),
+            CommandFault::WriteFault => WriteFault.fmt(f),
+            CommandFault::Record(index, fault) => write!(f, "record {index}: {fault}"),
+            CommandFault::NoMemory => InputFault::NoMemory.fmt(f),
+            CommandFault::InputSize => InputFault::InputSize.fmt(f),
+            CommandFault::BadGrid => BadGrid.fmt(f),
+            CommandFault::LabelKind(index) => SheetFault::LabelKind(*index).fmt(f),
+            CommandFault::LabelWidth(index) => SheetFault::LabelWidth(*index).fmt(f),
+            CommandFault::NotP4 => PbmFault::NotP4.fmt(f),
+            CommandFault::PbmHeader => PbmFault::PbmHeader.fmt(f),
+            CommandFault::Truncated => PbmFault::Truncated.fmt(f),
+            CommandFault::PbmSize => PbmFault::PbmSize.fmt(f),
+            CommandFault::NoThread => ServeFault::NoThread.fmt(f),
+        }
+    }
 }
 
 impl From<RecordsFault> for CommandFault {
@@ -125,22 +136,6 @@ impl From<WriteFault> for CommandFault {
 
     fn from(_: WriteFault) -> CommandFault {
         CommandFault::WriteFault
-    }
-}
-
-impl From<NoMemory> for CommandFault {
-    ghost from_gives = { λ refused command. command ≡ no_memory };
-
-    fn from(_: NoMemory) -> CommandFault {
-        CommandFault::NoMemory
-    }
-}
-
-impl<T: Drop> From<AllocFailed<T>> for CommandFault {
-    ghost from_gives = { λ refused command. command ≡ no_memory };
-
-    fn from(_: AllocFailed<T>) -> CommandFault {
-        CommandFault::NoMemory
     }
 }
 

@@ -7,24 +7,11 @@ use scan_core::{dots_determine, dots_make_row, one_answer, row_or_fault};
 use sheet_core::{bar_rows_answer, empty_cells_are_blank, one_printed, printed_is_read};
 
 /// Of what `print` writes as at most 4,096 images, a scan in the same grid and year answers for each
-/// cell the carrier and the elements of its label, or that it is blank.
-pub fn printed_is_answered()
-    ensures { PrintedIsAnswered }
-{
-    gtins_are_checked();
-    gtin_reads();
-    canonical_reads();
-    printed_is_read();
-    bar_rows_answer();
-    empty_cells_are_blank();
-    dots_determine();
-    dots_make_row();
-    one_answer();
-}
-
-/// So `scan` takes it, and what it writes is one text, the report of the labels.
+/// cell the carrier and the elements of its label, or that it is blank. So `scan` takes it, and what it
+/// writes is one text, the report of the labels.
 pub fn printed_is_scanned()
-    ensures { PrintedIsScanned }
+    ensures answered { PrintedIsAnswered }
+    ensures scanned { PrintedIsScanned }
 {
     gtins_are_checked();
     gtin_reads();

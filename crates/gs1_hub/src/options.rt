@@ -1,9 +1,31 @@
 //! The numbers that a command takes.
-ghost use Rattle.std.specs.Prelude.{◌≡◌, ◌↔◌, IfSome, IsSome};
+ghost use Rattle.std.specs.Prelude.{◌≡◌, ◌↔◌, IfSome, IsSome, IsTrue};
 ghost use Rattle.std.specs.Int.{IsInRange};
+ghost use Rattle.line_core.specs.Grids.{HasNumbers};
+ghost use Rattle.line_core.specs.Numbers.{AreGridNumbers};
+ghost use Rattle.gs1_hub.specs.Numbers.{IsLaneCount, IsReferenceYear, IsWorkerCount};
 
 use element_core::Year;
 use line_core::GridOptions;
+
+/// How many lanes there are at most.
+pub const MOST_LANES: u8 = 16;
+
+/// How many workers there are at most.
+pub const MOST_WORKERS: u8 = 16;
+
+/// The first year that is a reference year.
+pub const FIRST_YEAR: u16 = 1951;
+
+/// The last year that is a reference year.
+pub const LAST_YEAR: u16 = 2149;
+
+/// Whether there is at least one of something, and at most `most`.
+fn is_count(count: u8, most: u8) -> bool
+    ensures { IsTrue result ↔ IsInRange 1 most count }
+{
+    1 <= count && count <= most
+}
 
 /// The numbers of the command `lanes`.
 #[derive(Clone, Copy, Debug, PartialEq, Eq)]
@@ -14,24 +36,22 @@ pub struct LaneOptions {
     pub workers: u8,
     /// The year that dates of two digits are read by.
     pub year: Year,
-    ghost some_lanes: { IsInRange 1 16 lanes },
-    ghost some_workers: { IsInRange 1 16 workers },
+    ghost some_lanes: { IsLaneCount lanes },
+    ghost some_workers: { IsWorkerCount workers },
 }
 
 impl LaneOptions {
-    /// These numbers, or none where one lies outside its range.
+    /// These numbers, or none where one of them lies outside its range.
     pub fn new(lanes: u8, workers: u8, year: u16) -> Option<LaneOptions>
         ensures taken { IsSome result
-            ↔ (IsInRange 1 16 lanes × IsInRange 1 16 workers × IsInRange 1951 2149 year) }
+            ↔ (IsLaneCount lanes × IsWorkerCount workers × IsReferenceYear year) }
         ensures numbers { IfSome result (λ o. (o.lanes ≡ lanes) × (o.workers ≡ workers)
             × (o.year ≡ year)) }
     {
-        if lanes < 1 || lanes > 16 || workers < 1 || workers > 16 {
+        if !is_count(lanes, MOST_LANES) || !is_count(workers, MOST_WORKERS) {
             return None;
         }
-        let Some(year) = Year::new(year) else {
-            return None;
-        };
+        let year = Year::new(year)?;
         Some(LaneOptions {
             lanes,
             workers,
@@ -63,20 +83,13 @@ impl PrintOptions {
         year: u16,
         text: bool,
     ) -> Option<PrintOptions>
-        ensures taken { IsSome result ↔ (IsInRange 1 8 module_dots × IsInRange 1 4096 width
-            × IsInRange 1 1024 height × IsInRange 1 16 columns × IsInRange 1 64 rows
-            × IsInRange 1951 2149 year) }
-        ensures cells { IfSome result (λ o. (o.grid.module_dots ≡ module_dots)
-            × (o.grid.width ≡ width) × (o.grid.height ≡ height) × (o.grid.columns ≡ columns)
-            × (o.grid.rows ≡ rows)) }
+        ensures taken { IsSome result
+            ↔ (AreGridNumbers module_dots width height columns rows × IsReferenceYear year) }
+        ensures grid { IfSome result (λ o. HasNumbers module_dots width height columns rows o.grid) }
         ensures rest { IfSome result (λ o. (o.year ≡ year) × (o.text ≡ text)) }
     {
-        let Some(grid) = GridOptions::new(module_dots, width, height, columns, rows) else {
-            return None;
-        };
-        let Some(year) = Year::new(year) else {
-            return None;
-        };
+        let grid = GridOptions::new(module_dots, width, height, columns, rows)?;
+        let year = Year::new(year)?;
         Some(PrintOptions { grid, year, text })
     }
 }
@@ -90,7 +103,7 @@ pub struct ScanOptions {
     pub workers: u8,
     /// The year that dates of two digits are read by.
     pub year: Year,
-    ghost some_workers: { IsInRange 1 16 workers },
+    ghost some_workers: { IsWorkerCount workers },
 }
 
 impl ScanOptions {
@@ -105,23 +118,16 @@ impl ScanOptions {
         workers: u8,
         year: u16,
     ) -> Option<ScanOptions>
-        ensures taken { IsSome result ↔ (IsInRange 1 8 module_dots × IsInRange 1 4096 width
-            × IsInRange 1 1024 height × IsInRange 1 16 columns × IsInRange 1 64 rows
-            × IsInRange 1 16 workers × IsInRange 1951 2149 year) }
-        ensures cells { IfSome result (λ o. (o.grid.module_dots ≡ module_dots)
-            × (o.grid.width ≡ width) × (o.grid.height ≡ height) × (o.grid.columns ≡ columns)
-            × (o.grid.rows ≡ rows)) }
+        ensures taken { IsSome result ↔ (AreGridNumbers module_dots width height columns rows
+            × IsWorkerCount workers × IsReferenceYear year) }
+        ensures grid { IfSome result (λ o. HasNumbers module_dots width height columns rows o.grid) }
         ensures rest { IfSome result (λ o. (o.workers ≡ workers) × (o.year ≡ year)) }
     {
-        let Some(grid) = GridOptions::new(module_dots, width, height, columns, rows) else {
-            return None;
-        };
-        if workers < 1 || workers > 16 {
+        let grid = GridOptions::new(module_dots, width, height, columns, rows)?;
+        if !is_count(workers, MOST_WORKERS) {
             return None;
         }
-        let Some(year) = Year::new(year) else {
-            return None;
-        };
+        let year = Year::new(year)?;
         Some(ScanOptions {
             grid,
             workers,

@@ -1,6 +1,5 @@
 //! One of each answer and refusal, with the text that is printed, and inputs and outputs that fail.
 
-mod adapters;
 mod checks;
 mod fakes;
 mod gates;
@@ -15,10 +14,11 @@ use crate::fault::CommandFault;
 use crate::options::LaneOptions;
 use crate::run;
 use crate::words::Asked;
-use digits_core::{FromReader, ToWriter};
+use digits_core::{FromReader, Sink, Source, ToWriter};
 use element_core::Year;
 use fakes::{Breaking, Endless, Narrow};
 use hub_core::{Gate, OpenGate};
+use prints::{LOW, RECORD, printing, push_image};
 use std::sync::Wait;
 use std::test::Fail;
 use std::thread::Threads;
@@ -68,6 +68,18 @@ fn outcome_at<R: Threads + Wait + AllocGlobal + Sync, G: Gate + Sync>(
         Ok(()) => Ok(written),
         Err(fault) => Ok(format!(in alloc; "{written}{fault}")?),
     }
+}
+
+/// The line of the fault of a run.
+fn refusal<R: Threads + Wait + AllocGlobal + Sync, S: Source, W: Sink>(
+    rt: &R,
+    asked: Asked,
+    source: &mut S,
+    sink: &mut W,
+) -> Result<String, Fail> {
+    let ran = run(rt, rt.alloc(), asked, source, sink, &OpenGate);
+    let fault = ran.err().ok_or("a fault")?;
+    Ok(fault.to_string(rt.alloc())?)
 }
 
 /// What a run of `lanes` by so many workers prints.
@@ -205,49 +217,43 @@ fn passes_failures_on(rt: HostRuntime) -> Result<(), Fail> {
     let alloc = rt.alloc();
     let options = LaneOptions::new(1, 1, 2026).ok_or("options")?;
     let year = Year::new(2026).ok_or("a year")?;
+    let mut image = Vec::new(alloc);
+    push_image(&mut image, LOW, 1, 0)?;
     for (asked, input, output) in [
         (
             Asked::Lanes(options),
             "0,1\n0,0 1 0\n",
-            "0 0 refused 19 Blank\n0 1 refused 20 RunCount\n",
+            b"0 0 refused 19 Blank\n0 1 refused 20 RunCount\n".as_slice(),
         ),
         (
             Asked::Check(year),
             "digit,12\ngtin,12\ntext,10AB^21C\n",
-            "digit 3\nrefused 1 Length\nhri (10)AB(21)C\n",
+            b"digit 3\nrefused 1 Length\nhri (10)AB(21)C\n",
+        ),
+        (printing(113, 3, 1, 1, false)?, RECORD, image.as_slice()),
+        (
+            printing(113, 3, 1, 1, true)?,
+            RECORD,
+            b"0 0 ean13 (01)09501101530003\n",
         ),
     ] {
         let mut unwritten = ToWriter::new(Vec::new(alloc));
-        let fault = run(
-            &rt,
-            alloc,
-            asked,
-            &mut Breaking::new(b"0"),
-            &mut unwritten,
-            &OpenGate,
-        )
-        .err()
-        .ok_or("a fault")?;
-        assert_eq!(rt; fault.to_string(alloc)?.as_str(), "refused 37 ReadFault");
-        let fault = run(&rt, alloc, asked, &mut Endless, &mut unwritten, &OpenGate)
-            .err()
-            .ok_or("a fault")?;
-        assert_eq!(rt; fault.to_string(alloc)?.as_str(), "refused 44 InputSize");
+        let line = refusal(&rt, asked, &mut Breaking::new(b"0"), &mut unwritten)?;
+        assert_eq!(rt; line.as_str(), "refused 37 ReadFault");
+        let line = refusal(&rt, asked, &mut Endless, &mut unwritten)?;
+        assert_eq!(rt; line.as_str(), "refused 44 InputSize");
         assert_eq!(rt; unwritten.into_inner().len(), 0);
 
         let mut narrow = Narrow::new(alloc, 100);
         let mut source = FromReader::new(input.as_bytes());
         run(&rt, alloc, asked, &mut source, &mut narrow, &OpenGate)?;
-        let text = output.as_bytes();
-        assert_eq!(rt; narrow.taken(), text);
+        assert_eq!(rt; narrow.taken(), output);
 
         let mut short = Narrow::new(alloc, 25);
         let mut source = FromReader::new(input.as_bytes());
-        let fault = run(&rt, alloc, asked, &mut source, &mut short, &OpenGate)
-            .err()
-            .ok_or("a fault")?;
-        assert_eq!(rt; fault.to_string(alloc)?.as_str(), "refused 38 WriteFault");
-        assert_eq!(rt; short.taken(), text.get(..25).ok_or("25 bytes")?);
+        let line = refusal(&rt, asked, &mut source, &mut short)?;
+        assert_eq!(rt; line.as_str(), "refused 38 WriteFault");
+        assert_eq!(rt; short.taken(), output.get(..25).ok_or("25 bytes")?);
     }
     let text = CommandFault::NoMemory.to_string(alloc)?;
     assert_eq!(rt; text.as_str(), "refused 43 NoMemory");

@@ -1,26 +1,25 @@
 //! The words of the command line.
-ghost use Rattle.std.specs.Prelude.{Bool, Some, ℕ, IfOk, IfSome, IfNone, IfErr, map, string_bytes};
+ghost use Rattle.std.specs.Prelude.{◌<◌, ◌^◌, Bool, Some, ℕ, IfOk, IfSome, IfNone, IfErr, map, string_bytes};
 ghost use Rattle.clap.specs.Words.{found_of, kind_of, rows_of, subcommand_rows_of};
-ghost use Rattle.gs1_hub.specs.Asking.{Asks, AsksIn, HasGrid, HasLanes, HasPrint, HasScan, Explains, FaultOfKind, WordsAsk};
+ghost use Rattle.gs1_hub.specs.Asking.{Asks, AsksIn, HasLanes, HasPrint, HasScan, Explains, FaultOfKind, WordsAsk};
 ghost use Rattle.gs1_hub.specs.CommandLine.{HasFlag, HasNumber, HasYear};
 ghost use Rattle.gs1_hub.specs.Faults.{words_fault_text};
 ghost use Rattle.gs1_hub.specs.declared.words.Asked.{Asked};
-ghost use Rattle.line_core.specs.declared.grid.GridOptions.{GridOptions};
 ghost use Rattle.gs1_hub.specs.declared.options.LaneOptions.{LaneOptions};
 ghost use Rattle.gs1_hub.specs.declared.options.PrintOptions.{PrintOptions};
 ghost use Rattle.gs1_hub.specs.declared.options.ScanOptions.{ScanOptions};
 
 use crate::command_line::hub_command;
+use crate::fault::CommandFault;
 use crate::options::{LaneOptions, PrintOptions, ScanOptions};
 use clap::error::ErrorKind;
 use clap::{ArgMatches, Error};
 use element_core::Year;
-use line_core::GridOptions;
 use std::alloc::Global;
 use std::fmt;
 
 /// What the words ask for.
-#[derive(Clone, Copy)]
+#[derive(Clone, Copy, Debug, PartialEq, Eq)]
 pub enum Asked {
     /// Texts are to be checked, dates under this reference year.
     Check(Year),
@@ -49,37 +48,28 @@ impl fmt::Display for WordsFault {
     fn fmt<W: fmt::Write>(&self, f: &mut fmt::Formatter<W>) -> fmt::Result {
         match self {
             WordsFault::Words => write!(f, "refused 42 Words"),
-            WordsFault::NoMemory => write!(f, "refused 43 NoMemory"),
-            WordsFault::Help(text) => write!(f, "{text}"),
+            WordsFault::NoMemory => CommandFault::NoMemory.fmt(f),
+            WordsFault::Help(text) => text.fmt(f),
         }
     }
 }
 
-/// The number under this name, where it lies in the range.
-fn number_named(matches: &ArgMatches<'_>, name: &str, least: u16, most: u16) -> Option<u16>
-    ensures some { IfSome result (HasNumber name.now least most (rows_of (found_of matches.now))) }
-    ensures none { IfNone result ((n : ℕ)
-        → HasNumber name.now least most (rows_of (found_of matches.now)) n → ⊥) }
+/// The number under this name.
+fn number_named(matches: &ArgMatches<'_>, name: &str) -> Option<u16>
+    ensures some { IfSome result (HasNumber name.now (rows_of (found_of matches.now))) }
+    ensures none { IfNone result ((n : ℕ) → n < 2 ^ 16
+        → HasNumber name.now (rows_of (found_of matches.now)) n → ⊥) }
 {
-    let Some(number) = matches.get_one::<u16>(name) else {
-        return None;
-    };
-    if least <= number && number <= most {
-        Some(number)
-    } else {
-        None
-    }
+    matches.get_one::<u16>(name)
 }
 
-/// The year under `--year`, where it is a reference year.
-fn year_named(matches: &ArgMatches<'_>) -> Option<Year>
-    ensures some { IfSome result (HasYear (rows_of (found_of matches.now))) }
-    ensures none { IfNone result ((y : ℕ) → HasYear (rows_of (found_of matches.now)) y → ⊥) }
+/// The number under this name, where it is a byte.
+fn byte_named(matches: &ArgMatches<'_>, name: &str) -> Option<u8>
+    ensures some { IfSome result (HasNumber name.now (rows_of (found_of matches.now))) }
+    ensures none { IfNone result ((n : ℕ) → n < 2 ^ 8
+        → HasNumber name.now (rows_of (found_of matches.now)) n → ⊥) }
 {
-    let Some(number) = number_named(matches, "year", 1951, 2149) else {
-        return None;
-    };
-    Year::new(number)
+    matches.get_one::<u8>(name)
 }
 
 /// Whether the flag of this name is set.
@@ -90,34 +80,12 @@ fn flag_named(matches: &ArgMatches<'_>, name: &str) -> Option<bool>
     matches.get_one::<bool>(name)
 }
 
-/// The numbers of a grid.
-fn grid_options(matches: &ArgMatches<'_>) -> Option<GridOptions>
-    ensures some { IfSome result (HasGrid (rows_of (found_of matches.now))) }
-    ensures none { IfNone result ((o : GridOptions)
-        → HasGrid (rows_of (found_of matches.now)) o → ⊥) }
+/// The reference year.
+fn year_named(matches: &ArgMatches<'_>) -> Option<Year>
+    ensures some { IfSome result (HasYear (rows_of (found_of matches.now))) }
+    ensures none { IfNone result ((y : ℕ) → HasYear (rows_of (found_of matches.now)) y → ⊥) }
 {
-    let Some(module_dots) = number_named(matches, "module", 1, 8) else {
-        return None;
-    };
-    let Some(width) = number_named(matches, "width", 1, 4096) else {
-        return None;
-    };
-    let Some(height) = number_named(matches, "height", 1, 1024) else {
-        return None;
-    };
-    let Some(columns) = number_named(matches, "columns", 1, 16) else {
-        return None;
-    };
-    let Some(rows) = number_named(matches, "rows", 1, 64) else {
-        return None;
-    };
-    Some(GridOptions {
-        module_dots,
-        width,
-        height,
-        columns,
-        rows,
-    })
+    Year::new(number_named(matches, "year")?)
 }
 
 /// The numbers of the command `print`.
@@ -126,16 +94,15 @@ fn print_options(matches: &ArgMatches<'_>) -> Option<PrintOptions>
     ensures none { IfNone result ((o : PrintOptions)
         → HasPrint (rows_of (found_of matches.now)) o → ⊥) }
 {
-    let Some(grid) = grid_options(matches) else {
-        return None;
-    };
-    let Some(year) = year_named(matches) else {
-        return None;
-    };
-    let Some(text) = flag_named(matches, "text") else {
-        return None;
-    };
-    Some(PrintOptions { grid, year, text })
+    PrintOptions::new(
+        number_named(matches, "module")?,
+        number_named(matches, "width")?,
+        number_named(matches, "height")?,
+        number_named(matches, "columns")?,
+        number_named(matches, "rows")?,
+        number_named(matches, "year")?,
+        flag_named(matches, "text")?,
+    )
 }
 
 /// The numbers of the command `lanes`.
@@ -144,20 +111,11 @@ fn lane_options(matches: &ArgMatches<'_>) -> Option<LaneOptions>
     ensures none { IfNone result ((o : LaneOptions)
         → HasLanes (rows_of (found_of matches.now)) o → ⊥) }
 {
-    let Some(lanes) = number_named(matches, "lanes", 1, 16) else {
-        return None;
-    };
-    let Some(workers) = number_named(matches, "workers", 1, 16) else {
-        return None;
-    };
-    let Some(year) = year_named(matches) else {
-        return None;
-    };
-    Some(LaneOptions {
-        lanes: lanes as u8,
-        workers: workers as u8,
-        year,
-    })
+    LaneOptions::new(
+        byte_named(matches, "lanes")?,
+        byte_named(matches, "workers")?,
+        number_named(matches, "year")?,
+    )
 }
 
 /// The numbers of the command `scan`.
@@ -166,20 +124,15 @@ fn scan_options(matches: &ArgMatches<'_>) -> Option<ScanOptions>
     ensures none { IfNone result ((o : ScanOptions)
         → HasScan (rows_of (found_of matches.now)) o → ⊥) }
 {
-    let Some(grid) = grid_options(matches) else {
-        return None;
-    };
-    let Some(workers) = number_named(matches, "workers", 1, 16) else {
-        return None;
-    };
-    let Some(year) = year_named(matches) else {
-        return None;
-    };
-    Some(ScanOptions {
-        grid,
-        workers: workers as u8,
-        year,
-    })
+    ScanOptions::new(
+        number_named(matches, "module")?,
+        number_named(matches, "width")?,
+        number_named(matches, "height")?,
+        number_named(matches, "columns")?,
+        number_named(matches, "rows")?,
+        byte_named(matches, "workers")?,
+        number_named(matches, "year")?,
+    )
 }
 
 /// What the matches of a command ask for.
@@ -189,22 +142,10 @@ fn asked_by(name: &str, matches: &ArgMatches<'_>) -> Option<Asked>
         → AsksIn name.now (rows_of (found_of matches.now)) a → ⊥) }
 {
     match name {
-        "check" => match year_named(matches) {
-            Some(year) => Some(Asked::Check(year)),
-            None => None,
-        },
-        "print" => match print_options(matches) {
-            Some(options) => Some(Asked::Print(options)),
-            None => None,
-        },
-        "lanes" => match lane_options(matches) {
-            Some(options) => Some(Asked::Lanes(options)),
-            None => None,
-        },
-        "scan" => match scan_options(matches) {
-            Some(options) => Some(Asked::Scan(options)),
-            None => None,
-        },
+        "check" => year_named(matches).map(Asked::Check),
+        "print" => print_options(matches).map(Asked::Print),
+        "lanes" => lane_options(matches).map(Asked::Lanes),
+        "scan" => scan_options(matches).map(Asked::Scan),
         _ => None,
     }
 }
@@ -214,9 +155,7 @@ fn asked_of(matches: &ArgMatches<'_>) -> Option<Asked>
     ensures some { IfSome result (Asks (subcommand_rows_of matches.now)) }
     ensures none { IfNone result ((a : Asked) → Asks (subcommand_rows_of matches.now) a → ⊥) }
 {
-    let Some((name, inner)) = matches.subcommand() else {
-        return None;
-    };
+    let (name, inner) = matches.subcommand()?;
     asked_by(name, inner)
 }
 

@@ -1,4 +1,5 @@
 pub mod Grids
+pub mod Numbers
 pub mod answers
 pub mod check
 pub mod input

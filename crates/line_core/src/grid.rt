@@ -1,14 +1,30 @@
 //! The numbers of a grid.
-ghost use Rattle.std.specs.Prelude.{◌≡◌, ◌↔◌, IfOk, IfSome, IsOk, IsSome, IsTrue};
+ghost use Rattle.std.specs.Prelude.{◌↔◌, IfOk, IfSome, IsOk, IsSome, IsTrue, ◌≡◌};
 ghost use Rattle.std.specs.Int.{IsInRange};
+ghost use Rattle.line_core.specs.Numbers.{AreGridNumbers};
 
 use sheet_core::{BadGrid, Grid};
 
-/// Whether a number lies in a range, its ends included.
-fn is_within(number: u16, least: u16, most: u16) -> bool
-    ensures { IsTrue result ↔ IsInRange least most number }
+/// How wide a module is at most, in dots.
+pub const MOST_MODULE_DOTS: u16 = 8;
+
+/// How wide a cell is at most, in dots.
+pub const MOST_WIDTH: u16 = 4096;
+
+/// How high a cell is at most, in dots.
+pub const MOST_HEIGHT: u16 = 1024;
+
+/// How many columns of cells a sheet has at most.
+pub const MOST_COLUMNS: u16 = 16;
+
+/// How many rows of cells a sheet has at most.
+pub const MOST_ROWS: u16 = 64;
+
+/// Whether a number is 1 to `most`.
+fn is_within(number: u16, most: u16) -> bool
+    ensures { IsTrue result ↔ IsInRange 1 most number }
 {
-    least <= number && number <= most
+    1 <= number && number <= most
 }
 
 /// The numbers of a grid of cells, each within its own range. Modules, widths and heights are in
@@ -25,16 +41,12 @@ pub struct GridOptions {
     pub columns: u16,
     /// How many rows of cells a sheet has, 1 to 64.
     pub rows: u16,
-    ghost some_dots: { IsInRange 1 8 module_dots },
-    ghost some_width: { IsInRange 1 4096 width },
-    ghost some_height: { IsInRange 1 1024 height },
-    ghost some_columns: { IsInRange 1 16 columns },
-    ghost some_rows: { IsInRange 1 64 rows },
+    ghost numbers: { AreGridNumbers module_dots width height columns rows },
 }
 
 impl GridOptions {
     ghost use Rattle.sheet_core.specs.Grids.{IsGrid};
-    ghost use Rattle.line_core.specs.Grids.{cells_of};
+    ghost use Rattle.line_core.specs.Grids.{HasNumbers, cells_of};
 
     /// These numbers, or none where one of them alone lies outside its range.
     pub fn new(
@@ -44,15 +56,16 @@ impl GridOptions {
         columns: u16,
         rows: u16,
     ) -> Option<GridOptions>
-        ensures taken { IsSome result ↔ (IsInRange 1 8 module_dots × IsInRange 1 4096 width
-            × IsInRange 1 1024 height × IsInRange 1 16 columns × IsInRange 1 64 rows) }
-        ensures numbers { IfSome result (λ o. (o.module_dots ≡ module_dots) × (o.width ≡ width)
-            × (o.height ≡ height) × (o.columns ≡ columns) × (o.rows ≡ rows)) }
+        ensures taken { IsSome result ↔ AreGridNumbers module_dots width height columns rows }
+        ensures numbers { IfSome result (HasNumbers module_dots width height columns rows) }
     {
-        if !is_within(module_dots, 1, 8) || !is_within(width, 1, 4096) {
+        if !is_within(module_dots, MOST_MODULE_DOTS) || !is_within(width, MOST_WIDTH) {
             return None;
         }
-        if !is_within(height, 1, 1024) || !is_within(columns, 1, 16) || !is_within(rows, 1, 64) {
+        if !is_within(height, MOST_HEIGHT) || !is_within(columns, MOST_COLUMNS) {
+            return None;
+        }
+        if !is_within(rows, MOST_ROWS) {
             return None;
         }
         Some(GridOptions {

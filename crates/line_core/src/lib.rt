@@ -12,7 +12,7 @@ mod scan;
 
 pub use answers::serving::{AnswerFault, answer_lines};
 pub use check::lines::check_lines;
-pub use grid::GridOptions;
+pub use grid::{GridOptions, MOST_COLUMNS, MOST_HEIGHT, MOST_MODULE_DOTS, MOST_ROWS, MOST_WIDTH};
 pub use input::fault::{RecordFault, RecordsFault};
 pub use lanes::feeds::read_feeds;
 pub use print::label_lines::label_lines;

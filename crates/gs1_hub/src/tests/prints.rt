@@ -1,7 +1,7 @@
 //! Labels that are printed: the bytes of their sheets, their lines, each refusal and their order.
 
-use super::fakes::{Breaking, Endless, Narrow};
-use super::outcome;
+use super::fakes::Breaking;
+use super::{outcome, refusal};
 use crate::options::PrintOptions;
 use crate::run;
 use crate::words::Asked;
@@ -13,7 +13,7 @@ use std::test::Fail;
 use std::thread::Threads;
 
 // The record of a label of 113 modules with its quiet zones.
-const RECORD: &str = "ean13,9501101530003\n";
+pub const RECORD: &str = "ean13,9501101530003\n";
 
 // The dots of that label at one dot a module, in a cell of 113 by 3 dots.
 pub const DOTS: &[u8] = b"\x00\x00\x00\x00\x00\x00\x00\x00\x00\x00\x00\x00\x00\x00\x00\
@@ -29,13 +29,19 @@ pub const HIGH: &[u8] = b"P4\n113 6\n";
 const LIGHT: &[u8] = &[0; 45];
 
 /// The command `print` with a grid of such cells at one dot a module.
-fn asked(width: u16, height: u16, columns: u16, rows: u16, text: bool) -> Result<Asked, Fail> {
+pub fn printing(
+    width: u16,
+    height: u16,
+    columns: u16,
+    rows: u16,
+    text: bool,
+) -> Result<Asked, Fail> {
     let options = PrintOptions::new(1, width, height, columns, rows, 2026, text);
     Ok(Asked::Print(options.ok_or("options")?))
 }
 
 /// The bytes that the command writes.
-fn printed<R: Threads + Wait + AllocGlobal + Sync>(
+pub fn printed<R: Threads + Wait + AllocGlobal + Sync>(
     rt: &R,
     asked: Asked,
     input: &str,
@@ -82,7 +88,7 @@ fn prints_sheets(rt: HostRuntime) -> Result<(), Fail> {
         for _ in 0..images {
             push_image(&mut wanted, header, labelled, light)?;
         }
-        let found = printed(&rt, asked(113, 3, 1, rows, false)?, input.as_str())?;
+        let found = printed(&rt, printing(113, 3, 1, rows, false)?, input.as_str())?;
         assert_eq!(rt; found.as_slice(), wanted.as_slice());
     }
     Ok(())
@@ -91,11 +97,11 @@ fn prints_sheets(rt: HostRuntime) -> Result<(), Fail> {
 #[test]
 fn prints_lines(rt: HostRuntime) -> Result<(), Fail> {
     let alloc = rt.alloc();
-    let found = outcome(&rt, asked(113, 3, 1, 1, true)?, RECORD.as_bytes())?;
+    let found = outcome(&rt, printing(113, 3, 1, 1, true)?, RECORD.as_bytes())?;
     assert_eq!(rt; found.as_str(), "0 0 ean13 (01)09501101530003\n");
     let input = "ean13,00012345000065\nupca,012345000065\nean8,96385074\nupce,0012345000065\n\
                  gs1128,10AB^17261231\n";
-    let found = outcome(&rt, asked(200, 3, 2, 1, true)?, input.as_bytes())?;
+    let found = outcome(&rt, printing(200, 3, 2, 1, true)?, input.as_bytes())?;
     assert_eq!(rt;
         found.as_str(),
         "0 0 ean13 (01)00012345000065\n0 1 upca (01)00012345000065\n\
@@ -150,7 +156,7 @@ fn refuses_records(rt: HostRuntime) -> Result<(), Fail> {
         ),
     ] {
         for text in [false, true] {
-            let found = outcome(&rt, asked(113, 3, 2, 2, text)?, input.as_bytes())?;
+            let found = outcome(&rt, printing(113, 3, 2, 2, text)?, input.as_bytes())?;
             assert_eq!(rt; found.as_str(), wanted, "{input}");
         }
     }
@@ -212,67 +218,10 @@ fn takes_numbers_in_their_ranges(rt: HostRuntime) -> Result<(), Fail> {
 }
 
 #[test]
-fn passes_failures_on(rt: HostRuntime) -> Result<(), Fail> {
-    let alloc = rt.alloc();
-    let mut image = Vec::new(alloc);
-    push_image(&mut image, LOW, 1, 0)?;
-    let line = b"0 0 ean13 (01)09501101530003\n".as_slice();
-    for (text, output) in [(false, image.as_slice()), (true, line)] {
-        let asked = asked(113, 3, 1, 1, text)?;
-        let mut unwritten = ToWriter::new(Vec::new(alloc));
-        let fault = run(
-            &rt,
-            alloc,
-            asked,
-            &mut Breaking::new(b"0"),
-            &mut unwritten,
-            &OpenGate,
-        )
-        .err()
-        .ok_or("a fault")?;
-        assert_eq!(rt; fault.to_string(alloc)?.as_str(), "refused 37 ReadFault");
-        let fault = run(&rt, alloc, asked, &mut Endless, &mut unwritten, &OpenGate)
-            .err()
-            .ok_or("a fault")?;
-        assert_eq!(rt; fault.to_string(alloc)?.as_str(), "refused 44 InputSize");
-        assert_eq!(rt; unwritten.into_inner().len(), 0);
-
-        let mut narrow = Narrow::new(alloc, 100);
-        run(
-            &rt,
-            alloc,
-            asked,
-            &mut FromReader::new(RECORD.as_bytes()),
-            &mut narrow,
-            &OpenGate,
-        )?;
-        assert_eq!(rt; narrow.taken(), output);
-        let mut short = Narrow::new(alloc, 25);
-        let fault = run(
-            &rt,
-            alloc,
-            asked,
-            &mut FromReader::new(RECORD.as_bytes()),
-            &mut short,
-            &OpenGate,
-        )
-        .err()
-        .ok_or("a fault")?;
-        assert_eq!(rt; fault.to_string(alloc)?.as_str(), "refused 38 WriteFault");
-        assert_eq!(rt; short.taken(), output.get(..25).ok_or("25 bytes")?);
-    }
-    // A grid is refused before the input is read.
-    let mut sink = ToWriter::new(Vec::new(alloc));
-    let fault = run(
-        &rt,
-        alloc,
-        asked(113, 2, 1, 1, false)?,
-        &mut Breaking::new(b"0"),
-        &mut sink,
-        &OpenGate,
-    )
-    .err()
-    .ok_or("a fault")?;
-    assert_eq!(rt; fault.to_string(alloc)?.as_str(), "refused 25 BadGrid");
+fn refuses_grids_before_reading(rt: HostRuntime) -> Result<(), Fail> {
+    let mut sink = ToWriter::new(Vec::new(rt.alloc()));
+    let asked = printing(113, 2, 1, 1, false)?;
+    let line = refusal(&rt, asked, &mut Breaking::new(b"0"), &mut sink)?;
+    assert_eq!(rt; line.as_str(), "refused 25 BadGrid");
     Ok(())
 }

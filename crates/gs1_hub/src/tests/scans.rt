@@ -1,9 +1,9 @@
 //! Images that are scanned: the lines of their columns, each refusal, and inputs and outputs that fail.
 
 use super::fakes::{Breaking, Narrow};
-use super::outcome;
-use super::prints::{DOTS, HIGH, LOW, push_image};
-use crate::options::{PrintOptions, ScanOptions};
+use super::prints::{DOTS, HIGH, LOW, printed, printing, push_image};
+use super::{outcome, refusal};
+use crate::options::ScanOptions;
 use crate::run;
 use crate::words::Asked;
 use digits_core::{FromReader, ToWriter};
@@ -38,18 +38,7 @@ fn images<R: Threads + Wait + AllocGlobal + Sync>(
     rows: u16,
     labels: &str,
 ) -> Result<Vec<u8>, Fail> {
-    let options = PrintOptions::new(1, 211, 3, columns, rows, 2026, false).ok_or("options")?;
-    let mut source = FromReader::new(labels.as_bytes());
-    let mut sink = ToWriter::new(Vec::new(rt.alloc()));
-    run(
-        rt,
-        rt.alloc(),
-        Asked::Print(options),
-        &mut source,
-        &mut sink,
-        &OpenGate,
-    )?;
-    Ok(sink.into_inner())
+    printed(rt, printing(211, 3, columns, rows, false)?, labels)
 }
 
 /// An image of light dots: its header, then so many bytes.
@@ -265,11 +254,8 @@ fn refuses_grids_before_reading(rt: HostRuntime) -> Result<(), Fail> {
             assert_eq!(rt; found.as_str(), "refused 25 BadGrid");
         }
         let mut sink = ToWriter::new(Vec::new(alloc));
-        let mut source = Breaking::new(b"");
-        let fault = run(&rt, alloc, asked, &mut source, &mut sink, &OpenGate)
-            .err()
-            .ok_or("a fault")?;
-        assert_eq!(rt; fault.to_string(alloc)?.as_str(), "refused 25 BadGrid");
+        let line = refusal(&rt, asked, &mut Breaking::new(b""), &mut sink)?;
+        assert_eq!(rt; line.as_str(), "refused 25 BadGrid");
     }
     Ok(())
 }
@@ -285,21 +271,8 @@ fn passes_failed_reads_on(rt: HostRuntime) -> Result<(), Fail> {
         let front = bytes.as_slice().get(..count).ok_or("a front")?;
         let mut source = Breaking::new(front);
         let mut sink = ToWriter::new(Vec::new(alloc));
-        let fault = run(
-            &rt,
-            alloc,
-            asked(113, 3, 1, 1)?,
-            &mut source,
-            &mut sink,
-            &OpenGate,
-        )
-        .err()
-        .ok_or("a fault")?;
-        assert_eq!(rt;
-            fault.to_string(alloc)?.as_str(),
-            "refused 37 ReadFault",
-            "{count}"
-        );
+        let line = refusal(&rt, asked(113, 3, 1, 1)?, &mut source, &mut sink)?;
+        assert_eq!(rt; line.as_str(), "refused 37 ReadFault", "{count}");
         assert_eq!(rt; sink.into_inner().len(), 0);
     }
     Ok(())
@@ -310,30 +283,25 @@ fn passes_failed_writes_on(rt: HostRuntime) -> Result<(), Fail> {
     let alloc = rt.alloc();
     let mut bytes = Vec::new(alloc);
     push_image(&mut bytes, LOW, 1, 0)?;
-    for room in [0, 1, 26, 27] {
+    for room in [0, 1, 26] {
         let mut source = FromReader::new(bytes.as_slice());
         let mut sink = Narrow::new(alloc, room);
-        let ran = run(
-            &rt,
-            alloc,
-            asked(113, 3, 1, 1)?,
-            &mut source,
-            &mut sink,
-            &OpenGate,
-        );
-        let line = match ran {
-            Ok(()) => String::new(alloc),
-            Err(fault) => fault.to_string(alloc)?,
-        };
-        let wanted = if room < LINE.len() {
-            "refused 38 WriteFault"
-        } else {
-            ""
-        };
-        assert_eq!(rt; line.as_str(), wanted, "{room}");
+        let line = refusal(&rt, asked(113, 3, 1, 1)?, &mut source, &mut sink)?;
+        assert_eq!(rt; line.as_str(), "refused 38 WriteFault", "{room}");
         let front = LINE.as_bytes().get(..room).ok_or("a front")?;
         assert_eq!(rt; sink.taken(), front);
     }
+    let mut source = FromReader::new(bytes.as_slice());
+    let mut sink = Narrow::new(alloc, LINE.len());
+    run(
+        &rt,
+        alloc,
+        asked(113, 3, 1, 1)?,
+        &mut source,
+        &mut sink,
+        &OpenGate,
+    )?;
+    assert_eq!(rt; sink.taken(), LINE.as_bytes());
     Ok(())
 }
 

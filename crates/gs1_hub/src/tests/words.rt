@@ -2,107 +2,70 @@
 
 use crate::options::{LaneOptions, PrintOptions, ScanOptions};
 use crate::words::{Asked, WordsFault, read_words};
-use std::alloc::{AllocError, Global};
+use element_core::Year;
+use std::alloc::Global;
 use std::test::Fail;
 
-/// The words of a command line, with one space between them.
-fn words_of(alloc: Global, text: &str) -> Result<Vec<String>, AllocError> {
+/// What the words of a command line ask for, which have one space between them.
+fn read(alloc: Global, text: &str) -> Result<Result<Asked, WordsFault>, Fail> {
     let mut words = Vec::new(alloc);
     for word in text.split(' ') {
         words.push(String::from_str(alloc, word)?)?;
     }
-    Ok(words)
+    Ok(read_words(alloc, words.as_slice()))
 }
 
-/// The year that texts are to be checked under.
-fn checked_year(asked: Asked) -> Option<u16> {
-    match asked {
-        Asked::Check(year) => Some(year.number()),
-        Asked::Print(_) | Asked::Lanes(_) | Asked::Scan(_) => None,
-    }
+/// The line of the fault of a command line.
+fn refusal(alloc: Global, text: &str) -> Result<String, Fail> {
+    let fault = read(alloc, text)?.err().ok_or("a fault")?;
+    Ok(fault.to_string(alloc)?)
 }
 
 #[test]
 fn reads_words(rt: HostRuntime) -> Result<(), Fail> {
-    let alloc = rt.alloc();
-    for (text, lanes, workers, year) in [
+    for (text, wanted) in [
         (
             "gs1_hub lanes --lanes 3 --workers=16 --year 2026",
-            3,
-            16,
-            2026,
+            LaneOptions::new(3, 16, 2026).map(Asked::Lanes),
         ),
         (
             "gs1_hub lanes --year 1951 --workers 1 --lanes 16",
-            16,
-            1,
-            1951,
+            LaneOptions::new(16, 1, 1951).map(Asked::Lanes),
         ),
-    ] {
-        let words = words_of(alloc, text)?;
-        let Ok(Asked::Lanes(options)) = read_words(alloc, words.as_slice()) else {
-            return Err(Fail::from("a command"));
-        };
-        let wanted = LaneOptions::new(lanes, workers, year).ok_or("options")?;
-        assert_eq!(rt; options, wanted, "{text}");
-    }
-    for (text, number) in [
-        ("gs1_hub check --year 2149", 2149),
-        ("gs1_hub check --year=1951", 1951),
-    ] {
-        let words = words_of(alloc, text)?;
-        let asked = read_words(alloc, words.as_slice()).ok().ok_or("a command")?;
-        assert_eq!(rt; checked_year(asked), Some(number), "{text}");
-    }
-    Ok(())
-}
-
-#[test]
-fn reads_words_of_print(rt: HostRuntime) -> Result<(), Fail> {
-    let alloc = rt.alloc();
-    for (text, wanted) in [
+        (
+            "gs1_hub check --year 2149",
+            Year::new(2149).map(Asked::Check),
+        ),
+        (
+            "gs1_hub check --year=1951",
+            Year::new(1951).map(Asked::Check),
+        ),
         (
             "gs1_hub print --module 1 --width 113 --height 3 --columns 2 --rows 4 --year 2026",
-            PrintOptions::new(1, 113, 3, 2, 4, 2026, false),
+            PrintOptions::new(1, 113, 3, 2, 4, 2026, false).map(Asked::Print),
         ),
         (
             "gs1_hub print --text --year=1951 --rows 64 --columns 16 --height 1024 --width 4096 \
              --module 8",
-            PrintOptions::new(8, 4096, 1024, 16, 64, 1951, true),
+            PrintOptions::new(8, 4096, 1024, 16, 64, 1951, true).map(Asked::Print),
         ),
         (
             "gs1_hub print --module 2 --width 113 --text --height 3 --columns 1 --rows 1 --year 2026",
-            PrintOptions::new(2, 113, 3, 1, 1, 2026, true),
+            PrintOptions::new(2, 113, 3, 1, 1, 2026, true).map(Asked::Print),
         ),
-    ] {
-        let words = words_of(alloc, text)?;
-        let Ok(Asked::Print(options)) = read_words(alloc, words.as_slice()) else {
-            return Err(Fail::from("a command"));
-        };
-        assert_eq!(rt; Some(options), wanted, "{text}");
-    }
-    Ok(())
-}
-
-#[test]
-fn reads_words_of_scan(rt: HostRuntime) -> Result<(), Fail> {
-    let alloc = rt.alloc();
-    for (text, wanted) in [
         (
             "gs1_hub scan --module 1 --width 113 --height 3 --columns 2 --rows 4 --workers 5 --year 2026",
-            ScanOptions::new(1, 113, 3, 2, 4, 5, 2026),
+            ScanOptions::new(1, 113, 3, 2, 4, 5, 2026).map(Asked::Scan),
         ),
         (
             "gs1_hub scan --workers=16 --year=1951 --rows 64 --columns 16 --height 1024 --width 4096 \
              --module 8",
-            ScanOptions::new(8, 4096, 1024, 16, 64, 16, 1951),
+            ScanOptions::new(8, 4096, 1024, 16, 64, 16, 1951).map(Asked::Scan),
         ),
     ] {
-        let words = words_of(alloc, text)?;
-        let Ok(Asked::Scan(options)) = read_words(alloc, words.as_slice()) else {
-            return Err(Fail::from("a command"));
-        };
-        assert_eq!(rt; Some(options), wanted, "{text}");
+        let wanted = wanted.ok_or("options")?;
+        let asked = read(rt.alloc(), text)?.ok().ok_or("a command")?;
+        assert_eq!(rt; asked, wanted, "{text}");
     }
     Ok(())
 }
@@ -131,9 +94,7 @@ fn refuses_words_of_scan(rt: HostRuntime) -> Result<(), Fail> {
         " --module 1 --width 113 --height 3 --columns 1 --rows 1 --workers 1 --year 2026 --text",
     ] {
         let text = format!(in alloc; "gs1_hub scan{options}")?;
-        let words = words_of(alloc, text.as_str())?;
-        let fault = read_words(alloc, words.as_slice()).err().ok_or("a fault")?;
-        let line = fault.to_string(alloc)?;
+        let line = refusal(alloc, text.as_str())?;
         assert_eq!(rt; line.as_str(), "refused 42 Words", "{text}");
     }
     Ok(())
@@ -168,9 +129,7 @@ fn refuses_words(rt: HostRuntime) -> Result<(), Fail> {
         "gs1_hub print --module 1 --width 113 --height 3 --columns 1 --rows 1 --year 2150",
         "gs1_hub print --module 1 --width 113 --height 3 --columns 1 --rows 1 --year 2026 --text 1",
     ] {
-        let words = words_of(alloc, text)?;
-        let fault = read_words(alloc, words.as_slice()).err().ok_or("a fault")?;
-        let line = fault.to_string(alloc)?;
+        let line = refusal(alloc, text)?;
         assert_eq!(rt; line.as_str(), "refused 42 Words", "{text}");
     }
     for (text, part) in [
@@ -188,8 +147,7 @@ fn refuses_words(rt: HostRuntime) -> Result<(), Fail> {
         ("gs1_hub scan --help", "--workers"),
         ("gs1_hub scan --help", "--year"),
     ] {
-        let words = words_of(alloc, text)?;
-        let fault = read_words(alloc, words.as_slice()).err().ok_or("help")?;
+        let fault = read(alloc, text)?.err().ok_or("help")?;
         let help = fault.to_string(alloc)?;
         assert!(rt; matches!(fault, WordsFault::Help(_)), "{text}");
         assert!(rt; help.as_str().contains(part), "{text}");

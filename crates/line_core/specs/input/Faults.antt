@@ -4,6 +4,8 @@ use Rattle.digits_core.specs.Faults.{digit_fault_text}
 use Rattle.digits_core.specs.declared.source.InputFault.{InputFault}
 use Rattle.digits_core.specs.declared.source.InputFault.TheVariants as input
 use Rattle.element_core.specs.Faults.{element_fault_text}
+use Rattle.scan_core.specs.Faults.{run_fault_text}
+use Rattle.scan_core.specs.declared.fault.RunFault.TheVariants as runs
 use Rattle.line_core.specs.declared.input.fault.RecordFault.{RecordFault}
 use Rattle.line_core.specs.declared.input.fault.RecordFault.TheVariants as fault
 use Rattle.line_core.specs.declared.input.fault.RecordRefusal.{RecordRefusal}
@@ -16,8 +18,8 @@ abbrev pub record_fault_text : RecordFault → List ℕ
 record_fault_text fault.Csv = codes "refused 39 Csv"
 record_fault_text fault.Kind = codes "refused 40 Kind"
 record_fault_text fault.BadLane = codes "refused 41 BadLane"
-record_fault_text fault.BadRuns = codes "refused 18 BadRuns"
-record_fault_text fault.TooWide = codes "refused 17 TooWide"
+record_fault_text fault.BadRuns = run_fault_text runs.BadRuns
+record_fault_text fault.TooWide = run_fault_text runs.TooWide
 record_fault_text (fault.Digits f) = digit_fault_text f
 record_fault_text (fault.Elements f) = element_fault_text f
 

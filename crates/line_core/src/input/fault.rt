@@ -4,6 +4,7 @@ ghost use Rattle.line_core.specs.input.Faults.{no_room, of_input, of_record, rec
 
 use digits_core::{DigitFault, InputFault};
 use element_core::ElementFault;
+use scan_core::RunFault;
 use std::alloc::AllocError;
 use std::fmt;
 
@@ -35,10 +36,10 @@ impl fmt::Display for RecordFault {
             RecordFault::Csv => write!(f, "refused 39 Csv"),
             RecordFault::Kind => write!(f, "refused 40 Kind"),
             RecordFault::BadLane => write!(f, "refused 41 BadLane"),
-            RecordFault::BadRuns => write!(f, "refused 18 BadRuns"),
-            RecordFault::TooWide => write!(f, "refused 17 TooWide"),
-            RecordFault::Digits(fault) => write!(f, "{fault}"),
-            RecordFault::Elements(fault) => write!(f, "{fault}"),
+            RecordFault::BadRuns => RunFault::BadRuns.fmt(f),
+            RecordFault::TooWide => RunFault::TooWide.fmt(f),
+            RecordFault::Digits(fault) => fault.fmt(f),
+            RecordFault::Elements(fault) => fault.fmt(f),
         }
     }
 }

@@ -15,7 +15,7 @@ column_feeds-requires-clause-few g c =
 pub answer_lines-requires-after_bounds : goal.answer_lines-requires-after_bounds
 answer_lines-requires-after_bounds g c κs within =
     let o = c.args.options in
-    counts_hold (λ feed. feed.items) c.in_ok-feeds.feeds.items o.grid.columns o.workers c.in_ok-feeds.ensures.count o.grid.some_columns o.some_workers c.in_ok-feeds.ensures.short
+    counts_hold (λ feed. feed.items) c.in_ok-feeds.feeds.items o.grid.columns o.workers c.in_ok-feeds.ensures.count o.grid.numbers.3 o.some_workers c.in_ok-feeds.ensures.short
 
 pub returns-in_err-write_all : goal.returns-in_err-write_all
 returns-in_err-write_all g c =

@@ -1,74 +1,62 @@
 use Rattle.std.proofs.Common.{◌≡◌, ◌∙◌, List, ap, arith, codes, slice_index, sym, ℕ}
 use Rattle.clap.specs.Words.{Row, Text, found_of, rows_of}
-use Rattle.gs1_hub.specs.Asking.{AsksIn, HasLanes, HasPrint, HasScan}
+use Rattle.gs1_hub.specs.Asking.{AsksIn, HasLanes, HasScan}
 use Rattle.gs1_hub.specs.CommandLine.{HasYear}
 use Rattle.gs1_hub.specs.declared.options.LaneOptions.{LaneOptions}
-use Rattle.gs1_hub.specs.declared.options.PrintOptions.{PrintOptions}
 use Rattle.gs1_hub.specs.declared.options.ScanOptions.{ScanOptions}
 use Rattle.gs1_hub.specs.declared.words.Asked.{Asked}
 use Rattle.gs1_hub.specs.declared.words.Asked.TheVariants as asked
+use Rattle.gs1_hub.proofs.Matches.{none_after}
 use Rattle.gs1_hub.proofs.words.asked_by.Goals as goal
 
--- one name has one first letter
-first_letter : (name a b : Text) → name ≡ a → name ≡ b → slice_index a 0 ≡ slice_index b 0
-first_letter name a b is also = ap (λ t. slice_index t 0) (sym is ∙ also)
+abbrev first : Text → ℕ
+first name = slice_index name 0
 
-no_check : (name : Text) (rows : List Row) → name ≡ codes "check" → ((year : ℕ) → HasYear rows year → ⊥) → (a : Asked) → AsksIn name rows a → ⊥
-no_check name rows is none (asked.Check year) h = none year h.1
-no_check name rows is none (asked.Print o) h =
-    let other : 99 ≡ 112 = first_letter name (codes "check") (codes "print") is h.0 in
-    omega (arith, other)
-no_check name rows is none (asked.Lanes o) h =
-    let other : 99 ≡ 108 = first_letter name (codes "check") (codes "lanes") is h.0 in
-    omega (arith, other)
-no_check name rows is none (asked.Scan o) h =
-    let other : 99 ≡ 115 = first_letter name (codes "check") (codes "scan") is h.0 in
-    omega (arith, other)
+-- the first letter of the name of a command
+abbrev letter : Asked → ℕ
+letter (asked.Check year) = 99
+letter (asked.Print o) = 112
+letter (asked.Lanes o) = 108
+letter (asked.Scan o) = 115
 
-no_print : (name : Text) (rows : List Row) → name ≡ codes "print" → ((o : PrintOptions) → HasPrint rows o → ⊥) → (a : Asked) → AsksIn name rows a → ⊥
-no_print name rows is none (asked.Check year) h =
-    let other : 112 ≡ 99 = first_letter name (codes "print") (codes "check") is h.0 in
-    omega (arith, other)
-no_print name rows is none (asked.Print o) h = none o h.1
-no_print name rows is none (asked.Lanes o) h =
-    let other : 112 ≡ 108 = first_letter name (codes "print") (codes "lanes") is h.0 in
-    omega (arith, other)
-no_print name rows is none (asked.Scan o) h =
-    let other : 112 ≡ 115 = first_letter name (codes "print") (codes "scan") is h.0 in
-    omega (arith, other)
+begins : (name : Text) (rows : List Row) (a : Asked) → AsksIn name rows a → first name ≡ letter a
+begins name rows (asked.Check year) h = ap (λ t. slice_index t 0) h.0
+begins name rows (asked.Print o) h = ap (λ t. slice_index t 0) h.0
+begins name rows (asked.Lanes o) h = ap (λ t. slice_index t 0) h.0
+begins name rows (asked.Scan o) h = ap (λ t. slice_index t 0) h.0
+
+no_check : (name : Text) (rows : List Row) → name ≡ codes "check" → ((o : ℕ) → HasYear rows o → ⊥) → (a : Asked) → AsksIn name rows a → ⊥
+no_check name rows is none a h = go a h (sym (ap (λ t. slice_index t 0) is) ∙ begins name rows a h)
+  where
+    go : (a : Asked) → AsksIn name rows a → 99 ≡ letter a → ⊥
+    go (asked.Check year) h e = none year h.1
+    go (asked.Print o) h e = omega (arith, e)
+    go (asked.Lanes o) h e = omega (arith, e)
+    go (asked.Scan o) h e = omega (arith, e)
 
 no_lanes : (name : Text) (rows : List Row) → name ≡ codes "lanes" → ((o : LaneOptions) → HasLanes rows o → ⊥) → (a : Asked) → AsksIn name rows a → ⊥
-no_lanes name rows is none (asked.Check year) h =
-    let other : 108 ≡ 99 = first_letter name (codes "lanes") (codes "check") is h.0 in
-    omega (arith, other)
-no_lanes name rows is none (asked.Print o) h =
-    let other : 108 ≡ 112 = first_letter name (codes "lanes") (codes "print") is h.0 in
-    omega (arith, other)
-no_lanes name rows is none (asked.Lanes o) h = none o h.1
-no_lanes name rows is none (asked.Scan o) h =
-    let other : 108 ≡ 115 = first_letter name (codes "lanes") (codes "scan") is h.0 in
-    omega (arith, other)
+no_lanes name rows is none a h = go a h (sym (ap (λ t. slice_index t 0) is) ∙ begins name rows a h)
+  where
+    go : (a : Asked) → AsksIn name rows a → 108 ≡ letter a → ⊥
+    go (asked.Check year) h e = omega (arith, e)
+    go (asked.Print o) h e = omega (arith, e)
+    go (asked.Lanes o) h e = none o h.1
+    go (asked.Scan o) h e = omega (arith, e)
 
 no_scan : (name : Text) (rows : List Row) → name ≡ codes "scan" → ((o : ScanOptions) → HasScan rows o → ⊥) → (a : Asked) → AsksIn name rows a → ⊥
-no_scan name rows is none (asked.Check year) h =
-    let other : 115 ≡ 99 = first_letter name (codes "scan") (codes "check") is h.0 in
-    omega (arith, other)
-no_scan name rows is none (asked.Print o) h =
-    let other : 115 ≡ 112 = first_letter name (codes "scan") (codes "print") is h.0 in
-    omega (arith, other)
-no_scan name rows is none (asked.Lanes o) h =
-    let other : 115 ≡ 108 = first_letter name (codes "scan") (codes "lanes") is h.0 in
-    omega (arith, other)
-no_scan name rows is none (asked.Scan o) h = none o h.1
+no_scan name rows is none a h = go a h (sym (ap (λ t. slice_index t 0) is) ∙ begins name rows a h)
+  where
+    go : (a : Asked) → AsksIn name rows a → 115 ≡ letter a → ⊥
+    go (asked.Check year) h e = omega (arith, e)
+    go (asked.Print o) h e = omega (arith, e)
+    go (asked.Lanes o) h e = omega (arith, e)
+    go (asked.Scan o) h e = none o h.1
 
-pub returns-in-None-clause-none : goal.returns-in-None-clause-none
-returns-in-None-clause-none c = no_check c.args.name.now (rows_of (found_of c.args.matches.now)) c.in-check.is c.in-None.ensures.none
+pub returns-in-check-clause-none : goal.returns-in-check-clause-none
+returns-in-check-clause-none c = none_after c.year_named.result c.map.result _ _ c.map.ensures.variant c.year_named.ensures.none (no_check c.args.name.now (rows_of (found_of c.args.matches.now)) c.in-check.is)
 
-pub returns-in-None-print_options-clause-none : goal.returns-in-None-print_options-clause-none
-returns-in-None-print_options-clause-none c = no_print c.args.name.now (rows_of (found_of c.args.matches.now)) c.in-print.is c.in-None-print_options.ensures.none
+pub returns-in-lanes-clause-none : goal.returns-in-lanes-clause-none
+returns-in-lanes-clause-none c = none_after c.lane_options.result c.map-in-lanes.result _ _ c.map-in-lanes.ensures.variant c.lane_options.ensures.none (no_lanes c.args.name.now (rows_of (found_of c.args.matches.now)) c.in-lanes.is)
 
-pub returns-in-None-lane_options-clause-none : goal.returns-in-None-lane_options-clause-none
-returns-in-None-lane_options-clause-none c = no_lanes c.args.name.now (rows_of (found_of c.args.matches.now)) c.in-lanes.is c.in-None-lane_options.ensures.none
-
-pub returns-in-None-scan_options-clause-none : goal.returns-in-None-scan_options-clause-none
-returns-in-None-scan_options-clause-none c = no_scan c.args.name.now (rows_of (found_of c.args.matches.now)) c.in-scan.is c.in-None-scan_options.ensures.none
+pub returns-in-scan-clause-none : goal.returns-in-scan-clause-none
+returns-in-scan-clause-none c = none_after c.scan_options.result c.map-in-scan.result _ _ c.map-in-scan.ensures.variant c.scan_options.ensures.none (no_scan c.args.name.now (rows_of (found_of c.args.matches.now)) c.in-scan.is)

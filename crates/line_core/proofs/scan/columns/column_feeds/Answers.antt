@@ -26,4 +26,4 @@ returns-clause-short c =
     let feeds = map (λ feed. feed.items) c.columns.feeds.items in
     let all : c.columns.column ≡ o.columns = omega (arith, c.columns.auto.column-end, c.columns-test.false) in
     let are = subst (λ n. AllZip (λ rows column. HaveDots rows (flat_map (column_dots (cells_of o) column) c.args.sheets.now)) feeds (range_with_len 0 n)) all c.columns.invariant in
-    feeds_short (cells_of o) c.args.sheets.now feeds o.some_rows.1 c.requires.few are
+    feeds_short (cells_of o) c.args.sheets.now feeds o.numbers.4.1 c.requires.few are
