@@ -1,4 +1,5 @@
 pub mod BandFacts
+pub mod ByteFacts
 pub mod CellFacts
 pub mod CellLineFacts
 pub mod CornerFacts

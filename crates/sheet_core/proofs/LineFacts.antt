@@ -43,9 +43,6 @@ dot_set line x h k =
           ap (λ n. bit_at n (7 - k % 8) == 1) here ∙ sym (ap (λ b. b || dot_at line k) (ne_eqb k x apart))
     ]
 
-pub one_more_dark : (from x k : ℕ) (b : Bool) → from ≤ x → ((k == x) || ((nat_le from k && nat_lt k x) || b)) ≡ ((nat_le from k && nat_lt k (x + 1)) || b)
-one_more_dark from x k b h = grind (arith, nat_tests)
-
 -- dark dots at the end
 dark_end : (xs : List Bool) (n j : ℕ) → get_or (xs ++ replicate n true) j false ≡ ((nat_le (length xs) j && nat_lt j (length xs + n)) || get_or xs j false)
 dark_end xs n j =

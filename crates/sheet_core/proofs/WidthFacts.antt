@@ -10,11 +10,11 @@ use Rattle.code128_code.specs.Characters.{pattern, patterns, stop}
 use Rattle.code128_code.specs.Symbols.{IsCode128Symbol, characters_of}
 
 -- the test passes at each number below n
-abbrev all_below : (ℕ → Bool) → ℕ → Bool
+abbrev pub all_below : (ℕ → Bool) → ℕ → Bool
 all_below p zero = true
 all_below p (suc n) = p n && all_below p n
 
-all_below-at : (p : ℕ → Bool) (n : ℕ) → all_below p n ≡ true → (i : ℕ) → i < n → p i ≡ true
+pub all_below-at : (p : ℕ → Bool) (n : ℕ) → all_below p n ≡ true → (i : ℕ) → i < n → p i ≡ true
 all_below-at p zero e i h = absurd (omega arith)
 all_below-at p (suc n) e i h =
     let parts = and_parts (p n) (all_below p n) e in

@@ -1,6 +1,7 @@
 //! Lines of dots, packed with a byte's high bit first.
 ghost use Rattle.std.specs.Prelude.{◌≡◌, ◌+◌, ◌-◌, ◌*◌, ◌^◌, ◌<◌, ◌≤◌, ◌==◌, ◌&&◌, ◌||◌, ℕ, List, false, true, length, map, nat_le, nat_lt, replicate, slice_index_or, sum};
 ghost use Rattle.std.specs.List.{AllByRecursion, AllZip};
+ghost use Rattle.std.specs.Int.{bit_at};
 ghost use Rattle.scan_core.specs.Bits.{dot_at};
 ghost use Rattle.scan_core.specs.Row.{dots_from};
 ghost use Rattle.sheet_core.specs.Bitmaps.{stride};
@@ -27,22 +28,25 @@ pub(crate) fn light_line(width: u16) -> ArrayVec<u8, LONGEST>
     line
 }
 
-/// Makes dot `x` dark.
-fn set_dot(line: &mut [u8], x: usize)
-    requires { x < 8 * length line.old }
-    ensures { (k : ℕ) → dot_at line.new k ≡ ((k == x) || dot_at line.old k) }
+/// The bits of a byte's dots from one on and before another, its first dot in the high bit.
+fn bits_of(from: usize, end: usize) -> u8
+    requires order { from ≤ end }
+    requires within { end ≤ 8 }
+    ensures { (k : ℕ) → k < 8 → (bit_at result (7 - k) == 1) ≡ (nat_le from k && nat_lt k end) }
 {
-    line[x / 8] |= 1 << (7 - x % 8);
+    ((0xFFu16 >> from) - (0xFFu16 >> end)) as u8
 }
 
-/// Makes `count` dots dark, from dot `from` on.
+/// Makes `count` dots dark, from dot `from` on, byte by byte.
 fn darken(line: &mut [u8], from: usize, count: usize)
     requires within { from + count ≤ 8 * length line.old }
     requires few { from + count < 2 ^ 16 }
     ensures { (k : ℕ) → dot_at line.new k ≡ ((nat_le from k && nat_lt k (from + count)) || dot_at line.old k) }
 {
-    for x in from..from + count {
-        set_dot(line, x);
+    let end = from + count;
+    for i in from / 8..(end + 7) / 8 {
+        let bits = bits_of(from.max(8 * i) - 8 * i, end.min(8 * i + 8) - 8 * i);
+        line[i] |= bits;
     }
 }
 
