@@ -1,8 +1,8 @@
 """Prints scanned rows as `lanes` reads them: a lane, a comma and the widths of a row.
 
-Usage: rows.py COUNT LANES SEED. The rows are the same for the same three numbers: every carrier in
-turn, both ways, 1 to 4 dots a module, and one in ten damaged (a run made wider or dropped, a light
-end too small, or a character changed).
+Usage: rows.py COUNT LANES SEED [long]. The rows are the same for the same words: every carrier in
+turn, or with `long` the longest GS1-128 symbols alone, of 595 runs; both ways, 1 to 4 dots a module,
+and one in ten damaged (a run made wider or dropped, a light end too small, or a character changed).
 """
 import random
 import sys
@@ -87,6 +87,11 @@ def weight(random):
     return code128(random, START_C, [int(text[i : i + 2]) for i in range(0, 10, 2)])
 
 
+def longest(random):
+    pairs = lambda: [random.randrange(100) for _ in range(45)]
+    return code128(random, START_C, [20, 11, 91] + pairs() + [FNC1, 92] + pairs())
+
+
 SYMBOLS = (ean13, gtin_and_batch, ean8, origin, upce, ean13, weight, gtin_and_batch)
 
 
@@ -119,10 +124,11 @@ def row(random, symbol):
 
 
 def main():
-    count, lanes, seed = map(int, sys.argv[1:])
+    count, lanes, seed = map(int, sys.argv[1:4])
+    symbols = (longest,) if sys.argv[4:] == ["long"] else SYMBOLS
     rng = random.Random(seed)
     for i in range(count):
-        widths = row(rng, SYMBOLS[i % len(SYMBOLS)])
+        widths = row(rng, symbols[i % len(symbols)])
         print(f"{rng.randrange(lanes)},{' '.join(map(str, widths))}")
 
 
