@@ -1,12 +1,12 @@
 pub mod Cells
 pub mod Characters
+pub mod CountFacts
 pub mod Drawn
 pub mod Expanded
 pub mod Found
 pub mod Halves
 pub mod Joined
 pub mod LookupFacts
-pub mod Measures
 pub mod Options
 pub mod ParityRows
 pub mod Readings

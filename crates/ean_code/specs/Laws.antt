@@ -1,11 +1,12 @@
 -- What holds of the symbols whatever reads them.
-use Rattle.std.specs.Prelude.{◌≡◌, ◌≢◌, ◌<◌, ℕ, List, [], ◌∷◌, ◌++◌, length, reverse, slice_index, slice_set}
+use Rattle.std.specs.Prelude.{◌≡◌, ◌≢◌, ◌<◌, ℕ, List, [], ◌∷◌, ◌++◌, length, reverse, slice_index, slice_set, sum}
 use Rattle.std.specs.List.{concat}
 use Rattle.digits_core.specs.Digits.{AreDigits, IsChecked}
 use Rattle.ean_code.specs.declared.reading.Spelled.{Spelled}
 use Rattle.ean_code.specs.Spelling.{IsGtinOf, IsSpelled}
-use Rattle.ean_code.specs.Symbols.{normal_guard, centre_guard, special_guard, Kind, IsCheckedPlace, IsEanSymbol, digit_count, widths_of}
+use Rattle.ean_code.specs.Symbols.{normal_guard, centre_guard, special_guard, Kind, IsCheckedPlace, IsEanSymbol, digit_count, module_count, width_count, widths_of}
 use Rattle.ean_code.specs.Symbols.Kind.{Ean13, Ean8, UpcE}
+use Rattle.ean_code.specs.Widths.{AreWidths}
 
 -- a symbol shows one list of digits
 abbrev pub OneReading : Type 0
@@ -14,6 +15,15 @@ OneReading = (kind : Kind) (modules ds es : List ℕ) → IsEanSymbol kind modul
 -- modules have one answer of a reader
 abbrev pub OneAnswer : Type 0
 OneAnswer = (kind : Kind) (modules : List ℕ) (a b : Spelled) → IsSpelled kind modules a → IsSpelled kind modules b → a ≡ b
+
+-- a symbol of this kind has as many widths, each of 1 to 4 modules, and as many modules together, as its kind
+pub record HasMeasures (kind : Kind) (modules : List ℕ) : Type 0 where
+  pub valid : AreWidths modules
+  pub count : length modules ≡ width_count kind
+  pub total : sum modules ≡ module_count kind
+
+abbrev pub Measures : Type 0
+Measures = (kind : Kind) (modules ds : List ℕ) → IsEanSymbol kind modules ds → HasMeasures kind modules
 
 -- no symbol of this kind is one of this kind backwards
 abbrev pub OneWay : Kind → Type 0

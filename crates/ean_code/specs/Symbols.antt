@@ -27,6 +27,18 @@ digit_count Ean13 = 13
 digit_count Ean8 = 8
 digit_count UpcE = 7
 
+-- how many widths a symbol has, of its bars and spaces
+abbrev pub width_count : Kind → ℕ
+width_count Ean13 = 59
+width_count Ean8 = 43
+width_count UpcE = 33
+
+-- how many modules wide a symbol is
+abbrev pub module_count : Kind → ℕ
+module_count Ean13 = 95
+module_count Ean8 = 67
+module_count UpcE = 51
+
 -- the widths of a symbol that has these left and right of its centre guard pattern
 abbrev pub two_halves : List ℕ → List ℕ → List ℕ
 two_halves left right = normal_guard ++ (left ++ (centre_guard ++ (right ++ normal_guard)))

@@ -1,5 +1,5 @@
 //! Laws of the symbols, each the contract of a function.
-ghost use Rattle.ean_code.specs.Laws.{OneAnswer, OneReading, OneWay, PrintedEan13, PrintedEan8, PrintedUpcE, ReplacedIsUnchecked};
+ghost use Rattle.ean_code.specs.Laws.{Measures, OneAnswer, OneReading, OneWay, PrintedEan13, PrintedEan8, PrintedUpcE, ReplacedIsUnchecked};
 ghost use Rattle.ean_code.specs.Symbols.Kind.{Ean13, Ean8, UpcE};
 
 /// A symbol shows one list of digits.
@@ -10,6 +10,12 @@ pub fn one_reading()
 /// Modules have at most one answer as symbols of a kind.
 pub fn one_answer()
     ensures { OneAnswer }
+{}
+
+/// A symbol has widths of 1 to 4 modules, so many of them and so many modules together: an EAN-13 59
+/// of 95 modules, an EAN-8 43 of 67, a UPC-E 33 of 51.
+pub fn measures()
+    ensures { Measures }
 {}
 
 /// No symbol is one of its kind when it is read backwards.

@@ -11,7 +11,9 @@ mod reading;
 mod rows;
 
 pub use drawing::{ean8, ean13, upce};
-pub use laws::{one_answer, one_reading, one_way, printed_symbols, replaced_is_unchecked};
+pub use laws::{
+    measures, one_answer, one_reading, one_way, printed_symbols, replaced_is_unchecked,
+};
 pub use lookup::character;
 pub use modules::Modules;
 pub use reading::{Spelled, read_ean8, read_ean13, read_upce};

@@ -54,6 +54,7 @@ pub fn never_too_long()
 pub fn symbol_measures()
     ensures { SymbolMeasures }
 {
+    ean_code::measures();
     code128_code::measures();
 }
 

@@ -15,6 +15,7 @@ use Rattle.code128_code.specs.Laws.{ModulesSay}
 use Rattle.code128_code.specs.Symbols.{mod103}
 use Rattle.scan_core.specs.declared.carrier.Carrier.{Carrier}
 use Rattle.scan_core.specs.declared.carrier.Carrier.TheVariants.{Ean13 as CarrierEan13, Ean8 as CarrierEan8, UpcE as CarrierUpcE, Gs1128 as CarrierGs1128}
+use Rattle.ean_code.specs.Laws.{Measures as EanMeasures}
 use Rattle.scan_core.specs.Laws.{DotsDetermine, OneAnswer, SymbolMeasures}
 use Rattle.scan_core.specs.Row.{IsRow, dots_of, inner}
 use Rattle.scan_core.specs.Answers.{IsAnswer, Spells, row_text}
@@ -30,7 +31,7 @@ use Rattle.sheet_core.specs.Laws.{BarRowsAnswer, BarRowsShow, EmptyCellsAreBlank
 use Rattle.sheet_core.proofs.CellFacts.{cell_runs, printed_runs, reach, sum-cell_runs, sum-wider}
 use Rattle.sheet_core.proofs.CornerFacts.{empty_row, label_row}
 use Rattle.sheet_core.proofs.LabelFacts.{all_at, drawn_at, symbol_of_upce}
-use Rattle.sheet_core.proofs.WidthFacts.{code128_widths, ean_widths}
+use Rattle.sheet_core.proofs.WidthFacts.{code128_widths}
 
 exact : (N k m : ℕ) → 1 ≤ m → m ≤ 4 → IsRun N (k * N) (k * m) m
 exact N k m low high =
@@ -84,14 +85,18 @@ odd_count CarrierEan8 n N h = ap (λ k. k % 2) h.0
 odd_count CarrierUpcE n N h = ap (λ k. k % 2) h.0
 odd_count CarrierGs1128 n N h = let k : ℕ = h.0 in let e = h.3 in omega arith
 
-fit_by : SymbolMeasures → (c : Carrier) (ms : List ℕ) → HasForm c ms → AreWidths ms → Fit c ms
-fit_by measures c ms form widths = let m = measures c ms form in record { candidate = m; odd = odd_count c (length ms) (sum ms) m; widths = widths; form = form }
+-- the laws of how many widths and modules symbols have
+abbrev Measured : Type 0
+Measured = SymbolMeasures × EanMeasures
 
-fit : SymbolMeasures → (label : Label) (ms : List ℕ) → IsLabelSymbol label ms → Fit (carrier_of label) ms
-fit measures (Ean13 g) ms h = fit_by measures CarrierEan13 ms (h.0, h.1) (ean_widths KindEan13 ms h.0 h.1)
-fit measures (UpcA g) ms h = fit_by measures CarrierEan13 ms (h.1.0, h.1.1) (ean_widths KindEan13 ms h.1.0 h.1.1)
-fit measures (Ean8 g) ms h = fit_by measures CarrierEan8 ms (h.0, h.1) (ean_widths KindEan8 ms h.0 h.1)
-fit measures (UpcE g) ms h = fit_by measures CarrierUpcE ms (h.0 ++ h.1 ∷ [], h.3) (ean_widths KindUpcE ms (h.0 ++ h.1 ∷ []) h.3)
+fit_by : Measured → (c : Carrier) (ms : List ℕ) → HasForm c ms → AreWidths ms → Fit c ms
+fit_by measures c ms form widths = let m = measures.0 c ms form in record { candidate = m; odd = odd_count c (length ms) (sum ms) m; widths = widths; form = form }
+
+fit : Measured → (label : Label) (ms : List ℕ) → IsLabelSymbol label ms → Fit (carrier_of label) ms
+fit measures (Ean13 g) ms h = fit_by measures CarrierEan13 ms (h.0, h.1) (measures.1 KindEan13 ms h.0 h.1).valid
+fit measures (UpcA g) ms h = fit_by measures CarrierEan13 ms (h.1.0, h.1.1) (measures.1 KindEan13 ms h.1.0 h.1.1).valid
+fit measures (Ean8 g) ms h = fit_by measures CarrierEan8 ms (h.0, h.1) (measures.1 KindEan8 ms h.0 h.1).valid
+fit measures (UpcE g) ms h = fit_by measures CarrierUpcE ms (h.0 ++ h.1 ∷ [], h.3) (measures.1 KindUpcE ms (h.0 ++ h.1 ∷ []) h.3).valid
 fit measures (Gs1128 l) ms h =
     let text : List ℕ = canonical l.list in
     let values : List ℕ = data_values text in
@@ -125,7 +130,7 @@ cell_row g s pos small odd widths fits =
     wide k pos (m ∷ ms) h = (times_left k m pos h.0.0, wide k pos ms h.1)
 
 -- a row with the dots of a bar row of a label's cell shows the label's symbol
-pub printed_shows : DotsDetermine → SymbolMeasures → (g : Cells) (label : Label) (s : Drawn) (runs : List ℕ) → IsGrid g → IsDrawn label s → FitsCell g s
+pub printed_shows : DotsDetermine → Measured → (g : Cells) (label : Label) (s : Drawn) (runs : List ℕ) → IsGrid g → IsDrawn label s → FitsCell g s
     → IsRow runs → dots_of runs ≡ bar_dots g s → Shows runs (carrier_of label) Forwards s.modules
 printed_shows one_row measures g label s runs grid drawn fits row dots =
     let ms : List ℕ = s.modules in
@@ -144,7 +149,7 @@ printed_shows one_row measures g label s runs grid drawn fits row dots =
     } in
     subst (λ rs. Shows rs (carrier_of label) Forwards ms) same shown
 
-pub bar_rows_show : DotsDetermine → SymbolMeasures → BarRowsShow
+pub bar_rows_show : DotsDetermine → Measured → BarRowsShow
 bar_rows_show one_row measures labels g sheets i cell y label sheet runs printed at within low high here row dots =
     let grid = printed.grid in
     let place : ℕ = i * cell_count g + cell in
@@ -167,7 +172,7 @@ spelled say (Gs1128 l) ms h =
     let values : List ℕ = data_values text in
     (105, values, mod103 105 values, h.drawn, ap row_text (sym ((say 105 (mod103 105 values) values ms text h.drawn).1 h.says)))
 
-pub bar_rows_answer : DotsDetermine → SymbolMeasures → ModulesSay → OneAnswer → BarRowsAnswer
+pub bar_rows_answer : DotsDetermine → Measured → ModulesSay → OneAnswer → BarRowsAnswer
 bar_rows_answer one_row measures say one labels g sheets i cell y label sheet runs year list printed at within low high here row dots elements =
     let shown = bar_rows_show one_row measures labels g sheets i cell y label sheet runs printed at within low high here row dots in
     let read : IsAnswer runs year (Read (carrier_of label) (record { year = year; list = list })) =

@@ -3,9 +3,7 @@ use Rattle.std.proofs.Common.{◌≡◌, ℕ, zero, suc, ◌*◌, ◌<◌, ◌�
 use Rattle.std.specs.List.{flat_map, list_all, AllByRecursion}
 use Rattle.std.proofs.lemmas.Bool.{and_parts, cases_eq, leb-true}
 use Rattle.std.proofs.lemmas.List.Sums.{sum_by-cons}
-use Rattle.ean_code.specs.Symbols.{IsEanSymbol, Kind}
 use Rattle.ean_code.specs.Widths.{AreWidths}
-use Rattle.ean_code.proofs.Drawn.{symbol_valid}
 use Rattle.code128_code.specs.Characters.{pattern, patterns, stop}
 use Rattle.code128_code.specs.Symbols.{IsCode128Symbol, characters_of}
 
@@ -51,9 +49,6 @@ each P cell one (x ∷ xs) h = AllByRecursion-append _ (cell x) (flat_map cell x
 
 joined : (xs ys : List ℕ) → AreWidths xs → AreWidths ys → AreWidths (xs ++ ys)
 joined xs ys h k = AllByRecursion-append _ xs ys h k
-
-pub ean_widths : (kind : Kind) (ms ds : List ℕ) → IsEanSymbol kind ms ds → AreWidths ms
-ean_widths kind ms ds e = subst AreWidths (sym e.widths) (symbol_valid kind ds e.count e.valid).2
 
 -- ---- Code 128
 

@@ -15,6 +15,7 @@ pub fn bar_rows_show()
     ensures { BarRowsShow }
 {
     dots_determine();
+    ean_code::measures();
     symbol_measures();
 }
 
@@ -24,6 +25,7 @@ pub fn bar_rows_answer()
     ensures { BarRowsAnswer }
 {
     dots_determine();
+    ean_code::measures();
     symbol_measures();
     modules_say();
     one_answer();

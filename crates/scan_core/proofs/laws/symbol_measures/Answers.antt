@@ -1,15 +1,16 @@
+use Rattle.ean_code.specs.Laws.{Measures as EanMeasures}
+use Rattle.ean_code.specs.Symbols.Kind.{Ean13 as KindEan13, Ean8 as KindEan8, UpcE as KindUpcE}
 use Rattle.scan_core.specs.declared.carrier.Carrier.TheVariants.{Ean13, Ean8, UpcE, Gs1128}
 use Rattle.scan_core.specs.Laws.{SymbolMeasures}
 use Rattle.code128_code.specs.Laws.{Measures}
-use Rattle.ean_code.proofs.Measures.{ean13_measures, ean8_measures, upce_measures}
 use Rattle.scan_core.proofs.ShownFacts.{code_measures}
 use Rattle.scan_core.proofs.laws.symbol_measures.Goals as goal
 
-law : Measures → SymbolMeasures
-law measures Ean13 ms form = ean13_measures ms form.0 form.1
-law measures Ean8 ms form = ean8_measures ms form.0 form.1
-law measures UpcE ms form = upce_measures ms form.0 form.1
-law measures Gs1128 ms form = code_measures measures ms form
+law : EanMeasures → Measures → SymbolMeasures
+law ean code Ean13 ms form = let m = ean KindEan13 ms form.0 form.1 in (m.count, m.total)
+law ean code Ean8 ms form = let m = ean KindEan8 ms form.0 form.1 in (m.count, m.total)
+law ean code UpcE ms form = let m = ean KindUpcE ms form.0 form.1 in (m.count, m.total)
+law ean code Gs1128 ms form = code_measures code ms form
 
 pub returns : goal.returns
-returns c = law c.measures.ensures
+returns c = law c.measures.ensures c.measures-2.ensures
