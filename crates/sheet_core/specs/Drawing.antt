@@ -85,7 +85,8 @@ IsSheetFault g labels (LabelWidth i) =
     × (FitsCell g s → ⊥)
 IsSheetFault g labels NoMemory = ⊥
 
--- why labels are not printed as images: the first that has no symbol or does not fit its cell; where all are printed, a growth or a write that failed
+-- why labels are not printed as images: the first that has no symbol or does not fit its cell; or, where each has one that fits, a growth that was
+-- refused or a write that failed
 abbrev pub IsPrintFault : Cells → List Label → PrintFault → Type 0
 IsPrintFault g labels (Sheet (LabelKind i)) = IsSheetFault g labels (LabelKind i)
 IsPrintFault g labels (Sheet (LabelWidth i)) = IsSheetFault g labels (LabelWidth i)

@@ -64,7 +64,7 @@ fn write_rows<W: Sink>(line: &[u8], count: u16, sink: &mut W) -> Result<(), Fail
     write_all(sink, &piece.as_slice()[..rest])
 }
 
-/// Writes the dot rows of a row of cells, each of which is made in `line`.
+/// Writes the dot rows of a row of cells. `line` is one of them, and what it holds before is of no account.
 fn write_band<W: Sink>(
     line: &mut [u8],
     labels: &[Label],
@@ -139,13 +139,13 @@ fn write_sheets<W: Sink>(
     Ok(())
 }
 
-/// Writes labels as PBM images of the sheets that they fill in a grid, the bytes that `write_pbm` writes
-/// of what `print_sheets` gives. It takes memory for one row of dots alone, and writes equal rows together,
-/// in pieces of at most 8,192 bytes.
+/// Writes labels as PBM images of the sheets that they fill in a grid (netpbm, pbm(5)): the bytes that
+/// `write_pbm` writes of what `print_sheets` gives. It takes memory for one row of dots alone, and writes
+/// equal rows together, in pieces of at most 8,192 bytes.
 ///
 /// All labels are looked at first, in their order, then the memory is taken, and then bytes go out. So
-/// after `LabelKind`, `LabelWidth`, both as of `print_sheets`, and `NoMemory` nothing was written; after
-/// `WriteFault` a front of the bytes went out. No labels write nothing.
+/// after `LabelKind` and `LabelWidth`, which are those of `print_sheets`, and after `NoMemory` nothing was
+/// written; after `WriteFault` a front of the bytes went out. Of no labels nothing is written.
 pub fn print_pbm<W: Sink>(
     alloc: Global,
     labels: &[Label],
