@@ -6,6 +6,8 @@ use Rattle.digits_core.specs.declared.source.InputFault.TheVariants as input
 use Rattle.sheet_core.specs.Faults.{pbm_fault_text, sheet_fault_text}
 use Rattle.sheet_core.specs.declared.fault.PbmFault.{PbmFault}
 use Rattle.sheet_core.specs.declared.fault.PbmFault.TheVariants as pbm
+use Rattle.sheet_core.specs.declared.fault.PrintFault.{PrintFault}
+use Rattle.sheet_core.specs.declared.fault.PrintFault.TheVariants as print
 use Rattle.sheet_core.specs.declared.fault.SheetFault.{SheetFault}
 use Rattle.sheet_core.specs.declared.fault.SheetFault.TheVariants as sheet
 use Rattle.hub_core.specs.Faults.{serve_fault_text}
@@ -70,6 +72,11 @@ abbrev pub of_sheets : SheetFault → CommandFault
 of_sheets (sheet.LabelKind i) = command.LabelKind i
 of_sheets (sheet.LabelWidth i) = command.LabelWidth i
 of_sheets sheet.NoMemory = command.NoMemory
+
+-- a fault of labels that are printed as images, as the command's
+abbrev pub of_prints : PrintFault → CommandFault
+of_prints (print.Sheet fault) = of_sheets fault
+of_prints print.WriteFault = failed_write
 
 -- a fault of images, as the command's
 abbrev pub of_images : PbmFault → CommandFault

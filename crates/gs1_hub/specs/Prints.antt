@@ -6,7 +6,6 @@ use Rattle.sheet_core.specs.Drawing.{ArePrinted, IsSheetFault, cell_count}
 use Rattle.sheet_core.specs.Grids.{Cells, IsGrid}
 use Rattle.sheet_core.specs.Labels.{IsPrintable}
 use Rattle.sheet_core.specs.pbm.Images.{pbm_of}
-use Rattle.sheet_core.specs.declared.fault.PrintFault.{PrintFault}
 use Rattle.sheet_core.specs.declared.fault.PrintFault.TheVariants as print
 use Rattle.sheet_core.specs.declared.fault.SheetFault.TheVariants as sheet
 use Rattle.sheet_core.specs.declared.label.Label.{Label}
@@ -15,7 +14,6 @@ use Rattle.line_core.specs.print.Labels.{label_lines}
 use Rattle.gs1_hub.specs.declared.fault.CommandFault.{CommandFault}
 use Rattle.gs1_hub.specs.declared.fault.CommandFault.TheVariants as command
 use Rattle.gs1_hub.specs.declared.options.PrintOptions.{PrintOptions}
-use Rattle.gs1_hub.specs.Faults.{failed_write, of_sheets}
 
 -- what is written of labels that are printed: their lines where these are asked for, else the images of their sheets
 abbrev pub IsPrinted : Cells → Bool → List Label → List ℕ → Type 0
@@ -33,8 +31,3 @@ IsUnprinted g labels (command.LabelWidth i) = IsSheetFault g labels (sheet.Label
 IsUnprinted g labels command.WriteFault = ⊤
 IsUnprinted g labels command.NoMemory = ⊤
 IsUnprinted g labels _ = ⊥
-
--- a fault of labels that are printed as images, as the command's
-abbrev pub of_prints : PrintFault → CommandFault
-of_prints (print.Sheet fault) = of_sheets fault
-of_prints print.WriteFault = failed_write

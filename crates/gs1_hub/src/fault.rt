@@ -1,16 +1,17 @@
 //! Why a command is refused as a whole.
 ghost use Rattle.std.specs.Prelude.{Some, ◌≡◌};
-ghost use Rattle.gs1_hub.specs.Faults.{bad_grid, command_fault_text, failed_write, no_memory, of_answers, of_images, of_records, of_sheets};
+ghost use Rattle.gs1_hub.specs.Faults.{bad_grid, command_fault_text, failed_write, no_memory, of_answers, of_images, of_prints, of_records, of_sheets};
 
 use digits_core::{Failed, InputFault};
 use hub_core::ServeFault;
 use line_core::{AnswerFault, RecordFault, RecordsFault};
-use sheet_core::{BadGrid, PbmFault, SheetFault, WriteFault};
+use sheet_core::{BadGrid, PbmFault, PrintFault, SheetFault, WriteFault};
 use std::alloc::AllocError;
 use std::fmt;
+use thiserror::Error;
 
 /// Why a command as a whole is refused.
-#[derive(Clone, Copy, Debug, PartialEq, Eq)]
+#[derive(Clone, Copy, Debug, PartialEq, Eq, Error)]
 pub enum CommandFault {
     /// A read of the input failed.
     ReadFault,
@@ -116,6 +117,17 @@ impl From<SheetFault> for CommandFault {
     }
 }
 
+impl From<PrintFault> for CommandFault {
+    ghost from_gives = { λ fault command. command ≡ of_prints fault };
+
+    fn from(fault: PrintFault) -> CommandFault {
+        match fault {
+            PrintFault::Sheet(fault) => CommandFault::from(fault),
+            PrintFault::WriteFault => CommandFault::WriteFault,
+        }
+    }
+}
+
 impl From<PbmFault> for CommandFault {
     ghost from_gives = { λ fault command. command ≡ of_images fault };
 
@@ -128,14 +140,6 @@ impl From<PbmFault> for CommandFault {
             PbmFault::ReadFault => CommandFault::ReadFault,
             PbmFault::NoMemory => CommandFault::NoMemory,
         }
-    }
-}
-
-impl From<WriteFault> for CommandFault {
-    ghost from_gives = { λ failed command. command ≡ failed_write };
-
-    fn from(_: WriteFault) -> CommandFault {
-        CommandFault::WriteFault
     }
 }
 

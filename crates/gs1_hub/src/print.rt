@@ -4,25 +4,14 @@ ghost use Rattle.std.specs.Io.KnownBytes.{Appends};
 ghost use Rattle.digits_core.specs.Bytes.{TookFront};
 ghost use Rattle.gs1_hub.specs.Commands.{Ran, print_command};
 ghost use Rattle.line_core.specs.Grids.{cells_of};
-ghost use Rattle.gs1_hub.specs.Prints.{IsPrinted, IsUnprinted, of_prints};
+ghost use Rattle.gs1_hub.specs.Prints.{IsPrinted, IsUnprinted};
 
 use crate::fault::CommandFault;
 use crate::options::PrintOptions;
 use digits_core::{Sink, Source, write_all};
 use line_core::{label_lines, read_labels};
-use sheet_core::{Grid, Label, PrintFault, check_labels, print_pbm};
+use sheet_core::{Grid, Label, check_labels, print_pbm};
 use std::alloc::Global;
-
-impl From<PrintFault> for CommandFault {
-    ghost from_gives = { λ fault command. command ≡ of_prints fault };
-
-    fn from(fault: PrintFault) -> CommandFault {
-        match fault {
-            PrintFault::Sheet(fault) => CommandFault::from(fault),
-            PrintFault::WriteFault => CommandFault::WriteFault,
-        }
-    }
-}
 
 /// Writes labels as they are asked for.
 fn write_labels<W: Sink>(

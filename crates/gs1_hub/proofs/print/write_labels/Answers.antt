@@ -15,7 +15,8 @@ use Rattle.sheet_core.specs.Labels.{IsPrintable}
 use Rattle.sheet_core.specs.pbm.Images.{pbm_of}
 use Rattle.sheet_core.specs.declared.label.Label.{Label}
 use Rattle.line_core.specs.Grids.{cells_of}
-use Rattle.gs1_hub.specs.Prints.{IsPrinted, of_prints}
+use Rattle.gs1_hub.specs.Faults.{of_prints}
+use Rattle.gs1_hub.specs.Prints.{IsPrinted}
 use Rattle.line_core.specs.print.Labels.{label_lines}
 use Rattle.gs1_hub.proofs.print.write_labels.Goals as goal
 
