@@ -2,7 +2,7 @@
 ghost use Rattle.std.specs.Prelude.{None, ◌≡◌};
 
 use code128_code::encode;
-use digits_core::{Failed, FromReader, Gtin, Source, ToWriter};
+use digits_core::{Failed, FromReader, Gtin, Sink, Source, ToWriter};
 use element_core::{Elements, Year};
 use scan_core::{Answer, Carrier, Runs, read_row};
 use sheet_core::{
@@ -59,6 +59,41 @@ impl<'a> Source for Breaking<'a> {
             }
             _ => Ok(0),
         }
+    }
+}
+
+/// Takes a byte at a time, as many as it has room for, and then fails.
+#[derive(Drop)]
+struct Narrow {
+    taken: Vec<u8>,
+    room: usize,
+    has_failed: bool,
+}
+
+impl Narrow {
+    fn new(alloc: Global, room: usize) -> Narrow {
+        Narrow {
+            taken: Vec::new(alloc),
+            room,
+            has_failed: false,
+        }
+    }
+}
+
+impl Sink for Narrow {
+    ghost taken = { λ s. None };
+
+    ghost failed = { λ s. s.has_failed };
+
+    fn write(&mut self, bytes: &[u8]) -> Result<usize, Failed> {
+        if !self.has_failed && bytes.is_empty() {
+            return Ok(0);
+        }
+        if self.has_failed || self.taken.len() >= self.room || self.taken.push(bytes[0]).is_err() {
+            self.has_failed = true;
+            return Err(Failed);
+        }
+        Ok(1)
     }
 }
 
@@ -393,11 +428,10 @@ fn writes_fronts_of_files(rt: HostRuntime) -> Result<(), Fail> {
     let alloc = rt.alloc();
     let sheets = read(alloc, PRINTED).ok().ok_or("read")?;
     for room in 0..55 {
-        let mut file = [0; 54];
-        let mut sink = ToWriter::new(&mut file[..room]);
+        let mut sink = Narrow::new(alloc, room);
         let wrote = write_pbm(sheets.as_slice(), &mut sink);
         assert_eq!(rt; wrote.is_ok(), room == 54);
-        assert_eq!(rt; &file[..room], &PRINTED[..room]);
+        assert_eq!(rt; sink.taken.as_slice(), &PRINTED[..room]);
     }
     Ok(())
 }
