@@ -3,3 +3,4 @@ pub mod FeedCounts
 pub mod FeedFacts
 pub mod FieldFaults
 pub mod FieldWords
+pub mod FirstWidth

@@ -1,10 +1,10 @@
 -- Rows and their dots.
-use Rattle.std.proofs.Common.{◌≡◌, ℕ, zero, suc, ◌-◌, ◌%◌, ◌<◌, ◌≤◌, ◌==◌, ◌&&◌, nat_le, Bool, true, false, List, [], ◌∷◌, ◌++◌, length, take, drop, sum, replicate, Some, None, Contains, refl, subst, arith, if◌then◌else◌}
+use Rattle.std.proofs.Common.{◌≡◌, ℕ, zero, suc, ◌-◌, ◌%◌, ◌<◌, ◌≤◌, ◌==◌, ◌&&◌, nat_le, Bool, true, false, List, [], ◌∷◌, ◌++◌, length, take, drop, sum, replicate, Some, None, Contains, length-drop, refl, subst, arith, if◌then◌else◌}
 use Rattle.std.specs.List.{AllByRecursion, list_all}
 use Rattle.std.proofs.lemmas.Bool.{and_parts, le-leb, leb-true}
 use Rattle.std.specs.Cmp.Derive.{both_true}
 use Rattle.std.proofs.lemmas.Bool.Decides.{nat_tests}
-use Rattle.std.proofs.lemmas.List.{append-nil}
+use Rattle.std.proofs.lemmas.List.{append-nil, length-take-le}
 use Rattle.std.proofs.lemmas.List.Elements.{Contains-append_right}
 use Rattle.std.proofs.lemmas.List.Sums.{sum_by-cons, sum_by-take-le, sum_by-take-drop}
 use Rattle.scan_core.specs.declared.fault.RunFault.TheVariants.{BadRuns, TooWide}
@@ -80,3 +80,25 @@ pub has_no_dark : (ws : List ℕ) → length ws ≡ 1 → Contains (dots_of ws) 
 has_no_dark [] e h = omega arith
 has_no_dark (a ∷ []) e h = light_run a (rw append-nil at h)
 has_no_dark (a ∷ b ∷ ws) e h = absurd (omega arith)
+
+-- runs that each have a dot have as many dots at least
+dots_each : (ws : List ℕ) → list_all (λ w. nat_le 1 w) ws ≡ true → length ws ≤ sum ws
+dots_each [] h = omega arith
+dots_each (w ∷ ws) h =
+    let parts = and_parts (nat_le 1 w) (list_all (λ w. nat_le 1 w) ws) h in
+    let rest = dots_each ws parts.1 in
+    let first = leb-true 1 w parts.0 in
+    omega (arith, rest, first, sum_by-cons (λ x. x) w ws)
+
+-- so 65,538 runs, of which the inner ones have a dot each, are too wide
+pub many_runs : (ws : List ℕ) → list_all (λ w. nat_le 1 w) (inner ws) ≡ true → 65537 < length ws → 65535 < sum ws
+many_runs ws h many =
+    let dots = dots_each (inner ws) h in
+    omega (arith, dots, inner_le ws, length-take-le (length ws - 2) (drop 1 ws) (omega (arith, length-drop 1 ws)))
+
+-- runs that are odd in number, with a dot in each inner one, and too wide have that fault
+pub too_wide : (ws : List ℕ) → (length ws % 2 ≡ 0 → ⊥) → list_all (λ w. nat_le 1 w) (inner ws) ≡ true → 65535 < sum ws → Some TooWide ≡ runs_fault ws
+too_wide ws odd dots wide =
+    let odd_number : (length ws % 2 == 1) ≡ true = grind (arith, nat_tests) in
+    let large : nat_le (sum ws) 65535 ≡ false = grind (arith, nat_tests) in
+    rw (odd_number, dots, large) refl

@@ -11,6 +11,10 @@ use std::marker::Model;
 /// The dots of the widest row.
 const MOST_DOTS: u32 = 65_535;
 
+/// The runs of a row that has this many dots and a light end of no dot on each side: a row has no
+/// more.
+const MOST_RUNS: usize = 65_537;
+
 /// A row: the widths of its runs in dots, light and dark in turn, from the light end at its left to
 /// the one at its right. An end may be 0, each run between has a dot, and the row at most 65,535.
 #[derive(Debug, Drop)]
@@ -39,25 +43,28 @@ pub(crate) fn inner(widths: &[u16]) -> &[u16]
     }
 }
 
-/// Whether the widths are more than 65,535 dots together.
-fn is_too_wide(widths: &[u16]) -> bool
-    ensures { IsTrue result ↔ (65535 < sum widths.now) }
+/// How many dots the widths are together.
+fn total(widths: &[u16]) -> u32
+    requires { length widths.now ≤ 65537 }
+    ensures { result ≡ sum widths.now }
 {
     let mut total = 0;
     for width in widths {
         total += u32::from(*width);
-        if total > MOST_DOTS {
-            return true;
-        }
     }
-    false
+    total
 }
 
 /// Whether each run has a dot.
 fn have_dots(widths: &[u16]) -> bool
     ensures { result ≡ list_all (λ width. nat_le 1 width) widths.now }
 {
-    widths.iter().all(|width| *width >= 1)
+    // Each run is looked at, since a loop without an early end reads many at once.
+    let mut each = true;
+    for width in widths {
+        each &= *width >= 1;
+    }
+    each
 }
 
 /// Why the widths are no row.
@@ -67,7 +74,7 @@ fn runs_fault(widths: &[u16]) -> Option<RunFault>
     if widths.len() % 2 == 0 || !have_dots(inner(widths)) {
         return Some(RunFault::BadRuns);
     }
-    if is_too_wide(widths) {
+    if widths.len() > MOST_RUNS || total(widths) > MOST_DOTS {
         return Some(RunFault::TooWide);
     }
     None
@@ -101,6 +108,21 @@ impl Runs {
             return Err(RunFault::NoMemory);
         };
         Ok(Runs { widths })
+    }
+
+    /// The row that keeps these widths in dots, the first and the last light. It takes no memory.
+    ///
+    /// Of two faults the first is answered: `BadRuns`, then `TooWide`.
+    pub fn from_widths(widths: Vec<u16>) -> Result<Runs, RunFault>
+        ensures ok { IfOk result (λ r. r ≡ widths.items) }
+        ensures taken { OnOk result (runs_fault widths.items ≡ None) }
+        ensures refused { IfErr result (λ f. runs_fault widths.items ≡ Some f) }
+        ensures memory { result ≢ Err RunFault.NoMemory }
+    {
+        match runs_fault(widths.as_slice()) {
+            None => Ok(Runs { widths }),
+            Some(fault) => Err(fault),
+        }
     }
 
     /// The row of `width` dots of packed bytes, from the dot `from` on. A byte has its first dot in

@@ -1,5 +1,5 @@
 -- Rows as they are spelled in a field: widths in dots, with one space between them.
-use Rattle.std.specs.Prelude.{◌==◌, ◌&&◌, nat_le, ℕ, Bool, List, Option, Some, None, length, map, if◌then◌else◌}
+use Rattle.std.specs.Prelude.{◌≡◌, ◌≢◌, ◌==◌, ◌&&◌, nat_le, ℕ, Bool, List, [], ◌∷◌, Option, true, Some, None, length, map, if◌then◌else◌}
 use Rattle.std.specs.Char.{is_ascii_digit}
 use Rattle.std.specs.List.{list_all, slice_split}
 use Rattle.std.specs.Str.Parse.{digits_value}
@@ -28,6 +28,15 @@ are_widths words = list_all (is_number 5) words
 -- the widths that a field shows
 abbrev pub widths_in : List ℕ → List ℕ
 widths_in field = map (digits_value 10) (words_of field)
+
+-- this width begins the text, a word of one to five digits, and the words after it, if there are any, are those of the rest
+pub record IsFirstWidth (text : List ℕ) (width : ℕ) (rest : List ℕ) : Type 0 where
+  pub word : List ℕ
+  pub others : List (List ℕ)
+  pub words : words_of text ≡ word ∷ others
+  pub number : is_number 5 word ≡ true
+  pub value : width ≡ digits_value 10 word
+  pub after : others ≢ [] → others ≡ words_of rest
 
 -- a fault of the widths, as the record's
 abbrev pub of_runs : Option RunFault → Option RecordFault

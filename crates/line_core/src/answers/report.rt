@@ -1,13 +1,17 @@
 //! The lines that answer rows.
-ghost use Rattle.std.specs.Prelude.{◌≡◌, ◌++◌, List, IfOk, OnOk, map, string_bytes};
+ghost use Rattle.std.specs.Prelude.{[], ◌≡◌, ◌∷◌, ◌++◌, List, IfOk, OnOk, decimal, map, string_bytes};
 ghost use Rattle.scan_core.specs.declared.answer.Answer.{Answer};
 ghost use Rattle.hub_core.specs.Laws.{AreAnswersOf};
-ghost use Rattle.line_core.specs.answers.Reports.{IsReportOf, identifier, line_of, lines_from};
+ghost use Rattle.line_core.specs.answers.Reports.{IsReportOf, answer_text, identifier, line_of, lines_from};
 
+use itoa::Buffer;
 use lane_core::Delivery;
 use scan_core::{Answer, Carrier};
 use std::alloc::{AllocError, Global};
 use std::fmt::Write;
+
+/// As many bytes as a line usually has at most, and so many are reserved for each.
+const USUAL_LENGTH: usize = 40;
 
 /// The symbology identifier of a carrier.
 fn identifier(carrier: Carrier) -> &'static str
@@ -17,6 +21,29 @@ fn identifier(carrier: Carrier) -> &'static str
         Carrier::Ean13 | Carrier::UpcE => "]E0",
         Carrier::Ean8 => "]E4",
         Carrier::Gs1128 => "]C1",
+    }
+}
+
+/// Appends a number in decimal digits, and a space.
+fn push_number(text: &mut String, number: usize) -> Result<(), AllocError>
+    ensures { OnOk result (string_bytes text.new ≡ string_bytes text.old ++ decimal number ++ (32 ∷ [])) }
+{
+    let mut digits = Buffer::new();
+    text.push_str(digits.format(number))?;
+    text.push(' ')
+}
+
+/// Appends an answer.
+fn push_answer(text: &mut String, answer: &Answer) -> Result<(), AllocError>
+    ensures { OnOk result (string_bytes text.new ≡ string_bytes text.old ++ answer_text answer.now) }
+{
+    match answer {
+        Answer::Read { carrier, elements } => {
+            text.push_str(identifier(*carrier))?;
+            text.push(' ')?;
+            text.push_str(elements.hri().as_str())
+        }
+        Answer::Refused(fault) => write!(text, "{fault}"),
     }
 }
 
@@ -30,15 +57,10 @@ fn push_line(
     ensures { OnOk result (string_bytes text.new
         ≡ string_bytes text.old ++ line_of lane number answer.now) }
 {
-    match answer {
-        Answer::Read { carrier, elements } => {
-            let id = identifier(*carrier);
-            let line = elements.hri();
-            let elements = line.as_str();
-            writeln!(text, "{lane} {number} {id} {elements}")
-        }
-        Answer::Refused(fault) => writeln!(text, "{lane} {number} {fault}"),
-    }
+    push_number(text, lane)?;
+    push_number(text, number)?;
+    push_answer(text, answer)?;
+    text.push('\n')
 }
 
 /// Appends the lines of a lane.
@@ -46,6 +68,7 @@ fn push_lane(text: &mut String, lane: usize, list: &[Delivery]) -> Result<(), Al
     ensures { OnOk result ((answers : List Answer) × AreAnswersOf list.now answers
         × (string_bytes text.new ≡ string_bytes text.old ++ lines_from lane 0 answers)) }
 {
+    text.reserve(list.len().saturating_mul(USUAL_LENGTH))?;
     'deliveries: for (number, delivery) in list.iter().enumerate() {
         push_line(text, lane, number, delivery.answer())?;
     }

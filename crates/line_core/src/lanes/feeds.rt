@@ -27,13 +27,8 @@ fn lane_in(field: &[u8], lanes: u8) -> Option<u8>
     }
 }
 
-/// The lane of a record and its row. `widths` is room to work in.
-fn read_record(
-    alloc: Global,
-    lanes: u8,
-    fields: &ByteRecord,
-    widths: &mut Vec<u16>,
-) -> Result<(u8, Runs), RecordRefusal>
+/// The lane of a record and its row.
+fn read_record(alloc: Global, lanes: u8, fields: &ByteRecord) -> Result<(u8, Runs), RecordRefusal>
     ensures row { IfOk result (λ row. lanes_meaning lanes (fields_of fields.now) (Ok row)) }
     ensures low { IfOk result (λ row. row.0 < lanes) }
     ensures refused { (f : RecordFault) → result ≡ Err (RecordRefusal.Record f)
@@ -41,7 +36,7 @@ fn read_record(
 {
     let (first, second) = two_fields(fields).ok_or(RecordFault::Csv)?;
     let lane = lane_in(first, lanes).ok_or(RecordFault::BadLane)?;
-    let runs = read_runs(alloc, second, widths)?;
+    let runs = read_runs(alloc, second)?;
     Ok((lane, runs))
 }
 
@@ -49,8 +44,6 @@ fn read_record(
 #[derive(Drop)]
 struct Feeds {
     rows: Vec<Vec<Runs>>,
-    // Room for the widths of a row.
-    widths: Vec<u16>,
 }
 
 impl Feeds {
@@ -63,10 +56,7 @@ impl Feeds {
         for _ in 0..lanes {
             rows.push(Vec::new(alloc))?;
         }
-        Ok(Feeds {
-            rows,
-            widths: Vec::new(alloc),
-        })
+        Ok(Feeds { rows })
     }
 }
 
@@ -88,7 +78,7 @@ impl Intake for LaneRecords {
         ≡ feeds_of records.lanes rows };
 
     fn take(&self, feeds: &mut Feeds, fields: &ByteRecord) -> Result<(), RecordRefusal> {
-        let (lane, runs) = read_record(self.alloc, self.lanes, fields, &mut feeds.widths)?;
+        let (lane, runs) = read_record(self.alloc, self.lanes, fields)?;
         if feeds.rows[usize::from(lane)].push(runs).is_err() {
             return Err(RecordRefusal::NoMemory);
         }

@@ -1,9 +1,9 @@
 //! Numbers and widths as fields spell them.
-ghost use Rattle.std.specs.Prelude.{None, Some, ◌≡◌, ◌≤◌, true, false, nat_lt, length, ◌<◌, IfOk, IsTrue, OnOk, map, min};
+ghost use Rattle.std.specs.Prelude.{None, Some, ◌≡◌, ◌≤◌, true, false, nat_lt, length, ◌<◌, IfNone, IfOk, IfSome, IsTrue, OnOk, map, min};
 ghost use Rattle.std.specs.List.{list_all, list_any};
 ghost use Rattle.std.specs.Char.{is_ascii_digit};
 ghost use Rattle.std.specs.Str.Parse.{digits_value};
-ghost use Rattle.line_core.specs.lanes.Widths.{are_widths, field_fault, number_in, widths_in, words_of};
+ghost use Rattle.line_core.specs.lanes.Widths.{IsFirstWidth, are_widths, field_fault, number_in, widths_in, words_of};
 ghost use Rattle.line_core.specs.declared.input.fault.RecordFault.{RecordFault};
 
 use crate::input::fault::{RecordFault, RecordRefusal};
@@ -42,38 +42,90 @@ pub fn number_in(text: &[u8], most: usize) -> Option<u32>
     Some(value_of(text))
 }
 
-/// Puts the widths that a field shows into `widths`, each above 65,535 as 65,535, and says whether
-/// there is one such.
-fn read_widths(field: &[u8], widths: &mut Vec<u16>) -> Result<bool, RecordRefusal>
+/// The width that begins a text, up to its first space or its end, and the text after this space:
+/// none where the text has no space.
+fn long_width(text: &[u8]) -> Option<(u32, &[u8])>
+    ensures some { IfSome result (λ width. IsFirstWidth text.now width.0 width.1.now) }
+    ensures small { IfSome result (λ width. width.0 < 100000) }
+    ensures none { IfNone result (are_widths (words_of text.now) ≡ false) }
+{
+    let mut width = 0;
+    'digits: for (length, byte) in text.iter().enumerate() {
+        if *byte == b' ' && length > 0 {
+            return Some((width, &text[length + 1..]));
+        }
+        if length == 5 || !byte.is_ascii_digit() {
+            return None;
+        }
+        width = width * 10 + u32::from(*byte - b'0');
+    }
+    if text.is_empty() {
+        return None;
+    }
+    Some((width, &[]))
+}
+
+/// The width that begins a text, as `long_width` reads it, and by a short way where it is one digit
+/// before a space, as most are.
+fn first_width(text: &[u8]) -> Option<(u32, &[u8])>
+    ensures some { IfSome result (λ width. IsFirstWidth text.now width.0 width.1.now) }
+    ensures small { IfSome result (λ width. width.0 < 100000) }
+    ensures none { IfNone result (are_widths (words_of text.now) ≡ false) }
+{
+    match text {
+        [digit, space, rest @ ..] if *space == b' ' && digit.is_ascii_digit() => {
+            Some((u32::from(*digit - b'0'), rest))
+        }
+        _ => long_width(text),
+    }
+}
+
+/// How many words the spaces of a field make.
+fn count_words(field: &[u8]) -> usize
+    ensures { result ≡ length (words_of field.now) }
+{
+    let mut spaces = 0;
+    for byte in field {
+        spaces += usize::from(*byte == b' ');
+    }
+    spaces + 1
+}
+
+/// The widths that a field shows, each above 65,535 as 65,535, in a list with room for just these,
+/// and whether there is one such.
+fn read_widths(alloc: Global, field: &[u8]) -> Result<(Vec<u16>, bool), RecordRefusal>
     ensures words { OnOk result (are_widths (words_of field.now) ≡ true) }
-    ensures widths { OnOk result (widths.new.items ≡ map (min 65535) (widths_in field.now)) }
-    ensures wide { IfOk result (λ is_wide. is_wide ≡ list_any (nat_lt 65535) (widths_in field.now)) }
+    ensures widths { IfOk result (λ read. read.0.items ≡ map (min 65535) (widths_in field.now)) }
+    ensures wide { IfOk result (λ read. read.1 ≡ list_any (nat_lt 65535) (widths_in field.now)) }
     ensures refused { (f : RecordFault) → result ≡ Err (RecordRefusal.Record f)
         → field_fault field.now ≡ Some f }
 {
-    widths.clear();
+    let count = count_words(field);
+    let Ok(mut widths) = Vec::with_capacity(alloc, count) else {
+        return Err(RecordRefusal::NoMemory);
+    };
+    let mut rest = field;
     let mut is_wide = false;
-    'words: for word in field.split(|byte| *byte == b' ') {
-        let Some(width) = number_in(word, 5) else {
+    'words: for _ in 0..count {
+        let Some((width, after)) = first_width(rest) else {
             return Err(RecordRefusal::Record(RecordFault::BadRuns));
         };
-        is_wide = is_wide || width > 65_535;
-        if widths.push(width.min(65_535) as u16).is_err() {
-            return Err(RecordRefusal::NoMemory);
-        }
+        is_wide |= width > 65_535;
+        widths.push_reserved(width.min(65_535) as u16);
+        rest = after;
     }
-    Ok(is_wide)
+    Ok((widths, is_wide))
 }
 
-/// The row that a field shows. `widths` is room to work in.
-pub fn read_runs(alloc: Global, field: &[u8], widths: &mut Vec<u16>) -> Result<Runs, RecordRefusal>
+/// The row that a field shows.
+pub fn read_runs(alloc: Global, field: &[u8]) -> Result<Runs, RecordRefusal>
     ensures ok { IfOk result (λ runs. runs ≡ widths_in field.now) }
     ensures taken { OnOk result (field_fault field.now ≡ None) }
     ensures refused { (f : RecordFault) → result ≡ Err (RecordRefusal.Record f)
         → field_fault field.now ≡ Some f }
 {
-    let is_wide = read_widths(field, widths)?;
-    match Runs::of_widths(alloc, widths.as_slice()) {
+    let (widths, is_wide) = read_widths(alloc, field)?;
+    match Runs::from_widths(widths) {
         Ok(runs) => {
             if is_wide {
                 Err(RecordRefusal::Record(RecordFault::TooWide))
@@ -83,6 +135,6 @@ pub fn read_runs(alloc: Global, field: &[u8], widths: &mut Vec<u16>) -> Result<R
         }
         Err(RunFault::BadRuns) => Err(RecordRefusal::Record(RecordFault::BadRuns)),
         Err(RunFault::TooWide) => Err(RecordRefusal::Record(RecordFault::TooWide)),
-        Err(RunFault::NoMemory) => Err(RecordRefusal::NoMemory),
+        Err(RunFault::NoMemory) => unreachable!(),
     }
 }
