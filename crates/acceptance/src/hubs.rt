@@ -3,9 +3,17 @@
 use crate::rows::{EAN8, EAN13, GS1_128, row};
 use crate::station::{Station, is_answer};
 use element_core::Year;
-use hub_core::{Collected, Handed, Hub, HubFault, Shape, Worked};
-use scan_core::Carrier;
+use hub_core::{Collected, Handed, Hub, HubFault, Shape, SubmitFault, Worked};
+use lane_core::Ticket;
+use scan_core::{Carrier, Runs};
+use std::sync::Wait;
 use std::test::Fail;
+
+/// How many lanes and workers a hub has at most.
+const MOST: u8 = 16;
+
+/// How often a row is submitted before the test gives up.
+const TRIES: u32 = 100;
 
 /// A shape whose lanes and workers are as many.
 fn shape(count: u8, capacity: u16, limit: u32) -> Shape {
@@ -149,6 +157,68 @@ fn hubs_of_each_size_answer_each_lane(rt: HostRuntime) -> Result<(), Fail> {
             assert_eq!(rt; list.len(), 2);
             assert!(rt; is_answer(list.get(0), lane as u8, 1, Carrier::Ean8));
             assert!(rt; is_answer(list.get(1), lane as u8, 2, Carrier::Gs1128));
+        }
+    }
+    Ok(())
+}
+
+/// One round of the largest hub: every worker works once, one delivery is collected, and each lane is
+/// handed one.
+fn turn<R: Wait>(rt: &R, hub: &mut Station) -> Result<(), Fail> {
+    for worker in 0..MOST {
+        hub.work(rt, usize::from(worker))?;
+    }
+    hub.collect(rt);
+    for lane in 0..MOST {
+        hub.hand(lane)?;
+    }
+    Ok(())
+}
+
+/// The lane's ticket for the row, which it submits again after a round while the queue is full, and how
+/// many rounds that were.
+fn submitted<R: Wait>(
+    rt: &R,
+    hub: &mut Station,
+    lane: u8,
+    mut row: Runs,
+) -> Result<(Ticket, u32), Fail> {
+    for rounds in 0..TRIES {
+        match hub.offer(rt, usize::from(lane), row)? {
+            Ok(ticket) => return Ok((ticket, rounds)),
+            Err(SubmitFault::Full(back)) => row = back,
+            Err(SubmitFault::Spent(_)) => return Err(Fail::from("spent")),
+        }
+        turn(rt, hub)?;
+    }
+    Err(Fail::from("full"))
+}
+
+#[test]
+fn the_largest_hub_with_the_smallest_queues_answers_each_row(rt: HostRuntime) -> Result<(), Fail> {
+    let alloc = rt.alloc();
+    for asks_again in [false, true] {
+        let mut hub = Station::new(&rt, alloc, shape(MOST, 1, 3))?;
+        for lane in 0..MOST {
+            for (number, widths) in [(0, EAN13), (1, EAN8), (2, GS1_128)] {
+                let (ticket, rounds) = submitted(&rt, &mut hub, lane, row(alloc, widths)?)?;
+                assert_eq!(rt; ticket, Ticket { lane, number });
+                assert_eq!(rt; rounds > 0, ticket != Ticket { lane: 0, number: 0 });
+            }
+        }
+        if asks_again {
+            for lane in 0..MOST {
+                let told = hub.submit(&rt, alloc, usize::from(lane), row(alloc, EAN13)?)?;
+                assert_eq!(rt; told.as_str(), "refused 35 Spent 61");
+            }
+        }
+        let lists = hub.close(alloc)?.settle(&rt, alloc)?;
+        assert_eq!(rt; lists.len(), usize::from(MOST));
+        for (list, lane) in lists.iter().zip(0..MOST) {
+            assert_eq!(rt; list.len(), 3);
+            assert!(rt; is_answer(list.get(0), lane, 0, Carrier::Ean13));
+            assert!(rt; is_answer(list.get(1), lane, 1, Carrier::Ean8));
+            assert!(rt; is_answer(list.get(2), lane, 2, Carrier::Gs1128));
         }
     }
     Ok(())

@@ -73,8 +73,20 @@ impl Station {
         }
     }
 
-    /// What becomes of the row that this lane submits: its ticket, or why it comes back, and how many
-    /// runs it has.
+    /// What becomes of the row that this lane submits.
+    pub fn offer<R: Wait>(
+        &mut self,
+        rt: &R,
+        lane: usize,
+        row: Runs,
+    ) -> Result<Result<Ticket, SubmitFault>, Fail> {
+        if lane >= self.lanes.len() {
+            return Err(Fail::from("lane"));
+        }
+        Ok(self.hub.submit(rt, &mut self.lanes[lane], row))
+    }
+
+    /// The same in words: its ticket, or why it comes back, and how many runs it has.
     pub fn submit<R: Wait>(
         &mut self,
         rt: &R,
@@ -82,10 +94,7 @@ impl Station {
         lane: usize,
         row: Runs,
     ) -> Result<String, Fail> {
-        if lane >= self.lanes.len() {
-            return Err(Fail::from("lane"));
-        }
-        match self.hub.submit(rt, &mut self.lanes[lane], row) {
+        match self.offer(rt, lane, row)? {
             Ok(Ticket { lane, number }) => Ok(format!(in alloc; "{lane}/{number}")?),
             Err(fault) => {
                 let text = format!(in alloc; "{fault}")?;

@@ -3,6 +3,7 @@
 mod checks;
 mod fakes;
 mod gates;
+mod hostile;
 mod numbers;
 mod prints;
 mod rows;

@@ -2,7 +2,7 @@ use Rattle.std.proofs.lemmas.List.{length-set}
 use Rattle.std.proofs.Common.{ap, ◌∙◌}
 use Rattle.hub_core.specs.Lanes.{lane_of}
 use Rattle.acceptance.proofs.StationFacts.{lane_used}
-use Rattle.acceptance.proofs.station.Station.submit.Goals as goal
+use Rattle.acceptance.proofs.station.Station.offer.Goals as goal
 
 pub invariant_of-self-2 : goal.invariant_of-self-2
 invariant_of-self-2 g c =
