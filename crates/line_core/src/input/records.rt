@@ -58,25 +58,29 @@ fn read_records<I: Intake>(
         × I.makes intake.now items made.new) }
     ensures refused { IfErr result (NamesFirst (I.means intake.now) (records_of bytes.now)) }
 {
-    let reader = ReaderBuilder::new()
+    let mut reader = ReaderBuilder::new()
         .has_headers(false)
         .flexible(true)
         .from_reader(alloc, bytes);
-    let mut index = 0usize;
-    'records: for next in reader.into_byte_records() {
-        let record = match next {
-            Ok(record) => record,
+    // One record has each in turn, so that its room is taken once.
+    let mut record = ByteRecord::new(alloc);
+    'records: for index in 0..usize::MAX {
+        let is_found = match reader.read_byte_record(&mut record) {
+            Ok(is_found) => is_found,
             Err(error) => match error.into_kind() {
                 ErrorKind::OutOfMemory | ErrorKind::Io(_) => return Err(RecordsFault::NoMemory),
                 _ => unreachable!(),
             },
         };
+        if !is_found {
+            return Ok(());
+        }
         match intake.take(made, &record) {
-            Ok(()) => index += 1,
+            Ok(()) => {}
             Err(refusal) => return Err(refusal.at(index)),
         }
     }
-    Ok(())
+    unreachable!()
 }
 
 /// Takes the records that a source gives.

@@ -19,14 +19,10 @@ records-init g c =
     let fr = c.from_reader-reader.ensures in
     let flexible = c.flexible.ensures in
     let named = c.has_headers.ensures in
-    let start = c.into_iter-next-iterator.ensures.into_iter_gives ∙ refl in
-    let rdr = c.into_byte_records-next-items.ensures.rdr in
-    let left = c.into_byte_records-next-items.ensures.left in
-    rw (start, rdr) record {
+    record {
       plain = rw (flexible, named) at fr.trim ∙ c.new.ensures.trim;
       ready = inr (inr (rw (flexible, named) at fr.has_headers, fr.headers));
       flexible = rw flexible at fr.flexible;
-      turns = left;
       config = rw (flexible, named) at fr.config ∙ c.new.ensures.config;
       rest = strip_bom c.args.bytes.now;
       rows = [];
@@ -47,35 +43,25 @@ named means index rows refusal.NoMemory why = tt
 pub returns-in-Err-take-clause-refused : goal.returns-in-Err-take-clause-refused
 returns-in-Err-take-clause-refused g c =
     let inv = c.records.invariant in
-    let steps = rw (c.in-Some.is, c.in-Ok.is) at (c.next.ensures.steps inv.turns inv.plain) in
-    let s = steps.0 inv.ready in
-    let fields = fields_of c.in-Ok.record in
-    let more = rows-more (λ (s : Bor (List ℕ)). Some s.now) c.records.next-iterator.rdr c.next.new.self.rdr fields default_config st.StartRecord (strip_bom c.args.bytes.now) inv.rest inv.rows inv.config inv.source inv.reached s.0 in
-    let front = are_front default_config c.next.new.self.rdr.state (strip_bom c.args.bytes.now) more.0 (inv.rows ++ (fields ∷ [])) more.2 in
+    let fields = fields_of c.read_byte_record.new.row in
+    let s = rw c.if-not-is_found.false at (c.in-Ok.ensures.reads inv.plain inv.ready) in
+    let more = rows-more (λ (s : Bor (List ℕ)). Some s.now) c.records.reader c.read_byte_record.new.self fields default_config st.StartRecord (strip_bom c.args.bytes.now) inv.rest inv.rows inv.config inv.source inv.reached s in
+    let front = are_front default_config c.read_byte_record.new.self.state (strip_bom c.args.bytes.now) more.0 (inv.rows ++ (fields ∷ [])) more.2 in
     rw c.at.ensures (named (g.I.Intake.means c.args.intake.now) c.records.index (records_of c.args.bytes.now) c.in-Err-take.refusal (λ f is.
     first_at (g.I.Intake.means c.args.intake.now) inv.rows inv.items fields front.0 (records_of c.args.bytes.now) c.records.index f front.1 inv.index inv.taken
     (c.in-Err-take.ensures.refused f (ap (λ (r : RecordRefusal). Err r) is))))
 
-pub overflow_add-index : goal.overflow_add-index
-overflow_add-index g c =
-    let inv = c.records.invariant in
-    let few = reached_few default_config inv.rows st.StartRecord c.records.next-iterator.rdr.state (strip_bom c.args.bytes.now) inv.rest inv.reached in
-    let short = stripped_short c.args.bytes.now in
-    omega (arith, few, short, inv.index, c.requires.few)
-
 pub records-preserved : goal.records-preserved
 records-preserved g c =
     let inv = c.records.invariant in
-    let steps = rw (c.in-Some.is, c.in-Ok.is) at (c.next.ensures.steps inv.turns inv.plain) in
-    let s = steps.0 inv.ready in
-    let fields = fields_of c.in-Ok.record in
-    let more = rows-more (λ (s : Bor (List ℕ)). Some s.now) c.records.next-iterator.rdr c.next.new.self.rdr fields default_config st.StartRecord (strip_bom c.args.bytes.now) inv.rest inv.rows inv.config inv.source inv.reached s.0 in
+    let fields = fields_of c.read_byte_record.new.row in
+    let s = rw c.if-not-is_found.false at (c.in-Ok.ensures.reads inv.plain inv.ready) in
+    let more = rows-more (λ (s : Bor (List ℕ)). Some s.now) c.records.reader c.read_byte_record.new.self fields default_config st.StartRecord (strip_bom c.args.bytes.now) inv.rest inv.rows inv.config inv.source inv.reached s in
     record {
-      plain = s.0.3 ∙ inv.plain;
-      ready = inl s.1;
-      flexible = steps.3 ∙ inv.flexible;
-      turns = s.2;
-      config = s.0.2 ∙ inv.config;
+      plain = s.3 ∙ inv.plain;
+      ready = inl (c.in-Ok.ensures.ready inv.plain);
+      flexible = c.in-Ok.ensures.flexible ∙ inv.flexible;
+      config = s.2 ∙ inv.config;
       rest = more.0;
       rows = inv.rows ++ (fields ∷ []);
       source = more.1;
@@ -86,10 +72,17 @@ records-preserved g c =
       made = c.in-Ok-take.ensures.taken.2 inv.items inv.made;
     }
 
-pub returns-clause-ok : goal.returns-clause-ok
-returns-clause-ok g c =
+pub returns-then-not-is_found-clause-ok : goal.returns-then-not-is_found-clause-ok
+returns-then-not-is_found-clause-ok g c =
     let inv = c.records.invariant in
-    let s = rw c.in-None.is at ((c.next.ensures.steps inv.turns inv.plain).0 inv.ready) in
+    let s = rw c.if-not-is_found.true at (c.in-Ok.ensures.reads inv.plain inv.ready) in
     let all = are_records default_config (strip_bom c.args.bytes.now) inv.rows
-    (c.records.next-iterator.rdr.state, inv.rest, inv.reached, rows-end (λ (s : Bor (List ℕ)). Some s.now) c.records.next-iterator.rdr c.next.new.self.rdr [] default_config inv.rest inv.config inv.source s) in
+    (c.records.reader.state, inv.rest, inv.reached, rows-end (λ (s : Bor (List ℕ)). Some s.now) c.records.reader c.read_byte_record.new.self (fields_of c.read_byte_record.new.row) default_config inv.rest inv.config inv.source s) in
     (inv.items, rw (← all) inv.taken, inv.made)
+
+pub unreachable-requires-2 : goal.unreachable-requires-2
+unreachable-requires-2 g c =
+    let inv = c.records.invariant in
+    let few = reached_few default_config inv.rows st.StartRecord c.records.reader.state (strip_bom c.args.bytes.now) inv.rest inv.reached in
+    let short = stripped_short c.args.bytes.now in
+    omega (arith, few, short, inv.index, c.requires.few, c.records-test.false)
