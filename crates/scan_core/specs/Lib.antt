@@ -9,6 +9,7 @@ pub mod Answers
 pub mod Bits
 pub mod Faults
 pub mod Laws
+pub mod Lines
 pub mod Reading
 pub mod Row
 pub mod Showing
