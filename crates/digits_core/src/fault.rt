@@ -24,7 +24,7 @@ impl DigitFault {
     {
         let (words, place) = match self {
             DigitFault::Length => ("refused 1 Length", None),
-            DigitFault::NotDigit(place) => ("refused 2 NotDigit ", Some(place)),
+            DigitFault::NotDigit(place) => ("refused 2 NotDigit", Some(place)),
             DigitFault::CheckDigit => ("refused 3 CheckDigit", None),
         };
         Refusal { words, place }

@@ -7,7 +7,7 @@ use std::fmt;
 /// A refusal: `refused`, its number and its name, and its place where it has one.
 #[derive(Clone, Copy, Debug, PartialEq, Eq)]
 pub struct Refusal {
-    /// `refused`, the number and the name, with a space before a place.
+    /// `refused`, the number and the name.
     pub words: &'static str,
     /// An offset or an index, as the fault says.
     pub place: Option<usize>,
@@ -20,7 +20,7 @@ impl fmt::Display for Refusal {
         let words = self.words;
         match self.place {
             None => write!(f, "{words}"),
-            Some(place) => write!(f, "{words}{place}"),
+            Some(place) => write!(f, "{words} {place}"),
         }
     }
 }

@@ -36,12 +36,12 @@ impl ElementFault {
     {
         let (words, place) = match self {
             ElementFault::Empty => ("refused 4 Empty", None),
-            ElementFault::UnknownAi(place) => ("refused 5 UnknownAi ", Some(place)),
-            ElementFault::ValueLength(place) => ("refused 6 ValueLength ", Some(place)),
-            ElementFault::ValueCharacter(place) => ("refused 7 ValueCharacter ", Some(place)),
-            ElementFault::ValueCheckDigit(place) => ("refused 8 ValueCheckDigit ", Some(place)),
-            ElementFault::ValueDate(place) => ("refused 9 ValueDate ", Some(place)),
-            ElementFault::MissingSeparator(place) => ("refused 10 MissingSeparator ", Some(place)),
+            ElementFault::UnknownAi(place) => ("refused 5 UnknownAi", Some(place)),
+            ElementFault::ValueLength(place) => ("refused 6 ValueLength", Some(place)),
+            ElementFault::ValueCharacter(place) => ("refused 7 ValueCharacter", Some(place)),
+            ElementFault::ValueCheckDigit(place) => ("refused 8 ValueCheckDigit", Some(place)),
+            ElementFault::ValueDate(place) => ("refused 9 ValueDate", Some(place)),
+            ElementFault::MissingSeparator(place) => ("refused 10 MissingSeparator", Some(place)),
             ElementFault::TooLong => ("refused 11 TooLong", None),
         };
         Refusal { words, place }
