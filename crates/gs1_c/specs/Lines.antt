@@ -1,5 +1,5 @@
--- What the calls answer: lines, and how bytes come into a caller's buffer.
-use Rattle.std.specs.Prelude.{◌≡◌, ◌⊎◌, ◌≤◌, ◌<◌, ◌++◌, ℕ, List, [], ◌∷◌, Option, Some, None, codes, drop, length}
+-- The lines that the calls answer.
+use Rattle.std.specs.Prelude.{◌≡◌, ◌⊎◌, ◌≤◌, ◌<◌, ◌++◌, ℕ, List, [], ◌∷◌, Option, Some, None, codes}
 use Rattle.std.specs.Fmt.{decimal}
 use Rattle.digits_core.specs.Digits.{IsChecked, ascii_of, digits_of, padded}
 use Rattle.digits_core.specs.Faults.{digit_fault_text}
@@ -15,16 +15,6 @@ use Rattle.scan_core.specs.Lines.{answer_text}
 use Rattle.scan_core.specs.Row.{runs_fault}
 use Rattle.scan_core.specs.declared.answer.Answer.{Answer}
 use Rattle.scan_core.specs.declared.fault.RunFault.{RunFault}
-
--- ---- buffers
-
--- the count is that of the bytes, which stand at the front of the buffer where it has room for all of them, and else it stays as it was
-pub record IsPut (bytes old new : List ℕ) (count : ℕ) : Type 0 where
-  pub counted : count ≡ length bytes
-  pub front : length bytes ≤ length old → new ≡ bytes ++ drop (length bytes) old
-  pub unchanged : length old < length bytes → new ≡ old
-
--- ---- lines
 
 -- a reference year
 abbrev pub IsYear : ℕ → Type 0

@@ -1,7 +1,7 @@
 //! Bytes into a caller's buffer.
 ghost use Rattle.std.specs.Prelude.{◌∷◌, ◌++◌};
+ghost use Rattle.digits_core.specs.Buffers.{IsPut};
 ghost use Rattle.digits_core.specs.Refusals.{refusal_text};
-ghost use Rattle.gs1_c.specs.Lines.{IsPut};
 
 use digits_core::Refusal;
 use itoa::Buffer;

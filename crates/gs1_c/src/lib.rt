@@ -7,13 +7,17 @@
 #![tactic(auto)]
 
 ghost use Rattle.std.specs.Prelude.{List, ℕ};
-ghost use Rattle.gs1_c.specs.Lines.{IsDigitLine, IsPut, IsRowLine, IsTextLine, gtin_line};
+ghost use Rattle.digits_core.specs.Buffers.{IsPut};
+ghost use Rattle.gs1_c.specs.Labels.{IsLabelBytes, one_cell};
+ghost use Rattle.gs1_c.specs.Lines.{IsDigitLine, IsRowLine, IsTextLine, gtin_line};
 
 mod buffer;
+mod label;
 
 use buffer::{put, put_refusal, put_words};
 use digits_core::{Gtin, payload_digit};
 use element_core::{Elements, Year};
+use label::put_numbered;
 use scan_core::{Answer, read_widths};
 
 /// The line of a year that is none.
@@ -78,4 +82,27 @@ pub extern "C" fn gs1_c_row(widths: &[u16], year: u16, out: &mut [u8]) -> usize
         Ok(Answer::Refused(fault)) => put_refusal(fault.refusal(), out),
         Err(fault) => put_refusal(fault.refusal(), out),
     }
+}
+
+/// The image of a label as PBM (netpbm, pbm(5)), of `width` by `height` dots, with modules of
+/// `module_dots` dots; or why it is not printed. The kinds are, of a GTIN, 0 EAN-13, 1 UPC-A, 2 EAN-8 and
+/// 3 UPC-E, and of an element string 4 GS1-128.
+///
+/// A module is 1 to 8 dots, the width 1 to 4,096 and the height more than two modules and at most 1,024;
+/// else `refused 25 BadGrid`. The symbol begins after its nominal left quiet zone, and its bars stand in
+/// all rows but a module's above and below.
+#[unsafe(no_mangle)]
+pub extern "C" fn gs1_c_label(
+    kind: u32,
+    text: &[u8],
+    year: u16,
+    module_dots: u16,
+    width: u16,
+    height: u16,
+    out: &mut [u8],
+) -> usize
+    ensures { (bytes : List ℕ) × IsLabelBytes kind year text.now (one_cell module_dots width height) bytes
+        × IsPut bytes out.old out.new result }
+{
+    put_numbered(kind, text, year, module_dots, width, height, out)
 }
