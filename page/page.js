@@ -56,7 +56,7 @@ function read() {
   const from = performance.now();
   const reader = new Reader(gs1, number("year")), { symbols, refused } = reader.read(picture, number("level"));
   const kept = symbols.filter((s) => s.rows > 1 || picture.height === 1 || symbols.length === 1);
-  picture.passed = performance.now() - from;
+  [picture.passed, picture.calls] = [performance.now() - from, reader.calls];
   picture.symbols = kept;
   const body = at("found").tBodies[0];
   body.replaceChildren(...kept.map(({ line, rows }, i) => {
@@ -77,7 +77,7 @@ function mark(symbols) {
     [canvas.width, canvas.height] = [picture.width, picture.height];
     pen.drawImage(picture.image, 0, 0);
   } else show(canvas, picture);
-  const size = Math.max(12, Math.round(picture.width / 40));
+  const size = Math.max(11, Math.round(picture.width / 64));
   pen.lineWidth = Math.max(2, size / 6);
   pen.font = `bold ${size}px sans-serif`;
   pen.textBaseline = "top";

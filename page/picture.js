@@ -106,7 +106,7 @@ class Reader {
   // The symbols of a picture, each with the box that its rows fill and their number; the refusals, with their numbers.
   read({ width, height, grey }, level) {
     const symbols = [], refused = new Map();
-    let ends = new Uint32Array(width + 2), before = new Uint32Array(width + 2), runs = -1, found = [], shown = [], told = new Map();
+    let ends = new Uint32Array(width + 2), before = new Uint32Array(width + 2), runs = -1, found = [], told = new Map();
     for (let y = 0; y < height; y++) {
       const count = runsOf(grey, y * width, width, level, ends);
       let same = count === runs;
@@ -118,17 +118,16 @@ class Reader {
         if (!found.length && !told.size) told.set("refused 20 RunCount", 1);
       }
       for (const [line, times] of told) refused.set(line, (refused.get(line) ?? 0) + times);
-      const next = [];
       for (const { line, left, right } of found) {
-        let symbol = shown.find((s) => s.line === line && s.left < right && left < s.right);
-        // A symbol with a damaged row or two is one.
-        symbol ??= symbols.find((s) => s.line === line && s.left < right && left < s.right && y - s.bottom < 24);
-        if (!symbol) symbols.push(symbol = { line, left, right, top: y, bottom: y, rows: 0 });
+        // A symbol goes on where the same stood a row before, or a few rows where some are damaged.
+        const near = (right - left) / 8;
+        let symbol = symbols.findLast((s) => s.line === line && y - s.bottom < 16
+          && Math.abs(s.ends[0] - left) < near && Math.abs(s.ends[1] - right) < near);
+        if (!symbol) symbols.push(symbol = { line, left, right, top: y, rows: 0 });
         [symbol.left, symbol.right, symbol.bottom] = [Math.min(symbol.left, left), Math.max(symbol.right, right), y + 1];
+        symbol.ends = [left, right];
         symbol.rows++;
-        next.push(symbol);
       }
-      shown = next;
       [ends, before, runs] = [before, ends, count];
     }
     return { symbols, refused };

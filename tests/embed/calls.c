@@ -1,11 +1,13 @@
 /* Calls the library from C. With no words: the worked cases, each into a buffer of every size from 0 to past
  * its answer. With a word: the answers to the lines of standard input, one a line, by the word: `rows` for the
  * lines of `lanes`, `check` for those of `check`, `labels MODULE WIDTH HEIGHT` for those of `print`, whose
- * images are written with nothing between them. The year is 2026. */
+ * images are written with nothing between them. With `time COUNT`: the milliseconds of so many calls on the rows
+ * of such lines, in turn. The year is 2026. */
 #include "gs1.h"
 #include <stdio.h>
 #include <stdlib.h>
 #include <string.h>
+#include <time.h>
 
 enum { YEAR = 2026, MOST_RUNS = 70000 };
 
@@ -199,11 +201,38 @@ static void answer_label(char *words, char **sizes) {
     print(&q, "");
 }
 
+/* The milliseconds of so many calls on the rows of standard input: the least of seven tries. */
+static void measure(long calls) {
+    static char input[1 << 16];
+    static uint16_t widths[64][4096];
+    static size_t counts[64];
+    size_t rows = 0;
+    while (rows < 64 && fgets(input, sizeof input, stdin)) {
+        size_t count = 0;
+        for (char *word = strtok(strchr(input, ',') + 1, " \n"); word && count < 4096; word = strtok(NULL, " \n"))
+            widths[rows][count++] = (uint16_t)atoi(word);
+        counts[rows++] = count;
+    }
+    double least = 1e9;
+    for (int attempt = 0; attempt < 7; attempt++) {
+        uint8_t out[GS1_LINE];
+        clock_t from = clock();
+        for (long i = 0; i < calls; i++) gs1_row(widths[i % (long)rows], counts[i % (long)rows], YEAR, out, sizeof out);
+        double passed = (double)(clock() - from) * 1000 / CLOCKS_PER_SEC;
+        if (passed < least) least = passed;
+    }
+    printf("%f\n", least);
+}
+
 int main(int count, char **words) {
     if (count == 1) {
         cases();
         printf("%ld calls, %ld cases wrong\n", checks, wrong);
         return wrong != 0;
+    }
+    if (!strcmp(words[1], "time")) {
+        measure(atol(words[2]));
+        return 0;
     }
     static char input[1 << 20];
     while (fgets(input, sizeof input, stdin)) {

@@ -1,0 +1,96 @@
+"""Headless Chromium, spoken to by its debugging pipe."""
+import base64
+import itertools
+import json
+import os
+import select
+import shutil
+import subprocess
+import tempfile
+import time
+
+
+class Browser:
+    """A browser with one page open, of this size. It is ended and its profile removed by `close`."""
+
+    def __init__(self, url, width=1000, height=1400, dark=False, started="document.readyState === 'complete' && !!document.started"):
+        to_read, self._to = os.pipe()
+        self._of, to_write = os.pipe()
+
+        def pipes():
+            # The browser reads descriptor 3 and writes 4.
+            os.dup2(to_read, 10), os.dup2(to_write, 11)
+            os.dup2(10, 3), os.dup2(11, 4)
+
+        self._profile = tempfile.mkdtemp()
+        words = ["chromium", "--headless", "--no-sandbox", "--disable-gpu", f"--user-data-dir={self._profile}",
+                 "--remote-debugging-pipe", "about:blank"]
+        self._process = subprocess.Popen(words, preexec_fn=pipes, close_fds=False,
+                                         stdout=subprocess.DEVNULL, stderr=subprocess.DEVNULL)
+        os.close(to_read), os.close(to_write)
+        self._left, self._numbers = b"", itertools.count(1)
+        self._session = None
+        target = self.call("Target.createTarget", url="about:blank")["targetId"]
+        self._session = self.call("Target.attachToTarget", targetId=target, flatten=True)["sessionId"]
+        self.call("Emulation.setDeviceMetricsOverride", width=width, height=height, deviceScaleFactor=1, mobile=False)
+        self.call("Emulation.setEmulatedMedia", features=[{"name": "prefers-color-scheme", "value": "dark" if dark else "light"}])
+        self.go(url, started)
+
+    def go(self, url, started="document.readyState === 'complete' && !!document.started"):
+        """Opens a page, and waits until it has started."""
+        self.call("Page.navigate", url=url)
+        self.until(started)
+        self.value("document.started")
+
+    def call(self, method, seconds=120, **params):
+        """What the browser answers to a command."""
+        number = next(self._numbers)
+        message = {"id": number, "method": method, "params": params}
+        if self._session:
+            message["sessionId"] = self._session
+        os.write(self._to, json.dumps(message).encode() + b"\0")
+        limit = time.time() + seconds
+        while True:
+            while b"\0" not in self._left:
+                if not select.select([self._of], [], [], max(0, limit - time.time()))[0]:
+                    raise TimeoutError(method)
+                self._left += os.read(self._of, 1 << 20)
+            line, self._left = self._left.split(b"\0", 1)
+            answer = json.loads(line)
+            if answer.get("id") == number:
+                if "error" in answer:
+                    raise RuntimeError(answer["error"])
+                return answer["result"]
+
+    def value(self, script):
+        """The value of a script, awaited."""
+        said = self.call("Runtime.evaluate", expression=script, awaitPromise=True, returnByValue=True)
+        if "exceptionDetails" in said:
+            raise RuntimeError(said["exceptionDetails"])
+        return said["result"].get("value")
+
+    def until(self, script, seconds=30):
+        limit = time.time() + seconds
+        while not self.value(script):
+            if time.time() > limit:
+                raise TimeoutError(script)
+            time.sleep(0.05)
+
+    def choose(self, path):
+        """Chooses a file, as a user does in the dialog, and waits until it is taken."""
+        self.value("document.taken = null")
+        node = self.call("Runtime.evaluate", expression="at('file')")["result"]["objectId"]
+        self.call("DOM.setFileInputFiles", files=[os.path.abspath(path)], objectId=node)
+        self.until("document.taken !== null")
+        self.value("document.taken")
+
+    def picture(self, path):
+        """Leaves a picture of the page."""
+        shot = self.call("Page.captureScreenshot", format="png", captureBeyondViewport=True)
+        with open(path, "wb") as file:
+            file.write(base64.b64decode(shot["data"]))
+
+    def close(self):
+        self._process.terminate()
+        self._process.wait()
+        shutil.rmtree(self._profile, ignore_errors=True)
