@@ -86,7 +86,8 @@ class Browser:
 
     def picture(self, path):
         """Leaves a picture of the page."""
-        shot = self.call("Page.captureScreenshot", format="png", captureBeyondViewport=True)
+        clip = self.value("({ x: 0, y: 0, width: innerWidth, height: document.body.scrollHeight, scale: 1 })")
+        shot = self.call("Page.captureScreenshot", format="png", captureBeyondViewport=True, clip=clip)
         with open(path, "wb") as file:
             file.write(base64.b64decode(shot["data"]))
 

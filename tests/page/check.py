@@ -105,6 +105,7 @@ def reads(page):
         return document.taken;
     })""" % base64.b64encode(open(f"{ROOT}/examples/labels.png", "rb").read()).decode())
     same("the symbols that are pasted", sorted(answers(page)), wanted)
+    type_words(page, kind="gs1128", text="010950110153000310AB^17261231", width=620, height=80)
     page.picture(PICTURE)
 
     before = answers(page)
