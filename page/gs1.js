@@ -16,7 +16,7 @@ class Gs1 {
     return new Gs1(instance.exports);
   }
 
-  // 256 KiB for a row of 65,537 widths or a text, and then room for an answer.
+  // 256 KiB for the widths of a row or a text, and then room for an answer.
   constructor(calls) {
     this.calls = calls;
     this.input = Number(calls.memory.grow(6n)) * 65536;
@@ -52,16 +52,14 @@ class Gs1 {
     return [BigInt(this.input), BigInt(written)];
   }
 
-  // What the row of these widths says; 65,537 of them at most, since more are refused all the same.
-  row(widths, year) {
-    const count = Math.min(widths.length, 65538);
-    this.words.set(count < widths.length ? widths.slice(0, count) : widths);
-    return this.line(this.ask(this.calls.gs1_c_row, BigInt(this.input), BigInt(count), year));
+  // What the runs from `first` to `last`, both light, say as a row; run i goes from `ends[i - 1]`, or 0, up to `ends[i]`,
+  // which is at most 65,535.
+  row(ends, first, last, year) {
+    for (let i = first; i <= last; i++) this.words[i - first] = ends[i] - (i ? ends[i - 1] : 0);
+    return this.line(this.ask(this.calls.gs1_c_row, BigInt(this.input), BigInt(last - first + 1), year));
   }
 
   gtin(text) { return this.line(this.ask(this.calls.gs1_c_gtin, ...this.put(text))); }
-
-  digit(text) { return this.line(this.ask(this.calls.gs1_c_digit, ...this.put(text))); }
 
   elements(text, year) { return this.line(this.ask(this.calls.gs1_c_text, ...this.put(text), year)); }
 

@@ -6,7 +6,7 @@ function pixelsOfPbm(bytes) {
   const head = String.fromCharCode(...bytes.subarray(0, 64)).match(/^P4\s+(\d{1,5})\s+(\d{1,5})\s/);
   if (!head) return null;
   const width = Number(head[1]), height = Number(head[2]), stride = (width + 7) >> 3;
-  if (!width || !height || bytes.length < head[0].length + stride * height) return null;
+  if (!width || !height || width > 65535 || bytes.length < head[0].length + stride * height) return null;
   const grey = new Uint8Array(width * height);
   for (let y = 0; y < height; y++) {
     for (let x = 0; x < width; x++) {
@@ -76,11 +76,8 @@ class Reader {
 
   // The answer to the runs from `first` to `last`, both light.
   ask(ends, first, last) {
-    const words = this.gs1.words;
-    for (let i = first; i <= last; i++) words[i - first] = ends[i] - (i ? ends[i - 1] : 0);
     this.calls++;
-    const gs1 = this.gs1;
-    return gs1.line(gs1.ask(gs1.calls.gs1_c_row, BigInt(gs1.input), BigInt(last - first + 1), this.year));
+    return this.gs1.row(ends, first, last, this.year);
   }
 
   // Looks for symbols between two light runs: reads what stands there, and where that is refused cuts it at its widest
