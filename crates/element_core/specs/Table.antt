@@ -1,6 +1,6 @@
 -- The Application Identifiers of this profile, with what their values may be
 -- (GS1 General Specifications, section 3.2).
-use Rattle.std.specs.Prelude.{ℕ, zero, suc, ◌+◌, ◌-◌, ◌*◌, Bool, true, false, ◌&&◌, ◌||◌, not, List, [], ◌∷◌, map, length, Option, Some, None, IsTrue, nat_le, bytes_eq, ◌==◌, if◌then◌else◌, codes, find, flat_map}
+use Rattle.std.specs.Prelude.{◌≡◌, ℕ, zero, suc, ◌+◌, ◌-◌, ◌*◌, Bool, true, false, ◌&&◌, ◌||◌, not, List, [], ◌∷◌, map, length, Option, Some, None, IsTrue, nat_le, bytes_eq, ◌==◌, if◌then◌else◌, codes, find, flat_map}
 use Rattle.std.specs.List.{filter, list_all, list_any}
 use Rattle.element_core.specs.declared.part.Part.{Part}
 use Rattle.element_core.specs.declared.part.PartFormat.{PartFormat}
@@ -211,6 +211,10 @@ begins_with_digit (a ∷ ai) = nat_le 48 a && nat_le a 57
 -- an element with its separator has at least four bytes
 abbrev pub is_long_enough : Row → Bool
 is_long_enough row = nat_le (if row.predefined then 4 else 3) (length row.ai + least_of row.parts)
+
+-- the first edition has 405 AIs
+abbrev pub CountsFirstRows : Type 0
+CountsFirstRows = length first_rows ≡ 405
 
 -- an AI of a time is one of the two that the first edition has not, and each of these is one
 abbrev pub is_timed_later : Row → Bool

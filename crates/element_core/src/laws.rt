@@ -1,7 +1,7 @@
 //! Laws of the definitions: each function does nothing, and its contract is the law.
 
 ghost use Rattle.element_core.specs.Days.{DayZero, YearWindow};
-ghost use Rattle.element_core.specs.Table.{NoAiBeginsAnother, FirstDigitsDecide, PartsHaveOneLength};
+ghost use Rattle.element_core.specs.Table.{CountsFirstRows, NoAiBeginsAnother, FirstDigitsDecide, PartsHaveOneLength};
 ghost use Rattle.element_core.specs.Elements.{CanonicalReads, DatedElements, EachText, GtinReads, OneAnswer, ReadAsBefore, TimedElements};
 ghost use Rattle.element_core.specs.Pairs.{FaultlessPairs, PairLengths, PairsAsTexts, UnknownPairs};
 ghost use Rattle.element_core.specs.Fronts.{ReadsPieces};
@@ -69,10 +69,11 @@ pub fn timed_elements()
     ensures { TimedElements }
 {}
 
-/// Each text that was read by the table of the first edition, which has neither AI 7003 nor 8008,
-/// is read as the same list.
+/// Each text that was read by the table of the first edition, which has neither AI 7003 nor 8008
+/// and 405 others, is read as the same list.
 pub fn read_as_before()
-    ensures { ReadAsBefore }
+    ensures lists { ReadAsBefore }
+    ensures table { CountsFirstRows }
 {}
 
 /// Pairs have no fault exactly where they are the elements of their canonical text.
