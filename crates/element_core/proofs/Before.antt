@@ -2,12 +2,12 @@
 use Rattle.std.proofs.Common.{ℕ, not, List, [], ◌∷◌, ◌++◌}
 use Rattle.std.specs.Prelude.{Contains}
 use Rattle.std.proofs.lemmas.List.Elements.{All-contains, All-contains_itself, All-filter}
-use Rattle.element_core.specs.Table.{Row, ai_rows, first_rows, is_later}
+use Rattle.element_core.specs.Table.{Row, ai_rows, first_rows, is_7003_or_8008}
 use Rattle.element_core.specs.Elements.{Piece, IsElement, IsPiece, ArePieces, ReadAsBefore, joined}
 
 -- each of its rows stands in the table
 listed_now : (row : Row) → Contains first_rows row → Contains ai_rows row
-listed_now row listed = All-contains (Contains ai_rows) first_rows row (All-filter (λ r. not (is_later r.ai)) (Contains ai_rows) ai_rows (All-contains_itself ai_rows)) listed
+listed_now row listed = All-contains (Contains ai_rows) first_rows row (All-filter (λ r. not (is_7003_or_8008 r.ai)) (Contains ai_rows) ai_rows (All-contains_itself ai_rows)) listed
 
 piece_now : (year : ℕ) (p : Piece) (left : List ℕ) → IsPiece first_rows year p left → IsPiece ai_rows year p left
 piece_now year p left is =

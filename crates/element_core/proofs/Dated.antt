@@ -8,9 +8,9 @@ use Rattle.element_core.specs.declared.part.PartFormat.{PartFormat}
 use Rattle.element_core.specs.declared.part.PartFormat.TheVariants.{Numeric, Alphanumeric, Date, DateAndTime}
 use Rattle.element_core.specs.Days.{day_of}
 use Rattle.element_core.specs.Times.{exact_day_of, time_of}
-use Rattle.element_core.specs.Table.{Row, ai_rows, begins, row_at, is_dated, is_later, is_timed, is_timed_later, names_day, names_time, greatest_of, have_one_length}
+use Rattle.element_core.specs.Table.{Row, ai_rows, begins, row_at, is_dated, is_7003_or_8008, is_timed, is_timed_exactly, names_day, names_time, greatest_of, have_one_length}
 use Rattle.element_core.specs.Elements.{DatedElements, IsElement, TimedElements, Entry, each_part, has_date, is_named, day_by, time_by}
-use Rattle.element_core.proofs.TableLaws.{each_timed_is_later, parts_have_one_length}
+use Rattle.element_core.proofs.TableLaws.{each_is_timed_exactly, parts_have_one_length}
 use Rattle.element_core.proofs.Look.{all_at, begins-append, row_found}
 
 -- a part without a day has no time
@@ -85,5 +85,5 @@ same false b h = not-true b h
 pub timed_elements : TimedElements
 timed_elements = λ year row e is.
     let n = element_named year row e is in
-    let both = all_at is_timed_later ai_rows row is.listed each_timed_is_later in
-    ap (λ (r : Option Row). is_some (time_by e.value r)) n.0 ∙ n.1.time ∙ same (is_later row.ai) (is_timed row.parts) both
+    let both = all_at is_timed_exactly ai_rows row is.listed each_is_timed_exactly in
+    ap (λ (r : Option Row). is_some (time_by e.value r)) n.0 ∙ n.1.time ∙ same (is_7003_or_8008 row.ai) (is_timed row.parts) both

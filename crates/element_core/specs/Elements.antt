@@ -11,7 +11,7 @@ use Rattle.element_core.specs.declared.part.PartFormat.TheVariants.{Alphanumeric
 use Rattle.digits_core.specs.Digits.{AreDigits, IsChecked, ascii_of, digits_of, weighted}
 use Rattle.element_core.specs.Days.{day_of}
 use Rattle.element_core.specs.Times.{exact_day_of, is_day_and_time, time_of}
-use Rattle.element_core.specs.Table.{Row, ai_rows, first_rows, row_at, least_of, greatest_of, predefined_length, is_dated, is_later, is_timed}
+use Rattle.element_core.specs.Table.{Row, ai_rows, first_rows, row_at, least_of, greatest_of, predefined_length, is_dated, is_7003_or_8008, is_timed}
 
 -- ---- values
 
@@ -287,7 +287,7 @@ DatedElements = (year : ℕ) (row : Row) (e : Entry) → IsElement ai_rows year 
 -- an element has a time exactly where its AI is 7003 or 8008
 abbrev pub TimedElements : Type 0
 TimedElements = (year : ℕ) (row : Row) (e : Entry) → IsElement ai_rows year row e
-    → is_some (entry_time e) ≡ is_later row.ai
+    → is_some (entry_time e) ≡ is_7003_or_8008 row.ai
 
 -- each text that was read by the table of the first edition is read as the same list
 abbrev pub ReadAsBefore : Type 0

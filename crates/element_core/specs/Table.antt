@@ -119,13 +119,13 @@ rows_of f = map (row_in f) (ais f.least f.greatest)
 unfoldable pub ai_rows : List Row
 ai_rows = flat_map rows_of families
 
--- whether an AI is one of the two that the first edition has not
-abbrev pub is_later : List ℕ → Bool
-is_later ai = bytes_eq ai (codes "7003") || bytes_eq ai (codes "8008")
+-- whether an AI is one of these two
+abbrev pub is_7003_or_8008 : List ℕ → Bool
+is_7003_or_8008 ai = bytes_eq ai (codes "7003") || bytes_eq ai (codes "8008")
 
--- the table of the first edition
+-- the table of the first edition: today's without these two AIs
 abbrev pub first_rows : List Row
-first_rows = filter (λ row. not (is_later row.ai)) ai_rows
+first_rows = filter (λ row. not (is_7003_or_8008 row.ai)) ai_rows
 
 -- how many bytes a value has at least
 abbrev pub least_of : List Part → ℕ
@@ -216,9 +216,9 @@ is_long_enough row = nat_le (if row.predefined then 4 else 3) (length row.ai + l
 abbrev pub CountsFirstRows : Type 0
 CountsFirstRows = length first_rows ≡ 405
 
--- an AI of a time is one of the two that the first edition has not, and each of these is one
-abbrev pub is_timed_later : Row → Bool
-is_timed_later row = if is_later row.ai then is_timed row.parts else not (is_timed row.parts)
+-- an AI of a time is 7003 or 8008, and each of these is one
+abbrev pub is_timed_exactly : Row → Bool
+is_timed_exactly row = if is_7003_or_8008 row.ai then is_timed row.parts else not (is_timed row.parts)
 
 -- an AI has at most four digits
 abbrev pub is_short_ai : Row → Bool
