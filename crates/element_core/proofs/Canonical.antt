@@ -34,7 +34,7 @@ decided r None h = sym (not-true r.predefined h)
 decided r (Some all) h = sym (and_parts _ _ (and_parts _ _ h).0).0
 
 -- the first two digits say whether an element is predefined
-pub is_some-predefined_length : (year : ℕ) (row : Row) (e : Entry) → IsElement year row e → is_some (predefined_length e.ai) ≡ row.predefined
+pub is_some-predefined_length : (year : ℕ) (row : Row) (e : Entry) → IsElement ai_rows year row e → is_some (predefined_length e.ai) ≡ row.predefined
 is_some-predefined_length year row e is = ap (λ (a : List ℕ). is_some (predefined_length a)) is.ai ∙ decided row (predefined_length row.ai) (all_at (λ r. first_digits_decide r (predefined_length r.ai)) ai_rows row is.listed digits_decide)
 
 pub or_true : (b : Bool) → (b || true) ≡ true

@@ -35,7 +35,7 @@ canonical-push (f ∷ g ∷ es) e =
 
 -- ---- how many elements there may be
 
-long_enough : (year : ℕ) (e : Entry) → (row : Row) × IsElement year row e → 4 ≤ length e.ai + length e.value + length (separator_for e) × (3 ≤ length e.ai + length e.value)
+long_enough : (year : ℕ) (e : Entry) → (row : Row) × IsElement ai_rows year row e → 4 ≤ length e.ai + length e.value + length (separator_for e) × (3 ≤ length e.ai + length e.value)
 long_enough year e (row, is) =
     let k = leb-true (cond row.predefined 4 3) (length row.ai + least_of row.parts) (all_at is_long_enough ai_rows row is.listed each_is_long_enough) in
     let p = is_some-predefined_length year row e is in

@@ -5,7 +5,7 @@ use Rattle.std.proofs.lemmas.List.{nil_from_length, append-nil, length_push, tak
 use Rattle.element_core.specs.declared.fault.ElementFault.{ElementFault}
 use Rattle.element_core.specs.declared.fault.ElementFault.TheVariants.{UnknownAi, ValueLength, TooLong}
 use Rattle.element_core.specs.declared.pairs.Pair.{Pair}
-use Rattle.element_core.specs.Table.{Row, row_at}
+use Rattle.element_core.specs.Table.{Row, ai_rows, row_at}
 use Rattle.element_core.specs.Elements.{Entry, IsElement, IsElements, AreElements, Reads, canonical}
 use Rattle.element_core.specs.Growing.{gap, last_gap}
 use Rattle.element_core.specs.Pairs.{entry_of, entries_of, entry_fault, entry_fault_by, entries_fault, list_fault, or_else}
@@ -20,7 +20,7 @@ seen None = inl refl
 seen (Some x) = inr (x, refl)
 
 -- an entry without a fault is an element
-entry_valid : (year i : ℕ) (e : Entry) → entry_fault year i e ≡ None → (row : Row) × IsElement year row e
+entry_valid : (year i : ℕ) (e : Entry) → entry_fault year i e ≡ None → (row : Row) × IsElement ai_rows year row e
 entry_valid year i e none =
     elim (seen (row_at e.ai)) [
       | inl unknown ↦ absurd (let k = ap (entry_fault_by year i e) unknown in let n = none in cc)
@@ -102,4 +102,4 @@ pub finished : (year : ℕ) (out : List ℕ) (es all : List Entry) → AreElemen
 finished year out es all are is out_is some short =
     let these = subst (AreElements year) (sym is) are in
     let few = few_elements year es these in
-    record { some = omega (arith, ap length is, ap length out_is, few); fits = short; reads = subst (λ (t : List ℕ). Reads year t es []) (sym out_is) (to_pieces year (canonical es) es [] (canonical_reads year es these)) }
+    record { some = omega (arith, ap length is, ap length out_is, few); fits = short; reads = subst (λ (t : List ℕ). Reads ai_rows year t es []) (sym out_is) (to_pieces year (canonical es) es [] (canonical_reads year es these)) }

@@ -5,7 +5,7 @@ use Rattle.std.proofs.lemmas.List.{take-append-drop, drop_at, take_at, length-ta
 use Rattle.element_core.specs.declared.fault.ElementFault.{ElementFault}
 use Rattle.element_core.specs.declared.fault.ElementFault.TheVariants.{ValueLength, ValueCharacter, ValueCheckDigit, ValueDate, MissingSeparator}
 use Rattle.element_core.specs.Table.{Row, begins, row_at, least_of, greatest_of}
-use Rattle.element_core.specs.Elements.{Entry, IsValue, each_part, has_characters, has_check_digit, has_date, field_of, value_in, row_fault, fault_by, fault_at}
+use Rattle.element_core.specs.Elements.{Entry, IsValue, each_part, has_characters, has_check_digit, has_date, has_even_length, field_of, value_in, row_fault, fault_by, fault_at}
 use Rattle.element_core.specs.Fronts.{Begins, is_closed, after_separator}
 use Rattle.element_core.proofs.Look.{begins-append, begins-split, row_found, row_is as row_listed, predefined_length_is}
 use Rattle.element_core.proofs.Fields.{value_plain, value_in_field, field_splits}
@@ -17,21 +17,24 @@ passes false f x e = (refl, e)
 
 pub fits_no_fault : (year place : ℕ) (long : ElementFault) (row : Row) (v : List ℕ) → IsValue year row.parts v → row_fault year place long row.parts v ≡ None
 fits_no_fault year place long row v fits =
+    let even = fits.even in
     let characters = fits.characters in
     let check_digits = fits.check_digits in
     let dates = fits.dates in
-    rw (le-ltb (length v) (least_of row.parts) fits.least, le-ltb (greatest_of row.parts) (length v) fits.greatest, characters, check_digits, dates) refl
+    rw (le-ltb (length v) (least_of row.parts) fits.least, le-ltb (greatest_of row.parts) (length v) fits.greatest, even, characters, check_digits, dates) refl
 
 pub no_fault_fits : (year place : ℕ) (long : ElementFault) (row : Row) (v : List ℕ) → row_fault year place long row.parts v ≡ None → IsValue year row.parts v
 no_fault_fits year place long row v e =
     let p = passes (ltb (length v) (least_of row.parts)) (ValueLength place) _ e in
     let q = passes (ltb (greatest_of row.parts) (length v)) long _ p.1 in
-    let r = passes (not (each_part has_characters row.parts v)) (ValueCharacter place) _ q.1 in
+    let o = passes (not (each_part has_even_length row.parts v)) (ValueLength place) _ q.1 in
+    let r = passes (not (each_part has_characters row.parts v)) (ValueCharacter place) _ o.1 in
     let s = passes (not (each_part has_check_digit row.parts v)) (ValueCheckDigit place) _ r.1 in
     let t = passes (not (each_part (has_date year) row.parts v)) (ValueDate place) _ s.1 in
     record {
       least = ltb-false _ _ p.0;
       greatest = ltb-false _ _ q.0;
+      even = not-false _ o.0;
       characters = not-false _ r.0;
       check_digits = not-false _ s.0;
       dates = not-false _ t.0;

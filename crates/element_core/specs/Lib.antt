@@ -11,3 +11,4 @@ pub mod Pairs
 pub mod PartTests
 pub mod Rows
 pub mod Table
+pub mod Times

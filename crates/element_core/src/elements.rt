@@ -3,10 +3,10 @@
 ghost use Rattle.std.specs.Prelude.{◌≡◌, ◌+◌, ◌<◌, ◌≤◌, [], ◌∷◌, ◌++◌, length, slice_get, List, Some, IfOk, IfErr, IsOk, OnOk, None, Err, IsTrue};
 ghost use Rattle.element_core.specs.Days.{IsDay};
 ghost use Rattle.element_core.specs.Rows.{entry_in};
-ghost use Rattle.element_core.specs.Elements.{Entry, IsElements, FirstFault, canonical, entry_day, gtin_entry, hri, is_printable};
+ghost use Rattle.element_core.specs.Elements.{Entry, IsElements, FirstFault, canonical, entry_day, entry_time, gtin_entry, hri, is_printable};
 
 use crate::draft::{Cuts, append, gap_length};
-use crate::element::{Element, day_of_element};
+use crate::element::{Element, day_of_element, time_of_element};
 use crate::fault::ElementFault;
 use crate::front::element_at;
 use crate::hri::line_of;
@@ -162,6 +162,7 @@ impl Elements {
         requires { i < length self.now.list }
         ensures entry { slice_get self.now.list i ≡ Some (entry_in result) }
         ensures date { IsDay result.date (entry_day self.now.year (entry_in result)) }
+        ensures time { result.time ≡ entry_time (entry_in result) }
     {
         let cut = self.cuts[i];
         let text = self.text.as_slice();
@@ -171,6 +172,7 @@ impl Elements {
             ai: copied(ai),
             value: copied(value),
             date: day_of_element(ai, value, self.year),
+            time: time_of_element(ai, value),
         }
     }
 

@@ -16,6 +16,7 @@ mod part;
 mod row;
 mod table;
 mod text;
+mod time;
 mod value;
 mod year;
 
@@ -24,11 +25,11 @@ pub use elements::Elements;
 pub use fault::ElementFault;
 pub use laws::{
     canonical_reads, dated_elements, day_zero, each_text, faultless_pairs, first_digits_decide,
-    gtin_reads, no_ai_begins_another, one_answer, pair_faults, parts_have_one_length, reads_pieces,
-    year_window,
+    gtin_reads, no_ai_begins_another, one_answer, pair_faults, parts_have_one_length,
+    read_as_before, reads_pieces, timed_elements, year_window,
 };
 pub use pairs::Pair;
-pub use part::{Part, PartKind};
+pub use part::{Part, PartFormat};
 pub use row::{AiRow, ai_row};
 pub use text::Text;
 pub use year::Year;

@@ -4,7 +4,7 @@ use Rattle.std.proofs.lemmas.Bool.Decides.{nat_tests}
 use Rattle.std.proofs.lemmas.List.{length-append, length-map, length-replicate}
 use Rattle.digits_core.specs.Digits.{ascii_of, padded}
 use Rattle.digits_core.specs.Upce.{upce_expanded}
-use Rattle.element_core.specs.Elements.{FirstFault, StopsWith, each_part, fault_by, field_of, has_characters, has_check_digit, has_date, value_in}
+use Rattle.element_core.specs.Elements.{FirstFault, StopsWith, each_part, fault_by, field_of, has_characters, has_check_digit, has_date, has_even_length, value_in}
 use Rattle.element_core.specs.Table.{Row, greatest_of, least_of, row_at}
 use Rattle.element_core.specs.declared.fault.ElementFault.TheVariants.{Empty, ValueLength, ValueCharacter, ValueCheckDigit, ValueDate, MissingSeparator, TooLong}
 use Rattle.ean_code.specs.Spelling.{IsGtinOf}
@@ -86,21 +86,22 @@ content_fits law Gs1128 ms text a =
 
 -- ---- faults of a text that fits
 
-not_long : (a b c d e : Bool) (p : ℕ)
-    → (if a then Some (ValueLength p) else if b then Some (MissingSeparator p) else if not c then Some (ValueCharacter p)
+not_long : (a b o c d e : Bool) (p : ℕ)
+    → (if a then Some (ValueLength p) else if b then Some (MissingSeparator p) else if not o then Some (ValueLength p) else if not c then Some (ValueCharacter p)
     else if not d then Some (ValueCheckDigit p) else if not e then Some (ValueDate p) else None) ≡ Some TooLong → ⊥
-not_long true b c d e p h = cc
-not_long false true c d e p h = cc
-not_long false false false d e p h = cc
-not_long false false true false e p h = cc
-not_long false false true true false p h = cc
-not_long false false true true true p h = cc
+not_long true b o c d e p h = cc
+not_long false true o c d e p h = cc
+not_long false false false c d e p h = cc
+not_long false false true false d e p h = cc
+not_long false false true true false e p h = cc
+not_long false false true true true false p h = cc
+not_long false false true true true true p h = cc
 
 fault_not_long : (year p : ℕ) (text : List ℕ) (row : Option Row) → fault_by year p text row ≡ Some TooLong → ⊥
 fault_not_long year p text None h = cc
 fault_not_long year p text (Some row) h =
     let value = value_in row (field_of (drop (length row.ai) text)) in
-    not_long (nat_lt (length value) (least_of row.parts)) (nat_lt (greatest_of row.parts) (length value)) (each_part has_characters row.parts value)
+    not_long (nat_lt (length value) (least_of row.parts)) (nat_lt (greatest_of row.parts) (length value)) (each_part has_even_length row.parts value) (each_part has_characters row.parts value)
     (each_part has_check_digit row.parts value) (each_part (has_date year) row.parts value) p h
 
 sized : (a b : Bool) (P : Type 0) → a ≡ false → (P → ⊥)

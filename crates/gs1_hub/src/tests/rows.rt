@@ -103,6 +103,11 @@ fn reads_each_carrier(rt: HostRuntime) -> Result<(), Fail> {
     // 43 runs, as an EAN-8 has.
     let characters = "211232 411131 112133 321122 322112 121421";
     assert!(rt; code128_says(&rt, characters, 2026, "]C1 (422)528")?);
+    // (7003)2601021530 and its check character 101, and a minute 60.
+    let characters = "211232 411131 112412 121223 321221 222122 222221 113222 212123 311141";
+    assert!(rt; code128_says(&rt, characters, 2026, "]C1 (7003)2601021530")?);
+    let characters = "211232 411131 112412 121223 321221 222122 222221 113222 314111 232121";
+    assert!(rt; code128_says(&rt, characters, 2026, "refused 9 ValueDate 0")?);
     // A date under two reference years.
     let characters = "211232 411131 123221 212222 222221 322211 124211";
     assert!(rt; code128_says(&rt, characters, 2026, "]C1 (17)000229")?);

@@ -66,6 +66,11 @@ fn encodes_and_reads_again(rt: HostRuntime) -> Result<(), Fail> {
             [102, 10, 100, 33, 17, 99, 23, 45].as_slice(),
             5,
         ),
+        (
+            b"70032601021530".as_slice(),
+            [102, 70, 3, 26, 1, 2, 15, 30].as_slice(),
+            101,
+        ),
     ] {
         assert_eq!(rt; check_character(105, data), check);
         let modules = encode(&elements_of(text)?)?;
