@@ -16,3 +16,5 @@ pub mod Lines
 pub mod GtinLemmas
 pub mod DayLaws
 pub mod Dated
+pub mod Listed
+pub mod FirstDigits
