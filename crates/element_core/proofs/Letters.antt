@@ -1,8 +1,7 @@
 -- Which bytes a canonical text has.
 use Rattle.std.proofs.Common.{◌≡◌, ℕ, ◌<◌, ◌≤◌, Bool, true, false, cond, eqb, leb, ◌||◌, List, [], ◌∷◌, ◌++◌, length, take, drop, refl, sym, ap, subst, ◌∙◌, append_assoc, arith, inl, inr, length-drop}
-use Rattle.std.specs.Prelude.{is_some, All}
+use Rattle.std.specs.Prelude.{is_some}
 use Rattle.std.specs.List.{list_all, AllByRecursion}
-use Rattle.std.proofs.lemmas.List.Elements.{All-from_recursion}
 use Rattle.std.proofs.lemmas.Bool.{and_parts, and_from, leb-true, le-leb, lt-leb, ne_eqb, cases_lt}
 use Rattle.std.proofs.lemmas.List.{take-append-drop, nil_from_length}
 use Rattle.element_core.specs.declared.part.Part.{Part}
@@ -103,8 +102,3 @@ below_128 b h =
 pub ascii_by : (text : List ℕ) → list_all is_text_byte text ≡ true → AllByRecursion (λ b. b < 128) text
 ascii_by [] h = tt
 ascii_by (b ∷ text) h = let p = and_parts (is_text_byte b) (list_all is_text_byte text) h in (below_128 b p.0, ascii_by text p.1)
-
--- a list's text is ASCII
-pub listing_ascii : (year : ℕ) (text : List ℕ) (es : List Entry) → IsElements year text es → text ≡ canonical es → All (λ b. b < 128) text
-listing_ascii year text es is text_is =
-    All-from_recursion (λ b. b < 128) text (ascii_by text (and_parts (list_all is_text_byte text) (begins_with_digits text) (listing_printable year text es is text_is)).0)

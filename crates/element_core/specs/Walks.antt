@@ -1,5 +1,5 @@
 -- The front of a text as the code has it.
-use Rattle.std.specs.Prelude.{◌≡◌, ◌<◌, List, ℕ, [], ◌∷◌, Option, Some, None, All}
+use Rattle.std.specs.Prelude.{◌≡◌, ◌<◌, ℕ, List, [], ◌∷◌, Option, Some, None, All}
 use Rattle.std.specs.List.{AllByRecursion}
 use Rattle.element_core.specs.declared.front.Front.{Front}
 use Rattle.element_core.specs.Table.{row_at}

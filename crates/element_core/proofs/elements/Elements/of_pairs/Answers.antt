@@ -17,11 +17,10 @@ use Rattle.element_core.proofs.elements.Elements.of_pairs.Goals.{After-gap_lengt
 abbrev done : After-gap_length → List Entry
 done c = entries_of (take c.loop-pair.pair-index c.args.pairs.now)
 
-step : (c : After-gap_length) → Adds c.args.year c.loop-pair.out.items (done c) (entries_of c.args.pairs.now) c.loop-pair.separate (entry_of c.pair-item.result)
+step : (c : After-gap_length) → Adds c.loop-pair.out.items (done c) (entries_of c.args.pairs.now) c.loop-pair.separate (entry_of c.pair-item.result)
 step c =
     let i = c.loop-pair.invariant in
-    adds c.args.year c.loop-pair.out.items (done c) (entries_of (drop (c.loop-pair.pair-index + 1) c.args.pairs.now)) (entries_of c.args.pairs.now) c.loop-pair.separate (entry_of c.pair-item.result)
-    (entries_valid c.args.year 0 (entries_of c.args.pairs.now) (sym c.first_fault.ensures ∙ c.in_default.is))
+    adds c.loop-pair.out.items (done c) (entries_of (drop (c.loop-pair.pair-index + 1) c.args.pairs.now)) (entries_of c.args.pairs.now) c.loop-pair.separate (entry_of c.pair-item.result)
     (entries_split c.args.pairs.now c.loop-pair.pair-index c.pair-item.result c.loop-pair-test.true c.pair-item.is)
     i.canonical_text i.gap_is
 
