@@ -1,8 +1,7 @@
 -- Which bytes a canonical text has.
 use Rattle.std.proofs.Common.{◌≡◌, ℕ, ◌<◌, ◌≤◌, Bool, true, false, cond, eqb, leb, ◌||◌, List, [], ◌∷◌, ◌++◌, length, take, drop, refl, sym, ap, subst, ◌∙◌, append_assoc, arith, inl, inr, length-drop}
-use Rattle.std.specs.Prelude.{is_some, All}
+use Rattle.std.specs.Prelude.{is_some}
 use Rattle.std.specs.List.{list_all, AllByRecursion}
-use Rattle.std.proofs.lemmas.List.Elements.{All-from_recursion}
 use Rattle.std.proofs.lemmas.Bool.{and_parts, and_from, leb-true, le-leb, lt-leb, ne_eqb, cases_lt}
 use Rattle.std.proofs.lemmas.List.{take-append-drop, nil_from_length}
 use Rattle.element_core.specs.declared.part.Part.{Part}
@@ -55,7 +54,7 @@ value_letters (p ∷ parts) v le h =
 text_byte : (b : ℕ) → is_character b ≡ true → is_text_byte b ≡ true
 text_byte b h = or_right (eqb b 29) (is_character b) h
 
-element_letters : (year : ℕ) (e : Entry) → (row : Row) × IsElement ai_rows year row e → list_all is_text_byte (e.ai ++ e.value) ≡ true
+pub element_letters : (year : ℕ) (e : Entry) → (row : Row) × IsElement ai_rows year row e → list_all is_text_byte (e.ai ++ e.value) ≡ true
 element_letters year e (row, is) =
     let digits = (and_parts (leb 2 (length row.ai)) (list_all is_digit row.ai) (all_at is_of_digits ai_rows row is.listed each_is_of_digits)).1 in
     let ai = subst (λ (a : List ℕ). list_all is_text_byte a ≡ true) (sym is.ai) (all_weaker is_digit is_text_byte (λ b h. text_byte b (digit_is_character b h)) row.ai digits) in
@@ -102,11 +101,6 @@ below_128 b h =
       | inr le ↦ absurd (let k = rw (ne_eqb b 29 (omega arith), ne_eqb b 95 (omega arith), lt-leb b 34 (omega arith), lt-leb b 63 (omega arith), lt-leb b 90 (omega arith), lt-leb b 122 (omega arith), le-leb 33 b (omega arith), le-leb 37 b (omega arith), le-leb 65 b (omega arith), le-leb 97 b (omega arith)) at h in cc)
     ]
 
-ascii_by : (text : List ℕ) → list_all is_text_byte text ≡ true → AllByRecursion (λ b. b < 128) text
+pub ascii_by : (text : List ℕ) → list_all is_text_byte text ≡ true → AllByRecursion (λ b. b < 128) text
 ascii_by [] h = tt
 ascii_by (b ∷ text) h = let p = and_parts (is_text_byte b) (list_all is_text_byte text) h in (below_128 b p.0, ascii_by text p.1)
-
--- a list's text is ASCII
-pub listing_ascii : (year : ℕ) (text : List ℕ) (es : List Entry) → IsElements year text es → text ≡ canonical es → All (λ b. b < 128) text
-listing_ascii year text es is text_is =
-    All-from_recursion (λ b. b < 128) text (ascii_by text (and_parts (list_all is_text_byte text) (begins_with_digits text) (listing_printable year text es is text_is)).0)

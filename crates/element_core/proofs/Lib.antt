@@ -18,3 +18,5 @@ pub mod DayLaws
 pub mod Dated
 pub mod Before
 pub mod TimeLemmas
+pub mod Listed
+pub mod FirstDigits

@@ -2,10 +2,11 @@
 
 ghost use Rattle.std.specs.Prelude.{◌≡◌, ◌+◌, ◌<◌, ◌≤◌, ◌∷◌, ◌++◌, length, All};
 ghost use Rattle.arrayvec.specs.ArrayString.{array_string_len};
-ghost use Rattle.element_core.specs.Drafts.{AreCuts, elements_in};
 ghost use Rattle.element_core.specs.Elements.{hri};
+ghost use Rattle.element_core.specs.Shown.{shown_elements};
+ghost use Rattle.element_core.specs.Walks.{AreAscii};
 
-use crate::draft::Cut;
+use crate::front::front_of;
 use arrayvec::ArrayString;
 
 /// Puts ASCII bytes at the end.
@@ -32,18 +33,17 @@ fn push_element(line: &mut ArrayString<288>, ai: &[u8], value: &[u8])
     push_bytes(line, value);
 }
 
-/// The line of the elements that stand in an ASCII text.
-pub(crate) fn line_of(text: &[u8], cuts: &[Cut]) -> ArrayString<288>
-    requires ascii { All (λ b. b < 128) text.now }
-    requires cuts { AreCuts (length text.now) cuts.now }
-    requires room { length (hri (elements_in text.now cuts.now)) ≤ 288 }
-    ensures { result.bytes ≡ hri (elements_in text.now cuts.now) }
+/// The line of the elements that stand in a text.
+pub(crate) fn line_of(text: &[u8]) -> ArrayString<288>
+    requires ascii { AreAscii (shown_elements text.now) }
+    requires room { length (hri (shown_elements text.now)) ≤ 288 }
+    ensures { result.bytes ≡ hri (shown_elements text.now) }
 {
     let mut line = ArrayString::new();
-    for cut in cuts {
-        let ai = &text[cut.start as usize..cut.value as usize];
-        let value = &text[cut.value as usize..cut.end as usize];
-        push_element(&mut line, ai, value);
+    let mut rest = text;
+    while let Some(front) = front_of(rest) {
+        push_element(&mut line, front.ai, front.value);
+        rest = front.rest;
     }
     line
 }
