@@ -3,7 +3,7 @@ use Rattle.std.proofs.Common.{◌≡◌, ◌⊎◌, ℕ, List, ◌++◌, reverse
 use Rattle.digits_core.specs.Digits.{ascii_of}
 use Rattle.ean_code.specs.Laws.{OneReading}
 use Rattle.ean_code.specs.Spelling.{IsGtinOf, IsSpelled}
-use Rattle.ean_code.specs.Symbols.{Kind, IsEanSymbol}
+use Rattle.ean_code.specs.Symbols.{Kind, IsNumberSymbol}
 use Rattle.ean_code.specs.Symbols.Kind.{Ean13 as KindEan13, Ean8 as KindEan8, UpcE as KindUpcE}
 use Rattle.ean_code.specs.declared.reading.Spelled.TheVariants.{BadCheck, Found}
 use Rattle.code128_code.specs.Laws.{OneReading as OneCodeReading}
@@ -69,7 +69,7 @@ spelled_fault Gs1128 ms fault a = inr (row_err fault (symbol_text a.0 a.1 a.2) a
 
 -- ---- forms
 
-number_form : (kind : Kind) (ms : List ℕ) (x : Result (List ℕ) RowFault) → SpellsNumber kind ms x → (digits : List ℕ) × IsEanSymbol kind ms digits
+number_form : (kind : Kind) (ms : List ℕ) (x : Result (List ℕ) RowFault) → SpellsNumber kind ms x → (digits : List ℕ) × IsNumberSymbol kind ms digits
 number_form kind ms (Ok text) a = (a.1.0, a.1.1)
 number_form kind ms (Err fault) a = (a.0.0, a.0.1)
 

@@ -4,7 +4,7 @@ use Rattle.std.proofs.lemmas.Bool.Decides.{nat_tests}
 use Rattle.std.specs.List.{AllByRecursion}
 use Rattle.std.proofs.lemmas.List.{length-set}
 use Rattle.digits_core.specs.Digits.{AreDigits, IsChecked}
-use Rattle.ean_code.specs.Symbols.{Kind, IsCheckedPlace, IsEanSymbol, digit_count, widths_of}
+use Rattle.ean_code.specs.Symbols.{Kind, IsCheckedPlace, IsNumberSymbol, digit_count, widths_of}
 use Rattle.ean_code.specs.Symbols.Kind.{Ean13, Ean8, UpcE}
 use Rattle.ean_code.specs.Spelling.{IsGtinOf, IsSpelled}
 use Rattle.ean_code.specs.Laws.{ReplacedIsUnchecked}
@@ -33,7 +33,7 @@ pub replaced_spells : (kind : Kind) → ReplacedIsUnchecked kind → (digits gti
     → IsCheckedPlace kind k → d < 10 → d ≢ get_or digits k 0
     → Spells (carrier_of kind) (widths_of kind (set digits k d)) (Err SymbolCheckDigit)
 replaced_spells kind law digits gtin k d count valid number checked place low other =
-    let symbol : IsEanSymbol kind (widths_of kind (set digits k d)) (set digits k d) = record {
+    let symbol : IsNumberSymbol kind (widths_of kind (set digits k d)) (set digits k d) = record {
       count = length-set digits k d ∙ count;
       valid = each-set (λ x. x < 10) digits k d valid low;
       widths = refl;

@@ -1,7 +1,7 @@
 -- The symbol that a row shows (ISO/IEC 15420 and 15417; GS1 General Specifications, section 5).
 use Rattle.std.specs.Prelude.{◌≡◌, ℕ, ◌+◌, ◌-◌, ◌*◌, ◌≤◌, List, length, reverse, sum, slice_index}
 use Rattle.std.specs.List.{AllZip}
-use Rattle.ean_code.specs.Symbols.{IsEanSymbol, Kind}
+use Rattle.ean_code.specs.Symbols.{IsNumberSymbol, Kind}
 use Rattle.ean_code.specs.Symbols.Kind.{Ean13 as KindEan13, Ean8 as KindEan8, UpcE as KindUpcE}
 use Rattle.code128_code.specs.Symbols.{IsCode128Symbol}
 use Rattle.scan_core.specs.declared.carrier.Carrier.{Carrier}
@@ -42,9 +42,9 @@ carrier_of KindUpcE = UpcE
 
 -- the modules are a symbol of the carrier
 abbrev pub HasForm : Carrier → List ℕ → Type 0
-HasForm Ean13 modules = (digits : List ℕ) × IsEanSymbol KindEan13 modules digits
-HasForm Ean8 modules = (digits : List ℕ) × IsEanSymbol KindEan8 modules digits
-HasForm UpcE modules = (digits : List ℕ) × IsEanSymbol KindUpcE modules digits
+HasForm Ean13 modules = (digits : List ℕ) × IsNumberSymbol KindEan13 modules digits
+HasForm Ean8 modules = (digits : List ℕ) × IsNumberSymbol KindEan8 modules digits
+HasForm UpcE modules = (digits : List ℕ) × IsNumberSymbol KindUpcE modules digits
 HasForm Gs1128 modules = (start : ℕ) × (values : List ℕ) × (check : ℕ) × IsCode128Symbol start values check modules
 
 -- from left to right, or from right to left

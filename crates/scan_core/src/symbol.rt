@@ -1,7 +1,7 @@
 //! The symbol that modules are, and what it says.
 ghost use Rattle.std.specs.Prelude.{IfNone, IfSome, List, ℕ};
 ghost use Rattle.ean_code.specs.Spelling.{IsSpelled};
-ghost use Rattle.ean_code.specs.Symbols.{IsEanSymbol, Kind};
+ghost use Rattle.ean_code.specs.Symbols.{IsNumberSymbol, Kind};
 ghost use Rattle.scan_core.specs.Answers.{Spells, SpellsNumber};
 ghost use Rattle.scan_core.specs.Reading.{IsReadAs, content_of};
 ghost use Rattle.scan_core.specs.Showing.{HasForm, Way, along};
@@ -29,7 +29,7 @@ fn number(spelled: Spelled) -> Option<Symbol>
     ensures found { (kind : Kind) (modules : List ℕ) → IsSpelled kind modules spelled
         → IfSome result (λ s. SpellsNumber kind modules (content_of s)) }
     ensures none { (kind : Kind) (modules : List ℕ) → IsSpelled kind modules spelled
-        → IfNone result (((digits : List ℕ) × IsEanSymbol kind modules digits) → ⊥) }
+        → IfNone result (((digits : List ℕ) × IsNumberSymbol kind modules digits) → ⊥) }
 {
     match spelled {
         Spelled::NoPattern => None,
