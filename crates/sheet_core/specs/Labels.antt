@@ -1,17 +1,17 @@
--- Labels and their symbols (GS1 General Specifications, section 5.2).
+-- Labels and their symbols (GS1 General Specifications, sections 5.2 to 5.4).
 use Rattle.std.specs.Prelude.{◌≡◌, ℕ, ◌++◌, ◌*◌, ◌+◌, ◌≤◌, List, codes, drop, length, sum}
 use Rattle.digits_core.specs.Digits.{ascii_of, padded}
 use Rattle.ean_code.specs.Spelling.{IsPrintedUpce, IsSpelled}
-use Rattle.ean_code.specs.Symbols.Kind.{Ean13 as KindEan13, Ean8 as KindEan8}
+use Rattle.ean_code.specs.Symbols.Kind.{Ean13 as KindEan13, Ean8 as KindEan8, Itf14 as KindItf14}
 use Rattle.ean_code.specs.declared.reading.Spelled.TheVariants.{Found}
 use Rattle.element_core.specs.Elements.{canonical}
 use Rattle.code128_code.specs.Coding.{data_values}
 use Rattle.code128_code.specs.Symbols.{IsCode128Symbol, mod103}
 use Rattle.code128_code.specs.Texts.{IsGs1Symbol}
 use Rattle.scan_core.specs.declared.carrier.Carrier.{Carrier}
-use Rattle.scan_core.specs.declared.carrier.Carrier.TheVariants.{Ean13 as CarrierEan13, Ean8 as CarrierEan8, UpcE as CarrierUpcE, Gs1128 as CarrierGs1128}
+use Rattle.scan_core.specs.declared.carrier.Carrier.TheVariants.{Ean13 as CarrierEan13, Ean8 as CarrierEan8, UpcE as CarrierUpcE, Itf14 as CarrierItf14, Gs1128 as CarrierGs1128}
 use Rattle.sheet_core.specs.declared.label.Label.{Label}
-use Rattle.sheet_core.specs.declared.label.Label.TheVariants.{Ean13, UpcA, Ean8, UpcE, Gs1128}
+use Rattle.sheet_core.specs.declared.label.Label.TheVariants.{Ean13, UpcA, Ean8, UpcE, Itf14, Gs1128}
 use Rattle.sheet_core.specs.Grids.{Cells}
 
 -- the element string of a GTIN: Application Identifier 01 and its 14 digits
@@ -24,6 +24,7 @@ label_text (Ean13 gtin) = gtin_text gtin
 label_text (UpcA gtin) = gtin_text gtin
 label_text (Ean8 gtin) = gtin_text gtin
 label_text (UpcE gtin) = gtin_text gtin
+label_text (Itf14 gtin) = gtin_text gtin
 label_text (Gs1128 listing) = canonical listing.list
 
 -- the carrier that its symbol is read as
@@ -32,6 +33,7 @@ carrier_of (Ean13 gtin) = CarrierEan13
 carrier_of (UpcA gtin) = CarrierEan13
 carrier_of (Ean8 gtin) = CarrierEan8
 carrier_of (UpcE gtin) = CarrierUpcE
+carrier_of (Itf14 gtin) = CarrierItf14
 carrier_of (Gs1128 listing) = CarrierGs1128
 
 -- the modules are the GS1-128 symbol that is printed for a text of at most 48 characters: start character C, the values of the text by the
@@ -47,6 +49,7 @@ IsLabelSymbol (Ean13 gtin) modules = IsSpelled KindEan13 modules (Found gtin)
 IsLabelSymbol (UpcA gtin) modules = (gtin ≡ padded (drop 2 gtin)) × IsSpelled KindEan13 modules (Found gtin)
 IsLabelSymbol (Ean8 gtin) modules = IsSpelled KindEan8 modules (Found gtin)
 IsLabelSymbol (UpcE gtin) modules = IsPrintedUpce gtin modules
+IsLabelSymbol (Itf14 gtin) modules = IsSpelled KindItf14 modules (Found gtin)
 IsLabelSymbol (Gs1128 listing) modules = IsPrintedGs1128 (canonical listing.list) modules
 
 -- the nominal quiet zone left of it, in modules
@@ -55,6 +58,7 @@ quiet_left_of (Ean13 gtin) = 11
 quiet_left_of (UpcA gtin) = 9
 quiet_left_of (Ean8 gtin) = 7
 quiet_left_of (UpcE gtin) = 9
+quiet_left_of (Itf14 gtin) = 10
 quiet_left_of (Gs1128 listing) = 10
 
 -- the nominal quiet zone right of it, in modules
@@ -63,6 +67,7 @@ quiet_right_of (Ean13 gtin) = 7
 quiet_right_of (UpcA gtin) = 9
 quiet_right_of (Ean8 gtin) = 7
 quiet_right_of (UpcE gtin) = 7
+quiet_right_of (Itf14 gtin) = 10
 quiet_right_of (Gs1128 listing) = 10
 
 -- a symbol's modules, and the quiet zones that it is printed with

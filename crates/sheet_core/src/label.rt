@@ -2,7 +2,7 @@
 ghost use Rattle.std.specs.Prelude.{◌≡◌, ◌≤◌, ℕ, List, IfNone, IfSome, drop};
 ghost use Rattle.digits_core.specs.Digits.{padded};
 ghost use Rattle.ean_code.specs.Spelling.{IsSpelled};
-ghost use Rattle.ean_code.specs.Symbols.Kind.{Ean13, Ean8};
+ghost use Rattle.ean_code.specs.Symbols.Kind.{Ean13, Ean8, Itf14};
 ghost use Rattle.ean_code.specs.declared.reading.Spelled.TheVariants.{Found};
 ghost use Rattle.element_core.specs.Elements.{canonical};
 ghost use Rattle.sheet_core.specs.Labels.{Drawn, IsDrawn, IsLabelSymbol, IsPrintedGs1128, carrier_of, gtin_text, label_text, quiet_left_of, quiet_right_of};
@@ -10,7 +10,7 @@ ghost use Rattle.sheet_core.specs.Labels.{Drawn, IsDrawn, IsLabelSymbol, IsPrint
 use crate::symbol::Symbol;
 use code128_code::encode;
 use digits_core::Gtin;
-use ean_code::{Modules, ean8, ean13, upce};
+use ean_code::{Modules, ean8, ean13, itf14, upce};
 use element_core::{Elements, Text};
 use scan_core::Carrier;
 
@@ -25,6 +25,8 @@ pub enum Label {
     Ean8(Gtin),
     /// A UPC-E (ISO/IEC 15420), of a GTIN of 12 digits that can be written with six.
     UpcE(Gtin),
+    /// An ITF-14 (ISO/IEC 16390), of any GTIN, a wide element being three modules.
+    Itf14(Gtin),
     /// A GS1-128 (ISO/IEC 15417), of elements whose canonical text has at most 48 characters.
     Gs1128(Elements),
 }
@@ -70,6 +72,15 @@ fn upca(gtin: &Gtin) -> Option<Modules>
     ean13(gtin)
 }
 
+/// The ITF-14 of a GTIN.
+fn itf14_of(gtin: &Gtin) -> Modules
+    ensures { IsSpelled Itf14 result (Found gtin.now) }
+{
+    // Its contract says that the check digit is right.
+    let _ = gtin.digits14();
+    itf14(gtin)
+}
+
 /// The GS1-128 of elements, if their canonical text has at most 48 characters.
 fn gs1128(elements: &Elements) -> Option<Modules>
     ensures some { IfSome result (IsPrintedGs1128 (canonical elements.now.list)) }
@@ -87,9 +98,11 @@ impl Label {
         ensures { result.items ≡ label_text self.now }
     {
         match self {
-            Label::Ean13(gtin) | Label::UpcA(gtin) | Label::Ean8(gtin) | Label::UpcE(gtin) => {
-                gtin_text(gtin)
-            }
+            Label::Ean13(gtin)
+            | Label::UpcA(gtin)
+            | Label::Ean8(gtin)
+            | Label::UpcE(gtin)
+            | Label::Itf14(gtin) => gtin_text(gtin),
             Label::Gs1128(elements) => elements.text(),
         }
     }
@@ -102,6 +115,7 @@ impl Label {
             Label::Ean13(_) | Label::UpcA(_) => Carrier::Ean13,
             Label::Ean8(_) => Carrier::Ean8,
             Label::UpcE(_) => Carrier::UpcE,
+            Label::Itf14(_) => Carrier::Itf14,
             Label::Gs1128(_) => Carrier::Gs1128,
         }
     }
@@ -116,6 +130,7 @@ impl Label {
             Label::UpcA(gtin) => upca(gtin),
             Label::Ean8(gtin) => ean8_of(gtin),
             Label::UpcE(gtin) => upce(gtin),
+            Label::Itf14(gtin) => Some(itf14_of(gtin)),
             Label::Gs1128(elements) => gs1128(elements),
         }
     }
@@ -131,7 +146,7 @@ impl Label {
             Label::UpcA(_) => (9, 9),
             Label::Ean8(_) => (7, 7),
             Label::UpcE(_) => (9, 7),
-            Label::Gs1128(_) => (10, 10),
+            Label::Itf14(_) | Label::Gs1128(_) => (10, 10),
         }
     }
 

@@ -23,6 +23,7 @@ print_kind_named name =
     else if bytes_eq name (codes "upca") then Some kind.UpcA
     else if bytes_eq name (codes "ean8") then Some kind.Ean8
     else if bytes_eq name (codes "upce") then Some kind.UpcE
+    else if bytes_eq name (codes "itf14") then Some kind.Itf14
     else if bytes_eq name (codes "gs1128") then Some kind.Gs1128
     else None
 
@@ -49,6 +50,7 @@ IsLabelAs year kind.Ean13 field r = IsGtinLabel label.Ean13 field r
 IsLabelAs year kind.UpcA field r = IsGtinLabel label.UpcA field r
 IsLabelAs year kind.Ean8 field r = IsGtinLabel label.Ean8 field r
 IsLabelAs year kind.UpcE field r = IsGtinLabel label.UpcE field r
+IsLabelAs year kind.Itf14 field r = IsGtinLabel label.Itf14 field r
 IsLabelAs year kind.Gs1128 field r = IsElementLabel year (spelled_text field) r
 
 -- the same by the name of the kind
@@ -69,6 +71,7 @@ kind_name (label.Ean13 gtin) = codes "ean13"
 kind_name (label.UpcA gtin) = codes "upca"
 kind_name (label.Ean8 gtin) = codes "ean8"
 kind_name (label.UpcE gtin) = codes "upce"
+kind_name (label.Itf14 gtin) = codes "itf14"
 kind_name (label.Gs1128 es) = codes "gs1128"
 
 -- the elements that a label says
@@ -77,6 +80,7 @@ label_list (label.Ean13 gtin) = gtin_entry gtin ∷ []
 label_list (label.UpcA gtin) = gtin_entry gtin ∷ []
 label_list (label.Ean8 gtin) = gtin_entry gtin ∷ []
 label_list (label.UpcE gtin) = gtin_entry gtin ∷ []
+label_list (label.Itf14 gtin) = gtin_entry gtin ∷ []
 label_list (label.Gs1128 es) = es.list
 
 -- the human-readable line of a label

@@ -20,6 +20,7 @@ fn identifier(carrier: Carrier) -> &'static str
     match carrier {
         Carrier::Ean13 | Carrier::UpcE => "]E0",
         Carrier::Ean8 => "]E4",
+        Carrier::Itf14 => "]I1",
         Carrier::Gs1128 => "]C1",
     }
 }

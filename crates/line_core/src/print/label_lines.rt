@@ -17,6 +17,7 @@ fn kind_name(label: &Label) -> &'static str
         Label::UpcA(_) => "upca",
         Label::Ean8(_) => "ean8",
         Label::UpcE(_) => "upce",
+        Label::Itf14(_) => "itf14",
         Label::Gs1128(_) => "gs1128",
     }
 }
@@ -26,9 +27,11 @@ fn label_hri(label: &Label, year: Year) -> ArrayString<288>
     ensures { result.bytes ≡ label_hri label.now }
 {
     match label {
-        Label::Ean13(gtin) | Label::UpcA(gtin) | Label::Ean8(gtin) | Label::UpcE(gtin) => {
-            Elements::of_gtin(gtin, year).hri()
-        }
+        Label::Ean13(gtin)
+        | Label::UpcA(gtin)
+        | Label::Ean8(gtin)
+        | Label::UpcE(gtin)
+        | Label::Itf14(gtin) => Elements::of_gtin(gtin, year).hri(),
         Label::Gs1128(elements) => elements.hri(),
     }
 }
