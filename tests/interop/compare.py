@@ -52,16 +52,9 @@ def of_gtin(gtin, zint=None):
     return Text(gtin, zint or gtin[:-1], says, "(01)" + says)
 
 
-def ean13(chance):
-    return of_gtin(checked(chance.choice("123456789") + digits(chance, 11)))
-
-
-def upca(chance):
-    return of_gtin(checked(digits(chance, 11)))
-
-
-def ean8(chance):
-    return of_gtin(checked(digits(chance, 7)))
+def gtin(count, first="0123456789"):
+    """A GTIN of so many digits, of which the first is one of these. zint adds the check digit."""
+    return lambda chance: of_gtin(checked(chance.choice(first) + digits(chance, count - 2)))
 
 
 def upce(chance):
@@ -74,12 +67,7 @@ def upce(chance):
     elif six[5] in "56789":
         six[4] = chance.choice("123456789")
     seven = "0" + "".join(six)
-    gtin = gtin12(seven + "0")
-    return of_gtin(gtin, seven)
-
-
-def itf14(chance):
-    return of_gtin(checked(digits(chance, 13)))
+    return of_gtin(gtin12(seven + "0"), seven)
 
 
 def date(chance):
@@ -159,11 +147,11 @@ class Kind:
         self.zbar, self.zxing, self.modules, self.text = zbar, zxing, modules, text
 
 
-# A further kind is one line here, and its texts are one function above.
+# A further kind is one line here; gtin(14) makes the texts of one that shows a GTIN-14.
 KINDS = [
-    Kind("ean13", "]E0", "EANX", "EAN-13", "EAN-13", 113, ean13),
-    Kind("upca", "]E0", "UPCA", "EAN-13", "UPC-A", 113, upca),
-    Kind("ean8", "]E4", "EANX", "EAN-8", "EAN-8", 81, ean8),
+    Kind("ean13", "]E0", "EANX", "EAN-13", "EAN-13", 113, gtin(13, "123456789")),
+    Kind("upca", "]E0", "UPCA", "EAN-13", "UPC-A", 113, gtin(12)),
+    Kind("ean8", "]E4", "EANX", "EAN-8", "EAN-8", 81, gtin(8)),
     Kind("upce", "]E0", "UPCE", "EAN-13", "UPC-E", 67, upce),
     Kind("gs1128", "]C1", "GS1_128", "CODE-128", "Code128", 594, gs1128),
 ]
