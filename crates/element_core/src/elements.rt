@@ -1,6 +1,6 @@
 //! Lists of elements.
 
-ghost use Rattle.std.specs.Prelude.{◌≡◌, ◌+◌, ◌<◌, ◌≤◌, [], ◌∷◌, ◌++◌, length, slice_get, List, Some, IfOk, IfErr, IsOk, OnOk, None, Err, IsTrue};
+ghost use Rattle.std.specs.Prelude.{◌≡◌, ◌+◌, ◌<◌, ◌≤◌, [], ◌∷◌, ◌++◌, length, slice_get, List, Some, IfOk, IfErr, IsOk, OnErr, OnOk, None, Err, IsTrue, string_bytes};
 ghost use Rattle.element_core.specs.Days.{IsDay};
 ghost use Rattle.element_core.specs.Rows.{entry_in};
 ghost use Rattle.element_core.specs.Elements.{Entry, IsElements, FirstFault, canonical, entry_day, entry_time, gtin_entry, hri, is_printable};
@@ -9,13 +9,14 @@ use crate::draft::{append, gap_length};
 use crate::element::{Element, day_of_element, time_of_element};
 use crate::fault::ElementFault;
 use crate::front::element_at;
-use crate::hri::line_of;
+use crate::hri::{add_line_of, line_of};
 use crate::pairs::{Pair, first_fault, needs_separator};
 use crate::shown_list::{count_of, element_of};
 use crate::text::{Text, copied};
 use crate::year::Year;
 use arrayvec::ArrayString;
 use digits_core::Gtin;
+use std::alloc::AllocError;
 use std::marker::Model;
 
 /// A valid list of elements under its reference year.
@@ -25,6 +26,9 @@ pub struct Elements {
     text: Text,
     year: Year,
 }
+
+// Its size in bytes is paid at each hand-over of an answer.
+const _: () = prove!(size_of::<Elements>() == 208);
 
 impl Model for Elements {
     ghost use Rattle.element_core.specs.Elements.{Listing};
@@ -168,5 +172,18 @@ impl Elements {
         ensures { result.bytes ≡ hri self.now.list }
     {
         line_of(self.text.as_slice())
+    }
+
+    /// Puts the human-readable interpretation at the end of a text. Where there is no memory for it, the
+    /// text stays as it was.
+    pub fn push_hri(&self, line: &mut String) -> Result<(), AllocError>
+        ensures ok { OnOk result (string_bytes line.new ≡ string_bytes line.old ++ hri self.now.list) }
+        ensures err { OnErr result (string_bytes line.new ≡ string_bytes line.old) }
+    {
+        let text = self.text.as_slice();
+        // An element has four bytes at least with its separator, and the line two parentheses for it.
+        line.reserve(text.len() + (text.len() + 1) / 4 * 2)?;
+        add_line_of(line, text);
+        Ok(())
     }
 }
