@@ -6,7 +6,7 @@ use Rattle.digits_core.specs.Digits.{digits_of, padded}
 use Rattle.digits_core.specs.Gtins.{gtin_fault}
 use Rattle.digits_core.specs.declared.fault.DigitFault.{DigitFault}
 use Rattle.element_core.specs.declared.fault.ElementFault.{ElementFault}
-use Rattle.element_core.specs.Elements.{Entry, FirstFault, IsElements, Listing, gtin_entry, hri}
+use Rattle.element_core.specs.Elements.{Entry, FirstFault, IsElements, Listing, hri}
 use Rattle.sheet_core.specs.Labels.{content_list, content_of, form_of}
 use Rattle.sheet_core.specs.declared.label.Label.{Label}
 use Rattle.sheet_core.specs.declared.label.Label.TheVariants as label
