@@ -5,7 +5,7 @@ ghost use Rattle.ean_code.specs.Spelling.{IsSpelled};
 ghost use Rattle.ean_code.specs.Symbols.Kind.{Ean13, Ean8, Itf14};
 ghost use Rattle.ean_code.specs.declared.reading.Spelled.TheVariants.{Found};
 ghost use Rattle.element_core.specs.Elements.{canonical};
-ghost use Rattle.sheet_core.specs.Labels.{Drawn, IsDrawn, IsLabelSymbol, IsPrintedGs1128, carrier_of, gtin_text, label_text, quiet_left_of, quiet_right_of};
+ghost use Rattle.sheet_core.specs.Labels.{Drawn, IsDrawn, IsLabelSymbol, IsPrintedGs1128, carrier_of, form_of, gtin_text, label_text};
 
 use crate::symbol::Symbol;
 use code128_code::encode;
@@ -29,6 +29,35 @@ pub enum Label {
     Itf14(Gtin),
     /// A GS1-128 (ISO/IEC 15417), of elements whose canonical text has at most 48 characters.
     Gs1128(Elements),
+}
+
+/// A kind of label.
+#[derive(Clone, Copy, Debug)]
+pub struct Form {
+    /// Its name.
+    pub name: &'static str,
+    /// The carrier that its symbol is read as.
+    pub carrier: Carrier,
+    /// The nominal quiet zone left of the symbol, in modules.
+    pub quiet_left: u8,
+    /// The nominal quiet zone right of the symbol, in modules.
+    pub quiet_right: u8,
+}
+
+impl Form {
+    fn new(name: &'static str, carrier: Carrier, quiet_left: u8, quiet_right: u8) -> Form
+        ensures name { result.name.now ≡ name.now }
+        ensures carrier { result.carrier ≡ carrier }
+        ensures left { result.quiet_left ≡ quiet_left }
+        ensures right { result.quiet_right ≡ quiet_right }
+    {
+        Form {
+            name,
+            carrier,
+            quiet_left,
+            quiet_right,
+        }
+    }
 }
 
 /// The element string of a GTIN.
@@ -107,17 +136,30 @@ impl Label {
         }
     }
 
+    /// Its kind: the name, the carrier and the nominal quiet zones (GS1 General Specifications,
+    /// sections 5.2 to 5.4).
+    pub fn form(&self) -> Form
+        ensures name { result.name.now ≡ (form_of self.now).name }
+        ensures carrier { result.carrier ≡ (form_of self.now).carrier }
+        ensures left { result.quiet_left ≡ (form_of self.now).quiet_left }
+        ensures right { result.quiet_right ≡ (form_of self.now).quiet_right }
+        ensures few { (result.quiet_left ≤ 11) × (result.quiet_right ≤ 11) }
+    {
+        match self {
+            Label::Ean13(_) => Form::new("ean13", Carrier::Ean13, 11, 7),
+            Label::UpcA(_) => Form::new("upca", Carrier::Ean13, 9, 9),
+            Label::Ean8(_) => Form::new("ean8", Carrier::Ean8, 7, 7),
+            Label::UpcE(_) => Form::new("upce", Carrier::UpcE, 9, 7),
+            Label::Itf14(_) => Form::new("itf14", Carrier::Itf14, 10, 10),
+            Label::Gs1128(_) => Form::new("gs1128", Carrier::Gs1128, 10, 10),
+        }
+    }
+
     /// The carrier that its symbol is read as.
     pub fn carrier(&self) -> Carrier
         ensures { result ≡ carrier_of self.now }
     {
-        match self {
-            Label::Ean13(_) | Label::UpcA(_) => Carrier::Ean13,
-            Label::Ean8(_) => Carrier::Ean8,
-            Label::UpcE(_) => Carrier::UpcE,
-            Label::Itf14(_) => Carrier::Itf14,
-            Label::Gs1128(_) => Carrier::Gs1128,
-        }
+        self.form().carrier
     }
 
     /// The modules of the label's symbol, if it has one.
@@ -135,21 +177,6 @@ impl Label {
         }
     }
 
-    /// The nominal quiet zones left and right of the symbol, in modules.
-    fn quiet_zones(&self) -> (u8, u8)
-        ensures left { result.0 ≡ quiet_left_of self.now }
-        ensures right { result.1 ≡ quiet_right_of self.now }
-        ensures few { (result.0 ≤ 11) × (result.1 ≤ 11) }
-    {
-        match self {
-            Label::Ean13(_) => (11, 7),
-            Label::UpcA(_) => (9, 9),
-            Label::Ean8(_) => (7, 7),
-            Label::UpcE(_) => (9, 7),
-            Label::Itf14(_) | Label::Gs1128(_) => (10, 10),
-        }
-    }
-
     /// What is drawn of the label, if it has a symbol.
     pub(crate) fn symbol(&self) -> Option<Symbol>
         ensures some { IfSome result (IsDrawn self.now) }
@@ -158,11 +185,11 @@ impl Label {
         let Some(modules) = self.modules() else {
             return None;
         };
-        let (quiet_left, quiet_right) = self.quiet_zones();
+        let form = self.form();
         Some(Symbol {
             modules,
-            quiet_left,
-            quiet_right,
+            quiet_left: form.quiet_left,
+            quiet_right: form.quiet_right,
         })
     }
 
