@@ -1,7 +1,9 @@
 //! Why values say no element string, and why elements are not encoded.
-ghost use Rattle.std.specs.Prelude.{Some, codes};
+ghost use Rattle.std.specs.Prelude.{Some, ◌≡◌, codes};
+ghost use Rattle.digits_core.specs.Refusals.{refusal_text};
 ghost use Rattle.code128_code.specs.Faults.{code128_fault_text};
 
+use digits_core::Refusal;
 use std::fmt;
 
 /// Why the values of a Code 128 symbol say no text: the first of these tests that they fail, and of
@@ -18,16 +20,26 @@ pub enum Code128Fault {
     CodeSet,
 }
 
+impl Code128Fault {
+    /// The refusal that an output line tells.
+    pub fn refusal(self) -> Refusal
+        ensures { refusal_text result.words.now result.place ≡ code128_fault_text self }
+    {
+        let words = match self {
+            Code128Fault::CheckCharacter => "refused 13 CheckCharacter",
+            Code128Fault::NotGs1 => "refused 14 NotGs1",
+            Code128Fault::FunctionCharacter => "refused 15 FunctionCharacter",
+            Code128Fault::CodeSet => "refused 16 CodeSet",
+        };
+        Refusal { words, place: None }
+    }
+}
+
 impl fmt::Display for Code128Fault {
     ghost output = { λ fault. Some (code128_fault_text fault) };
 
     fn fmt<W: fmt::Write>(&self, f: &mut fmt::Formatter<W>) -> fmt::Result {
-        match self {
-            Code128Fault::CheckCharacter => write!(f, "refused 13 CheckCharacter"),
-            Code128Fault::NotGs1 => write!(f, "refused 14 NotGs1"),
-            Code128Fault::FunctionCharacter => write!(f, "refused 15 FunctionCharacter"),
-            Code128Fault::CodeSet => write!(f, "refused 16 CodeSet"),
-        }
+        self.refusal().fmt(f)
     }
 }
 

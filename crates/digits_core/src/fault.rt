@@ -1,7 +1,9 @@
 //! Why a text of digits is refused.
-ghost use Rattle.std.specs.Prelude.{Some};
+ghost use Rattle.std.specs.Prelude.{Some, ◌≡◌};
 ghost use Rattle.digits_core.specs.Faults.{digit_fault_text};
+ghost use Rattle.digits_core.specs.Refusals.{refusal_text};
 
+use crate::refusal::Refusal;
 use std::fmt;
 
 /// Why a text is no number of the kind that was asked for.
@@ -15,14 +17,24 @@ pub enum DigitFault {
     CheckDigit,
 }
 
+impl DigitFault {
+    /// The refusal that an output line tells.
+    pub fn refusal(self) -> Refusal
+        ensures { refusal_text result.words.now result.place ≡ digit_fault_text self }
+    {
+        let (words, place) = match self {
+            DigitFault::Length => ("refused 1 Length", None),
+            DigitFault::NotDigit(place) => ("refused 2 NotDigit", Some(place)),
+            DigitFault::CheckDigit => ("refused 3 CheckDigit", None),
+        };
+        Refusal { words, place }
+    }
+}
+
 impl fmt::Display for DigitFault {
     ghost output = { λ fault. Some (digit_fault_text fault) };
 
     fn fmt<W: fmt::Write>(&self, f: &mut fmt::Formatter<W>) -> fmt::Result {
-        match self {
-            DigitFault::Length => write!(f, "refused 1 Length"),
-            DigitFault::NotDigit(place) => write!(f, "refused 2 NotDigit {place}"),
-            DigitFault::CheckDigit => write!(f, "refused 3 CheckDigit"),
-        }
+        self.refusal().fmt(f)
     }
 }

@@ -32,7 +32,7 @@ impl Model for Gtin {
 }
 
 /// The offset of the first byte that is no ASCII digit.
-fn first_other(text: &[u8]) -> Option<usize>
+pub(crate) fn first_other(text: &[u8]) -> Option<usize>
     ensures { result ≡ first_other text.now }
 {
     text.iter().position(|byte| !byte.is_ascii_digit())

@@ -1,6 +1,11 @@
 //! The check digit of a payload.
-ghost use Rattle.std.specs.Prelude.{[], ◌≡◌, ◌↔◌, IsTrue, ◌+◌, ◌<◌, ◌≤◌, ◌∷◌, ◌++◌, ℕ, length};
+ghost use Rattle.std.specs.Prelude.{[], None, Some, ◌≡◌, ◌↔◌, IfErr, IfNone, IfOk, IsTrue, OnOk, ◌+◌, ◌<◌, ◌≤◌, ◌∷◌, ◌++◌, ℕ, length};
 ghost use Rattle.digits_core.specs.Digits.{AreAsciiDigits, digits_of, weighted, IsChecked};
+ghost use Rattle.digits_core.specs.Gtins.{first_other};
+ghost use Rattle.digits_core.specs.Payloads.{not_digits, payload_fault};
+
+use crate::fault::DigitFault;
+use crate::gtin::first_other;
 
 /// The sum of the payload's digits, each times its weight before a check digit.
 fn payload_sum(payload: &[u8]) -> u32
@@ -38,4 +43,34 @@ pub(crate) fn is_checked(text: &[u8]) -> bool
 {
     let last = text.len() - 1;
     text[last] - b'0' == check_digit(&text[..last])
+}
+
+/// Why a text is not all ASCII digits, if it is not: its first byte that is none.
+pub fn not_digits(text: &[u8]) -> Option<DigitFault>
+    ensures fault { result ≡ not_digits (first_other text.now) }
+    ensures digits { IfNone result (AreAsciiDigits text.now) }
+{
+    match first_other(text) {
+        Some(place) => Some(DigitFault::NotDigit(place)),
+        None => None,
+    }
+}
+
+/// The check digit, 0 to 9, of a text of 1 to 17 ASCII digits that have none yet
+/// (GS1 General Specifications, section 7.9.1).
+///
+/// Of two faults the first is answered: the length, then the first byte that is no digit.
+pub fn payload_digit(text: &[u8]) -> Result<u8, DigitFault>
+    ensures digit { IfOk result (λ digit. digit < 10) }
+    ensures checked { IfOk result (λ digit. IsChecked (digits_of text.now ++ digit ∷ [])) }
+    ensures taken { OnOk result (payload_fault text.now ≡ None) }
+    ensures refused { IfErr result (λ fault. payload_fault text.now ≡ Some fault) }
+{
+    if text.is_empty() || text.len() > 17 {
+        return Err(DigitFault::Length);
+    }
+    match not_digits(text) {
+        Some(fault) => Err(fault),
+        None => Ok(check_digit(text)),
+    }
 }

@@ -1,8 +1,10 @@
 //! Why a text or a list of pairs is no list of elements.
 
-ghost use Rattle.std.specs.Prelude.{Some};
+ghost use Rattle.std.specs.Prelude.{Some, ◌≡◌};
+ghost use Rattle.digits_core.specs.Refusals.{refusal_text};
 ghost use Rattle.element_core.specs.Faults.{element_fault_text};
 
+use digits_core::Refusal;
 use std::fmt;
 
 /// The first fault of a text, with the offset in it of the first byte of the element's AI, in bytes;
@@ -27,21 +29,29 @@ pub enum ElementFault {
     TooLong,
 }
 
+impl ElementFault {
+    /// The refusal that an output line tells.
+    pub fn refusal(self) -> Refusal
+        ensures { refusal_text result.words.now result.place ≡ element_fault_text self }
+    {
+        let (words, place) = match self {
+            ElementFault::Empty => ("refused 4 Empty", None),
+            ElementFault::UnknownAi(place) => ("refused 5 UnknownAi", Some(place)),
+            ElementFault::ValueLength(place) => ("refused 6 ValueLength", Some(place)),
+            ElementFault::ValueCharacter(place) => ("refused 7 ValueCharacter", Some(place)),
+            ElementFault::ValueCheckDigit(place) => ("refused 8 ValueCheckDigit", Some(place)),
+            ElementFault::ValueDate(place) => ("refused 9 ValueDate", Some(place)),
+            ElementFault::MissingSeparator(place) => ("refused 10 MissingSeparator", Some(place)),
+            ElementFault::TooLong => ("refused 11 TooLong", None),
+        };
+        Refusal { words, place }
+    }
+}
+
 impl fmt::Display for ElementFault {
     ghost output = { λ fault. Some (element_fault_text fault) };
 
     fn fmt<W: fmt::Write>(&self, f: &mut fmt::Formatter<W>) -> fmt::Result {
-        match self {
-            ElementFault::Empty => write!(f, "refused 4 Empty"),
-            ElementFault::UnknownAi(place) => write!(f, "refused 5 UnknownAi {place}"),
-            ElementFault::ValueLength(place) => write!(f, "refused 6 ValueLength {place}"),
-            ElementFault::ValueCharacter(place) => write!(f, "refused 7 ValueCharacter {place}"),
-            ElementFault::ValueCheckDigit(place) => write!(f, "refused 8 ValueCheckDigit {place}"),
-            ElementFault::ValueDate(place) => write!(f, "refused 9 ValueDate {place}"),
-            ElementFault::MissingSeparator(place) => {
-                write!(f, "refused 10 MissingSeparator {place}")
-            }
-            ElementFault::TooLong => write!(f, "refused 11 TooLong"),
-        }
+        self.refusal().fmt(f)
     }
 }

@@ -10,6 +10,7 @@ pub mod BeforeItf14
 pub mod Bits
 pub mod Faults
 pub mod Laws
+pub mod Lines
 pub mod Ratios
 pub mod Reading
 pub mod Row

@@ -1,14 +1,14 @@
 //! What a row says.
-ghost use Rattle.std.specs.Prelude.{◌≡◌, ◌≢◌, IfErr, IfOk, ℕ, length, sum};
+ghost use Rattle.std.specs.Prelude.{None, Some, ◌≡◌, ◌≢◌, IfErr, IfOk, OnOk, ℕ, length, sum};
 ghost use Rattle.scan_core.specs.Answers.{Fails, FailsAt, IsAnswer, IsRefused, Tells};
 ghost use Rattle.scan_core.specs.Reading.{content_of};
-ghost use Rattle.scan_core.specs.Row.{IsRow, inner};
+ghost use Rattle.scan_core.specs.Row.{IsRow, inner, runs_fault};
 ghost use Rattle.scan_core.specs.Showing.{IsCandidate};
 
 use crate::carrier::{Candidate, Carrier, fixed_candidate, gs1128_candidate};
-use crate::fault::RowFault;
+use crate::fault::{RowFault, RunFault};
 use crate::rounding::{is_quiet, round, total_dots};
-use crate::runs::{Runs, inner};
+use crate::runs::{Runs, inner, runs_fault};
 use crate::stage::{Stage, later};
 use crate::symbol::{Symbol, read_some_way};
 use element_core::{Elements, Year};
@@ -98,15 +98,12 @@ fn find_symbol(widths: &[u16]) -> Result<Shown, RowFault>
     }
 }
 
-/// What the row says, read from the left or from the right (GS1 General Specifications, section 5;
-/// ISO/IEC 15420, 16390 and 15417): the elements of the one symbol that it shows, or why it is refused.
-///
-/// A run is rounded to the nearest number of modules, by at most a third of one; the symbol's own
-/// width says how wide a module is. Both light ends have to be five modules wide.
-pub fn read_row(runs: &Runs, year: Year) -> Answer
-    ensures { IsAnswer runs.now year result }
+/// What the row of these widths says.
+fn answer_of(widths: &[u16], year: Year) -> Answer
+    requires { IsRow widths.now }
+    ensures { IsAnswer widths.now year result }
 {
-    let shown = match find_symbol(runs.widths()) {
+    let shown = match find_symbol(widths) {
         Ok(shown) => shown,
         Err(fault) => return Answer::Refused(fault),
     };
@@ -117,4 +114,28 @@ pub fn read_row(runs: &Runs, year: Year) -> Answer
         },
         Err(fault) => Answer::Refused(fault),
     }
+}
+
+/// What the row says, read from the left or from the right (GS1 General Specifications, section 5;
+/// ISO/IEC 15420, 16390 and 15417): the elements of the one symbol that it shows, or why it is refused.
+///
+/// A run is rounded to the nearest number of modules, by at most a third of one; the symbol's own
+/// width says how wide a module is. Both light ends have to be five modules wide.
+pub fn read_row(runs: &Runs, year: Year) -> Answer
+    ensures { IsAnswer runs.now year result }
+{
+    answer_of(runs.widths(), year)
+}
+
+/// What the row of these widths in dots says, as `read_row` does, or why they are no row. No memory is
+/// taken.
+pub fn read_widths(widths: &[u16], year: Year) -> Result<Answer, RunFault>
+    ensures ok { IfOk result (IsAnswer widths.now year) }
+    ensures taken { OnOk result (runs_fault widths.now ≡ None) }
+    ensures refused { IfErr result (λ fault. runs_fault widths.now ≡ Some fault) }
+{
+    if let Some(fault) = runs_fault(widths) {
+        return Err(fault);
+    }
+    Ok(answer_of(widths, year))
 }

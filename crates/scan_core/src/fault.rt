@@ -1,5 +1,6 @@
 //! Why widths are no row, and why a row is not read.
 ghost use Rattle.std.specs.Prelude.{Some, ◌≡◌};
+ghost use Rattle.digits_core.specs.Refusals.{refusal_text};
 ghost use Rattle.scan_core.specs.Faults.{row_fault_text, run_fault_text};
 ghost use Rattle.scan_core.specs.Reading.{stage_fault};
 ghost use Rattle.scan_core.specs.declared.fault.RowFault.TheVariants as row_faults;
@@ -7,6 +8,7 @@ ghost use Rattle.scan_core.specs.declared.fault.RunFault.TheVariants.{NoMemory};
 
 use crate::stage::Stage;
 use code128_code::Code128Fault;
+use digits_core::Refusal;
 use element_core::ElementFault;
 use std::alloc::AllocFailed;
 use std::fmt;
@@ -83,15 +85,44 @@ impl From<ElementFault> for RowFault {
     }
 }
 
+impl RunFault {
+    /// The refusal that an output line tells.
+    pub fn refusal(self) -> Refusal
+        ensures { refusal_text result.words.now result.place ≡ run_fault_text self }
+    {
+        let words = match self {
+            RunFault::TooWide => "refused 17 TooWide",
+            RunFault::BadRuns => "refused 18 BadRuns",
+            RunFault::NoMemory => "refused 43 NoMemory",
+        };
+        Refusal { words, place: None }
+    }
+}
+
 impl fmt::Display for RunFault {
     ghost output = { λ fault. Some (run_fault_text fault) };
 
     fn fmt<W: fmt::Write>(&self, f: &mut fmt::Formatter<W>) -> fmt::Result {
-        match self {
-            RunFault::TooWide => write!(f, "refused 17 TooWide"),
-            RunFault::BadRuns => write!(f, "refused 18 BadRuns"),
-            RunFault::NoMemory => write!(f, "refused 43 NoMemory"),
-        }
+        self.refusal().fmt(f)
+    }
+}
+
+impl RowFault {
+    /// The refusal that an output line tells.
+    pub fn refusal(self) -> Refusal
+        ensures { refusal_text result.words.now result.place ≡ row_fault_text self }
+    {
+        let words = match self {
+            RowFault::Blank => "refused 19 Blank",
+            RowFault::RunCount => "refused 20 RunCount",
+            RowFault::QuietZone => "refused 21 QuietZone",
+            RowFault::Modules => "refused 22 Modules",
+            RowFault::Pattern => "refused 23 Pattern",
+            RowFault::SymbolCheckDigit => "refused 24 SymbolCheckDigit",
+            RowFault::Code128(fault) => return fault.refusal(),
+            RowFault::Elements(fault) => return fault.refusal(),
+        };
+        Refusal { words, place: None }
     }
 }
 
@@ -99,15 +130,6 @@ impl fmt::Display for RowFault {
     ghost output = { λ fault. Some (row_fault_text fault) };
 
     fn fmt<W: fmt::Write>(&self, f: &mut fmt::Formatter<W>) -> fmt::Result {
-        match self {
-            RowFault::Blank => write!(f, "refused 19 Blank"),
-            RowFault::RunCount => write!(f, "refused 20 RunCount"),
-            RowFault::QuietZone => write!(f, "refused 21 QuietZone"),
-            RowFault::Modules => write!(f, "refused 22 Modules"),
-            RowFault::Pattern => write!(f, "refused 23 Pattern"),
-            RowFault::SymbolCheckDigit => write!(f, "refused 24 SymbolCheckDigit"),
-            RowFault::Code128(fault) => fault.fmt(f),
-            RowFault::Elements(fault) => fault.fmt(f),
-        }
+        self.refusal().fmt(f)
     }
 }

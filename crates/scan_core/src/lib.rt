@@ -5,13 +5,14 @@
 mod answer;
 mod carrier;
 mod fault;
+mod identifier;
 mod laws;
 mod rounding;
 mod runs;
 mod stage;
 mod symbol;
 
-pub use answer::{Answer, read_row};
+pub use answer::{Answer, read_row, read_widths};
 pub use carrier::Carrier;
 pub use fault::{RowFault, RunFault};
 pub use laws::{

@@ -68,7 +68,7 @@ fn have_dots(widths: &[u16]) -> bool
 }
 
 /// Why the widths are no row.
-fn runs_fault(widths: &[u16]) -> Option<RunFault>
+pub(crate) fn runs_fault(widths: &[u16]) -> Option<RunFault>
     ensures { result ≡ runs_fault widths.now }
 {
     if widths.len() % 2 == 0 || !have_dots(inner(widths)) {

@@ -5,7 +5,9 @@ pub mod CellLineFacts
 pub mod CornerFacts
 pub mod Examples
 pub mod LabelFacts
+pub mod LabelImages
 pub mod LineFacts
+pub mod PasteFacts
 pub mod PrintedOnce
 pub mod SheetFacts
 pub mod ShowFacts

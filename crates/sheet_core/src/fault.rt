@@ -1,8 +1,9 @@
 //! Why a grid, labels or images are refused.
 ghost use Rattle.std.specs.Prelude.{Some, ◌≡◌, codes};
+ghost use Rattle.digits_core.specs.Refusals.{refusal_text};
 ghost use Rattle.sheet_core.specs.Faults.{pbm_fault_text, print_fault_text, sheet_fault_text};
 
-use digits_core::Failed;
+use digits_core::{Failed, Refusal};
 use std::alloc::AllocFailed;
 use std::fmt;
 
@@ -85,11 +86,23 @@ impl From<Failed> for PrintFault {
     }
 }
 
+impl BadGrid {
+    /// The refusal that an output line tells.
+    pub fn refusal(self) -> Refusal
+        ensures { refusal_text result.words.now result.place ≡ codes "refused 25 BadGrid" }
+    {
+        Refusal {
+            words: "refused 25 BadGrid",
+            place: None,
+        }
+    }
+}
+
 impl fmt::Display for BadGrid {
     ghost output = { λ fault. Some (codes "refused 25 BadGrid") };
 
     fn fmt<W: fmt::Write>(&self, f: &mut fmt::Formatter<W>) -> fmt::Result {
-        write!(f, "refused 25 BadGrid")
+        self.refusal().fmt(f)
     }
 }
 
@@ -109,15 +122,25 @@ impl fmt::Display for WriteFault {
     }
 }
 
+impl SheetFault {
+    /// The refusal that an output line tells.
+    pub fn refusal(self) -> Refusal
+        ensures { refusal_text result.words.now result.place ≡ sheet_fault_text self }
+    {
+        let (words, place) = match self {
+            SheetFault::LabelKind(label) => ("refused 26 LabelKind", Some(label)),
+            SheetFault::LabelWidth(label) => ("refused 27 LabelWidth", Some(label)),
+            SheetFault::NoMemory => ("refused 43 NoMemory", None),
+        };
+        Refusal { words, place }
+    }
+}
+
 impl fmt::Display for SheetFault {
     ghost output = { λ fault. Some (sheet_fault_text fault) };
 
     fn fmt<W: fmt::Write>(&self, f: &mut fmt::Formatter<W>) -> fmt::Result {
-        match self {
-            SheetFault::LabelKind(label) => write!(f, "refused 26 LabelKind {label}"),
-            SheetFault::LabelWidth(label) => write!(f, "refused 27 LabelWidth {label}"),
-            SheetFault::NoMemory => write!(f, "refused 43 NoMemory"),
-        }
+        self.refusal().fmt(f)
     }
 }
 

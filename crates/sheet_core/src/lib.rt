@@ -4,6 +4,7 @@
 mod fault;
 mod grid;
 mod label;
+mod label_image;
 mod laws;
 mod line;
 mod pbm;
@@ -14,6 +15,7 @@ mod symbol;
 pub use fault::{BadGrid, NoMemory, PbmFault, PrintFault, SheetFault, WriteFault};
 pub use grid::Grid;
 pub use label::{Form, Label};
+pub use label_image::label_pbm;
 pub use laws::{
     bar_rows_answer, bar_rows_show, empty_cells_are_blank, files_are_read, files_are_refused,
     headers_are_read, headers_are_refused, one_bitmap, one_drawn, one_printed, one_reading,

@@ -1,10 +1,11 @@
 -- What `check` answers to a record: a kind and a text.
-use Rattle.std.specs.Prelude.{◌≡◌, ◌==◌, ◌&&◌, ◌++◌, ◌<◌, ◌-◌, nat_le, ℕ, List, [], ◌∷◌, Option, Some, None, Result, Ok, Err, length, flat_map, slice_index, slice_range, codes, if◌then◌else◌}
+use Rattle.std.specs.Prelude.{◌≡◌, ◌==◌, ◌++◌, ◌<◌, ◌-◌, ℕ, List, [], ◌∷◌, Option, Some, None, Result, Ok, Err, length, flat_map, slice_index, slice_range, codes, if◌then◌else◌}
 use Rattle.std.specs.Fmt.{decimal}
 use Rattle.std.specs.Str.{bytes_eq}
 use Rattle.digits_core.specs.Digits.{IsChecked, ascii_of, digits_of, padded}
 use Rattle.digits_core.specs.Faults.{digit_fault_text}
 use Rattle.digits_core.specs.Gtins.{first_other, gtin_fault}
+use Rattle.digits_core.specs.Payloads.{not_digits, payload_fault}
 use Rattle.digits_core.specs.Upce.{IsUpceOf}
 use Rattle.digits_core.specs.declared.fault.DigitFault.{DigitFault}
 use Rattle.digits_core.specs.declared.fault.DigitFault.TheVariants as digits
@@ -29,14 +30,6 @@ kind_named name =
     else None
 
 -- ---- digits
-
--- 1 to 17 digits have a check digit (GS1 General Specifications, section 7.9): why a text has none, if it has none
-abbrev pub not_digits : Option ℕ → Option DigitFault
-not_digits (Some place) = Some (digits.NotDigit place)
-not_digits None = None
-
-abbrev pub payload_fault : List ℕ → Option DigitFault
-payload_fault text = if nat_le 1 (length text) && nat_le (length text) 17 then not_digits (first_other text) else Some digits.Length
 
 -- UPC-E is written as the digit 0, six digits and the check digit (section 5.2.2.4): why a text is not, if it is not
 abbrev pub first_digit_fault : List ℕ → Option DigitFault → Option DigitFault

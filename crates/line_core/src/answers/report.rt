@@ -1,29 +1,18 @@
 //! The lines that answer rows.
 ghost use Rattle.std.specs.Prelude.{[], ◌≡◌, ◌∷◌, ◌++◌, List, IfOk, OnOk, decimal, map, string_bytes};
+ghost use Rattle.scan_core.specs.Lines.{answer_text};
 ghost use Rattle.scan_core.specs.declared.answer.Answer.{Answer};
 ghost use Rattle.hub_core.specs.Laws.{AreAnswersOf};
-ghost use Rattle.line_core.specs.answers.Reports.{IsReportOf, answer_text, identifier, line_of, lines_from};
+ghost use Rattle.line_core.specs.answers.Reports.{IsReportOf, line_of, lines_from};
 
 use itoa::Buffer;
 use lane_core::Delivery;
-use scan_core::{Answer, Carrier};
+use scan_core::Answer;
 use std::alloc::{AllocError, Global};
 use std::fmt::Write;
 
 /// As many bytes as a line usually has at most, and so many are reserved for each.
 const USUAL_LENGTH: usize = 40;
-
-/// The symbology identifier of a carrier.
-fn identifier(carrier: Carrier) -> &'static str
-    ensures { result.now ≡ identifier carrier }
-{
-    match carrier {
-        Carrier::Ean13 | Carrier::UpcE => "]E0",
-        Carrier::Ean8 => "]E4",
-        Carrier::Itf14 => "]I1",
-        Carrier::Gs1128 => "]C1",
-    }
-}
 
 /// Appends a number in decimal digits, and a space.
 fn push_number(text: &mut String, number: usize) -> Result<(), AllocError>
@@ -40,7 +29,7 @@ fn push_answer(text: &mut String, answer: &Answer) -> Result<(), AllocError>
 {
     match answer {
         Answer::Read { carrier, elements } => {
-            text.push_str(identifier(*carrier))?;
+            text.push_str(carrier.identifier())?;
             text.push(' ')?;
             elements.push_hri(text)
         }

@@ -1,12 +1,11 @@
 //! The answers to texts that are checked.
 ghost use Rattle.std.specs.Prelude.{Some, ◌≡◌, length, IfNone};
 ghost use Rattle.digits_core.specs.Digits.{AreAsciiDigits};
-ghost use Rattle.digits_core.specs.Gtins.{first_other};
-ghost use Rattle.line_core.specs.check.Checks.{IsAnswerAs, IsDigitAnswer, IsGtinAnswer, IsTextAnswer, IsUpceAnswer, check_text, not_digits, kind_named, spelling_fault};
+ghost use Rattle.line_core.specs.check.Checks.{IsAnswerAs, IsDigitAnswer, IsGtinAnswer, IsTextAnswer, IsUpceAnswer, check_text, kind_named, spelling_fault};
 
 use crate::check::ascii::ascii_text;
 use crate::input::element_field::read_elements;
-use digits_core::{DigitFault, Gtin, check_digit, upce_expand};
+use digits_core::{DigitFault, Gtin, not_digits, payload_digit, upce_expand};
 use element_core::{ElementFault, Elements, Year};
 use std::fmt;
 
@@ -73,34 +72,13 @@ pub fn kind_named(name: &[u8]) -> Option<CheckKind>
     }
 }
 
-/// The offset of the first byte that is no digit.
-fn first_other(text: &[u8]) -> Option<usize>
-    ensures { result ≡ first_other text.now }
-{
-    text.iter().position(|byte| !byte.is_ascii_digit())
-}
-
-/// Why a text is not all digits, if it is not.
-fn not_digits(text: &[u8]) -> Option<DigitFault>
-    ensures fault { result ≡ not_digits (first_other text.now) }
-    ensures digits { IfNone result (AreAsciiDigits text.now) }
-{
-    match first_other(text) {
-        Some(place) => Some(DigitFault::NotDigit(place)),
-        None => None,
-    }
-}
-
 /// The check digit of digits that have none yet.
 fn digit_answer(text: &[u8]) -> CheckAnswer
     ensures { IsDigitAnswer text.now result }
 {
-    if text.is_empty() || text.len() > 17 {
-        return CheckAnswer::BadDigits(DigitFault::Length);
-    }
-    match not_digits(text) {
-        Some(fault) => CheckAnswer::BadDigits(fault),
-        None => CheckAnswer::Digit(check_digit(text)),
+    match payload_digit(text) {
+        Ok(digit) => CheckAnswer::Digit(digit),
+        Err(fault) => CheckAnswer::BadDigits(fault),
     }
 }
 

@@ -1,0 +1,81 @@
+/* GS1 barcodes: rows of a scan read, numbers and element strings checked, labels drawn.
+ *
+ * Each call answers with bytes, without an end mark, and returns how many they are. They stand at the front
+ * of `out` where `room` is at least their number; else `out` is as it was, and the number says how much
+ * room to bring. So a call with a `room` of 0 tells the size of its answer. A line has at most GS1_LINE
+ * bytes. A question that is refused is answered by `refused`, a number, a name and, where it has one, a
+ * place, as `refused 2 NotDigit 12`; docs/FAULTS.md says what to do about each.
+ *
+ * No call takes memory, keeps anything, waits, prints or ends the program, so calls in several threads at a
+ * time are fine.
+ *
+ * The caller owes, and nothing checks: each pointer reaches so many items, which are set, and is aligned for
+ * its type; `out` overlaps no input; nothing else writes the inputs or uses `out` during the call. Where a
+ * count is 0 its pointer may be null. */
+#ifndef GS1_H
+#define GS1_H
+
+#include <stddef.h>
+#include <stdint.h>
+
+#ifdef __cplusplus
+extern "C" {
+#endif
+
+/* The most bytes of a line: room for each answer but an image. */
+#define GS1_LINE 292
+
+/* The kinds of labels: of a GTIN the first four, of an element string the last. */
+enum gs1_kind { GS1_EAN13 = 0, GS1_UPCA = 1, GS1_EAN8 = 2, GS1_UPCE = 3, GS1_GS1128 = 4 };
+
+/* The library's calls, whose pointers are never null, also where the count is 0: call those below. */
+size_t gs1_c_row(const uint16_t *widths, size_t count, uint16_t year, uint8_t *out, size_t room);
+size_t gs1_c_gtin(const uint8_t *text, size_t length, uint8_t *out, size_t room);
+size_t gs1_c_digit(const uint8_t *text, size_t length, uint8_t *out, size_t room);
+size_t gs1_c_text(const uint8_t *text, size_t length, uint16_t year, uint8_t *out, size_t room);
+size_t gs1_c_label(uint32_t kind, const uint8_t *text, size_t length, uint16_t year,
+                   uint16_t module_dots, uint16_t width, uint16_t height, uint8_t *out, size_t room);
+
+/* Stands for a null pointer to no items. */
+static inline void *gs1_none(void) {
+    static uint64_t none;
+    return &none;
+}
+
+#define GS1_SOME(type, items) ((items) ? (items) : (type)gs1_none())
+
+/* What a row of a scan says: `count` widths of its runs in dots, light and dark in turn, light first and
+ * last, in either direction. The symbology identifier and the elements, as `]E0 (01)09501101530003`. A date
+ * is read by the reference year, 1951 to 2149; any other year is `refused 42 Words`. */
+static inline size_t gs1_row(const uint16_t *widths, size_t count, uint16_t year, uint8_t *out, size_t room) {
+    return gs1_c_row(GS1_SOME(const uint16_t *, widths), count, year, GS1_SOME(uint8_t *, out), room);
+}
+
+/* The GTIN of 8, 12, 13 or 14 digits, as `gtin 09501101530003`. */
+static inline size_t gs1_gtin(const uint8_t *text, size_t length, uint8_t *out, size_t room) {
+    return gs1_c_gtin(GS1_SOME(const uint8_t *, text), length, GS1_SOME(uint8_t *, out), room);
+}
+
+/* The check digit of 1 to 17 digits that have none yet, as `digit 3`. */
+static inline size_t gs1_digit(const uint8_t *text, size_t length, uint8_t *out, size_t room) {
+    return gs1_c_digit(GS1_SOME(const uint8_t *, text), length, GS1_SOME(uint8_t *, out), room);
+}
+
+/* The elements of an element string, in which byte 29 is the separator, as `hri (10)AB(17)261231`. */
+static inline size_t gs1_text(const uint8_t *text, size_t length, uint16_t year, uint8_t *out, size_t room) {
+    return gs1_c_text(GS1_SOME(const uint8_t *, text), length, year, GS1_SOME(uint8_t *, out), room);
+}
+
+/* A label as a PBM image (P4, netpbm's pbm(5)) of `width` by `height` dots, its modules `module_dots` wide:
+ * modules of 1 to 8 dots, a width of 1 to 4,096, a height of more than two modules and at most 1,024. The
+ * symbol begins after its nominal left quiet zone. An image begins with `P4`, a refusal with `refused`. */
+static inline size_t gs1_label(enum gs1_kind kind, const uint8_t *text, size_t length, uint16_t year,
+                               uint16_t module_dots, uint16_t width, uint16_t height, uint8_t *out, size_t room) {
+    return gs1_c_label((uint32_t)kind, GS1_SOME(const uint8_t *, text), length, year, module_dots, width, height,
+                       GS1_SOME(uint8_t *, out), room);
+}
+
+#ifdef __cplusplus
+}
+#endif
+#endif

@@ -1,0 +1,108 @@
+//! The reader and the checks for programs in C, and for what calls C: each call answers with a line of ASCII
+//! bytes in a buffer of the caller's, and takes no memory.
+//!
+//! Each call says how many bytes its line has. They stand at the front of `out` where it has room for
+//! all of them; else `out` is as it was, and the number says how much room to bring. A question that is
+//! refused is answered by its refusal: `refused`, a number, a name and, where it has one, a place.
+#![tactic(auto)]
+
+ghost use Rattle.std.specs.Prelude.{List, ℕ};
+ghost use Rattle.digits_core.specs.Buffers.{IsPut};
+ghost use Rattle.gs1_c.specs.Labels.{IsLabelBytes, one_cell};
+ghost use Rattle.gs1_c.specs.Lines.{IsDigitLine, IsRowLine, IsTextLine, gtin_line};
+
+mod buffer;
+mod label;
+
+use buffer::{put, put_refusal, put_words};
+use digits_core::{Gtin, payload_digit};
+use element_core::{Elements, Year};
+use label::put_numbered;
+use scan_core::{Answer, read_widths};
+
+/// The line of a year that is none.
+const WORDS: &[u8] = b"refused 42 Words";
+
+/// The GTIN, in 14 digits, of its 8, 12, 13 or 14 (GS1 General Specifications, section 7.9), as
+/// `gtin 09501101530003`; or why it is none.
+#[unsafe(no_mangle)]
+pub extern "C" fn gs1_c_gtin(text: &[u8], out: &mut [u8]) -> usize
+    ensures { IsPut (gtin_line text.now) out.old out.new result }
+{
+    match Gtin::read(text) {
+        Ok(gtin) => put_words(b"gtin", &gtin.digits14(), out),
+        Err(fault) => put_refusal(fault.refusal(), out),
+    }
+}
+
+/// The check digit of 1 to 17 digits that have none yet (GS1 General Specifications, section 7.9), as
+/// `digit 3`; or why they have none.
+#[unsafe(no_mangle)]
+pub extern "C" fn gs1_c_digit(text: &[u8], out: &mut [u8]) -> usize
+    ensures { (line : List ℕ) × IsDigitLine text.now line × IsPut line out.old out.new result }
+{
+    match payload_digit(text) {
+        Ok(digit) => put_words(b"digit", &[b'0' + digit], out),
+        Err(fault) => put_refusal(fault.refusal(), out),
+    }
+}
+
+/// The elements of an element string, in which byte 29 is the separator
+/// (GS1 General Specifications, section 7.8), as `hri (10)AB(17)261231`; or its first fault. A date is
+/// read by the reference year, 1951 to 2149; any other year is `refused 42 Words`.
+#[unsafe(no_mangle)]
+pub extern "C" fn gs1_c_text(text: &[u8], year: u16, out: &mut [u8]) -> usize
+    ensures { (line : List ℕ) × IsTextLine year text.now line × IsPut line out.old out.new result }
+{
+    let Some(year) = Year::new(year) else {
+        return put(WORDS, out);
+    };
+    match Elements::parse(text, year) {
+        Ok(elements) => put_words(b"hri", elements.hri().as_str().as_bytes(), out),
+        Err(fault) => put_refusal(fault.refusal(), out),
+    }
+}
+
+/// What a row says, given as the widths of its runs in dots, light and dark in turn, light first and
+/// last: the symbology identifier and the elements of its symbol, as `]E0 (01)09501101530003`; or why it
+/// is refused. A date is read by the reference year, 1951 to 2149; any other year is
+/// `refused 42 Words`.
+#[unsafe(no_mangle)]
+pub extern "C" fn gs1_c_row(widths: &[u16], year: u16, out: &mut [u8]) -> usize
+    ensures { (line : List ℕ) × IsRowLine year widths.now line × IsPut line out.old out.new result }
+{
+    let Some(year) = Year::new(year) else {
+        return put(WORDS, out);
+    };
+    match read_widths(widths, year) {
+        Ok(Answer::Read { carrier, elements }) => {
+            let identifier = carrier.identifier().as_bytes();
+            put_words(identifier, elements.hri().as_str().as_bytes(), out)
+        }
+        Ok(Answer::Refused(fault)) => put_refusal(fault.refusal(), out),
+        Err(fault) => put_refusal(fault.refusal(), out),
+    }
+}
+
+/// The image of a label as PBM (netpbm, pbm(5)), of `width` by `height` dots, with modules of
+/// `module_dots` dots; or why it is not printed. The kinds are, of a GTIN, 0 EAN-13, 1 UPC-A, 2 EAN-8 and
+/// 3 UPC-E, and of an element string 4 GS1-128.
+///
+/// A module is 1 to 8 dots, the width 1 to 4,096 and the height more than two modules and at most 1,024;
+/// else `refused 25 BadGrid`. The symbol begins after its nominal left quiet zone, and its bars stand in
+/// all rows but a module's above and below.
+#[unsafe(no_mangle)]
+pub extern "C" fn gs1_c_label(
+    kind: u32,
+    text: &[u8],
+    year: u16,
+    module_dots: u16,
+    width: u16,
+    height: u16,
+    out: &mut [u8],
+) -> usize
+    ensures { (bytes : List ℕ) × IsLabelBytes kind year text.now (one_cell module_dots width height) bytes
+        × IsPut bytes out.old out.new result }
+{
+    put_numbered(kind, text, year, module_dots, width, height, out)
+}

@@ -1,0 +1,81 @@
+//! The image of one label, in a buffer of the caller's.
+ghost use Rattle.std.specs.Prelude.{[], ◌≡◌, ◌+◌, ◌*◌, ◌∷◌, ◌++◌, ◌≤◌, List, IfErr, IfOk, OnErr, length};
+ghost use Rattle.digits_core.specs.Buffers.{IsPut, pasted};
+ghost use Rattle.sheet_core.specs.Bitmaps.{Bitmap, stride};
+ghost use Rattle.sheet_core.specs.Drawing.{ArePrinted, IsSheetFault};
+ghost use Rattle.sheet_core.specs.Lines.{band, rows_of};
+ghost use Rattle.sheet_core.specs.pbm.Images.{pbm_of};
+
+use crate::fault::SheetFault;
+use crate::grid::Grid;
+use crate::label::Label;
+use crate::line::{draw_line, light_line};
+use crate::pbm::write::header;
+use crate::print::check_labels;
+use std::slice;
+
+/// Puts bytes into `out` from `at` on, and says where they end.
+fn put_at(bytes: &[u8], at: usize, out: &mut [u8]) -> usize
+    requires { at + length bytes.now ≤ length out.old }
+    ensures end { result ≡ at + length bytes.now }
+    ensures put { out.new ≡ pasted out.old at bytes.now }
+{
+    let end = at + bytes.len();
+    out[at..end].copy_from_slice(bytes);
+    end
+}
+
+/// The same of a row of dots so many times.
+fn put_rows(line: &[u8], count: u16, at: usize, out: &mut [u8]) -> usize
+    requires { at + count * length line.now ≤ length out.old }
+    ensures end { result ≡ at + length (rows_of count line.now) }
+    ensures put { out.new ≡ pasted out.old at (rows_of count line.now) }
+{
+    let mut end = at;
+    for _ in 0..count {
+        end = put_at(line, end, out);
+    }
+    end
+}
+
+/// The same of a header and the dot rows of a row of cells whose bars have this line.
+fn put_image(header: &[u8], line: &[u8], grid: &Grid, out: &mut [u8])
+    requires room { length header.now + grid.now.height * length line.now ≤ length out.old }
+    requires long { length line.now ≡ stride (grid.now.columns * grid.now.width) }
+    ensures { out.new ≡ pasted out.old 0 (header.now ++ band grid.now line.now) }
+{
+    let light = light_line(grid.columns * grid.cell_width);
+    let bar_rows = grid.cell_height - 2 * grid.module_dots;
+    let above = put_at(header, 0, out);
+    let bars = put_rows(light.as_slice(), grid.module_dots, above, out);
+    let below = put_rows(line, bar_rows, bars, out);
+    put_rows(light.as_slice(), grid.module_dots, below, out);
+}
+
+/// The PBM image (netpbm, pbm(5)) of the sheet of one label, in a grid of one cell: the bytes that
+/// `print_pbm` writes of it. They are put at the front of `out` where it has room for them all, and the
+/// answer is how many they are. It takes no memory.
+///
+/// A label that has no such symbol is `LabelKind`, and one that is wider with its quiet zones than the
+/// cell `LabelWidth`, both with index 0; `out` is then as it was.
+pub fn label_pbm(label: &Label, grid: Grid, out: &mut [u8]) -> Result<usize, SheetFault>
+    requires columns { grid.columns ≡ 1 }
+    requires rows { grid.rows ≡ 1 }
+    ensures ok { IfOk result (λ count. (sheets : List Bitmap) × ArePrinted (label.now ∷ []) grid sheets
+        × IsPut (pbm_of sheets) out.old out.new count) }
+    ensures refused { IfErr result (IsSheetFault grid (label.now ∷ [])) }
+    ensures unchanged { OnErr result (out.new ≡ out.old) }
+{
+    let labels = slice::from_ref(label);
+    check_labels(labels, &grid)?;
+    let width = grid.columns * grid.cell_width;
+    let height = grid.rows * grid.cell_height;
+    let mut line = light_line(width);
+    draw_line(line.as_mut_slice(), &grid, labels);
+    let header = header(width, height);
+    let count = header.len() + usize::from(height) * line.len();
+    if count <= out.len() {
+        put_image(header.as_slice(), line.as_slice(), &grid, out);
+    }
+    Ok(count)
+}

@@ -1,0 +1,166 @@
+"use strict";
+
+const at = (id) => document.getElementById(id);
+const number = (id) => Math.min(65535, Math.max(0, Math.trunc(Number(at(id).value)) || 0));
+let gs1, drawn, picture;
+
+// What to do about a refusal, as docs/FAULTS.md says.
+const remedyOf = (line) => GS1_FAULTS[line.split(" ")[1]] ?? "";
+
+function say(id, line, place) {
+  at(id).textContent = line;
+  at(id).classList.toggle("refused", line.startsWith("refused"));
+  at(place).textContent = line.startsWith("refused") ? remedyOf(line) : "";
+}
+
+// ---- draw
+
+function draw() {
+  const kind = at("kind").value, text = at("text").value, year = number("year");
+  const image = gs1.label(kind, text, year, number("module"), number("width"), number("height"));
+  drawn = typeof image === "string" ? null : image;
+  for (const id of ["png", "pbm"]) at(id).disabled = !drawn;
+  const canvas = at("label");
+  canvas.hidden = !drawn;
+  if (!drawn) return say("said", image, "why");
+  show(canvas, pixelsOfPbm(drawn));
+  say("said", kind === "gs1128" ? gs1.elements(text, year) : gs1.gtin(text), "why");
+}
+
+function show(canvas, { width, height, grey }) {
+  [canvas.width, canvas.height] = [width, height];
+  const image = new ImageData(width, height), pixels = new Uint32Array(image.data.buffer);
+  for (let i = 0; i < grey.length; i++) pixels[i] = (0xff000000 | grey[i] * 0x010101) >>> 0;
+  canvas.getContext("2d").putImageData(image, 0, 0);
+}
+
+function save(blob, name) {
+  const link = document.createElement("a");
+  link.href = URL.createObjectURL(blob);
+  link.download = name;
+  link.click();
+  setTimeout(() => URL.revokeObjectURL(link.href), 1000);
+}
+
+// ---- read
+
+// The refusal that tells most: of the rows that came furthest, not those beside the symbol.
+function closest(refused) {
+  const furthest = [4, 5, 6, 7, 8, 9, 10, 11, 13, 14, 15, 16, 24, 23, 22, 21, 17, 20, 18, 42, 19];
+  const rank = (line) => furthest.indexOf(Number(line.split(" ")[1]));
+  return [...refused].sort((a, b) => rank(a[0]) - rank(b[0]) || b[1] - a[1])[0]?.[0] ?? "refused 19 Blank";
+}
+
+function read() {
+  if (!picture) return;
+  const from = performance.now();
+  const reader = new Reader(gs1, number("year")), { symbols, refused } = reader.read(picture, number("level"));
+  const kept = symbols.filter((s) => s.rows > 1 || picture.height === 1 || symbols.length === 1);
+  picture.passed = performance.now() - from;
+  picture.symbols = kept;
+  const body = at("found").tBodies[0];
+  body.replaceChildren(...kept.map(({ line, rows }, i) => {
+    const row = document.createElement("tr");
+    for (const cell of [i + 1, line, rows]) row.insertCell().textContent = cell;
+    return row;
+  }));
+  at("found").hidden = !kept.length;
+  if (kept.length) say("told", kept.length === 1 ? kept[0].line : `${kept.length} symbols`, "remedy");
+  else say("told", closest(refused), "remedy");
+  mark(kept);
+}
+
+function mark(symbols) {
+  const canvas = at("picture"), pen = canvas.getContext("2d");
+  canvas.hidden = false;
+  if (picture.image) {
+    [canvas.width, canvas.height] = [picture.width, picture.height];
+    pen.drawImage(picture.image, 0, 0);
+  } else show(canvas, picture);
+  const size = Math.max(12, Math.round(picture.width / 40));
+  pen.lineWidth = Math.max(2, size / 6);
+  pen.font = `bold ${size}px sans-serif`;
+  pen.textBaseline = "top";
+  symbols.forEach(({ left, right, top, bottom, line }, i) => {
+    pen.strokeStyle = "#0a7d32";
+    pen.strokeRect(left, top, right - left, bottom - top);
+    const words = `${i + 1}  ${line}`;
+    pen.fillStyle = "#0a7d32";
+    pen.fillRect(left, top, pen.measureText(words).width + size / 2, size * 1.3);
+    pen.fillStyle = "white";
+    pen.fillText(words, left + size / 4, top + size * 0.15);
+  });
+}
+
+// Takes a file as the picture. One that is no picture is told, and the picture before it stays.
+async function take(file) {
+  if (!file) return say("told", "there is no picture", "remedy");
+  const pbm = pixelsOfPbm(new Uint8Array(await file.arrayBuffer()));
+  if (pbm) picture = { ...pbm, image: null };
+  else {
+    let image;
+    try {
+      image = await createImageBitmap(file);
+    } catch {
+      return say("told", `${file.name || "this"} is no picture`, "remedy");
+    }
+    const canvas = new OffscreenCanvas(image.width, image.height), pen = canvas.getContext("2d", { willReadFrequently: true });
+    pen.drawImage(image, 0, 0);
+    picture = { ...greyOf(pen.getImageData(0, 0, image.width, image.height)), image };
+  }
+  at("level").value = levelOf(picture.grey);
+  read();
+}
+
+async function takeClipboard() {
+  try {
+    for (const item of await navigator.clipboard.read()) {
+      const type = item.types.find((name) => name.startsWith("image/"));
+      if (type) return await take(await item.getType(type));
+    }
+    say("told", "the clipboard has no picture", "remedy");
+  } catch {
+    say("told", "this browser keeps the clipboard from pages: paste with the keyboard", "remedy");
+  }
+}
+
+// ---- start
+
+function listen() {
+  for (const id of ["kind", "text", "module", "width", "height", "year"]) at(id).addEventListener("input", draw);
+  for (const id of ["level", "year"]) at(id).addEventListener("input", read);
+  at("png").addEventListener("click", () => at("label").toBlob((blob) => save(blob, "label.png")));
+  at("pbm").addEventListener("click", () => save(new Blob([drawn]), "label.pbm"));
+  at("file").addEventListener("change", () => { document.taken = take(at("file").files[0]); });
+  at("paste").addEventListener("click", () => { document.taken = takeClipboard(); });
+  addEventListener("paste", (event) => {
+    const file = [...event.clipboardData.files].find(({ type }) => type.startsWith("image/"));
+    if (file) document.taken = take(file);
+  });
+  for (const name of ["dragover", "dragleave", "drop"]) {
+    addEventListener(name, (event) => {
+      event.preventDefault();
+      at("drop").classList.toggle("over", name === "dragover");
+      if (name === "drop") document.taken = take(event.dataTransfer.files[0]);
+    });
+  }
+}
+
+function stop(problem) {
+  at("problem").textContent = problem;
+  at("problem").hidden = false;
+  document.querySelector("main").hidden = true;
+}
+
+async function start() {
+  if (!Gs1.runsHere()) {
+    return stop("This browser has no WebAssembly with 64-bit memory, which this page needs. Chrome and Edge have it from 133, Firefox from 134.");
+  }
+  if (typeof GS1_WASM !== "string") return stop("The module gs1.module.js is not beside this page: page/build makes it.");
+  gs1 = await Gs1.load(Uint8Array.from(atob(GS1_WASM), (c) => c.charCodeAt(0)));
+  for (const kind of Gs1.kinds) at("kind").add(new Option(kind));
+  listen();
+  draw();
+}
+
+document.started = start().catch((error) => stop(`The page could not start: ${error}`));

@@ -1,0 +1,176 @@
+"""GS1 barcodes: rows of a scan read, numbers and element strings checked, labels drawn.
+
+The answers are those of a library whose every call is proved against the definitions of the GS1 standards. What is
+refused is raised as a :class:`Refusal`, with its number and its name.
+
+    >>> read_gtin("9501101530003")
+    '09501101530003'
+    >>> check_digit("950110153000")
+    3
+    >>> read_elements("10AB\\x1d17261231", year=2026)
+    '(10)AB(17)261231'
+"""
+from __future__ import annotations
+
+import ctypes
+import enum
+import re
+from dataclasses import dataclass
+from pathlib import Path
+from typing import Any, Optional, Sequence, Union
+
+__all__ = ["Answer", "Kind", "Refusal", "check_digit", "draw_label", "read_elements", "read_gtin", "read_row"]
+
+_MOST = 65_535
+_LINE = 292
+_LINE_OF_REFUSAL = re.compile(r"refused (\d+) (\w+)(?: (\d+))?")
+
+_library = ctypes.CDLL(str(Path(__file__).with_name("libgs1.so")))
+_SIZE, _U16, _U32, _BYTES = ctypes.c_size_t, ctypes.c_uint16, ctypes.c_uint32, ctypes.c_char_p
+_library.gs1_c_row.argtypes = [ctypes.POINTER(_U16), _SIZE, _U16, _BYTES, _SIZE]
+_library.gs1_c_gtin.argtypes = [_BYTES, _SIZE, _BYTES, _SIZE]
+_library.gs1_c_digit.argtypes = [_BYTES, _SIZE, _BYTES, _SIZE]
+_library.gs1_c_text.argtypes = [_BYTES, _SIZE, _U16, _BYTES, _SIZE]
+_library.gs1_c_label.argtypes = [_U32, _BYTES, _SIZE, _U16, _U16, _U16, _U16, _BYTES, _SIZE]
+for _name in ("row", "gtin", "digit", "text", "label"):
+    getattr(_library, f"gs1_c_{_name}").restype = _SIZE
+
+
+class Refusal(ValueError):
+    """A question that is refused: the number and the name say why, as docs/FAULTS.md lists them.
+
+    ``place`` is an offset or an index, from 0, where the fault has one.
+    """
+
+    def __init__(self, number: int, name: str, place: Optional[int] = None) -> None:
+        super().__init__(number, name, place)
+        self.number = number
+        self.name = name
+        self.place = place
+
+    def __str__(self) -> str:
+        place = "" if self.place is None else f" {self.place}"
+        return f"refused {self.number} {self.name}{place}"
+
+
+class Kind(enum.Enum):
+    """What a label is printed as: of a GTIN the first four, of an element string the last."""
+
+    EAN13 = 0
+    UPCA = 1
+    EAN8 = 2
+    UPCE = 3
+    GS1128 = 4
+
+
+@dataclass(frozen=True)
+class Answer:
+    """What a row says."""
+
+    identifier: str
+    """The symbology identifier: ``]E0`` of EAN-13, UPC-A and UPC-E, ``]E4`` of EAN-8, ``]C1`` of GS1-128."""
+    text: str
+    """The elements, each Application Identifier in parentheses before its value: ``(01)09501101530003``."""
+
+    @property
+    def gtin(self) -> Optional[str]:
+        """The 14 digits of the GTIN, where the first element is one."""
+        return self.text[4:18] if self.text.startswith("(01)") else None
+
+    def __str__(self) -> str:
+        return f"{self.identifier} {self.text}"
+
+
+def _ask(call: Any, *words: Any, room: int = _LINE) -> bytes:
+    """The answer to a question, as many bytes as it has."""
+    while True:
+        out = ctypes.create_string_buffer(room)
+        length: int = call(*words, out, room)
+        if length <= room:
+            return out.raw[:length]
+        room = length
+
+
+def _line(answer: bytes) -> str:
+    """The line of an answer, where it is no refusal."""
+    line = answer.decode("ascii")
+    refusal = _LINE_OF_REFUSAL.fullmatch(line)
+    if refusal:
+        number, name, place = refusal.groups()
+        raise Refusal(int(number), name, None if place is None else int(place))
+    return line
+
+
+def _bytes(text: Union[str, bytes]) -> bytes:
+    return text.encode("utf-8", "surrogatepass") if isinstance(text, str) else bytes(text)
+
+
+def _u16(number: int) -> int:
+    """The number, or 0 in place of one that no answer allows."""
+    return number if 0 <= number <= _MOST else 0
+
+
+def read_row(widths: Sequence[int], year: int) -> Answer:
+    """What a row of a scan says, given as the widths of its runs in dots.
+
+    They are light and dark in turn, light first and last, in either direction. A date is read by the reference
+    year, 1951 to 2149.
+
+    :raises Refusal: what is no row, or shows no symbol that says elements; 42 ``Words`` of a year out of range.
+    :raises ValueError: a width is below 0.
+    """
+    if any(width < 0 for width in widths):
+        raise ValueError("a width is below 0")
+    row = (_U16 * len(widths))(*(min(width, _MOST) for width in widths))
+    answer = _ask(_library.gs1_c_row, row, len(widths), _u16(year))
+    # What is wrong with the year or the number of runs is told first.
+    if any(width > _MOST for width in widths) and answer not in (b"refused 42 Words", b"refused 18 BadRuns"):
+        raise Refusal(17, "TooWide")
+    identifier, _, text = _line(answer).partition(" ")
+    return Answer(identifier, text)
+
+
+def read_gtin(text: Union[str, bytes]) -> str:
+    """The GTIN, in 14 digits, of its 8, 12, 13 or 14.
+
+    :raises Refusal: it is none: 1 ``Length``, 2 ``NotDigit`` or 3 ``CheckDigit``.
+    """
+    digits = _bytes(text)
+    return _line(_ask(_library.gs1_c_gtin, digits, len(digits))).partition(" ")[2]
+
+
+def check_digit(text: Union[str, bytes]) -> int:
+    """The check digit of 1 to 17 digits that have none yet.
+
+    :raises Refusal: they have none: 1 ``Length`` or 2 ``NotDigit``.
+    """
+    digits = _bytes(text)
+    return int(_line(_ask(_library.gs1_c_digit, digits, len(digits))).partition(" ")[2])
+
+
+def read_elements(text: Union[str, bytes], year: int) -> str:
+    """The elements of an element string, in which ``"\\x1d"`` is the separator, as ``(10)AB(17)261231``.
+
+    :raises Refusal: its first fault, 4 ``Empty`` to 11 ``TooLong``; 42 ``Words`` of a year out of range.
+    """
+    elements = _bytes(text)
+    return _line(_ask(_library.gs1_c_text, elements, len(elements), _u16(year))).partition(" ")[2]
+
+
+def draw_label(
+    kind: Kind, text: Union[str, bytes], year: int, *, module: int = 2, width: int = 480, height: int = 120
+) -> bytes:
+    """A label as the bytes of a PBM image, of ``width`` by ``height`` dots, its modules ``module`` dots wide.
+
+    A module is 1 to 8 dots, the width 1 to 4,096, and the height more than two modules and at most 1,024.
+
+    :raises Refusal: 42 ``Words`` of a year out of range, 25 ``BadGrid`` of the dots, 1 to 11 of the text, and
+        26 ``LabelKind`` and 27 ``LabelWidth`` of a label that has no such symbol or does not fit.
+    """
+    said = _bytes(text)
+    words = [_u16(number) for number in (year, module, width, height)]
+    room = 16 + (words[2] + 7) // 8 * words[3] if words[2] <= 4096 and words[3] <= 1024 else _LINE
+    image = _ask(_library.gs1_c_label, kind.value, said, len(said), *words, room=max(room, _LINE))
+    if not image.startswith(b"P4"):
+        _line(image)
+    return image

@@ -1,0 +1,85 @@
+"""The module's answers to worked cases, and what it raises."""
+import pytest
+
+import noriladle
+from noriladle import Answer, Kind, Refusal
+
+EAN13 = [int(width) for width in """11 1 1 1 1 2 3 1 1 1 2 3 1 2 2 2 2 2 2 1 1 1 2 3 2 2 2 1 1 1 1 1 1 1 2 3 1 1 4
+1 1 3 2 1 1 3 2 1 1 3 2 1 1 1 4 1 1 1 1 1 7""".split()]
+IMAGE = b"P4\n113 3\n" + bytes(15) + bytes.fromhex("00158A7666539954E85CB972854000") + bytes(15)
+
+
+def refusal(call, *words, **named):
+    with pytest.raises(Refusal) as raised:
+        call(*words, **named)
+    fault = raised.value
+    return fault.number, fault.name, fault.place
+
+
+def test_reads_a_row_either_way():
+    wanted = Answer("]E0", "(01)09501101530003")
+    assert noriladle.read_row(EAN13, 2026) == wanted
+    assert noriladle.read_row(EAN13[::-1], 2026) == wanted
+    assert noriladle.read_row(tuple(EAN13), year=1951).gtin == "09501101530003"
+    assert str(wanted) == "]E0 (01)09501101530003"
+
+
+@pytest.mark.parametrize("widths, year, wanted", [
+    ([4] + EAN13[1:], 2026, (21, "QuietZone", None)),
+    ([100], 2026, (19, "Blank", None)),
+    ([], 2026, (18, "BadRuns", None)),
+    ([5, 3], 2026, (18, "BadRuns", None)),
+    ([5, 70_000], 2026, (18, "BadRuns", None)),
+    ([0, 65_535, 0], 2026, (20, "RunCount", None)),
+    ([0, 65_536, 0], 2026, (17, "TooWide", None)),
+    ([70_000], 2026, (17, "TooWide", None)),
+    ([70_000], 1950, (42, "Words", None)),
+    (EAN13, 1950, (42, "Words", None)),
+    (EAN13, 2150, (42, "Words", None)),
+    (EAN13, -1, (42, "Words", None)),
+    (EAN13, 65_536 + 2026, (42, "Words", None)),
+    ([1] * 65_537, 2026, (17, "TooWide", None)),
+])
+def test_refuses_a_row(widths, year, wanted):
+    assert refusal(noriladle.read_row, widths, year) == wanted
+
+
+def test_refuses_a_width_below_0():
+    with pytest.raises(ValueError):
+        noriladle.read_row([5, -1, 5], 2026)
+
+
+def test_reads_numbers():
+    assert noriladle.read_gtin("9501101530003") == "09501101530003"
+    assert noriladle.read_gtin(b"96385074") == "00000096385074"
+    assert noriladle.check_digit("950110153000") == 3
+    assert refusal(noriladle.read_gtin, "9501101530004") == (3, "CheckDigit", None)
+    assert refusal(noriladle.read_gtin, "950110153000X") == (2, "NotDigit", 12)
+    assert refusal(noriladle.read_gtin, "") == (1, "Length", None)
+    assert refusal(noriladle.check_digit, "1" * 18) == (1, "Length", None)
+    assert refusal(noriladle.check_digit, "12\ud800") == (2, "NotDigit", 2)
+
+
+def test_reads_elements():
+    assert noriladle.read_elements("10AB\x1d17261231", 2026) == "(10)AB(17)261231"
+    assert refusal(noriladle.read_elements, "17250229", 2026) == (9, "ValueDate", 0)
+    assert refusal(noriladle.read_elements, "10AB\x1d\x1d21C", 2026) == (5, "UnknownAi", 5)
+    assert refusal(noriladle.read_elements, "", 2026) == (4, "Empty", None)
+    assert refusal(noriladle.read_elements, "1" * 193, 2026) == (11, "TooLong", None)
+    assert refusal(noriladle.read_elements, "10AB", 0) == (42, "Words", None)
+
+
+def test_draws_a_label():
+    assert noriladle.draw_label(Kind.EAN13, "9501101530003", 2026, module=1, width=113, height=3) == IMAGE
+    assert len(noriladle.draw_label(Kind.UPCA, "012345000065", 2026)) == 11 + 60 * 120
+    assert refusal(noriladle.draw_label, Kind.UPCE, "9501101530003", 2026) == (26, "LabelKind", 0)
+    assert refusal(noriladle.draw_label, Kind.EAN13, "9501101530003", 2026, width=112) == (27, "LabelWidth", 0)
+    assert refusal(noriladle.draw_label, Kind.EAN13, "9501101530003", 2026, width=70_000) == (25, "BadGrid", None)
+    assert refusal(noriladle.draw_label, Kind.EAN13, "9501101530003", 2026, height=4) == (25, "BadGrid", None)
+    assert refusal(noriladle.draw_label, Kind.GS1128, "10A#", 2026) == (7, "ValueCharacter", 0)
+
+
+def test_a_refusal_says_itself():
+    assert str(Refusal(2, "NotDigit", 12)) == "refused 2 NotDigit 12"
+    assert str(Refusal(19, "Blank")) == "refused 19 Blank"
+    assert isinstance(Refusal(19, "Blank"), ValueError)

@@ -1,0 +1,216 @@
+/* Calls the library from C. With no words: the worked cases, each into a buffer of every size from 0 to past
+ * its answer. With a word: the answers to the lines of standard input, one a line, by the word: `rows` for the
+ * lines of `lanes`, `check` for those of `check`, `labels MODULE WIDTH HEIGHT` for those of `print`, whose
+ * images are written with nothing between them. The year is 2026. */
+#include "gs1.h"
+#include <stdio.h>
+#include <stdlib.h>
+#include <string.h>
+
+enum { YEAR = 2026, MOST_RUNS = 70000 };
+
+static long checks, wrong;
+
+/* A question: which call, and what it is asked. */
+struct asked {
+    enum { ROW, GTIN, DIGIT, TEXT, LABEL } call;
+    const void *items;
+    size_t count;
+    unsigned year, kind, module_dots, width, height;
+};
+
+static size_t ask(const struct asked *q, uint8_t *out, size_t room) {
+    switch (q->call) {
+    case ROW: return gs1_row(q->items, q->count, (uint16_t)q->year, out, room);
+    case GTIN: return gs1_gtin(q->items, q->count, out, room);
+    case DIGIT: return gs1_digit(q->items, q->count, out, room);
+    case TEXT: return gs1_text(q->items, q->count, (uint16_t)q->year, out, room);
+    case LABEL:
+        return gs1_label((enum gs1_kind)q->kind, q->items, q->count, (uint16_t)q->year, (uint16_t)q->module_dots,
+                         (uint16_t)q->width, (uint16_t)q->height, out, room);
+    }
+    abort();
+}
+
+/* Asks with buffers of each size from 0 to two past the answer, of which each is a block of its own, so that
+ * the address sanitizer sees a byte past it. */
+static void want(const char *what, const struct asked *asked, const void *wanted, size_t length) {
+    struct asked q = *asked;
+    size_t size = q.count * (q.call == ROW ? sizeof(uint16_t) : 1);
+    void *items = size ? malloc(size) : NULL;
+    if (size) memcpy(items, asked->items, size);
+    q.items = items;
+    int bad = 0;
+    for (size_t room = 0; room <= length + 2; room += room < 64 || room + 64 > length ? 1 : 61) {
+        uint8_t *out = room ? malloc(room) : NULL;
+        if (room) memset(out, '.', room);
+        size_t count = ask(&q, out, room);
+        bad |= count != length;
+        size_t put = room >= length ? length : 0;
+        bad |= put && memcmp(out, wanted, put);
+        for (size_t i = put; i < room; i++) bad |= out[i] != '.';
+        free(out);
+        checks++;
+    }
+    bad |= size && memcmp(items, asked->items, size);
+    free(items);
+    if (bad) {
+        wrong++;
+        printf("wrong: %s\n", what);
+    }
+}
+
+static void line(const char *what, struct asked q, const char *wanted) { want(what, &q, wanted, strlen(wanted)); }
+
+static void gtin(const char *text, const char *wanted) {
+    line(text, (struct asked){.call = GTIN, .items = text, .count = strlen(text)}, wanted);
+}
+
+static void digit(const char *text, const char *wanted) {
+    line(text, (struct asked){.call = DIGIT, .items = text, .count = strlen(text)}, wanted);
+}
+
+static void text(const char *text, unsigned year, const char *wanted) {
+    line(text, (struct asked){.call = TEXT, .items = text, .count = strlen(text), .year = year}, wanted);
+}
+
+static void row(const char *what, const uint16_t *widths, size_t count, unsigned year, const char *wanted) {
+    line(what, (struct asked){.call = ROW, .items = widths, .count = count, .year = year}, wanted);
+}
+
+static void label(unsigned kind, const char *text, unsigned year, unsigned dots, unsigned width, unsigned height,
+                  const void *wanted, size_t length) {
+    struct asked q = {LABEL, text, strlen(text), year, kind, dots, width, height};
+    want(text, &q, wanted, length);
+}
+
+static void refused(unsigned kind, const char *text, unsigned year, unsigned dots, unsigned width, unsigned height,
+                    const char *wanted) {
+    label(kind, text, year, dots, width, height, wanted, strlen(wanted));
+}
+
+static const uint16_t EAN13[] = {11, 1, 1, 1, 1, 2, 3, 1, 1, 1, 2, 3, 1, 2, 2, 2, 2, 2, 2, 1, 1, 1, 2, 3, 2, 2, 2, 1, 1, 1, 1,
+    1, 1, 1, 2, 3, 1, 1, 4, 1, 1, 3, 2, 1, 1, 3, 2, 1, 1, 3, 2, 1, 1, 1, 4, 1, 1, 1, 1, 1, 7};
+enum { COUNT = sizeof EAN13 / sizeof *EAN13 };
+
+/* 9501101530003 as an EAN-13 in a cell of 113 by 3 dots. */
+static const uint8_t IMAGE[] = "P4\n113 3\n"
+    "\x00\x00\x00\x00\x00\x00\x00\x00\x00\x00\x00\x00\x00\x00\x00"
+    "\x00\x15\x8A\x76\x66\x53\x99\x54\xE8\x5C\xB9\x72\x85\x40\x00"
+    "\x00\x00\x00\x00\x00\x00\x00\x00\x00\x00\x00\x00\x00\x00\x00";
+
+static void cases(void) {
+    uint16_t turned[COUNT], narrow[COUNT];
+    for (size_t i = 0; i < COUNT; i++) turned[i] = EAN13[COUNT - 1 - i];
+    memcpy(narrow, EAN13, sizeof EAN13);
+    narrow[0] = 4;
+    row("a row", EAN13, COUNT, YEAR, "]E0 (01)09501101530003");
+    row("a turned row", turned, COUNT, YEAR, "]E0 (01)09501101530003");
+    row("a narrow quiet zone", narrow, COUNT, YEAR, "refused 21 QuietZone");
+    row("a blank row", (uint16_t[]){100}, 1, YEAR, "refused 19 Blank");
+    row("two runs", (uint16_t[]){5, 3}, 2, YEAR, "refused 18 BadRuns");
+    row("a run of no dot", (uint16_t[]){5, 0, 3}, 3, YEAR, "refused 18 BadRuns");
+    row("no widths", EAN13, 0, YEAR, "refused 18 BadRuns");
+    row("65,535 dots", (uint16_t[]){0, 65535, 0}, 3, YEAR, "refused 20 RunCount");
+    row("65,536 dots", (uint16_t[]){0, 65535, 1}, 3, YEAR, "refused 17 TooWide");
+    row("the year 1950", EAN13, COUNT, 1950, "refused 42 Words");
+    row("the year 2150", EAN13, COUNT, 2150, "refused 42 Words");
+    row("the year 1951", EAN13, COUNT, 1951, "]E0 (01)09501101530003");
+    row("the year 2149", EAN13, COUNT, 2149, "]E0 (01)09501101530003");
+
+    uint16_t *long_row = calloc(MOST_RUNS, sizeof *long_row);
+    for (size_t i = 0; i < MOST_RUNS; i++) long_row[i] = 1;
+    row("65,535 runs", long_row, 65535, YEAR, "refused 20 RunCount");
+    row("65,537 runs", long_row, 65537, YEAR, "refused 17 TooWide");
+    row("69,999 runs", long_row, 69999, YEAR, "refused 17 TooWide");
+    free(long_row);
+
+    gtin("9501101530003", "gtin 09501101530003");
+    gtin("96385074", "gtin 00000096385074");
+    gtin("9501101530004", "refused 3 CheckDigit");
+    gtin("950110153000X", "refused 2 NotDigit 12");
+    gtin("123", "refused 1 Length");
+    gtin("", "refused 1 Length");
+    digit("950110153000", "digit 3");
+    digit("", "refused 1 Length");
+    digit("123456789012345678", "refused 1 Length");
+    digit("12A", "refused 2 NotDigit 2");
+    text("10AB\x1d" "17261231", YEAR, "hri (10)AB(17)261231");
+    text("10AB\x1d" "17261231", 1950, "refused 42 Words");
+    text("17250229", YEAR, "refused 9 ValueDate 0");
+    text("10AB\x1d\x1d" "21C", YEAR, "refused 5 UnknownAi 5");
+    text("0109501101530", YEAR, "refused 6 ValueLength 0");
+    text("", YEAR, "refused 4 Empty");
+
+    char many[194];
+    memset(many, '1', 193);
+    many[193] = 0;
+    text(many, YEAR, "refused 11 TooLong");
+
+    label(GS1_EAN13, "9501101530003", YEAR, 1, 113, 3, IMAGE, sizeof IMAGE - 1);
+    refused(5, "9501101530003", 1950, 1, 113, 3, "refused 40 Kind");
+    refused(UINT32_MAX, "9501101530003", YEAR, 1, 113, 3, "refused 40 Kind");
+    refused(GS1_EAN13, "1", 1950, 0, 113, 3, "refused 42 Words");
+    refused(GS1_EAN13, "1", YEAR, 0, 113, 3, "refused 25 BadGrid");
+    refused(GS1_EAN13, "1", YEAR, 1, 113, 2, "refused 25 BadGrid");
+    refused(GS1_EAN13, "1", YEAR, 1, 4097, 3, "refused 25 BadGrid");
+    refused(GS1_EAN13, "1", YEAR, 1, 113, 3, "refused 1 Length");
+    refused(GS1_EAN13, "9501101530003", YEAR, 1, 112, 3, "refused 27 LabelWidth 0");
+    refused(GS1_UPCE, "9501101530003", YEAR, 1, 113, 3, "refused 26 LabelKind 0");
+    refused(GS1_GS1128, "10A#", YEAR, 1, 113, 3, "refused 7 ValueCharacter 0");
+}
+
+/* Answers a question with as much room as it takes. */
+static void print(const struct asked *q, const char *end) {
+    size_t length = ask(q, NULL, 0);
+    uint8_t *out = malloc(length);
+    if (ask(q, out, length) != length) abort();
+    fwrite(out, 1, length, stdout);
+    fputs(end, stdout);
+    free(out);
+}
+
+static void answer_row(char *words) {
+    uint16_t *widths = malloc(MOST_RUNS * sizeof *widths);
+    size_t count = 0;
+    for (char *word = strtok(strchr(words, ',') + 1, " "); word; word = strtok(NULL, " ")) widths[count++] = (uint16_t)atoi(word);
+    print(&(struct asked){.call = ROW, .items = widths, .count = count, .year = YEAR}, "\n");
+    free(widths);
+}
+
+static void answer_check(char *words) {
+    char *text = strchr(words, ',');
+    *text++ = 0;
+    for (char *c = text; *c; c++)
+        if (*c == '^') *c = 29;
+    struct asked q = {.items = text, .count = strlen(text), .year = YEAR};
+    q.call = !strcmp(words, "gtin") ? GTIN : !strcmp(words, "digit") ? DIGIT : TEXT;
+    print(&q, "\n");
+}
+
+static void answer_label(char *words, char **sizes) {
+    static const char *kinds[] = {"ean13", "upca", "ean8", "upce", "gs1128"};
+    char *text = strchr(words, ',');
+    *text++ = 0;
+    for (char *c = text; *c; c++)
+        if (*c == '^') *c = 29;
+    struct asked q = {LABEL, text, strlen(text), YEAR, 0, (unsigned)atoi(sizes[0]), (unsigned)atoi(sizes[1]), (unsigned)atoi(sizes[2])};
+    while (strcmp(kinds[q.kind], words)) q.kind++;
+    print(&q, "");
+}
+
+int main(int count, char **words) {
+    if (count == 1) {
+        cases();
+        printf("%ld calls, %ld cases wrong\n", checks, wrong);
+        return wrong != 0;
+    }
+    static char input[1 << 20];
+    while (fgets(input, sizeof input, stdin)) {
+        input[strcspn(input, "\n")] = 0;
+        if (!strcmp(words[1], "rows")) answer_row(input);
+        else if (!strcmp(words[1], "check")) answer_check(input);
+        else answer_label(input, words + 2);
+    }
+    return 0;
+}
