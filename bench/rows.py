@@ -1,8 +1,8 @@
 """Prints scanned rows as `lanes` reads them: a lane, a comma and the widths of a row.
 
-Usage: rows.py COUNT LANES SEED [long]. The rows are the same for the same words: every carrier in
-turn, or with `long` the longest GS1-128 symbols alone, of 595 runs; both ways, 1 to 4 dots a module,
-and one in ten damaged (a run made wider or dropped, a light end too small, or a character changed).
+Usage: rows.py COUNT LANES SEED [long | itf14]. The rows are the same for the same words: EAN-13, EAN-8,
+UPC-E and GS1-128 in turn, or with `long` the longest GS1-128 symbols alone, of 595 runs, or with
+`itf14` ITF-14 symbols alone; both ways, 1 to 4 dots a module, and one in ten damaged (a run made wider or dropped, a light end too small, or a character changed).
 """
 import random
 import sys
@@ -12,6 +12,9 @@ SET_A = "3211 2221 2122 1411 1132 1231 1114 1312 1213 3112".split()
 SET_B = [widths[::-1] for widths in SET_A]
 EAN13_ROWS = "AAAAAA AABABB AABBAB AABBBA ABAABB ABBAAB ABBBAA ABABAB ABABBA ABBABA".split()
 UPCE_ROWS = "BBBAAA BBABAA BBAABA BBAAAB BABBAA BAABBA BAAABB BABABA BABAAB BAABAB".split()
+
+# ISO/IEC 16390: the five widths of each digit.
+TWO_OF_FIVE = "11331 31113 13113 33111 11313 31311 13311 11133 31131 13131".split()
 
 # ISO/IEC 15417: the widths of the values 0 to 102 and of the start characters.
 CODE128 = """
@@ -63,6 +66,13 @@ def upce(random):
     return 9, "111" + left(UPCE_ROWS[int(check)], six) + "111111", 7
 
 
+def itf14(random):
+    text = digits(random, 13)
+    text += check_digit(text)
+    pairs = (zip(TWO_OF_FIVE[int(a)], TWO_OF_FIVE[int(b)]) for a, b in zip(text[::2], text[1::2]))
+    return 10, "1111" + "".join(bar + space for pair in pairs for bar, space in pair) + "311", 10
+
+
 def code128(random, start, values):
     values = [FNC1] + values
     check = (start + sum(i * v for i, v in enumerate(values, 1))) % 103
@@ -92,6 +102,7 @@ def longest(random):
     return code128(random, START_C, [20, 11, 91] + pairs() + [FNC1, 92] + pairs())
 
 
+ALONE = {"long": (longest,), "itf14": (itf14,)}
 SYMBOLS = (ean13, gtin_and_batch, ean8, origin, upce, ean13, weight, gtin_and_batch)
 
 
@@ -125,7 +136,7 @@ def row(random, symbol):
 
 def main():
     count, lanes, seed = map(int, sys.argv[1:4])
-    symbols = (longest,) if sys.argv[4:] == ["long"] else SYMBOLS
+    symbols = ALONE[sys.argv[4]] if sys.argv[4:] else SYMBOLS
     rng = random.Random(seed)
     for i in range(count):
         widths = row(rng, symbols[i % len(symbols)])

@@ -3,7 +3,7 @@
 "use strict";
 
 class Gs1 {
-  static kinds = ["ean13", "upca", "ean8", "upce", "gs1128"];
+  static kinds = ["ean13", "upca", "ean8", "upce", "gs1128", "itf14"];
 
   // Whether this browser runs modules whose memory has 64-bit addresses.
   static runsHere() {

@@ -25,8 +25,8 @@ extern "C" {
 /* The most bytes of a line: room for each answer but an image. */
 #define GS1_LINE 292
 
-/* The kinds of labels: of a GTIN the first four, of an element string the last. */
-enum gs1_kind { GS1_EAN13 = 0, GS1_UPCA = 1, GS1_EAN8 = 2, GS1_UPCE = 3, GS1_GS1128 = 4 };
+/* The kinds of labels: GS1_GS1128 of an element string, the others of a GTIN. */
+enum gs1_kind { GS1_EAN13 = 0, GS1_UPCA = 1, GS1_EAN8 = 2, GS1_UPCE = 3, GS1_GS1128 = 4, GS1_ITF14 = 5 };
 
 /* The library's calls, whose pointers are never null, also where the count is 0: call those below. */
 size_t gs1_c_row(const uint16_t *widths, size_t count, uint16_t year, uint8_t *out, size_t room);

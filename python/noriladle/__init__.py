@@ -54,13 +54,14 @@ class Refusal(ValueError):
 
 
 class Kind(enum.Enum):
-    """What a label is printed as: of a GTIN the first four, of an element string the last."""
+    """What a label is printed as: ``GS1128`` of an element string, the others of a GTIN."""
 
     EAN13 = 0
     UPCA = 1
     EAN8 = 2
     UPCE = 3
     GS1128 = 4
+    ITF14 = 5
 
 
 @dataclass(frozen=True)
@@ -68,7 +69,8 @@ class Answer:
     """What a row says."""
 
     identifier: str
-    """The symbology identifier: ``]E0`` of EAN-13, UPC-A and UPC-E, ``]E4`` of EAN-8, ``]C1`` of GS1-128."""
+    """The symbology identifier: ``]E0`` of EAN-13, UPC-A and UPC-E, ``]E4`` of EAN-8, ``]I1`` of ITF-14, ``]C1`` of
+    GS1-128."""
     text: str
     """The elements, each Application Identifier in parentheses before its value: ``(01)09501101530003``."""
 

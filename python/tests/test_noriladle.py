@@ -72,6 +72,7 @@ def test_reads_elements():
 def test_draws_a_label():
     assert noriladle.draw_label(Kind.EAN13, "9501101530003", 2026, module=1, width=113, height=3) == IMAGE
     assert len(noriladle.draw_label(Kind.UPCA, "012345000065", 2026)) == 11 + 60 * 120
+    assert len(noriladle.draw_label(Kind.ITF14, "09501101530003", 2026)) == 11 + 60 * 120
     assert refusal(noriladle.draw_label, Kind.UPCE, "9501101530003", 2026) == (26, "LabelKind", 0)
     assert refusal(noriladle.draw_label, Kind.EAN13, "9501101530003", 2026, width=112) == (27, "LabelWidth", 0)
     assert refusal(noriladle.draw_label, Kind.EAN13, "9501101530003", 2026, width=70_000) == (25, "BadGrid", None)

@@ -150,7 +150,7 @@ static void cases(void) {
     text(many, YEAR, "refused 11 TooLong");
 
     label(GS1_EAN13, "9501101530003", YEAR, 1, 113, 3, IMAGE, sizeof IMAGE - 1);
-    refused(5, "9501101530003", 1950, 1, 113, 3, "refused 40 Kind");
+    refused(6, "9501101530003", 1950, 1, 113, 3, "refused 40 Kind");
     refused(UINT32_MAX, "9501101530003", YEAR, 1, 113, 3, "refused 40 Kind");
     refused(GS1_EAN13, "1", 1950, 0, 113, 3, "refused 42 Words");
     refused(GS1_EAN13, "1", YEAR, 0, 113, 3, "refused 25 BadGrid");
@@ -191,7 +191,7 @@ static void answer_check(char *words) {
 }
 
 static void answer_label(char *words, char **sizes) {
-    static const char *kinds[] = {"ean13", "upca", "ean8", "upce", "gs1128"};
+    static const char *kinds[] = {"ean13", "upca", "ean8", "upce", "gs1128", "itf14"};
     char *text = strchr(words, ',');
     *text++ = 0;
     for (char *c = text; *c; c++)

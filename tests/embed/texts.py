@@ -49,10 +49,10 @@ def asked():
 
 
 def label():
-    kind = random.choice(["ean13", "upca", "ean8", "gs1128"])
+    kind = random.choice(["ean13", "upca", "ean8", "gs1128", "itf14"])
     if kind == "gs1128":
         return kind, random.choice(["01" + checked(digits(13)), "10" + word(8), "01" + checked(digits(13)) + "10" + word(4)])
-    return kind, checked(digits({"ean13": 12, "upca": 11, "ean8": 7}[kind]))
+    return kind, checked(digits({"ean13": 12, "upca": 11, "ean8": 7, "itf14": 13}[kind]))
 
 
 for _ in range(count):

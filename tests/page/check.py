@@ -58,7 +58,7 @@ def type_words(page, **words):
 
 LABELS = [
     ("ean13", "9501101530003"), ("upca", "012345000065"), ("ean8", "96385074"), ("upce", "012345000065"),
-    ("gs1128", "010950110153000317261231"), ("gs1128", "10AB^17261231"), ("gs1128", "422528"),
+    ("itf14", "09501101530003"), ("gs1128", "010950110153000317261231"), ("gs1128", "10AB^17261231"), ("gs1128", "422528"),
     ("ean13", "9501101530004"), ("ean13", "950110153000X"), ("ean13", ""), ("upce", "9501101530003"),
     ("ean8", "9501101530003"), ("gs1128", "17250229"), ("gs1128", "10A#"), ("gs1128", "(01)\N{SNOWMAN}"),
 ]
@@ -126,7 +126,7 @@ def reads(page):
     png(f"{WORK}/blank.png", 300, 20, lambda y: b"\xff" * 300)
     page.choose(f"{WORK}/blank.png")
     same("a blank picture", shown(page), "refused 19 Blank")
-    same("what to do about it", page.value("at('remedy').textContent"), "the scan missed the symbol")
+    same("what to do about it", page.value("at('remedy').textContent.split(':')[0]"), "the scan missed the symbol")
 
     # Symbols with other grey values, turned end for end, and a quiet zone that is too narrow.
     row = symbol_row(2)

@@ -1,6 +1,6 @@
 //! Elements that are given as pairs, and rows of the table of AIs.
 
-use element_core::{Elements, Pair, Part, PartKind, Text, Year, ai_row};
+use element_core::{Elements, Pair, Part, PartFormat, Text, Year, ai_row};
 use std::alloc::Global;
 use std::test::Fail;
 
@@ -52,6 +52,12 @@ fn pairs_are_elements_or_have_a_first_fault(rt: HostRuntime) -> Result<(), Fail>
         (&[("10", "A\x1DB")], "refused 7 ValueCharacter 0"),
         (&[("01", "09501101530004")], "refused 8 ValueCheckDigit 0"),
         (&[("17", "261301")], "refused 9 ValueDate 0"),
+        (&[("8008", "26010215"), ("10", "A")], "(8008)26010215(10)A"),
+        (&[("8008", "260102153")], "refused 6 ValueLength 0"),
+        (&[("8008", "26010215304")], "refused 6 ValueLength 0"),
+        (&[("8008", "260102153045123")], "refused 6 ValueLength 0"),
+        (&[("7003", "26010215301")], "refused 6 ValueLength 0"),
+        (&[("7003", "2601021560")], "refused 9 ValueDate 0"),
         (
             &[("91", NINETY), ("92", NINETY), ("93", NINETY)],
             "refused 11 TooLong",
@@ -69,32 +75,76 @@ fn the_row_of_an_ai_has_its_parts(rt: HostRuntime) -> Result<(), Fail> {
     assert_eq!(rt; row.ai.as_slice(), b"01".as_slice());
     assert!(rt; row.predefined);
     let gtin = Part {
-        kind: PartKind::Digits,
+        format: PartFormat::Numeric,
         least: 14,
         greatest: 14,
         check: true,
-        date: false,
+        even: false,
     };
     assert_eq!(rt; row.parts.as_slice(), [gtin].as_slice());
     let row = ai_row(b"253").ok_or("253")?;
     let number = Part {
-        kind: PartKind::Digits,
+        format: PartFormat::Numeric,
         least: 13,
         greatest: 13,
         check: true,
-        date: false,
+        even: false,
     };
     let serial = Part {
-        kind: PartKind::Characters,
+        format: PartFormat::Alphanumeric,
         least: 0,
         greatest: 17,
         check: false,
-        date: false,
+        even: false,
     };
     assert!(rt; !row.predefined);
     assert_eq!(rt; row.parts.as_slice(), [number, serial].as_slice());
-    for none in ["", "1", "03", "3106", "8006"] {
+    let row = ai_row(b"8008").ok_or("8008")?;
+    let produced = Part {
+        format: PartFormat::DateAndTime,
+        least: 8,
+        greatest: 12,
+        check: false,
+        even: true,
+    };
+    assert!(rt; !row.predefined);
+    assert_eq!(rt; row.parts.as_slice(), [produced].as_slice());
+    for none in ["", "1", "03", "3106", "7002", "8006"] {
         assert!(rt; ai_row(none.as_bytes()).is_none());
+    }
+    Ok(())
+}
+
+#[test]
+fn an_element_has_its_time(rt: HostRuntime) -> Result<(), Fail> {
+    let year = Year::new(2026).ok_or("year")?;
+    for (line, day, time) in [
+        (
+            b"70032601021530".as_slice(),
+            Some((2026, 1, 2)),
+            Some([15, 30, 0]),
+        ),
+        (b"800826010215", Some((2026, 1, 2)), Some([15, 0, 0])),
+        (b"80082601021530", Some((2026, 1, 2)), Some([15, 30, 0])),
+        (b"8008260102153045", Some((2026, 1, 2)), Some([15, 30, 45])),
+        (
+            b"8008261231235959",
+            Some((2026, 12, 31)),
+            Some([23, 59, 59]),
+        ),
+        (b"17260102", Some((2026, 1, 2)), None),
+        (b"10A", None, None),
+    ] {
+        let elements = Elements::parse(line, year).ok().ok_or("a list")?;
+        if elements.len() == 0 {
+            return Err(Fail::from("an element"));
+        }
+        let element = elements.element(0);
+        let found = element
+            .date
+            .map(|date| (date.year(), date.month(), date.day()));
+        assert_eq!(rt; found, day);
+        assert_eq!(rt; element.time, time);
     }
     Ok(())
 }

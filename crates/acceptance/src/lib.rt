@@ -4,6 +4,8 @@
 #[cfg(test)]
 mod adapters;
 #[cfg(test)]
+mod element_lists;
+#[cfg(test)]
 mod elements;
 #[cfg(test)]
 mod held;

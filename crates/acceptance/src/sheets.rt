@@ -1,6 +1,7 @@
 //! Printed labels, images read and written, and readers and writers that fail.
 ghost use Rattle.std.specs.Prelude.{None, ◌≡◌};
 
+use crate::rows::{ITF14, ITF14_WRONG};
 use code128_code::encode;
 use digits_core::{Failed, FromReader, Gtin, Sink, Source, ToWriter};
 use element_core::{Elements, Year};
@@ -194,6 +195,7 @@ fn line(alloc: Global, runs: &Runs, year: u16) -> Result<String, Fail> {
             let id = match carrier {
                 Carrier::Ean13 | Carrier::UpcE => "]E0",
                 Carrier::Ean8 => "]E4",
+                Carrier::Itf14 => "]I1",
                 Carrier::Gs1128 => "]C1",
             };
             let hri = elements.hri();
@@ -270,6 +272,8 @@ fn prints_labels_that_fit(rt: HostRuntime) -> Result<(), Fail> {
     let wide = Grid::new(2, 226, 5, 2, 2).ok().ok_or("wide")?;
     let narrow = Grid::new(2, 225, 5, 2, 2).ok().ok_or("narrow")?;
     let few = Grid::new(1, 81, 3, 1, 1).ok().ok_or("few")?;
+    let case = Grid::new(1, 155, 3, 1, 1).ok().ok_or("case")?;
+    let slim = Grid::new(1, 154, 3, 1, 1).ok().ok_or("slim")?;
     for (label, grid, wanted) in [
         (Label::Ean13(number), wide, "1 sheets"),
         (Label::Ean13(number), narrow, "refused 27 LabelWidth 0"),
@@ -277,6 +281,9 @@ fn prints_labels_that_fit(rt: HostRuntime) -> Result<(), Fail> {
         (Label::UpcA(number), wide, "refused 26 LabelKind 0"),
         (Label::UpcE(suppressed), wide, "1 sheets"),
         (Label::UpcE(number), wide, "refused 26 LabelKind 0"),
+        (Label::Itf14(number), case, "1 sheets"),
+        (Label::Itf14(number), slim, "refused 27 LabelWidth 0"),
+        (Label::Itf14(short), case, "1 sheets"),
         (Label::Ean8(short), few, "1 sheets"),
         (Label::Ean8(number), wide, "refused 26 LabelKind 0"),
     ] {
@@ -483,6 +490,21 @@ fn prints_the_bytes_of_sheets(rt: HostRuntime) -> Result<(), Fail> {
 }
 
 #[test]
+fn reads_itf14_rows(rt: HostRuntime) -> Result<(), Fail> {
+    let alloc = rt.alloc();
+    for (widths, wanted) in [
+        (ITF14, "]I1 (01)09501101530003"),
+        (ITF14_WRONG, "refused 24 SymbolCheckDigit"),
+    ] {
+        let mut runs = Runs::of_widths(alloc, widths).ok().ok_or("row")?;
+        assert_eq!(rt; line(alloc, &runs, 2026)?.as_str(), wanted);
+        runs.reverse();
+        assert_eq!(rt; line(alloc, &runs, 2026)?.as_str(), wanted);
+    }
+    Ok(())
+}
+
+#[test]
 fn prints_48_characters(rt: HostRuntime) -> Result<(), Fail> {
     let alloc = rt.alloc();
     let Ok(wide) = Grid::new(1, 594, 4, 1, 1) else {
@@ -539,6 +561,7 @@ fn reads_each_bar_row_as_its_label(rt: HostRuntime) -> Result<(), Fail> {
         Label::UpcE(suppressed),
         Label::Gs1128(elements("10AB\x1d17261231", 2026)?),
         Label::Gs1128(elements("17000229", 2026)?),
+        Label::Itf14(number),
     ];
     let sheets = print_sheets(alloc, &labels, grid).ok().ok_or("print")?;
     let sheet = sheets.first().ok_or("sheet")?;
@@ -549,7 +572,8 @@ fn reads_each_bar_row_as_its_label(rt: HostRuntime) -> Result<(), Fail> {
         (3, "]E0 (01)00012345000065"),
         (4, "]C1 (10)AB(17)261231"),
         (5, "]C1 (17)000229"),
-        (6, "refused 19 Blank"),
+        (6, "]I1 (01)09501101530003"),
+        (7, "refused 19 Blank"),
         (8, "refused 19 Blank"),
     ] {
         for y in 0..12 {

@@ -1,15 +1,18 @@
 -- The widths of EAN and UPC symbols: how many there are, and how many modules together.
-use Rattle.std.proofs.Common.{◌≡◌, ℕ, zero, suc, ◌+◌, ◌*◌, ◌<◌, List, [], ◌∷◌, ◌++◌, length, take, drop, sum, refl, sym, ap, ap₂, ◌∙◌, arith, get_or, length-drop, length-take}
-use Rattle.std.specs.List.{AllByRecursion}
+use Rattle.std.proofs.Common.{◌≡◌, ℕ, zero, suc, ◌+◌, ◌*◌, ◌%◌, ◌<◌, ◌&&◌, ◌==◌, eqb-true, List, [], ◌∷◌, ◌++◌, length, take, drop, sum, refl, sym, ap, ap₂, ◌∙◌, arith, get_or, length-drop, length-take}
+use Rattle.std.specs.List.{AllByRecursion, flat_map}
+use Rattle.std.proofs.lemmas.Bool.{and_parts}
 use Rattle.std.proofs.lemmas.List.{length-append}
 use Rattle.std.proofs.lemmas.List.Sums.{sum_by-append}
 use Rattle.digits_core.specs.Digits.{AreDigits}
 use Rattle.ean_code.specs.declared.number_sets.NumberSet.{NumberSet}
 use Rattle.ean_code.specs.declared.number_sets.NumberSet.TheVariants.{A, B}
 use Rattle.ean_code.specs.NumberSets.{set_a, set_b, in_set, left_widths, right_widths, left_part, right_part, row_of, ean13_rows, ean8_row, upce_rows}
-use Rattle.ean_code.specs.Symbols.{IsEanSymbol, centre_guard, normal_guard, special_guard, two_halves}
-use Rattle.ean_code.specs.Symbols.Kind.{Ean13, Ean8, UpcE}
-use Rattle.ean_code.proofs.Cells.{AllByRecursion-drop, AllByRecursion-take}
+use Rattle.ean_code.specs.Symbols.{IsNumberSymbol, centre_guard, normal_guard, special_guard, two_halves}
+use Rattle.ean_code.specs.Symbols.Kind.{Ean13, Ean8, UpcE, Itf14}
+use Rattle.ean_code.specs.TwoOfFive.{five_widths, in_pairs, in_turn, itf_start, itf_stop, pair_widths}
+use Rattle.ean_code.proofs.ItfWidths.{IsPair, length-pairs, pairs_valid}
+use Rattle.ean_code.proofs.Cells.{all_below-at, AllByRecursion-drop, AllByRecursion-take}
 
 -- so many widths, so many modules together
 abbrev pub Measures : List ℕ → ℕ → ℕ → Type 0
@@ -77,7 +80,7 @@ halves_measure left right a n p q =
     let all = joined normal_guard (left ++ (centre_guard ++ (right ++ normal_guard))) 3 (a + (5 + (a + 3))) 3 (n + (5 + (n + 3))) guard body in
     (all.0 ∙ (omega arith), all.1 ∙ (omega arith))
 
-pub ean13_measures : (ms ds : List ℕ) → IsEanSymbol Ean13 ms ds → Measures ms 59 95
+pub ean13_measures : (ms ds : List ℕ) → IsNumberSymbol Ean13 ms ds → Measures ms 59 95
 ean13_measures ms ds e =
     let count = e.count in
     let first : get_or ds 0 0 < 10 = each-at (λ d. d < 10) ds 0 0 e.valid (omega arith) in
@@ -91,7 +94,7 @@ ean13_measures ms ds e =
     (left.0 ∙ (omega arith), left.1 ∙ (omega arith)) (right.0 ∙ (omega arith), right.1 ∙ (omega arith)) in
     (ap length e.widths ∙ all.0, ap sum e.widths ∙ all.1)
 
-pub ean8_measures : (ms ds : List ℕ) → IsEanSymbol Ean8 ms ds → Measures ms 43 67
+pub ean8_measures : (ms ds : List ℕ) → IsNumberSymbol Ean8 ms ds → Measures ms 43 67
 ean8_measures ms ds e =
     let count = e.count in
     let four_count : length (take 4 ds) ≡ 4 = omega (arith, length-take {A = ℕ}) in
@@ -102,7 +105,7 @@ ean8_measures ms ds e =
     (left.0 ∙ (omega arith), left.1 ∙ (omega arith)) (right.0 ∙ (omega arith), right.1 ∙ (omega arith)) in
     (ap length e.widths ∙ all.0, ap sum e.widths ∙ all.1)
 
-pub upce_measures : (ms ds : List ℕ) → IsEanSymbol UpcE ms ds → Measures ms 33 51
+pub upce_measures : (ms ds : List ℕ) → IsNumberSymbol UpcE ms ds → Measures ms 33 51
 upce_measures ms ds e =
     let count = e.count in
     let check : get_or ds 6 0 < 10 = each-at (λ d. d < 10) ds 6 0 e.valid (omega arith) in
@@ -113,3 +116,46 @@ upce_measures ms ds e =
     let end = joined part special_guard 24 6 42 6 (left.0 ∙ (omega arith), left.1 ∙ (omega arith)) (refl, refl) in
     let all = joined normal_guard (part ++ special_guard) 3 30 3 48 (refl, refl) end in
     (ap length e.widths ∙ all.0, ap sum e.widths ∙ all.1)
+
+-- each digit of an ITF-14 has five widths of nine modules
+abbrev IsNine : List ℕ → Type 0
+IsNine widths = Measures widths 5 9
+
+nine : (d : ℕ) → d < 10 → IsNine (five_widths d)
+nine d h =
+    let parts = and_parts _ _ (all_below-at (λ d. (length (five_widths d) == 5) && (sum (five_widths d) == 9)) 10 refl d h) in (eqb-true _ _ parts.0, eqb-true _ _ parts.1)
+
+first_sum : (x : ℕ) (xs : List ℕ) → sum (x ∷ xs) ≡ x + sum xs
+first_sum x xs = let alone : 0 + x ≡ x = omega arith in sum_by-append (λ x. x) (x ∷ []) xs ∙ ap (λ n. n + sum xs) alone
+
+in_turn_measures : (xs ys : List ℕ) (n N M : ℕ) → Measures xs n N → Measures ys n M → Measures (in_turn xs ys) (n + n) (N + M)
+in_turn_measures [] [] n N M p q = (omega (arith, p.0), omega (arith, p.1, q.1))
+in_turn_measures [] (y ∷ ys) n N M p q = absurd (omega (arith, p.0, q.0))
+in_turn_measures (x ∷ xs) [] n N M p q = absurd (omega (arith, p.0, q.0))
+in_turn_measures (x ∷ xs) (y ∷ ys) n N M p q =
+    let m = in_turn_measures xs ys (length xs) (sum xs) (sum ys) (refl, refl) (omega (arith, p.0, q.0), refl) in
+    let one = first_sum x xs in
+    let two = first_sum y ys in
+    let rest = first_sum y (in_turn xs ys) in
+    let both : sum (in_turn (x ∷ xs) (y ∷ ys)) ≡ x + sum (y ∷ in_turn xs ys) = first_sum x (y ∷ in_turn xs ys) in
+    (omega (arith, p.0, m.0), omega (arith, p.1, q.1, m.1))
+
+pairs_measures : (ps : List (ℕ × ℕ)) → AllByRecursion IsPair ps → Measures (flat_map pair_widths ps) (10 * length ps) (18 * length ps)
+pairs_measures [] v = (refl, refl)
+pairs_measures (p ∷ ps) v =
+    let one = in_turn_measures (five_widths p.0) (five_widths p.1) 5 9 9 (nine p.0 v.0.0) (nine p.1 v.0.1) in
+    let m = joined (pair_widths p) (flat_map pair_widths ps) 10 (10 * length ps) 18 (18 * length ps) one (pairs_measures ps v.1) in
+    (m.0 ∙ (omega arith), m.1 ∙ (omega arith))
+
+pub itf14_measures : (ms ds : List ℕ) → IsNumberSymbol Itf14 ms ds → Measures ms 77 135
+itf14_measures ms ds symbol =
+    let ps : List (ℕ × ℕ) = in_pairs ds in
+    let twice = length-pairs ds (ap (λ n. n % 2) symbol.count) in
+    let n = symbol.count in
+    let tens : List ℕ = flat_map pair_widths ps in
+    let m = pairs_measures ps (pairs_valid ds symbol.valid) in
+    let start : Measures itf_start 4 4 = (refl, refl) in
+    let stop : Measures itf_stop 3 5 = (refl, refl) in
+    let end = joined tens itf_stop (10 * length ps) 3 (18 * length ps) 5 m stop in
+    let all = joined itf_start (tens ++ itf_stop) 4 (10 * length ps + 3) 4 (18 * length ps + 5) start end in
+    (ap length symbol.widths ∙ all.0 ∙ (omega arith), ap sum symbol.widths ∙ all.1 ∙ (omega arith))

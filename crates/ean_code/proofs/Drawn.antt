@@ -9,11 +9,12 @@ use Rattle.ean_code.specs.declared.number_sets.Character.{Character}
 use Rattle.ean_code.specs.declared.number_sets.NumberSet.{NumberSet}
 use Rattle.ean_code.specs.declared.number_sets.NumberSet.TheVariants.{A, B}
 use Rattle.ean_code.specs.NumberSets.{characters_in, in_set, left_widths, right_widths, left_part, right_part, ean8_row, ean13_rows, upce_rows, row_of}
-use Rattle.ean_code.specs.Symbols.{Kind, IsEanSymbol, digit_count, normal_guard, centre_guard, special_guard, two_halves, widths_of}
-use Rattle.ean_code.specs.Symbols.Kind.{Ean13, Ean8, UpcE}
+use Rattle.ean_code.specs.Symbols.{Kind, IsNumberSymbol, digit_count, normal_guard, centre_guard, special_guard, two_halves, widths_of}
+use Rattle.ean_code.specs.Symbols.Kind.{Ean13, Ean8, UpcE, Itf14}
 use Rattle.ean_code.specs.Widths.{AreWidths, AreModules}
 use Rattle.ean_code.proofs.Cells.{all_below, all_below-at, AllByRecursion-append, AllByRecursion-take, AllByRecursion-drop, length-cells}
 use Rattle.ean_code.proofs.Characters.{characters_valid, digit_at, get_or-characters, left_code, length-characters, right_code, left_char, right_digit}
+use Rattle.ean_code.proofs.ItfWidths.{itf_valid}
 use Rattle.ean_code.proofs.ParityRows.{length-row, length-upce_row}
 use Rattle.ean_code.proofs.Texts.{AreDigits-shown}
 use Rattle.ean_code.proofs.Widths.{are_widths, AreWidths-from}
@@ -129,9 +130,10 @@ symbol_valid UpcE ds e v =
     let lv : AreDigits (take 6 ds) = AllByRecursion-take _ 6 ds v in
     let ll : length (take 6 ds) ≡ 6 = length-take 6 ds ∙ (omega arith) in
     upce_valid _ (length-left_part 6 row _ lv six ll) (left_part_valid row _ lv)
+symbol_valid Itf14 ds e v = itf_valid ds e v
 
 -- what is drawn of a text of digits is its symbol
-pub symbol_drawn : (kind : Kind) (text ms : List ℕ) → length text ≡ digit_count kind → AreAsciiDigits text → ms ≡ widths_of kind (digits_of text) → IsEanSymbol kind ms (digits_of text)
+pub symbol_drawn : (kind : Kind) (text ms : List ℕ) → length text ≡ digit_count kind → AreAsciiDigits text → ms ≡ widths_of kind (digits_of text) → IsNumberSymbol kind ms (digits_of text)
 symbol_drawn kind text ms n v e = record { count = length-map text _ ∙ n; valid = AreDigits-shown text v; widths = e }
 
 pub modules_drawn : (kind : Kind) (text ms : List ℕ) → length text ≡ digit_count kind → AreAsciiDigits text → ms ≡ widths_of kind (digits_of text) → AreModules ms

@@ -5,14 +5,14 @@ use Rattle.digits_core.specs.Digits.{IsChecked, digits_of, padded}
 use Rattle.digits_core.specs.Upce.{IsUpceOf, upce_expanded}
 use Rattle.ean_code.specs.Parts.{IsTextOf}
 use Rattle.ean_code.specs.Spelling.{IsGtinOf}
-use Rattle.ean_code.specs.Symbols.{IsEanSymbol, widths_of}
+use Rattle.ean_code.specs.Symbols.{IsNumberSymbol, widths_of}
 use Rattle.ean_code.specs.Symbols.Kind.{UpcE}
 use Rattle.ean_code.proofs.Cells.{AllByRecursion-append, AllByRecursion-take}
 use Rattle.ean_code.proofs.Drawn.{digit_shown, part_shown}
 use Rattle.ean_code.proofs.Found.{last_of, last_small}
 
 -- the digits of a symbol are a spelling of the checked GTIN that they stand for
-pub upce_of : (ws ds gtin : List ℕ) → IsEanSymbol UpcE ws ds → IsGtinOf UpcE ds gtin → IsChecked gtin → IsUpceOf (take 6 ds) (get_or ds 6 0) gtin
+pub upce_of : (ws ds gtin : List ℕ) → IsNumberSymbol UpcE ws ds → IsGtinOf UpcE ds gtin → IsChecked gtin → IsUpceOf (take 6 ds) (get_or ds 6 0) gtin
 upce_of ws ds gtin e g h = record {
   six_digits = (let n = e.count in length-take 6 ds ∙ (omega arith));
   valid = AllByRecursion-take _ 6 ds e.valid;
@@ -30,7 +30,7 @@ upce_of_text ws text gtin six t e g h =
     subst (λ c. IsUpceOf (digits_of six) c gtin) check (subst (λ ds. IsUpceOf ds (get_or (digits_of text) 6 0) gtin) same (upce_of ws (digits_of text) gtin t.1 g h))
 
 -- a spelling is drawn as a symbol of its GTIN
-pub upce_drawn : (six : List ℕ) (check : ℕ) (gtin ms : List ℕ) → IsUpceOf six check gtin → ms ≡ widths_of UpcE (six ++ check ∷ []) → IsEanSymbol UpcE ms (six ++ check ∷ [])
+pub upce_drawn : (six : List ℕ) (check : ℕ) (gtin ms : List ℕ) → IsUpceOf six check gtin → ms ≡ widths_of UpcE (six ++ check ∷ []) → IsNumberSymbol UpcE ms (six ++ check ∷ [])
 upce_drawn six check gtin ms u e = record {
   count = (let n = u.six_digits in length-append six (check ∷ []) ∙ (omega arith));
   valid = AllByRecursion-append _ six (check ∷ []) u.valid (u.check_valid, tt);

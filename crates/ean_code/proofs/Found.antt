@@ -7,7 +7,7 @@ use Rattle.ean_code.specs.declared.number_sets.NumberSet.{NumberSet}
 use Rattle.ean_code.specs.declared.number_sets.NumberSet.TheVariants.{A}
 use Rattle.ean_code.specs.NumberSets.{character_digits, character_sets, characters_in, ean8_row, ean13_rows, is_a, left_part, left_widths, right_part, row_of, upce_rows}
 use Rattle.ean_code.specs.Parts.{AreHalves, AreSix}
-use Rattle.ean_code.specs.Symbols.{IsEanSymbol, two_halves}
+use Rattle.ean_code.specs.Symbols.{IsNumberSymbol, two_halves}
 use Rattle.ean_code.specs.Symbols.Kind.{Ean13, Ean8, UpcE}
 use Rattle.ean_code.proofs.Cells.{AllByRecursion-append, AllByRecursion-drop, AllByRecursion-take}
 use Rattle.ean_code.proofs.Characters.{characters_valid, digit_at, length-characters, sets-characters}
@@ -22,7 +22,7 @@ pub last_of : (xs : List ℕ) (c : ℕ) (n : ℕ) → length xs ≡ n → get_or
 last_of [] c n e = ap (λ k. get_or (c ∷ []) k 0) (sym e)
 last_of (x ∷ xs) c n e = ap (λ k. get_or (x ∷ (xs ++ c ∷ [])) k 0) (sym e) ∙ last_of xs c (length xs) refl
 
-pub found13 : (ws : List ℕ) (d : ℕ) (cs : List Character) (rs : List ℕ) → AreHalves 6 ws cs rs → d < 10 → character_sets cs ≡ row_of ean13_rows d → IsEanSymbol Ean13 ws (d ∷ (character_digits cs ++ rs))
+pub found13 : (ws : List ℕ) (d : ℕ) (cs : List Character) (rs : List ℕ) → AreHalves 6 ws cs rs → d < 10 → character_sets cs ≡ row_of ean13_rows d → IsNumberSymbol Ean13 ws (d ∷ (character_digits cs ++ rs))
 found13 ws d cs rs h small row =
     let six : length (character_digits cs) ≡ 6 = length-map cs _ ∙ h.left_count in
     let left : left_part (row_of ean13_rows d) (take 6 (character_digits cs ++ rs)) ≡ flat_map left_widths cs =
@@ -34,7 +34,7 @@ found13 ws d cs rs h small row =
       widths = h.shown ∙ ap₂ two_halves (sym left) (sym right);
     }
 
-pub found8 : (ws : List ℕ) (cs : List Character) (rs : List ℕ) → AreHalves 4 ws cs rs → list_all (λ c. is_a c.set) cs ≡ true → IsEanSymbol Ean8 ws (character_digits cs ++ rs)
+pub found8 : (ws : List ℕ) (cs : List Character) (rs : List ℕ) → AreHalves 4 ws cs rs → list_all (λ c. is_a c.set) cs ≡ true → IsNumberSymbol Ean8 ws (character_digits cs ++ rs)
 found8 ws cs rs h a =
     let four : length (character_digits cs) ≡ 4 = length-map cs _ ∙ h.left_count in
     let row : character_sets cs ≡ ean8_row = row-of_a cs a ∙ ap (λ n. replicate n A) h.left_count in
@@ -53,25 +53,25 @@ first_row ds = row_of ean13_rows (get_or ds 0 0)
 abbrev pub last_row : List ℕ → List NumberSet
 last_row ds = row_of upce_rows (get_or ds 6 0)
 
-pub first_small : (ws ds : List ℕ) → IsEanSymbol Ean13 ws ds → get_or ds 0 0 < 10
+pub first_small : (ws ds : List ℕ) → IsNumberSymbol Ean13 ws ds → get_or ds 0 0 < 10
 first_small ws ds e = let n = e.count in digit_at 0 ds e.valid (omega arith)
 
-pub last_small : (ws ds : List ℕ) → IsEanSymbol UpcE ws ds → get_or ds 6 0 < 10
+pub last_small : (ws ds : List ℕ) → IsNumberSymbol UpcE ws ds → get_or ds 6 0 < 10
 last_small ws ds e = let n = e.count in digit_at 6 ds e.valid (omega arith)
 
-left_long : (ws ds : List ℕ) → IsEanSymbol Ean13 ws ds → length (take 6 (drop 1 ds)) ≡ 6
+left_long : (ws ds : List ℕ) → IsNumberSymbol Ean13 ws ds → length (take 6 (drop 1 ds)) ≡ 6
 left_long ws ds e = let n = e.count in let m = length-drop 1 ds in length-take 6 (drop 1 ds) ∙ (omega arith)
 
-six_long : (ws ds : List ℕ) → IsEanSymbol UpcE ws ds → length (take 6 ds) ≡ 6
+six_long : (ws ds : List ℕ) → IsNumberSymbol UpcE ws ds → length (take 6 ds) ≡ 6
 six_long ws ds e = let n = e.count in length-take 6 ds ∙ (omega arith)
 
-pub row13 : (ws ds : List ℕ) → IsEanSymbol Ean13 ws ds → character_sets (characters_in (first_row ds) (take 6 (drop 1 ds))) ≡ first_row ds
+pub row13 : (ws ds : List ℕ) → IsNumberSymbol Ean13 ws ds → character_sets (characters_in (first_row ds) (take 6 (drop 1 ds))) ≡ first_row ds
 row13 ws ds e = sets-characters (first_row ds) (take 6 (drop 1 ds)) (left_long ws ds e ∙ sym (length-row (get_or ds 0 0) (first_small ws ds e)))
 
-pub rowE : (ws ds : List ℕ) → IsEanSymbol UpcE ws ds → character_sets (characters_in (last_row ds) (take 6 ds)) ≡ last_row ds
+pub rowE : (ws ds : List ℕ) → IsNumberSymbol UpcE ws ds → character_sets (characters_in (last_row ds) (take 6 ds)) ≡ last_row ds
 rowE ws ds e = sets-characters (last_row ds) (take 6 ds) (six_long ws ds e ∙ sym (length-upce_row (get_or ds 6 0) (last_small ws ds e)))
 
-pub halves13 : (ws ds : List ℕ) → IsEanSymbol Ean13 ws ds → AreHalves 6 ws (characters_in (first_row ds) (take 6 (drop 1 ds))) (drop 7 ds)
+pub halves13 : (ws ds : List ℕ) → IsNumberSymbol Ean13 ws ds → AreHalves 6 ws (characters_in (first_row ds) (take 6 (drop 1 ds))) (drop 7 ds)
 halves13 ws ds e =
     let n = e.count in
     let ll = left_long ws ds e in
@@ -84,7 +84,7 @@ halves13 ws ds e =
       shown = e.widths;
     }
 
-pub halves8 : (ws ds : List ℕ) → IsEanSymbol Ean8 ws ds → AreHalves 4 ws (characters_in ean8_row (take 4 ds)) (drop 4 ds)
+pub halves8 : (ws ds : List ℕ) → IsNumberSymbol Ean8 ws ds → AreHalves 4 ws (characters_in ean8_row (take 4 ds)) (drop 4 ds)
 halves8 ws ds e =
     let n = e.count in
     record {
@@ -95,7 +95,7 @@ halves8 ws ds e =
       shown = e.widths;
     }
 
-pub sixE : (ws ds : List ℕ) → IsEanSymbol UpcE ws ds → AreSix ws (characters_in (last_row ds) (take 6 ds))
+pub sixE : (ws ds : List ℕ) → IsNumberSymbol UpcE ws ds → AreSix ws (characters_in (last_row ds) (take 6 ds))
 sixE ws ds e =
     let ll = six_long ws ds e in
     let six = length-upce_row (get_or ds 6 0) (last_small ws ds e) in

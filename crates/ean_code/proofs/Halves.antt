@@ -12,7 +12,7 @@ use Rattle.ean_code.proofs.Characters.{left_char, left_code, right_code, right_d
 use Rattle.ean_code.proofs.Joined.{AreDigits-characters, rights-of_a, same_characters}
 
 -- lists joined of parts of the same lengths have the same parts
-append_parts : (xs ys us vs : List ℕ) → length xs ≡ length us → xs ++ ys ≡ us ++ vs → (xs ≡ us) × (ys ≡ vs)
+pub append_parts : (xs ys us vs : List ℕ) → length xs ≡ length us → xs ++ ys ≡ us ++ vs → (xs ≡ us) × (ys ≡ vs)
 append_parts xs ys us vs l e = (
   sym (take_at xs ys (length us) l) ∙ ap (take (length us)) e ∙ take_at us vs (length us) refl,
   sym (drop_at xs ys (length us) l) ∙ ap (drop (length us)) e ∙ drop_at us vs (length us) refl,

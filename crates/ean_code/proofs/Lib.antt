@@ -5,9 +5,12 @@ pub mod Drawn
 pub mod Expanded
 pub mod Found
 pub mod Halves
+pub mod ItfFacts
+pub mod ItfWidths
 pub mod Joined
 pub mod LookupFacts
 pub mod Options
+pub mod PairFacts
 pub mod ParityRows
 pub mod Readings
 pub mod Replaced

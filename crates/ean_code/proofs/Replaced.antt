@@ -5,7 +5,7 @@ use Rattle.std.proofs.lemmas.Bool.{cases_lt}
 use Rattle.std.proofs.lemmas.List.{length-set}
 use Rattle.digits_core.specs.Digits.{AreDigits, IsChecked, padded, weight, weighted}
 use Rattle.ean_code.specs.Laws.{ReplacedIsUnchecked}
-use Rattle.ean_code.specs.Symbols.Kind.{Ean13, Ean8, UpcE}
+use Rattle.ean_code.specs.Symbols.Kind.{Ean13, Ean8, UpcE, Itf14}
 use Rattle.ean_code.proofs.Characters.{digit_at}
 use Rattle.ean_code.proofs.Texts.{checked_unpadded}
 
@@ -87,6 +87,9 @@ replaced13 ds gtin other k d n v e c place small differs f o =
 
 pub replaced8 : ReplacedIsUnchecked Ean8
 replaced8 ds gtin other k d n v e c place small differs f o = noticed_padded ds gtin other k d v e c (omega arith) small differs f o
+
+pub replaced14 : ReplacedIsUnchecked Itf14
+replaced14 ds gtin other k d n v e c place small differs f o = noticed_padded ds gtin other k d v e c (omega arith) small differs f o
 
 pub replacedE : ReplacedIsUnchecked UpcE
 replacedE [] gtin other k x n v e c place small differs f o = absurd (omega arith)

@@ -3,9 +3,9 @@ use Rattle.std.proofs.Common.{◌≡◌, ℕ, zero, suc, ◌+◌, ◌-◌, ◌%�
 use Rattle.std.proofs.lemmas.List.{append_assoc, drop_at, length-replicate, map-append}
 use Rattle.digits_core.specs.Digits.{AreDigits, AreAsciiDigits, IsChecked, ascii_of, digits_of, padded, weighted}
 use Rattle.ean_code.specs.Parts.{IsTextOf}
-use Rattle.ean_code.specs.Symbols.{Kind, IsEanSymbol}
+use Rattle.ean_code.specs.Symbols.{Kind, IsNumberSymbol}
 
-ascii_valid : (ds : List ℕ) → AreDigits ds → AreAsciiDigits (ascii_of ds)
+pub ascii_valid : (ds : List ℕ) → AreDigits ds → AreAsciiDigits (ascii_of ds)
 ascii_valid [] h = tt
 ascii_valid (d ∷ ds) h = ((omega arith, omega (arith, h.0)), ascii_valid ds h.1)
 
@@ -18,10 +18,10 @@ shown_back [] = refl
 shown_back (d ∷ ds) = ap₂ (λ x xs. x ∷ xs) (omega arith) (shown_back ds)
 
 -- the text of a symbol's digits
-pub text_of : (kind : Kind) (ws ds text : List ℕ) → text ≡ ascii_of ds → IsEanSymbol kind ws ds → IsTextOf kind ws text
+pub text_of : (kind : Kind) (ws ds text : List ℕ) → text ≡ ascii_of ds → IsNumberSymbol kind ws ds → IsTextOf kind ws text
 text_of kind ws ds text e s =
     let back : digits_of text ≡ ds = ap digits_of e ∙ shown_back ds in
-    (subst AreAsciiDigits (sym e) (ascii_valid ds s.valid), subst (λ es. IsEanSymbol kind ws es) (sym back) s)
+    (subst AreAsciiDigits (sym e) (ascii_valid ds s.valid), subst (λ es. IsNumberSymbol kind ws es) (sym back) s)
 
 pub ascii-append : (xs ys : List ℕ) → ascii_of (xs ++ ys) ≡ ascii_of xs ++ ascii_of ys
 ascii-append xs ys = map-append (λ d. d + 48) xs ys

@@ -7,7 +7,7 @@ use Rattle.ean_code.specs.declared.number_sets.Character.{Character}
 use Rattle.ean_code.specs.declared.number_sets.NumberSet.{NumberSet}
 use Rattle.ean_code.specs.declared.number_sets.NumberSet.TheVariants.{A, B}
 use Rattle.ean_code.specs.NumberSets.{AreCharacters, character_sets, in_set, left_widths, right_widths, left_part, right_part, ean8_row, ean13_rows, row_of}
-use Rattle.ean_code.specs.Symbols.{normal_guard, centre_guard, IsEanSymbol}
+use Rattle.ean_code.specs.Symbols.{normal_guard, centre_guard, IsNumberSymbol}
 use Rattle.ean_code.specs.Symbols.Kind.{Ean13, Ean8}
 use Rattle.ean_code.proofs.Cells.{all_below-at, cells, cells-flat_map, AllByRecursion-take, AllByRecursion-drop, AllByRecursion-reverse, reverse-flat_map, flat_map-along, map-along, same, same-true}
 use Rattle.ean_code.proofs.Characters.{left_char, same_set, same_set-true, left_code, lefts, lefts-drawn, sets-characters}
@@ -47,7 +47,7 @@ first-backward (d ∷ ds) = refl
 pub begins_a : (d : ℕ) → d < 10 → get_or (row_of ean13_rows d) 0 B ≡ A
 begins_a d h = same_set-true _ _ (all_below-at (λ d. same_set (get_or (row_of ean13_rows d) 0 B) A) 10 refl d h)
 
-pub forward13 : (ms ds : List ℕ) → IsEanSymbol Ean13 ms ds → first_set 6 ms ≡ A
+pub forward13 : (ms ds : List ℕ) → IsNumberSymbol Ean13 ms ds → first_set 6 ms ≡ A
 forward13 ms [] e = absurd (let none = e.count in omega arith)
 forward13 ms (d ∷ ds) e =
     let twelve : length ds ≡ 12 = let all = e.count in omega arith in
@@ -59,7 +59,7 @@ forward13 ms (d ∷ ds) e =
     ∙ ap (λ r. get_or r 0 B) (sets-characters row (take 6 ds) (ll ∙ sym six))
     ∙ begins_a d e.valid.0
 
-pub backward13 : (ms ds : List ℕ) → IsEanSymbol Ean13 ms ds → first_set 6 (reverse ms) ≡ B
+pub backward13 : (ms ds : List ℕ) → IsNumberSymbol Ean13 ms ds → first_set 6 (reverse ms) ≡ B
 backward13 ms [] e = absurd (let none = e.count in omega arith)
 backward13 ms (d ∷ ds) e =
     let twelve : length ds ≡ 12 = let all = e.count in omega arith in
@@ -67,10 +67,10 @@ backward13 ms (d ∷ ds) e =
     ∙ ap (λ cs. get_or (character_sets cs) 0 B) (lefts-backward 6 normal_guard (left_part (row_of ean13_rows d) (take 6 ds)) centre_guard (drop 6 ds) (length-drop 6 ds ∙ (omega arith)) (AllByRecursion-drop _ 6 ds e.valid.1))
     ∙ first-backward (reverse (drop 6 ds))
 
-pub one_way13 : (ms ds es : List ℕ) → IsEanSymbol Ean13 ms ds → IsEanSymbol Ean13 (reverse ms) es → ⊥
+pub one_way13 : (ms ds es : List ℕ) → IsNumberSymbol Ean13 ms ds → IsNumberSymbol Ean13 (reverse ms) es → ⊥
 one_way13 ms ds es e f = let a = forward13 (reverse ms) es f in let b = backward13 ms ds e in cc
 
-pub forward8 : (ms ds : List ℕ) → IsEanSymbol Ean8 ms ds → first_set 4 ms ≡ A
+pub forward8 : (ms ds : List ℕ) → IsNumberSymbol Ean8 ms ds → first_set 4 ms ≡ A
 forward8 ms ds e =
     let all = e.count in
     let ll : length (take 4 ds) ≡ 4 = length-take 4 ds ∙ (omega arith) in
@@ -78,12 +78,12 @@ forward8 ms ds e =
     ∙ ap (λ cs. get_or (character_sets cs) 0 B) (lefts-drawn 4 ean8_row (take 4 ds) _ refl ll (AllByRecursion-take _ 4 ds e.valid))
     ∙ ap (λ r. get_or r 0 B) (sets-characters ean8_row (take 4 ds) ll)
 
-pub backward8 : (ms ds : List ℕ) → IsEanSymbol Ean8 ms ds → first_set 4 (reverse ms) ≡ B
+pub backward8 : (ms ds : List ℕ) → IsNumberSymbol Ean8 ms ds → first_set 4 (reverse ms) ≡ B
 backward8 ms ds e =
     let all = e.count in
     ap (λ m. first_set 4 (reverse m)) e.widths
     ∙ ap (λ cs. get_or (character_sets cs) 0 B) (lefts-backward 4 normal_guard (left_part ean8_row (take 4 ds)) centre_guard (drop 4 ds) (length-drop 4 ds ∙ (omega arith)) (AllByRecursion-drop _ 4 ds e.valid))
     ∙ first-backward (reverse (drop 4 ds))
 
-pub one_way8 : (ms ds es : List ℕ) → IsEanSymbol Ean8 ms ds → IsEanSymbol Ean8 (reverse ms) es → ⊥
+pub one_way8 : (ms ds es : List ℕ) → IsNumberSymbol Ean8 ms ds → IsNumberSymbol Ean8 (reverse ms) es → ⊥
 one_way8 ms ds es e f = let a = forward8 (reverse ms) es f in let b = backward8 ms ds e in cc

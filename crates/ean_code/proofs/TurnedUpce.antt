@@ -9,7 +9,7 @@ use Rattle.ean_code.specs.declared.number_sets.Character.{Character}
 use Rattle.ean_code.specs.declared.number_sets.NumberSet.{NumberSet}
 use Rattle.ean_code.specs.declared.number_sets.NumberSet.TheVariants.{A, B}
 use Rattle.ean_code.specs.NumberSets.{AreCharacters, character_sets, characters_in, in_set, is_a, left_widths, upce_rows, row_of}
-use Rattle.ean_code.specs.Symbols.{normal_guard, special_guard, IsEanSymbol}
+use Rattle.ean_code.specs.Symbols.{normal_guard, special_guard, IsNumberSymbol}
 use Rattle.ean_code.specs.Symbols.Kind.{UpcE}
 use Rattle.ean_code.proofs.Cells.{all_below, all_below-at, AllByRecursion-take, AllByRecursion-reverse, reverse-flat_map, same, same-true}
 use Rattle.ean_code.proofs.Characters.{characters_valid, digit_at, length-left, same_set, same_set-true, sets-characters}
@@ -84,7 +84,7 @@ pub first_a : (cs : List Character) → AllByRecursion (λ (c : Character). c.se
 first_a [] h = refl
 first_a (c ∷ cs) h = h.0
 
-pub one_wayE : (ms ds es : List ℕ) → IsEanSymbol UpcE ms ds → IsEanSymbol UpcE (reverse ms) es → ⊥
+pub one_wayE : (ms ds es : List ℕ) → IsNumberSymbol UpcE ms ds → IsNumberSymbol UpcE (reverse ms) es → ⊥
 one_wayE ms ds es e f =
     let row : List NumberSet = row_of upce_rows (get_or ds 6 0) in
     let cs : List Character = characters_in row (take 6 ds) in

@@ -4,13 +4,14 @@ use Rattle.std.specs.List.{concat}
 use Rattle.digits_core.specs.Digits.{AreDigits, IsChecked}
 use Rattle.ean_code.specs.declared.reading.Spelled.{Spelled}
 use Rattle.ean_code.specs.Spelling.{IsGtinOf, IsSpelled}
-use Rattle.ean_code.specs.Symbols.{normal_guard, centre_guard, special_guard, Kind, IsCheckedPlace, IsEanSymbol, digit_count, module_count, width_count, widths_of}
-use Rattle.ean_code.specs.Symbols.Kind.{Ean13, Ean8, UpcE}
+use Rattle.ean_code.specs.Symbols.{normal_guard, centre_guard, special_guard, Kind, IsCheckedPlace, IsNumberSymbol, digit_count, module_count, width_count, widths_of}
+use Rattle.ean_code.specs.Symbols.Kind.{Ean13, Ean8, UpcE, Itf14}
+use Rattle.ean_code.specs.TwoOfFive.{AreTwoWidths, itf_start, itf_stop}
 use Rattle.ean_code.specs.Widths.{AreWidths}
 
 -- a symbol shows one list of digits
 abbrev pub OneReading : Type 0
-OneReading = (kind : Kind) (modules ds es : List ℕ) → IsEanSymbol kind modules ds → IsEanSymbol kind modules es → ds ≡ es
+OneReading = (kind : Kind) (modules ds es : List ℕ) → IsNumberSymbol kind modules ds → IsNumberSymbol kind modules es → ds ≡ es
 
 -- modules have one answer of a reader
 abbrev pub OneAnswer : Type 0
@@ -23,11 +24,11 @@ pub record HasMeasures (kind : Kind) (modules : List ℕ) : Type 0 where
   pub total : sum modules ≡ module_count kind
 
 abbrev pub Measures : Type 0
-Measures = (kind : Kind) (modules ds : List ℕ) → IsEanSymbol kind modules ds → HasMeasures kind modules
+Measures = (kind : Kind) (modules ds : List ℕ) → IsNumberSymbol kind modules ds → HasMeasures kind modules
 
 -- no symbol of this kind is one of this kind backwards
 abbrev pub OneWay : Kind → Type 0
-OneWay kind = (modules ds es : List ℕ) → IsEanSymbol kind modules ds → IsEanSymbol kind (reverse modules) es → ⊥
+OneWay kind = (modules ds es : List ℕ) → IsNumberSymbol kind modules ds → IsNumberSymbol kind (reverse modules) es → ⊥
 
 -- digits that stand for a checked GTIN stand for none with one at a checked place replaced by another
 abbrev pub ReplacedIsUnchecked : Kind → Type 0
@@ -69,3 +70,15 @@ abbrev pub PrintedUpcE : Type 0
 PrintedUpcE =
     widths_of UpcE (1 ∷ 2 ∷ 3 ∷ 4 ∷ 5 ∷ 6 ∷ 5 ∷ [])
     ≡ normal_guard ++ (concat ((1 ∷ 2 ∷ 2 ∷ 2 ∷ []) ∷ (2 ∷ 1 ∷ 2 ∷ 2 ∷ []) ∷ (1 ∷ 4 ∷ 1 ∷ 1 ∷ []) ∷ (2 ∷ 3 ∷ 1 ∷ 1 ∷ []) ∷ (1 ∷ 3 ∷ 2 ∷ 1 ∷ []) ∷ (1 ∷ 1 ∷ 1 ∷ 4 ∷ []) ∷ []) ++ special_guard)
+
+-- the printed symbol 09501101530003
+abbrev pub PrintedItf14 : Type 0
+PrintedItf14 =
+    widths_of Itf14 (0 ∷ 9 ∷ 5 ∷ 0 ∷ 1 ∷ 1 ∷ 0 ∷ 1 ∷ 5 ∷ 3 ∷ 0 ∷ 0 ∷ 0 ∷ 3 ∷ [])
+    ≡ itf_start
+    ++ (concat ((1 ∷ 1 ∷ 1 ∷ 3 ∷ 3 ∷ 1 ∷ 3 ∷ 3 ∷ 1 ∷ 1 ∷ []) ∷ (3 ∷ 1 ∷ 1 ∷ 1 ∷ 3 ∷ 3 ∷ 1 ∷ 3 ∷ 1 ∷ 1 ∷ []) ∷ (3 ∷ 3 ∷ 1 ∷ 1 ∷ 1 ∷ 1 ∷ 1 ∷ 1 ∷ 3 ∷ 3 ∷ []) ∷ (1 ∷ 3 ∷ 1 ∷ 1 ∷ 3 ∷ 1 ∷ 3 ∷ 1 ∷ 1 ∷ 3 ∷ []) ∷ (3 ∷ 3 ∷ 1 ∷ 3 ∷ 3 ∷ 1 ∷ 1 ∷ 1 ∷ 1 ∷ 1 ∷ []) ∷ (1 ∷ 1 ∷ 1 ∷ 1 ∷ 3 ∷ 3 ∷ 3 ∷ 3 ∷ 1 ∷ 1 ∷ []) ∷ (1 ∷ 3 ∷ 1 ∷ 3 ∷ 3 ∷ 1 ∷ 3 ∷ 1 ∷ 1 ∷ 1 ∷ []) ∷ [])
+    ++ itf_stop)
+
+-- each element of an ITF-14 is narrow, of one module, or wide, of three
+abbrev pub TwoWidths : Type 0
+TwoWidths = (modules ds : List ℕ) → IsNumberSymbol Itf14 modules ds → AreTwoWidths modules

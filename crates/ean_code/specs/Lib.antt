@@ -5,4 +5,5 @@ pub mod NumberSets
 pub mod Parts
 pub mod Spelling
 pub mod Symbols
+pub mod TwoOfFive
 pub mod Widths

@@ -4,7 +4,8 @@ use Rattle.std.specs.List.{flat_map}
 use Rattle.digits_core.specs.Digits.{AreAsciiDigits, AreDigits, digits_of}
 use Rattle.ean_code.specs.declared.number_sets.Character.{Character}
 use Rattle.ean_code.specs.NumberSets.{AreCharacters, left_widths, right_part}
-use Rattle.ean_code.specs.Symbols.{Kind, IsEanSymbol, normal_guard, special_guard, two_halves}
+use Rattle.ean_code.specs.Symbols.{Kind, IsNumberSymbol, normal_guard, special_guard, two_halves}
+use Rattle.ean_code.specs.TwoOfFive.{itf_start, itf_stop}
 
 -- so many widths left of a centre guard pattern, and as many right of it, are these
 pub record AreFramed (half : ℕ) (widths left right : List ℕ) : Type 0 where
@@ -16,6 +17,11 @@ pub record AreFramed (half : ℕ) (widths left right : List ℕ) : Type 0 where
 pub record AreFramedSix (widths six : List ℕ) : Type 0 where
   pub count : length six ≡ 24
   pub shown : widths ≡ normal_guard ++ (six ++ special_guard)
+
+-- the 70 widths between start and stop of an ITF-14 are these
+pub record AreFramedPairs (widths pairs : List ℕ) : Type 0 where
+  pub count : length pairs ≡ 70
+  pub shown : widths ≡ itf_start ++ (pairs ++ itf_stop)
 
 -- so many characters left of a centre guard pattern, and as many digits right of it, have these widths
 pub record AreHalves (count : ℕ) (widths : List ℕ) (left : List Character) (right : List ℕ) : Type 0 where
@@ -33,4 +39,4 @@ pub record AreSix (widths : List ℕ) (left : List Character) : Type 0 where
 
 -- the text is the ASCII digits of the symbol of this kind that has these widths
 abbrev pub IsTextOf : Kind → List ℕ → List ℕ → Type 0
-IsTextOf kind widths text = AreAsciiDigits text × IsEanSymbol kind widths (digits_of text)
+IsTextOf kind widths text = AreAsciiDigits text × IsNumberSymbol kind widths (digits_of text)

@@ -2,8 +2,8 @@
 use Rattle.std.specs.Prelude.{◌≡◌, ℕ, List, [], ◌∷◌, ◌++◌, slice_index, take}
 use Rattle.digits_core.specs.Digits.{IsChecked, padded}
 use Rattle.digits_core.specs.Upce.{IsFirstUpceOf, upce_expanded}
-use Rattle.ean_code.specs.Symbols.{Kind, IsEanSymbol}
-use Rattle.ean_code.specs.Symbols.Kind.{Ean13, Ean8, UpcE}
+use Rattle.ean_code.specs.Symbols.{Kind, IsNumberSymbol}
+use Rattle.ean_code.specs.Symbols.Kind.{Ean13, Ean8, UpcE, Itf14}
 use Rattle.ean_code.specs.declared.reading.Spelled.{Spelled}
 use Rattle.ean_code.specs.declared.reading.Spelled.TheVariants.{NoPattern, BadCheck, Found}
 
@@ -12,18 +12,19 @@ abbrev pub IsGtinOf : Kind → List ℕ → List ℕ → Type 0
 IsGtinOf Ean13 digits gtin = gtin ≡ padded digits
 IsGtinOf Ean8 digits gtin = gtin ≡ padded digits
 IsGtinOf UpcE digits gtin = gtin ≡ padded (upce_expanded (take 6 digits) (slice_index digits 6))
+IsGtinOf Itf14 digits gtin = gtin ≡ padded digits
 
 -- no digits have this symbol; or some have and no GTIN stands for them; or they stand for this GTIN
 abbrev pub IsSpelled : Kind → List ℕ → Spelled → Type 0
-IsSpelled kind modules NoPattern = (digits : List ℕ) → IsEanSymbol kind modules digits → ⊥
+IsSpelled kind modules NoPattern = (digits : List ℕ) → IsNumberSymbol kind modules digits → ⊥
 IsSpelled kind modules BadCheck =
-    (digits : List ℕ) × IsEanSymbol kind modules digits × ((gtin : List ℕ) → IsGtinOf kind digits gtin → IsChecked gtin → ⊥)
+    (digits : List ℕ) × IsNumberSymbol kind modules digits × ((gtin : List ℕ) → IsGtinOf kind digits gtin → IsChecked gtin → ⊥)
 IsSpelled kind modules (Found gtin) =
-    (digits : List ℕ) × IsEanSymbol kind modules digits × IsGtinOf kind digits gtin × IsChecked gtin
+    (digits : List ℕ) × IsNumberSymbol kind modules digits × IsGtinOf kind digits gtin × IsChecked gtin
 
 -- the modules are a symbol of this kind whose digits stand for this GTIN
 abbrev pub IsSymbolOf : Kind → List ℕ → List ℕ → Type 0
-IsSymbolOf kind gtin modules = (digits : List ℕ) × IsEanSymbol kind modules digits × IsGtinOf kind digits gtin
+IsSymbolOf kind gtin modules = (digits : List ℕ) × IsNumberSymbol kind modules digits × IsGtinOf kind digits gtin
 
 -- no symbol of this kind stands for this GTIN
 abbrev pub HasNoSymbol : Kind → List ℕ → Type 0
@@ -31,4 +32,4 @@ HasNoSymbol kind gtin = (modules : List ℕ) → IsSymbolOf kind gtin modules �
 
 -- the modules are the UPC-E of this GTIN that is printed: by the first line of the zero-suppression table that has it
 abbrev pub IsPrintedUpce : List ℕ → List ℕ → Type 0
-IsPrintedUpce gtin modules = (six : List ℕ) × (check : ℕ) × IsFirstUpceOf six check gtin × IsEanSymbol UpcE modules (six ++ check ∷ [])
+IsPrintedUpce gtin modules = (six : List ℕ) × (check : ℕ) × IsFirstUpceOf six check gtin × IsNumberSymbol UpcE modules (six ++ check ∷ [])

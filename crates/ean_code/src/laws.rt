@@ -1,6 +1,6 @@
 //! Laws of the symbols, each the contract of a function.
-ghost use Rattle.ean_code.specs.Laws.{Measures, OneAnswer, OneReading, OneWay, PrintedEan13, PrintedEan8, PrintedUpcE, ReplacedIsUnchecked};
-ghost use Rattle.ean_code.specs.Symbols.Kind.{Ean13, Ean8, UpcE};
+ghost use Rattle.ean_code.specs.Laws.{Measures, OneAnswer, OneReading, OneWay, PrintedEan13, PrintedEan8, PrintedItf14, PrintedUpcE, ReplacedIsUnchecked, TwoWidths};
+ghost use Rattle.ean_code.specs.Symbols.Kind.{Ean13, Ean8, Itf14, UpcE};
 
 /// A symbol shows one list of digits.
 pub fn one_reading()
@@ -13,7 +13,7 @@ pub fn one_answer()
 {}
 
 /// A symbol has widths of 1 to 4 modules, so many of them and so many modules together: an EAN-13 59
-/// of 95 modules, an EAN-8 43 of 67, a UPC-E 33 of 51.
+/// of 95 modules, an EAN-8 43 of 67, a UPC-E 33 of 51, an ITF-14 77 of 135.
 pub fn measures()
     ensures { Measures }
 {}
@@ -23,14 +23,16 @@ pub fn one_way()
     ensures ean13 { OneWay Ean13 }
     ensures ean8 { OneWay Ean8 }
     ensures upce { OneWay UpcE }
+    ensures itf14 { OneWay Itf14 }
 {}
 
 /// The check digit shows that one character was replaced by another of its number set: any of an
-/// EAN-13 or EAN-8, and one of the first five of a UPC-E.
+/// EAN-13 or EAN-8, and one of the first five of a UPC-E; and that one digit of an ITF-14 was.
 pub fn replaced_is_unchecked()
     ensures ean13 { ReplacedIsUnchecked Ean13 }
     ensures ean8 { ReplacedIsUnchecked Ean8 }
     ensures upce { ReplacedIsUnchecked UpcE }
+    ensures itf14 { ReplacedIsUnchecked Itf14 }
 {}
 
 /// The definitions draw symbols as they are printed.
@@ -38,4 +40,10 @@ pub fn printed_symbols()
     ensures ean13 { PrintedEan13 }
     ensures ean8 { PrintedEan8 }
     ensures upce { PrintedUpcE }
+    ensures itf14 { PrintedItf14 }
+{}
+
+/// Each element of an ITF-14 is one module or three.
+pub fn two_widths()
+    ensures { TwoWidths }
 {}

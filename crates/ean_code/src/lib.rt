@@ -1,7 +1,9 @@
-//! EAN-13, EAN-8 and UPC-E symbols (ISO/IEC 15420): drawn from a GTIN, and read again from their widths in modules.
+//! EAN-13, EAN-8 and UPC-E symbols (ISO/IEC 15420) and ITF-14 symbols (ISO/IEC 16390): drawn from a GTIN,
+//! and read again from their widths in modules.
 #![tactic(auto)]
 
 mod drawing;
+mod itf;
 mod laws;
 mod lookup;
 mod modules;
@@ -9,10 +11,12 @@ mod number_sets;
 mod parts;
 mod reading;
 mod rows;
+mod two_of_five;
 
 pub use drawing::{ean8, ean13, upce};
+pub use itf::{itf14, read_itf14};
 pub use laws::{
-    measures, one_answer, one_reading, one_way, printed_symbols, replaced_is_unchecked,
+    measures, one_answer, one_reading, one_way, printed_symbols, replaced_is_unchecked, two_widths,
 };
 pub use lookup::character;
 pub use modules::Modules;

@@ -5,7 +5,7 @@ ghost use Rattle.digits_core.specs.Digits.{ascii_of};
 ghost use Rattle.ean_code.specs.NumberSets.{AreCharacters, character_digits};
 ghost use Rattle.ean_code.specs.Parts.{IsTextOf};
 ghost use Rattle.ean_code.specs.Spelling.{IsSpelled};
-ghost use Rattle.ean_code.specs.Symbols.{IsEanSymbol};
+ghost use Rattle.ean_code.specs.Symbols.{IsNumberSymbol};
 ghost use Rattle.ean_code.specs.Symbols.Kind.{Ean13, Ean8, UpcE};
 ghost use Rattle.ean_code.specs.Widths.{AreWidths};
 
@@ -42,7 +42,7 @@ fn push_digits(text: &mut ArrayVec<u8, 13>, characters: &[Character])
 fn ean13_text(widths: &[u8]) -> Option<ArrayVec<u8, 13>>
     requires { AreWidths widths.now }
     ensures found { IfSome result (λ text. IsTextOf Ean13 widths.now text.items) }
-    ensures none { IfNone result ((digits : List ℕ) → IsEanSymbol Ean13 widths.now digits → ⊥) }
+    ensures none { IfNone result ((digits : List ℕ) → IsNumberSymbol Ean13 widths.now digits → ⊥) }
 {
     let Some((left, right)) = halves(widths, 6) else {
         return None;
@@ -61,7 +61,7 @@ fn ean13_text(widths: &[u8]) -> Option<ArrayVec<u8, 13>>
 fn ean8_text(widths: &[u8]) -> Option<ArrayVec<u8, 13>>
     requires { AreWidths widths.now }
     ensures found { IfSome result (λ text. IsTextOf Ean8 widths.now text.items) }
-    ensures none { IfNone result ((digits : List ℕ) → IsEanSymbol Ean8 widths.now digits → ⊥) }
+    ensures none { IfNone result ((digits : List ℕ) → IsNumberSymbol Ean8 widths.now digits → ⊥) }
 {
     let Some((left, right)) = halves(widths, 4) else {
         return None;
@@ -80,7 +80,7 @@ fn ean8_text(widths: &[u8]) -> Option<ArrayVec<u8, 13>>
 fn upce_text(widths: &[u8]) -> Option<ArrayVec<u8, 13>>
     requires { AreWidths widths.now }
     ensures found { IfSome result (λ text. IsTextOf UpcE widths.now text.items) }
-    ensures none { IfNone result ((digits : List ℕ) → IsEanSymbol UpcE widths.now digits → ⊥) }
+    ensures none { IfNone result ((digits : List ℕ) → IsNumberSymbol UpcE widths.now digits → ⊥) }
 {
     let Some(left) = six(widths) else {
         return None;

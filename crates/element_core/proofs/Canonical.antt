@@ -34,7 +34,7 @@ decided r None h = sym (not-true r.predefined h)
 decided r (Some all) h = sym (and_parts _ _ (and_parts _ _ h).0).0
 
 -- the first two digits say whether an element is predefined
-pub is_some-predefined_length : (year : ℕ) (row : Row) (e : Entry) → IsElement year row e → is_some (predefined_length e.ai) ≡ row.predefined
+pub is_some-predefined_length : (year : ℕ) (row : Row) (e : Entry) → IsElement ai_rows year row e → is_some (predefined_length e.ai) ≡ row.predefined
 is_some-predefined_length year row e is = ap (λ (a : List ℕ). is_some (predefined_length a)) is.ai ∙ decided row (predefined_length row.ai) (all_at (λ r. first_digits_decide r (predefined_length r.ai)) ai_rows row is.listed digits_decide)
 
 pub or_true : (b : Bool) → (b || true) ≡ true
@@ -82,7 +82,7 @@ cases_zero (suc n) = inr (omega arith)
 nothing : (year : ℕ) (text : List ℕ) (e : Entry) (es : List Entry) (rest : List ℕ) → length text ≡ 0 → ReadsFromLeft year text (e ∷ es) rest → ⊥
 nothing year text e es rest z r = not_stuck year e text r.0 r.1 (subst (IsStuck year) (sym (nil_from_length text z)) (stuck_at_end year))
 
-rest_shorter : (after rest : List ℕ) → rest ≡ after_separator after → length rest ≤ length after
+pub rest_shorter : (after rest : List ℕ) → rest ≡ after_separator after → length rest ≤ length after
 rest_shorter [] rest e = omega (arith, ap length e)
 rest_shorter (b ∷ after) rest e =
     elim (cases_Bool (eqb b 29)) [
@@ -90,7 +90,7 @@ rest_shorter (b ∷ after) rest e =
       | inr here ↦ let is : rest ≡ b ∷ after = rw here at e in omega (arith, ap length is)
     ]
 
-some_digit : (ai : List ℕ) → begins_with_digit ai ≡ true → 0 < length ai
+pub some_digit : (ai : List ℕ) → begins_with_digit ai ≡ true → 0 < length ai
 some_digit [] h = absurd cc
 some_digit (a ∷ ai) h = omega arith
 

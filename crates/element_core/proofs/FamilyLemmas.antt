@@ -6,16 +6,16 @@ use Rattle.std.proofs.lemmas.Bool.{cases_Bool, eqb-true, cases_lt, le-leb, lt-le
 use Rattle.std.proofs.lemmas.Bool.Decides.{nat_tests}
 use Rattle.std.proofs.lemmas.List.{length-take-le}
 use Rattle.element_core.specs.declared.family.AiFamily.{AiFamily}
-use Rattle.element_core.specs.Table.{Family, Row, has_few_parts, is_short_ai, from, ais, row_in, rows_of, families, ai_rows, begins, row_at}
+use Rattle.element_core.specs.Table.{Row, has_few_parts, is_short_ai, from, ais, row_in, rows_of, ai_rows, begins, row_at}
 use Rattle.element_core.proofs.TableLaws.{each_has_few_parts, each_is_short}
 use Rattle.element_core.proofs.Look.{all_at, row_is}
 use Rattle.element_core.specs.Families.{family_of, is_in_family, row_with, row_by}
 
-abbrev or_else : {X : Type 0} → Option X → Option X → Option X
+abbrev pub or_else : {X : Type 0} → Option X → Option X → Option X
 or_else (Some x) o = Some x
 or_else None o = o
 
-find-append : {X : Type 0} (p : X → Bool) (xs ys : List X) → find p (xs ++ ys) ≡ or_else (find p xs) (find p ys)
+pub find-append : {X : Type 0} (p : X → Bool) (xs ys : List X) → find p (xs ++ ys) ≡ or_else (find p xs) (find p ys)
 find-append p [] ys = refl
 find-append p (x ∷ xs) ys =
     elim (p x) as (λ t. cond t (Some x) (find p (xs ++ ys)) ≡ or_else (cond t (Some x) (find p xs)) (find p ys)) [
@@ -23,7 +23,7 @@ find-append p (x ∷ xs) ys =
       | false ↦ find-append p xs ys
     ]
 
-find-map : {X Y : Type 0} (p : Y → Bool) (f : X → Y) (xs : List X) → find p (map f xs) ≡ option_map f (find (λ x. p (f x)) xs)
+pub find-map : {X Y : Type 0} (p : Y → Bool) (f : X → Y) (xs : List X) → find p (map f xs) ≡ option_map f (find (λ x. p (f x)) xs)
 find-map p f [] = refl
 find-map p f (x ∷ xs) =
     elim (p (f x)) as (λ t. cond t (Some (f x)) (find p (map f xs)) ≡ option_map f (cond t (Some x) (find (λ y. p (f y)) xs))) [
@@ -86,7 +86,7 @@ find-no_text (d ∷ ds) tails = find-append (λ ai. begins ai []) (map (λ ai. d
     none [] = refl
     none (a ∷ tails) = none tails
 
-find-ais : (least greatest text : List ℕ) → find (λ ai. begins ai text) (ais least greatest) ≡ cond (is_in_family least greatest text) (Some (take (length least) text)) None
+pub find-ais : (least greatest text : List ℕ) → find (λ ai. begins ai text) (ais least greatest) ≡ cond (is_in_family least greatest text) (Some (take (length least) text)) None
 find-ais [] greatest text = refl
 find-ais (a ∷ least) [] text = refl
 find-ais (a ∷ least) (z ∷ greatest) [] = find-no_text (from (z + 1 - a) a) (ais least greatest)
@@ -107,7 +107,7 @@ find-rows_of f text =
     mapped true = refl
     mapped false = refl
 
-row_by_is : (fs : List AiFamily) (text : List ℕ) → row_by text fs ≡ find (λ row. begins row.ai text) (flat_map rows_of (map family_of fs))
+pub row_by_is : (fs : List AiFamily) (text : List ℕ) → row_by text fs ≡ find (λ row. begins row.ai text) (flat_map rows_of (map family_of fs))
 row_by_is [] text = refl
 row_by_is (f ∷ fs) text =
     sym (find-append (λ row. begins row.ai text) (rows_of (family_of f)) (flat_map rows_of (map family_of fs))
@@ -116,11 +116,6 @@ row_by_is (f ∷ fs) text =
     joined : (p : Bool) (o : Option Row) → or_else (cond p (Some (row_with f text)) None) o ≡ cond p (Some (row_with f text)) o
     joined true o = refl
     joined false o = refl
-
--- the code's table is the table
-pub row_by_table : (fs : List AiFamily) (text : List ℕ) → map family_of fs ≡ families → row_by text fs ≡ row_at text
-unfolding ai_rows
-row_by_table fs text e = row_by_is fs text ∙ ap (λ (gs : List Family). find (λ row. begins row.ai text) (flat_map rows_of gs)) e
 
 -- ---- a text that is not in a family
 

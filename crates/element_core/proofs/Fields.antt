@@ -4,8 +4,8 @@ use Rattle.std.specs.List.{list_all}
 use Rattle.std.proofs.lemmas.Bool.{and_parts, and_from, ne_eqb, cases_eq, not-true}
 use Rattle.std.proofs.lemmas.List.{take-append-drop, append-nil, nil_from_length, take_at}
 use Rattle.element_core.specs.declared.part.Part.{Part}
-use Rattle.element_core.specs.declared.part.PartKind.{PartKind}
-use Rattle.element_core.specs.declared.part.PartKind.TheVariants.{Digits, Characters}
+use Rattle.element_core.specs.declared.part.PartFormat.{PartFormat}
+use Rattle.element_core.specs.declared.part.PartFormat.TheVariants.{Numeric, Alphanumeric, Date, DateAndTime}
 use Rattle.element_core.specs.Table.{Row, least_of, greatest_of}
 use Rattle.element_core.specs.Elements.{belongs, has_characters, each_part, field_of, value_in}
 use Rattle.element_core.specs.Fronts.{is_closed}
@@ -14,22 +14,24 @@ use Rattle.element_core.specs.Fronts.{is_closed}
 abbrev pub is_plain : List ℕ → Bool
 is_plain v = list_all (λ b. not (eqb b 29)) v
 
-no_separator : (kind : PartKind) → belongs kind 29 ≡ false
-no_separator Digits = refl
-no_separator Characters = refl
+no_separator : (format : PartFormat) → belongs format 29 ≡ false
+no_separator Numeric = refl
+no_separator Alphanumeric = refl
+no_separator Date = refl
+no_separator DateAndTime = refl
 
-belongs_plain : (kind : PartKind) (b : ℕ) → belongs kind b ≡ true → not (eqb b 29) ≡ true
-belongs_plain kind b h =
+belongs_plain : (format : PartFormat) (b : ℕ) → belongs format b ≡ true → not (eqb b 29) ≡ true
+belongs_plain format b h =
     elim (cases_eq b 29) [
-      | inl e ↦ absurd (let f = rw e at h in let g = no_separator kind in cc)
+      | inl e ↦ absurd (let f = rw e at h in let g = no_separator format in cc)
       | inr ne ↦ rw (ne_eqb b 29 ne) refl
     ]
 
-all_plain : (kind : PartKind) (v : List ℕ) → list_all (belongs kind) v ≡ true → is_plain v ≡ true
-all_plain kind [] h = refl
-all_plain kind (b ∷ v) h =
-    let p = and_parts (belongs kind b) (list_all (belongs kind) v) h in
-    and_from (not (eqb b 29)) (is_plain v) (belongs_plain kind b p.0) (all_plain kind v p.1)
+all_plain : (format : PartFormat) (v : List ℕ) → list_all (belongs format) v ≡ true → is_plain v ≡ true
+all_plain format [] h = refl
+all_plain format (b ∷ v) h =
+    let p = and_parts (belongs format b) (list_all (belongs format) v) h in
+    and_from (not (eqb b 29)) (is_plain v) (belongs_plain format b p.0) (all_plain format v p.1)
 
 is_plain-append : (a b : List ℕ) → is_plain a ≡ true → is_plain b ≡ true → is_plain (a ++ b) ≡ true
 is_plain-append [] b h k = k
@@ -42,7 +44,7 @@ value_plain [] v le h = rw (nil_from_length v (omega arith)) refl
 value_plain (p ∷ parts) v le h =
     let q = and_parts (has_characters p (take p.greatest v)) (each_part has_characters parts (drop p.greatest v)) h in
     let short : length (drop p.greatest v) ≤ greatest_of parts = omega (arith, length-drop p.greatest v) in
-    let both = is_plain-append (take p.greatest v) (drop p.greatest v) (all_plain p.kind (take p.greatest v) q.0) (value_plain parts (drop p.greatest v) short q.1) in
+    let both = is_plain-append (take p.greatest v) (drop p.greatest v) (all_plain p.format (take p.greatest v) q.0) (value_plain parts (drop p.greatest v) short q.1) in
     subst (λ (w : List ℕ). is_plain w ≡ true) (take-append-drop p.greatest v) both
 
 field_of-append : (v after : List ℕ) → is_plain v ≡ true → field_of (v ++ after) ≡ v ++ field_of after

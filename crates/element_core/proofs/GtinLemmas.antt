@@ -33,12 +33,13 @@ gtin_value year g digits checked long =
     record {
       least = omega arith;
       greatest = omega arith;
+      even = refl;
       characters = and_from (list_all is_digit (take 14 (ascii_of g))) true (ap (list_all is_digit) whole ∙ all_digits g digits) refl;
       check_digits = and_from (eqb (weighted (digits_of (take 14 (ascii_of g))) % 10) 0) true (eq-eqb (weighted (digits_of (take 14 (ascii_of g))) % 10) 0 (ap (λ (v : List ℕ). weighted (digits_of v) % 10) whole ∙ ap (λ (v : List ℕ). weighted v % 10) (shown_again g) ∙ checked)) refl;
       dates = refl;
     }
 
-gtin_element : (year : ℕ) (g : List ℕ) → AreDigits g → IsChecked g → length (ascii_of g) ≡ 14 → IsElement year gtin_row (gtin_entry g)
+gtin_element : (year : ℕ) (g : List ℕ) → AreDigits g → IsChecked g → length (ascii_of g) ≡ 14 → IsElement ai_rows year gtin_row (gtin_entry g)
 unfolding gtin_row
 gtin_element year g digits checked long = record { listed = gtin_listed; ai = refl; value = gtin_value year g digits checked long }
 

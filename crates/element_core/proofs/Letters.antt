@@ -1,13 +1,12 @@
 -- Which bytes a canonical text has.
 use Rattle.std.proofs.Common.{◌≡◌, ℕ, ◌<◌, ◌≤◌, Bool, true, false, cond, eqb, leb, ◌||◌, List, [], ◌∷◌, ◌++◌, length, take, drop, refl, sym, ap, subst, ◌∙◌, append_assoc, arith, inl, inr, length-drop}
-use Rattle.std.specs.Prelude.{is_some, All}
+use Rattle.std.specs.Prelude.{is_some}
 use Rattle.std.specs.List.{list_all, AllByRecursion}
-use Rattle.std.proofs.lemmas.List.Elements.{All-from_recursion}
 use Rattle.std.proofs.lemmas.Bool.{and_parts, and_from, leb-true, le-leb, lt-leb, ne_eqb, cases_lt}
 use Rattle.std.proofs.lemmas.List.{take-append-drop, nil_from_length}
 use Rattle.element_core.specs.declared.part.Part.{Part}
-use Rattle.element_core.specs.declared.part.PartKind.{PartKind}
-use Rattle.element_core.specs.declared.part.PartKind.TheVariants.{Digits, Characters}
+use Rattle.element_core.specs.declared.part.PartFormat.{PartFormat}
+use Rattle.element_core.specs.declared.part.PartFormat.TheVariants.{Numeric, Alphanumeric, Date, DateAndTime}
 use Rattle.element_core.specs.Table.{Row, ai_rows, greatest_of, is_of_digits, predefined_length}
 use Rattle.element_core.specs.Elements.{Entry, IsElement, AreElements, IsElements, belongs, between, is_digit, is_character, is_text_byte, begins_with_digits, is_printable, has_characters, each_part, separator_for, canonical}
 use Rattle.element_core.proofs.TableLaws.{each_is_of_digits}
@@ -30,9 +29,11 @@ digit_is_character b h =
     let inside : between 37 63 b ≡ true = and_from (leb 37 b) (leb b 63) (le-leb 37 b (omega arith)) (le-leb b 63 (omega arith)) in
     or_left _ _ (or_left _ _ (or_left _ _ (or_right (between 33 34 b) (between 37 63 b) inside)))
 
-belongs_is_character : (kind : PartKind) (b : ℕ) → belongs kind b ≡ true → is_character b ≡ true
-belongs_is_character Digits b h = digit_is_character b h
-belongs_is_character Characters b h = h
+belongs_is_character : (format : PartFormat) (b : ℕ) → belongs format b ≡ true → is_character b ≡ true
+belongs_is_character Alphanumeric b h = h
+belongs_is_character Numeric b h = digit_is_character b h
+belongs_is_character Date b h = digit_is_character b h
+belongs_is_character DateAndTime b h = digit_is_character b h
 
 all_weaker : (p q : ℕ → Bool) → ((b : ℕ) → p b ≡ true → q b ≡ true) → (v : List ℕ) → list_all p v ≡ true → list_all q v ≡ true
 all_weaker p q f [] h = refl
@@ -47,13 +48,13 @@ value_letters [] v le h = rw (nil_from_length v (omega arith)) refl
 value_letters (p ∷ parts) v le h =
     let q = and_parts (has_characters p (take p.greatest v)) (each_part has_characters parts (drop p.greatest v)) h in
     let short : length (drop p.greatest v) ≤ greatest_of parts = omega (arith, length-drop p.greatest v) in
-    let both = all-append is_character (take p.greatest v) (drop p.greatest v) (all_weaker (belongs p.kind) is_character (belongs_is_character p.kind) (take p.greatest v) q.0) (value_letters parts (drop p.greatest v) short q.1) in
+    let both = all-append is_character (take p.greatest v) (drop p.greatest v) (all_weaker (belongs p.format) is_character (belongs_is_character p.format) (take p.greatest v) q.0) (value_letters parts (drop p.greatest v) short q.1) in
     subst (λ (w : List ℕ). list_all is_character w ≡ true) (take-append-drop p.greatest v) both
 
 text_byte : (b : ℕ) → is_character b ≡ true → is_text_byte b ≡ true
 text_byte b h = or_right (eqb b 29) (is_character b) h
 
-element_letters : (year : ℕ) (e : Entry) → (row : Row) × IsElement year row e → list_all is_text_byte (e.ai ++ e.value) ≡ true
+pub element_letters : (year : ℕ) (e : Entry) → (row : Row) × IsElement ai_rows year row e → list_all is_text_byte (e.ai ++ e.value) ≡ true
 element_letters year e (row, is) =
     let digits = (and_parts (leb 2 (length row.ai)) (list_all is_digit row.ai) (all_at is_of_digits ai_rows row is.listed each_is_of_digits)).1 in
     let ai = subst (λ (a : List ℕ). list_all is_text_byte a ≡ true) (sym is.ai) (all_weaker is_digit is_text_byte (λ b h. text_byte b (digit_is_character b h)) row.ai digits) in
@@ -76,7 +77,7 @@ two_digits (a ∷ b ∷ ai) more two h =
     let p = and_parts (is_digit a) (list_all is_digit (b ∷ ai)) h in
     and_from (is_digit a) (is_digit b) p.0 (and_parts (is_digit b) (list_all is_digit ai) p.1).0
 
-front_digits : (year : ℕ) (e : Entry) (more : List ℕ) → (row : Row) × IsElement year row e → begins_with_digits (e.ai ++ more) ≡ true
+front_digits : (year : ℕ) (e : Entry) (more : List ℕ) → (row : Row) × IsElement ai_rows year row e → begins_with_digits (e.ai ++ more) ≡ true
 front_digits year e more (row, is) =
     let p = and_parts (leb 2 (length row.ai)) (list_all is_digit row.ai) (all_at is_of_digits ai_rows row is.listed each_is_of_digits) in
     subst (λ (a : List ℕ). begins_with_digits (a ++ more) ≡ true) (sym is.ai) (two_digits row.ai more (leb-true 2 (length row.ai) p.0) p.1)
@@ -100,11 +101,6 @@ below_128 b h =
       | inr le ↦ absurd (let k = rw (ne_eqb b 29 (omega arith), ne_eqb b 95 (omega arith), lt-leb b 34 (omega arith), lt-leb b 63 (omega arith), lt-leb b 90 (omega arith), lt-leb b 122 (omega arith), le-leb 33 b (omega arith), le-leb 37 b (omega arith), le-leb 65 b (omega arith), le-leb 97 b (omega arith)) at h in cc)
     ]
 
-ascii_by : (text : List ℕ) → list_all is_text_byte text ≡ true → AllByRecursion (λ b. b < 128) text
+pub ascii_by : (text : List ℕ) → list_all is_text_byte text ≡ true → AllByRecursion (λ b. b < 128) text
 ascii_by [] h = tt
 ascii_by (b ∷ text) h = let p = and_parts (is_text_byte b) (list_all is_text_byte text) h in (below_128 b p.0, ascii_by text p.1)
-
--- a list's text is ASCII
-pub listing_ascii : (year : ℕ) (text : List ℕ) (es : List Entry) → IsElements year text es → text ≡ canonical es → All (λ b. b < 128) text
-listing_ascii year text es is text_is =
-    All-from_recursion (λ b. b < 128) text (ascii_by text (and_parts (list_all is_text_byte text) (begins_with_digits text) (listing_printable year text es is text_is)).0)

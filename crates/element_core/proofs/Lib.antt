@@ -16,3 +16,7 @@ pub mod Lines
 pub mod GtinLemmas
 pub mod DayLaws
 pub mod Dated
+pub mod Before
+pub mod TimeLemmas
+pub mod Listed
+pub mod FirstDigits

@@ -1,12 +1,13 @@
 -- The faults of pairs, in the words of elements and of texts.
-use Rattle.std.proofs.Common.{◌≡◌, ℕ, ◌+◌, ◌<◌, ◌≤◌, true, false, cond, eqb, ltb, List, [], ◌∷◌, ◌++◌, length, drop, Some, None, refl, sym, ap, ◌∙◌, arith, inl, inr, length-drop}
+use Rattle.std.proofs.Common.{◌≡◌, ℕ, ◌+◌, ◌<◌, ◌≤◌, Bool, true, false, cond, eqb, ltb, not, List, [], ◌∷◌, ◌++◌, length, drop, Option, Some, None, refl, sym, ap, ◌∙◌, arith, inl, inr, length-drop}
 use Rattle.std.specs.Prelude.{IsSome, is_some, nat_le}
 use Rattle.std.proofs.lemmas.Bool.{and_parts, leb-true, eq-eqb, le-ltb, lt-ltb, ne_eqb, ltb-false}
 use Rattle.std.proofs.lemmas.List.{append-nil, drop_at, nil_from_length}
 use Rattle.element_core.specs.declared.fault.ElementFault.{ElementFault}
 use Rattle.element_core.specs.declared.fault.ElementFault.TheVariants.{Empty, ValueLength, MissingSeparator, TooLong}
+use Rattle.element_core.specs.declared.part.Part.{Part}
 use Rattle.element_core.specs.Table.{ai_rows, is_of_digits, predefined_length, Row, begins, row_at, least_of, greatest_of}
-use Rattle.element_core.specs.Elements.{Entry, IsElement, IsElements, AreElements, value_in, field_of, row_fault, value_fault, fault_by, canonical}
+use Rattle.element_core.specs.Elements.{Entry, IsElement, IsElements, AreElements, each_part, has_even_length, value_in, field_of, row_fault, value_fault, fault_by, canonical}
 use Rattle.element_core.specs.Pairs.{FaultlessPairs, HasRow, PairLengths, PairsAsTexts, UnknownPairs, entry_fault, entry_fault_by, entries_fault, list_fault}
 use Rattle.element_core.proofs.PieceLemmas.{from_left, to_pieces}
 use Rattle.element_core.proofs.Canonical.{canonical_reads, elements_are, or_true}
@@ -31,17 +32,27 @@ by_row year i row e has =
     let same : eqb (length e.ai) (length row.ai) ≡ true = eq-eqb (length e.ai) (length row.ai) (ap length has.ai) in
     ap (entry_fault_by year i e) (found_alone e row has) ∙ rw same refl
 
+first_is : (a : Bool) (i : ℕ) → cond a (Some (ValueLength i)) (Some (ValueLength i)) ≡ Some (ValueLength i)
+first_is true i = refl
+first_is false i = refl
+
+second_is : (a b : Bool) (i : ℕ) → cond a (Some (ValueLength i)) (cond b (Some (ValueLength i)) (Some (ValueLength i))) ≡ Some (ValueLength i)
+second_is true b i = refl
+second_is false b i = first_is b i
+
 pub pair_lengths : PairLengths
 pair_lengths = λ year i row e has wrong. by_row year i row e has ∙ elim wrong [
   | inl short ↦ rw (lt-ltb (length e.value) (least_of row.parts) short) refl
-  | inr long ↦ elim (ltb (length e.value) (least_of row.parts)) as (λ t. cond t (Some (ValueLength i)) (cond (ltb (greatest_of row.parts) (length e.value)) (Some (ValueLength i)) (value_fault year i row.parts e.value)) ≡ Some (ValueLength i)) [
-    | true ↦ refl
-    | false ↦ rw (lt-ltb (greatest_of row.parts) (length e.value) long) refl
-  ]
+  | inr (inl long) ↦ rw (lt-ltb (greatest_of row.parts) (length e.value) long) (first_is (ltb (length e.value) (least_of row.parts)) i)
+  | inr (inr odd) ↦ rw odd (second_is (ltb (length e.value) (least_of row.parts)) (ltb (greatest_of row.parts) (length e.value)) i)
 ]
 
--- at the right length a value is as its characters, check digits and dates are
-right_length : (year place : ℕ) (long : ElementFault) (row : Row) (v : List ℕ) → least_of row.parts ≤ length v → length v ≤ greatest_of row.parts → row_fault year place long row.parts v ≡ value_fault year place row.parts v
+-- the fault of a value that is neither too short nor too long
+abbrev fault_within : ℕ → ℕ → List Part → List ℕ → Option ElementFault
+fault_within year place parts v = cond (not (each_part has_even_length parts v)) (Some (ValueLength place)) (value_fault year place parts v)
+
+-- there it is as whether its length is even, its characters, check digits and dates are
+right_length : (year place : ℕ) (long : ElementFault) (row : Row) (v : List ℕ) → least_of row.parts ≤ length v → length v ≤ greatest_of row.parts → row_fault year place long row.parts v ≡ fault_within year place row.parts v
 right_length year place long row v least greatest = rw (le-ltb (length v) (least_of row.parts) least, le-ltb (greatest_of row.parts) (length v) greatest) refl
 
 pub pairs_as_texts : PairsAsTexts
@@ -69,7 +80,7 @@ unknown_pairs = λ year i e no_row.
     ]
 
 -- an element has no fault
-no_fault : (year i : ℕ) (row : Row) (e : Entry) → IsElement year row e → entry_fault year i e ≡ None
+no_fault : (year i : ℕ) (row : Row) (e : Entry) → IsElement ai_rows year row e → entry_fault year i e ≡ None
 no_fault year i row e is = by_row year i row e (record { listed = is.listed; ai = is.ai }) ∙ fits_no_fault year i (ValueLength i) row e.value is.value
 
 no_faults : (year i : ℕ) (es : List Entry) → AreElements year es → entries_fault year i es ≡ None

@@ -1,11 +1,11 @@
 -- Pairs that are elements.
 use Rattle.std.proofs.Common.{◌≡◌, ◌⊎◌, ℕ, ◌+◌, ◌<◌, ◌≤◌, Bool, eqb, not, List, [], ◌∷◌, ◌++◌, length, take, drop, get_or, Option, Some, None, refl, sym, ap, subst, ◌∙◌, append_assoc, arith, inl, inr, length-append, length-drop}
 use Rattle.std.proofs.lemmas.Bool.{eqb-true, le-ltb, lt-ltb, ne_eqb, not-false}
-use Rattle.std.proofs.lemmas.List.{nil_from_length, append-nil, length_push, take-append-drop, drop_more, take_more, map-append}
+use Rattle.std.proofs.lemmas.List.{nil_from_length, append-nil, take-append-drop, drop_more, take_more, map-append}
 use Rattle.element_core.specs.declared.fault.ElementFault.{ElementFault}
 use Rattle.element_core.specs.declared.fault.ElementFault.TheVariants.{UnknownAi, ValueLength, TooLong}
 use Rattle.element_core.specs.declared.pairs.Pair.{Pair}
-use Rattle.element_core.specs.Table.{Row, row_at}
+use Rattle.element_core.specs.Table.{Row, ai_rows, row_at}
 use Rattle.element_core.specs.Elements.{Entry, IsElement, IsElements, AreElements, Reads, canonical}
 use Rattle.element_core.specs.Growing.{gap, last_gap}
 use Rattle.element_core.specs.Pairs.{entry_of, entries_of, entry_fault, entry_fault_by, entries_fault, list_fault, or_else}
@@ -20,7 +20,7 @@ seen None = inl refl
 seen (Some x) = inr (x, refl)
 
 -- an entry without a fault is an element
-entry_valid : (year i : ℕ) (e : Entry) → entry_fault year i e ≡ None → (row : Row) × IsElement year row e
+entry_valid : (year i : ℕ) (e : Entry) → entry_fault year i e ≡ None → (row : Row) × IsElement ai_rows year row e
 entry_valid year i e none =
     elim (seen (row_at e.ai)) [
       | inl unknown ↦ absurd (let k = ap (entry_fault_by year i e) unknown in let n = none in cc)
@@ -55,24 +55,15 @@ canonical_grows es (f ∷ fs) =
     omega (arith, ap length push, ap (λ (gs : List Entry). length (canonical gs)) regrouped, more, length-append (canonical es ++ last_gap es) (f.ai ++ f.value), length-append (canonical es) (last_gap es))
 
 -- one element more of a list that is known
-pub record Adds (year : ℕ) (out : List ℕ) (done all : List Entry) (separate : Bool) (e : Entry) : Type 0 where
+pub record Adds (out : List ℕ) (done all : List Entry) (separate : Bool) (e : Entry) : Type 0 where
   pub canonical_text : out ++ gap separate ++ (e.ai ++ e.value) ≡ canonical (done ++ e ∷ [])
-  pub places : length (out ++ gap separate ++ (e.ai ++ e.value)) ≤ 192 → length done < 48
   pub size : length (out ++ gap separate ++ (e.ai ++ e.value)) ≡ length out + length (gap separate) + length e.ai + length e.value
   pub below : length (canonical (done ++ e ∷ [])) ≤ length (canonical all)
 
-AreElements-front : (year : ℕ) (es : List Entry) (e : Entry) (fs : List Entry) → AreElements year (es ++ e ∷ fs) → AreElements year (es ++ e ∷ [])
-AreElements-front year [] e fs are = (are.0, tt)
-AreElements-front year (x ∷ es) e fs are = (are.0, AreElements-front year es e fs are.1)
-
-pub adds : (year : ℕ) (out : List ℕ) (done rest all : List Entry) (separate : Bool) (e : Entry) → AreElements year all → all ≡ done ++ e ∷ rest → out ≡ canonical done → last_gap done ≡ gap separate → Adds year out done all separate e
-adds year out done rest all separate e are all_is out_is gap_is =
-    let longer : out ++ gap separate ++ (e.ai ++ e.value) ≡ canonical (done ++ e ∷ []) = rw (out_is, ← gap_is) (sym (canonical-push done e)) in
-    let front = AreElements-front year done e rest (subst (AreElements year) all_is are) in
-    let few = few_elements year (done ++ e ∷ []) front in
+pub adds : (out : List ℕ) (done rest all : List Entry) (separate : Bool) (e : Entry) → all ≡ done ++ e ∷ rest → out ≡ canonical done → last_gap done ≡ gap separate → Adds out done all separate e
+adds out done rest all separate e all_is out_is gap_is =
     record {
-      canonical_text = longer;
-      places = λ h. omega (arith, few, ap length longer, length_push done e);
+      canonical_text = rw (out_is, ← gap_is) (sym (canonical-push done e));
       size = omega (arith, length-append (out ++ gap separate) (e.ai ++ e.value), length-append out (gap separate), length-append e.ai e.value);
       below = subst (λ (es : List Entry). length (canonical (done ++ e ∷ [])) ≤ length (canonical es)) (append_assoc done (e ∷ []) rest ∙ sym all_is) (canonical_grows (done ++ e ∷ []) rest);
     }
@@ -102,4 +93,4 @@ pub finished : (year : ℕ) (out : List ℕ) (es all : List Entry) → AreElemen
 finished year out es all are is out_is some short =
     let these = subst (AreElements year) (sym is) are in
     let few = few_elements year es these in
-    record { some = omega (arith, ap length is, ap length out_is, few); fits = short; reads = subst (λ (t : List ℕ). Reads year t es []) (sym out_is) (to_pieces year (canonical es) es [] (canonical_reads year es these)) }
+    record { some = omega (arith, ap length is, ap length out_is, few); fits = short; reads = subst (λ (t : List ℕ). Reads ai_rows year t es []) (sym out_is) (to_pieces year (canonical es) es [] (canonical_reads year es these)) }

@@ -1,6 +1,7 @@
 -- Joined pieces are what is read from the left.
 use Rattle.std.proofs.Common.{◌≡◌, ℕ, Bool, true, false, eqb, not, ◌||◌, List, [], ◌∷◌, ◌++◌, map, refl, sym, ap, subst, ◌∙◌, append_assoc, eqb-true, inl, inr}
 use Rattle.std.proofs.lemmas.Bool.{cases_Bool, not-true}
+use Rattle.element_core.specs.Table.{ai_rows}
 use Rattle.element_core.specs.Elements.{Entry, Piece, separator, joined, is_empty, begins_with_separator, IsPiece, ArePieces, Reads}
 use Rattle.element_core.specs.Fronts.{ReadsFromLeft, ReadsPieces, is_closed, after_separator}
 
@@ -38,7 +39,7 @@ regroup : (ai value sep left rest : List ℕ) → ai ++ value ++ (sep ++ (left +
 regroup ai value sep left rest = simp append_assoc
 
 -- what is read from the left is joined pieces
-pub to_pieces : (year : ℕ) (text : List ℕ) (es : List Entry) (rest : List ℕ) → ReadsFromLeft year text es rest → Reads year text es rest
+pub to_pieces : (year : ℕ) (text : List ℕ) (es : List Entry) (rest : List ℕ) → ReadsFromLeft year text es rest → Reads ai_rows year text es rest
 to_pieces year text [] rest r = record { pieces = []; elements = refl; pieces_are = tt; text_is = r }
 to_pieces year text (e ∷ es) rest r =
     let b = r.1 in
@@ -46,7 +47,7 @@ to_pieces year text (e ∷ es) rest r =
     let p : Piece = record { element = e; separated = begins_with_separator b.after } in
     let left : after_separator b.after ≡ joined more.pieces ++ rest = sym b.rest_is ∙ more.text_is in
     let after : b.after ≡ separator (begins_with_separator b.after) ++ (joined more.pieces ++ rest) = parted b.after ∙ ap (λ (t : List ℕ). separator (begins_with_separator b.after) ++ t) left in
-    let first : IsPiece year p (joined more.pieces ++ rest) = record {
+    let first : IsPiece ai_rows year p (joined more.pieces ++ rest) = record {
       row = b.row;
       element = b.element;
       ends = subst (λ (t : List ℕ). (b.row.predefined || (begins_with_separator b.after || is_empty t)) ≡ true) left (ends_there b.row.predefined b.after b.closed);
@@ -73,7 +74,7 @@ closed_by : (p separated : Bool) (left : List ℕ) → (p || (separated || is_em
 closed_by p true left h own = (or_last p, refl)
 closed_by p false left h own = (ended p left h, kept left own)
 
-from_pieces : (year : ℕ) (pieces : List Piece) (rest : List ℕ) → ArePieces year pieces rest → ReadsFromLeft year (joined pieces ++ rest) (map (λ p. p.element) pieces) rest
+from_pieces : (year : ℕ) (pieces : List Piece) (rest : List ℕ) → ArePieces ai_rows year pieces rest → ReadsFromLeft year (joined pieces ++ rest) (map (λ p. p.element) pieces) rest
 from_pieces year [] rest are = refl
 from_pieces year (p ∷ pieces) rest are =
     let left = joined pieces ++ rest in
@@ -82,7 +83,7 @@ from_pieces year (p ∷ pieces) rest are =
     (left, record { row = q.row; element = q.element; after = separator p.separated ++ left; text_is = sym (regroup p.element.ai p.element.value (separator p.separated) (joined pieces) rest); closed = c.0; rest_is = c.1 }, from_pieces year pieces rest are.1)
 
 -- what joined pieces are is read from the left
-pub from_left : (year : ℕ) (text : List ℕ) (es : List Entry) (rest : List ℕ) → Reads year text es rest → ReadsFromLeft year text es rest
+pub from_left : (year : ℕ) (text : List ℕ) (es : List Entry) (rest : List ℕ) → Reads ai_rows year text es rest → ReadsFromLeft year text es rest
 from_left year text es rest j =
     subst (λ (t : List ℕ). ReadsFromLeft year t es rest) (sym j.text_is)
     (subst (λ (fs : List Entry). ReadsFromLeft year (joined j.pieces ++ rest) fs rest) (sym j.elements) (from_pieces year j.pieces rest j.pieces_are))

@@ -5,8 +5,9 @@ use Rattle.std.proofs.lemmas.List.{take-append-drop, drop_at, take_at, length-ta
 use Rattle.element_core.specs.declared.fault.ElementFault.{ElementFault}
 use Rattle.element_core.specs.declared.fault.ElementFault.TheVariants.{ValueLength, ValueCharacter, ValueCheckDigit, ValueDate, MissingSeparator}
 use Rattle.element_core.specs.Table.{Row, begins, row_at, least_of, greatest_of}
-use Rattle.element_core.specs.Elements.{Entry, IsValue, each_part, has_characters, has_check_digit, has_date, field_of, value_in, row_fault, fault_by, fault_at}
+use Rattle.element_core.specs.Elements.{Entry, IsValue, each_part, has_characters, has_check_digit, has_date, has_even_length, field_of, value_in, row_fault, fault_by, fault_at}
 use Rattle.element_core.specs.Fronts.{Begins, is_closed, after_separator}
+use Rattle.element_core.specs.Shown.{shown_value, shown_rest}
 use Rattle.element_core.proofs.Look.{begins-append, begins-split, row_found, row_is as row_listed, predefined_length_is}
 use Rattle.element_core.proofs.Fields.{value_plain, value_in_field, field_splits}
 
@@ -17,32 +18,28 @@ passes false f x e = (refl, e)
 
 pub fits_no_fault : (year place : ℕ) (long : ElementFault) (row : Row) (v : List ℕ) → IsValue year row.parts v → row_fault year place long row.parts v ≡ None
 fits_no_fault year place long row v fits =
+    let even = fits.even in
     let characters = fits.characters in
     let check_digits = fits.check_digits in
     let dates = fits.dates in
-    rw (le-ltb (length v) (least_of row.parts) fits.least, le-ltb (greatest_of row.parts) (length v) fits.greatest, characters, check_digits, dates) refl
+    rw (le-ltb (length v) (least_of row.parts) fits.least, le-ltb (greatest_of row.parts) (length v) fits.greatest, even, characters, check_digits, dates) refl
 
 pub no_fault_fits : (year place : ℕ) (long : ElementFault) (row : Row) (v : List ℕ) → row_fault year place long row.parts v ≡ None → IsValue year row.parts v
 no_fault_fits year place long row v e =
     let p = passes (ltb (length v) (least_of row.parts)) (ValueLength place) _ e in
     let q = passes (ltb (greatest_of row.parts) (length v)) long _ p.1 in
-    let r = passes (not (each_part has_characters row.parts v)) (ValueCharacter place) _ q.1 in
+    let o = passes (not (each_part has_even_length row.parts v)) (ValueLength place) _ q.1 in
+    let r = passes (not (each_part has_characters row.parts v)) (ValueCharacter place) _ o.1 in
     let s = passes (not (each_part has_check_digit row.parts v)) (ValueCheckDigit place) _ r.1 in
     let t = passes (not (each_part (has_date year) row.parts v)) (ValueDate place) _ s.1 in
     record {
       least = ltb-false _ _ p.0;
       greatest = ltb-false _ _ q.0;
+      even = not-false _ o.0;
       characters = not-false _ r.0;
       check_digits = not-false _ s.0;
       dates = not-false _ t.0;
     }
-
--- the element and the rest that a text shows by the row of its AI
-abbrev pub shown_value : Row → List ℕ → List ℕ
-shown_value row text = value_in row (field_of (drop (length row.ai) text))
-
-abbrev pub shown_rest : Row → List ℕ → List ℕ
-shown_rest row text = after_separator (drop (length (shown_value row text)) (drop (length row.ai) text))
 
 pub record Shows (year : ℕ) (e : Entry) (text rest : List ℕ) : Type 0 where
   pub row : Row
@@ -108,20 +105,32 @@ shown-within row text =
     let s = value_splits row text in
     omega (arith, ap length s.1, length-append (value_in row (field_of text)) s.0)
 
+pub record IsShown (row : Row) (text ai value rest : List ℕ) : Type 0 where
+  pub ai_is : ai ≡ row.ai
+  pub value_is : value ≡ shown_value row text
+  pub rest_is : rest ≡ shown_rest row text
+
+-- what a text shows, as the code finds it
+pub shown_as : (n : ℕ) (row : Row) (text ai tail value rest : List ℕ) → n ≤ length text → row.ai ≡ take n text → ai ≡ take n text → tail ≡ drop n text
+    → value ≡ value_in row (field_of tail) → rest ≡ after_separator (drop (length value) tail) → IsShown row text ai value rest
+shown_as n row text ai tail value rest within row_ai ai_is tail_is value_is rest_is =
+    let len : length row.ai ≡ n = ap length row_ai ∙ length-take-le n text within in
+    let left : tail ≡ drop (length row.ai) text = tail_is ∙ ap (λ (k : ℕ). drop k text) (sym len) in
+    let shown : value ≡ shown_value row text = value_is ∙ ap (λ (t : List ℕ). value_in row (field_of t)) left in
+    record {
+      ai_is = ai_is ∙ sym row_ai;
+      value_is = shown;
+      rest_is = rest_is ∙ ap (λ (v : List ℕ). after_separator (drop (length v) tail)) shown ∙ ap (λ (t : List ℕ). after_separator (drop (length (shown_value row text)) t)) left;
+    }
+
 moved : (year : ℕ) (text a b v w r t : List ℕ) → a ≡ b → v ≡ w → r ≡ t → Begins year (record { ai = a; value = v }) text r → Begins year (record { ai = b; value = w }) text t
 moved year text a b v w r t p q e x =
     subst (λ (z : List ℕ). Begins year (record { ai = b; value = w }) text z) e
     (subst (λ (z : List ℕ). Begins year (record { ai = b; value = z }) text r) q
     (subst (λ (z : List ℕ). Begins year (record { ai = z; value = v }) text r) p x))
 
--- the same, as the code finds it
-pub stands_as : (year place n : ℕ) (row : Row) (text ai tail value rest : List ℕ) → row_at text ≡ Some row → n ≤ length text → row.ai ≡ take n text → ai ≡ take n text → tail ≡ drop n text
-    → value ≡ value_in row (field_of tail) → rest ≡ after_separator (drop (length value) tail) → row_fault year place (MissingSeparator place) row.parts value ≡ None → Begins year (record { ai = ai; value = value }) text rest
-stands_as year place n row text ai tail value rest found within row_ai ai_is tail_is value_is rest_is none =
-    let len : length row.ai ≡ n = ap length row_ai ∙ length-take-le n text within in
-    let left : tail ≡ drop (length row.ai) text = tail_is ∙ ap (λ (k : ℕ). drop k text) (sym len) in
-    let shown : value ≡ shown_value row text = value_is ∙ ap (λ (t : List ℕ). value_in row (field_of t)) left in
-    let no_fault : fault_at year place text ≡ None = ap (fault_by year place text) found ∙ ap (row_fault year place (MissingSeparator place) row.parts) (sym shown) ∙ none in
-    let rest_shown : rest ≡ shown_rest row text = rest_is ∙ ap (λ (v : List ℕ). after_separator (drop (length v) tail)) shown ∙ ap (λ (t : List ℕ). after_separator (drop (length (shown_value row text)) t)) left in
-    let b = stands year place row text found no_fault in
-    moved year text row.ai ai (shown_value row text) value (shown_rest row text) rest (sym (ai_is ∙ sym row_ai)) (sym shown) (sym rest_shown) b
+-- what it shows begins it, where the value has no fault
+pub stands_as : (year place : ℕ) (row : Row) (text ai value rest : List ℕ) → row_at text ≡ Some row → IsShown row text ai value rest → row_fault year place (MissingSeparator place) row.parts value ≡ None → Begins year (record { ai = ai; value = value }) text rest
+stands_as year place row text ai value rest found is none =
+    let no_fault : fault_at year place text ≡ None = ap (fault_by year place text) found ∙ ap (row_fault year place (MissingSeparator place) row.parts) (sym is.value_is) ∙ none in
+    moved year text row.ai ai (shown_value row text) value (shown_rest row text) rest (sym is.ai_is) (sym is.value_is) (sym is.rest_is) (stands year place row text found no_fault)

@@ -1,7 +1,7 @@
 -- What is computed over the whole table.
 use Rattle.std.proofs.Common.{◌≡◌, true, [], None, refl}
 use Rattle.std.specs.List.{list_all}
-use Rattle.element_core.specs.Table.{families, ai_rows, NoAiBeginsAnother, FirstDigitsDecide, PartsHaveOneLength, begins_with_digit, is_long_enough, has_few_parts, is_short_ai, is_of_digits, row_at}
+use Rattle.element_core.specs.Table.{families, ai_rows, CountsFirstRows, NoAiBeginsAnother, FirstDigitsDecide, PartsHaveOneLength, begins_with_digit, is_long_enough, has_few_parts, is_short_ai, is_of_digits, is_timed_exactly, row_at}
 
 pub no_ai_begins_another : NoAiBeginsAnother
 unfolding families ai_rows
@@ -34,6 +34,14 @@ each_has_few_parts = refl
 pub each_is_of_digits : list_all is_of_digits ai_rows ≡ true
 unfolding families ai_rows
 each_is_of_digits = refl
+
+pub each_is_timed_exactly : list_all is_timed_exactly ai_rows ≡ true
+unfolding families ai_rows
+each_is_timed_exactly = refl
+
+pub counts_first_rows : CountsFirstRows
+unfolding families ai_rows
+counts_first_rows = refl
 
 pub parts_have_one_length : PartsHaveOneLength
 unfolding families ai_rows

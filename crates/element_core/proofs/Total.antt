@@ -8,7 +8,8 @@ use Rattle.element_core.specs.declared.fault.ElementFault.TheVariants.{Empty, To
 use Rattle.element_core.specs.Table.{row_at}
 use Rattle.element_core.specs.Elements.{Entry, IsElements, StopsWith, FirstFault, size_fault, fault_by, fault_at, EachText}
 use Rattle.element_core.specs.Fronts.{ReadsFromLeft}
-use Rattle.element_core.proofs.Shown.{stands, shown_value, shown_rest}
+use Rattle.element_core.specs.Shown.{shown_value, shown_rest}
+use Rattle.element_core.proofs.Shown.{stands}
 use Rattle.element_core.proofs.PieceLemmas.{to_pieces}
 use Rattle.element_core.proofs.Canonical.{begins_shorter, canonical_shorter}
 use Rattle.element_core.proofs.Unique.{right_size}

@@ -9,7 +9,8 @@ use Rattle.element_core.specs.Elements.{Entry, IsElements, StopsWith, FirstFault
 use Rattle.element_core.specs.Fronts.{Begins, ReadsFromLeft}
 use Rattle.element_core.proofs.TableLaws.{none_begins_nothing}
 use Rattle.element_core.proofs.PieceLemmas.{from_left}
-use Rattle.element_core.proofs.Shown.{shows, shown_value, shown_rest}
+use Rattle.element_core.specs.Shown.{shown_value, shown_rest}
+use Rattle.element_core.proofs.Shown.{shows}
 
 pub same_element : (e f : Entry) → e.ai ≡ f.ai → e.value ≡ f.value → e ≡ f
 same_element e f p q = ap (λ (a : List ℕ). record { ai = a; value = e.value }) p ∙ ap (λ (v : List ℕ). record { ai = f.ai; value = v }) q

@@ -6,11 +6,12 @@ use Rattle.std.specs.List.{list_all, AllByRecursion}
 use Rattle.element_core.specs.declared.fault.ElementFault.{ElementFault}
 use Rattle.element_core.specs.declared.fault.ElementFault.TheVariants.{Empty, UnknownAi, ValueLength, ValueCharacter, ValueCheckDigit, ValueDate, MissingSeparator, TooLong}
 use Rattle.element_core.specs.declared.part.Part.{Part}
-use Rattle.element_core.specs.declared.part.PartKind.{PartKind}
-use Rattle.element_core.specs.declared.part.PartKind.TheVariants.{Digits, Characters}
+use Rattle.element_core.specs.declared.part.PartFormat.{PartFormat}
+use Rattle.element_core.specs.declared.part.PartFormat.TheVariants.{Alphanumeric, Date, DateAndTime}
 use Rattle.digits_core.specs.Digits.{AreDigits, IsChecked, ascii_of, digits_of, weighted}
 use Rattle.element_core.specs.Days.{day_of}
-use Rattle.element_core.specs.Table.{Row, ai_rows, row_at, least_of, greatest_of, predefined_length, is_dated}
+use Rattle.element_core.specs.Times.{exact_day_of, is_day_and_time, time_of}
+use Rattle.element_core.specs.Table.{Row, ai_rows, first_rows, row_at, least_of, greatest_of, predefined_length, is_dated, is_7003_or_8008, is_timed}
 
 -- ---- values
 
@@ -26,22 +27,32 @@ is_digit b = between 48 57 b
 abbrev pub is_character : ℕ → Bool
 is_character b = between 33 34 b || between 37 63 b || between 65 90 b || (b == 95) || between 97 122 b
 
--- whether a part of this kind may have the byte
-abbrev pub belongs : PartKind → ℕ → Bool
-belongs Digits b = is_digit b
-belongs Characters b = is_character b
+-- whether a part of this format may have the byte
+abbrev pub belongs : PartFormat → ℕ → Bool
+belongs Alphanumeric b = is_character b
+belongs _ b = is_digit b
+
+-- whether the length is even, where it is to be
+abbrev pub has_even_length : Part → List ℕ → Bool
+has_even_length part bytes = not part.even || (length bytes % 2 == 0)
 
 -- whether each byte belongs to the part
 abbrev pub has_characters : Part → List ℕ → Bool
-has_characters part bytes = list_all (belongs part.kind) bytes
+has_characters part bytes = list_all (belongs part.format) bytes
 
 -- whether the last digit is the check digit of the others, where it is to be (section 7.9)
 abbrev pub has_check_digit : Part → List ℕ → Bool
 has_check_digit part bytes = not part.check || (weighted (digits_of bytes) % 10 == 0)
 
--- whether there is such a day, where the part is a date (section 7.12)
+-- whether there is what bytes of this format name: a day (section 7.12), or a day and a time
+abbrev pub is_named : ℕ → PartFormat → List ℕ → Bool
+is_named year Date bytes = is_some (day_of bytes year)
+is_named year DateAndTime bytes = is_day_and_time bytes year
+is_named year _ bytes = true
+
+-- whether there is such a day and such a time, where the part names them
 abbrev pub has_date : ℕ → Part → List ℕ → Bool
-has_date year part bytes = not part.date || is_some (day_of bytes year)
+has_date year part bytes = is_named year part.format bytes
 
 -- whether each part of a value passes a test; every part but the last has one length alone
 abbrev pub each_part : (Part → List ℕ → Bool) → List Part → List ℕ → Bool
@@ -52,6 +63,7 @@ each_part test (p ∷ parts) value = test p (take p.greatest value) && each_part
 pub record IsValue (year : ℕ) (parts : List Part) (value : List ℕ) : Type 0 where
   pub least : least_of parts ≤ length value
   pub greatest : length value ≤ greatest_of parts
+  pub even : IsTrue (each_part has_even_length parts value)
   pub characters : IsTrue (each_part has_characters parts value)
   pub check_digits : IsTrue (each_part has_check_digit parts value)
   pub dates : IsTrue (each_part (has_date year) parts value)
@@ -63,15 +75,15 @@ pub record Entry : Type 0 where
   pub ai : List ℕ
   pub value : List ℕ
 
--- an element by its row of the table
-pub record IsElement (year : ℕ) (row : Row) (e : Entry) : Type 0 where
-  pub listed : Contains ai_rows row
+-- an element by its row of a table
+pub record IsElement (table : List Row) (year : ℕ) (row : Row) (e : Entry) : Type 0 where
+  pub listed : Contains table row
   pub ai : e.ai ≡ row.ai
   pub value : IsValue year row.parts e.value
 
 -- each is an element
 abbrev pub AreElements : ℕ → List Entry → Type 0
-AreElements year es = AllByRecursion (λ e. (row : Row) × IsElement year row e) es
+AreElements year es = AllByRecursion (λ e. (row : Row) × IsElement ai_rows year row e) es
 
 -- ---- joined pieces
 
@@ -103,31 +115,35 @@ begins_with_separator [] = false
 begins_with_separator (b ∷ text) = b == 29
 
 -- a piece before what is left of the text
-pub record IsPiece (year : ℕ) (p : Piece) (left : List ℕ) : Type 0 where
+pub record IsPiece (table : List Row) (year : ℕ) (p : Piece) (left : List ℕ) : Type 0 where
   pub row : Row
-  pub element : IsElement year row p.element
+  pub element : IsElement table year row p.element
   -- it has a separator, or its length is predefined, or the text ends with it
   pub ends : IsTrue (row.predefined || (p.separated || is_empty left))
   -- a separator that stands directly after its value is its own
   pub own : IsTrue (p.separated || not (begins_with_separator left))
 
 -- each is a piece before what follows it
-abbrev pub ArePieces : ℕ → List Piece → List ℕ → Type 0
-ArePieces year [] rest = Unit {0}
-ArePieces year (p ∷ pieces) rest = IsPiece year p (joined pieces ++ rest) × ArePieces year pieces rest
+abbrev pub ArePieces : List Row → ℕ → List Piece → List ℕ → Type 0
+ArePieces table year [] rest = Unit {0}
+ArePieces table year (p ∷ pieces) rest = IsPiece table year p (joined pieces ++ rest) × ArePieces table year pieces rest
 
 -- the text is joined pieces of these elements, and the rest
-pub record Reads (year : ℕ) (text : List ℕ) (es : List Entry) (rest : List ℕ) : Type 0 where
+pub record Reads (table : List Row) (year : ℕ) (text : List ℕ) (es : List Entry) (rest : List ℕ) : Type 0 where
   pub pieces : List Piece
   pub elements : es ≡ map (λ p. p.element) pieces
-  pub pieces_are : ArePieces year pieces rest
+  pub pieces_are : ArePieces table year pieces rest
   pub text_is : text ≡ joined pieces ++ rest
 
--- the element string of this list
-pub record IsElements (year : ℕ) (text : List ℕ) (es : List Entry) : Type 0 where
+-- the element string of this list, by a table
+pub record IsElementsBy (table : List Row) (year : ℕ) (text : List ℕ) (es : List Entry) : Type 0 where
   pub some : 0 < length text
   pub fits : length text ≤ 192
-  pub reads : Reads year text es []
+  pub reads : Reads table year text es []
+
+-- the element string of this list
+abbrev pub IsElements : ℕ → List ℕ → List Entry → Type 0
+IsElements year text es = IsElementsBy ai_rows year text es
 
 -- ---- faults
 
@@ -148,11 +164,12 @@ value_fault year place parts value =
     else if not (each_part (has_date year) parts value) then Some (ValueDate place)
     else None
 
--- the first test that a value of these parts fails, where this is the fault of one that is too long
+-- the first test that a value of these parts fails, its length first, where this is the fault of one that is too long
 abbrev pub row_fault : ℕ → ℕ → ElementFault → List Part → List ℕ → Option ElementFault
 row_fault year place too_long parts value =
     if nat_lt (length value) (least_of parts) then Some (ValueLength place)
     else if nat_lt (greatest_of parts) (length value) then Some too_long
+    else if not (each_part has_even_length parts value) then Some (ValueLength place)
     else value_fault year place parts value
 
 -- the fault at the beginning of a text, by the row of its AI
@@ -168,7 +185,7 @@ fault_at year place text = fault_by year place text (row_at text)
 pub record StopsWith (year : ℕ) (text : List ℕ) (f : ElementFault) : Type 0 where
   pub before : List Entry
   pub rest : List ℕ
-  pub reads : Reads year text before rest
+  pub reads : Reads ai_rows year text before rest
   pub some : 0 < length rest
   pub place : ℕ
   pub place_is : place + length rest ≡ length text
@@ -201,11 +218,23 @@ gtin_entry gtin = record { ai = codes "01"; value = ascii_of gtin }
 -- the day that a value names, by the row of its AI
 abbrev pub day_by : ℕ → List ℕ → Option Row → Option (ℕ × ℕ × ℕ)
 day_by year value None = None
-day_by year value (Some row) = if is_dated row.parts then day_of value year else None
+day_by year value (Some row) =
+    if is_timed row.parts then exact_day_of (take 6 value) year
+    else if is_dated row.parts then day_of value year
+    else None
 
--- the day of an element, where its AI is one of a date
+-- the day of an element, where its AI is one of a day
 abbrev pub entry_day : ℕ → Entry → Option (ℕ × ℕ × ℕ)
 entry_day year e = day_by year e.value (row_at e.ai)
+
+-- the hours, the minutes and the seconds that a value names, by the row of its AI
+abbrev pub time_by : List ℕ → Option Row → Option (List ℕ)
+time_by value None = None
+time_by value (Some row) = if is_timed row.parts then time_of (drop 6 value) else None
+
+-- the hours, the minutes and the seconds of an element, where its AI is one of a time
+abbrev pub entry_time : Entry → Option (List ℕ)
+entry_time e = time_by e.value (row_at e.ai)
 
 -- "(", AI, ")", value of each
 abbrev pub hri : List Entry → List ℕ
@@ -250,10 +279,19 @@ abbrev pub EachText : Type 0
 EachText = (year : ℕ) (text : List ℕ) →
     ((es : List Entry) × IsElements year text es) ⊎ ((f : ElementFault) × FirstFault year text f)
 
--- an element has a day exactly where its AI is one of a date
+-- an element has a day exactly where its AI is one of a day
 abbrev pub DatedElements : Type 0
-DatedElements = (year : ℕ) (row : Row) (e : Entry) → IsElement year row e
+DatedElements = (year : ℕ) (row : Row) (e : Entry) → IsElement ai_rows year row e
     → is_some (entry_day year e) ≡ is_dated row.parts
+
+-- an element has a time exactly where its AI is 7003 or 8008
+abbrev pub TimedElements : Type 0
+TimedElements = (year : ℕ) (row : Row) (e : Entry) → IsElement ai_rows year row e
+    → is_some (entry_time e) ≡ is_7003_or_8008 row.ai
+
+-- each text that was read by the table of the first edition is read as the same list
+abbrev pub ReadAsBefore : Type 0
+ReadAsBefore = (year : ℕ) (text : List ℕ) (es : List Entry) → IsElementsBy first_rows year text es → IsElements year text es
 
 -- the element of a GTIN is read back from its text, under each reference year
 abbrev pub GtinReads : Type 0

@@ -22,3 +22,7 @@ row_with f text = row_in (family_of f) (take (length f.least.now) text)
 abbrev pub row_by : List ℕ → List AiFamily → Option Row
 row_by text [] = None
 row_by text (f ∷ fs) = if is_in_family f.least.now f.greatest.now text then Some (row_with f text) else row_by text fs
+
+-- whether an AI of the family begins with these two digits
+abbrev pub has_first_two : ℕ → ℕ → Family → Bool
+has_first_two first second f = is_in_family (take 2 f.least) (take 2 f.greatest) (first ∷ second ∷ [])

@@ -1,6 +1,6 @@
 -- Element strings read from the left, element by element (GS1 General Specifications, section 7.8).
 use Rattle.std.specs.Prelude.{◌≡◌, ◌↔◌, ℕ, Bool, true, ◌||◌, List, [], ◌∷◌, ◌++◌, IsTrue, ◌==◌, if◌then◌else◌}
-use Rattle.element_core.specs.Table.{Row}
+use Rattle.element_core.specs.Table.{Row, ai_rows}
 use Rattle.element_core.specs.Elements.{Entry, IsElement, Reads}
 
 -- a text that is empty or begins with a separator
@@ -16,7 +16,7 @@ after_separator (b ∷ text) = if b == 29 then text else b ∷ text
 -- the text is the element, at most one separator, and the rest; without one it ends there or the length is predefined
 pub record Begins (year : ℕ) (e : Entry) (text rest : List ℕ) : Type 0 where
   pub row : Row
-  pub element : IsElement year row e
+  pub element : IsElement ai_rows year row e
   pub after : List ℕ
   pub text_is : text ≡ e.ai ++ e.value ++ after
   pub closed : IsTrue (row.predefined || is_closed after)
@@ -30,4 +30,4 @@ ReadsFromLeft year text (e ∷ es) rest = (mid : List ℕ) × Begins year e text
 -- joined pieces are what is read from the left, element by element
 abbrev pub ReadsPieces : Type 0
 ReadsPieces = (year : ℕ) (text : List ℕ) (es : List Entry) (rest : List ℕ)
-    → Reads year text es rest ↔ ReadsFromLeft year text es rest
+    → Reads ai_rows year text es rest ↔ ReadsFromLeft year text es rest

@@ -4,8 +4,9 @@ use Rattle.std.specs.List.{list_all}
 use Rattle.element_core.specs.declared.fault.ElementFault.{ElementFault}
 use Rattle.element_core.specs.declared.fault.ElementFault.TheVariants.{Empty, UnknownAi, ValueLength, TooLong}
 use Rattle.element_core.specs.declared.pairs.Pair.{Pair}
+use Rattle.element_core.specs.declared.part.Part.{Part}
 use Rattle.element_core.specs.Table.{Row, ai_rows, row_at, least_of, greatest_of}
-use Rattle.element_core.specs.Elements.{Entry, IsElements, row_fault, fault_at, canonical}
+use Rattle.element_core.specs.Elements.{Entry, IsElements, each_part, has_even_length, row_fault, fault_at, canonical}
 
 -- the entry of a pair
 abbrev pub entry_of : Pair → Entry
@@ -56,13 +57,16 @@ pub record HasRow (e : Entry) (row : Row) : Type 0 where
 abbrev pub UnknownPairs : Type 0
 UnknownPairs = (year i : ℕ) (e : Entry) → ((row : Row) → HasRow e row → ⊥) → entry_fault year i e ≡ Some (UnknownAi i)
 
+-- a value that is too short, too long, or odd in length where that is to be even
+abbrev pub IsOfWrongLength : List Part → List ℕ → Type 0
+IsOfWrongLength parts value = (length value < least_of parts) ⊎ ((greatest_of parts < length value) ⊎ IsTrue (not (each_part has_even_length parts value)))
+
 -- a value of a wrong length is refused for it
 abbrev pub PairLengths : Type 0
-PairLengths = (year i : ℕ) (row : Row) (e : Entry) → HasRow e row
-    → (length e.value < least_of row.parts) ⊎ (greatest_of row.parts < length e.value)
+PairLengths = (year i : ℕ) (row : Row) (e : Entry) → HasRow e row → IsOfWrongLength row.parts e.value
     → entry_fault year i e ≡ Some (ValueLength i)
 
--- at the right length a pair without a separator in its value has the fault of the text of AI and value
+-- where it is neither too short nor too long a pair without a separator in its value has the fault of the text of AI and value
 abbrev pub PairsAsTexts : Type 0
 PairsAsTexts = (year i : ℕ) (row : Row) (e : Entry) → HasRow e row
     → least_of row.parts ≤ length e.value → length e.value ≤ greatest_of row.parts

@@ -1,9 +1,10 @@
 -- The Application Identifiers of this profile, with what their values may be
 -- (GS1 General Specifications, section 3.2).
-use Rattle.std.specs.Prelude.{ℕ, zero, suc, ◌+◌, ◌-◌, ◌*◌, Bool, true, false, ◌&&◌, ◌||◌, not, List, [], ◌∷◌, map, length, Option, Some, None, IsTrue, nat_le, ◌==◌, if◌then◌else◌, codes, find, flat_map}
-use Rattle.std.specs.List.{list_all, list_any}
+use Rattle.std.specs.Prelude.{◌≡◌, ℕ, zero, suc, ◌+◌, ◌-◌, ◌*◌, Bool, true, false, ◌&&◌, ◌||◌, not, List, [], ◌∷◌, map, length, Option, Some, None, IsTrue, nat_le, bytes_eq, ◌==◌, if◌then◌else◌, codes, find, flat_map}
+use Rattle.std.specs.List.{filter, list_all, list_any}
 use Rattle.element_core.specs.declared.part.Part.{Part}
-use Rattle.element_core.specs.declared.part.PartKind.TheVariants.{Digits, Characters}
+use Rattle.element_core.specs.declared.part.PartFormat.{PartFormat}
+use Rattle.element_core.specs.declared.part.PartFormat.TheVariants.{Numeric, Alphanumeric, Date, DateAndTime}
 
 -- an AI, the parts of its value, and whether its length is predefined
 pub record Row : Type 0 where
@@ -20,23 +21,31 @@ pub record Family : Type 0 where
 
 -- this many digits
 abbrev pub n : ℕ → Part
-n count = record { kind = Digits; least = count; greatest = count; check = false; date = false }
+n count = record { format = Numeric; least = count; greatest = count; check = false; even = false }
 
 -- from so many digits to so many
 abbrev pub n_to : ℕ → ℕ → Part
-n_to least greatest = record { kind = Digits; least = least; greatest = greatest; check = false; date = false }
+n_to least greatest = record { format = Numeric; least = least; greatest = greatest; check = false; even = false }
 
 -- digits of which the last is the check digit
 abbrev pub n_check : ℕ → Part
-n_check count = record { kind = Digits; least = count; greatest = count; check = true; date = false }
+n_check count = record { format = Numeric; least = count; greatest = count; check = true; even = false }
 
 -- YYMMDD
 abbrev pub n6_date : Part
-n6_date = record { kind = Digits; least = 6; greatest = 6; check = false; date = true }
+n6_date = record { format = Date; least = 6; greatest = 6; check = false; even = false }
+
+-- YYMMDDHHMM
+abbrev pub n10_date_and_time : Part
+n10_date_and_time = record { format = DateAndTime; least = 10; greatest = 10; check = false; even = false }
+
+-- YYMMDDHH, YYMMDDHHMM or YYMMDDHHMMSS
+abbrev pub n8_to_12_date_and_time : Part
+n8_to_12_date_and_time = record { format = DateAndTime; least = 8; greatest = 12; check = false; even = true }
 
 -- from so many of the 82 characters to so many
 abbrev pub x_to : ℕ → ℕ → Part
-x_to least greatest = record { kind = Characters; least = least; greatest = greatest; check = false; date = false }
+x_to least greatest = record { format = Alphanumeric; least = least; greatest = greatest; check = false; even = false }
 
 -- a family whose AIs need a separator after them, also where their length is fixed
 abbrev pub not_predefined : List ℕ → List ℕ → List Part → Family
@@ -78,7 +87,9 @@ families =
     ∷ predefined (codes "410") (codes "417") (n_check 13)
     ∷ not_predefined (codes "420") (codes "420") (x_to 1 20 ∷ [])
     ∷ not_predefined (codes "422") (codes "422") (n 3 ∷ [])
+    ∷ not_predefined (codes "7003") (codes "7003") (n10_date_and_time ∷ [])
     ∷ not_predefined (codes "8005") (codes "8005") (n 6 ∷ [])
+    ∷ not_predefined (codes "8008") (codes "8008") (n8_to_12_date_and_time ∷ [])
     ∷ not_predefined (codes "8018") (codes "8018") (n_check 18 ∷ [])
     ∷ not_predefined (codes "8020") (codes "8020") (x_to 1 25 ∷ [])
     ∷ not_predefined (codes "90") (codes "90") (x_to 1 30 ∷ [])
@@ -108,6 +119,14 @@ rows_of f = map (row_in f) (ais f.least f.greatest)
 unfoldable pub ai_rows : List Row
 ai_rows = flat_map rows_of families
 
+-- whether an AI is one of these two
+abbrev pub is_7003_or_8008 : List ℕ → Bool
+is_7003_or_8008 ai = bytes_eq ai (codes "7003") || bytes_eq ai (codes "8008")
+
+-- the table of the first edition: today's without these two AIs
+abbrev pub first_rows : List Row
+first_rows = filter (λ row. not (is_7003_or_8008 row.ai)) ai_rows
+
 -- how many bytes a value has at least
 abbrev pub least_of : List Part → ℕ
 least_of [] = 0
@@ -118,9 +137,24 @@ abbrev pub greatest_of : List Part → ℕ
 greatest_of [] = 0
 greatest_of (p ∷ parts) = p.greatest + greatest_of parts
 
--- whether a part is a date
+-- whether a format is that of a day
+abbrev pub names_day : PartFormat → Bool
+names_day Date = true
+names_day DateAndTime = true
+names_day _ = false
+
+-- whether a format is that of a time
+abbrev pub names_time : PartFormat → Bool
+names_time DateAndTime = true
+names_time _ = false
+
+-- whether a part names a day
 abbrev pub is_dated : List Part → Bool
-is_dated parts = list_any (λ p. p.date) parts
+is_dated parts = list_any (λ p. names_day p.format) parts
+
+-- whether a part names a time
+abbrev pub is_timed : List Part → Bool
+is_timed parts = list_any (λ p. names_time p.format) parts
 
 -- whether the text begins with the AI
 abbrev pub begins : List ℕ → List ℕ → Bool
@@ -178,6 +212,14 @@ begins_with_digit (a ∷ ai) = nat_le 48 a && nat_le a 57
 abbrev pub is_long_enough : Row → Bool
 is_long_enough row = nat_le (if row.predefined then 4 else 3) (length row.ai + least_of row.parts)
 
+-- the first edition has 405 AIs
+abbrev pub CountsFirstRows : Type 0
+CountsFirstRows = length first_rows ≡ 405
+
+-- an AI of a time is 7003 or 8008, and each of these is one
+abbrev pub is_timed_exactly : Row → Bool
+is_timed_exactly row = if is_7003_or_8008 row.ai then is_timed row.parts else not (is_timed row.parts)
+
 -- an AI has at most four digits
 abbrev pub is_short_ai : Row → Bool
 is_short_ai row = nat_le (length row.ai) 4
@@ -190,11 +232,17 @@ has_few_parts row = nat_le (length row.parts) 2
 abbrev pub is_of_digits : Row → Bool
 is_of_digits row = nat_le 2 (length row.ai) && list_all (λ a. nat_le 48 a && nat_le a 57) row.ai
 
--- every part but the last has one length, and a date has six digits and stands alone
+-- a date has six digits; a date and time has 8, 10 or 12
+abbrev pub has_digits_of : Part → PartFormat → Bool
+has_digits_of p Date = (p.least == 6) && (p.greatest == 6)
+has_digits_of p DateAndTime = nat_le 8 p.least && (nat_le p.greatest 12 && (p.even || ((p.least == 10) && (p.greatest == 10))))
+has_digits_of p _ = true
+
+-- every part but the last has one length; a part with a day stands alone, and has the digits of its format
 abbrev pub have_one_length : List Part → Bool
 have_one_length [] = false
-have_one_length (p ∷ []) = not p.date || ((p.least == 6) && (p.greatest == 6))
-have_one_length (p ∷ q ∷ parts) = (p.least == p.greatest) && (not p.date && (not q.date && have_one_length (q ∷ parts)))
+have_one_length (p ∷ []) = has_digits_of p p.format
+have_one_length (p ∷ q ∷ parts) = (p.least == p.greatest) && (not (names_day p.format) && (not (names_day q.format) && have_one_length (q ∷ parts)))
 
 -- so it is in each row
 abbrev pub PartsHaveOneLength : Type 0

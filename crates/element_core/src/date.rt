@@ -11,7 +11,7 @@ use crate::year::Year;
 use jiff::civil::Date;
 
 /// The number of two ASCII digits.
-fn two_digits(tens: u8, ones: u8) -> u8
+pub(crate) fn two_digits(tens: u8, ones: u8) -> u8
     requires tens { IsInRange 48 57 tens }
     requires ones { IsInRange 48 57 ones }
     ensures value { result ≡ 10 * (tens - 48) + (ones - 48) }
@@ -69,7 +69,7 @@ fn day_in_month(year: u16, month: u8, day: u8) -> Option<Date>
 }
 
 /// The day that six digits name: year, month and day, two digits each.
-fn named_day(six: &[u8], reference: Year) -> Option<Date>
+pub(crate) fn named_day(six: &[u8], reference: Year) -> Option<Date>
     requires length { length six.now ≡ 6 }
     requires digits { AreSixDigits six.now }
     ensures { IsDay result (day_named six.now reference) }
@@ -79,14 +79,14 @@ fn named_day(six: &[u8], reference: Year) -> Option<Date>
 }
 
 /// Whether each byte is an ASCII digit.
-fn are_digits(text: &[u8]) -> bool
+pub(crate) fn are_digits(text: &[u8]) -> bool
     ensures { result ≡ list_all is_ascii_digit text.now }
 {
     text.iter().all(|byte| byte.is_ascii_digit())
 }
 
 /// Whether a text is six ASCII digits.
-fn is_six_digits(text: &[u8]) -> bool
+pub(crate) fn is_six_digits(text: &[u8]) -> bool
     ensures { result ≡ is_six_digits text.now }
 {
     text.len() == 6 && are_digits(text)

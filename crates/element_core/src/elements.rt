@@ -1,20 +1,22 @@
 //! Lists of elements.
 
-ghost use Rattle.std.specs.Prelude.{◌≡◌, ◌+◌, ◌<◌, ◌≤◌, [], ◌∷◌, ◌++◌, length, slice_get, List, Some, IfOk, IfErr, IsOk, OnOk, None, Err, IsTrue};
+ghost use Rattle.std.specs.Prelude.{◌≡◌, ◌+◌, ◌<◌, ◌≤◌, [], ◌∷◌, ◌++◌, length, slice_get, List, Some, IfOk, IfErr, IsOk, OnErr, OnOk, None, Err, IsTrue, string_bytes};
 ghost use Rattle.element_core.specs.Days.{IsDay};
 ghost use Rattle.element_core.specs.Rows.{entry_in};
-ghost use Rattle.element_core.specs.Elements.{Entry, IsElements, FirstFault, canonical, entry_day, gtin_entry, hri, is_printable};
+ghost use Rattle.element_core.specs.Elements.{Entry, IsElements, FirstFault, canonical, entry_day, entry_time, gtin_entry, hri, is_printable};
 
-use crate::draft::{Cuts, append, gap_length};
-use crate::element::{Element, day_of_element};
+use crate::draft::{append, gap_length};
+use crate::element::{Element, day_of_element, time_of_element};
 use crate::fault::ElementFault;
 use crate::front::element_at;
-use crate::hri::line_of;
+use crate::hri::{add_line_of, line_of};
 use crate::pairs::{Pair, first_fault, needs_separator};
+use crate::shown_list::{count_of, element_of};
 use crate::text::{Text, copied};
 use crate::year::Year;
 use arrayvec::ArrayString;
 use digits_core::Gtin;
+use std::alloc::AllocError;
 use std::marker::Model;
 
 /// A valid list of elements under its reference year.
@@ -22,17 +24,18 @@ use std::marker::Model;
 pub struct Elements {
     /// The canonical text.
     text: Text,
-    /// Where the elements stand in it.
-    cuts: Cuts,
     year: Year,
 }
+
+// Its size in bytes is paid at each hand-over of an answer.
+const _: () = prove!(size_of::<Elements>() == 208);
 
 impl Model for Elements {
     ghost use Rattle.element_core.specs.Elements.{Listing};
 
     ghost Value = { Listing };
 
-    ghost use Rattle.element_core.specs.Cuts.{listing, IsListing};
+    ghost use Rattle.element_core.specs.Listings.{listing, IsListing};
 
     ghost view = { listing };
 
@@ -72,20 +75,15 @@ impl Elements {
             return Err(ElementFault::Empty);
         }
         let mut out = Text::new();
-        let mut cuts = Cuts::new();
         let mut separate = false;
         let mut rest = text;
         while !rest.is_empty() {
             let front = element_at(year, text.len() - rest.len(), rest)?;
-            append(&mut out, &mut cuts, separate, front.ai, front.value);
+            append(&mut out, separate, front.ai, front.value);
             separate = !front.family.predefined;
             rest = front.rest;
         }
-        Ok(Elements {
-            text: out,
-            cuts,
-            year,
-        })
+        Ok(Elements { text: out, year })
     }
 
     /// The elements of pairs. Of no pairs the fault is `Empty`; else it is that of the first faulty
@@ -102,7 +100,6 @@ impl Elements {
             return Err(fault);
         }
         let mut out = Text::new();
-        let mut cuts = Cuts::new();
         let mut separate = false;
         for pair in pairs {
             let ai = pair.ai.as_slice();
@@ -110,14 +107,10 @@ impl Elements {
             if 192 < out.len() + gap_length(separate) + ai.len() + value.len() {
                 return Err(ElementFault::TooLong);
             }
-            append(&mut out, &mut cuts, separate, ai, value);
+            append(&mut out, separate, ai, value);
             separate = needs_separator(ai);
         }
-        Ok(Elements {
-            text: out,
-            cuts,
-            year,
-        })
+        Ok(Elements { text: out, year })
     }
 
     /// The one element of a GTIN: AI 01 and its 14 digits.
@@ -127,9 +120,8 @@ impl Elements {
         ensures reads { IsElements year (canonical result.list) result.list }
     {
         let mut text = Text::new();
-        let mut cuts = Cuts::new();
-        append(&mut text, &mut cuts, false, b"01", &gtin.digits14());
-        Elements { text, cuts, year }
+        append(&mut text, false, b"01", &gtin.digits14());
+        Elements { text, year }
     }
 
     /// How many elements there are.
@@ -137,7 +129,7 @@ impl Elements {
         ensures count { result ≡ length self.now.list }
         ensures few { result ≤ 48 }
     {
-        self.cuts.len()
+        count_of(self.text.as_slice())
     }
 
     /// The reference year.
@@ -162,15 +154,16 @@ impl Elements {
         requires { i < length self.now.list }
         ensures entry { slice_get self.now.list i ≡ Some (entry_in result) }
         ensures date { IsDay result.date (entry_day self.now.year (entry_in result)) }
+        ensures time { result.time ≡ entry_time (entry_in result) }
     {
-        let cut = self.cuts[i];
-        let text = self.text.as_slice();
-        let ai = &text[cut.start as usize..cut.value as usize];
-        let value = &text[cut.value as usize..cut.end as usize];
+        let Some(front) = element_of(self.text.as_slice(), i) else {
+            unreachable!();
+        };
         Element {
-            ai: copied(ai),
-            value: copied(value),
-            date: day_of_element(ai, value, self.year),
+            ai: copied(front.ai),
+            value: copied(front.value),
+            date: day_of_element(front.ai, front.value, self.year),
+            time: time_of_element(front.ai, front.value),
         }
     }
 
@@ -178,6 +171,19 @@ impl Elements {
     pub fn hri(&self) -> ArrayString<288>
         ensures { result.bytes ≡ hri self.now.list }
     {
-        line_of(self.text.as_slice(), self.cuts.as_slice())
+        line_of(self.text.as_slice())
+    }
+
+    /// Puts the human-readable interpretation at the end of a text. Where there is no memory for it, the
+    /// text stays as it was.
+    pub fn push_hri(&self, line: &mut String) -> Result<(), AllocError>
+        ensures ok { OnOk result (string_bytes line.new ≡ string_bytes line.old ++ hri self.now.list) }
+        ensures err { OnErr result (string_bytes line.new ≡ string_bytes line.old) }
+    {
+        let text = self.text.as_slice();
+        // An element has four bytes at least with its separator, and the line two parentheses for it.
+        line.reserve(text.len() + (text.len() + 1) / 4 * 2)?;
+        add_line_of(line, text);
+        Ok(())
     }
 }

@@ -4,8 +4,8 @@ ghost use Rattle.std.specs.Prelude.{◌≡◌, option_map, length, IfSome, ◌�
 ghost use Rattle.element_core.specs.Table.{row_at};
 ghost use Rattle.element_core.specs.Families.{is_in_family, row_with, row_by};
 
+use crate::first_digits::families_with;
 use crate::part::Part;
-use crate::table::all_families;
 
 /// AIs that differ in digits alone, each of whose digits lies between those of the least and the greatest.
 #[derive(Clone, Copy)]
@@ -52,5 +52,8 @@ pub(crate) fn family_at(text: &[u8]) -> Option<AiFamily>
     ensures short { IfSome result (λ f. length f.least.now ≤ 4) }
     ensures few { IfSome result (λ f. length f.parts.now ≤ 2) }
 {
-    first_with(all_families(), text)
+    match text {
+        [first, second, ..] => first_with(families_with(*first, *second), text),
+        _ => None,
+    }
 }

@@ -15,13 +15,13 @@ pub enum ElementFault {
     Empty,
     /// No AI of the table stands here.
     UnknownAi(usize),
-    /// The value is too short; in a pair, of a wrong length.
+    /// The value is too short, or its length is odd where it is to be even; in a pair, any wrong length.
     ValueLength(usize),
     /// The value has a byte that its part does not allow.
     ValueCharacter(usize),
     /// The value's check digit is wrong.
     ValueCheckDigit(usize),
-    /// The value names no day.
+    /// There is no such day or time as the value names.
     ValueDate(usize),
     /// The value is longer than its greatest length.
     MissingSeparator(usize),

@@ -1,9 +1,11 @@
 //! The element at the front of a text.
 
-ghost use Rattle.std.specs.Prelude.{◌≡◌, ◌+◌, ◌≤◌, length, take, drop, [], Some, IfOk, IfErr, is_some, ◌<◌};
+ghost use Rattle.std.specs.Prelude.{◌≡◌, ◌+◌, ◌≤◌, length, take, drop, [], Some, None, IfOk, IfErr, IfSome, MatchOption, is_some, ◌<◌};
 ghost use Rattle.element_core.specs.Elements.{Entry, field_of, fault_at, value_in};
 ghost use Rattle.element_core.specs.Fronts.{Begins, after_separator};
-ghost use Rattle.element_core.specs.Table.{predefined_length};
+ghost use Rattle.element_core.specs.Shown.{shown_elements};
+ghost use Rattle.element_core.specs.Table.{predefined_length, row_at};
+ghost use Rattle.element_core.specs.Walks.{IsFront, elements_from};
 ghost use Rattle.element_core.specs.Families.{family_of, row_with};
 
 use crate::family::{AiFamily, family_at};
@@ -68,6 +70,27 @@ fn value_of<'a>(family: &AiFamily, text: &'a [u8]) -> (&'a [u8], &'a [u8])
     text.split_at(value_length(family, text))
 }
 
+/// The AI, the value and the rest of a text that begins with an AI of the table; the value need not be
+/// one that the AI may have.
+pub(crate) fn front_of(text: &[u8]) -> Option<Front<'_>>
+    ensures front { MatchOption result (row_at text.now ≡ None) (λ f. IsFront text.now f) }
+    ensures elements { shown_elements text.now ≡ elements_from result }
+    ensures few { IfSome result (λ f. length f.family.parts.now ≤ 2) }
+    ensures within { IfSome result (λ f. length f.ai.now + length f.value.now + length f.rest.now ≤ length text.now) }
+    ensures some { IfSome result (λ f. 0 < length f.ai.now) }
+{
+    let family = family_at(text)?;
+    let (ai, tail) = text.split_at(family.least.len());
+    let (value, after) = value_of(&family, tail);
+    let rest = skip_separator(after);
+    Some(Front {
+        family,
+        ai,
+        value,
+        rest,
+    })
+}
+
 /// The element at the front of a text, or the fault there.
 pub(crate) fn element_at<'a>(
     year: Year,
@@ -80,20 +103,12 @@ pub(crate) fn element_at<'a>(
     ensures predefined { IfOk result (λ f. f.family.predefined ≡ is_some (predefined_length f.ai.now)) }
     ensures shorter { IfOk result (λ f. length f.rest.now < length text.now) }
 {
-    let Some(family) = family_at(text) else {
+    let Some(front) = front_of(text) else {
         return Err(ElementFault::UnknownAi(place));
     };
-    let (ai, tail) = text.split_at(family.least.len());
-    let (value, after) = value_of(&family, tail);
     let too_long = ElementFault::MissingSeparator(place);
-    if let Some(fault) = row_fault(year, place, too_long, family.parts, value) {
-        return Err(fault);
+    match row_fault(year, place, too_long, front.family.parts, front.value) {
+        Some(fault) => Err(fault),
+        None => Ok(front),
     }
-    let rest = skip_separator(after);
-    Ok(Front {
-        family,
-        ai,
-        value,
-        rest,
-    })
 }

@@ -1,11 +1,12 @@
 //! The human-readable interpretation (GS1 General Specifications, section 4.14).
 
-ghost use Rattle.std.specs.Prelude.{◌≡◌, ◌+◌, ◌<◌, ◌≤◌, ◌∷◌, ◌++◌, length, All};
+ghost use Rattle.std.specs.Prelude.{◌≡◌, ◌+◌, ◌<◌, ◌≤◌, ◌∷◌, ◌++◌, length, All, string_bytes, string_capacity, string_len};
 ghost use Rattle.arrayvec.specs.ArrayString.{array_string_len};
-ghost use Rattle.element_core.specs.Drafts.{AreCuts, elements_in};
 ghost use Rattle.element_core.specs.Elements.{hri};
+ghost use Rattle.element_core.specs.Shown.{shown_elements};
+ghost use Rattle.element_core.specs.Walks.{AreAscii};
 
-use crate::draft::Cut;
+use crate::front::front_of;
 use arrayvec::ArrayString;
 
 /// Puts ASCII bytes at the end.
@@ -32,18 +33,58 @@ fn push_element(line: &mut ArrayString<288>, ai: &[u8], value: &[u8])
     push_bytes(line, value);
 }
 
-/// The line of the elements that stand in an ASCII text.
-pub(crate) fn line_of(text: &[u8], cuts: &[Cut]) -> ArrayString<288>
-    requires ascii { All (λ b. b < 128) text.now }
-    requires cuts { AreCuts (length text.now) cuts.now }
-    requires room { length (hri (elements_in text.now cuts.now)) ≤ 288 }
-    ensures { result.bytes ≡ hri (elements_in text.now cuts.now) }
+/// The line of the elements that stand in a text.
+pub(crate) fn line_of(text: &[u8]) -> ArrayString<288>
+    requires ascii { AreAscii (shown_elements text.now) }
+    requires room { length (hri (shown_elements text.now)) ≤ 288 }
+    ensures { result.bytes ≡ hri (shown_elements text.now) }
 {
     let mut line = ArrayString::new();
-    for cut in cuts {
-        let ai = &text[cut.start as usize..cut.value as usize];
-        let value = &text[cut.value as usize..cut.end as usize];
-        push_element(&mut line, ai, value);
+    let mut rest = text;
+    while let Some(front) = front_of(rest) {
+        push_element(&mut line, front.ai, front.value);
+        rest = front.rest;
     }
     line
+}
+
+/// Puts ASCII bytes at the end of a text that has room for them.
+fn add_bytes(line: &mut String, bytes: &[u8])
+    requires ascii { All (λ b. b < 128) bytes.now }
+    requires room { string_len line.old + length bytes.now ≤ string_capacity line.old }
+    ensures bytes { string_bytes line.new ≡ string_bytes line.old ++ bytes.now }
+    ensures len { string_len line.new ≡ string_len line.old + length bytes.now }
+    ensures capacity { string_capacity line.old ≤ string_capacity line.new }
+{
+    for b in bytes {
+        let _ = line.push(*b as char);
+    }
+}
+
+/// Puts an element at the end of a text that has room for it: its AI in parentheses, then its value.
+fn add_element(line: &mut String, ai: &[u8], value: &[u8])
+    requires ai { All (λ b. b < 128) ai.now }
+    requires value { All (λ b. b < 128) value.now }
+    requires room { string_len line.old + length ai.now + length value.now + 2 ≤ string_capacity line.old }
+    ensures bytes { string_bytes line.new ≡ string_bytes line.old ++ (40 ∷ ai.now ++ (41 ∷ value.now)) }
+    ensures len { string_len line.new ≡ string_len line.old + length ai.now + length value.now + 2 }
+    ensures capacity { string_capacity line.old ≤ string_capacity line.new }
+{
+    add_bytes(line, b"(");
+    add_bytes(line, ai);
+    add_bytes(line, b")");
+    add_bytes(line, value);
+}
+
+/// Puts the line of the elements that stand in a text at the end of a text that has room for it.
+pub(crate) fn add_line_of(line: &mut String, text: &[u8])
+    requires ascii { AreAscii (shown_elements text.now) }
+    requires room { string_len line.old + length (hri (shown_elements text.now)) ≤ string_capacity line.old }
+    ensures { string_bytes line.new ≡ string_bytes line.old ++ hri (shown_elements text.now) }
+{
+    let mut rest = text;
+    while let Some(front) = front_of(rest) {
+        add_element(line, front.ai, front.value);
+        rest = front.rest;
+    }
 }

@@ -1,8 +1,8 @@
 //! Laws of the definitions: each function does nothing, and its contract is the law.
 
 ghost use Rattle.element_core.specs.Days.{DayZero, YearWindow};
-ghost use Rattle.element_core.specs.Table.{NoAiBeginsAnother, FirstDigitsDecide, PartsHaveOneLength};
-ghost use Rattle.element_core.specs.Elements.{CanonicalReads, DatedElements, EachText, GtinReads, OneAnswer};
+ghost use Rattle.element_core.specs.Table.{CountsFirstRows, NoAiBeginsAnother, FirstDigitsDecide, PartsHaveOneLength};
+ghost use Rattle.element_core.specs.Elements.{CanonicalReads, DatedElements, EachText, GtinReads, OneAnswer, ReadAsBefore, TimedElements};
 ghost use Rattle.element_core.specs.Pairs.{FaultlessPairs, PairLengths, PairsAsTexts, UnknownPairs};
 ghost use Rattle.element_core.specs.Fronts.{ReadsPieces};
 
@@ -42,7 +42,8 @@ pub fn reads_pieces()
     ensures { ReadsPieces }
 {}
 
-/// Every part of a value but the last has one length, and a date is the only part of its value.
+/// Every part of a value but the last has one length. A part that names a day is the only part of
+/// its value, and has 6 digits, or 8, 10 or 12 where it names a time too.
 pub fn parts_have_one_length()
     ensures { PartsHaveOneLength }
 {}
@@ -58,9 +59,21 @@ pub fn day_zero()
     ensures { DayZero }
 {}
 
-/// An element has a date exactly where its AI is one of a date.
+/// An element has a date exactly where its AI is one of a day.
 pub fn dated_elements()
     ensures { DatedElements }
+{}
+
+/// An element has a time exactly where its AI is 7003 or 8008.
+pub fn timed_elements()
+    ensures { TimedElements }
+{}
+
+/// Each text that was read by the table of the first edition, which has neither AI 7003 nor 8008
+/// and 405 others, is read as the same list.
+pub fn read_as_before()
+    ensures lists { ReadAsBefore }
+    ensures table { CountsFirstRows }
 {}
 
 /// Pairs have no fault exactly where they are the elements of their canonical text.

@@ -7,6 +7,7 @@ mod element;
 mod elements;
 mod family;
 mod fault;
+mod first_digits;
 mod formats;
 mod front;
 mod hri;
@@ -14,8 +15,10 @@ mod laws;
 mod pairs;
 mod part;
 mod row;
+mod shown_list;
 mod table;
 mod text;
+mod time;
 mod value;
 mod year;
 
@@ -24,11 +27,11 @@ pub use elements::Elements;
 pub use fault::ElementFault;
 pub use laws::{
     canonical_reads, dated_elements, day_zero, each_text, faultless_pairs, first_digits_decide,
-    gtin_reads, no_ai_begins_another, one_answer, pair_faults, parts_have_one_length, reads_pieces,
-    year_window,
+    gtin_reads, no_ai_begins_another, one_answer, pair_faults, parts_have_one_length,
+    read_as_before, reads_pieces, timed_elements, year_window,
 };
 pub use pairs::Pair;
-pub use part::{Part, PartKind};
+pub use part::{Part, PartFormat};
 pub use row::{AiRow, ai_row};
 pub use text::Text;
 pub use year::Year;

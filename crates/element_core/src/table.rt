@@ -6,12 +6,12 @@ ghost use Rattle.element_core.specs.Families.{family_of};
 
 use crate::family::AiFamily;
 use crate::formats::{
-    N1_8, N1_15, N2, N3, N6, N6_DATE, N13_CHECK, N14_CHECK, N17_CHECK, N18_CHECK, X0_17, X1_20,
-    X1_25, X1_30, X1_90,
+    N1_8, N1_15, N2, N3, N6, N6_DATE, N8_TO_12_DATE_AND_TIME, N10_DATE_AND_TIME, N13_CHECK,
+    N14_CHECK, N17_CHECK, N18_CHECK, X0_17, X1_20, X1_25, X1_30, X1_90,
 };
 
 /// The table, by the AIs in rising order.
-const FAMILIES: [AiFamily; 34] = [
+const FAMILIES: [AiFamily; 36] = [
     AiFamily {
         least: b"00",
         greatest: b"00",
@@ -187,9 +187,21 @@ const FAMILIES: [AiFamily; 34] = [
         predefined: false,
     },
     AiFamily {
+        least: b"7003",
+        greatest: b"7003",
+        parts: &[N10_DATE_AND_TIME],
+        predefined: false,
+    },
+    AiFamily {
         least: b"8005",
         greatest: b"8005",
         parts: &[N6],
+        predefined: false,
+    },
+    AiFamily {
+        least: b"8008",
+        greatest: b"8008",
+        parts: &[N8_TO_12_DATE_AND_TIME],
         predefined: false,
     },
     AiFamily {

@@ -1,26 +1,36 @@
 //! The tests of an element's value.
 
 ghost use Rattle.std.specs.Prelude.{◌≡◌, ◌≤◌, [], length, take, drop};
-ghost use Rattle.element_core.specs.Elements.{belongs, has_characters, has_check_digit, has_date, each_part, row_fault, value_fault};
+ghost use Rattle.element_core.specs.Elements.{belongs, has_characters, has_check_digit, has_date, has_even_length, each_part, row_fault, value_fault};
 ghost use Rattle.digits_core.specs.Digits.{digits_of, weighted};
 ghost use Rattle.element_core.specs.Table.{least_of, greatest_of};
 ghost use Rattle.element_core.specs.PartTests.{passes};
 
 use crate::date::date_of;
 use crate::fault::ElementFault;
-use crate::part::{Part, PartKind};
+use crate::part::{Part, PartFormat};
+use crate::time::is_day_and_time;
 use crate::year::Year;
 
-/// Whether a part of this kind may have the byte.
-fn belongs(kind: PartKind, b: u8) -> bool
-    ensures { result ≡ belongs kind b }
+/// Whether a part of this format may have the byte.
+fn belongs(format: PartFormat, b: u8) -> bool
+    ensures { result ≡ belongs format b }
 {
-    match kind {
-        PartKind::Digits => matches!(b, b'0'..=b'9'),
-        PartKind::Characters => {
+    match format {
+        PartFormat::Alphanumeric => {
             matches!(b, b'!'..=b'"' | b'%'..=b'?' | b'A'..=b'Z' | b'_' | b'a'..=b'z')
         }
+        PartFormat::Numeric | PartFormat::Date | PartFormat::DateAndTime => {
+            matches!(b, b'0'..=b'9')
+        }
     }
+}
+
+/// Whether the length is even, where it is to be.
+fn has_even_length(part: &Part, bytes: &[u8]) -> bool
+    ensures { result ≡ has_even_length part.now bytes.now }
+{
+    !part.even || bytes.len() % 2 == 0
 }
 
 /// Whether each byte belongs to the part.
@@ -28,7 +38,7 @@ fn has_characters(part: &Part, bytes: &[u8]) -> bool
     ensures { result ≡ has_characters part.now bytes.now }
 {
     for b in bytes {
-        if !belongs(part.kind, *b) {
+        if !belongs(part.format, *b) {
             return false;
         }
     }
@@ -61,12 +71,16 @@ fn has_check_digit(part: &Part, bytes: &[u8]) -> bool
     !part.check || weighted_sum(bytes) % 10 == 0
 }
 
-/// Whether there is such a day, where the part is a date.
+/// Whether there is such a day and such a time, where the part names them.
 fn has_date(year: Year, part: &Part, bytes: &[u8]) -> bool
     requires { length bytes.now ≤ 255 }
     ensures { result ≡ has_date year part.now bytes.now }
 {
-    !part.date || date_of(bytes, year).is_some()
+    match part.format {
+        PartFormat::Numeric | PartFormat::Alphanumeric => true,
+        PartFormat::Date => date_of(bytes, year).is_some(),
+        PartFormat::DateAndTime => is_day_and_time(bytes, year),
+    }
 }
 
 /// What belongs to the part, and what is after it.
@@ -86,12 +100,14 @@ fn split<'a>(part: &Part, value: &'a [u8]) -> (&'a [u8], &'a [u8])
 /// A test of each part of a value.
 #[derive(Clone, Copy)]
 pub enum PartTest {
+    /// Its length is even, where it is to be.
+    EvenLength,
     /// It has the characters that it may have.
     Characters,
     /// Its check digit is right.
     CheckDigit,
-    /// Where it is a date, it names a day under the reference year.
-    Date(Year),
+    /// There are the day and the time that it is to name, under the reference year.
+    Dates(Year),
 }
 
 /// Whether the bytes of a part pass a test.
@@ -100,9 +116,10 @@ fn passes(test: &PartTest, part: &Part, bytes: &[u8]) -> bool
     ensures { result ≡ passes test.now part.now bytes.now }
 {
     match test {
+        PartTest::EvenLength => has_even_length(part, bytes),
         PartTest::Characters => has_characters(part, bytes),
         PartTest::CheckDigit => has_check_digit(part, bytes),
-        PartTest::Date(year) => has_date(*year, part, bytes),
+        PartTest::Dates(year) => has_date(*year, part, bytes),
     }
 }
 
@@ -131,7 +148,7 @@ fn value_fault(year: Year, place: usize, parts: &[Part], value: &[u8]) -> Option
     if !each_part(&PartTest::CheckDigit, parts, value) {
         return Some(ElementFault::ValueCheckDigit(place));
     }
-    if !each_part(&PartTest::Date(year), parts, value) {
+    if !each_part(&PartTest::Dates(year), parts, value) {
         return Some(ElementFault::ValueDate(place));
     }
     None
@@ -161,7 +178,7 @@ pub(crate) fn greatest_length(parts: &[Part]) -> usize
     sum
 }
 
-/// The first test that a value fails, where `too_long` is the fault of one that is too long.
+/// The first test that a value fails, its length first, where `too_long` is the fault of one that is too long.
 pub(crate) fn row_fault(
     year: Year,
     place: usize,
@@ -177,6 +194,9 @@ pub(crate) fn row_fault(
     }
     if greatest_length(parts) < value.len() {
         return Some(too_long);
+    }
+    if !each_part(&PartTest::EvenLength, parts, value) {
+        return Some(ElementFault::ValueLength(place));
     }
     value_fault(year, place, parts, value)
 }

@@ -29,6 +29,7 @@ kind_numbered n =
     else if n == 2 then Some (kind.Gtin gtin_kind.Ean8)
     else if n == 3 then Some (kind.Gtin gtin_kind.UpcE)
     else if n == 4 then Some kind.Gs1128
+    else if n == 5 then Some (kind.Gtin gtin_kind.Itf14)
     else None
 
 -- one cell, in dots
@@ -41,6 +42,7 @@ gtin_label gtin_kind.Ean13 gtin = label.Ean13 gtin
 gtin_label gtin_kind.UpcA gtin = label.UpcA gtin
 gtin_label gtin_kind.Ean8 gtin = label.Ean8 gtin
 gtin_label gtin_kind.UpcE gtin = label.UpcE gtin
+gtin_label gtin_kind.Itf14 gtin = label.Itf14 gtin
 
 -- the bytes are the image of the sheet of this one label, or the line of why it is not printed
 abbrev pub IsPrinted : Label → Cells → List ℕ → Type 0

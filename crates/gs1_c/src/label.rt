@@ -20,6 +20,8 @@ pub enum GtinKind {
     Ean8,
     /// A UPC-E.
     UpcE,
+    /// An ITF-14.
+    Itf14,
 }
 
 /// What a text is printed as.
@@ -41,6 +43,7 @@ fn kind_numbered(number: u32) -> Option<LabelKind>
         2 => Some(LabelKind::Gtin(GtinKind::Ean8)),
         3 => Some(LabelKind::Gtin(GtinKind::UpcE)),
         4 => Some(LabelKind::Gs1128),
+        5 => Some(LabelKind::Gtin(GtinKind::Itf14)),
         _ => None,
     }
 }
@@ -54,6 +57,7 @@ fn gtin_label(kind: GtinKind, gtin: Gtin) -> Label
         GtinKind::UpcA => Label::UpcA(gtin),
         GtinKind::Ean8 => Label::Ean8(gtin),
         GtinKind::UpcE => Label::UpcE(gtin),
+        GtinKind::Itf14 => Label::Itf14(gtin),
     }
 }
 

@@ -85,8 +85,8 @@ pub extern "C" fn gs1_c_row(widths: &[u16], year: u16, out: &mut [u8]) -> usize
 }
 
 /// The image of a label as PBM (netpbm, pbm(5)), of `width` by `height` dots, with modules of
-/// `module_dots` dots; or why it is not printed. The kinds are, of a GTIN, 0 EAN-13, 1 UPC-A, 2 EAN-8 and
-/// 3 UPC-E, and of an element string 4 GS1-128.
+/// `module_dots` dots; or why it is not printed. The kinds are, of a GTIN, 0 EAN-13, 1 UPC-A, 2 EAN-8,
+/// 3 UPC-E and 5 ITF-14, and of an element string 4 GS1-128.
 ///
 /// A module is 1 to 8 dots, the width 1 to 4,096 and the height more than two modules and at most 1,024;
 /// else `refused 25 BadGrid`. The symbol begins after its nominal left quiet zone, and its bars stand in

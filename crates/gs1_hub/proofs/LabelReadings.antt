@@ -34,6 +34,7 @@ module _ (checked : GtinsAreChecked) (gtin : GtinReads) (canonical : CanonicalRe
   by_kind kind.UpcA field l h = of_gtin label.UpcA (λ g r. r) field l h
   by_kind kind.Ean8 field l h = of_gtin label.Ean8 (λ g r. r) field l h
   by_kind kind.UpcE field l h = of_gtin label.UpcE (λ g r. r) field l h
+  by_kind kind.Itf14 field l h = of_gtin label.Itf14 (λ g r. r) field l h
   by_kind kind.Gs1128 field l h = of_elements (spelled_text field) l h
 
   by_name : (o : Option PrintKind) (field : List ℕ) (l : Label) → IsLabelBy year o field (Ok l) → Says year l

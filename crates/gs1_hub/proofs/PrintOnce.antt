@@ -34,6 +34,7 @@ module _ (one : OneAnswer) (year : ℕ) where
   by_kind kind.UpcA field a b h k = gtin_label label.UpcA field a b h k
   by_kind kind.Ean8 field a b h k = gtin_label label.Ean8 field a b h k
   by_kind kind.UpcE field a b h k = gtin_label label.UpcE field a b h k
+  by_kind kind.Itf14 field a b h k = gtin_label label.Itf14 field a b h k
   by_kind kind.Gs1128 field a b h k = element_label (spelled_text field) a b h k
 
   by_name : (o : Option PrintKind) (field : List ℕ) (a b : Label) → IsLabelBy year o field (Ok a) → IsLabelBy year o field (Ok b) → a ≡ b

@@ -53,18 +53,26 @@ Asks (Some p) a = AsksIn p.0 p.1 a
 abbrev pub WordsAsk : List Text → Asked → Type 0
 WordsAsk words a = (fault_of hub_app words ≡ []) × Asks (subcommand_of hub_app words) a
 
+-- help is asked for, or the version
+abbrev pub IsRequest : ErrorKind → Type 0
+IsRequest k = (k ≡ kind.DisplayHelp) ⊎ (k ≡ kind.DisplayVersion)
+
 -- `clap` finds a fault in the words, other than that they ask for help
 abbrev pub AreFaulty : List Text → Type 0
-AreFaulty words = (k : ErrorKind) × IsAmong k (fault_of hub_app words) × (k ≢ kind.DisplayHelp)
+AreFaulty words = (k : ErrorKind) × IsAmong k (fault_of hub_app words) × (IsRequest k → ⊥)
+
+-- they ask for help
+abbrev pub AskForHelp : List Text → Type 0
+AskForHelp words = (k : ErrorKind) × IsAmong k (fault_of hub_app words) × IsRequest k
 
 -- what each fault says of the words
 abbrev pub Explains : List Text → WordsFault → Type 0
 Explains words fault.Words = AreFaulty words
-Explains words (fault.Help text) = IsAmong kind.DisplayHelp (fault_of hub_app words)
+Explains words (fault.Help text) = AskForHelp words
 Explains words fault.NoMemory = ⊤
 
 -- the same by the kind of the error
 abbrev pub FaultOfKind : ErrorKind → WordsFault → Type 0
-FaultOfKind k fault.Words = (k ≢ kind.OutOfMemory) × (k ≢ kind.DisplayHelp)
-FaultOfKind k (fault.Help text) = k ≡ kind.DisplayHelp
-FaultOfKind k fault.NoMemory = (k ≡ kind.OutOfMemory) ⊎ (k ≡ kind.DisplayHelp)
+FaultOfKind k fault.Words = (k ≢ kind.OutOfMemory) × (IsRequest k → ⊥)
+FaultOfKind k (fault.Help text) = IsRequest k
+FaultOfKind k fault.NoMemory = (k ≡ kind.OutOfMemory) ⊎ IsRequest k

@@ -7,11 +7,12 @@ use Rattle.clap.specs.declared.builder.value_parser.ValueParser.TheVariants as v
 use Rattle.line_core.specs.Numbers.{most_columns, most_dots, most_height, most_rows, most_width}
 use Rattle.gs1_hub.specs.Numbers.{IsReferenceYear, first_year, last_year, most_lanes, most_workers}
 
--- `--name N`, which is required and lies from `least` to `most`
+-- `--name N`, which is required and lies from `least` to `most`; the help has one name for N
 abbrev pub number_rule : Text → ℕ → ℕ → Rule
 number_rule name least most = record (new_rule name) {
   long = Some name;
   action = Some Set;
+  value_names = 1;
   required = true;
   parser = Some (vp.Signed (pos least) (pos most));
 }
@@ -51,9 +52,9 @@ lanes_app = with_rule (with_rule (with_rule (new_app (codes "lanes")) (number_ru
 abbrev pub scan_app : App
 scan_app = with_rule (with_rule (with_places (with_cell (new_app (codes "scan")))) (number_rule (codes "workers") 1 most_workers)) year_rule
 
--- a command is wanted, and there is no command `help`
+-- a command is wanted, there is no command `help`, and there is a version
 abbrev pub hub_top : App
-hub_top = let fresh = new_app (codes "gs1_hub") in record fresh { top = record fresh.top { disable_help_subcommand = true; subcommand_required = true } }
+hub_top = let fresh = new_app (codes "gs1_hub") in record fresh { top = record fresh.top { has_version = true; disable_help_subcommand = true; subcommand_required = true } }
 
 -- the program with the commands that take texts
 abbrev pub text_app : App

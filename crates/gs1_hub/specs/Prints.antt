@@ -6,7 +6,6 @@ use Rattle.sheet_core.specs.Drawing.{ArePrinted, IsSheetFault, cell_count}
 use Rattle.sheet_core.specs.Grids.{Cells, IsGrid}
 use Rattle.sheet_core.specs.Labels.{IsPrintable}
 use Rattle.sheet_core.specs.pbm.Images.{pbm_of}
-use Rattle.sheet_core.specs.declared.fault.PrintFault.TheVariants as print
 use Rattle.sheet_core.specs.declared.fault.SheetFault.TheVariants as sheet
 use Rattle.sheet_core.specs.declared.label.Label.{Label}
 use Rattle.line_core.specs.Grids.{cells_of}

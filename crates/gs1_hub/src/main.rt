@@ -1,14 +1,15 @@
 //! The program: GS1 bar codes from the command line.
 #![tactic(auto)]
 
-ghost use Rattle.std.specs.Prelude.{◌≡◌, IfOk};
+ghost use Rattle.std.specs.Prelude.{◌≡◌, IfOk, false};
 ghost use Rattle.std.specs.Process.{exit_status};
 ghost use Rattle.gs1_hub.specs.Commands.{Ran, command_of};
-ghost use Rattle.gs1_hub.specs.Faults.{status_of, words_status};
+ghost use Rattle.gs1_hub.specs.Faults.{TookHelp, status_of, words_status};
 
 mod check;
 mod command_line;
 mod fault;
+mod help;
 mod lanes;
 mod laws;
 mod options;
@@ -20,6 +21,7 @@ mod words;
 
 use crate::check::run_check;
 use crate::fault::CommandFault;
+use crate::help::write_help;
 use crate::lanes::run_lanes;
 use crate::print::run_print;
 use crate::scan::run_scan;
@@ -65,16 +67,16 @@ fn finish(rt: &impl Eprint, ran: Result<(), CommandFault>) -> io::Result<ExitCod
     }
 }
 
-/// The exit status where the words ask for no command. Help is told on standard output, and a
-/// refusal on standard error.
-fn explain<R: Print + Eprint>(rt: &R, fault: &WordsFault) -> io::Result<ExitCode>
-    ensures { IfOk result (λ code. exit_status code ≡ words_status fault.now) }
+/// The exit status where the words ask for no command. Help goes to the sink, and a refusal, of the words
+/// or of the writing, is told on standard error.
+fn explain<W: Sink>(rt: &impl Eprint, fault: &WordsFault, sink: &mut W) -> io::Result<ExitCode>
+    ensures status { W.failed sink.old ≡ false
+        → IfOk result (λ code. exit_status code ≡ words_status fault.now (W.failed sink.new)) }
+    ensures took { W.failed sink.old ≡ false
+        → TookHelp fault.now (W.failed sink.new) (W.taken sink.old) (W.taken sink.new) }
 {
     match fault {
-        WordsFault::Help(text) => {
-            print!(rt; "{text}")?;
-            Ok(ExitCode::SUCCESS)
-        }
+        WordsFault::Help(text) => finish(rt, write_help(text.as_str(), sink)),
         WordsFault::Words => {
             eprintln!(rt; "{fault}")?;
             Ok(ExitCode::from(2))
@@ -102,6 +104,6 @@ fn main(rt: HostRuntime) -> io::Result<ExitCode> {
             let ran = run(&rt, rt.alloc(), asked, &mut source, &mut sink, &OpenGate);
             finish(&rt, ran)
         }
-        Err(fault) => explain(&rt, &fault),
+        Err(fault) => explain(&rt, &fault, &mut ToWriter::new(io::writer(&rt))),
     }
 }

@@ -46,7 +46,7 @@ fn write_labels<W: Sink>(
 /// Prints the labels that a source gives, as images of the sheets that they fill, or where text is
 /// asked for a line for each.
 ///
-/// The source gives CSV records of two fields: a kind, `ean13`, `upca`, `ean8` or `upce` with a GTIN,
+/// The source gives CSV records of two fields: a kind, `ean13`, `upca`, `ean8`, `upce` or `itf14` with a GTIN,
 /// or `gs1128` with an element string. A grid outside its limits is refused before any input is read.
 /// Nothing is written unless the whole input is taken and every label is printed.
 pub fn run_print<S: Source, W: Sink>(

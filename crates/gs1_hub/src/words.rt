@@ -38,7 +38,7 @@ pub enum WordsFault {
     Words,
     /// A growth was refused.
     NoMemory,
-    /// Help was asked for, and this is its text.
+    /// Help or the version was asked for, and this is its text.
     Help(String),
 }
 
@@ -165,7 +165,7 @@ fn fault_from(alloc: Global, error: &Error) -> WordsFault
 {
     match error.kind() {
         ErrorKind::OutOfMemory => WordsFault::NoMemory,
-        ErrorKind::DisplayHelp => match error.to_string(alloc) {
+        ErrorKind::DisplayHelp | ErrorKind::DisplayVersion => match error.to_string(alloc) {
             Ok(text) => WordsFault::Help(text),
             Err(_) => WordsFault::NoMemory,
         },

@@ -17,6 +17,9 @@ pub struct Delivery {
     answer: Answer,
 }
 
+// Its size in bytes is paid at the queue of results, at its lane's place and at the ring.
+const _: () = prove!(size_of::<Delivery>() == 256);
+
 impl Model for Delivery {
     ghost use Rattle.lane_core.specs.declared.job.Plain.{Plain};
 

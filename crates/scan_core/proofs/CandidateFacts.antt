@@ -1,7 +1,7 @@
 -- What is a candidate.
 use Rattle.std.proofs.Common.{◌≡◌, ◌≢◌, ◌⊎◌, ℕ, ◌%◌, ◌<◌, ◌≤◌, true, List, length, sum, Contains, refl, arith, inl, inr, length-drop, length-take}
 use Rattle.scan_core.specs.declared.carrier.Carrier.{Carrier}
-use Rattle.scan_core.specs.declared.carrier.Carrier.TheVariants.{Ean13, Ean8, UpcE, Gs1128}
+use Rattle.scan_core.specs.declared.carrier.Carrier.TheVariants.{Ean13, Ean8, UpcE, Itf14, Gs1128}
 use Rattle.scan_core.specs.Row.{IsRow, dots_of, inner}
 use Rattle.scan_core.specs.Showing.{IsCandidate}
 use Rattle.scan_core.proofs.RowFacts.{has_dark, some_dots}
@@ -11,6 +11,7 @@ pub which : (c : Carrier) → (c ≡ Gs1128) ⊎ (c ≢ Gs1128)
 which Ean13 = inr (λ e. cc)
 which Ean8 = inr (λ e. cc)
 which UpcE = inr (λ e. cc)
+which Itf14 = inr (λ e. cc)
 which Gs1128 = inl refl
 
 -- a number of runs is that of one such carrier, and has one width
@@ -18,12 +19,19 @@ pub one_fixed : (c d : Carrier) (n N M : ℕ) → c ≢ Gs1128 → d ≢ Gs1128 
 one_fixed Ean13 Ean13 n N M p q a b = (refl, omega arith)
 one_fixed Ean8 Ean8 n N M p q a b = (refl, omega arith)
 one_fixed UpcE UpcE n N M p q a b = (refl, omega arith)
+one_fixed Itf14 Itf14 n N M p q a b = (refl, omega arith)
 one_fixed Ean13 Ean8 n N M p q a b = absurd (omega arith)
 one_fixed Ean13 UpcE n N M p q a b = absurd (omega arith)
 one_fixed Ean8 Ean13 n N M p q a b = absurd (omega arith)
 one_fixed Ean8 UpcE n N M p q a b = absurd (omega arith)
 one_fixed UpcE Ean13 n N M p q a b = absurd (omega arith)
 one_fixed UpcE Ean8 n N M p q a b = absurd (omega arith)
+one_fixed Itf14 Ean13 n N M p q a b = absurd (omega arith)
+one_fixed Itf14 Ean8 n N M p q a b = absurd (omega arith)
+one_fixed Itf14 UpcE n N M p q a b = absurd (omega arith)
+one_fixed Ean13 Itf14 n N M p q a b = absurd (omega arith)
+one_fixed Ean8 Itf14 n N M p q a b = absurd (omega arith)
+one_fixed UpcE Itf14 n N M p q a b = absurd (omega arith)
 one_fixed Gs1128 d n N M p q a b = absurd (p refl)
 one_fixed c Gs1128 n N M p q a b = absurd (q refl)
 
@@ -36,6 +44,7 @@ pub few_runs : (c : Carrier) (n N : ℕ) → IsCandidate c n N → (1 < n) × (n
 few_runs Ean13 n N a = let e = a.0 in (omega arith, omega arith, omega arith)
 few_runs Ean8 n N a = let e = a.0 in (omega arith, omega arith, omega arith)
 few_runs UpcE n N a = let e = a.0 in (omega arith, omega arith, omega arith)
+few_runs Itf14 n N a = let e = a.0 in (omega arith, omega arith, omega arith)
 few_runs Gs1128 n N a = let l = a.1 in let m = a.2 in let e = a.3 in (omega arith, omega arith, omega arith)
 
 -- a symbol is at most 1,091 modules wide
@@ -43,6 +52,7 @@ pub most_modules : (c : Carrier) (n N : ℕ) → IsCandidate c n N → N ≤ 109
 most_modules Ean13 n N a = let e = a.1 in omega arith
 most_modules Ean8 n N a = let e = a.1 in omega arith
 most_modules UpcE n N a = let e = a.1 in omega arith
+most_modules Itf14 n N a = let e = a.1 in omega arith
 most_modules Gs1128 n N a = let m = a.2 in let e = a.4 in omega arith
 
 -- a row with a candidate has runs of dark dots, and of dots at all

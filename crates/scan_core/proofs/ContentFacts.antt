@@ -3,14 +3,14 @@ use Rattle.std.proofs.Common.{◌≡◌, ◌⊎◌, ℕ, List, ◌++◌, reverse
 use Rattle.digits_core.specs.Digits.{ascii_of}
 use Rattle.ean_code.specs.Laws.{OneReading}
 use Rattle.ean_code.specs.Spelling.{IsGtinOf, IsSpelled}
-use Rattle.ean_code.specs.Symbols.{Kind, IsEanSymbol}
-use Rattle.ean_code.specs.Symbols.Kind.{Ean13 as KindEan13, Ean8 as KindEan8, UpcE as KindUpcE}
+use Rattle.ean_code.specs.Symbols.{Kind, IsNumberSymbol}
+use Rattle.ean_code.specs.Symbols.Kind.{Ean13 as KindEan13, Ean8 as KindEan8, UpcE as KindUpcE, Itf14 as KindItf14}
 use Rattle.ean_code.specs.declared.reading.Spelled.TheVariants.{BadCheck, Found}
 use Rattle.code128_code.specs.Laws.{OneReading as OneCodeReading}
 use Rattle.code128_code.specs.Texts.{symbol_text}
 use Rattle.code128_code.specs.declared.fault.Code128Fault.{Code128Fault}
 use Rattle.scan_core.specs.declared.carrier.Carrier.{Carrier}
-use Rattle.scan_core.specs.declared.carrier.Carrier.TheVariants.{Ean13, Ean8, UpcE, Gs1128}
+use Rattle.scan_core.specs.declared.carrier.Carrier.TheVariants.{Ean13, Ean8, UpcE, Itf14, Gs1128}
 use Rattle.scan_core.specs.declared.fault.RowFault.{RowFault}
 use Rattle.scan_core.specs.declared.fault.RowFault.TheVariants.{SymbolCheckDigit, Code128}
 use Rattle.scan_core.specs.Showing.{HasForm, Way, along}
@@ -23,6 +23,7 @@ one_gtin : (kind : Kind) (digits g h : List ℕ) → IsGtinOf kind digits g → 
 one_gtin KindEan13 digits g h a b = a ∙ sym b
 one_gtin KindEan8 digits g h a b = a ∙ sym b
 one_gtin KindUpcE digits g h a b = a ∙ sym b
+one_gtin KindItf14 digits g h a b = a ∙ sym b
 
 found_once : OneReading → (kind : Kind) (ms g h : List ℕ) → IsSpelled kind ms (Found g) → IsSpelled kind ms (Found h) → g ≡ h
 found_once law kind ms g h a b =
@@ -51,6 +52,7 @@ pub one_content : OneReading → OneCodeReading → (c : Carrier) (ms : List ℕ
 one_content law code Ean13 ms x y a b = one_number law KindEan13 ms x y a b
 one_content law code Ean8 ms x y a b = one_number law KindEan8 ms x y a b
 one_content law code UpcE ms x y a b = one_number law KindUpcE ms x y a b
+one_content law code Itf14 ms x y a b = one_number law KindItf14 ms x y a b
 one_content law code Gs1128 ms x y a b = one_text code ms x y a b
 
 -- ---- faults
@@ -65,11 +67,12 @@ pub spelled_fault : (c : Carrier) (ms : List ℕ) (fault : RowFault) → Spells 
 spelled_fault Ean13 ms fault a = inl a.1
 spelled_fault Ean8 ms fault a = inl a.1
 spelled_fault UpcE ms fault a = inl a.1
+spelled_fault Itf14 ms fault a = inl a.1
 spelled_fault Gs1128 ms fault a = inr (row_err fault (symbol_text a.0 a.1 a.2) a.4)
 
 -- ---- forms
 
-number_form : (kind : Kind) (ms : List ℕ) (x : Result (List ℕ) RowFault) → SpellsNumber kind ms x → (digits : List ℕ) × IsEanSymbol kind ms digits
+number_form : (kind : Kind) (ms : List ℕ) (x : Result (List ℕ) RowFault) → SpellsNumber kind ms x → (digits : List ℕ) × IsNumberSymbol kind ms digits
 number_form kind ms (Ok text) a = (a.1.0, a.1.1)
 number_form kind ms (Err fault) a = (a.0.0, a.0.1)
 
@@ -77,6 +80,7 @@ pub spelled_form : (c : Carrier) (ms : List ℕ) (x : Result (List ℕ) RowFault
 spelled_form Ean13 ms x a = number_form KindEan13 ms x a
 spelled_form Ean8 ms x a = number_form KindEan8 ms x a
 spelled_form UpcE ms x a = number_form KindUpcE ms x a
+spelled_form Itf14 ms x a = number_form KindItf14 ms x a
 spelled_form Gs1128 ms x a = (a.0, a.1, a.2, a.3)
 
 -- modules that are no symbol either way

@@ -4,12 +4,12 @@ use Rattle.std.proofs.lemmas.Bool.Decides.{nat_tests}
 use Rattle.std.proofs.lemmas.List.{length-append, length-map, length-replicate}
 use Rattle.digits_core.specs.Digits.{ascii_of, padded}
 use Rattle.digits_core.specs.Upce.{upce_expanded}
-use Rattle.element_core.specs.Elements.{FirstFault, StopsWith, each_part, fault_by, field_of, has_characters, has_check_digit, has_date, value_in}
+use Rattle.element_core.specs.Elements.{FirstFault, StopsWith, each_part, fault_by, field_of, has_characters, has_check_digit, has_date, has_even_length, value_in}
 use Rattle.element_core.specs.Table.{Row, greatest_of, least_of, row_at}
 use Rattle.element_core.specs.declared.fault.ElementFault.TheVariants.{Empty, ValueLength, ValueCharacter, ValueCheckDigit, ValueDate, MissingSeparator, TooLong}
 use Rattle.ean_code.specs.Spelling.{IsGtinOf}
 use Rattle.ean_code.specs.Symbols.{Kind, digit_count}
-use Rattle.ean_code.specs.Symbols.Kind.{Ean13 as KindEan13, Ean8 as KindEan8, UpcE as KindUpcE}
+use Rattle.ean_code.specs.Symbols.Kind.{Ean13 as KindEan13, Ean8 as KindEan8, UpcE as KindUpcE, Itf14 as KindItf14}
 use Rattle.code128_code.specs.Laws.{SaidIsShort}
 use Rattle.code128_code.specs.Symbols.{mod103}
 use Rattle.code128_code.specs.Texts.{gs1_text, set_of, symbol_text, text_from}
@@ -17,10 +17,10 @@ use Rattle.code128_code.specs.declared.code_set.CodeSet.{CodeSet}
 use Rattle.code128_code.specs.declared.fault.Code128Fault.{Code128Fault}
 use Rattle.code128_code.specs.declared.fault.Code128Fault.TheVariants.{CheckCharacter, NotGs1}
 use Rattle.scan_core.specs.declared.carrier.Carrier.{Carrier}
-use Rattle.scan_core.specs.declared.carrier.Carrier.TheVariants.{Ean13, Ean8, UpcE, Gs1128}
+use Rattle.scan_core.specs.declared.carrier.Carrier.TheVariants.{Ean13, Ean8, UpcE, Itf14, Gs1128}
 use Rattle.scan_core.specs.Answers.{Spells, SpellsNumber, row_text}
 
--- ---- EAN and UPC
+-- ---- numbers
 
 one_length : (a b c : Bool) (w x y z : List ℕ) → length w ≡ 12 → length x ≡ 12 → length y ≡ 12 → length z ≡ 12
     → length (if a then w else if b then x else if c then y else z) ≡ 12
@@ -45,6 +45,7 @@ padded_length ds few = omega (arith, length-append {A = ℕ}, length-replicate {
 gtin_length : (kind : Kind) (ds gtin : List ℕ) → length ds ≤ 14 → IsGtinOf kind ds gtin → length gtin ≡ 14
 gtin_length KindEan13 ds gtin few e = ap length e ∙ padded_length ds few
 gtin_length KindEan8 ds gtin few e = ap length e ∙ padded_length ds few
+gtin_length KindItf14 ds gtin few e = ap length e ∙ padded_length ds few
 gtin_length KindUpcE ds gtin few e =
     let twelve = expanded_length (take 6 ds) (get_or ds 6 0) in
     ap length e ∙ padded_length (upce_expanded (take 6 ds) (get_or ds 6 0)) (omega arith)
@@ -53,6 +54,7 @@ few_digits : (kind : Kind) (ds : List ℕ) → length ds ≡ digit_count kind �
 few_digits KindEan13 ds e = omega arith
 few_digits KindEan8 ds e = omega arith
 few_digits KindUpcE ds e = omega arith
+few_digits KindItf14 ds e = omega arith
 
 number_fits : (kind : Kind) (ms text : List ℕ) → SpellsNumber kind ms (Ok text) → length text ≤ 192
 number_fits kind ms text a =
@@ -81,26 +83,28 @@ pub content_fits : SaidIsShort → (c : Carrier) (ms text : List ℕ) → Spells
 content_fits law Ean13 ms text a = number_fits KindEan13 ms text a
 content_fits law Ean8 ms text a = number_fits KindEan8 ms text a
 content_fits law UpcE ms text a = number_fits KindUpcE ms text a
+content_fits law Itf14 ms text a = number_fits KindItf14 ms text a
 content_fits law Gs1128 ms text a =
     code_fits law (set_of a.0) a.1 text (a.2 == mod103 a.0 a.1) a.3.few (row_ok text (symbol_text a.0 a.1 a.2) a.4)
 
 -- ---- faults of a text that fits
 
-not_long : (a b c d e : Bool) (p : ℕ)
-    → (if a then Some (ValueLength p) else if b then Some (MissingSeparator p) else if not c then Some (ValueCharacter p)
+not_long : (a b o c d e : Bool) (p : ℕ)
+    → (if a then Some (ValueLength p) else if b then Some (MissingSeparator p) else if not o then Some (ValueLength p) else if not c then Some (ValueCharacter p)
     else if not d then Some (ValueCheckDigit p) else if not e then Some (ValueDate p) else None) ≡ Some TooLong → ⊥
-not_long true b c d e p h = cc
-not_long false true c d e p h = cc
-not_long false false false d e p h = cc
-not_long false false true false e p h = cc
-not_long false false true true false p h = cc
-not_long false false true true true p h = cc
+not_long true b o c d e p h = cc
+not_long false true o c d e p h = cc
+not_long false false false c d e p h = cc
+not_long false false true false d e p h = cc
+not_long false false true true false e p h = cc
+not_long false false true true true false p h = cc
+not_long false false true true true true p h = cc
 
 fault_not_long : (year p : ℕ) (text : List ℕ) (row : Option Row) → fault_by year p text row ≡ Some TooLong → ⊥
 fault_not_long year p text None h = cc
 fault_not_long year p text (Some row) h =
     let value = value_in row (field_of (drop (length row.ai) text)) in
-    not_long (nat_lt (length value) (least_of row.parts)) (nat_lt (greatest_of row.parts) (length value)) (each_part has_characters row.parts value)
+    not_long (nat_lt (length value) (least_of row.parts)) (nat_lt (greatest_of row.parts) (length value)) (each_part has_even_length row.parts value) (each_part has_characters row.parts value)
     (each_part has_check_digit row.parts value) (each_part (has_date year) row.parts value) p h
 
 sized : (a b : Bool) (P : Type 0) → a ≡ false → (P → ⊥)

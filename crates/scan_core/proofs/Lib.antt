@@ -3,9 +3,11 @@ pub mod CandidateFacts
 pub mod ContentFacts
 pub mod CutFacts
 pub mod DotFacts
+pub mod EarlierFacts
 pub mod FoundFacts
 pub mod LengthFacts
 pub mod OuterBars
+pub mod RatioFacts
 pub mod ReplacedFacts
 pub mod RoundingFacts
 pub mod RowFacts

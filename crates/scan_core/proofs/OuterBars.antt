@@ -2,7 +2,7 @@
 use Rattle.std.proofs.Common.{◌≡◌, ℕ, ◌<◌, List, ◌++◌, length, take, drop, reverse, ap, ◌∙◌, arith, get_or}
 use Rattle.std.proofs.lemmas.List.{get_or_append_left, length-append, length-reverse, reverse-append}
 use Rattle.ean_code.specs.NumberSets.{ean8_row, left_part, right_part}
-use Rattle.ean_code.specs.Symbols.{IsEanSymbol, centre_guard, normal_guard}
+use Rattle.ean_code.specs.Symbols.{IsNumberSymbol, centre_guard, normal_guard}
 use Rattle.ean_code.specs.Symbols.Kind.{Ean8}
 
 -- what a list ends with, its end ends with
@@ -11,7 +11,7 @@ last_of xs ys some =
     let n = length-reverse ys in
     ap (λ zs. get_or zs 0 0) (reverse-append xs ys) ∙ get_or_append_left (reverse ys) (reverse xs) 0 0 (omega arith)
 
-pub outer_bars : (ms ds : List ℕ) → IsEanSymbol Ean8 ms ds → (get_or ms 0 0 ≡ 1) × (get_or (reverse ms) 0 0 ≡ 1)
+pub outer_bars : (ms ds : List ℕ) → IsNumberSymbol Ean8 ms ds → (get_or ms 0 0 ≡ 1) × (get_or (reverse ms) 0 0 ≡ 1)
 outer_bars ms ds e =
     let left = left_part ean8_row (take 4 ds) in
     let right = right_part (drop 4 ds) in

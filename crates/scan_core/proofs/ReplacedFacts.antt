@@ -4,8 +4,8 @@ use Rattle.std.proofs.lemmas.Bool.Decides.{nat_tests}
 use Rattle.std.specs.List.{AllByRecursion}
 use Rattle.std.proofs.lemmas.List.{length-set}
 use Rattle.digits_core.specs.Digits.{AreDigits, IsChecked}
-use Rattle.ean_code.specs.Symbols.{Kind, IsCheckedPlace, IsEanSymbol, digit_count, widths_of}
-use Rattle.ean_code.specs.Symbols.Kind.{Ean13, Ean8, UpcE}
+use Rattle.ean_code.specs.Symbols.{Kind, IsCheckedPlace, IsNumberSymbol, digit_count, widths_of}
+use Rattle.ean_code.specs.Symbols.Kind.{Ean13, Ean8, UpcE, Itf14}
 use Rattle.ean_code.specs.Spelling.{IsGtinOf, IsSpelled}
 use Rattle.ean_code.specs.Laws.{ReplacedIsUnchecked}
 use Rattle.ean_code.specs.declared.reading.Spelled.TheVariants.{BadCheck}
@@ -27,13 +27,14 @@ spells_of : (kind : Kind) (modules : List ℕ) → IsSpelled kind modules BadChe
 spells_of Ean13 modules bad = (bad, refl)
 spells_of Ean8 modules bad = (bad, refl)
 spells_of UpcE modules bad = (bad, refl)
+spells_of Itf14 modules bad = (bad, refl)
 
 pub replaced_spells : (kind : Kind) → ReplacedIsUnchecked kind → (digits gtin : List ℕ) (k d : ℕ)
     → length digits ≡ digit_count kind → AreDigits digits → IsGtinOf kind digits gtin → IsChecked gtin
     → IsCheckedPlace kind k → d < 10 → d ≢ get_or digits k 0
     → Spells (carrier_of kind) (widths_of kind (set digits k d)) (Err SymbolCheckDigit)
 replaced_spells kind law digits gtin k d count valid number checked place low other =
-    let symbol : IsEanSymbol kind (widths_of kind (set digits k d)) (set digits k d) = record {
+    let symbol : IsNumberSymbol kind (widths_of kind (set digits k d)) (set digits k d) = record {
       count = length-set digits k d ∙ count;
       valid = each-set (λ x. x < 10) digits k d valid low;
       widths = refl;

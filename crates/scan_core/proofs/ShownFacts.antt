@@ -3,11 +3,11 @@ use Rattle.std.proofs.Common.{◌≡◌, ℕ, ◌+◌, ◌<◌, List, [], ◌∷
 use Rattle.std.proofs.lemmas.List.{reverse-reverse}
 use Rattle.std.proofs.lemmas.List.Elements.{AllZip-get_or}
 use Rattle.ean_code.specs.Symbols.{Kind}
-use Rattle.ean_code.specs.Symbols.Kind.{Ean13 as KindEan13, Ean8 as KindEan8, UpcE as KindUpcE}
+use Rattle.ean_code.specs.Symbols.Kind.{Ean13 as KindEan13, Ean8 as KindEan8, UpcE as KindUpcE, Itf14 as KindItf14}
 use Rattle.ean_code.specs.Laws.{OneWay as OneEanWay}
 use Rattle.code128_code.specs.Laws.{Measures as CodeMeasures, OneWay as OneCodeWay}
 use Rattle.scan_core.specs.declared.carrier.Carrier.{Carrier}
-use Rattle.scan_core.specs.declared.carrier.Carrier.TheVariants.{Ean13, Ean8, UpcE, Gs1128}
+use Rattle.scan_core.specs.declared.carrier.Carrier.TheVariants.{Ean13, Ean8, UpcE, Itf14, Gs1128}
 use Rattle.scan_core.specs.Row.{IsRow, inner}
 use Rattle.scan_core.specs.Showing.{HasForm, IsCandidate, IsRun, Rounds, Shows, Way, along}
 use Rattle.scan_core.specs.Showing.Way.{Forwards, Backwards}
@@ -15,7 +15,7 @@ use Rattle.scan_core.proofs.CandidateFacts.{candidate_dots}
 use Rattle.scan_core.proofs.OuterBars.{outer_bars}
 use Rattle.scan_core.proofs.WayFacts.{one_lying, rounds_lying}
 
--- no symbol of an EAN or UPC kind is one backwards
+-- no symbol of a number is one backwards
 abbrev pub EachOneWay : Type 0
 EachOneWay = (kind : Kind) → OneEanWay kind
 
@@ -35,6 +35,7 @@ module _ (laws : SymbolLaws) where
   one_form Ean13 ms e f = laws.ean KindEan13 ms e.0 f.0 e.1 f.1
   one_form Ean8 ms e f = laws.ean KindEan8 ms e.0 f.0 e.1 f.1
   one_form UpcE ms e f = laws.ean KindUpcE ms e.0 f.0 e.1 f.1
+  one_form Itf14 ms e f = laws.ean KindItf14 ms e.0 f.0 e.1 f.1
   one_form Gs1128 ms e f = laws.code e.0 f.0 e.2 f.2 e.1 f.1 ms e.3 f.3
 
   -- what lies in one way in a row has the form in one way
@@ -84,6 +85,7 @@ meet : (a b : Carrier) (n N M : ℕ) → IsCandidate a n N → IsCandidate b n M
 meet Ean13 Ean13 n N M x y = met_at Ean13 N M (omega arith)
 meet Ean8 Ean8 n N M x y = met_at Ean8 N M (omega arith)
 meet UpcE UpcE n N M x y = met_at UpcE N M (omega arith)
+meet Itf14 Itf14 n N M x y = met_at Itf14 N M (omega arith)
 meet Gs1128 Gs1128 n N M x y =
     let i = x.3 in let j = y.3 in let p = x.4 in let q = y.4 in met_at Gs1128 N M (omega arith)
 meet Ean8 Gs1128 n N M x y =
@@ -104,6 +106,14 @@ meet UpcE Ean8 n N M x y = absurd (omega arith)
 meet UpcE Gs1128 n N M x y = absurd (let i = x.0 in let j = y.3 in omega arith)
 meet Gs1128 Ean13 n N M x y = absurd (let i = y.0 in let j = x.3 in omega arith)
 meet Gs1128 UpcE n N M x y = absurd (let i = y.0 in let j = x.3 in omega arith)
+meet Itf14 Ean13 n N M x y = absurd (omega arith)
+meet Itf14 Ean8 n N M x y = absurd (omega arith)
+meet Itf14 UpcE n N M x y = absurd (omega arith)
+meet Itf14 Gs1128 n N M x y = absurd (let i = x.0 in let j = y.3 in omega arith)
+meet Ean13 Itf14 n N M x y = absurd (omega arith)
+meet Ean8 Itf14 n N M x y = absurd (omega arith)
+meet UpcE Itf14 n N M x y = absurd (omega arith)
+meet Gs1128 Itf14 n N M x y = absurd (let i = y.0 in let j = x.3 in omega arith)
 
 settle : SymbolLaws → (a b : Carrier) (N M : ℕ) → Meet a b N M → (v w : Way) (runs ms ks : List ℕ) → 0 < sum runs
     → Rounds (along v runs) N ms → Rounds (along w runs) M ks → HasForm a ms → HasForm b ks → (a ≡ b) × (v ≡ w) × (ms ≡ ks)

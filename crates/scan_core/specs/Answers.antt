@@ -6,13 +6,13 @@ use Rattle.digits_core.specs.Digits.{ascii_of}
 use Rattle.element_core.specs.Elements.{IsElements, FirstFault}
 use Rattle.ean_code.specs.Spelling.{IsSpelled}
 use Rattle.ean_code.specs.Symbols.{Kind}
-use Rattle.ean_code.specs.Symbols.Kind.{Ean13 as KindEan13, Ean8 as KindEan8, UpcE as KindUpcE}
+use Rattle.ean_code.specs.Symbols.Kind.{Ean13 as KindEan13, Ean8 as KindEan8, UpcE as KindUpcE, Itf14 as KindItf14}
 use Rattle.ean_code.specs.declared.reading.Spelled.TheVariants.{BadCheck, Found}
 use Rattle.code128_code.specs.Symbols.{IsCode128Symbol}
 use Rattle.code128_code.specs.Texts.{symbol_text}
 use Rattle.code128_code.specs.declared.fault.Code128Fault.{Code128Fault}
 use Rattle.scan_core.specs.declared.carrier.Carrier.{Carrier}
-use Rattle.scan_core.specs.declared.carrier.Carrier.TheVariants.{Ean13, Ean8, UpcE, Gs1128}
+use Rattle.scan_core.specs.declared.carrier.Carrier.TheVariants.{Ean13, Ean8, UpcE, Itf14, Gs1128}
 use Rattle.scan_core.specs.declared.stage.Stage.{Stage}
 use Rattle.scan_core.specs.declared.stage.Stage.TheVariants as stages
 use Rattle.scan_core.specs.declared.fault.RowFault.{RowFault}
@@ -51,7 +51,7 @@ pub record FailsAt (runs : List ℕ) (stage : Stage) : Type 0 where
 
 -- ---- what a symbol spells
 
--- the modules of a symbol of EAN or UPC spell AI 01 and the fourteen digits of its GTIN, or its check digit is wrong
+-- the modules of a symbol of EAN, UPC or ITF-14 spell AI 01 and the fourteen digits of its GTIN, or its check digit is wrong
 abbrev pub SpellsNumber : Kind → List ℕ → Result (List ℕ) RowFault → Type 0
 SpellsNumber kind modules (Ok text) = (gtin : List ℕ) × IsSpelled kind modules (Found gtin) × (text ≡ codes "01" ++ ascii_of gtin)
 SpellsNumber kind modules (Err fault) = IsSpelled kind modules BadCheck × (fault ≡ SymbolCheckDigit)
@@ -73,6 +73,7 @@ abbrev pub Spells : Carrier → List ℕ → Result (List ℕ) RowFault → Type
 Spells Ean13 modules content = SpellsNumber KindEan13 modules content
 Spells Ean8 modules content = SpellsNumber KindEan8 modules content
 Spells UpcE modules content = SpellsNumber KindUpcE modules content
+Spells Itf14 modules content = SpellsNumber KindItf14 modules content
 Spells Gs1128 modules content = SpellsText modules content
 
 -- the row shows a symbol of the carrier, one way or the other, which spells this

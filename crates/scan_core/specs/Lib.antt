@@ -6,10 +6,12 @@ pub use Rattle.code128_code.specs.Faults as Code128Faults
 pub use Rattle.code128_code.specs.Symbols as Code128Symbols
 pub use Rattle.code128_code.specs.Texts
 pub mod Answers
+pub mod BeforeItf14
 pub mod Bits
 pub mod Faults
 pub mod Laws
 pub mod Lines
+pub mod Ratios
 pub mod Reading
 pub mod Row
 pub mod Showing

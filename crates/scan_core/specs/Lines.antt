@@ -12,6 +12,7 @@ abbrev pub identifier : Carrier → List ℕ
 identifier carrier.Ean13 = codes "]E0"
 identifier carrier.UpcE = codes "]E0"
 identifier carrier.Ean8 = codes "]E4"
+identifier carrier.Itf14 = codes "]I1"
 identifier carrier.Gs1128 = codes "]C1"
 
 -- an answer: the identifier and the human-readable elements, or why the row is refused

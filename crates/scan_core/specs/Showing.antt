@@ -1,11 +1,11 @@
--- The symbol that a row shows (ISO/IEC 15420 and 15417; GS1 General Specifications, section 5).
+-- The symbol that a row shows (ISO/IEC 15420, 16390 and 15417; GS1 General Specifications, section 5).
 use Rattle.std.specs.Prelude.{◌≡◌, ℕ, ◌+◌, ◌-◌, ◌*◌, ◌≤◌, List, length, reverse, sum, slice_index}
 use Rattle.std.specs.List.{AllZip}
-use Rattle.ean_code.specs.Symbols.{IsEanSymbol, Kind}
-use Rattle.ean_code.specs.Symbols.Kind.{Ean13 as KindEan13, Ean8 as KindEan8, UpcE as KindUpcE}
+use Rattle.ean_code.specs.Symbols.{IsNumberSymbol, Kind}
+use Rattle.ean_code.specs.Symbols.Kind.{Ean13 as KindEan13, Ean8 as KindEan8, UpcE as KindUpcE, Itf14 as KindItf14}
 use Rattle.code128_code.specs.Symbols.{IsCode128Symbol}
 use Rattle.scan_core.specs.declared.carrier.Carrier.{Carrier}
-use Rattle.scan_core.specs.declared.carrier.Carrier.TheVariants.{Ean13, Ean8, UpcE, Gs1128}
+use Rattle.scan_core.specs.declared.carrier.Carrier.TheVariants.{Ean13, Ean8, UpcE, Itf14, Gs1128}
 use Rattle.scan_core.specs.Row.{inner}
 
 -- how far two numbers are apart
@@ -32,6 +32,7 @@ abbrev pub IsCandidate : Carrier → ℕ → ℕ → Type 0
 IsCandidate Ean13 n N = (n ≡ 59) × (N ≡ 95)
 IsCandidate Ean8 n N = (n ≡ 43) × (N ≡ 67)
 IsCandidate UpcE n N = (n ≡ 33) × (N ≡ 51)
+IsCandidate Itf14 n N = (n ≡ 77) × (N ≡ 135)
 IsCandidate Gs1128 n N = (k : ℕ) × (3 ≤ k) × (k ≤ 98) × (n ≡ 6 * k + 7) × (N ≡ 11 * k + 13)
 
 -- the carrier of the symbols of this kind
@@ -39,12 +40,14 @@ abbrev pub carrier_of : Kind → Carrier
 carrier_of KindEan13 = Ean13
 carrier_of KindEan8 = Ean8
 carrier_of KindUpcE = UpcE
+carrier_of KindItf14 = Itf14
 
 -- the modules are a symbol of the carrier
 abbrev pub HasForm : Carrier → List ℕ → Type 0
-HasForm Ean13 modules = (digits : List ℕ) × IsEanSymbol KindEan13 modules digits
-HasForm Ean8 modules = (digits : List ℕ) × IsEanSymbol KindEan8 modules digits
-HasForm UpcE modules = (digits : List ℕ) × IsEanSymbol KindUpcE modules digits
+HasForm Ean13 modules = (digits : List ℕ) × IsNumberSymbol KindEan13 modules digits
+HasForm Ean8 modules = (digits : List ℕ) × IsNumberSymbol KindEan8 modules digits
+HasForm UpcE modules = (digits : List ℕ) × IsNumberSymbol KindUpcE modules digits
+HasForm Itf14 modules = (digits : List ℕ) × IsNumberSymbol KindItf14 modules digits
 HasForm Gs1128 modules = (start : ℕ) × (values : List ℕ) × (check : ℕ) × IsCode128Symbol start values check modules
 
 -- from left to right, or from right to left

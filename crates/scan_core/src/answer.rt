@@ -20,7 +20,7 @@ pub enum Answer {
     Read {
         /// The symbol's kind.
         carrier: Carrier,
-        /// Its elements, dates under the reference year; of EAN and UPC the one element of its GTIN.
+        /// Its elements, dates under the reference year; of EAN, UPC and ITF-14 the one element of its GTIN.
         elements: Elements,
     },
     /// The row is not read.
@@ -117,7 +117,7 @@ fn answer_of(widths: &[u16], year: Year) -> Answer
 }
 
 /// What the row says, read from the left or from the right (GS1 General Specifications, section 5;
-/// ISO/IEC 15420 and 15417): the elements of the one symbol that it shows, or why it is refused.
+/// ISO/IEC 15420, 16390 and 15417): the elements of the one symbol that it shows, or why it is refused.
 ///
 /// A run is rounded to the nearest number of modules, by at most a third of one; the symbol's own
 /// width says how wide a module is. Both light ends have to be five modules wide.

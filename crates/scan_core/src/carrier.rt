@@ -11,6 +11,8 @@ pub enum Carrier {
     Ean8,
     /// UPC-E (ISO/IEC 15420): 33 runs, 51 modules wide.
     UpcE,
+    /// ITF-14 (ISO/IEC 16390): 77 runs, 135 modules wide where a wide element is three modules.
+    Itf14,
     /// GS1-128 (ISO/IEC 15417): of k start, data and check characters, k from 3 to 98, 6k + 7 runs,
     /// 11k + 13 modules wide.
     Gs1128,
@@ -42,6 +44,10 @@ pub(crate) fn fixed_candidate(run_count: usize) -> Option<Candidate>
         59 => Some(Candidate {
             carrier: Carrier::Ean13,
             count: 95,
+        }),
+        77 => Some(Candidate {
+            carrier: Carrier::Itf14,
+            count: 135,
         }),
         _ => None,
     }

@@ -13,6 +13,7 @@ impl Carrier {
         match self {
             Carrier::Ean13 | Carrier::UpcE => "]E0",
             Carrier::Ean8 => "]E4",
+            Carrier::Itf14 => "]I1",
             Carrier::Gs1128 => "]C1",
         }
     }

@@ -1,4 +1,6 @@
 //! Laws about the definitions, each the contract of a function that does nothing.
+ghost use Rattle.scan_core.specs.BeforeItf14.{OtherRowsKeep};
+ghost use Rattle.scan_core.specs.Ratios.{EachRatioIsRead};
 ghost use Rattle.scan_core.specs.Laws.{DotsDetermine, DotsMakeRow, NeverTooLong, OneAnswer, OneSymbol, ReplacedCharacterIsNoticed, ReplacementIsNoticed, RowOrFault, SymbolMeasures, TurnedDots, TurnedRow};
 
 /// A row shows at most one symbol, and reads as it in one way.
@@ -28,7 +30,7 @@ pub fn turned_row()
 {}
 
 /// One character replaced by another of its number set is noticed by the check digit: any of an
-/// EAN-13 or EAN-8, and one of the first five of a UPC-E.
+/// EAN-13 or EAN-8, and one of the first five of a UPC-E. So is one digit of an ITF-14.
 pub fn replacement_is_noticed()
     ensures { ReplacementIsNoticed }
 {
@@ -77,3 +79,18 @@ pub fn dots_make_row()
 pub fn turned_dots()
     ensures { TurnedDots }
 {}
+
+/// ITF-14 changed the answer of no row with another number of runs between its light ends than 77.
+pub fn other_rows_keep()
+    ensures { OtherRowsKeep }
+{}
+
+/// An ITF-14 with wide elements 2.25 to 3 times as wide as narrow ones, in whole dots, and light ends
+/// of ten narrow elements is read from either end (GS1 General Specifications, section 5.3).
+pub fn each_ratio_is_read()
+    ensures { EachRatioIsRead }
+{
+    ean_code::two_widths();
+    ean_code::measures();
+    element_core::gtin_reads();
+}

@@ -16,8 +16,8 @@ pub use answer::{Answer, read_row, read_widths};
 pub use carrier::Carrier;
 pub use fault::{RowFault, RunFault};
 pub use laws::{
-    dots_determine, dots_make_row, never_too_long, one_answer, one_symbol,
-    replaced_character_is_noticed, replacement_is_noticed, row_or_fault, symbol_measures,
-    turned_dots, turned_row,
+    dots_determine, dots_make_row, each_ratio_is_read, never_too_long, one_answer, one_symbol,
+    other_rows_keep, replaced_character_is_noticed, replacement_is_noticed, row_or_fault,
+    symbol_measures, turned_dots, turned_row,
 };
 pub use runs::Runs;

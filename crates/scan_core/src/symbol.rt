@@ -1,7 +1,7 @@
 //! The symbol that modules are, and what it says.
 ghost use Rattle.std.specs.Prelude.{IfNone, IfSome, List, ℕ};
 ghost use Rattle.ean_code.specs.Spelling.{IsSpelled};
-ghost use Rattle.ean_code.specs.Symbols.{IsEanSymbol, Kind};
+ghost use Rattle.ean_code.specs.Symbols.{IsNumberSymbol, Kind};
 ghost use Rattle.scan_core.specs.Answers.{Spells, SpellsNumber};
 ghost use Rattle.scan_core.specs.Reading.{IsReadAs, content_of};
 ghost use Rattle.scan_core.specs.Showing.{HasForm, Way, along};
@@ -10,26 +10,26 @@ use crate::carrier::Carrier;
 use crate::fault::RowFault;
 use code128_code::{Values, text_of, values};
 use digits_core::Gtin;
-use ean_code::{Modules, Spelled, read_ean8, read_ean13, read_upce};
+use ean_code::{Modules, Spelled, read_ean8, read_ean13, read_itf14, read_upce};
 use element_core::{Elements, Year};
 
 /// What a symbol is found to be.
 #[derive(Drop)]
 pub(crate) enum Symbol {
-    /// One of EAN or UPC, of this GTIN.
+    /// One of EAN, UPC or ITF-14, of this GTIN.
     Number(Gtin),
-    /// One of EAN or UPC whose check digit is wrong.
+    /// One of EAN, UPC or ITF-14 whose check digit is wrong.
     BadCheckDigit,
     /// One of Code 128, of these values.
     Characters(Values),
 }
 
-/// The symbol of EAN or UPC that was found, if it was one.
+/// The symbol of EAN, UPC or ITF-14 that was found, if it was one.
 fn number(spelled: Spelled) -> Option<Symbol>
     ensures found { (kind : Kind) (modules : List ℕ) → IsSpelled kind modules spelled
         → IfSome result (λ s. SpellsNumber kind modules (content_of s)) }
     ensures none { (kind : Kind) (modules : List ℕ) → IsSpelled kind modules spelled
-        → IfNone result (((digits : List ℕ) × IsEanSymbol kind modules digits) → ⊥) }
+        → IfNone result (((digits : List ℕ) × IsNumberSymbol kind modules digits) → ⊥) }
 {
     match spelled {
         Spelled::NoPattern => None,
@@ -47,6 +47,7 @@ fn read_symbol(carrier: Carrier, modules: &Modules) -> Option<Symbol>
         Carrier::Ean13 => number(read_ean13(modules)),
         Carrier::Ean8 => number(read_ean8(modules)),
         Carrier::UpcE => number(read_upce(modules)),
+        Carrier::Itf14 => number(read_itf14(modules)),
         Carrier::Gs1128 => values(modules).map(Symbol::Characters),
     }
 }

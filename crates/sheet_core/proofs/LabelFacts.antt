@@ -8,9 +8,9 @@ use Rattle.digits_core.specs.Digits.{padded}
 use Rattle.digits_core.specs.Upce.{IsFirstUpceOf, upce_expanded, upce_line}
 use Rattle.ean_code.specs.Spelling.{IsPrintedUpce, IsSpelled, IsSymbolOf}
 use Rattle.ean_code.specs.declared.reading.Spelled.TheVariants.{Found}
-use Rattle.ean_code.specs.Symbols.Kind.{Ean13 as KindEan13, Ean8 as KindEan8, UpcE as KindUpcE}
+use Rattle.ean_code.specs.Symbols.Kind.{Ean13 as KindEan13, Ean8 as KindEan8, UpcE as KindUpcE, Itf14 as KindItf14}
 use Rattle.sheet_core.specs.declared.label.Label.{Label}
-use Rattle.sheet_core.specs.declared.label.Label.TheVariants.{Ean13, UpcA, Ean8, UpcE, Gs1128}
+use Rattle.sheet_core.specs.declared.label.Label.TheVariants.{Ean13, UpcA, Ean8, UpcE, Itf14, Gs1128}
 use Rattle.sheet_core.specs.Grids.{Cells}
 use Rattle.sheet_core.specs.Labels.{Drawn, FitsCell, IsDrawn, IsLabelSymbol, IsPrintable}
 
@@ -28,6 +28,10 @@ same_ean13 g ms ns h k =
 same_ean8 : (g ms ns : List ℕ) → IsSpelled KindEan8 ms (Found g) → IsSpelled KindEan8 ns (Found g) → ms ≡ ns
 same_ean8 g ms ns h k =
     let same = same_padded 8 g h.0 k.0 h.1.count k.1.count h.2 k.2 in let a = h.1.widths in let b = k.1.widths in cc
+
+same_itf14 : (g ms ns : List ℕ) → IsSpelled KindItf14 ms (Found g) → IsSpelled KindItf14 ns (Found g) → ms ≡ ns
+same_itf14 g ms ns h k =
+    let same = same_padded 14 g h.0 k.0 h.1.count k.1.count h.2 k.2 in let a = h.1.widths in let b = k.1.widths in cc
 
 -- the line of the table by the sixth digit, and what its six digits stand for
 line_of : (a b c d e f x : ℕ)
@@ -132,6 +136,7 @@ same_symbol (Ean13 g) ms ns h k = same_ean13 g ms ns h k
 same_symbol (UpcA g) ms ns h k = same_ean13 g ms ns h.1 k.1
 same_symbol (Ean8 g) ms ns h k = same_ean8 g ms ns h k
 same_symbol (UpcE g) ms ns h k = same_upce g ms ns h k
+same_symbol (Itf14 g) ms ns h k = same_itf14 g ms ns h k
 same_symbol (Gs1128 l) ms ns h k = h.drawn.widths ∙ sym k.drawn.widths
 
 pub same_drawn : (label : Label) (s t : Drawn) → IsDrawn label s → IsDrawn label t → s ≡ t

@@ -7,14 +7,14 @@ use Rattle.std.specs.List.{AllZip, AllByRecursion}
 use Rattle.std.proofs.lemmas.List.{length-append, length-map, take_at, get_or_push}
 use Rattle.std.proofs.lemmas.Bool.{le-leb, lt-ltb}
 use Rattle.std.proofs.lemmas.Option.{get_or_from_slice_get, slice_get_within, slice_get_past}
-use Rattle.ean_code.specs.Symbols.Kind.{Ean13 as KindEan13, Ean8 as KindEan8, UpcE as KindUpcE}
+use Rattle.ean_code.specs.Symbols.Kind.{Ean13 as KindEan13, Ean8 as KindEan8, UpcE as KindUpcE, Itf14 as KindItf14}
 use Rattle.ean_code.specs.Widths.{AreWidths}
 use Rattle.element_core.specs.Elements.{canonical}
 use Rattle.code128_code.specs.Coding.{data_values}
 use Rattle.code128_code.specs.Laws.{ModulesSay}
 use Rattle.code128_code.specs.Symbols.{mod103}
 use Rattle.scan_core.specs.declared.carrier.Carrier.{Carrier}
-use Rattle.scan_core.specs.declared.carrier.Carrier.TheVariants.{Ean13 as CarrierEan13, Ean8 as CarrierEan8, UpcE as CarrierUpcE, Gs1128 as CarrierGs1128}
+use Rattle.scan_core.specs.declared.carrier.Carrier.TheVariants.{Ean13 as CarrierEan13, Ean8 as CarrierEan8, UpcE as CarrierUpcE, Itf14 as CarrierItf14, Gs1128 as CarrierGs1128}
 use Rattle.ean_code.specs.Laws.{Measures as EanMeasures}
 use Rattle.scan_core.specs.Laws.{DotsDetermine, OneAnswer, SymbolMeasures}
 use Rattle.scan_core.specs.Row.{IsRow, dots_of, inner}
@@ -23,7 +23,7 @@ use Rattle.scan_core.specs.declared.answer.Answer.TheVariants.{Read}
 use Rattle.scan_core.specs.Showing.{HasForm, IsCandidate, IsQuiet, IsRun, Rounds, Shows}
 use Rattle.scan_core.specs.Showing.Way.{Forwards}
 use Rattle.sheet_core.specs.declared.label.Label.{Label}
-use Rattle.sheet_core.specs.declared.label.Label.TheVariants.{Ean13, UpcA, Ean8, UpcE, Gs1128}
+use Rattle.sheet_core.specs.declared.label.Label.TheVariants.{Ean13, UpcA, Ean8, UpcE, Itf14, Gs1128}
 use Rattle.sheet_core.specs.Drawing.{bar_dots, cell_count, is_bar_row}
 use Rattle.sheet_core.specs.Grids.{Cells, IsGrid}
 use Rattle.sheet_core.specs.Labels.{Drawn, FitsCell, IsDrawn, IsLabelSymbol, carrier_of, label_text}
@@ -83,6 +83,7 @@ odd_count : (c : Carrier) (n N : ℕ) → IsCandidate c n N → n % 2 ≡ 1
 odd_count CarrierEan13 n N h = ap (λ k. k % 2) h.0
 odd_count CarrierEan8 n N h = ap (λ k. k % 2) h.0
 odd_count CarrierUpcE n N h = ap (λ k. k % 2) h.0
+odd_count CarrierItf14 n N h = ap (λ k. k % 2) h.0
 odd_count CarrierGs1128 n N h = let k : ℕ = h.0 in let e = h.3 in omega arith
 
 -- the laws of how many widths and modules symbols have
@@ -97,6 +98,7 @@ fit measures (Ean13 g) ms h = fit_by measures CarrierEan13 ms (h.0, h.1) (measur
 fit measures (UpcA g) ms h = fit_by measures CarrierEan13 ms (h.1.0, h.1.1) (measures.1 KindEan13 ms h.1.0 h.1.1).valid
 fit measures (Ean8 g) ms h = fit_by measures CarrierEan8 ms (h.0, h.1) (measures.1 KindEan8 ms h.0 h.1).valid
 fit measures (UpcE g) ms h = fit_by measures CarrierUpcE ms (h.0 ++ h.1 ∷ [], h.3) (measures.1 KindUpcE ms (h.0 ++ h.1 ∷ []) h.3).valid
+fit measures (Itf14 g) ms h = fit_by measures CarrierItf14 ms (h.0, h.1) (measures.1 KindItf14 ms h.0 h.1).valid
 fit measures (Gs1128 l) ms h =
     let text : List ℕ = canonical l.list in
     let values : List ℕ = data_values text in
@@ -107,6 +109,7 @@ zones (Ean13 g) s h = let l = h.left in let r = h.right in (omega arith, omega a
 zones (UpcA g) s h = let l = h.left in let r = h.right in (omega arith, omega arith)
 zones (Ean8 g) s h = let l = h.left in let r = h.right in (omega arith, omega arith)
 zones (UpcE g) s h = let l = h.left in let r = h.right in (omega arith, omega arith)
+zones (Itf14 g) s h = let l = h.left in let r = h.right in (omega arith, omega arith)
 zones (Gs1128 l) s h = let a = h.left in let r = h.right in (omega arith, omega arith)
 
 -- runs of an odd number of widths, each with a dot, in a cell
@@ -167,6 +170,7 @@ spelled say (Ean13 g) ms h = (g, h, refl)
 spelled say (UpcA g) ms h = (g, h.1, refl)
 spelled say (Ean8 g) ms h = (g, h, refl)
 spelled say (UpcE g) ms h = let s = symbol_of_upce g ms h in (g, (s.0, s.1, s.2, h.2.spelling.checked), refl)
+spelled say (Itf14 g) ms h = (g, h, refl)
 spelled say (Gs1128 l) ms h =
     let text : List ℕ = canonical l.list in
     let values : List ℕ = data_values text in

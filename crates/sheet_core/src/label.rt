@@ -2,15 +2,15 @@
 ghost use Rattle.std.specs.Prelude.{◌≡◌, ◌≤◌, ℕ, List, IfNone, IfSome, drop};
 ghost use Rattle.digits_core.specs.Digits.{padded};
 ghost use Rattle.ean_code.specs.Spelling.{IsSpelled};
-ghost use Rattle.ean_code.specs.Symbols.Kind.{Ean13, Ean8};
+ghost use Rattle.ean_code.specs.Symbols.Kind.{Ean13, Ean8, Itf14};
 ghost use Rattle.ean_code.specs.declared.reading.Spelled.TheVariants.{Found};
 ghost use Rattle.element_core.specs.Elements.{canonical};
-ghost use Rattle.sheet_core.specs.Labels.{Drawn, IsDrawn, IsLabelSymbol, IsPrintedGs1128, carrier_of, gtin_text, label_text, quiet_left_of, quiet_right_of};
+ghost use Rattle.sheet_core.specs.Labels.{Drawn, IsDrawn, IsLabelSymbol, IsPrintedGs1128, carrier_of, form_of, gtin_text, label_text};
 
 use crate::symbol::Symbol;
 use code128_code::encode;
 use digits_core::Gtin;
-use ean_code::{Modules, ean8, ean13, upce};
+use ean_code::{Modules, ean8, ean13, itf14, upce};
 use element_core::{Elements, Text};
 use scan_core::Carrier;
 
@@ -25,8 +25,39 @@ pub enum Label {
     Ean8(Gtin),
     /// A UPC-E (ISO/IEC 15420), of a GTIN of 12 digits that can be written with six.
     UpcE(Gtin),
+    /// An ITF-14 (ISO/IEC 16390), of any GTIN, a wide element being three modules.
+    Itf14(Gtin),
     /// A GS1-128 (ISO/IEC 15417), of elements whose canonical text has at most 48 characters.
     Gs1128(Elements),
+}
+
+/// A kind of label.
+#[derive(Clone, Copy, Debug)]
+pub struct Form {
+    /// Its name.
+    pub name: &'static str,
+    /// The carrier that its symbol is read as.
+    pub carrier: Carrier,
+    /// The nominal quiet zone left of the symbol, in modules.
+    pub quiet_left: u8,
+    /// The nominal quiet zone right of the symbol, in modules.
+    pub quiet_right: u8,
+}
+
+impl Form {
+    fn new(name: &'static str, carrier: Carrier, quiet_left: u8, quiet_right: u8) -> Form
+        ensures name { result.name.now ≡ name.now }
+        ensures carrier { result.carrier ≡ carrier }
+        ensures left { result.quiet_left ≡ quiet_left }
+        ensures right { result.quiet_right ≡ quiet_right }
+    {
+        Form {
+            name,
+            carrier,
+            quiet_left,
+            quiet_right,
+        }
+    }
 }
 
 /// The element string of a GTIN.
@@ -70,6 +101,15 @@ fn upca(gtin: &Gtin) -> Option<Modules>
     ean13(gtin)
 }
 
+/// The ITF-14 of a GTIN.
+fn itf14_of(gtin: &Gtin) -> Modules
+    ensures { IsSpelled Itf14 result (Found gtin.now) }
+{
+    // Its contract says that the check digit is right.
+    let _ = gtin.digits14();
+    itf14(gtin)
+}
+
 /// The GS1-128 of elements, if their canonical text has at most 48 characters.
 fn gs1128(elements: &Elements) -> Option<Modules>
     ensures some { IfSome result (IsPrintedGs1128 (canonical elements.now.list)) }
@@ -87,10 +127,31 @@ impl Label {
         ensures { result.items ≡ label_text self.now }
     {
         match self {
-            Label::Ean13(gtin) | Label::UpcA(gtin) | Label::Ean8(gtin) | Label::UpcE(gtin) => {
-                gtin_text(gtin)
-            }
+            Label::Ean13(gtin)
+            | Label::UpcA(gtin)
+            | Label::Ean8(gtin)
+            | Label::UpcE(gtin)
+            | Label::Itf14(gtin) => gtin_text(gtin),
             Label::Gs1128(elements) => elements.text(),
+        }
+    }
+
+    /// Its kind: the name, the carrier and the nominal quiet zones (GS1 General Specifications,
+    /// sections 5.2 to 5.4).
+    pub fn form(&self) -> Form
+        ensures name { result.name.now ≡ (form_of self.now).name }
+        ensures carrier { result.carrier ≡ (form_of self.now).carrier }
+        ensures left { result.quiet_left ≡ (form_of self.now).quiet_left }
+        ensures right { result.quiet_right ≡ (form_of self.now).quiet_right }
+        ensures few { (result.quiet_left ≤ 11) × (result.quiet_right ≤ 11) }
+    {
+        match self {
+            Label::Ean13(_) => Form::new("ean13", Carrier::Ean13, 11, 7),
+            Label::UpcA(_) => Form::new("upca", Carrier::Ean13, 9, 9),
+            Label::Ean8(_) => Form::new("ean8", Carrier::Ean8, 7, 7),
+            Label::UpcE(_) => Form::new("upce", Carrier::UpcE, 9, 7),
+            Label::Itf14(_) => Form::new("itf14", Carrier::Itf14, 10, 10),
+            Label::Gs1128(_) => Form::new("gs1128", Carrier::Gs1128, 10, 10),
         }
     }
 
@@ -98,12 +159,7 @@ impl Label {
     pub fn carrier(&self) -> Carrier
         ensures { result ≡ carrier_of self.now }
     {
-        match self {
-            Label::Ean13(_) | Label::UpcA(_) => Carrier::Ean13,
-            Label::Ean8(_) => Carrier::Ean8,
-            Label::UpcE(_) => Carrier::UpcE,
-            Label::Gs1128(_) => Carrier::Gs1128,
-        }
+        self.form().carrier
     }
 
     /// The modules of the label's symbol, if it has one.
@@ -116,22 +172,8 @@ impl Label {
             Label::UpcA(gtin) => upca(gtin),
             Label::Ean8(gtin) => ean8_of(gtin),
             Label::UpcE(gtin) => upce(gtin),
+            Label::Itf14(gtin) => Some(itf14_of(gtin)),
             Label::Gs1128(elements) => gs1128(elements),
-        }
-    }
-
-    /// The nominal quiet zones left and right of the symbol, in modules.
-    fn quiet_zones(&self) -> (u8, u8)
-        ensures left { result.0 ≡ quiet_left_of self.now }
-        ensures right { result.1 ≡ quiet_right_of self.now }
-        ensures few { (result.0 ≤ 11) × (result.1 ≤ 11) }
-    {
-        match self {
-            Label::Ean13(_) => (11, 7),
-            Label::UpcA(_) => (9, 9),
-            Label::Ean8(_) => (7, 7),
-            Label::UpcE(_) => (9, 7),
-            Label::Gs1128(_) => (10, 10),
         }
     }
 
@@ -143,11 +185,11 @@ impl Label {
         let Some(modules) = self.modules() else {
             return None;
         };
-        let (quiet_left, quiet_right) = self.quiet_zones();
+        let form = self.form();
         Some(Symbol {
             modules,
-            quiet_left,
-            quiet_right,
+            quiet_left: form.quiet_left,
+            quiet_right: form.quiet_right,
         })
     }
 

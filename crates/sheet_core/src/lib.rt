@@ -14,7 +14,7 @@ mod symbol;
 
 pub use fault::{BadGrid, NoMemory, PbmFault, PrintFault, SheetFault, WriteFault};
 pub use grid::Grid;
-pub use label::Label;
+pub use label::{Form, Label};
 pub use label_image::label_pbm;
 pub use laws::{
     bar_rows_answer, bar_rows_show, empty_cells_are_blank, files_are_read, files_are_refused,

@@ -106,6 +106,22 @@ fn checks_element_strings(rt: HostRuntime) -> Result<(), Fail> {
         ("text,17250229", "refused 9 ValueDate 0"),
         ("text,10AB^17261301", "refused 9 ValueDate 5"),
         ("text,4225281", "refused 10 MissingSeparator 0"),
+        ("text,70032601021530", "hri (7003)2601021530"),
+        ("text,800826010215", "hri (8008)26010215"),
+        ("text,80082601021530", "hri (8008)2601021530"),
+        ("text,8008260102153045", "hri (8008)260102153045"),
+        ("text,70032601021530^10A", "hri (7003)2601021530(10)A"),
+        ("text,8008260102", "refused 6 ValueLength 0"),
+        ("text,8008260102153", "refused 6 ValueLength 0"),
+        ("text,800826010215304", "refused 6 ValueLength 0"),
+        ("text,7003260102153", "refused 6 ValueLength 0"),
+        ("text,700326010215301", "refused 10 MissingSeparator 0"),
+        ("text,80082601021530451", "refused 10 MissingSeparator 0"),
+        ("text,7003260102153X", "refused 7 ValueCharacter 0"),
+        ("text,70032601001530", "refused 9 ValueDate 0"),
+        ("text,70032601022400", "refused 9 ValueDate 0"),
+        ("text,8008260102153060", "refused 9 ValueDate 0"),
+        ("text,80082601021560", "refused 9 ValueDate 0"),
     ] {
         assert!(rt; has_line(&rt, record, line)?, "{record}");
     }

@@ -100,13 +100,14 @@ fn prints_lines(rt: HostRuntime) -> Result<(), Fail> {
     let found = outcome(&rt, printing(113, 3, 1, 1, true)?, RECORD.as_bytes())?;
     assert_eq!(rt; found.as_str(), "0 0 ean13 (01)09501101530003\n");
     let input = "ean13,00012345000065\nupca,012345000065\nean8,96385074\nupce,0012345000065\n\
-                 gs1128,10AB^17261231\n";
+                 gs1128,10AB^17261231\nitf14,09501101530003\n";
     let found = outcome(&rt, printing(200, 3, 2, 1, true)?, input.as_bytes())?;
     assert_eq!(rt;
         found.as_str(),
         "0 0 ean13 (01)00012345000065\n0 1 upca (01)00012345000065\n\
                                     1 0 ean8 (01)00000096385074\n1 1 upce (01)00012345000065\n\
-                                    2 0 gs1128 (10)AB(17)261231\n"
+                                    2 0 gs1128 (10)AB(17)261231\n\
+                                    2 1 itf14 (01)09501101530003\n"
     );
     Ok(())
 }
@@ -178,6 +179,15 @@ fn refuses_what_does_not_fit(rt: HostRuntime) -> Result<(), Fail> {
         (1, 4096, 3, 1, over.as_str(), Some("refused 26 LabelKind 0")),
         (2, 226, 5, 1, RECORD, None),
         (2, 225, 5, 1, RECORD, Some("refused 27 LabelWidth 0")),
+        (1, 155, 3, 1, "itf14,09501101530003", None),
+        (
+            1,
+            154,
+            3,
+            1,
+            "itf14,09501101530003",
+            Some("refused 27 LabelWidth 0"),
+        ),
         (1, 113, 2, 1, RECORD, Some("refused 25 BadGrid")),
         (1, 1025, 3, 16, RECORD, Some("refused 25 BadGrid")),
         (1, 113, 2, 1, "sku", Some("refused 25 BadGrid")),

@@ -17,6 +17,10 @@ const EAN8: &str = "111 3112 1114 1411 1213 11111 1231 3211 1312 1132 111";
 
 const UPCE: &str = "111 1222 2122 1411 2311 1321 1114 111111";
 
+// 09501101530003: narrow elements 1, wide ones 3.
+const ITF14: &str =
+    "1111 1113313311 3111331311 3311111133 1311313113 3313311111 1111333311 1313313111 311";
+
 const STOP: &str = "2331112";
 
 /// A row: a light end, the widths of the groups at so many dots a module, and another light end.
@@ -29,6 +33,26 @@ fn row(alloc: Global, ends: (u16, u16), groups: &str, dots: u16) -> Result<Vec<u
         }
     }
     widths.push(ends.1)?;
+    Ok(widths)
+}
+
+/// A row of two widths: a light end, an element of so many dots for each digit of the groups, narrow
+/// for a 1 and else wide, and another light end.
+fn two_widths(
+    alloc: Global,
+    end: u16,
+    groups: &str,
+    narrow: u16,
+    wide: u16,
+) -> Result<Vec<u16>, AllocError> {
+    let mut widths = Vec::new(alloc);
+    widths.push(end)?;
+    for digit in groups.bytes() {
+        if digit.is_ascii_digit() {
+            widths.push(if digit == b'1' { narrow } else { wide })?;
+        }
+    }
+    widths.push(end)?;
     Ok(widths)
 }
 
@@ -96,6 +120,7 @@ fn reads_each_carrier(rt: HostRuntime) -> Result<(), Fail> {
         ((11, 7), EAN13, "]E0 (01)09501101530003"),
         ((7, 7), EAN8, "]E4 (01)00000096385074"),
         ((9, 7), UPCE, "]E0 (01)00012345000065"),
+        ((10, 10), ITF14, "]I1 (01)09501101530003"),
     ] {
         let widths = row(alloc, ends, groups, 1)?;
         assert!(rt; says(&rt, widths.as_slice(), 2026, answer)?, "{groups}");
@@ -103,6 +128,11 @@ fn reads_each_carrier(rt: HostRuntime) -> Result<(), Fail> {
     // 43 runs, as an EAN-8 has.
     let characters = "211232 411131 112133 321122 322112 121421";
     assert!(rt; code128_says(&rt, characters, 2026, "]C1 (422)528")?);
+    // (7003)2601021530 and its check character 101, and a minute 60.
+    let characters = "211232 411131 112412 121223 321221 222122 222221 113222 212123 311141";
+    assert!(rt; code128_says(&rt, characters, 2026, "]C1 (7003)2601021530")?);
+    let characters = "211232 411131 112412 121223 321221 222122 222221 113222 314111 232121";
+    assert!(rt; code128_says(&rt, characters, 2026, "refused 9 ValueDate 0")?);
     // A date under two reference years.
     let characters = "211232 411131 123221 212222 222221 322211 124211";
     assert!(rt; code128_says(&rt, characters, 2026, "]C1 (17)000229")?);
@@ -138,6 +168,46 @@ fn refuses_what_is_nearly_read(rt: HostRuntime) -> Result<(), Fail> {
     for (left, answer) in [(4, "refused 21 QuietZone"), (5, "]E0 (01)09501101530003")] {
         let widths = row(alloc, (left, 7), EAN13, 1)?;
         assert!(rt; says(&rt, widths.as_slice(), 2026, answer)?);
+    }
+    Ok(())
+}
+
+#[test]
+fn reads_itf14_in_each_ratio(rt: HostRuntime) -> Result<(), Fail> {
+    let alloc = rt.alloc();
+    let read = "]I1 (01)09501101530003";
+    for (narrow, wide, end, answer) in [
+        (4, 9, 40, read),
+        (4, 10, 40, read),
+        (4, 11, 40, read),
+        (4, 12, 40, read),
+        (4, 8, 40, "refused 22 Modules"),
+        (1, 2, 10, "refused 22 Modules"),
+        (2, 5, 20, read),
+        (1, 3, 5, read),
+        (1, 3, 4, "refused 21 QuietZone"),
+    ] {
+        let widths = two_widths(alloc, end, ITF14, narrow, wide)?;
+        assert!(rt;
+            says(&rt, widths.as_slice(), 2026, answer)?,
+            "{narrow} {wide}"
+        );
+    }
+    // The last pair 04 in place of 03.
+    let wrong =
+        "1111 1113313311 3111331311 3311111133 1311313113 3313311111 1111333311 1111333113 311";
+    let widths = two_widths(alloc, 10, wrong, 1, 3)?;
+    assert!(rt; says(&rt, widths.as_slice(), 2026, "refused 24 SymbolCheckDigit")?);
+    // The last pair with a third wide space, and a start with a wide space.
+    for groups in [
+        "1111 1113313311 3111331311 3311111133 1311313113 3313311111 1111333311 1313313311 311",
+        "1311 1113313311 3111331311 3311111133 1311313113 3313311111 1111333311 1313313111 311",
+    ] {
+        let widths = two_widths(alloc, 40, groups, 4, 12)?;
+        assert!(rt;
+            says(&rt, widths.as_slice(), 2026, "refused 23 Pattern")?,
+            "{groups}"
+        );
     }
     Ok(())
 }

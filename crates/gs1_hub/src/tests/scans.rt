@@ -13,9 +13,9 @@ use std::sync::Wait;
 use std::test::Fail;
 use std::thread::Threads;
 
-// One label of each kind, and GS1-128 twice.
+// One label of each kind.
 const LABELS: &str = "ean13,9501101530003\nupca,012345000065\nean8,96385074\nupce,012345000065\n\
-                      gs1128,0109501101530003^17261231\ngs1128,10AB^17261231\n";
+                      gs1128,0109501101530003^17261231\nitf14,09501101530003\n";
 
 // The line of the label that is drawn by hand.
 const LINE: &str = "0 0 ]E0 (01)09501101530003\n";
@@ -135,7 +135,7 @@ fn orders_lines_by_column_and_number(rt: HostRuntime) -> Result<(), Fail> {
              0 3 refused 19 Blank\n\
              1 0 ]E0 (01)00012345000065\n\
              1 1 ]E0 (01)00012345000065\n\
-             1 2 ]C1 (10)AB(17)261231\n\
+             1 2 ]I1 (01)09501101530003\n\
              1 3 refused 19 Blank\n",
         ),
         (
@@ -144,7 +144,7 @@ fn orders_lines_by_column_and_number(rt: HostRuntime) -> Result<(), Fail> {
             "0 0 ]E0 (01)09501101530003\n\
              0 1 ]C1 (01)09501101530003(17)261231\n\
              1 0 ]E0 (01)00012345000065\n\
-             1 1 ]C1 (10)AB(17)261231\n\
+             1 1 ]I1 (01)09501101530003\n\
              2 0 ]E4 (01)00000096385074\n\
              2 1 refused 19 Blank\n\
              3 0 ]E0 (01)00012345000065\n\
@@ -158,7 +158,7 @@ fn orders_lines_by_column_and_number(rt: HostRuntime) -> Result<(), Fail> {
              0 2 ]E4 (01)00000096385074\n\
              0 3 ]E0 (01)00012345000065\n\
              0 4 ]C1 (01)09501101530003(17)261231\n\
-             0 5 ]C1 (10)AB(17)261231\n\
+             0 5 ]I1 (01)09501101530003\n\
              0 6 refused 19 Blank\n\
              0 7 refused 19 Blank\n\
              0 8 refused 19 Blank\n\

@@ -5,7 +5,7 @@ use code128_code::{
     Code128Fault, TooManyCharacters, Values, character, check_character, encode, text_of, values,
 };
 use digits_core::Gtin;
-use ean_code::{Modules, ean8, ean13, upce};
+use ean_code::{Modules, Spelled, ean8, ean13, itf14, read_itf14, upce};
 use element_core::{Elements, Year};
 use std::test::Fail;
 
@@ -65,6 +65,11 @@ fn encodes_and_reads_again(rt: HostRuntime) -> Result<(), Fail> {
             b"10A12345".as_slice(),
             [102, 10, 100, 33, 17, 99, 23, 45].as_slice(),
             5,
+        ),
+        (
+            b"70032601021530".as_slice(),
+            [102, 70, 3, 26, 1, 2, 15, 30].as_slice(),
+            101,
         ),
     ] {
         assert_eq!(rt; check_character(105, data), check);
@@ -210,7 +215,7 @@ fn has_widths(modules: Option<Modules>, groups: &str) -> bool {
 }
 
 #[test]
-fn draws_symbols_of_ean_and_upc(rt: HostRuntime) -> Result<(), Fail> {
+fn draws_symbols_of_numbers(rt: HostRuntime) -> Result<(), Fail> {
     let gtin = Gtin::read(b"9501101530003").ok().ok_or("a number")?;
     assert!(rt;
         has_widths(
@@ -228,5 +233,16 @@ fn draws_symbols_of_ean_and_upc(rt: HostRuntime) -> Result<(), Fail> {
     );
     let gtin = Gtin::read(b"012345000065").ok().ok_or("a number")?;
     assert!(rt; has_widths(upce(&gtin), "111 1222 2122 1411 2311 1321 1114 111111"));
+    let gtin = Gtin::read(b"09501101530003").ok().ok_or("a number")?;
+    let mut drawn = itf14(&gtin);
+    assert!(rt; read_itf14(&drawn) == Spelled::Found(gtin));
+    drawn.reverse();
+    assert!(rt; read_itf14(&drawn) == Spelled::NoPattern);
+    assert!(rt;
+        has_widths(
+            Some(itf14(&gtin)),
+            "1111 1113313311 3111331311 3311111133 1311313113 3313311111 1111333311 1313313111 311"
+        )
+    );
     Ok(())
 }

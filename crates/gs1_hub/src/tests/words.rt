@@ -1,8 +1,15 @@
 //! Command lines: what they ask for, which are refused, and which ask for help.
 
-use crate::options::{LaneOptions, PrintOptions, ScanOptions};
+use super::fakes::Narrow;
+use crate::fault::CommandFault;
+use crate::help::write_help;
+use crate::options::{
+    FIRST_YEAR, LAST_YEAR, LaneOptions, MOST_LANES, MOST_WORKERS, PrintOptions, ScanOptions,
+};
 use crate::words::{Asked, WordsFault, read_words};
+use digits_core::ToWriter;
 use element_core::Year;
+use line_core::{MOST_COLUMNS, MOST_HEIGHT, MOST_MODULE_DOTS, MOST_ROWS, MOST_WIDTH};
 use std::alloc::Global;
 use std::test::Fail;
 
@@ -132,25 +139,92 @@ fn refuses_words(rt: HostRuntime) -> Result<(), Fail> {
         let line = refusal(alloc, text)?;
         assert_eq!(rt; line.as_str(), "refused 42 Words", "{text}");
     }
-    for (text, part) in [
-        ("gs1_hub --help", "check"),
-        ("gs1_hub --help", "scan"),
-        ("gs1_hub --help", "lanes"),
-        ("gs1_hub check --help", "--year"),
-        ("gs1_hub lanes --help", "--workers"),
-        ("gs1_hub print --help", "--text"),
-        ("gs1_hub scan --help", "--module"),
-        ("gs1_hub scan --help", "--width"),
-        ("gs1_hub scan --help", "--height"),
-        ("gs1_hub scan --help", "--columns"),
-        ("gs1_hub scan --help", "--rows"),
-        ("gs1_hub scan --help", "--workers"),
-        ("gs1_hub scan --help", "--year"),
-    ] {
-        let fault = read(alloc, text)?.err().ok_or("help")?;
-        let help = fault.to_string(alloc)?;
-        assert!(rt; matches!(fault, WordsFault::Help(_)), "{text}");
-        assert!(rt; help.as_str().contains(part), "{text}");
+    Ok(())
+}
+
+/// The help or the version that a command line asks for.
+fn help(alloc: Global, text: &str) -> Result<String, Fail> {
+    match read(alloc, text)? {
+        Err(WordsFault::Help(help)) => Ok(help),
+        _ => Err("help")?,
     }
+}
+
+#[test]
+fn shows_help_with_units_and_ranges(rt: HostRuntime) -> Result<(), Fail> {
+    let alloc = rt.alloc();
+    let year = format!(in alloc; "--year <YEAR> Year that {FIRST_YEAR} to {LAST_YEAR}")?;
+    let workers = format!(in alloc; "--workers <COUNT> threads 1 to {MOST_WORKERS}")?;
+    let lanes = format!(in alloc; "--lanes <COUNT> lanes 1 to {MOST_LANES}")?;
+    let module = format!(in alloc; "--module <DOTS> module 1 to {MOST_MODULE_DOTS} dots")?;
+    let width = format!(in alloc; "--width <DOTS> cell 1 to {MOST_WIDTH} dots")?;
+    let height = format!(in alloc; "--height <DOTS> cell 1 to {MOST_HEIGHT} dots")?;
+    let columns = format!(in alloc; "--columns <COUNT> Cells sheet 1 to {MOST_COLUMNS}")?;
+    let rows = format!(in alloc; "--rows <COUNT> Cells sheet 1 to {MOST_ROWS}")?;
+    for (command, option) in [
+        ("check", year.as_str()),
+        ("lanes", lanes.as_str()),
+        ("lanes", workers.as_str()),
+        ("lanes", year.as_str()),
+        ("print", module.as_str()),
+        ("print", width.as_str()),
+        ("print", height.as_str()),
+        ("print", columns.as_str()),
+        ("print", rows.as_str()),
+        ("print", year.as_str()),
+        ("print", "--text line label"),
+        ("scan", module.as_str()),
+        ("scan", width.as_str()),
+        ("scan", height.as_str()),
+        ("scan", columns.as_str()),
+        ("scan", rows.as_str()),
+        ("scan", workers.as_str()),
+        ("scan", year.as_str()),
+    ] {
+        let asked = format!(in alloc; "gs1_hub {command} --help")?;
+        let shown = help(alloc, asked.as_str())?;
+        let line = shown
+            .as_str()
+            .lines()
+            .find(|line| option.split(' ').all(|word| line.contains(word)));
+        assert!(rt; line.is_some(), "{command}: {option}");
+        let typed = format!(in alloc; "gs1_hub {command} --")?;
+        let example = shown.as_str().lines().find(|line| line.starts_with("  $ ")
+            && line.contains(typed.as_str()));
+        assert!(rt; example.is_some(), "{command}");
+        let short = format!(in alloc; "gs1_hub {command} -h")?;
+        let same = help(alloc, short.as_str())?;
+        assert_eq!(rt; same.as_str(), shown.as_str(), "{command}");
+    }
+    let shown = help(alloc, "gs1_hub --help")?;
+    for part in [
+        "check",
+        "print",
+        "lanes",
+        "scan",
+        "--help",
+        "--version",
+        "Exit status",
+    ] {
+        assert!(rt; shown.as_str().contains(part), "{part}");
+    }
+    Ok(())
+}
+
+#[test]
+fn writes_the_version(rt: HostRuntime) -> Result<(), Fail> {
+    let alloc = rt.alloc();
+    let wanted = "gs1_hub 1.0.0 (rattle-kit-13b logic dac8208d650f15bf)\n";
+    for text in ["gs1_hub --version", "gs1_hub -V"] {
+        let version = help(alloc, text)?;
+        assert_eq!(rt; version.as_str(), wanted, "{text}");
+    }
+    let mut sink = ToWriter::new(Vec::new(alloc));
+    write_help(wanted, &mut sink)?;
+    assert_eq!(rt; sink.into_inner().as_slice(), wanted.as_bytes());
+    let mut narrow = Narrow::new(alloc, 7);
+    let refused = write_help(wanted, &mut narrow).err();
+    assert_eq!(rt; refused, Some(CommandFault::WriteFault));
+    assert_eq!(rt; narrow.taken(), b"gs1_hub".as_slice());
     Ok(())
 }

@@ -6,7 +6,8 @@ use Rattle.digits_core.specs.Digits.{digits_of, padded}
 use Rattle.digits_core.specs.Gtins.{gtin_fault}
 use Rattle.digits_core.specs.declared.fault.DigitFault.{DigitFault}
 use Rattle.element_core.specs.declared.fault.ElementFault.{ElementFault}
-use Rattle.element_core.specs.Elements.{Entry, FirstFault, IsElements, Listing, gtin_entry, hri}
+use Rattle.element_core.specs.Elements.{Entry, FirstFault, IsElements, Listing, hri}
+use Rattle.sheet_core.specs.Labels.{content_list, content_of, form_of}
 use Rattle.sheet_core.specs.declared.label.Label.{Label}
 use Rattle.sheet_core.specs.declared.label.Label.TheVariants as label
 use Rattle.line_core.specs.input.Spelling.{spelled_text}
@@ -23,6 +24,7 @@ print_kind_named name =
     else if bytes_eq name (codes "upca") then Some kind.UpcA
     else if bytes_eq name (codes "ean8") then Some kind.Ean8
     else if bytes_eq name (codes "upce") then Some kind.UpcE
+    else if bytes_eq name (codes "itf14") then Some kind.Itf14
     else if bytes_eq name (codes "gs1128") then Some kind.Gs1128
     else None
 
@@ -49,6 +51,7 @@ IsLabelAs year kind.Ean13 field r = IsGtinLabel label.Ean13 field r
 IsLabelAs year kind.UpcA field r = IsGtinLabel label.UpcA field r
 IsLabelAs year kind.Ean8 field r = IsGtinLabel label.Ean8 field r
 IsLabelAs year kind.UpcE field r = IsGtinLabel label.UpcE field r
+IsLabelAs year kind.Itf14 field r = IsGtinLabel label.Itf14 field r
 IsLabelAs year kind.Gs1128 field r = IsElementLabel year (spelled_text field) r
 
 -- the same by the name of the kind
@@ -63,21 +66,9 @@ print_meaning year _ r = r ≡ Err fault.Csv
 
 -- ---- what is written
 
--- the name of a label's kind
-abbrev pub kind_name : Label → List ℕ
-kind_name (label.Ean13 gtin) = codes "ean13"
-kind_name (label.UpcA gtin) = codes "upca"
-kind_name (label.Ean8 gtin) = codes "ean8"
-kind_name (label.UpcE gtin) = codes "upce"
-kind_name (label.Gs1128 es) = codes "gs1128"
-
 -- the elements that a label says
 abbrev pub label_list : Label → List Entry
-label_list (label.Ean13 gtin) = gtin_entry gtin ∷ []
-label_list (label.UpcA gtin) = gtin_entry gtin ∷ []
-label_list (label.Ean8 gtin) = gtin_entry gtin ∷ []
-label_list (label.UpcE gtin) = gtin_entry gtin ∷ []
-label_list (label.Gs1128 es) = es.list
+label_list l = content_list (content_of l)
 
 -- the human-readable line of a label
 abbrev pub label_hri : Label → List ℕ
@@ -85,7 +76,7 @@ label_hri l = hri (label_list l)
 
 -- a line: the sheet, the cell in it, the kind, the human-readable line and a line feed
 abbrev pub label_line : ℕ → ℕ → Label → List ℕ
-label_line cells i l = decimal (i / cells) ++ (32 ∷ []) ++ decimal (i % cells) ++ (32 ∷ []) ++ kind_name l ++ (32 ∷ []) ++ label_hri l ++ (10 ∷ [])
+label_line cells i l = decimal (i / cells) ++ (32 ∷ []) ++ decimal (i % cells) ++ (32 ∷ []) ++ (form_of l).name ++ (32 ∷ []) ++ label_hri l ++ (10 ∷ [])
 
 -- the lines of labels, from an index on, where a sheet has so many cells
 abbrev pub label_lines_from : ℕ → ℕ → List Label → List ℕ

@@ -31,7 +31,7 @@ fn push_answer(text: &mut String, answer: &Answer) -> Result<(), AllocError>
         Answer::Read { carrier, elements } => {
             text.push_str(carrier.identifier())?;
             text.push(' ')?;
-            text.push_str(elements.hri().as_str())
+            elements.push_hri(text)
         }
         Answer::Refused(fault) => write!(text, "{fault}"),
     }

@@ -1,6 +1,6 @@
 //! The lines of labels.
 ghost use Rattle.std.specs.Prelude.{◌≡◌, ◌++◌, ◌<◌, IfOk, OnOk, string_bytes};
-ghost use Rattle.line_core.specs.print.Labels.{kind_name, label_hri, label_line, label_lines};
+ghost use Rattle.line_core.specs.print.Labels.{label_hri, label_line, label_lines};
 
 use arrayvec::ArrayString;
 use element_core::{Elements, Year};
@@ -8,27 +8,16 @@ use sheet_core::Label;
 use std::alloc::{AllocError, Global};
 use std::fmt::Write;
 
-/// The name of a label's kind.
-fn kind_name(label: &Label) -> &'static str
-    ensures { result.now ≡ kind_name label.now }
-{
-    match label {
-        Label::Ean13(_) => "ean13",
-        Label::UpcA(_) => "upca",
-        Label::Ean8(_) => "ean8",
-        Label::UpcE(_) => "upce",
-        Label::Gs1128(_) => "gs1128",
-    }
-}
-
 /// The human-readable line of a label.
 fn label_hri(label: &Label, year: Year) -> ArrayString<288>
     ensures { result.bytes ≡ label_hri label.now }
 {
     match label {
-        Label::Ean13(gtin) | Label::UpcA(gtin) | Label::Ean8(gtin) | Label::UpcE(gtin) => {
-            Elements::of_gtin(gtin, year).hri()
-        }
+        Label::Ean13(gtin)
+        | Label::UpcA(gtin)
+        | Label::Ean8(gtin)
+        | Label::UpcE(gtin)
+        | Label::Itf14(gtin) => Elements::of_gtin(gtin, year).hri(),
         Label::Gs1128(elements) => elements.hri(),
     }
 }
@@ -47,7 +36,7 @@ fn push_line(
 {
     let sheet = index / cells;
     let cell = index % cells;
-    let kind = kind_name(label);
+    let kind = label.form().name;
     let line = label_hri(label, year);
     let elements = line.as_str();
     writeln!(text, "{sheet} {cell} {kind} {elements}")

@@ -24,6 +24,8 @@ pub enum PrintKind {
     Ean8,
     /// A GTIN as a UPC-E.
     UpcE,
+    /// A GTIN as an ITF-14.
+    Itf14,
     /// An element string, in which `^` stands for the separator, as a GS1-128.
     Gs1128,
 }
@@ -40,6 +42,8 @@ fn print_kind_named(name: &[u8]) -> Option<PrintKind>
         Some(PrintKind::Ean8)
     } else if name == b"upce".as_slice() {
         Some(PrintKind::UpcE)
+    } else if name == b"itf14".as_slice() {
+        Some(PrintKind::Itf14)
     } else if name == b"gs1128".as_slice() {
         Some(PrintKind::Gs1128)
     } else {
@@ -65,6 +69,7 @@ fn label_as(kind: PrintKind, field: &[u8], year: Year) -> Result<Label, RecordFa
         PrintKind::UpcA => Ok(Label::UpcA(gtin_in(field)?)),
         PrintKind::Ean8 => Ok(Label::Ean8(gtin_in(field)?)),
         PrintKind::UpcE => Ok(Label::UpcE(gtin_in(field)?)),
+        PrintKind::Itf14 => Ok(Label::Itf14(gtin_in(field)?)),
         PrintKind::Gs1128 => match read_elements(field, year) {
             Ok(elements) => Ok(Label::Gs1128(elements)),
             Err(fault) => Err(RecordFault::Elements(fault)),

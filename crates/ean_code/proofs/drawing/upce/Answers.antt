@@ -1,7 +1,7 @@
 use Rattle.std.proofs.Common.{rules, ◌≡◌, ℕ, List, [], ◌∷◌, ◌++◌, ◌-◌, ◌∙◌, sym, subst, take, get_or}
 use Rattle.std.proofs.lemmas.Option.{IfSome_then}
 use Rattle.digits_core.specs.Digits.{IsChecked, digits_of}
-use Rattle.ean_code.specs.Symbols.{IsEanSymbol, widths_of}
+use Rattle.ean_code.specs.Symbols.{IsNumberSymbol, widths_of}
 use Rattle.ean_code.specs.Symbols.Kind.{UpcE}
 use Rattle.ean_code.specs.Widths.{AreModules}
 use Rattle.ean_code.proofs.Drawn.{symbol_valid}
@@ -27,5 +27,5 @@ returns-clause-none c =
     let six : List ℕ = digits_of c.in-Some.spelled.0 in
     let check : ℕ = c.in-Some.spelled.1 - 48 in
     let drawn : c.as_slice.result.now ≡ widths_of UpcE (six ++ check ∷ []) = c.as_slice.ensures.value ∙ c.upce_widths.ensures in
-    let symbol : IsEanSymbol UpcE c.as_slice.result.now (six ++ check ∷ []) = upce_drawn six check c.args.gtin.now c.as_slice.result.now c.in-Some.ensures.some.spelling drawn in
+    let symbol : IsNumberSymbol UpcE c.as_slice.result.now (six ++ check ∷ []) = upce_drawn six check c.args.gtin.now c.as_slice.result.now c.in-Some.ensures.some.spelling drawn in
     not_none _ c.of.result (c.of.ensures.valid.1 (subst AreModules (sym drawn) (symbol_valid UpcE (six ++ check ∷ []) symbol.count symbol.valid)))

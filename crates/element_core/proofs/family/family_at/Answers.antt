@@ -1,26 +1,28 @@
-use Rattle.std.proofs.Common.{◌≡◌, ◌≤◌, ℕ, List, Option, Some, None, length}
+use Rattle.std.proofs.Common.{◌≡◌, ◌≤◌, ◌∙◌, ℕ, List, Option, Some, None, length, sym}
 use Rattle.std.specs.Prelude.{option_map, IfSome}
 use Rattle.element_core.specs.declared.family.AiFamily.{AiFamily}
 use Rattle.element_core.specs.Table.{row_at}
 use Rattle.element_core.specs.Families.{row_with}
 use Rattle.element_core.proofs.FamilyLemmas.{family_few, family_short}
-use Rattle.std.proofs.Common.{◌∙◌}
-use Rattle.element_core.proofs.FamilyLemmas.{row_by_table}
+use Rattle.element_core.proofs.FirstDigits.{row_by_first_two, too_short}
 use Rattle.element_core.proofs.family.family_at.Goals as goal
 
-pub returns-clause-row : goal.returns-clause-row
-returns-clause-row c = c.first_with.ensures.row ∙ row_by_table _ _ c.all_families.ensures
+pub returns-in_default-clause-row : goal.returns-in_default-clause-row
+returns-in_default-clause-row c = sym (too_short c.args.text.now c.in_default.len_below)
+
+pub returns-in-len2-up-clause-row : goal.returns-in-len2-up-clause-row
+returns-in-len2-up-clause-row c = c.first_with.ensures.row ∙ row_by_first_two c.families_with.result.now c.args.text.now c.in-len2-up.len_at_least c.families_with.ensures
 
 short : (r : Option AiFamily) (text : List ℕ) → option_map (λ f. row_with f text) r ≡ row_at text → IfSome r (λ f. length f.least.now ≤ length text) → IfSome r (λ f. length f.least.now ≤ 4)
 short None text e w = tt
 short (Some f) text e w = family_short f text e w
 
-pub returns-clause-short : goal.returns-clause-short
-returns-clause-short c = short c.first_with.result c.args.text.now (returns-clause-row c) c.first_with.ensures.within
+pub returns-in-len2-up-clause-short : goal.returns-in-len2-up-clause-short
+returns-in-len2-up-clause-short c = short c.first_with.result c.args.text.now (returns-in-len2-up-clause-row c) c.first_with.ensures.within
 
 few : (r : Option AiFamily) (text : List ℕ) → option_map (λ f. row_with f text) r ≡ row_at text → IfSome r (λ f. length f.parts.now ≤ 2)
 few None text e = tt
 few (Some f) text e = family_few f text e
 
-pub returns-clause-few : goal.returns-clause-few
-returns-clause-few c = few c.first_with.result c.args.text.now (returns-clause-row c)
+pub returns-in-len2-up-clause-few : goal.returns-in-len2-up-clause-few
+returns-in-len2-up-clause-few c = few c.first_with.result c.args.text.now (returns-in-len2-up-clause-row c)

@@ -1,7 +1,14 @@
-use Rattle.std.proofs.Common.{◌≡◌, ◌++◌, drop}
-use Rattle.element_core.specs.Drafts.{elements_in}
+use Rattle.std.proofs.Common.{◌≡◌, ◌++◌, length}
 use Rattle.element_core.specs.Elements.{hri}
+use Rattle.element_core.specs.Shown.{shown_elements}
+use Rattle.element_core.specs.Walks.{AreAscii}
 use Rattle.element_core.proofs.hri.line_of.Given as goal
 
-abbrev pub invariant-loop-cut : goal.invariant-loop-cut
-invariant-loop-cut l = l.line.bytes ++ hri (elements_in l.text (drop l.cut-index l.cuts)) ≡ hri (elements_in l.text l.cuts)
+abbrev pub invariant-loop-front : goal.invariant-loop-front
+invariant-loop-front l = record {
+  line : l.line.bytes ++ hri (shown_elements l.rest) ≡ hri (shown_elements l.text);
+  ascii : AreAscii (shown_elements l.rest);
+}
+
+abbrev pub decreases-loop-front : goal.decreases-loop-front
+decreases-loop-front l = length l.rest

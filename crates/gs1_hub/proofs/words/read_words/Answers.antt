@@ -14,8 +14,11 @@ use Rattle.gs1_hub.proofs.words.read_words.Goals as goal
 explained : (words : List Text) (e : Error) (f : WordsFault) → HasKind (fault_of hub_app words) e → FaultOfKind (kind_of e) f → Explains words f
 explained words e fault.Words (inl h) k = absurd (k.0 h)
 explained words e fault.Words (inr h) k = (kind_of e, h, k.1)
-explained words e (fault.Help text) (inl h) k = cc (h, k)
-explained words e (fault.Help text) (inr h) k = rw (← k) h
+explained words e (fault.Help text) (inl h) k = absurd (elim k [
+  | inl help ↦ cc (h, help)
+  | inr version ↦ cc (h, version)
+])
+explained words e (fault.Help text) (inr h) k = (kind_of e, h, k)
 explained words e fault.NoMemory h k = tt
 
 -- by the command that was built

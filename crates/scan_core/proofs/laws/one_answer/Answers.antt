@@ -1,4 +1,4 @@
-use Rattle.ean_code.specs.Symbols.Kind.{Ean13, Ean8, UpcE}
+use Rattle.ean_code.specs.Symbols.Kind.{Ean13, Ean8, UpcE, Itf14}
 use Rattle.scan_core.proofs.AnswerFacts.{one_answer as law}
 use Rattle.scan_core.proofs.ShownFacts.{EachOneWay}
 use Rattle.scan_core.proofs.laws.one_answer.Goals as goal
@@ -7,6 +7,7 @@ each_way : (c : goal.After-one_answer) → EachOneWay
 each_way c Ean13 = c.one_way.ensures.ean13
 each_way c Ean8 = c.one_way.ensures.ean8
 each_way c UpcE = c.one_way.ensures.upce
+each_way c Itf14 = c.one_way.ensures.itf14
 
 pub returns : goal.returns
 returns c =

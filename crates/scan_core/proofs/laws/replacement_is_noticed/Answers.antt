@@ -1,7 +1,7 @@
 use Rattle.std.proofs.Common.{set}
 use Rattle.ean_code.specs.Laws.{ReplacedIsUnchecked}
 use Rattle.ean_code.specs.Symbols.{Kind, widths_of}
-use Rattle.ean_code.specs.Symbols.Kind.{Ean13, Ean8, UpcE}
+use Rattle.ean_code.specs.Symbols.Kind.{Ean13, Ean8, UpcE, Itf14}
 use Rattle.scan_core.specs.Showing.{carrier_of}
 use Rattle.scan_core.proofs.ReplacedFacts.{replaced_spells}
 use Rattle.scan_core.proofs.laws.replacement_is_noticed.Goals as goal
@@ -10,6 +10,7 @@ each_kind : (c : goal.After-replaced_is_unchecked) → (kind : Kind) → Replace
 each_kind c Ean13 = c.replaced_is_unchecked.ensures.ean13
 each_kind c Ean8 = c.replaced_is_unchecked.ensures.ean8
 each_kind c UpcE = c.replaced_is_unchecked.ensures.upce
+each_kind c Itf14 = c.replaced_is_unchecked.ensures.itf14
 
 pub returns : goal.returns
 returns c = λ kind digits gtin runs k d year way row count valid number checked place low other shows. (

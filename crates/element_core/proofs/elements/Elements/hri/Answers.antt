@@ -1,15 +1,22 @@
-use Rattle.std.proofs.Common.{◌<◌, List, ℕ, sym, subst}
-use Rattle.std.specs.Prelude.{All}
-use Rattle.element_core.proofs.Letters.{listing_ascii}
+use Rattle.std.proofs.Common.{List, [], ℕ, length, ◌≤◌, sym, subst}
+use Rattle.element_core.specs.Elements.{hri}
+use Rattle.element_core.specs.Shown.{shown_elements}
+use Rattle.element_core.specs.Walks.{AreAscii}
+use Rattle.element_core.proofs.Canonical.{elements_are}
+use Rattle.element_core.proofs.Listed.{elements_ascii}
 use Rattle.element_core.proofs.Lines.{hri_fits}
+use Rattle.element_core.proofs.PieceLemmas.{from_left}
 use Rattle.element_core.proofs.elements.Elements.hri.Goals as goal
 
 pub line_of-requires-clause-ascii : goal.line_of-requires-clause-ascii
 line_of-requires-clause-ascii c =
     let i = c.self.invariant in
-    subst (λ (t : List ℕ). All (λ b. b < 128) t) (sym c.as_slice.ensures.value) (listing_ascii c.self.inside.year c.self.inside.text.items _ i.elements i.canonical_text)
+    let es = shown_elements c.self.inside.text.items in
+    subst (λ (t : List ℕ). AreAscii (shown_elements t)) (sym c.as_slice.ensures.value)
+    (elements_ascii c.self.inside.year es (elements_are c.self.inside.year c.self.inside.text.items es [] (from_left c.self.inside.year c.self.inside.text.items es [] i.elements.reads)))
 
 pub line_of-requires-clause-room : goal.line_of-requires-clause-room
 line_of-requires-clause-room c =
     let i = c.self.invariant in
-    rw (c.as_slice.ensures.value, c.as_slice-2.ensures.value) (hri_fits c.self.inside.year c.self.inside.text.items _ i.elements i.canonical_text)
+    subst (λ (t : List ℕ). length (hri (shown_elements t)) ≤ 288) (sym c.as_slice.ensures.value)
+    (hri_fits c.self.inside.year c.self.inside.text.items (shown_elements c.self.inside.text.items) i.elements i.canonical_text)

@@ -1,0 +1,48 @@
+-- Interleaved 2 of 5, in which ITF-14 is drawn (ISO/IEC 16390, symbol character encodation; GS1 General Specifications, section 5.3). A narrow
+-- element is one module here and a wide one three; of five elements of a digit two are wide.
+use Rattle.std.specs.Prelude.{◌≡◌, ℕ, ◌+◌, ◌*◌, ◌/◌, ◌%◌, ◌⊎◌, List, [], ◌∷◌, ◌++◌, slice_index_or}
+use Rattle.std.specs.List.{flat_map, fold, zip, AllByRecursion}
+
+-- the five widths of the digits 0 to 9, in bars as in spaces
+abbrev pub two_of_five : List (List ℕ)
+two_of_five =
+    (1 ∷ 1 ∷ 3 ∷ 3 ∷ 1 ∷ []) ∷ (3 ∷ 1 ∷ 1 ∷ 1 ∷ 3 ∷ []) ∷ (1 ∷ 3 ∷ 1 ∷ 1 ∷ 3 ∷ []) ∷ (3 ∷ 3 ∷ 1 ∷ 1 ∷ 1 ∷ []) ∷ (1 ∷ 1 ∷ 3 ∷ 1 ∷ 3 ∷ [])
+    ∷ (3 ∷ 1 ∷ 3 ∷ 1 ∷ 1 ∷ []) ∷ (1 ∷ 3 ∷ 3 ∷ 1 ∷ 1 ∷ []) ∷ (1 ∷ 1 ∷ 1 ∷ 3 ∷ 3 ∷ []) ∷ (3 ∷ 1 ∷ 1 ∷ 3 ∷ 1 ∷ []) ∷ (1 ∷ 3 ∷ 1 ∷ 3 ∷ 1 ∷ []) ∷ []
+
+-- the five widths of a digit
+abbrev pub five_widths : ℕ → List ℕ
+five_widths d = slice_index_or two_of_five d []
+
+-- bars and spaces in turn, a bar first
+abbrev pub in_turn : List ℕ → List ℕ → List ℕ
+in_turn bars spaces = flat_map (λ (p : ℕ × ℕ). p.0 ∷ p.1 ∷ []) (zip bars spaces)
+
+-- two digits, the first in the bars and the second in the spaces between and after them
+abbrev pub pair_widths : ℕ × ℕ → List ℕ
+pair_widths (first, second) = in_turn (five_widths first) (five_widths second)
+
+-- digits two by two
+abbrev pub in_pairs : List ℕ → List (ℕ × ℕ)
+in_pairs (first ∷ second ∷ ds) = (first, second) ∷ in_pairs ds
+in_pairs (d ∷ []) = []
+in_pairs [] = []
+
+-- the start pattern
+abbrev pub itf_start : List ℕ
+itf_start = 1 ∷ 1 ∷ 1 ∷ 1 ∷ []
+
+-- the stop pattern
+abbrev pub itf_stop : List ℕ
+itf_stop = 3 ∷ 1 ∷ 1 ∷ []
+
+-- the digits, an even number of them, between start and stop
+abbrev pub itf_widths : List ℕ → List ℕ
+itf_widths ds = itf_start ++ (flat_map pair_widths (in_pairs ds) ++ itf_stop)
+
+-- each is narrow or wide
+abbrev pub AreTwoWidths : List ℕ → Type 0
+AreTwoWidths widths = AllByRecursion (λ w. (w ≡ 1) ⊎ (w ≡ 3)) widths
+
+-- five widths as one number: a bit each, set where it is wide, the first highest
+abbrev pub packed_five : List ℕ → ℕ
+packed_five widths = fold (λ n w. 2 * n + w / 2 % 2) 0 widths

@@ -1,0 +1,294 @@
+"""Compares what other readers and the program make of a hundred texts of each kind of label.
+
+Usage: compare.py PROGRAM FOLDER. The folder takes the images. The texts are the same at each run.
+"""
+import concurrent.futures
+import random
+import re
+import subprocess
+import sys
+
+COUNT = 100
+MODULE = 2
+YEAR = "2026"
+
+# The characters that a value may have (GS1 General Specifications, figure 7.11-1).
+CHARACTERS = "!\"%&'()*+,-./0123456789:;<=>?ABCDEFGHIJKLMNOPQRSTUVWXYZ_abcdefghijklmnopqrstuvwxyz"
+
+
+def digits(chance, count):
+    return "".join(chance.choice("0123456789") for _ in range(count))
+
+
+def checked(text):
+    """The digits with their check digit (GS1 General Specifications, 7.9.1)."""
+    total = sum(int(digit) * (3, 1)[i % 2] for i, digit in enumerate(reversed(text)))
+    return text + str(-total % 10)
+
+
+def gtin12(upce):
+    """The GTIN-12 of the eight digits of a UPC-E (GS1 General Specifications, figure 5.2.2.4-1)."""
+    d, last = upce[1:7], int(upce[6])
+    if last <= 2:
+        body = d[:2] + d[5] + "0000" + d[2:5]
+    elif last == 3:
+        body = d[:3] + "00000" + d[3:5]
+    elif last == 4:
+        body = d[:4] + "00000" + d[4]
+    else:
+        body = d[:5] + "0000" + d[5]
+    return checked("0" + body)
+
+
+class Text:
+    """A label: what `print` and zint take for it, what it says, and that as a human reads it."""
+
+    def __init__(self, ours, zint, says, hri):
+        self.ours, self.zint, self.says, self.hri = ours, zint, says, hri
+
+
+def of_gtin(gtin, zint=None):
+    says = gtin.zfill(14)
+    return Text(gtin, zint or gtin[:-1], says, "(01)" + says)
+
+
+def gtin(count, first="0123456789"):
+    """A GTIN of so many digits, of which the first is one of these. zint adds the check digit."""
+    return lambda chance: of_gtin(checked(chance.choice(first) + digits(chance, count - 2)))
+
+
+def upce(chance):
+    six = list(digits(chance, 6))
+    # The first spelling of a number: no later line of the table has another.
+    if six[5] == "3":
+        six[2] = chance.choice("3456789")
+    elif six[5] == "4":
+        six[3] = chance.choice("123456789")
+    elif six[5] in "56789":
+        six[4] = chance.choice("123456789")
+    seven = "0" + "".join(six)
+    return of_gtin(gtin12(seven + "0"), seven)
+
+
+def date(chance):
+    return "%02d%02d%02d" % (chance.randrange(100), chance.randrange(1, 13), chance.randrange(1, 29))
+
+
+def characters(most):
+    return lambda chance: "".join(chance.choice(CHARACTERS) for _ in range(chance.randrange(1, most + 1)))
+
+
+def numbers(least, most):
+    return lambda chance: digits(chance, chance.randrange(least, most + 1))
+
+
+def checked_numbers(count):
+    return lambda chance: checked(digits(chance, count - 1))
+
+
+# An AI, whether its length is predefined, and its value (GS1 General Specifications, section 3.2).
+ELEMENTS = [
+    ("00", True, checked_numbers(18)),
+    ("01", True, checked_numbers(14)),
+    ("02", True, checked_numbers(14)),
+    ("10", False, characters(20)),
+    ("11", True, date),
+    ("12", True, date),
+    ("13", True, date),
+    ("15", True, date),
+    ("16", True, date),
+    ("17", True, date),
+    ("20", True, numbers(2, 2)),
+    ("21", False, characters(20)),
+    ("22", False, characters(20)),
+    ("30", False, numbers(1, 8)),
+    ("37", False, numbers(1, 8)),
+    ("240", False, characters(30)),
+    ("241", False, characters(30)),
+    ("250", False, characters(30)),
+    ("254", False, characters(20)),
+    ("3103", True, numbers(6, 6)),
+    ("3202", True, numbers(6, 6)),
+    ("3370", True, numbers(6, 6)),
+    ("3922", False, numbers(1, 15)),
+    ("400", False, characters(30)),
+    ("403", False, characters(30)),
+    ("410", True, checked_numbers(13)),
+    ("414", True, checked_numbers(13)),
+    ("420", False, characters(20)),
+    ("90", False, characters(30)),
+    ("91", False, characters(40)),
+    ("99", False, characters(40)),
+]
+
+
+def gs1128(chance):
+    """Up to four elements of different AIs, in at most 48 characters."""
+    while True:
+        elements = [(ai, fixed, value(chance))
+                    for ai, fixed, value in chance.sample(ELEMENTS, chance.randrange(1, 5))]
+        says = ""
+        for i, (ai, fixed, value) in enumerate(elements):
+            last = i + 1 == len(elements)
+            says += ai + value + ("" if fixed or last else "\x1d")
+        if len(says) <= 48:
+            break
+    return Text(says.replace("\x1d", "^"),
+                "".join("[%s]%s" % (ai, value) for ai, fixed, value in elements),
+                says, "".join("(%s)%s" % (ai, value) for ai, fixed, value in elements))
+
+
+class Kind:
+    """A kind of label: the names that the program, zint and the readers have for it, the width of
+    its widest symbol with its quiet zones in modules, and how a text of it is made."""
+
+    def __init__(self, name, identifier, zint, zbar, zxing, modules, text):
+        self.name, self.identifier, self.zint = name, identifier, zint
+        self.zbar, self.zxing, self.modules, self.text = zbar, zxing, modules, text
+
+
+# A further kind is one line here; gtin(14) makes the texts of one that shows a GTIN-14.
+KINDS = [
+    Kind("ean13", "]E0", "EANX", "EAN-13", "EAN-13", 113, gtin(13, "123456789")),
+    Kind("upca", "]E0", "UPCA", "EAN-13", "UPC-A", 113, gtin(12)),
+    Kind("ean8", "]E4", "EANX", "EAN-8", "EAN-8", 81, gtin(8)),
+    Kind("upce", "]E0", "UPCE", "EAN-13", "UPC-E", 67, upce),
+    Kind("itf14", "]I1", "ITF14", "I2/5", "ITF", 155, gtin(14)),
+    Kind("gs1128", "]C1", "GS1_128", "CODE-128", "Code128", 594, gs1128),
+]
+
+
+def run(words, data=b""):
+    return subprocess.run(words, input=data, stdout=subprocess.PIPE, stderr=subprocess.PIPE)
+
+
+def quoted(text):
+    return '"' + text.replace('"', '""') + '"'
+
+
+def number(kind, read):
+    """What a reader read, where it is a number, as 14 digits; UPC-E is read as its eight."""
+    if kind.name == "gs1128":
+        return read
+    if kind.name == "upce" and len(read) == 8:
+        read = gtin12(read)
+    return read.zfill(14)
+
+
+def images_of(data):
+    """The PBM images that stand one after another."""
+    images = []
+    while data:
+        header = re.match(rb"P4\n(\d+) (\d+)\n", data)
+        width, height = int(header[1]), int(header[2])
+        end = header.end() + (width + 7) // 8 * height
+        images.append(data[:end])
+        data = data[end:]
+    return images
+
+
+def by_zbarimg(kind, image):
+    """The symbology and the text that zbarimg reads in an image."""
+    told = run(["zbarimg", "--quiet", "--nodbus", image]).stdout.decode("latin-1")
+    name, _, read = told.rstrip("\n").partition(":")
+    return name, number(kind, read)
+
+
+def by_zxing(kind, image):
+    """The symbology, the identifier and the text that ZXingReader reads in an image."""
+    told = run(["ZXingReader", image]).stdout.decode("latin-1")
+    found = dict(re.findall(r"^(\w+): +(.*?) *$", told, re.MULTILINE))
+    read = bytes.fromhex(found.get("Bytes", "")).decode("latin-1")
+    return found.get("Format"), found.get("Identifier"), number(kind, read)
+
+
+def printed(program, kind, texts, folder):
+    """The sheets of the texts, one label each, as PNG files."""
+    records = "".join("%s,%s\n" % (kind.name, quoted(text.ours)) for text in texts)
+    sizes = ["--module", str(MODULE), "--width", str(MODULE * kind.modules), "--height", "100"]
+    run_print = run([program, "print", *sizes, "--columns", "1", "--rows", "1", "--year", YEAR],
+                    records.encode())
+    if run_print.returncode != 0:
+        sys.exit("print: " + run_print.stderr.decode())
+    paths = []
+    for i, image in enumerate(images_of(run_print.stdout)):
+        paths.append("%s/%s-%d.png" % (folder, kind.name, i))
+        with open(paths[-1], "wb") as file:
+            file.write(run(["pnmtopng"], image).stdout)
+    return paths
+
+
+def drawn(kind, text, path):
+    """The runs of the middle row of zint's symbol, in dots, light first and light last."""
+    told = run(["zint", "--barcode=" + kind.zint, "--data=" + text.zint, "--output=" + path, "--notext",
+                "--scale=1", "--height=20", "--whitesp=12", "--bind", "--border=0"])
+    if told.returncode != 0:
+        sys.exit("zint: %s: %s" % (text.zint, told.stderr.decode()))
+    with open(path, "rb") as file:
+        plain = run(["pngtopnm", "-plain"], file.read()).stdout.split()
+    width, height = int(plain[1]), int(plain[2])
+    # P1 has 1 for a dark dot and no blanks between dots that are wanted; P2 and P3 have 0 for it.
+    if plain[0] == b"P1":
+        dots = [dot == 49 for dot in b"".join(plain[3:])]
+    elif plain[0] == b"P2":
+        dots = [shade == b"0" for shade in plain[4:]]
+    else:
+        dots = [shade == b"0" for shade in plain[4::3]]
+    row = dots[height // 2 * width:][:width]
+    runs, dark = [0], False
+    for dot in row:
+        if dot != dark:
+            runs.append(0)
+            dark = dot
+        runs[-1] += 1
+    return runs if len(runs) % 2 else runs + [0]
+
+
+def answered(program, rows):
+    """The answers of `lanes` to the rows, in their order."""
+    records = "".join("0,%s\n" % " ".join(map(str, runs)) for runs in rows)
+    told = run([program, "lanes", "--lanes", "1", "--workers", "2", "--year", YEAR], records.encode())
+    return [line.split(" ", 2)[2] for line in told.stdout.decode().splitlines()]
+
+
+def compare(name, wanted, found):
+    """Says how many are as wanted, and each other one."""
+    right = 0
+    for want, find in zip(wanted, found):
+        if want == find:
+            right += 1
+        else:
+            print("%s: wanted %r, found %r" % (name, want, find), file=sys.stderr)
+    print("%s: %d of %d" % (name, right, len(wanted)))
+    return right, len(wanted)
+
+
+def try_kind(program, kind, folder, pool):
+    chance = random.Random(kind.name)
+    texts = [kind.text(chance) for _ in range(COUNT)]
+    paths = printed(program, kind, texts, folder)
+    yield compare("%s, printed, by zbarimg" % kind.name, [(kind.zbar, text.says) for text in texts],
+                  list(pool.map(lambda path: by_zbarimg(kind, path), paths)))
+    yield compare("%s, printed, by ZXingReader" % kind.name,
+                  [(kind.zxing, kind.identifier, text.says) for text in texts],
+                  list(pool.map(lambda path: by_zxing(kind, path), paths)))
+    rows = list(pool.map(lambda i: drawn(kind, texts[i], "%s/zint-%s-%d.png" % (folder, kind.name, i)),
+                         range(COUNT)))
+    wanted = ["%s %s" % (kind.identifier, text.hri) for text in texts]
+    yield compare("%s, of zint, by lanes" % kind.name, wanted, answered(program, rows))
+    yield compare("%s, of zint and turned, by lanes" % kind.name, wanted,
+                  answered(program, [runs[::-1] for runs in rows]))
+
+
+def main():
+    program, folder = sys.argv[1:]
+    right = tried = 0
+    with concurrent.futures.ThreadPoolExecutor() as pool:
+        for kind in KINDS:
+            for found, wanted in try_kind(program, kind, folder, pool):
+                right, tried = right + found, tried + wanted
+    print("%d kinds: %d of %d" % (len(KINDS), right, tried))
+    sys.exit(0 if right == tried else 1)
+
+
+main()

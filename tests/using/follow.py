@@ -1,0 +1,58 @@
+"""Runs the commands of a page and compares what they print with what the page shows.
+
+Usage: follow.py NAME < PAGE, in the folder in which the commands are run. A command is a line that
+begins with `$ `, in a block between lines of three backquotes or indented by two spaces; what it
+prints, on standard output and standard error, is the lines after it in the same block, up to the next
+command. Each command is run by bash with an empty standard input.
+"""
+import subprocess
+import sys
+
+
+def blocks(page):
+    """The blocks of a page, each a list of lines without its indentation."""
+    block, fenced = [], False
+    for line in page.splitlines():
+        if line.startswith("```"):
+            fenced = not fenced
+            yield block
+            block = []
+        elif fenced:
+            block.append(line)
+        elif line.startswith("  "):
+            block.append(line[2:])
+        else:
+            yield block
+            block = []
+    yield block
+
+
+def commands(block):
+    """The commands of a block, each with the lines that it prints."""
+    found = []
+    for line in block:
+        if line.startswith("$ "):
+            found.append((line[2:], []))
+        elif found:
+            found[-1][1].append(line)
+    return found
+
+
+def main():
+    name = sys.argv[1]
+    ran = differ = 0
+    for block in blocks(sys.stdin.read()):
+        for command, lines in commands(block):
+            told = subprocess.run(["bash", "-c", command], stdin=subprocess.DEVNULL,
+                                  stdout=subprocess.PIPE, stderr=subprocess.STDOUT)
+            wanted = "".join(line + "\n" for line in lines)
+            found = told.stdout.decode("utf-8", "replace")
+            ran += 1
+            if found != wanted:
+                differ += 1
+                print("%s: $ %s\nwanted:\n%sfound:\n%s" % (name, command, wanted, found), file=sys.stderr)
+    print("%s: %d commands, %d differ" % (name, ran, differ))
+    sys.exit(0 if ran and not differ else 1)
+
+
+main()
