@@ -9,8 +9,6 @@ use Rattle.scan_core.specs.declared.carrier.Carrier.{Carrier}
 use Rattle.scan_core.specs.declared.carrier.Carrier.TheVariants as carrier
 use Rattle.scan_core.specs.declared.answer.Answer.{Answer}
 use Rattle.scan_core.specs.declared.answer.Answer.TheVariants as answer
-use Rattle.lane_core.specs.declared.job.Plain.{Plain}
-use Rattle.hub_core.specs.Laws.{AreAnswersOf}
 
 -- the symbology identifier of a carrier (GS1 General Specifications, section 5.1.3)
 abbrev pub identifier : Carrier → List ℕ
@@ -43,9 +41,16 @@ lanes_from lane (answers ∷ rest) = lines_from lane 0 answers ++ lanes_from (la
 abbrev pub report : List (List Answer) → List ℕ
 report = lanes_from 0
 
--- the text is the report of the answers of these deliveries
-abbrev pub IsReportOf : List (List Plain) → List ℕ → Type 0
-IsReportOf lists text = (answers : List (List Answer)) × AllZip AreAnswersOf lists answers × (text ≡ report answers)
+-- the lines of each lane, from one on
+abbrev pub lane_lines : ℕ → List (List Answer) → List (List ℕ)
+lane_lines lane [] = []
+lane_lines lane (answers ∷ rest) = lines_from lane 0 answers ∷ lane_lines (lane + 1) rest
+
+-- the texts of the lanes, from one on, each with the lines of the lane's next answers from a number on
+abbrev pub with_lines : ℕ → ℕ → List (List ℕ) → List (List Answer) → List (List ℕ)
+with_lines lane number [] rest = []
+with_lines lane number (text ∷ texts) [] = []
+with_lines lane number (text ∷ texts) (answers ∷ rest) = (text ++ lines_from lane number answers) ∷ with_lines (lane + 1) number texts rest
 
 -- the text is the report of the answers to these rows under the reference year
 abbrev pub IsReport : ℕ → List (List (List ℕ)) → List ℕ → Type 0
