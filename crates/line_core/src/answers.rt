@@ -1,3 +1,4 @@
-//! Rows that are answered: the report of their answers.
+//! Rows that are answered: the runs in which they are served, and the report of their answers.
 mod report;
+mod rest;
 pub mod serving;

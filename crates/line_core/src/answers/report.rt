@@ -1,9 +1,10 @@
 //! The lines that answer rows.
-ghost use Rattle.std.specs.Prelude.{[], ◌≡◌, ◌∷◌, ◌++◌, List, IfOk, OnOk, decimal, map, string_bytes};
+ghost use Rattle.std.specs.Prelude.{[], ◌≡◌, ◌≤◌, ◌∷◌, ◌++◌, List, IfOk, OnOk, decimal, length, map, string_bytes};
+ghost use Rattle.std.specs.List.{AllZip, concat};
 ghost use Rattle.scan_core.specs.Lines.{answer_text};
 ghost use Rattle.scan_core.specs.declared.answer.Answer.{Answer};
 ghost use Rattle.hub_core.specs.Laws.{AreAnswersOf};
-ghost use Rattle.line_core.specs.answers.Reports.{IsReportOf, line_of, lines_from};
+ghost use Rattle.line_core.specs.answers.Reports.{line_of, lines_from, with_lines};
 
 use itoa::Buffer;
 use lane_core::Delivery;
@@ -53,25 +54,53 @@ fn push_line(
     text.push('\n')
 }
 
-/// Appends the lines of a lane.
-fn push_lane(text: &mut String, lane: usize, list: &[Delivery]) -> Result<(), AllocError>
+/// Appends the lines of a lane's next deliveries, of which the first has this number in the lane.
+fn push_lines(
+    text: &mut String,
+    lane: usize,
+    first: usize,
+    list: &[Delivery],
+) -> Result<(), AllocError>
+    requires { first ≤ 4294967295 }
     ensures { OnOk result ((answers : List Answer) × AreAnswersOf list.now answers
-        × (string_bytes text.new ≡ string_bytes text.old ++ lines_from lane 0 answers)) }
+        × (string_bytes text.new ≡ string_bytes text.old ++ lines_from lane first answers)) }
 {
     text.reserve(list.len().saturating_mul(USUAL_LENGTH))?;
     'deliveries: for (number, delivery) in list.iter().enumerate() {
-        push_line(text, lane, number, delivery.answer())?;
+        push_line(text, lane, first + number, delivery.answer())?;
     }
     Ok(())
 }
 
-/// The report of each lane's deliveries.
-pub fn report(alloc: Global, lists: &[Vec<Delivery>]) -> Result<String, AllocError>
-    ensures { IfOk result (λ text. IsReportOf (map (λ list. list.items) lists.now) (string_bytes text)) }
+/// The lines of each lane and those of its next deliveries, of which the first have this number in
+/// their lanes. The deliveries are dropped, lane after lane.
+pub fn push_each(
+    alloc: Global,
+    texts: Vec<String>,
+    first: usize,
+    lists: Vec<Vec<Delivery>>,
+) -> Result<Vec<String>, AllocError>
+    requires few { first ≤ 4294967295 }
+    requires count { length lists.items ≡ length texts.items }
+    ensures { IfOk result (λ v. (answers : List (List Answer)) × AllZip AreAnswersOf (map (λ list. list.items) lists.items) answers
+        × (map string_bytes v.items ≡ with_lines 0 first (map string_bytes texts.items) answers)) }
 {
-    let mut text = String::new(alloc);
-    'lanes: for (lane, list) in lists.iter().enumerate() {
-        push_lane(&mut text, lane, list.as_slice())?;
+    let mut longer = Vec::with_capacity(alloc, texts.len())?;
+    for (text, list) in texts.into_iter().zip(lists) {
+        let mut text = text;
+        push_lines(&mut text, longer.len(), first, list.as_slice())?;
+        longer.push(text)?;
     }
-    Ok(text)
+    Ok(longer)
+}
+
+/// The texts one after the other.
+pub fn joined(alloc: Global, texts: Vec<String>) -> Result<String, AllocError>
+    ensures { IfOk result (λ text. string_bytes text ≡ concat (map string_bytes texts.items)) }
+{
+    let mut whole = String::new(alloc);
+    for text in texts {
+        whole.push_str(text.as_str())?;
+    }
+    Ok(whole)
 }

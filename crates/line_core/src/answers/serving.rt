@@ -1,10 +1,14 @@
 //! Rows that workers answer, and the report of the answers.
-ghost use Rattle.std.specs.Prelude.{◌≡◌, ◌≢◌, true, map, IfOk, string_bytes};
+ghost use Rattle.std.specs.Prelude.{[], ◌≡◌, ◌≢◌, ◌≤◌, List, drop, length, true, map, take, IfOk, string_bytes};
+ghost use Rattle.std.specs.List.{AllZip};
+ghost use Rattle.scan_core.specs.Answers.{Reads};
+ghost use Rattle.scan_core.specs.declared.answer.Answer.{Answer};
 ghost use Rattle.hub_core.specs.Serving.{are_counts, served};
 ghost use Rattle.hub_core.specs.declared.fault.ServeFault.{ServeFault};
-ghost use Rattle.line_core.specs.answers.Reports.{IsReport};
+ghost use Rattle.line_core.specs.answers.Reports.{IsReport, lane_lines, with_lines};
 
-use crate::answers::report::report;
+use crate::answers::report::{joined, push_each};
+use crate::answers::rest::{RUN, Rest, are_empty, next_runs};
 use element_core::Year;
 use hub_core::{Gate, ServeFault, answers_are_read, serve};
 use lane_core::Delivery;
@@ -12,6 +16,9 @@ use scan_core::Runs;
 use std::alloc::{AllocError, Global};
 use std::sync::Wait;
 use std::thread::Threads;
+
+/// In so many runs each feed is served, whatever its length.
+const MOST_RUNS: usize = 262_144;
 
 /// Why rows are not answered.
 #[derive(Clone, Copy, Debug, PartialEq, Eq)]
@@ -64,8 +71,77 @@ fn serve_all<R: Threads + Wait + Sync, G: Gate + Sync>(
     }
 }
 
+/// The lanes' rows before any is served, and a text for the lines of each.
+fn start(alloc: Global, feeds: Vec<Vec<Runs>>) -> Result<(Vec<Rest>, Vec<String>), AllocError>
+    ensures rests { IfOk result (λ v. v.0.items ≡ map (λ feed. feed.items) feeds.items) }
+    ensures texts { IfOk result (λ v. map string_bytes v.1.items ≡ map (λ feed. []) feeds.items) }
+{
+    let mut rests = Vec::with_capacity(alloc, feeds.len())?;
+    let mut texts = Vec::with_capacity(alloc, feeds.len())?;
+    for rows in feeds {
+        rests.push(Rest::new(rows))?;
+        texts.push(String::new(alloc))?;
+    }
+    Ok((rests, texts))
+}
+
+/// Serves the next run of each lane, of which the first row has this number in its lane: the rows
+/// that are left then, and each lane's lines with those of the run.
+fn answer_run<R: Threads + Wait + Sync, G: Gate + Sync>(
+    rt: &R,
+    alloc: Global,
+    lanes: (Vec<Rest>, Vec<String>),
+    first: usize,
+    workers: u8,
+    year: Year,
+    gate: &G,
+) -> Result<(Vec<Rest>, Vec<String>), AnswerFault>
+    requires counts { are_counts lanes.0.items workers ≡ true }
+    requires texts { length lanes.1.items ≡ length lanes.0.items }
+    requires few { first ≤ 4294967295 }
+    ensures rests { IfOk result (λ v. v.0.items ≡ map (drop RUN) lanes.0.items) }
+    ensures lines { IfOk result (λ v. (answers : List (List Answer))
+        × AllZip (λ rows read. Reads rows year read) (map (take RUN) lanes.0.items) answers
+        × (map string_bytes v.1.items ≡ with_lines 0 first (map string_bytes lanes.1.items) answers)) }
+{
+    let (rests, texts) = lanes;
+    let (runs, rests) = next_runs(alloc, rests)?;
+    let lists = serve_all(rt, alloc, runs, workers, year, gate)?;
+    let texts = push_each(alloc, texts, first, lists)?;
+    // The law by which the answers of what is served are those to the rows.
+    answers_are_read();
+    Ok((rests, texts))
+}
+
+/// The lines of each lane. The rows are served in runs, and a run's deliveries are dropped as their
+/// lines are written.
+fn answer_runs<R: Threads + Wait + Sync, G: Gate + Sync>(
+    rt: &R,
+    alloc: Global,
+    feeds: Vec<Vec<Runs>>,
+    workers: u8,
+    year: Year,
+    gate: &G,
+) -> Result<Vec<String>, AnswerFault>
+    requires { are_counts (map (λ feed. feed.items) feeds.items) workers ≡ true }
+    ensures { IfOk result (λ v. (answers : List (List Answer))
+        × AllZip (λ rows read. Reads rows year read) (map (λ feed. feed.items) feeds.items) answers
+        × (map string_bytes v.items ≡ lane_lines 0 answers)) }
+{
+    let mut lanes = start(alloc, feeds)?;
+    for run in 0..MOST_RUNS {
+        if are_empty(lanes.0.as_slice()) {
+            return Ok(lanes.1);
+        }
+        lanes = answer_run(rt, alloc, lanes, run * RUN, workers, year, gate)?;
+    }
+    Ok(lanes.1)
+}
+
 /// The lines that answer the rows of each feed, lane by lane and by number. So many workers read the
 /// rows beside each other, and each passes the gate before a row.
+///
+/// The rows are served in runs, and the gate sees a row under its number in its run.
 pub fn answer_lines<R: Threads + Wait + Sync, G: Gate + Sync>(
     rt: &R,
     alloc: Global,
@@ -77,9 +153,6 @@ pub fn answer_lines<R: Threads + Wait + Sync, G: Gate + Sync>(
     requires { are_counts (map (λ feed. feed.items) feeds.items) workers ≡ true }
     ensures { IfOk result (λ lines. IsReport year (map (λ feed. feed.items) feeds.items) (string_bytes lines)) }
 {
-    let lists = serve_all(rt, alloc, feeds, workers, year, gate)?;
-    let lines = report(alloc, lists.as_slice())?;
-    // The law by which the answers of what is served are those to the rows.
-    answers_are_read();
-    Ok(lines)
+    let texts = answer_runs(rt, alloc, feeds, workers, year, gate)?;
+    Ok(joined(alloc, texts)?)
 }
