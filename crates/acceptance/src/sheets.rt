@@ -1,10 +1,11 @@
 //! Printed labels, images read and written, and readers and writers that fail.
-ghost use Rattle.std.specs.Prelude.{None, ◌≡◌};
+ghost use Rattle.std.specs.Prelude.{◌≡◌};
 
 use crate::rows::{ITF14, ITF14_WRONG};
 use code128_code::encode;
-use digits_core::{Failed, FromReader, Gtin, Sink, Source, ToWriter};
+use digits_core::{FromReader, Gtin, ToWriter};
 use element_core::{Elements, Year};
+use fakes::{Breaking, Narrow};
 use scan_core::{Answer, Carrier, Runs, read_row};
 use sheet_core::{
     Grid, Label, PbmFault, PrintFault, Sheet, SheetFault, print_pbm, print_sheets, read_pbm,
@@ -21,82 +22,6 @@ const PRINTED: &[u8] = b"P4\n113 3\n\
     \x00\x00\x00\x00\x00\x00\x00\x00\x00\x00\x00\x00\x00\x00\x00\
     \x00\x15\x8A\x76\x66\x53\x99\x54\xE8\x5C\xB9\x72\x85\x40\x00\
     \x00\x00\x00\x00\x00\x00\x00\x00\x00\x00\x00\x00\x00\x00\x00";
-
-/// Gives a text a byte at a time, and fails at a place in it.
-#[derive(Drop)]
-struct Breaking<'a> {
-    text: &'a [u8],
-    given: usize,
-    fails_at: usize,
-    has_failed: bool,
-}
-
-impl<'a> Breaking<'a> {
-    fn new(text: &'a [u8], fails_at: usize) -> Breaking<'a> {
-        Breaking {
-            text,
-            given: 0,
-            fails_at,
-            has_failed: false,
-        }
-    }
-}
-
-impl<'a> Source for Breaking<'a> {
-    ghost left = { λ s. None };
-
-    ghost failed = { λ s. s.has_failed };
-
-    fn read(&mut self, buf: &mut [u8]) -> Result<usize, Failed> {
-        if self.has_failed || self.given >= self.fails_at {
-            self.has_failed = true;
-            return Err(Failed);
-        }
-        match self.text.get(self.given) {
-            Some(byte) if !buf.is_empty() => {
-                buf[0] = *byte;
-                self.given = self.given.saturating_add(1);
-                Ok(1)
-            }
-            _ => Ok(0),
-        }
-    }
-}
-
-/// Takes a byte at a time, as many as it has room for, and then fails.
-#[derive(Drop)]
-struct Narrow {
-    taken: Vec<u8>,
-    room: usize,
-    has_failed: bool,
-}
-
-impl Narrow {
-    fn new(alloc: Global, room: usize) -> Narrow {
-        Narrow {
-            taken: Vec::new(alloc),
-            room,
-            has_failed: false,
-        }
-    }
-}
-
-impl Sink for Narrow {
-    ghost taken = { λ s. None };
-
-    ghost failed = { λ s. s.has_failed };
-
-    fn write(&mut self, bytes: &[u8]) -> Result<usize, Failed> {
-        if !self.has_failed && bytes.is_empty() {
-            return Ok(0);
-        }
-        if self.has_failed || self.taken.len() >= self.room || self.taken.push(bytes[0]).is_err() {
-            self.has_failed = true;
-            return Err(Failed);
-        }
-        Ok(1)
-    }
-}
 
 /// The sheets of a file.
 fn read(alloc: Global, file: &[u8]) -> Result<Vec<Sheet>, PbmFault> {
@@ -423,7 +348,7 @@ fn reads_fronts_of_files(rt: HostRuntime) -> Result<(), Fail> {
         assert_eq!(rt; found.as_str(), wanted);
     }
     for place in 0..17 {
-        let mut source = Breaking::new(IMAGE, place);
+        let mut source = Breaking::new(&IMAGE[..place]);
         let fault = read_pbm(alloc, &mut source).err().ok_or("fault")?;
         assert_eq!(rt; fault, PbmFault::ReadFault);
     }
@@ -438,7 +363,7 @@ fn writes_fronts_of_files(rt: HostRuntime) -> Result<(), Fail> {
         let mut sink = Narrow::new(alloc, room);
         let wrote = write_pbm(sheets.as_slice(), &mut sink);
         assert_eq!(rt; wrote.is_ok(), room == 54);
-        assert_eq!(rt; sink.taken.as_slice(), &PRINTED[..room]);
+        assert_eq!(rt; sink.taken(), &PRINTED[..room]);
     }
     Ok(())
 }
@@ -457,7 +382,7 @@ fn prints_fronts_of_files(rt: HostRuntime) -> Result<(), Fail> {
             Err(PrintFault::WriteFault)
         };
         assert_eq!(rt; outcome, wanted);
-        assert_eq!(rt; sink.taken.as_slice(), &PRINTED[..room]);
+        assert_eq!(rt; sink.taken(), &PRINTED[..room]);
     }
     Ok(())
 }

@@ -1,13 +1,25 @@
 -- How far a reader or a coder has come.
 use Rattle.std.specs.Prelude.{ℕ, ◌-◌, ◌%◌, ◌==◌, ◌&&◌, Bool, true, false, List, [], ◌∷◌, ◌++◌, Result, Err, nat_le, nat_lt, if◌then◌else◌}
 use Rattle.code128_code.specs.declared.code_set.CodeSet.{CodeSet}
+use Rattle.code128_code.specs.declared.code_set.CodeSet.TheVariants.{C}
 use Rattle.code128_code.specs.declared.coding.Coder.{Coder}
 use Rattle.code128_code.specs.declared.fault.Code128Fault.{Code128Fault}
 use Rattle.code128_code.specs.declared.fault.Code128Fault.TheVariants as faults
 use Rattle.code128_code.specs.declared.texts.Reader.{Reader}
-use Rattle.code128_code.specs.Characters.{code_b, code_c, fnc1}
+use Rattle.code128_code.specs.declared.meanings.Meaning.{Meaning}
+use Rattle.code128_code.specs.declared.meanings.Meaning.TheVariants.{Byte, Latch, Shift, Function}
+use Rattle.code128_code.specs.Characters.{code_b, code_c, fnc1, shift_value}
 use Rattle.code128_code.specs.Coding.{digits_ahead, pair}
 use Rattle.code128_code.specs.Texts.{before, shifted_byte, text_from}
+
+-- what a value from 96 on means in code sets A and B, where one value changes to the other of the two
+abbrev pub special : ℕ → ℕ → CodeSet → Meaning
+special v change other =
+    if v == shift_value then Shift
+    else if v == code_c then Latch C
+    else if v == change then Latch other
+    else if v == fnc1 then Byte 29
+    else Function
 
 -- the text of the values that are left, after a SHIFT or not
 abbrev pub text_by : CodeSet → Bool → List ℕ → Result (List ℕ) Code128Fault
@@ -37,6 +49,18 @@ coded_on false (a ∷ b ∷ text) =
     if a == 29 then fnc1 ∷ coded_on false (b ∷ text)
     else if has_even_run (a ∷ b ∷ text) then code_c ∷ pair a b ∷ coded_on true text
     else (a - 32) ∷ coded_on false (b ∷ text)
+
+-- whether the front of a text is coded as two digits: in code set C where two stand there, in B where an even number stands, four or more
+abbrev pub begins_pair : Bool → List ℕ → Bool
+begins_pair true text = nat_le 2 (digits_ahead text)
+begins_pair false text = has_even_run text
+
+-- the value that changes from code set C, or else B, to C, or else B: none where it is the same
+abbrev pub change : Bool → Bool → List ℕ
+change true true = []
+change true false = code_b ∷ []
+change false true = code_c ∷ []
+change false false = []
 
 -- the values of what was coded and of the text that is left
 abbrev pub all_coded : Coder → List ℕ → List ℕ

@@ -1,9 +1,9 @@
 //! The values that are printed for an element string.
-ghost use Rattle.std.specs.Prelude.{◌≡◌, ◌≢◌, ◌↔◌, ◌≤◌, ◌<◌, true, false, IsTrue, drop, length, slice_index};
+ghost use Rattle.std.specs.Prelude.{◌≡◌, ◌↔◌, ◌≤◌, ◌<◌, ◌++◌, IsTrue, drop, length, slice_index};
 ghost use Rattle.std.specs.List.{list_all};
 ghost use Rattle.arrayvec.specs.ArrayVec.{array_vec_len};
 ghost use Rattle.code128_code.specs.Coding.{data_values, digits_ahead, is_coded_byte, pair};
-ghost use Rattle.code128_code.specs.Steps.{all_coded, has_even_run};
+ghost use Rattle.code128_code.specs.Steps.{all_coded, begins_pair, change, has_even_run};
 
 use crate::meanings::SEPARATOR;
 use crate::special_values::{CODE_B, CODE_C, FNC1};
@@ -59,46 +59,27 @@ fn pair_at_front(text: &[u8]) -> u8
     10 * (text[0] - b'0') + (text[1] - b'0')
 }
 
-/// Codes the front of a text in code set C, and gives the number of bytes that it took.
-fn put_in_c(coder: &mut Coder, text: &[u8]) -> usize
-    requires some { 0 < length text.now }
-    requires set { coder.old.in_c ≡ true }
-    requires byte { slice_index text.now 0 ≢ 29 }
-    requires valid { IsTrue (list_all is_coded_byte text.now) }
-    requires room { length (all_coded coder.old text.now) ≤ 96 }
-    ensures whole { all_coded coder.new (drop result text.now) ≡ all_coded coder.old text.now }
-    ensures some { 1 ≤ result }
-    ensures within { result ≤ length text.now }
+/// Whether two digits at the front are coded as one value, in code set C.
+fn takes_pair(in_c: bool, text: &[u8]) -> bool
+    ensures { result ≡ begins_pair in_c text.now }
 {
-    if is_pair(text) {
-        coder.values.push(pair_at_front(text));
-        return 2;
+    if in_c {
+        is_pair(text)
+    } else {
+        is_even_run(text)
     }
-    coder.values.push(CODE_B);
-    coder.values.push(text[0] - 32);
-    coder.in_c = false;
-    1
 }
 
-/// Codes the front of a text in code set B, and gives the number of bytes that it took.
-fn put_in_b(coder: &mut Coder, text: &[u8]) -> usize
-    requires some { 0 < length text.now }
-    requires set { coder.old.in_c ≡ false }
-    requires byte { slice_index text.now 0 ≢ 29 }
-    requires valid { IsTrue (list_all is_coded_byte text.now) }
-    requires room { length (all_coded coder.old text.now) ≤ 96 }
-    ensures whole { all_coded coder.new (drop result text.now) ≡ all_coded coder.old text.now }
-    ensures some { 1 ≤ result }
-    ensures within { result ≤ length text.now }
+/// Changes to code set C, or else to B, where it is not in use.
+fn change_to(coder: &mut Coder, in_c: bool)
+    requires room { array_vec_len coder.old.values < 96 }
+    ensures values { coder.new.values.items ≡ coder.old.values.items ++ change coder.old.in_c in_c }
+    ensures set { coder.new.in_c ≡ in_c }
 {
-    if is_even_run(text) {
-        coder.values.push(CODE_C);
-        coder.values.push(pair_at_front(text));
-        coder.in_c = true;
-        return 2;
+    if coder.in_c != in_c {
+        coder.values.push(if in_c { CODE_C } else { CODE_B });
+        coder.in_c = in_c;
     }
-    coder.values.push(text[0] - 32);
-    1
 }
 
 /// Codes the front of a text, and gives the number of bytes that it took.
@@ -114,10 +95,14 @@ fn put_front(coder: &mut Coder, text: &[u8]) -> usize
         coder.values.push(FNC1);
         return 1;
     }
-    if coder.in_c {
-        return put_in_c(coder, text);
+    let in_c = takes_pair(coder.in_c, text);
+    change_to(coder, in_c);
+    if in_c {
+        coder.values.push(pair_at_front(text));
+        return 2;
     }
-    put_in_b(coder, text)
+    coder.values.push(text[0] - 32);
+    1
 }
 
 /// The data values that are printed for an element string: FNC1 and the text, from code set C on.

@@ -1,7 +1,8 @@
 //! What the values of symbol characters mean in the code sets.
 ghost use Rattle.std.specs.Prelude.{◌≡◌, ◌<◌};
+ghost use Rattle.code128_code.specs.Steps.{special};
 ghost use Rattle.code128_code.specs.Texts.{byte_a, meaning};
-ghost use Rattle.code128_code.specs.declared.code_set.CodeSet.TheVariants.{A, B, C};
+ghost use Rattle.code128_code.specs.declared.code_set.CodeSet.TheVariants.{C};
 
 use crate::code_set::CodeSet;
 use crate::special_values::{CODE_A, CODE_B, CODE_C, FNC1, SHIFT};
@@ -32,35 +33,16 @@ pub(crate) fn byte_of_a(value: u8) -> u8
     if value < 64 { value + 32 } else { value - 64 }
 }
 
-fn meaning_in_a(value: u8) -> Meaning
-    ensures { result ≡ meaning A value }
+/// What a value from 96 on means in code sets A and B, where `change` changes to the other of the two.
+fn special_meaning(value: u8, change: u8, other: CodeSet) -> Meaning
+    ensures { result ≡ special value change other }
 {
-    if value < 96 {
-        Meaning::Byte(byte_of_a(value))
-    } else if value == SHIFT {
+    if value == SHIFT {
         Meaning::Shift
     } else if value == CODE_C {
         Meaning::Latch(CodeSet::C)
-    } else if value == CODE_B {
-        Meaning::Latch(CodeSet::B)
-    } else if value == FNC1 {
-        Meaning::Byte(SEPARATOR)
-    } else {
-        Meaning::Function
-    }
-}
-
-fn meaning_in_b(value: u8) -> Meaning
-    ensures { result ≡ meaning B value }
-{
-    if value < 96 {
-        Meaning::Byte(value + 32)
-    } else if value == SHIFT {
-        Meaning::Shift
-    } else if value == CODE_C {
-        Meaning::Latch(CodeSet::C)
-    } else if value == CODE_A {
-        Meaning::Latch(CodeSet::A)
+    } else if value == change {
+        Meaning::Latch(other)
     } else if value == FNC1 {
         Meaning::Byte(SEPARATOR)
     } else {
@@ -89,8 +71,10 @@ pub(crate) fn meaning_of(set: CodeSet, value: u8) -> Meaning
     ensures { result ≡ meaning set value }
 {
     match set {
-        CodeSet::A => meaning_in_a(value),
-        CodeSet::B => meaning_in_b(value),
+        CodeSet::A if value < 96 => Meaning::Byte(byte_of_a(value)),
+        CodeSet::A => special_meaning(value, CODE_B, CodeSet::B),
+        CodeSet::B if value < 96 => Meaning::Byte(value + 32),
+        CodeSet::B => special_meaning(value, CODE_A, CodeSet::A),
         CodeSet::C => meaning_in_c(value),
     }
 }

@@ -125,9 +125,7 @@ pub fn ean13(gtin: &Gtin) -> Option<Modules>
     ensures none { IfNone result (HasNoSymbol Ean13 gtin.now) }
     ensures fits { IsSome result ↔ (gtin.now ≡ padded (drop 1 gtin.now)) }
 {
-    let Some(digits) = gtin.as13() else {
-        return None;
-    };
+    let digits = gtin.as13()?;
     Modules::of(ean13_widths(&digits).as_slice())
 }
 
@@ -137,9 +135,7 @@ pub fn ean8(gtin: &Gtin) -> Option<Modules>
     ensures none { IfNone result (HasNoSymbol Ean8 gtin.now) }
     ensures fits { IsSome result ↔ (gtin.now ≡ padded (drop 6 gtin.now)) }
 {
-    let Some(digits) = gtin.as8() else {
-        return None;
-    };
+    let digits = gtin.as8()?;
     Modules::of(ean8_widths(&digits).as_slice())
 }
 

@@ -1,7 +1,6 @@
 //! One of each answer and refusal, with the text that is printed, and inputs and outputs that fail.
 
 mod checks;
-mod fakes;
 mod gates;
 mod hostile;
 mod numbers;

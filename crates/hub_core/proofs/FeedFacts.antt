@@ -1,8 +1,7 @@
 -- Feeds one of which has had its turn.
-use Rattle.std.proofs.Common.{◌≡◌, ℕ, ◌+◌, ◌<◌, List, [], ◌∷◌, ◌++◌, All, get_or, length, map, set, suc, zero, refl, sym, ap, ◌∙◌, arith}
+use Rattle.std.proofs.Common.{◌≡◌, ℕ, List, [], ◌∷◌, ◌++◌, get_or, length, set, suc, zero, refl, ap, ◌∙◌, arith}
 use lib.ListN.{take, drop}
 use Rattle.std.proofs.Math.Seq.{map-set_same}
-use Rattle.std.proofs.lemmas.List.{length-set}
 use Rattle.std.proofs.lemmas.List.Elements.{All-set}
 use Rattle.hub_core.specs.Feeds.{AreFeedsOf, AreSameFeeds, IsFeedOf, IsSameFeed, all_rows, feed_lane}
 use Rattle.hub_core.specs.declared.feed.Feed.{Feed}

@@ -1,5 +1,5 @@
 -- The hub may be shared between threads.
-use denote.Param.Send.{IsSend, IsSync, sendable}
+use denote.Param.Send.{IsSync, sendable}
 use denote.Param.SendFields.{declared_sync}
 use Rattle.std.proofs.Crossing.{crosses}
 use Rattle.hub_core.specs.contracts.hub.Hub as hub

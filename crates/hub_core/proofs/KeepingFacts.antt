@@ -1,15 +1,14 @@
 -- The deliverer and what it has given, call by call.
-use Rattle.std.proofs.Common.{◌≡◌, ◌≢◌, ◌==◌, ◌||◌, ◌+◌, ◌<◌, ◌≤◌, ◌∷◌, ◌∙◌, ◌++◌, [], Bool, List, ℕ, zero, suc, ap, arith, get_or, inl, inr, length, ltb, map, not, refl, replicate, set, subst, sym, true, false}
-use Rattle.std.proofs.lemmas.Bool.{and_from, both_ways, cases_eq, cases_Bool, cases_lt, false≢true, le-ltb, lt-ltb, ltb-true, or_cases, or_left, or_right}
+use Rattle.std.proofs.Common.{◌≡◌, ◌≢◌, ◌==◌, ◌||◌, ◌+◌, ◌<◌, ◌≤◌, ◌∷◌, ◌∙◌, ◌++◌, [], Bool, List, ℕ, zero, suc, ap, arith, get_or, inl, inr, length, ltb, map, refl, replicate, set, subst, sym, true, false}
+use Rattle.std.proofs.lemmas.Bool.{cases_eq, cases_Bool, false≢true, or_cases, or_left, or_right}
 use Rattle.std.proofs.lemmas.List.{get_or-set_other, get_or-set_same, length-append, length-map, length-replicate, length-set}
-use Rattle.lane_core.specs.Desk.{Desk, GivesNext, TakesIn, has_next, is_known, is_new, lanes_of, new_desk, next_of, was_taken}
+use Rattle.lane_core.specs.Desk.{Desk, GivesNext, is_known, lanes_of, new_desk, next_of, was_taken}
 use Rattle.lane_core.specs.declared.job.Plain.{Plain}
 use Rattle.lane_core.specs.Tickets.{is_among, is_ticket_of, numbered, times}
-use Rattle.lane_core.specs.Weights.{once, weigh}
+use Rattle.lane_core.specs.Weights.{once}
 use Rattle.hub_core.specs.Keeping.{Keeps}
-use Rattle.hub_core.specs.Serving.{weigh_all}
 use Rattle.hub_core.proofs.WeightFacts.{empties_at}
-use Rattle.hub_core.proofs.OrderFacts.{below_one_more, few_once, in_order_from, not_once, numbered_more, once_not, once_so, other_lane, own_ticket, same_lane, so_once, times_in_order}
+use Rattle.hub_core.proofs.OrderFacts.{below_one_more, numbered_more, once_not, once_so, other_lane, same_lane}
 
 -- a ticket is among those that it is found of
 pub among_times : (l k : ℕ) (xs : List Plain) → is_among l k xs ≡ true → 1 ≤ times l k xs

@@ -1,10 +1,9 @@
 -- A new hub and its seats.
-use Rattle.std.proofs.Common.{◌≡◌, ◌==◌, ◌&&◌, ◌||◌, ℕ, ◌+◌, ◌-◌, ◌<◌, ◌≤◌, nat_lt, nat_le, cond, Bool, true, false, zero, suc, List, [], ◌∷◌, ◌++◌, get_or, length, map, replicate, refl, sym, ap, ◌∙◌, subst, arith, Option, None, Some}
+use Rattle.std.proofs.Common.{◌≡◌, ◌==◌, ◌&&◌, ◌||◌, ℕ, ◌+◌, ◌-◌, ◌<◌, ◌≤◌, nat_lt, nat_le, Bool, true, false, zero, suc, List, [], ◌∷◌, get_or, length, map, refl, sym, ap, ◌∙◌, subst, arith, Option, None, Some}
 use Rattle.std.specs.List.{slice_get, All, range_with_len}
 use Rattle.std.proofs.lemmas.Bool.{and_parts}
 use Rattle.std.proofs.lemmas.Bool.Decides.{nat_tests}
-use Rattle.std.proofs.lemmas.List.{length-map}
-use Rattle.rtrb.specs.Ring.{IsPair, SameProducer, sent}
+use Rattle.rtrb.specs.Ring.{IsPair, SameProducer}
 use Rattle.lane_core.specs.declared.job.Plain.{Plain}
 use Rattle.lane_core.specs.Desk.{Desk, new_desk, was_taken}
 use Rattle.lane_core.specs.Weights.{once, weigh}
@@ -16,7 +15,7 @@ use Rattle.hub_core.specs.Lanes.{lane_of}
 use Rattle.hub_core.specs.Hubs.{HasEach}
 use Rattle.hub_core.specs.Rings.{PushEnd, all_sent}
 use Rattle.hub_core.specs.Rule.{trace}
-use Rattle.hub_core.specs.Serving.{is_count, numbered_rows, weigh_all}
+use Rattle.hub_core.specs.Serving.{is_count, numbered_rows}
 use Rattle.hub_core.specs.Shapes.{is_allowed}
 use Rattle.hub_core.specs.Stock.{Stocks}
 use Rattle.hub_core.proofs.KeepingFacts.{fresh_keeps}

@@ -1,19 +1,18 @@
 -- A lane's next number: whether it was collected and is not in hand.
-use Rattle.std.proofs.Common.{◌≡◌, ◌≢◌, ◌⊎◌, inl, inr, ⊎_elim, ℕ, ◌+◌, ◌<◌, ◌≤◌, ◌==◌, ◌&&◌, ◌||◌, not, nat_lt, cond, Bool, true, false, zero, suc, List, [], ◌∷◌, ◌++◌, get_or, length, refl, sym, ap, ◌∙◌, subst, arith, Option, Some, None}
-use Rattle.std.specs.List.{Contains, fold, list_any, list_all}
-use Rattle.std.specs.Option.{IfNone, IfSome, is_some, is_none}
-use Rattle.std.proofs.lemmas.Bool.{and_parts, le-ltb}
+use Rattle.std.proofs.Common.{◌≡◌, ℕ, ◌+◌, ◌<◌, ◌≤◌, ◌&&◌, ◌||◌, not, nat_lt, cond, Bool, true, false, List, [], ◌∷◌, ◌++◌, refl, sym, ap, ◌∙◌, subst, arith, Option, Some, None}
+use Rattle.std.specs.List.{fold, list_all}
+use Rattle.std.specs.Option.{IfSome, is_some, is_none}
+use Rattle.std.proofs.lemmas.Bool.{and_parts}
 use Rattle.std.proofs.lemmas.Bool.Decides.{nat_tests}
 use Rattle.std.proofs.lemmas.List.Folds.{list_any-append}
 use Rattle.lane_core.specs.declared.job.Plain.{Plain}
 use Rattle.lane_core.specs.Desk.{Desk, IsNext, has_next, is_new, lanes_of, next_of, was_taken}
 use Rattle.lane_core.specs.Settling.{sift, sifted}
 use Rattle.lane_core.specs.Tickets.{is_among, is_ticket_of, times}
-use Rattle.lane_core.specs.Weights.{once, weigh}
+use Rattle.lane_core.specs.Weights.{once}
 use Rattle.hub_core.specs.Stock.{Stocks}
 use Rattle.hub_core.proofs.KeepingFacts.{among_times, times_among}
 use Rattle.hub_core.proofs.LaneFacts.{ticket_parts}
-use Rattle.hub_core.proofs.OrderFacts.{own_ticket}
 
 pub is_there : {X : Type 0} (o : Option X) → is_none o ≡ false → is_some o ≡ true
 is_there None none = absurd (cc)

@@ -1,16 +1,15 @@
 -- The seats of a new hub, one by one.
-use Rattle.std.proofs.Common.{◌≡◌, ℕ, ◌+◌, ◌-◌, ◌<◌, zero, suc, List, [], ◌∷◌, ◌++◌, length, length-append, map, refl, sym, ap, ◌∙◌, subst, arith, Option, Some, None}
+use Rattle.std.proofs.Common.{◌≡◌, ℕ, ◌+◌, ◌-◌, ◌<◌, zero, suc, List, [], ◌∷◌, ◌++◌, length, length-append, sym, ap, ◌∙◌, subst, arith, Some}
 use Rattle.std.specs.List.{slice_get, All, range_with_len}
 use Rattle.std.proofs.lemmas.List.Elements.{All-push}
 use Rattle.std.proofs.lemmas.List.{map-append}
-use Rattle.crossbeam_queue.specs.Passes.{Pass, IsPassOf, view}
-use Rattle.rtrb.specs.Ring.{IsPair, received}
+use Rattle.rtrb.specs.Ring.{IsPair}
 use Rattle.lane_core.specs.declared.job.Plain.{Plain}
 use Rattle.hub_core.specs.declared.lane_seat.LaneSeat.{LaneSeat}
 use Rattle.hub_core.specs.declared.rule.Trace.{Trace}
-use Rattle.hub_core.specs.Fresh.{HasDoneNothing, IsPairedIn}
+use Rattle.hub_core.specs.Fresh.{IsPairedIn}
 use Rattle.hub_core.specs.Lanes.{numbers_of}
-use Rattle.hub_core.specs.Rings.{PopEnd, PushEnd}
+use Rattle.hub_core.specs.Rings.{PushEnd}
 use Rattle.hub_core.specs.Rule.{trace}
 
 get_below : {X : Type 0} (xs : List X) (x t : X) (k : ℕ) → k < length xs → slice_get (xs ++ x ∷ []) k ≡ Some t → slice_get xs k ≡ Some t

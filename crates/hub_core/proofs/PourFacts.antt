@@ -1,5 +1,5 @@
 -- One more delivery out of a queue, a hand or a ring into its list.
-use Rattle.std.proofs.Common.{◌≡◌, ℕ, ◌+◌, ◌≤◌, List, [], ◌∷◌, ◌++◌, length, length-append, option_to_list, sym, ap, ◌∙◌, subst, arith, append_assoc, append-nil}
+use Rattle.std.proofs.Common.{◌≡◌, ℕ, ◌+◌, ◌≤◌, List, [], ◌∷◌, ◌++◌, length, length-append, map, option_to_list, sym, ap, ◌∙◌, subst, arith, append_assoc, append-nil}
 use Rattle.std.specs.List.{flat_map}
 use Rattle.std.proofs.lemmas.Grind.{flat_map-append}
 use Rattle.crossbeam_queue.specs.Passes.{view}
@@ -57,10 +57,10 @@ poured b v w x y t u u' xs whole same filled was is what more = (
   ),
 )
 
-pub poured_out : (b v : Trace) (items xs : List Plain) → v.pushed ≡ b.pushed → ((h : Plain → ℕ) → weigh h v.popped ≡ weigh h b.popped + weigh h xs) → length items ≡ 0
-    → ((h : Plain → ℕ) → weigh h v.pushed ≡ weigh h v.popped + weigh h items) → (h : Plain → ℕ) → weigh h b.pushed ≡ weigh h b.popped + weigh h xs
-poured_out b v [] xs same was none settled h = let e = ap (weigh h) same in omega (arith, was h, settled h, e)
-poured_out b v (i ∷ is) xs same was none settled h = absurd (omega arith)
+pub poured_out : {X : Type 0} (f : X → Plain) (b v : Trace) (items : List X) (xs : List Plain) → v.pushed ≡ b.pushed → ((h : Plain → ℕ) → weigh h v.popped ≡ weigh h b.popped + weigh h xs) → length items ≡ 0
+    → ((h : Plain → ℕ) → weigh h v.pushed ≡ weigh h v.popped + weigh h (map f items)) → (h : Plain → ℕ) → weigh h b.pushed ≡ weigh h b.popped + weigh h xs
+poured_out f b v [] xs same was none settled h = let e = ap (weigh h) same in omega (arith, was h, settled h, e)
+poured_out f b v (i ∷ is) xs same was none settled h = absurd (omega arith)
 
 pub waited : (b v w : List Plain) (x : Plain) (t u u' : List Listed) (xs : List Plain) → Fills t u xs → ((h : Plain → ℕ) → weigh h b ≡ weigh h v + weigh h xs)
     → ((h : Plain → ℕ) → weigh h v ≡ h x + weigh h w) → Fills u u' (x ∷ [])

@@ -1,5 +1,5 @@
 -- What the lanes of a hub have polled, once each is done: what their feeds are served.
-use Rattle.std.proofs.Common.{◌≡◌, ℕ, ◌+◌, ◌<◌, ◌≤◌, ◌++◌, leb, true, zero, suc, List, [], ◌∷◌, All, drop, get_or, length, length-append, map, reverse, refl, sym, ap, ◌∙◌, subst, arith, append-nil, Some}
+use Rattle.std.proofs.Common.{◌≡◌, ℕ, ◌+◌, ◌++◌, leb, true, zero, suc, List, [], ◌∷◌, All, drop, get_or, length, length-append, map, reverse, refl, sym, ap, ◌∙◌, subst, arith, append-nil, Some}
 use Rattle.std.specs.List.{range_with_len, slice_get}
 use Rattle.std.proofs.lemmas.Bool.{and_parts, leb-true}
 use Rattle.std.proofs.lemmas.List.{length-map}

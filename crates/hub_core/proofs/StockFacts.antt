@@ -1,13 +1,13 @@
 -- What a deliverer's seat has, as one more delivery is collected or handed.
-use Rattle.std.proofs.Common.{◌≡◌, ◌≢◌, ◌⊎◌, inl, inr, ⊎_elim, ℕ, ◌+◌, ◌<◌, ◌==◌, ◌&&◌, ◌||◌, not, nat_lt, cond, Bool, true, false, List, [], ◌∷◌, ◌++◌, get_or, length, set, refl, sym, ap, ◌∙◌, subst, arith, Option, Some, None, option_to_list}
-use Rattle.std.specs.List.{fold, list_any, list_all}
+use Rattle.std.proofs.Common.{◌≡◌, ◌≢◌, ℕ, ◌+◌, ◌<◌, ◌&&◌, ◌||◌, not, nat_lt, cond, Bool, true, false, List, [], ◌∷◌, ◌++◌, get_or, length, set, refl, sym, ap, ◌∙◌, subst, arith, Option, Some, None, option_to_list}
+use Rattle.std.specs.List.{list_all}
 use Rattle.std.proofs.lemmas.List.Sums.{fold_push}
 use Rattle.std.proofs.lemmas.List.Folds.{list_any-append}
 use Rattle.hub_core.proofs.LaneFacts.{ticket_parts}
 use Rattle.lane_core.specs.declared.job.Plain.{Plain}
 use Rattle.lane_core.specs.Desk.{Desk, GivesNext, TakesIn, is_new, lanes_of, next_of, was_taken}
 use Rattle.lane_core.specs.Settling.{sift, sifted}
-use Rattle.lane_core.specs.Tickets.{is_among, is_ticket_of, times}
+use Rattle.lane_core.specs.Tickets.{is_among, is_ticket_of}
 use Rattle.lane_core.specs.Weights.{once, weigh}
 use Rattle.hub_core.specs.Keeping.{Keeps}
 use Rattle.hub_core.specs.Serving.{weigh_all}

@@ -19,10 +19,10 @@ use crate::deliverer_seat::DelivererSeat;
 use crate::hub::Hub;
 use crate::lane_seat::LaneSeat;
 use crate::lists::place;
-use crate::rule::{Jobs, Part, PopsLast, Results, Trace};
+use crate::rule::{Part, Pops, Queue, Queued, Trace};
 use crate::worker_seat::WorkerSeat;
 use crossbeam_queue::Pass;
-use lane_core::{Deliverer, Delivery, Job, decode};
+use lane_core::{Deliverer, Delivery, Job};
 use rtrb::{Consumer, Producer};
 use std::sync::Wait;
 
@@ -58,39 +58,21 @@ pub(crate) fn place_hands(
     }
 }
 
-/// Empties the queue of jobs.
-pub(crate) fn place_jobs<R: Wait>(
+/// Empties a queue.
+pub(crate) fn place_queue<T: Queued, R: Wait>(
     rt: &R,
-    jobs: &Jobs,
-    all: &mut Pass<Job, Trace>,
+    queue: &Queue<T>,
+    all: &mut Pass<T, Trace>,
     lists: &mut Vec<Vec<Delivery>>,
 )
-    requires { IsPassOf jobs.now all.old × (parts_of all.old ≡ 1024) }
+    requires { IsPassOf queue.now all.old × (parts_of all.old ≡ 1024) }
     ensures fills { (xs : List Plain) × Fills lists.old.items lists.new.items xs × ((h : Plain → ℕ) → weigh h (pushed_by all.old) ≡ weigh h (popped_by all.old) + weigh h xs) }
 {
     for _ in rt.forever() {
-        let Some(job) = jobs.pop_as::<PopsLast, R>(rt, all) else {
+        let Some(item) = queue.pop_as::<Pops, R>(rt, all) else {
             break;
         };
-        place(lists, decode(job));
-    }
-}
-
-/// Empties the queue of results.
-pub(crate) fn place_results<R: Wait>(
-    rt: &R,
-    results: &Results,
-    all: &mut Pass<Delivery, Trace>,
-    lists: &mut Vec<Vec<Delivery>>,
-)
-    requires { IsPassOf results.now all.old × (parts_of all.old ≡ 1024) }
-    ensures fills { (xs : List Plain) × Fills lists.old.items lists.new.items xs × ((h : Plain → ℕ) → weigh h (pushed_by all.old) ≡ weigh h (popped_by all.old) + weigh h xs) }
-{
-    for _ in rt.forever() {
-        let Some(delivery) = results.pop_as::<PopsLast, R>(rt, all) else {
-            break;
-        };
-        place(lists, delivery);
+        place(lists, item.into_delivery());
     }
 }
 
@@ -180,6 +162,6 @@ pub(crate) fn pour_all<R: Wait>(
     place_waiting(&mut deliverer, lists);
     place_any(lists, held);
     place_hands(hub, &mut jobs, &mut collects, lists, workers);
-    place_results(rt, &hub.results, &mut collects, lists);
-    place_jobs(rt, &hub.jobs, &mut jobs, lists);
+    place_queue(rt, &hub.results, &mut collects, lists);
+    place_queue(rt, &hub.jobs, &mut jobs, lists);
 }

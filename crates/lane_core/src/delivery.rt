@@ -11,9 +11,7 @@ use std::marker::Model;
 /// A row under its ticket, with the answer to it.
 #[derive(Debug, Drop)]
 pub struct Delivery {
-    ticket: Ticket,
-    row: Runs,
-    year: Year,
+    job: Job,
     answer: Answer,
 }
 
@@ -25,12 +23,11 @@ impl Model for Delivery {
 
     ghost Value = { Plain };
 
-    ghost use Rattle.lane_core.specs.Plain.{plain_of};
     ghost use Rattle.scan_core.specs.Answers.{IsAnswer};
 
-    ghost view = { λ delivery. plain_of delivery.ticket.lane delivery.ticket.number delivery.year delivery.row };
+    ghost view = { λ delivery. delivery.job };
 
-    ghost invariant = { λ delivery. IsAnswer delivery.row delivery.year delivery.answer };
+    ghost invariant = { λ delivery. IsAnswer delivery.job.widths delivery.job.year delivery.answer };
 }
 
 impl Delivery {
@@ -39,21 +36,21 @@ impl Delivery {
         ensures lane { result.lane ≡ self.now.lane }
         ensures number { result.number ≡ self.now.number }
     {
-        self.ticket
+        self.job.ticket()
     }
 
     /// The row.
     pub fn row(&self) -> &Runs
         ensures { result.now ≡ self.now.widths }
     {
-        &self.row
+        self.job.row()
     }
 
     /// The reference year of its dates.
     pub fn year(&self) -> Year
         ensures { result ≡ self.now.year }
     {
-        self.year
+        self.job.year()
     }
 
     /// The answer to the row by the reference year: a delivery has no other.
@@ -68,12 +65,6 @@ impl Delivery {
 pub fn decode(job: Job) -> Delivery
     ensures { result ≡ job }
 {
-    let (ticket, row, year) = job.into_parts();
-    let answer = read_row(&row, year);
-    Delivery {
-        ticket,
-        row,
-        year,
-        answer,
-    }
+    let answer = read_row(job.row(), job.year());
+    Delivery { job, answer }
 }

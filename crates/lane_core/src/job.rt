@@ -74,12 +74,4 @@ impl Job {
     {
         self.row
     }
-
-    /// The ticket, the row and the year.
-    pub(crate) fn into_parts(self) -> (Ticket, Runs, Year)
-        ensures { plain_of result.0.lane result.0.number result.2 result.1 ≡ self }
-    {
-        let Job { ticket, row, year } = self;
-        (ticket, row, year)
-    }
 }

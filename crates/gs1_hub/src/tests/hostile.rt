@@ -1,6 +1,5 @@
 //! Inputs that fail or end at each byte, and outputs that fail at each byte.
 
-use super::fakes::{Breaking, Narrow};
 use super::prints::{LOW, RECORD, printing, push_image};
 use super::{outcome, refusal};
 use crate::options::{LaneOptions, ScanOptions};
@@ -8,6 +7,7 @@ use crate::run;
 use crate::words::Asked;
 use digits_core::FromReader;
 use element_core::Year;
+use fakes::{Breaking, Narrow};
 use hub_core::OpenGate;
 use std::alloc::Global;
 use std::test::Fail;

@@ -1,11 +1,11 @@
 //! Labels that are printed: the bytes of their sheets, their lines, each refusal and their order.
 
-use super::fakes::Breaking;
 use super::{outcome, refusal};
 use crate::options::PrintOptions;
 use crate::run;
 use crate::words::Asked;
 use digits_core::{FromReader, ToWriter};
+use fakes::Breaking;
 use hub_core::OpenGate;
 use std::alloc::AllocError;
 use std::sync::Wait;

@@ -1,12 +1,12 @@
 //! Images that are scanned: the lines of their columns, each refusal, and inputs and outputs that fail.
 
-use super::fakes::{Breaking, Narrow};
 use super::prints::{DOTS, HIGH, LOW, printed, printing, push_image};
 use super::{outcome, refusal};
 use crate::options::ScanOptions;
 use crate::run;
 use crate::words::Asked;
 use digits_core::{FromReader, ToWriter};
+use fakes::{Breaking, Narrow};
 use hub_core::OpenGate;
 use std::alloc::{AllocError, Global};
 use std::sync::Wait;

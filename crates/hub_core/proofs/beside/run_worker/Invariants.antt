@@ -1,4 +1,3 @@
-use Rattle.std.proofs.Common.{◌≡◌}
 use Rattle.hub_core.specs.Hubs.{IsWorkerOf}
 use Rattle.hub_core.proofs.beside.run_worker.Given as goal
 

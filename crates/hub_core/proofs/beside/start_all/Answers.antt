@@ -1,4 +1,4 @@
-use Rattle.std.proofs.Common.{ap, arith, rules, ◌≡◌, [], ◌∷◌, ◌≤◌, All, codes, ◌+◌, vec_len, vec_capacity, ℕ, length, List}
+use Rattle.std.proofs.Common.{ap, arith, rules, ◌≡◌, [], ◌∷◌, codes, List}
 use Rattle.std.proofs.Crossing.{crosses}
 use Rattle.std.proofs.lemmas.List.Elements.{All-push}
 use denote.Param.Send.{sendable, param_send, arg_send, IsSend}
@@ -8,7 +8,7 @@ use denote.Struct.Field.{shr_ref_field}
 use denote.Struct.Tuple.{TupleAt, type_at}
 use denote.RattleType.{RattleType}
 use denote.Exit.{no}
-use mir.Syntax.{named, Sym}
+use mir.Syntax.{named}
 use Rattle.std.specs.contracts.sync.atomic.AtomicU64 as stop
 use Rattle.hub_core.specs.contracts.hub.Hub as hub
 use Rattle.hub_core.specs.contracts.worker_seat.WorkerSeat as seats

@@ -1,6 +1,5 @@
 use Rattle.std.proofs.Common.{◌≡◌, ◌+◌, ◌≤◌, vec_len, vec_capacity, All}
-use Rattle.std.specs.Vec.Iter.{into_iter_items, into_iter_len}
-use Rattle.hub_core.specs.Hubs.{IsWorkerOf}
+use Rattle.std.specs.Vec.Iter.{into_iter_len}
 use Rattle.hub_core.proofs.beside.start_all.Given as goal
 
 abbrev pub invariant-loop-seat : goal.invariant-loop-seat

@@ -1,4 +1,3 @@
-use Rattle.std.proofs.Common.{◌≡◌}
 use Rattle.hub_core.specs.Feeds.{AreFeedsOf, AreSameFeeds}
 use Rattle.hub_core.specs.Hubs.{IsDelivererOf}
 use Rattle.hub_core.proofs.driving.drive.Given as goal

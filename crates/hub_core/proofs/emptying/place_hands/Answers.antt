@@ -7,10 +7,10 @@ use Rattle.hub_core.proofs.PourFacts.{hands_filled}
 use Rattle.hub_core.proofs.emptying.place_hands.Goals as goal
 
 pub absorb-requires-clause-rule : goal.absorb-requires-clause-rule
-absorb-requires-clause-rule c = merges _ _ _ _ (let e = ap (λ (v : Trace). v.parts) c.loop-seat.invariant.jobs in omega arith)
+absorb-requires-clause-rule c = merges _ _ _ _ _ (let e = ap (λ (v : Trace). v.parts) c.loop-seat.invariant.jobs in omega arith)
 
 pub absorb-requires-in-loop-seat-clause-rule : goal.absorb-requires-in-loop-seat-clause-rule
-absorb-requires-in-loop-seat-clause-rule c = merges _ _ _ _ (let e = ap (λ (v : Trace). v.parts) c.loop-seat.invariant.results in omega arith)
+absorb-requires-in-loop-seat-clause-rule c = merges _ _ _ _ _ (let e = ap (λ (v : Trace). v.parts) c.loop-seat.invariant.results in omega arith)
 
 pub loop-seat-preserved : goal.loop-seat-preserved
 loop-seat-preserved c = record {

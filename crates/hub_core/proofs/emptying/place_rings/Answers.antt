@@ -28,7 +28,7 @@ loop-closed-init c = record {
 }
 
 pub absorb-requires-clause-rule : goal.absorb-requires-clause-rule
-absorb-requires-clause-rule c = merges _ _ _ _ (let e = ap (λ (v : Trace). v.parts) c.loop-closed.invariant.jobs in omega arith)
+absorb-requires-clause-rule c = merges _ _ _ _ _ (let e = ap (λ (v : Trace). v.parts) c.loop-closed.invariant.jobs in omega arith)
 
 pub place_rest-requires : goal.place_rest-requires
 place_rest-requires c =

@@ -16,8 +16,8 @@ pub place_rings-requires-clause-rings : goal.place_rings-requires-clause-rings
 place_rings-requires-clause-rings g c =
     all_paired c.args.hub.now c.args.deliverer.rings.items c.args.lanes.items c.requires.deliverer.rings (all_rings c.args.hub.now c.args.deliverer c.requires.deliverer) c.requires.lanes
 
-pub place_jobs-requires : goal.place_jobs-requires
-place_jobs-requires g c =
+pub place_queue-requires-2 : goal.place_queue-requires-2
+place_queue-requires-2 g c =
     let a = ap (λ (v : Trace). v.parts) c.place_rings.ensures.jobs in
     let b = ap (λ (v : Trace). v.parts) c.place_hands.ensures.jobs in
     let d = each_counted _ _ c.requires.each_lane in
@@ -27,8 +27,8 @@ place_jobs-requires g c =
 pub returns : goal.returns
 returns g c =
     let rings = c.place_rings.ensures.fills in
-    let jobs = c.place_jobs.ensures.fills in
-    let results = c.place_results.ensures.fills in
+    let jobs = c.place_queue-2.ensures.fills in
+    let results = c.place_queue.ensures.fills in
     let waiting = c.place_waiting.ensures.fills in
     let hands = flat_map hand_of c.args.workers.items in
     let held = option_to_list c.args.deliverer.held in

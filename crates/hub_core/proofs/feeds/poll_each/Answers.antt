@@ -1,7 +1,6 @@
-use Rattle.std.proofs.Common.{rules, ◌<◌, List, length, ap, subst, sym, ◌∙◌, ◌≡◌, arith}
+use Rattle.std.proofs.Common.{◌<◌, length, ap, subst, sym, ◌∙◌, arith}
 use Rattle.std.proofs.lemmas.List.{length-set}
-use Rattle.hub_core.specs.Feeds.{AreFeedsOf, IsFeedOf}
-use Rattle.hub_core.specs.declared.feed.Feed.{Feed}
+use Rattle.hub_core.specs.Feeds.{AreFeedsOf}
 use Rattle.hub_core.proofs.FeedFacts.{turn_of, turn_same, whole_is}
 use Rattle.hub_core.proofs.feeds.poll_each.Goals as goal
 

@@ -1,4 +1,4 @@
-use Rattle.std.proofs.Common.{length, ◌∙◌}
+use Rattle.std.proofs.Common.{◌∙◌}
 use Rattle.std.proofs.lemmas.List.{length-set}
 use Rattle.hub_core.proofs.FeedFacts.{turn_of, turn_same}
 use Rattle.hub_core.proofs.feeds.submit_each.Goals as goal

@@ -1,9 +1,8 @@
-use Rattle.std.proofs.Common.{rules, ◌≡◌, ◌-◌, List, ◌∷◌, [], length, length-append, subst, ap, arith, sym, ◌∙◌}
+use Rattle.std.proofs.Common.{rules, List, ◌∷◌, [], length, length-append, subst, ap, arith, sym, ◌∙◌}
 use Rattle.std.specs.List.{All}
 use Rattle.std.proofs.lemmas.List.Elements.{All-push}
-use Rattle.crossbeam_queue.specs.Passes.{view, Pass, IsPassOf}
+use Rattle.crossbeam_queue.specs.Passes.{view, IsPassOf}
 use Rattle.rtrb.specs.Ring.{IsPair}
-use Rattle.lane_core.specs.declared.job.Plain.{Plain}
 use Rattle.hub_core.specs.declared.rule.Trace.{Trace}
 use Rattle.hub_core.specs.declared.lane_seat.LaneSeat.{LaneSeat}
 use Rattle.hub_core.specs.Fresh.{HasDoneNothing, IsPairedIn, IsUnsent}
@@ -13,7 +12,7 @@ use Rattle.hub_core.proofs.PartFacts.{cut_more, lanes_more, paired_more}
 use Rattle.hub_core.proofs.parts.make_lanes.Goals as goal
 
 pub another-pass-requires-clause-rule : goal.another-pass-requires-clause-rule
-another-pass-requires-clause-rule c = forks _ _ (let e = ap (λ (v : Trace). v.parts) c.loop-lane.invariant.left in omega arith)
+another-pass-requires-clause-rule c = forks _ _ _ (let e = ap (λ (v : Trace). v.parts) c.loop-lane.invariant.left in omega arith)
 
 pub loop-lane-preserved : goal.loop-lane-preserved
 loop-lane-preserved c =

@@ -1,4 +1,4 @@
-use Rattle.std.proofs.Common.{rules, ◌≡◌, ◌∙◌, sym, option_to_list}
+use Rattle.std.proofs.Common.{◌∙◌, sym, option_to_list}
 use Rattle.hub_core.specs.Passes.{popped_by}
 use Rattle.hub_core.specs.Rings.{all_sent}
 use Rattle.hub_core.proofs.NextFacts.{next_is, with_number}

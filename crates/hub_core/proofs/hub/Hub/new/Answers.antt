@@ -1,12 +1,6 @@
-use Rattle.std.proofs.Common.{rules, ◌≡◌, get_or, ◌+◌, ◌<◌, ◌≤◌, ℕ, [], List, length, refl, sym, ap, ◌∙◌, arith, replicate, ◌∷◌, map, true}
-use Rattle.std.specs.List.{slice_get}
+use Rattle.std.proofs.Common.{rules, get_or, length, refl, sym, ap, ◌∙◌, arith}
 use Rattle.std.proofs.lemmas.List.{length-replicate}
-use Rattle.crossbeam_queue.specs.Passes.{view}
-use Rattle.lane_core.specs.declared.job.Plain.{Plain}
 use Rattle.lane_core.specs.Desk.{Desk}
-use Rattle.hub_core.specs.Lanes.{submitted}
-use Rattle.hub_core.specs.Serving.{numbered_rows}
-use Rattle.hub_core.specs.Shapes.{is_allowed}
 use Rattle.hub_core.proofs.NewFacts.{fresh_stocks, given_none, has_each, left_of_jobs, left_of_results, no_rows, ring_of, same_ends, small}
 use Rattle.hub_core.proofs.hub.Hub.new.Goals as goal
 

@@ -1,4 +1,4 @@
-use Rattle.std.proofs.Common.{rules, ◌≡◌, ◌+◌, ◌++◌, ◌∷◌, [], ◌∙◌, ap, arith, length, length-append, sym}
+use Rattle.std.proofs.Common.{◌++◌, ◌∷◌, [], ◌∙◌, ap, arith, length, length-append}
 use Rattle.crossbeam_queue.specs.Passes.{view}
 use Rattle.lane_core.specs.Plain.{plain_of}
 use Rattle.hub_core.specs.declared.rule.Trace.{Trace}
@@ -8,7 +8,7 @@ use Rattle.hub_core.proofs.LaneFacts.{lane_more, rows_and_one}
 use Rattle.hub_core.proofs.hub.Hub.submit.Goals as goal
 
 pub push_as-requires-clause-rule : goal.push_as-requires-clause-rule
-push_as-requires-clause-rule g c = (puts _ _ _ _ (let p = c.args.seat.now.part in omega arith), λ items views b at. tt)
+push_as-requires-clause-rule g c = (puts _ _ _ _ _ (let p = c.args.seat.now.part in omega arith), λ items views b at. tt)
 
 pub invariant_of-seat : goal.invariant_of-seat
 invariant_of-seat g c =
