@@ -99,7 +99,14 @@ fn main(rt: HostRuntime) -> io::Result<ExitCode> {
     };
     match asked {
         Ok(asked) => {
-            let mut source = FromReader::new(rt.reader());
+            let Ok(reader) = io::BufReader::new(rt.alloc(), rt.reader()) else {
+                return explain(
+                    &rt,
+                    &WordsFault::NoMemory,
+                    &mut ToWriter::new(io::writer(&rt)),
+                );
+            };
+            let mut source = FromReader::new(reader);
             let mut sink = ToWriter::new(io::writer(&rt));
             let ran = run(&rt, rt.alloc(), asked, &mut source, &mut sink, &OpenGate);
             finish(&rt, ran)
