@@ -37,15 +37,6 @@ pub digits_of-valid : (text : List ℕ) → AreAsciiDigits text → AreDigits (d
 digits_of-valid [] h = tt
 digits_of-valid (b ∷ text) h = (let low = h.0.0 in let high = h.0.1 in let small : b - 48 < 10 = omega arith in small, digits_of-valid text h.1)
 
-pub digits-drop : (n : ℕ) (ds : List ℕ) → AreDigits ds → AreDigits (drop n ds)
-digits-drop zero ds h = h
-digits-drop (suc n) [] h = tt
-digits-drop (suc n) (d ∷ ds) h = digits-drop n ds h.1
-
-pub digits-ascii_of : (ds : List ℕ) → AreDigits ds → AreAsciiDigits (ascii_of ds)
-digits-ascii_of [] h = tt
-digits-ascii_of (d ∷ ds) h = (let small = h.0 in let low : 48 ≤ d + 48 = omega arith in let high : d + 48 < 58 = omega arith in (low, high), digits-ascii_of ds h.1)
-
 digits_of-zeros : (n : ℕ) → digits_of (replicate n 48) ≡ replicate n 0
 digits_of-zeros zero = refl
 digits_of-zeros (suc n) = ap (λ ds. 0 ∷ ds) (digits_of-zeros n)
@@ -55,11 +46,6 @@ pub digit_at : (text : List ℕ) (i : ℕ) → AreAsciiDigits text → i < lengt
 digit_at [] i h lt = absurd (omega arith)
 digit_at (b ∷ text) zero h lt = h.0
 digit_at (b ∷ text) (suc i) h lt = digit_at text i h.1 (omega arith)
-
-pub digits-take : (n : ℕ) (text : List ℕ) → AreAsciiDigits text → AreAsciiDigits (take n text)
-digits-take zero text h = tt
-digits-take (suc n) [] h = tt
-digits-take (suc n) (b ∷ text) h = (h.0, digits-take n text h.1)
 
 pub digits-append : (xs ys : List ℕ) → AreAsciiDigits xs → AreAsciiDigits ys → AreAsciiDigits (xs ++ ys)
 digits-append [] ys h k = k

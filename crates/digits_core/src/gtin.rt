@@ -92,13 +92,19 @@ impl Gtin {
         self.digits
     }
 
-    /// Whether the first `count` digits are zeros.
-    fn begins_with_zeros(&self, count: usize) -> bool
-        requires { count ≤ 14 }
-        ensures zeros { IsTrue result ↔ (self.now ≡ padded (drop count self.now)) }
+    /// The last `N` digits, in ASCII, where all before them are zeros.
+    fn last_digits<const N: usize>(&self) -> Option<[u8; N]>
+        requires { N ≤ 14 }
+        ensures some { IsSome result ↔ (self.now ≡ padded (drop (14 - N) self.now)) }
+        ensures value { IfSome result (λ text. text ≡ ascii_of (drop (14 - N) self.now)) }
+        ensures digits { IfSome result AreAsciiDigits }
         ensures checked { IsChecked self.now }
     {
-        are_zeros(&self.digits[..count])
+        let (zeros, digits) = self.digits.split_last_chunk::<N>()?;
+        if !are_zeros(zeros) {
+            return None;
+        }
+        Some(*digits)
     }
 
     /// The 13 digits, in ASCII, of a GTIN-13, GTIN-12 or GTIN-8: none of a GTIN that needs 14 digits.
@@ -107,12 +113,7 @@ impl Gtin {
         ensures value { IfSome result (λ text. text ≡ ascii_of (drop 1 self.now)) }
         ensures digits { IfSome result AreAsciiDigits }
     {
-        if !self.begins_with_zeros(1) {
-            return None;
-        }
-        let mut digits = [0; 13];
-        digits.copy_from_slice(&self.digits[1..]);
-        Some(digits)
+        self.last_digits::<13>()
     }
 
     /// The 12 digits, in ASCII, of a GTIN-12 or GTIN-8: none of a GTIN that needs more digits.
@@ -122,12 +123,7 @@ impl Gtin {
         ensures digits { IfSome result AreAsciiDigits }
         ensures checked { IsChecked self.now }
     {
-        if !self.begins_with_zeros(2) {
-            return None;
-        }
-        let mut digits = [0; 12];
-        digits.copy_from_slice(&self.digits[2..]);
-        Some(digits)
+        self.last_digits::<12>()
     }
 
     /// The 8 digits, in ASCII, of a GTIN-8: none of a GTIN that needs more digits.
@@ -136,11 +132,6 @@ impl Gtin {
         ensures value { IfSome result (λ text. text ≡ ascii_of (drop 6 self.now)) }
         ensures digits { IfSome result AreAsciiDigits }
     {
-        if !self.begins_with_zeros(6) {
-            return None;
-        }
-        let mut digits = [0; 8];
-        digits.copy_from_slice(&self.digits[6..]);
-        Some(digits)
+        self.last_digits::<8>()
     }
 }

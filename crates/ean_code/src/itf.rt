@@ -10,7 +10,7 @@ ghost use Rattle.ean_code.specs.Symbols.Kind.{Itf14};
 ghost use Rattle.ean_code.specs.TwoOfFive.{in_pairs, pair_widths};
 
 use crate::modules::Modules;
-use crate::reading::Spelled;
+use crate::reading::{Spelled, spelled_by};
 use crate::two_of_five::{pair_with, push_pair};
 use arrayvec::ArrayVec;
 use digits_core::Gtin;
@@ -92,11 +92,5 @@ fn itf14_text(widths: &[u8]) -> Option<ArrayVec<u8, 14>>
 pub fn read_itf14(modules: &Modules) -> Spelled
     ensures { IsSpelled Itf14 modules.now result }
 {
-    let Some(text) = itf14_text(modules.widths()) else {
-        return Spelled::NoPattern;
-    };
-    match Gtin::read(text.as_slice()) {
-        Ok(gtin) => Spelled::Found(gtin),
-        Err(_) => Spelled::BadCheck,
-    }
+    spelled_by(itf14_text(modules.widths()))
 }

@@ -1,13 +1,15 @@
 //! Reads EAN-13, EAN-8 and UPC-E symbols from their widths.
-ghost use Rattle.std.specs.Prelude.{◌≡◌, ◌+◌, ◌≤◌, ◌++◌, ℕ, List, IfNone, IfSome, length};
+ghost use Rattle.std.specs.Prelude.{◌≡◌, ◌+◌, ◌≤◌, ◌++◌, ℕ, List, IfNone, IfSome, IsTrue, length};
 ghost use Rattle.arrayvec.specs.ArrayVec.{array_vec_len};
-ghost use Rattle.digits_core.specs.Digits.{ascii_of};
+ghost use Rattle.digits_core.specs.Digits.{AreAsciiDigits, ascii_of};
+ghost use Rattle.digits_core.specs.Gtins.{is_gtin_length};
 ghost use Rattle.ean_code.specs.NumberSets.{AreCharacters, character_digits};
 ghost use Rattle.ean_code.specs.Parts.{IsTextOf};
-ghost use Rattle.ean_code.specs.Spelling.{IsSpelled};
+ghost use Rattle.ean_code.specs.Spelling.{IsSpelled, Spells};
 ghost use Rattle.ean_code.specs.Symbols.{IsNumberSymbol};
 ghost use Rattle.ean_code.specs.Symbols.Kind.{Ean13, Ean8, UpcE};
 ghost use Rattle.ean_code.specs.Widths.{AreWidths};
+ghost use Rattle.ean_code.specs.declared.reading.Spelled.TheVariants.{NoPattern};
 
 use crate::modules::Modules;
 use crate::number_sets::Character;
@@ -94,11 +96,15 @@ fn upce_text(widths: &[u8]) -> Option<ArrayVec<u8, 13>>
     Some(text)
 }
 
-/// What an EAN-13 spells, read forwards alone.
-pub fn read_ean13(modules: &Modules) -> Spelled
-    ensures { IsSpelled Ean13 modules.now result }
+/// What the ASCII digits of a symbol spell, as many as a GTIN may have: where there are none, that there
+/// is no symbol.
+pub(crate) fn spelled_by<const N: usize>(text: Option<ArrayVec<u8, N>>) -> Spelled
+    requires digits { IfSome text (λ t. AreAsciiDigits t.items) }
+    requires count { IfSome text (λ t. IsTrue (is_gtin_length (length t.items))) }
+    ensures none { IfNone text.entry (result ≡ NoPattern) }
+    ensures some { IfSome text.entry (λ t. Spells t.items result) }
 {
-    let Some(text) = ean13_text(modules.widths()) else {
+    let Some(text) = text else {
         return Spelled::NoPattern;
     };
     match Gtin::read(text.as_slice()) {
@@ -107,17 +113,18 @@ pub fn read_ean13(modules: &Modules) -> Spelled
     }
 }
 
+/// What an EAN-13 spells, read forwards alone.
+pub fn read_ean13(modules: &Modules) -> Spelled
+    ensures { IsSpelled Ean13 modules.now result }
+{
+    spelled_by(ean13_text(modules.widths()))
+}
+
 /// What an EAN-8 spells, read forwards alone.
 pub fn read_ean8(modules: &Modules) -> Spelled
     ensures { IsSpelled Ean8 modules.now result }
 {
-    let Some(text) = ean8_text(modules.widths()) else {
-        return Spelled::NoPattern;
-    };
-    match Gtin::read(text.as_slice()) {
-        Ok(gtin) => Spelled::Found(gtin),
-        Err(_) => Spelled::BadCheck,
-    }
+    spelled_by(ean8_text(modules.widths()))
 }
 
 /// What a UPC-E spells, read forwards alone: the GTIN-12 that its digits are expanded to, by any line of

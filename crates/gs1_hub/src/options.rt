@@ -1,6 +1,5 @@
 //! The numbers that a command takes.
-ghost use Rattle.std.specs.Prelude.{◌≡◌, ◌↔◌, IfSome, IsSome, IsTrue};
-ghost use Rattle.std.specs.Int.{IsInRange};
+ghost use Rattle.std.specs.Prelude.{◌≡◌, ◌↔◌, IfSome, IsSome};
 ghost use Rattle.line_core.specs.Grids.{HasNumbers};
 ghost use Rattle.line_core.specs.Numbers.{AreGridNumbers};
 ghost use Rattle.gs1_hub.specs.Numbers.{IsLaneCount, IsReferenceYear, IsWorkerCount};
@@ -19,13 +18,6 @@ pub const FIRST_YEAR: u16 = 1951;
 
 /// The last year that is a reference year.
 pub const LAST_YEAR: u16 = 2149;
-
-/// Whether there is at least one of something, and at most `most`.
-fn is_count(count: u8, most: u8) -> bool
-    ensures { IsTrue result ↔ IsInRange 1 most count }
-{
-    1 <= count && count <= most
-}
 
 /// The numbers of the command `lanes`.
 #[derive(Clone, Copy, Debug, PartialEq, Eq)]
@@ -48,7 +40,7 @@ impl LaneOptions {
         ensures numbers { IfSome result (λ o. (o.lanes ≡ lanes) × (o.workers ≡ workers)
             × (o.year ≡ year)) }
     {
-        if !is_count(lanes, MOST_LANES) || !is_count(workers, MOST_WORKERS) {
+        if !(1..=MOST_LANES).contains(&lanes) || !(1..=MOST_WORKERS).contains(&workers) {
             return None;
         }
         let year = Year::new(year)?;
@@ -124,7 +116,7 @@ impl ScanOptions {
         ensures rest { IfSome result (λ o. (o.workers ≡ workers) × (o.year ≡ year)) }
     {
         let grid = GridOptions::new(module_dots, width, height, columns, rows)?;
-        if !is_count(workers, MOST_WORKERS) {
+        if !(1..=MOST_WORKERS).contains(&workers) {
             return None;
         }
         let year = Year::new(year)?;

@@ -1,6 +1,5 @@
 //! The numbers of a grid.
-ghost use Rattle.std.specs.Prelude.{◌↔◌, IfOk, IfSome, IsOk, IsSome, IsTrue, ◌≡◌};
-ghost use Rattle.std.specs.Int.{IsInRange};
+ghost use Rattle.std.specs.Prelude.{◌↔◌, IfOk, IfSome, IsOk, IsSome, ◌≡◌};
 ghost use Rattle.line_core.specs.Numbers.{AreGridNumbers};
 
 use sheet_core::{BadGrid, Grid};
@@ -19,13 +18,6 @@ pub const MOST_COLUMNS: u16 = 16;
 
 /// How many rows of cells a sheet has at most.
 pub const MOST_ROWS: u16 = 64;
-
-/// Whether a number is 1 to `most`.
-fn is_within(number: u16, most: u16) -> bool
-    ensures { IsTrue result ↔ IsInRange 1 most number }
-{
-    1 <= number && number <= most
-}
 
 /// The numbers of a grid of cells, each within its own range. Modules, widths and heights are in
 /// dots.
@@ -59,13 +51,13 @@ impl GridOptions {
         ensures taken { IsSome result ↔ AreGridNumbers module_dots width height columns rows }
         ensures numbers { IfSome result (HasNumbers module_dots width height columns rows) }
     {
-        if !is_within(module_dots, MOST_MODULE_DOTS) || !is_within(width, MOST_WIDTH) {
+        if !(1..=MOST_MODULE_DOTS).contains(&module_dots) || !(1..=MOST_WIDTH).contains(&width) {
             return None;
         }
-        if !is_within(height, MOST_HEIGHT) || !is_within(columns, MOST_COLUMNS) {
+        if !(1..=MOST_HEIGHT).contains(&height) || !(1..=MOST_COLUMNS).contains(&columns) {
             return None;
         }
-        if !is_within(rows, MOST_ROWS) {
+        if !(1..=MOST_ROWS).contains(&rows) {
             return None;
         }
         Some(GridOptions {

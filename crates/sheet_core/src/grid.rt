@@ -27,13 +27,6 @@ impl Model for Grid {
     ghost inverse = { λ g. record { module_dots = g.dots; cell_width = g.width; cell_height = g.height; columns = g.columns; rows = g.rows } };
 }
 
-/// Whether a number is in a range, both ends of it included.
-fn is_within(number: u16, least: u16, most: u16) -> bool
-    ensures { IsTrue result ↔ ((least ≤ number) × (number ≤ most)) }
-{
-    least <= number && number <= most
-}
-
 /// Whether so many of so many dots are at most 16,384 dots.
 fn fits_sheet(count: u16, dots: u16) -> bool
     ensures { IsTrue result ↔ (count * dots ≤ 16384) }
@@ -55,13 +48,13 @@ impl Grid {
         ensures ok { IfOk result (λ g. g ≡ record { dots = module_dots; width = cell_width; height = cell_height; columns = columns; rows = rows }) }
         ensures exact { IsOk result ↔ IsGrid (record { dots = module_dots; width = cell_width; height = cell_height; columns = columns; rows = rows }) }
     {
-        if !is_within(module_dots, 1, 8) || !is_within(cell_width, 1, 4096) {
+        if !(1..=8).contains(&module_dots) || !(1..=4096).contains(&cell_width) {
             return Err(BadGrid);
         }
-        if !is_within(cell_height, 2 * module_dots + 1, 1024) {
+        if !(2 * module_dots + 1..=1024).contains(&cell_height) {
             return Err(BadGrid);
         }
-        if !is_within(columns, 1, 16) || !is_within(rows, 1, 64) {
+        if !(1..=16).contains(&columns) || !(1..=64).contains(&rows) {
             return Err(BadGrid);
         }
         if !fits_sheet(columns, cell_width) || !fits_sheet(rows, cell_height) {
