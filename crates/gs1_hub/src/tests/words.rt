@@ -1,6 +1,5 @@
 //! Command lines: what they ask for, which are refused, and which ask for help.
 
-use super::fakes::Narrow;
 use crate::fault::CommandFault;
 use crate::help::write_help;
 use crate::options::{
@@ -9,6 +8,7 @@ use crate::options::{
 use crate::words::{Asked, WordsFault, read_words};
 use digits_core::ToWriter;
 use element_core::Year;
+use fakes::Narrow;
 use line_core::{MOST_COLUMNS, MOST_HEIGHT, MOST_MODULE_DOTS, MOST_ROWS, MOST_WIDTH};
 use std::alloc::Global;
 use std::test::Fail;
