@@ -14,7 +14,7 @@ ghost use Rattle.gs1_c.specs.Lines.{IsDigitLine, IsRowLine, IsTextLine, gtin_lin
 mod buffer;
 mod label;
 
-use buffer::{put, put_refusal, put_words};
+use buffer::{put, put_elements, put_refusal, put_words};
 use digits_core::{Gtin, payload_digit};
 use element_core::{Elements, Year};
 use label::put_numbered;
@@ -58,7 +58,7 @@ pub extern "C" fn gs1_c_text(text: &[u8], year: u16, out: &mut [u8]) -> usize
         return put(WORDS, out);
     };
     match Elements::parse(text, year) {
-        Ok(elements) => put_words(b"hri", elements.hri().as_str().as_bytes(), out),
+        Ok(elements) => put_elements(b"hri", &elements, out),
         Err(fault) => put_refusal(fault.refusal(), out),
     }
 }
@@ -76,8 +76,7 @@ pub extern "C" fn gs1_c_row(widths: &[u16], year: u16, out: &mut [u8]) -> usize
     };
     match read_widths(widths, year) {
         Ok(Answer::Read { carrier, elements }) => {
-            let identifier = carrier.identifier().as_bytes();
-            put_words(identifier, elements.hri().as_str().as_bytes(), out)
+            put_elements(carrier.identifier().as_bytes(), &elements, out)
         }
         Ok(Answer::Refused(fault)) => put_refusal(fault.refusal(), out),
         Err(fault) => put_refusal(fault.refusal(), out),
