@@ -30,6 +30,7 @@ enum gs1_kind { GS1_EAN13 = 0, GS1_UPCA = 1, GS1_EAN8 = 2, GS1_UPCE = 3, GS1_GS1
 
 /* The library's calls, whose pointers are never null, also where the count is 0: call those below. */
 size_t gs1_c_row(const uint16_t *widths, size_t count, uint16_t year, uint8_t *out, size_t room);
+size_t gs1_c_dots(const uint8_t *bits, size_t bytes, uint32_t count, uint16_t year, uint8_t *out, size_t room);
 size_t gs1_c_gtin(const uint8_t *text, size_t length, uint8_t *out, size_t room);
 size_t gs1_c_digit(const uint8_t *text, size_t length, uint8_t *out, size_t room);
 size_t gs1_c_text(const uint8_t *text, size_t length, uint16_t year, uint8_t *out, size_t room);
@@ -49,6 +50,14 @@ static inline void *gs1_none(void) {
  * is read by the reference year, 1951 to 2149; any other year is `refused 42 Words`. */
 static inline size_t gs1_row(const uint16_t *widths, size_t count, uint16_t year, uint8_t *out, size_t room) {
     return gs1_c_row(GS1_SOME(const uint16_t *, widths), count, year, GS1_SOME(uint8_t *, out), room);
+}
+
+/* The same of `count` dots packed in bytes, as a row of PBM has them: the first dot of a byte in its high bit,
+ * and 1 is dark. `bits` reaches (count + 7) / 8 bytes; what stands behind the last dot does not matter. More
+ * than 65,535 dots are `refused 17 TooWide`. */
+static inline size_t gs1_dots(const uint8_t *bits, uint32_t count, uint16_t year, uint8_t *out, size_t room) {
+    return gs1_c_dots(GS1_SOME(const uint8_t *, bits), (size_t)(((uint64_t)count + 7) / 8), count, year,
+                      GS1_SOME(uint8_t *, out), room);
 }
 
 /* The GTIN of 8, 12, 13 or 14 digits, as `gtin 09501101530003`. */

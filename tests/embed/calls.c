@@ -1,8 +1,8 @@
 /* Calls the library from C. With no words: the worked cases, each into a buffer of every size from 0 to past
  * its answer. With a word: the answers to the lines of standard input, one a line, by the word: `rows` for the
- * lines of `lanes`, `check` for those of `check`, `labels MODULE WIDTH HEIGHT` for those of `print`, whose
- * images are written with nothing between them. With `time COUNT`: the milliseconds of so many calls on the rows
- * of such lines, in turn. The year is 2026. */
+ * lines of `lanes`, `dots` for the same as packed dots, `check` for those of `check`, `labels MODULE WIDTH HEIGHT`
+ * for those of `print`, whose images are written with nothing between them. With `time COUNT`: the milliseconds of
+ * so many calls on the rows of such lines, in turn. The year is 2026. */
 #include "gs1.h"
 #include <stdio.h>
 #include <stdlib.h>
@@ -15,7 +15,7 @@ static long checks, wrong;
 
 /* A question: which call, and what it is asked. */
 struct asked {
-    enum { ROW, GTIN, DIGIT, TEXT, LABEL } call;
+    enum { ROW, DOTS, GTIN, DIGIT, TEXT, LABEL } call;
     const void *items;
     size_t count;
     unsigned year, kind, module_dots, width, height;
@@ -24,6 +24,7 @@ struct asked {
 static size_t ask(const struct asked *q, uint8_t *out, size_t room) {
     switch (q->call) {
     case ROW: return gs1_row(q->items, q->count, (uint16_t)q->year, out, room);
+    case DOTS: return gs1_dots(q->items, (uint32_t)q->count, (uint16_t)q->year, out, room);
     case GTIN: return gs1_gtin(q->items, q->count, out, room);
     case DIGIT: return gs1_digit(q->items, q->count, out, room);
     case TEXT: return gs1_text(q->items, q->count, (uint16_t)q->year, out, room);
@@ -38,7 +39,7 @@ static size_t ask(const struct asked *q, uint8_t *out, size_t room) {
  * the address sanitizer sees a byte past it. */
 static void want(const char *what, const struct asked *asked, const void *wanted, size_t length) {
     struct asked q = *asked;
-    size_t size = q.count * (q.call == ROW ? sizeof(uint16_t) : 1);
+    size_t size = q.call == ROW ? q.count * sizeof(uint16_t) : q.call == DOTS ? (q.count + 7) / 8 : q.count;
     void *items = size ? malloc(size) : NULL;
     if (size) memcpy(items, asked->items, size);
     q.items = items;
@@ -78,6 +79,25 @@ static void text(const char *text, unsigned year, const char *wanted) {
 
 static void row(const char *what, const uint16_t *widths, size_t count, unsigned year, const char *wanted) {
     line(what, (struct asked){.call = ROW, .items = widths, .count = count, .year = year}, wanted);
+}
+
+/* The dots of widths, packed; the bits behind the last are set. The answer is how many dots they are. */
+static size_t pack(const uint16_t *widths, size_t count, uint8_t **bits) {
+    size_t dots = 0, at = 0;
+    for (size_t i = 0; i < count; i++) dots += widths[i];
+    *bits = malloc(dots / 8 + 1);
+    memset(*bits, 0xFF, dots / 8 + 1);
+    for (size_t i = 0; i < count; i++)
+        for (size_t k = 0; k < widths[i]; k++, at++)
+            if (i % 2 == 0) (*bits)[at / 8] &= (uint8_t)~(0x80 >> at % 8);
+    return dots;
+}
+
+static void dots(const char *what, const uint16_t *widths, size_t count, unsigned year, const char *wanted) {
+    uint8_t *bits;
+    size_t many = pack(widths, count, &bits);
+    line(what, (struct asked){.call = DOTS, .items = bits, .count = many, .year = year}, wanted);
+    free(bits);
 }
 
 static void label(unsigned kind, const char *text, unsigned year, unsigned dots, unsigned width, unsigned height,
@@ -125,6 +145,24 @@ static void cases(void) {
     row("65,535 runs", long_row, 65535, YEAR, "refused 20 RunCount");
     row("65,537 runs", long_row, 65537, YEAR, "refused 17 TooWide");
     row("69,999 runs", long_row, 69999, YEAR, "refused 17 TooWide");
+
+    dots("the dots of a row", EAN13, COUNT, YEAR, "]E0 (01)09501101530003");
+    dots("those of a turned row", turned, COUNT, YEAR, "]E0 (01)09501101530003");
+    dots("those of a narrow quiet zone", narrow, COUNT, YEAR, "refused 21 QuietZone");
+    dots("light dots", (uint16_t[]){100}, 1, YEAR, "refused 19 Blank");
+    dots("no dots", EAN13, 0, YEAR, "refused 19 Blank");
+    dots("a dark dot", (uint16_t[]){0, 1}, 2, YEAR, "refused 20 RunCount");
+    dots("65,535 dark dots", (uint16_t[]){0, 65535}, 2, YEAR, "refused 20 RunCount");
+    dots("65,536 dark dots", (uint16_t[]){0, 65535, 0, 1}, 4, YEAR, "refused 17 TooWide");
+    dots("65,535 dots in turn", long_row, 65535, YEAR, "refused 20 RunCount");
+    dots("65,536 dots in turn", long_row, 65536, YEAR, "refused 17 TooWide");
+    dots("597 dots in turn", long_row, 597, YEAR, "refused 21 QuietZone");
+    dots("599 dots in turn", long_row, 599, YEAR, "refused 20 RunCount");
+    dots("dots and the year 1950", EAN13, COUNT, 1950, "refused 42 Words");
+    uint8_t one = 0, out[GS1_LINE];
+    size_t short_by_one = gs1_c_dots(&one, 1, 9, YEAR, out, sizeof out);
+    if (short_by_one != 18 || memcmp(out, "refused 18 BadRuns", 18)) wrong++, puts("wrong: nine dots of one byte");
+    checks++;
     free(long_row);
 
     gtin("9501101530003", "gtin 09501101530003");
@@ -177,6 +215,17 @@ static void answer_row(char *words) {
     size_t count = 0;
     for (char *word = strtok(strchr(words, ',') + 1, " "); word; word = strtok(NULL, " ")) widths[count++] = (uint16_t)atoi(word);
     print(&(struct asked){.call = ROW, .items = widths, .count = count, .year = YEAR}, "\n");
+    free(widths);
+}
+
+static void answer_dots(char *words) {
+    uint16_t *widths = malloc(MOST_RUNS * sizeof *widths);
+    size_t count = 0;
+    for (char *word = strtok(strchr(words, ',') + 1, " "); word; word = strtok(NULL, " ")) widths[count++] = (uint16_t)atoi(word);
+    uint8_t *bits;
+    size_t many = pack(widths, count, &bits);
+    print(&(struct asked){.call = DOTS, .items = bits, .count = many, .year = YEAR}, "\n");
+    free(bits);
     free(widths);
 }
 
@@ -238,6 +287,7 @@ int main(int count, char **words) {
     while (fgets(input, sizeof input, stdin)) {
         input[strcspn(input, "\n")] = 0;
         if (!strcmp(words[1], "rows")) answer_row(input);
+        else if (!strcmp(words[1], "dots")) answer_dots(input);
         else if (!strcmp(words[1], "check")) answer_check(input);
         else answer_label(input, words + 2);
     }

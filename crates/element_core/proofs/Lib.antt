@@ -20,3 +20,4 @@ pub mod Before
 pub mod TimeLemmas
 pub mod Listed
 pub mod FirstDigits
+pub mod Pasted

@@ -1,6 +1,7 @@
 //! Lists of elements.
 
 ghost use Rattle.std.specs.Prelude.{◌≡◌, ◌+◌, ◌<◌, ◌≤◌, [], ◌∷◌, ◌++◌, length, slice_get, List, Some, IfOk, IfErr, IsOk, OnErr, OnOk, None, Err, IsTrue, string_bytes};
+ghost use Rattle.digits_core.specs.Buffers.{pasted};
 ghost use Rattle.element_core.specs.Days.{IsDay};
 ghost use Rattle.element_core.specs.Rows.{entry_in};
 ghost use Rattle.element_core.specs.Elements.{Entry, IsElements, FirstFault, canonical, entry_day, entry_time, gtin_entry, hri, is_printable};
@@ -9,7 +10,7 @@ use crate::draft::{append, gap_length};
 use crate::element::{Element, day_of_element, time_of_element};
 use crate::fault::ElementFault;
 use crate::front::element_at;
-use crate::hri::{add_line_of, line_of};
+use crate::hri::{add_line_of, line_of, put_line};
 use crate::pairs::{Pair, first_fault, needs_separator};
 use crate::shown_list::{count_of, element_of};
 use crate::text::{Text, copied};
@@ -172,6 +173,17 @@ impl Elements {
         ensures { result.bytes ≡ hri self.now.list }
     {
         line_of(self.text.as_slice())
+    }
+
+    /// Puts the human-readable interpretation into `out` from `at` on where there is room for all of it;
+    /// else `out` is as it was. The answer is how many bytes it has, at most 288.
+    pub fn put_hri(&self, at: usize, out: &mut [u8]) -> usize
+        ensures count { result ≡ length (hri self.now.list) }
+        ensures few { result ≤ 288 }
+        ensures put { at + result ≤ length out.old → out.new ≡ pasted out.old at (hri self.now.list) }
+        ensures unchanged { length out.old < at + result → out.new ≡ out.old }
+    {
+        put_line(self.text.as_slice(), at, out)
     }
 
     /// Puts the human-readable interpretation at the end of a text. Where there is no memory for it, the

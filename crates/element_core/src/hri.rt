@@ -1,7 +1,8 @@
 //! The human-readable interpretation (GS1 General Specifications, section 4.14).
 
-ghost use Rattle.std.specs.Prelude.{◌≡◌, ◌+◌, ◌<◌, ◌≤◌, ◌∷◌, ◌++◌, length, All, string_bytes, string_capacity, string_len};
+ghost use Rattle.std.specs.Prelude.{◌≡◌, ◌+◌, ◌*◌, ◌/◌, ◌<◌, ◌≤◌, ◌∷◌, ◌++◌, length, All, string_bytes, string_capacity, string_len};
 ghost use Rattle.arrayvec.specs.ArrayString.{array_string_len};
+ghost use Rattle.digits_core.specs.Buffers.{pasted};
 ghost use Rattle.element_core.specs.Elements.{hri};
 ghost use Rattle.element_core.specs.Shown.{shown_elements};
 ghost use Rattle.element_core.specs.Walks.{AreAscii};
@@ -87,4 +88,77 @@ pub(crate) fn add_line_of(line: &mut String, text: &[u8])
         add_element(line, front.ai, front.value);
         rest = front.rest;
     }
+}
+
+/// Puts bytes into `out` from `at` on, and says where they end.
+fn put_at(bytes: &[u8], at: usize, out: &mut [u8]) -> usize
+    requires { at + length bytes.now ≤ length out.old }
+    ensures end { result ≡ at + length bytes.now }
+    ensures put { out.new ≡ pasted out.old at bytes.now }
+{
+    let end = at + bytes.len();
+    out[at..end].copy_from_slice(bytes);
+    end
+}
+
+/// The same of an element: its AI in parentheses, then its value.
+fn put_element(ai: &[u8], value: &[u8], at: usize, out: &mut [u8]) -> usize
+    requires { at + length (40 ∷ ai.now ++ (41 ∷ value.now)) ≤ length out.old }
+    ensures end { result ≡ at + length (40 ∷ ai.now ++ (41 ∷ value.now)) }
+    ensures put { out.new ≡ pasted out.old at (40 ∷ ai.now ++ (41 ∷ value.now)) }
+{
+    let open = put_at(b"(", at, out);
+    let code = put_at(ai, open, out);
+    let close = put_at(b")", code, out);
+    put_at(value, close, out)
+}
+
+/// The same of the line of the elements that stand in a text.
+fn put_line_of(text: &[u8], at: usize, out: &mut [u8]) -> usize
+    requires { at + length (hri (shown_elements text.now)) ≤ length out.old }
+    ensures end { result ≡ at + length (hri (shown_elements text.now)) }
+    ensures put { out.new ≡ pasted out.old at (hri (shown_elements text.now)) }
+{
+    let mut end = at;
+    let mut rest = text;
+    while let Some(front) = front_of(rest) {
+        end = put_element(front.ai, front.value, end, out);
+        rest = front.rest;
+    }
+    end
+}
+
+/// How many bytes the line of the elements that stand in a text has.
+fn line_length(text: &[u8]) -> usize
+    requires { length (hri (shown_elements text.now)) ≤ 288 }
+    ensures { result ≡ length (hri (shown_elements text.now)) }
+{
+    let mut count = 0;
+    let mut rest = text;
+    while let Some(front) = front_of(rest) {
+        count += front.ai.len() + front.value.len() + 2;
+        rest = front.rest;
+    }
+    count
+}
+
+/// Puts the line of the elements that stand in a text into `out` from `at` on where it has room for it
+/// all, and says how many bytes the line has.
+pub(crate) fn put_line(text: &[u8], at: usize, out: &mut [u8]) -> usize
+    requires short { length text.now ≤ 192 }
+    requires least { length (hri (shown_elements text.now)) ≤ 288 }
+    requires most { length (hri (shown_elements text.now)) ≤ length text.now + (length text.now + 1) / 4 * 2 }
+    ensures count { result ≡ length (hri (shown_elements text.now)) }
+    ensures few { result ≤ 288 }
+    ensures put { at + result ≤ length out.old → out.new ≡ pasted out.old at (hri (shown_elements text.now)) }
+    ensures unchanged { length out.old < at + result → out.new ≡ out.old }
+{
+    if at <= out.len() {
+        let room = out.len() - at;
+        // A line is measured first only where there is little room.
+        if text.len() + (text.len() + 1) / 4 * 2 <= room || line_length(text) <= room {
+            return put_line_of(text, at, out) - at;
+        }
+    }
+    line_length(text)
 }

@@ -1,5 +1,5 @@
 -- The lines that the calls answer.
-use Rattle.std.specs.Prelude.{◌≡◌, ◌⊎◌, ◌≤◌, ◌<◌, ◌++◌, ℕ, List, [], ◌∷◌, Option, Some, None, codes}
+use Rattle.std.specs.Prelude.{◌≡◌, ◌⊎◌, ◌≤◌, ◌<◌, ◌*◌, ◌++◌, ℕ, List, [], ◌∷◌, Option, Some, None, codes, length}
 use Rattle.std.specs.Fmt.{decimal}
 use Rattle.digits_core.specs.Digits.{IsChecked, ascii_of, digits_of, padded}
 use Rattle.digits_core.specs.Faults.{digit_fault_text}
@@ -12,9 +12,11 @@ use Rattle.element_core.specs.declared.fault.ElementFault.{ElementFault}
 use Rattle.scan_core.specs.Answers.{IsAnswer}
 use Rattle.scan_core.specs.Faults.{run_fault_text}
 use Rattle.scan_core.specs.Lines.{answer_text}
-use Rattle.scan_core.specs.Row.{runs_fault}
+use Rattle.scan_core.specs.Bits.{dots_at}
+use Rattle.scan_core.specs.Row.{IsRow, dots_of, runs_fault}
 use Rattle.scan_core.specs.declared.answer.Answer.{Answer}
 use Rattle.scan_core.specs.declared.fault.RunFault.{RunFault}
+use Rattle.scan_core.specs.declared.fault.RunFault.TheVariants.{BadRuns, TooWide}
 
 -- a reference year
 abbrev pub IsYear : ℕ → Type 0
@@ -59,3 +61,20 @@ IsDatedRow year widths (Some fault) line = line ≡ run_fault_text fault
 abbrev pub IsRowLine : ℕ → List ℕ → List ℕ → Type 0
 IsRowLine year widths line =
     ((IsYear year → ⊥) × (line ≡ words_text)) ⊎ (IsYear year × IsDatedRow year widths (runs_fault widths) line)
+
+-- the line of the row whose dots these are, under a reference year
+abbrev pub IsBitRow : ℕ → List ℕ → ℕ → List ℕ → Type 0
+IsBitRow year bits count line =
+    (runs : List ℕ) × (a : Answer) × IsRow runs × (dots_of runs ≡ dots_at bits 0 count) × IsAnswer runs year a × (line ≡ answer_text a)
+
+-- the line of so many packed dots under a reference year: first they are all there, then they are no more than a row has
+abbrev pub IsDatedDots : ℕ → List ℕ → ℕ → List ℕ → Type 0
+IsDatedDots year bits count line =
+    ((8 * length bits < count) × (line ≡ run_fault_text BadRuns))
+    ⊎ ((count ≤ 8 * length bits) × (65535 < count) × (line ≡ run_fault_text TooWide))
+    ⊎ ((count ≤ 8 * length bits) × (count ≤ 65535) × IsBitRow year bits count line)
+
+-- the line of packed dots
+abbrev pub IsDotsLine : ℕ → List ℕ → ℕ → List ℕ → Type 0
+IsDotsLine year bits count line =
+    ((IsYear year → ⊥) × (line ≡ words_text)) ⊎ (IsYear year × IsDatedDots year bits count line)

@@ -2,8 +2,10 @@
 ghost use Rattle.std.specs.Prelude.{◌∷◌, ◌++◌};
 ghost use Rattle.digits_core.specs.Buffers.{IsPut};
 ghost use Rattle.digits_core.specs.Refusals.{refusal_text};
+ghost use Rattle.element_core.specs.Elements.{hri};
 
 use digits_core::Refusal;
+use element_core::Elements;
 use itoa::Buffer;
 
 /// Puts bytes at the front of `out` where it has room for them all, and says how many they are.
@@ -26,6 +28,19 @@ pub fn put_words(first: &[u8], second: &[u8], out: &mut [u8]) -> usize
         out[..space].copy_from_slice(first);
         out[space] = b' ';
         out[space + 1..count].copy_from_slice(second);
+    }
+    count
+}
+
+/// The same of a word and the human-readable line of elements.
+pub fn put_elements(word: &[u8], elements: &Elements, out: &mut [u8]) -> usize
+    ensures { IsPut (word.now ++ (32 ∷ hri elements.now.list)) out.old out.new result }
+{
+    let space = word.len();
+    let count = space + 1 + elements.put_hri(space + 1, out);
+    if count <= out.len() {
+        out[..space].copy_from_slice(word);
+        out[space] = b' ';
     }
     count
 }

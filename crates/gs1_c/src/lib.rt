@@ -9,16 +9,18 @@
 ghost use Rattle.std.specs.Prelude.{List, ℕ};
 ghost use Rattle.digits_core.specs.Buffers.{IsPut};
 ghost use Rattle.gs1_c.specs.Labels.{IsLabelBytes, one_cell};
-ghost use Rattle.gs1_c.specs.Lines.{IsDigitLine, IsRowLine, IsTextLine, gtin_line};
+ghost use Rattle.gs1_c.specs.Lines.{IsDigitLine, IsDotsLine, IsRowLine, IsTextLine, gtin_line};
 
+mod answer;
 mod buffer;
 mod label;
 
-use buffer::{put, put_refusal, put_words};
+use answer::{put_answer, put_dots};
+use buffer::{put, put_elements, put_refusal, put_words};
 use digits_core::{Gtin, payload_digit};
 use element_core::{Elements, Year};
 use label::put_numbered;
-use scan_core::{Answer, read_widths};
+use scan_core::read_widths;
 
 /// The line of a year that is none.
 const WORDS: &[u8] = b"refused 42 Words";
@@ -58,7 +60,7 @@ pub extern "C" fn gs1_c_text(text: &[u8], year: u16, out: &mut [u8]) -> usize
         return put(WORDS, out);
     };
     match Elements::parse(text, year) {
-        Ok(elements) => put_words(b"hri", elements.hri().as_str().as_bytes(), out),
+        Ok(elements) => put_elements(b"hri", &elements, out),
         Err(fault) => put_refusal(fault.refusal(), out),
     }
 }
@@ -75,13 +77,22 @@ pub extern "C" fn gs1_c_row(widths: &[u16], year: u16, out: &mut [u8]) -> usize
         return put(WORDS, out);
     };
     match read_widths(widths, year) {
-        Ok(Answer::Read { carrier, elements }) => {
-            let identifier = carrier.identifier().as_bytes();
-            put_words(identifier, elements.hri().as_str().as_bytes(), out)
-        }
-        Ok(Answer::Refused(fault)) => put_refusal(fault.refusal(), out),
+        Ok(answer) => put_answer(&answer, out),
         Err(fault) => put_refusal(fault.refusal(), out),
     }
+}
+
+/// What a row of `count` packed dots says, as `gs1_c_row` of its widths. A byte has its first dot in its
+/// high bit, and 1 is dark, as in PBM; bits behind the last dot are not looked at. More dots than `bits`
+/// has are `refused 18 BadRuns`, and more than 65,535 `refused 17 TooWide`.
+#[unsafe(no_mangle)]
+pub extern "C" fn gs1_c_dots(bits: &[u8], count: u32, year: u16, out: &mut [u8]) -> usize
+    ensures { (line : List ℕ) × IsDotsLine year bits.now count line × IsPut line out.old out.new result }
+{
+    let Some(year) = Year::new(year) else {
+        return put(WORDS, out);
+    };
+    put_dots(bits, count, year, out)
 }
 
 /// The image of a label as PBM (netpbm, pbm(5)), of `width` by `height` dots, with modules of

@@ -1,5 +1,5 @@
 -- What is a candidate.
-use Rattle.std.proofs.Common.{◌≡◌, ◌≢◌, ◌⊎◌, ℕ, ◌%◌, ◌<◌, ◌≤◌, true, List, length, sum, Contains, refl, arith, inl, inr, length-drop, length-take}
+use Rattle.std.proofs.Common.{◌≡◌, ◌≢◌, ◌⊎◌, ℕ, ◌-◌, ◌%◌, ◌<◌, ◌≤◌, true, List, drop, length, sum, Contains, refl, arith, inl, inr, length-drop, length-take}
 use Rattle.scan_core.specs.declared.carrier.Carrier.{Carrier}
 use Rattle.scan_core.specs.declared.carrier.Carrier.TheVariants.{Ean13, Ean8, UpcE, Itf14, Gs1128}
 use Rattle.scan_core.specs.Row.{IsRow, dots_of, inner}
@@ -64,3 +64,9 @@ candidate_dark runs c N row h =
 pub candidate_dots : (runs : List ℕ) (c : Carrier) (N : ℕ) → IsRow runs → IsCandidate c (length (inner runs)) N → 0 < sum (inner runs)
 candidate_dots runs c N row h =
     let many = (few_runs c (length (inner runs)) N h).0 in some_dots (inner runs) row.each_inner (omega arith)
+
+-- no symbol has more runs between its light ends than 595
+pub none_long : (runs : List ℕ) (c : Carrier) (N : ℕ) → IsCandidate c (length (inner runs)) N → 597 < length runs → ⊥
+none_long runs c N h long =
+    let few = (few_runs c (length (inner runs)) N h).1 in
+    omega (arith, length-take (length runs - 2) (drop 1 runs), length-drop 1 runs)

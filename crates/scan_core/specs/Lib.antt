@@ -9,6 +9,7 @@ pub mod Answers
 pub mod BeforeItf14
 pub mod Bits
 pub mod Faults
+pub mod FirstRuns
 pub mod Laws
 pub mod Lines
 pub mod Ratios

@@ -99,7 +99,7 @@ fn find_symbol(widths: &[u16]) -> Result<Shown, RowFault>
 }
 
 /// What the row of these widths says.
-fn answer_of(widths: &[u16], year: Year) -> Answer
+pub(crate) fn answer_of(widths: &[u16], year: Year) -> Answer
     requires { IsRow widths.now }
     ensures { IsAnswer widths.now year result }
 {

@@ -4,6 +4,7 @@
 
 mod answer;
 mod carrier;
+mod dots;
 mod fault;
 mod identifier;
 mod laws;
@@ -14,6 +15,7 @@ mod symbol;
 
 pub use answer::{Answer, read_row, read_widths};
 pub use carrier::Carrier;
+pub use dots::read_dots;
 pub use fault::{RowFault, RunFault};
 pub use laws::{
     dots_determine, dots_make_row, each_ratio_is_read, never_too_long, one_answer, one_symbol,

@@ -82,7 +82,7 @@ pub(crate) fn runs_fault(widths: &[u16]) -> Option<RunFault>
 
 /// Whether the dot `k` dots after `from` is dark, in bytes that each have their first dot in the
 /// high bit.
-fn is_dark(bits: &[u8], from: usize, k: usize) -> bool
+pub(crate) fn is_dark(bits: &[u8], from: usize, k: usize) -> bool
     requires within { from + k < 8 * length bits.now }
     requires few { k ≤ 65535 }
     ensures { result ≡ dot_at bits.now (from + k) }
