@@ -55,7 +55,8 @@ function read() {
   if (!picture) return;
   const from = performance.now();
   const reader = new Reader(gs1, number("year")), { symbols, refused } = reader.read(picture, number("level"));
-  const kept = symbols.filter((s) => s.rows > 1 || picture.height === 1 || symbols.length === 1);
+  // One row alone beside symbols of several is chance.
+  const several = symbols.filter((s) => s.rows > 1), kept = several.length ? several : symbols;
   [picture.passed, picture.calls] = [performance.now() - from, reader.calls];
   picture.symbols = kept;
   const body = at("found").tBodies[0];
@@ -92,22 +93,30 @@ function mark(symbols) {
   });
 }
 
-// Takes a file as the picture. One that is no picture is told, and the picture before it stays.
-async function take(file) {
-  if (!file) return say("told", "there is no picture", "remedy");
+// A file as a picture; or nothing where it is none.
+async function pictureOf(file) {
   const pbm = pixelsOfPbm(new Uint8Array(await file.arrayBuffer()));
-  if (pbm) picture = { ...pbm, image: null };
-  else {
-    let image;
-    try {
-      image = await createImageBitmap(file);
-    } catch {
-      return say("told", `${file.name || "this"} is no picture`, "remedy");
-    }
+  if (pbm) return { ...pbm, image: null };
+  try {
+    const image = await createImageBitmap(file);
     const canvas = new OffscreenCanvas(image.width, image.height), pen = canvas.getContext("2d", { willReadFrequently: true });
     pen.drawImage(image, 0, 0);
-    picture = { ...greyOf(pen.getImageData(0, 0, image.width, image.height)), image };
+    return { ...greyOf(pen.getImageData(0, 0, image.width, image.height)), image };
+  } catch {
+    return null;
   }
+}
+
+// Takes a file as the picture, but where another was taken in the meantime. One that is no picture is told, and the
+// picture before it stays.
+let takes = 0;
+
+async function take(file) {
+  if (!file) return say("told", "there is no picture", "remedy");
+  const turn = ++takes, taken = await pictureOf(file);
+  if (turn !== takes) return;
+  if (!taken) return say("told", `${file.name || "this"} is no picture that this browser opens`, "remedy");
+  picture = taken;
   at("level").value = levelOf(picture.grey);
   read();
 }
@@ -131,6 +140,8 @@ function listen() {
   for (const id of ["level", "year"]) at(id).addEventListener("input", read);
   at("png").addEventListener("click", () => at("label").toBlob((blob) => save(blob, "label.png")));
   at("pbm").addEventListener("click", () => save(new Blob([drawn]), "label.pbm"));
+  // So that the same file, changed since, can be chosen again.
+  at("file").addEventListener("click", () => { at("file").value = ""; });
   at("file").addEventListener("change", () => { document.taken = take(at("file").files[0]); });
   at("paste").addEventListener("click", () => { document.taken = takeClipboard(); });
   addEventListener("paste", (event) => {

@@ -1,16 +1,32 @@
 // Pictures: their dots, the runs of their rows, and the symbols that these show.
 "use strict";
 
-// A PBM file (P4) as pixels, or nothing where it is none.
+// White space and comments in the header of a PBM image (netpbm, pbm(5)), and the header.
+const BETWEEN = "(?:[ \\t\\n\\v\\f\\r]|#[^\\r\\n]*[\\r\\n])+";
+const HEADER = new RegExp(`^P4${BETWEEN}(\\d{1,5})${BETWEEN}(\\d{1,5})[ \\t\\n\\v\\f\\r]`);
+
+// The images of a PBM file (P4), one below another, as pixels; or nothing where it is none.
 function pixelsOfPbm(bytes) {
-  const head = String.fromCharCode(...bytes.subarray(0, 64)).match(/^P4\s+(\d{1,5})\s+(\d{1,5})\s/);
-  if (!head) return null;
-  const width = Number(head[1]), height = Number(head[2]), stride = (width + 7) >> 3;
-  if (!width || !height || width > 65535 || bytes.length < head[0].length + stride * height) return null;
-  const grey = new Uint8Array(width * height);
-  for (let y = 0; y < height; y++) {
-    for (let x = 0; x < width; x++) {
-      grey[y * width + x] = bytes[head[0].length + y * stride + (x >> 3)] >> (7 - (x & 7)) & 1 ? 0 : 255;
+  const images = [];
+  for (let from = 0; from < bytes.length;) {
+    const header = String.fromCharCode(...bytes.subarray(from, from + 4096)).match(HEADER);
+    if (!header) return null;
+    const width = Number(header[1]), height = Number(header[2]), raster = from + header[0].length;
+    from = raster + ((width + 7) >> 3) * height;
+    if (!width || !height || width > 65535 || from > bytes.length) return null;
+    images.push({ width, height, raster });
+  }
+  if (!images.length) return null;
+  const width = Math.max(...images.map((image) => image.width));
+  const height = images.reduce((sum, image) => sum + image.height, 0);
+  const grey = new Uint8Array(width * height).fill(255);
+  let row = 0;
+  for (const image of images) {
+    const stride = (image.width + 7) >> 3;
+    for (let y = 0; y < image.height; y++, row++) {
+      for (let x = 0; x < image.width; x++) {
+        if (bytes[image.raster + y * stride + (x >> 3)] >> (7 - (x & 7)) & 1) grey[row * width + x] = 0;
+      }
     }
   }
   return { width, height, grey };
@@ -66,6 +82,18 @@ function runsOf(grey, from, width, level, ends) {
 // The fewest runs between the light ends of a symbol: those of a GS1-128 of three characters.
 const FEWEST = 25;
 
+// The fewest dots of a light end: five modules of a dot each.
+const NARROWEST = 5;
+
+// The most rows, damaged ones, that a symbol may go unread and be the same.
+const MOST_UNREAD = 16;
+
+// Whether a dot from `left` up to `right` is dark.
+function darkBetween(ends, count, left, right) {
+  for (let i = 1; i < count; i += 2) if (ends[i] > left && ends[i - 1] < right) return true;
+  return false;
+}
+
 // Reads rows of pictures, and keeps what they say.
 class Reader {
   constructor(gs1, year) {
@@ -81,7 +109,7 @@ class Reader {
   }
 
   // Looks for symbols between two light runs: reads what stands there, and where that is refused cuts it at its widest
-  // light gap.
+  // light gap, of several the one nearest the middle.
   seek(ends, first, last, found, refused) {
     if (last - first - 1 < FEWEST) return;
     const line = this.ask(ends, first, last);
@@ -90,10 +118,11 @@ class Reader {
       return;
     }
     refused.set(line, (refused.get(line) ?? 0) + 1);
-    let widest = 0, at = first;
+    const middle = (first + last) / 2;
+    let widest = NARROWEST, at = first;
     for (let i = first + 2; i < last - 1; i += 2) {
       const width = ends[i] - ends[i - 1];
-      if (width > widest) [widest, at] = [width, i];
+      if (width > widest || (width === widest && Math.abs(i - middle) < Math.abs(at - middle))) [widest, at] = [width, i];
     }
     if (at === first) return;
     this.seek(ends, first, at, found, refused);
@@ -104,6 +133,7 @@ class Reader {
   read({ width, height, grey }, level) {
     const symbols = [], refused = new Map();
     let ends = new Uint32Array(width + 2), before = new Uint32Array(width + 2), runs = -1, found = [], told = new Map();
+    let open = [];
     for (let y = 0; y < height; y++) {
       const count = runsOf(grey, y * width, width, level, ends);
       let same = count === runs;
@@ -113,14 +143,20 @@ class Reader {
         if (count === 1) told.set("refused 19 Blank", 1);
         else this.seek(ends, 0, count - 1, found, told);
         if (!found.length && !told.size) told.set("refused 20 RunCount", 1);
+        // A symbol ends above a row that is light where it stood.
+        open = open.filter((s) => darkBetween(ends, count, ...s.ends));
       }
+      open = open.filter((s) => y - s.bottom < MOST_UNREAD);
       for (const [line, times] of told) refused.set(line, (refused.get(line) ?? 0) + times);
       for (const { line, left, right } of found) {
-        // A symbol goes on where the same stood a row before, or a few rows where some are damaged.
         const near = (right - left) / 8;
-        let symbol = symbols.findLast((s) => s.line === line && y - s.bottom < 16
+        let symbol = open.find((s) => s.line === line
           && Math.abs(s.ends[0] - left) < near && Math.abs(s.ends[1] - right) < near);
-        if (!symbol) symbols.push(symbol = { line, left, right, top: y, rows: 0 });
+        if (!symbol) {
+          symbol = { line, left, right, top: y, rows: 0 };
+          symbols.push(symbol);
+          open.push(symbol);
+        }
         [symbol.left, symbol.right, symbol.bottom] = [Math.min(symbol.left, left), Math.max(symbol.right, right), y + 1];
         symbol.ends = [left, right];
         symbol.rows++;

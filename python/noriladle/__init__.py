@@ -19,7 +19,7 @@ from dataclasses import dataclass
 from pathlib import Path
 from typing import Any, Optional, Sequence, Union
 
-__all__ = ["Answer", "Kind", "Refusal", "check_digit", "draw_label", "read_elements", "read_gtin", "read_row"]
+__all__ = ["Answer", "Kind", "Refusal", "check_digit", "draw_label", "read_dots", "read_elements", "read_gtin", "read_row"]
 
 _MOST = 65_535
 _LINE = 292
@@ -28,11 +28,12 @@ _LINE_OF_REFUSAL = re.compile(r"refused (\d+) (\w+)(?: (\d+))?")
 _library = ctypes.CDLL(str(Path(__file__).with_name("libgs1.so")))
 _SIZE, _U16, _U32, _BYTES = ctypes.c_size_t, ctypes.c_uint16, ctypes.c_uint32, ctypes.c_char_p
 _library.gs1_c_row.argtypes = [ctypes.POINTER(_U16), _SIZE, _U16, _BYTES, _SIZE]
+_library.gs1_c_dots.argtypes = [_BYTES, _SIZE, _U32, _U16, _BYTES, _SIZE]
 _library.gs1_c_gtin.argtypes = [_BYTES, _SIZE, _BYTES, _SIZE]
 _library.gs1_c_digit.argtypes = [_BYTES, _SIZE, _BYTES, _SIZE]
 _library.gs1_c_text.argtypes = [_BYTES, _SIZE, _U16, _BYTES, _SIZE]
 _library.gs1_c_label.argtypes = [_U32, _BYTES, _SIZE, _U16, _U16, _U16, _U16, _BYTES, _SIZE]
-for _name in ("row", "gtin", "digit", "text", "label"):
+for _name in ("row", "dots", "gtin", "digit", "text", "label"):
     getattr(_library, f"gs1_c_{_name}").restype = _SIZE
 
 
@@ -83,8 +84,9 @@ class Answer:
         return f"{self.identifier} {self.text}"
 
 
-def _ask(call: Any, *words: Any, room: int = _LINE) -> bytes:
+def _ask(call: Any, *words: Any) -> bytes:
     """The answer to a question, as many bytes as it has."""
+    room = _LINE
     while True:
         out = ctypes.create_string_buffer(room)
         length: int = call(*words, out, room)
@@ -101,6 +103,12 @@ def _line(answer: bytes) -> str:
         number, name, place = refusal.groups()
         raise Refusal(int(number), name, None if place is None else int(place))
     return line
+
+
+def _answer(answer: bytes) -> Answer:
+    """The answer to a row, where it is no refusal."""
+    identifier, _, text = _line(answer).partition(" ")
+    return Answer(identifier, text)
 
 
 def _bytes(text: Union[str, bytes]) -> bytes:
@@ -128,8 +136,26 @@ def read_row(widths: Sequence[int], year: int) -> Answer:
     # What is wrong with the year or the number of runs is told first.
     if any(width > _MOST for width in widths) and answer not in (b"refused 42 Words", b"refused 18 BadRuns"):
         raise Refusal(17, "TooWide")
-    identifier, _, text = _line(answer).partition(" ")
-    return Answer(identifier, text)
+    return _answer(answer)
+
+
+def read_dots(dots: Union[bytes, bytearray, memoryview], width: int, year: int) -> Answer:
+    """What a row of ``width`` dots says, eight of them a byte, as a row of a PBM image has them.
+
+    The first dot of a byte is its high bit, and 1 is dark; bits behind the last dot do not matter. A date is read by
+    the reference year, 1951 to 2149.
+
+    :raises Refusal: 18 ``BadRuns`` of more dots than ``dots`` has, 17 ``TooWide`` of more than 65,535; what shows no
+        symbol that says elements; 42 ``Words`` of a year out of range.
+    :raises ValueError: the width is below 0.
+    """
+    if width < 0:
+        raise ValueError("the width is below 0")
+    packed = bytes(dots)
+    if width > 8 * len(packed):
+        # As one dot of no byte, since the number may have more than 32 bits.
+        packed, width = b"", 1
+    return _answer(_ask(_library.gs1_c_dots, packed, len(packed), min(width, _MOST + 1), _u16(year)))
 
 
 def read_gtin(text: Union[str, bytes]) -> str:
@@ -171,8 +197,7 @@ def draw_label(
     """
     said = _bytes(text)
     words = [_u16(number) for number in (year, module, width, height)]
-    room = 16 + (words[2] + 7) // 8 * words[3] if words[2] <= 4096 and words[3] <= 1024 else _LINE
-    image = _ask(_library.gs1_c_label, kind.value, said, len(said), *words, room=max(room, _LINE))
+    image = _ask(_library.gs1_c_label, kind.value, said, len(said), *words)
     if not image.startswith(b"P4"):
         _line(image)
     return image

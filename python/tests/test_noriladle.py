@@ -45,8 +45,51 @@ def test_refuses_a_row(widths, year, wanted):
 
 
 def test_refuses_a_width_below_0():
-    with pytest.raises(ValueError):
+    with pytest.raises(ValueError) as raised:
         noriladle.read_row([5, -1, 5], 2026)
+    assert raised.type is ValueError
+
+
+def test_reads_packed_dots():
+    wanted = Answer("]E0", "(01)09501101530003")
+    row = IMAGE[9 + 15:9 + 30]
+    assert noriladle.read_dots(row, 113, 2026) == wanted
+    assert noriladle.read_dots(bytearray(row), width=113, year=2149) == wanted
+    assert noriladle.read_dots(memoryview(IMAGE)[24:39], 113, 2026) == wanted
+    assert noriladle.read_dots(row[:-1] + b"\x7f", 113, 2026) == wanted
+    turned = int(f"{int.from_bytes(row, 'big') >> 7:0113b}"[::-1], 2) << 7
+    assert noriladle.read_dots(turned.to_bytes(15, "big"), 113, 2026) == wanted
+
+
+@pytest.mark.parametrize("dots, width, year, wanted", [
+    (b"", 0, 2026, (19, "Blank", None)),
+    (b"\0", 8, 2026, (19, "Blank", None)),
+    (b"\x80", 1, 2026, (20, "RunCount", None)),
+    (b"", 1, 2026, (18, "BadRuns", None)),
+    (b"\0", 9, 2026, (18, "BadRuns", None)),
+    (b"\0", 2 ** 32, 2026, (18, "BadRuns", None)),
+    (b"\0", 2 ** 32 + 8, 2026, (18, "BadRuns", None)),
+    (b"\xff" * 8192, 65_535, 2026, (20, "RunCount", None)),
+    (b"\xff" * 8192, 65_536, 2026, (17, "TooWide", None)),
+    (b"\xff" * 9000, 72_000, 2026, (17, "TooWide", None)),
+    (b"\0", 9, 1950, (42, "Words", None)),
+    (b"\0", 8, 2150, (42, "Words", None)),
+    (b"\0", 8, 65_536 + 2026, (42, "Words", None)),
+])
+def test_refuses_packed_dots(dots, width, year, wanted):
+    assert refusal(noriladle.read_dots, dots, width, year) == wanted
+
+
+def test_refuses_a_number_of_dots_below_0():
+    with pytest.raises(ValueError) as raised:
+        noriladle.read_dots(b"", -1, 2026)
+    assert raised.type is ValueError
+
+
+def test_reads_what_it_draws():
+    image = noriladle.draw_label(Kind.GS1128, "10AB\x1d17261231", 2026, width=480, height=120)
+    row = image[-60 * 60:-60 * 59]
+    assert str(noriladle.read_dots(row, 480, 2026)) == "]C1 (10)AB(17)261231"
 
 
 def test_reads_numbers():

@@ -1,5 +1,5 @@
-"""The module's answers to the lines of standard input, one a line: `rows` for the lines of `lanes`, `check` for those
-of `check`. The year is 2026."""
+"""The module's answers to the lines of standard input, one a line: `rows` for the lines of `lanes`, `dots` for the same
+as packed dots, `check` for those of `check`. The year is 2026."""
 import sys
 
 import noriladle
@@ -12,12 +12,21 @@ CHECKS = {
 }
 
 
+def read_packed(widths):
+    """What the dots of these widths say, packed; the bits behind the last are dark."""
+    bits = "".join("01"[i % 2] * width for i, width in enumerate(widths))
+    count = len(bits)
+    bits += "1" * (-count % 8)
+    return noriladle.read_dots(int("0" + bits, 2).to_bytes(len(bits) // 8, "big"), count, YEAR)
+
+
 def answer(line):
     first, _, second = line.rstrip("\n").partition(",")
     try:
-        if sys.argv[1] == "rows":
-            return noriladle.read_row([int(width) for width in second.split()], YEAR)
-        return CHECKS[first](second)
+        if sys.argv[1] == "check":
+            return CHECKS[first](second)
+        widths = [int(width) for width in second.split()]
+        return noriladle.read_row(widths, YEAR) if sys.argv[1] == "rows" else read_packed(widths)
     except noriladle.Refusal as refusal:
         return refusal
 

@@ -44,7 +44,7 @@ static void want(const char *what, const struct asked *asked, const void *wanted
     if (size) memcpy(items, asked->items, size);
     q.items = items;
     int bad = 0;
-    for (size_t room = 0; room <= length + 2; room += room < 64 || room + 64 > length ? 1 : 61) {
+    for (size_t room = 0; room <= length + 2; room += room < 512 || room + 64 > length ? 1 : 61) {
         uint8_t *out = room ? malloc(room) : NULL;
         if (room) memset(out, '.', room);
         size_t count = ask(&q, out, room);
@@ -186,6 +186,15 @@ static void cases(void) {
     memset(many, '1', 193);
     many[193] = 0;
     text(many, YEAR, "refused 11 TooLong");
+
+    /* The longest line. */
+    char longest[GS1_LINE + 1] = "hri ";
+    for (size_t i = 0; i < 48; i++) {
+        memcpy(many + 4 * i, "2011", 4);
+        memcpy(longest + 4 + 6 * i, "(20)11", 6);
+    }
+    many[192] = longest[GS1_LINE] = 0;
+    text(many, YEAR, longest);
 
     label(GS1_EAN13, "9501101530003", YEAR, 1, 113, 3, IMAGE, sizeof IMAGE - 1);
     refused(6, "9501101530003", 1950, 1, 113, 3, "refused 40 Kind");

@@ -1,5 +1,6 @@
 """Headless Chromium, spoken to by its debugging pipe."""
 import base64
+import fcntl
 import itertools
 import json
 import os
@@ -18,9 +19,9 @@ class Browser:
         self._of, to_write = os.pipe()
 
         def pipes():
-            # The browser reads descriptor 3 and writes 4.
-            os.dup2(to_read, 10), os.dup2(to_write, 11)
-            os.dup2(10, 3), os.dup2(11, 4)
+            # The browser reads descriptor 3 and writes 4, which may be those of the pipes' other ends.
+            read, write = (fcntl.fcntl(end, fcntl.F_DUPFD, 16) for end in (to_read, to_write))
+            os.dup2(read, 3), os.dup2(write, 4)
 
         self._profile = tempfile.mkdtemp()
         words = ["chromium", "--headless", "--no-sandbox", "--disable-gpu", f"--user-data-dir={self._profile}",
@@ -54,7 +55,10 @@ class Browser:
             while b"\0" not in self._left:
                 if not select.select([self._of], [], [], max(0, limit - time.time()))[0]:
                     raise TimeoutError(method)
-                self._left += os.read(self._of, 1 << 20)
+                read = os.read(self._of, 1 << 20)
+                if not read:
+                    raise EOFError(f"{method}: the browser has ended")
+                self._left += read
             line, self._left = self._left.split(b"\0", 1)
             answer = json.loads(line)
             if answer.get("id") == number:
@@ -94,4 +98,5 @@ class Browser:
     def close(self):
         self._process.terminate()
         self._process.wait()
+        os.close(self._to), os.close(self._of)
         shutil.rmtree(self._profile, ignore_errors=True)

@@ -6,9 +6,12 @@ files, and PICTURE where a picture of the page is left. Its last line is the cou
 import base64
 import json
 import os
+import random
+import re
 import struct
 import subprocess
 import sys
+import time
 import zlib
 
 from browser import Browser
@@ -47,6 +50,12 @@ def shown(page):
     return page.value("at('told').textContent")
 
 
+def choose(page, path):
+    """Chooses a file, and forgets what the picture before it said."""
+    page.value("if (picture) picture.symbols = []")
+    page.choose(path)
+
+
 def answers(page):
     return [symbol["line"] for symbol in json.loads(page.value("JSON.stringify(picture.symbols)"))]
 
@@ -58,10 +67,19 @@ def type_words(page, **words):
 
 LABELS = [
     ("ean13", "9501101530003"), ("upca", "012345000065"), ("ean8", "96385074"), ("upce", "012345000065"),
-    ("itf14", "09501101530003"), ("gs1128", "010950110153000317261231"), ("gs1128", "10AB^17261231"), ("gs1128", "422528"),
+    ("itf14", "09501101530003"), ("gs1128", "010950110153000317261231"), ("gs1128", "10AB^17261231"), ("gs1128", "10AB^21C^17261231"), ("gs1128", "422528"),
     ("ean13", "9501101530004"), ("ean13", "950110153000X"), ("ean13", ""), ("upce", "9501101530003"),
     ("ean8", "9501101530003"), ("gs1128", "17250229"), ("gs1128", "10A#"), ("gs1128", "(01)\N{SNOWMAN}"),
 ]
+
+
+def drawn(page):
+    """The bytes of the image that is drawn."""
+    return base64.b64decode(page.value("""new Promise((done) => {
+        const reader = new FileReader();
+        reader.onload = () => done(reader.result.split(',')[1]);
+        reader.readAsDataURL(new Blob([drawn]));
+    })"""))
 
 
 def draws(page):
@@ -74,9 +92,9 @@ def draws(page):
             line = wanted.decode().strip().removeprefix("record 0: ")
             same(f"{kind},{text}", page.value("at('said').textContent"), line)
             same(f"no image of {kind},{text}", page.value("drawn"), None)
+            same(f"nothing to save of {kind},{text}", page.value("at('png').disabled && at('pbm').disabled && at('label').hidden"), True)
             continue
-        drawn = base64.b64decode(page.value("btoa(String.fromCharCode(...drawn))"))
-        same(f"the image of {kind},{text}", drawn, wanted)
+        same(f"the image of {kind},{text}", drawn(page), wanted)
         check = "text" if kind == "gs1128" else "gtin"
         said = answer("check", "--year", "2026", text=f"{check},{text}\n".encode()).decode().strip()
         same(f"what {kind},{text} says", page.value("at('said').textContent"), said)
@@ -84,59 +102,199 @@ def draws(page):
         page.value("""new Promise((done) => at('label').toBlob(done)).then((blob) => {
             const data = new DataTransfer();
             data.items.add(new File([blob], 'label.png', { type: 'image/png' }));
-            dispatchEvent(new DragEvent('drop', { dataTransfer: data, cancelable: true }));
+            at('drop').dispatchEvent(new DragEvent('drop', { dataTransfer: data, cancelable: true, bubbles: true }));
             return document.taken;
         })""")
         same(f"the dropped picture of {kind},{text}", shown(page), read.decode().strip().partition(" ")[2].partition(" ")[2])
 
 
+def draws_sizes(page):
+    """The smallest and the greatest labels, and numbers that are none."""
+    for sizes in ((1, 113, 3), (8, 4096, 1024)):
+        words = dict(zip(("module", "width", "height"), sizes))
+        type_words(page, kind="ean13", text="9501101530003", **words)
+        options = [word for name, size in words.items() for word in (f"--{name}", str(size))]
+        wanted = answer("print", *"--columns 1 --rows 1 --year 2026".split(), *options, text=b"ean13,9501101530003\n")
+        same(f"the image of {sizes}", drawn(page), wanted)
+    for words in ({"module": 65538}, {"module": ""}, {"width": -1}, {"width": 4097}, {"height": 1025}, {"height": 65536 + 120}):
+        type_words(page, **{"module": 2, "width": 480, "height": 120, **words})
+        same(f"a label of {words}", page.value("at('said').textContent"), "refused 25 BadGrid")
+        same(f"what to do about {words}", page.value("at('why').textContent.split(':')[0]"), "numbers of a grid that are wrong together")
+    type_words(page, module=2, width=480, height=120)
+    same("what to do about none", page.value("at('why').textContent"), "")
+
+
+def saves(page):
+    """What the buttons save is what is drawn."""
+    page.call("Browser.setDownloadBehavior", behavior="allow", downloadPath=os.path.abspath(WORK))
+    type_words(page, kind="gs1128", text="10AB^17261231", module=2, width=480, height=120)
+    wanted = drawn(page)
+    for name in ("pbm", "png"):
+        page.value(f"at('{name}').click()")
+        wait_for(f"{WORK}/label.{name}")
+    with open(f"{WORK}/label.pbm", "rb") as file:
+        same("the PBM that is saved", file.read(), wanted)
+    choose(page, f"{WORK}/label.png")
+    same("the PNG that is saved", page.value("picture.grey.join() === pixelsOfPbm(drawn).grey.join()"), True)
+    same("what it says", answers(page), ["]C1 (10)AB(17)261231"])
+
+
+def wait_for(path):
+    """Waits until a file is there."""
+    limit = time.time() + 30
+    while not os.path.exists(path):
+        if time.time() > limit:
+            raise TimeoutError(path)
+        time.sleep(0.05)
+
+
+def scanned(image, *words):
+    """What `scan` says of an image, without lanes and numbers."""
+    lines = answer("scan", *words, *"--workers 1 --year 2026".split(), text=image).decode().splitlines()
+    return sorted(line.split(" ", 2)[2] for line in lines)
+
+
 def reads(page):
     """The pictures of the examples, and what is no picture or has no symbol."""
     with open(f"{ROOT}/examples/labels.pbm", "rb") as file:
-        lines = answer("scan", *GRID, *"--workers 1 --year 2026".split(), text=file.read()).decode().splitlines()
-    wanted = sorted(line.split(" ", 2)[2] for line in lines)
+        wanted = scanned(file.read(), *GRID)
     for name in ("labels.png", "labels.pbm"):
-        page.choose(f"{ROOT}/examples/{name}")
+        choose(page, f"{ROOT}/examples/{name}")
         same(f"the symbols of {name}", sorted(answers(page)), wanted)
-    page.value("""fetch('data:image/png;base64,%s').then((got) => got.blob()).then((blob) => {
+    boxes = json.loads(page.value("JSON.stringify(picture.symbols)"))
+    same("what is told of them", shown(page), f"{len(boxes)} symbols")
+    rows = json.loads(page.value("JSON.stringify([...at('found').tBodies[0].rows].map((r) => [...r.cells].map((c) => c.textContent)))"))
+    same("the table", rows, [[str(i + 1), box["line"], str(box["rows"])] for i, box in enumerate(boxes)])
+    marks = page.value("""picture.symbols.map(({ left, right, top, bottom }) => [[left, bottom - 9], [right - 1, bottom - 9], [left + 9, bottom - 1],
+        [left + 1, top + 1]].map(([x, y]) => at('picture').getContext('2d').getImageData(x, y, 1, 1).data.join()).join(' ')).join(' ')""")
+    same("the marks on the picture", set(marks.split()), {"10,125,50,255"})
+
+    page.value("picture.symbols = []")
+    with open(f"{ROOT}/examples/labels.png", "rb") as file:
+        blob = "fetch('data:image/png;base64,%s').then((got) => got.blob())" % base64.b64encode(file.read()).decode()
+    page.value(blob + """.then((blob) => {
         const data = new DataTransfer();
         data.items.add(new File([blob], 'pasted.png', { type: 'image/png' }));
         dispatchEvent(new ClipboardEvent('paste', { clipboardData: data }));
         return document.taken;
-    })""" % base64.b64encode(open(f"{ROOT}/examples/labels.png", "rb").read()).decode())
+    })""")
     same("the symbols that are pasted", sorted(answers(page)), wanted)
+    page.value("picture.symbols = []")
+    page.call("Browser.grantPermissions", permissions=["clipboardReadWrite", "clipboardSanitizedWrite"])
+    page.call("Page.bringToFront")
+    page.value(blob + ".then((blob) => navigator.clipboard.write([new ClipboardItem({ 'image/png': blob })]))")
+    page.value("at('paste').click(), document.taken")
+    same("the symbols of the clipboard", sorted(answers(page)), wanted)
     type_words(page, kind="gs1128", text="010950110153000310AB^17261231", width=620, height=80)
     page.picture(PICTURE)
+    page.value("navigator.clipboard.writeText('no picture')")
+    page.value("at('paste').click(), document.taken")
+    same("a clipboard of words", shown(page), "the clipboard has no picture")
 
     before = answers(page)
     with open(f"{WORK}/words.txt", "w") as file:
         file.write("no picture\n")
     page.choose(f"{WORK}/words.txt")
-    same("a file of words", shown(page), "words.txt is no picture")
+    same("a file of words", shown(page), "words.txt is no picture that this browser opens")
     same("the picture before it", answers(page), before)
     with open(f"{WORK}/cut.png", "wb") as file:
         file.write(open(f"{ROOT}/examples/labels.png", "rb").read()[:40])
-    page.choose(f"{WORK}/cut.png")
-    same("a picture that was cut", shown(page), "cut.png is no picture")
+    choose(page, f"{WORK}/cut.png")
+    same("a picture that was cut", shown(page), "cut.png is no picture that this browser opens")
+    with open(f"{WORK}/cut.pbm", "wb") as file:
+        file.write(open(f"{ROOT}/examples/labels.pbm", "rb").read()[:-1])
+    choose(page, f"{WORK}/cut.pbm")
+    same("an image that was cut", shown(page), "cut.pbm is no picture that this browser opens")
 
     png(f"{WORK}/one.png", 1, 1, lambda y: b"\0")
-    page.choose(f"{WORK}/one.png")
+    choose(page, f"{WORK}/one.png")
     same("a picture of 1 by 1", (shown(page).split()[0], answers(page)), ("refused", []))
     same("its remedy", page.value("at('remedy').textContent") != "", True)
+    with open(f"{WORK}/one.pbm", "wb") as file:
+        file.write(b"P4 1 1\n\x80")
+    choose(page, f"{WORK}/one.pbm")
+    same("an image of 1 by 1", (shown(page), answers(page)), ("refused 20 RunCount", []))
     png(f"{WORK}/blank.png", 300, 20, lambda y: b"\xff" * 300)
-    page.choose(f"{WORK}/blank.png")
+    choose(page, f"{WORK}/blank.png")
     same("a blank picture", shown(page), "refused 19 Blank")
     same("what to do about it", page.value("at('remedy').textContent.split(':')[0]"), "the scan missed the symbol")
 
     # Symbols with other grey values, turned end for end, and a quiet zone that is too narrow.
     row = symbol_row(2)
     png(f"{WORK}/turned.png", len(row), 9, lambda y: bytes(220 if light else 90 for light in row[::-1]))
-    page.choose(f"{WORK}/turned.png")
+    choose(page, f"{WORK}/turned.png")
     same("a turned symbol in two greys", answers(page), ["]E0 (01)09501101530003"])
+    same("nothing to do about it", page.value("at('remedy').textContent"), "")
+    png(f"{WORK}/close.png", len(row), 9, lambda y: bytes(128 if light else 127 for light in row))
+    choose(page, f"{WORK}/close.png")
+    same("a symbol in two greys side by side", answers(page), ["]E0 (01)09501101530003"])
+    bordered = [0] * 3 + row + [0] * 3
+    png(f"{WORK}/bordered.png", len(bordered), 9, lambda y: bytes(255 * light for light in bordered))
+    choose(page, f"{WORK}/bordered.png")
+    same("a symbol in a dark border", answers(page), ["]E0 (01)09501101530003"])
+    for ink, ground in (("black", ""), ("rgba(0, 0, 0, 0.7)", ""), ("rgb(0, 0, 200)", "rgb(255, 220, 0)"), ("rgb(0, 90, 0)", "rgb(255, 60, 60)"),
+                        ("rgb(120, 0, 0)", "rgb(0, 100, 0)")):
+        page.value("""(() => {
+            const row = %s, canvas = new OffscreenCanvas(row.length, 9), pen = canvas.getContext('2d');
+            pen.fillStyle = '%s';
+            if (pen.fillStyle !== '#000000') pen.fillRect(0, 0, row.length, 9);
+            pen.fillStyle = '%s';
+            row.forEach((light, x) => light || pen.fillRect(x, 0, 1, 9));
+            return canvas.convertToBlob().then(take);
+        })()""" % (row, ground, ink))
+        same(f"{ink} on {ground or 'nothing'}", answers(page), ["]E0 (01)09501101530003"])
     narrow = row[22 - 8:]
-    png(f"{WORK}/narrow.png", len(narrow), 9, lambda y: bytes(255 * light for light in narrow))
-    page.choose(f"{WORK}/narrow.png")
-    same("a quiet zone that is too narrow", shown(page), "refused 21 QuietZone")
+    png(f"{WORK}/narrow.png", len(narrow), 9, lambda y: bytes(255 * light for light in narrow) if y < 3 else b"\xff" * len(narrow))
+    choose(page, f"{WORK}/narrow.png")
+    same("a quiet zone that is too narrow, above more rows that are blank", shown(page), "refused 21 QuietZone")
+    png(f"{WORK}/greys.png", len(row), 9, lambda y: bytes(200 if light else 120 for light in row))
+    choose(page, f"{WORK}/greys.png")
+    for level, wanted in ((100, "refused 19 Blank"), (121, "]E0 (01)09501101530003"), (200, "]E0 (01)09501101530003"), (201, "refused 20 RunCount")):
+        type_words(page, level=level)
+        same(f"two greys by the level {level}", shown(page), wanted)
+    type_words(page, level=150, year=1950)
+    same("the year 1950", (shown(page), page.value("at('said').textContent")), ("refused 42 Words",) * 2)
+    type_words(page, year=2026)
+
+
+def takes_the_last(page):
+    """A picture that takes longer than one that is taken after it."""
+    page.value("""(() => {
+        const slow = take({ arrayBuffer: () => new Promise((done) => setTimeout(() => done(Uint8Array.of(0x50).buffer), 300)) });
+        return Promise.all([slow, take(new Blob([drawn]))]);
+    })()""")
+    said = page.value("at('said').textContent").replace("hri", "]C1").replace("gtin ", "]E0 (01)")
+    same("the last that is taken", shown(page), said)
+
+
+def counts_symbols(page):
+    """The same label again and again, sheet by sheet; rows that are damaged; single rows; and noise."""
+    sheet = "--module 2 --width 300 --height 40 --columns 2 --rows 3".split()
+    image = answer("print", *sheet, "--year", "2026", text=b"ean13,9501101530003\n" * 8 + b"ean8,96385074\n" * 3)
+    wanted = [line for line in scanned(image, *sheet) if line != "refused 19 Blank"]
+    same("labels of two sheets", len(wanted), 11)
+    for name, text in (("sheets.pbm", image), ("comments.pbm", image.replace(b"P4\n", b"P4# one\n # two\r"))):
+        with open(f"{WORK}/{name}", "wb") as file:
+            file.write(text)
+        choose(page, f"{WORK}/{name}")
+        same(f"the symbols of {name}", sorted(answers(page)), wanted)
+
+    row = symbol_row(2)
+    light = bytes(255 * light for light in row)
+    streak = light[:60] + bytes(40) + light[100:]
+    png(f"{WORK}/streaks.png", len(row), 60, lambda y: streak if y % 7 in (2, 3) else light)
+    choose(page, f"{WORK}/streaks.png")
+    same("a symbol with streaks", [(s["line"], s["top"], s["bottom"], s["rows"]) for s in json.loads(page.value("JSON.stringify(picture.symbols)"))],
+         [("]E0 (01)09501101530003", 0, 58, 42)])
+    png(f"{WORK}/single.png", len(row), 9, lambda y: light if y in (2, 6) else b"\xff" * len(row))
+    choose(page, f"{WORK}/single.png")
+    same("two symbols of a row each", answers(page), ["]E0 (01)09501101530003"] * 2)
+
+    noise = random.Random(7)
+    png(f"{WORK}/noise.png", 1000, 750, lambda y: bytes(noise.choices((0, 255), k=1000)))
+    choose(page, f"{WORK}/noise.png")
+    same("noise", (shown(page).split()[0], answers(page)), ("refused", []))
+    same("noise in a second", min(page.value("read(), picture.passed") for _ in range(3)) < 1000, True)
 
 
 def symbol_row(dots):
@@ -154,7 +312,7 @@ def large(page):
     # No two rows that follow each other have the same runs, so each is read.
     shifted = [bytes(line[k:] + line[:k]) for k in range(7)]
     png(f"{WORK}/large.png", 4000, 3000, lambda y: shifted[y % 7])
-    page.choose(f"{WORK}/large.png")
+    choose(page, f"{WORK}/large.png")
     same("the symbols of 4,000 by 3,000", answers(page), ["]E0 (01)09501101530003"] * 4)
     passed = min(page.value("read(), picture.passed") for _ in range(5))
     calls = page.value("picture.calls")
@@ -177,8 +335,11 @@ def large(page):
     print(f"4,000 by 3,000 pixels: {passed:.0f} ms for {calls} calls, which take {alone:.1f} ms from C: {passed / alone:.1f} times as long")
     same("4,000 by 3,000 in a second", passed < 1000, True)
     png(f"{WORK}/huge.png", 8000, 8000, lambda y: b"\xff" * 8000)
-    page.choose(f"{WORK}/huge.png")
+    choose(page, f"{WORK}/huge.png")
     same("8,000 by 8,000", shown(page), "refused 19 Blank")
+    png(f"{WORK}/full.png", 8000, 8000, lambda y: shifted[y % 7] * 2)
+    choose(page, f"{WORK}/full.png")
+    same("the symbols of 8,000 by 8,000", answers(page), ["]E0 (01)09501101530003"] * 8)
 
 
 def stands_for_all(page):
@@ -189,10 +350,32 @@ def stands_for_all(page):
                 and node.get("role", {}).get("value") in roles and not node.get("name", {}).get("value")]
     same("controls without a name", nameless, [])
     type_words(page, kind="ean13", text="9501101530003")
-    order = page.value("[...document.querySelectorAll('input, select, button')].filter((e) => e.tabIndex < 0 || e.disabled).map((e) => e.id)")
-    same("controls that the keyboard misses", order, [])
-    page.call("Emulation.setDeviceMetricsOverride", width=360, height=800, deviceScaleFactor=1, mobile=True)
-    same("wider than a narrow screen", page.value("document.documentElement.scrollWidth <= 360"), True)
+    order = []
+    page.value("at('kind').focus()")
+    for _ in range(11):
+        order.append(page.value("document.activeElement.id"))
+        for kind in ("rawKeyDown", "keyUp"):
+            page.call("Input.dispatchKeyEvent", type=kind, key="Tab", code="Tab", windowsVirtualKeyCode=9)
+    same("the order of the keyboard", " ".join(order), "kind text module width height year png pbm file paste level")
+    page.value("at('text').select()")
+    page.call("Input.insertText", text="96385074")
+    same("words by the keyboard", page.value("at('said').textContent"), "gtin 00000096385074")
+    same("what is told as it comes", page.value("['told', 'said'].map((id) => at(id).ariaLive).join()"), "polite,polite")
+    choose(page, f"{ROOT}/examples/labels.png")
+    for width in (320, 360):
+        page.call("Emulation.setDeviceMetricsOverride", width=width, height=800, deviceScaleFactor=1, mobile=True)
+        same(f"wider than a screen of {width}", page.value("document.documentElement.scrollWidth"), width)
+
+
+def has_remedies(page):
+    """What to do is said of each refusal that the page can show, in the words of docs/FAULTS.md."""
+    with open(f"{ROOT}/docs/FAULTS.md", encoding="utf-8") as file:
+        rows = [line.replace("`", "").split(" | ") for line in file if re.match(r"\| \d+ [A-Z]", line)]
+    wanted = {}
+    for cells in rows:
+        wanted.setdefault(cells[0].split()[1], f"{cells[1]}: {cells[2]}")
+    for number in [*range(1, 12), *range(13, 28), 42]:
+        same(f"what to do about {number}", page.value(f"remedyOf('refused {number} X')"), wanted[str(number)])
 
 
 def main():
@@ -201,8 +384,13 @@ def main():
     try:
         print(page.call("Browser.getVersion")["product"])
         draws(page)
+        draws_sizes(page)
+        saves(page)
         reads(page)
+        takes_the_last(page)
+        counts_symbols(page)
         large(page)
+        has_remedies(page)
         stands_for_all(page)
     finally:
         page.close()

@@ -82,7 +82,7 @@ fn change_to(coder: &mut Coder, in_c: bool)
     }
 }
 
-/// Codes the front of a text, and gives the number of bytes that it took.
+/// Codes the beginning of a text, and gives the number of bytes that it took.
 fn put_front(coder: &mut Coder, text: &[u8]) -> usize
     requires some { 0 < length text.now }
     requires valid { IsTrue (list_all is_coded_byte text.now) }

@@ -4,8 +4,6 @@ ghost use Rattle.std.specs.Io.KnownBytes.{Appends, WriteAppends};
 ghost use Rattle.digits_core.specs.Bytes.{TookFront};
 
 use crate::source::Failed;
-use std::io::Write;
-use std::marker::Model;
 
 /// A writer that tells what it took and whether it has failed.
 pub trait Sink {
@@ -14,7 +12,7 @@ pub trait Sink {
     // An `Err` sets it for good, and nothing else does.
     ghost failed: { Self → Bool };
 
-    /// Writes a front of the bytes and says how many they are, at least one of a piece that has some.
+    /// Writes a prefix of the bytes and says how many they are, at least one of a piece that has some.
     /// After a failure each write is one.
     fn write(&mut self, bytes: &[u8]) -> Result<usize, Failed>
         ensures bound { IfOk result (λ n. n ≤ length bytes.now) }
@@ -25,65 +23,7 @@ pub trait Sink {
         ensures again { IsTrue (failed self.old) → IsErr result };
 }
 
-/// A sink over any writer. An interruption is a failure, and so is a write that takes nothing of a
-/// piece that has bytes. A failed one is not written to again.
-#[derive(Drop)]
-pub struct ToWriter<W: Write> {
-    writer: W,
-    has_failed: bool,
-}
-
-impl<W: Write> Model for ToWriter<W> {
-    ghost use Rattle.digits_core.specs.Bytes.{Tracked};
-
-    ghost Value = { Tracked W };
-
-    ghost view = { λ s. record { inner = s.writer; has_failed = s.has_failed } };
-}
-
-impl<W: Write> ToWriter<W> {
-    /// A sink that has not failed.
-    pub fn new(writer: W) -> ToWriter<W>
-        ensures { result ≡ record { inner = writer; has_failed = false } }
-    {
-        ToWriter {
-            writer,
-            has_failed: false,
-        }
-    }
-
-    /// The writer.
-    pub fn into_inner(self) -> W
-        ensures { result ≡ self.inner }
-    {
-        let ToWriter {
-            writer,
-            has_failed: _,
-        } = self;
-        writer
-    }
-}
-
-impl<W: Write> Sink for ToWriter<W> {
-    ghost taken = { λ s. W.contents s.inner };
-
-    ghost failed = { λ s. s.has_failed };
-
-    fn write(&mut self, bytes: &[u8]) -> Result<usize, Failed> {
-        if self.has_failed {
-            return Err(Failed);
-        }
-        match self.writer.write(bytes) {
-            Ok(count) if count > 0 || bytes.is_empty() => Ok(count),
-            _ => {
-                self.has_failed = true;
-                Err(Failed)
-            }
-        }
-    }
-}
-
-/// Writes all the bytes, in as many writes as it takes. After an `Err` a front of them went out.
+/// Writes all the bytes, in as many writes as it takes. After an `Err` a prefix of them went out.
 pub fn write_all<W: Sink>(sink: &mut W, bytes: &[u8]) -> Result<(), Failed>
     ensures ok { OnOk result (Appends (W.taken sink.old) (W.taken sink.new) bytes.now) }
     ensures err { OnErr result (TookFront (W.taken sink.old) (W.taken sink.new) bytes.now) }

@@ -6,8 +6,6 @@ ghost use Rattle.digits_core.specs.Bytes.{GaveAll, GaveAtMost, GaveMoreThan};
 
 use std::alloc::Global;
 use std::fmt;
-use std::io::Read;
-use std::marker::Model;
 
 /// A read or a write failed. What it was asked of has failed from then on.
 #[derive(Clone, Copy, Debug, PartialEq, Eq)]
@@ -28,52 +26,6 @@ pub trait Source {
         ensures ok { OnOk result (failed self.new ≡ failed self.old) }
         ensures err { OnErr result (failed self.new ≡ true) }
         ensures again { IsTrue (failed self.old) → IsErr result };
-}
-
-/// A source over any reader. An interruption is a failure, and a failed one is not read again.
-#[derive(Drop)]
-pub struct FromReader<R: Read> {
-    reader: R,
-    has_failed: bool,
-}
-
-impl<R: Read> Model for FromReader<R> {
-    ghost use Rattle.digits_core.specs.Bytes.{Tracked};
-
-    ghost Value = { Tracked R };
-
-    ghost view = { λ s. record { inner = s.reader; has_failed = s.has_failed } };
-}
-
-impl<R: Read> FromReader<R> {
-    /// A source that has not failed.
-    pub fn new(reader: R) -> FromReader<R>
-        ensures { result ≡ record { inner = reader; has_failed = false } }
-    {
-        FromReader {
-            reader,
-            has_failed: false,
-        }
-    }
-}
-
-impl<R: Read> Source for FromReader<R> {
-    ghost left = { λ s. R.remaining s.inner };
-
-    ghost failed = { λ s. s.has_failed };
-
-    fn read(&mut self, buf: &mut [u8]) -> Result<usize, Failed> {
-        if self.has_failed {
-            return Err(Failed);
-        }
-        match self.reader.read(buf) {
-            Ok(count) => Ok(count),
-            Err(_) => {
-                self.has_failed = true;
-                Err(Failed)
-            }
-        }
-    }
 }
 
 // How many bytes are asked for at a time.

@@ -4,7 +4,7 @@ use Rattle.std.specs.List.{flat_map, AllByRecursion}
 use Rattle.std.proofs.lemmas.List.{length-map, get_or-map, length-take, length-drop, append-nil, length-append, take-map, drop-map}
 use Rattle.std.proofs.lemmas.List.Concat.{flat_map-append}
 use Rattle.std.proofs.Math.Seq.{take-suc}
-use Rattle.digits_core.specs.Digits.{AreAsciiDigits, AreDigits, digits_of}
+use Rattle.digits_core.specs.Digits.{AreAsciiDigits, AreDigits, ascii_of, digits_of, padded}
 use Rattle.ean_code.specs.declared.number_sets.Character.{Character}
 use Rattle.ean_code.specs.declared.number_sets.NumberSet.{NumberSet}
 use Rattle.ean_code.specs.declared.number_sets.NumberSet.TheVariants.{A, B}
@@ -16,7 +16,7 @@ use Rattle.ean_code.proofs.Cells.{all_below, all_below-at, AllByRecursion-append
 use Rattle.ean_code.proofs.Characters.{characters_valid, digit_at, get_or-characters, left_code, length-characters, right_code, left_char, right_digit}
 use Rattle.ean_code.proofs.ItfWidths.{itf_valid}
 use Rattle.ean_code.proofs.ParityRows.{length-row, length-upce_row}
-use Rattle.ean_code.proofs.Texts.{AreDigits-shown}
+use Rattle.ean_code.proofs.Texts.{AreDigits-shown, shown_back}
 use Rattle.ean_code.proofs.Widths.{are_widths, AreWidths-from}
 
 -- one piece more
@@ -138,3 +138,9 @@ symbol_drawn kind text ms n v e = record { count = length-map text _ ∙ n; vali
 
 pub modules_drawn : (kind : Kind) (text ms : List ℕ) → length text ≡ digit_count kind → AreAsciiDigits text → ms ≡ widths_of kind (digits_of text) → AreModules ms
 modules_drawn kind text ms n v e = subst AreModules (sym e) (symbol_valid kind (digits_of text) (length-map text _ ∙ n) (AreDigits-shown text v))
+
+-- the same where the text shows the last digits of a GTIN and all before them are zeros
+pub padded_drawn : (kind : Kind) (n : ℕ) (text gtin ms : List ℕ) → length text ≡ digit_count kind → AreAsciiDigits text → ms ≡ widths_of kind (digits_of text)
+    → text ≡ ascii_of (drop n gtin) → gtin ≡ padded (drop n gtin) → (ds : List ℕ) × IsNumberSymbol kind ms ds × (gtin ≡ padded ds)
+padded_drawn kind n text gtin ms l v e shown few =
+    (digits_of text, symbol_drawn kind text ms l v e, few ∙ ap padded (sym (ap digits_of shown ∙ shown_back (drop n gtin))))

@@ -1,12 +1,7 @@
 -- What an option tells.
 use Rattle.std.proofs.Common.{◌≡◌, true}
 use Rattle.std.specs.Prelude.{Option, None, Some, is_some}
-use Rattle.std.specs.Option.{IfNone, IfSome, IsSome}
-
--- nothing is said of the none of a some
-pub not_none : {X : Type 0} (P : Type 0) (o : Option X) → IsSome o → IfNone o P
-not_none P None h = cc
-not_none P (Some x) h = tt
+use Rattle.std.specs.Option.{IfNone, IfSome}
 
 pub IfNone_then : {X : Type 0} (o : Option X) {P Q : Type 0} → IfNone o P → (P → Q) → IfNone o Q
 IfNone_then None h f = f h

@@ -126,7 +126,7 @@ pub fn ean13(gtin: &Gtin) -> Option<Modules>
     ensures fits { IsSome result ↔ (gtin.now ≡ padded (drop 1 gtin.now)) }
 {
     let digits = gtin.as13()?;
-    Modules::of(ean13_widths(&digits).as_slice())
+    Some(Modules::new(ean13_widths(&digits)))
 }
 
 /// The EAN-8 of a GTIN, 43 widths of 67 modules in all: none for a GTIN that needs more than 8 digits.
@@ -136,7 +136,7 @@ pub fn ean8(gtin: &Gtin) -> Option<Modules>
     ensures fits { IsSome result ↔ (gtin.now ≡ padded (drop 6 gtin.now)) }
 {
     let digits = gtin.as8()?;
-    Modules::of(ean8_widths(&digits).as_slice())
+    Some(Modules::new(ean8_widths(&digits)))
 }
 
 /// The UPC-E of a GTIN, 33 widths of 51 modules in all, by the first line of the zero-suppression table
@@ -149,5 +149,5 @@ pub fn upce(gtin: &Gtin) -> Option<Modules>
     let Some(spelled) = upce_suppress(gtin) else {
         return None;
     };
-    Modules::of(upce_widths(&spelled.0, spelled.1).as_slice())
+    Some(Modules::new(upce_widths(&spelled.0, spelled.1)))
 }

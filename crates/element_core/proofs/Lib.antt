@@ -20,4 +20,3 @@ pub mod Before
 pub mod TimeLemmas
 pub mod Listed
 pub mod FirstDigits
-pub mod Pasted

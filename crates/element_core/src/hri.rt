@@ -9,6 +9,7 @@ ghost use Rattle.element_core.specs.Walks.{AreAscii};
 
 use crate::front::front_of;
 use arrayvec::ArrayString;
+use digits_core::put_at;
 
 /// Puts ASCII bytes at the end.
 fn push_bytes(line: &mut ArrayString<288>, bytes: &[u8])
@@ -90,18 +91,7 @@ pub(crate) fn add_line_of(line: &mut String, text: &[u8])
     }
 }
 
-/// Puts bytes into `out` from `at` on, and says where they end.
-fn put_at(bytes: &[u8], at: usize, out: &mut [u8]) -> usize
-    requires { at + length bytes.now ≤ length out.old }
-    ensures end { result ≡ at + length bytes.now }
-    ensures put { out.new ≡ pasted out.old at bytes.now }
-{
-    let end = at + bytes.len();
-    out[at..end].copy_from_slice(bytes);
-    end
-}
-
-/// The same of an element: its AI in parentheses, then its value.
+/// Puts an element into `out` from `at` on, and says where it ends: its AI in parentheses, then its value.
 fn put_element(ai: &[u8], value: &[u8], at: usize, out: &mut [u8]) -> usize
     requires { at + length (40 ∷ ai.now ++ (41 ∷ value.now)) ≤ length out.old }
     ensures end { result ≡ at + length (40 ∷ ai.now ++ (41 ∷ value.now)) }

@@ -2,7 +2,7 @@
 use Rattle.std.proofs.Common.{◌≡◌, ◌∙◌, ◌+◌, ◌-◌, ◌<◌, ◌≤◌, ℕ, List, [], ◌∷◌, ◌++◌, ap, append_assoc, arith, drop, get_or, length, length-append, refl, slice_set, sym, take}
 use Rattle.std.proofs.lemmas.List.{drop-drop, drop_at, drop_more, length-take-le, set_at, take_at}
 use Rattle.digits_core.specs.Buffers.{pasted}
-use Rattle.element_core.proofs.Pasted.{length-pasted}
+use Rattle.digits_core.proofs.Pasted.{length-pasted}
 use borrow.Rule.Slice.PartMut.{put_mid}
 
 -- a word, a space and what stood behind them

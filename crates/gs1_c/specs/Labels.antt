@@ -13,13 +13,14 @@ use Rattle.sheet_core.specs.Faults.{sheet_fault_text}
 use Rattle.sheet_core.specs.Grids.{Cells, IsGrid}
 use Rattle.sheet_core.specs.pbm.Images.{pbm_of}
 use Rattle.sheet_core.specs.declared.fault.SheetFault.{SheetFault}
+use Rattle.sheet_core.specs.Labels.{gtin_label}
+use Rattle.sheet_core.specs.declared.kind.GtinKind.{GtinKind}
+use Rattle.sheet_core.specs.declared.kind.GtinKind.TheVariants as gtin_kind
+use Rattle.sheet_core.specs.declared.kind.LabelKind.{LabelKind}
+use Rattle.sheet_core.specs.declared.kind.LabelKind.TheVariants as kind
 use Rattle.sheet_core.specs.declared.label.Label.{Label}
 use Rattle.sheet_core.specs.declared.label.Label.TheVariants as label
 use Rattle.gs1_c.specs.Lines.{IsYear, words_text}
-use Rattle.gs1_c.specs.declared.label.GtinKind.{GtinKind}
-use Rattle.gs1_c.specs.declared.label.GtinKind.TheVariants as gtin_kind
-use Rattle.gs1_c.specs.declared.label.LabelKind.{LabelKind}
-use Rattle.gs1_c.specs.declared.label.LabelKind.TheVariants as kind
 
 -- the kind of this number
 abbrev pub kind_numbered : ℕ → Option LabelKind
@@ -35,14 +36,6 @@ kind_numbered n =
 -- one cell, in dots
 abbrev pub one_cell : ℕ → ℕ → ℕ → Cells
 one_cell module_dots width height = record { dots = module_dots; width = width; height = height; columns = 1; rows = 1 }
-
--- the label of a GTIN
-abbrev pub gtin_label : GtinKind → List ℕ → Label
-gtin_label gtin_kind.Ean13 gtin = label.Ean13 gtin
-gtin_label gtin_kind.UpcA gtin = label.UpcA gtin
-gtin_label gtin_kind.Ean8 gtin = label.Ean8 gtin
-gtin_label gtin_kind.UpcE gtin = label.UpcE gtin
-gtin_label gtin_kind.Itf14 gtin = label.Itf14 gtin
 
 -- the bytes are the image of the sheet of this one label, or the line of why it is not printed
 abbrev pub IsPrinted : Label → Cells → List ℕ → Type 0

@@ -19,8 +19,9 @@ use answer::{put_answer, put_dots};
 use buffer::{put, put_elements, put_refusal, put_words};
 use digits_core::{Gtin, payload_digit};
 use element_core::{Elements, Year};
-use label::put_numbered;
+use label::{kind_numbered, put_kind};
 use scan_core::read_widths;
+use sheet_core::Grid;
 
 /// The line of a year that is none.
 const WORDS: &[u8] = b"refused 42 Words";
@@ -115,5 +116,14 @@ pub extern "C" fn gs1_c_label(
     ensures { (bytes : List ℕ) × IsLabelBytes kind year text.now (one_cell module_dots width height) bytes
         × IsPut bytes out.old out.new result }
 {
-    put_numbered(kind, text, year, module_dots, width, height, out)
+    let Some(kind) = kind_numbered(kind) else {
+        return put(b"refused 40 Kind", out);
+    };
+    let Some(year) = Year::new(year) else {
+        return put(WORDS, out);
+    };
+    match Grid::new(module_dots, width, height, 1, 1) {
+        Ok(grid) => put_kind(kind, text, year, grid, out),
+        Err(fault) => put_refusal(fault.refusal(), out),
+    }
 }

@@ -1,5 +1,6 @@
 pub mod AskedFacts
 pub mod BesideFacts
+pub mod BufferFacts
 pub mod CheckOnce
 pub mod CommandFacts
 pub mod CountFacts

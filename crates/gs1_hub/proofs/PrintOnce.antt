@@ -5,20 +5,18 @@ use Rattle.sheet_core.specs.Bitmaps.{Bitmap}
 use Rattle.sheet_core.specs.Grids.{Cells}
 use Rattle.sheet_core.specs.pbm.Images.{pbm_of}
 use Rattle.sheet_core.specs.PrintLaws.{AreBytes, OnePrinted}
+use Rattle.sheet_core.specs.Kinds.{kind_named}
+use Rattle.sheet_core.specs.declared.kind.LabelKind.{LabelKind}
+use Rattle.sheet_core.specs.declared.kind.LabelKind.TheVariants as kind
 use Rattle.sheet_core.specs.declared.label.Label.{Label}
 use Rattle.sheet_core.specs.declared.label.Label.TheVariants as label
 use Rattle.line_core.specs.Grids.{cells_of}
 use Rattle.line_core.specs.input.Records.{Fields}
 use Rattle.line_core.specs.input.Spelling.{spelled_text}
-use Rattle.line_core.specs.print.Labels.{IsElementLabel, IsGtinLabel, IsLabelAs, IsLabelBy, print_kind_named, print_meaning}
-use Rattle.line_core.specs.declared.print.label_record.PrintKind.{PrintKind}
-use Rattle.line_core.specs.declared.print.label_record.PrintKind.TheVariants as kind
+use Rattle.line_core.specs.print.Labels.{IsElementLabel, IsLabelAs, IsLabelBy, print_meaning}
 use Rattle.gs1_hub.specs.Laws.{OnePrint}
 use Rattle.gs1_hub.specs.Prints.{IsPrinted}
 use Rattle.gs1_hub.proofs.OnceFacts.{mean_once}
-
-gtin_label : (make : List ℕ → Label) (text : List ℕ) (a b : Label) → IsGtinLabel make text (Ok a) → IsGtinLabel make text (Ok b) → a ≡ b
-gtin_label make text a b h k = h.1 ∙ sym k.1
 
 module _ (one : OneAnswer) (year : ℕ) where
   same_listing : (x y : Listing) → x.year ≡ y.year → x.list ≡ y.list → x ≡ y
@@ -29,15 +27,11 @@ module _ (one : OneAnswer) (year : ℕ) where
       let lists = (one year text).0 h.0.list k.0.list h.3 k.3 in
       h.1 ∙ ap label.Gs1128 (same_listing h.0 k.0 (h.2 ∙ sym k.2) lists) ∙ sym k.1
 
-  by_kind : (k : PrintKind) (field : List ℕ) (a b : Label) → IsLabelAs year k field (Ok a) → IsLabelAs year k field (Ok b) → a ≡ b
-  by_kind kind.Ean13 field a b h k = gtin_label label.Ean13 field a b h k
-  by_kind kind.UpcA field a b h k = gtin_label label.UpcA field a b h k
-  by_kind kind.Ean8 field a b h k = gtin_label label.Ean8 field a b h k
-  by_kind kind.UpcE field a b h k = gtin_label label.UpcE field a b h k
-  by_kind kind.Itf14 field a b h k = gtin_label label.Itf14 field a b h k
-  by_kind kind.Gs1128 field a b h k = element_label (spelled_text field) a b h k
+  by_kind : (k : LabelKind) (field : List ℕ) (a b : Label) → IsLabelAs year k field (Ok a) → IsLabelAs year k field (Ok b) → a ≡ b
+  by_kind (kind.Gtin k) field a b h p = h.1 ∙ sym p.1
+  by_kind kind.Gs1128 field a b h p = element_label (spelled_text field) a b h p
 
-  by_name : (o : Option PrintKind) (field : List ℕ) (a b : Label) → IsLabelBy year o field (Ok a) → IsLabelBy year o field (Ok b) → a ≡ b
+  by_name : (o : Option LabelKind) (field : List ℕ) (a b : Label) → IsLabelBy year o field (Ok a) → IsLabelBy year o field (Ok b) → a ≡ b
   by_name (Some k) field a b h p = by_kind k field a b h p
   by_name None field a b h p = cc h
 
@@ -45,7 +39,7 @@ module _ (one : OneAnswer) (year : ℕ) where
   label_once : (fields : Fields) (a b : Label) → print_meaning year fields (Ok a) → print_meaning year fields (Ok b) → a ≡ b
   label_once [] a b h k = cc h
   label_once (name ∷ []) a b h k = cc h
-  label_once (name ∷ field ∷ []) a b h k = by_name (print_kind_named name) field a b h k
+  label_once (name ∷ field ∷ []) a b h k = by_name (kind_named name) field a b h k
   label_once (name ∷ field ∷ other ∷ more) a b h k = cc h
 
 -- what is printed of labels is one text

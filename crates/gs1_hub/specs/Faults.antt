@@ -101,7 +101,7 @@ words_status words.NoMemory failed = 1
 words_status (words.Help text) false = 0
 words_status (words.Help text) true = 1
 
--- what a sink takes where the words ask for no command: the help that they ask for, or a front of it, where a write failed; and else nothing
+-- what a sink takes where the words ask for no command: the help that they ask for, or a prefix of it, where a write failed; and else nothing
 abbrev pub TookHelp : WordsFault → Bool → Option (List ℕ) → Option (List ℕ) → Type 0
 TookHelp (words.Help text) false before after = Appends before after (string_bytes text)
 TookHelp (words.Help text) true before after = TookFront before after (string_bytes text)

@@ -1,4 +1,5 @@
 pub mod Asking
+pub mod Buffers
 pub mod CommandLine
 pub mod Commands
 pub mod Faults

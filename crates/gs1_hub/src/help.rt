@@ -129,7 +129,7 @@ pub const YEAR: &str =
 /// The flag `--text`.
 pub const TEXT: &str = "Print a line for each label in place of images";
 
-/// Writes the text that is asked for, whole or, where a write fails, a front of it.
+/// Writes the text that is asked for, whole or, where a write fails, a prefix of it.
 pub fn write_help<W: Sink>(text: &str, sink: &mut W) -> Result<(), CommandFault>
     ensures ok { OnOk result (Appends (W.taken sink.old) (W.taken sink.new) text.now) }
     ensures cut { OnErr result (TookFront (W.taken sink.old) (W.taken sink.new) text.now) }

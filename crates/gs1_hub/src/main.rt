@@ -1,11 +1,12 @@
 //! The program: GS1 bar codes from the command line.
 #![tactic(auto)]
 
-ghost use Rattle.std.specs.Prelude.{◌≡◌, IfOk, false};
+ghost use Rattle.std.specs.Prelude.{◌≡◌, [], IfOk, IfSome, false};
 ghost use Rattle.std.specs.Process.{exit_status};
 ghost use Rattle.gs1_hub.specs.Commands.{Ran, command_of};
 ghost use Rattle.gs1_hub.specs.Faults.{TookHelp, status_of, words_status};
 
+mod buffered;
 mod check;
 mod command_line;
 mod fault;
@@ -19,6 +20,7 @@ mod scan;
 mod tests;
 mod words;
 
+use crate::buffered::Buffered;
 use crate::check::run_check;
 use crate::fault::CommandFault;
 use crate::help::write_help;
@@ -52,6 +54,26 @@ fn run<R: Threads + Wait + Sync, S: Source, W: Sink, G: Gate + Sync>(
         Asked::Lanes(options) => run_lanes(rt, alloc, options, source, sink, gate),
         Asked::Scan(options) => run_scan(rt, alloc, options, source, sink, gate),
     }
+}
+
+/// Runs the command with a buffer before its output, and writes what waits in it at the end. Before it runs
+/// nothing waits, and nothing is known to have been taken.
+fn run_buffered<R: Threads + Wait + Sync, S: Source, W: Sink, G: Gate + Sync>(
+    rt: &R,
+    alloc: Global,
+    asked: Asked,
+    source: &mut S,
+    sink: &mut Buffered<W>,
+    gate: &G,
+) -> Result<(), CommandFault>
+    requires empty { sink.old.waiting ≡ [] }
+    requires fresh { IfSome (W.taken sink.old.sink) (λ bytes. bytes ≡ []) }
+    ensures { Ran (command_of asked) S.left S.failed (λ s. W.taken s.sink) (λ s. W.failed s.sink)
+        source.old source.new sink.old sink.new result }
+{
+    run(rt, alloc, asked, source, sink, gate)?;
+    sink.flush()?;
+    Ok(())
 }
 
 /// The exit status of a command that has run. A refusal is told on standard error.
@@ -107,8 +129,8 @@ fn main(rt: HostRuntime) -> io::Result<ExitCode> {
                 );
             };
             let mut source = FromReader::new(reader);
-            let mut sink = ToWriter::new(io::writer(&rt));
-            let ran = run(&rt, rt.alloc(), asked, &mut source, &mut sink, &OpenGate);
+            let mut sink = Buffered::new(ToWriter::new(io::writer(&rt)));
+            let ran = run_buffered(&rt, rt.alloc(), asked, &mut source, &mut sink, &OpenGate);
             finish(&rt, ran)
         }
         Err(fault) => explain(&rt, &fault, &mut ToWriter::new(io::writer(&rt))),

@@ -9,6 +9,8 @@ use Rattle.hub_core.specs.Rings.{all_sent}
 use Rattle.hub_core.specs.declared.deliverer_seat.DelivererSeat.{DelivererSeat}
 use Rattle.hub_core.specs.declared.deliverer_seat.Collected.{Collected}
 use Rattle.hub_core.specs.declared.deliverer_seat.Collected.TheVariants as collecting
+use Rattle.hub_core.specs.declared.collect.Gathered.{Gathered}
+use Rattle.hub_core.specs.declared.collect.Gathered.TheVariants as gathering
 use Rattle.hub_core.specs.declared.deliverer_seat.Handed.{Handed}
 use Rattle.hub_core.specs.declared.deliverer_seat.Handed.TheVariants as handing
 
@@ -57,6 +59,12 @@ abbrev pub Collects : DelivererSeat → Collected → DelivererSeat → Type 0
 Collects s collecting.Nothing t = (in_hand s ≡ None) × (in_hand t ≡ None) × (collected t ≡ collected s) × (desk_of t ≡ desk_of s) × SameHanded s t
 Collects s collecting.Taken t = (x : Plain) × Takes s x t × TakesOrSetsAside (desk_of s) x (desk_of t) × (in_hand t ≡ None) × SameHanded s t
 Collects s collecting.NoMemory t = (x : Plain) × Takes s x t × (in_hand t ≡ Some x) × (desk_of t ≡ desk_of s) × SameHanded s t
+
+-- the answer of `collect` without the lane
+abbrev pub collected_as : Gathered → Collected
+collected_as gathering.Nothing = collecting.Nothing
+collected_as (gathering.Taken _) = collecting.Taken
+collected_as gathering.NoMemory = collecting.NoMemory
 
 -- how the lists grow with each answer of `hand`
 abbrev pub Hands : DelivererSeat → ℕ → Handed → DelivererSeat → Type 0

@@ -9,11 +9,22 @@ use lane_core::Delivery;
 use scan_core::Runs;
 use std::sync::Wait;
 
-/// How many rows a lane submits, or polls, before it is the next lane's turn.
+/// How many rows a lane submits before it is the next lane's turn.
 const RUN: u32 = 64;
 
 /// How many rows of a lane may be under way, so that few answers wait for one that is late.
 const MOST_UNDER_WAY: u32 = 1_024;
+
+/// What became of a row to be submitted.
+#[derive(Clone, Copy, Debug, PartialEq, Eq)]
+enum Submitted {
+    /// There was none, or many are under way.
+    Nothing,
+    /// It was submitted.
+    Row,
+    /// The queue of jobs had no room for it.
+    QueueFull,
+}
 
 /// A lane's seat, the rows that it has not submitted, the last first, and what it has polled, in a
 /// list with room for all its rows.
@@ -32,29 +43,29 @@ impl Feed {
     ghost use Rattle.hub_core.specs.declared.hub.Hub.{Hub};
 
     /// Submits the next row, where there is one, few are under way, and the queue of jobs has room.
-    fn submit_next<R: Wait>(&mut self, rt: &R, hub: &Hub) -> bool
+    fn submit_next<R: Wait>(&mut self, rt: &R, hub: &Hub) -> Submitted
         requires { IsFeedOf hub.now self.old }
         ensures of_hub { IsFeedOf hub.now self.new }
         ensures same { IsSameFeed self.old self.new }
     {
         if self.seat.issued - self.seat.polled >= MOST_UNDER_WAY {
-            return false;
+            return Submitted::Nothing;
         }
         let Some(row) = self.rows.pop() else {
-            return false;
+            return Submitted::Nothing;
         };
         match hub.submit(rt, &mut self.seat, row) {
-            Ok(_) => true,
+            Ok(_) => Submitted::Row,
             Err(SubmitFault::Full(row)) => {
                 self.rows.push_reserved(row);
-                false
+                Submitted::QueueFull
             }
             Err(SubmitFault::Spent(_)) => unreachable!(),
         }
     }
 
     /// Polls the next delivery, where it is seen.
-    fn poll_next(&mut self) -> bool
+    pub(crate) fn poll_next(&mut self) -> bool
         ensures of_hub { (h : Hub) → IsFeedOf h self.old → IsFeedOf h self.new }
         ensures same { IsSameFeed self.old self.new }
     {
@@ -65,35 +76,20 @@ impl Feed {
         true
     }
 
-    /// Submits the next rows, as far as it can. Answers whether there was one.
+    /// Submits the next rows, as far as it can. Answers whether the queue of jobs had room for all.
     pub(crate) fn submit_rows<R: Wait>(&mut self, rt: &R, hub: &Hub) -> bool
         requires { IsFeedOf hub.now self.old }
         ensures of_hub { IsFeedOf hub.now self.new }
         ensures same { IsSameFeed self.old self.new }
     {
-        let mut any = false;
         for _i in 0..RUN {
-            if !self.submit_next(rt, hub) {
-                break;
+            match self.submit_next(rt, hub) {
+                Submitted::Row => {}
+                Submitted::Nothing => return true,
+                Submitted::QueueFull => return false,
             }
-            any = true;
         }
-        any
-    }
-
-    /// Polls the next deliveries, as many as are seen. Answers whether there was one.
-    pub(crate) fn poll_all(&mut self) -> bool
-        ensures of_hub { (h : Hub) → IsFeedOf h self.old → IsFeedOf h self.new }
-        ensures same { IsSameFeed self.old self.new }
-    {
-        let mut any = false;
-        for _i in 0..RUN {
-            if !self.poll_next() {
-                break;
-            }
-            any = true;
-        }
-        any
+        true
     }
 
     /// Whether each row was submitted and its delivery polled.

@@ -3,7 +3,6 @@ ghost use Rattle.std.specs.Prelude.{◌≡◌, ◌≤◌, All, IfOk, length, map
 ghost use Rattle.hub_core.specs.Feeds.{AreFeedsOf, AreSameFeeds, IsDone, all_rows, seats_of};
 ghost use Rattle.hub_core.specs.Fresh.{HasDoneNothing};
 ghost use Rattle.hub_core.specs.Hubs.{IsLaneOf, shape_of};
-ghost use Rattle.hub_core.specs.declared.hub.Hub.{Hub as AnyHub};
 
 use crate::closed_lane::ClosedLane;
 use crate::feed::Feed;
@@ -42,29 +41,17 @@ pub(crate) fn make_feeds(
     Ok(feeds)
 }
 
-/// Each lane submits its next rows. Answers whether there was one.
-pub(crate) fn submit_each<R: Wait>(rt: &R, hub: &Hub, feeds: &mut Vec<Feed>) -> bool
+/// Each lane submits its next rows, until the queue of jobs is full.
+pub(crate) fn submit_each<R: Wait>(rt: &R, hub: &Hub, feeds: &mut Vec<Feed>)
     requires { AreFeedsOf hub.now feeds.old.items }
     ensures of_hub { AreFeedsOf hub.now feeds.new.items }
     ensures same { AreSameFeeds feeds.old.items feeds.new.items }
 {
-    let mut any = false;
-    for feed in feeds.iter_mut() {
-        any |= feed.submit_rows(rt, hub);
+    for index in 0..feeds.len() {
+        if !feeds[index].submit_rows(rt, hub) {
+            break;
+        }
     }
-    any
-}
-
-/// Each lane polls what it sees. Answers whether there was a delivery.
-pub(crate) fn poll_each(feeds: &mut Vec<Feed>) -> bool
-    ensures of_hub { (h : AnyHub) → AreFeedsOf h feeds.old.items → AreFeedsOf h feeds.new.items }
-    ensures same { AreSameFeeds feeds.old.items feeds.new.items }
-{
-    let mut any = false;
-    for feed in feeds.iter_mut() {
-        any |= feed.poll_all();
-    }
-    any
 }
 
 /// Whether each row of each lane was submitted and its delivery polled.

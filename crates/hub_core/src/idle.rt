@@ -1,12 +1,16 @@
 //! What a thread does that found nothing to do.
 
-use std::hint;
 use std::sync::Wait;
 use std::sync::atomic::AtomicU64;
 use std::time::Duration;
+use std::{hint, thread};
 
-/// How often in turn a thread looks again at once.
-const SPINS: u32 = 64;
+/// How often in turn a thread looks again before it sleeps.
+const LOOKS: u32 = 64;
+
+/// How many pauses it makes before it looks again, so that it seldom takes what it looks at from the
+/// processor that writes there.
+const PAUSES: u32 = 64;
 
 /// How many microseconds it sleeps then, before it looks again.
 const NAP: u64 = 20;
@@ -31,12 +35,15 @@ impl Idle {
         self.turns = 0;
     }
 
-    /// It found nothing to do: it looks again at once, or sleeps for a moment, but no longer than
-    /// the word is `ASLEEP`.
+    /// It found nothing to do: it pauses and lets other threads run, or sleeps for a moment, but no
+    /// longer than the word is `ASLEEP`.
     pub(crate) fn rest<R: Wait>(&mut self, rt: &R, word: &AtomicU64) {
-        if self.turns < SPINS {
+        if self.turns < LOOKS {
             self.turns += 1;
-            hint::spin_loop();
+            for _ in 0..PAUSES {
+                hint::spin_loop();
+            }
+            thread::yield_now();
         } else {
             word.park_timeout(rt, ASLEEP as u32, Duration::from_micros(NAP));
         }

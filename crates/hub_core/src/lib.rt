@@ -18,6 +18,7 @@ mod laws;
 mod lists;
 mod next_ticket;
 mod parts;
+mod passing;
 mod rule;
 mod serving;
 mod settle;

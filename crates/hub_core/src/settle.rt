@@ -19,7 +19,7 @@ use lane_core::{Delivery, all_found, claims_settle, kept_whole, lost_is_none, re
 use std::alloc::Global;
 use std::sync::Wait;
 
-/// A hub that was not settled, for want of memory, and all its seats, as they were handed in.
+/// A hub that was not settled, since memory was refused, and all its seats, as they were handed in.
 #[derive(Drop)]
 pub struct Unsettled {
     /// The hub.

@@ -60,22 +60,28 @@ rising_whole l n (x ∷ xs) (y ∷ ys) a up same =
     let rest = rising_whole l (suc n) xs ys t.1 (tail_rises y ys up) (λ h. cancel h x y xs ys (sym first) (same h)) in
     λ i. first i ∷ rest i
 
--- a lane's numbers that were polled, and the rest of them
-front_and_rest : (l n : ℕ) (xs ps ys : List Plain) → numbered l n xs ≡ true → numbered l n ps ≡ true → rises ys ≡ true → SameItems xs (ps ++ ys) → ps ++ ys ≡ xs
-front_and_rest l n xs [] ys a b up same = rising_whole l n xs ys a up same
-front_and_rest l n [] (p ∷ ps) ys a b up same = absurd (let e = same (λ _. 1) in omega arith)
-front_and_rest l n (x ∷ xs) (p ∷ ps) ys a b up same =
+-- two lists of a lane's numbers begin alike, where the first of the one is in the other
+heads : (l n : ℕ) (x p : Plain) (xs ps : List Plain) → numbered l n (x ∷ xs) ≡ true → numbered l n (p ∷ ps) ≡ true → 1 ≤ weigh (λ z. once (is_same p z)) (x ∷ xs)
+    → (p ≡ x) × (numbered l (suc n) xs ≡ true) × (numbered l (suc n) ps ≡ true)
+heads l n x p xs ps a b there =
     let s = both_true (x.lane == l) ((x.number == n) && numbered l (suc n) xs) a in
     let t = both_true (x.number == n) (numbered l (suc n) xs) s.1 in
     let u = both_true (p.lane == l) ((p.number == n) && numbered l (suc n) ps) b in
     let v = both_true (p.number == n) (numbered l (suc n) ps) u.1 in
     let at = eq_from p.number n v.0 in
+    let none = later l (suc n) p xs t.1 (omega arith) in
+    (same_from p x (true_from (is_same p x) (omega arith)), t.1, v.1)
+
+-- a lane's numbers that were polled, and the rest of them
+front_and_rest : (l n : ℕ) (xs ps ys : List Plain) → numbered l n xs ≡ true → numbered l n ps ≡ true → rises ys ≡ true → SameItems xs (ps ++ ys) → ps ++ ys ≡ xs
+front_and_rest l n xs [] ys a b up same = rising_whole l n xs ys a up same
+front_and_rest l n [] (p ∷ ps) ys a b up same = absurd (let e = same (λ _. 1) in omega arith)
+front_and_rest l n (x ∷ xs) (p ∷ ps) ys a b up same =
     let self : once (is_same p p) ≡ 1 = ap once (same_self p) in
     let there = same (λ z. once (is_same p z)) in
-    let none = later l (suc n) p xs t.1 (omega arith) in
-    let first : p ≡ x = same_from p x (true_from (is_same p x) (omega arith)) in
-    let rest = front_and_rest l (suc n) xs ps ys t.1 v.1 up (λ h. cancel h x p xs (ps ++ ys) (sym first) (same h)) in
-    λ i. first i ∷ rest i
+    let h = heads l n x p xs ps a b (omega arith) in
+    let rest = front_and_rest l (suc n) xs ps ys h.1 h.2 up (λ g. cancel g x p xs (ps ++ ys) (sym h.0) (same g)) in
+    λ i. h.0 i ∷ rest i
 
 less_left : (h : Plain → ℕ) (x y : Plain) (xs ys : List Plain) → x ≡ y → weigh h (x ∷ xs) ≤ weigh h (y ∷ ys) → weigh h xs ≤ weigh h ys
 less_left h x y xs ys e less = let f = ap h e in omega arith
@@ -85,17 +91,11 @@ first_of : (l n : ℕ) (xs ps : List Plain) → numbered l n xs ≡ true → num
 first_of l n xs [] a b less = refl
 first_of l n [] (p ∷ ps) a b less = absurd (let e = less (λ _. 1) in omega arith)
 first_of l n (x ∷ xs) (p ∷ ps) a b less =
-    let s = both_true (x.lane == l) ((x.number == n) && numbered l (suc n) xs) a in
-    let t = both_true (x.number == n) (numbered l (suc n) xs) s.1 in
-    let u = both_true (p.lane == l) ((p.number == n) && numbered l (suc n) ps) b in
-    let v = both_true (p.number == n) (numbered l (suc n) ps) u.1 in
-    let at = eq_from p.number n v.0 in
     let self : once (is_same p p) ≡ 1 = ap once (same_self p) in
     let there = less (λ z. once (is_same p z)) in
-    let none = later l (suc n) p xs t.1 (omega arith) in
-    let first : p ≡ x = same_from p x (true_from (is_same p x) (omega arith)) in
-    let rest = first_of l (suc n) xs ps t.1 v.1 (λ h. less_left h p x ps xs first (less h)) in
-    λ i. sym first i ∷ rest i
+    let h = heads l n x p xs ps a b (omega arith) in
+    let rest = first_of l (suc n) xs ps h.1 h.2 (λ g. less_left g p x ps xs h.0 (less g)) in
+    λ i. sym h.0 i ∷ rest i
 
 pub received_first : (accounts : List Account) → AreNumbered accounts → ((i : ℕ) (a : Account) → slice_get accounts i ≡ Some a → numbered a.lane 0 a.received ≡ true) → EachLaneOnce accounts
     → ((h : Plain → ℕ) → weigh (λ a. weigh h a.received) accounts ≤ weigh (λ a. weigh h a.submitted) accounts)

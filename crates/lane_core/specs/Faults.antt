@@ -3,7 +3,7 @@ use Rattle.std.specs.Prelude.{ℕ, List, codes}
 use Rattle.lane_core.specs.declared.fault.TakeFault.{TakeFault}
 use Rattle.lane_core.specs.declared.fault.TakeFault.TheVariants.{Stranger, NoMemory}
 
--- of want of memory
+-- of a refusal of memory
 abbrev pub no_memory_text : List ℕ
 no_memory_text = codes "refused 43 NoMemory"
 

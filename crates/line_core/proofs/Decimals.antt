@@ -36,7 +36,7 @@ numerals = numerals_by_value (λ ds. list_all is_ascii_digit ds ≡ true) (searc
 pub few_digits : (ds : List ℕ) → list_all is_ascii_digit ds ≡ true → length ds ≤ 5 → digits_value 10 ds < 100000
 few_digits ds all few = digits_value_short numerals ds 5 all few
 
--- and so does a front of them
+-- and so does a prefix of them
 pub front_digits : (ds : List ℕ) (i : ℕ) → list_all is_ascii_digit ds ≡ true → length ds ≤ 5 → digits_value 10 (take i ds) < 100000
 front_digits ds i all few =
     let less = few_digits ds all few in

@@ -1,2 +1,3 @@
+pub mod PlaceFacts
 pub mod ReportFacts
 pub mod RunFacts

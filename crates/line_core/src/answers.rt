@@ -2,3 +2,4 @@
 mod report;
 mod rest;
 pub mod serving;
+mod short;

@@ -11,7 +11,7 @@ use Rattle.scan_core.specs.declared.fault.RowFault.TheVariants.{Blank, RunCount,
 use Rattle.scan_core.specs.declared.answer.Answer.{Answer}
 use Rattle.scan_core.specs.declared.answer.Answer.TheVariants.{Read, Refused}
 use Rattle.scan_core.specs.Row.{IsRow, dots_of, inner}
-use Rattle.scan_core.specs.Showing.{IsCandidate}
+use Rattle.scan_core.specs.Showing.{IsCandidate, kind_of}
 use Rattle.scan_core.specs.Answers.{FailsAt, IsAnswer, IsRefused, Spells, Tells}
 use Rattle.scan_core.specs.Reading.{IsReadAs, stage_fault}
 use Rattle.scan_core.proofs.CandidateFacts.{candidate_dark}
@@ -28,7 +28,7 @@ answer_of carrier (Err fault) = Refused fault
 
 refused_of : (runs : List ℕ) (year : ℕ) (c : Carrier) (fault : RowFault) → Tells runs c (Err fault) → IsRefused runs year fault
 refused_of runs year c fault t =
-    elim (spelled_fault c t.1 fault t.3) [
+    elim (spelled_fault (kind_of c) t.1 fault t.3) [
       | inl e ↦ subst (IsRefused runs year) (sym e) (c, subst (λ f. Tells runs c (Err f)) e t)
       | inr f ↦ subst (IsRefused runs year) (sym f.1) (c, subst (λ g. Tells runs c (Err g)) f.1 t)
     ]
@@ -87,7 +87,7 @@ module _ (laws : ReadingLaws) (runs : List ℕ) (year : ℕ) (row : IsRow runs) 
   same_told c d x y r q t i u j =
       let one = one_symbol laws.symbols runs c d t.0 u.0 t.1 u.1 row t.2 u.2 in
       let moved : Spells d u.1 x = subst (λ ms. Spells d ms x) one.2 (subst (λ e. Spells e t.1 x) one.0 t.3) in
-      let content : x ≡ y = one_content laws.numbers laws.codes d u.1 x y moved u.3 in
+      let content : x ≡ y = one_content laws.numbers laws.codes (kind_of d) u.1 x y moved u.3 in
       ap₂ answer_of one.0 (one_read laws.texts year y r q (subst (λ z. IsReadAs year z r) content i) j)
 
   dark : (c : Carrier) (x : Result (List ℕ) RowFault) → Tells runs c x → Contains (dots_of runs) true

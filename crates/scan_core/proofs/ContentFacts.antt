@@ -1,29 +1,28 @@
 -- What a symbol spells: one thing, and its symbol has the form of its carrier.
-use Rattle.std.proofs.Common.{◌≡◌, ◌⊎◌, ℕ, List, ◌++◌, reverse, Result, Ok, Err, codes, sym, ap, subst, ◌∙◌, inl, inr}
+use Rattle.std.proofs.Common.{◌≡◌, ◌⊎◌, ℕ, List, ◌++◌, reverse, Option, Some, None, Result, Ok, Err, codes, sym, ap, subst, ◌∙◌, inl, inr}
 use Rattle.digits_core.specs.Digits.{ascii_of}
 use Rattle.ean_code.specs.Laws.{OneReading}
 use Rattle.ean_code.specs.Spelling.{IsGtinOf, IsSpelled}
 use Rattle.ean_code.specs.Symbols.{Kind, IsNumberSymbol}
-use Rattle.ean_code.specs.Symbols.Kind.{Ean13 as KindEan13, Ean8 as KindEan8, UpcE as KindUpcE, Itf14 as KindItf14}
+use Rattle.ean_code.specs.Symbols.Kind.{Ean13, Ean8, UpcE, Itf14}
 use Rattle.ean_code.specs.declared.reading.Spelled.TheVariants.{BadCheck, Found}
 use Rattle.code128_code.specs.Laws.{OneReading as OneCodeReading}
 use Rattle.code128_code.specs.Texts.{symbol_text}
 use Rattle.code128_code.specs.declared.fault.Code128Fault.{Code128Fault}
 use Rattle.scan_core.specs.declared.carrier.Carrier.{Carrier}
-use Rattle.scan_core.specs.declared.carrier.Carrier.TheVariants.{Ean13, Ean8, UpcE, Itf14, Gs1128}
 use Rattle.scan_core.specs.declared.fault.RowFault.{RowFault}
 use Rattle.scan_core.specs.declared.fault.RowFault.TheVariants.{SymbolCheckDigit, Code128}
-use Rattle.scan_core.specs.Showing.{HasForm, Way, along}
+use Rattle.scan_core.specs.Showing.{HasForm, IsSymbol, Way, along}
 use Rattle.scan_core.specs.Showing.Way.{Forwards, Backwards}
-use Rattle.scan_core.specs.Answers.{Spells, SpellsNumber, SpellsText, row_text}
+use Rattle.scan_core.specs.Answers.{SpellsAs, SpellsNumber, SpellsText, row_text}
 
 -- ---- one content
 
 one_gtin : (kind : Kind) (digits g h : List ℕ) → IsGtinOf kind digits g → IsGtinOf kind digits h → g ≡ h
-one_gtin KindEan13 digits g h a b = a ∙ sym b
-one_gtin KindEan8 digits g h a b = a ∙ sym b
-one_gtin KindUpcE digits g h a b = a ∙ sym b
-one_gtin KindItf14 digits g h a b = a ∙ sym b
+one_gtin Ean13 digits g h a b = a ∙ sym b
+one_gtin Ean8 digits g h a b = a ∙ sym b
+one_gtin UpcE digits g h a b = a ∙ sym b
+one_gtin Itf14 digits g h a b = a ∙ sym b
 
 found_once : OneReading → (kind : Kind) (ms g h : List ℕ) → IsSpelled kind ms (Found g) → IsSpelled kind ms (Found h) → g ≡ h
 found_once law kind ms g h a b =
@@ -48,12 +47,10 @@ one_text law ms x y a b =
     ∙ ap (λ c. row_text (symbol_text b.0 b.1 c)) one.2
     ∙ sym b.4
 
-pub one_content : OneReading → OneCodeReading → (c : Carrier) (ms : List ℕ) (x y : Result (List ℕ) RowFault) → Spells c ms x → Spells c ms y → x ≡ y
-one_content law code Ean13 ms x y a b = one_number law KindEan13 ms x y a b
-one_content law code Ean8 ms x y a b = one_number law KindEan8 ms x y a b
-one_content law code UpcE ms x y a b = one_number law KindUpcE ms x y a b
-one_content law code Itf14 ms x y a b = one_number law KindItf14 ms x y a b
-one_content law code Gs1128 ms x y a b = one_text code ms x y a b
+pub one_content : OneReading → OneCodeReading → (kind : Option Kind) (ms : List ℕ) (x y : Result (List ℕ) RowFault)
+    → SpellsAs kind ms x → SpellsAs kind ms y → x ≡ y
+one_content law code (Some kind) ms x y a b = one_number law kind ms x y a b
+one_content law code None ms x y a b = one_text code ms x y a b
 
 -- ---- faults
 
@@ -62,13 +59,10 @@ row_err fault (Ok text) e = absurd cc
 row_err fault (Err f) e = (f, cc)
 
 -- a symbol's own fault is that of a check digit or of Code 128
-pub spelled_fault : (c : Carrier) (ms : List ℕ) (fault : RowFault) → Spells c ms (Err fault)
+pub spelled_fault : (kind : Option Kind) (ms : List ℕ) (fault : RowFault) → SpellsAs kind ms (Err fault)
     → (fault ≡ SymbolCheckDigit) ⊎ ((f : Code128Fault) × (fault ≡ Code128 f))
-spelled_fault Ean13 ms fault a = inl a.1
-spelled_fault Ean8 ms fault a = inl a.1
-spelled_fault UpcE ms fault a = inl a.1
-spelled_fault Itf14 ms fault a = inl a.1
-spelled_fault Gs1128 ms fault a = inr (row_err fault (symbol_text a.0 a.1 a.2) a.4)
+spelled_fault (Some kind) ms fault a = inl a.1
+spelled_fault None ms fault a = inr (row_err fault (symbol_text a.0 a.1 a.2) a.4)
 
 -- ---- forms
 
@@ -76,12 +70,9 @@ number_form : (kind : Kind) (ms : List ℕ) (x : Result (List ℕ) RowFault) →
 number_form kind ms (Ok text) a = (a.1.0, a.1.1)
 number_form kind ms (Err fault) a = (a.0.0, a.0.1)
 
-pub spelled_form : (c : Carrier) (ms : List ℕ) (x : Result (List ℕ) RowFault) → Spells c ms x → HasForm c ms
-spelled_form Ean13 ms x a = number_form KindEan13 ms x a
-spelled_form Ean8 ms x a = number_form KindEan8 ms x a
-spelled_form UpcE ms x a = number_form KindUpcE ms x a
-spelled_form Itf14 ms x a = number_form KindItf14 ms x a
-spelled_form Gs1128 ms x a = (a.0, a.1, a.2, a.3)
+pub spelled_form : (kind : Option Kind) (ms : List ℕ) (x : Result (List ℕ) RowFault) → SpellsAs kind ms x → IsSymbol kind ms
+spelled_form (Some kind) ms x a = number_form kind ms x a
+spelled_form None ms x a = (a.0, a.1, a.2, a.3)
 
 -- modules that are no symbol either way
 pub no_way : (c : Carrier) (ms : List ℕ) → (HasForm c ms → ⊥) → (HasForm c (reverse ms) → ⊥) → (way : Way) → HasForm c (along way ms) → ⊥

@@ -1,11 +1,13 @@
--- Runs that are cut out of dots, one dot after the other.
-use Rattle.std.proofs.Common.{◌≡◌, ℕ, zero, suc, ◌+◌, ◌-◌, ◌%◌, ◌<◌, ◌≤◌, Bool, true, false, not, List, [], ◌∷◌, ◌++◌, length, drop, sum, replicate, refl, sym, ap, subst, ◌∙◌, arith}
-use Rattle.std.specs.Bool.{beq}
+-- Runs that are cut out of dots, one after the other.
+use Rattle.std.proofs.Common.{◌≡◌, ℕ, zero, suc, ◌+◌, ◌-◌, ◌%◌, ◌<◌, ◌≤◌, Bool, true, false, not, List, [], ◌∷◌, ◌++◌, length, drop, sum, replicate, inl, inr, refl, sym, ap, ap₂, add-zero, subst, ◌∙◌, arith}
 use Rattle.std.specs.List.{AllByRecursion}
-use Rattle.std.proofs.lemmas.List.{append-nil, length-append, take_at}
+use Rattle.std.proofs.lemmas.Bool.{cases_lt}
+use Rattle.std.proofs.lemmas.List.{append-nil, append_assoc, length-append, replicate_more, take_at}
+use Rattle.std.proofs.lemmas.List.FromFn.{map-range_with_len_more}
 use Rattle.std.proofs.lemmas.List.Sums.{sum_by_push}
+use Rattle.scan_core.specs.Bits.{dot_at, dots_at}
 use Rattle.scan_core.specs.Row.{IsRow, dots_from, dots_of, inner}
-use Rattle.scan_core.proofs.DotFacts.{colour, colour_more, dot_same, dots_from-push}
+use Rattle.scan_core.proofs.DotFacts.{colour, colour_more, dots_from-push}
 use Rattle.scan_core.proofs.RowFacts.{each-push}
 
 -- each run has a dot
@@ -20,15 +22,19 @@ pub record Cut (widths : List ℕ) (run : ℕ) (dark : Bool) (n : ℕ) (dots : L
   pub begun : 0 < length widths → 0 < run
   pub total : sum widths + run ≡ n
 
-same_dot : (widths : List ℕ) (run : ℕ) (dark here : Bool) (n : ℕ) (dots : List Bool) → Cut widths run dark n dots → here ≡ dark
-    → Cut widths (run + 1) dark (n + 1) (dots ++ here ∷ [])
-same_dot widths run dark here n dots h e = record {
-  joined = dot_same (dots_from false widths) dots run dark here e h.joined;
-  dark_is = h.dark_is;
-  each = h.each;
-  begun = λ k. omega arith;
-  total = let t = h.total in omega arith;
-}
+-- more dots of one colour behind others
+dots_more : (bits : List ℕ) (from n more : ℕ) (dark : Bool) → ((k : ℕ) → n ≤ k → k < n + more → dot_at bits (from + k) ≡ dark)
+    → dots_at bits from (n + more) ≡ dots_at bits from n ++ replicate more dark
+dots_more bits from n zero dark h = ap (dots_at bits from) (add-zero n) ∙ sym (append-nil (dots_at bits from n))
+dots_more bits from n (suc more) dark h =
+    let last : n + suc more ≡ n + more + 1 = omega arith in
+    let again = dots_more bits from n more dark (λ k some lt. h k some (omega arith)) in
+    let one : more + 1 ≡ suc more = omega arith in
+    ap (dots_at bits from) last
+    ∙ map-range_with_len_more (dot_at bits) from (n + more) (from + (n + more)) refl
+    ∙ ap₂ (λ ds d. ds ++ d ∷ []) again (h (n + more) (omega arith) (omega arith))
+    ∙ append_assoc (dots_at bits from n) (replicate more dark) (dark ∷ [])
+    ∙ ap (λ ds. dots_at bits from n ++ ds) (replicate_more more dark ∙ ap (λ k. replicate k dark) one)
 
 each_more : (widths : List ℕ) (run : ℕ) → Each (drop 1 widths) → (0 < length widths → 0 < run) → Each (drop 1 (widths ++ run ∷ []))
 each_more [] run each begun = tt
@@ -39,17 +45,48 @@ finished : (widths : List ℕ) (run : ℕ) (dark : Bool) (n : ℕ) (dots : List 
 finished widths run dark n dots h =
     dots_from-push false widths run ∙ ap (λ d. dots_from false widths ++ replicate run d) (sym h.dark_is) ∙ h.joined
 
-other_dot : (widths : List ℕ) (run : ℕ) (dark here : Bool) (n : ℕ) (dots : List Bool) → Cut widths run dark n dots → here ≡ not dark
-    → Cut (widths ++ run ∷ []) 1 here (n + 1) (dots ++ here ∷ [])
-other_dot widths run dark here n dots h e =
-    let count = length-append widths (run ∷ []) in
+-- the first run, which may have no dot
+pub first_run : (bits : List ℕ) (from run : ℕ) → ((k : ℕ) → k < run → dot_at bits (from + k) ≡ false) → Cut [] run false run (dots_at bits from run)
+first_run bits from run h =
+    let zero_more : 0 + run ≡ run = omega arith in
     record {
-      joined = ap (λ ds. ds ++ here ∷ []) (finished widths run dark n dots h);
-      dark_is = e ∙ ap not h.dark_is ∙ sym (colour_more false (length widths)) ∙ ap (colour false) (sym count);
+      joined = sym (subst (λ n. dots_at bits from n ≡ [] ++ replicate run false) zero_more (dots_more bits from 0 run false (λ k some lt. h k (omega arith))));
+      dark_is = refl;
+      each = tt;
+      begun = λ k. absurd (omega arith);
+      total = zero_more;
+    }
+
+-- a run goes on past where the one before it ended
+pub goes_on : (bits : List ℕ) (from n end width : ℕ) (dark : Bool) → n < width → n ≤ end → (n < width → dot_at bits (from + n) ≡ dark)
+    → (end < width → dot_at bits (from + end) ≡ not dark) → n < end
+goes_on bits from n end width dark h le begins ends = elim (cases_lt n end) [
+  | inl lt ↦ lt
+  | inr ge ↦
+      let same : end ≡ n = omega arith in
+      absurd (never dark (sym (begins h) ∙ ap (λ k. dot_at bits (from + k)) (sym same) ∙ ends (omega arith)))
+]
+  where
+    never : (d : Bool) → d ≡ not d → ⊥
+    never true e = cc
+    never false e = cc
+
+-- the next run
+pub next_run : (bits : List ℕ) (from n end : ℕ) (widths all : List ℕ) (run : ℕ) (dark : Bool) → Cut widths run dark n (dots_at bits from n)
+    → all ≡ widths ++ run ∷ [] → n < end → ((k : ℕ) → n ≤ k → k < end → dot_at bits (from + k) ≡ not dark)
+    → Cut all (end - n) (not dark) end (dots_at bits from end)
+next_run bits from n end widths all run dark h same lt alike =
+    let count = length-append widths (run ∷ []) in
+    let whole : n + (end - n) ≡ end = omega arith in
+    let dots : dots_at bits from end ≡ dots_at bits from n ++ replicate (end - n) (not dark) =
+    subst (λ e. dots_at bits from e ≡ dots_at bits from n ++ replicate (end - n) (not dark)) whole (dots_more bits from n (end - n) (not dark) (λ k some less. alike k some (omega arith))) in
+    rw same (record {
+      joined = ap (λ ds. ds ++ replicate (end - n) (not dark)) (finished widths run dark n (dots_at bits from n) h) ∙ sym dots;
+      dark_is = ap not h.dark_is ∙ sym (colour_more false (length widths)) ∙ ap (colour false) (sym count);
       each = each_more widths run h.each h.begun;
       begun = λ k. omega arith;
       total = let t = h.total in omega (arith, sum_by_push (λ x. x) widths run);
-    }
+    })
 
 -- ---- the whole row
 
@@ -97,28 +134,6 @@ ends_dark widths run n dots h few =
       at_most = let t = h.total in omega (arith, sum_by_push (λ x. x) widths run, sum_by_push (λ x. x) all 0);
     } in
     (row, dots_from-push false all 0 ∙ append-nil (dots_from false all) ∙ finished widths run true n dots h)
-
--- ---- as the loop meets them
-
-same_colour : (a b : Bool) → beq a b ≡ true → a ≡ b
-same_colour true true e = refl
-same_colour true false e = sym e
-same_colour false true e = e
-same_colour false false e = refl
-
-other_colour : (a b : Bool) → beq a b ≡ false → a ≡ not b
-other_colour true true e = e
-other_colour true false e = refl
-other_colour false true e = refl
-other_colour false false e = sym e
-
-pub step_same : (widths : List ℕ) (run : ℕ) (dark here : Bool) (n : ℕ) (dots next : List Bool) → Cut widths run dark n dots
-    → beq here dark ≡ true → next ≡ dots ++ here ∷ [] → Cut widths (run + 1) dark (n + 1) next
-step_same widths run dark here n dots next h e is = rw is (same_dot widths run dark here n dots h (same_colour here dark e))
-
-pub step_other : (widths all : List ℕ) (run : ℕ) (dark here : Bool) (n : ℕ) (dots next : List Bool) → Cut widths run dark n dots
-    → beq here dark ≡ false → all ≡ widths ++ run ∷ [] → next ≡ dots ++ here ∷ [] → Cut all 1 here (n + 1) next
-step_other widths all run dark here n dots next h e same is = rw (same, is) (other_dot widths run dark here n dots h (other_colour here dark e))
 
 pub end_light : (widths all : List ℕ) (run : ℕ) (dark : Bool) (n : ℕ) (dots : List Bool) → Cut widths run dark n dots → dark ≡ false → n ≤ 65535
     → all ≡ widths ++ run ∷ [] → IsRowOf all dots

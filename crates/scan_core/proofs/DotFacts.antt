@@ -105,14 +105,6 @@ dots_from-push dark (x ∷ ws) w =
     ap (λ ds. replicate x dark ++ ds) (dots_from-push (not dark) ws w)
     ∙ sym (append_assoc (replicate x dark) (dots_from (not dark) ws) (replicate w (colour (not dark) (length ws))))
 
--- one more dot of the colour
-pub dot_same : (before dots : List Bool) (w : ℕ) (dark here : Bool) → here ≡ dark → before ++ replicate w dark ≡ dots
-    → before ++ replicate (w + 1) dark ≡ dots ++ here ∷ []
-dot_same before dots w dark here same e =
-    ap (λ ds. before ++ ds) (sym (replicate_more w dark))
-    ∙ sym (append_assoc before (replicate w dark) (dark ∷ []))
-    ∙ ap₂ (λ ds d. ds ++ d ∷ []) e (sym same)
-
 -- ---- a row from its other end
 
 same_not : (a b : Bool) → not a ≡ not b → a ≡ b

@@ -4,7 +4,7 @@ use Rattle.scan_core.specs.declared.carrier.Carrier.{Carrier}
 use Rattle.scan_core.specs.declared.fault.RowFault.{RowFault}
 use Rattle.scan_core.specs.declared.stage.Stage.TheVariants as stages
 use Rattle.scan_core.specs.Row.{IsRow, inner}
-use Rattle.scan_core.specs.Showing.{HasForm, IsCandidate, IsQuiet, Rounds, Way, along}
+use Rattle.scan_core.specs.Showing.{HasForm, IsCandidate, IsQuiet, Rounds, Way, along, kind_of}
 use Rattle.scan_core.specs.Showing.Way.{Forwards}
 use Rattle.scan_core.specs.Answers.{Fails, Spells, Tells}
 use Rattle.scan_core.proofs.CandidateFacts.{candidate_dots}
@@ -29,7 +29,7 @@ module _ (runs : List ℕ) (c : Carrier) (N : ℕ) (modules : List ℕ) (candida
         candidate = candidate;
         quiet = quiet;
         rounds = rounds_along way (inner runs) N modules rounds;
-        form = spelled_form c (along way modules) x spells;
+        form = spelled_form (kind_of c) (along way modules) x spells;
       },
       spells,
     )

@@ -16,9 +16,7 @@ use Rattle.code128_code.specs.Texts.{gs1_text, set_of, symbol_text, text_from}
 use Rattle.code128_code.specs.declared.code_set.CodeSet.{CodeSet}
 use Rattle.code128_code.specs.declared.fault.Code128Fault.{Code128Fault}
 use Rattle.code128_code.specs.declared.fault.Code128Fault.TheVariants.{CheckCharacter, NotGs1}
-use Rattle.scan_core.specs.declared.carrier.Carrier.{Carrier}
-use Rattle.scan_core.specs.declared.carrier.Carrier.TheVariants.{Ean13, Ean8, UpcE, Itf14, Gs1128}
-use Rattle.scan_core.specs.Answers.{Spells, SpellsNumber, row_text}
+use Rattle.scan_core.specs.Answers.{SpellsAs, SpellsNumber, row_text}
 
 -- ---- numbers
 
@@ -79,12 +77,9 @@ row_ok : (text : List ℕ) (r : Result (List ℕ) Code128Fault) → Ok text ≡ 
 row_ok text (Ok u) e = cc
 row_ok text (Err f) e = absurd cc
 
-pub content_fits : SaidIsShort → (c : Carrier) (ms text : List ℕ) → Spells c ms (Ok text) → length text ≤ 192
-content_fits law Ean13 ms text a = number_fits KindEan13 ms text a
-content_fits law Ean8 ms text a = number_fits KindEan8 ms text a
-content_fits law UpcE ms text a = number_fits KindUpcE ms text a
-content_fits law Itf14 ms text a = number_fits KindItf14 ms text a
-content_fits law Gs1128 ms text a =
+pub content_fits : SaidIsShort → (kind : Option Kind) (ms text : List ℕ) → SpellsAs kind ms (Ok text) → length text ≤ 192
+content_fits law (Some kind) ms text a = number_fits kind ms text a
+content_fits law None ms text a =
     code_fits law (set_of a.0) a.1 text (a.2 == mod103 a.0 a.1) a.3.few (row_ok text (symbol_text a.0 a.1 a.2) a.4)
 
 -- ---- faults of a text that fits

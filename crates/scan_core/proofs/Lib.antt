@@ -1,3 +1,4 @@
+pub mod AlikeFacts
 pub mod AnswerFacts
 pub mod CandidateFacts
 pub mod ContentFacts

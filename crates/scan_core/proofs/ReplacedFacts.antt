@@ -1,11 +1,10 @@
 -- A symbol with one character replaced is a symbol with a wrong check digit or check character.
-use Rattle.std.proofs.Common.{◌≡◌, ◌≢◌, ℕ, zero, suc, ◌<◌, ◌==◌, Bool, true, false, List, [], ◌∷◌, length, set, Result, Err, refl, ◌∙◌, get_or, arith, if◌then◌else◌}
+use Rattle.std.proofs.Common.{◌≡◌, ◌≢◌, ℕ, zero, suc, ◌<◌, ◌==◌, Bool, true, false, List, [], ◌∷◌, length, set, Some, Result, Err, refl, ◌∙◌, get_or, arith, if◌then◌else◌}
 use Rattle.std.proofs.lemmas.Bool.Decides.{nat_tests}
 use Rattle.std.specs.List.{AllByRecursion}
 use Rattle.std.proofs.lemmas.List.{length-set}
 use Rattle.digits_core.specs.Digits.{AreDigits, IsChecked}
 use Rattle.ean_code.specs.Symbols.{Kind, IsCheckedPlace, IsNumberSymbol, digit_count, widths_of}
-use Rattle.ean_code.specs.Symbols.Kind.{Ean13, Ean8, UpcE, Itf14}
 use Rattle.ean_code.specs.Spelling.{IsGtinOf, IsSpelled}
 use Rattle.ean_code.specs.Laws.{ReplacedIsUnchecked}
 use Rattle.ean_code.specs.declared.reading.Spelled.TheVariants.{BadCheck}
@@ -13,8 +12,9 @@ use Rattle.code128_code.specs.Symbols.{mod103}
 use Rattle.code128_code.specs.Texts.{gs1_text, set_of, symbol_text}
 use Rattle.code128_code.specs.declared.fault.Code128Fault.{Code128Fault}
 use Rattle.code128_code.specs.declared.fault.Code128Fault.TheVariants.{CheckCharacter}
+use Rattle.scan_core.specs.declared.carrier.Carrier.{Carrier}
 use Rattle.scan_core.specs.declared.fault.RowFault.TheVariants.{SymbolCheckDigit, Code128}
-use Rattle.scan_core.specs.Showing.{carrier_of}
+use Rattle.scan_core.specs.Showing.{kind_of}
 use Rattle.scan_core.specs.Answers.{Spells, row_text}
 
 -- a digit put among digits
@@ -23,23 +23,21 @@ each-set P [] k d each new = tt
 each-set P (x ∷ ds) zero d each new = (new, each.1)
 each-set P (x ∷ ds) (suc k) d each new = (each.0, each-set P ds k d each.1 new)
 
-spells_of : (kind : Kind) (modules : List ℕ) → IsSpelled kind modules BadCheck → Spells (carrier_of kind) modules (Err SymbolCheckDigit)
-spells_of Ean13 modules bad = (bad, refl)
-spells_of Ean8 modules bad = (bad, refl)
-spells_of UpcE modules bad = (bad, refl)
-spells_of Itf14 modules bad = (bad, refl)
+spells_of : (carrier : Carrier) (kind : Kind) (modules : List ℕ) → kind_of carrier ≡ Some kind → IsSpelled kind modules BadCheck
+    → Spells carrier modules (Err SymbolCheckDigit)
+spells_of carrier kind modules is bad = rw is (bad, refl)
 
-pub replaced_spells : (kind : Kind) → ReplacedIsUnchecked kind → (digits gtin : List ℕ) (k d : ℕ)
+pub replaced_spells : (carrier : Carrier) (kind : Kind) → kind_of carrier ≡ Some kind → ReplacedIsUnchecked kind → (digits gtin : List ℕ) (k d : ℕ)
     → length digits ≡ digit_count kind → AreDigits digits → IsGtinOf kind digits gtin → IsChecked gtin
     → IsCheckedPlace kind k → d < 10 → d ≢ get_or digits k 0
-    → Spells (carrier_of kind) (widths_of kind (set digits k d)) (Err SymbolCheckDigit)
-replaced_spells kind law digits gtin k d count valid number checked place low other =
+    → Spells carrier (widths_of kind (set digits k d)) (Err SymbolCheckDigit)
+replaced_spells carrier kind is law digits gtin k d count valid number checked place low other =
     let symbol : IsNumberSymbol kind (widths_of kind (set digits k d)) (set digits k d) = record {
       count = length-set digits k d ∙ count;
       valid = each-set (λ x. x < 10) digits k d valid low;
       widths = refl;
     } in
-    spells_of kind (widths_of kind (set digits k d))
+    spells_of carrier kind (widths_of kind (set digits k d)) is
     (set digits k d, symbol, λ g. law digits gtin g k d count valid number checked place low other)
 
 -- ---- Code 128

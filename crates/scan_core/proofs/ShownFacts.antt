@@ -1,15 +1,14 @@
 -- A row shows at most one symbol.
-use Rattle.std.proofs.Common.{◌≡◌, ℕ, ◌+◌, ◌<◌, List, [], ◌∷◌, length, reverse, sum, refl, sym, ap, subst, ◌∙◌, arith, get_or}
+use Rattle.std.proofs.Common.{◌≡◌, ℕ, ◌+◌, ◌<◌, List, [], ◌∷◌, length, reverse, sum, Option, Some, None, refl, sym, ap, subst, ◌∙◌, arith, get_or}
 use Rattle.std.proofs.lemmas.List.{reverse-reverse}
 use Rattle.std.proofs.lemmas.List.Elements.{AllZip-get_or}
 use Rattle.ean_code.specs.Symbols.{Kind}
-use Rattle.ean_code.specs.Symbols.Kind.{Ean13 as KindEan13, Ean8 as KindEan8, UpcE as KindUpcE, Itf14 as KindItf14}
 use Rattle.ean_code.specs.Laws.{OneWay as OneEanWay}
 use Rattle.code128_code.specs.Laws.{Measures as CodeMeasures, OneWay as OneCodeWay}
 use Rattle.scan_core.specs.declared.carrier.Carrier.{Carrier}
 use Rattle.scan_core.specs.declared.carrier.Carrier.TheVariants.{Ean13, Ean8, UpcE, Itf14, Gs1128}
 use Rattle.scan_core.specs.Row.{IsRow, inner}
-use Rattle.scan_core.specs.Showing.{HasForm, IsCandidate, IsRun, Rounds, Shows, Way, along}
+use Rattle.scan_core.specs.Showing.{HasForm, IsCandidate, IsRun, IsSymbol, Rounds, Shows, Way, along, kind_of}
 use Rattle.scan_core.specs.Showing.Way.{Forwards, Backwards}
 use Rattle.scan_core.proofs.CandidateFacts.{candidate_dots}
 use Rattle.scan_core.proofs.OuterBars.{outer_bars}
@@ -31,18 +30,15 @@ code_measures law ms f =
     let m = law f.0 f.2 f.1 ms f.3 in (length f.1 + 2, m.least, m.greatest, m.count, m.total)
 
 module _ (laws : SymbolLaws) where
-  one_form : (c : Carrier) (ms : List ℕ) → HasForm c ms → HasForm c (reverse ms) → ⊥
-  one_form Ean13 ms e f = laws.ean KindEan13 ms e.0 f.0 e.1 f.1
-  one_form Ean8 ms e f = laws.ean KindEan8 ms e.0 f.0 e.1 f.1
-  one_form UpcE ms e f = laws.ean KindUpcE ms e.0 f.0 e.1 f.1
-  one_form Itf14 ms e f = laws.ean KindItf14 ms e.0 f.0 e.1 f.1
-  one_form Gs1128 ms e f = laws.code e.0 f.0 e.2 f.2 e.1 f.1 ms e.3 f.3
+  one_form : (kind : Option Kind) (ms : List ℕ) → IsSymbol kind ms → IsSymbol kind (reverse ms) → ⊥
+  one_form (Some kind) ms e f = laws.ean kind ms e.0 f.0 e.1 f.1
+  one_form None ms e f = laws.code e.0 f.0 e.2 f.2 e.1 f.1 ms e.3 f.3
 
   -- what lies in one way in a row has the form in one way
   one_way : (c : Carrier) (v w : Way) (ms ks : List ℕ) → HasForm c ms → HasForm c ks → along v ms ≡ along w ks → (v ≡ w) × (ms ≡ ks)
   one_way c Forwards Forwards ms ks f g e = (refl, e)
-  one_way c Forwards Backwards ms ks f g e = absurd (one_form c ks g (subst (HasForm c) e f))
-  one_way c Backwards Forwards ms ks f g e = absurd (one_form c ms f (subst (HasForm c) (sym e) g))
+  one_way c Forwards Backwards ms ks f g e = absurd (one_form (kind_of c) ks g (subst (HasForm c) e f))
+  one_way c Backwards Forwards ms ks f g e = absurd (one_form (kind_of c) ms f (subst (HasForm c) (sym e) g))
   one_way c Backwards Backwards ms ks f g e = (refl, sym (reverse-reverse ms) ∙ ap reverse e ∙ reverse-reverse ks)
 
   -- ---- 43 runs: EAN-8 has outer bars of one module, GS1-128 of two

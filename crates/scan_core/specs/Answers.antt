@@ -1,18 +1,16 @@
 -- What a row says.
 -- A row has one answer, and the same when it is turned.
-use Rattle.std.specs.Prelude.{◌≡◌, ℕ, ◌≤◌, true, List, ◌++◌, length, Contains, Result, Ok, Err, codes}
+use Rattle.std.specs.Prelude.{◌≡◌, ℕ, ◌≤◌, true, List, ◌++◌, length, Contains, Option, Some, None, Result, Ok, Err, codes}
 use Rattle.std.specs.List.{AllZip}
 use Rattle.digits_core.specs.Digits.{ascii_of}
 use Rattle.element_core.specs.Elements.{IsElements, FirstFault}
 use Rattle.ean_code.specs.Spelling.{IsSpelled}
 use Rattle.ean_code.specs.Symbols.{Kind}
-use Rattle.ean_code.specs.Symbols.Kind.{Ean13 as KindEan13, Ean8 as KindEan8, UpcE as KindUpcE, Itf14 as KindItf14}
 use Rattle.ean_code.specs.declared.reading.Spelled.TheVariants.{BadCheck, Found}
 use Rattle.code128_code.specs.Symbols.{IsCode128Symbol}
 use Rattle.code128_code.specs.Texts.{symbol_text}
 use Rattle.code128_code.specs.declared.fault.Code128Fault.{Code128Fault}
 use Rattle.scan_core.specs.declared.carrier.Carrier.{Carrier}
-use Rattle.scan_core.specs.declared.carrier.Carrier.TheVariants.{Ean13, Ean8, UpcE, Itf14, Gs1128}
 use Rattle.scan_core.specs.declared.stage.Stage.{Stage}
 use Rattle.scan_core.specs.declared.stage.Stage.TheVariants as stages
 use Rattle.scan_core.specs.declared.fault.RowFault.{RowFault}
@@ -20,7 +18,7 @@ use Rattle.scan_core.specs.declared.fault.RowFault.TheVariants.{Blank, RunCount,
 use Rattle.scan_core.specs.declared.answer.Answer.{Answer}
 use Rattle.scan_core.specs.declared.answer.Answer.TheVariants.{Read, Refused}
 use Rattle.scan_core.specs.Row.{dots_of, inner}
-use Rattle.scan_core.specs.Showing.{HasForm, IsCandidate, IsQuiet, Rounds, Shows, Way, along}
+use Rattle.scan_core.specs.Showing.{HasForm, IsCandidate, IsQuiet, Rounds, Shows, Way, along, kind_of}
 
 -- ---- rows that show no symbol
 
@@ -68,13 +66,14 @@ SpellsText modules content =
     × IsCode128Symbol start values check modules
     × (content ≡ row_text (symbol_text start values check))
 
+-- the symbol of this kind, or else of Code 128, with these modules spells this text, or has this fault
+abbrev pub SpellsAs : Option Kind → List ℕ → Result (List ℕ) RowFault → Type 0
+SpellsAs (Some kind) modules content = SpellsNumber kind modules content
+SpellsAs None modules content = SpellsText modules content
+
 -- the symbol of the carrier with these modules spells this text, or has this fault
 abbrev pub Spells : Carrier → List ℕ → Result (List ℕ) RowFault → Type 0
-Spells Ean13 modules content = SpellsNumber KindEan13 modules content
-Spells Ean8 modules content = SpellsNumber KindEan8 modules content
-Spells UpcE modules content = SpellsNumber KindUpcE modules content
-Spells Itf14 modules content = SpellsNumber KindItf14 modules content
-Spells Gs1128 modules content = SpellsText modules content
+Spells carrier modules content = SpellsAs (kind_of carrier) modules content
 
 -- the row shows a symbol of the carrier, one way or the other, which spells this
 abbrev pub Tells : List ℕ → Carrier → Result (List ℕ) RowFault → Type 0

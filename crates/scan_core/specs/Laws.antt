@@ -1,5 +1,5 @@
 -- Laws about rows.
-use Rattle.std.specs.Prelude.{None, ◌≡◌, ◌≢◌, ◌<◌, ◌≤◌, ◌↔◌, ℕ, Bool, List, length, reverse, sum, slice_index, slice_set}
+use Rattle.std.specs.Prelude.{None, Some, ◌≡◌, ◌≢◌, ◌<◌, ◌≤◌, ◌↔◌, ℕ, Bool, List, length, reverse, sum, slice_index, slice_set}
 use Rattle.digits_core.specs.Digits.{AreDigits, IsChecked}
 use Rattle.ean_code.specs.Spelling.{IsGtinOf}
 use Rattle.ean_code.specs.Symbols.{Kind, IsCheckedPlace, digit_count, widths_of}
@@ -12,7 +12,7 @@ use Rattle.scan_core.specs.declared.fault.RowFault.TheVariants.{SymbolCheckDigit
 use Rattle.scan_core.specs.declared.answer.Answer.{Answer}
 use Rattle.scan_core.specs.declared.answer.Answer.TheVariants.{Refused}
 use Rattle.scan_core.specs.Row.{IsRow, dots_of, runs_fault}
-use Rattle.scan_core.specs.Showing.{HasForm, IsCandidate, Shows, Way, carrier_of}
+use Rattle.scan_core.specs.Showing.{HasForm, IsCandidate, Shows, Way, kind_of}
 use Rattle.scan_core.specs.Answers.{IsAnswer}
 
 -- a row shows at most one symbol, and reads as it in one way
@@ -37,8 +37,9 @@ TurnedRow =
 -- a row that shows a number's symbol with one character at a checked place replaced by another of its number set is refused for its check digit
 abbrev pub ReplacementIsNoticed : Type 0
 ReplacementIsNoticed =
-    (kind : Kind) (digits gtin runs : List ℕ) (k d year : ℕ) (way : Way)
+    (carrier : Carrier) (kind : Kind) (digits gtin runs : List ℕ) (k d year : ℕ) (way : Way)
     → IsRow runs
+    → kind_of carrier ≡ Some kind
     → length digits ≡ digit_count kind
     → AreDigits digits
     → IsGtinOf kind digits gtin
@@ -46,7 +47,7 @@ ReplacementIsNoticed =
     → IsCheckedPlace kind k
     → d < 10
     → d ≢ slice_index digits k
-    → Shows runs (carrier_of kind) way (widths_of kind (slice_set digits k d))
+    → Shows runs carrier way (widths_of kind (slice_set digits k d))
     → IsAnswer runs year (Refused SymbolCheckDigit)
 
 -- a row that shows a Code 128 symbol whose check character was right, with one start, data or check character replaced by another, is refused for

@@ -1,7 +1,7 @@
 -- The symbol that a row shows (ISO/IEC 15420, 16390 and 15417; GS1 General Specifications, section 5).
-use Rattle.std.specs.Prelude.{◌≡◌, ℕ, ◌+◌, ◌-◌, ◌*◌, ◌≤◌, List, length, reverse, sum, slice_index}
+use Rattle.std.specs.Prelude.{◌≡◌, ℕ, ◌+◌, ◌-◌, ◌*◌, ◌≤◌, List, Option, Some, None, length, reverse, sum, slice_index}
 use Rattle.std.specs.List.{AllZip}
-use Rattle.ean_code.specs.Symbols.{IsNumberSymbol, Kind}
+use Rattle.ean_code.specs.Symbols.{IsNumberSymbol, Kind, module_count, width_count}
 use Rattle.ean_code.specs.Symbols.Kind.{Ean13 as KindEan13, Ean8 as KindEan8, UpcE as KindUpcE, Itf14 as KindItf14}
 use Rattle.code128_code.specs.Symbols.{IsCode128Symbol}
 use Rattle.scan_core.specs.declared.carrier.Carrier.{Carrier}
@@ -27,28 +27,31 @@ pub record IsQuiet (runs : List ℕ) (N : ℕ) : Type 0 where
   pub left : 5 * sum (inner runs) ≤ slice_index runs 0 * N
   pub right : 5 * sum (inner runs) ≤ slice_index runs (length runs - 1) * N
 
--- a symbol of the carrier has n runs and is N modules wide; one of GS1-128 has k start, data and check characters
-abbrev pub IsCandidate : Carrier → ℕ → ℕ → Type 0
-IsCandidate Ean13 n N = (n ≡ 59) × (N ≡ 95)
-IsCandidate Ean8 n N = (n ≡ 43) × (N ≡ 67)
-IsCandidate UpcE n N = (n ≡ 33) × (N ≡ 51)
-IsCandidate Itf14 n N = (n ≡ 77) × (N ≡ 135)
-IsCandidate Gs1128 n N = (k : ℕ) × (3 ≤ k) × (k ≤ 98) × (n ≡ 6 * k + 7) × (N ≡ 11 * k + 13)
+-- the kind of the carrier's symbols, if they show a number
+abbrev pub kind_of : Carrier → Option Kind
+kind_of Ean13 = Some KindEan13
+kind_of Ean8 = Some KindEan8
+kind_of UpcE = Some KindUpcE
+kind_of Itf14 = Some KindItf14
+kind_of Gs1128 = None
 
--- the carrier of the symbols of this kind
-abbrev pub carrier_of : Kind → Carrier
-carrier_of KindEan13 = Ean13
-carrier_of KindEan8 = Ean8
-carrier_of KindUpcE = UpcE
-carrier_of KindItf14 = Itf14
+-- a symbol of this kind, or else of Code 128, has n runs and is N modules wide; one of Code 128 has k start, data and check characters
+abbrev pub HasSize : Option Kind → ℕ → ℕ → Type 0
+HasSize (Some kind) n N = (n ≡ width_count kind) × (N ≡ module_count kind)
+HasSize None n N = (k : ℕ) × (3 ≤ k) × (k ≤ 98) × (n ≡ 6 * k + 7) × (N ≡ 11 * k + 13)
+
+-- a symbol of the carrier has n runs and is N modules wide
+abbrev pub IsCandidate : Carrier → ℕ → ℕ → Type 0
+IsCandidate carrier n N = HasSize (kind_of carrier) n N
+
+-- the modules are a symbol of this kind, or else of Code 128
+abbrev pub IsSymbol : Option Kind → List ℕ → Type 0
+IsSymbol (Some kind) modules = (digits : List ℕ) × IsNumberSymbol kind modules digits
+IsSymbol None modules = (start : ℕ) × (values : List ℕ) × (check : ℕ) × IsCode128Symbol start values check modules
 
 -- the modules are a symbol of the carrier
 abbrev pub HasForm : Carrier → List ℕ → Type 0
-HasForm Ean13 modules = (digits : List ℕ) × IsNumberSymbol KindEan13 modules digits
-HasForm Ean8 modules = (digits : List ℕ) × IsNumberSymbol KindEan8 modules digits
-HasForm UpcE modules = (digits : List ℕ) × IsNumberSymbol KindUpcE modules digits
-HasForm Itf14 modules = (digits : List ℕ) × IsNumberSymbol KindItf14 modules digits
-HasForm Gs1128 modules = (start : ℕ) × (values : List ℕ) × (check : ℕ) × IsCode128Symbol start values check modules
+HasForm carrier modules = IsSymbol (kind_of carrier) modules
 
 -- from left to right, or from right to left
 pub data Way : Type 0 where

@@ -6,8 +6,8 @@ ghost use Rattle.scan_core.specs.FirstRuns.{AreFirst, IsLongRow};
 ghost use Rattle.scan_core.specs.Row.{IsRow, dots_of};
 
 use crate::answer::{Answer, answer_of};
+use crate::bits::run_end;
 use crate::fault::RowFault;
-use crate::runs::is_dark;
 use arrayvec::ArrayVec;
 use element_core::Year;
 
@@ -46,16 +46,15 @@ fn few_runs(bits: &[u8], width: u16) -> Option<ArrayVec<u16, MOST>>
         more: false,
     };
     let mut dark = false;
-    let mut run = 0u16;
-    for k in 0..usize::from(width) {
-        let here = is_dark(bits, 0, k);
-        if here == dark {
-            run += 1;
-        } else {
-            first.push(run);
-            dark = here;
-            run = 1;
-        }
+    let count = usize::from(width);
+    let mut end = run_end(bits, 0, 0, count, dark);
+    let mut run = end as u16;
+    'runs: while end < count {
+        first.push(run);
+        dark = !dark;
+        let start = end;
+        end = run_end(bits, 0, start, count, dark);
+        run = (end - start) as u16;
     }
     first.push(run);
     if dark {

@@ -3,6 +3,7 @@
 #![tactic(auto)]
 
 mod answer;
+mod bits;
 mod carrier;
 mod dots;
 mod fault;

@@ -1,9 +1,10 @@
 //! Rows of dots.
 ghost use Rattle.std.specs.Prelude.{Err, None, Some, ◌≡◌, ◌≢◌, ◌<◌, ◌≤◌, ◌+◌, ◌*◌, ◌↔◌, IfErr, IfOk, IsErrOf, IsTrue, OnOk, length, nat_le, reverse, sum};
 ghost use Rattle.std.specs.List.{list_all};
-ghost use Rattle.scan_core.specs.Bits.{dot_at, dots_at};
+ghost use Rattle.scan_core.specs.Bits.{dots_at};
 ghost use Rattle.scan_core.specs.Row.{IsRow, dots_of, inner, runs_fault};
 
+use crate::bits::run_end;
 use crate::fault::RunFault;
 use std::alloc::Global;
 use std::marker::Model;
@@ -14,6 +15,9 @@ const MOST_DOTS: u32 = 65_535;
 /// The runs of a row that has this many dots and a light end of no dot on each side: a row has no
 /// more.
 const MOST_RUNS: usize = 65_537;
+
+/// Memory for so many runs at most is taken before a row is cut: most symbols have fewer.
+const MANY_RUNS: usize = 64;
 
 /// A row: the widths of its runs in dots, light and dark in turn, from the light end at its left to
 /// the one at its right. An end may be 0, each run between has a dot, and the row at most 65,535.
@@ -80,17 +84,6 @@ pub(crate) fn runs_fault(widths: &[u16]) -> Option<RunFault>
     None
 }
 
-/// Whether the dot `k` dots after `from` is dark, in bytes that each have their first dot in the
-/// high bit.
-pub(crate) fn is_dark(bits: &[u8], from: usize, k: usize) -> bool
-    requires within { from + k < 8 * length bits.now }
-    requires few { k ≤ 65535 }
-    ensures { result ≡ dot_at bits.now (from + k) }
-{
-    let first = from % 8 + k;
-    (bits[from / 8 + first / 8] >> (7 - first % 8)) % 2 == 1
-}
-
 impl Runs {
     /// The row of these widths in dots, the first and the last light.
     ///
@@ -129,7 +122,7 @@ impl Runs {
     /// its high bit, and 1 is dark.
     ///
     /// A row of more than 65,535 dots is `TooWide`, before any memory is taken; else only memory can
-    /// be wanting.
+    /// be refused.
     pub fn cut(alloc: Global, bits: &[u8], from: usize, width: usize) -> Result<Runs, RunFault>
         requires { from + width ≤ 8 * length bits.now }
         ensures dots { IfOk result (λ r. dots_of r ≡ dots_at bits.now from width) }
@@ -140,18 +133,18 @@ impl Runs {
         if width > MOST_DOTS as usize {
             return Err(RunFault::TooWide);
         }
-        let mut widths = Vec::new(alloc);
+        let Ok(mut widths) = Vec::with_capacity(alloc, MANY_RUNS.min(width + 2)) else {
+            return Err(RunFault::NoMemory);
+        };
         let mut dark = false;
-        let mut run = 0u16;
-        for k in 0..width {
-            let here = is_dark(bits, from, k);
-            if here == dark {
-                run += 1;
-            } else {
-                widths.push(run)?;
-                dark = here;
-                run = 1;
-            }
+        let mut end = run_end(bits, from, 0, width, dark);
+        let mut run = end as u16;
+        'runs: while end < width {
+            widths.push(run)?;
+            dark = !dark;
+            let start = end;
+            end = run_end(bits, from, start, width, dark);
+            run = (end - start) as u16;
         }
         widths.push(run)?;
         if dark {

@@ -1,33 +1,16 @@
 -- A bar row of a cell, as runs.
-use Rattle.std.proofs.Common.{◌≡◌, ℕ, zero, suc, ◌+◌, ◌-◌, ◌*◌, ◌/◌, ◌%◌, ◌<◌, ◌≤◌, ◌&&◌, Bool, true, false, not, List, [], ◌∷◌, ◌++◌, length, map, sum, replicate, refl, sym, ap, ap₂, ◌∙◌, inl, inr, get_or, add-one, arith}
+use Rattle.std.proofs.Common.{◌≡◌, ℕ, zero, suc, ◌+◌, ◌-◌, ◌*◌, ◌/◌, ◌%◌, ◌<◌, ◌≤◌, ◌&&◌, Bool, true, false, not, List, [], ◌∷◌, ◌++◌, length, map, sum, replicate, refl, sym, ap, ap₂, ◌∙◌, inl, inr, get_or, arith}
 use Rattle.std.proofs.Math.Nat.{mul-add-div}
 use Rattle.std.proofs.lemmas.Bool.{cases_lt, le-leb, lt-leb}
 use Rattle.std.proofs.lemmas.Nat.{div_below}
-use Rattle.std.proofs.lemmas.List.{append_assoc, append-nil, length-append, length-replicate, length-map, get_or_append_left, get_or-append_right, get_or-replicate, ext_get_or, get_or_past}
+use Rattle.std.proofs.lemmas.List.{length-append, length-replicate, length-map, get_or_append_left, get_or-append_right, get_or-replicate, ext_get_or, get_or_past}
 use Rattle.std.proofs.lemmas.List.Sums.{sum_by_push, sum_by-cons}
 use Rattle.std.proofs.lemmas.List.FromFn.{length-map-range_with_len, get_or-map-range_with_len}
 use Rattle.scan_core.specs.Row.{dots_from, dots_of}
+pub use Rattle.scan_core.proofs.DotFacts.{colour, colour_more, dots_from-push}
 use Rattle.sheet_core.specs.Drawing.{bar_dot, bar_dots}
 use Rattle.sheet_core.specs.Grids.{Cells}
 use Rattle.sheet_core.specs.Labels.{Drawn, FitsCell}
-
--- the colour of a run, by how many come before it
-abbrev pub colour : Bool → ℕ → Bool
-colour dark zero = dark
-colour dark (suc n) = colour (not dark) n
-
-colour_turns : (dark : Bool) (n : ℕ) → colour (not dark) n ≡ not (colour dark n)
-colour_turns dark zero = refl
-colour_turns dark (suc n) = colour_turns (not dark) n
-
-pub colour_more : (dark : Bool) (n : ℕ) → colour dark (n + 1) ≡ not (colour dark n)
-colour_more dark n = rw add-one (colour_turns dark n)
-
-pub dots_from-push : (dark : Bool) (ws : List ℕ) (w : ℕ) → dots_from dark (ws ++ w ∷ []) ≡ dots_from dark ws ++ replicate w (colour dark (length ws))
-dots_from-push dark [] w = append-nil (replicate w dark)
-dots_from-push dark (x ∷ ws) w =
-    ap (λ ds. replicate x dark ++ ds) (dots_from-push (not dark) ws w)
-    ∙ sym (append_assoc (replicate x dark) (dots_from (not dark) ws) (replicate w (colour (not dark) (length ws))))
 
 -- the runs of a bar row of a cell
 abbrev pub cell_runs : Cells → Drawn → List ℕ

@@ -1,7 +1,7 @@
 -- Bytes that are put into a buffer one after the other.
 use Rattle.std.proofs.Common.{◌≡◌, ◌∙◌, ◌+◌, ◌-◌, ◌*◌, ◌<◌, ◌≤◌, ℕ, List, ◌++◌, ap, ap₂, append_assoc, arith, length, length-append, replicate, sym}
 use Rattle.digits_core.specs.Buffers.{pasted}
-use Rattle.element_core.proofs.Pasted.{length-pasted, pasted_more}
+use Rattle.digits_core.proofs.Pasted.{length-pasted, pasted_more}
 use Rattle.sheet_core.specs.Grids.{Cells, IsGrid}
 use Rattle.sheet_core.specs.Lines.{band, rows_of}
 use Rattle.sheet_core.proofs.BandFacts.{band_long, length-rows, rows_more}

@@ -1,46 +1,12 @@
 -- The widths of symbols are 1 to 4 modules.
-use Rattle.std.proofs.Common.{◌≡◌, ℕ, zero, suc, ◌*◌, ◌<◌, ◌≤◌, Bool, true, ◌&&◌, nat_le, List, [], ◌∷◌, ◌++◌, length, sum, take, drop, refl, sym, ap, subst, ◌∙◌, inl, inr, arith}
-use Rattle.std.specs.List.{flat_map, list_all, AllByRecursion}
-use Rattle.std.proofs.lemmas.Bool.{and_parts, cases_eq, leb-true}
+use Rattle.std.proofs.Common.{◌≡◌, ℕ, ◌*◌, ◌<◌, ◌≤◌, true, List, [], ◌∷◌, ◌++◌, length, sum, refl, sym, subst, arith}
+use Rattle.std.specs.List.{flat_map, AllByRecursion}
 use Rattle.std.proofs.lemmas.List.Sums.{sum_by-cons}
 use Rattle.ean_code.specs.Widths.{AreWidths}
+use Rattle.ean_code.proofs.Widths.{AreWidths-from, are_widths}
+pub use Rattle.ean_code.proofs.Cells.{AllByRecursion-append, AllByRecursion-drop, AllByRecursion-take, all_below, all_below-at}
 use Rattle.code128_code.specs.Characters.{pattern, patterns, stop}
 use Rattle.code128_code.specs.Symbols.{IsCode128Symbol, characters_of}
-
--- the test passes at each number below n
-abbrev pub all_below : (ℕ → Bool) → ℕ → Bool
-all_below p zero = true
-all_below p (suc n) = p n && all_below p n
-
-pub all_below-at : (p : ℕ → Bool) (n : ℕ) → all_below p n ≡ true → (i : ℕ) → i < n → p i ≡ true
-all_below-at p zero e i h = absurd (omega arith)
-all_below-at p (suc n) e i h =
-    let parts = and_parts (p n) (all_below p n) e in
-    elim (cases_eq i n) [ inl same ↦ ap p same ∙ parts.0 | inr other ↦ all_below-at p n parts.1 i (omega arith) ]
-
-pub AllByRecursion-append : {X : Type 0} (P : X → Type 0) (xs ys : List X) → AllByRecursion P xs → AllByRecursion P ys → AllByRecursion P (xs ++ ys)
-AllByRecursion-append P [] ys h k = k
-AllByRecursion-append P (x ∷ xs) ys h k = (h.0, AllByRecursion-append P xs ys h.1 k)
-
-pub AllByRecursion-take : {X : Type 0} (P : X → Type 0) (n : ℕ) (xs : List X) → AllByRecursion P xs → AllByRecursion P (take n xs)
-AllByRecursion-take P zero xs h = tt
-AllByRecursion-take P (suc n) [] h = tt
-AllByRecursion-take P (suc n) (x ∷ xs) h = (h.0, AllByRecursion-take P n xs h.1)
-
-pub AllByRecursion-drop : {X : Type 0} (P : X → Type 0) (n : ℕ) (xs : List X) → AllByRecursion P xs → AllByRecursion P (drop n xs)
-AllByRecursion-drop P zero xs h = h
-AllByRecursion-drop P (suc n) [] h = tt
-AllByRecursion-drop P (suc n) (x ∷ xs) h = AllByRecursion-drop P n xs h.1
-
-abbrev are_widths : List ℕ → Bool
-are_widths ws = list_all (λ w. nat_le 1 w && nat_le w 4) ws
-
-AreWidths-from : (ws : List ℕ) → are_widths ws ≡ true → AreWidths ws
-AreWidths-from [] h = tt
-AreWidths-from (w ∷ ws) h =
-    let parts = and_parts (nat_le 1 w && nat_le w 4) (are_widths ws) h in
-    let both = and_parts (nat_le 1 w) (nat_le w 4) parts.0 in
-    ((leb-true 1 w both.0, leb-true w 4 both.1), AreWidths-from ws parts.1)
 
 -- cells of widths, joined
 each : {X : Type 0} (P : X → Type 0) (cell : X → List ℕ) → ((x : X) → P x → AreWidths (cell x)) → (xs : List X) → AllByRecursion P xs → AreWidths (flat_map cell xs)

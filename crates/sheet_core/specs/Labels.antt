@@ -9,14 +9,29 @@ use Rattle.code128_code.specs.Coding.{data_values}
 use Rattle.code128_code.specs.Symbols.{IsCode128Symbol, mod103}
 use Rattle.code128_code.specs.Texts.{IsGs1Symbol}
 use Rattle.scan_core.specs.declared.carrier.Carrier.{Carrier}
-use Rattle.scan_core.specs.declared.carrier.Carrier.TheVariants.{Ean13 as CarrierEan13, Ean8 as CarrierEan8, UpcE as CarrierUpcE, Itf14 as CarrierItf14, Gs1128 as CarrierGs1128}
+use Rattle.sheet_core.specs.declared.kind.GtinKind.{GtinKind}
+use Rattle.sheet_core.specs.declared.kind.GtinKind.TheVariants as kind
+use Rattle.sheet_core.specs.declared.kind.LabelKind.{LabelKind}
+use Rattle.sheet_core.specs.declared.kind.LabelKind.TheVariants.{Gtin, Gs1128 as KindGs1128}
+use Rattle.sheet_core.specs.declared.label.Content.{Content as Lent}
+use Rattle.sheet_core.specs.declared.label.Content.TheVariants.{Gtin as LentGtin, Elements as LentElements}
 use Rattle.sheet_core.specs.declared.label.Label.{Label}
 use Rattle.sheet_core.specs.declared.label.Label.TheVariants.{Ean13, UpcA, Ean8, UpcE, Itf14, Gs1128}
 use Rattle.sheet_core.specs.Grids.{Cells}
+use Rattle.sheet_core.specs.Kinds.{form_of}
 
 -- the element string of a GTIN: Application Identifier 01 and its 14 digits
 abbrev pub gtin_text : List ℕ → List ℕ
 gtin_text gtin = codes "01" ++ ascii_of gtin
+
+-- the kind of a label
+abbrev pub kind_of : Label → LabelKind
+kind_of (Ean13 gtin) = Gtin kind.Ean13
+kind_of (UpcA gtin) = Gtin kind.UpcA
+kind_of (Ean8 gtin) = Gtin kind.Ean8
+kind_of (UpcE gtin) = Gtin kind.UpcE
+kind_of (Itf14 gtin) = Gtin kind.Itf14
+kind_of (Gs1128 listing) = KindGs1128
 
 -- what a label says: the element of a GTIN, or a list of elements
 pub data Content : Type 0 where
@@ -32,6 +47,19 @@ content_of (UpcE gtin) = OfGtin gtin
 content_of (Itf14 gtin) = OfGtin gtin
 content_of (Gs1128 listing) = OfElements listing
 
+-- the label of a GTIN
+abbrev pub gtin_label : GtinKind → List ℕ → Label
+gtin_label kind.Ean13 gtin = Ean13 gtin
+gtin_label kind.UpcA gtin = UpcA gtin
+gtin_label kind.Ean8 gtin = Ean8 gtin
+gtin_label kind.UpcE gtin = UpcE gtin
+gtin_label kind.Itf14 gtin = Itf14 gtin
+
+-- the content that is lent
+abbrev pub lent : Lent → Content
+lent (LentGtin gtin) = OfGtin gtin.now
+lent (LentElements elements) = OfElements elements.now
+
 -- a content as an element string
 abbrev pub content_text : Content → List ℕ
 content_text (OfGtin gtin) = gtin_text gtin
@@ -46,25 +74,9 @@ content_list (OfElements listing) = listing.list
 abbrev pub label_text : Label → List ℕ
 label_text label = content_text (content_of label)
 
--- a kind of label: its name, the carrier that its symbol is read as, and the nominal quiet zones left and right of the symbol, in modules
-pub record Form : Type 0 where
-  pub name : List ℕ
-  pub carrier : Carrier
-  pub quiet_left : ℕ
-  pub quiet_right : ℕ
-
--- the table of kinds
-abbrev pub form_of : Label → Form
-form_of (Ean13 gtin) = record { name = codes "ean13"; carrier = CarrierEan13; quiet_left = 11; quiet_right = 7 }
-form_of (UpcA gtin) = record { name = codes "upca"; carrier = CarrierEan13; quiet_left = 9; quiet_right = 9 }
-form_of (Ean8 gtin) = record { name = codes "ean8"; carrier = CarrierEan8; quiet_left = 7; quiet_right = 7 }
-form_of (UpcE gtin) = record { name = codes "upce"; carrier = CarrierUpcE; quiet_left = 9; quiet_right = 7 }
-form_of (Itf14 gtin) = record { name = codes "itf14"; carrier = CarrierItf14; quiet_left = 10; quiet_right = 10 }
-form_of (Gs1128 listing) = record { name = codes "gs1128"; carrier = CarrierGs1128; quiet_left = 10; quiet_right = 10 }
-
 -- the carrier that its symbol is read as
 abbrev pub carrier_of : Label → Carrier
-carrier_of label = (form_of label).carrier
+carrier_of label = (form_of (kind_of label)).carrier
 
 -- the modules are the GS1-128 symbol that is printed for a text of at most 48 characters: start character C, the values of the text by the
 -- encoding rule, and the check character
@@ -91,8 +103,8 @@ pub record Drawn : Type 0 where
 -- this is what is drawn of the label
 pub record IsDrawn (label : Label) (s : Drawn) : Type 0 where
   pub symbol : IsLabelSymbol label s.modules
-  pub left : s.quiet_left ≡ (form_of label).quiet_left
-  pub right : s.quiet_right ≡ (form_of label).quiet_right
+  pub left : s.quiet_left ≡ (form_of (kind_of label)).quiet_left
+  pub right : s.quiet_right ≡ (form_of (kind_of label)).quiet_right
 
 -- a symbol and its quiet zones in dots are at most as wide as a cell
 abbrev pub FitsCell : Cells → Drawn → Type 0

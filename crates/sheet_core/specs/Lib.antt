@@ -4,6 +4,7 @@ pub mod Bitmaps
 pub mod Drawing
 pub mod Faults
 pub mod Grids
+pub mod Kinds
 pub mod Labels
 pub mod Laws
 pub mod Lines

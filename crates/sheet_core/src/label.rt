@@ -5,8 +5,9 @@ ghost use Rattle.ean_code.specs.Spelling.{IsSpelled};
 ghost use Rattle.ean_code.specs.Symbols.Kind.{Ean13, Ean8, Itf14};
 ghost use Rattle.ean_code.specs.declared.reading.Spelled.TheVariants.{Found};
 ghost use Rattle.element_core.specs.Elements.{canonical};
-ghost use Rattle.sheet_core.specs.Labels.{Drawn, IsDrawn, IsLabelSymbol, IsPrintedGs1128, carrier_of, form_of, gtin_text, label_text};
+ghost use Rattle.sheet_core.specs.Labels.{Drawn, IsDrawn, IsLabelSymbol, IsPrintedGs1128, carrier_of, content_of, gtin_label, gtin_text, kind_of, label_text, lent};
 
+use crate::kind::{GtinKind, LabelKind};
 use crate::symbol::Symbol;
 use code128_code::encode;
 use digits_core::Gtin;
@@ -31,33 +32,13 @@ pub enum Label {
     Gs1128(Elements),
 }
 
-/// A kind of label.
-#[derive(Clone, Copy, Debug)]
-pub struct Form {
-    /// Its name.
-    pub name: &'static str,
-    /// The carrier that its symbol is read as.
-    pub carrier: Carrier,
-    /// The nominal quiet zone left of the symbol, in modules.
-    pub quiet_left: u8,
-    /// The nominal quiet zone right of the symbol, in modules.
-    pub quiet_right: u8,
-}
-
-impl Form {
-    fn new(name: &'static str, carrier: Carrier, quiet_left: u8, quiet_right: u8) -> Form
-        ensures name { result.name.now ≡ name.now }
-        ensures carrier { result.carrier ≡ carrier }
-        ensures left { result.quiet_left ≡ quiet_left }
-        ensures right { result.quiet_right ≡ quiet_right }
-    {
-        Form {
-            name,
-            carrier,
-            quiet_left,
-            quiet_right,
-        }
-    }
+/// What a label says.
+#[derive(Clone, Copy)]
+pub enum Content<'a> {
+    /// The element of a GTIN.
+    Gtin(&'a Gtin),
+    /// Elements.
+    Elements(&'a Elements),
 }
 
 /// The element string of a GTIN.
@@ -122,36 +103,54 @@ fn gs1128(elements: &Elements) -> Option<Modules>
 }
 
 impl Label {
-    /// What the label says, as an element string (GS1 General Specifications, section 7.8).
-    pub fn text(&self) -> Text
-        ensures { result.items ≡ label_text self.now }
+    /// The label of a GTIN.
+    pub fn of_gtin(kind: GtinKind, gtin: Gtin) -> Label
+        ensures { result ≡ gtin_label kind gtin }
+    {
+        match kind {
+            GtinKind::Ean13 => Label::Ean13(gtin),
+            GtinKind::UpcA => Label::UpcA(gtin),
+            GtinKind::Ean8 => Label::Ean8(gtin),
+            GtinKind::UpcE => Label::UpcE(gtin),
+            GtinKind::Itf14 => Label::Itf14(gtin),
+        }
+    }
+
+    /// Its kind.
+    pub fn kind(&self) -> LabelKind
+        ensures { result ≡ kind_of self.now }
+    {
+        match self {
+            Label::Ean13(_) => LabelKind::Gtin(GtinKind::Ean13),
+            Label::UpcA(_) => LabelKind::Gtin(GtinKind::UpcA),
+            Label::Ean8(_) => LabelKind::Gtin(GtinKind::Ean8),
+            Label::UpcE(_) => LabelKind::Gtin(GtinKind::UpcE),
+            Label::Itf14(_) => LabelKind::Gtin(GtinKind::Itf14),
+            Label::Gs1128(_) => LabelKind::Gs1128,
+        }
+    }
+
+    /// What it says.
+    pub fn content(&self) -> Content<'_>
+        ensures { lent result ≡ content_of self.now }
     {
         match self {
             Label::Ean13(gtin)
             | Label::UpcA(gtin)
             | Label::Ean8(gtin)
             | Label::UpcE(gtin)
-            | Label::Itf14(gtin) => gtin_text(gtin),
-            Label::Gs1128(elements) => elements.text(),
+            | Label::Itf14(gtin) => Content::Gtin(gtin),
+            Label::Gs1128(elements) => Content::Elements(elements),
         }
     }
 
-    /// Its kind: the name, the carrier and the nominal quiet zones (GS1 General Specifications,
-    /// sections 5.2 to 5.4).
-    pub fn form(&self) -> Form
-        ensures name { result.name.now ≡ (form_of self.now).name }
-        ensures carrier { result.carrier ≡ (form_of self.now).carrier }
-        ensures left { result.quiet_left ≡ (form_of self.now).quiet_left }
-        ensures right { result.quiet_right ≡ (form_of self.now).quiet_right }
-        ensures few { (result.quiet_left ≤ 11) × (result.quiet_right ≤ 11) }
+    /// What the label says, as an element string (GS1 General Specifications, section 7.8).
+    pub fn text(&self) -> Text
+        ensures { result.items ≡ label_text self.now }
     {
-        match self {
-            Label::Ean13(_) => Form::new("ean13", Carrier::Ean13, 11, 7),
-            Label::UpcA(_) => Form::new("upca", Carrier::Ean13, 9, 9),
-            Label::Ean8(_) => Form::new("ean8", Carrier::Ean8, 7, 7),
-            Label::UpcE(_) => Form::new("upce", Carrier::UpcE, 9, 7),
-            Label::Itf14(_) => Form::new("itf14", Carrier::Itf14, 10, 10),
-            Label::Gs1128(_) => Form::new("gs1128", Carrier::Gs1128, 10, 10),
+        match self.content() {
+            Content::Gtin(gtin) => gtin_text(gtin),
+            Content::Elements(elements) => elements.text(),
         }
     }
 
@@ -159,7 +158,7 @@ impl Label {
     pub fn carrier(&self) -> Carrier
         ensures { result ≡ carrier_of self.now }
     {
-        self.form().carrier
+        self.kind().form().carrier
     }
 
     /// The modules of the label's symbol, if it has one.
@@ -185,7 +184,7 @@ impl Label {
         let Some(modules) = self.modules() else {
             return None;
         };
-        let form = self.form();
+        let form = self.kind().form();
         Some(Symbol {
             modules,
             quiet_left: form.quiet_left,

@@ -12,20 +12,10 @@ use crate::label::Label;
 use crate::line::{draw_line, light_line};
 use crate::pbm::write::header;
 use crate::print::check_labels;
+use digits_core::put_at;
 use std::slice;
 
-/// Puts bytes into `out` from `at` on, and says where they end.
-fn put_at(bytes: &[u8], at: usize, out: &mut [u8]) -> usize
-    requires { at + length bytes.now ≤ length out.old }
-    ensures end { result ≡ at + length bytes.now }
-    ensures put { out.new ≡ pasted out.old at bytes.now }
-{
-    let end = at + bytes.len();
-    out[at..end].copy_from_slice(bytes);
-    end
-}
-
-/// The same of a row of dots so many times.
+/// Puts a row of dots into `out` so many times from `at` on, and says where the last ends.
 fn put_rows(line: &[u8], count: u16, at: usize, out: &mut [u8]) -> usize
     requires { at + count * length line.now ≤ length out.old }
     ensures end { result ≡ at + length (rows_of count line.now) }

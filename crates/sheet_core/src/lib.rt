@@ -3,6 +3,7 @@
 
 mod fault;
 mod grid;
+mod kind;
 mod label;
 mod label_image;
 mod laws;
@@ -14,7 +15,8 @@ mod symbol;
 
 pub use fault::{BadGrid, NoMemory, PbmFault, PrintFault, SheetFault, WriteFault};
 pub use grid::Grid;
-pub use label::{Form, Label};
+pub use kind::{Form, GtinKind, LabelKind};
+pub use label::{Content, Label};
 pub use label_image::label_pbm;
 pub use laws::{
     bar_rows_answer, bar_rows_show, empty_cells_are_blank, files_are_read, files_are_refused,

@@ -73,7 +73,7 @@ impl Sheet {
         }
     }
 
-    /// The runs of row `y`. Only memory can be wanting.
+    /// The runs of row `y`. Only memory can be refused.
     pub fn row(&self, alloc: Global, y: u16) -> Result<Runs, NoMemory>
         requires { y < self.now.height }
         ensures dots { IfOk result (λ r. dots_of r ≡ dots_in self.now 0 y self.now.width) }
@@ -82,7 +82,7 @@ impl Sheet {
     }
 
     /// The runs of row `y` of a cell of a sheet that has the grid's size, `y` counted from the cell's top
-    /// and cells row by row from the top left. Only memory can be wanting.
+    /// and cells row by row from the top left. Only memory can be refused.
     pub fn cell_row(&self, alloc: Global, grid: &Grid, cell: u16, y: u16) -> Result<Runs, NoMemory>
         requires wide { self.now.width ≡ grid.now.columns * grid.now.width }
         requires high { self.now.height ≡ grid.now.rows * grid.now.height }

@@ -3,12 +3,16 @@ ghost use Rattle.std.specs.Prelude.{[], ◌≡◌, ◌≤◌, ◌∷◌, ◌++�
 ghost use Rattle.std.specs.List.{AllZip, concat};
 ghost use Rattle.scan_core.specs.Lines.{answer_text};
 ghost use Rattle.scan_core.specs.declared.answer.Answer.{Answer};
+ghost use Rattle.lane_core.specs.Plain.{plain_of};
 ghost use Rattle.hub_core.specs.Laws.{AreAnswersOf};
+ghost use Rattle.line_core.specs.answers.Places.{HasPlaces, woven, woven_each};
 ghost use Rattle.line_core.specs.answers.Reports.{line_of, lines_from, with_lines};
 
+use crate::answers::short::Places;
+use element_core::Year;
 use itoa::Buffer;
 use lane_core::Delivery;
-use scan_core::Answer;
+use scan_core::{Answer, Runs, read_row};
 use std::alloc::{AllocError, Global};
 use std::fmt::Write;
 
@@ -54,41 +58,64 @@ fn push_line(
     text.push('\n')
 }
 
-/// Appends the lines of a lane's next deliveries, of which the first has this number in the lane.
+/// Appends the lines of a lane's next rows, of which the first has this number in the lane: a row that
+/// stayed is read here, and the others were delivered.
 fn push_lines(
     text: &mut String,
     lane: usize,
     first: usize,
+    year: Year,
+    places: &[Option<Runs>],
     list: &[Delivery],
 ) -> Result<(), AllocError>
-    requires { first ≤ 4294967295 }
-    ensures { OnOk result ((answers : List Answer) × AreAnswersOf list.now answers
+    requires few { first ≤ 4294967295 }
+    requires places { HasPlaces places.now list.now }
+    ensures { OnOk result ((answers : List Answer) × AreAnswersOf (woven (plain_of 0 0 year) places.now list.now) answers
         × (string_bytes text.new ≡ string_bytes text.old ++ lines_from lane first answers)) }
 {
-    text.reserve(list.len().saturating_mul(USUAL_LENGTH))?;
-    'deliveries: for (number, delivery) in list.iter().enumerate() {
-        push_line(text, lane, first + number, delivery.answer())?;
+    text.reserve(places.len().saturating_mul(USUAL_LENGTH))?;
+    let mut delivered = 0usize;
+    'rows: for (number, place) in places.iter().enumerate() {
+        match place {
+            Some(row) => push_line(text, lane, first + number, &read_row(row, year))?,
+            None => {
+                push_line(text, lane, first + number, list[delivered].answer())?;
+                delivered += 1;
+            }
+        }
     }
     Ok(())
 }
 
-/// The lines of each lane and those of its next deliveries, of which the first have this number in
-/// their lanes. The deliveries are dropped, lane after lane.
+/// The lines of each lane and those of its next rows, of which the first have this number in their
+/// lanes: rows that stayed in their places, and rows that were delivered. The deliveries are dropped,
+/// lane after lane.
 pub fn push_each(
     alloc: Global,
     texts: Vec<String>,
     first: usize,
+    year: Year,
+    places: Vec<Places>,
     lists: Vec<Vec<Delivery>>,
 ) -> Result<Vec<String>, AllocError>
     requires few { first ≤ 4294967295 }
     requires count { length lists.items ≡ length texts.items }
-    ensures { IfOk result (λ v. (answers : List (List Answer)) × AllZip AreAnswersOf (map (λ list. list.items) lists.items) answers
+    requires places { AllZip HasPlaces (map (λ places. places.items) places.items) (map (λ list. list.items) lists.items) }
+    ensures { IfOk result (λ v. (answers : List (List Answer))
+        × AllZip AreAnswersOf (woven_each (plain_of 0 0 year) (map (λ places. places.items) places.items) (map (λ list. list.items) lists.items)) answers
         × (map string_bytes v.items ≡ with_lines 0 first (map string_bytes texts.items) answers)) }
 {
     let mut longer = Vec::with_capacity(alloc, texts.len())?;
-    for (text, list) in texts.into_iter().zip(lists) {
+    for (text, (places, list)) in texts.into_iter().zip(places.into_iter().zip(lists)) {
         let mut text = text;
-        push_lines(&mut text, longer.len(), first, list.as_slice())?;
+        push_lines(
+            &mut text,
+            longer.len(),
+            first,
+            year,
+            places.as_slice(),
+            list.as_slice(),
+        )?;
         longer.push(text)?;
     }
     Ok(longer)

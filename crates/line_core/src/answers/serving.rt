@@ -9,8 +9,9 @@ ghost use Rattle.line_core.specs.answers.Reports.{IsReport, lane_lines, with_lin
 
 use crate::answers::report::{joined, push_each};
 use crate::answers::rest::{RUN, Rest, are_empty, next_runs};
+use crate::answers::short::part_each;
 use element_core::Year;
-use hub_core::{Gate, ServeFault, answers_are_read, serve};
+use hub_core::{Gate, ServeFault, serve};
 use lane_core::Delivery;
 use scan_core::Runs;
 use std::alloc::{AllocError, Global};
@@ -106,10 +107,9 @@ fn answer_run<R: Threads + Wait + Sync, G: Gate + Sync>(
 {
     let (rests, texts) = lanes;
     let (runs, rests) = next_runs(alloc, rests)?;
-    let lists = serve_all(rt, alloc, runs, workers, year, gate)?;
-    let texts = push_each(alloc, texts, first, lists)?;
-    // The law by which the answers of what is served are those to the rows.
-    answers_are_read();
+    let (places, sent) = part_each(alloc, runs)?;
+    let lists = serve_all(rt, alloc, sent, workers, year, gate)?;
+    let texts = push_each(alloc, texts, first, year, places, lists)?;
     Ok((rests, texts))
 }
 
@@ -141,7 +141,8 @@ fn answer_runs<R: Threads + Wait + Sync, G: Gate + Sync>(
 /// The lines that answer the rows of each feed, lane by lane and by number. So many workers read the
 /// rows beside each other, and each passes the gate before a row.
 ///
-/// The rows are served in runs, and the gate sees a row under its number in its run.
+/// The rows are served in runs. A row that is too short for a symbol is read as its line is written, and
+/// no worker is asked for it; the gate sees each other row under its number among those of its run.
 pub fn answer_lines<R: Threads + Wait + Sync, G: Gate + Sync>(
     rt: &R,
     alloc: Global,

@@ -4,7 +4,7 @@ ghost use Rattle.line_core.specs.print.Labels.{label_hri, label_line, label_line
 
 use arrayvec::ArrayString;
 use element_core::{Elements, Year};
-use sheet_core::Label;
+use sheet_core::{Content, Label};
 use std::alloc::{AllocError, Global};
 use std::fmt::Write;
 
@@ -12,13 +12,9 @@ use std::fmt::Write;
 fn label_hri(label: &Label, year: Year) -> ArrayString<288>
     ensures { result.bytes ≡ label_hri label.now }
 {
-    match label {
-        Label::Ean13(gtin)
-        | Label::UpcA(gtin)
-        | Label::Ean8(gtin)
-        | Label::UpcE(gtin)
-        | Label::Itf14(gtin) => Elements::of_gtin(gtin, year).hri(),
-        Label::Gs1128(elements) => elements.hri(),
+    match label.content() {
+        Content::Gtin(gtin) => Elements::of_gtin(gtin, year).hri(),
+        Content::Elements(elements) => elements.hri(),
     }
 }
 
@@ -36,7 +32,7 @@ fn push_line(
 {
     let sheet = index / cells;
     let cell = index % cells;
-    let kind = label.form().name;
+    let kind = label.kind().form().name;
     let line = label_hri(label, year);
     let elements = line.as_str();
     writeln!(text, "{sheet} {cell} {kind} {elements}")

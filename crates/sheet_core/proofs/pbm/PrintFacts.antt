@@ -1,13 +1,13 @@
 -- What is printed piece by piece: where a piece is not written, the others are there all the same.
-use Rattle.std.proofs.Common.{◌≡◌, ℕ, zero, suc, ◌+◌, ◌-◌, ◌*◌, ◌/◌, ◌%◌, ◌^◌, ◌<◌, ◌≤◌, ◌&&◌, ◌||◌, ◌==◌, nat_lt, Bool, true, false, List, [], ◌∷◌, ◌++◌, length, replicate, set, take, drop, refl, sym, ap, ap₂, subst, ◌∙◌, inl, inr, get_or, arith}
-use Rattle.std.specs.Prelude.{max, IsOk, OnOk, Option, Result, Ok, Err, Some, slice_get, bit_or}
+use Rattle.std.proofs.Common.{◌≡◌, ℕ, zero, suc, ◌+◌, ◌-◌, ◌*◌, ◌/◌, ◌%◌, ◌^◌, ◌<◌, ◌≤◌, ◌&&◌, ◌||◌, ◌==◌, nat_lt, Bool, true, false, List, [], ◌∷◌, ◌++◌, length, replicate, set, take, drop, refl, sym, ap, subst, ◌∙◌, inl, inr, get_or, arith}
+use Rattle.std.specs.Prelude.{IsOk, OnOk, Option, Result, Ok, Err, Some, slice_get, bit_or}
 use Rattle.std.specs.Io.KnownBytes.{Appends}
 use Rattle.std.proofs.KnownBytes.{Appends-trans}
 use Rattle.std.proofs.lemmas.Bool.{cases_lt, false≢true, le-ltb, lt-ltb}
 use Rattle.std.proofs.lemmas.Bool.Decides.{nat_tests}
 use Rattle.std.proofs.lemmas.Grind.{flat_map-append}
-use Rattle.std.proofs.lemmas.List.{append-nil, append_assoc, length-append, length-replicate, length-set, length-take, take_at}
-use Rattle.std.proofs.lemmas.Nat.{div-add-mod', div-mul-add, le-div}
+use Rattle.std.proofs.lemmas.List.{append-nil, append_assoc, length-append, length-replicate, length-set, length-take}
+use Rattle.std.proofs.lemmas.Nat.{div-mul-add, le-div}
 use Rattle.std.proofs.lemmas.Option.{slice_get_past}
 use Rattle.digits_core.specs.Bytes.{TookFront}
 use Rattle.scan_core.specs.Bits.{dot_at}
@@ -18,7 +18,7 @@ use Rattle.sheet_core.specs.Labels.{Drawn}
 use Rattle.sheet_core.specs.Lines.{IsBand, IsLine, band, line_dot, line_dot_of, row_labels, rows_of}
 use Rattle.sheet_core.specs.pbm.Headers.{header_text}
 use Rattle.sheet_core.specs.pbm.Images.{image, pbm_of}
-use Rattle.sheet_core.proofs.BandFacts.{Banded, banded_more, banded_none, length-rows}
+use Rattle.sheet_core.proofs.BandFacts.{Banded, banded_more, banded_none}
 use Rattle.sheet_core.proofs.CellLineFacts.{light_dots}
 use Rattle.sheet_core.proofs.LabelFacts.{last_or_before}
 use Rattle.sheet_core.proofs.LineFacts.{dot_set}
@@ -99,79 +99,6 @@ rows_add (suc n) k line =
     ap (λ m. rows_of m line) (let e : suc n + k ≡ suc (n + k) = omega arith in e)
     ∙ ap (λ bs. line ++ bs) (rows_add n k line)
     ∙ sym (append_assoc line (rows_of n line) (rows_of k line))
-
--- rows of a piece of rows
-rows_times : (q e : ℕ) (line : List ℕ) → rows_of q (rows_of e line) ≡ rows_of (q * e) line
-rows_times zero e line = ap (λ n. rows_of n line) (let x : 0 ≡ 0 * e = omega arith in x)
-rows_times (suc q) e line =
-    ap (λ bs. rows_of e line ++ bs) (rows_times q e line)
-    ∙ sym (rows_add e (q * e) line)
-    ∙ ap (λ n. rows_of n line) (let x : e + q * e ≡ suc q * e = grind arith in x)
-
--- a front of a piece
-front_rows : (r e : ℕ) (line : List ℕ) → r ≤ e → take (r * length line) (rows_of e line) ≡ rows_of r line
-front_rows r e line low =
-    ap (λ n. take (r * length line) (rows_of n line)) (let x : e ≡ r + (e - r) = omega arith in x)
-    ∙ ap (take (r * length line)) (rows_add r (e - r) line)
-    ∙ take_at (rows_of r line) (rows_of (e - r) line) (r * length line) (length-rows r line)
-
--- rows go out piece by piece, and the last of them as a front of one
-pub rows_by_pieces : (n e : ℕ) (line : List ℕ) → 0 < e → rows_of n line ≡ rows_of (n / e) (rows_of e line) ++ take (n % e * length line) (rows_of e line)
-rows_by_pieces n e line some =
-    ap (λ k. rows_of k line) (sym (div-add-mod' n e))
-    ∙ rows_add (n / e * e) (n % e) line
-    ∙ ap₂ (λ a b. a ++ b) (sym (rows_times (n / e) e line)) (sym (front_rows (n % e) e line (omega arith)))
-
-le_times : (a b w : ℕ) → a ≤ b → a * w ≤ b * w
-le_times a b w h = grind arith
-
--- a piece has room for its rows
-pub piece_fits : (len e : ℕ) → 0 < len → len ≤ 2048 → e ≤ max (8192 / len) 1 → e * len ≤ 8192
-piece_fits len e some short few =
-    let four : 4 ≤ 8192 / len = le-div 4 8192 len some (omega arith) in
-    let whole = div-add-mod' 8192 len in
-    let most = le_times e (8192 / len) len (omega arith) in
-    omega arith
-
-pub one_more_fits : (i n len : ℕ) → i < n → n * len ≤ 8192 → i * len + len ≤ 8192
-one_more_fits i n len low fits = let e : (i + 1) * len ≡ i * len + len = grind arith in let most = le_times (i + 1) n len (omega arith) in omega arith
-
--- and a front of it is within it
-pub front_fits : (n e len : ℕ) → 0 < e → e * len ≤ 8192 → (n % e * len ≤ e * len) × (n % e * len ≤ 8192)
-front_fits n e len some fits = let low = le_times (n % e) e len (omega arith) in (low, omega arith)
-
--- the pieces and the front of one went out
-pub pieces_out : (a b d : Option (List ℕ)) (line first last : List ℕ) (n m e : ℕ) → 0 < e → m ≡ n → first ≡ rows_of e line → last ≡ rows_of e line
-    → Appends a b (rows_of (m / e) first) → Appends b d (take (m % e * length line) last) → Appends a d (rows_of n line)
-pieces_out a b d line first last n m e some same is also out end =
-    let all : rows_of n line ≡ rows_of (m / e) first ++ take (m % e * length line) last =
-    ap (λ k. rows_of k line) (sym same) ∙ rows_by_pieces m e line some ∙ ap₂ (λ p q. rows_of (m / e) p ++ take (m % e * length line) q) (sym is) (sym also) in
-    subst (Appends a d) (sym all) (Appends-trans a b d (rows_of (m / e) first) (take (m % e * length line) last) out end)
-
--- the front of one is cut
-pub last_cut : (a b d : Option (List ℕ)) (line first last : List ℕ) (n m e : ℕ) → 0 < e → m ≡ n → first ≡ rows_of e line → last ≡ rows_of e line
-    → Appends a b (rows_of (m / e) first) → TookFront b d (take (m % e * length line) last) → TookFront a d (rows_of n line)
-last_cut a b d line first last n m e some same is also out front =
-    let all : rows_of n line ≡ rows_of (m / e) first ++ take (m % e * length line) last =
-    ap (λ k. rows_of k line) (sym same) ∙ rows_by_pieces m e line some ∙ ap₂ (λ p q. rows_of (m / e) p ++ take (m % e * length line) q) (sym is) (sym also) in
-    subst (TookFront a d) (sym all) (took_after a b d (rows_of (m / e) first) (take (m % e * length line) last) out front)
-
--- the pieces are cut
-pub pieces_cut : (a b : Option (List ℕ)) (line first : List ℕ) (n m e : ℕ) → 0 < e → m ≡ n → first ≡ rows_of e line → TookFront a b (rows_of (m / e) first) → TookFront a b (rows_of n line)
-pieces_cut a b line first n m e some same is front =
-    let all : rows_of n line ≡ rows_of (m / e) first ++ take (m % e * length line) (rows_of e line) =
-    ap (λ k. rows_of k line) (sym same) ∙ rows_by_pieces m e line some ∙ ap (λ p. rows_of (m / e) p ++ take (m % e * length line) (rows_of e line)) (sym is) in
-    subst (TookFront a b) (sym all) (took_more a b (rows_of (m / e) first) (take (m % e * length line) (rows_of e line)) front)
-
--- a line of cells has bytes, and no more than the widest
-pub line_size : (g : Cells) → IsGrid g → (0 < stride (g.columns * g.width)) × (stride (g.columns * g.width) ≤ 2048)
-line_size g grid =
-    let some = product g.columns g.width grid.columns_least grid.width_least in
-    let most = grid.wide_most in
-    (omega arith, omega arith)
-  where
-    product : (a b : ℕ) → 1 ≤ a → 1 ≤ b → 1 ≤ a * b
-    product a b h k = grind arith
 
 -- the bytes of a row of cells of which a front went out
 abbrev pub BandFront : Cells → List Drawn → Option (List ℕ) → Option (List ℕ) → Type 0

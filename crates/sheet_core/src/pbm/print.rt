@@ -16,52 +16,19 @@ use crate::line::draw_line;
 use crate::pbm::write::header;
 use crate::print::{check_labels, part};
 use crate::sheet::stride;
-use arrayvec::ArrayVec;
 use digits_core::{Failed, Sink, write_all};
 use std::alloc::Global;
 
-/// How many bytes of equal rows are written at once, at most.
-const PIECE: usize = 8_192;
-
-/// The bytes of a row of dots so many times.
-fn piece_of(line: &[u8], count: usize) -> ArrayVec<u8, PIECE>
-    requires { count * length line.now ≤ 8192 }
-    ensures { result.items ≡ rows_of count line.now }
-{
-    let mut piece = ArrayVec::new();
-    for _ in 0..count {
-        // There is room.
-        let _ = piece.try_extend_from_slice(line);
-    }
-    piece
-}
-
-/// Writes a piece so many times.
-fn write_pieces<W: Sink>(piece: &[u8], count: usize, sink: &mut W) -> Result<(), Failed>
-    ensures ok { OnOk result (Appends (W.taken sink.old) (W.taken sink.new) (rows_of count piece.now)) }
-    ensures err { OnErr result (TookFront (W.taken sink.old) (W.taken sink.new) (rows_of count piece.now)) }
-    ensures fault { W.failed sink.old ≡ false → (IsErr result ↔ (W.failed sink.new ≡ true)) }
-{
-    for _ in 0..count {
-        write_all(sink, piece)?;
-    }
-    Ok(())
-}
-
-/// Writes a row of dots so many times, as many at once as a piece holds.
+/// Writes a row of dots so many times.
 fn write_rows<W: Sink>(line: &[u8], count: u16, sink: &mut W) -> Result<(), Failed>
-    requires some { 0 < length line.now }
-    requires short { length line.now ≤ 2048 }
     ensures ok { OnOk result (Appends (W.taken sink.old) (W.taken sink.new) (rows_of count line.now)) }
     ensures err { OnErr result (TookFront (W.taken sink.old) (W.taken sink.new) (rows_of count line.now)) }
     ensures fault { W.failed sink.old ≡ false → (IsErr result ↔ (W.failed sink.new ≡ true)) }
 {
-    let count = usize::from(count);
-    let each = (PIECE / line.len()).min(count).max(1);
-    let piece = piece_of(line, each);
-    write_pieces(piece.as_slice(), count / each, sink)?;
-    let rest = count % each * line.len();
-    write_all(sink, &piece.as_slice()[..rest])
+    for _ in 0..count {
+        write_all(sink, line)?;
+    }
+    Ok(())
 }
 
 /// Writes the dot rows of a row of cells. `line` is one of them, and what it holds before is of no account.
@@ -141,11 +108,11 @@ fn write_sheets<W: Sink>(
 
 /// Writes labels as PBM images of the sheets that they fill in a grid (netpbm, pbm(5)): the bytes that
 /// `write_pbm` writes of what `print_sheets` gives. It takes memory for one row of dots alone, and writes
-/// equal rows together, in pieces of at most 8,192 bytes.
+/// row by row, so a sink to which each write is dear is to have a buffer.
 ///
 /// All labels are looked at first, in their order, then the memory is taken, and then bytes go out. So
 /// after `LabelKind` and `LabelWidth`, which are those of `print_sheets`, and after `NoMemory` nothing was
-/// written; after `WriteFault` a front of the bytes went out. Of no labels nothing is written.
+/// written; after `WriteFault` a prefix of the bytes went out. Of no labels nothing is written.
 pub fn print_pbm<W: Sink>(
     alloc: Global,
     labels: &[Label],

@@ -13,7 +13,7 @@ use digits_core::{Failed, Source};
 use std::alloc::Global;
 
 /// How many bytes of an image are asked for at a time, at most.
-const CHUNK: usize = 4_096;
+const PIECE: usize = 65_536;
 
 /// The next byte, or none at the end.
 fn next<R: Source>(reader: &mut R) -> Result<Option<u8>, Failed>
@@ -62,18 +62,21 @@ fn read_bytes<R: Source>(alloc: Global, reader: &mut R, count: usize) -> Result<
     ensures failed { FailsFor (R.failed reader.old) (R.failed reader.new) result }
 {
     let mut bytes = Vec::new(alloc);
-    let mut chunk = [0u8; CHUNK];
-    'reads: while bytes.len() < count {
-        let missing = (count - bytes.len()).min(CHUNK);
-        let Ok(read) = reader.read(&mut chunk[..missing]) else {
+    let mut filled = 0;
+    'reads: while filled < count {
+        if filled == bytes.len() {
+            let more = (count - filled).min(PIECE);
+            if bytes.resize(filled + more, 0).is_err() {
+                return Err(PbmFault::NoMemory);
+            }
+        }
+        let Ok(read) = reader.read(&mut bytes.as_mut_slice()[filled..]) else {
             return Err(PbmFault::ReadFault);
         };
         if read == 0 {
             return Err(PbmFault::Truncated);
         }
-        if bytes.extend_from_slice(&chunk[..read]).is_err() {
-            return Err(PbmFault::NoMemory);
-        }
+        filled += read;
     }
     Ok(bytes)
 }
@@ -119,7 +122,7 @@ fn read_image<R: Source>(alloc: Global, reader: &mut R, first: u8) -> Result<She
 /// The sheets of all PBM images that the reader has (netpbm, pbm(5)), at most 4,096 of them, each with a
 /// header of at most 4,096 bytes. An empty input has none.
 ///
-/// The first byte that cannot be refuses the whole, and none after it is read: `NotP4`, `PbmHeader` or
+/// The first byte that cannot be refuses the whole input, and none after it is read: `NotP4`, `PbmHeader` or
 /// `PbmSize`; an end within an image is `Truncated`. Memory is taken as bytes come.
 pub fn read_pbm<R: Source>(alloc: Global, reader: &mut R) -> Result<Vec<Sheet>, PbmFault>
     ensures ok { IfOk result (λ sheets. Reads images_of (R.left reader.old) (R.left reader.new) (Ok sheets.items)) }

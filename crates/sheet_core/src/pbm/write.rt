@@ -52,7 +52,7 @@ fn write_image<W: Sink>(sheet: &Sheet, writer: &mut W) -> Result<(), Failed>
 }
 
 /// Writes sheets as PBM images, one after the other with nothing between them (netpbm, pbm(5)). After
-/// `WriteFault` a front of their bytes went out.
+/// `WriteFault` a prefix of their bytes went out.
 pub fn write_pbm<W: Sink>(sheets: &[Sheet], writer: &mut W) -> Result<(), WriteFault>
     ensures ok { OnOk result (Appends (W.taken writer.old) (W.taken writer.new) (pbm_of sheets.now)) }
     ensures err { OnErr result (TookFront (W.taken writer.old) (W.taken writer.new) (pbm_of sheets.now)) }

@@ -1,12 +1,10 @@
-use Rattle.std.proofs.Common.{rules, ◌≡◌, ℕ, List, [], ◌∷◌, ◌++◌, ◌-◌, ◌∙◌, sym, subst, take, get_or}
-use Rattle.std.proofs.lemmas.Option.{IfSome_then}
+use Rattle.std.proofs.Common.{rules, ℕ, List, [], ◌∷◌, ◌++◌, ◌-◌, ◌∙◌, sym, subst, take, get_or}
 use Rattle.digits_core.specs.Digits.{IsChecked, digits_of}
-use Rattle.ean_code.specs.Symbols.{IsNumberSymbol, widths_of}
+use Rattle.ean_code.specs.Symbols.{IsNumberSymbol}
 use Rattle.ean_code.specs.Symbols.Kind.{UpcE}
 use Rattle.ean_code.specs.Widths.{AreModules}
 use Rattle.ean_code.proofs.Drawn.{symbol_valid}
 use Rattle.ean_code.proofs.Expanded.{upce_drawn, upce_of, upce_stands}
-use Rattle.ean_code.proofs.Options.{not_none}
 use Rattle.ean_code.proofs.drawing.upce.Goals as goal
 
 pub returns-in_default-clause-none : goal.returns-in_default-clause-none
@@ -14,18 +12,17 @@ returns-in_default-clause-none c = λ modules s.
     let checked : IsChecked c.args.gtin.now = search rules in
     c.in_default.ensures.none (take 6 s.0) (get_or s.0 6 0) (upce_of modules s.0 c.args.gtin.now s.1 s.2 checked)
 
+pub new-requires : goal.new-requires
+new-requires c =
+    let six : List ℕ = digits_of c.in-Some.spelled.0 in
+    let check : ℕ = c.in-Some.spelled.1 - 48 in
+    let drawn = c.upce_widths.ensures in
+    let symbol : IsNumberSymbol UpcE c.upce_widths.result.items (six ++ check ∷ []) = upce_drawn six check c.args.gtin.now c.upce_widths.result.items c.in-Some.ensures.some.spelling drawn in
+    subst AreModules (sym drawn) (symbol_valid UpcE (six ++ check ∷ []) symbol.count symbol.valid)
+
 pub returns-clause-some : goal.returns-clause-some
 returns-clause-some c =
     let six : List ℕ = digits_of c.in-Some.spelled.0 in
     let check : ℕ = c.in-Some.spelled.1 - 48 in
     let spelling = c.in-Some.ensures.some.spelling in
-    IfSome_then c.of.result c.of.ensures.value (λ m e.
-    (six ++ check ∷ [], upce_drawn six check c.args.gtin.now m spelling (e ∙ c.as_slice.ensures.value ∙ c.upce_widths.ensures), upce_stands six check c.args.gtin.now spelling))
-
-pub returns-clause-none : goal.returns-clause-none
-returns-clause-none c =
-    let six : List ℕ = digits_of c.in-Some.spelled.0 in
-    let check : ℕ = c.in-Some.spelled.1 - 48 in
-    let drawn : c.as_slice.result.now ≡ widths_of UpcE (six ++ check ∷ []) = c.as_slice.ensures.value ∙ c.upce_widths.ensures in
-    let symbol : IsNumberSymbol UpcE c.as_slice.result.now (six ++ check ∷ []) = upce_drawn six check c.args.gtin.now c.as_slice.result.now c.in-Some.ensures.some.spelling drawn in
-    not_none _ c.of.result (c.of.ensures.valid.1 (subst AreModules (sym drawn) (symbol_valid UpcE (six ++ check ∷ []) symbol.count symbol.valid)))
+    (six ++ check ∷ [], upce_drawn six check c.args.gtin.now c.new.result spelling (c.new.ensures ∙ c.upce_widths.ensures), upce_stands six check c.args.gtin.now spelling)

@@ -1,6 +1,6 @@
 use Rattle.std.proofs.Common.{◌∙◌, ◌≤◌, List, [], ◌∷◌, ◌++◌, ℕ, ap, append_assoc, arith, length, length-append}
 use Rattle.digits_core.specs.Buffers.{pasted}
-use Rattle.element_core.proofs.Pasted.{pasted_next}
+use Rattle.digits_core.proofs.Pasted.{pasted_next}
 use Rattle.element_core.proofs.hri.put_element.Goals as goal
 
 pub returns-clause-put : goal.returns-clause-put

@@ -2,7 +2,7 @@ use Rattle.std.proofs.Common.{◌≡◌, ◌∙◌, List, ◌∷◌, ◌++◌, �
 use Rattle.digits_core.specs.Buffers.{pasted}
 use Rattle.element_core.specs.Elements.{hri}
 use Rattle.element_core.specs.Shown.{shown_elements}
-use Rattle.element_core.proofs.Pasted.{length-pasted, pasted_more}
+use Rattle.digits_core.proofs.Pasted.{length-pasted, pasted_more}
 use Rattle.element_core.proofs.hri.put_line_of.Goals as goal
 
 pub loop-front-preserved : goal.loop-front-preserved

@@ -1,29 +1,20 @@
-use Rattle.std.proofs.Common.{◌∙◌}
+use Rattle.hub_core.proofs.FeedFacts.{same_then}
 use Rattle.hub_core.proofs.driving.drive.Goals as goal
 
-pub returns-then-are_done-clause-of_hub : goal.returns-then-are_done-clause-of_hub
-returns-then-are_done-clause-of_hub g c = (c.poll_each-polled.ensures.of_hub c.args.hub.now c.submit_each-submitted.ensures.of_hub, c.hand_each-handed.ensures)
-
-pub loop-preserved-then-eq-2 : goal.loop-preserved-then-eq-2
-loop-preserved-then-eq-2 g c = record {
+pub loop-preserved-in-Taken : goal.loop-preserved-in-Taken
+loop-preserved-in-Taken g c = record {
   can = tt;
   ends = tt;
-  feeds = c.poll_each-polled.ensures.of_hub c.args.hub.now c.submit_each-submitted.ensures.of_hub;
-  same = (
-    c.poll_each-polled.ensures.same.0 ∙ (c.submit_each-submitted.ensures.same.0 ∙ c.loop.invariant.same.0),
-    c.poll_each-polled.ensures.same.1 ∙ (c.submit_each-submitted.ensures.same.1 ∙ c.loop.invariant.same.1),
-  );
-  deliverer = c.hand_each-handed.ensures;
+  feeds = c.collect_some.ensures.of_hub.0;
+  same = same_then _ _ _ (same_then _ _ _ c.loop.invariant.same c.submit_each.ensures.same) c.collect_some.ensures.same;
+  deliverer = c.collect_some.ensures.of_hub.1;
 }
 
 pub loop-preserved : goal.loop-preserved
 loop-preserved g c = record {
   can = tt;
   ends = tt;
-  feeds = c.poll_each-polled.ensures.of_hub c.args.hub.now c.submit_each-submitted.ensures.of_hub;
-  same = (
-    c.poll_each-polled.ensures.same.0 ∙ (c.submit_each-submitted.ensures.same.0 ∙ c.loop.invariant.same.0),
-    c.poll_each-polled.ensures.same.1 ∙ (c.submit_each-submitted.ensures.same.1 ∙ c.loop.invariant.same.1),
-  );
-  deliverer = c.hand_each-handed.ensures;
+  feeds = c.pass_to_each.ensures.of_hub.0;
+  same = same_then _ _ _ (same_then _ _ _ (same_then _ _ _ c.loop.invariant.same c.submit_each.ensures.same) c.collect_some.ensures.same) c.pass_to_each.ensures.same;
+  deliverer = c.pass_to_each.ensures.of_hub.1;
 }

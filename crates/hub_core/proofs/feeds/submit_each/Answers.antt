@@ -1,16 +1,20 @@
-use Rattle.std.proofs.Common.{◌∙◌}
-use Rattle.std.proofs.lemmas.List.{length-set}
-use Rattle.hub_core.proofs.FeedFacts.{turn_of, turn_same}
+use Rattle.hub_core.proofs.FeedFacts.{one_turn, same_then, turn_of}
 use Rattle.hub_core.proofs.feeds.submit_each.Goals as goal
 
-pub loop-feed-preserved : goal.loop-feed-preserved
-loop-feed-preserved g c =
-    let now = c.loop-feed.feed-items in
-    let i = c.loop-feed.feed-index in
-    let w = c.submit_rows-any.new.self in
-    let was = c.loop-feed.invariant in
+pub loop-index-preserved : goal.loop-index-preserved
+loop-index-preserved g c =
+    let now = c.loop-index.feeds.items in
+    let i = c.loop-index.index in
+    let w = c.submit_rows.new.self in
+    let was = c.loop-index.invariant in
     record {
-      count = length-set now i w ∙ was.count;
-      feeds = turn_of c.args.hub.now now i w c.submit_rows-any.ensures.of_hub was.feeds;
-      same = turn_same _ now i w _ c.submit_rows-any.ensures.same was.same;
+      count = was.count;
+      feeds = turn_of c.args.hub.now now i w c.submit_rows.ensures.of_hub was.feeds;
+      same = same_then _ _ _ was.same (one_turn now i c.index_mut.result.now w c.index_mut.ensures.value c.submit_rows.ensures.same);
     }
+
+pub returns-then-not-submit_rows-clause-same : goal.returns-then-not-submit_rows-clause-same
+returns-then-not-submit_rows-clause-same g c =
+    let now = c.loop-index.feeds.items in
+    let was = c.loop-index.invariant in
+    same_then _ _ _ was.same (one_turn now c.loop-index.index c.index_mut.result.now c.submit_rows.new.self c.index_mut.ensures.value c.submit_rows.ensures.same)

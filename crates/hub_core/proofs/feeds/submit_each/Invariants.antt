@@ -1,10 +1,10 @@
-use Rattle.std.proofs.Common.{◌≡◌, length}
+use Rattle.std.proofs.Common.{◌≡◌, vec_len}
 use Rattle.hub_core.specs.Feeds.{AreFeedsOf, AreSameFeeds}
 use Rattle.hub_core.proofs.feeds.submit_each.Given as goal
 
-abbrev pub invariant-loop-feed : goal.invariant-loop-feed
-invariant-loop-feed g l = record {
-  count : length l.feed-items ≡ length l.initial.feed-items;
-  feeds : AreFeedsOf l.hub l.feed-items;
-  same : AreSameFeeds l.initial.feed-items l.feed-items;
+abbrev pub invariant-loop-index : goal.invariant-loop-index
+invariant-loop-index g l = record {
+  count : vec_len l.feeds ≡ vec_len l.initial.feeds;
+  feeds : AreFeedsOf l.hub l.feeds.items;
+  same : AreSameFeeds l.initial.feeds.items l.feeds.items;
 }

@@ -2,7 +2,6 @@ use Rattle.std.proofs.Common.{set}
 use Rattle.ean_code.specs.Laws.{ReplacedIsUnchecked}
 use Rattle.ean_code.specs.Symbols.{Kind, widths_of}
 use Rattle.ean_code.specs.Symbols.Kind.{Ean13, Ean8, UpcE, Itf14}
-use Rattle.scan_core.specs.Showing.{carrier_of}
 use Rattle.scan_core.proofs.ReplacedFacts.{replaced_spells}
 use Rattle.scan_core.proofs.laws.replacement_is_noticed.Goals as goal
 
@@ -13,12 +12,12 @@ each_kind c UpcE = c.replaced_is_unchecked.ensures.upce
 each_kind c Itf14 = c.replaced_is_unchecked.ensures.itf14
 
 pub returns : goal.returns
-returns c = λ kind digits gtin runs k d year way row count valid number checked place low other shows. (
-  carrier_of kind,
+returns c = λ carrier kind digits gtin runs k d year way row is count valid number checked place low other shows. (
+  carrier,
   (
     way,
     widths_of kind (set digits k d),
     shows,
-    replaced_spells kind (each_kind c kind) digits gtin k d count valid number checked place low other,
+    replaced_spells carrier kind is (each_kind c kind) digits gtin k d count valid number checked place low other,
   ),
 )

@@ -4,64 +4,79 @@ use Rattle.sheet_core.specs.Grids.{Cells}
 use Rattle.sheet_core.specs.Lines.{band, rows_of}
 use Rattle.digits_core.specs.Buffers.{pasted}
 use Rattle.sheet_core.proofs.BandFacts.{length-rows}
-use Rattle.sheet_core.proofs.PasteFacts.{bar_rows, image_fits, image_put, light_put, light_rows, put_fits, put_next}
+use Rattle.sheet_core.proofs.PasteFacts.{Put, bar_rows, image_fits, image_put, light_put, light_rows, put_fits, put_next}
+use Rattle.sheet_core.proofs.label_image.put_image.Goals.{After-put_rows-bars}
 use Rattle.sheet_core.proofs.label_image.put_image.Goals as goal
+
+-- the numbers of the grid
+abbrev cells : After-put_rows-bars → Cells
+cells c =
+    let i = c.grid.inside in record { dots = i.module_dots; width = i.cell_width; height = i.cell_height; columns = i.columns; rows = i.rows }
+
+-- what is known once the rows above the bars are put
+record Begun (c : After-put_rows-bars) : Type 0 where
+  fits : length c.args.header.now + (length (light_rows (cells c) c.args.line.now) + (length (bar_rows (cells c) c.args.line.now) + length (light_rows (cells c) c.args.line.now))) ≤ length c.args.out.now
+  zeros : c.light_line-light.result.items ≡ replicate (length c.args.line.now) 0
+  bars : Put c.args.out.now (c.args.header.now ++ light_rows (cells c) c.args.line.now) c.put_rows-bars.new.out c.put_rows-bars.result
+
+begun : (c : After-put_rows-bars) → Begun c
+begun c =
+    let i = c.grid.inside in
+    let g : Cells = cells c in
+    let header : List ℕ = c.args.header.now in
+    let line : List ℕ = c.args.line.now in
+    let out : List ℕ = c.args.out.now in
+    let wide : stride (i.columns * i.cell_width) ≡ length line = ap (λ (g : Cells). stride (g.columns * g.width)) c.grid.view_is ∙ sym c.requires.long in
+    let zeros : c.light_line-light.result.items ≡ replicate (length line) 0 = c.light_line-light.ensures ∙ ap (λ n. replicate {A = ℕ} n 0) wide in
+    let high : i.cell_height ≡ c.args.grid.now.height = ap (λ (g : Cells). g.height) c.grid.view_is in
+    record {
+      fits = image_fits g header line out c.grid.invariant (subst (λ h. length header + h * length line ≤ length out) (sym high) c.requires.room);
+      zeros = zeros;
+      bars = light_put g header line c.as_slice.result.now out c.put_at-above.new.out c.put_rows-bars.new.out c.put_at-above.result c.put_rows-bars.result (c.as_slice.ensures.value ∙ zeros)
+          c.put_at-above.ensures.end c.put_at-above.ensures.put c.put_rows-bars.ensures.end c.put_rows-bars.ensures.put;
+    }
 
 pub put_rows-below-requires : goal.put_rows-below-requires
 put_rows-below-requires c =
     let i = c.grid.inside in
-    let g : Cells = record { dots = i.module_dots; width = i.cell_width; height = i.cell_height; columns = i.columns; rows = i.rows } in
+    let b = begun (goal.at.put_rows-below-requires c).After-put_rows-bars in
+    let g : Cells = cells (goal.at.put_rows-below-requires c).After-put_rows-bars in
     let header : List ℕ = c.args.header.now in
     let line : List ℕ = c.args.line.now in
-    let out : List ℕ = c.args.out.now in
-    let wide : stride (i.columns * i.cell_width) ≡ length line = ap (λ (g : Cells). stride (g.columns * g.width)) c.grid.view_is ∙ sym c.requires.long in
-    let light = c.as_slice.ensures.value ∙ c.light_line-light.ensures ∙ ap (λ n. replicate {A = ℕ} n 0) wide in
-    let high : i.cell_height ≡ c.args.grid.now.height = ap (λ (g : Cells). g.height) c.grid.view_is in
-    let fits = image_fits g header line out c.grid.invariant (subst (λ h. length header + h * length line ≤ length out) (sym high) c.requires.room) in
-    let bars = light_put g header line c.as_slice.result.now out c.put_at-above.new.out c.put_rows-bars.new.out c.put_at-above.result c.put_rows-bars.result light
-    c.put_at-above.ensures.end c.put_at-above.ensures.put c.put_rows-bars.ensures.end c.put_rows-bars.ensures.put in
+    let fits = b.fits in
     let long = length-rows (i.cell_height - 2 * i.module_dots) line in
     let front = length-append header (light_rows g line) in
-    put_fits out (header ++ light_rows g line) c.put_rows-bars.new.out c.put_rows-bars.result ((i.cell_height - 2 * i.module_dots) * length line) bars (omega (arith, long, front, fits))
+    put_fits c.args.out.now (header ++ light_rows g line) c.put_rows-bars.new.out c.put_rows-bars.result ((i.cell_height - 2 * i.module_dots) * length line) b.bars (omega (arith, long, front, fits))
 
 pub put_rows-requires : goal.put_rows-requires
 put_rows-requires c =
     let i = c.grid.inside in
-    let g : Cells = record { dots = i.module_dots; width = i.cell_width; height = i.cell_height; columns = i.columns; rows = i.rows } in
+    let b = begun (goal.at.put_rows-requires c).After-put_rows-bars in
+    let g : Cells = cells (goal.at.put_rows-requires c).After-put_rows-bars in
     let header : List ℕ = c.args.header.now in
     let line : List ℕ = c.args.line.now in
-    let out : List ℕ = c.args.out.now in
-    let wide : stride (i.columns * i.cell_width) ≡ length line = ap (λ (g : Cells). stride (g.columns * g.width)) c.grid.view_is ∙ sym c.requires.long in
-    let light = c.as_slice.ensures.value ∙ c.light_line-light.ensures ∙ ap (λ n. replicate {A = ℕ} n 0) wide in
-    let again = c.as_slice-2.ensures.value ∙ c.light_line-light.ensures ∙ ap (λ n. replicate {A = ℕ} n 0) wide in
-    let high : i.cell_height ≡ c.args.grid.now.height = ap (λ (g : Cells). g.height) c.grid.view_is in
-    let fits = image_fits g header line out c.grid.invariant (subst (λ h. length header + h * length line ≤ length out) (sym high) c.requires.room) in
-    let bars = light_put g header line c.as_slice.result.now out c.put_at-above.new.out c.put_rows-bars.new.out c.put_at-above.result c.put_rows-bars.result light
-    c.put_at-above.ensures.end c.put_at-above.ensures.put c.put_rows-bars.ensures.end c.put_rows-bars.ensures.put in
-    let below = put_next out (header ++ light_rows g line) c.put_rows-bars.new.out (bar_rows g line) c.put_rows-below.new.out c.put_rows-bars.result c.put_rows-below.result bars
-    c.put_rows-below.ensures.end c.put_rows-below.ensures.put in
-    let long = length-rows i.module_dots c.as_slice-2.result.now in
-    let same : length (light_rows g line) ≡ i.module_dots * length c.as_slice-2.result.now = ap (λ l. length (rows_of i.module_dots l)) (sym again) ∙ long in
+    let below = put_next c.args.out.now (header ++ light_rows g line) c.put_rows-bars.new.out (bar_rows g line) c.put_rows-below.new.out c.put_rows-bars.result c.put_rows-below.result
+    b.bars c.put_rows-below.ensures.end c.put_rows-below.ensures.put in
+    let light : List ℕ = c.as_slice-2.result.now in
+    let fits = b.fits in
+    let same : length (light_rows g line) ≡ i.module_dots * length light = ap (λ l. length (rows_of i.module_dots l)) (sym (c.as_slice-2.ensures.value ∙ b.zeros)) ∙ length-rows i.module_dots light in
     let front = length-append header (light_rows g line) in
     let middle = length-append (header ++ light_rows g line) (bar_rows g line) in
-    put_fits out ((header ++ light_rows g line) ++ bar_rows g line) c.put_rows-below.new.out c.put_rows-below.result (i.module_dots * length c.as_slice-2.result.now) below
-    (omega (arith, same, front, middle, fits))
+    put_fits c.args.out.now ((header ++ light_rows g line) ++ bar_rows g line) c.put_rows-below.new.out c.put_rows-below.result (i.module_dots * length light)
+    below (omega (arith, same, front, middle, fits))
 
 pub returns : goal.returns
 returns c =
     let i = c.grid.inside in
-    let g : Cells = record { dots = i.module_dots; width = i.cell_width; height = i.cell_height; columns = i.columns; rows = i.rows } in
+    let b = begun (goal.at.returns c).After-put_rows-bars in
+    let g : Cells = cells (goal.at.returns c).After-put_rows-bars in
     let header : List ℕ = c.args.header.now in
     let line : List ℕ = c.args.line.now in
     let out : List ℕ = c.args.out.now in
-    let wide : stride (i.columns * i.cell_width) ≡ length line = ap (λ (g : Cells). stride (g.columns * g.width)) c.grid.view_is ∙ sym c.requires.long in
-    let light = c.as_slice.ensures.value ∙ c.light_line-light.ensures ∙ ap (λ n. replicate {A = ℕ} n 0) wide in
-    let again = c.as_slice-2.ensures.value ∙ c.light_line-light.ensures ∙ ap (λ n. replicate {A = ℕ} n 0) wide in
-    let bars = light_put g header line c.as_slice.result.now out c.put_at-above.new.out c.put_rows-bars.new.out c.put_at-above.result c.put_rows-bars.result light
-    c.put_at-above.ensures.end c.put_at-above.ensures.put c.put_rows-bars.ensures.end c.put_rows-bars.ensures.put in
-    let below = put_next out (header ++ light_rows g line) c.put_rows-bars.new.out (bar_rows g line) c.put_rows-below.new.out c.put_rows-bars.result c.put_rows-below.result bars
-    c.put_rows-below.ensures.end c.put_rows-below.ensures.put in
-    let piece : rows_of i.module_dots c.as_slice-2.result.now ≡ light_rows g line = ap (rows_of i.module_dots) again in
-    let all = put_next out ((header ++ light_rows g line) ++ bar_rows g line) c.put_rows-below.new.out (light_rows g line) c.put_rows.new.out c.put_rows-below.result c.put_rows.result below
+    let below = put_next c.args.out.now (header ++ light_rows g line) c.put_rows-bars.new.out (bar_rows g line) c.put_rows-below.new.out c.put_rows-bars.result c.put_rows-below.result
+    b.bars c.put_rows-below.ensures.end c.put_rows-below.ensures.put in
+    let piece : rows_of i.module_dots c.as_slice-2.result.now ≡ light_rows g line = ap (rows_of i.module_dots) (c.as_slice-2.ensures.value ∙ b.zeros) in
+    let all = put_next out ((header ++ light_rows g line) ++ bar_rows g line) c.put_rows-below.new.out (light_rows g line) c.put_rows.new.out c.put_rows-below.result c.put_rows.result
+    below
     (c.put_rows.ensures.end ∙ ap (λ (r : List ℕ). c.put_rows-below.result + length r) piece) (c.put_rows.ensures.put ∙ ap (pasted c.put_rows-below.new.out c.put_rows-below.result) piece) in
     subst (λ (k : Cells). c.put_rows.new.out ≡ pasted out 0 (header ++ band k line)) c.grid.view_is (image_put g header line out c.put_rows.new.out c.put_rows.result all)

@@ -1,7 +1,7 @@
 use Rattle.std.proofs.Common.{◌+◌, ◌∙◌, ap, ap₂, arith, length, sym}
 use Rattle.digits_core.specs.Buffers.{pasted}
 use Rattle.sheet_core.specs.Lines.{rows_of}
-use Rattle.element_core.proofs.Pasted.{length-pasted, pasted_none}
+use Rattle.digits_core.proofs.Pasted.{length-pasted, pasted_none}
 use Rattle.sheet_core.proofs.PasteFacts.{end_more, row_fits, rows_pasted}
 use Rattle.sheet_core.proofs.label_image.put_rows.Goals as goal
 

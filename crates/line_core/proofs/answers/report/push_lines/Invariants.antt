@@ -1,12 +1,8 @@
-use Rattle.std.proofs.Common.{◌≡◌, ◌++◌, List, string_bytes, take}
-use Rattle.scan_core.specs.declared.answer.Answer.{Answer}
-use Rattle.hub_core.specs.Laws.{AreAnswersOf}
-use Rattle.line_core.specs.answers.Reports.{lines_from}
+use Rattle.std.proofs.Common.{string_bytes}
+use Rattle.line_core.proofs.answers.PlaceFacts.{Pushed}
 use Rattle.line_core.proofs.answers.report.push_lines.Given as goal
 
-abbrev pub invariant-deliveries : goal.invariant-deliveries
-invariant-deliveries l = record {
-  answers : List Answer;
-  answered : AreAnswersOf (take l.number l.list) answers;
-  lines : string_bytes l.text ≡ string_bytes l.fn.text ++ lines_from l.lane l.first answers;
+abbrev pub invariant-rows : goal.invariant-rows
+invariant-rows l = record {
+  pushed : Pushed l.year l.lane l.first l.places l.list (string_bytes l.fn.text) l.number l.delivered (string_bytes l.text);
 }

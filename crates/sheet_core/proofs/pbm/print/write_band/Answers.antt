@@ -1,4 +1,4 @@
-use Rattle.std.proofs.Common.{◌≤◌, ◌∙◌, ℕ, List, replicate, sym, ap, subst, arith}
+use Rattle.std.proofs.Common.{◌≤◌, ◌∙◌, ℕ, List, replicate, sym, ap, subst}
 use Rattle.std.specs.Prelude.{OnErr}
 use Rattle.std.specs.Io.KnownBytes.{Appends}
 use Rattle.std.proofs.lemmas.Slice.Zip.{AllZip-long}
@@ -8,44 +8,8 @@ use Rattle.sheet_core.specs.Lines.{IsBand, rows_of}
 use Rattle.digits_core.specs.Bytes.{TookFront}
 use Rattle.sheet_core.proofs.pbm.FileFacts.{on_err}
 use Rattle.sheet_core.proofs.pbm.ImageFacts.{err_is}
-use Rattle.sheet_core.proofs.pbm.PrintFacts.{BandFront, band_above, band_bars, band_below, band_out, bar_rows, line_size, on_ok}
+use Rattle.sheet_core.proofs.pbm.PrintFacts.{BandFront, band_above, band_bars, band_below, band_out, bar_rows, on_ok}
 use Rattle.sheet_core.proofs.pbm.print.write_band.Goals as goal
-
-pub write_rows-requires-clause-some : goal.write_rows-requires-clause-some
-write_rows-requires-clause-some g c =
-    let size = line_size c.args.grid.now (subst IsGrid c.grid.view_is c.grid.invariant) in
-    let long = c.fill.ensures.len ∙ c.requires.long in
-    omega arith
-
-pub write_rows-requires-clause-short : goal.write_rows-requires-clause-short
-write_rows-requires-clause-short g c =
-    let size = line_size c.args.grid.now (subst IsGrid c.grid.view_is c.grid.invariant) in
-    let long = c.fill.ensures.len ∙ c.requires.long in
-    omega arith
-
-pub write_rows-requires-2-clause-some : goal.write_rows-requires-2-clause-some
-write_rows-requires-2-clause-some g c =
-    let size = line_size c.args.grid.now (subst IsGrid c.grid.view_is c.grid.invariant) in
-    let long = (c.draw_line.ensures c.requires.symbols.0 c.requires.symbols.1).long in
-    omega arith
-
-pub write_rows-requires-2-clause-short : goal.write_rows-requires-2-clause-short
-write_rows-requires-2-clause-short g c =
-    let size = line_size c.args.grid.now (subst IsGrid c.grid.view_is c.grid.invariant) in
-    let long = (c.draw_line.ensures c.requires.symbols.0 c.requires.symbols.1).long in
-    omega arith
-
-pub write_rows-requires-3-clause-some : goal.write_rows-requires-3-clause-some
-write_rows-requires-3-clause-some g c =
-    let size = line_size c.args.grid.now (subst IsGrid c.grid.view_is c.grid.invariant) in
-    let long = c.fill-2.ensures.len ∙ (c.draw_line.ensures c.requires.symbols.0 c.requires.symbols.1).long in
-    omega arith
-
-pub write_rows-requires-3-clause-short : goal.write_rows-requires-3-clause-short
-write_rows-requires-3-clause-short g c =
-    let size = line_size c.args.grid.now (subst IsGrid c.grid.view_is c.grid.invariant) in
-    let long = c.fill-2.ensures.len ∙ (c.draw_line.ensures c.requires.symbols.0 c.requires.symbols.1).long in
-    omega arith
 
 pub draw_line-requires-clause-light : goal.draw_line-requires-clause-light
 draw_line-requires-clause-light g c = c.fill.ensures.after (λ y same. same) ∙ ap (λ n. replicate {A = ℕ} n 0) c.requires.long

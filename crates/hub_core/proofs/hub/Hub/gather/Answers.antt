@@ -3,8 +3,8 @@ use Rattle.crossbeam_queue.specs.Passes.{view}
 use Rattle.hub_core.specs.Rings.{all_sent}
 use Rattle.hub_core.proofs.RuleFacts.{learns, takes}
 use Rattle.hub_core.proofs.StockFacts.{Stands, stands_again, stands_popped, took, passed_over, held_back, stocks_at}
-use Rattle.hub_core.proofs.hub.Hub.collect.Goals as goal
-use Rattle.hub_core.proofs.hub.Hub.collect.Goals.{in-Some, in-None+in-Some-pop_as}
+use Rattle.hub_core.proofs.hub.Hub.gather.Goals as goal
+use Rattle.hub_core.proofs.hub.Hub.gather.Goals.{in-Some, in-None+in-Some-pop_as}
 
 pub pop_as-requires-clause-rule : goal.pop_as-requires-clause-rule
 pop_as-requires-clause-rule g c = (takes _ _ _ c.args.seat.now.parts.1, learns _ _ _)
