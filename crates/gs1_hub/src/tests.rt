@@ -10,11 +10,10 @@ mod scans;
 mod symbols;
 mod words;
 
-use crate::buffered::Buffered;
 use crate::fault::CommandFault;
 use crate::options::LaneOptions;
+use crate::run;
 use crate::words::Asked;
-use crate::{run, run_buffered};
 use digits_core::{FromReader, Sink, Source, ToWriter};
 use element_core::Year;
 use fakes::{Breaking, Endless, Narrow};
@@ -255,20 +254,6 @@ fn passes_failures_on(rt: HostRuntime) -> Result<(), Fail> {
         let line = refusal(&rt, asked, &mut source, &mut short)?;
         assert_eq!(rt; line.as_str(), "refused 38 WriteFault");
         assert_eq!(rt; short.taken(), output.get(..25).ok_or("25 bytes")?);
-
-        let mut sink = Buffered::new(Narrow::new(alloc, 100));
-        let mut source = FromReader::new(input.as_bytes());
-        run_buffered(&rt, alloc, asked, &mut source, &mut sink, &OpenGate)?;
-        assert_eq!(rt; sink.into_inner().taken(), output);
-
-        let mut sink = Buffered::new(Narrow::new(alloc, 25));
-        let mut source = FromReader::new(input.as_bytes());
-        let ran = run_buffered(&rt, alloc, asked, &mut source, &mut sink, &OpenGate);
-        assert_eq!(rt; ran.err(), Some(CommandFault::WriteFault));
-        assert_eq!(rt;
-            sink.into_inner().taken(),
-            output.get(..25).ok_or("25 bytes")?
-        );
     }
     let text = CommandFault::NoMemory.to_string(alloc)?;
     assert_eq!(rt; text.as_str(), "refused 43 NoMemory");

@@ -2,15 +2,18 @@
 
 use super::prints::{LOW, RECORD, printing, push_image};
 use super::{outcome, refusal};
+use crate::buffered::Buffered;
 use crate::options::{LaneOptions, ScanOptions};
-use crate::run;
 use crate::words::Asked;
+use crate::{run, run_buffered};
 use digits_core::FromReader;
 use element_core::Year;
 use fakes::{Breaking, Narrow};
 use hub_core::OpenGate;
 use std::alloc::Global;
+use std::sync::Wait;
 use std::test::Fail;
+use std::thread::Threads;
 
 /// A command with an input and its output. The answer to a front of the input is the last of `fronts`
 /// whose number is at most the front's length.
@@ -156,6 +159,41 @@ fn an_output_that_fails_at_any_byte_took_those_before_it(rt: HostRuntime) -> Res
         let mut sink = Narrow::new(alloc, output.len());
         run(&rt, alloc, case.asked, &mut source, &mut sink, &OpenGate)?;
         assert_eq!(rt; sink.taken(), output);
+    }
+    Ok(())
+}
+
+/// What a run with a buffer before a sink with room for so many bytes is refused with, nothing where it is
+/// not, and what the sink took.
+fn buffered<R: Threads + Wait + AllocGlobal + Sync>(
+    rt: &R,
+    case: &Case,
+    room: usize,
+) -> Result<(String, Narrow), Fail> {
+    let alloc = rt.alloc();
+    let mut source = FromReader::new(case.input.as_slice());
+    let mut sink = Buffered::new(Narrow::new(alloc, room));
+    let line = match run_buffered(rt, alloc, case.asked, &mut source, &mut sink, &OpenGate) {
+        Ok(()) => String::new(alloc),
+        Err(fault) => fault.to_string(alloc)?,
+    };
+    Ok((line, sink.into_inner()))
+}
+
+#[test]
+fn an_output_that_fails_behind_a_buffer_took_those_before_it(rt: HostRuntime) -> Result<(), Fail> {
+    for case in cases_with_images(rt.alloc())? {
+        let output = case.output.as_slice();
+        for room in 0..=output.len() {
+            let wanted = if room < output.len() {
+                "refused 38 WriteFault"
+            } else {
+                ""
+            };
+            let (line, sink) = buffered(&rt, &case, room)?;
+            assert_eq!(rt; line.as_str(), wanted, "{room}");
+            assert_eq!(rt; sink.taken(), output.get(..room).ok_or("a front")?);
+        }
     }
     Ok(())
 }
