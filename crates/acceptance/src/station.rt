@@ -8,7 +8,7 @@ use crate::held::{LaneGate, first_polled};
 use element_core::Year;
 use hub_core::{
     ClosedLane, Collected, DelivererSeat, Handed, Hub, LaneSeat, OpenGate, Parts, Shape,
-    SubmitFault, Unsettled, Worked, WorkerSeat, run_workers,
+    Signals, SubmitFault, Unsettled, Worked, WorkerSeat, run_workers,
 };
 use lane_core::{Delivery, Ticket};
 use scan_core::{Answer, Carrier, Runs};
@@ -165,6 +165,7 @@ impl Station {
             return Err(Fail::from("lane"));
         }
         let shared = &hub;
+        let signals = Signals::new();
         let task = move || -> (Vec<LaneSeat>, DelivererSeat, Option<Delivery>)
             requires { All (IsLaneOf shared.now) lanes.items × IsDelivererOf shared.now deliverer × (lane < length lanes.items) }
             ensures lanes { All (IsLaneOf shared.entry.now) result.0.items × (numbers_of result.0.items ≡ numbers_of lanes.items) }
@@ -176,7 +177,7 @@ impl Station {
             gate.open();
             (lanes, deliverer, polled)
         };
-        match run_workers(rt, alloc, shared, workers, gate, task) {
+        match run_workers(rt, alloc, shared, workers, gate, &signals, task) {
             Ok((workers, (lanes, deliverer, polled))) => {
                 let station = Station {
                     hub,

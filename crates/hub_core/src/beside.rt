@@ -5,16 +5,15 @@ ghost use Rattle.hub_core.specs.Hubs.{IsWorkerOf};
 use crate::fault::ServeFault;
 use crate::gate::Gate;
 use crate::hub::Hub;
-use crate::idle::{ASLEEP, Idle};
+use crate::signals::Signals;
 use crate::worker_seat::{Worked, WorkerSeat};
 use std::alloc::Global;
 use std::sync::Wait;
-use std::sync::atomic::{AtomicU64, Ordering};
 use std::thread;
 use std::thread::{Promise, PromisedHandle, Scope, Threads};
 
-/// The value of the word that tells workers to stop.
-const TOLD: u64 = 1;
+/// How many deliveries a worker posts before it tells the calling thread of them.
+const RUN: u32 = 16;
 
 /// A worker's seat comes back as one of this hub.
 #[derive(Clone, Copy)]
@@ -31,31 +30,30 @@ fn run_worker<R: Wait, G: Gate>(
     rt: &R,
     hub: &Hub,
     seat: WorkerSeat,
-    stop: &AtomicU64,
     gate: &G,
+    signals: &Signals,
 ) -> WorkerSeat
     requires { IsWorkerOf hub.now seat }
     ensures { IsWorkerOf hub.now result }
 {
     let mut seat = seat;
-    let mut idle = Idle::new();
+    let mut posted: u32 = 0;
     for _ in rt.forever() {
-        let told = stop.load(Ordering::SeqCst) != ASLEEP;
+        let given = signals.jobs.given();
+        let told = signals.is_told();
         if hub.work(rt, &mut seat, gate) == Worked::Posted {
-            idle.busy();
+            posted = posted.wrapping_add(1);
+            if posted % RUN == 0 {
+                signals.deliveries.notify_one();
+            }
         } else if told {
             break;
         } else {
-            idle.rest(rt, stop);
+            signals.deliveries.notify_one();
+            signals.jobs.wait(rt, given);
         }
     }
     seat
-}
-
-/// Tells all workers to stop, those too that sleep.
-fn tell_to_stop(stop: &AtomicU64) {
-    stop.store(TOLD, Ordering::SeqCst);
-    stop.wake_all();
 }
 
 /// Joins all threads.
@@ -81,8 +79,8 @@ fn start_all<'s, 'e: 's, R: Threads + Wait + Sync, G: Gate + Sync>(
     hub: &'e Hub,
     scope: &'s Scope<'s, &'e ()>,
     seats: Vec<WorkerSeat>,
-    stop: &'e AtomicU64,
     gate: &'e G,
+    signals: &'e Signals,
     handles: &mut Vec<PromisedHandle<WorkerSeat, OfHub<'e>>>,
 ) -> bool
     requires of_hub { All (IsWorkerOf hub.now) seats.items × All (λ h. h.promise.0.now ≡ hub.now) handles.old.items }
@@ -96,7 +94,7 @@ fn start_all<'s, 'e: 's, R: Threads + Wait + Sync, G: Gate + Sync>(
             move || -> WorkerSeat
                 requires { IsWorkerOf hub.now seat }
                 ensures { IsWorkerOf hub.entry.now result }
-            { run_worker(rt, hub, seat, stop, gate) },
+            { run_worker(rt, hub, seat, gate, signals) },
         );
         match started {
             Ok(handle) => handles.push_reserved(handle),
@@ -117,6 +115,7 @@ pub fn run_workers<'e, R: Threads + Wait + Sync, G: Gate + Sync, F: FnOnce() -> 
     hub: &'e Hub,
     seats: Vec<WorkerSeat>,
     gate: &'e G,
+    signals: &'e Signals,
     task: F,
 ) -> Result<(Vec<WorkerSeat>, T), ServeFault>
     requires { All (IsWorkerOf hub.now) seats.items × F.pre task }
@@ -124,8 +123,6 @@ pub fn run_workers<'e, R: Threads + Wait + Sync, G: Gate + Sync, F: FnOnce() -> 
     ensures task { IfOk result (λ v. F.post task v.1) }
     ensures refused { IfErr result (λ e. e ≢ ServeFault.BadCount) }
 {
-    let flag = AtomicU64::new(ASLEEP);
-    let stop = &flag;
     let count = seats.len();
     let Ok(mut back) = Vec::with_capacity(alloc, count) else {
         return Err(ServeFault::NoMemory);
@@ -142,14 +139,14 @@ pub fn run_workers<'e, R: Threads + Wait + Sync, G: Gate + Sync, F: FnOnce() -> 
             let Ok(mut handles) = Vec::with_capacity(alloc, seats.len()) else {
                 return Err(ServeFault::NoMemory);
             };
-            let started = start_all(rt, hub, scope, seats, stop, gate, &mut handles);
+            let started = start_all(rt, hub, scope, seats, gate, signals, &mut handles);
             if !started {
-                tell_to_stop(stop);
+                signals.tell_to_stop();
                 join_all(rt, hub, &mut back, handles);
                 return Err(ServeFault::NoThread);
             }
             let done = task();
-            tell_to_stop(stop);
+            signals.tell_to_stop();
             join_all(rt, hub, &mut back, handles);
             Ok((back, done))
         },

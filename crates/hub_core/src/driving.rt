@@ -8,10 +8,9 @@ use crate::deliverer_seat::DelivererSeat;
 use crate::feed::Feed;
 use crate::feeds::{are_done, submit_each};
 use crate::hub::Hub;
-use crate::idle::{ASLEEP, Idle};
 use crate::passing::{pass_to, pass_to_each};
+use crate::signals::Signals;
 use std::sync::Wait;
-use std::sync::atomic::AtomicU64;
 
 /// How many deliveries are collected before rows are submitted again.
 const RUN: u32 = 64;
@@ -38,33 +37,35 @@ fn collect_some<R: Wait>(
     gathered
 }
 
-/// Submits, collects, hands and polls in turn, until each row's delivery was polled. False where
+/// Collects, hands, polls and submits in turn, until each row's delivery was polled. False where
 /// memory was refused before.
 pub(crate) fn drive<R: Wait>(
     rt: &R,
     hub: &Hub,
     feeds: &mut Vec<Feed>,
     deliverer: &mut DelivererSeat,
+    signals: &Signals,
 ) -> bool
     requires { AreFeedsOf hub.now feeds.old.items × IsDelivererOf hub.now deliverer.old }
     ensures of_hub { AreFeedsOf hub.now feeds.new.items × IsDelivererOf hub.now deliverer.new }
     ensures same { AreSameFeeds feeds.old.items feeds.new.items }
     ensures done { result ≡ true → All IsDone feeds.new.items }
 {
-    let mut idle = Idle::new();
-    let alone = AtomicU64::new(ASLEEP);
     for _ in rt.forever() {
-        submit_each(rt, hub, feeds);
-        match collect_some(rt, hub, feeds, deliverer) {
-            Gathered::Taken(_) => idle.busy(),
+        let given = signals.deliveries.given();
+        let gathered = collect_some(rt, hub, feeds, deliverer);
+        // What waits behind a number that came late.
+        pass_to_each(hub, feeds, deliverer);
+        submit_each(rt, hub, feeds, signals);
+        signals.jobs.notify_one();
+        match gathered {
+            Gathered::Taken(_) => {}
             Gathered::NoMemory => return false,
             Gathered::Nothing => {
-                // What waits behind a number that came late.
-                pass_to_each(hub, feeds, deliverer);
                 if are_done(feeds.as_slice()) {
                     return true;
                 }
-                idle.rest(rt, &alone);
+                signals.deliveries.wait(rt, given);
             }
         }
     }

@@ -5,12 +5,16 @@ ghost use Rattle.hub_core.specs.Lanes.{issued_of, polled};
 use crate::fault::SubmitFault;
 use crate::hub::Hub;
 use crate::lane_seat::LaneSeat;
+use crate::signals::Signals;
 use lane_core::Delivery;
 use scan_core::Runs;
 use std::sync::Wait;
 
 /// How many rows a lane submits before it is the next lane's turn.
 const RUN: u32 = 64;
+
+/// For so many rows of a lane one worker more is woken.
+const SHARE: u32 = 16;
 
 /// How many rows of a lane may be under way, so that few answers wait for one that is late.
 const MOST_UNDER_WAY: u32 = 1_024;
@@ -77,14 +81,18 @@ impl Feed {
     }
 
     /// Submits the next rows, as far as it can. Answers whether the queue of jobs had room for all.
-    pub(crate) fn submit_rows<R: Wait>(&mut self, rt: &R, hub: &Hub) -> bool
+    pub(crate) fn submit_rows<R: Wait>(&mut self, rt: &R, hub: &Hub, signals: &Signals) -> bool
         requires { IsFeedOf hub.now self.old }
         ensures of_hub { IsFeedOf hub.now self.new }
         ensures same { IsSameFeed self.old self.new }
     {
         for _i in 0..RUN {
             match self.submit_next(rt, hub) {
-                Submitted::Row => {}
+                Submitted::Row => {
+                    if self.seat.issued % SHARE == 0 {
+                        signals.jobs.notify_one();
+                    }
+                }
                 Submitted::Nothing => return true,
                 Submitted::QueueFull => return false,
             }

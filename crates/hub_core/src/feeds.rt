@@ -8,6 +8,7 @@ use crate::closed_lane::ClosedLane;
 use crate::feed::Feed;
 use crate::hub::Hub;
 use crate::lane_seat::LaneSeat;
+use crate::signals::Signals;
 use lane_core::Delivery;
 use scan_core::Runs;
 use std::alloc::{AllocError, Global};
@@ -42,13 +43,13 @@ pub(crate) fn make_feeds(
 }
 
 /// Each lane submits its next rows, until the queue of jobs is full.
-pub(crate) fn submit_each<R: Wait>(rt: &R, hub: &Hub, feeds: &mut Vec<Feed>)
+pub(crate) fn submit_each<R: Wait>(rt: &R, hub: &Hub, feeds: &mut Vec<Feed>, signals: &Signals)
     requires { AreFeedsOf hub.now feeds.old.items }
     ensures of_hub { AreFeedsOf hub.now feeds.new.items }
     ensures same { AreSameFeeds feeds.old.items feeds.new.items }
 {
     for index in 0..feeds.len() {
-        if !feeds[index].submit_rows(rt, hub) {
+        if !feeds[index].submit_rows(rt, hub, signals) {
             break;
         }
     }

@@ -1,6 +1,7 @@
 //! A worker takes a job and posts its delivery.
 
 use crate::gate::Gate;
+use crate::hand::take_held;
 use crate::hub::Hub;
 use crate::rule::{Pops, Pushes};
 use crate::worker_seat::{Worked, WorkerSeat};
@@ -18,7 +19,7 @@ impl Hub {
         ensures works { Works seat.old result seat.new }
         ensures of_hub { IsWorkerOf self.now seat.new }
     {
-        let delivery = match seat.held.take() {
+        let delivery = match take_held(&mut seat.held) {
             Some(delivery) => delivery,
             None => {
                 let Some(job) = self.jobs.pop_as::<Pops, R>(rt, &mut seat.takes) else {

@@ -9,8 +9,8 @@ use denote.Struct.Tuple.{TupleAt, type_at}
 use denote.RattleType.{RattleType}
 use denote.Exit.{no}
 use mir.Syntax.{named}
-use Rattle.std.specs.contracts.sync.atomic.AtomicU64 as stop
 use Rattle.hub_core.specs.contracts.hub.Hub as hub
+use Rattle.hub_core.specs.contracts.signals.Signals as signals
 use Rattle.hub_core.specs.contracts.worker_seat.WorkerSeat as seats
 use Rattle.hub_core.proofs.HubFacts.{hub_sync}
 use Rattle.hub_core.proofs.worker_seat.WorkerSeat.TheSendSync as seat
@@ -23,8 +23,8 @@ spawn_with-started-requires-send-F g c κs within =
     (shr_ref_field record { mir = named 6; lft = κs.1.1.1.1.1.1.0 } (param 0 g.row.R) tt).row
     ∷ (shr_ref_field record { mir = named 7; lft = κs.1.1.1.1.1.1.1.0 } hub.the_row tt).row
     ∷ seats.the_row
-    ∷ (shr_ref_field record { mir = named 8; lft = κs.1.1.1.1.1.1.1.1.0 } stop.the_row tt).row
-    ∷ (shr_ref_field record { mir = named 9; lft = κs.1.1.1.1.1.1.1.1.1.0 } (param 1 g.row.G) tt).row ∷ [] in
+    ∷ (shr_ref_field record { mir = named 8; lft = κs.1.1.1.1.1.1.1.1.0 } (param 1 g.row.G) tt).row
+    ∷ (shr_ref_field record { mir = named 9; lft = κs.1.1.1.1.1.1.1.1.1.0 } signals.the_row tt).row ∷ [] in
     let sent : IsSend (TupleAt (codes "hub_core::beside::fn::start_all::spawn_with+Self") Ts) = declared_send (type_at (codes "hub_core::beside::fn::start_all::spawn_with+Self") Ts) (
       search (sendable, crosses, c.type_bounds.sync-R) depth 40,
       (
@@ -32,8 +32,8 @@ spawn_with-started-requires-send-F g c κs within =
         (
           search (sendable, crosses, seat.the_send) depth 40,
           (
-            search (sendable, crosses) depth 40,
-            (search (sendable, crosses, c.type_bounds.sync-G) depth 40, tt),
+            search (sendable, crosses, c.type_bounds.sync-G) depth 40,
+            (search (sendable, crosses) depth 40, tt),
           ),
         ),
       ),

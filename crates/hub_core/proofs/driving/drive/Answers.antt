@@ -5,16 +5,16 @@ pub loop-preserved-in-Taken : goal.loop-preserved-in-Taken
 loop-preserved-in-Taken g c = record {
   can = tt;
   ends = tt;
-  feeds = c.collect_some.ensures.of_hub.0;
-  same = same_then _ _ _ (same_then _ _ _ c.loop.invariant.same c.submit_each.ensures.same) c.collect_some.ensures.same;
-  deliverer = c.collect_some.ensures.of_hub.1;
+  feeds = c.submit_each.ensures.of_hub;
+  same = same_then _ _ _ (same_then _ _ _ (same_then _ _ _ c.loop.invariant.same c.collect_some-gathered.ensures.same) c.pass_to_each.ensures.same) c.submit_each.ensures.same;
+  deliverer = c.pass_to_each.ensures.of_hub.1;
 }
 
 pub loop-preserved : goal.loop-preserved
 loop-preserved g c = record {
   can = tt;
   ends = tt;
-  feeds = c.pass_to_each.ensures.of_hub.0;
-  same = same_then _ _ _ (same_then _ _ _ (same_then _ _ _ c.loop.invariant.same c.submit_each.ensures.same) c.collect_some.ensures.same) c.pass_to_each.ensures.same;
+  feeds = c.submit_each.ensures.of_hub;
+  same = same_then _ _ _ (same_then _ _ _ (same_then _ _ _ c.loop.invariant.same c.collect_some-gathered.ensures.same) c.pass_to_each.ensures.same) c.submit_each.ensures.same;
   deliverer = c.pass_to_each.ensures.of_hub.1;
 }

@@ -12,23 +12,23 @@ pop_as-requires-clause-rule g c = (takes _ _ _ c.args.seat.now.parts.1, learns _
 pub invariant_of-seat-in-Ok : goal.invariant_of-seat-in-Ok
 invariant_of-seat-in-Ok g c =
     let s = c.args.seat.now in
-    let stands : Stands (view c.match-take.seat.1.1.0) s.deliverer c.match-take.delivery (all_sent s.rings.items) = elim c.match-take.branch [
-      | in-Some w ↦ stands_again _ _ _ _ _ _ _ s.collects_only s.parts.1 s.stocks (sym c.take.ensures.value ∙ w.in-Some.is) (ap (λ s. view s.1.1.0) w.seat-is) w.delivery-is
-      | in-None+in-Some-pop_as w ↦ stands_popped _ _ _ _ _ _ _ s.collects_only s.parts.1 s.stocks (sym c.take.ensures.value ∙ w.in-None.is) (ap (λ s. view s.1.1.0) w.seat-is ∙ w.in-Some-pop_as.ensures.rule) w.delivery-is
+    let stands : Stands (view c.match-take_held.seat.1.1.0) s.deliverer c.match-take_held.delivery (all_sent s.rings.items) = elim c.match-take_held.branch [
+      | in-Some w ↦ stands_again _ _ _ _ _ _ _ s.collects_only s.parts.1 s.stocks (sym c.take_held.ensures.value ∙ w.in-Some.is) (ap (λ s. view s.1.1.0) w.seat-is) w.delivery-is
+      | in-None+in-Some-pop_as w ↦ stands_popped _ _ _ _ _ _ _ s.collects_only s.parts.1 s.stocks (sym c.take_held.ensures.value ∙ w.in-None.is) (ap (λ s. view s.1.1.0) w.seat-is ∙ w.in-Some-pop_as.ensures.rule) w.delivery-is
     ] in
     record {
       idle_at_jobs = s.idle_at_jobs;
       parts = (s.parts.0, stands.part);
       collects_only = stands.pops_only;
-      stocks = stocks_at _ _ _ _ _ c.take.ensures.after (took _ _ _ _ _ stands.pending c.in-Ok.ensures.taken);
+      stocks = stocks_at _ _ _ _ _ c.take_held.ensures.after (took _ _ _ _ _ stands.pending c.in-Ok.ensures.taken);
     }
 
 pub invariant_of-seat-in-Err-NoMemory : goal.invariant_of-seat-in-Err-NoMemory
 invariant_of-seat-in-Err-NoMemory g c =
     let s = c.args.seat.now in
-    let stands : Stands (view c.match-take.seat.1.1.0) s.deliverer c.match-take.delivery (all_sent s.rings.items) = elim c.match-take.branch [
-      | in-Some w ↦ stands_again _ _ _ _ _ _ _ s.collects_only s.parts.1 s.stocks (sym c.take.ensures.value ∙ w.in-Some.is) (ap (λ s. view s.1.1.0) w.seat-is) w.delivery-is
-      | in-None+in-Some-pop_as w ↦ stands_popped _ _ _ _ _ _ _ s.collects_only s.parts.1 s.stocks (sym c.take.ensures.value ∙ w.in-None.is) (ap (λ s. view s.1.1.0) w.seat-is ∙ w.in-Some-pop_as.ensures.rule) w.delivery-is
+    let stands : Stands (view c.match-take_held.seat.1.1.0) s.deliverer c.match-take_held.delivery (all_sent s.rings.items) = elim c.match-take_held.branch [
+      | in-Some w ↦ stands_again _ _ _ _ _ _ _ s.collects_only s.parts.1 s.stocks (sym c.take_held.ensures.value ∙ w.in-Some.is) (ap (λ s. view s.1.1.0) w.seat-is) w.delivery-is
+      | in-None+in-Some-pop_as w ↦ stands_popped _ _ _ _ _ _ _ s.collects_only s.parts.1 s.stocks (sym c.take_held.ensures.value ∙ w.in-None.is) (ap (λ s. view s.1.1.0) w.seat-is ∙ w.in-Some-pop_as.ensures.rule) w.delivery-is
     ] in
     let t = rw c.in-Err-NoMemory.field-0-is at c.in-Err-NoMemory.ensures.refused in
     record {
@@ -41,14 +41,14 @@ invariant_of-seat-in-Err-NoMemory g c =
 pub invariant_of-seat-in-Err-Stranger : goal.invariant_of-seat-in-Err-Stranger
 invariant_of-seat-in-Err-Stranger g c =
     let s = c.args.seat.now in
-    let stands : Stands (view c.match-take.seat.1.1.0) s.deliverer c.match-take.delivery (all_sent s.rings.items) = elim c.match-take.branch [
-      | in-Some w ↦ stands_again _ _ _ _ _ _ _ s.collects_only s.parts.1 s.stocks (sym c.take.ensures.value ∙ w.in-Some.is) (ap (λ s. view s.1.1.0) w.seat-is) w.delivery-is
-      | in-None+in-Some-pop_as w ↦ stands_popped _ _ _ _ _ _ _ s.collects_only s.parts.1 s.stocks (sym c.take.ensures.value ∙ w.in-None.is) (ap (λ s. view s.1.1.0) w.seat-is ∙ w.in-Some-pop_as.ensures.rule) w.delivery-is
+    let stands : Stands (view c.match-take_held.seat.1.1.0) s.deliverer c.match-take_held.delivery (all_sent s.rings.items) = elim c.match-take_held.branch [
+      | in-Some w ↦ stands_again _ _ _ _ _ _ _ s.collects_only s.parts.1 s.stocks (sym c.take_held.ensures.value ∙ w.in-Some.is) (ap (λ s. view s.1.1.0) w.seat-is) w.delivery-is
+      | in-None+in-Some-pop_as w ↦ stands_popped _ _ _ _ _ _ _ s.collects_only s.parts.1 s.stocks (sym c.take_held.ensures.value ∙ w.in-None.is) (ap (λ s. view s.1.1.0) w.seat-is ∙ w.in-Some-pop_as.ensures.rule) w.delivery-is
     ] in
     let t = rw c.in-Err-Stranger.field-0-is at c.in-Err-Stranger.ensures.refused in
     record {
       idle_at_jobs = s.idle_at_jobs;
       parts = (s.parts.0, stands.part);
       collects_only = stands.pops_only;
-      stocks = stocks_at _ _ _ _ _ c.take.ensures.after (passed_over _ _ _ _ _ stands.pending t.0 c.in-Err-Stranger.ensures.unchanged);
+      stocks = stocks_at _ _ _ _ _ c.take_held.ensures.after (passed_over _ _ _ _ _ stands.pending t.0 c.in-Err-Stranger.ensures.unchanged);
     }
