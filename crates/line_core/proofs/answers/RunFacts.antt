@@ -10,6 +10,7 @@ use Rattle.std.proofs.lemmas.List.Folds.{concat-append}
 use Rattle.std.proofs.lemmas.Slice.Zip.{AllZip-long}
 use Rattle.scan_core.specs.Answers.{IsAnswer, Reads}
 use Rattle.scan_core.specs.declared.answer.Answer.{Answer}
+use Rattle.lane_core.specs.declared.job.Plain.{Plain}
 use Rattle.hub_core.specs.Serving.{are_counts, are_short, is_count, numbered_feeds}
 use Rattle.line_core.specs.answers.Reports.{lane_lines, lanes_from, line_of, lines_from, with_lines}
 use Rattle.line_core.proofs.Beside.{beside-append}
@@ -246,6 +247,13 @@ run_step k = omega arith
 pub no_text : {V : Type 0} (f : V → List (List ℕ)) (vs : List V) → map {B = List ℕ} (λ v. []) vs ≡ map {B = List ℕ} (λ feed. []) (map f vs)
 no_text f [] = refl
 no_text f (v ∷ vs) = ap (λ ts. [] ∷ ts) (no_text f vs)
+
+-- feeds without rows are served lists without deliveries
+pub none_served : {V : Type 0} (f : V → List (List ℕ)) (lane year : ℕ) (vs : List V) → All (λ v. f v ≡ []) vs → map {B = List Plain} (λ v. []) vs ≡ numbered_feeds lane year (map f vs)
+none_served f lane year [] all = refl
+none_served {V} f lane year (v ∷ vs) all =
+    let P : V → Type 0 = λ v. f v ≡ [] in
+    rw (All-head P v vs all) (ap (λ lists. [] ∷ lists) (none_served f (lane + 1) year vs (All-rest P v vs (v ∷ vs) refl all)))
 
 length_lines : (lane : ℕ) (answers : List (List Answer)) → length (lane_lines lane answers) ≡ length answers
 length_lines lane [] = refl

@@ -1,5 +1,5 @@
 //! Rows that workers answer, and the report of the answers.
-ghost use Rattle.std.specs.Prelude.{[], ◌≡◌, ◌≢◌, ◌≤◌, List, drop, length, true, map, take, IfOk, string_bytes};
+ghost use Rattle.std.specs.Prelude.{[], ◌≡◌, ◌≢◌, ◌≤◌, All, List, drop, length, true, map, take, IfOk, string_bytes};
 ghost use Rattle.std.specs.List.{AllZip};
 ghost use Rattle.scan_core.specs.Answers.{Reads};
 ghost use Rattle.scan_core.specs.declared.answer.Answer.{Answer};
@@ -53,7 +53,26 @@ fn fault_of(fault: ServeFault) -> AnswerFault
     }
 }
 
-/// The deliveries of each feed's rows, read by so many workers beside each other.
+/// Whether no feed has a row.
+fn are_rowless(feeds: &[Vec<Runs>]) -> bool
+    ensures { result ≡ true → All (λ feed. feed.items ≡ []) feeds.now }
+{
+    feeds.iter().all(|feed| feed.is_empty())
+}
+
+/// For each feed a list of no deliveries.
+fn no_deliveries(alloc: Global, feeds: Vec<Vec<Runs>>) -> Result<Vec<Vec<Delivery>>, AllocError>
+    ensures { IfOk result (λ v. map (λ list. list.items) v.items ≡ map (λ feed. []) feeds.items) }
+{
+    let mut lists = Vec::with_capacity(alloc, feeds.len())?;
+    for _feed in feeds {
+        lists.push(Vec::new(alloc))?;
+    }
+    Ok(lists)
+}
+
+/// The deliveries of each feed's rows, read by so many workers beside each other. Where there is no row
+/// no thread is started.
 fn serve_all<R: Threads + Wait + Sync, G: Gate + Sync>(
     rt: &R,
     alloc: Global,
@@ -66,6 +85,9 @@ fn serve_all<R: Threads + Wait + Sync, G: Gate + Sync>(
     ensures { IfOk result (λ v. map (λ list. list.items) v.items
         ≡ served year (map (λ feed. feed.items) feeds.items)) }
 {
+    if are_rowless(feeds.as_slice()) {
+        return Ok(no_deliveries(alloc, feeds)?);
+    }
     match serve(rt, alloc, feeds, workers, year, gate) {
         Ok(lists) => Ok(lists),
         Err(fault) => Err(fault_of(fault)),
