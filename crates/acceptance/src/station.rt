@@ -7,8 +7,8 @@ ghost use Rattle.hub_core.specs.Lanes.{numbers_of};
 use crate::held::{LaneGate, first_polled};
 use element_core::Year;
 use hub_core::{
-    ClosedLane, Collected, DelivererSeat, Handed, Hub, LaneSeat, OpenGate, Parts, Shape,
-    Signals, SubmitFault, Unsettled, Worked, WorkerSeat, run_workers,
+    ClosedLane, Collected, DelivererSeat, Handed, Hub, LaneSeat, OpenGate, Parts, Shape, Signals,
+    SubmitFault, Unsettled, Worked, WorkerSeat, run_workers,
 };
 use lane_core::{Delivery, Ticket};
 use scan_core::{Answer, Carrier, Runs};

@@ -57,7 +57,7 @@ pub(crate) fn drive<R: Wait>(
         // What waits behind a number that came late.
         pass_to_each(hub, feeds, deliverer);
         submit_each(rt, hub, feeds, signals);
-        signals.jobs.notify_one();
+        signals.notify_workers();
         match gathered {
             Gathered::Taken(_) => {}
             Gathered::NoMemory => return false,

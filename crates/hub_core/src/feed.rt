@@ -90,7 +90,7 @@ impl Feed {
             match self.submit_next(rt, hub) {
                 Submitted::Row => {
                     if self.seat.issued % SHARE == 0 {
-                        signals.jobs.notify_one();
+                        signals.notify_workers();
                     }
                 }
                 Submitted::Nothing => return true,

@@ -94,6 +94,12 @@ impl Signals {
         }
     }
 
+    /// Tells the workers that rows were submitted, or that there is room for deliveries. A worker that
+    /// was not told looks again within a millisecond.
+    pub fn notify_workers(&self) {
+        self.jobs.notify_one();
+    }
+
     /// Tells all workers to stop, those too that sleep.
     pub(crate) fn tell_to_stop(&self) {
         self.stop.store(TOLD, Ordering::SeqCst);
