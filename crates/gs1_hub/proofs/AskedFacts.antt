@@ -1,15 +1,18 @@
 -- Words that `clap` takes ask for a command with its numbers.
-use Rattle.std.proofs.Common.{◌≡◌, ◌++◌, List, [], ◌∷◌, codes, refl, subst, sym}
+use Rattle.std.proofs.Common.{◌≡◌, ◌++◌, Bool, false, true, List, [], ◌∷◌, codes, refl, subst, sym}
 use Rattle.clap.specs.Faults.{fault_of}
 use Rattle.clap.specs.Simple.{subcommand_of}
 use Rattle.clap.specs.Walk.{Row, Rule, Text, rows_after}
 use Rattle.line_core.specs.Numbers.{most_columns, most_dots, most_height, most_rows, most_width}
-use Rattle.gs1_hub.specs.Asking.{Asks, AsksIn}
-use Rattle.gs1_hub.specs.CommandLine.{hub_app}
+use Rattle.gs1_hub.specs.Arguments.{HasFlag, first_year, last_year, most_lanes, most_workers}
+use Rattle.gs1_hub.specs.commands.Prints.{HasOutput}
+use Rattle.gs1_hub.specs.Asking.{Asks}
 use Rattle.gs1_hub.specs.Laws.{TakenAsk}
-use Rattle.gs1_hub.specs.Numbers.{first_year, last_year, most_lanes, most_workers}
-use Rattle.gs1_hub.specs.declared.words.Asked.{Asked}
-use Rattle.gs1_hub.specs.declared.words.Asked.TheVariants as asked
+use Rattle.gs1_hub.specs.commands.{AsksIn, hub_app}
+use Rattle.gs1_hub.specs.declared.commands.Asked.{Asked}
+use Rattle.gs1_hub.specs.declared.commands.print.options.Output.{Output}
+use Rattle.gs1_hub.specs.declared.commands.print.options.Output.TheVariants as output
+use Rattle.gs1_hub.specs.declared.commands.Asked.TheVariants as asked
 use Rattle.gs1_hub.proofs.NumberRows.{Passed, flag, help}
 use Rattle.gs1_hub.proofs.TakenWords.{Range, flag_beside, named, number_beside, number_of, numbers, required, shape}
 
@@ -39,6 +42,15 @@ check_asked words p =
     let y = number_of (codes "check") (year ∷ []) words p (codes "year") first_year last_year refl (given.0 refl) in
     (asked.Check y.0, (refl, y.1))
 
+-- what the flag asks for
+abbrev output_of : Bool → Output
+output_of false = output.Images
+output_of true = output.Lines
+
+output_given : (rows : List Row) (b : Bool) → HasFlag (codes "text") rows b → HasOutput rows (output_of b)
+output_given rows false h = h
+output_given rows true h = h
+
 abbrev print_rules : List Rule
 print_rules = numbers (grid (year ∷ [])) ++ flag (codes "text") ∷ help ∷ []
 
@@ -54,8 +66,8 @@ print_asked words p =
     let r = number (codes "rows") 1 most_rows refl refl (given.1.1.1.1.0 refl) in
     let y = number (codes "year") first_year last_year refl refl (given.1.1.1.1.1.0 refl) in
     let t = flag_beside (codes "print") (codes "text") refl (grid (year ∷ [])) words p refl in (
-      asked.Print (record { grid = record { module_dots = m.0; width = w.0; height = h.0; columns = c.0; rows = r.0; numbers = (m.1.1, w.1.1, h.1.1, c.1.1, r.1.1) }; year = y.0; text = t.0 }),
-      (refl, ((m.1.0, w.1.0, h.1.0, c.1.0, r.1.0, (m.1.1, w.1.1, h.1.1, c.1.1, r.1.1)), y.1, t.1)),
+      asked.Print (record { grid = record { module_dots = m.0; width = w.0; height = h.0; columns = c.0; rows = r.0; numbers = (m.1.1, w.1.1, h.1.1, c.1.1, r.1.1) }; year = y.0; output = output_of t.0 }),
+      (refl, ((m.1.0, w.1.0, h.1.0, c.1.0, r.1.0, (m.1.1, w.1.1, h.1.1, c.1.1, r.1.1)), y.1, output_given (rows_after print_rules [] words) t.0 t.1)),
     )
 
 abbrev lanes_rules : List Rule

@@ -3,11 +3,12 @@ use Rattle.std.proofs.Common.{◌++◌, ◌≡◌, ◌∙◌, Err, List, None, O
 use Rattle.std.specs.Prelude.{IfErr, IfSome, IsErrAnd}
 use Rattle.std.specs.Io.KnownBytes.{Keeps, append_known}
 use Rattle.digits_core.specs.Bytes.{TookFront}
-use Rattle.gs1_hub.specs.Commands.{Wrote, command_of}
+use Rattle.gs1_hub.specs.Runs.{Wrote}
+use Rattle.gs1_hub.specs.commands.{command_of}
 use Rattle.gs1_hub.specs.declared.fault.CommandFault.{CommandFault}
 use Rattle.gs1_hub.specs.declared.fault.CommandFault.TheVariants as command
-use Rattle.gs1_hub.specs.declared.words.Asked.{Asked}
-use Rattle.gs1_hub.specs.declared.words.Asked.TheVariants as asked
+use Rattle.gs1_hub.specs.declared.commands.Asked.{Asked}
+use Rattle.gs1_hub.specs.declared.commands.Asked.TheVariants as asked
 
 -- it took a front, and the rest waits or did not come
 pub took_front : (a b c : Option (List ℕ)) (first last text : List ℕ) → IfSome a (λ bytes. bytes ≡ []) → first ≡ [] → TookFront (append_known a first) b text

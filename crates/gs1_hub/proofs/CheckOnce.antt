@@ -16,7 +16,7 @@ use Rattle.line_core.specs.declared.check.answer.CheckAnswer.{CheckAnswer}
 use Rattle.line_core.specs.declared.check.answer.CheckAnswer.TheVariants as answer
 use Rattle.line_core.specs.declared.check.answer.CheckKind.{CheckKind}
 use Rattle.line_core.specs.declared.check.answer.CheckKind.TheVariants as kind
-use Rattle.gs1_hub.specs.Laws.{OneCheck}
+use Rattle.gs1_hub.specs.commands.Checks.{OneCheck}
 
 -- the last digit adds itself to the weighted sum
 last_digit : (ds : List ℕ) (d : ℕ) → weighted (ds ++ d ∷ []) ≡ weighted (ds ++ 0 ∷ []) + d

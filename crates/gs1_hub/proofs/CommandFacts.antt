@@ -9,8 +9,9 @@ use Rattle.line_core.specs.Grids.{cells_of}
 use Rattle.line_core.specs.answers.Reports.{IsReport}
 use Rattle.line_core.specs.input.Records.{Meaning, Takes}
 use Rattle.line_core.specs.scan.Columns.{AreColumns, have_size}
-use Rattle.gs1_hub.specs.Commands.{WritesRecords, Wrote, scan_command}
-use Rattle.gs1_hub.specs.declared.options.ScanOptions.{ScanOptions}
+use Rattle.gs1_hub.specs.Runs.{WritesRecords, Wrote}
+use Rattle.gs1_hub.specs.commands.Scans.{scan_command}
+use Rattle.gs1_hub.specs.declared.commands.scan.options.ScanOptions.{ScanOptions}
 
 -- records were taken, and a sink took a prefix of their text
 pub records_cut : {Item : Type 0} (means : Meaning Item) (made : List Item → Type 0) (output : List Item → List ℕ → Type 0) (refuses : _)

@@ -4,7 +4,7 @@ use Rattle.std.specs.Str.Parse.{ParsesBool}
 use Rattle.clap.specs.Words.{ReadsOne, Row, Text, one_of, one_text, rows_of}
 use Rattle.clap.specs.declared.parser.matches.Found.{Found}
 use Rattle.clap.proofs.WalkLemmas.{one_text-rows}
-use Rattle.gs1_hub.specs.CommandLine.{HasFlag, flag_text}
+use Rattle.gs1_hub.specs.Arguments.{HasFlag, flag_text}
 
 module _ (E : Type 0) where
   by_some : (rows : List Row) (name : Text) (r : Option Bool) (o : Option Text) → o ≡ one_of name rows → (o ≡ None → r ≡ None)

@@ -6,7 +6,7 @@ use Rattle.clap.specs.Words.{Row, Text, one_of, one_text, rows_of}
 use Rattle.clap.specs.Matches.{ReadsOne}
 use Rattle.clap.specs.declared.parser.matches.Found.{Found}
 use Rattle.clap.proofs.WalkLemmas.{one_text-rows}
-use Rattle.gs1_hub.specs.CommandLine.{HasNumber}
+use Rattle.gs1_hub.specs.Arguments.{HasNumber}
 
 -- what a number of so many bits is read of
 abbrev pub gives : ℕ → List ℕ → Result ℕ ParseIntError → Type 0

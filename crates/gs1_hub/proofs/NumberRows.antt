@@ -19,7 +19,7 @@ use Rattle.clap.specs.declared.error.kind.ErrorKind.{ErrorKind}
 use Rattle.clap.specs.declared.error.kind.ErrorKind.TheVariants as kind
 use Rattle.clap.specs.declared.parser.matches.ValueSource.TheVariants.{CommandLine}
 use Rattle.clap.proofs.ValueTestLemmas.{accepts-Accepts}
-use Rattle.gs1_hub.specs.CommandLine.{HasFlag, HasNumber, flag_rule, flag_text, number_rule}
+use Rattle.gs1_hub.specs.Arguments.{HasFlag, HasNumber, flag_rule, flag_text, number_rule}
 use Rattle.gs1_hub.proofs.WalkKeeps.{Keeps, first_none, second_none, settle_keeps, walk_keeps}
 
 -- ---- a row at the end

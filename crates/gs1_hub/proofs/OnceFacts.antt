@@ -12,7 +12,7 @@ use Rattle.line_core.specs.lanes.Feeds.{LaneRow, feed_of, feeds_of, is_lane, lan
 use Rattle.line_core.specs.lanes.Widths.{are_widths, field_fault, widths_in, words_of}
 use Rattle.line_core.specs.declared.input.fault.RecordFault.{RecordFault}
 use Rattle.line_core.specs.declared.input.fault.RecordFault.TheVariants as fault
-use Rattle.gs1_hub.specs.Laws.{OneLanes}
+use Rattle.gs1_hub.specs.commands.Lanes.{OneLanes}
 use Rattle.gs1_hub.proofs.BesideFacts.{same_beside}
 
 -- where each record means one item at most, bytes mean one list of items

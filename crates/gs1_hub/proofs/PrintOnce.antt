@@ -1,5 +1,5 @@
 -- `print` writes one text of bytes at most of the same bytes.
-use Rattle.std.proofs.Common.{◌≡◌, ◌∙◌, Bool, List, None, Ok, Option, Some, [], ◌∷◌, ap, false, subst, sym, true, ℕ}
+use Rattle.std.proofs.Common.{◌≡◌, ◌∙◌, List, None, Ok, Option, Some, [], ◌∷◌, ap, subst, sym, ℕ}
 use Rattle.element_core.specs.Elements.{Listing, OneAnswer}
 use Rattle.sheet_core.specs.Bitmaps.{Bitmap}
 use Rattle.sheet_core.specs.Grids.{Cells}
@@ -14,8 +14,9 @@ use Rattle.line_core.specs.Grids.{cells_of}
 use Rattle.line_core.specs.input.Records.{Fields}
 use Rattle.line_core.specs.input.Spelling.{spelled_text}
 use Rattle.line_core.specs.print.Labels.{IsElementLabel, IsLabelAs, IsLabelBy, print_meaning}
-use Rattle.gs1_hub.specs.Laws.{OnePrint}
-use Rattle.gs1_hub.specs.Prints.{IsPrinted}
+use Rattle.gs1_hub.specs.commands.Prints.{IsPrinted, OnePrint}
+use Rattle.gs1_hub.specs.declared.commands.print.options.Output.{Output}
+use Rattle.gs1_hub.specs.declared.commands.print.options.Output.TheVariants as output
 use Rattle.gs1_hub.proofs.OnceFacts.{mean_once}
 
 module _ (one : OneAnswer) (year : ℕ) where
@@ -43,10 +44,10 @@ module _ (one : OneAnswer) (year : ℕ) where
   label_once (name ∷ field ∷ other ∷ more) a b h k = cc h
 
 -- what is printed of labels is one text
-printed_once : OnePrinted → (g : Cells) (is_text : Bool) (labels : List Label) (text other : List ℕ) → AreBytes text → AreBytes other
-    → IsPrinted g is_text labels text → IsPrinted g is_text labels other → text ≡ other
-printed_once one g true labels text other small small_too h k = h.1 ∙ sym k.1
-printed_once one g false labels text other small small_too h k =
+printed_once : OnePrinted → (g : Cells) (o : Output) (labels : List Label) (text other : List ℕ) → AreBytes text → AreBytes other
+    → IsPrinted g o labels text → IsPrinted g o labels other → text ≡ other
+printed_once one g output.Lines labels text other small small_too h k = h.1 ∙ sym k.1
+printed_once one g output.Images labels text other small small_too h k =
     let sheets : List Bitmap = h.0 in
     let others : List Bitmap = k.0 in
     let same = one labels g sheets others h.1 k.1 (subst AreBytes h.2 small) (subst AreBytes k.2 small_too) in
@@ -56,5 +57,5 @@ pub one_print : OneAnswer → OnePrinted → OnePrint
 one_print answers prints o bytes text other small small_too h k =
     let g = cells_of o.grid in
     let same = mean_once (print_meaning o.year) (label_once answers o.year) bytes k.0 h.0 k.1 h.1 in
-    let printed : IsPrinted g o.text h.0 other = subst (λ labels. IsPrinted g o.text labels other) same k.2.1 in
-    printed_once prints g o.text h.0 text other small small_too h.2.1 printed
+    let printed : IsPrinted g o.output h.0 other = subst (λ labels. IsPrinted g o.output labels other) same k.2.1 in
+    printed_once prints g o.output h.0 text other small small_too h.2.1 printed

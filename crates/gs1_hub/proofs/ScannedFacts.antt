@@ -1,5 +1,5 @@
 -- What the columns of printed sheets answer.
-use Rattle.std.proofs.Common.{◌≡◌, ℕ, zero, suc, ◌+◌, ◌*◌, ◌/◌, ◌≤◌, ◌<◌, ◌==◌, Bool, true, List, [], Some, Ok, false, length, map, refl, sym, ap, subst, ◌∙◌, get_or, inl, inr, arith}
+use Rattle.std.proofs.Common.{◌≡◌, ℕ, zero, suc, ◌+◌, ◌*◌, ◌/◌, ◌≤◌, ◌<◌, ◌==◌, Bool, true, List, [], Some, Ok, length, map, refl, sym, ap, subst, ◌∙◌, get_or, inl, inr, arith}
 use Rattle.std.specs.List.{AllByRecursion, AllZip, flat_map, range_with_len, slice_get}
 use Rattle.std.proofs.lemmas.Bool.{and_from, eq-eqb}
 use Rattle.std.proofs.lemmas.List.FromFn.{length-map-range_with_len}
@@ -19,16 +19,17 @@ use Rattle.sheet_core.specs.Laws.{BarRowsAnswer, EmptyCellsAreBlank, PrintedIsRe
 use Rattle.sheet_core.specs.pbm.Images.{images_of}
 use Rattle.sheet_core.specs.declared.label.Label.{Label}
 use Rattle.line_core.specs.Grids.{cells_of}
-use Rattle.gs1_hub.specs.Laws.{IsPrintFor, OneScan, PrintedIsAnswered, PrintedIsScanned, cell_answer, column_answers, labels_report, sheet_answers}
+use Rattle.gs1_hub.specs.Laws.{IsPrintFor, PrintedIsAnswered, PrintedIsScanned, cell_answer, column_answers, labels_report, sheet_answers}
+use Rattle.gs1_hub.specs.commands.Prints.{IsPrinted}
+use Rattle.gs1_hub.specs.declared.commands.print.options.Output.TheVariants as output
+use Rattle.gs1_hub.specs.commands.Scans.{AreImages, IsScan, OneScan}
 use Rattle.line_core.specs.print.Labels.{label_list, print_meaning}
-use Rattle.gs1_hub.specs.Prints.{IsPrinted}
 use Rattle.line_core.specs.input.Records.{AreItems, Fields}
 use Rattle.line_core.specs.answers.Reports.{report}
 use Rattle.line_core.specs.scan.Columns.{AreColumns, HaveDots, column_cells, column_dots, has_size, have_size}
-use Rattle.gs1_hub.specs.Scans.{AreImages, IsScan}
 use Rattle.gs1_hub.proofs.BesideFacts.{apart, below, beside, beside-flat_map, beside-map, map_beside, same_beside}
-use Rattle.gs1_hub.specs.declared.options.PrintOptions.{PrintOptions}
-use Rattle.gs1_hub.specs.declared.options.ScanOptions.{ScanOptions}
+use Rattle.gs1_hub.specs.declared.commands.print.options.PrintOptions.{PrintOptions}
+use Rattle.gs1_hub.specs.declared.commands.scan.options.ScanOptions.{ScanOptions}
 use Rattle.gs1_hub.proofs.LabelReadings.{Says}
 
 -- a row with these dots has this answer
@@ -158,8 +159,8 @@ scanned_so : ((year : ℕ) (rows : List Fields) (labels : List Label) → AreIte
     × AllZip (λ rows read. Reads rows scan.year read) feeds (map (column_answers (cells_of scan.grid) scan.year labels) (range_with_len 0 scan.grid.columns))
 scanned_so say read bars blank make scan print rows labels bytes p =
     let g = cells_of scan.grid in
-    let in_print_grid : IsPrinted (cells_of print.grid) false labels bytes = subst (λ b. IsPrinted (cells_of print.grid) b labels bytes) p.images p.printed.1 in
-    let written : IsPrinted g false labels bytes = subst (λ h. IsPrinted h false labels bytes) (sym p.same_grid) in_print_grid in
+    let in_print_grid : IsPrinted (cells_of print.grid) output.Images labels bytes = subst (λ b. IsPrinted (cells_of print.grid) b labels bytes) p.images p.printed.1 in
+    let written : IsPrinted g output.Images labels bytes = subst (λ h. IsPrinted h output.Images labels bytes) (sym p.same_grid) in_print_grid in
     let sheets : List Bitmap = written.0 in
     let are = written.1 in
     let says : AllByRecursion (Says scan.year) labels = subst (λ y. AllByRecursion (Says y) labels) (sym p.same_year) (say print.year rows labels p.mean) in

@@ -10,7 +10,8 @@ use Rattle.clap.specs.Simple.{App, Shape, argument_words, built, built_leaf, ent
 use Rattle.clap.specs.Faults.{check_fault, defaults_fault, entered_fault, fault_of, level_fault, settle_fault, walk_fault}
 use Rattle.clap.specs.declared.error.kind.ErrorKind.TheVariants as kind
 use Rattle.clap.specs.declared.parser.matches.ValueSource.TheVariants.{DefaultValue}
-use Rattle.gs1_hub.specs.CommandLine.{HasFlag, hub_app}
+use Rattle.gs1_hub.specs.Arguments.{HasFlag}
+use Rattle.gs1_hub.specs.commands.{hub_app}
 use Rattle.gs1_hub.proofs.NumberRows.{GivesFlag, GivesNumber, HasNumberIn, Holds, Passed, at_end, flag, flag_keeps_flag, flag_keeps_number, given_flag, given_number, held_rows, help, help_keeps, no_kind, number, one_more, option_keeps_flag, option_keeps_number, passed_of, rows_hold}
 use Rattle.gs1_hub.proofs.WalkKeeps.{Keeps, first_none, found_has, second_none}
 

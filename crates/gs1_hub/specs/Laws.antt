@@ -11,22 +11,20 @@ use Rattle.sheet_core.specs.Bitmaps.{Bitmap, cell_dots}
 use Rattle.sheet_core.specs.Drawing.{cell_count, sheet_count}
 use Rattle.sheet_core.specs.Grids.{Cells}
 use Rattle.sheet_core.specs.Labels.{carrier_of}
-use Rattle.sheet_core.specs.PrintLaws.{AreBytes}
 use Rattle.sheet_core.specs.declared.label.Label.{Label}
 use Rattle.line_core.specs.Grids.{cells_of}
 use Rattle.line_core.specs.print.Labels.{label_list, print_meaning}
 use Rattle.gs1_hub.specs.Asking.{WordsAsk}
-use Rattle.gs1_hub.specs.CommandLine.{hub_app}
-use Rattle.gs1_hub.specs.declared.words.Asked.{Asked}
-use Rattle.gs1_hub.specs.Commands.{Command, check_command, lanes_command, print_command, scan_command}
-use Rattle.gs1_hub.specs.declared.options.LaneOptions.{LaneOptions}
-use Rattle.gs1_hub.specs.Prints.{IsPrint}
+use Rattle.gs1_hub.specs.commands.{hub_app}
+use Rattle.gs1_hub.specs.commands.Prints.{IsPrint}
+use Rattle.gs1_hub.specs.commands.Scans.{AreImages, IsScan}
+use Rattle.gs1_hub.specs.declared.commands.Asked.{Asked}
+use Rattle.gs1_hub.specs.declared.commands.print.options.Output.TheVariants as output
+use Rattle.gs1_hub.specs.declared.commands.print.options.PrintOptions.{PrintOptions}
+use Rattle.gs1_hub.specs.declared.commands.scan.options.ScanOptions.{ScanOptions}
 use Rattle.line_core.specs.input.Records.{AreItems, Fields}
 use Rattle.line_core.specs.answers.Reports.{report}
 use Rattle.line_core.specs.scan.Columns.{AreColumns, column_cells}
-use Rattle.gs1_hub.specs.Scans.{AreImages, IsScan}
-use Rattle.gs1_hub.specs.declared.options.PrintOptions.{PrintOptions}
-use Rattle.gs1_hub.specs.declared.options.ScanOptions.{ScanOptions}
 
 -- what a scan answers for a cell: the carrier and the elements of its label, or that it is blank
 abbrev pub cell_answer : ℕ → Option Label → Answer
@@ -47,7 +45,7 @@ labels_report g year labels = report (map (column_answers g year labels) (range_
 
 -- what `print` writes of the labels of records as at most 4,096 images, for a scan in the same grid and year
 pub record IsPrintFor (scan : ScanOptions) (print : PrintOptions) (rows : List Fields) (labels : List Label) (bytes : List ℕ) : Type 0 where
-  pub images : print.text ≡ false
+  pub images : print.output ≡ output.Images
   pub same_grid : cells_of scan.grid ≡ cells_of print.grid
   pub same_year : scan.year ≡ print.year
   pub few : sheet_count (cells_of scan.grid) (length labels) ≤ 4096
@@ -91,24 +89,6 @@ RowsByPlace =
     × ((sheet row : ℕ) (s : Bitmap) → slice_get sheets sheet ≡ Some s → row < g.rows
     → (runs : List ℕ) × (slice_get rows (sheet * g.rows + row) ≡ Some runs)
     × (IsRow runs × (dots_of runs ≡ cell_dots g s (row * g.columns + column) (g.height / 2))))
-
--- of the same bytes a command writes one text at most
-abbrev pub WritesOnce : Command → Type 0
-WritesOnce c = (bytes text other : List ℕ) → c.writes bytes text → c.writes bytes other → text ≡ other
-
-abbrev pub OneCheck : Type 0
-OneCheck = (year : ℕ) → WritesOnce (check_command year)
-
-abbrev pub OneLanes : Type 0
-OneLanes = (o : LaneOptions) → WritesOnce (lanes_command o)
-
-abbrev pub OneScan : Type 0
-OneScan = (o : ScanOptions) → WritesOnce (scan_command o)
-
--- the same of texts of bytes, for images are fixed by their dots alone where these are packed in bytes
-abbrev pub OnePrint : Type 0
-OnePrint = (o : PrintOptions) (bytes text other : List ℕ) → AreBytes text → AreBytes other
-    → (print_command o).writes bytes text → (print_command o).writes bytes other → text ≡ other
 
 -- words in which `clap` finds no fault ask for a command with its numbers
 abbrev pub TakenAsk : Type 0

@@ -1,9 +1,7 @@
+pub mod Arguments
 pub mod Asking
 pub mod Buffers
-pub mod CommandLine
-pub mod Commands
 pub mod Faults
 pub mod Laws
-pub mod Numbers
-pub mod Prints
-pub mod Scans
+pub mod Runs
+pub mod commands

@@ -1,10 +1,10 @@
 //! Laws about what the commands write and read, each the contract of a function that does nothing.
-ghost use Rattle.gs1_hub.specs.Laws.{AnswersByPlace, OneCheck, OneLanes, OnePrint, OneScan, PrintedIsAnswered, PrintedIsScanned, RowsByPlace, TakenAsk};
+ghost use Rattle.gs1_hub.specs.Laws.{AnswersByPlace, PrintedIsAnswered, PrintedIsScanned, RowsByPlace, TakenAsk};
 
 use digits_core::gtins_are_checked;
 use element_core::{canonical_reads, gtin_reads};
-use scan_core::{dots_determine, dots_make_row, one_answer, row_or_fault};
-use sheet_core::{bar_rows_answer, empty_cells_are_blank, one_printed, printed_is_read};
+use scan_core::{dots_determine, dots_make_row, one_answer};
+use sheet_core::{bar_rows_answer, empty_cells_are_blank, printed_is_read};
 
 /// Of what `print` writes as at most 4,096 images, a scan in the same grid and year answers for each
 /// cell the carrier and the elements of its label, or that it is blank. So `scan` takes it, and what it
@@ -35,37 +35,6 @@ pub fn answers_by_place()
 pub fn rows_by_place()
     ensures { RowsByPlace }
 {}
-
-/// Of the same bytes `scan` writes one text at most.
-pub fn one_scan()
-    ensures { OneScan }
-{
-    dots_determine();
-    one_answer();
-}
-
-/// Of the same bytes `check` writes one text at most.
-pub fn one_check()
-    ensures { OneCheck }
-{
-    element_core::one_answer();
-}
-
-/// Of the same bytes `lanes` writes one text at most.
-pub fn one_lanes()
-    ensures { OneLanes }
-{
-    row_or_fault();
-    one_answer();
-}
-
-/// Of the same bytes `print` writes one text of bytes at most.
-pub fn one_print()
-    ensures { OnePrint }
-{
-    element_core::one_answer();
-    one_printed();
-}
 
 /// Words in which `clap` finds no fault ask for a command with its numbers, each in its range.
 pub fn taken_words_ask()

@@ -3,31 +3,25 @@
 
 ghost use Rattle.std.specs.Prelude.{◌≡◌, [], IfOk, IfSome, false};
 ghost use Rattle.std.specs.Process.{exit_status};
-ghost use Rattle.gs1_hub.specs.Commands.{Ran, command_of};
 ghost use Rattle.gs1_hub.specs.Faults.{TookHelp, status_of, words_status};
+ghost use Rattle.gs1_hub.specs.Runs.{Ran};
+ghost use Rattle.gs1_hub.specs.commands.{command_of};
 
+mod arguments;
 mod buffered;
-mod check;
-mod command_line;
+mod commands;
 mod fault;
 mod help;
-mod lanes;
 mod laws;
-mod options;
-mod print;
-mod scan;
 #[cfg(test)]
 mod tests;
 mod words;
 
 use crate::buffered::Buffered;
-use crate::check::run_check;
+use crate::commands::{Asked, run};
 use crate::fault::CommandFault;
 use crate::help::write_help;
-use crate::lanes::run_lanes;
-use crate::print::run_print;
-use crate::scan::run_scan;
-use crate::words::{Asked, WordsFault, read_words};
+use crate::words::{WordsFault, read_words};
 use digits_core::{FromReader, Sink, Source, ToWriter};
 use hub_core::{Gate, OpenGate};
 use std::alloc::Global;
@@ -35,26 +29,6 @@ use std::process::ExitCode;
 use std::sync::Wait;
 use std::thread::Threads;
 use std::{env, io};
-
-/// Runs the command that is asked for. The gate is for the workers of those that read rows.
-fn run<R: Threads + Wait + Sync, S: Source, W: Sink, G: Gate + Sync>(
-    rt: &R,
-    alloc: Global,
-    asked: Asked,
-    source: &mut S,
-    sink: &mut W,
-    gate: &G,
-) -> Result<(), CommandFault>
-    ensures { Ran (command_of asked) S.left S.failed W.taken W.failed
-        source.old source.new sink.old sink.new result }
-{
-    match asked {
-        Asked::Check(year) => run_check(alloc, year, source, sink),
-        Asked::Print(options) => run_print(alloc, options, source, sink),
-        Asked::Lanes(options) => run_lanes(rt, alloc, options, source, sink, gate),
-        Asked::Scan(options) => run_scan(rt, alloc, options, source, sink, gate),
-    }
-}
 
 /// Runs the command with a buffer before its output, and writes what waits in it at the end. Before it runs
 /// nothing waits, and nothing is known to have been taken.

@@ -10,10 +10,10 @@ mod scans;
 mod symbols;
 mod words;
 
+use crate::commands::lanes::options::LaneOptions;
+use crate::commands::print::options::Output;
+use crate::commands::{Asked, run};
 use crate::fault::CommandFault;
-use crate::options::LaneOptions;
-use crate::run;
-use crate::words::Asked;
 use digits_core::{FromReader, Sink, Source, ToWriter};
 use element_core::Year;
 use fakes::{Breaking, Endless, Narrow};
@@ -230,9 +230,13 @@ fn passes_failures_on(rt: HostRuntime) -> Result<(), Fail> {
             "digit,12\ngtin,12\ntext,10AB^21C\n",
             b"digit 3\nrefused 1 Length\nhri (10)AB(21)C\n",
         ),
-        (printing(113, 3, 1, 1, false)?, RECORD, image.as_slice()),
         (
-            printing(113, 3, 1, 1, true)?,
+            printing(113, 3, 1, 1, Output::Images)?,
+            RECORD,
+            image.as_slice(),
+        ),
+        (
+            printing(113, 3, 1, 1, Output::Lines)?,
             RECORD,
             b"0 0 ean13 (01)09501101530003\n",
         ),

@@ -1,7 +1,7 @@
 //! Texts that are checked: one of each answer and of each refusal, with the line that is printed.
 
 use super::outcome;
-use crate::words::Asked;
+use crate::commands::Asked;
 use element_core::{Elements, Year};
 use std::alloc::Global;
 use std::sync::Wait;

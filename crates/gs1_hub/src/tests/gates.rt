@@ -2,8 +2,9 @@
 
 use super::prints::{HIGH, push_image};
 use super::{EAN8, SYMBOL, outcome_at};
-use crate::options::{LaneOptions, ScanOptions};
-use crate::words::Asked;
+use crate::commands::Asked;
+use crate::commands::lanes::options::LaneOptions;
+use crate::commands::scan::options::ScanOptions;
 use fakes::Holding;
 use std::test::Fail;
 

@@ -3,9 +3,11 @@
 use super::prints::{LOW, RECORD, printing, push_image};
 use super::{outcome, refusal};
 use crate::buffered::Buffered;
-use crate::options::{LaneOptions, ScanOptions};
-use crate::words::Asked;
-use crate::{run, run_buffered};
+use crate::commands::lanes::options::LaneOptions;
+use crate::commands::print::options::Output;
+use crate::commands::scan::options::ScanOptions;
+use crate::commands::{Asked, run};
+use crate::run_buffered;
 use digits_core::FromReader;
 use element_core::Year;
 use fakes::{Breaking, Narrow};
@@ -105,7 +107,7 @@ fn cases(alloc: Global) -> Result<Vec<Case>, Fail> {
     cases.push(Case::answered_by(alloc, Asked::Check(year), b"digit,12\ntext,10A\n", CHECKED)?)?;
     cases.push(Case::answered_by(
         alloc,
-        printing(113, 3, 1, 1, true)?,
+        printing(113, 3, 1, 1, Output::Lines)?,
         RECORD.as_bytes(),
         LABELLED,
     )?)?;
@@ -120,7 +122,7 @@ fn cases_with_images(alloc: Global) -> Result<Vec<Case>, Fail> {
     let mut output = Vec::new(alloc);
     push_image(&mut output, LOW, 1, 0)?;
     cases.push(Case {
-        asked: printing(113, 3, 1, 1, false)?,
+        asked: printing(113, 3, 1, 1, Output::Images)?,
         input: RECORD.as_bytes().to_vec(alloc)?,
         output,
         fronts: &[],

@@ -1,9 +1,8 @@
 //! Labels that are printed: the bytes of their sheets, their lines, each refusal and their order.
 
 use super::{outcome, refusal};
-use crate::options::PrintOptions;
-use crate::run;
-use crate::words::Asked;
+use crate::commands::print::options::{Output, PrintOptions};
+use crate::commands::{Asked, run};
 use digits_core::{FromReader, ToWriter};
 use fakes::Breaking;
 use hub_core::OpenGate;
@@ -34,9 +33,9 @@ pub fn printing(
     height: u16,
     columns: u16,
     rows: u16,
-    text: bool,
+    output: Output,
 ) -> Result<Asked, Fail> {
-    let options = PrintOptions::new(1, width, height, columns, rows, 2026, text);
+    let options = PrintOptions::new(1, width, height, columns, rows, 2026, output);
     Ok(Asked::Print(options.ok_or("options")?))
 }
 
@@ -88,7 +87,11 @@ fn prints_sheets(rt: HostRuntime) -> Result<(), Fail> {
         for _ in 0..images {
             push_image(&mut wanted, header, labelled, light)?;
         }
-        let found = printed(&rt, printing(113, 3, 1, rows, false)?, input.as_str())?;
+        let found = printed(
+            &rt,
+            printing(113, 3, 1, rows, Output::Images)?,
+            input.as_str(),
+        )?;
         assert_eq!(rt; found.as_slice(), wanted.as_slice());
     }
     Ok(())
@@ -97,11 +100,19 @@ fn prints_sheets(rt: HostRuntime) -> Result<(), Fail> {
 #[test]
 fn prints_lines(rt: HostRuntime) -> Result<(), Fail> {
     let alloc = rt.alloc();
-    let found = outcome(&rt, printing(113, 3, 1, 1, true)?, RECORD.as_bytes())?;
+    let found = outcome(
+        &rt,
+        printing(113, 3, 1, 1, Output::Lines)?,
+        RECORD.as_bytes(),
+    )?;
     assert_eq!(rt; found.as_str(), "0 0 ean13 (01)09501101530003\n");
     let input = "ean13,00012345000065\nupca,012345000065\nean8,96385074\nupce,0012345000065\n\
                  gs1128,10AB^17261231\nitf14,09501101530003\n";
-    let found = outcome(&rt, printing(200, 3, 2, 1, true)?, input.as_bytes())?;
+    let found = outcome(
+        &rt,
+        printing(200, 3, 2, 1, Output::Lines)?,
+        input.as_bytes(),
+    )?;
     assert_eq!(rt;
         found.as_str(),
         "0 0 ean13 (01)00012345000065\n0 1 upca (01)00012345000065\n\
@@ -156,8 +167,8 @@ fn refuses_records(rt: HostRuntime) -> Result<(), Fail> {
             "refused 27 LabelWidth 1",
         ),
     ] {
-        for text in [false, true] {
-            let found = outcome(&rt, printing(113, 3, 2, 2, text)?, input.as_bytes())?;
+        for output in [Output::Images, Output::Lines] {
+            let found = outcome(&rt, printing(113, 3, 2, 2, output)?, input.as_bytes())?;
             assert_eq!(rt; found.as_str(), wanted, "{input}");
         }
     }
@@ -192,7 +203,15 @@ fn refuses_what_does_not_fit(rt: HostRuntime) -> Result<(), Fail> {
         (1, 1025, 3, 16, RECORD, Some("refused 25 BadGrid")),
         (1, 113, 2, 1, "sku", Some("refused 25 BadGrid")),
     ] {
-        let options = PrintOptions::new(module_dots, width, height, columns, 1, 2026, true);
+        let options = PrintOptions::new(
+            module_dots,
+            width,
+            height,
+            columns,
+            1,
+            2026,
+            Output::Lines,
+        );
         let asked = Asked::Print(options.ok_or("options")?);
         let found = outcome(&rt, asked, input.as_bytes())?;
         match wanted {
@@ -221,7 +240,15 @@ fn takes_numbers_in_their_ranges(rt: HostRuntime) -> Result<(), Fail> {
         (1, 1, 1, 1, 1, 1950, false),
         (1, 1, 1, 1, 1, 2150, false),
     ] {
-        let found = PrintOptions::new(module_dots, width, height, columns, rows, year, false);
+        let found = PrintOptions::new(
+            module_dots,
+            width,
+            height,
+            columns,
+            rows,
+            year,
+            Output::Images,
+        );
         assert_eq!(rt; found.is_some(), is_taken);
     }
     Ok(())
@@ -230,7 +257,7 @@ fn takes_numbers_in_their_ranges(rt: HostRuntime) -> Result<(), Fail> {
 #[test]
 fn refuses_grids_before_reading(rt: HostRuntime) -> Result<(), Fail> {
     let mut sink = ToWriter::new(Vec::new(rt.alloc()));
-    let asked = printing(113, 2, 1, 1, false)?;
+    let asked = printing(113, 2, 1, 1, Output::Images)?;
     let line = refusal(&rt, asked, &mut Breaking::new(b"0"), &mut sink)?;
     assert_eq!(rt; line.as_str(), "refused 25 BadGrid");
     Ok(())

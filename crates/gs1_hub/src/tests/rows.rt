@@ -1,8 +1,8 @@
 //! What `lanes` answers to rows of each carrier, in both directions, and rows that are cut.
 
 use super::outcome;
-use crate::options::LaneOptions;
-use crate::words::Asked;
+use crate::commands::Asked;
+use crate::commands::lanes::options::LaneOptions;
 use scan_core::{RunFault, Runs};
 use std::alloc::{AllocError, Global};
 use std::sync::Wait;

@@ -2,9 +2,9 @@
 
 use super::prints::{DOTS, HIGH, LOW, printed, printing, push_image};
 use super::{outcome, refusal};
-use crate::options::ScanOptions;
-use crate::run;
-use crate::words::Asked;
+use crate::commands::print::options::Output;
+use crate::commands::scan::options::ScanOptions;
+use crate::commands::{Asked, run};
 use digits_core::{FromReader, ToWriter};
 use fakes::{Breaking, Narrow};
 use hub_core::OpenGate;
@@ -38,7 +38,7 @@ fn images<R: Threads + Wait + AllocGlobal + Sync>(
     rows: u16,
     labels: &str,
 ) -> Result<Vec<u8>, Fail> {
-    printed(rt, printing(211, 3, columns, rows, false)?, labels)
+    printed(rt, printing(211, 3, columns, rows, Output::Images)?, labels)
 }
 
 /// An image of light dots: its header, then so many bytes.

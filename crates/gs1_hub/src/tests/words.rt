@@ -1,11 +1,13 @@
 //! Command lines: what they ask for, which are refused, and which ask for help.
 
+use crate::arguments::{FIRST_YEAR, LAST_YEAR, MOST_WORKERS};
+use crate::commands::Asked;
+use crate::commands::lanes::options::{LaneOptions, MOST_LANES};
+use crate::commands::print::options::{Output, PrintOptions};
+use crate::commands::scan::options::ScanOptions;
 use crate::fault::CommandFault;
 use crate::help::write_help;
-use crate::options::{
-    FIRST_YEAR, LAST_YEAR, LaneOptions, MOST_LANES, MOST_WORKERS, PrintOptions, ScanOptions,
-};
-use crate::words::{Asked, WordsFault, read_words};
+use crate::words::{WordsFault, read_words};
 use digits_core::ToWriter;
 use element_core::Year;
 use fakes::Narrow;
@@ -49,16 +51,16 @@ fn reads_words(rt: HostRuntime) -> Result<(), Fail> {
         ),
         (
             "gs1_hub print --module 1 --width 113 --height 3 --columns 2 --rows 4 --year 2026",
-            PrintOptions::new(1, 113, 3, 2, 4, 2026, false).map(Asked::Print),
+            PrintOptions::new(1, 113, 3, 2, 4, 2026, Output::Images).map(Asked::Print),
         ),
         (
             "gs1_hub print --text --year=1951 --rows 64 --columns 16 --height 1024 --width 4096 \
              --module 8",
-            PrintOptions::new(8, 4096, 1024, 16, 64, 1951, true).map(Asked::Print),
+            PrintOptions::new(8, 4096, 1024, 16, 64, 1951, Output::Lines).map(Asked::Print),
         ),
         (
             "gs1_hub print --module 2 --width 113 --text --height 3 --columns 1 --rows 1 --year 2026",
-            PrintOptions::new(2, 113, 3, 1, 1, 2026, true).map(Asked::Print),
+            PrintOptions::new(2, 113, 3, 1, 1, 2026, Output::Lines).map(Asked::Print),
         ),
         (
             "gs1_hub scan --module 1 --width 113 --height 3 --columns 2 --rows 4 --workers 5 --year 2026",

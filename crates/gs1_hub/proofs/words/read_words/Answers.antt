@@ -3,8 +3,8 @@ use Rattle.clap.specs.Words.{App, HasKind, HasMatchesOf, Text, app_of, fault_of,
 use Rattle.clap.specs.declared.error.Error.{Error}
 use Rattle.clap.specs.declared.parser.matches.ArgMatches.{ArgMatches}
 use Rattle.gs1_hub.specs.Asking.{Asks, Explains, FaultOfKind, WordsAsk}
-use Rattle.gs1_hub.specs.CommandLine.{hub_app}
-use Rattle.gs1_hub.specs.declared.words.Asked.{Asked}
+use Rattle.gs1_hub.specs.commands.{hub_app}
+use Rattle.gs1_hub.specs.declared.commands.Asked.{Asked}
 use Rattle.gs1_hub.specs.declared.words.WordsFault.{WordsFault}
 use Rattle.gs1_hub.specs.declared.words.WordsFault.TheVariants as fault
 use Rattle.gs1_hub.proofs.AskedFacts.{asked_for}

@@ -1,0 +1,37 @@
+use Rattle.std.proofs.Common.{◌≡◌, ◌≤◌, ◌∙◌, length, map, refl, rules, string_bytes, subst, sym, true}
+use Rattle.line_core.specs.Grids.{cells_of}
+use Rattle.line_core.specs.scan.Columns.{AreColumns, have_size}
+use Rattle.gs1_hub.proofs.CommandFacts.{images_cut}
+use Rattle.gs1_hub.proofs.CountFacts.{counts_hold}
+use Rattle.gs1_hub.proofs.commands.scan.run_scan.Goals as goal
+
+pub column_feeds-requires-clause-few : goal.column_feeds-requires-clause-few
+column_feeds-requires-clause-few g c =
+    let sheets = c.in_ok-sheets.sheets.items in
+    let read = c.in_ok-sheets.ensures.ok in
+    let few = ((c.files_are_read.ensures read.bytes sheets).0 read.tells).1 in
+    subst (λ s. length s ≤ 4096) (sym c.as_slice-2.ensures.value) few
+
+pub answer_lines-requires-after_bounds : goal.answer_lines-requires-after_bounds
+answer_lines-requires-after_bounds g c κs within =
+    let o = c.args.options in
+    counts_hold (λ feed. feed.items) c.in_ok-feeds.feeds.items o.grid.columns o.workers c.in_ok-feeds.ensures.count o.grid.numbers.3 o.some_workers c.in_ok-feeds.ensures.short
+
+pub returns-in_err-write_all : goal.returns-in_err-write_all
+returns-in_err-write_all g c =
+    let o = c.args.options in
+    let sheets = c.in_ok-sheets.sheets.items in
+    let feeds = map (λ feed. feed.items) c.in_ok-feeds.feeds.items in
+    let lines = string_bytes c.in_ok-lines.lines in
+    let are = subst (λ s. AreColumns (cells_of o.grid) s feeds) c.as_slice-2.ensures.value c.in_ok-feeds.ensures.feeds in
+    let size : have_size (cells_of o.grid) sheets ≡ true = search rules in
+    record {
+      ok = search rules;
+      cut = λ same. images_cut o (g.S.Source.left c.args.source.now) (g.S.Source.left c.read_pbm.new.reader) (g.W.Sink.taken c.args.sink.now) (g.W.Sink.taken c.write_all.new.sink)
+          sheets feeds lines c.as_bytes.result.now (c.in_ok-grid.ensures.exact.0 refl) c.in_ok-sheets.ensures.ok c.in_ok-sheets.ensures.end size are c.in_ok-lines.ensures
+          (c.as_bytes.ensures.value ∙ c.as_str.ensures.value) c.in_err-write_all.ensures.err;
+      refused = search rules;
+      unwritten = search rules;
+      read = search rules;
+      write = search rules;
+    }

@@ -1,0 +1,32 @@
+-- The command `lanes`.
+use Rattle.std.specs.Prelude.{◌≡◌, ⊤, ℕ, List, Option, codes}
+use Rattle.clap.specs.Words.{App, Row, new_app, with_rule}
+use Rattle.line_core.specs.answers.Reports.{IsReport}
+use Rattle.line_core.specs.input.Records.{Takes}
+use Rattle.line_core.specs.lanes.Feeds.{feeds_of, lanes_meaning}
+use Rattle.gs1_hub.specs.Arguments.{HasNumber, HasWorkers, HasYear, IsLaneCount, most_lanes, number_rule, workers_rule, year_rule}
+use Rattle.gs1_hub.specs.Runs.{Command, RefusesRecords, WritesOnce, WritesRecords}
+use Rattle.gs1_hub.specs.declared.fault.CommandFault.{CommandFault}
+use Rattle.gs1_hub.specs.declared.fault.CommandFault.TheVariants as command
+use Rattle.gs1_hub.specs.declared.commands.lanes.options.LaneOptions.{LaneOptions}
+
+-- `lanes --lanes N --workers K --year Y`
+abbrev pub lanes_app : App
+lanes_app = with_rule (with_rule (with_rule (new_app (codes "lanes")) (number_rule (codes "lanes") 1 most_lanes)) workers_rule) year_rule
+
+-- its options among the matches, each in its range
+abbrev pub HasLanes : List Row → LaneOptions → Type 0
+HasLanes rows o = HasNumber (codes "lanes") rows o.lanes × IsLaneCount o.lanes × HasWorkers rows o.workers × HasYear rows o.year
+
+-- why `lanes` refuses the input: the records, then a thread that could not be started
+abbrev pub RefusesLanes : ℕ → Option (List ℕ) → Option (List ℕ) → CommandFault → Type 0
+RefusesLanes lanes left rest command.NoThread = Takes (lanes_meaning lanes) (λ rows. ⊤) left rest
+RefusesLanes lanes left rest f = RefusesRecords (lanes_meaning lanes) left rest f
+
+-- the report of the answers to the rows that records give each lane
+abbrev pub lanes_command : LaneOptions → Command
+lanes_command o = record { writes = WritesRecords (lanes_meaning o.lanes) (λ rows text. IsReport o.year (feeds_of o.lanes rows) text); refuses = RefusesLanes o.lanes }
+
+-- of the same bytes it writes one text at most
+abbrev pub OneLanes : Type 0
+OneLanes = (o : LaneOptions) → WritesOnce (lanes_command o)

@@ -1,0 +1,63 @@
+-- The command `scan`.
+use Rattle.std.specs.Prelude.{◌≡◌, ◌⊎◌, ⊤, ℕ, true, false, List, [], Option, Ok, Err, codes}
+use Rattle.clap.specs.Words.{App, Row, new_app, with_rule}
+use Rattle.digits_core.specs.Bytes.{GaveAll}
+use Rattle.sheet_core.specs.Bitmaps.{Bitmap}
+use Rattle.sheet_core.specs.Grids.{IsGrid}
+use Rattle.sheet_core.specs.pbm.Images.{Reads, images_of}
+use Rattle.sheet_core.specs.declared.fault.PbmFault.TheVariants as pbm
+use Rattle.line_core.specs.Grids.{cells_of}
+use Rattle.line_core.specs.answers.Reports.{IsReport}
+use Rattle.line_core.specs.scan.Columns.{AreColumns, have_size}
+use Rattle.gs1_hub.specs.Arguments.{HasGrid, HasWorkers, HasYear, with_cell, with_places, workers_rule, year_rule}
+use Rattle.gs1_hub.specs.Runs.{Command, WritesOnce}
+use Rattle.gs1_hub.specs.declared.fault.CommandFault.{CommandFault}
+use Rattle.gs1_hub.specs.declared.fault.CommandFault.TheVariants as command
+use Rattle.gs1_hub.specs.declared.commands.scan.options.ScanOptions.{ScanOptions}
+
+-- `scan --module M --width W --height H --columns C --rows R --workers K --year Y`
+abbrev pub scan_app : App
+scan_app = with_rule (with_rule (with_places (with_cell (new_app (codes "scan")))) workers_rule) year_rule
+
+-- its options among the matches, each in its range
+abbrev pub HasScan : List Row → ScanOptions → Type 0
+HasScan rows o = HasGrid rows o.grid × HasWorkers rows o.workers × HasYear rows o.year
+
+-- the bytes are images of the grid's size
+abbrev pub AreImages : ScanOptions → List ℕ → List Bitmap → Type 0
+AreImages o bytes sheets = IsGrid (cells_of o.grid) × (images_of bytes ≡ (Ok sheets, [])) × (have_size (cells_of o.grid) sheets ≡ true)
+
+-- and the text is the report of the answers to the rows of their columns, column c being lane c
+abbrev pub IsScan : ScanOptions → List ℕ → List ℕ → Type 0
+IsScan o bytes text = (sheets : List Bitmap) × AreImages o bytes sheets
+    × (feeds : List (List (List ℕ))) × AreColumns (cells_of o.grid) sheets feeds × IsReport o.year feeds text
+
+-- a source gave all its bytes, and they are images of which one has not the grid's size
+abbrev pub GaveOtherSize : ScanOptions → Option (List ℕ) → Option (List ℕ) → Type 0
+GaveOtherSize o left rest = (bytes : List ℕ) × GaveAll left rest bytes × (sheets : List Bitmap) × (images_of bytes ≡ (Ok sheets, []))
+    × (have_size (cells_of o.grid) sheets ≡ false)
+
+-- why `scan` refuses the input in a grid: the first byte that cannot stand in an image, then an image of another size, then a thread that could not be started
+abbrev pub RefusesImages : ScanOptions → Option (List ℕ) → Option (List ℕ) → CommandFault → Type 0
+RefusesImages o left rest command.NotP4 = Reads images_of left rest (Err pbm.NotP4)
+RefusesImages o left rest command.PbmHeader = Reads images_of left rest (Err pbm.PbmHeader)
+RefusesImages o left rest command.Truncated = Reads images_of left rest (Err pbm.Truncated)
+RefusesImages o left rest command.PbmSize = Reads images_of left rest (Err pbm.PbmSize) ⊎ GaveOtherSize o left rest
+RefusesImages o left rest command.ReadFault = Reads images_of left rest (Err pbm.ReadFault)
+RefusesImages o left rest command.NoThread = (bytes : List ℕ) × GaveAll left rest bytes × (sheets : List Bitmap) × AreImages o bytes sheets
+RefusesImages o left rest command.WriteFault = ⊤
+RefusesImages o left rest command.NoMemory = Reads images_of left rest (Err pbm.NoMemory)
+RefusesImages o left rest _ = ⊥
+
+-- why `scan` refuses the input: the grid, before a byte is read, then the images
+abbrev pub RefusesScan : ScanOptions → Option (List ℕ) → Option (List ℕ) → CommandFault → Type 0
+RefusesScan o left rest command.BadGrid = (IsGrid (cells_of o.grid) → ⊥) × (rest ≡ left)
+RefusesScan o left rest f = IsGrid (cells_of o.grid) × RefusesImages o left rest f
+
+-- the report of the answers to the rows of the columns of images
+abbrev pub scan_command : ScanOptions → Command
+scan_command o = record { writes = IsScan o; refuses = RefusesScan o }
+
+-- of the same bytes it writes one text at most
+abbrev pub OneScan : Type 0
+OneScan = (o : ScanOptions) → WritesOnce (scan_command o)

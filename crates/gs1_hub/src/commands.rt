@@ -1,0 +1,100 @@
+//! The commands: which there are, what the words of one ask for, and a run of it.
+ghost use Rattle.std.specs.Prelude.{◌≡◌, IfNone, IfOk, IfSome};
+ghost use Rattle.clap.specs.Words.{app_of, found_of, rows_of};
+ghost use Rattle.gs1_hub.specs.Runs.{Ran};
+ghost use Rattle.gs1_hub.specs.commands.{AsksIn, command_of, hub_app, text_app};
+ghost use Rattle.gs1_hub.specs.declared.commands.Asked.{Asked};
+
+pub mod check;
+pub mod lanes;
+pub mod print;
+pub mod scan;
+
+use crate::arguments::year_named;
+use crate::commands::check::{check_words, run_check};
+use crate::commands::lanes::options::LaneOptions;
+use crate::commands::lanes::{lanes_words, run_lanes};
+use crate::commands::print::options::PrintOptions;
+use crate::commands::print::{print_words, run_print};
+use crate::commands::scan::options::ScanOptions;
+use crate::commands::scan::{run_scan, scan_words};
+use crate::fault::CommandFault;
+use crate::help;
+use clap::{ArgMatches, Command};
+use digits_core::{Sink, Source};
+use element_core::Year;
+use hub_core::Gate;
+use std::alloc::{AllocError, Global};
+use std::sync::Wait;
+use std::thread::Threads;
+
+/// What the words ask for.
+#[derive(Clone, Copy, Debug, PartialEq, Eq)]
+pub enum Asked {
+    /// Texts are to be checked, dates under this reference year.
+    Check(Year),
+    /// Labels are to be printed.
+    Print(PrintOptions),
+    /// The rows of these lanes are to be read.
+    Lanes(LaneOptions),
+    /// The sheets of these images are to be read.
+    Scan(ScanOptions),
+}
+
+/// The program with the commands that take texts.
+fn text_words<'a>(alloc: Global) -> Result<Command<'a>, AllocError>
+    ensures { IfOk result (λ c. app_of c ≡ text_app) }
+{
+    Command::new(alloc, "gs1_hub")
+        .version(help::VERSION)
+        .about(help::HUB)
+        .after_help(help::HUB_EXAMPLE)
+        .disable_help_subcommand(true)
+        .subcommand_required(true)
+        .subcommand(check_words(alloc)?)?
+        .subcommand(print_words(alloc)?)
+}
+
+/// The program with its commands, as `clap` reads their words.
+pub fn hub_words<'a>(alloc: Global) -> Result<Command<'a>, AllocError>
+    ensures { IfOk result (λ c. app_of c ≡ hub_app) }
+{
+    text_words(alloc)?
+        .subcommand(lanes_words(alloc)?)?
+        .subcommand(scan_words(alloc)?)
+}
+
+/// What the matches of a command ask for.
+pub fn asked_by(name: &str, matches: &ArgMatches<'_>) -> Option<Asked>
+    ensures some { IfSome result (AsksIn name.now (rows_of (found_of matches.now))) }
+    ensures none { IfNone result ((a : Asked)
+        → AsksIn name.now (rows_of (found_of matches.now)) a → ⊥) }
+{
+    match name {
+        "check" => year_named(matches).map(Asked::Check),
+        "print" => print::options_named(matches).map(Asked::Print),
+        "lanes" => lanes::options_named(matches).map(Asked::Lanes),
+        "scan" => scan::options_named(matches).map(Asked::Scan),
+        _ => None,
+    }
+}
+
+/// Runs the command that is asked for. The gate is for the workers of those that read rows.
+pub fn run<R: Threads + Wait + Sync, S: Source, W: Sink, G: Gate + Sync>(
+    rt: &R,
+    alloc: Global,
+    asked: Asked,
+    source: &mut S,
+    sink: &mut W,
+    gate: &G,
+) -> Result<(), CommandFault>
+    ensures { Ran (command_of asked) S.left S.failed W.taken W.failed
+        source.old source.new sink.old sink.new result }
+{
+    match asked {
+        Asked::Check(year) => run_check(alloc, year, source, sink),
+        Asked::Print(options) => run_print(alloc, options, source, sink),
+        Asked::Lanes(options) => run_lanes(rt, alloc, options, source, sink, gate),
+        Asked::Scan(options) => run_scan(rt, alloc, options, source, sink, gate),
+    }
+}

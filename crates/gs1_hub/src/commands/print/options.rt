@@ -1,0 +1,51 @@
+//! The options of the command `print`, and the numbers that it takes.
+ghost use Rattle.std.specs.Prelude.{◌≡◌, ◌↔◌, IfSome, IsSome};
+ghost use Rattle.line_core.specs.Grids.{HasNumbers};
+ghost use Rattle.line_core.specs.Numbers.{AreGridNumbers};
+ghost use Rattle.gs1_hub.specs.Arguments.{IsReferenceYear};
+
+use element_core::Year;
+use line_core::GridOptions;
+
+/// What `print` writes of labels.
+#[derive(Clone, Copy, Debug, PartialEq, Eq)]
+pub enum Output {
+    /// The images of their sheets.
+    Images,
+    /// A line for each label.
+    Lines,
+}
+
+/// The options of the command `print`.
+#[derive(Clone, Copy, Debug, PartialEq, Eq)]
+pub struct PrintOptions {
+    /// The grid that labels are printed in.
+    pub grid: GridOptions,
+    /// The year that dates of two digits are read by.
+    pub year: Year,
+    /// What is written of the labels.
+    pub output: Output,
+}
+
+impl PrintOptions {
+    /// These numbers, or none where one of them alone lies outside its range. What they may be
+    /// together is for the grid that is made of them.
+    pub fn new(
+        module_dots: u16,
+        width: u16,
+        height: u16,
+        columns: u16,
+        rows: u16,
+        year: u16,
+        output: Output,
+    ) -> Option<PrintOptions>
+        ensures taken { IsSome result
+            ↔ (AreGridNumbers module_dots width height columns rows × IsReferenceYear year) }
+        ensures grid { IfSome result (λ o. HasNumbers module_dots width height columns rows o.grid) }
+        ensures rest { IfSome result (λ o. (o.year ≡ year) × (o.output ≡ output)) }
+    {
+        let grid = GridOptions::new(module_dots, width, height, columns, rows)?;
+        let year = Year::new(year)?;
+        Some(PrintOptions { grid, year, output })
+    }
+}
