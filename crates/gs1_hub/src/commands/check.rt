@@ -55,8 +55,7 @@ pub fn run_check<S: Source, W: Sink>(
     source: &mut S,
     sink: &mut W,
 ) -> Result<(), CommandFault>
-    ensures { Ran (check_command year) S.left S.failed W.taken W.failed
-        source.old source.new sink.old sink.new result }
+    ensures { Ran (check_command year) S.left S.failed W.taken W.failed source.old source.new sink.old sink.new result }
 {
     let lines = check_lines(alloc, year, source)?;
     write_all(sink, lines.as_str().as_bytes())?;

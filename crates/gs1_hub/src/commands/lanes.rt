@@ -37,6 +37,19 @@ Example, a row of 100 light dots:
 /// The option `--lanes`.
 const LANE_COUNT: &str = "How many lanes there are, 1 to 16";
 
+/// The options of the command `lanes`.
+pub fn options_named(matches: &ArgMatches<'_>) -> Option<LaneOptions>
+    ensures some { IfSome result (HasLanes (rows_of (found_of matches.now))) }
+    ensures none { IfNone result ((o : LaneOptions)
+        → HasLanes (rows_of (found_of matches.now)) o → ⊥) }
+{
+    LaneOptions::new(
+        byte_named(matches, "lanes")?,
+        byte_named(matches, "workers")?,
+        number_named(matches, "year")?,
+    )
+}
+
 /// The words of the command `lanes`, as `clap` reads them.
 pub fn lanes_words<'a>(alloc: Global) -> Result<Command<'a>, AllocError>
     ensures app { IfOk result (λ c. app_of c ≡ lanes_app) }
@@ -49,19 +62,6 @@ pub fn lanes_words<'a>(alloc: Global) -> Result<Command<'a>, AllocError>
         .arg(number(alloc, "lanes", 1, most, "COUNT", LANE_COUNT))?
         .arg(workers(alloc))?
         .arg(year(alloc))
-}
-
-/// The options of the command `lanes`.
-pub fn options_named(matches: &ArgMatches<'_>) -> Option<LaneOptions>
-    ensures some { IfSome result (HasLanes (rows_of (found_of matches.now))) }
-    ensures none { IfNone result ((o : LaneOptions)
-        → HasLanes (rows_of (found_of matches.now)) o → ⊥) }
-{
-    LaneOptions::new(
-        byte_named(matches, "lanes")?,
-        byte_named(matches, "workers")?,
-        number_named(matches, "year")?,
-    )
 }
 
 /// Answers the rows that a source gives, a line for each, lane by lane and by number. Workers read
@@ -77,8 +77,7 @@ pub fn run_lanes<R: Threads + Wait + Sync, S: Source, W: Sink, G: Gate + Sync>(
     sink: &mut W,
     gate: &G,
 ) -> Result<(), CommandFault>
-    ensures { Ran (lanes_command options) S.left S.failed W.taken W.failed
-        source.old source.new sink.old sink.new result }
+    ensures { Ran (lanes_command options) S.left S.failed W.taken W.failed source.old source.new sink.old sink.new result }
 {
     let feeds = read_feeds(alloc, options.lanes, source)?;
     let lines = answer_lines(rt, alloc, feeds, options.workers, options.year, gate)?;

@@ -134,8 +134,7 @@ pub fn run_print<S: Source, W: Sink>(
     source: &mut S,
     sink: &mut W,
 ) -> Result<(), CommandFault>
-    ensures { Ran (print_command options) S.left S.failed W.taken W.failed
-        source.old source.new sink.old sink.new result }
+    ensures { Ran (print_command options) S.left S.failed W.taken W.failed source.old source.new sink.old sink.new result }
 {
     let grid = options.grid.grid()?;
     let labels = read_labels(alloc, options.year, source)?;

@@ -80,8 +80,7 @@ pub fn run_scan<R: Threads + Wait + Sync, S: Source, W: Sink, G: Gate + Sync>(
     sink: &mut W,
     gate: &G,
 ) -> Result<(), CommandFault>
-    ensures { Ran (scan_command options) S.left S.failed W.taken W.failed
-        source.old source.new sink.old sink.new result }
+    ensures { Ran (scan_command options) S.left S.failed W.taken W.failed source.old source.new sink.old sink.new result }
 {
     let grid = options.grid.grid()?;
     let sheets = read_pbm(alloc, source)?;

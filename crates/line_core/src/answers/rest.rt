@@ -1,5 +1,5 @@
 //! Rows that are left of a lane.
-ghost use Rattle.std.specs.Prelude.{◌≡◌, [], All, IfOk, drop, map, take, true};
+ghost use Rattle.std.specs.Prelude.{◌≡◌, ◌↔◌, [], All, IfOk, IsTrue, drop, map, take};
 
 use scan_core::Runs;
 use std::alloc::{AllocError, Global};
@@ -24,7 +24,7 @@ impl Model for Rest {
 }
 
 impl Rest {
-    ghost use Rattle.std.specs.Prelude.{◌≡◌, [], IfOk, drop, take, true};
+    ghost use Rattle.std.specs.Prelude.{◌≡◌, ◌↔◌, [], IfOk, IsTrue, drop, take};
 
     /// These rows.
     pub fn new(rows: Vec<Runs>) -> Rest
@@ -37,7 +37,7 @@ impl Rest {
 
     /// Whether no row is left.
     pub fn is_empty(&self) -> bool
-        ensures { result ≡ true → self.now ≡ [] }
+        ensures { IsTrue result ↔ (self.now ≡ []) }
     {
         self.rows.is_empty()
     }
@@ -71,7 +71,7 @@ pub fn next_runs(alloc: Global, rests: Vec<Rest>) -> Result<(Vec<Vec<Runs>>, Vec
 
 /// Whether no lane has a row left.
 pub fn are_empty(rests: &[Rest]) -> bool
-    ensures { result ≡ true → All (λ rest. rest ≡ []) rests.now }
+    ensures { IsTrue result ↔ All (λ rest. rest ≡ []) rests.now }
 {
     rests.iter().all(|rest| rest.is_empty())
 }

@@ -1,5 +1,5 @@
 //! Rows that workers answer, and the report of the answers.
-ghost use Rattle.std.specs.Prelude.{[], ◌≡◌, ◌≢◌, ◌≤◌, All, List, drop, length, true, map, take, IfOk, string_bytes};
+ghost use Rattle.std.specs.Prelude.{[], ◌≡◌, ◌≢◌, ◌↔◌, ◌≤◌, All, List, drop, length, map, take, true, IfOk, IsTrue, string_bytes};
 ghost use Rattle.std.specs.List.{AllZip};
 ghost use Rattle.scan_core.specs.Answers.{Reads};
 ghost use Rattle.scan_core.specs.declared.answer.Answer.{Answer};
@@ -55,7 +55,7 @@ fn fault_of(fault: ServeFault) -> AnswerFault
 
 /// Whether no feed has a row.
 fn are_rowless(feeds: &[Vec<Runs>]) -> bool
-    ensures { result ≡ true → All (λ feed. feed.items ≡ []) feeds.now }
+    ensures { IsTrue result ↔ All (λ feed. feed.items ≡ []) feeds.now }
 {
     feeds.iter().all(|feed| feed.is_empty())
 }

@@ -22,7 +22,7 @@ returns-then-are_empty g c =
     let inv = c.loop-run.invariant in
     let feeds = map (λ feed. feed.items) c.args.feeds.items in
     let first = c.loop-run.run * RUN in
-    let all : All (λ rest. rest ≡ []) (map (drop first) feeds) = subst (All (λ rest. rest ≡ [])) (c.as_slice.ensures.value ∙ inv.rests) (c.are_empty.ensures c.if-are_empty.true) in
+    let all : All (λ rest. rest ≡ []) (map (drop first) feeds) = subst (All (λ rest. rest ≡ [])) (c.as_slice.ensures.value ∙ inv.rests) (c.are_empty.ensures.0 c.if-are_empty.true) in
     (inv.answers, subst (λ fs. AllZip (λ rows read. Reads rows c.args.year read) fs inv.answers) (all_taken first feeds all) inv.read, inv.texts)
 
 pub returns : goal.returns

@@ -4,5 +4,5 @@ use Rattle.line_core.proofs.answers.serving.serve_all.Goals as goal
 
 pub returns-then-are_rowless : goal.returns-then-are_rowless
 returns-then-are_rowless g c =
-    let none = subst (All (λ feed. feed.items ≡ [])) c.as_slice.ensures.value (c.are_rowless.ensures c.if-are_rowless.true) in
+    let none = subst (All (λ feed. feed.items ≡ [])) c.as_slice.ensures.value (c.are_rowless.ensures.0 c.if-are_rowless.true) in
     c.in_ok-no_deliveries.ensures ∙ none_served (λ feed. feed.items) 0 c.args.year c.args.feeds.items none
