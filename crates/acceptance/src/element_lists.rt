@@ -1,33 +1,47 @@
 //! Lists of elements: how many there are, each of them, and their human-readable line.
 
-use element_core::{Elements, Year};
+use element_core::{Element, Elements, Year};
+use std::process::Abort;
 use std::test::Fail;
+
+/// The elements of a text in 2026.
+fn parsed(text: &[u8]) -> Result<Elements, Fail> {
+    let year = Year::new(2026).ok_or("year")?;
+    Ok(Elements::parse(text, year).ok().ok_or("a list")?)
+}
+
+/// Element `i` of a list.
+fn element(elements: &Elements, i: usize) -> Result<Element, Fail> {
+    if i >= elements.len() {
+        return Err(Fail::from("an element"));
+    }
+    Ok(elements.element(i))
+}
+
+/// That an element has this AI and this value, and whether it has a date.
+fn is_element<R: Abort>(rt: &R, found: &Element, ai: &str, value: &str, is_dated: bool) {
+    assert_eq!(*rt; found.ai.as_slice(), ai.as_bytes());
+    assert_eq!(*rt; found.value.as_slice(), value.as_bytes());
+    assert_eq!(*rt; found.date.is_some(), is_dated);
+}
 
 #[test]
 fn elements_are_found_in_their_text(rt: HostRuntime) -> Result<(), Fail> {
-    let year = Year::new(2026).ok_or("year")?;
-    let text = b"21A1\x1D0109501101530003\x1D17260100\x1D";
-    let elements = Elements::parse(text, year).ok().ok_or("a list")?;
+    let elements = parsed(b"21A1\x1D0109501101530003\x1D17260100\x1D")?;
     assert_eq!(rt; elements.len(), 3);
     assert_eq!(rt;
         elements.text().as_slice(),
         b"21A1\x1D010950110153000317260100".as_slice()
     );
-    let cases: &[(&str, &str)] = &[("21", "A1"), ("01", "09501101530003"), ("17", "260100")];
-    for (i, (ai, value)) in cases.iter().enumerate() {
-        let element = elements.element(i);
-        assert_eq!(rt; element.ai.as_slice(), ai.as_bytes());
-        assert_eq!(rt; element.value.as_slice(), value.as_bytes());
-        assert_eq!(rt; element.date.is_some(), i == 2);
-    }
+    is_element(&rt, &element(&elements, 0)?, "21", "A1", false);
+    is_element(&rt, &element(&elements, 1)?, "01", "09501101530003", false);
+    is_element(&rt, &element(&elements, 2)?, "17", "260100", true);
     Ok(())
 }
 
 #[test]
 fn the_line_stands_after_what_is_there(rt: HostRuntime) -> Result<(), Fail> {
-    let year = Year::new(2026).ok_or("year")?;
-    let text = b"010950110153000310AB\x1D17261231";
-    let elements = Elements::parse(text, year).ok().ok_or("a list")?;
+    let elements = parsed(b"010950110153000310AB\x1D17261231")?;
     let mut line = String::from_str(rt.alloc(), "hri ")?;
     elements.push_hri(&mut line)?;
     assert_eq!(rt; line.as_str(), "hri (01)09501101530003(10)AB(17)261231");
@@ -36,18 +50,15 @@ fn the_line_stands_after_what_is_there(rt: HostRuntime) -> Result<(), Fail> {
 
 #[test]
 fn the_most_elements_fill_the_line(rt: HostRuntime) -> Result<(), Fail> {
-    let year = Year::new(2026).ok_or("year")?;
     let mut text = String::new(rt.alloc());
     let mut expected = String::new(rt.alloc());
     for _ in 0..48 {
         text.push_str("2007")?;
         expected.push_str("(20)07")?;
     }
-    let elements = Elements::parse(text.as_str().as_bytes(), year)
-        .ok()
-        .ok_or("a list")?;
+    let elements = parsed(text.as_str().as_bytes())?;
     assert_eq!(rt; elements.len(), 48);
-    assert_eq!(rt; elements.element(47).value.as_slice(), b"07".as_slice());
+    is_element(&rt, &element(&elements, 47)?, "20", "07", false);
     assert_eq!(rt; elements.hri().as_str(), expected.as_str());
     let mut line = String::new(rt.alloc());
     elements.push_hri(&mut line)?;

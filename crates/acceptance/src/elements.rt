@@ -1,6 +1,6 @@
 //! Elements that are given as pairs, and rows of the table of AIs.
 
-use element_core::{Elements, Pair, Part, PartFormat, Text, Year, ai_row};
+use element_core::{Element, Elements, Pair, Part, PartFormat, Text, Year, ai_row};
 use std::alloc::Global;
 use std::test::Fail;
 
@@ -115,9 +115,24 @@ fn the_row_of_an_ai_has_its_parts(rt: HostRuntime) -> Result<(), Fail> {
     Ok(())
 }
 
+/// The first element of a text in 2026.
+fn first(text: &[u8]) -> Result<Element, Fail> {
+    let year = Year::new(2026).ok_or("year")?;
+    let elements = Elements::parse(text, year).ok().ok_or("a list")?;
+    if elements.len() == 0 {
+        return Err(Fail::from("an element"));
+    }
+    Ok(elements.element(0))
+}
+
+/// The year, the month and the day of an element.
+fn day_of(element: &Element) -> Option<(i16, i8, i8)> {
+    let date = element.date?;
+    Some((date.year(), date.month(), date.day()))
+}
+
 #[test]
 fn an_element_has_its_time(rt: HostRuntime) -> Result<(), Fail> {
-    let year = Year::new(2026).ok_or("year")?;
     for (line, day, time) in [
         (
             b"70032601021530".as_slice(),
@@ -135,15 +150,8 @@ fn an_element_has_its_time(rt: HostRuntime) -> Result<(), Fail> {
         (b"17260102", Some((2026, 1, 2)), None),
         (b"10A", None, None),
     ] {
-        let elements = Elements::parse(line, year).ok().ok_or("a list")?;
-        if elements.len() == 0 {
-            return Err(Fail::from("an element"));
-        }
-        let element = elements.element(0);
-        let found = element
-            .date
-            .map(|date| (date.year(), date.month(), date.day()));
-        assert_eq!(rt; found, day);
+        let element = first(line)?;
+        assert_eq!(rt; day_of(&element), day);
         assert_eq!(rt; element.time, time);
     }
     Ok(())

@@ -1,11 +1,12 @@
 //! The hub's calls one by one, on one thread.
 
 use crate::rows::{EAN8, EAN13, GS1_128, row};
-use crate::station::{Station, is_answer};
+use crate::station::{Closed, Station, is_answer};
 use element_core::Year;
 use hub_core::{Collected, Handed, Hub, HubFault, Shape, SubmitFault, Worked};
-use lane_core::Ticket;
+use lane_core::{Delivery, Ticket};
 use scan_core::{Carrier, Runs};
+use std::process::Abort;
 use std::sync::Wait;
 use std::test::Fail;
 
@@ -25,139 +26,202 @@ fn shape(count: u8, capacity: u16, limit: u32) -> Shape {
     }
 }
 
+/// A call of a hub's, and what it answers.
+#[derive(Drop)]
+enum Step {
+    /// A lane submits a row: the ticket, or the line of the refusal.
+    Submit(usize, &'static [u16], &'static str),
+    /// A worker works once.
+    Work(usize, Worked),
+    /// The deliverer collects.
+    Collect(Collected),
+    /// Whether a lane's next delivery is that of this number and this carrier.
+    Next(u8, u32, Carrier, bool),
+    /// The deliverer hands a lane its next delivery.
+    Hand(u8, Handed),
+    /// A lane polls the delivery of this number and this carrier.
+    Poll(u8, u32, Carrier),
+    /// A lane has submitted so many rows.
+    Issued(usize, u32),
+}
+
+/// That a step has its answer.
+fn take<R: Wait + AllocGlobal + Abort>(rt: &R, hub: &mut Station, step: &Step) -> Result<(), Fail> {
+    let alloc = rt.alloc();
+    match step {
+        Step::Submit(lane, widths, told) => {
+            let found = hub.submit(rt, alloc, *lane, row(alloc, widths)?)?;
+            assert_eq!(*rt; found.as_str(), *told);
+        }
+        Step::Work(worker, told) => assert_eq!(*rt; hub.work(rt, *worker)?, *told),
+        Step::Collect(told) => assert_eq!(*rt; hub.collect(rt), *told),
+        Step::Next(lane, number, carrier, told) => {
+            assert_eq!(*rt; hub.has_next(*lane, *number, *carrier)?, *told);
+        }
+        Step::Hand(lane, told) => assert_eq!(*rt; hub.hand(*lane)?, *told),
+        Step::Poll(lane, number, carrier) => {
+            let found = hub.poll(usize::from(*lane))?;
+            assert!(*rt; is_answer(found.as_ref(), *lane, *number, *carrier));
+        }
+        Step::Issued(lane, count) => assert_eq!(*rt; hub.issued(*lane)?, *count),
+    }
+    Ok(())
+}
+
+/// That each step has its answer, in turn.
+fn follow<R: Wait + AllocGlobal + Abort>(
+    rt: &R,
+    hub: &mut Station,
+    steps: &[Step],
+) -> Result<(), Fail> {
+    for step in steps {
+        take(rt, hub, step)?;
+    }
+    Ok(())
+}
+
+/// That a lane's list has the deliveries of these carriers, from this number on.
+fn are_answers<R: Abort>(
+    rt: &R,
+    lists: &[Vec<Delivery>],
+    lane: u8,
+    first: u32,
+    carriers: &[Carrier],
+) -> Result<(), Fail> {
+    let list = lists.get(usize::from(lane)).ok_or("a list")?;
+    assert_eq!(*rt; list.len(), carriers.len());
+    for (delivery, (number, carrier)) in list.iter().zip((first..).zip(carriers)) {
+        assert!(*rt; is_answer(Some(delivery), lane, number, *carrier));
+    }
+    Ok(())
+}
+
 #[test]
 fn two_lanes_share_two_workers(rt: HostRuntime) -> Result<(), Fail> {
-    let alloc = rt.alloc();
-    let mut hub = Station::new(&rt, alloc, shape(2, 2, 2))?;
-    assert_eq!(rt;
-        hub.submit(&rt, alloc, 0, row(alloc, EAN13)?)?.as_str(),
-        "0/0"
-    );
-    assert_eq!(rt;
-        hub.submit(&rt, alloc, 1, row(alloc, EAN8)?)?.as_str(),
-        "1/0"
-    );
-    assert_eq!(rt;
-        hub.submit(&rt, alloc, 0, row(alloc, GS1_128)?)?.as_str(),
-        "refused 34 Full 45"
-    );
-    assert_eq!(rt; hub.work(&rt, 1)?, Worked::Posted);
-    assert_eq!(rt; hub.work(&rt, 0)?, Worked::Posted);
-    assert_eq!(rt; hub.work(&rt, 0)?, Worked::Nothing);
-    assert_eq!(rt;
-        hub.submit(&rt, alloc, 0, row(alloc, GS1_128)?)?.as_str(),
-        "0/1"
-    );
-    assert_eq!(rt; hub.work(&rt, 0)?, Worked::Held);
-    assert_eq!(rt; hub.work(&rt, 0)?, Worked::Held);
-    assert_eq!(rt; hub.collect(&rt), Collected::Taken);
-    assert!(rt; hub.has_next(0, 0, Carrier::Ean13)?);
-    assert!(rt; !hub.has_next(1, 0, Carrier::Ean8)?);
-    assert_eq!(rt; hub.work(&rt, 0)?, Worked::Posted);
-    assert_eq!(rt; hub.collect(&rt), Collected::Taken);
-    assert_eq!(rt; hub.collect(&rt), Collected::Taken);
-    assert_eq!(rt; hub.collect(&rt), Collected::Nothing);
-    assert!(rt; hub.has_next(0, 0, Carrier::Ean13)?);
-    assert!(rt; hub.has_next(1, 0, Carrier::Ean8)?);
-    assert_eq!(rt;
-        hub.submit(&rt, alloc, 0, row(alloc, EAN8)?)?.as_str(),
-        "refused 35 Spent 45"
-    );
-    assert_eq!(rt; (hub.issued(0)?, hub.issued(1)?), (2, 1));
-    Ok(())
+    let mut hub = Station::new(&rt, rt.alloc(), shape(2, 2, 2))?;
+    follow(
+        &rt,
+        &mut hub,
+        &[
+            Step::Submit(0, EAN13, "0/0"),
+            Step::Submit(1, EAN8, "1/0"),
+            Step::Submit(0, GS1_128, "refused 34 Full 45"),
+            Step::Work(1, Worked::Posted),
+            Step::Work(0, Worked::Posted),
+            Step::Work(0, Worked::Nothing),
+            Step::Submit(0, GS1_128, "0/1"),
+            Step::Work(0, Worked::Held),
+            Step::Work(0, Worked::Held),
+            Step::Collect(Collected::Taken),
+            Step::Next(0, 0, Carrier::Ean13, true),
+            Step::Next(1, 0, Carrier::Ean8, false),
+            Step::Work(0, Worked::Posted),
+            Step::Collect(Collected::Taken),
+            Step::Collect(Collected::Taken),
+            Step::Collect(Collected::Nothing),
+            Step::Next(0, 0, Carrier::Ean13, true),
+            Step::Next(1, 0, Carrier::Ean8, true),
+            Step::Submit(0, EAN8, "refused 35 Spent 45"),
+            Step::Issued(0, 2),
+            Step::Issued(1, 1),
+        ],
+    )
 }
 
 #[test]
 fn one_lane_polls_all_before_it_is_settled(rt: HostRuntime) -> Result<(), Fail> {
     let alloc = rt.alloc();
     let mut hub = Station::new(&rt, alloc, shape(1, 1, 2))?;
-    assert_eq!(rt;
-        hub.submit(&rt, alloc, 0, row(alloc, EAN13)?)?.as_str(),
-        "0/0"
-    );
-    assert_eq!(rt;
-        hub.submit(&rt, alloc, 0, row(alloc, EAN8)?)?.as_str(),
-        "refused 34 Full 45"
-    );
-    assert_eq!(rt; hub.work(&rt, 0)?, Worked::Posted);
-    assert_eq!(rt;
-        hub.submit(&rt, alloc, 0, row(alloc, EAN8)?)?.as_str(),
-        "0/1"
-    );
-    assert_eq!(rt; hub.work(&rt, 0)?, Worked::Held);
-    assert_eq!(rt; hub.collect(&rt), Collected::Taken);
-    assert_eq!(rt; hub.work(&rt, 0)?, Worked::Posted);
-    assert_eq!(rt; hub.collect(&rt), Collected::Taken);
-    assert_eq!(rt; hub.hand(0)?, Handed::Given);
-    assert_eq!(rt; hub.hand(0)?, Handed::RingFull);
-    assert!(rt; is_answer(hub.poll(0)?.as_ref(), 0, 0, Carrier::Ean13));
-    assert_eq!(rt; hub.hand(0)?, Handed::Given);
-    assert_eq!(rt; hub.hand(0)?, Handed::Nothing);
-    assert_eq!(rt;
-        hub.submit(&rt, alloc, 0, row(alloc, GS1_128)?)?.as_str(),
-        "refused 35 Spent 45"
-    );
-    let mut hub = hub.close(alloc)?;
-    assert!(rt; !hub.is_done(0)?);
-    assert!(rt; is_answer(hub.poll(0)?.as_ref(), 0, 1, Carrier::Ean8));
-    assert!(rt; hub.is_done(0)?);
-    assert!(rt; hub.poll(0)?.is_none());
-    let lists = hub.settle(&rt, alloc)?;
-    assert_eq!(rt; lists.len(), 1);
-    assert!(rt; lists[0].is_empty());
-    Ok(())
+    follow(
+        &rt,
+        &mut hub,
+        &[
+            Step::Submit(0, EAN13, "0/0"),
+            Step::Submit(0, EAN8, "refused 34 Full 45"),
+            Step::Work(0, Worked::Posted),
+            Step::Submit(0, EAN8, "0/1"),
+            Step::Work(0, Worked::Held),
+            Step::Collect(Collected::Taken),
+            Step::Work(0, Worked::Posted),
+            Step::Collect(Collected::Taken),
+            Step::Hand(0, Handed::Given),
+            Step::Hand(0, Handed::RingFull),
+            Step::Poll(0, 0, Carrier::Ean13),
+            Step::Hand(0, Handed::Given),
+            Step::Hand(0, Handed::Nothing),
+            Step::Submit(0, GS1_128, "refused 35 Spent 45"),
+        ],
+    )?;
+    polls_the_last(&rt, hub.close(alloc)?)
+}
+
+/// That the one lane polls its second row's delivery, is done then, and nothing is left to settle.
+fn polls_the_last<R: Wait + AllocGlobal + Abort>(rt: &R, mut hub: Closed) -> Result<(), Fail> {
+    assert!(*rt; !hub.is_done(0)?);
+    let last = hub.poll(0)?;
+    assert!(*rt; is_answer(last.as_ref(), 0, 1, Carrier::Ean8));
+    assert!(*rt; hub.is_done(0)?);
+    assert!(*rt; hub.poll(0)?.is_none());
+    let lists = hub.settle(rt, rt.alloc())?;
+    assert_eq!(*rt; lists.len(), 1);
+    are_answers(rt, lists.as_slice(), 0, 2, &[])
 }
 
 #[test]
 fn settles_what_no_lane_has_polled(rt: HostRuntime) -> Result<(), Fail> {
     let alloc = rt.alloc();
     let mut hub = Station::new(&rt, alloc, shape(1, 3, 3))?;
-    for (number, widths) in [EAN13, EAN8, GS1_128].into_iter().enumerate() {
-        let told = hub.submit(&rt, alloc, 0, row(alloc, widths)?)?;
-        assert_eq!(rt; told.as_str(), format!(in alloc; "0/{number}")?.as_str());
-    }
+    follow(
+        &rt,
+        &mut hub,
+        &[
+            Step::Submit(0, EAN13, "0/0"),
+            Step::Submit(0, EAN8, "0/1"),
+            Step::Submit(0, GS1_128, "0/2"),
+        ],
+    )?;
     assert!(rt; hub.poll(0)?.is_none());
     let lists = hub.close(alloc)?.settle(&rt, alloc)?;
     assert_eq!(rt; lists.len(), 1);
-    assert_eq!(rt; lists[0].len(), 3);
-    assert!(rt; is_answer(lists[0].get(0), 0, 0, Carrier::Ean13));
-    assert!(rt; is_answer(lists[0].get(1), 0, 1, Carrier::Ean8));
-    assert!(rt; is_answer(lists[0].get(2), 0, 2, Carrier::Gs1128));
+    let wanted = [Carrier::Ean13, Carrier::Ean8, Carrier::Gs1128];
+    are_answers(&rt, lists.as_slice(), 0, 0, &wanted)
+}
+
+/// That a hub of so many lanes and workers answers three rows of each lane, one of which it polls.
+fn answers_each_lane<R: Wait + AllocGlobal + Abort>(rt: &R, count: u8) -> Result<(), Fail> {
+    let alloc = rt.alloc();
+    let mut hub = Station::new(rt, alloc, shape(count, 64, 3))?;
+    for widths in [EAN13, EAN8, GS1_128] {
+        for lane in 0..count {
+            hub.submit(rt, alloc, usize::from(lane), row(alloc, widths)?)?;
+            hub.work(rt, usize::from(count - 1 - lane))?;
+        }
+    }
+    for _ in 0..2 * u32::from(count) {
+        take(rt, &mut hub, &Step::Collect(Collected::Taken))?;
+    }
+    for lane in 0..count {
+        take(rt, &mut hub, &Step::Hand(lane, Handed::Given))?;
+        take(rt, &mut hub, &Step::Poll(lane, 0, Carrier::Ean13))?;
+    }
+    let lists = hub.close(alloc)?.settle(rt, alloc)?;
+    assert_eq!(*rt; lists.len(), usize::from(count));
+    for lane in 0..count {
+        are_answers(
+            rt,
+            lists.as_slice(),
+            lane,
+            1,
+            &[Carrier::Ean8, Carrier::Gs1128],
+        )?;
+    }
     Ok(())
 }
 
 #[test]
 fn hubs_of_each_size_answer_each_lane(rt: HostRuntime) -> Result<(), Fail> {
-    let alloc = rt.alloc();
-    for count in [1u8, 3, 16] {
-        let mut hub = Station::new(&rt, alloc, shape(count, 64, 3))?;
-        for widths in [EAN13, EAN8, GS1_128] {
-            for lane in 0..count {
-                hub.submit(&rt, alloc, usize::from(lane), row(alloc, widths)?)?;
-                hub.work(&rt, usize::from(count - 1 - lane))?;
-            }
-        }
-        for _ in 0..2 * count {
-            assert_eq!(rt; hub.collect(&rt), Collected::Taken);
-        }
-        for lane in 0..count {
-            assert_eq!(rt; hub.hand(lane)?, Handed::Given);
-            assert!(rt;
-                is_answer(
-                    hub.poll(usize::from(lane))?.as_ref(),
-                    lane,
-                    0,
-                    Carrier::Ean13
-                )
-            );
-        }
-        let lists = hub.close(alloc)?.settle(&rt, alloc)?;
-        assert_eq!(rt; lists.len(), usize::from(count));
-        for (lane, list) in lists.iter().enumerate() {
-            assert_eq!(rt; list.len(), 2);
-            assert!(rt; is_answer(list.get(0), lane as u8, 1, Carrier::Ean8));
-            assert!(rt; is_answer(list.get(1), lane as u8, 2, Carrier::Gs1128));
-        }
+    for count in [1, 3, 16] {
+        answers_each_lane(&rt, count)?;
     }
     Ok(())
 }
@@ -194,77 +258,91 @@ fn submitted<R: Wait>(
     Err(Fail::from("full"))
 }
 
-#[test]
-fn the_largest_hub_with_the_smallest_queues_answers_each_row(rt: HostRuntime) -> Result<(), Fail> {
+/// That each lane of the largest hub has its three tickets in order. Only the very first row is submitted
+/// at once.
+fn submits_three_of_each<R: Wait + AllocGlobal + Abort>(
+    rt: &R,
+    hub: &mut Station,
+) -> Result<(), Fail> {
     let alloc = rt.alloc();
-    for asks_again in [false, true] {
-        let mut hub = Station::new(&rt, alloc, shape(MOST, 1, 3))?;
-        for lane in 0..MOST {
-            for (number, widths) in [(0, EAN13), (1, EAN8), (2, GS1_128)] {
-                let (ticket, rounds) = submitted(&rt, &mut hub, lane, row(alloc, widths)?)?;
-                assert_eq!(rt; ticket, Ticket { lane, number });
-                assert_eq!(rt; rounds > 0, ticket != Ticket { lane: 0, number: 0 });
-            }
-        }
-        if asks_again {
-            for lane in 0..MOST {
-                let told = hub.submit(&rt, alloc, usize::from(lane), row(alloc, EAN13)?)?;
-                assert_eq!(rt; told.as_str(), "refused 35 Spent 61");
-            }
-        }
-        let lists = hub.close(alloc)?.settle(&rt, alloc)?;
-        assert_eq!(rt; lists.len(), usize::from(MOST));
-        for (list, lane) in lists.iter().zip(0..MOST) {
-            assert_eq!(rt; list.len(), 3);
-            assert!(rt; is_answer(list.get(0), lane, 0, Carrier::Ean13));
-            assert!(rt; is_answer(list.get(1), lane, 1, Carrier::Ean8));
-            assert!(rt; is_answer(list.get(2), lane, 2, Carrier::Gs1128));
+    for lane in 0..MOST {
+        for (number, widths) in [(0, EAN13), (1, EAN8), (2, GS1_128)] {
+            let (ticket, rounds) = submitted(rt, hub, lane, row(alloc, widths)?)?;
+            assert_eq!(*rt; ticket, Ticket { lane, number });
+            assert_eq!(*rt; rounds > 0, ticket != Ticket { lane: 0, number: 0 });
         }
     }
     Ok(())
 }
 
+/// That each lane of the largest hub is settled with its three answers.
+fn settles_three_of_each<R: Wait + AllocGlobal + Abort>(rt: &R, hub: Station) -> Result<(), Fail> {
+    let alloc = rt.alloc();
+    let lists = hub.close(alloc)?.settle(rt, alloc)?;
+    assert_eq!(*rt; lists.len(), usize::from(MOST));
+    let wanted = [Carrier::Ean13, Carrier::Ean8, Carrier::Gs1128];
+    for lane in 0..MOST {
+        are_answers(rt, lists.as_slice(), lane, 0, &wanted)?;
+    }
+    Ok(())
+}
+
+#[test]
+fn the_largest_hub_with_the_smallest_queues_answers_each_row(rt: HostRuntime) -> Result<(), Fail> {
+    let mut hub = Station::new(&rt, rt.alloc(), shape(MOST, 1, 3))?;
+    submits_three_of_each(&rt, &mut hub)?;
+    settles_three_of_each(&rt, hub)
+}
+
+#[test]
+fn a_spent_lane_of_the_largest_hub_keeps_its_answers(rt: HostRuntime) -> Result<(), Fail> {
+    let mut hub = Station::new(&rt, rt.alloc(), shape(MOST, 1, 3))?;
+    submits_three_of_each(&rt, &mut hub)?;
+    for lane in 0..MOST {
+        let again = Step::Submit(usize::from(lane), EAN13, "refused 35 Spent 61");
+        take(&rt, &mut hub, &again)?;
+    }
+    settles_three_of_each(&rt, hub)
+}
+
 #[test]
 fn a_spent_lane_is_told_before_a_full_queue(rt: HostRuntime) -> Result<(), Fail> {
-    let alloc = rt.alloc();
-    let mut hub = Station::new(&rt, alloc, shape(2, 1, 1))?;
-    let cases = [
-        (0, EAN13, "0/0"),
-        (0, GS1_128, "refused 35 Spent 45"),
-        (1, EAN8, "refused 34 Full 45"),
-    ];
-    for (lane, widths, told) in cases {
-        let row = row(alloc, widths)?;
-        assert_eq!(rt; hub.submit(&rt, alloc, lane, row)?.as_str(), told);
-    }
-    assert_eq!(rt; hub.work(&rt, 0)?, Worked::Posted);
-    assert_eq!(rt;
-        hub.submit(&rt, alloc, 0, row(alloc, GS1_128)?)?.as_str(),
-        "refused 35 Spent 45"
-    );
-    assert_eq!(rt;
-        hub.submit(&rt, alloc, 1, row(alloc, EAN8)?)?.as_str(),
-        "1/0"
-    );
-    assert_eq!(rt; (hub.issued(0)?, hub.issued(1)?), (1, 1));
-    Ok(())
+    let mut hub = Station::new(&rt, rt.alloc(), shape(2, 1, 1))?;
+    follow(
+        &rt,
+        &mut hub,
+        &[
+            Step::Submit(0, EAN13, "0/0"),
+            Step::Submit(0, GS1_128, "refused 35 Spent 45"),
+            Step::Submit(1, EAN8, "refused 34 Full 45"),
+            Step::Work(0, Worked::Posted),
+            Step::Submit(0, GS1_128, "refused 35 Spent 45"),
+            Step::Submit(1, EAN8, "1/0"),
+            Step::Issued(0, 1),
+            Step::Issued(1, 1),
+        ],
+    )
 }
 
 #[test]
 fn seats_are_settled_in_any_order(rt: HostRuntime) -> Result<(), Fail> {
     let alloc = rt.alloc();
     let mut hub = Station::new(&rt, alloc, shape(3, 4, 1))?;
-    for (lane, widths) in [EAN13, EAN8, GS1_128].into_iter().enumerate() {
-        hub.submit(&rt, alloc, lane, row(alloc, widths)?)?;
-    }
-    assert_eq!(rt; hub.work(&rt, 2)?, Worked::Posted);
+    follow(
+        &rt,
+        &mut hub,
+        &[
+            Step::Submit(0, EAN13, "0/0"),
+            Step::Submit(1, EAN8, "1/0"),
+            Step::Submit(2, GS1_128, "2/0"),
+            Step::Work(2, Worked::Posted),
+        ],
+    )?;
     let lists = hub.close(alloc)?.turned().settle(&rt, alloc)?;
     assert_eq!(rt; lists.len(), 3);
-    assert!(rt; lists.iter().all(|list| list.len() == 1));
-    assert!(rt; is_answer(lists[0].get(0), 0, 0, Carrier::Ean13));
-    assert!(rt; is_answer(lists[1].get(0), 1, 0, Carrier::Ean8));
-    assert!(rt; is_answer(lists[2].get(0), 2, 0, Carrier::Gs1128));
-    Ok(())
+    are_answers(&rt, lists.as_slice(), 0, 0, &[Carrier::Ean13])?;
+    are_answers(&rt, lists.as_slice(), 1, 0, &[Carrier::Ean8])?;
+    are_answers(&rt, lists.as_slice(), 2, 0, &[Carrier::Gs1128])
 }
 
 #[test]
@@ -276,6 +354,14 @@ fn a_hub_that_did_nothing_is_settled(rt: HostRuntime) -> Result<(), Fail> {
     assert_eq!(rt; lists.len(), 3);
     assert!(rt; lists.iter().all(|list| list.is_empty()));
     Ok(())
+}
+
+/// Whether there is no hub of a shape.
+fn is_refused<R: Wait + AllocGlobal>(rt: &R, shape: Shape, year: Year) -> bool {
+    matches!(
+        Hub::new(rt, rt.alloc(), shape, year),
+        Err(HubFault::BadCount)
+    )
 }
 
 #[test]
@@ -298,10 +384,7 @@ fn shapes_have_limits(rt: HostRuntime) -> Result<(), Fail> {
             capacity,
             limit,
         };
-        assert!(rt;
-            matches!(Hub::new(&rt, alloc, shape, year), Err(HubFault::BadCount)),
-            "{shape:?}"
-        );
+        assert!(rt; is_refused(&rt, shape, year), "{shape:?}");
     }
     let largest = Shape {
         lanes: 16,

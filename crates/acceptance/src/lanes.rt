@@ -9,6 +9,7 @@ use lane_core::{
 };
 use scan_core::{Answer, Carrier};
 use std::alloc::Global;
+use std::process::Abort;
 use std::test::Fail;
 
 /// The delivery of an EAN-13 row under the ticket.
@@ -107,6 +108,16 @@ fn done(world: &mut World, event: Event) -> Result<bool, Fail>
     }
 }
 
+/// That the event is done, or that it is not.
+fn does<R: Abort>(rt: &R, world: &mut World, event: Event, wanted: bool) -> Result<(), Fail>
+    requires { 0 < length world.old.lanes }
+    ensures { 0 < length world.new.lanes }
+{
+    let is_done = done(world, event)?;
+    assert_eq!(*rt; is_done, wanted);
+    Ok(())
+}
+
 /// Whether the lane has polled these numbers, each answered as the carrier's.
 fn has_polled(world: &World, lane: u8, carriers: &[Carrier]) -> bool
     requires { lane < length world.now.lanes }
@@ -143,14 +154,14 @@ fn polls_in_order_what_was_posted_out_of_order(rt: HostRuntime) -> Result<(), Fa
     let alloc = rt.alloc();
     let mut world = one_lane(alloc, 2)?;
     assert!(rt; bring_the_second(alloc, &mut world)?);
-    assert!(rt; !done(&mut world, Event::Hand(0))?);
+    does(&rt, &mut world, Event::Hand(0), false)?;
     assert!(rt; hand_both(&mut world)?);
-    assert!(rt; done(&mut world, Event::Poll(0))?);
+    does(&rt, &mut world, Event::Poll(0), true)?;
     assert!(rt; has_polled(&world, 0, &[Carrier::Ean13]));
-    assert!(rt; done(&mut world, Event::Close(0))?);
-    assert!(rt; !done(&mut world, Event::Submit(0, row(alloc, EAN8)?))?);
-    assert!(rt; done(&mut world, Event::Poll(0))?);
-    assert!(rt; !done(&mut world, Event::Poll(0))?);
+    does(&rt, &mut world, Event::Close(0), true)?;
+    does(&rt, &mut world, Event::Submit(0, row(alloc, EAN8)?), false)?;
+    does(&rt, &mut world, Event::Poll(0), true)?;
+    does(&rt, &mut world, Event::Poll(0), false)?;
     assert!(rt; has_polled(&world, 0, &[Carrier::Ean13, Carrier::Ean8]));
     Ok(())
 }
@@ -167,7 +178,7 @@ fn tells_where_each_ticket_is(rt: HostRuntime) -> Result<(), Fail> {
     assert_eq!(rt; world.place(second), Some(Place::Waiting));
     assert!(rt; hand_both(&mut world)?);
     assert_eq!(rt; world.place(second), Some(Place::Outbox));
-    assert!(rt; done(&mut world, Event::Poll(0))?);
+    does(&rt, &mut world, Event::Poll(0), true)?;
     assert_eq!(rt; world.place(first), Some(Place::Polled));
     assert_eq!(rt; world.issued(0), 2);
     assert!(rt; !world.is_closed(0));
@@ -178,14 +189,13 @@ fn tells_where_each_ticket_is(rt: HostRuntime) -> Result<(), Fail> {
 fn passes_over_what_cannot_be_done(rt: HostRuntime) -> Result<(), Fail> {
     let alloc = rt.alloc();
     let mut world = one_lane(alloc, 1)?;
-    assert!(rt; !done(&mut world, Event::Post(0))?);
-    assert!(rt; !done(&mut world, Event::Collect)?);
-    assert!(rt; !done(&mut world, Event::Poll(0))?);
-    assert!(rt; !done(&mut world, Event::Take(7))?);
-    assert!(rt; !done(&mut world, Event::Close(4))?);
-    assert!(rt; done(&mut world, Event::Close(0))?);
-    assert!(rt; !done(&mut world, Event::Close(0))?);
-    Ok(())
+    does(&rt, &mut world, Event::Post(0), false)?;
+    does(&rt, &mut world, Event::Collect, false)?;
+    does(&rt, &mut world, Event::Poll(0), false)?;
+    does(&rt, &mut world, Event::Take(7), false)?;
+    does(&rt, &mut world, Event::Close(4), false)?;
+    does(&rt, &mut world, Event::Close(0), true)?;
+    does(&rt, &mut world, Event::Close(0), false)
 }
 
 #[test]

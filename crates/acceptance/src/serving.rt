@@ -3,11 +3,13 @@
 use crate::rows::{EAN8, EAN13, GS1_128, row};
 use element_core::Year;
 use fakes::Holding;
-use hub_core::{OpenGate, serve};
+use hub_core::{Gate, OpenGate, serve};
 use lane_core::{Delivery, Ticket};
 use scan_core::Runs;
 use std::alloc::Global;
+use std::sync::Wait;
 use std::test::Fail;
+use std::thread::Threads;
 
 /// Feeds of these rows.
 fn feeds(alloc: Global, lanes: &[&[&[u16]]]) -> Result<Vec<Vec<Runs>>, Fail> {
@@ -39,15 +41,28 @@ fn shown(alloc: Global, lists: &[Vec<Delivery>]) -> Result<String, Fail> {
     Ok(text)
 }
 
-#[test]
-fn two_workers_run_beside_each_other(rt: HostRuntime) -> Result<(), Fail> {
+/// The lines of the deliveries of these rows, or the line of the fault.
+fn answered<R: Threads + Wait + AllocGlobal + Sync, G: Gate + Sync>(
+    rt: &R,
+    lanes: &[&[&[u16]]],
+    workers: u8,
+    gate: &G,
+) -> Result<String, Fail> {
     let alloc = rt.alloc();
     let year = Year::new(2026).ok_or("year")?;
+    match serve(rt, alloc, feeds(alloc, lanes)?, workers, year, gate) {
+        Ok(lists) => shown(alloc, lists.as_slice()),
+        Err(fault) => Ok(fault.to_string(alloc)?),
+    }
+}
+
+#[test]
+fn two_workers_run_beside_each_other(rt: HostRuntime) -> Result<(), Fail> {
     let gate = Holding::until(1);
-    let lists = serve(&rt, alloc, feeds(alloc, &[&[EAN13, EAN8]])?, 2, year, &gate)?;
+    let found = answered(&rt, &[&[EAN13, EAN8]], 2, &gate)?;
     assert_eq!(rt; gate.counts(), [1, 0, 1, 0, 0]);
     assert_eq!(rt;
-        shown(alloc, lists.as_slice())?.as_str(),
+        found.as_str(),
         "0: 0/0 61 Read { carrier: Ean13\n\
          0: 0/1 45 Read { carrier: Ean8\n",
     );
@@ -56,20 +71,11 @@ fn two_workers_run_beside_each_other(rt: HostRuntime) -> Result<(), Fail> {
 
 #[test]
 fn a_worker_that_is_held_holds_no_other_row(rt: HostRuntime) -> Result<(), Fail> {
-    let alloc = rt.alloc();
-    let year = Year::new(2026).ok_or("year")?;
     let gate = Holding::until(2);
-    let lists = serve(
-        &rt,
-        alloc,
-        feeds(alloc, &[&[EAN13, EAN8, GS1_128]])?,
-        2,
-        year,
-        &gate,
-    )?;
+    let found = answered(&rt, &[&[EAN13, EAN8, GS1_128]], 2, &gate)?;
     assert_eq!(rt; gate.counts(), [1, 1, 1, 0, 0]);
     assert_eq!(rt;
-        shown(alloc, lists.as_slice())?.as_str(),
+        found.as_str(),
         "0: 0/0 61 Read { carrier: Ean13\n\
          0: 0/1 45 Read { carrier: Ean8\n\
          0: 0/2 45 Read { carrier: Gs1128\n",
@@ -115,8 +121,6 @@ fn many_rows_and_workers_change_no_order(rt: HostRuntime) -> Result<(), Fail> {
 
 #[test]
 fn counts_are_1_to_16(rt: HostRuntime) -> Result<(), Fail> {
-    let alloc = rt.alloc();
-    let year = Year::new(2026).ok_or("year")?;
     let some: &[&[u16]] = &[EAN13];
     let none: &[&[u16]] = &[];
     let seventeen: &[&[&[u16]]] = &[none; 17];
@@ -128,12 +132,8 @@ fn counts_are_1_to_16(rt: HostRuntime) -> Result<(), Fail> {
         (seventeen, 1),
     ];
     for (lanes, workers) in cases {
-        let refused = serve(&rt, alloc, feeds(alloc, lanes)?, *workers, year, &OpenGate);
-        let text = match refused {
-            Ok(_) => format!(in alloc; "served")?,
-            Err(fault) => format!(in alloc; "{fault}")?,
-        };
-        assert_eq!(rt; text.as_str(), "refused 33 BadCount", "{workers} workers");
+        let found = answered(&rt, lanes, *workers, &OpenGate)?;
+        assert_eq!(rt; found.as_str(), "refused 33 BadCount", "{workers} workers");
     }
     Ok(())
 }

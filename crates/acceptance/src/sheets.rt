@@ -12,6 +12,7 @@ use sheet_core::{
     write_pbm,
 };
 use std::alloc::{AllocError, Global};
+use std::process::Abort;
 use std::test::Fail;
 
 // An image of ten by two dots, in turn light and dark, with a comment.
@@ -22,6 +23,9 @@ const PRINTED: &[u8] = b"P4\n113 3\n\
     \x00\x00\x00\x00\x00\x00\x00\x00\x00\x00\x00\x00\x00\x00\x00\
     \x00\x15\x8A\x76\x66\x53\x99\x54\xE8\x5C\xB9\x72\x85\x40\x00\
     \x00\x00\x00\x00\x00\x00\x00\x00\x00\x00\x00\x00\x00\x00\x00";
+
+// An element string whose symbol has 48 characters, the most of a GS1-128 symbol.
+const LONGEST: &str = "91AAAAAAAAAAAAAAAAAAAAAAAAAAAAAAAAAAAAAAAAAAAAAA";
 
 /// The sheets of a file.
 fn read(alloc: Global, file: &[u8]) -> Result<Vec<Sheet>, PbmFault> {
@@ -38,6 +42,13 @@ fn answer(alloc: Global, file: &[u8]) -> Result<String, AllocError> {
         }
         Err(fault) => format!(in alloc; "{fault}"),
     }
+}
+
+/// That a file has so many sheets, or this fault.
+fn answers<R: AllocGlobal + Abort>(rt: &R, file: &[u8], wanted: &str) -> Result<(), Fail> {
+    let found = answer(rt.alloc(), file)?;
+    assert_eq!(*rt; found.as_str(), wanted);
+    Ok(())
 }
 
 /// The bytes that sheets are written as.
@@ -131,6 +142,13 @@ fn line(alloc: Global, runs: &Runs, year: u16) -> Result<String, Fail> {
     }
 }
 
+/// That a row says this under a year.
+fn says<R: AllocGlobal + Abort>(rt: &R, runs: &Runs, year: u16, wanted: &str) -> Result<(), Fail> {
+    let found = line(rt.alloc(), runs, year)?;
+    assert_eq!(*rt; found.as_str(), wanted);
+    Ok(())
+}
+
 fn gtin(digits: &str) -> Result<Gtin, Fail> {
     Ok(Gtin::read(digits.as_bytes()).ok().ok_or("gtin")?)
 }
@@ -144,6 +162,18 @@ fn print(alloc: Global, labels: &[Label], grid: Grid) -> Result<String, AllocErr
         }
         Err(fault) => format!(in alloc; "{fault}"),
     }
+}
+
+/// That labels are printed on so many sheets, or have this fault.
+fn prints<R: AllocGlobal + Abort>(
+    rt: &R,
+    labels: &[Label],
+    grid: Grid,
+    wanted: &str,
+) -> Result<(), Fail> {
+    let found = print(rt.alloc(), labels, grid)?;
+    assert_eq!(*rt; found.as_str(), wanted);
+    Ok(())
 }
 
 #[test]
@@ -190,7 +220,6 @@ fn prints_a_label_as_its_bytes(rt: HostRuntime) -> Result<(), Fail> {
 
 #[test]
 fn prints_labels_that_fit(rt: HostRuntime) -> Result<(), Fail> {
-    let alloc = rt.alloc();
     let number = gtin("9501101530003")?;
     let suppressed = gtin("012345000065")?;
     let short = gtin("96385074")?;
@@ -212,18 +241,20 @@ fn prints_labels_that_fit(rt: HostRuntime) -> Result<(), Fail> {
         (Label::Ean8(short), few, "1 sheets"),
         (Label::Ean8(number), wide, "refused 26 LabelKind 0"),
     ] {
-        let found = print(alloc, &[label], grid)?;
-        assert_eq!(rt; found.as_str(), wanted);
+        prints(&rt, &[label], grid, wanted)?;
     }
-    // Of several labels the first that is not printed is answered, its kind before its width.
-    let labels = [Label::Ean13(number), Label::Ean8(number)];
-    let found = print(alloc, &labels, narrow)?;
-    assert_eq!(rt; found.as_str(), "refused 27 LabelWidth 0");
-    let found = print(alloc, &labels, wide)?;
-    assert_eq!(rt; found.as_str(), "refused 26 LabelKind 1");
-    let found = print(alloc, &[], wide)?;
-    assert_eq!(rt; found.as_str(), "0 sheets");
     Ok(())
+}
+
+#[test]
+fn answers_the_first_label_that_is_not_printed(rt: HostRuntime) -> Result<(), Fail> {
+    let number = gtin("9501101530003")?;
+    let wide = Grid::new(2, 226, 5, 2, 2).ok().ok_or("wide")?;
+    let narrow = Grid::new(2, 225, 5, 2, 2).ok().ok_or("narrow")?;
+    let labels = [Label::Ean13(number), Label::Ean8(number)];
+    prints(&rt, &labels, narrow, "refused 27 LabelWidth 0")?;
+    prints(&rt, &labels, wide, "refused 26 LabelKind 1")?;
+    prints(&rt, &[], wide, "0 sheets")
 }
 
 #[test]
@@ -270,23 +301,36 @@ fn fills_sheets_row_by_row(rt: HostRuntime) -> Result<(), Fail> {
     Ok(())
 }
 
+/// That row `y` of a sheet has these dots.
+fn shows<R: AllocGlobal + Abort>(rt: &R, sheet: &Sheet, y: u16, dots: &str) -> Result<(), Fail> {
+    let found = row(rt.alloc(), sheet, y)?;
+    assert_eq!(*rt; found.as_str(), dots);
+    Ok(())
+}
+
+/// That a file has one sheet, the one of `IMAGE`.
+fn is_image<R: AllocGlobal + Abort>(rt: &R, file: &[u8]) -> Result<(), Fail> {
+    let alloc = rt.alloc();
+    let sheets = read(alloc, file).ok().ok_or("read")?;
+    assert_eq!(*rt; sheets.len(), 1);
+    assert_eq!(*rt; (sheets[0].width(), sheets[0].height()), (10, 2));
+    shows(rt, &sheets[0], 0, "1010101010")?;
+    shows(rt, &sheets[0], 1, "0101010101")?;
+    let runs = sheets[0].row(alloc, 0).ok().ok_or("row")?;
+    assert_eq!(*rt; runs.widths(), [0, 1, 1, 1, 1, 1, 1, 1, 1, 1, 1].as_slice());
+    let bytes = written(alloc, sheets.as_slice())?;
+    assert_eq!(*rt; bytes.as_slice(), b"P4\n10 2\n\xAA\x80\x55\x40".as_slice());
+    Ok(())
+}
+
 #[test]
 fn reads_images(rt: HostRuntime) -> Result<(), Fail> {
-    let alloc = rt.alloc();
-    let padded = b"P4\n# a\n10 2\n\xAA\xBF\x55\x40";
-    for file in [IMAGE, padded] {
-        let sheets = read(alloc, file).ok().ok_or("read")?;
-        assert_eq!(rt; sheets.len(), 1);
-        assert_eq!(rt; (sheets[0].width(), sheets[0].height()), (10, 2));
-        let first = row(alloc, &sheets[0], 0)?;
-        assert_eq!(rt; first.as_str(), "1010101010");
-        let second = row(alloc, &sheets[0], 1)?;
-        assert_eq!(rt; second.as_str(), "0101010101");
-        let runs = sheets[0].row(alloc, 0).ok().ok_or("row")?;
-        assert_eq!(rt; runs.widths(), [0, 1, 1, 1, 1, 1, 1, 1, 1, 1, 1].as_slice());
-        let bytes = written(alloc, sheets.as_slice())?;
-        assert_eq!(rt; bytes.as_slice(), b"P4\n10 2\n\xAA\x80\x55\x40".as_slice());
-    }
+    is_image(&rt, IMAGE)?;
+    is_image(&rt, b"P4\n# a\n10 2\n\xAA\xBF\x55\x40")
+}
+
+#[test]
+fn counts_the_images_of_a_file(rt: HostRuntime) -> Result<(), Fail> {
     for (file, wanted) in [
         (b"".as_slice(), "0 sheets"),
         (b"P1\n# a\n10 2\n\xAA\x80\x55\x40", "refused 28 NotP4"),
@@ -301,35 +345,34 @@ fn reads_images(rt: HostRuntime) -> Result<(), Fail> {
         (b"P4 1 1 \x80\n", "refused 28 NotP4"),
         (b"P4 1 1 \x80P", "refused 30 Truncated"),
     ] {
-        let found = answer(alloc, file)?;
-        assert_eq!(rt; found.as_str(), wanted);
+        answers(&rt, file, wanted)?;
     }
     Ok(())
+}
+
+/// A file of one dot, whose width has so many zeros before it.
+fn zeros(alloc: Global, count: u16) -> Result<Vec<u8>, AllocError> {
+    let mut file = Vec::new(alloc);
+    file.extend_from_slice(b"P4 ")?;
+    for _ in 0..count {
+        file.push(b'0')?;
+    }
+    file.extend_from_slice(b"1 01\n\x80")?;
+    Ok(file)
 }
 
 #[test]
 fn keeps_the_limits_of_files(rt: HostRuntime) -> Result<(), Fail> {
     let alloc = rt.alloc();
-    for (zeros, wanted) in [(4088, "1 sheets"), (4089, "refused 29 PbmHeader")] {
-        let mut file = Vec::new(alloc);
-        file.extend_from_slice(b"P4 ")?;
-        for _ in 0..zeros {
-            file.push(b'0')?;
-        }
-        file.extend_from_slice(b"1 01\n\x80")?;
-        let found = answer(alloc, file.as_slice())?;
-        assert_eq!(rt; found.as_str(), wanted);
-    }
+    answers(&rt, zeros(alloc, 4088)?.as_slice(), "1 sheets")?;
+    answers(&rt, zeros(alloc, 4089)?.as_slice(), "refused 29 PbmHeader")?;
     let mut file = Vec::new(alloc);
     for _ in 0..4096 {
         file.extend_from_slice(b"P4 1 1 \x80")?;
     }
-    let found = answer(alloc, file.as_slice())?;
-    assert_eq!(rt; found.as_str(), "4096 sheets");
+    answers(&rt, file.as_slice(), "4096 sheets")?;
     file.push(b'P')?;
-    let found = answer(alloc, file.as_slice())?;
-    assert_eq!(rt; found.as_str(), "refused 31 PbmSize");
-    Ok(())
+    answers(&rt, file.as_slice(), "refused 31 PbmSize")
 }
 
 #[test]
@@ -344,12 +387,16 @@ fn reads_fronts_of_files(rt: HostRuntime) -> Result<(), Fail> {
             32 => "2 sheets",
             _ => "refused 30 Truncated",
         };
-        let found = answer(alloc, &twice[..count])?;
-        assert_eq!(rt; found.as_str(), wanted);
+        answers(&rt, &twice[..count], wanted)?;
     }
+    Ok(())
+}
+
+#[test]
+fn answers_a_reader_that_fails(rt: HostRuntime) -> Result<(), Fail> {
     for place in 0..17 {
         let mut source = Breaking::new(&IMAGE[..place]);
-        let fault = read_pbm(alloc, &mut source).err().ok_or("fault")?;
+        let fault = read_pbm(rt.alloc(), &mut source).err().ok_or("fault")?;
         assert_eq!(rt; fault, PbmFault::ReadFault);
     }
     Ok(())
@@ -422,9 +469,9 @@ fn reads_itf14_rows(rt: HostRuntime) -> Result<(), Fail> {
         (ITF14_WRONG, "refused 24 SymbolCheckDigit"),
     ] {
         let mut runs = Runs::of_widths(alloc, widths).ok().ok_or("row")?;
-        assert_eq!(rt; line(alloc, &runs, 2026)?.as_str(), wanted);
+        says(&rt, &runs, 2026, wanted)?;
         runs.reverse();
-        assert_eq!(rt; line(alloc, &runs, 2026)?.as_str(), wanted);
+        says(&rt, &runs, 2026, wanted)?;
     }
     Ok(())
 }
@@ -441,28 +488,35 @@ fn prints_48_characters(rt: HostRuntime) -> Result<(), Fail> {
         columns: 1,
         rows: 1,
     };
-    let narrow = Grid::new(1, 593, 4, 1, 1).ok().ok_or("narrow")?;
-    let longest = "91AAAAAAAAAAAAAAAAAAAAAAAAAAAAAAAAAAAAAAAAAAAAAA";
-    let labels = [Label::Gs1128(elements(longest, 2026)?)];
+    let labels = [Label::Gs1128(elements(LONGEST, 2026)?)];
     assert_eq!(rt; labels[0].text().len(), 48);
     let sheets = print_sheets(alloc, &labels, wide).ok().ok_or("print")?;
     let sheet = sheets.first().ok_or("sheet")?;
     for y in 1..3 {
         let runs = row_of_cell(alloc, sheet, &wide, shape, 0, y)?;
-        let found = line(alloc, &runs, 2026)?;
         let wanted = "]C1 (91)AAAAAAAAAAAAAAAAAAAAAAAAAAAAAAAAAAAAAAAAAAAAAA";
-        assert_eq!(rt; found.as_str(), wanted);
+        says(&rt, &runs, 2026, wanted)?;
     }
-    let found = print(alloc, &labels, narrow)?;
-    assert_eq!(rt; found.as_str(), "refused 27 LabelWidth 0");
-    let (bytes, outcome) = printed(alloc, &labels, narrow);
+    Ok(())
+}
+
+#[test]
+fn refuses_49_characters_and_narrow_cells(rt: HostRuntime) -> Result<(), Fail> {
+    let wide = Grid::new(1, 594, 4, 1, 1).ok().ok_or("wide")?;
+    let narrow = Grid::new(1, 593, 4, 1, 1).ok().ok_or("narrow")?;
+    let labels = [Label::Gs1128(elements(LONGEST, 2026)?)];
+    prints(&rt, &labels, narrow, "refused 27 LabelWidth 0")?;
+    let (bytes, outcome) = printed(rt.alloc(), &labels, narrow);
     assert_eq!(rt; outcome, Err(PrintFault::Sheet(SheetFault::LabelWidth(0))));
     assert_eq!(rt; bytes.len(), 0);
     let longer = elements("91AAAAAAAAAAAAAAAAAAAAAAAAAAAAAAAAAAAAAAAAAAAAAAA", 2026)?;
     encode(&longer).err().ok_or("too many characters")?;
-    let found = print(alloc, &[Label::Gs1128(longer)], wide)?;
-    assert_eq!(rt; found.as_str(), "refused 26 LabelKind 0");
-    Ok(())
+    prints(
+        &rt,
+        &[Label::Gs1128(longer)],
+        wide,
+        "refused 26 LabelKind 0",
+    )
 }
 
 #[test]
@@ -503,18 +557,15 @@ fn reads_each_bar_row_as_its_label(rt: HostRuntime) -> Result<(), Fail> {
     ] {
         for y in 0..12 {
             let runs = row_of_cell(alloc, sheet, &grid, shape, cell, y)?;
-            let found = line(alloc, &runs, 2026)?;
             let wanted = if 2 <= y && y < 10 {
                 wanted
             } else {
                 "refused 19 Blank"
             };
-            assert_eq!(rt; found.as_str(), wanted);
+            says(&rt, &runs, 2026, wanted)?;
         }
     }
     // Under a later reference year the label means a day of 2100, which has no such day.
     let runs = row_of_cell(alloc, sheet, &grid, shape, 5, 5)?;
-    let found = line(alloc, &runs, 2060)?;
-    assert_eq!(rt; found.as_str(), "refused 9 ValueDate 0");
-    Ok(())
+    says(&rt, &runs, 2060, "refused 9 ValueDate 0")
 }
