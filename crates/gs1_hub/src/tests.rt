@@ -19,6 +19,7 @@ use element_core::Year;
 use fakes::{Breaking, Endless, Narrow};
 use hub_core::{Gate, OpenGate};
 use prints::{LOW, RECORD, printing, push_image};
+use std::process::Abort;
 use std::sync::Wait;
 use std::test::Fail;
 use std::thread::Threads;
@@ -70,6 +71,23 @@ fn outcome_at<R: Threads + Wait + AllocGlobal + Sync, G: Gate + Sync>(
     }
 }
 
+/// That what was found of an input is what is wanted.
+fn same<R: Abort>(rt: &R, input: &str, found: &str, wanted: &str) {
+    assert_eq!(*rt; found, wanted, "{input}");
+}
+
+/// That a run of a command gives this text.
+fn gives<R: Threads + Wait + AllocGlobal + Sync + Abort>(
+    rt: &R,
+    asked: Asked,
+    input: &[u8],
+    wanted: &str,
+) -> Result<(), Fail> {
+    let found = outcome(rt, asked, input)?;
+    assert_eq!(*rt; found.as_str(), wanted);
+    Ok(())
+}
+
 /// The line of the fault of a run.
 fn refusal<R: Threads + Wait + AllocGlobal + Sync, S: Source, W: Sink>(
     rt: &R,
@@ -109,12 +127,17 @@ fn answers_each_row(rt: HostRuntime) -> Result<(), Fail> {
         let input = format!(in alloc; "0,{left} {symbol} {right}\n")?;
         let wanted = format!(in alloc; "0 0 {answer}\n")?;
         let found = printed(&rt, 1, 1, input.as_str())?;
-        assert_eq!(rt; found.as_str(), wanted.as_str(), "{input}");
+        same(&rt, input.as_str(), found.as_str(), wanted.as_str());
     }
     for width in ["0", "100", "65535"] {
         let input = format!(in alloc; "0,{width}")?;
         let found = printed(&rt, 1, 1, input.as_str())?;
-        assert_eq!(rt; found.as_str(), "0 0 refused 19 Blank\n", "{input}");
+        same(
+            &rt,
+            input.as_str(),
+            found.as_str(),
+            "0 0 refused 19 Blank\n",
+        );
     }
     Ok(())
 }
@@ -136,7 +159,7 @@ fn orders_lines_by_lane_and_number(rt: HostRuntime) -> Result<(), Fail> {
         ),
     ] {
         let found = printed(&rt, lanes, 1, input)?;
-        assert_eq!(rt; found.as_str(), wanted, "{input}");
+        same(&rt, input, found.as_str(), wanted);
     }
     let mut many = String::new(alloc);
     for _ in 0..11 {
@@ -166,12 +189,13 @@ fn reads_lanes_by_any_number_of_workers(rt: HostRuntime) -> Result<(), Fail> {
     let beyond = format!(in alloc; "3,11 {SYMBOL} 7\n{input}")?;
     for workers in [1, 2, 16] {
         let found = printed(&rt, 3, workers, input.as_str())?;
-        assert_eq!(rt; found.as_str(), wanted, "{workers} workers");
+        same(&rt, input.as_str(), found.as_str(), wanted);
         let found = printed(&rt, 3, workers, beyond.as_str())?;
-        assert_eq!(rt;
+        same(
+            &rt,
+            beyond.as_str(),
             found.as_str(),
             "record 0: refused 41 BadLane",
-            "{workers} workers"
         );
     }
     Ok(())
@@ -179,7 +203,7 @@ fn reads_lanes_by_any_number_of_workers(rt: HostRuntime) -> Result<(), Fail> {
 
 #[test]
 fn refuses_faulty_records(rt: HostRuntime) -> Result<(), Fail> {
-    for (input, wanted) in [
+    let cases: &[(&str, &str)] = &[
         ("0", "record 0: refused 39 Csv"),
         ("0,100,", "record 0: refused 39 Csv"),
         ("\"\"", "record 0: refused 39 Csv"),
@@ -205,10 +229,50 @@ fn refuses_faulty_records(rt: HostRuntime) -> Result<(), Fail> {
         ("0,100\n\n1,100\n7,1\n", "record 2: refused 41 BadLane"),
         ("7,\n0\n", "record 0: refused 41 BadLane"),
         ("0,99999\n7,\n0\n", "record 0: refused 17 TooWide"),
-    ] {
+    ];
+    for (input, wanted) in cases {
         let found = printed(&rt, 2, 1, input)?;
-        assert_eq!(rt; found.as_str(), wanted, "{input}");
+        same(&rt, input, found.as_str(), wanted);
     }
+    Ok(())
+}
+
+/// That a command refuses a source, and writes nothing.
+fn refuses<R: Threads + Wait + AllocGlobal + Sync + Abort, S: Source>(
+    rt: &R,
+    asked: Asked,
+    source: &mut S,
+    wanted: &str,
+) -> Result<(), Fail> {
+    let mut sink = ToWriter::new(Vec::new(rt.alloc()));
+    let line = refusal(rt, asked, source, &mut sink)?;
+    assert_eq!(*rt; line.as_str(), wanted);
+    assert_eq!(*rt; sink.into_inner().len(), 0);
+    Ok(())
+}
+
+/// That a command writes this output, and its first 25 bytes where the sink takes no more.
+fn writes_what_is_taken<R: Threads + Wait + AllocGlobal + Sync + Abort>(
+    rt: &R,
+    asked: Asked,
+    input: &[u8],
+    output: &[u8],
+) -> Result<(), Fail> {
+    let alloc = rt.alloc();
+    let mut narrow = Narrow::new(alloc, 100);
+    run(
+        rt,
+        alloc,
+        asked,
+        &mut FromReader::new(input),
+        &mut narrow,
+        &OpenGate,
+    )?;
+    assert_eq!(*rt; narrow.taken(), output);
+    let mut short = Narrow::new(alloc, 25);
+    let line = refusal(rt, asked, &mut FromReader::new(input), &mut short)?;
+    assert_eq!(*rt; line.as_str(), "refused 38 WriteFault");
+    assert_eq!(*rt; short.taken(), output.get(..25).ok_or("25 bytes")?);
     Ok(())
 }
 
@@ -241,24 +305,16 @@ fn passes_failures_on(rt: HostRuntime) -> Result<(), Fail> {
             b"0 0 ean13 (01)09501101530003\n",
         ),
     ] {
-        let mut unwritten = ToWriter::new(Vec::new(alloc));
-        let line = refusal(&rt, asked, &mut Breaking::new(b"0"), &mut unwritten)?;
-        assert_eq!(rt; line.as_str(), "refused 37 ReadFault");
-        let line = refusal(&rt, asked, &mut Endless, &mut unwritten)?;
-        assert_eq!(rt; line.as_str(), "refused 44 InputSize");
-        assert_eq!(rt; unwritten.into_inner().len(), 0);
-
-        let mut narrow = Narrow::new(alloc, 100);
-        let mut source = FromReader::new(input.as_bytes());
-        run(&rt, alloc, asked, &mut source, &mut narrow, &OpenGate)?;
-        assert_eq!(rt; narrow.taken(), output);
-
-        let mut short = Narrow::new(alloc, 25);
-        let mut source = FromReader::new(input.as_bytes());
-        let line = refusal(&rt, asked, &mut source, &mut short)?;
-        assert_eq!(rt; line.as_str(), "refused 38 WriteFault");
-        assert_eq!(rt; short.taken(), output.get(..25).ok_or("25 bytes")?);
+        refuses(&rt, asked, &mut Breaking::new(b"0"), "refused 37 ReadFault")?;
+        refuses(&rt, asked, &mut Endless, "refused 44 InputSize")?;
+        writes_what_is_taken(&rt, asked, input.as_bytes(), output)?;
     }
+    Ok(())
+}
+
+#[test]
+fn names_what_no_input_brings_about(rt: HostRuntime) -> Result<(), Fail> {
+    let alloc = rt.alloc();
     let text = CommandFault::NoMemory.to_string(alloc)?;
     assert_eq!(rt; text.as_str(), "refused 43 NoMemory");
     let text = CommandFault::NoThread.to_string(alloc)?;

@@ -1,9 +1,10 @@
 //! Texts that are checked: one of each answer and of each refusal, with the line that is printed.
 
-use super::outcome;
+use super::{outcome, same};
 use crate::commands::Asked;
 use element_core::{Elements, Year};
 use std::alloc::Global;
+use std::process::Abort;
 use std::sync::Wait;
 use std::test::Fail;
 use std::thread::Threads;
@@ -22,19 +23,21 @@ fn checked_in<R: Threads + Wait + AllocGlobal + Sync>(
     outcome(rt, Asked::Check(year), input.as_bytes())
 }
 
-/// Whether the record has this line.
-fn has_line<R: Threads + Wait + AllocGlobal + Sync>(
+/// That the record has this line.
+fn has_line<R: Threads + Wait + AllocGlobal + Sync + Abort>(
     rt: &R,
     record: &str,
     line: &str,
-) -> Result<bool, Fail> {
+) -> Result<(), Fail> {
     let wanted = format!(in rt.alloc(); "{line}\n")?;
-    Ok(checked(rt, record)? == wanted)
+    let found = checked(rt, record)?;
+    assert_eq!(*rt; found.as_str(), wanted.as_str(), "{record}");
+    Ok(())
 }
 
 #[test]
 fn checks_digits(rt: HostRuntime) -> Result<(), Fail> {
-    for (record, line) in [
+    let cases: &[(&str, &str)] = &[
         ("digit,950110153000", "digit 3"),
         ("digit,0", "digit 0"),
         ("digit,10614141234567890", "digit 8"),
@@ -64,15 +67,16 @@ fn checks_digits(rt: HostRuntime) -> Result<(), Fail> {
         ("upce,11234564", "refused 1 Length"),
         ("upce,1123456X", "refused 2 NotDigit 7"),
         ("upce,X1234565", "refused 2 NotDigit 0"),
-    ] {
-        assert!(rt; has_line(&rt, record, line)?, "{record}");
+    ];
+    for (record, line) in cases {
+        has_line(&rt, record, line)?;
     }
     Ok(())
 }
 
 #[test]
 fn checks_element_strings(rt: HostRuntime) -> Result<(), Fail> {
-    for (record, line) in [
+    let cases: &[(&str, &str)] = &[
         ("text,0109501101530003", "hri (01)09501101530003"),
         ("text,10AB^17261231", "hri (10)AB(17)261231"),
         ("text,10AB\u{1d}17261231", "hri (10)AB(17)261231"),
@@ -122,8 +126,9 @@ fn checks_element_strings(rt: HostRuntime) -> Result<(), Fail> {
         ("text,70032601022400", "refused 9 ValueDate 0"),
         ("text,8008260102153060", "refused 9 ValueDate 0"),
         ("text,80082601021560", "refused 9 ValueDate 0"),
-    ] {
-        assert!(rt; has_line(&rt, record, line)?, "{record}");
+    ];
+    for (record, line) in cases {
+        has_line(&rt, record, line)?;
     }
     Ok(())
 }
@@ -151,10 +156,20 @@ fn takes_192_bytes_of_text(rt: HostRuntime) -> Result<(), Fail> {
     assert!(rt; line.as_str().starts_with("hri (91)AA"));
     assert!(rt; line.as_str().ends_with("AA(10)ABCD\n"));
     let longer = long_record(alloc, "0ABCDE")?;
-    assert!(rt; has_line(&rt, longer.as_str(), "refused 11 TooLong")?);
+    has_line(&rt, longer.as_str(), "refused 11 TooLong")?;
     let worse = long_record(alloc, "##^^##")?;
-    assert!(rt; has_line(&rt, worse.as_str(), "refused 11 TooLong")?);
-    Ok(())
+    has_line(&rt, worse.as_str(), "refused 11 TooLong")
+}
+
+/// The year, the month and the day of a text's first element, under a reference year.
+fn first_day(text: &[u8], reference: u16) -> Result<(i16, i8, i8), Fail> {
+    let year = Year::new(reference).ok_or("a year")?;
+    let elements = Elements::parse(text, year).ok().ok_or("a list")?;
+    if elements.len() == 0 {
+        return Err(Fail::from("an element"));
+    }
+    let date = elements.element(0).date.ok_or("a date")?;
+    Ok((date.year(), date.month(), date.day()))
 }
 
 #[test]
@@ -169,21 +184,17 @@ fn reads_dates_by_the_year(rt: HostRuntime) -> Result<(), Fail> {
         (2080, b"17311231", (2031, 12, 31)),
         (2026, b"17000229", (2000, 2, 29)),
     ] {
-        let year = Year::new(reference).ok_or("a year")?;
-        let elements = Elements::parse(text.as_slice(), year).ok().ok_or("a list")?;
-        if elements.len() == 0 {
-            return Err(Fail::from("an element"));
-        }
-        let date = elements.element(0).date.ok_or("a date")?;
-        assert_eq!(rt; (date.year(), date.month(), date.day()), day);
+        assert_eq!(rt; first_day(text, reference)?, day);
     }
-    for (reference, line) in [
-        (2026, "hri (17)000229\n"),
-        (2060, "refused 9 ValueDate 0\n"),
-    ] {
-        let found = checked_in(&rt, reference, "text,17000229")?;
-        assert_eq!(rt; found.as_str(), line);
-    }
+    Ok(())
+}
+
+#[test]
+fn checks_dates_by_the_year(rt: HostRuntime) -> Result<(), Fail> {
+    let found = checked_in(&rt, 2026, "text,17000229")?;
+    assert_eq!(rt; found.as_str(), "hri (17)000229\n");
+    let found = checked_in(&rt, 2060, "text,17000229")?;
+    assert_eq!(rt; found.as_str(), "refused 9 ValueDate 0\n");
     Ok(())
 }
 
@@ -208,7 +219,7 @@ fn answers_records_in_order(rt: HostRuntime) -> Result<(), Fail> {
         ("gtin,123\ndigit\nsku,1\n", "record 1: refused 39 Csv"),
     ] {
         let found = checked(&rt, input)?;
-        assert_eq!(rt; found.as_str(), wanted, "{input}");
+        same(&rt, input, found.as_str(), wanted);
     }
     Ok(())
 }

@@ -5,6 +5,7 @@ use crate::commands::Asked;
 use crate::commands::lanes::options::LaneOptions;
 use scan_core::{RunFault, Runs};
 use std::alloc::{AllocError, Global};
+use std::process::Abort;
 use std::sync::Wait;
 use std::test::Fail;
 use std::thread::Threads;
@@ -83,30 +84,44 @@ fn line<R: Threads + Wait + AllocGlobal + Sync>(
     outcome(rt, Asked::Lanes(options), input.as_str().as_bytes())
 }
 
-/// Whether the row has this answer under the year, in both directions.
-fn says<R: Threads + Wait + AllocGlobal + Sync>(
+/// That the row has this answer under the year, in both directions.
+fn says<R: Threads + Wait + AllocGlobal + Sync + Abort>(
     rt: &R,
     row: &[u16],
     year: u16,
     answer: &str,
-) -> Result<bool, Fail> {
+) -> Result<(), Fail> {
     let alloc = rt.alloc();
     let wanted = format!(in alloc; "0 0 {answer}\n")?;
     let mut row = row.to_vec(alloc)?;
     let forwards = line(rt, row.as_slice(), year)?;
+    assert_eq!(*rt; forwards.as_str(), wanted.as_str());
     row.reverse();
     let backwards = line(rt, row.as_slice(), year)?;
-    Ok(forwards == wanted && backwards == wanted)
+    assert_eq!(*rt; backwards.as_str(), wanted.as_str(), "backwards");
+    Ok(())
 }
 
-/// Whether the Code 128 symbol of these characters, between light ends of ten modules, has this
-/// answer.
-fn code128_says<R: Threads + Wait + AllocGlobal + Sync>(
+/// That the row of these groups between two light ends, at so many dots a module, has this answer in 2026,
+/// in both directions.
+fn groups_say<R: Threads + Wait + AllocGlobal + Sync + Abort>(
+    rt: &R,
+    ends: (u16, u16),
+    groups: &str,
+    dots: u16,
+    answer: &str,
+) -> Result<(), Fail> {
+    let widths = row(rt.alloc(), ends, groups, dots)?;
+    says(rt, widths.as_slice(), 2026, answer)
+}
+
+/// That the Code 128 symbol of these characters, between light ends of ten modules, has this answer.
+fn code128_says<R: Threads + Wait + AllocGlobal + Sync + Abort>(
     rt: &R,
     characters: &str,
     year: u16,
     answer: &str,
-) -> Result<bool, Fail> {
+) -> Result<(), Fail> {
     let alloc = rt.alloc();
     let groups = format!(in alloc; "{characters} {STOP}")?;
     let widths = row(alloc, (10, 10), groups.as_str(), 1)?;
@@ -115,99 +130,136 @@ fn code128_says<R: Threads + Wait + AllocGlobal + Sync>(
 
 #[test]
 fn reads_each_carrier(rt: HostRuntime) -> Result<(), Fail> {
-    let alloc = rt.alloc();
     for (ends, groups, answer) in [
         ((11, 7), EAN13, "]E0 (01)09501101530003"),
         ((7, 7), EAN8, "]E4 (01)00000096385074"),
         ((9, 7), UPCE, "]E0 (01)00012345000065"),
         ((10, 10), ITF14, "]I1 (01)09501101530003"),
     ] {
-        let widths = row(alloc, ends, groups, 1)?;
-        assert!(rt; says(&rt, widths.as_slice(), 2026, answer)?, "{groups}");
+        groups_say(&rt, ends, groups, 1, answer)?;
     }
-    // 43 runs, as an EAN-8 has.
-    let characters = "211232 411131 112133 321122 322112 121421";
-    assert!(rt; code128_says(&rt, characters, 2026, "]C1 (422)528")?);
-    // (7003)2601021530 and its check character 101, and a minute 60.
-    let characters = "211232 411131 112412 121223 321221 222122 222221 113222 212123 311141";
-    assert!(rt; code128_says(&rt, characters, 2026, "]C1 (7003)2601021530")?);
-    let characters = "211232 411131 112412 121223 321221 222122 222221 113222 314111 232121";
-    assert!(rt; code128_says(&rt, characters, 2026, "refused 9 ValueDate 0")?);
-    // A date under two reference years.
-    let characters = "211232 411131 123221 212222 222221 322211 124211";
-    assert!(rt; code128_says(&rt, characters, 2026, "]C1 (17)000229")?);
-    assert!(rt; code128_says(&rt, characters, 2060, "refused 9 ValueDate 0")?);
+    Ok(())
+}
+
+#[test]
+fn reads_code_128_under_a_year(rt: HostRuntime) -> Result<(), Fail> {
+    let date = "211232 411131 123221 212222 222221 322211 124211";
+    for (characters, year, answer) in [
+        // 43 runs, as an EAN-8 has.
+        (
+            "211232 411131 112133 321122 322112 121421",
+            2026,
+            "]C1 (422)528",
+        ),
+        // (7003)2601021530 and its check character 101, and a minute 60.
+        (
+            "211232 411131 112412 121223 321221 222122 222221 113222 212123 311141",
+            2026,
+            "]C1 (7003)2601021530",
+        ),
+        (
+            "211232 411131 112412 121223 321221 222122 222221 113222 314111 232121",
+            2026,
+            "refused 9 ValueDate 0",
+        ),
+        // A date under two reference years.
+        (date, 2026, "]C1 (17)000229"),
+        (date, 2060, "refused 9 ValueDate 0"),
+    ] {
+        code128_says(&rt, characters, year, answer)?;
+    }
     Ok(())
 }
 
 #[test]
 fn refuses_what_is_nearly_read(rt: HostRuntime) -> Result<(), Fail> {
-    let alloc = rt.alloc();
-    // The number sets of the check digit 4 in place of those of 5.
-    let widths = row(alloc, (9, 7), "111 1222 2122 1141 2311 1231 1114 111111", 1)?;
-    assert!(rt; says(&rt, widths.as_slice(), 2026, "refused 24 SymbolCheckDigit")?);
-
-    // At exactly a third of a module, and a dot past it.
-    let thirds = changed(row(alloc, (21, 21), EAN8, 3)?, &[(3, 4), (4, 8)]);
-    assert!(rt; says(&rt, thirds.as_slice(), 2026, "]E4 (01)00000096385074")?);
-    let halves = changed(row(alloc, (14, 14), EAN8, 2)?, &[(3, 3), (4, 5)]);
-    assert!(rt; says(&rt, halves.as_slice(), 2026, "refused 22 Modules")?);
-
-    // A first character of number set B.
-    let of_b = row(
-        alloc,
-        (7, 7),
-        "111 2113 1114 1411 1213 11111 1231 3211 1312 1132 111",
-        1,
-    )?;
-    assert!(rt; says(&rt, of_b.as_slice(), 2026, "refused 23 Pattern")?);
-
-    // Too narrow a light end of an EAN-8, which is wide enough for a GS1-128 of as many runs.
-    let narrow = row(alloc, (14, 21), EAN8, 3)?;
-    assert!(rt; says(&rt, narrow.as_slice(), 2026, "refused 22 Modules")?);
-    for (left, answer) in [(4, "refused 21 QuietZone"), (5, "]E0 (01)09501101530003")] {
-        let widths = row(alloc, (left, 7), EAN13, 1)?;
-        assert!(rt; says(&rt, widths.as_slice(), 2026, answer)?);
+    for (ends, groups, dots, answer) in [
+        // The number sets of the check digit 4 in place of those of 5.
+        (
+            (9, 7),
+            "111 1222 2122 1141 2311 1231 1114 111111",
+            1,
+            "refused 24 SymbolCheckDigit",
+        ),
+        // A first character of number set B.
+        (
+            (7, 7),
+            "111 2113 1114 1411 1213 11111 1231 3211 1312 1132 111",
+            1,
+            "refused 23 Pattern",
+        ),
+        // Too narrow a light end of an EAN-8, which is wide enough for a GS1-128 of as many runs.
+        ((14, 21), EAN8, 3, "refused 22 Modules"),
+        ((4, 7), EAN13, 1, "refused 21 QuietZone"),
+        ((5, 7), EAN13, 1, "]E0 (01)09501101530003"),
+    ] {
+        groups_say(&rt, ends, groups, dots, answer)?;
     }
     Ok(())
 }
 
 #[test]
-fn reads_itf14_in_each_ratio(rt: HostRuntime) -> Result<(), Fail> {
+fn rounds_up_to_a_third_of_a_module(rt: HostRuntime) -> Result<(), Fail> {
     let alloc = rt.alloc();
+    // At exactly a third of a module, and a dot past it.
+    let thirds = changed(row(alloc, (21, 21), EAN8, 3)?, &[(3, 4), (4, 8)]);
+    says(&rt, thirds.as_slice(), 2026, "]E4 (01)00000096385074")?;
+    let halves = changed(row(alloc, (14, 14), EAN8, 2)?, &[(3, 3), (4, 5)]);
+    says(&rt, halves.as_slice(), 2026, "refused 22 Modules")
+}
+
+/// That the row of an ITF-14 symbol with narrow and wide elements of so many dots, between two light ends,
+/// has this answer in 2026, in both directions.
+fn itf14_says<R: Threads + Wait + AllocGlobal + Sync + Abort>(
+    rt: &R,
+    end: u16,
+    groups: &str,
+    widths: (u16, u16),
+    answer: &str,
+) -> Result<(), Fail> {
+    let row = two_widths(rt.alloc(), end, groups, widths.0, widths.1)?;
+    says(rt, row.as_slice(), 2026, answer)
+}
+
+#[test]
+fn reads_itf14_in_each_ratio(rt: HostRuntime) -> Result<(), Fail> {
     let read = "]I1 (01)09501101530003";
-    for (narrow, wide, end, answer) in [
-        (4, 9, 40, read),
-        (4, 10, 40, read),
-        (4, 11, 40, read),
-        (4, 12, 40, read),
-        (4, 8, 40, "refused 22 Modules"),
-        (1, 2, 10, "refused 22 Modules"),
-        (2, 5, 20, read),
-        (1, 3, 5, read),
-        (1, 3, 4, "refused 21 QuietZone"),
+    for (widths, end, answer) in [
+        ((4, 9), 40, read),
+        ((4, 10), 40, read),
+        ((4, 11), 40, read),
+        ((4, 12), 40, read),
+        ((4, 8), 40, "refused 22 Modules"),
+        ((1, 2), 10, "refused 22 Modules"),
+        ((2, 5), 20, read),
+        ((1, 3), 5, read),
+        ((1, 3), 4, "refused 21 QuietZone"),
     ] {
-        let widths = two_widths(alloc, end, ITF14, narrow, wide)?;
-        assert!(rt;
-            says(&rt, widths.as_slice(), 2026, answer)?,
-            "{narrow} {wide}"
-        );
+        itf14_says(&rt, end, ITF14, widths, answer)?;
     }
-    // The last pair 04 in place of 03.
-    let wrong =
-        "1111 1113313311 3111331311 3311111133 1311313113 3313311111 1111333311 1111333113 311";
-    let widths = two_widths(alloc, 10, wrong, 1, 3)?;
-    assert!(rt; says(&rt, widths.as_slice(), 2026, "refused 24 SymbolCheckDigit")?);
-    // The last pair with a third wide space, and a start with a wide space.
-    for groups in [
-        "1111 1113313311 3111331311 3311111133 1311313113 3313311111 1111333311 1313313311 311",
-        "1311 1113313311 3111331311 3311111133 1311313113 3313311111 1111333311 1313313111 311",
+    Ok(())
+}
+
+#[test]
+fn refuses_wrong_itf14_symbols(rt: HostRuntime) -> Result<(), Fail> {
+    for (groups, answer) in [
+        // The last pair 04 in place of 03.
+        (
+            "1111 1113313311 3111331311 3311111133 1311313113 3313311111 1111333311 1111333113 311",
+            "refused 24 SymbolCheckDigit",
+        ),
+        // The last pair with a third wide space, and a start with a wide space.
+        (
+            "1111 1113313311 3111331311 3311111133 1311313113 3313311111 1111333311 1313313311 311",
+            "refused 23 Pattern",
+        ),
+        (
+            "1311 1113313311 3111331311 3311111133 1311313113 3313311111 1111333311 1313313111 311",
+            "refused 23 Pattern",
+        ),
     ] {
-        let widths = two_widths(alloc, 40, groups, 4, 12)?;
-        assert!(rt;
-            says(&rt, widths.as_slice(), 2026, "refused 23 Pattern")?,
-            "{groups}"
-        );
+        itf14_says(&rt, 10, groups, (1, 3), answer)?;
+        itf14_says(&rt, 40, groups, (4, 12), answer)?;
     }
     Ok(())
 }
@@ -216,9 +268,9 @@ fn reads_itf14_in_each_ratio(rt: HostRuntime) -> Result<(), Fail> {
 fn refuses_rows_of_no_carrier(rt: HostRuntime) -> Result<(), Fail> {
     let alloc = rt.alloc();
     for width in [0, 100, 65_535] {
-        assert!(rt; says(&rt, &[width], 2026, "refused 19 Blank")?);
+        says(&rt, &[width], 2026, "refused 19 Blank")?;
     }
-    assert!(rt; says(&rt, &[0, 65_535, 0], 2026, "refused 20 RunCount")?);
+    says(&rt, &[0, 65_535, 0], 2026, "refused 20 RunCount")?;
     for (count, answer) in [
         (19, "refused 20 RunCount"),
         (25, "refused 23 Pattern"),
@@ -232,7 +284,7 @@ fn refuses_rows_of_no_carrier(rt: HostRuntime) -> Result<(), Fail> {
             widths.push(9)?;
         }
         widths.push(100)?;
-        assert!(rt; says(&rt, widths.as_slice(), 2026, answer)?, "{count}");
+        says(&rt, widths.as_slice(), 2026, answer)?;
     }
     Ok(())
 }
@@ -255,28 +307,23 @@ fn refuses_code_128_symbols_by_their_values(rt: HostRuntime) -> Result<(), Fail>
             "refused 5 UnknownAi 5",
         ),
     ] {
-        assert!(rt;
-            code128_says(&rt, characters, 2026, answer)?,
-            "{characters}"
-        );
+        code128_says(&rt, characters, 2026, answer)?;
     }
     Ok(())
 }
 
 #[test]
-fn reads_the_widest_rows_and_the_longest_symbol(rt: HostRuntime) -> Result<(), Fail> {
-    let alloc = rt.alloc();
+fn reads_the_widest_rows(rt: HostRuntime) -> Result<(), Fail> {
     // 65,427 dots, and 65,535 with a wider light end.
-    let widths = row(alloc, (6369, 4053), EAN13, 579)?;
-    assert!(rt; says(&rt, widths.as_slice(), 2026, "]E0 (01)09501101530003")?);
-    let widths = row(alloc, (6369, 4161), EAN13, 579)?;
-    assert!(rt; says(&rt, widths.as_slice(), 2026, "]E0 (01)09501101530003")?);
-    let widths = row(alloc, (6369, 4162), EAN13, 579)?;
-    let fault = Runs::of_widths(alloc, widths.as_slice())
-        .err()
-        .ok_or("a fault")?;
-    assert_eq!(rt; fault.to_string(alloc)?.as_str(), "refused 17 TooWide");
+    groups_say(&rt, (6369, 4053), EAN13, 579, "]E0 (01)09501101530003")?;
+    groups_say(&rt, (6369, 4161), EAN13, 579, "]E0 (01)09501101530003")?;
+    let widths = row(rt.alloc(), (6369, 4162), EAN13, 579)?;
+    has_fault(&rt, widths.as_slice(), "refused 17 TooWide")
+}
 
+#[test]
+fn reads_the_longest_symbol(rt: HostRuntime) -> Result<(), Fail> {
+    let alloc = rt.alloc();
     // 595 runs: 98 start, data and check characters.
     let mut characters = String::from_str(alloc, "211232 411131 221231 231212 412121")?;
     let mut answer = String::from_str(alloc, "]C1 (20)11(91)")?;
@@ -288,8 +335,7 @@ fn reads_the_widest_rows_and_the_longest_symbol(rt: HostRuntime) -> Result<(), F
         characters.push_str(last)?;
         answer.push_str(tail)?;
     }
-    assert!(rt; code128_says(&rt, characters.as_str(), 2026, answer.as_str())?);
-    Ok(())
+    code128_says(&rt, characters.as_str(), 2026, answer.as_str())
 }
 
 #[test]
@@ -297,15 +343,25 @@ fn cuts_rows(rt: HostRuntime) -> Result<(), Fail> {
     let alloc = rt.alloc();
     let row = Runs::cut(alloc, &[0xaa, 0x80], 1, 8).ok().ok_or("a row")?;
     assert_eq!(rt; row.widths(), [1, 1, 1, 1, 1, 1, 1, 1, 0].as_slice());
-    let mut row = Runs::cut(alloc, &[0x07, 0xff, 0x3f], 2, 20)
+    let row = Runs::cut(alloc, &[], 0, 0).ok().ok_or("a row")?;
+    assert_eq!(rt; row.widths(), [0].as_slice());
+    Ok(())
+}
+
+#[test]
+fn turns_rows(rt: HostRuntime) -> Result<(), Fail> {
+    let mut row = Runs::cut(rt.alloc(), &[0x07, 0xff, 0x3f], 2, 20)
         .ok()
         .ok_or("a row")?;
     assert_eq!(rt; row.widths(), [3, 11, 2, 4, 0].as_slice());
     row.reverse();
     assert_eq!(rt; row.widths(), [0, 4, 2, 11, 3].as_slice());
-    let row = Runs::cut(alloc, &[], 0, 0).ok().ok_or("a row")?;
-    assert_eq!(rt; row.widths(), [0].as_slice());
+    Ok(())
+}
 
+#[test]
+fn cuts_the_widest_row(rt: HostRuntime) -> Result<(), Fail> {
+    let alloc = rt.alloc();
     let mut bytes = Vec::new(alloc);
     for _ in 0..8192 {
         bytes.push(0u8)?;
@@ -318,12 +374,19 @@ fn cuts_rows(rt: HostRuntime) -> Result<(), Fail> {
     assert_eq!(rt; row.widths(), [65_535].as_slice());
     let fault = Runs::cut(alloc, light, 0, 65_536).err().ok_or("a fault")?;
     assert!(rt; matches!(fault, RunFault::TooWide));
-    for (widths, fault) in [
-        ([5, 3].as_slice(), "refused 18 BadRuns"),
-        ([0, 65_535, 1].as_slice(), "refused 17 TooWide"),
-    ] {
-        let found = Runs::of_widths(alloc, widths).err().ok_or("a fault")?;
-        assert_eq!(rt; found.to_string(alloc)?.as_str(), fault);
-    }
     Ok(())
+}
+
+/// That the widths of no row have this fault.
+fn has_fault<R: AllocGlobal + Abort>(rt: &R, widths: &[u16], wanted: &str) -> Result<(), Fail> {
+    let fault = Runs::of_widths(rt.alloc(), widths).err().ok_or("a fault")?;
+    let found = fault.to_string(rt.alloc())?;
+    assert_eq!(*rt; found.as_str(), wanted);
+    Ok(())
+}
+
+#[test]
+fn refuses_widths_of_no_row(rt: HostRuntime) -> Result<(), Fail> {
+    has_fault(&rt, &[5, 3], "refused 18 BadRuns")?;
+    has_fault(&rt, &[0, 65_535, 1], "refused 17 TooWide")
 }

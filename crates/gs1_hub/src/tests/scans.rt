@@ -1,14 +1,16 @@
 //! Images that are scanned: the lines of their columns, each refusal, and inputs and outputs that fail.
 
 use super::prints::{DOTS, HIGH, LOW, printed, printing, push_image};
-use super::{outcome, refusal};
+use super::{gives, outcome, refusal, same};
 use crate::commands::print::options::Output;
 use crate::commands::scan::options::ScanOptions;
 use crate::commands::{Asked, run};
+use crate::fault::CommandFault;
 use digits_core::{FromReader, ToWriter};
 use fakes::{Breaking, Narrow};
 use hub_core::OpenGate;
 use std::alloc::{AllocError, Global};
+use std::process::Abort;
 use std::sync::Wait;
 use std::test::Fail;
 use std::thread::Threads;
@@ -79,8 +81,7 @@ fn reads_printed_labels(rt: HostRuntime) -> Result<(), Fail> {
         for _ in 0..sheets {
             push_image(&mut bytes, header, labelled, empty)?;
         }
-        let found = outcome(&rt, asked(113, 3, 1, rows)?, bytes.as_slice())?;
-        assert_eq!(rt; found.as_str(), wanted);
+        gives(&rt, asked(113, 3, 1, rows)?, bytes.as_slice(), wanted)?;
     }
     Ok(())
 }
@@ -103,8 +104,7 @@ fn reads_the_middle_rows_of_cells(rt: HostRuntime) -> Result<(), Fail> {
         for row in 0..height {
             bytes.extend_from_slice(if row == place { label } else { dark })?;
         }
-        let found = outcome(&rt, asked(113, height, 1, 1)?, bytes.as_slice())?;
-        assert_eq!(rt; found.as_str(), wanted, "{place} of {height}");
+        gives(&rt, asked(113, height, 1, 1)?, bytes.as_slice(), wanted)?;
     }
     Ok(())
 }
@@ -117,8 +117,7 @@ fn reads_dates_by_the_year(rt: HostRuntime) -> Result<(), Fail> {
         (2060, "0 0 refused 9 ValueDate 0\n"),
     ] {
         let options = ScanOptions::new(1, 211, 3, 1, 1, 1, year).ok_or("options")?;
-        let found = outcome(&rt, Asked::Scan(options), bytes.as_slice())?;
-        assert_eq!(rt; found.as_str(), wanted);
+        gives(&rt, Asked::Scan(options), bytes.as_slice(), wanted)?;
     }
     Ok(())
 }
@@ -169,12 +168,7 @@ fn orders_lines_by_column_and_number(rt: HostRuntime) -> Result<(), Fail> {
         for workers in [1, 2, 3, 16] {
             let options = ScanOptions::new(1, 211, 3, columns, rows, workers, 2026);
             let asked = Asked::Scan(options.ok_or("options")?);
-            let found = outcome(&rt, asked, bytes.as_slice())?;
-            assert_eq!(rt;
-                found.as_str(),
-                wanted,
-                "{columns} by {rows}, {workers} workers"
-            );
+            gives(&rt, asked, bytes.as_slice(), wanted)?;
         }
     }
     Ok(())
@@ -208,13 +202,13 @@ fn refuses_images(rt: HostRuntime) -> Result<(), Fail> {
     ] {
         let bytes = light(alloc, header, count)?;
         let found = scanned(&rt, bytes.as_slice())?;
-        assert_eq!(rt; found.as_str(), wanted, "{header}");
+        same(&rt, header, found.as_str(), wanted);
         // The same after an image that is taken.
         let mut second = Vec::new(alloc);
         push_image(&mut second, LOW, 1, 0)?;
         second.extend_from_slice(bytes.as_slice())?;
         let found = scanned(&rt, second.as_slice())?;
-        assert_eq!(rt; found.as_str(), wanted, "second {header}");
+        same(&rt, header, found.as_str(), wanted);
     }
     Ok(())
 }
@@ -232,7 +226,7 @@ fn reads_all_images_before_their_sizes_count(rt: HostRuntime) -> Result<(), Fail
         let last = light(alloc, header, count)?;
         bytes.extend_from_slice(last.as_slice())?;
         let found = scanned(&rt, bytes.as_slice())?;
-        assert_eq!(rt; found.as_str(), wanted, "{header}");
+        same(&rt, header, found.as_str(), wanted);
     }
     Ok(())
 }
@@ -250,8 +244,7 @@ fn refuses_grids_before_reading(rt: HostRuntime) -> Result<(), Fail> {
         let options = ScanOptions::new(module_dots, width, height, columns, rows, 1, 2026);
         let asked = Asked::Scan(options.ok_or("options")?);
         for input in [b"".as_slice(), b"P1"] {
-            let found = outcome(&rt, asked, input)?;
-            assert_eq!(rt; found.as_str(), "refused 25 BadGrid");
+            gives(&rt, asked, input, "refused 25 BadGrid")?;
         }
         let mut sink = ToWriter::new(Vec::new(alloc));
         let line = refusal(&rt, asked, &mut Breaking::new(b""), &mut sink)?;
@@ -260,48 +253,68 @@ fn refuses_grids_before_reading(rt: HostRuntime) -> Result<(), Fail> {
     Ok(())
 }
 
+/// That `scan` refuses a source that fails after these bytes, and writes nothing.
+fn refuses_a_source<R: Threads + Wait + AllocGlobal + Sync + Abort>(
+    rt: &R,
+    front: &[u8],
+) -> Result<(), Fail> {
+    let mut sink = ToWriter::new(Vec::new(rt.alloc()));
+    let line = refusal(
+        rt,
+        asked(113, 3, 1, 1)?,
+        &mut Breaking::new(front),
+        &mut sink,
+    )?;
+    assert_eq!(*rt; line.as_str(), "refused 37 ReadFault");
+    assert_eq!(*rt; sink.into_inner().len(), 0);
+    Ok(())
+}
+
 #[test]
 fn passes_failed_reads_on(rt: HostRuntime) -> Result<(), Fail> {
-    let alloc = rt.alloc();
-    let mut bytes = Vec::new(alloc);
+    let mut bytes = Vec::new(rt.alloc());
     push_image(&mut bytes, LOW, 1, 0)?;
     push_image(&mut bytes, LOW, 1, 0)?;
     // Before the first image, in its header, in its dots, and after its last byte.
     for count in [0, 1, 8, 9, 40, 54, 55, 108] {
-        let front = bytes.as_slice().get(..count).ok_or("a front")?;
-        let mut source = Breaking::new(front);
-        let mut sink = ToWriter::new(Vec::new(alloc));
-        let line = refusal(&rt, asked(113, 3, 1, 1)?, &mut source, &mut sink)?;
-        assert_eq!(rt; line.as_str(), "refused 37 ReadFault", "{count}");
-        assert_eq!(rt; sink.into_inner().len(), 0);
+        refuses_a_source(&rt, bytes.as_slice().get(..count).ok_or("a front")?)?;
     }
+    Ok(())
+}
+
+/// That `scan` writes the line of an image to a sink that takes so many bytes, as far as they go.
+fn writes_to<R: Threads + Wait + AllocGlobal + Sync + Abort>(
+    rt: &R,
+    image: &[u8],
+    room: usize,
+) -> Result<(), Fail> {
+    let mut sink = Narrow::new(rt.alloc(), room);
+    let asked = asked(113, 3, 1, 1)?;
+    let ran = run(
+        rt,
+        rt.alloc(),
+        asked,
+        &mut FromReader::new(image),
+        &mut sink,
+        &OpenGate,
+    );
+    let wanted = if room < LINE.len() {
+        Some(CommandFault::WriteFault)
+    } else {
+        None
+    };
+    assert_eq!(*rt; ran.err(), wanted);
+    assert_eq!(*rt; sink.taken(), LINE.as_bytes().get(..room).ok_or("a front")?);
     Ok(())
 }
 
 #[test]
 fn passes_failed_writes_on(rt: HostRuntime) -> Result<(), Fail> {
-    let alloc = rt.alloc();
-    let mut bytes = Vec::new(alloc);
+    let mut bytes = Vec::new(rt.alloc());
     push_image(&mut bytes, LOW, 1, 0)?;
-    for room in [0, 1, 26] {
-        let mut source = FromReader::new(bytes.as_slice());
-        let mut sink = Narrow::new(alloc, room);
-        let line = refusal(&rt, asked(113, 3, 1, 1)?, &mut source, &mut sink)?;
-        assert_eq!(rt; line.as_str(), "refused 38 WriteFault", "{room}");
-        let front = LINE.as_bytes().get(..room).ok_or("a front")?;
-        assert_eq!(rt; sink.taken(), front);
+    for room in [0, 1, 26, LINE.len()] {
+        writes_to(&rt, bytes.as_slice(), room)?;
     }
-    let mut source = FromReader::new(bytes.as_slice());
-    let mut sink = Narrow::new(alloc, LINE.len());
-    run(
-        &rt,
-        alloc,
-        asked(113, 3, 1, 1)?,
-        &mut source,
-        &mut sink,
-        &OpenGate,
-    )?;
-    assert_eq!(rt; sink.taken(), LINE.as_bytes());
     Ok(())
 }
 

@@ -1,5 +1,6 @@
 //! Command lines: what they ask for, which are refused, and which ask for help.
 
+use super::same;
 use crate::arguments::{FIRST_YEAR, LAST_YEAR, MOST_WORKERS};
 use crate::commands::Asked;
 use crate::commands::lanes::options::{LaneOptions, MOST_LANES};
@@ -13,6 +14,7 @@ use element_core::Year;
 use fakes::Narrow;
 use line_core::{MOST_COLUMNS, MOST_HEIGHT, MOST_MODULE_DOTS, MOST_ROWS, MOST_WIDTH};
 use std::alloc::Global;
+use std::process::Abort;
 use std::test::Fail;
 
 /// What the words of a command line ask for, which have one space between them.
@@ -79,6 +81,13 @@ fn reads_words(rt: HostRuntime) -> Result<(), Fail> {
     Ok(())
 }
 
+/// That a command line is refused.
+fn refuses<R: AllocGlobal + Abort>(rt: &R, text: &str) -> Result<(), Fail> {
+    let line = refusal(rt.alloc(), text)?;
+    assert_eq!(*rt; line.as_str(), "refused 42 Words", "{text}");
+    Ok(())
+}
+
 #[test]
 fn refuses_words_of_scan(rt: HostRuntime) -> Result<(), Fail> {
     let alloc = rt.alloc();
@@ -103,15 +112,13 @@ fn refuses_words_of_scan(rt: HostRuntime) -> Result<(), Fail> {
         " --module 1 --width 113 --height 3 --columns 1 --rows 1 --workers 1 --year 2026 --text",
     ] {
         let text = format!(in alloc; "gs1_hub scan{options}")?;
-        let line = refusal(alloc, text.as_str())?;
-        assert_eq!(rt; line.as_str(), "refused 42 Words", "{text}");
+        refuses(&rt, text.as_str())?;
     }
     Ok(())
 }
 
 #[test]
 fn refuses_words(rt: HostRuntime) -> Result<(), Fail> {
-    let alloc = rt.alloc();
     for text in [
         "gs1_hub",
         "gs1_hub help",
@@ -138,8 +145,7 @@ fn refuses_words(rt: HostRuntime) -> Result<(), Fail> {
         "gs1_hub print --module 1 --width 113 --height 3 --columns 1 --rows 1 --year 2150",
         "gs1_hub print --module 1 --width 113 --height 3 --columns 1 --rows 1 --year 2026 --text 1",
     ] {
-        let line = refusal(alloc, text)?;
-        assert_eq!(rt; line.as_str(), "refused 42 Words", "{text}");
+        refuses(&rt, text)?;
     }
     Ok(())
 }
@@ -150,6 +156,46 @@ fn help(alloc: Global, text: &str) -> Result<String, Fail> {
         Err(WordsFault::Help(help)) => Ok(help),
         _ => Err("help")?,
     }
+}
+
+/// That a line of the help of a command has all words of an option.
+fn shows_option<R: AllocGlobal + Abort>(rt: &R, command: &str, option: &str) -> Result<(), Fail> {
+    let alloc = rt.alloc();
+    let asked = format!(in alloc; "gs1_hub {command} --help")?;
+    let shown = help(alloc, asked.as_str())?;
+    let line = shown
+        .as_str()
+        .lines()
+        .find(|line| option.split(' ').all(|word| line.contains(word)));
+    assert!(*rt; line.is_some(), "{command}: {option}");
+    Ok(())
+}
+
+/// That the help of a command has an example of it.
+fn shows_example<R: AllocGlobal + Abort>(rt: &R, command: &str) -> Result<(), Fail> {
+    let alloc = rt.alloc();
+    let asked = format!(in alloc; "gs1_hub {command} --help")?;
+    let typed = format!(in alloc; "gs1_hub {command} --")?;
+    let shown = help(alloc, asked.as_str())?;
+    let example = shown.as_str().lines().find(|line| line.starts_with("  $ ")
+        && line.contains(typed.as_str()));
+    assert!(*rt; example.is_some(), "{command}");
+    Ok(())
+}
+
+/// That `-h` shows the help of a command too.
+fn shows_the_same<R: AllocGlobal + Abort>(rt: &R, command: &str) -> Result<(), Fail> {
+    let alloc = rt.alloc();
+    let long = format!(in alloc; "gs1_hub {command} --help")?;
+    let short = format!(in alloc; "gs1_hub {command} -h")?;
+    let shown = help(alloc, long.as_str())?;
+    same(
+        rt,
+        command,
+        help(alloc, short.as_str())?.as_str(),
+        shown.as_str(),
+    );
+    Ok(())
 }
 
 #[test]
@@ -183,21 +229,23 @@ fn shows_help_with_units_and_ranges(rt: HostRuntime) -> Result<(), Fail> {
         ("scan", workers.as_str()),
         ("scan", year.as_str()),
     ] {
-        let asked = format!(in alloc; "gs1_hub {command} --help")?;
-        let shown = help(alloc, asked.as_str())?;
-        let line = shown
-            .as_str()
-            .lines()
-            .find(|line| option.split(' ').all(|word| line.contains(word)));
-        assert!(rt; line.is_some(), "{command}: {option}");
-        let typed = format!(in alloc; "gs1_hub {command} --")?;
-        let example = shown.as_str().lines().find(|line| line.starts_with("  $ ")
-            && line.contains(typed.as_str()));
-        assert!(rt; example.is_some(), "{command}");
-        let short = format!(in alloc; "gs1_hub {command} -h")?;
-        let same = help(alloc, short.as_str())?;
-        assert_eq!(rt; same.as_str(), shown.as_str(), "{command}");
+        shows_option(&rt, command, option)?;
     }
+    Ok(())
+}
+
+#[test]
+fn shows_help_with_examples(rt: HostRuntime) -> Result<(), Fail> {
+    for command in ["check", "lanes", "print", "scan"] {
+        shows_example(&rt, command)?;
+        shows_the_same(&rt, command)?;
+    }
+    Ok(())
+}
+
+#[test]
+fn shows_help_of_the_program(rt: HostRuntime) -> Result<(), Fail> {
+    let alloc = rt.alloc();
     let shown = help(alloc, "gs1_hub --help")?;
     for part in [
         "check",
@@ -219,7 +267,7 @@ fn writes_the_version(rt: HostRuntime) -> Result<(), Fail> {
     let wanted = "gs1_hub 1.0.0 (rattle-kit-13b logic dac8208d650f15bf)\n";
     for text in ["gs1_hub --version", "gs1_hub -V"] {
         let version = help(alloc, text)?;
-        assert_eq!(rt; version.as_str(), wanted, "{text}");
+        same(&rt, text, version.as_str(), wanted);
     }
     let mut sink = ToWriter::new(Vec::new(alloc));
     write_help(wanted, &mut sink)?;
