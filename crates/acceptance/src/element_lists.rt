@@ -1,4 +1,4 @@
-//! Lists of elements: how many there are, each of them, and their human-readable line.
+//! Lists of elements: how many there are, each of them, its day and its time, and their human-readable line.
 
 use element_core::{Element, Elements, Year};
 use std::process::Abort;
@@ -63,5 +63,37 @@ fn the_most_elements_fill_the_line(rt: HostRuntime) -> Result<(), Fail> {
     let mut line = String::new(rt.alloc());
     elements.push_hri(&mut line)?;
     assert_eq!(rt; line.as_str(), expected.as_str());
+    Ok(())
+}
+
+/// The year, the month and the day of an element.
+fn day_of(element: &Element) -> Option<(i16, i8, i8)> {
+    let date = element.date?;
+    Some((date.year(), date.month(), date.day()))
+}
+
+#[test]
+fn an_element_has_its_time(rt: HostRuntime) -> Result<(), Fail> {
+    for (line, day, time) in [
+        (
+            b"70032601021530".as_slice(),
+            Some((2026, 1, 2)),
+            Some([15, 30, 0]),
+        ),
+        (b"800826010215", Some((2026, 1, 2)), Some([15, 0, 0])),
+        (b"80082601021530", Some((2026, 1, 2)), Some([15, 30, 0])),
+        (b"8008260102153045", Some((2026, 1, 2)), Some([15, 30, 45])),
+        (
+            b"8008261231235959",
+            Some((2026, 12, 31)),
+            Some([23, 59, 59]),
+        ),
+        (b"17260102", Some((2026, 1, 2)), None),
+        (b"10A", None, None),
+    ] {
+        let element = element(&parsed(line)?, 0)?;
+        assert_eq!(rt; day_of(&element), day);
+        assert_eq!(rt; element.time, time);
+    }
     Ok(())
 }

@@ -1,6 +1,6 @@
 //! Elements that are given as pairs, and rows of the table of AIs.
 
-use element_core::{Element, Elements, Pair, Part, PartFormat, Text, Year, ai_row};
+use element_core::{Elements, Pair, Part, PartFormat, Text, Year, ai_row};
 use std::alloc::Global;
 use std::test::Fail;
 
@@ -111,48 +111,6 @@ fn the_row_of_an_ai_has_its_parts(rt: HostRuntime) -> Result<(), Fail> {
     assert_eq!(rt; row.parts.as_slice(), [produced].as_slice());
     for none in ["", "1", "03", "3106", "7002", "8006"] {
         assert!(rt; ai_row(none.as_bytes()).is_none());
-    }
-    Ok(())
-}
-
-/// The first element of a text in 2026.
-fn first(text: &[u8]) -> Result<Element, Fail> {
-    let year = Year::new(2026).ok_or("year")?;
-    let elements = Elements::parse(text, year).ok().ok_or("a list")?;
-    if elements.len() == 0 {
-        return Err(Fail::from("an element"));
-    }
-    Ok(elements.element(0))
-}
-
-/// The year, the month and the day of an element.
-fn day_of(element: &Element) -> Option<(i16, i8, i8)> {
-    let date = element.date?;
-    Some((date.year(), date.month(), date.day()))
-}
-
-#[test]
-fn an_element_has_its_time(rt: HostRuntime) -> Result<(), Fail> {
-    for (line, day, time) in [
-        (
-            b"70032601021530".as_slice(),
-            Some((2026, 1, 2)),
-            Some([15, 30, 0]),
-        ),
-        (b"800826010215", Some((2026, 1, 2)), Some([15, 0, 0])),
-        (b"80082601021530", Some((2026, 1, 2)), Some([15, 30, 0])),
-        (b"8008260102153045", Some((2026, 1, 2)), Some([15, 30, 45])),
-        (
-            b"8008261231235959",
-            Some((2026, 12, 31)),
-            Some([23, 59, 59]),
-        ),
-        (b"17260102", Some((2026, 1, 2)), None),
-        (b"10A", None, None),
-    ] {
-        let element = first(line)?;
-        assert_eq!(rt; day_of(&element), day);
-        assert_eq!(rt; element.time, time);
     }
     Ok(())
 }

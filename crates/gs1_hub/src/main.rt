@@ -1,7 +1,7 @@
 //! The program: GS1 bar codes from the command line.
 #![tactic(auto)]
 
-ghost use Rattle.std.specs.Prelude.{◌≡◌, [], IfOk, IfSome, false};
+ghost use Rattle.std.specs.Prelude.{◌≡◌, [], IfOk, IfSome, IsOk, OnOk, false};
 ghost use Rattle.std.specs.Process.{exit_status};
 ghost use Rattle.gs1_hub.specs.Faults.{TookHelp, status_of, words_status};
 ghost use Rattle.gs1_hub.specs.Runs.{Ran};
@@ -50,9 +50,11 @@ fn run_buffered<R: Threads + Wait + Sync, S: Source, W: Sink, G: Gate + Sync>(
     Ok(())
 }
 
-/// The exit status of a command that has run. A refusal is told on standard error.
+/// The exit status of a command that has run. A refusal is told on standard error, and without one nothing
+/// is told, so that nothing fails.
 fn finish(rt: &impl Eprint, ran: Result<(), CommandFault>) -> io::Result<ExitCode>
-    ensures { IfOk result (λ code. exit_status code ≡ status_of ran) }
+    ensures status { IfOk result (λ code. exit_status code ≡ status_of ran) }
+    ensures quiet { OnOk ran (IsOk result) }
 {
     match ran {
         Ok(()) => Ok(ExitCode::SUCCESS),

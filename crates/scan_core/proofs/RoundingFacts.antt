@@ -1,6 +1,8 @@
 -- Runs are at most one list of modules.
-use Rattle.std.proofs.Common.{◌≡◌, ℕ, ◌+◌, ◌*◌, ◌<◌, ◌≤◌, List, [], ◌∷◌, sum, refl, subst, ap₂, arith, inl, inr}
+use Rattle.std.proofs.Common.{◌≡◌, ℕ, ◌+◌, ◌*◌, ◌<◌, ◌≤◌, ◌&&◌, Bool, List, [], ◌∷◌, false, get_or, length, set, sum, take, true, refl, subst, ap₂, arith, inl, inr}
 use Rattle.std.specs.List.{AllZip, AllByRecursion}
+use Rattle.std.proofs.lemmas.List.{get_or_default, take_more_set}
+use Rattle.std.proofs.lemmas.List.Elements.{AllZip-get_or, all_zip_more}
 use Rattle.std.proofs.lemmas.Bool.{cases_lt}
 use Rattle.scan_core.specs.Showing.{IsRun, Rounds, gap}
 
@@ -53,3 +55,20 @@ rounded_widths N W [] [] a = tt
 rounded_widths N W [] (m ∷ ms) a = absurd a
 rounded_widths N W (w ∷ ws) [] a = absurd a
 rounded_widths N W (w ∷ ws) (m ∷ ms) a = ((a.0.least, a.0.most), rounded_widths N W ws ms a.1)
+
+-- one run more is rounded, where it and those before it are
+pub one_more : (N W : ℕ) (ws ms : List ℕ) (i m : ℕ) (each near : Bool) → i < length ws → length ms ≡ length ws
+    → (each ≡ true → AllZip (IsRun N W) (take i ws) (take i ms)) → (near ≡ true → IsRun N W (get_or ws i 0) m) → each && near ≡ true
+    → AllZip (IsRun N W) (take (i + 1) ws) (take (i + 1) (set ms i m))
+one_more N W ws ms i m true true low same before here all =
+    rw (take_more_set ms i m (omega arith))
+    (all_zip_more (IsRun N W) ws (take i ms) i (get_or ws i 0) m low (get_or_default ws i 0 (get_or ws i 0) low) (before refl) (here refl))
+one_more N W ws ms i m true false low same before here all = cc all
+one_more N W ws ms i m false near low same before here all = cc all
+
+-- no modules are those of all runs, where they are not of this one or not of one before it
+pub none_more : (N W : ℕ) (ws : List ℕ) (i : ℕ) (each near : Bool) → i < length ws → (each ≡ false → (ms : List ℕ) → AllZip (IsRun N W) ws ms → ⊥)
+    → (near ≡ false → (m : ℕ) → IsRun N W (get_or ws i 0) m → ⊥) → each && near ≡ false → (ms : List ℕ) → AllZip (IsRun N W) ws ms → ⊥
+none_more N W ws i false near low before here all ms h = before refl ms h
+none_more N W ws i true false low before here all ms h = here refl (get_or ms i 0) (AllZip-get_or (IsRun N W) ws ms i 0 0 h low)
+none_more N W ws i true true low before here all ms h = cc all

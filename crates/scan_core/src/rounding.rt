@@ -1,10 +1,14 @@
 //! Widths in dots rounded to modules.
-ghost use Rattle.std.specs.Prelude.{◌≡◌, ◌+◌, ◌*◌, ◌<◌, ◌≤◌, ◌↔◌, ◌^◌, ◌%◌, IfNone, IfSome, IsTrue, ℕ, List, length, sum};
+ghost use Rattle.std.specs.Prelude.{◌≡◌, ◌+◌, ◌*◌, ◌<◌, ◌≤◌, ◌↔◌, ◌^◌, ◌%◌, IfNone, IfSome, IsTrue, ℕ, List, false, length, sum, true};
+ghost use Rattle.std.specs.List.{AllZip};
 ghost use Rattle.scan_core.specs.Row.{inner};
 ghost use Rattle.scan_core.specs.Showing.{IsQuiet, IsRun, Rounds};
 
 use arrayvec::ArrayVec;
 use ean_code::Modules;
+
+/// The runs of the longest symbol.
+const MOST_RUNS: usize = 595;
 
 /// The dots of the runs together.
 pub(crate) fn total_dots(widths: &[u16]) -> u32
@@ -47,22 +51,40 @@ fn nearest(thirds: u32, total: u32) -> u8
     1 + reaches(thirds, 5 * total) + reaches(thirds, 8 * total) + reaches(thirds, 11 * total)
 }
 
-/// The modules of a run of `width` dots, where `total` dots are `count` modules.
+/// The number of modules that a run of `width` dots is nearest to, where `total` dots are `count` modules,
+/// and whether it is so many.
 ///
 /// In 32 bits: `count` is at most 1,091, the modules of the longest symbol.
-fn modules_of(width: u16, total: u32, count: u16) -> Option<u8>
+fn modules_of(width: u16, total: u32, count: u16) -> (u8, bool)
     requires narrow { total ≤ 65535 }
     requires short { count ≤ 1091 }
-    ensures found { IfSome result (λ m. IsRun count total width m) }
-    ensures none { IfNone result ((m : ℕ) → IsRun count total width m → ⊥) }
+    ensures found { result.1 ≡ true → IsRun count total width result.0 }
+    ensures none { result.1 ≡ false → (m : ℕ) → IsRun count total width m → ⊥ }
 {
     let thirds = 3 * (u32::from(width) * u32::from(count));
     let modules = nearest(thirds, total);
-    if thirds.abs_diff(3 * (u32::from(modules) * total)) <= total {
-        Some(modules)
-    } else {
-        None
+    let is_near = thirds.abs_diff(3 * (u32::from(modules) * total)) <= total;
+    (modules, is_near)
+}
+
+/// Puts the number of modules of each run into its place in `modules`, and answers whether each run has one.
+///
+/// Each run is looked at, since a loop without an early end rounds many at once.
+fn round_each(inner: &[u16], total: u32, count: u16, modules: &mut [u8]) -> bool
+    requires places { length modules.old ≡ length inner.now }
+    requires narrow { total ≤ 65535 }
+    requires short { count ≤ 1091 }
+    ensures places { length modules.new ≡ length inner.now }
+    ensures found { result ≡ true → AllZip (IsRun count total) inner.now modules.new }
+    ensures none { result ≡ false → (ms : List ℕ) → AllZip (IsRun count total) inner.now ms → ⊥ }
+{
+    let mut each = true;
+    'runs: for i in 0..inner.len() {
+        let (found, is_near) = modules_of(inner[i], total, count);
+        modules[i] = found;
+        each &= is_near;
     }
+    each
 }
 
 /// The modules that the runs of a symbol, `total` dots and `count` modules together, round to.
@@ -75,12 +97,12 @@ pub(crate) fn round(inner: &[u16], total: u32, count: u16) -> Option<Modules>
     ensures found { IfSome result (λ modules. Rounds inner.now count modules) }
     ensures none { IfNone result ((modules : List ℕ) → Rounds inner.now count modules → ⊥) }
 {
-    let mut found = ArrayVec::new();
-    for width in inner {
-        let Some(modules) = modules_of(*width, total, count) else {
-            return None;
-        };
-        found.push(modules);
+    let mut modules = [0; MOST_RUNS];
+    let modules = &mut modules[..inner.len()];
+    if !round_each(inner, total, count, modules) {
+        return None;
     }
+    let mut found = ArrayVec::new();
+    found.try_extend_from_slice(modules).unwrap();
     Some(Modules::new(found))
 }

@@ -195,23 +195,23 @@ fn refuses_what_does_not_fit(rt: HostRuntime) -> Result<(), Fail> {
     let most = letters.as_str();
     let over = format!(in alloc; "{most}A")?;
     for (module_dots, width, height, columns, input, wanted) in [
-        (1, 594, 3, 1, most, "0 0 "),
-        (1, 593, 3, 1, most, "refused 27 LabelWidth 0"),
-        (1, 4096, 3, 1, over.as_str(), "refused 26 LabelKind 0"),
-        (2, 226, 5, 1, RECORD, "0 0 "),
-        (2, 225, 5, 1, RECORD, "refused 27 LabelWidth 0"),
-        (1, 155, 3, 1, "itf14,09501101530003", "0 0 "),
+        (1, 594, 3, 1, most, None),
+        (1, 593, 3, 1, most, Some("refused 27 LabelWidth 0")),
+        (1, 4096, 3, 1, over.as_str(), Some("refused 26 LabelKind 0")),
+        (2, 226, 5, 1, RECORD, None),
+        (2, 225, 5, 1, RECORD, Some("refused 27 LabelWidth 0")),
+        (1, 155, 3, 1, "itf14,09501101530003", None),
         (
             1,
             154,
             3,
             1,
             "itf14,09501101530003",
-            "refused 27 LabelWidth 0",
+            Some("refused 27 LabelWidth 0"),
         ),
-        (1, 113, 2, 1, RECORD, "refused 25 BadGrid"),
-        (1, 1025, 3, 16, RECORD, "refused 25 BadGrid"),
-        (1, 113, 2, 1, "sku", "refused 25 BadGrid"),
+        (1, 113, 2, 1, RECORD, Some("refused 25 BadGrid")),
+        (1, 1025, 3, 16, RECORD, Some("refused 25 BadGrid")),
+        (1, 113, 2, 1, "sku", Some("refused 25 BadGrid")),
     ] {
         let options = PrintOptions::new(
             module_dots,
@@ -223,7 +223,10 @@ fn refuses_what_does_not_fit(rt: HostRuntime) -> Result<(), Fail> {
             Output::Lines,
         );
         let asked = Asked::Print(options.ok_or("options")?);
-        begins_with(&rt, asked, input, wanted)?;
+        match wanted {
+            Some(fault) => gives(&rt, asked, input.as_bytes(), fault)?,
+            None => begins_with(&rt, asked, input, "0 0 ")?,
+        }
     }
     Ok(())
 }

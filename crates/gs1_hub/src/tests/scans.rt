@@ -1,12 +1,12 @@
 //! Images that are scanned: the lines of their columns, each refusal, and inputs and outputs that fail.
 
 use super::prints::{DOTS, HIGH, LOW, printed, printing, push_image};
-use super::{gives, outcome, refusal, same};
+use super::{gives, outcome, refuses, same};
 use crate::commands::print::options::Output;
 use crate::commands::scan::options::ScanOptions;
 use crate::commands::{Asked, run};
 use crate::fault::CommandFault;
-use digits_core::{FromReader, ToWriter};
+use digits_core::FromReader;
 use fakes::{Breaking, Narrow};
 use hub_core::OpenGate;
 use std::alloc::{AllocError, Global};
@@ -233,7 +233,6 @@ fn reads_all_images_before_their_sizes_count(rt: HostRuntime) -> Result<(), Fail
 
 #[test]
 fn refuses_grids_before_reading(rt: HostRuntime) -> Result<(), Fail> {
-    let alloc = rt.alloc();
     for (module_dots, width, height, columns, rows) in [
         (1, 113, 2, 1, 1),
         (2, 226, 4, 1, 1),
@@ -246,27 +245,8 @@ fn refuses_grids_before_reading(rt: HostRuntime) -> Result<(), Fail> {
         for input in [b"".as_slice(), b"P1"] {
             gives(&rt, asked, input, "refused 25 BadGrid")?;
         }
-        let mut sink = ToWriter::new(Vec::new(alloc));
-        let line = refusal(&rt, asked, &mut Breaking::new(b""), &mut sink)?;
-        assert_eq!(rt; line.as_str(), "refused 25 BadGrid");
+        refuses(&rt, asked, &mut Breaking::new(b""), "refused 25 BadGrid")?;
     }
-    Ok(())
-}
-
-/// That `scan` refuses a source that fails after these bytes, and writes nothing.
-fn refuses_a_source<R: Threads + Wait + AllocGlobal + Sync + Abort>(
-    rt: &R,
-    front: &[u8],
-) -> Result<(), Fail> {
-    let mut sink = ToWriter::new(Vec::new(rt.alloc()));
-    let line = refusal(
-        rt,
-        asked(113, 3, 1, 1)?,
-        &mut Breaking::new(front),
-        &mut sink,
-    )?;
-    assert_eq!(*rt; line.as_str(), "refused 37 ReadFault");
-    assert_eq!(*rt; sink.into_inner().len(), 0);
     Ok(())
 }
 
@@ -277,7 +257,13 @@ fn passes_failed_reads_on(rt: HostRuntime) -> Result<(), Fail> {
     push_image(&mut bytes, LOW, 1, 0)?;
     // Before the first image, in its header, in its dots, and after its last byte.
     for count in [0, 1, 8, 9, 40, 54, 55, 108] {
-        refuses_a_source(&rt, bytes.as_slice().get(..count).ok_or("a front")?)?;
+        let mut source = Breaking::new(bytes.as_slice().get(..count).ok_or("a front")?);
+        refuses(
+            &rt,
+            asked(113, 3, 1, 1)?,
+            &mut source,
+            "refused 37 ReadFault",
+        )?;
     }
     Ok(())
 }

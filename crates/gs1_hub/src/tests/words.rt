@@ -82,7 +82,7 @@ fn reads_words(rt: HostRuntime) -> Result<(), Fail> {
 }
 
 /// That a command line is refused.
-fn refuses<R: AllocGlobal + Abort>(rt: &R, text: &str) -> Result<(), Fail> {
+fn is_refused<R: AllocGlobal + Abort>(rt: &R, text: &str) -> Result<(), Fail> {
     let line = refusal(rt.alloc(), text)?;
     assert_eq!(*rt; line.as_str(), "refused 42 Words", "{text}");
     Ok(())
@@ -112,7 +112,7 @@ fn refuses_words_of_scan(rt: HostRuntime) -> Result<(), Fail> {
         " --module 1 --width 113 --height 3 --columns 1 --rows 1 --workers 1 --year 2026 --text",
     ] {
         let text = format!(in alloc; "gs1_hub scan{options}")?;
-        refuses(&rt, text.as_str())?;
+        is_refused(&rt, text.as_str())?;
     }
     Ok(())
 }
@@ -145,7 +145,7 @@ fn refuses_words(rt: HostRuntime) -> Result<(), Fail> {
         "gs1_hub print --module 1 --width 113 --height 3 --columns 1 --rows 1 --year 2150",
         "gs1_hub print --module 1 --width 113 --height 3 --columns 1 --rows 1 --year 2026 --text 1",
     ] {
-        refuses(&rt, text)?;
+        is_refused(&rt, text)?;
     }
     Ok(())
 }
@@ -264,7 +264,7 @@ fn shows_help_of_the_program(rt: HostRuntime) -> Result<(), Fail> {
 #[test]
 fn writes_the_version(rt: HostRuntime) -> Result<(), Fail> {
     let alloc = rt.alloc();
-    let wanted = "gs1_hub 1.0.0 (rattle-kit-13b logic dac8208d650f15bf)\n";
+    let wanted = "gs1_hub 1.0.0 (rattle-kit-13f logic dac8208d650f15bf)\n";
     for text in ["gs1_hub --version", "gs1_hub -V"] {
         let version = help(alloc, text)?;
         same(&rt, text, version.as_str(), wanted);
