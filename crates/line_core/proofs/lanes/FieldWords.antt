@@ -9,7 +9,7 @@ use Rattle.line_core.specs.lanes.Widths.{IsFirstWidth, are_widths, field_fault, 
 use Rattle.line_core.specs.declared.input.fault.RecordFault.TheVariants as fault
 use Rattle.line_core.proofs.lanes.FirstWidth.{and_false}
 
-or_false : (b : Bool) → b || false ≡ b
+pub or_false : (b : Bool) → b || false ≡ b
 or_false true = refl
 or_false false = refl
 

@@ -44,7 +44,7 @@ pub fn number_in(text: &[u8], most: usize) -> Option<u32>
 
 /// The width that begins a text, up to its first space or its end, and the text after this space:
 /// none where the text has no space.
-fn long_width(text: &[u8]) -> Option<(u32, &[u8])>
+fn first_width(text: &[u8]) -> Option<(u32, &[u8])>
     ensures some { IfSome result (λ width. IsFirstWidth text.now width.0 width.1.now) }
     ensures small { IfSome result (λ width. width.0 < 100000) }
     ensures none { IfNone result (are_widths (words_of text.now) ≡ false) }
@@ -63,21 +63,6 @@ fn long_width(text: &[u8]) -> Option<(u32, &[u8])>
         return None;
     }
     Some((width, &[]))
-}
-
-/// The width that begins a text, as `long_width` reads it, and by a short way where it is one digit
-/// before a space, as most are.
-fn first_width(text: &[u8]) -> Option<(u32, &[u8])>
-    ensures some { IfSome result (λ width. IsFirstWidth text.now width.0 width.1.now) }
-    ensures small { IfSome result (λ width. width.0 < 100000) }
-    ensures none { IfNone result (are_widths (words_of text.now) ≡ false) }
-{
-    match text {
-        [digit, space, rest @ ..] if *space == b' ' && digit.is_ascii_digit() => {
-            Some((u32::from(*digit - b'0'), rest))
-        }
-        _ => long_width(text),
-    }
 }
 
 /// How many words the spaces of a field make.
@@ -107,12 +92,21 @@ fn read_widths(alloc: Global, field: &[u8]) -> Result<(Vec<u16>, bool), RecordRe
     let mut rest = field;
     let mut is_wide = false;
     'words: for _ in 0..count {
-        let Some((width, after)) = first_width(rest) else {
-            return Err(RecordRefusal::Record(RecordFault::BadRuns));
+        rest = match rest {
+            // Most widths are one digit before a space.
+            [digit, space, after @ ..] if *space == b' ' && digit.is_ascii_digit() => {
+                widths.push_reserved(u16::from(*digit - b'0'));
+                after
+            }
+            _ => {
+                let Some((width, after)) = first_width(rest) else {
+                    return Err(RecordRefusal::Record(RecordFault::BadRuns));
+                };
+                is_wide |= width > 65_535;
+                widths.push_reserved(width.min(65_535) as u16);
+                after
+            }
         };
-        is_wide |= width > 65_535;
-        widths.push_reserved(width.min(65_535) as u16);
-        rest = after;
     }
     Ok((widths, is_wide))
 }
