@@ -180,7 +180,7 @@ fn prints<R: AllocGlobal + Abort>(
 fn refuses_grids_outside_the_limits(_rt: HostRuntime) -> Result<(), Fail> {
     Grid::new(1, 113, 3, 1, 1).ok().ok_or("least")?;
     Grid::new(8, 1024, 256, 16, 64).ok().ok_or("greatest")?;
-    for (module, width, height, columns, rows) in [
+    let cases: &[(u16, u16, u16, u16, u16)] = &[
         (1, 113, 2, 1, 1),
         (1, 1025, 3, 16, 1),
         (0, 113, 3, 1, 1),
@@ -190,7 +190,8 @@ fn refuses_grids_outside_the_limits(_rt: HostRuntime) -> Result<(), Fail> {
         (1, 113, 3, 17, 1),
         (1, 113, 3, 1, 65),
         (1, 113, 257, 1, 64),
-    ] {
+    ];
+    for &(module, width, height, columns, rows) in cases {
         Grid::new(module, width, height, columns, rows)
             .err()
             .ok_or("bad grid")?;
@@ -279,7 +280,7 @@ fn fills_sheets_row_by_row(rt: HostRuntime) -> Result<(), Fail> {
     ];
     let sheets = print_sheets(alloc, &labels, grid).ok().ok_or("print")?;
     assert_eq!(rt; sheets.len(), 2);
-    for (sheet, cell, left, runs) in [
+    let cases: &[(usize, u16, u16, usize)] = &[
         (0, 0, 11, 61),
         (0, 1, 7, 45),
         (0, 2, 9, 35),
@@ -287,7 +288,8 @@ fn fills_sheets_row_by_row(rt: HostRuntime) -> Result<(), Fail> {
         (1, 0, 9, 61),
         (1, 1, 113, 1),
         (1, 3, 113, 1),
-    ] {
+    ];
+    for &(sheet, cell, left, runs) in cases {
         let sheet = sheets.get(sheet).ok_or("sheet")?;
         let found = row_of_cell(alloc, sheet, &grid, shape, cell, 1)?;
         assert_eq!(rt; found.widths().first(), Some(&left));
@@ -544,7 +546,7 @@ fn reads_each_bar_row_as_its_label(rt: HostRuntime) -> Result<(), Fail> {
     ];
     let sheets = print_sheets(alloc, &labels, grid).ok().ok_or("print")?;
     let sheet = sheets.first().ok_or("sheet")?;
-    for (cell, wanted) in [
+    let cases: &[(u16, &str)] = &[
         (0, "]E0 (01)09501101530003"),
         (1, "]E0 (01)00012345000065"),
         (2, "]E4 (01)00000096385074"),
@@ -554,7 +556,8 @@ fn reads_each_bar_row_as_its_label(rt: HostRuntime) -> Result<(), Fail> {
         (6, "]I1 (01)09501101530003"),
         (7, "refused 19 Blank"),
         (8, "refused 19 Blank"),
-    ] {
+    ];
+    for &(cell, wanted) in cases {
         for y in 0..12 {
             let runs = row_of_cell(alloc, sheet, &grid, shape, cell, y)?;
             let wanted = if 2 <= y && y < 10 {

@@ -114,7 +114,7 @@ fn printed<R: Threads + Wait + AllocGlobal + Sync>(
 #[test]
 fn answers_each_row(rt: HostRuntime) -> Result<(), Fail> {
     let alloc = rt.alloc();
-    for (left, symbol, right, answer) in [
+    let cases: &[(&str, &str, &str, &str)] = &[
         ("11", SYMBOL, "7", "]E0 (01)09501101530003"),
         ("5", SYMBOL, "5", "]E0 (01)09501101530003"),
         ("4", SYMBOL, "7", "refused 21 QuietZone"),
@@ -123,7 +123,8 @@ fn answers_each_row(rt: HostRuntime) -> Result<(), Fail> {
         ("11", WIDE_SPACE, "7", "refused 22 Modules"),
         ("0", "65535", "0", "refused 20 RunCount"),
         ("1", "0001 1 00001", "65531", "refused 20 RunCount"),
-    ] {
+    ];
+    for &(left, symbol, right, answer) in cases {
         let input = format!(in alloc; "0,{left} {symbol} {right}\n")?;
         let wanted = format!(in alloc; "0 0 {answer}\n")?;
         let found = printed(&rt, 1, 1, input.as_str())?;

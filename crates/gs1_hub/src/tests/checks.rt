@@ -174,7 +174,7 @@ fn first_day(text: &[u8], reference: u16) -> Result<(i16, i8, i8), Fail> {
 
 #[test]
 fn reads_dates_by_the_year(rt: HostRuntime) -> Result<(), Fail> {
-    for (reference, text, day) in [
+    let cases: &[(u16, &[u8; 8], (i16, i8, i8))] = &[
         (2026, b"17260200", (2026, 2, 28)),
         (2026, b"17240229", (2024, 2, 29)),
         (2026, b"17760101", (2076, 1, 1)),
@@ -183,7 +183,8 @@ fn reads_dates_by_the_year(rt: HostRuntime) -> Result<(), Fail> {
         (2080, b"17301231", (2130, 12, 31)),
         (2080, b"17311231", (2031, 12, 31)),
         (2026, b"17000229", (2000, 2, 29)),
-    ] {
+    ];
+    for &(reference, text, day) in cases {
         assert_eq!(rt; first_day(text, reference)?, day);
     }
     Ok(())
@@ -200,7 +201,7 @@ fn checks_dates_by_the_year(rt: HostRuntime) -> Result<(), Fail> {
 
 #[test]
 fn answers_records_in_order(rt: HostRuntime) -> Result<(), Fail> {
-    for (input, wanted) in [
+    let cases: &[(&str, &str)] = &[
         ("", ""),
         ("\n\n", ""),
         (
@@ -217,7 +218,8 @@ fn answers_records_in_order(rt: HostRuntime) -> Result<(), Fail> {
         ("digits,1", "record 0: refused 40 Kind"),
         ("gtin,123\n\nsku,1\ndigit\n", "record 1: refused 40 Kind"),
         ("gtin,123\ndigit\nsku,1\n", "record 1: refused 39 Csv"),
-    ] {
+    ];
+    for &(input, wanted) in cases {
         let found = checked(&rt, input)?;
         same(&rt, input, found.as_str(), wanted);
     }

@@ -29,14 +29,15 @@ fn reads_numbers(rt: HostRuntime) -> Result<(), Fail> {
 
 #[test]
 fn suppresses_zeros(rt: HostRuntime) -> Result<(), Fail> {
-    for (six, check, digits) in [
+    let cases: &[([u8; 6], u8, &[u8; 14])] = &[
         (*b"123450", b'5', b"00012000003455"),
         (*b"123453", b'1', b"00012300000451"),
         (*b"123454", b'3', b"00012340000053"),
         (*b"123459", b'6', b"00012345000096"),
         (*b"123456", b'5', b"00012345000065"),
         (*b"120000", b'3', b"00012000000003"),
-    ] {
+    ];
+    for &(six, check, digits) in cases {
         let gtin = upce_expand(six, check).ok_or("a number")?;
         assert_eq!(rt; gtin.digits14().as_slice(), digits.as_slice());
         let (again, last) = upce_suppress(&gtin).ok_or("six digits")?;

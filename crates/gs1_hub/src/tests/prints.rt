@@ -73,13 +73,14 @@ pub fn push_image(
 #[test]
 fn prints_sheets(rt: HostRuntime) -> Result<(), Fail> {
     let alloc = rt.alloc();
-    for (rows, header, records, images, labelled, light) in [
+    let cases: &[(u16, &[u8], usize, usize, usize, usize)] = &[
         (1, LOW, 0, 0, 0, 0),
         (1, LOW, 1, 1, 1, 0),
         (1, LOW, 2, 2, 1, 0),
         (2, HIGH, 1, 1, 1, 1),
         (2, HIGH, 2, 1, 2, 0),
-    ] {
+    ];
+    for &(rows, header, records, images, labelled, light) in cases {
         let mut input = String::new(alloc);
         for _ in 0..records {
             input.push_str(RECORD)?;
@@ -117,15 +118,26 @@ fn prints_lines(rt: HostRuntime) -> Result<(), Fail> {
     gives(&rt, six, input.as_bytes(), wanted)
 }
 
+/// That `print` refuses these records, of images and of lines.
+fn refuses_labels<R: Threads + Wait + AllocGlobal + Sync + Abort>(
+    rt: &R,
+    input: &str,
+    wanted: &str,
+) -> Result<(), Fail> {
+    for output in [Output::Images, Output::Lines] {
+        gives(
+            rt,
+            printing(113, 3, 2, 2, output)?,
+            input.as_bytes(),
+            wanted,
+        )?;
+    }
+    Ok(())
+}
+
 #[test]
 fn refuses_records(rt: HostRuntime) -> Result<(), Fail> {
-    let alloc = rt.alloc();
-    let mut long = String::from_str(alloc, "gs1128,")?;
-    for _ in 0..193 {
-        long.push('1')?;
-    }
-    let long = long.as_str();
-    for (input, wanted) in [
+    let cases: &[(&str, &str)] = &[
         ("ean13", "record 0: refused 39 Csv"),
         ("ean13,9501101530003,", "record 0: refused 39 Csv"),
         ("sku,1", "record 0: refused 40 Kind"),
@@ -145,7 +157,6 @@ fn refuses_records(rt: HostRuntime) -> Result<(), Fail> {
         ),
         ("gs1128,10A^17250229", "record 0: refused 9 ValueDate 4"),
         ("gs1128,4225281", "record 0: refused 10 MissingSeparator 0"),
-        (long, "record 0: refused 11 TooLong"),
         (
             "upce,9501101530003\n\nean8,96385074\ngs1128,x\nsku\n",
             "record 2: refused 5 UnknownAi 0",
@@ -160,17 +171,15 @@ fn refuses_records(rt: HostRuntime) -> Result<(), Fail> {
             "gs1128,17261231\ngs1128,0109501101530003\nupce,9501101530003\n",
             "refused 27 LabelWidth 1",
         ),
-    ] {
-        for output in [Output::Images, Output::Lines] {
-            gives(
-                &rt,
-                printing(113, 3, 2, 2, output)?,
-                input.as_bytes(),
-                wanted,
-            )?;
-        }
+    ];
+    for (input, wanted) in cases {
+        refuses_labels(&rt, input, wanted)?;
     }
-    Ok(())
+    let mut long = String::from_str(rt.alloc(), "gs1128,")?;
+    for _ in 0..193 {
+        long.push('1')?;
+    }
+    refuses_labels(&rt, long.as_str(), "record 0: refused 11 TooLong")
 }
 
 /// That what a command prints of an input begins with this text.
@@ -185,55 +194,58 @@ fn begins_with<R: Threads + Wait + AllocGlobal + Sync + Abort>(
     Ok(())
 }
 
+// A label of 48 characters, the most that are printed, and one of 49.
+const MOST: &str = "gs1128,91AAAAAAAAAAAAAAAAAAAAAAAAAAAAAAAAAAAAAAAAAAAAAA";
+
+const TOO_MANY: &str = "gs1128,91AAAAAAAAAAAAAAAAAAAAAAAAAAAAAAAAAAAAAAAAAAAAAAA";
+
+/// That a label fits a cell of this grid's first row, or is refused where there is a fault.
+fn fits_or_is_refused<R: Threads + Wait + AllocGlobal + Sync + Abort>(
+    rt: &R,
+    (module_dots, width, height, columns): (u16, u16, u16, u16),
+    input: &str,
+    fault: &str,
+) -> Result<(), Fail> {
+    let options = PrintOptions::new(module_dots, width, height, columns, 1, 2026, Output::Lines);
+    let asked = Asked::Print(options.ok_or("options")?);
+    if fault.is_empty() {
+        begins_with(rt, asked, input, "0 0 ")
+    } else {
+        gives(rt, asked, input.as_bytes(), fault)
+    }
+}
+
 #[test]
 fn refuses_what_does_not_fit(rt: HostRuntime) -> Result<(), Fail> {
-    let alloc = rt.alloc();
-    let mut letters = String::from_str(alloc, "gs1128,91")?;
-    for _ in 0..46 {
-        letters.push('A')?;
-    }
-    let most = letters.as_str();
-    let over = format!(in alloc; "{most}A")?;
-    for (module_dots, width, height, columns, input, wanted) in [
-        (1, 594, 3, 1, most, None),
-        (1, 593, 3, 1, most, Some("refused 27 LabelWidth 0")),
-        (1, 4096, 3, 1, over.as_str(), Some("refused 26 LabelKind 0")),
-        (2, 226, 5, 1, RECORD, None),
-        (2, 225, 5, 1, RECORD, Some("refused 27 LabelWidth 0")),
-        (1, 155, 3, 1, "itf14,09501101530003", None),
+    let cases: &[(u16, u16, u16, u16, &str, &str)] = &[
+        (1, 594, 3, 1, MOST, ""),
+        (1, 593, 3, 1, MOST, "refused 27 LabelWidth 0"),
+        (1, 4096, 3, 1, TOO_MANY, "refused 26 LabelKind 0"),
+        (2, 226, 5, 1, RECORD, ""),
+        (2, 225, 5, 1, RECORD, "refused 27 LabelWidth 0"),
+        (1, 155, 3, 1, "itf14,09501101530003", ""),
         (
             1,
             154,
             3,
             1,
             "itf14,09501101530003",
-            Some("refused 27 LabelWidth 0"),
+            "refused 27 LabelWidth 0",
         ),
-        (1, 113, 2, 1, RECORD, Some("refused 25 BadGrid")),
-        (1, 1025, 3, 16, RECORD, Some("refused 25 BadGrid")),
-        (1, 113, 2, 1, "sku", Some("refused 25 BadGrid")),
-    ] {
-        let options = PrintOptions::new(
-            module_dots,
-            width,
-            height,
-            columns,
-            1,
-            2026,
-            Output::Lines,
-        );
-        let asked = Asked::Print(options.ok_or("options")?);
-        match wanted {
-            Some(fault) => gives(&rt, asked, input.as_bytes(), fault)?,
-            None => begins_with(&rt, asked, input, "0 0 ")?,
-        }
+        (1, 113, 2, 1, RECORD, "refused 25 BadGrid"),
+        (1, 1025, 3, 16, RECORD, "refused 25 BadGrid"),
+        (1, 113, 2, 1, "sku", "refused 25 BadGrid"),
+    ];
+    for (module_dots, width, height, columns, input, fault) in cases {
+        let grid = (*module_dots, *width, *height, *columns);
+        fits_or_is_refused(&rt, grid, input, fault)?;
     }
     Ok(())
 }
 
 #[test]
 fn takes_numbers_in_their_ranges(rt: HostRuntime) -> Result<(), Fail> {
-    for (module_dots, width, height, columns, rows, year, is_taken) in [
+    let cases: &[(u16, u16, u16, u16, u16, u16, bool)] = &[
         (1, 1, 1, 1, 1, 1951, true),
         (8, 4096, 1024, 16, 64, 2149, true),
         (0, 1, 1, 1, 1, 2026, false),
@@ -248,7 +260,8 @@ fn takes_numbers_in_their_ranges(rt: HostRuntime) -> Result<(), Fail> {
         (1, 1, 1, 1, 65, 2026, false),
         (1, 1, 1, 1, 1, 1950, false),
         (1, 1, 1, 1, 1, 2150, false),
-    ] {
+    ];
+    for &(module_dots, width, height, columns, rows, year, is_taken) in cases {
         let found = PrintOptions::new(
             module_dots,
             width,

@@ -173,7 +173,7 @@ fn reads_code_128_under_a_year(rt: HostRuntime) -> Result<(), Fail> {
 
 #[test]
 fn refuses_what_is_nearly_read(rt: HostRuntime) -> Result<(), Fail> {
-    for (ends, groups, dots, answer) in [
+    let cases: &[((u16, u16), &str, u16, &str)] = &[
         // The number sets of the check digit 4 in place of those of 5.
         (
             (9, 7),
@@ -192,7 +192,8 @@ fn refuses_what_is_nearly_read(rt: HostRuntime) -> Result<(), Fail> {
         ((14, 21), EAN8, 3, "refused 22 Modules"),
         ((4, 7), EAN13, 1, "refused 21 QuietZone"),
         ((5, 7), EAN13, 1, "]E0 (01)09501101530003"),
-    ] {
+    ];
+    for &(ends, groups, dots, answer) in cases {
         groups_say(&rt, ends, groups, dots, answer)?;
     }
     Ok(())
@@ -223,18 +224,18 @@ fn itf14_says<R: Threads + Wait + AllocGlobal + Sync + Abort>(
 
 #[test]
 fn reads_itf14_in_each_ratio(rt: HostRuntime) -> Result<(), Fail> {
-    let read = "]I1 (01)09501101530003";
-    for (widths, end, answer) in [
-        ((4, 9), 40, read),
-        ((4, 10), 40, read),
-        ((4, 11), 40, read),
-        ((4, 12), 40, read),
+    let cases: &[((u16, u16), u16, &str)] = &[
+        ((4, 9), 40, "]I1 (01)09501101530003"),
+        ((4, 10), 40, "]I1 (01)09501101530003"),
+        ((4, 11), 40, "]I1 (01)09501101530003"),
+        ((4, 12), 40, "]I1 (01)09501101530003"),
         ((4, 8), 40, "refused 22 Modules"),
         ((1, 2), 10, "refused 22 Modules"),
-        ((2, 5), 20, read),
-        ((1, 3), 5, read),
+        ((2, 5), 20, "]I1 (01)09501101530003"),
+        ((1, 3), 5, "]I1 (01)09501101530003"),
         ((1, 3), 4, "refused 21 QuietZone"),
-    ] {
+    ];
+    for &(widths, end, answer) in cases {
         itf14_says(&rt, end, ITF14, widths, answer)?;
     }
     Ok(())
@@ -291,7 +292,7 @@ fn refuses_rows_of_no_carrier(rt: HostRuntime) -> Result<(), Fail> {
 
 #[test]
 fn refuses_code_128_symbols_by_their_values(rt: HostRuntime) -> Result<(), Fail> {
-    for (characters, answer) in [
+    let cases: &[(&str, &str)] = &[
         ("211214 411131 411311 111341", "refused 16 CodeSet"),
         (
             "211214 411131 114131 411113",
@@ -306,7 +307,8 @@ fn refuses_code_128_symbols_by_their_values(rt: HostRuntime) -> Result<(), Fail>
             "211232 411131 221231 231212 411131 411131 121124",
             "refused 5 UnknownAi 5",
         ),
-    ] {
+    ];
+    for &(characters, answer) in cases {
         code128_says(&rt, characters, 2026, answer)?;
     }
     Ok(())

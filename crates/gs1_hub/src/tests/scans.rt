@@ -55,7 +55,7 @@ fn light(alloc: Global, header: &str, count: usize) -> Result<Vec<u8>, AllocErro
 #[test]
 fn reads_printed_labels(rt: HostRuntime) -> Result<(), Fail> {
     let alloc = rt.alloc();
-    for (rows, header, sheets, labelled, empty, wanted) in [
+    let cases: &[(u16, &[u8], usize, usize, usize, &str)] = &[
         (1, LOW, 0, 0, 0, ""),
         (1, LOW, 1, 1, 0, LINE),
         (1, LOW, 1, 0, 1, "0 0 refused 19 Blank\n"),
@@ -76,7 +76,8 @@ fn reads_printed_labels(rt: HostRuntime) -> Result<(), Fail> {
             "0 0 ]E0 (01)09501101530003\n0 1 ]E0 (01)09501101530003\n\
              0 2 ]E0 (01)09501101530003\n0 3 ]E0 (01)09501101530003\n",
         ),
-    ] {
+    ];
+    for &(rows, header, sheets, labelled, empty, wanted) in cases {
         let mut bytes = Vec::new(alloc);
         for _ in 0..sheets {
             push_image(&mut bytes, header, labelled, empty)?;
@@ -92,14 +93,15 @@ fn reads_the_middle_rows_of_cells(rt: HostRuntime) -> Result<(), Fail> {
     let rows = DOTS.get(15..).ok_or("rows")?;
     let label = rows.get(..15).ok_or("a row")?;
     let dark = [0xff; 15].as_slice();
-    for (height, header, place, wanted) in [
+    let cases: &[(u16, &str, u16, &str)] = &[
         (3, "P4\n113 3\n", 0, "0 0 refused 20 RunCount\n"),
         (3, "P4\n113 3\n", 1, LINE),
         (3, "P4\n113 3\n", 2, "0 0 refused 20 RunCount\n"),
         (4, "P4\n113 4\n", 1, "0 0 refused 20 RunCount\n"),
         (4, "P4\n113 4\n", 2, LINE),
         (5, "P4\n113 5\n", 2, LINE),
-    ] {
+    ];
+    for &(height, header, place, wanted) in cases {
         let mut bytes = header.as_bytes().to_vec(alloc)?;
         for row in 0..height {
             bytes.extend_from_slice(if row == place { label } else { dark })?;
@@ -177,7 +179,7 @@ fn orders_lines_by_column_and_number(rt: HostRuntime) -> Result<(), Fail> {
 #[test]
 fn refuses_images(rt: HostRuntime) -> Result<(), Fail> {
     let alloc = rt.alloc();
-    for (header, count, wanted) in [
+    let cases: &[(&str, usize, &str)] = &[
         ("P1\n113 3\n", 45, "refused 28 NotP4"),
         ("p4\n113 3\n", 45, "refused 28 NotP4"),
         ("\nP4\n113 3\n", 45, "refused 28 NotP4"),
@@ -199,7 +201,8 @@ fn refuses_images(rt: HostRuntime) -> Result<(), Fail> {
         ("P4\n113 2\n", 30, "refused 31 PbmSize"),
         ("P4\n3 113\n", 113, "refused 31 PbmSize"),
         ("P4\n226 3\n", 87, "refused 31 PbmSize"),
-    ] {
+    ];
+    for &(header, count, wanted) in cases {
         let bytes = light(alloc, header, count)?;
         let found = scanned(&rt, bytes.as_slice())?;
         same(&rt, header, found.as_str(), wanted);
