@@ -53,7 +53,7 @@ fn missing_heads(alloc: Global, count: u16) -> Result<Vec<Head>, NoMemory>
 }
 
 /// What there is of the lane's number `next`, which is its next from now on and no later one.
-fn advance(
+fn head_of(
     later: &mut BTreeMap<Ticket, Delivery>,
     known: &mut BTreeSet<Ticket>,
     lane: u8,
@@ -72,6 +72,24 @@ fn advance(
     match later.remove(&ticket) {
         Some(delivery) => Head::Here(delivery),
         None => Head::Out,
+    }
+}
+
+/// Puts into the lane's place what there is of its number `next`, which is its next from now on. The place is
+/// left as it is where no later number was taken in, as mostly.
+fn advance(
+    head: &mut Head,
+    later: &mut BTreeMap<Ticket, Delivery>,
+    known: &mut BTreeSet<Ticket>,
+    lane: u8,
+    next: u64,
+)
+    requires missing { head.old ≡ Missing }
+    requires indexed { AreIndexed later.old.entries known.old.keys }
+    ensures { Advances lane next later.old.entries known.old.keys later.new.entries known.new.keys head.new }
+{
+    if !known.is_empty() {
+        *head = head_of(later, known, lane, next);
     }
 }
 
@@ -158,7 +176,13 @@ impl Deliverer {
         let delivery = self.heads[index].take(Head::Missing)?;
         let next = self.nexts[index] + 1;
         self.nexts[index] = next;
-        self.heads[index] = advance(&mut self.later, &mut self.known, lane, next);
+        advance(
+            &mut self.heads[index],
+            &mut self.later,
+            &mut self.known,
+            lane,
+            next,
+        );
         Some(delivery)
     }
 

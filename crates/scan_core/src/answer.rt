@@ -46,10 +46,10 @@ fn try_candidate(widths: &[u16], total: u32, candidate: Candidate) -> Result<Sho
     if !is_quiet(widths, total, candidate.count) {
         return Err(Stage::QuietZone);
     }
-    let Some(modules) = round(inner(widths), total, candidate.count) else {
+    let Some(mut modules) = round(inner(widths), total as u16, candidate.count) else {
         return Err(Stage::Modules);
     };
-    match read_some_way(candidate.carrier, modules) {
+    match read_some_way(candidate.carrier, &mut modules) {
         Some(symbol) => Ok(Shown {
             carrier: candidate.carrier,
             symbol,

@@ -54,25 +54,24 @@ fn nearest(thirds: u32, total: u32) -> u8
 /// The number of modules that a run of `width` dots is nearest to, where `total` dots are `count` modules,
 /// and whether it is so many.
 ///
-/// In 32 bits: `count` is at most 1,091, the modules of the longest symbol.
-fn modules_of(width: u16, total: u32, count: u16) -> (u8, bool)
-    requires narrow { total ≤ 65535 }
+/// In 32 bits, of factors of 16: `count` is at most 1,091, the modules of the longest symbol.
+fn modules_of(width: u16, total: u16, count: u16) -> (u8, bool)
     requires short { count ≤ 1091 }
     ensures found { result.1 ≡ true → IsRun count total width result.0 }
     ensures none { result.1 ≡ false → (m : ℕ) → IsRun count total width m → ⊥ }
 {
-    let thirds = 3 * (u32::from(width) * u32::from(count));
+    let total = u32::from(total);
+    let thirds = u32::from(width) * u32::from(3 * count);
     let modules = nearest(thirds, total);
-    let is_near = thirds.abs_diff(3 * (u32::from(modules) * total)) <= total;
+    let is_near = thirds.abs_diff(u32::from(3 * modules) * total) <= total;
     (modules, is_near)
 }
 
 /// Puts the number of modules of each run into its place in `modules`, and answers whether each run has one.
 ///
 /// Each run is looked at, since a loop without an early end rounds many at once.
-fn round_each(inner: &[u16], total: u32, count: u16, modules: &mut [u8]) -> bool
+fn round_each(inner: &[u16], total: u16, count: u16, modules: &mut [u8]) -> bool
     requires places { length modules.old ≡ length inner.now }
-    requires narrow { total ≤ 65535 }
     requires short { count ≤ 1091 }
     ensures places { length modules.new ≡ length inner.now }
     ensures found { result ≡ true → AllZip (IsRun count total) inner.now modules.new }
@@ -88,21 +87,20 @@ fn round_each(inner: &[u16], total: u32, count: u16, modules: &mut [u8]) -> bool
 }
 
 /// The modules that the runs of a symbol, `total` dots and `count` modules together, round to.
-pub(crate) fn round(inner: &[u16], total: u32, count: u16) -> Option<Modules>
+pub(crate) fn round(inner: &[u16], total: u16, count: u16) -> Option<Modules>
     requires few { length inner.now ≤ 595 }
     requires odd { length inner.now % 2 ≡ 1 }
     requires sum { total ≡ sum inner.now }
-    requires narrow { total ≤ 65535 }
     requires short { count ≤ 1091 }
     ensures found { IfSome result (λ modules. Rounds inner.now count modules) }
     ensures none { IfNone result ((modules : List ℕ) → Rounds inner.now count modules → ⊥) }
 {
-    let mut modules = [0; MOST_RUNS];
-    let modules = &mut modules[..inner.len()];
-    if !round_each(inner, total, count, modules) {
+    let mut modules = ArrayVec::new();
+    modules
+        .try_extend_from_slice(&[0; MOST_RUNS][..inner.len()])
+        .unwrap();
+    if !round_each(inner, total, count, modules.as_mut_slice()) {
         return None;
     }
-    let mut found = ArrayVec::new();
-    found.try_extend_from_slice(modules).unwrap();
-    Some(Modules::new(found))
+    Some(Modules::new(modules))
 }

@@ -52,16 +52,17 @@ fn read_symbol(carrier: Carrier, modules: &Modules) -> Option<Symbol>
     }
 }
 
-/// The symbol of the carrier that the modules are, read from the left or else from the right.
-pub(crate) fn read_some_way(carrier: Carrier, mut modules: Modules) -> Option<Symbol>
-    ensures found { IfSome result (λ s. (way : Way) × Spells carrier (along way modules) (content_of s)) }
-    ensures none { IfNone result ((way : Way) → HasForm carrier (along way modules) → ⊥) }
+/// The symbol of the carrier that the modules are, read from the left or else from the right. Where it is
+/// none from the left they are turned round.
+pub(crate) fn read_some_way(carrier: Carrier, modules: &mut Modules) -> Option<Symbol>
+    ensures found { IfSome result (λ s. (way : Way) × Spells carrier (along way modules.old) (content_of s)) }
+    ensures none { IfNone result ((way : Way) → HasForm carrier (along way modules.old) → ⊥) }
 {
-    match read_symbol(carrier, &modules) {
+    match read_symbol(carrier, modules) {
         Some(forwards) => Some(forwards),
         None => {
             modules.reverse();
-            read_symbol(carrier, &modules)
+            read_symbol(carrier, modules)
         }
     }
 }

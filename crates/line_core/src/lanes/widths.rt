@@ -1,6 +1,6 @@
 //! Numbers and widths as fields spell them.
-ghost use Rattle.std.specs.Prelude.{None, Some, ◌≡◌, ◌≤◌, true, false, nat_lt, length, ◌<◌, IfNone, IfOk, IfSome, IsTrue, OnOk, map, min};
-ghost use Rattle.std.specs.List.{list_all, list_any};
+ghost use Rattle.std.specs.Prelude.{None, Some, ◌==◌, ◌≡◌, ◌≤◌, true, false, nat_lt, length, ◌<◌, IfNone, IfOk, IfSome, IsTrue, OnOk, map, min};
+ghost use Rattle.std.specs.List.{count_by, list_all, list_any};
 ghost use Rattle.std.specs.Char.{is_ascii_digit};
 ghost use Rattle.std.specs.Str.Parse.{digits_value};
 ghost use Rattle.line_core.specs.lanes.Widths.{IsFirstWidth, are_widths, field_fault, number_in, widths_in, words_of};
@@ -65,13 +65,25 @@ fn first_width(text: &[u8]) -> Option<(u32, &[u8])>
     Some((width, &[]))
 }
 
+/// How many spaces a text of at most 255 bytes has. One byte counts them, so that many are added at once.
+fn count_spaces(text: &[u8]) -> u8
+    requires few { length text.now ≤ 255 }
+    ensures { result ≡ count_by (λ b. b == 32) text.now }
+{
+    let mut spaces = 0;
+    for byte in text {
+        spaces += u8::from(*byte == b' ');
+    }
+    spaces
+}
+
 /// How many words the spaces of a field make.
 fn count_words(field: &[u8]) -> usize
     ensures { result ≡ length (words_of field.now) }
 {
     let mut spaces = 0;
-    for byte in field {
-        spaces += usize::from(*byte == b' ');
+    for part in field.chunks(255) {
+        spaces += usize::from(count_spaces(part));
     }
     spaces + 1
 }

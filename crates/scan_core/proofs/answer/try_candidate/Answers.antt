@@ -1,14 +1,13 @@
-use Rattle.std.proofs.Common.{arith, rules}
+use Rattle.std.proofs.Common.{◌∙◌, ap, rules, sum, sym}
 use Rattle.scan_core.specs.Reading.{content_of}
 use Rattle.scan_core.specs.Row.{inner}
 use Rattle.scan_core.specs.Showing.{IsQuiet, Rounds}
 use Rattle.scan_core.proofs.CandidateFacts.{most_modules}
 use Rattle.scan_core.proofs.FoundFacts.{fails_pattern, fails_rounding, found_tells}
-use Rattle.scan_core.proofs.RowFacts.{inner_le}
 use Rattle.scan_core.proofs.answer.try_candidate.Goals as goal
 
-pub round-requires-clause-narrow : goal.round-requires-clause-narrow
-round-requires-clause-narrow c = omega (arith, c.requires.sum, c.requires.row.at_most, inner_le c.args.widths.now)
+pub round-requires-clause-sum : goal.round-requires-clause-sum
+round-requires-clause-sum c = c.requires.sum ∙ ap sum (sym c.inner.ensures)
 
 pub round-requires-clause-short : goal.round-requires-clause-short
 round-requires-clause-short c = most_modules c.args.candidate.carrier _ c.args.candidate.count c.requires.counted

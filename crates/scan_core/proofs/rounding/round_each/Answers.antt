@@ -1,4 +1,4 @@
-use Rattle.std.proofs.Common.{◌≡◌, ◌∙◌}
+use Rattle.std.proofs.Common.{◌∙◌}
 use Rattle.std.proofs.lemmas.List.{length-set}
 use Rattle.scan_core.proofs.RoundingFacts.{none_more, one_more}
 use Rattle.scan_core.proofs.rounding.round_each.Goals as goal

@@ -6,7 +6,7 @@ use Rattle.lane_core.proofs.DeskFacts.{gave, kept_next, known_same, others_same}
 use Rattle.lane_core.proofs.HeadFacts.{next_waits, own_parts}
 use Rattle.lane_core.proofs.ListFacts.{placed, set_same}
 use Rattle.lane_core.proofs.deliverer.Deliverer.take_next.Goals as goal
-use Rattle.lane_core.proofs.deliverer.Deliverer.take_next.Goals.{After-row_known-1, Joined-index_mut-advance}
+use Rattle.lane_core.proofs.deliverer.Deliverer.take_next.Goals.{After-self-3-1}
 
 pub returns-in_err-delivery-clause-none : goal.returns-in_err-delivery-clause-none
 returns-in_err-delivery-clause-none c =
@@ -20,20 +20,20 @@ returns-in_err-delivery-clause-none c =
     rw c.from_residual.ensures
     (rw (← c.self.view_is) (none, ap (λ hs. desk_of c.self.inside.nexts.items hs c.self.inside.later.entries c.self.inside.known.keys) same))
 
-low_of : (c : Joined-index_mut-advance) → c.args.lane < length c.self.inside.nexts.items
+low_of : (c : After-self-3-1) → c.args.lane < length c.self.inside.nexts.items
 low_of c = rw (← c.self.view_is) at c.requires
 
-at_of : (c : Joined-index_mut-advance) → c.index.result.now ≡ get_or c.self.inside.nexts.items c.args.lane 0
+at_of : (c : After-self-3-1) → c.index.result.now ≡ get_or c.self.inside.nexts.items c.args.lane 0
 at_of c = let low = low_of c in grind (arith, common_steps)
 
-here_of : (c : Joined-index_mut-advance) → head_at c.self.inside.heads.items c.args.lane ≡ Here c.in_ok-delivery.delivery
+here_of : (c : After-self-3-1) → head_at c.self.inside.heads.items c.args.lane ≡ Here c.in_ok-delivery.delivery
 here_of c =
     let low = low_of c in
     let lanes = c.self.invariant.lanes in
     let at : head_at c.self.inside.heads.items c.args.lane ≡ c.index_mut.result.now = grind (arith, common_steps) in
     at ∙ c.in_ok-delivery.ensures.some.0
 
-own_of : (c : Joined-index_mut-advance) → IsHeadOf c.args.lane (get_or c.self.inside.nexts.items c.args.lane 0) (Here c.in_ok-delivery.delivery)
+own_of : (c : After-self-3-1) → IsHeadOf c.args.lane (get_or c.self.inside.nexts.items c.args.lane 0) (Here c.in_ok-delivery.delivery)
 own_of c = subst (IsHeadOf c.args.lane (get_or c.self.inside.nexts.items c.args.lane 0)) (here_of c) (c.self.invariant.own c.args.lane (low_of c))
 
 pub overflow_add-next : goal.overflow_add-next
@@ -46,29 +46,29 @@ overflow_add-next c =
     let small = (own_parts c.args.lane (get_or c.self.inside.nexts.items c.args.lane 0) c.in_ok-delivery.delivery own).2 in
     omega arith
 
-advanced : (c : Joined-index_mut-advance)
-    → Advances c.args.lane (get_or c.self.inside.nexts.items c.args.lane 0 + 1) c.self.inside.later.entries c.self.inside.known.keys c.advance.new.later.entries c.advance.new.known.keys c.advance.result
-advanced c = subst (λ n. Advances c.args.lane (n + 1) c.self.inside.later.entries c.self.inside.known.keys c.advance.new.later.entries c.advance.new.known.keys c.advance.result) (at_of c) c.advance.ensures
+advanced : (c : After-self-3-1)
+    → Advances c.args.lane (get_or c.self.inside.nexts.items c.args.lane 0 + 1) c.self.inside.later.entries c.self.inside.known.keys c.advance.new.later.entries c.advance.new.known.keys c.advance.new.head
+advanced c = subst (λ n. Advances c.args.lane (n + 1) c.self.inside.later.entries c.self.inside.known.keys c.advance.new.later.entries c.advance.new.known.keys c.advance.new.head) (at_of c) c.advance.ensures
 
-nexts_of : (c : Joined-index_mut-advance)
+nexts_of : (c : After-self-3-1)
     → slice_set c.self.inside.nexts.items c.from-index.result (c.index.result.now + 1) ≡ slice_set c.self.inside.nexts.items c.args.lane (get_or c.self.inside.nexts.items c.args.lane 0 + 1)
 nexts_of c = λ i. slice_set c.self.inside.nexts.items (c.from-index.ensures i) (at_of c i + 1)
 
-heads_of : (c : Joined-index_mut-advance)
-    → slice_set (slice_set c.self.inside.heads.items c.from-index.result c.take.new.self) c.from-index.result c.advance.result ≡ slice_set (slice_set c.self.inside.heads.items c.args.lane Missing) c.args.lane c.advance.result
-heads_of c = λ i. slice_set (slice_set c.self.inside.heads.items (c.from-index.ensures i) (c.in_ok-delivery.ensures.some.1 i)) (c.from-index.ensures i) c.advance.result
+heads_of : (c : After-self-3-1)
+    → slice_set (slice_set c.self.inside.heads.items c.from-index.result c.take.new.self) c.from-index.result c.advance.new.head ≡ slice_set (slice_set c.self.inside.heads.items c.args.lane Missing) c.args.lane c.advance.new.head
+heads_of c = λ i. slice_set (slice_set c.self.inside.heads.items (c.from-index.ensures i) (c.in_ok-delivery.ensures.some.1 i)) (c.from-index.ensures i) c.advance.new.head
 
 pub invariant_of-self-2 : goal.invariant_of-self-2
 invariant_of-self-2 c =
     let a = advanced c in
     rw (nexts_of c, heads_of c)
-    (kept_next c.self.inside.nexts.items c.self.inside.heads.items c.self.inside.later.entries c.advance.new.later.entries c.self.inside.known.keys c.advance.new.known.keys c.args.lane c.advance.result
-    c.self.invariant (low_of c) a.own a.indexed a.gone (others_same c.args.lane _ _ _ _ _ c.advance.result a))
+    (kept_next c.self.inside.nexts.items c.self.inside.heads.items c.self.inside.later.entries c.advance.new.later.entries c.self.inside.known.keys c.advance.new.known.keys c.args.lane c.advance.new.head
+    c.self.invariant (low_of c) a.own a.indexed a.gone (others_same c.args.lane _ _ _ _ _ c.advance.new.head a))
 
 pub returns-clause-some : goal.returns-clause-some
 returns-clause-some c =
     let a = advanced c in
     rw (← c.self.view_is)
     (rw (nexts_of c, heads_of c)
-    (gave c.self.inside.nexts.items c.self.inside.heads.items c.self.inside.later.entries c.advance.new.later.entries c.self.inside.known.keys c.advance.new.known.keys c.args.lane c.in_ok-delivery.delivery c.advance.result
-    (low_of c) c.self.invariant.lanes (here_of c) (own_of c) a.waiting (known_same c.args.lane _ _ _ _ _ c.advance.result a) (others_same c.args.lane _ _ _ _ _ c.advance.result a)))
+    (gave c.self.inside.nexts.items c.self.inside.heads.items c.self.inside.later.entries c.advance.new.later.entries c.self.inside.known.keys c.advance.new.known.keys c.args.lane c.in_ok-delivery.delivery c.advance.new.head
+    (low_of c) c.self.invariant.lanes (here_of c) (own_of c) a.waiting (known_same c.args.lane _ _ _ _ _ c.advance.new.head a) (others_same c.args.lane _ _ _ _ _ c.advance.new.head a)))

@@ -5,7 +5,7 @@ use Rattle.std.specs.Ordering.{is_eq, nat_cmp, ordering_then}
 use Rattle.lane_core.specs.declared.ticket.Ticket.{Ticket}
 use Rattle.lane_core.proofs.AdvanceFacts.{was_here, was_out}
 use Rattle.lane_core.proofs.DrawerFacts.{Finds, finds_at}
-use Rattle.lane_core.proofs.deliverer.advance.Goals as goal
+use Rattle.lane_core.proofs.deliverer.head_of.Goals as goal
 
 same : (c : goal.In-Some) → c.in-Ok.number ≡ c.args.next
 same c = search rules
