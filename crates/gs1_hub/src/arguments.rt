@@ -1,6 +1,6 @@
 //! The arguments that commands share: as `clap` is told of them, and as they are read of its matches.
 ghost use Rattle.std.specs.Prelude.{◌<◌, ◌≡◌, ◌^◌, Bool, ℕ, IfNone, IfOk, IfSome, false};
-ghost use Rattle.clap.specs.Words.{app_of, found_of, rows_of, rule_of};
+ghost use Rattle.clap.specs.Words.{app_of, found_of, new_app, rows_of, rule_of};
 ghost use Rattle.clap.specs.declared.builder.command.Command.TheViews.{out-Command};
 ghost use Rattle.gs1_hub.specs.Arguments.{HasFlag, HasNumber, HasYear, flag_rule, number_rule, with_cell, with_places, workers_rule, year_rule};
 
@@ -40,6 +40,14 @@ const WORKERS: &str = "How many threads read rows beside each other, 1 to 16";
 /// The option `--year`.
 const YEAR: &str =
     "Year that dates of two digits are read by, 1951 to 2149, such as the year of today";
+
+/// The command of this name, before it has arguments. The help says `about` of it, and ends with `example`.
+pub fn command<'a>(alloc: Global, name: &'a str, about: &'a str, example: &'a str) -> Command<'a>
+    ensures app { app_of result ≡ new_app name.now }
+    ensures own { (out-Command result).has_globals ≡ false }
+{
+    Command::new(alloc, name).about(about).after_help(example)
+}
 
 /// The option `--name`, which is required and takes a number from `least` to `most`. The help calls
 /// the number `value`, and says `help` of it.
@@ -93,7 +101,7 @@ pub fn workers<'a>(alloc: Global) -> Arg<'a>
 }
 
 /// The command with the options of a cell: how wide a module is, and how wide and high the cell.
-pub fn with_cell<'a>(alloc: Global, command: Command<'a>) -> Result<Command<'a>, AllocError>
+fn with_cell<'a>(alloc: Global, command: Command<'a>) -> Result<Command<'a>, AllocError>
     ensures app { IfOk result (λ c. app_of c ≡ with_cell (app_of command.entry)) }
     ensures own { (out-Command command.entry).has_globals ≡ false
         → IfOk result (λ c. (out-Command c).has_globals ≡ false) }
@@ -105,7 +113,7 @@ pub fn with_cell<'a>(alloc: Global, command: Command<'a>) -> Result<Command<'a>,
 }
 
 /// The command with the options of a sheet: how many columns and rows of cells it has.
-pub fn with_places<'a>(alloc: Global, command: Command<'a>) -> Result<Command<'a>, AllocError>
+fn with_places<'a>(alloc: Global, command: Command<'a>) -> Result<Command<'a>, AllocError>
     ensures app { IfOk result (λ c. app_of c ≡ with_places (app_of command.entry)) }
     ensures own { (out-Command command.entry).has_globals ≡ false
         → IfOk result (λ c. (out-Command c).has_globals ≡ false) }
@@ -113,6 +121,16 @@ pub fn with_places<'a>(alloc: Global, command: Command<'a>) -> Result<Command<'a
     command
         .arg(number(alloc, "columns", 1, MOST_COLUMNS, "COUNT", COLUMNS))?
         .arg(number(alloc, "rows", 1, MOST_ROWS, "COUNT", ROWS))
+}
+
+/// The command with the options of a grid of cells: those of a cell, and those of a sheet.
+pub fn with_grid<'a>(alloc: Global, command: Command<'a>) -> Result<Command<'a>, AllocError>
+    ensures app { IfOk result (λ c. app_of c ≡ with_places (with_cell (app_of command.entry))) }
+    ensures own { (out-Command command.entry).has_globals ≡ false
+        → IfOk result (λ c. (out-Command c).has_globals ≡ false) }
+{
+    let sized = with_cell(alloc, command)?;
+    with_places(alloc, sized)
 }
 
 /// The number under this name.

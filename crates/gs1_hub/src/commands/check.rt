@@ -5,7 +5,7 @@ ghost use Rattle.clap.specs.declared.builder.command.Command.TheViews.{out-Comma
 ghost use Rattle.gs1_hub.specs.Runs.{Ran};
 ghost use Rattle.gs1_hub.specs.commands.Checks.{OneCheck, check_app, check_command};
 
-use crate::arguments::year;
+use crate::arguments::{command, year};
 use crate::fault::CommandFault;
 use clap::Command;
 use digits_core::{Sink, Source, write_all};
@@ -38,10 +38,7 @@ pub fn check_words<'a>(alloc: Global) -> Result<Command<'a>, AllocError>
     ensures app { IfOk result (λ c. app_of c ≡ check_app) }
     ensures own { IfOk result (λ c. (out-Command c).has_globals ≡ false) }
 {
-    Command::new(alloc, "check")
-        .about(ABOUT)
-        .after_help(EXAMPLE)
-        .arg(year(alloc))
+    command(alloc, "check", ABOUT, EXAMPLE).arg(year(alloc))
 }
 
 /// Checks the texts that a source gives, a line for each in their order.

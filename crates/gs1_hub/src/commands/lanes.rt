@@ -8,7 +8,7 @@ ghost use Rattle.gs1_hub.specs.declared.commands.lanes.options.LaneOptions.{Lane
 
 pub mod options;
 
-use crate::arguments::{byte_named, number, number_named, workers, year};
+use crate::arguments::{byte_named, command, number, number_named, workers, year};
 use crate::commands::lanes::options::{LaneOptions, MOST_LANES};
 use crate::fault::CommandFault;
 use clap::{ArgMatches, Command};
@@ -56,9 +56,7 @@ pub fn lanes_words<'a>(alloc: Global) -> Result<Command<'a>, AllocError>
     ensures own { IfOk result (λ c. (out-Command c).has_globals ≡ false) }
 {
     let most = u16::from(MOST_LANES);
-    Command::new(alloc, "lanes")
-        .about(ABOUT)
-        .after_help(EXAMPLE)
+    command(alloc, "lanes", ABOUT, EXAMPLE)
         .arg(number(alloc, "lanes", 1, most, "COUNT", LANE_COUNT))?
         .arg(workers(alloc))?
         .arg(year(alloc))

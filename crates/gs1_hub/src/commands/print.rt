@@ -12,7 +12,7 @@ ghost use Rattle.gs1_hub.specs.declared.commands.print.options.PrintOptions.{Pri
 
 pub mod options;
 
-use crate::arguments::{flag, flag_named, number_named, with_cell, with_places, year};
+use crate::arguments::{command, flag, flag_named, number_named, with_grid, year};
 use crate::commands::print::options::{Output, PrintOptions};
 use crate::fault::CommandFault;
 use clap::{ArgMatches, Command};
@@ -52,11 +52,7 @@ pub fn print_words<'a>(alloc: Global) -> Result<Command<'a>, AllocError>
     ensures app { IfOk result (λ c. app_of c ≡ print_app) }
     ensures own { IfOk result (λ c. (out-Command c).has_globals ≡ false) }
 {
-    let print = Command::new(alloc, "print")
-        .about(ABOUT)
-        .after_help(EXAMPLE);
-    let sized = with_cell(alloc, print)?;
-    with_places(alloc, sized)?
+    with_grid(alloc, command(alloc, "print", ABOUT, EXAMPLE))?
         .arg(year(alloc))?
         .arg(flag(alloc, "text", TEXT))
 }

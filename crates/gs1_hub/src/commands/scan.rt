@@ -8,7 +8,7 @@ ghost use Rattle.gs1_hub.specs.declared.commands.scan.options.ScanOptions.{ScanO
 
 pub mod options;
 
-use crate::arguments::{byte_named, number_named, with_cell, with_places, workers, year};
+use crate::arguments::{byte_named, command, number_named, with_grid, workers, year};
 use crate::commands::scan::options::ScanOptions;
 use crate::fault::CommandFault;
 use clap::{ArgMatches, Command};
@@ -41,9 +41,7 @@ pub fn scan_words<'a>(alloc: Global) -> Result<Command<'a>, AllocError>
     ensures app { IfOk result (λ c. app_of c ≡ scan_app) }
     ensures own { IfOk result (λ c. (out-Command c).has_globals ≡ false) }
 {
-    let scan = Command::new(alloc, "scan").about(ABOUT).after_help(EXAMPLE);
-    let sized = with_cell(alloc, scan)?;
-    with_places(alloc, sized)?
+    with_grid(alloc, command(alloc, "scan", ABOUT, EXAMPLE))?
         .arg(workers(alloc))?
         .arg(year(alloc))
 }
