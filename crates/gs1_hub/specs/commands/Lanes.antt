@@ -1,5 +1,5 @@
 -- The command `lanes`.
-use Rattle.std.specs.Prelude.{◌≡◌, ⊤, ℕ, List, Option, codes}
+use Rattle.std.specs.Prelude.{⊤, ℕ, List, Option, codes}
 use Rattle.clap.specs.Words.{App, Row, new_app, with_rule}
 use Rattle.line_core.specs.answers.Reports.{IsReport}
 use Rattle.line_core.specs.input.Records.{Takes}
