@@ -7,7 +7,7 @@ use std::io::{self, ErrorKind, Read, Write};
 use std::test::Fail;
 
 // What is answered where the third call of the reader or the writer fails.
-const ANSWERS: [Result<usize, Failed>; 5] = [Ok(1), Ok(1), Err(Failed), Err(Failed), Err(Failed)];
+const ANSWERS: &[Result<usize, Failed>] = &[Ok(1), Ok(1), Err(Failed), Err(Failed), Err(Failed)];
 
 /// Counts its calls, of which one fails.
 #[derive(Drop)]
@@ -52,7 +52,7 @@ fn a_reader_is_read_once_a_call_until_it_fails(rt: HostRuntime) -> Result<(), Fa
     };
     let mut source = FromReader::new(&mut reader);
     let mut buffer = [0; 4];
-    for answer in ANSWERS {
+    for &answer in ANSWERS {
         assert_eq!(rt; source.read(&mut buffer), answer);
     }
     assert_eq!(rt; reader.calls, 3);
@@ -65,7 +65,7 @@ fn a_writer_is_written_to_once_a_call_until_it_fails(rt: HostRuntime) -> Result<
         calls: 0,
         fails_at: 3,
     });
-    for answer in ANSWERS {
+    for &answer in ANSWERS {
         assert_eq!(rt; sink.write(b"0"), answer);
     }
     assert_eq!(rt; sink.write(b""), Err(Failed));

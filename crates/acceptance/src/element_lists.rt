@@ -74,12 +74,8 @@ fn day_of(element: &Element) -> Option<(i16, i8, i8)> {
 
 #[test]
 fn an_element_has_its_time(rt: HostRuntime) -> Result<(), Fail> {
-    for (line, day, time) in [
-        (
-            b"70032601021530".as_slice(),
-            Some((2026, 1, 2)),
-            Some([15, 30, 0]),
-        ),
+    let lines: &[(&[u8], Option<(i16, i8, i8)>, Option<[u8; 3]>)] = &[
+        (b"70032601021530", Some((2026, 1, 2)), Some([15, 30, 0])),
         (b"800826010215", Some((2026, 1, 2)), Some([15, 0, 0])),
         (b"80082601021530", Some((2026, 1, 2)), Some([15, 30, 0])),
         (b"8008260102153045", Some((2026, 1, 2)), Some([15, 30, 45])),
@@ -90,7 +86,8 @@ fn an_element_has_its_time(rt: HostRuntime) -> Result<(), Fail> {
         ),
         (b"17260102", Some((2026, 1, 2)), None),
         (b"10A", None, None),
-    ] {
+    ];
+    for &(line, day, time) in lines {
         let element = element(&parsed(line)?, 0)?;
         assert_eq!(rt; day_of(&element), day);
         assert_eq!(rt; element.time, time);

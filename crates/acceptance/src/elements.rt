@@ -2,6 +2,7 @@
 
 use element_core::{Elements, Pair, Part, PartFormat, Text, Year, ai_row};
 use std::alloc::Global;
+use std::process::Abort;
 use std::test::Fail;
 
 // A value of 90 characters, the most that AI 91 takes.
@@ -69,11 +70,23 @@ fn pairs_are_elements_or_have_a_first_fault(rt: HostRuntime) -> Result<(), Fail>
     Ok(())
 }
 
+/// That the row of the AI that a text begins with is predefined, or is not, and has these parts.
+fn has_parts<R: Abort>(
+    rt: &R,
+    text: &str,
+    is_predefined: bool,
+    parts: &[Part],
+) -> Result<(), Fail> {
+    let row = ai_row(text.as_bytes()).ok_or("a row")?;
+    assert_eq!(*rt; row.predefined, is_predefined);
+    assert_eq!(*rt; row.parts.as_slice(), parts);
+    Ok(())
+}
+
 #[test]
 fn the_row_of_an_ai_has_its_parts(rt: HostRuntime) -> Result<(), Fail> {
     let row = ai_row(b"0109501101530003").ok_or("01")?;
     assert_eq!(rt; row.ai.as_slice(), b"01".as_slice());
-    assert!(rt; row.predefined);
     let gtin = Part {
         format: PartFormat::Numeric,
         least: 14,
@@ -81,8 +94,11 @@ fn the_row_of_an_ai_has_its_parts(rt: HostRuntime) -> Result<(), Fail> {
         check: true,
         even: false,
     };
-    assert_eq!(rt; row.parts.as_slice(), [gtin].as_slice());
-    let row = ai_row(b"253").ok_or("253")?;
+    has_parts(&rt, "0109501101530003", true, &[gtin])
+}
+
+#[test]
+fn the_row_of_an_ai_has_two_parts(rt: HostRuntime) -> Result<(), Fail> {
     let number = Part {
         format: PartFormat::Numeric,
         least: 13,
@@ -97,9 +113,11 @@ fn the_row_of_an_ai_has_its_parts(rt: HostRuntime) -> Result<(), Fail> {
         check: false,
         even: false,
     };
-    assert!(rt; !row.predefined);
-    assert_eq!(rt; row.parts.as_slice(), [number, serial].as_slice());
-    let row = ai_row(b"8008").ok_or("8008")?;
+    has_parts(&rt, "253", false, &[number, serial])
+}
+
+#[test]
+fn the_row_of_an_ai_has_a_date_and_time(rt: HostRuntime) -> Result<(), Fail> {
     let produced = Part {
         format: PartFormat::DateAndTime,
         least: 8,
@@ -107,10 +125,14 @@ fn the_row_of_an_ai_has_its_parts(rt: HostRuntime) -> Result<(), Fail> {
         check: false,
         even: true,
     };
-    assert!(rt; !row.predefined);
-    assert_eq!(rt; row.parts.as_slice(), [produced].as_slice());
-    for none in ["", "1", "03", "3106", "7002", "8006"] {
-        assert!(rt; ai_row(none.as_bytes()).is_none());
+    has_parts(&rt, "8008", false, &[produced])
+}
+
+#[test]
+fn a_text_with_no_ai_has_no_row(rt: HostRuntime) -> Result<(), Fail> {
+    let texts: &[&str] = &["", "1", "03", "3106", "7002", "8006"];
+    for &text in texts {
+        assert!(rt; ai_row(text.as_bytes()).is_none());
     }
     Ok(())
 }

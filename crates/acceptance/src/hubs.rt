@@ -191,7 +191,8 @@ fn settles_what_no_lane_has_polled(rt: HostRuntime) -> Result<(), Fail> {
 fn answers_each_lane<R: Wait + AllocGlobal + Abort>(rt: &R, count: u8) -> Result<(), Fail> {
     let alloc = rt.alloc();
     let mut hub = Station::new(rt, alloc, shape(count, 64, 3))?;
-    for widths in [EAN13, EAN8, GS1_128] {
+    let rows: &[&[u16]] = &[EAN13, EAN8, GS1_128];
+    for &widths in rows {
         for lane in 0..count {
             hub.submit(rt, alloc, usize::from(lane), row(alloc, widths)?)?;
             hub.work(rt, usize::from(count - 1 - lane))?;
@@ -220,7 +221,8 @@ fn answers_each_lane<R: Wait + AllocGlobal + Abort>(rt: &R, count: u8) -> Result
 
 #[test]
 fn hubs_of_each_size_answer_each_lane(rt: HostRuntime) -> Result<(), Fail> {
-    for count in [1, 3, 16] {
+    let counts: &[u8] = &[1, 3, 16];
+    for &count in counts {
         answers_each_lane(&rt, count)?;
     }
     Ok(())
@@ -265,8 +267,9 @@ fn submits_three_of_each<R: Wait + AllocGlobal + Abort>(
     hub: &mut Station,
 ) -> Result<(), Fail> {
     let alloc = rt.alloc();
+    let rows: &[(u32, &[u16])] = &[(0, EAN13), (1, EAN8), (2, GS1_128)];
     for lane in 0..MOST {
-        for (number, widths) in [(0, EAN13), (1, EAN8), (2, GS1_128)] {
+        for &(number, widths) in rows {
             let (ticket, rounds) = submitted(rt, hub, lane, row(alloc, widths)?)?;
             assert_eq!(*rt; ticket, Ticket { lane, number });
             assert_eq!(*rt; rounds > 0, ticket != Ticket { lane: 0, number: 0 });
@@ -366,9 +369,8 @@ fn is_refused<R: Wait + AllocGlobal>(rt: &R, shape: Shape, year: Year) -> bool {
 
 #[test]
 fn shapes_have_limits(rt: HostRuntime) -> Result<(), Fail> {
-    let alloc = rt.alloc();
     let year = Year::new(2026).ok_or("year")?;
-    let cases = [
+    let counts: &[(u8, u8, u16, u32)] = &[
         (0, 1, 1, 1),
         (17, 1, 1, 1),
         (1, 0, 1, 1),
@@ -377,7 +379,7 @@ fn shapes_have_limits(rt: HostRuntime) -> Result<(), Fail> {
         (1, 1, 1_025, 1),
         (1, 1, 1, 0),
     ];
-    for (lanes, workers, capacity, limit) in cases {
+    for &(lanes, workers, capacity, limit) in counts {
         let shape = Shape {
             lanes,
             workers,
@@ -386,13 +388,25 @@ fn shapes_have_limits(rt: HostRuntime) -> Result<(), Fail> {
         };
         assert!(rt; is_refused(&rt, shape, year), "{shape:?}");
     }
+    Ok(())
+}
+
+#[test]
+fn the_largest_shape_has_a_hub(rt: HostRuntime) -> Result<(), Fail> {
+    let year = Year::new(2026).ok_or("year")?;
     let largest = Shape {
         lanes: 16,
         workers: 16,
         capacity: 1_024,
         limit: u32::MAX,
     };
-    assert!(rt; Hub::new(&rt, alloc, largest, year).is_ok());
+    assert!(rt; Hub::new(&rt, rt.alloc(), largest, year).is_ok());
+    Ok(())
+}
+
+#[test]
+fn faults_of_hubs_are_named(rt: HostRuntime) -> Result<(), Fail> {
+    let alloc = rt.alloc();
     let text = format!(in alloc; "{} {}", HubFault::BadCount, HubFault::NoMemory)?;
     assert_eq!(rt; text.as_str(), "refused 33 BadCount refused 43 NoMemory");
     Ok(())

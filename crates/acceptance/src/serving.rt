@@ -7,6 +7,7 @@ use hub_core::{Gate, OpenGate, serve};
 use lane_core::{Delivery, Ticket};
 use scan_core::Runs;
 use std::alloc::Global;
+use std::process::Abort;
 use std::sync::Wait;
 use std::test::Fail;
 use std::thread::Threads;
@@ -83,38 +84,65 @@ fn a_worker_that_is_held_holds_no_other_row(rt: HostRuntime) -> Result<(), Fail>
     Ok(())
 }
 
-#[test]
-fn many_rows_and_workers_change_no_order(rt: HostRuntime) -> Result<(), Fail> {
+/// How many rows a lane is fed.
+fn count_of(lane: u8) -> u16 {
+    u16::from(lane) * 40
+}
+
+/// The widths of a lane's row of this number.
+fn widths_of(lane: u8, number: u16) -> &'static [u16] {
+    if (u32::from(lane) + u32::from(number)) % 3 == 0 {
+        EAN13
+    } else {
+        EAN8
+    }
+}
+
+/// The feeds of sixteen lanes.
+fn long_feeds(alloc: Global) -> Result<Vec<Vec<Runs>>, Fail> {
+    let mut feeds = Vec::new(alloc);
+    for lane in 0..16 {
+        let mut feed = Vec::new(alloc);
+        for number in 0..count_of(lane) {
+            feed.push(row(alloc, widths_of(lane, number))?)?;
+        }
+        feeds.push(feed)?;
+    }
+    Ok(feeds)
+}
+
+/// That a lane's deliveries are those of its feed, in their order.
+fn are_of_the_feed<R: Abort>(rt: &R, lane: u8, list: &[Delivery]) -> Result<(), Fail> {
+    assert_eq!(*rt; list.len(), usize::from(count_of(lane)));
+    for number in 0..count_of(lane) {
+        let delivery = list.get(usize::from(number)).ok_or("a delivery")?;
+        assert_eq!(*rt; delivery.ticket().number, u32::from(number));
+        assert_eq!(*rt; delivery.row().widths(), widths_of(lane, number));
+    }
+    Ok(())
+}
+
+/// That so many workers serve the sixteen feeds, each in its order.
+fn serve_in_order<R: Threads + Wait + AllocGlobal + Sync + Abort>(
+    rt: &R,
+    workers: u8,
+) -> Result<(), Fail> {
     let alloc = rt.alloc();
     let year = Year::new(2026).ok_or("year")?;
-    for workers in [1, 4, 16] {
-        let mut rows = Vec::new(alloc);
-        for lane in 0..16usize {
-            let mut feed = Vec::new(alloc);
-            for number in 0..lane * 40 {
-                let widths = if (lane + number) % 3 == 0 {
-                    EAN13
-                } else {
-                    EAN8
-                };
-                feed.push(row(alloc, widths)?)?;
-            }
-            rows.push(feed)?;
-        }
-        let lists = serve(&rt, alloc, rows, workers, year, &OpenGate)?;
-        assert_eq!(rt; lists.len(), 16);
-        for (lane, list) in lists.iter().enumerate() {
-            assert_eq!(rt; list.len(), lane * 40);
-            for (number, delivery) in list.iter().enumerate() {
-                let wanted = if (lane + number) % 3 == 0 {
-                    EAN13
-                } else {
-                    EAN8
-                };
-                assert_eq!(rt; delivery.ticket().number as usize, number);
-                assert_eq!(rt; delivery.row().widths(), wanted);
-            }
-        }
+    let lists = serve(rt, alloc, long_feeds(alloc)?, workers, year, &OpenGate)?;
+    assert_eq!(*rt; lists.len(), 16);
+    for lane in 0..16 {
+        let list = lists.get(usize::from(lane)).ok_or("a list")?;
+        are_of_the_feed(rt, lane, list.as_slice())?;
+    }
+    Ok(())
+}
+
+#[test]
+fn many_rows_and_workers_change_no_order(rt: HostRuntime) -> Result<(), Fail> {
+    let worker_counts: &[u8] = &[1, 4, 16];
+    for &workers in worker_counts {
+        serve_in_order(&rt, workers)?;
     }
     Ok(())
 }
@@ -150,7 +178,8 @@ fn any_number_of_workers_serves_the_same(rt: HostRuntime) -> Result<(), Fail> {
                   2: 2/2 61 Read { carrier: Ean13\n\
                   2: 2/3 45 Read { carrier: Ean8\n\
                   2: 2/4 1 Refused(Blank)\n";
-    for workers in [1, 2, 3, 16] {
+    let worker_counts: &[u8] = &[1, 2, 3, 16];
+    for &workers in worker_counts {
         let lists = serve(&rt, alloc, feeds(alloc, lanes)?, workers, year, &OpenGate)?;
         assert_eq!(rt; lists.len(), 3);
         let text = shown(alloc, lists.as_slice())?;

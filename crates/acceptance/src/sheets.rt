@@ -210,9 +210,21 @@ fn prints_a_label_as_its_bytes(rt: HostRuntime) -> Result<(), Fail> {
     let (bytes, outcome) = printed(alloc, &labels, grid);
     assert_eq!(rt; outcome, Ok(()));
     assert_eq!(rt; bytes.as_slice(), PRINTED);
-    let (bytes, outcome) = printed(alloc, &[], grid);
+    Ok(())
+}
+
+#[test]
+fn prints_no_bytes_without_labels(rt: HostRuntime) -> Result<(), Fail> {
+    let grid = Grid::new(1, 113, 3, 1, 1).ok().ok_or("grid")?;
+    let (bytes, outcome) = printed(rt.alloc(), &[], grid);
     assert_eq!(rt; outcome, Ok(()));
     assert_eq!(rt; bytes.len(), 0);
+    Ok(())
+}
+
+#[test]
+fn writes_what_it_reads(rt: HostRuntime) -> Result<(), Fail> {
+    let alloc = rt.alloc();
     let read = read(alloc, PRINTED).ok().ok_or("read")?;
     let again = written(alloc, read.as_slice())?;
     assert_eq!(rt; again.as_slice(), PRINTED);
@@ -220,15 +232,11 @@ fn prints_a_label_as_its_bytes(rt: HostRuntime) -> Result<(), Fail> {
 }
 
 #[test]
-fn prints_labels_that_fit(rt: HostRuntime) -> Result<(), Fail> {
+fn prints_ean13_and_upc_labels_that_fit(rt: HostRuntime) -> Result<(), Fail> {
     let number = gtin("9501101530003")?;
     let suppressed = gtin("012345000065")?;
-    let short = gtin("96385074")?;
     let wide = Grid::new(2, 226, 5, 2, 2).ok().ok_or("wide")?;
     let narrow = Grid::new(2, 225, 5, 2, 2).ok().ok_or("narrow")?;
-    let few = Grid::new(1, 81, 3, 1, 1).ok().ok_or("few")?;
-    let case = Grid::new(1, 155, 3, 1, 1).ok().ok_or("case")?;
-    let slim = Grid::new(1, 154, 3, 1, 1).ok().ok_or("slim")?;
     for (label, grid, wanted) in [
         (Label::Ean13(number), wide, "1 sheets"),
         (Label::Ean13(number), narrow, "refused 27 LabelWidth 0"),
@@ -236,6 +244,21 @@ fn prints_labels_that_fit(rt: HostRuntime) -> Result<(), Fail> {
         (Label::UpcA(number), wide, "refused 26 LabelKind 0"),
         (Label::UpcE(suppressed), wide, "1 sheets"),
         (Label::UpcE(number), wide, "refused 26 LabelKind 0"),
+    ] {
+        prints(&rt, &[label], grid, wanted)?;
+    }
+    Ok(())
+}
+
+#[test]
+fn prints_itf14_and_ean8_labels_that_fit(rt: HostRuntime) -> Result<(), Fail> {
+    let number = gtin("9501101530003")?;
+    let short = gtin("96385074")?;
+    let wide = Grid::new(2, 226, 5, 2, 2).ok().ok_or("wide")?;
+    let few = Grid::new(1, 81, 3, 1, 1).ok().ok_or("few")?;
+    let case = Grid::new(1, 155, 3, 1, 1).ok().ok_or("case")?;
+    let slim = Grid::new(1, 154, 3, 1, 1).ok().ok_or("slim")?;
+    for (label, grid, wanted) in [
         (Label::Itf14(number), case, "1 sheets"),
         (Label::Itf14(number), slim, "refused 27 LabelWidth 0"),
         (Label::Itf14(short), case, "1 sheets"),
@@ -256,6 +279,17 @@ fn answers_the_first_label_that_is_not_printed(rt: HostRuntime) -> Result<(), Fa
     prints(&rt, &labels, narrow, "refused 27 LabelWidth 0")?;
     prints(&rt, &labels, wide, "refused 26 LabelKind 1")?;
     prints(&rt, &[], wide, "0 sheets")
+}
+
+/// That a row of 113 dots has no dark dot.
+fn is_light<R: Abort>(rt: &R, row: &Runs) {
+    assert_eq!(*rt; row.widths(), [113].as_slice());
+}
+
+/// That a row begins with so many light dots, and has so many runs.
+fn begins_with<R: Abort>(rt: &R, row: &Runs, left: u16, runs: usize) {
+    assert_eq!(*rt; row.widths().first(), Some(&left));
+    assert_eq!(*rt; row.widths().len(), runs);
 }
 
 #[test]
@@ -292,14 +326,19 @@ fn fills_sheets_row_by_row(rt: HostRuntime) -> Result<(), Fail> {
     for &(sheet, cell, left, runs) in cases {
         let sheet = sheets.get(sheet).ok_or("sheet")?;
         let found = row_of_cell(alloc, sheet, &grid, shape, cell, 1)?;
-        assert_eq!(rt; found.widths().first(), Some(&left));
-        assert_eq!(rt; found.widths().len(), runs);
+        begins_with(&rt, &found, left, runs);
         let above = row_of_cell(alloc, sheet, &grid, shape, cell, 0)?;
-        assert_eq!(rt; above.widths(), [113].as_slice());
+        is_light(&rt, &above);
         let below = row_of_cell(alloc, sheet, &grid, shape, cell, 2)?;
-        assert_eq!(rt; below.widths(), [113].as_slice());
+        is_light(&rt, &below);
     }
-    assert_eq!(rt; labels[1].text().as_slice(), b"0100000096385074".as_slice());
+    Ok(())
+}
+
+#[test]
+fn a_label_has_its_text(rt: HostRuntime) -> Result<(), Fail> {
+    let label = Label::Ean8(gtin("96385074")?);
+    assert_eq!(rt; label.text().as_slice(), b"0100000096385074".as_slice());
     Ok(())
 }
 
@@ -333,8 +372,8 @@ fn reads_images(rt: HostRuntime) -> Result<(), Fail> {
 
 #[test]
 fn counts_the_images_of_a_file(rt: HostRuntime) -> Result<(), Fail> {
-    for (file, wanted) in [
-        (b"".as_slice(), "0 sheets"),
+    let files: &[(&[u8], &str)] = &[
+        (b"", "0 sheets"),
         (b"P1\n# a\n10 2\n\xAA\x80\x55\x40", "refused 28 NotP4"),
         (b"P4\n# a\n10 2\n\xAA\x80\x55", "refused 30 Truncated"),
         (b"P4\n# a\n0 2\n", "refused 31 PbmSize"),
@@ -346,7 +385,8 @@ fn counts_the_images_of_a_file(rt: HostRuntime) -> Result<(), Fail> {
         (b"P4 1 1 \x80P4 1 1 \x00", "2 sheets"),
         (b"P4 1 1 \x80\n", "refused 28 NotP4"),
         (b"P4 1 1 \x80P", "refused 30 Truncated"),
-    ] {
+    ];
+    for &(file, wanted) in files {
         answers(&rt, file, wanted)?;
     }
     Ok(())
@@ -436,9 +476,23 @@ fn prints_fronts_of_files(rt: HostRuntime) -> Result<(), Fail> {
     Ok(())
 }
 
+/// That labels are printed as the bytes that their sheets are written as.
+fn prints_as_written<R: AllocGlobal + Abort>(
+    rt: &R,
+    labels: &[Label],
+    grid: Grid,
+) -> Result<(), Fail> {
+    let alloc = rt.alloc();
+    let sheets = print_sheets(alloc, labels, grid).ok().ok_or("print")?;
+    let wanted = written(alloc, sheets.as_slice())?;
+    let (found, outcome) = printed(alloc, labels, grid);
+    assert_eq!(*rt; outcome, Ok(()));
+    assert_eq!(*rt; found.as_slice(), wanted.as_slice());
+    Ok(())
+}
+
 #[test]
 fn prints_the_bytes_of_sheets(rt: HostRuntime) -> Result<(), Fail> {
-    let alloc = rt.alloc();
     let labels = [
         Label::Gs1128(elements("10AB\x1d17261231", 2026)?),
         Label::Ean13(gtin("9501101530003")?),
@@ -447,18 +501,14 @@ fn prints_the_bytes_of_sheets(rt: HostRuntime) -> Result<(), Fail> {
         Label::Gs1128(elements("17000229", 2026)?),
     ];
     // In the last grid several pieces make up the bars of a row of cells.
-    for (module, width, height, columns, rows) in [
+    let grids: &[(u16, u16, u16, u16, u16)] = &[
         (1, 250, 3, 1, 1),
         (2, 400, 12, 3, 3),
         (3, 683, 200, 2, 1),
-    ] {
+    ];
+    for &(module, width, height, columns, rows) in grids {
         let grid = Grid::new(module, width, height, columns, rows);
-        let grid = grid.ok().ok_or("grid")?;
-        let sheets = print_sheets(alloc, &labels, grid).ok().ok_or("print")?;
-        let wanted = written(alloc, sheets.as_slice())?;
-        let (found, outcome) = printed(alloc, &labels, grid);
-        assert_eq!(rt; outcome, Ok(()));
-        assert_eq!(rt; found.as_slice(), wanted.as_slice());
+        prints_as_written(&rt, &labels, grid.ok().ok_or("grid")?)?;
     }
     Ok(())
 }
@@ -466,10 +516,11 @@ fn prints_the_bytes_of_sheets(rt: HostRuntime) -> Result<(), Fail> {
 #[test]
 fn reads_itf14_rows(rt: HostRuntime) -> Result<(), Fail> {
     let alloc = rt.alloc();
-    for (widths, wanted) in [
+    let rows: &[(&[u16], &str)] = &[
         (ITF14, "]I1 (01)09501101530003"),
         (ITF14_WRONG, "refused 24 SymbolCheckDigit"),
-    ] {
+    ];
+    for &(widths, wanted) in rows {
         let mut runs = Runs::of_widths(alloc, widths).ok().ok_or("row")?;
         says(&rt, &runs, 2026, wanted)?;
         runs.reverse();

@@ -111,6 +111,19 @@ fn printed<R: Threads + Wait + AllocGlobal + Sync>(
     outcome(rt, Asked::Lanes(options), input.as_bytes())
 }
 
+/// That `lanes` by so many workers prints this.
+fn prints_lanes<R: Threads + Wait + AllocGlobal + Sync + Abort>(
+    rt: &R,
+    lanes: u8,
+    workers: u8,
+    input: &str,
+    wanted: &str,
+) -> Result<(), Fail> {
+    let found = printed(rt, lanes, workers, input)?;
+    same(rt, input, found.as_str(), wanted);
+    Ok(())
+}
+
 #[test]
 fn answers_each_row(rt: HostRuntime) -> Result<(), Fail> {
     let alloc = rt.alloc();
@@ -127,42 +140,43 @@ fn answers_each_row(rt: HostRuntime) -> Result<(), Fail> {
     for &(left, symbol, right, answer) in cases {
         let input = format!(in alloc; "0,{left} {symbol} {right}\n")?;
         let wanted = format!(in alloc; "0 0 {answer}\n")?;
-        let found = printed(&rt, 1, 1, input.as_str())?;
-        same(&rt, input.as_str(), found.as_str(), wanted.as_str());
+        prints_lanes(&rt, 1, 1, input.as_str(), wanted.as_str())?;
     }
-    for width in ["0", "100", "65535"] {
-        let input = format!(in alloc; "0,{width}")?;
-        let found = printed(&rt, 1, 1, input.as_str())?;
-        same(
-            &rt,
-            input.as_str(),
-            found.as_str(),
-            "0 0 refused 19 Blank\n",
-        );
+    Ok(())
+}
+
+#[test]
+fn answers_blank_rows(rt: HostRuntime) -> Result<(), Fail> {
+    let widths: &[&str] = &["0", "100", "65535"];
+    for &width in widths {
+        let input = format!(in rt.alloc(); "0,{width}")?;
+        prints_lanes(&rt, 1, 1, input.as_str(), "0 0 refused 19 Blank\n")?;
     }
     Ok(())
 }
 
 #[test]
 fn orders_lines_by_lane_and_number(rt: HostRuntime) -> Result<(), Fail> {
-    let alloc = rt.alloc();
-    let mixed = format!(in alloc; "2,100\n1,11 {SYMBOL} 7\n\n02,0 9 0\n\"1\",\"100\"\n00,0\n")?;
-    for (lanes, input, wanted) in [
+    let inputs: &[(u8, &str, &str)] = &[
         (1, "", ""),
         (16, "\n\n", ""),
         (16, "15,0", "15 0 refused 19 Blank\n"),
         (1, "\u{feff}0,7\r\n", "0 0 refused 19 Blank\n"),
-        (
-            3,
-            mixed.as_str(),
-            "0 0 refused 19 Blank\n1 0 ]E0 (01)09501101530003\n1 1 refused 19 Blank\n\
-             2 0 refused 19 Blank\n2 1 refused 20 RunCount\n",
-        ),
-    ] {
-        let found = printed(&rt, lanes, 1, input)?;
-        same(&rt, input, found.as_str(), wanted);
+    ];
+    for &(lanes, input, wanted) in inputs {
+        prints_lanes(&rt, lanes, 1, input, wanted)?;
     }
-    let mut many = String::new(alloc);
+    let mixed = format!(in rt.alloc();
+        "2,100\n1,11 {SYMBOL} 7\n\n02,0 9 0\n\"1\",\"100\"\n00,0\n"
+    )?;
+    let wanted = "0 0 refused 19 Blank\n1 0 ]E0 (01)09501101530003\n1 1 refused 19 Blank\n\
+                  2 0 refused 19 Blank\n2 1 refused 20 RunCount\n";
+    prints_lanes(&rt, 3, 1, mixed.as_str(), wanted)
+}
+
+#[test]
+fn orders_eleven_lines_of_a_lane(rt: HostRuntime) -> Result<(), Fail> {
+    let mut many = String::new(rt.alloc());
     for _ in 0..11 {
         many.push_str("0,0\n")?;
     }
@@ -188,16 +202,16 @@ fn reads_lanes_by_any_number_of_workers(rt: HostRuntime) -> Result<(), Fail> {
                   2 3 ]E4 (01)00000096385074\n\
                   2 4 ]C1 (422)528\n";
     let beyond = format!(in alloc; "3,11 {SYMBOL} 7\n{input}")?;
-    for workers in [1, 2, 16] {
-        let found = printed(&rt, 3, workers, input.as_str())?;
-        same(&rt, input.as_str(), found.as_str(), wanted);
-        let found = printed(&rt, 3, workers, beyond.as_str())?;
-        same(
+    let worker_counts: &[u8] = &[1, 2, 16];
+    for &workers in worker_counts {
+        prints_lanes(&rt, 3, workers, input.as_str(), wanted)?;
+        prints_lanes(
             &rt,
+            3,
+            workers,
             beyond.as_str(),
-            found.as_str(),
             "record 0: refused 41 BadLane",
-        );
+        )?;
     }
     Ok(())
 }
@@ -232,8 +246,7 @@ fn refuses_faulty_records(rt: HostRuntime) -> Result<(), Fail> {
         ("0,99999\n7,\n0\n", "record 0: refused 17 TooWide"),
     ];
     for (input, wanted) in cases {
-        let found = printed(&rt, 2, 1, input)?;
-        same(&rt, input, found.as_str(), wanted);
+        prints_lanes(&rt, 2, 1, input, wanted)?;
     }
     Ok(())
 }

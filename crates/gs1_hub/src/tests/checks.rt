@@ -136,7 +136,8 @@ fn checks_element_strings(rt: HostRuntime) -> Result<(), Fail> {
 /// A record whose text has 187 bytes and the end that is given.
 fn long_record(alloc: Global, end: &str) -> Result<String, Fail> {
     let mut record = String::from_str(alloc, "text,")?;
-    for start in ["91", "^92"] {
+    let starts: &[&str] = &["91", "^92"];
+    for &start in starts {
         record.push_str(start)?;
         for _ in 0..90 {
             record.push_str("A")?;

@@ -1,6 +1,7 @@
 //! Numbers: outside vectors, and each refusal once.
 
 use digits_core::{Gtin, check_digit, upce_expand, upce_suppress};
+use std::process::Abort;
 use std::test::Fail;
 
 #[test]
@@ -11,19 +12,38 @@ fn reads_numbers(rt: HostRuntime) -> Result<(), Fail> {
     let thirteen = gtin.as13().ok_or("13 digits")?;
     assert_eq!(rt; thirteen.as_slice(), b"9501101530003".as_slice());
     assert!(rt; gtin.as12().is_none() && gtin.as8().is_none());
+    Ok(())
+}
+
+#[test]
+fn reads_a_number_of_eight_digits(rt: HostRuntime) -> Result<(), Fail> {
     let gtin = Gtin::read(b"96385074").ok().ok_or("a number")?;
     let eight = gtin.as8().ok_or("8 digits")?;
     let twelve = gtin.as12().ok_or("12 digits")?;
     assert_eq!(rt; eight.as_slice(), b"96385074".as_slice());
     assert_eq!(rt; twelve.as_slice(), b"000096385074".as_slice());
-    for (text, fault) in [
-        (b"123".as_slice(), "refused 1 Length"),
-        (b"950110153000X".as_slice(), "refused 2 NotDigit 12"),
-        (b"9501101530004".as_slice(), "refused 3 CheckDigit"),
-    ] {
+    Ok(())
+}
+
+#[test]
+fn refuses_what_is_no_number(rt: HostRuntime) -> Result<(), Fail> {
+    let texts: &[(&[u8], &str)] = &[
+        (b"123", "refused 1 Length"),
+        (b"950110153000X", "refused 2 NotDigit 12"),
+        (b"9501101530004", "refused 3 CheckDigit"),
+    ];
+    for &(text, fault) in texts {
         let found = Gtin::read(text).err().ok_or("a fault")?;
         assert_eq!(rt; found.to_string(rt.alloc())?.as_str(), fault);
     }
+    Ok(())
+}
+
+/// That a number is suppressed to these six digits and this check digit.
+fn is_suppressed<R: Abort>(rt: &R, gtin: &Gtin, six: &[u8; 6], check: u8) -> Result<(), Fail> {
+    let (again, last) = upce_suppress(gtin).ok_or("six digits")?;
+    assert_eq!(*rt; again.as_slice(), six.as_slice());
+    assert_eq!(*rt; last, check);
     Ok(())
 }
 
@@ -40,10 +60,13 @@ fn suppresses_zeros(rt: HostRuntime) -> Result<(), Fail> {
     for &(six, check, digits) in cases {
         let gtin = upce_expand(six, check).ok_or("a number")?;
         assert_eq!(rt; gtin.digits14().as_slice(), digits.as_slice());
-        let (again, last) = upce_suppress(&gtin).ok_or("six digits")?;
-        assert_eq!(rt; again.as_slice(), six.as_slice());
-        assert_eq!(rt; last, check);
+        is_suppressed(&rt, &gtin, &six, check)?;
     }
+    Ok(())
+}
+
+#[test]
+fn suppresses_to_one_form_or_none(rt: HostRuntime) -> Result<(), Fail> {
     let gtin = upce_expand(*b"120003", b'3').ok_or("a number")?;
     let (first, _) = upce_suppress(&gtin).ok_or("six digits")?;
     assert_eq!(rt; first.as_slice(), b"120000".as_slice());

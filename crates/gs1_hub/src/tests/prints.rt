@@ -70,9 +70,25 @@ pub fn push_image(
     Ok(())
 }
 
+/// That so many records of the label, in cells of so many rows, are printed as these images.
+fn prints_images<R: Threads + Wait + AllocGlobal + Sync + Abort>(
+    rt: &R,
+    rows: u16,
+    records: usize,
+    images: &[u8],
+) -> Result<(), Fail> {
+    let mut input = String::new(rt.alloc());
+    for _ in 0..records {
+        input.push_str(RECORD)?;
+    }
+    let asked = printing(113, 3, 1, rows, Output::Images)?;
+    let found = printed(rt, asked, input.as_str())?;
+    assert_eq!(*rt; found.as_slice(), images);
+    Ok(())
+}
+
 #[test]
 fn prints_sheets(rt: HostRuntime) -> Result<(), Fail> {
-    let alloc = rt.alloc();
     let cases: &[(u16, &[u8], usize, usize, usize, usize)] = &[
         (1, LOW, 0, 0, 0, 0),
         (1, LOW, 1, 1, 1, 0),
@@ -81,20 +97,11 @@ fn prints_sheets(rt: HostRuntime) -> Result<(), Fail> {
         (2, HIGH, 2, 1, 2, 0),
     ];
     for &(rows, header, records, images, labelled, light) in cases {
-        let mut input = String::new(alloc);
-        for _ in 0..records {
-            input.push_str(RECORD)?;
-        }
-        let mut wanted = Vec::new(alloc);
+        let mut wanted = Vec::new(rt.alloc());
         for _ in 0..images {
             push_image(&mut wanted, header, labelled, light)?;
         }
-        let found = printed(
-            &rt,
-            printing(113, 3, 1, rows, Output::Images)?,
-            input.as_str(),
-        )?;
-        assert_eq!(rt; found.as_slice(), wanted.as_slice());
+        prints_images(&rt, rows, records, wanted.as_slice())?;
     }
     Ok(())
 }
@@ -124,7 +131,8 @@ fn refuses_labels<R: Threads + Wait + AllocGlobal + Sync + Abort>(
     input: &str,
     wanted: &str,
 ) -> Result<(), Fail> {
-    for output in [Output::Images, Output::Lines] {
+    let outputs: &[Output] = &[Output::Images, Output::Lines];
+    for &output in outputs {
         gives(
             rt,
             printing(113, 3, 2, 2, output)?,

@@ -24,6 +24,9 @@ const ITF14: &str =
 
 const STOP: &str = "2331112";
 
+// (17)000229 as Code 128, from its start to its check character.
+const DATE: &str = "211232 411131 123221 212222 222221 322211 124211";
+
 /// A row: a light end, the widths of the groups at so many dots a module, and another light end.
 fn row(alloc: Global, ends: (u16, u16), groups: &str, dots: u16) -> Result<Vec<u16>, AllocError> {
     let mut widths = Vec::new(alloc);
@@ -130,12 +133,13 @@ fn code128_says<R: Threads + Wait + AllocGlobal + Sync + Abort>(
 
 #[test]
 fn reads_each_carrier(rt: HostRuntime) -> Result<(), Fail> {
-    for (ends, groups, answer) in [
+    let symbols: &[((u16, u16), &str, &str)] = &[
         ((11, 7), EAN13, "]E0 (01)09501101530003"),
         ((7, 7), EAN8, "]E4 (01)00000096385074"),
         ((9, 7), UPCE, "]E0 (01)00012345000065"),
         ((10, 10), ITF14, "]I1 (01)09501101530003"),
-    ] {
+    ];
+    for &(ends, groups, answer) in symbols {
         groups_say(&rt, ends, groups, 1, answer)?;
     }
     Ok(())
@@ -143,8 +147,7 @@ fn reads_each_carrier(rt: HostRuntime) -> Result<(), Fail> {
 
 #[test]
 fn reads_code_128_under_a_year(rt: HostRuntime) -> Result<(), Fail> {
-    let date = "211232 411131 123221 212222 222221 322211 124211";
-    for (characters, year, answer) in [
+    let symbols: &[(&str, u16, &str)] = &[
         // 43 runs, as an EAN-8 has.
         (
             "211232 411131 112133 321122 322112 121421",
@@ -163,9 +166,10 @@ fn reads_code_128_under_a_year(rt: HostRuntime) -> Result<(), Fail> {
             "refused 9 ValueDate 0",
         ),
         // A date under two reference years.
-        (date, 2026, "]C1 (17)000229"),
-        (date, 2060, "refused 9 ValueDate 0"),
-    ] {
+        (DATE, 2026, "]C1 (17)000229"),
+        (DATE, 2060, "refused 9 ValueDate 0"),
+    ];
+    for &(characters, year, answer) in symbols {
         code128_says(&rt, characters, year, answer)?;
     }
     Ok(())
@@ -243,7 +247,7 @@ fn reads_itf14_in_each_ratio(rt: HostRuntime) -> Result<(), Fail> {
 
 #[test]
 fn refuses_wrong_itf14_symbols(rt: HostRuntime) -> Result<(), Fail> {
-    for (groups, answer) in [
+    let symbols: &[(&str, &str)] = &[
         // The last pair 04 in place of 03.
         (
             "1111 1113313311 3111331311 3311111133 1311313113 3313311111 1111333311 1111333113 311",
@@ -258,34 +262,45 @@ fn refuses_wrong_itf14_symbols(rt: HostRuntime) -> Result<(), Fail> {
             "1311 1113313311 3111331311 3311111133 1311313113 3313311111 1111333311 1313313111 311",
             "refused 23 Pattern",
         ),
-    ] {
+    ];
+    for &(groups, answer) in symbols {
         itf14_says(&rt, 10, groups, (1, 3), answer)?;
         itf14_says(&rt, 40, groups, (4, 12), answer)?;
     }
     Ok(())
 }
 
+/// That a row of so many runs between light ends, each of nine dots, has this answer in 2026.
+fn runs_say<R: Threads + Wait + AllocGlobal + Sync + Abort>(
+    rt: &R,
+    count: u16,
+    answer: &str,
+) -> Result<(), Fail> {
+    let mut widths = Vec::new(rt.alloc());
+    widths.push(100)?;
+    for _ in 0..count {
+        widths.push(9)?;
+    }
+    widths.push(100)?;
+    says(rt, widths.as_slice(), 2026, answer)
+}
+
 #[test]
 fn refuses_rows_of_no_carrier(rt: HostRuntime) -> Result<(), Fail> {
-    let alloc = rt.alloc();
-    for width in [0, 100, 65_535] {
+    let light_widths: &[u16] = &[0, 100, 65_535];
+    for &width in light_widths {
         says(&rt, &[width], 2026, "refused 19 Blank")?;
     }
     says(&rt, &[0, 65_535, 0], 2026, "refused 20 RunCount")?;
-    for (count, answer) in [
+    let run_counts: &[(u16, &str)] = &[
         (19, "refused 20 RunCount"),
         (25, "refused 23 Pattern"),
         (57, "refused 20 RunCount"),
         (595, "refused 23 Pattern"),
         (601, "refused 20 RunCount"),
-    ] {
-        let mut widths = Vec::new(alloc);
-        widths.push(100)?;
-        for _ in 0..count {
-            widths.push(9)?;
-        }
-        widths.push(100)?;
-        says(&rt, widths.as_slice(), 2026, answer)?;
+    ];
+    for &(count, answer) in run_counts {
+        runs_say(&rt, count, answer)?;
     }
     Ok(())
 }
@@ -329,7 +344,8 @@ fn reads_the_longest_symbol(rt: HostRuntime) -> Result<(), Fail> {
     // 595 runs: 98 start, data and check characters.
     let mut characters = String::from_str(alloc, "211232 411131 221231 231212 412121")?;
     let mut answer = String::from_str(alloc, "]C1 (20)11(91)")?;
-    for (last, tail) in [(" 411131 111143", "(92)"), (" 111323", "")] {
+    let ends: &[(&str, &str)] = &[(" 411131 111143", "(92)"), (" 111323", "")];
+    for &(last, tail) in ends {
         for _ in 0..45 {
             characters.push_str(" 212222")?;
             answer.push_str("00")?;

@@ -19,7 +19,7 @@ use std::thread::Threads;
 const LABELS: &str = "ean13,9501101530003\nupca,012345000065\nean8,96385074\nupce,012345000065\n\
                       gs1128,0109501101530003^17261231\nitf14,09501101530003\n";
 
-// The line of the label that is drawn by hand.
+// The line of the label that is drawn by hand, of 27 bytes.
 const LINE: &str = "0 0 ]E0 (01)09501101530003\n";
 
 /// The command `scan` at one dot a module, by a worker and under the year 2026.
@@ -114,19 +114,37 @@ fn reads_the_middle_rows_of_cells(rt: HostRuntime) -> Result<(), Fail> {
 #[test]
 fn reads_dates_by_the_year(rt: HostRuntime) -> Result<(), Fail> {
     let bytes = images(&rt, 1, 1, "gs1128,17000229\n")?;
-    for (year, wanted) in [
+    let years: &[(u16, &str)] = &[
         (2026, "0 0 ]C1 (17)000229\n"),
         (2060, "0 0 refused 9 ValueDate 0\n"),
-    ] {
+    ];
+    for &(year, wanted) in years {
         let options = ScanOptions::new(1, 211, 3, 1, 1, 1, year).ok_or("options")?;
         gives(&rt, Asked::Scan(options), bytes.as_slice(), wanted)?;
     }
     Ok(())
 }
 
+/// That any number of workers reads the labels from images of so many columns and rows as these lines.
+fn any_workers_give<R: Threads + Wait + AllocGlobal + Sync + Abort>(
+    rt: &R,
+    columns: u16,
+    rows: u16,
+    wanted: &str,
+) -> Result<(), Fail> {
+    let bytes = images(rt, columns, rows, LABELS)?;
+    let worker_counts: &[u8] = &[1, 2, 3, 16];
+    for &workers in worker_counts {
+        let options = ScanOptions::new(1, 211, 3, columns, rows, workers, 2026);
+        let asked = Asked::Scan(options.ok_or("options")?);
+        gives(rt, asked, bytes.as_slice(), wanted)?;
+    }
+    Ok(())
+}
+
 #[test]
 fn orders_lines_by_column_and_number(rt: HostRuntime) -> Result<(), Fail> {
-    for (columns, rows, wanted) in [
+    let grids: &[(u16, u16, &str)] = &[
         (
             2,
             2,
@@ -165,20 +183,33 @@ fn orders_lines_by_column_and_number(rt: HostRuntime) -> Result<(), Fail> {
              0 8 refused 19 Blank\n\
              0 9 refused 19 Blank\n",
         ),
-    ] {
-        let bytes = images(&rt, columns, rows, LABELS)?;
-        for workers in [1, 2, 3, 16] {
-            let options = ScanOptions::new(1, 211, 3, columns, rows, workers, 2026);
-            let asked = Asked::Scan(options.ok_or("options")?);
-            gives(&rt, asked, bytes.as_slice(), wanted)?;
-        }
+    ];
+    for &(columns, rows, wanted) in grids {
+        any_workers_give(&rt, columns, rows, wanted)?;
     }
+    Ok(())
+}
+
+/// That an image of this header and so many light bytes is refused, alone and after an image that is taken.
+fn refuses_image<R: Threads + Wait + AllocGlobal + Sync + Abort>(
+    rt: &R,
+    header: &str,
+    count: usize,
+    wanted: &str,
+) -> Result<(), Fail> {
+    let bytes = light(rt.alloc(), header, count)?;
+    let found = scanned(rt, bytes.as_slice())?;
+    same(rt, header, found.as_str(), wanted);
+    let mut second = Vec::new(rt.alloc());
+    push_image(&mut second, LOW, 1, 0)?;
+    second.extend_from_slice(bytes.as_slice())?;
+    let found = scanned(rt, second.as_slice())?;
+    same(rt, header, found.as_str(), wanted);
     Ok(())
 }
 
 #[test]
 fn refuses_images(rt: HostRuntime) -> Result<(), Fail> {
-    let alloc = rt.alloc();
     let cases: &[(&str, usize, &str)] = &[
         ("P1\n113 3\n", 45, "refused 28 NotP4"),
         ("p4\n113 3\n", 45, "refused 28 NotP4"),
@@ -203,15 +234,7 @@ fn refuses_images(rt: HostRuntime) -> Result<(), Fail> {
         ("P4\n226 3\n", 87, "refused 31 PbmSize"),
     ];
     for &(header, count, wanted) in cases {
-        let bytes = light(alloc, header, count)?;
-        let found = scanned(&rt, bytes.as_slice())?;
-        same(&rt, header, found.as_str(), wanted);
-        // The same after an image that is taken.
-        let mut second = Vec::new(alloc);
-        push_image(&mut second, LOW, 1, 0)?;
-        second.extend_from_slice(bytes.as_slice())?;
-        let found = scanned(&rt, second.as_slice())?;
-        same(&rt, header, found.as_str(), wanted);
+        refuses_image(&rt, header, count, wanted)?;
     }
     Ok(())
 }
@@ -219,12 +242,13 @@ fn refuses_images(rt: HostRuntime) -> Result<(), Fail> {
 #[test]
 fn reads_all_images_before_their_sizes_count(rt: HostRuntime) -> Result<(), Fail> {
     let alloc = rt.alloc();
-    for (header, count, wanted) in [
+    let last_images: &[(&str, usize, &str)] = &[
         ("P4\n113 3\n", 45, "refused 31 PbmSize"),
         ("P4\n113 3\n", 44, "refused 30 Truncated"),
         ("P4\n113 x\n", 45, "refused 29 PbmHeader"),
         ("P1\n113 3\n", 45, "refused 28 NotP4"),
-    ] {
+    ];
+    for &(header, count, wanted) in last_images {
         let mut bytes = light(alloc, "P4\n113 4\n", 60)?;
         let last = light(alloc, header, count)?;
         bytes.extend_from_slice(last.as_slice())?;
@@ -236,18 +260,18 @@ fn reads_all_images_before_their_sizes_count(rt: HostRuntime) -> Result<(), Fail
 
 #[test]
 fn refuses_grids_before_reading(rt: HostRuntime) -> Result<(), Fail> {
-    for (module_dots, width, height, columns, rows) in [
+    let grids: &[(u16, u16, u16, u16, u16)] = &[
         (1, 113, 2, 1, 1),
         (2, 226, 4, 1, 1),
         (8, 904, 16, 1, 1),
         (1, 1025, 3, 16, 1),
         (1, 113, 257, 1, 64),
-    ] {
+    ];
+    for &(module_dots, width, height, columns, rows) in grids {
         let options = ScanOptions::new(module_dots, width, height, columns, rows, 1, 2026);
         let asked = Asked::Scan(options.ok_or("options")?);
-        for input in [b"".as_slice(), b"P1"] {
-            gives(&rt, asked, input, "refused 25 BadGrid")?;
-        }
+        gives(&rt, asked, b"", "refused 25 BadGrid")?;
+        gives(&rt, asked, b"P1", "refused 25 BadGrid")?;
         refuses(&rt, asked, &mut Breaking::new(b""), "refused 25 BadGrid")?;
     }
     Ok(())
@@ -259,7 +283,8 @@ fn passes_failed_reads_on(rt: HostRuntime) -> Result<(), Fail> {
     push_image(&mut bytes, LOW, 1, 0)?;
     push_image(&mut bytes, LOW, 1, 0)?;
     // Before the first image, in its header, in its dots, and after its last byte.
-    for count in [0, 1, 8, 9, 40, 54, 55, 108] {
+    let counts: &[usize] = &[0, 1, 8, 9, 40, 54, 55, 108];
+    for &count in counts {
         let mut source = Breaking::new(bytes.as_slice().get(..count).ok_or("a front")?);
         refuses(
             &rt,
@@ -301,7 +326,8 @@ fn writes_to<R: Threads + Wait + AllocGlobal + Sync + Abort>(
 fn passes_failed_writes_on(rt: HostRuntime) -> Result<(), Fail> {
     let mut bytes = Vec::new(rt.alloc());
     push_image(&mut bytes, LOW, 1, 0)?;
-    for room in [0, 1, 26, LINE.len()] {
+    let rooms: &[usize] = &[0, 1, 26, 27];
+    for &room in rooms {
         writes_to(&rt, bytes.as_slice(), room)?;
     }
     Ok(())
@@ -309,7 +335,7 @@ fn passes_failed_writes_on(rt: HostRuntime) -> Result<(), Fail> {
 
 #[test]
 fn takes_numbers_in_their_ranges(rt: HostRuntime) -> Result<(), Fail> {
-    for (module_dots, width, height, columns, rows, workers, year, is_taken) in [
+    let numbers: &[(u16, u16, u16, u16, u16, u8, u16, bool)] = &[
         (1, 1, 1, 1, 1, 1, 1951, true),
         (8, 4096, 1024, 16, 64, 16, 2149, true),
         (1, 4096, 1, 16, 1, 16, 1951, true),
@@ -328,7 +354,8 @@ fn takes_numbers_in_their_ranges(rt: HostRuntime) -> Result<(), Fail> {
         (1, 1, 1, 1, 1, 255, 2026, false),
         (1, 1, 1, 1, 1, 1, 1950, false),
         (1, 1, 1, 1, 1, 1, 2150, false),
-    ] {
+    ];
+    for &(module_dots, width, height, columns, rows, workers, year, is_taken) in numbers {
         let found = ScanOptions::new(module_dots, width, height, columns, rows, workers, year);
         assert_eq!(rt; found.is_some(), is_taken);
     }

@@ -7,6 +7,7 @@ use code128_code::{
 use digits_core::Gtin;
 use ean_code::{Modules, Spelled, ean8, ean13, itf14, read_itf14, upce};
 use element_core::{Elements, Year};
+use std::process::Abort;
 use std::test::Fail;
 
 // (422)528: start C, FNC1, 42, 25, 28, the check character 66 and stop.
@@ -42,47 +43,58 @@ fn total(modules: &Modules) -> usize {
     sum
 }
 
+/// That the modules are the symbol of these values between start C and this check character, and say the
+/// text.
+fn is_read_again<R: Abort>(
+    rt: &R,
+    modules: &Modules,
+    text: &[u8],
+    data: &[u8],
+    check: u8,
+) -> Result<(), Fail> {
+    let found = values(modules).ok_or("a symbol")?;
+    assert_eq!(*rt; found.start, 105);
+    assert_eq!(*rt; found.values.as_slice(), data);
+    assert_eq!(*rt; found.check, check);
+    let said = text_of(&found)?;
+    assert_eq!(*rt; said.as_slice(), text);
+    Ok(())
+}
+
+/// That a text is encoded as these values and this check character, and read again.
+fn is_encoded<R: Abort>(rt: &R, text: &[u8], data: &[u8], check: u8) -> Result<(), Fail> {
+    if data.len() > 96 {
+        return Err(Fail::from("at most 96 values"));
+    }
+    assert_eq!(*rt; check_character(105, data), check);
+    let modules = encode(&elements_of(text)?)?;
+    is_read_again(rt, &modules, text, data, check)?;
+    let characters = data.len() + 2;
+    assert_eq!(*rt; modules.widths().len(), 6 * characters + 7);
+    assert_eq!(*rt; total(&modules), 11 * characters + 13);
+    Ok(())
+}
+
 #[test]
 fn encodes_and_reads_again(rt: HostRuntime) -> Result<(), Fail> {
-    for (text, data, check) in [
+    let texts: &[(&[u8], &[u8], u8)] = &[
+        (b"0109501101530003", &[102, 1, 9, 50, 11, 1, 53, 0, 3], 71),
+        (b"422528", &[102, 42, 25, 28], 66),
         (
-            b"0109501101530003".as_slice(),
-            [102, 1, 9, 50, 11, 1, 53, 0, 3].as_slice(),
-            71,
-        ),
-        (b"422528".as_slice(), [102, 42, 25, 28].as_slice(), 66),
-        (
-            b"10AB\x1d17261231".as_slice(),
-            [102, 10, 100, 33, 34, 102, 99, 17, 26, 12, 31].as_slice(),
+            b"10AB\x1d17261231",
+            &[102, 10, 100, 33, 34, 102, 99, 17, 26, 12, 31],
             81,
         ),
         (
-            b"1726123110AB".as_slice(),
-            [102, 17, 26, 12, 31, 10, 100, 33, 34].as_slice(),
+            b"1726123110AB",
+            &[102, 17, 26, 12, 31, 10, 100, 33, 34],
             101,
         ),
-        (
-            b"10A12345".as_slice(),
-            [102, 10, 100, 33, 17, 99, 23, 45].as_slice(),
-            5,
-        ),
-        (
-            b"70032601021530".as_slice(),
-            [102, 70, 3, 26, 1, 2, 15, 30].as_slice(),
-            101,
-        ),
-    ] {
-        assert_eq!(rt; check_character(105, data), check);
-        let modules = encode(&elements_of(text)?)?;
-        let found = values(&modules).ok_or("a symbol")?;
-        assert_eq!(rt; found.start, 105);
-        assert_eq!(rt; found.values.as_slice(), data);
-        assert_eq!(rt; found.check, check);
-        let said = text_of(&found)?;
-        assert_eq!(rt; said.as_slice(), text);
-        let characters = data.len() + 2;
-        assert_eq!(rt; modules.widths().len(), 6 * characters + 7);
-        assert_eq!(rt; total(&modules), 11 * characters + 13);
+        (b"10A12345", &[102, 10, 100, 33, 17, 99, 23, 45], 5),
+        (b"70032601021530", &[102, 70, 3, 26, 1, 2, 15, 30], 101),
+    ];
+    for &(text, data, check) in texts {
+        is_encoded(&rt, text, data, check)?;
     }
     Ok(())
 }
@@ -95,6 +107,11 @@ fn draws_the_printed_widths(rt: HostRuntime) -> Result<(), Fail> {
     assert!(rt; values(&modules).is_none());
     let drawn = Modules::of(&COUNTRY).ok_or("modules")?;
     assert!(rt; values(&drawn).is_some());
+    Ok(())
+}
+
+#[test]
+fn finds_characters_by_their_widths(rt: HostRuntime) -> Result<(), Fail> {
     // 211232, the start character C, and widths that no character has.
     assert_eq!(rt; character(0b01_00_00_01_10_01), Some(105));
     assert_eq!(rt; character(0), None);
@@ -118,19 +135,15 @@ fn encodes_48_characters(rt: HostRuntime) -> Result<(), Fail> {
 
 #[test]
 fn says_the_text_in_each_code_set(rt: HostRuntime) -> Result<(), Fail> {
-    for (start, data, check, text) in [
-        (105, [102].as_slice(), 1, b"".as_slice()),
-        (105, [102, 102].as_slice(), 102, b"\x1d".as_slice()),
-        (
-            105,
-            [102, 20, 11, 102].as_slice(),
-            70,
-            b"2011\x1d".as_slice(),
-        ),
-        (103, [102, 33, 98, 65, 33].as_slice(), 63, b"AaA".as_slice()),
-        (103, [102, 93].as_slice(), 82, b"\x1d".as_slice()),
-        (104, [102, 33, 101, 33, 99].as_slice(), 69, b"AA".as_slice()),
-    ] {
+    let symbols: &[(u8, &[u8], u8, &[u8])] = &[
+        (105, &[102], 1, b""),
+        (105, &[102, 102], 102, b"\x1d"),
+        (105, &[102, 20, 11, 102], 70, b"2011\x1d"),
+        (103, &[102, 33, 98, 65, 33], 63, b"AaA"),
+        (103, &[102, 93], 82, b"\x1d"),
+        (104, &[102, 33, 101, 33, 99], 69, b"AA"),
+    ];
+    for &(start, data, check, text) in symbols {
         let said = text_of(&shown(start, data, check))?;
         assert_eq!(rt; said.as_slice(), text);
     }
@@ -139,57 +152,52 @@ fn says_the_text_in_each_code_set(rt: HostRuntime) -> Result<(), Fail> {
 
 #[test]
 fn refuses_values_without_a_text(rt: HostRuntime) -> Result<(), Fail> {
-    for (start, data, check, fault, line) in [
+    let symbols: &[(u8, &[u8], u8, Code128Fault, &str)] = &[
         (
             105,
-            [12].as_slice(),
+            &[12],
             15,
             Code128Fault::CheckCharacter,
             "refused 13 CheckCharacter",
         ),
         (
             104,
-            [102, 100].as_slice(),
+            &[102, 100],
             96,
             Code128Fault::CheckCharacter,
             "refused 13 CheckCharacter",
         ),
-        (
-            105,
-            [12].as_slice(),
-            14,
-            Code128Fault::NotGs1,
-            "refused 14 NotGs1",
-        ),
+        (105, &[12], 14, Code128Fault::NotGs1, "refused 14 NotGs1"),
         (
             104,
-            [102, 100].as_slice(),
+            &[102, 100],
             97,
             Code128Fault::FunctionCharacter,
             "refused 15 FunctionCharacter",
         ),
         (
             104,
-            [102, 98].as_slice(),
+            &[102, 98],
             93,
             Code128Fault::CodeSet,
             "refused 16 CodeSet",
         ),
         (
             104,
-            [102, 98, 96].as_slice(),
+            &[102, 98, 96],
             72,
             Code128Fault::CodeSet,
             "refused 16 CodeSet",
         ),
         (
             103,
-            [102, 98, 98, 101].as_slice(),
+            &[102, 98, 98, 101],
             69,
             Code128Fault::CodeSet,
             "refused 16 CodeSet",
         ),
-    ] {
+    ];
+    for &(start, data, check, fault, line) in symbols {
         let found = text_of(&shown(start, data, check)).err().ok_or("a fault")?;
         assert!(rt; found == fault);
         assert_eq!(rt; found.to_string(rt.alloc())?.as_str(), line);
@@ -233,6 +241,11 @@ fn draws_symbols_of_numbers(rt: HostRuntime) -> Result<(), Fail> {
     );
     let gtin = Gtin::read(b"012345000065").ok().ok_or("a number")?;
     assert!(rt; has_widths(upce(&gtin), "111 1222 2122 1411 2311 1321 1114 111111"));
+    Ok(())
+}
+
+#[test]
+fn draws_itf14_and_reads_it_in_one_direction(rt: HostRuntime) -> Result<(), Fail> {
     let gtin = Gtin::read(b"09501101530003").ok().ok_or("a number")?;
     let mut drawn = itf14(&gtin);
     assert!(rt; read_itf14(&drawn) == Spelled::Found(gtin));

@@ -13,7 +13,7 @@ use digits_core::ToWriter;
 use element_core::Year;
 use fakes::Narrow;
 use line_core::{MOST_COLUMNS, MOST_HEIGHT, MOST_MODULE_DOTS, MOST_ROWS, MOST_WIDTH};
-use std::alloc::Global;
+use std::alloc::{AllocError, Global};
 use std::process::Abort;
 use std::test::Fail;
 
@@ -32,8 +32,16 @@ fn refusal(alloc: Global, text: &str) -> Result<String, Fail> {
     Ok(fault.to_string(alloc)?)
 }
 
+/// That a command line asks for this.
+fn asks_for<R: AllocGlobal + Abort>(rt: &R, text: &str, wanted: Option<Asked>) -> Result<(), Fail> {
+    let wanted = wanted.ok_or("options")?;
+    let asked = read(rt.alloc(), text)?.ok().ok_or("a command")?;
+    assert_eq!(*rt; asked, wanted, "{text}");
+    Ok(())
+}
+
 #[test]
-fn reads_words(rt: HostRuntime) -> Result<(), Fail> {
+fn reads_words_of_lanes_and_check(rt: HostRuntime) -> Result<(), Fail> {
     for (text, wanted) in [
         (
             "gs1_hub lanes --lanes 3 --workers=16 --year 2026",
@@ -51,6 +59,15 @@ fn reads_words(rt: HostRuntime) -> Result<(), Fail> {
             "gs1_hub check --year=1951",
             Year::new(1951).map(Asked::Check),
         ),
+    ] {
+        asks_for(&rt, text, wanted)?;
+    }
+    Ok(())
+}
+
+#[test]
+fn reads_words_of_print_and_scan(rt: HostRuntime) -> Result<(), Fail> {
+    for (text, wanted) in [
         (
             "gs1_hub print --module 1 --width 113 --height 3 --columns 2 --rows 4 --year 2026",
             PrintOptions::new(1, 113, 3, 2, 4, 2026, Output::Images).map(Asked::Print),
@@ -74,9 +91,7 @@ fn reads_words(rt: HostRuntime) -> Result<(), Fail> {
             ScanOptions::new(8, 4096, 1024, 16, 64, 16, 1951).map(Asked::Scan),
         ),
     ] {
-        let wanted = wanted.ok_or("options")?;
-        let asked = read(rt.alloc(), text)?.ok().ok_or("a command")?;
-        assert_eq!(rt; asked, wanted, "{text}");
+        asks_for(&rt, text, wanted)?;
     }
     Ok(())
 }
@@ -91,7 +106,7 @@ fn is_refused<R: AllocGlobal + Abort>(rt: &R, text: &str) -> Result<(), Fail> {
 #[test]
 fn refuses_words_of_scan(rt: HostRuntime) -> Result<(), Fail> {
     let alloc = rt.alloc();
-    for options in [
+    let options_of_scan: &[&str] = &[
         "",
         " --width 113 --height 3 --columns 1 --rows 1 --workers 1 --year 2026",
         " --module 1 --height 3 --columns 1 --rows 1 --workers 1 --year 2026",
@@ -110,7 +125,8 @@ fn refuses_words_of_scan(rt: HostRuntime) -> Result<(), Fail> {
         " --module 1 --width 113 --height 3 --columns 1 --rows 1 --workers 1 --year 2150",
         " --module 1 --width 113 --height 3 --columns 1 --rows 1 --workers 1 --year 2026 more",
         " --module 1 --width 113 --height 3 --columns 1 --rows 1 --workers 1 --year 2026 --text",
-    ] {
+    ];
+    for &options in options_of_scan {
         let text = format!(in alloc; "gs1_hub scan{options}")?;
         is_refused(&rt, text.as_str())?;
     }
@@ -119,7 +135,7 @@ fn refuses_words_of_scan(rt: HostRuntime) -> Result<(), Fail> {
 
 #[test]
 fn refuses_words(rt: HostRuntime) -> Result<(), Fail> {
-    for text in [
+    let texts: &[&str] = &[
         "gs1_hub",
         "gs1_hub help",
         "gs1_hub print",
@@ -144,7 +160,8 @@ fn refuses_words(rt: HostRuntime) -> Result<(), Fail> {
         "gs1_hub print --module 1 --width 113 --height 3 --columns 1 --rows 65 --year 2026",
         "gs1_hub print --module 1 --width 113 --height 3 --columns 1 --rows 1 --year 2150",
         "gs1_hub print --module 1 --width 113 --height 3 --columns 1 --rows 1 --year 2026 --text 1",
-    ] {
+    ];
+    for &text in texts {
         is_refused(&rt, text)?;
     }
     Ok(())
@@ -168,6 +185,18 @@ fn shows_option<R: AllocGlobal + Abort>(rt: &R, command: &str, option: &str) -> 
         .lines()
         .find(|line| option.split(' ').all(|word| line.contains(word)));
     assert!(*rt; line.is_some(), "{command}: {option}");
+    Ok(())
+}
+
+/// That the help of a command has a line of each of these options.
+fn shows_options<R: AllocGlobal + Abort>(
+    rt: &R,
+    command: &str,
+    options: &[&str],
+) -> Result<(), Fail> {
+    for &option in options {
+        shows_option(rt, command, option)?;
+    }
     Ok(())
 }
 
@@ -198,45 +227,57 @@ fn shows_the_same<R: AllocGlobal + Abort>(rt: &R, command: &str) -> Result<(), F
     Ok(())
 }
 
+/// The words of the option of the year.
+fn year_option(alloc: Global) -> Result<String, AllocError> {
+    format!(in alloc; "--year <YEAR> Year that {FIRST_YEAR} to {LAST_YEAR}")
+}
+
+/// The words of the option of the workers.
+fn workers_option(alloc: Global) -> Result<String, AllocError> {
+    format!(in alloc; "--workers <COUNT> threads 1 to {MOST_WORKERS}")
+}
+
 #[test]
-fn shows_help_with_units_and_ranges(rt: HostRuntime) -> Result<(), Fail> {
+fn shows_units_and_ranges_of_check_and_lanes(rt: HostRuntime) -> Result<(), Fail> {
     let alloc = rt.alloc();
-    let year = format!(in alloc; "--year <YEAR> Year that {FIRST_YEAR} to {LAST_YEAR}")?;
-    let workers = format!(in alloc; "--workers <COUNT> threads 1 to {MOST_WORKERS}")?;
+    let year = year_option(alloc)?;
+    let workers = workers_option(alloc)?;
     let lanes = format!(in alloc; "--lanes <COUNT> lanes 1 to {MOST_LANES}")?;
+    shows_options(&rt, "check", &[year.as_str()])?;
+    shows_options(
+        &rt,
+        "lanes",
+        &[lanes.as_str(), workers.as_str(), year.as_str()],
+    )
+}
+
+#[test]
+fn shows_units_and_ranges_of_print_and_scan(rt: HostRuntime) -> Result<(), Fail> {
+    let alloc = rt.alloc();
+    let year = year_option(alloc)?;
+    let workers = workers_option(alloc)?;
     let module = format!(in alloc; "--module <DOTS> module 1 to {MOST_MODULE_DOTS} dots")?;
     let width = format!(in alloc; "--width <DOTS> cell 1 to {MOST_WIDTH} dots")?;
     let height = format!(in alloc; "--height <DOTS> cell 1 to {MOST_HEIGHT} dots")?;
     let columns = format!(in alloc; "--columns <COUNT> Cells sheet 1 to {MOST_COLUMNS}")?;
     let rows = format!(in alloc; "--rows <COUNT> Cells sheet 1 to {MOST_ROWS}")?;
-    for (command, option) in [
-        ("check", year.as_str()),
-        ("lanes", lanes.as_str()),
-        ("lanes", workers.as_str()),
-        ("lanes", year.as_str()),
-        ("print", module.as_str()),
-        ("print", width.as_str()),
-        ("print", height.as_str()),
-        ("print", columns.as_str()),
-        ("print", rows.as_str()),
-        ("print", year.as_str()),
-        ("print", "--text line label"),
-        ("scan", module.as_str()),
-        ("scan", width.as_str()),
-        ("scan", height.as_str()),
-        ("scan", columns.as_str()),
-        ("scan", rows.as_str()),
-        ("scan", workers.as_str()),
-        ("scan", year.as_str()),
-    ] {
-        shows_option(&rt, command, option)?;
-    }
-    Ok(())
+    let grid = [
+        module.as_str(),
+        width.as_str(),
+        height.as_str(),
+        columns.as_str(),
+        rows.as_str(),
+    ];
+    shows_options(&rt, "print", &grid)?;
+    shows_options(&rt, "print", &[year.as_str(), "--text line label"])?;
+    shows_options(&rt, "scan", &grid)?;
+    shows_options(&rt, "scan", &[workers.as_str(), year.as_str()])
 }
 
 #[test]
 fn shows_help_with_examples(rt: HostRuntime) -> Result<(), Fail> {
-    for command in ["check", "lanes", "print", "scan"] {
+    let commands: &[&str] = &["check", "lanes", "print", "scan"];
+    for &command in commands {
         shows_example(&rt, command)?;
         shows_the_same(&rt, command)?;
     }
@@ -247,7 +288,7 @@ fn shows_help_with_examples(rt: HostRuntime) -> Result<(), Fail> {
 fn shows_help_of_the_program(rt: HostRuntime) -> Result<(), Fail> {
     let alloc = rt.alloc();
     let shown = help(alloc, "gs1_hub --help")?;
-    for part in [
+    let parts: &[&str] = &[
         "check",
         "print",
         "lanes",
@@ -255,7 +296,8 @@ fn shows_help_of_the_program(rt: HostRuntime) -> Result<(), Fail> {
         "--help",
         "--version",
         "Exit status",
-    ] {
+    ];
+    for &part in parts {
         assert!(rt; shown.as_str().contains(part), "{part}");
     }
     Ok(())
@@ -265,7 +307,8 @@ fn shows_help_of_the_program(rt: HostRuntime) -> Result<(), Fail> {
 fn writes_the_version(rt: HostRuntime) -> Result<(), Fail> {
     let alloc = rt.alloc();
     let wanted = "gs1_hub 1.0.0 (rattle-kit-13f logic dac8208d650f15bf)\n";
-    for text in ["gs1_hub --version", "gs1_hub -V"] {
+    let texts: &[&str] = &["gs1_hub --version", "gs1_hub -V"];
+    for &text in texts {
         let version = help(alloc, text)?;
         same(&rt, text, version.as_str(), wanted);
     }
