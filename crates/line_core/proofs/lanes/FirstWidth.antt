@@ -42,6 +42,13 @@ last_width text rest n all some few is = record {
   after = λ no_others. absurd (no_others refl);
 }
 
+-- digits before a space are a word
+pub word_before_space : (text : List ℕ) (i : ℕ) → i < length text → list_all is_ascii_digit (take i text) ≡ true → get_or text i 0 ≡ 32
+    → words_of text ≡ take i text ∷ words_of (drop (i + 1) text)
+word_before_space text i low all space =
+    ap words_of (parts_at text i low ∙ ap (λ b. take i text ++ b ∷ drop (i + 1) text) space)
+    ∙ slice_split_at (λ b. b == 32) (take i text) 32 (drop (i + 1) text) (no_spaces (take i text) all) refl
+
 -- a width before a space
 pub next_width : (text rest : List ℕ) (i n : ℕ) → rest ≡ take (length text - (i + 1)) (drop (i + 1) text) → i < length text → 0 < i → i ≤ 5 → list_all is_ascii_digit (take i text) ≡ true → get_or text i 0 ≡ 32 → n ≡ digits_value 10 (take i text)
     → IsFirstWidth text n rest
@@ -50,9 +57,7 @@ next_width text rest i n after low some few all space is =
     record {
       word = take i text;
       others = words_of (drop (i + 1) text);
-      words =
-          ap words_of (parts_at text i low ∙ ap (λ b. take i text ++ b ∷ drop (i + 1) text) space)
-          ∙ slice_split_at (λ b. b == 32) (take i text) 32 (drop (i + 1) text) (no_spaces (take i text) all) refl;
+      words = word_before_space text i low all space;
       number = numbered (take i text) all (omega (arith, long)) (omega (arith, long));
       value = is;
       after = λ _. ap words_of (sym (after ∙ take_all (length text - (i + 1)) (drop (i + 1) text) (omega (arith, length-drop (i + 1) text))));

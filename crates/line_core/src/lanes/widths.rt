@@ -103,11 +103,16 @@ fn read_widths(alloc: Global, field: &[u8]) -> Result<(Vec<u16>, bool), RecordRe
     };
     let mut rest = field;
     let mut is_wide = false;
-    'words: for _ in 0..count {
+    'words: while widths.len() < count {
         rest = match rest {
-            // Most widths are one digit before a space.
-            [digit, space, after @ ..] if *space == b' ' && digit.is_ascii_digit() => {
-                widths.push_reserved(u16::from(*digit - b'0'));
+            // Most widths are one digit before a space, and so are most that follow one.
+            [first, space, second, end, after @ ..]
+                if *space == b' '
+                    && *end == b' '
+                    && first.is_ascii_digit()
+                    && second.is_ascii_digit() => {
+                widths.push_reserved(u16::from(*first - b'0'));
+                widths.push_reserved(u16::from(*second - b'0'));
                 after
             }
             _ => {
