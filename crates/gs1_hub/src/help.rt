@@ -7,9 +7,9 @@ ghost use Rattle.gs1_hub.specs.Faults.{failed_write};
 use crate::fault::CommandFault;
 use digits_core::{Sink, write_all};
 
-/// The product's version and, in parentheses, the identity of the toolchain that proves and builds it, which
-/// `rt version` prints.
-pub const VERSION: &str = "1.0.0 (rattle-kit-13f logic dac8208d650f15bf)";
+/// The product's version and, in parentheses, the sum of the logic that proves it, with which `rt version`
+/// ends.
+pub const VERSION: &str = "1.0.0 (rattle logic dac8208d650f15bf)";
 
 /// What the program is for.
 pub const HUB: &str = "Checks, prints and scans GS1 bar codes";

@@ -1,4 +1,5 @@
 pub mod Capped
+pub mod DigitWidths
 pub mod FeedCounts
 pub mod FeedFacts
 pub mod FieldFaults

@@ -306,7 +306,7 @@ fn shows_help_of_the_program(rt: HostRuntime) -> Result<(), Fail> {
 #[test]
 fn writes_the_version(rt: HostRuntime) -> Result<(), Fail> {
     let alloc = rt.alloc();
-    let wanted = "gs1_hub 1.0.0 (rattle-kit-13f logic dac8208d650f15bf)\n";
+    let wanted = "gs1_hub 1.0.0 (rattle logic dac8208d650f15bf)\n";
     let texts: &[&str] = &["gs1_hub --version", "gs1_hub -V"];
     for &text in texts {
         let version = help(alloc, text)?;

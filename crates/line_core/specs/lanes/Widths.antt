@@ -1,5 +1,5 @@
 -- Rows as they are spelled in a field: widths in dots, with one space between them.
-use Rattle.std.specs.Prelude.{◌≡◌, ◌≢◌, ◌==◌, ◌&&◌, nat_le, ℕ, Bool, List, [], ◌∷◌, Option, true, Some, None, length, map, if◌then◌else◌}
+use Rattle.std.specs.Prelude.{◌≡◌, ◌≢◌, ◌==◌, ◌&&◌, ◌<◌, ◌+◌, ◌-◌, ◌*◌, get_or, nat_le, ℕ, Bool, List, [], ◌∷◌, Option, true, Some, None, length, map, if◌then◌else◌}
 use Rattle.std.specs.Char.{is_ascii_digit}
 use Rattle.std.specs.List.{list_all, slice_split}
 use Rattle.std.specs.Str.Parse.{digits_value}
@@ -37,6 +37,14 @@ pub record IsFirstWidth (text : List ℕ) (width : ℕ) (rest : List ℕ) : Type
   pub number : is_number 5 word ≡ true
   pub value : width ≡ digits_value 10 word
   pub after : others ≢ [] → others ≡ words_of rest
+
+-- this width is a digit before a space, where `i` such words stand before it
+abbrev pub IsDigitAt : List ℕ → ℕ → ℕ → Type 0
+IsDigitAt text i width = (is_ascii_digit (get_or text (2 * i) 0) ≡ true) × (get_or text (2 * i + 1) 0 ≡ 32) × (width ≡ get_or text (2 * i) 0 - 48)
+
+-- the text begins with these widths, each a digit before a space
+abbrev pub BeginsWithDigits : List ℕ → List ℕ → Type 0
+BeginsWithDigits text widths = (i : ℕ) → i < length widths → IsDigitAt text i (get_or widths i 0)
 
 -- a fault of the widths, as the record's
 abbrev pub of_runs : Option RunFault → Option RecordFault

@@ -1,9 +1,9 @@
 //! Numbers and widths as fields spell them.
-ghost use Rattle.std.specs.Prelude.{None, Some, ◌==◌, ◌≡◌, ◌≤◌, true, false, nat_lt, length, ◌<◌, IfNone, IfOk, IfSome, IsTrue, OnOk, map, min};
+ghost use Rattle.std.specs.Prelude.{None, Some, ◌==◌, ◌≡◌, ◌≤◌, ◌*◌, ◌+◌, ◌-◌, ◌++◌, vec_capacity, vec_len, true, false, nat_lt, length, ◌<◌, IfNone, IfOk, IfSome, IsTrue, List, OnOk, map, min, ℕ};
 ghost use Rattle.std.specs.List.{count_by, list_all, list_any};
 ghost use Rattle.std.specs.Char.{is_ascii_digit};
 ghost use Rattle.std.specs.Str.Parse.{digits_value};
-ghost use Rattle.line_core.specs.lanes.Widths.{IsFirstWidth, are_widths, field_fault, number_in, widths_in, words_of};
+ghost use Rattle.line_core.specs.lanes.Widths.{BeginsWithDigits, IsFirstWidth, are_widths, field_fault, number_in, widths_in, words_of};
 ghost use Rattle.line_core.specs.declared.input.fault.RecordFault.{RecordFault};
 
 use crate::input::fault::{RecordFault, RecordRefusal};
@@ -42,9 +42,8 @@ pub fn number_in(text: &[u8], most: usize) -> Option<u32>
     Some(value_of(text))
 }
 
-/// The width that begins a text, up to its first space or its end, and the text after this space:
-/// none where the text has no space.
-fn first_width(text: &[u8]) -> Option<(u32, &[u8])>
+/// The width that begins a text, as `first_width` gives it, found byte by byte.
+fn width_of_any_length(text: &[u8]) -> Option<(u32, &[u8])>
     ensures some { IfSome result (λ width. IsFirstWidth text.now width.0 width.1.now) }
     ensures small { IfSome result (λ width. width.0 < 100000) }
     ensures none { IfNone result (are_widths (words_of text.now) ≡ false) }
@@ -63,6 +62,29 @@ fn first_width(text: &[u8]) -> Option<(u32, &[u8])>
         return None;
     }
     Some((width, &[]))
+}
+
+/// The width that begins a text, up to its first space or its end, and the text after this space:
+/// none where the text has no space.
+fn first_width(text: &[u8]) -> Option<(u32, &[u8])>
+    ensures some { IfSome result (λ width. IsFirstWidth text.now width.0 width.1.now) }
+    ensures small { IfSome result (λ width. width.0 < 100000) }
+    ensures none { IfNone result (are_widths (words_of text.now) ≡ false) }
+{
+    match text {
+        // Most widths have one digit or two.
+        [digit, space, after @ ..] if *space == b' ' && digit.is_ascii_digit() => {
+            Some((u32::from(*digit - b'0'), after))
+        }
+        [tens, units, space, after @ ..]
+            if *space == b' ' && tens.is_ascii_digit() && units.is_ascii_digit() => {
+            Some((
+                u32::from(*tens - b'0') * 10 + u32::from(*units - b'0'),
+                after,
+            ))
+        }
+        _ => width_of_any_length(text),
+    }
 }
 
 /// How many spaces a text of at most 255 bytes has. One byte counts them, so that many are added at once.
@@ -88,6 +110,48 @@ fn count_words(field: &[u8]) -> usize
     spaces + 1
 }
 
+/// A zero and a space, as the bytes of a number: the low one first.
+const ZERO_AND_SPACE: u16 = 0x2030;
+
+/// The width that a digit before a space shows, and above 9 where it is no digit or no space.
+fn width_of_digit(digit: u8, space: u8) -> u16
+    ensures shown { result ≤ 9 → (is_ascii_digit digit ≡ true) × (space ≡ 32) × (result ≡ digit - 48) }
+    ensures each { is_ascii_digit digit ≡ true → space ≡ 32 → result ≡ digit - 48 }
+{
+    u16::from_le_bytes([digit, space]).wrapping_sub(ZERO_AND_SPACE)
+}
+
+/// The first widths of a text, where each is one digit before a space. All are looked at, since a loop
+/// without an early end reads many at once.
+fn digits<const N: usize>(text: &[u8]) -> Option<[u16; N]>
+    ensures begins { IfSome result (BeginsWithDigits text.now) }
+    ensures few { IfSome result (λ widths. (length widths ≡ N) × (2 * N ≤ length text.now)) }
+    ensures none { IfNone result ((widths : List ℕ) → length widths ≡ N → 2 * N ≤ length text.now → BeginsWithDigits text.now widths → ⊥) }
+{
+    if text.len() / 2 < N {
+        return None;
+    }
+    let mut widths = [0; N];
+    let mut each = true;
+    'widths: for i in 0..N {
+        let width = width_of_digit(text[2 * i], text[2 * i + 1]);
+        widths[i] = width;
+        each &= width <= 9;
+    }
+    each.then_some(widths)
+}
+
+/// Appends widths, for which there is room.
+fn push_each<const N: usize>(widths: &mut Vec<u16>, more: &[u16; N])
+    requires { vec_len widths.old + N ≤ vec_capacity widths.old }
+    ensures items { widths.new.items ≡ widths.old.items ++ more.now }
+    ensures capacity { vec_capacity widths.new ≡ vec_capacity widths.old }
+{
+    'widths: for i in 0..N {
+        widths.push_reserved(more[i]);
+    }
+}
+
 /// The widths that a field shows, each above 65,535 as 65,535, in a list with room for just these,
 /// and whether there is one such.
 fn read_widths(alloc: Global, field: &[u8]) -> Result<(Vec<u16>, bool), RecordRefusal>
@@ -104,25 +168,19 @@ fn read_widths(alloc: Global, field: &[u8]) -> Result<(Vec<u16>, bool), RecordRe
     let mut rest = field;
     let mut is_wide = false;
     'words: while widths.len() < count {
-        rest = match rest {
-            // Most widths are one digit before a space, and so are most that follow one.
-            [first, space, second, end, after @ ..]
-                if *space == b' '
-                    && *end == b' '
-                    && first.is_ascii_digit()
-                    && second.is_ascii_digit() => {
-                widths.push_reserved(u16::from(*first - b'0'));
-                widths.push_reserved(u16::from(*second - b'0'));
-                after
-            }
-            _ => {
-                let Some((width, after)) = first_width(rest) else {
-                    return Err(RecordRefusal::Record(RecordFault::BadRuns));
-                };
-                is_wide |= width > 65_535;
-                widths.push_reserved(width.min(65_535) as u16);
-                after
-            }
+        rest = if let Some(eight) = digits::<8>(rest) {
+            push_each(&mut widths, &eight);
+            &rest[16..]
+        } else if let Some(two) = digits::<2>(rest) {
+            push_each(&mut widths, &two);
+            &rest[4..]
+        } else {
+            let Some((width, after)) = first_width(rest) else {
+                return Err(RecordRefusal::Record(RecordFault::BadRuns));
+            };
+            is_wide |= width > 65_535;
+            widths.push_reserved(width.min(65_535) as u16);
+            after
         };
     }
     Ok((widths, is_wide))
