@@ -4,6 +4,7 @@ ghost use Rattle.std.specs.Prelude.{◌≡◌, IfOk};
 
 use digits_core::{Failed, FromReader, Sink, Source, ToWriter};
 use std::io::{self, ErrorKind, Read, Write};
+use std::process::Abort;
 use std::test::Fail;
 
 // What is answered where the third call of the reader or the writer fails.
@@ -44,6 +45,11 @@ impl Write for Failing {
     }
 }
 
+/// That a call has this answer.
+fn is_answered<R: Abort>(rt: &R, found: Result<usize, Failed>, wanted: Result<usize, Failed>) {
+    assert_eq!(*rt; found, wanted);
+}
+
 #[test]
 fn a_reader_is_read_once_a_call_until_it_fails(rt: HostRuntime) -> Result<(), Fail> {
     let mut reader = Failing {
@@ -53,7 +59,7 @@ fn a_reader_is_read_once_a_call_until_it_fails(rt: HostRuntime) -> Result<(), Fa
     let mut source = FromReader::new(&mut reader);
     let mut buffer = [0; 4];
     for &answer in ANSWERS {
-        assert_eq!(rt; source.read(&mut buffer), answer);
+        is_answered(&rt, source.read(&mut buffer), answer);
     }
     assert_eq!(rt; reader.calls, 3);
     Ok(())
@@ -66,9 +72,9 @@ fn a_writer_is_written_to_once_a_call_until_it_fails(rt: HostRuntime) -> Result<
         fails_at: 3,
     });
     for &answer in ANSWERS {
-        assert_eq!(rt; sink.write(b"0"), answer);
+        is_answered(&rt, sink.write(b"0"), answer);
     }
-    assert_eq!(rt; sink.write(b""), Err(Failed));
+    is_answered(&rt, sink.write(b""), Err(Failed));
     assert_eq!(rt; sink.into_inner().calls, 3);
     Ok(())
 }

@@ -1,6 +1,7 @@
 //! Lists of elements: how many there are, each of them, its day and its time, and their human-readable line.
 
 use element_core::{Element, Elements, Year};
+use std::alloc::Global;
 use std::process::Abort;
 use std::test::Fail;
 
@@ -48,28 +49,43 @@ fn the_line_stands_after_what_is_there(rt: HostRuntime) -> Result<(), Fail> {
     Ok(())
 }
 
-#[test]
-fn the_most_elements_fill_the_line(rt: HostRuntime) -> Result<(), Fail> {
-    let mut text = String::new(rt.alloc());
-    let mut expected = String::new(rt.alloc());
+/// A text 48 times.
+fn repeated(alloc: Global, text: &str) -> Result<String, Fail> {
+    let mut all = String::new(alloc);
     for _ in 0..48 {
-        text.push_str("2007")?;
-        expected.push_str("(20)07")?;
+        all.push_str(text)?;
     }
-    let elements = parsed(text.as_str().as_bytes())?;
-    assert_eq!(rt; elements.len(), 48);
-    is_element(&rt, &element(&elements, 47)?, "20", "07", false);
-    assert_eq!(rt; elements.hri().as_str(), expected.as_str());
+    Ok(all)
+}
+
+/// That elements have this human-readable line.
+fn has_line<R: AllocGlobal + Abort>(rt: &R, elements: &Elements, wanted: &str) -> Result<(), Fail> {
+    assert_eq!(*rt; elements.hri().as_str(), wanted);
     let mut line = String::new(rt.alloc());
     elements.push_hri(&mut line)?;
-    assert_eq!(rt; line.as_str(), expected.as_str());
+    assert_eq!(*rt; line.as_str(), wanted);
     Ok(())
+}
+
+#[test]
+fn the_most_elements_fill_the_line(rt: HostRuntime) -> Result<(), Fail> {
+    let alloc = rt.alloc();
+    let elements = parsed(repeated(alloc, "2007")?.as_str().as_bytes())?;
+    assert_eq!(rt; elements.len(), 48);
+    is_element(&rt, &element(&elements, 47)?, "20", "07", false);
+    has_line(&rt, &elements, repeated(alloc, "(20)07")?.as_str())
 }
 
 /// The year, the month and the day of an element.
 fn day_of(element: &Element) -> Option<(i16, i8, i8)> {
     let date = element.date?;
     Some((date.year(), date.month(), date.day()))
+}
+
+/// That an element has this day and this time.
+fn is_at<R: Abort>(rt: &R, found: &Element, day: Option<(i16, i8, i8)>, time: Option<[u8; 3]>) {
+    assert_eq!(*rt; day_of(found), day);
+    assert_eq!(*rt; found.time, time);
 }
 
 #[test]
@@ -89,8 +105,7 @@ fn an_element_has_its_time(rt: HostRuntime) -> Result<(), Fail> {
     ];
     for &(line, day, time) in lines {
         let element = element(&parsed(line)?, 0)?;
-        assert_eq!(rt; day_of(&element), day);
-        assert_eq!(rt; element.time, time);
+        is_at(&rt, &element, day, time);
     }
     Ok(())
 }

@@ -37,9 +37,15 @@ fn line(alloc: Global, pairs: &[(&str, &str)]) -> Result<String, Fail> {
     }
 }
 
+/// That pairs have this line.
+fn says<R: AllocGlobal + Abort>(rt: &R, pairs: &[(&str, &str)], wanted: &str) -> Result<(), Fail> {
+    let found = line(rt.alloc(), pairs)?;
+    assert_eq!(*rt; found.as_str(), wanted);
+    Ok(())
+}
+
 #[test]
 fn pairs_are_elements_or_have_a_first_fault(rt: HostRuntime) -> Result<(), Fail> {
-    let alloc = rt.alloc();
     let cases: &[(&[(&str, &str)], &str)] = &[
         (&[("10", "AB"), ("17", "261231")], "(10)AB(17)261231"),
         (&[], "refused 4 Empty"),
@@ -65,7 +71,7 @@ fn pairs_are_elements_or_have_a_first_fault(rt: HostRuntime) -> Result<(), Fail>
         ),
     ];
     for (pairs, expected) in cases {
-        assert_eq!(rt; line(alloc, pairs)?.as_str(), *expected);
+        says(&rt, pairs, expected)?;
     }
     Ok(())
 }

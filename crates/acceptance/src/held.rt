@@ -4,10 +4,11 @@ ghost use Rattle.hub_core.specs.Hubs.{IsDelivererOf, IsLaneOf};
 ghost use Rattle.hub_core.specs.Lanes.{lane_of};
 
 use crate::rows::{EAN8, EAN13, row};
-use crate::station::{Station, is_answer};
+use crate::station::{Closed, Station, is_answer};
 use hub_core::{DelivererSeat, Gate, Hub, LaneSeat, Shape};
 use lane_core::{Delivery, Ticket};
 use scan_core::Carrier;
+use std::process::Abort;
 use std::sync::Wait;
 use std::sync::atomic::{AtomicU64, Ordering};
 use std::test::Fail;
@@ -81,6 +82,15 @@ pub fn first_polled<R: Wait>(
     None
 }
 
+/// That the row of lane 0 alone is left to settle.
+fn settles_the_first<R: Wait + AllocGlobal + Abort>(rt: &R, hub: Closed) -> Result<(), Fail> {
+    let lists = hub.settle(rt, rt.alloc())?;
+    assert_eq!(*rt; lists.len(), 2);
+    assert_eq!(*rt; (lists[0].len(), lists[1].len()), (1, 0));
+    assert!(*rt; is_answer(lists[0].get(0), 0, 0, Carrier::Ean13));
+    Ok(())
+}
+
 #[test]
 fn a_held_row_holds_no_other_lane(rt: HostRuntime) -> Result<(), Fail> {
     let alloc = rt.alloc();
@@ -97,9 +107,5 @@ fn a_held_row_holds_no_other_lane(rt: HostRuntime) -> Result<(), Fail> {
     let (hub, polled) = hub.poll_and_open(&rt, alloc, &gate, 1)?;
     assert!(rt; is_answer(polled.as_ref(), 1, 0, Carrier::Ean8));
     assert_eq!(rt; gate.limits_met(), 0);
-    let lists = hub.close(alloc)?.settle(&rt, alloc)?;
-    assert_eq!(rt; lists.len(), 2);
-    assert_eq!(rt; (lists[0].len(), lists[1].len()), (1, 0));
-    assert!(rt; is_answer(lists[0].get(0), 0, 0, Carrier::Ean13));
-    Ok(())
+    settles_the_first(&rt, hub.close(alloc)?)
 }

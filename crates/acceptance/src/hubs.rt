@@ -13,6 +13,9 @@ use std::test::Fail;
 /// How many lanes and workers a hub has at most.
 const MOST: u8 = 16;
 
+/// The carriers of the three rows, in the order in which they are submitted.
+const ALL: &[Carrier] = &[Carrier::Ean13, Carrier::Ean8, Carrier::Gs1128];
+
 /// How often a row is submitted before the test gives up.
 const TRIES: u32 = 100;
 
@@ -96,6 +99,23 @@ fn are_answers<R: Abort>(
     Ok(())
 }
 
+/// That the hub is settled with so many lists, each with the deliveries of these carriers, from this number
+/// on.
+fn settles<R: Wait + AllocGlobal + Abort>(
+    rt: &R,
+    hub: Closed,
+    lanes: u8,
+    first: u32,
+    carriers: &[Carrier],
+) -> Result<(), Fail> {
+    let lists = hub.settle(rt, rt.alloc())?;
+    assert_eq!(*rt; lists.len(), usize::from(lanes));
+    for lane in 0..lanes {
+        are_answers(rt, lists.as_slice(), lane, first, carriers)?;
+    }
+    Ok(())
+}
+
 #[test]
 fn two_lanes_share_two_workers(rt: HostRuntime) -> Result<(), Fail> {
     let mut hub = Station::new(&rt, rt.alloc(), shape(2, 2, 2))?;
@@ -152,19 +172,19 @@ fn one_lane_polls_all_before_it_is_settled(rt: HostRuntime) -> Result<(), Fail> 
             Step::Submit(0, GS1_128, "refused 35 Spent 45"),
         ],
     )?;
-    polls_the_last(&rt, hub.close(alloc)?)
+    let mut hub = hub.close(alloc)?;
+    polls_the_last(&rt, &mut hub)?;
+    settles(&rt, hub, 1, 2, &[])
 }
 
-/// That the one lane polls its second row's delivery, is done then, and nothing is left to settle.
-fn polls_the_last<R: Wait + AllocGlobal + Abort>(rt: &R, mut hub: Closed) -> Result<(), Fail> {
+/// That the one lane polls its second row's delivery, and is done then.
+fn polls_the_last<R: Abort>(rt: &R, hub: &mut Closed) -> Result<(), Fail> {
     assert!(*rt; !hub.is_done(0)?);
     let last = hub.poll(0)?;
     assert!(*rt; is_answer(last.as_ref(), 0, 1, Carrier::Ean8));
     assert!(*rt; hub.is_done(0)?);
     assert!(*rt; hub.poll(0)?.is_none());
-    let lists = hub.settle(rt, rt.alloc())?;
-    assert_eq!(*rt; lists.len(), 1);
-    are_answers(rt, lists.as_slice(), 0, 2, &[])
+    Ok(())
 }
 
 #[test]
@@ -181,42 +201,60 @@ fn settles_what_no_lane_has_polled(rt: HostRuntime) -> Result<(), Fail> {
         ],
     )?;
     assert!(rt; hub.poll(0)?.is_none());
-    let lists = hub.close(alloc)?.settle(&rt, alloc)?;
-    assert_eq!(rt; lists.len(), 1);
-    let wanted = [Carrier::Ean13, Carrier::Ean8, Carrier::Gs1128];
-    are_answers(&rt, lists.as_slice(), 0, 0, &wanted)
+    settles(&rt, hub.close(alloc)?, 1, 0, ALL)
+}
+
+/// Each lane submits the row, and the workers work.
+fn submit_to_each<R: Wait + AllocGlobal>(
+    rt: &R,
+    hub: &mut Station,
+    count: u8,
+    widths: &[u16],
+) -> Result<(), Fail> {
+    let alloc = rt.alloc();
+    for lane in 0..count {
+        hub.submit(rt, alloc, usize::from(lane), row(alloc, widths)?)?;
+        hub.work(rt, usize::from(count - 1 - lane))?;
+    }
+    Ok(())
+}
+
+/// That so many deliveries are collected.
+fn collects<R: Wait + AllocGlobal + Abort>(
+    rt: &R,
+    hub: &mut Station,
+    count: u32,
+) -> Result<(), Fail> {
+    for _ in 0..count {
+        take(rt, hub, &Step::Collect(Collected::Taken))?;
+    }
+    Ok(())
+}
+
+/// That each lane is handed its first delivery and polls it.
+fn polls_of_each<R: Wait + AllocGlobal + Abort>(
+    rt: &R,
+    hub: &mut Station,
+    count: u8,
+) -> Result<(), Fail> {
+    for lane in 0..count {
+        take(rt, hub, &Step::Hand(lane, Handed::Given))?;
+        take(rt, hub, &Step::Poll(lane, 0, Carrier::Ean13))?;
+    }
+    Ok(())
 }
 
 /// That a hub of so many lanes and workers answers three rows of each lane, one of which it polls.
 fn answers_each_lane<R: Wait + AllocGlobal + Abort>(rt: &R, count: u8) -> Result<(), Fail> {
     let alloc = rt.alloc();
     let mut hub = Station::new(rt, alloc, shape(count, 64, 3))?;
-    let rows: &[&[u16]] = &[EAN13, EAN8, GS1_128];
-    for &widths in rows {
-        for lane in 0..count {
-            hub.submit(rt, alloc, usize::from(lane), row(alloc, widths)?)?;
-            hub.work(rt, usize::from(count - 1 - lane))?;
-        }
-    }
-    for _ in 0..2 * u32::from(count) {
-        take(rt, &mut hub, &Step::Collect(Collected::Taken))?;
-    }
-    for lane in 0..count {
-        take(rt, &mut hub, &Step::Hand(lane, Handed::Given))?;
-        take(rt, &mut hub, &Step::Poll(lane, 0, Carrier::Ean13))?;
-    }
-    let lists = hub.close(alloc)?.settle(rt, alloc)?;
-    assert_eq!(*rt; lists.len(), usize::from(count));
-    for lane in 0..count {
-        are_answers(
-            rt,
-            lists.as_slice(),
-            lane,
-            1,
-            &[Carrier::Ean8, Carrier::Gs1128],
-        )?;
-    }
-    Ok(())
+    submit_to_each(rt, &mut hub, count, EAN13)?;
+    submit_to_each(rt, &mut hub, count, EAN8)?;
+    submit_to_each(rt, &mut hub, count, GS1_128)?;
+    collects(rt, &mut hub, 2 * u32::from(count))?;
+    polls_of_each(rt, &mut hub, count)?;
+    let wanted = &[Carrier::Ean8, Carrier::Gs1128];
+    settles(rt, hub.close(alloc)?, count, 1, wanted)
 }
 
 #[test]
@@ -278,23 +316,11 @@ fn submits_three_of_each<R: Wait + AllocGlobal + Abort>(
     Ok(())
 }
 
-/// That each lane of the largest hub is settled with its three answers.
-fn settles_three_of_each<R: Wait + AllocGlobal + Abort>(rt: &R, hub: Station) -> Result<(), Fail> {
-    let alloc = rt.alloc();
-    let lists = hub.close(alloc)?.settle(rt, alloc)?;
-    assert_eq!(*rt; lists.len(), usize::from(MOST));
-    let wanted = [Carrier::Ean13, Carrier::Ean8, Carrier::Gs1128];
-    for lane in 0..MOST {
-        are_answers(rt, lists.as_slice(), lane, 0, &wanted)?;
-    }
-    Ok(())
-}
-
 #[test]
 fn the_largest_hub_with_the_smallest_queues_answers_each_row(rt: HostRuntime) -> Result<(), Fail> {
     let mut hub = Station::new(&rt, rt.alloc(), shape(MOST, 1, 3))?;
     submits_three_of_each(&rt, &mut hub)?;
-    settles_three_of_each(&rt, hub)
+    settles(&rt, hub.close(rt.alloc())?, MOST, 0, ALL)
 }
 
 #[test]
@@ -305,7 +331,7 @@ fn a_spent_lane_of_the_largest_hub_keeps_its_answers(rt: HostRuntime) -> Result<
         let again = Step::Submit(usize::from(lane), EAN13, "refused 35 Spent 61");
         take(&rt, &mut hub, &again)?;
     }
-    settles_three_of_each(&rt, hub)
+    settles(&rt, hub.close(rt.alloc())?, MOST, 0, ALL)
 }
 
 #[test]
@@ -351,12 +377,8 @@ fn seats_are_settled_in_any_order(rt: HostRuntime) -> Result<(), Fail> {
 #[test]
 fn a_hub_that_did_nothing_is_settled(rt: HostRuntime) -> Result<(), Fail> {
     let alloc = rt.alloc();
-    let lists = Station::new(&rt, alloc, shape(3, 2, 1))?
-        .close(alloc)?
-        .settle(&rt, alloc)?;
-    assert_eq!(rt; lists.len(), 3);
-    assert!(rt; lists.iter().all(|list| list.is_empty()));
-    Ok(())
+    let hub = Station::new(&rt, alloc, shape(3, 2, 1))?;
+    settles(&rt, hub.close(alloc)?, 3, 0, &[])
 }
 
 /// Whether there is no hub of a shape.
@@ -393,14 +415,7 @@ fn shapes_have_limits(rt: HostRuntime) -> Result<(), Fail> {
 
 #[test]
 fn the_largest_shape_has_a_hub(rt: HostRuntime) -> Result<(), Fail> {
-    let year = Year::new(2026).ok_or("year")?;
-    let largest = Shape {
-        lanes: 16,
-        workers: 16,
-        capacity: 1_024,
-        limit: u32::MAX,
-    };
-    assert!(rt; Hub::new(&rt, rt.alloc(), largest, year).is_ok());
+    Station::new(&rt, rt.alloc(), shape(16, 1_024, u32::MAX))?;
     Ok(())
 }
 

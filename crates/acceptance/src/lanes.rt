@@ -59,19 +59,26 @@ fn gives(deliverer: &mut Deliverer, number: u32) -> bool
     is_number(deliverer.take_next(0), 0, number)
 }
 
+/// That a new deliverer of one lane takes each delivery once, and gives them by their numbers.
+fn hands_two<R: AllocGlobal + Abort>(rt: &R, deliverer: &mut Deliverer) -> Result<(), Fail>
+    requires { 0 < lanes_of deliverer.old }
+{
+    let alloc = rt.alloc();
+    assert!(*rt; is_taken(deliverer, delivery(alloc, 0, 1)?));
+    assert!(*rt; deliverer.next(0).is_none());
+    assert!(*rt; is_taken(deliverer, delivery(alloc, 0, 0)?));
+    assert!(*rt; !is_taken(deliverer, delivery(alloc, 0, 0)?));
+    assert!(*rt; !is_taken(deliverer, delivery(alloc, 5, 0)?));
+    assert!(*rt; gives(deliverer, 0));
+    assert!(*rt; gives(deliverer, 1));
+    assert!(*rt; deliverer.take_next(0).is_none());
+    Ok(())
+}
+
 #[test]
 fn hands_deliveries_by_number(rt: HostRuntime) -> Result<(), Fail> {
-    let alloc = rt.alloc();
-    let mut deliverer = Deliverer::new(alloc, 1).ok().ok_or("deliverer")?;
-    assert!(rt; is_taken(&mut deliverer, delivery(alloc, 0, 1)?));
-    assert!(rt; deliverer.next(0).is_none());
-    assert!(rt; is_taken(&mut deliverer, delivery(alloc, 0, 0)?));
-    assert!(rt; !is_taken(&mut deliverer, delivery(alloc, 0, 0)?));
-    assert!(rt; !is_taken(&mut deliverer, delivery(alloc, 5, 0)?));
-    assert!(rt; gives(&mut deliverer, 0));
-    assert!(rt; gives(&mut deliverer, 1));
-    assert!(rt; deliverer.take_next(0).is_none());
-    Ok(())
+    let mut deliverer = Deliverer::new(rt.alloc(), 1).ok().ok_or("deliverer")?;
+    hands_two(&rt, &mut deliverer)
 }
 
 #[test]
@@ -149,53 +156,99 @@ fn hand_both(world: &mut World) -> Result<bool, Fail>
     Ok(collected && done(world, Event::Hand(0))? && done(world, Event::Hand(0))?)
 }
 
+/// That the lane polls the two in their order, and takes no row once it is closed.
+fn polls_both<R: AllocGlobal + Abort>(rt: &R, world: &mut World) -> Result<(), Fail>
+    requires { 0 < length world.old.lanes }
+{
+    does(rt, world, Event::Poll(0), true)?;
+    assert!(*rt; has_polled(world, 0, &[Carrier::Ean13]));
+    does(rt, world, Event::Close(0), true)?;
+    does(rt, world, Event::Submit(0, row(rt.alloc(), EAN8)?), false)?;
+    does(rt, world, Event::Poll(0), true)?;
+    does(rt, world, Event::Poll(0), false)?;
+    assert!(*rt; has_polled(world, 0, &[Carrier::Ean13, Carrier::Ean8]));
+    Ok(())
+}
+
+/// That none is handed before the first is collected, and both are then.
+fn hands_both<R: AllocGlobal + Abort>(rt: &R, world: &mut World) -> Result<(), Fail>
+    requires { 0 < length world.old.lanes }
+    ensures { 0 < length world.new.lanes }
+{
+    assert!(*rt; bring_the_second(rt.alloc(), world)?);
+    does(rt, world, Event::Hand(0), false)?;
+    assert!(*rt; hand_both(world)?);
+    Ok(())
+}
+
 #[test]
 fn polls_in_order_what_was_posted_out_of_order(rt: HostRuntime) -> Result<(), Fail> {
-    let alloc = rt.alloc();
-    let mut world = one_lane(alloc, 2)?;
-    assert!(rt; bring_the_second(alloc, &mut world)?);
-    does(&rt, &mut world, Event::Hand(0), false)?;
-    assert!(rt; hand_both(&mut world)?);
-    does(&rt, &mut world, Event::Poll(0), true)?;
-    assert!(rt; has_polled(&world, 0, &[Carrier::Ean13]));
-    does(&rt, &mut world, Event::Close(0), true)?;
-    does(&rt, &mut world, Event::Submit(0, row(alloc, EAN8)?), false)?;
-    does(&rt, &mut world, Event::Poll(0), true)?;
-    does(&rt, &mut world, Event::Poll(0), false)?;
-    assert!(rt; has_polled(&world, 0, &[Carrier::Ean13, Carrier::Ean8]));
+    let mut world = one_lane(rt.alloc(), 2)?;
+    hands_both(&rt, &mut world)?;
+    polls_both(&rt, &mut world)
+}
+
+/// That lane 0's ticket of this number is in this place.
+fn is_at<R: Abort>(rt: &R, world: &World, number: u32, wanted: Option<Place>) {
+    assert_eq!(*rt; world.place(Ticket { lane: 0, number }), wanted);
+}
+
+/// That the two tickets are in their places until the first is polled.
+fn are_at_each_place<R: AllocGlobal + Abort>(rt: &R, world: &mut World) -> Result<(), Fail>
+    requires { 0 < length world.old.lanes }
+    ensures { 0 < length world.new.lanes }
+{
+    is_at(rt, world, 0, None);
+    assert!(*rt; bring_the_second(rt.alloc(), world)?);
+    is_at(rt, world, 0, Some(Place::Worker));
+    is_at(rt, world, 1, Some(Place::Waiting));
+    assert!(*rt; hand_both(world)?);
+    is_at(rt, world, 1, Some(Place::Outbox));
+    does(rt, world, Event::Poll(0), true)?;
+    is_at(rt, world, 0, Some(Place::Polled));
     Ok(())
 }
 
 #[test]
 fn tells_where_each_ticket_is(rt: HostRuntime) -> Result<(), Fail> {
-    let alloc = rt.alloc();
-    let mut world = one_lane(alloc, 2)?;
-    let first = Ticket { lane: 0, number: 0 };
-    let second = Ticket { lane: 0, number: 1 };
-    assert_eq!(rt; world.place(first), None);
-    assert!(rt; bring_the_second(alloc, &mut world)?);
-    assert_eq!(rt; world.place(first), Some(Place::Worker));
-    assert_eq!(rt; world.place(second), Some(Place::Waiting));
-    assert!(rt; hand_both(&mut world)?);
-    assert_eq!(rt; world.place(second), Some(Place::Outbox));
-    does(&rt, &mut world, Event::Poll(0), true)?;
-    assert_eq!(rt; world.place(first), Some(Place::Polled));
+    let mut world = one_lane(rt.alloc(), 2)?;
+    are_at_each_place(&rt, &mut world)?;
     assert_eq!(rt; world.issued(0), 2);
     assert!(rt; !world.is_closed(0));
     Ok(())
 }
 
+/// That a new world of one lane does none of these but the close of its lane.
+fn does_the_close<R: Abort>(rt: &R, world: &mut World) -> Result<(), Fail>
+    requires { 0 < length world.old.lanes }
+{
+    does(rt, world, Event::Post(0), false)?;
+    does(rt, world, Event::Collect, false)?;
+    does(rt, world, Event::Poll(0), false)?;
+    does(rt, world, Event::Take(7), false)?;
+    does(rt, world, Event::Close(4), false)?;
+    does(rt, world, Event::Close(0), true)?;
+    does(rt, world, Event::Close(0), false)
+}
+
 #[test]
 fn passes_over_what_cannot_be_done(rt: HostRuntime) -> Result<(), Fail> {
-    let alloc = rt.alloc();
-    let mut world = one_lane(alloc, 1)?;
-    does(&rt, &mut world, Event::Post(0), false)?;
-    does(&rt, &mut world, Event::Collect, false)?;
-    does(&rt, &mut world, Event::Poll(0), false)?;
-    does(&rt, &mut world, Event::Take(7), false)?;
-    does(&rt, &mut world, Event::Close(4), false)?;
-    does(&rt, &mut world, Event::Close(0), true)?;
-    does(&rt, &mut world, Event::Close(0), false)
+    let mut world = one_lane(rt.alloc(), 1)?;
+    does_the_close(&rt, &mut world)
+}
+
+/// That a job has this ticket, the EAN-8 row and this year.
+fn is_job<R: Abort>(rt: &R, job: &Job, ticket: Ticket, year: Year) {
+    assert_eq!(*rt; job.ticket(), ticket);
+    assert_eq!(*rt; job.row().widths(), EAN8);
+    assert_eq!(*rt; job.year(), year);
+}
+
+/// The same of a delivery.
+fn is_delivery<R: Abort>(rt: &R, delivery: &Delivery, ticket: Ticket, year: Year) {
+    assert_eq!(*rt; delivery.ticket(), ticket);
+    assert_eq!(*rt; delivery.row().widths(), EAN8);
+    assert_eq!(*rt; delivery.year(), year);
 }
 
 #[test]
@@ -204,13 +257,9 @@ fn gives_a_job_and_its_parts_back(rt: HostRuntime) -> Result<(), Fail> {
     let year = Year::new(2026).ok_or("year")?;
     let ticket = Ticket { lane: 2, number: 9 };
     let job = Job::new(ticket, row(alloc, EAN8)?, year);
-    assert_eq!(rt; job.ticket(), ticket);
-    assert_eq!(rt; job.row().widths(), EAN8);
-    assert_eq!(rt; job.year(), year);
+    is_job(&rt, &job, ticket, year);
     let delivery = decode(Job::new(ticket, job.into_row(), year));
-    assert_eq!(rt; delivery.ticket(), ticket);
-    assert_eq!(rt; delivery.row().widths(), EAN8);
-    assert_eq!(rt; delivery.year(), year);
+    is_delivery(&rt, &delivery, ticket, year);
     let text = format!(in alloc; "{} {}", TakeFault::Stranger(delivery), NoMemory)?;
     assert_eq!(rt; text.as_str(), "refused 32 Stranger refused 43 NoMemory");
     Ok(())

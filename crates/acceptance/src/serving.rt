@@ -12,31 +12,39 @@ use std::sync::Wait;
 use std::test::Fail;
 use std::thread::Threads;
 
+/// A feed of these rows.
+fn feed(alloc: Global, rows: &[&[u16]]) -> Result<Vec<Runs>, Fail> {
+    let mut feed = Vec::new(alloc);
+    for widths in rows {
+        feed.push(row(alloc, widths)?)?;
+    }
+    Ok(feed)
+}
+
 /// Feeds of these rows.
 fn feeds(alloc: Global, lanes: &[&[&[u16]]]) -> Result<Vec<Vec<Runs>>, Fail> {
     let mut feeds = Vec::new(alloc);
     for rows in lanes {
-        let mut feed = Vec::new(alloc);
-        for widths in *rows {
-            feed.push(row(alloc, widths)?)?;
-        }
-        feeds.push(feed)?;
+        feeds.push(feed(alloc, rows)?)?;
     }
     Ok(feeds)
 }
 
-/// A line for each delivery: its lane and number, how many runs its row has, and the front of its
-/// answer.
+/// The line of a delivery: its lane and number, how many runs its row has, and the front of its answer.
+fn line(alloc: Global, place: usize, delivery: &Delivery) -> Result<String, Fail> {
+    let Ticket { lane, number } = delivery.ticket();
+    let count = delivery.row().widths().len();
+    let answer = format!(in alloc; "{:?}", delivery.answer())?;
+    let front = answer.as_str().split(',').next().ok_or("answer")?;
+    Ok(format!(in alloc; "{place}: {lane}/{number} {count} {front}\n")?)
+}
+
+/// A line for each delivery.
 fn shown(alloc: Global, lists: &[Vec<Delivery>]) -> Result<String, Fail> {
     let mut text = String::new(alloc);
     for (place, list) in lists.iter().enumerate() {
         for delivery in list {
-            let Ticket { lane, number } = delivery.ticket();
-            let count = delivery.row().widths().len();
-            let answer = format!(in alloc; "{:?}", delivery.answer())?;
-            let front = answer.as_str().split(',').next().ok_or("answer")?;
-            let line = format!(in alloc; "{place}: {lane}/{number} {count} {front}\n")?;
-            text.push_str(line.as_str())?;
+            text.push_str(line(alloc, place, delivery)?.as_str())?;
         }
     }
     Ok(text)
@@ -98,15 +106,20 @@ fn widths_of(lane: u8, number: u16) -> &'static [u16] {
     }
 }
 
+/// The feed of a lane.
+fn long_feed(alloc: Global, lane: u8) -> Result<Vec<Runs>, Fail> {
+    let mut feed = Vec::new(alloc);
+    for number in 0..count_of(lane) {
+        feed.push(row(alloc, widths_of(lane, number))?)?;
+    }
+    Ok(feed)
+}
+
 /// The feeds of sixteen lanes.
 fn long_feeds(alloc: Global) -> Result<Vec<Vec<Runs>>, Fail> {
     let mut feeds = Vec::new(alloc);
     for lane in 0..16 {
-        let mut feed = Vec::new(alloc);
-        for number in 0..count_of(lane) {
-            feed.push(row(alloc, widths_of(lane, number))?)?;
-        }
-        feeds.push(feed)?;
+        feeds.push(long_feed(alloc, lane)?)?;
     }
     Ok(feeds)
 }
@@ -147,6 +160,17 @@ fn many_rows_and_workers_change_no_order(rt: HostRuntime) -> Result<(), Fail> {
     Ok(())
 }
 
+/// That so many workers serve no such lanes.
+fn is_refused<R: Threads + Wait + AllocGlobal + Sync + Abort>(
+    rt: &R,
+    lanes: &[&[&[u16]]],
+    workers: u8,
+) -> Result<(), Fail> {
+    let found = answered(rt, lanes, workers, &OpenGate)?;
+    assert_eq!(*rt; found.as_str(), "refused 33 BadCount", "{workers} workers");
+    Ok(())
+}
+
 #[test]
 fn counts_are_1_to_16(rt: HostRuntime) -> Result<(), Fail> {
     let some: &[&[u16]] = &[EAN13];
@@ -160,30 +184,44 @@ fn counts_are_1_to_16(rt: HostRuntime) -> Result<(), Fail> {
         (seventeen, 1),
     ];
     for (lanes, workers) in cases {
-        let found = answered(&rt, lanes, *workers, &OpenGate)?;
-        assert_eq!(rt; found.as_str(), "refused 33 BadCount", "{workers} workers");
+        is_refused(&rt, lanes, *workers)?;
     }
+    Ok(())
+}
+
+// A row without a dark dot.
+const BLANK: &[u16] = &[100];
+
+// The rows of three lanes, and the lines of their deliveries.
+const THREE_LANES: &[&[&[u16]]] = &[&[], &[EAN8], &[EAN13, BLANK, EAN13, EAN8, BLANK]];
+
+const THREE_LANES_ANSWERED: &str = "1: 1/0 45 Read { carrier: Ean8\n\
+                                    2: 2/0 61 Read { carrier: Ean13\n\
+                                    2: 2/1 1 Refused(Blank)\n\
+                                    2: 2/2 61 Read { carrier: Ean13\n\
+                                    2: 2/3 45 Read { carrier: Ean8\n\
+                                    2: 2/4 1 Refused(Blank)\n";
+
+/// That so many workers answer the three lanes.
+fn serves_three_lanes<R: Threads + Wait + AllocGlobal + Sync + Abort>(
+    rt: &R,
+    workers: u8,
+) -> Result<(), Fail> {
+    let alloc = rt.alloc();
+    let year = Year::new(2026).ok_or("year")?;
+    let fed = feeds(alloc, THREE_LANES)?;
+    let lists = serve(rt, alloc, fed, workers, year, &OpenGate)?;
+    assert_eq!(*rt; lists.len(), 3);
+    let text = shown(alloc, lists.as_slice())?;
+    assert_eq!(*rt; text.as_str(), THREE_LANES_ANSWERED, "{workers} workers");
     Ok(())
 }
 
 #[test]
 fn any_number_of_workers_serves_the_same(rt: HostRuntime) -> Result<(), Fail> {
-    let alloc = rt.alloc();
-    let year = Year::new(2026).ok_or("year")?;
-    let blank: &[u16] = &[100];
-    let lanes: &[&[&[u16]]] = &[&[], &[EAN8], &[EAN13, blank, EAN13, EAN8, blank]];
-    let wanted = "1: 1/0 45 Read { carrier: Ean8\n\
-                  2: 2/0 61 Read { carrier: Ean13\n\
-                  2: 2/1 1 Refused(Blank)\n\
-                  2: 2/2 61 Read { carrier: Ean13\n\
-                  2: 2/3 45 Read { carrier: Ean8\n\
-                  2: 2/4 1 Refused(Blank)\n";
     let worker_counts: &[u8] = &[1, 2, 3, 16];
     for &workers in worker_counts {
-        let lists = serve(&rt, alloc, feeds(alloc, lanes)?, workers, year, &OpenGate)?;
-        assert_eq!(rt; lists.len(), 3);
-        let text = shown(alloc, lists.as_slice())?;
-        assert_eq!(rt; text.as_str(), wanted, "{workers} workers");
+        serves_three_lanes(&rt, workers)?;
     }
     Ok(())
 }

@@ -1,5 +1,5 @@
 //! Printed labels, images read and written, and readers and writers that fail.
-ghost use Rattle.std.specs.Prelude.{◌≡◌};
+ghost use Rattle.std.specs.Prelude.{◌≡◌, ◌<◌};
 
 use crate::rows::{ITF14, ITF14_WRONG};
 use code128_code::encode;
@@ -199,6 +199,13 @@ fn refuses_grids_outside_the_limits(_rt: HostRuntime) -> Result<(), Fail> {
     Ok(())
 }
 
+/// That labels are printed as these bytes.
+fn prints_bytes<R: AllocGlobal + Abort>(rt: &R, labels: &[Label], grid: Grid, wanted: &[u8]) {
+    let (found, outcome) = printed(rt.alloc(), labels, grid);
+    assert_eq!(*rt; outcome, Ok(()));
+    assert_eq!(*rt; found.as_slice(), wanted);
+}
+
 #[test]
 fn prints_a_label_as_its_bytes(rt: HostRuntime) -> Result<(), Fail> {
     let alloc = rt.alloc();
@@ -207,18 +214,14 @@ fn prints_a_label_as_its_bytes(rt: HostRuntime) -> Result<(), Fail> {
     let sheets = print_sheets(alloc, &labels, grid).ok().ok_or("print")?;
     let bytes = written(alloc, sheets.as_slice())?;
     assert_eq!(rt; bytes.as_slice(), PRINTED);
-    let (bytes, outcome) = printed(alloc, &labels, grid);
-    assert_eq!(rt; outcome, Ok(()));
-    assert_eq!(rt; bytes.as_slice(), PRINTED);
+    prints_bytes(&rt, &labels, grid, PRINTED);
     Ok(())
 }
 
 #[test]
 fn prints_no_bytes_without_labels(rt: HostRuntime) -> Result<(), Fail> {
     let grid = Grid::new(1, 113, 3, 1, 1).ok().ok_or("grid")?;
-    let (bytes, outcome) = printed(rt.alloc(), &[], grid);
-    assert_eq!(rt; outcome, Ok(()));
-    assert_eq!(rt; bytes.len(), 0);
+    prints_bytes(&rt, &[], grid, b"");
     Ok(())
 }
 
@@ -237,17 +240,17 @@ fn prints_ean13_and_upc_labels_that_fit(rt: HostRuntime) -> Result<(), Fail> {
     let suppressed = gtin("012345000065")?;
     let wide = Grid::new(2, 226, 5, 2, 2).ok().ok_or("wide")?;
     let narrow = Grid::new(2, 225, 5, 2, 2).ok().ok_or("narrow")?;
-    for (label, grid, wanted) in [
-        (Label::Ean13(number), wide, "1 sheets"),
-        (Label::Ean13(number), narrow, "refused 27 LabelWidth 0"),
-        (Label::UpcA(suppressed), wide, "1 sheets"),
-        (Label::UpcA(number), wide, "refused 26 LabelKind 0"),
-        (Label::UpcE(suppressed), wide, "1 sheets"),
-        (Label::UpcE(number), wide, "refused 26 LabelKind 0"),
-    ] {
-        prints(&rt, &[label], grid, wanted)?;
-    }
-    Ok(())
+    prints(&rt, &[Label::Ean13(number)], wide, "1 sheets")?;
+    prints(
+        &rt,
+        &[Label::Ean13(number)],
+        narrow,
+        "refused 27 LabelWidth 0",
+    )?;
+    prints(&rt, &[Label::UpcA(suppressed)], wide, "1 sheets")?;
+    prints(&rt, &[Label::UpcA(number)], wide, "refused 26 LabelKind 0")?;
+    prints(&rt, &[Label::UpcE(suppressed)], wide, "1 sheets")?;
+    prints(&rt, &[Label::UpcE(number)], wide, "refused 26 LabelKind 0")
 }
 
 #[test]
@@ -258,16 +261,16 @@ fn prints_itf14_and_ean8_labels_that_fit(rt: HostRuntime) -> Result<(), Fail> {
     let few = Grid::new(1, 81, 3, 1, 1).ok().ok_or("few")?;
     let case = Grid::new(1, 155, 3, 1, 1).ok().ok_or("case")?;
     let slim = Grid::new(1, 154, 3, 1, 1).ok().ok_or("slim")?;
-    for (label, grid, wanted) in [
-        (Label::Itf14(number), case, "1 sheets"),
-        (Label::Itf14(number), slim, "refused 27 LabelWidth 0"),
-        (Label::Itf14(short), case, "1 sheets"),
-        (Label::Ean8(short), few, "1 sheets"),
-        (Label::Ean8(number), wide, "refused 26 LabelKind 0"),
-    ] {
-        prints(&rt, &[label], grid, wanted)?;
-    }
-    Ok(())
+    prints(&rt, &[Label::Itf14(number)], case, "1 sheets")?;
+    prints(
+        &rt,
+        &[Label::Itf14(number)],
+        slim,
+        "refused 27 LabelWidth 0",
+    )?;
+    prints(&rt, &[Label::Itf14(short)], case, "1 sheets")?;
+    prints(&rt, &[Label::Ean8(short)], few, "1 sheets")?;
+    prints(&rt, &[Label::Ean8(number)], wide, "refused 26 LabelKind 0")
 }
 
 #[test]
@@ -327,10 +330,8 @@ fn fills_sheets_row_by_row(rt: HostRuntime) -> Result<(), Fail> {
         let sheet = sheets.get(sheet).ok_or("sheet")?;
         let found = row_of_cell(alloc, sheet, &grid, shape, cell, 1)?;
         begins_with(&rt, &found, left, runs);
-        let above = row_of_cell(alloc, sheet, &grid, shape, cell, 0)?;
-        is_light(&rt, &above);
-        let below = row_of_cell(alloc, sheet, &grid, shape, cell, 2)?;
-        is_light(&rt, &below);
+        is_light(&rt, &row_of_cell(alloc, sheet, &grid, shape, cell, 0)?);
+        is_light(&rt, &row_of_cell(alloc, sheet, &grid, shape, cell, 2)?);
     }
     Ok(())
 }
@@ -457,21 +458,28 @@ fn writes_fronts_of_files(rt: HostRuntime) -> Result<(), Fail> {
     Ok(())
 }
 
+/// That so many bytes of `PRINTED` are taken where there is room for no more.
+fn prints_front<R: AllocGlobal + Abort>(rt: &R, labels: &[Label], grid: Grid, room: usize)
+    requires { room < 55 }
+{
+    let mut sink = Narrow::new(rt.alloc(), room);
+    let outcome = print_pbm(rt.alloc(), labels, grid, &mut sink);
+    let wanted = if room == 54 {
+        Ok(())
+    } else {
+        Err(PrintFault::WriteFault)
+    };
+    assert_eq!(*rt; outcome, wanted);
+    assert_eq!(*rt; sink.taken(), &PRINTED[..room]);
+}
+
 #[test]
 fn prints_fronts_of_files(rt: HostRuntime) -> Result<(), Fail> {
     let alloc = rt.alloc();
     let grid = Grid::new(1, 113, 3, 1, 1).ok().ok_or("grid")?;
     let labels = [Label::Ean13(gtin("9501101530003")?)];
     for room in 0..55 {
-        let mut sink = Narrow::new(alloc, room);
-        let outcome = print_pbm(alloc, &labels, grid, &mut sink);
-        let wanted = if room == 54 {
-            Ok(())
-        } else {
-            Err(PrintFault::WriteFault)
-        };
-        assert_eq!(rt; outcome, wanted);
-        assert_eq!(rt; sink.taken(), &PRINTED[..room]);
+        prints_front(&rt, &labels, grid, room);
     }
     Ok(())
 }
@@ -485,9 +493,7 @@ fn prints_as_written<R: AllocGlobal + Abort>(
     let alloc = rt.alloc();
     let sheets = print_sheets(alloc, labels, grid).ok().ok_or("print")?;
     let wanted = written(alloc, sheets.as_slice())?;
-    let (found, outcome) = printed(alloc, labels, grid);
-    assert_eq!(*rt; outcome, Ok(()));
-    assert_eq!(*rt; found.as_slice(), wanted.as_slice());
+    prints_bytes(rt, labels, grid, wanted.as_slice());
     Ok(())
 }
 
@@ -553,15 +559,20 @@ fn prints_48_characters(rt: HostRuntime) -> Result<(), Fail> {
     Ok(())
 }
 
+/// That no byte of labels is printed, for this fault.
+fn prints_nothing<R: AllocGlobal + Abort>(rt: &R, labels: &[Label], grid: Grid, fault: SheetFault) {
+    let (bytes, outcome) = printed(rt.alloc(), labels, grid);
+    assert_eq!(*rt; outcome, Err(PrintFault::Sheet(fault)));
+    assert_eq!(*rt; bytes.len(), 0);
+}
+
 #[test]
 fn refuses_49_characters_and_narrow_cells(rt: HostRuntime) -> Result<(), Fail> {
     let wide = Grid::new(1, 594, 4, 1, 1).ok().ok_or("wide")?;
     let narrow = Grid::new(1, 593, 4, 1, 1).ok().ok_or("narrow")?;
     let labels = [Label::Gs1128(elements(LONGEST, 2026)?)];
     prints(&rt, &labels, narrow, "refused 27 LabelWidth 0")?;
-    let (bytes, outcome) = printed(rt.alloc(), &labels, narrow);
-    assert_eq!(rt; outcome, Err(PrintFault::Sheet(SheetFault::LabelWidth(0))));
-    assert_eq!(rt; bytes.len(), 0);
+    prints_nothing(&rt, &labels, narrow, SheetFault::LabelWidth(0));
     let longer = elements("91AAAAAAAAAAAAAAAAAAAAAAAAAAAAAAAAAAAAAAAAAAAAAAA", 2026)?;
     encode(&longer).err().ok_or("too many characters")?;
     prints(
@@ -570,6 +581,32 @@ fn refuses_49_characters_and_narrow_cells(rt: HostRuntime) -> Result<(), Fail> {
         wide,
         "refused 26 LabelKind 0",
     )
+}
+
+/// That each of the eight bar rows of a cell of twelve rows says this in 2026, and the others nothing.
+fn rows_say<R: AllocGlobal + Abort>(
+    rt: &R,
+    sheet: &Sheet,
+    grid: &Grid,
+    shape: Shape,
+    cell: u16,
+    wanted: &str,
+) -> Result<(), Fail>
+    requires width { grid.now.width ≡ shape.width }
+    requires height { grid.now.height ≡ shape.height }
+    requires columns { grid.now.columns ≡ shape.columns }
+    requires rows { grid.now.rows ≡ shape.rows }
+{
+    for y in 0..12 {
+        let runs = row_of_cell(rt.alloc(), sheet, grid, shape, cell, y)?;
+        let wanted = if 2 <= y && y < 10 {
+            wanted
+        } else {
+            "refused 19 Blank"
+        };
+        says(rt, &runs, 2026, wanted)?;
+    }
+    Ok(())
 }
 
 #[test]
@@ -609,15 +646,7 @@ fn reads_each_bar_row_as_its_label(rt: HostRuntime) -> Result<(), Fail> {
         (8, "refused 19 Blank"),
     ];
     for &(cell, wanted) in cases {
-        for y in 0..12 {
-            let runs = row_of_cell(alloc, sheet, &grid, shape, cell, y)?;
-            let wanted = if 2 <= y && y < 10 {
-                wanted
-            } else {
-                "refused 19 Blank"
-            };
-            says(&rt, &runs, 2026, wanted)?;
-        }
+        rows_say(&rt, sheet, &grid, shape, cell, wanted)?;
     }
     // Under a later reference year the label means a day of 2100, which has no such day.
     let runs = row_of_cell(alloc, sheet, &grid, shape, 5, 5)?;
