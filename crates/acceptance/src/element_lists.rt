@@ -7,7 +7,12 @@ use std::test::Fail;
 
 /// The elements of a text in 2026.
 fn parsed(text: &[u8]) -> Result<Elements, Fail> {
-    let year = Year::new(2026).ok_or("year")?;
+    parsed_in(2026, text)
+}
+
+/// The elements of a text under a reference year.
+fn parsed_in(reference: u16, text: &[u8]) -> Result<Elements, Fail> {
+    let year = Year::new(reference).ok_or("year")?;
     Ok(Elements::parse(text, year).ok().ok_or("a list")?)
 }
 
@@ -106,6 +111,25 @@ fn an_element_has_its_time(rt: HostRuntime) -> Result<(), Fail> {
     for &(line, day, time) in lines {
         let element = element(&parsed(line)?, 0)?;
         is_at(&rt, &element, day, time);
+    }
+    Ok(())
+}
+
+#[test]
+fn an_element_has_its_day_by_the_reference_year(rt: HostRuntime) -> Result<(), Fail> {
+    let cases: &[(u16, &[u8; 8], (i16, i8, i8))] = &[
+        (2026, b"17260200", (2026, 2, 28)),
+        (2026, b"17240229", (2024, 2, 29)),
+        (2026, b"17760101", (2076, 1, 1)),
+        (2026, b"17770101", (1977, 1, 1)),
+        (2080, b"17291231", (2129, 12, 31)),
+        (2080, b"17301231", (2130, 12, 31)),
+        (2080, b"17311231", (2031, 12, 31)),
+        (2026, b"17000229", (2000, 2, 29)),
+    ];
+    for &(reference, text, day) in cases {
+        let element = element(&parsed_in(reference, text)?, 0)?;
+        assert_eq!(rt; day_of(&element), Some(day));
     }
     Ok(())
 }

@@ -14,10 +14,16 @@ mod hubs;
 #[cfg(test)]
 mod lanes;
 #[cfg(test)]
+mod numbers;
+#[cfg(test)]
 mod rows;
+#[cfg(test)]
+mod runs;
 #[cfg(test)]
 mod serving;
 #[cfg(test)]
 mod sheets;
 #[cfg(test)]
 mod station;
+#[cfg(test)]
+mod symbols;

@@ -64,18 +64,6 @@ impl<W: Sink> Buffered<W> {
         }
         Ok(())
     }
-
-    /// The other sink. What waits for it is dropped.
-    pub fn into_inner(self) -> W
-        ensures { result ≡ self.sink }
-    {
-        let Buffered {
-            sink,
-            waiting: _,
-            has_failed: _,
-        } = self;
-        sink
-    }
 }
 
 impl<W: Sink> Sink for Buffered<W> {

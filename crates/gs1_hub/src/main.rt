@@ -13,8 +13,6 @@ mod commands;
 mod fault;
 mod help;
 mod laws;
-#[cfg(test)]
-mod tests;
 mod words;
 
 use crate::buffered::Buffered;

@@ -1,5 +1,5 @@
 //! Numbers and widths as fields spell them.
-ghost use Rattle.std.specs.Prelude.{None, Some, ◌==◌, ◌≡◌, ◌≤◌, ◌*◌, ◌+◌, ◌-◌, ◌++◌, vec_capacity, vec_len, true, false, nat_lt, length, ◌<◌, IfNone, IfOk, IfSome, IsTrue, List, OnOk, map, min, ℕ};
+ghost use Rattle.std.specs.Prelude.{None, Some, ◌==◌, ◌≡◌, ◌≤◌, ◌*◌, ◌-◌, true, false, nat_lt, length, ◌<◌, IfNone, IfOk, IfSome, IsTrue, List, OnOk, map, min, ℕ};
 ghost use Rattle.std.specs.List.{count_by, list_all, list_any};
 ghost use Rattle.std.specs.Char.{is_ascii_digit};
 ghost use Rattle.std.specs.Str.Parse.{digits_value};
@@ -141,17 +141,6 @@ fn digits<const N: usize>(text: &[u8]) -> Option<[u16; N]>
     each.then_some(widths)
 }
 
-/// Appends widths, for which there is room.
-fn push_each<const N: usize>(widths: &mut Vec<u16>, more: &[u16; N])
-    requires { vec_len widths.old + N ≤ vec_capacity widths.old }
-    ensures items { widths.new.items ≡ widths.old.items ++ more.now }
-    ensures capacity { vec_capacity widths.new ≡ vec_capacity widths.old }
-{
-    'widths: for i in 0..N {
-        widths.push_reserved(more[i]);
-    }
-}
-
 /// The widths that a field shows, each above 65,535 as 65,535, in a list with room for just these,
 /// and whether there is one such.
 fn read_widths(alloc: Global, field: &[u8]) -> Result<(Vec<u16>, bool), RecordRefusal>
@@ -162,17 +151,15 @@ fn read_widths(alloc: Global, field: &[u8]) -> Result<(Vec<u16>, bool), RecordRe
         → field_fault field.now ≡ Some f }
 {
     let count = count_words(field);
-    let Ok(mut widths) = Vec::with_capacity(alloc, count) else {
-        return Err(RecordRefusal::NoMemory);
-    };
+    let mut widths = Vec::with_capacity(alloc, count)?;
     let mut rest = field;
     let mut is_wide = false;
     'words: while widths.len() < count {
         rest = if let Some(eight) = digits::<8>(rest) {
-            push_each(&mut widths, &eight);
+            widths.extend_from_slice(&eight)?;
             &rest[16..]
         } else if let Some(two) = digits::<2>(rest) {
-            push_each(&mut widths, &two);
+            widths.extend_from_slice(&two)?;
             &rest[4..]
         } else {
             let Some((width, after)) = first_width(rest) else {

@@ -1,29 +1,9 @@
-use Rattle.std.proofs.Common.{◌+◌, ◌-◌, ◌++◌, ◌<◌, ◌≡◌, ◌≤◌, ◌||◌, ◌∙◌, ◌∷◌, Some, [], ap, arith, drop, length, min, nat_lt, subst, sym, take, vec_capacity, vec_len}
+use Rattle.std.proofs.Common.{◌-◌, ◌++◌, ◌<◌, ◌≡◌, ◌||◌, ◌∙◌, ◌∷◌, Some, [], ap, arith, drop, length, min, nat_lt, subst, sym, take}
 use Rattle.line_core.specs.lanes.Widths.{words_of}
 use Rattle.line_core.specs.declared.input.fault.RecordFault.TheVariants as fault
 use Rattle.line_core.proofs.lanes.DigitWidths.{digits_read}
 use Rattle.line_core.proofs.lanes.FieldWords.{AreRead, bad_rest, one_read}
 use Rattle.line_core.proofs.lanes.widths.read_widths.Goals as goal
-
-pub push_each-requires : goal.push_each-requires
-push_each-requires c =
-    let words = words_of c.args.field.now in
-    let found = c.words.widths.items in
-    let told = c.in-Some.ensures in
-    let low : length found < length words = omega (arith, c.count_words-count.ensures, c.len.ensures, c.words-test.true) in
-    let read = digits_read words 8 c.words.rest.now found c.in-Some.eight c.words.is_wide told.begins told.few.0 told.few.1 low c.words.invariant.read in
-    let room : vec_len c.words.widths + 8 ≤ vec_capacity c.words.widths = omega (arith, read.0, c.words.invariant.room, c.count_words-count.ensures) in
-    (omega arith, room)
-
-pub push_each-requires-in-Some-digits : goal.push_each-requires-in-Some-digits
-push_each-requires-in-Some-digits c =
-    let words = words_of c.args.field.now in
-    let found = c.words.widths.items in
-    let told = c.in-Some-digits.ensures in
-    let low : length found < length words = omega (arith, c.count_words-count.ensures, c.len.ensures, c.words-test.true) in
-    let read = digits_read words 2 c.words.rest.now found c.in-Some-digits.two c.words.is_wide told.begins told.few.0 told.few.1 low c.words.invariant.read in
-    let room : vec_len c.words.widths + 2 ≤ vec_capacity c.words.widths = omega (arith, read.0, c.words.invariant.room, c.count_words-count.ensures) in
-    (omega arith, room)
 
 pub returns-in_default-first_width-clause-refused : goal.returns-in_default-first_width-clause-refused
 returns-in_default-first_width-clause-refused c = λ f same.
@@ -32,8 +12,8 @@ returns-in_default-first_width-clause-refused c = λ f same.
     let low : length c.words.widths.items < length words = omega (arith, c.count_words-count.ensures, c.len.ensures, c.words-test.true) in
     bad_rest c.args.field.now (length c.words.widths.items) c.words.rest.now (c.words.invariant.read.rest low) c.in_default-first_width.ensures.none ∙ ap (λ x. Some x) here
 
-pub words-preserved-in-Some : goal.words-preserved-in-Some
-words-preserved-in-Some c =
+pub words-preserved-in_ok-extend_from_slice : goal.words-preserved-in_ok-extend_from_slice
+words-preserved-in_ok-extend_from_slice c =
     let words = words_of c.args.field.now in
     let text = c.words.rest.now in
     let found = c.words.widths.items in
@@ -41,12 +21,12 @@ words-preserved-in-Some c =
     let low : length found < length words = omega (arith, c.count_words-count.ensures, c.len.ensures, c.words-test.true) in
     let read = digits_read words 8 text found c.in-Some.eight c.words.is_wide told.begins told.few.0 told.few.1 low c.words.invariant.read in
     record {
-      read = subst (λ t. AreRead words (take (length text - 16) (drop 16 text)) t c.words.is_wide) (sym c.push_each.ensures.items) read.1;
-      room = c.push_each.ensures.capacity ∙ c.words.invariant.room;
+      read = subst (λ t. AreRead words (take (length text - 16) (drop 16 text)) t c.words.is_wide) (sym c.in_ok-extend_from_slice.ensures.items) read.1;
+      room = omega (arith, c.in_ok-extend_from_slice.ensures.capacity, c.words.invariant.room);
     }
 
-pub words-preserved-in-Some-digits : goal.words-preserved-in-Some-digits
-words-preserved-in-Some-digits c =
+pub words-preserved-in_ok-extend_from_slice-2 : goal.words-preserved-in_ok-extend_from_slice-2
+words-preserved-in_ok-extend_from_slice-2 c =
     let words = words_of c.args.field.now in
     let text = c.words.rest.now in
     let found = c.words.widths.items in
@@ -54,8 +34,8 @@ words-preserved-in-Some-digits c =
     let low : length found < length words = omega (arith, c.count_words-count.ensures, c.len.ensures, c.words-test.true) in
     let read = digits_read words 2 text found c.in-Some-digits.two c.words.is_wide told.begins told.few.0 told.few.1 low c.words.invariant.read in
     record {
-      read = subst (λ t. AreRead words (take (length text - 4) (drop 4 text)) t c.words.is_wide) (sym c.push_each-in-Some-digits.ensures.items) read.1;
-      room = c.push_each-in-Some-digits.ensures.capacity ∙ c.words.invariant.room;
+      read = subst (λ t. AreRead words (take (length text - 4) (drop 4 text)) t c.words.is_wide) (sym c.in_ok-extend_from_slice-2.ensures.items) read.1;
+      room = omega (arith, c.in_ok-extend_from_slice-2.ensures.capacity, c.words.invariant.room);
     }
 
 pub words-preserved : goal.words-preserved
@@ -69,5 +49,5 @@ words-preserved c =
       read =
           subst (λ t. AreRead (words_of c.args.field.now) c.in-Some-first_width.after.now t (c.words.is_wide || nat_lt 65535 width)) (sym items)
           (one_read (words_of c.args.field.now) width c.words.rest.now c.in-Some-first_width.after.now found c.words.is_wide low c.words.invariant.read c.in-Some-first_width.ensures.some);
-      room = c.push_reserved.ensures.capacity ∙ c.words.invariant.room;
+      room = omega (arith, c.push_reserved.ensures.capacity, c.words.invariant.room);
     }

@@ -1,4 +1,4 @@
-use Rattle.std.proofs.Common.{◌-◌, ◌≡◌, length}
+use Rattle.std.proofs.Common.{◌-◌, ◌≤◌, length}
 use Rattle.std.specs.Vec.{vec_capacity}
 use Rattle.line_core.specs.lanes.Widths.{words_of}
 use Rattle.line_core.proofs.lanes.FieldWords.{AreRead}
@@ -10,5 +10,5 @@ decreases-words l = l.count - length l.widths.items
 abbrev pub invariant-words : goal.invariant-words
 invariant-words l = record {
   read : AreRead (words_of l.field) l.rest l.widths.items l.is_wide;
-  room : vec_capacity l.widths ≡ l.count;
+  room : l.count ≤ vec_capacity l.widths;
 }

@@ -1,0 +1,86 @@
+"""Runs of the program, and what a test says of one."""
+
+import ctypes
+import mmap
+import os
+import resource
+import subprocess
+import tempfile
+import unittest
+
+# The program that is tested; `run` sets it.
+PATH = None
+
+# No run takes as long.
+SECONDS = 120
+
+
+class Ran:
+    """What a run left: its exit status, its output, and what it wrote on standard error."""
+
+    def __init__(self, status, output, error):
+        self.status, self.output, self.error = status, output, error
+
+    def outcome(self):
+        """The exit status, the output, and the lines on standard error, as a test compares them."""
+        return self.status, self.output, self.error.decode()
+
+
+def ran(command, given, **how):
+    """Runs the program's command, one word for each between spaces, on these bytes or on this open file."""
+    how["input" if isinstance(given, bytes) else "stdin"] = given
+    how.setdefault("stdout", subprocess.PIPE)
+    it = subprocess.run([PATH, *command.split()], stderr=subprocess.PIPE, timeout=SECONDS, **how)
+    return Ran(it.returncode, it.stdout, it.stderr)
+
+
+def ran_to(room, command, given):
+    """The same where the output is a file that has room for so many bytes: a write past them fails."""
+
+    def narrow():
+        resource.setrlimit(resource.RLIMIT_FSIZE, (room, room))
+
+    with tempfile.TemporaryFile() as file:
+        # Python ignores the signal of such a write, and so does what it starts, unless signals are restored.
+        it = ran(command, given, stdout=file, preexec_fn=narrow, restore_signals=False)
+        file.seek(0)
+        return Ran(it.status, file.read(), it.error)
+
+
+class Breaking:
+    """A file of some bytes, after which a read fails: the last bytes of a page of memory, and the page after it is
+    of a file that has no such page."""
+
+    def __init__(self, given):
+        with tempfile.TemporaryFile() as pages:
+            pages.truncate(2 * mmap.PAGESIZE)
+            self.room = mmap.mmap(pages.fileno(), 2 * mmap.PAGESIZE)
+            pages.truncate(mmap.PAGESIZE)
+        start = mmap.PAGESIZE - len(given)
+        self.room[start : mmap.PAGESIZE] = given
+        self.file = open("/proc/self/mem", "rb", buffering=0)
+        self.file.seek(ctypes.addressof(ctypes.c_char.from_buffer(self.room)) + start)
+
+    def __enter__(self):
+        return self.file
+
+    def __exit__(self, *_):
+        self.file.close()
+
+
+class CommandTest(unittest.TestCase):
+    """A test of commands."""
+
+    maxDiff = None
+
+    def gives(self, command, given, wanted):
+        """That a command writes this output, or is refused with this line and writes nothing: a refusal has no line end."""
+        given = given if isinstance(given, bytes) else given.encode()
+        if wanted and not wanted.endswith("\n"):
+            self.is_refused(ran(command, given), wanted)
+        else:
+            self.assertEqual(ran(command, given).outcome(), (0, wanted.encode(), ""))
+
+    def is_refused(self, it, line, output=b""):
+        """That a run was refused with this line, and wrote this before."""
+        self.assertEqual(it.outcome(), (1, output, f"{line}\n"))

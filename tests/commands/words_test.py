@@ -1,0 +1,170 @@
+"""Command lines: what they ask for, which are refused, and which ask for help."""
+
+import re
+
+from program import CommandTest, ran, ran_to
+from sheets import LOW, RECORD, image
+
+VERSION = "gs1_hub 1.0.0 (rattle logic dac8208d650f15bf)\n"
+
+YEAR = "--year <YEAR> Year that 1951 to 2149"
+WORKERS = "--workers <COUNT> threads 1 to 16"
+GRID = [
+    "--module <DOTS> module 1 to 8 dots",
+    "--width <DOTS> cell 1 to 4096 dots",
+    "--height <DOTS> cell 1 to 1024 dots",
+    "--columns <COUNT> Cells sheet 1 to 16",
+    "--rows <COUNT> Cells sheet 1 to 64",
+]
+
+
+class WordsTest(CommandTest):
+    def test_words_in_any_order(self):
+        label = image(LOW, 1, 0)
+        for words, given, wanted in [
+            ("lanes --lanes 3 --workers=16 --year 2026", b"2,0", b"2 0 refused 19 Blank\n"),
+            ("lanes --year 1951 --workers 1 --lanes 16", b"15,0", b"15 0 refused 19 Blank\n"),
+            ("check --year 2149", b"digit,12", b"digit 3\n"),
+            ("check --year=1951", b"digit,12", b"digit 3\n"),
+            ("print --rows 1 --year 2026 --columns=1 --height 3 --width 113 --module 1", RECORD.encode(), label),
+            (
+                "print --text --year=1951 --rows 16 --columns 4 --height 1024 --width 4096 --module 8",
+                RECORD.encode(),
+                b"0 0 ean13 (01)09501101530003\n",
+            ),
+            (
+                "print --module 2 --width 226 --text --height 5 --columns 1 --rows 1 --year 2149",
+                RECORD.encode(),
+                b"0 0 ean13 (01)09501101530003\n",
+            ),
+            (
+                "scan --workers=16 --year=1951 --rows 1 --columns 1 --height 3 --width 113 --module 1",
+                label,
+                b"0 0 ]E0 (01)09501101530003\n",
+            ),
+        ]:
+            with self.subTest(words):
+                self.assertEqual(ran(words, given).outcome(), (0, wanted, ""))
+
+    def test_the_ends_of_ranges(self):
+        for words in [
+            "print --module 8 --width 4096 --height 256 --columns 4 --rows 64 --year 2149",
+            "print --module 1 --width 1024 --height 1024 --columns 16 --rows 16 --year 1951",
+            "scan --module 8 --width 4096 --height 1024 --columns 1 --rows 16 --workers 16 --year 2149",
+            "scan --module 1 --width 1024 --height 3 --columns 16 --rows 64 --workers 1 --year 1951",
+            "lanes --lanes 16 --workers 16 --year 2149",
+        ]:
+            with self.subTest(words):
+                self.assertEqual(ran(words, b"").outcome(), (0, b"", ""))
+
+    def are_refused(self, command, options):
+        """That the program refuses each of these words of a command."""
+        for words in options:
+            with self.subTest(words):
+                it = ran(f"{command} {words}", b"")
+                self.assertEqual(it.outcome(), (2, b"", "refused 42 Words\n"))
+
+    def test_refused_words(self):
+        self.are_refused("", [
+            "gs1_hub",
+            "gs1_hub help",
+            "gs1_hub print",
+            "gs1_hub check",
+            "gs1_hub check --year 1950",
+            "gs1_hub check --year 2150",
+            "gs1_hub check --year 2026 --lanes 1",
+            "gs1_hub lanes",
+            "gs1_hub lanes --lanes 1 --workers 1",
+            "gs1_hub lanes --lanes 0 --workers 1 --year 2026",
+            "gs1_hub lanes --lanes 17 --workers 1 --year 2026",
+            "gs1_hub lanes --lanes 1 --workers 17 --year 2026",
+            "gs1_hub lanes --lanes 1 --workers 1 --year 1950",
+            "gs1_hub lanes --lanes 1 --workers 1 --year 2150",
+            "gs1_hub lanes --lanes 1 --lanes 1 --workers 1 --year 2026",
+            "gs1_hub lanes --lanes 1 --workers 1 --year 2026 more",
+            "gs1_hub print --module 1 --width 113 --height 3 --columns 1 --rows 1",
+            "gs1_hub print --module 9 --width 113 --height 3 --columns 1 --rows 1 --year 2026",
+            "gs1_hub print --module 1 --width 4097 --height 3 --columns 1 --rows 1 --year 2026",
+            "gs1_hub print --module 1 --width 113 --height 0 --columns 1 --rows 1 --year 2026",
+            "gs1_hub print --module 1 --width 113 --height 3 --columns 17 --rows 1 --year 2026",
+            "gs1_hub print --module 1 --width 113 --height 3 --columns 1 --rows 65 --year 2026",
+            "gs1_hub print --module 1 --width 113 --height 3 --columns 1 --rows 1 --year 2150",
+            "gs1_hub print --module 1 --width 113 --height 3 --columns 1 --rows 1 --year 2026 --text 1",
+        ])
+
+    def test_refused_words_of_scan(self):
+        self.are_refused("scan", [
+            "",
+            " --width 113 --height 3 --columns 1 --rows 1 --workers 1 --year 2026",
+            " --module 1 --height 3 --columns 1 --rows 1 --workers 1 --year 2026",
+            " --module 1 --width 113 --columns 1 --rows 1 --workers 1 --year 2026",
+            " --module 1 --width 113 --height 3 --rows 1 --workers 1 --year 2026",
+            " --module 1 --width 113 --height 3 --columns 1 --workers 1 --year 2026",
+            " --module 1 --width 113 --height 3 --columns 1 --rows 1 --year 2026",
+            " --module 1 --width 113 --height 3 --columns 1 --rows 1 --workers 1",
+            " --module 0 --width 113 --height 3 --columns 1 --rows 1 --workers 1 --year 2026",
+            " --module 1 --width 0 --height 3 --columns 1 --rows 1 --workers 1 --year 2026",
+            " --module 1 --width 113 --height 1025 --columns 1 --rows 1 --workers 1 --year 2026",
+            " --module 1 --width 113 --height 3 --columns 17 --rows 1 --workers 1 --year 2026",
+            " --module 1 --width 113 --height 3 --columns 1 --rows 65 --workers 1 --year 2026",
+            " --module 1 --width 113 --height 3 --columns 1 --rows 1 --workers 0 --year 2026",
+            " --module 1 --width 113 --height 3 --columns 1 --rows 1 --workers 17 --year 2026",
+            " --module 1 --width 113 --height 3 --columns 1 --rows 1 --workers 1 --year 2150",
+            " --module 1 --width 113 --height 3 --columns 1 --rows 1 --workers 1 --year 2026 more",
+            " --module 1 --width 113 --height 3 --columns 1 --rows 1 --workers 1 --year 2026 --text",
+        ])
+
+    def test_refused_numbers_of_a_grid(self):
+        for module, width, height, columns, rows, year in [
+            (0, 1, 1, 1, 1, 2026),
+            (9, 1, 1, 1, 1, 2026),
+            (1, 0, 1, 1, 1, 2026),
+            (1, 4097, 1, 1, 1, 2026),
+            (1, 1, 0, 1, 1, 2026),
+            (1, 1, 1025, 1, 1, 2026),
+            (1, 1, 1, 0, 1, 2026),
+            (1, 1, 1, 17, 1, 2026),
+            (1, 1, 1, 1, 0, 2026),
+            (1, 1, 1, 1, 65, 2026),
+            (1, 1, 1, 1, 1, 1950),
+            (1, 1, 1, 1, 1, 2150),
+        ]:
+            grid = f"--module {module} --width {width} --height {height} --columns {columns} --rows {rows} --year {year}"
+            self.are_refused("print", [grid, f"{grid} --text"])
+            self.are_refused("scan", [f"{grid} --workers 1"])
+        grid = "--module 1 --width 1 --height 1 --columns 1 --rows 1 --year 2026"
+        self.are_refused("scan", [f"{grid} --workers 0", f"{grid} --workers 17", f"{grid} --workers 255"])
+
+    def help_of(self, words):
+        """The help that these words ask for."""
+        it = ran(words, b"")
+        self.assertEqual((it.status, it.error), (0, b""))
+        return it.output.decode()
+
+    def test_units_and_ranges(self):
+        for command, options in [
+            ("check", [YEAR]),
+            ("lanes", ["--lanes <COUNT> lanes 1 to 16", WORKERS, YEAR]),
+            ("print", [*GRID, YEAR, "--text line label"]),
+            ("scan", [*GRID, WORKERS, YEAR]),
+        ]:
+            lines = self.help_of(f"{command} --help").split("\n")
+            for option in options:
+                with self.subTest(command=command, option=option):
+                    self.assertTrue(any(all(word in line for word in option.split()) for line in lines))
+
+    def test_examples(self):
+        for command in ["check", "lanes", "print", "scan"]:
+            shown = self.help_of(f"{command} --help")
+            self.assertRegex(shown, rf"(?m)^  \$ .*gs1_hub {re.escape(command)} --")
+            self.assertEqual(self.help_of(f"{command} -h"), shown)
+
+    def test_help_of_the_program(self):
+        shown = self.help_of("--help")
+        for part in ["check", "print", "lanes", "scan", "--help", "--version", "Exit status"]:
+            self.assertIn(part, shown)
+
+    def test_the_version(self):
+        for words in ["--version", "-V"]:
+            self.gives(words, b"", VERSION)
+        self.is_refused(ran_to(7, "--version", b""), "refused 38 WriteFault", b"gs1_hub")
