@@ -29,7 +29,7 @@ pub trait Source {
 }
 
 // How many bytes are asked for at a time.
-const CHUNK: usize = 4096;
+const CHUNK: usize = 65_536;
 
 /// Why an input was not read whole.
 #[derive(Clone, Copy, Debug, PartialEq, Eq)]

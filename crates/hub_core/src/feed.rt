@@ -14,7 +14,7 @@ use std::sync::Wait;
 const RUN: u32 = 64;
 
 /// For so many rows of a lane one worker more is woken.
-const SHARE: u32 = 16;
+const SHARE: u32 = 64;
 
 /// How many rows of a lane may be under way, so that few answers wait for one that is late.
 const MOST_UNDER_WAY: u32 = 1_024;

@@ -241,7 +241,7 @@ pushed_text f lane first longer now v texts answers t a more so same at is =
     ∙ ap (λ u. with_lines 0 first texts answers ++ u ∷ []) (is ∙ ap (λ k. t ++ lines_from k first a) count)
     ∙ sym (one_more_text 0 first texts answers t a same)
 
-pub run_step : (k : ℕ) → (k + 1) * 4096 ≡ k * 4096 + 4096
+pub run_step : (k : ℕ) → (k + 1) * 2048 ≡ k * 2048 + 2048
 run_step k = omega arith
 
 pub no_text : {V : Type 0} (f : V → List (List ℕ)) (vs : List V) → map {B = List ℕ} (λ v. []) vs ≡ map {B = List ℕ} (λ feed. []) (map f vs)

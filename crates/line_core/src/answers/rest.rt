@@ -6,7 +6,7 @@ use std::alloc::{AllocError, Global};
 use std::marker::Model;
 
 /// How many rows of each lane are served in a run, at most.
-pub const RUN: usize = 4_096;
+pub const RUN: usize = 2_048;
 
 /// Rows of a lane in their order, of which the first are taken.
 #[derive(Drop)]

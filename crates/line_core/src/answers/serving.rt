@@ -19,7 +19,7 @@ use std::sync::Wait;
 use std::thread::Threads;
 
 /// In so many runs each feed is served, whatever its length.
-const MOST_RUNS: usize = 1_048_576;
+const MOST_RUNS: usize = 2_097_152;
 
 /// Why rows are not answered.
 #[derive(Clone, Copy, Debug, PartialEq, Eq)]

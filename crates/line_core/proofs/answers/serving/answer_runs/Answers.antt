@@ -30,7 +30,7 @@ returns g c =
     let inv = c.loop-run.invariant in
     let feeds = map (λ feed. feed.items) c.args.feeds.items in
     let first = c.loop-run.run * RUN in
-    let high : 4294967295 ≤ c.loop-run.run * 4096 = omega (arith, c.loop-run-test.false) in
+    let high : 4294967295 ≤ c.loop-run.run * 2048 = omega (arith, c.loop-run-test.false) in
     let whole = short_taken first feeds high (counted_short feeds c.args.workers c.requires) in
     (inv.answers, subst (λ fs. AllZip (λ rows read. Reads rows c.args.year read) fs inv.answers) whole inv.read, inv.texts)
 
