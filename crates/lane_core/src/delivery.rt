@@ -5,29 +5,29 @@ ghost use Rattle.scan_core.specs.Answers.{IsAnswer};
 use crate::job::{Job, Plain};
 use crate::ticket::Ticket;
 use element_core::Year;
-use scan_core::{Answer, Runs, read_row};
+use scan_core::{Answer, Found, Runs, find_symbol};
 use std::marker::Model;
 
-/// A row under its ticket, with the answer to it.
+/// A row under its ticket, with what was found in it, which is all that its answer is made of.
 #[derive(Debug, Drop)]
 pub struct Delivery {
     job: Job,
-    answer: Answer,
+    found: Found,
 }
 
 // Its size in bytes is paid at the queue of results, at its lane's place and at the ring.
-const _: () = prove!(size_of::<Delivery>() == 256);
+const _: () = prove!(size_of::<Delivery>() == 160);
 
 impl Model for Delivery {
     ghost use Rattle.lane_core.specs.declared.job.Plain.{Plain};
 
     ghost Value = { Plain };
 
-    ghost use Rattle.scan_core.specs.Answers.{IsAnswer};
+    ghost use Rattle.scan_core.specs.Reading.{IsFound};
 
     ghost view = { λ delivery. delivery.job };
 
-    ghost invariant = { λ delivery. IsAnswer delivery.job.widths delivery.job.year delivery.answer };
+    ghost invariant = { λ delivery. IsFound delivery.job.widths delivery.found };
 }
 
 impl Delivery {
@@ -53,18 +53,19 @@ impl Delivery {
         self.job.year()
     }
 
-    /// The answer to the row by the reference year: a delivery has no other.
-    pub fn answer(&self) -> &Answer
-        ensures { IsAnswer self.now.widths self.now.year result.now }
+    /// The answer to the row by the reference year: a delivery has no other. Its elements are made here, of the
+    /// symbol that was found.
+    pub fn answer(&self) -> Answer
+        ensures { IsAnswer self.now.widths self.now.year result }
     {
-        &self.answer
+        self.found.answer(self.job.year())
     }
 }
 
-/// Reads the job's row; ticket, row and year stay.
+/// Reads the job's row, up to the symbol that it shows; ticket, row and year stay.
 pub fn decode(job: Job) -> Delivery
     ensures { result ≡ job }
 {
-    let answer = read_row(job.row(), job.year());
-    Delivery { job, answer }
+    let found = find_symbol(job.row());
+    Delivery { job, found }
 }

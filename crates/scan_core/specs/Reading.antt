@@ -10,7 +10,10 @@ use Rattle.scan_core.specs.declared.stage.Stage.{Stage}
 use Rattle.scan_core.specs.declared.stage.Stage.TheVariants as stages
 use Rattle.scan_core.specs.declared.symbol.Symbol.{Symbol}
 use Rattle.scan_core.specs.declared.symbol.Symbol.TheVariants.{Number, BadCheckDigit, Characters}
-use Rattle.scan_core.specs.Answers.{number_of, row_text}
+use Rattle.code128_code.specs.declared.symbol_values.Values.{Values}
+use Rattle.scan_core.specs.declared.found.Found.{Found}
+use Rattle.scan_core.specs.declared.found.Found.TheVariants as found
+use Rattle.scan_core.specs.Answers.{IsRefused, Tells, number_of, row_text}
 
 -- the fault of a row that fails at this stage
 abbrev pub stage_fault : Stage → RowFault
@@ -22,14 +25,28 @@ stage_fault stages.Pattern = Pattern
 abbrev pub later : Stage → Stage → Stage
 later first second = if nat_lt (number_of first) (number_of second) then second else first
 
+-- the text of a number: AI 01 and its fourteen digits
+abbrev pub number_text : List ℕ → Result (List ℕ) RowFault
+number_text gtin = Ok (codes "01" ++ ascii_of gtin)
+
+-- the text that the values of a Code 128 symbol say, or their fault
+abbrev pub text_in : Values → Result (List ℕ) RowFault
+text_in values = row_text (symbol_text values.start values.values.items values.check)
+
 -- what a symbol spells, by what it was found to be
 abbrev pub content_of : Symbol → Result (List ℕ) RowFault
-content_of (Number gtin) = Ok (codes "01" ++ ascii_of gtin)
+content_of (Number gtin) = number_text gtin
 content_of BadCheckDigit = Err SymbolCheckDigit
-content_of (Characters values) = row_text (symbol_text values.start values.values.items values.check)
+content_of (Characters values) = text_in values
 
 -- under this reference year these are the elements of what is spelled, or this is the fault
 abbrev pub IsReadAs : ℕ → Result (List ℕ) RowFault → Result Listing RowFault → Type 0
 IsReadAs year (Ok text) (Ok listing) = (listing.year ≡ year) × IsElements year text listing.list
 IsReadAs year (Ok text) (Err fault) = (first : ElementFault) × FirstFault year text first × (fault ≡ Elements first)
 IsReadAs year (Err fault) read = read ≡ Err fault
+
+-- this is found in the row: a symbol that it shows, or why it is refused, whatever the year
+abbrev pub IsFound : List ℕ → Found → Type 0
+IsFound runs (found.Number carrier gtin) = Tells runs carrier (number_text gtin)
+IsFound runs (found.Characters carrier values) = Tells runs carrier (text_in values)
+IsFound runs (found.Refused fault) = (year : ℕ) → IsRefused runs year fault

@@ -1,12 +1,13 @@
 //! What a row says.
 ghost use Rattle.std.specs.Prelude.{None, Some, ◌≡◌, ◌≢◌, IfErr, IfOk, OnOk, ℕ, length, sum};
 ghost use Rattle.scan_core.specs.Answers.{Fails, FailsAt, IsAnswer, IsRefused, Tells};
-ghost use Rattle.scan_core.specs.Reading.{content_of};
+ghost use Rattle.scan_core.specs.Reading.{IsFound, content_of};
 ghost use Rattle.scan_core.specs.Row.{IsRow, inner, runs_fault};
 ghost use Rattle.scan_core.specs.Showing.{IsCandidate};
 
 use crate::carrier::{Candidate, Carrier, fixed_candidate, gs1128_candidate};
 use crate::fault::{RowFault, RunFault};
+use crate::found::Found;
 use crate::rounding::{is_quiet, round, total_dots};
 use crate::runs::{Runs, inner, runs_fault};
 use crate::stage::{Stage, later};
@@ -80,7 +81,7 @@ fn try_both(widths: &[u16], total: u32, fixed: Candidate, gs1128: Candidate) -> 
 }
 
 /// The symbol that the row shows, or why it is refused.
-fn find_symbol(widths: &[u16]) -> Result<Shown, RowFault>
+fn find_shown(widths: &[u16]) -> Result<Shown, RowFault>
     requires { IsRow widths.now }
     ensures shown { IfOk result (λ s. Tells widths.now s.carrier (content_of s.symbol)) }
     ensures refused { IfErr result (λ fault. (year : ℕ) → IsRefused widths.now year fault) }
@@ -98,22 +99,35 @@ fn find_symbol(widths: &[u16]) -> Result<Shown, RowFault>
     }
 }
 
+/// What is found in the row of these widths.
+fn found_in(widths: &[u16]) -> Found
+    requires { IsRow widths.now }
+    ensures { IsFound widths.now result }
+{
+    let Shown { carrier, symbol } = match find_shown(widths) {
+        Ok(shown) => shown,
+        Err(fault) => return Found::Refused(fault),
+    };
+    match symbol {
+        Symbol::Number(gtin) => Found::Number(carrier, gtin),
+        Symbol::BadCheckDigit => Found::Refused(RowFault::SymbolCheckDigit),
+        Symbol::Characters(values) => Found::Characters(carrier, values),
+    }
+}
+
+/// The symbol that the row shows, or why it is refused: what `read_row` finds before it makes the elements.
+pub fn find_symbol(runs: &Runs) -> Found
+    ensures { IsFound runs.now result }
+{
+    found_in(runs.widths())
+}
+
 /// What the row of these widths says.
-pub(crate) fn answer_of(widths: &[u16], year: Year) -> Answer
+pub(crate) fn answer_in(widths: &[u16], year: Year) -> Answer
     requires { IsRow widths.now }
     ensures { IsAnswer widths.now year result }
 {
-    let shown = match find_symbol(widths) {
-        Ok(shown) => shown,
-        Err(fault) => return Answer::Refused(fault),
-    };
-    match shown.symbol.elements(year) {
-        Ok(elements) => Answer::Read {
-            carrier: shown.carrier,
-            elements,
-        },
-        Err(fault) => Answer::Refused(fault),
-    }
+    found_in(widths).answer(year)
 }
 
 /// What the row says, read from the left or from the right (GS1 General Specifications, section 5;
@@ -124,7 +138,7 @@ pub(crate) fn answer_of(widths: &[u16], year: Year) -> Answer
 pub fn read_row(runs: &Runs, year: Year) -> Answer
     ensures { IsAnswer runs.now year result }
 {
-    answer_of(runs.widths(), year)
+    answer_in(runs.widths(), year)
 }
 
 /// What the row of these widths in dots says, as `read_row` does, or why they are no row. No memory is
@@ -137,5 +151,5 @@ pub fn read_widths(widths: &[u16], year: Year) -> Result<Answer, RunFault>
     if let Some(fault) = runs_fault(widths) {
         return Err(fault);
     }
-    Ok(answer_of(widths, year))
+    Ok(answer_in(widths, year))
 }

@@ -5,7 +5,7 @@ ghost use Rattle.scan_core.specs.Bits.{dots_at};
 ghost use Rattle.scan_core.specs.FirstRuns.{AreFirst, IsLongRow};
 ghost use Rattle.scan_core.specs.Row.{IsRow, dots_of};
 
-use crate::answer::{Answer, answer_of};
+use crate::answer::{Answer, answer_in};
 use crate::bits::run_end;
 use crate::fault::RowFault;
 use arrayvec::ArrayVec;
@@ -70,7 +70,7 @@ pub fn read_dots(bits: &[u8], width: u16, year: Year) -> Answer
     ensures { (runs : List ℕ) × IsRow runs × (dots_of runs ≡ dots_at bits.now 0 width) × IsAnswer runs year result }
 {
     match few_runs(bits, width) {
-        Some(widths) => answer_of(widths.as_slice(), year),
+        Some(widths) => answer_in(widths.as_slice(), year),
         None => Answer::Refused(RowFault::RunCount),
     }
 }

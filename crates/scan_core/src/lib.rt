@@ -7,6 +7,7 @@ mod bits;
 mod carrier;
 mod dots;
 mod fault;
+mod found;
 mod identifier;
 mod laws;
 mod rounding;
@@ -14,10 +15,11 @@ mod runs;
 mod stage;
 mod symbol;
 
-pub use answer::{Answer, read_row, read_widths};
+pub use answer::{Answer, find_symbol, read_row, read_widths};
 pub use carrier::Carrier;
 pub use dots::read_dots;
 pub use fault::{RowFault, RunFault};
+pub use found::Found;
 pub use laws::{
     dots_determine, dots_make_row, each_ratio_is_read, never_too_long, one_answer, one_symbol,
     other_rows_keep, replaced_character_is_noticed, replacement_is_noticed, row_or_fault,

@@ -3,15 +3,13 @@ ghost use Rattle.std.specs.Prelude.{IfNone, IfSome, List, ℕ};
 ghost use Rattle.ean_code.specs.Spelling.{IsSpelled};
 ghost use Rattle.ean_code.specs.Symbols.{IsNumberSymbol, Kind};
 ghost use Rattle.scan_core.specs.Answers.{Spells, SpellsNumber};
-ghost use Rattle.scan_core.specs.Reading.{IsReadAs, content_of};
+ghost use Rattle.scan_core.specs.Reading.{content_of};
 ghost use Rattle.scan_core.specs.Showing.{HasForm, Way, along};
 
 use crate::carrier::Carrier;
-use crate::fault::RowFault;
-use code128_code::{Values, text_of, values};
+use code128_code::{Values, values};
 use digits_core::Gtin;
 use ean_code::{Modules, Spelled, read_ean8, read_ean13, read_itf14, read_upce};
-use element_core::{Elements, Year};
 
 /// What a symbol is found to be.
 #[derive(Drop)]
@@ -63,22 +61,6 @@ pub(crate) fn read_some_way(carrier: Carrier, modules: &mut Modules) -> Option<S
         None => {
             modules.reverse();
             read_symbol(carrier, modules)
-        }
-    }
-}
-
-impl Symbol {
-    /// The elements that the symbol says, dates under the reference year.
-    pub(crate) fn elements(&self, year: Year) -> Result<Elements, RowFault>
-        ensures { IsReadAs year (content_of self.now) result }
-    {
-        match self {
-            Symbol::Number(gtin) => Ok(Elements::of_gtin(gtin, year)),
-            Symbol::BadCheckDigit => Err(RowFault::SymbolCheckDigit),
-            Symbol::Characters(values) => {
-                let text = text_of(values)?;
-                Ok(Elements::parse(text.as_slice(), year)?)
-            }
         }
     }
 }

@@ -79,7 +79,7 @@ fn push_lines(
         match place {
             Some(row) => push_line(text, lane, first + number, &read_row(row, year))?,
             None => {
-                push_line(text, lane, first + number, list[delivered].answer())?;
+                push_line(text, lane, first + number, &list[delivered].answer())?;
                 delivered += 1;
             }
         }

@@ -34,8 +34,8 @@ fn write_rows<W: Sink>(line: &[u8], count: u16, sink: &mut W) -> Result<(), Fail
 /// Writes the dot rows of a row of cells. `line` is one of them, and what it holds before is of no account.
 fn write_band<W: Sink>(
     line: &mut [u8],
-    labels: &[Label],
     grid: &Grid,
+    labels: &[Label],
     sink: &mut W,
 ) -> Result<(), Failed>
     requires long { length line.old ≡ stride (grid.now.columns * grid.now.width) }
@@ -76,7 +76,7 @@ fn write_sheet<W: Sink>(
     let columns = usize::from(grid.columns);
     for row in 0..grid.rows {
         let here = part(labels, usize::from(row) * columns, columns);
-        write_band(line, here, grid, sink)?;
+        write_band(line, grid, here, sink)?;
     }
     Ok(())
 }

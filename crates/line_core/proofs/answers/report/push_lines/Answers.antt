@@ -55,7 +55,7 @@ rows-preserved c =
             let more = take_more list at x low ∙ ap (λ x. take at list ++ x ∷ []) (sym w.index-list-delivered.is) in
             let line = w.in_ok-push_line-in-None.ensures in
             rw (w.delivered-is, w.text-is)
-            (pushed_delivered c.args.year c.args.lane c.args.first places list (string_bytes c.args.text.now) n at (string_bytes c.rows.text) _ w.answer.result.now c.requires.places was line
+            (pushed_delivered c.args.year c.args.lane c.args.first places list (string_bytes c.args.text.now) n at (string_bytes c.rows.text) _ w.answer.result c.requires.places was line
             x empty more w.answer.ensures)
       ];
     }

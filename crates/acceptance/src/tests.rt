@@ -1,0 +1,15 @@
+//! The tests, a module for each subject.
+
+mod adapters;
+mod element_lists;
+mod elements;
+mod held;
+mod hubs;
+mod lanes;
+mod numbers;
+mod rows;
+mod runs;
+mod serving;
+mod sheets;
+mod station;
+mod symbols;

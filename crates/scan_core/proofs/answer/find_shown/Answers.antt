@@ -1,0 +1,53 @@
+use Rattle.std.proofs.Common.{length, subst, arith, inl, inr}
+use Rattle.std.proofs.lemmas.Result.{err_from_is_err_and}
+use Rattle.scan_core.specs.Answers.{Fails}
+use Rattle.scan_core.specs.Row.{inner}
+use Rattle.scan_core.specs.Showing.{IsCandidate}
+use Rattle.scan_core.proofs.CandidateFacts.{which}
+use Rattle.scan_core.proofs.RowFacts.{has_dark}
+use Rattle.scan_core.proofs.StageFacts.{alone_fixed, alone_gs1128, refused_at}
+use Rattle.scan_core.proofs.answer.find_shown.Goals as goal
+
+pub returns-in_err-try_candidate-in-Some-None-clause-refused :
+    goal.returns-in_err-try_candidate-in-Some-None-clause-refused
+returns-in_err-try_candidate-in-Some-None-clause-refused c =
+    let from = c.from_residual-in_err-try_candidate-in-Some-None in
+    let p = err_from_is_err_and from.result from.ensures.1 in
+    let runs = c.args.widths.now in
+    let fixed = c.in-Some-None.fixed in
+    let stage = c.in_err-try_candidate-in-Some-None.field-0.0 in
+    let candidate : IsCandidate fixed.carrier (length (inner runs)) fixed.count = rw c.inner-inner.ensures at c.in-Some-None.ensures.found in
+    rw (p.1, p.2)
+    (λ year. refused_at stage runs year
+    (alone_fixed runs fixed.carrier fixed.count stage c.in-Some-None.ensures.fixed candidate
+    (λ M h. c.in-Some-None.ensures'.none M (rw c.inner-inner.ensures h))
+    c.in_err-try_candidate-in-Some-None.ensures.fails))
+
+pub returns-in_err-try_candidate-in-None-Some-clause-refused :
+    goal.returns-in_err-try_candidate-in-None-Some-clause-refused
+returns-in_err-try_candidate-in-None-Some-clause-refused c =
+    let from = c.from_residual-in_err-try_candidate-in-None-Some in
+    let p = err_from_is_err_and from.result from.ensures.1 in
+    let runs = c.args.widths.now in
+    let gs1128 = c.in-None-Some.gs1128 in
+    let stage = c.in_err-try_candidate-in-None-Some.field-0.0 in
+    let is = c.in-None-Some.ensures.gs1128 in
+    let candidate : IsCandidate gs1128.carrier (length (inner runs)) gs1128.count = rw c.inner-inner.ensures at c.in-None-Some.ensures.found in
+    rw (p.1, p.2)
+    (λ year. refused_at stage runs year
+    (alone_gs1128 runs gs1128.count stage (subst (λ d. IsCandidate d (length (inner runs)) gs1128.count) is candidate)
+    (λ d M ne h. (rw c.in-None-Some.is-0 at c.fixed_candidate.ensures.none) d M ne (rw c.inner-inner.ensures h))
+    (subst (λ d. Fails runs d gs1128.count stage) is c.in_err-try_candidate-in-None-Some.ensures.fails)))
+
+pub returns-in-None-None-clause-refused : goal.returns-in-None-None-clause-refused
+returns-in-None-None-clause-refused c =
+    let runs = c.args.widths.now in
+    let odd = c.requires.odd_number in
+    λ year. (
+      has_dark runs c.requires (omega arith),
+      λ d N h.
+          elim (which d) [
+            | inl e ↦ c.in-None-None.ensures.none N (rw c.inner-inner.ensures (subst (λ o. IsCandidate o (length (inner runs)) N) e h))
+            | inr ne ↦ (rw c.in-None-None.is-0 at c.fixed_candidate.ensures.none) d N ne (rw c.inner-inner.ensures h)
+          ],
+    )

@@ -1,0 +1,55 @@
+//! What is found in a row before its elements are made.
+ghost use Rattle.std.specs.Prelude.{List, ℕ};
+ghost use Rattle.scan_core.specs.Answers.{IsAnswer};
+ghost use Rattle.scan_core.specs.Reading.{IsFound, IsReadAs, text_in};
+
+use crate::answer::Answer;
+use crate::carrier::Carrier;
+use crate::fault::RowFault;
+use code128_code::{Values, text_of};
+use digits_core::Gtin;
+use element_core::{Elements, Year};
+
+/// What is found in a row: the symbol that it shows, or why it is refused. The row's answer is made of it.
+///
+/// It is little more than half as large as an answer, since the characters of a symbol take less room than
+/// their text may.
+#[derive(Debug, Drop)]
+pub enum Found {
+    /// A symbol of EAN, UPC or ITF-14, of this GTIN.
+    Number(Carrier, Gtin),
+    /// A symbol of Code 128, of these values.
+    Characters(Carrier, Values),
+    /// Why the row is refused, whatever the reference year.
+    Refused(RowFault),
+}
+
+/// The elements that the values of a Code 128 symbol say, dates under the reference year.
+fn elements_of(values: &Values, year: Year) -> Result<Elements, RowFault>
+    ensures { IsReadAs year (text_in values.now) result }
+{
+    let text = text_of(values)?;
+    Ok(Elements::parse(text.as_slice(), year)?)
+}
+
+impl Found {
+    /// What the row says in which this was found, dates under the reference year.
+    pub fn answer(&self, year: Year) -> Answer
+        ensures { (runs : List ℕ) → IsFound runs self.now → IsAnswer runs year result }
+    {
+        match self {
+            Found::Number(carrier, gtin) => Answer::Read {
+                carrier: *carrier,
+                elements: Elements::of_gtin(gtin, year),
+            },
+            Found::Characters(carrier, values) => match elements_of(values, year) {
+                Ok(elements) => Answer::Read {
+                    carrier: *carrier,
+                    elements,
+                },
+                Err(fault) => Answer::Refused(fault),
+            },
+            Found::Refused(fault) => Answer::Refused(*fault),
+        }
+    }
+}
