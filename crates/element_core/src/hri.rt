@@ -10,6 +10,16 @@ ghost use Rattle.element_core.specs.Walks.{AreAscii};
 use crate::front::front_of;
 use arrayvec::ArrayString;
 use digits_core::put_at;
+use std::str::from_utf8_unchecked;
+
+/// ASCII bytes as the text that they are.
+fn ascii_str(bytes: &[u8]) -> &str
+    requires { All (λ b. b < 128) bytes.now }
+    ensures { result.now ≡ bytes.now }
+{
+    // ASCII is UTF-8.
+    unsafe { from_utf8_unchecked(bytes) }
+}
 
 /// Puts ASCII bytes at the end.
 fn push_bytes(line: &mut ArrayString<288>, bytes: &[u8])
@@ -17,9 +27,7 @@ fn push_bytes(line: &mut ArrayString<288>, bytes: &[u8])
     requires room { array_string_len line.old + length bytes.now ≤ 288 }
     ensures { line.new.bytes ≡ line.old.bytes ++ bytes.now }
 {
-    for b in bytes {
-        line.push(*b as char);
-    }
+    line.push_str(ascii_str(bytes));
 }
 
 /// Puts an element at the end: its AI in parentheses, then its value.
@@ -58,9 +66,7 @@ fn add_bytes(line: &mut String, bytes: &[u8])
     ensures len { string_len line.new ≡ string_len line.old + length bytes.now }
     ensures capacity { string_capacity line.old ≤ string_capacity line.new }
 {
-    for b in bytes {
-        let _ = line.push(*b as char);
-    }
+    let _ = line.push_str(ascii_str(bytes));
 }
 
 /// Puts an element at the end of a text that has room for it: its AI in parentheses, then its value.
