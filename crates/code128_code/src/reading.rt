@@ -32,9 +32,7 @@ fn start_of(widths: &[u8]) -> Option<u8>
     ensures found { IfSome result (λ v. (103 ≤ v) × (v ≤ 105) × (pattern v ≡ widths.now)) }
     ensures none { IfNone result ((v : ℕ) → 103 ≤ v → v ≤ 105 → pattern v ≢ widths.now) }
 {
-    let Some(value) = value_of(widths) else {
-        return None;
-    };
+    let value = value_of(widths)?;
     if value < START_A {
         return None;
     }
@@ -48,9 +46,7 @@ fn data_of(widths: &[u8]) -> Option<u8>
     ensures found { IfSome result (λ v. (v ≤ 102) × (pattern v ≡ widths.now)) }
     ensures none { IfNone result ((v : ℕ) → v ≤ 102 → pattern v ≢ widths.now) }
 {
-    let Some(value) = value_of(widths) else {
-        return None;
-    };
+    let value = value_of(widths)?;
     if value > FNC1 {
         return None;
     }
@@ -68,9 +64,7 @@ fn data_values(widths: &[u8]) -> Option<ArrayVec<u8, 96>>
 {
     let mut values = ArrayVec::new();
     for i in 0..widths.len() / 6 {
-        let Some(value) = data_of(&widths[6 * i..6 * i + 6]) else {
-            return None;
-        };
+        let value = data_of(&widths[6 * i..6 * i + 6])?;
         values.push(value);
     }
     Some(values)
@@ -106,15 +100,9 @@ pub fn values(modules: &Modules) -> Option<Values>
     if !is_stop(&widths[end..]) {
         return None;
     }
-    let Some(start) = start_of(&widths[..6]) else {
-        return None;
-    };
-    let Some(values) = data_values(&widths[6..end - 6]) else {
-        return None;
-    };
-    let Some(check) = data_of(&widths[end - 6..end]) else {
-        return None;
-    };
+    let start = start_of(&widths[..6])?;
+    let values = data_values(&widths[6..end - 6])?;
+    let check = data_of(&widths[end - 6..end])?;
     Some(Values {
         start,
         values,

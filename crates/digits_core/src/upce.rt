@@ -93,11 +93,7 @@ pub fn upce_suppress(gtin: &Gtin) -> Option<([u8; 6], u8)>
     ensures none { IfNone result ((six : List ℕ) (check : ℕ) → IsUpceOf six check gtin.now → ⊥) }
     ensures checked { IsChecked gtin.now }
 {
-    let Some(digits) = gtin.as12() else {
-        return None;
-    };
-    let Some(six) = suppressed(digits) else {
-        return None;
-    };
+    let digits = gtin.as12()?;
+    let six = suppressed(digits)?;
     Some((six, digits[11]))
 }

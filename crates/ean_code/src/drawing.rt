@@ -125,8 +125,7 @@ pub fn ean13(gtin: &Gtin) -> Option<Modules>
     ensures none { IfNone result (HasNoSymbol Ean13 gtin.now) }
     ensures fits { IsSome result ↔ (gtin.now ≡ padded (drop 1 gtin.now)) }
 {
-    let digits = gtin.as13()?;
-    Some(Modules::new(ean13_widths(&digits)))
+    Some(Modules::new(ean13_widths(&gtin.as13()?)))
 }
 
 /// The EAN-8 of a GTIN, 43 widths of 67 modules in all: none for a GTIN that needs more than 8 digits.
@@ -135,8 +134,7 @@ pub fn ean8(gtin: &Gtin) -> Option<Modules>
     ensures none { IfNone result (HasNoSymbol Ean8 gtin.now) }
     ensures fits { IsSome result ↔ (gtin.now ≡ padded (drop 6 gtin.now)) }
 {
-    let digits = gtin.as8()?;
-    Some(Modules::new(ean8_widths(&digits)))
+    Some(Modules::new(ean8_widths(&gtin.as8()?)))
 }
 
 /// The UPC-E of a GTIN, 33 widths of 51 modules in all, by the first line of the zero-suppression table
@@ -146,8 +144,6 @@ pub fn upce(gtin: &Gtin) -> Option<Modules>
     ensures some { IfSome result (IsSymbolOf UpcE gtin.now) }
     ensures none { IfNone result (HasNoSymbol UpcE gtin.now) }
 {
-    let Some(spelled) = upce_suppress(gtin) else {
-        return None;
-    };
+    let spelled = upce_suppress(gtin)?;
     Some(Modules::new(upce_widths(&spelled.0, spelled.1)))
 }

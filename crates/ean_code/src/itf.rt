@@ -74,14 +74,10 @@ fn itf14_text(widths: &[u8]) -> Option<ArrayVec<u8, 14>>
     ensures found { IfSome result (λ text. IsTextOf Itf14 widths.now text.items) }
     ensures none { IfNone result ((digits : List ℕ) → IsNumberSymbol Itf14 widths.now digits → ⊥) }
 {
-    let Some(pairs) = framed_pairs(widths) else {
-        return None;
-    };
+    let pairs = framed_pairs(widths)?;
     let mut text = ArrayVec::new();
     for i in 0..7 {
-        let Some((first, second)) = pair_with(&pairs[10 * i..10 * i + 10]) else {
-            return None;
-        };
+        let (first, second) = pair_with(&pairs[10 * i..10 * i + 10])?;
         text.push(b'0' + first);
         text.push(b'0' + second);
     }

@@ -107,9 +107,7 @@ fn character_with(widths: &[u8]) -> Option<Character>
 {
     let first = (widths[0] - 1) * 4 + (widths[1] - 1);
     let last = (widths[2] - 1) * 4 + (widths[3] - 1);
-    let Some((of_b, digit)) = character(first * 16 + last) else {
-        return None;
-    };
+    let (of_b, digit) = character(first * 16 + last)?;
     let set = set_of(of_b);
     Some(Character { set, digit })
 }
@@ -126,9 +124,7 @@ pub(crate) fn characters(widths: &[u8]) -> Option<ArrayVec<Character, 6>>
 {
     let mut found = ArrayVec::new();
     for i in 0..widths.len() / 4 {
-        let Some(next) = character_with(&widths[4 * i..4 * i + 4]) else {
-            return None;
-        };
+        let next = character_with(&widths[4 * i..4 * i + 4])?;
         found.push(next);
     }
     Some(found)

@@ -57,15 +57,9 @@ pub(crate) fn halves(
     ensures found { IfSome result (λ h. AreHalves count widths.now h.0.items (character_digits h.1.items)) }
     ensures none { IfNone result ((left : List Character) (right : List ℕ) → AreHalves count widths.now left right → ⊥) }
 {
-    let Some((left, right)) = framed(widths, 4 * count) else {
-        return None;
-    };
-    let Some(left) = characters(left) else {
-        return None;
-    };
-    let Some(right) = characters(right) else {
-        return None;
-    };
+    let (left, right) = framed(widths, 4 * count)?;
+    let left = characters(left)?;
+    let right = characters(right)?;
     if !are_of_a(right.as_slice()) {
         return None;
     }
@@ -97,8 +91,6 @@ pub(crate) fn six(widths: &[u8]) -> Option<ArrayVec<Character, 6>>
     ensures found { IfSome result (λ cs. AreSix widths.now cs.items) }
     ensures none { IfNone result ((cs : List Character) → AreSix widths.now cs → ⊥) }
 {
-    let Some(six) = framed_six(widths) else {
-        return None;
-    };
+    let six = framed_six(widths)?;
     characters(six)
 }

@@ -46,32 +46,10 @@ fn ean13_text(widths: &[u8]) -> Option<ArrayVec<u8, 13>>
     ensures found { IfSome result (λ text. IsTextOf Ean13 widths.now text.items) }
     ensures none { IfNone result ((digits : List ℕ) → IsNumberSymbol Ean13 widths.now digits → ⊥) }
 {
-    let Some((left, right)) = halves(widths, 6) else {
-        return None;
-    };
-    let Some(first) = first_digit(left.as_slice()) else {
-        return None;
-    };
+    let (left, right) = halves(widths, 6)?;
+    let first = first_digit(left.as_slice())?;
     let mut text = ArrayVec::new();
     text.push(b'0' + first);
-    push_digits(&mut text, left.as_slice());
-    push_digits(&mut text, right.as_slice());
-    Some(text)
-}
-
-/// The ASCII digits of the EAN-8 with these widths.
-fn ean8_text(widths: &[u8]) -> Option<ArrayVec<u8, 13>>
-    requires { AreWidths widths.now }
-    ensures found { IfSome result (λ text. IsTextOf Ean8 widths.now text.items) }
-    ensures none { IfNone result ((digits : List ℕ) → IsNumberSymbol Ean8 widths.now digits → ⊥) }
-{
-    let Some((left, right)) = halves(widths, 4) else {
-        return None;
-    };
-    if !are_of_a(left.as_slice()) {
-        return None;
-    }
-    let mut text = ArrayVec::new();
     push_digits(&mut text, left.as_slice());
     push_digits(&mut text, right.as_slice());
     Some(text)
@@ -84,15 +62,27 @@ fn upce_text(widths: &[u8]) -> Option<ArrayVec<u8, 13>>
     ensures found { IfSome result (λ text. IsTextOf UpcE widths.now text.items) }
     ensures none { IfNone result ((digits : List ℕ) → IsNumberSymbol UpcE widths.now digits → ⊥) }
 {
-    let Some(left) = six(widths) else {
-        return None;
-    };
-    let Some(check) = last_digit(left.as_slice()) else {
-        return None;
-    };
+    let left = six(widths)?;
+    let check = last_digit(left.as_slice())?;
     let mut text = ArrayVec::new();
     push_digits(&mut text, left.as_slice());
     text.push(b'0' + check);
+    Some(text)
+}
+
+/// The ASCII digits of the EAN-8 with these widths.
+fn ean8_text(widths: &[u8]) -> Option<ArrayVec<u8, 13>>
+    requires { AreWidths widths.now }
+    ensures found { IfSome result (λ text. IsTextOf Ean8 widths.now text.items) }
+    ensures none { IfNone result ((digits : List ℕ) → IsNumberSymbol Ean8 widths.now digits → ⊥) }
+{
+    let (left, right) = halves(widths, 4)?;
+    if !are_of_a(left.as_slice()) {
+        return None;
+    }
+    let mut text = ArrayVec::new();
+    push_digits(&mut text, left.as_slice());
+    push_digits(&mut text, right.as_slice());
     Some(text)
 }
 

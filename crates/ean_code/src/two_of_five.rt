@@ -93,11 +93,7 @@ pub(crate) fn pair_with(widths: &[u8]) -> Option<(u8, u8)>
 {
     let bars = [widths[0], widths[2], widths[4], widths[6], widths[8]];
     let spaces = [widths[1], widths[3], widths[5], widths[7], widths[9]];
-    let Some(first) = digit_with(&bars) else {
-        return None;
-    };
-    let Some(second) = digit_with(&spaces) else {
-        return None;
-    };
+    let first = digit_with(&bars)?;
+    let second = digit_with(&spaces)?;
     Some((first, second))
 }

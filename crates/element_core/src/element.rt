@@ -59,9 +59,7 @@ fn is_timed(family: &AiFamily) -> bool
 pub(crate) fn day_of_element(ai: &[u8], value: &[u8], year: Year) -> Option<Date>
     ensures { IsDay result (entry_day year (record { ai = ai.now; value = value.now })) }
 {
-    let Some(family) = family_at(ai) else {
-        return None;
-    };
+    let family = family_at(ai)?;
     if is_timed(&family) {
         return date_before_time(value, year);
     }
@@ -75,9 +73,7 @@ pub(crate) fn day_of_element(ai: &[u8], value: &[u8], year: Year) -> Option<Date
 pub(crate) fn time_of_element(ai: &[u8], value: &[u8]) -> Option<[u8; 3]>
     ensures { result ≡ entry_time (record { ai = ai.now; value = value.now }) }
 {
-    let Some(family) = family_at(ai) else {
-        return None;
-    };
+    let family = family_at(ai)?;
     if !is_timed(&family) {
         return None;
     }

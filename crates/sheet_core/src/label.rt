@@ -181,9 +181,7 @@ impl Label {
         ensures some { IfSome result (IsDrawn self.now) }
         ensures none { IfNone result ((s : Drawn) → IsDrawn self.now s → ⊥) }
     {
-        let Some(modules) = self.modules() else {
-            return None;
-        };
+        let modules = self.modules()?;
         let form = self.kind().form();
         Some(Symbol {
             modules,

@@ -4,13 +4,13 @@ use Rattle.ean_code.proofs.Cells.{AllByRecursion-append}
 use Rattle.code128_code.proofs.SymbolFacts.{no_gap, one_more}
 use Rattle.code128_code.proofs.reading.data_values.Goals as goal
 
-pub returns-in_default-clause-none : goal.returns-in_default-clause-none
-returns-in_default-clause-none c = no_gap c.args.widths.now c.loop-i.i c.loop-i-test.true c.in_default.ensures.none
+pub returns-in_err-value-clause-none : goal.returns-in_err-value-clause-none
+returns-in_err-value-clause-none c = rw c.from_residual.ensures (no_gap c.args.widths.now c.loop-i.i c.loop-i-test.true c.in_err-value.ensures.none)
 
 pub loop-i-preserved : goal.loop-i-preserved
 loop-i-preserved c = record {
   count = omega (arith, c.push.ensures.len);
   valid = subst AreValues (sym c.push.ensures.items)
-      (AllByRecursion-append _ c.loop-i.values.items (c.in-Some.value ∷ []) c.loop-i.invariant.valid (c.in-Some.ensures.found.0, tt));
-  read = rw c.push.ensures.items (one_more c.args.widths.now c.loop-i.i c.loop-i.values.items c.in-Some.value c.loop-i.invariant.read c.in-Some.ensures.found.1);
+      (AllByRecursion-append _ c.loop-i.values.items (c.in_ok-value.value ∷ []) c.loop-i.invariant.valid (c.in_ok-value.ensures.found.0, tt));
+  read = rw c.push.ensures.items (one_more c.args.widths.now c.loop-i.i c.loop-i.values.items c.in_ok-value.value c.loop-i.invariant.read c.in_ok-value.ensures.found.1);
 }

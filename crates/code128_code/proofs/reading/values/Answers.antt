@@ -20,25 +20,25 @@ returns-then-not-is_stop-clause-none c = λ s vs k e.
     let passes = c.is_stop.ensures.1 (stop_slice s vs k _ (along s vs k _ c.widths-widths.result.now c.widths-widths.ensures.value e)) in
     let fails = c.if-not-is_stop.true in cc
 
-pub returns-in_default-clause-none : goal.returns-in_default-clause-none
-returns-in_default-clause-none c = λ s vs k e.
-    c.in_default.ensures.none s e.start_least e.start_greatest (sym (start_part s vs k _ (along s vs k _ c.widths-widths.result.now c.widths-widths.ensures.value e)))
+pub returns-in_err-start-clause-none : goal.returns-in_err-start-clause-none
+returns-in_err-start-clause-none c = rw c.from_residual.ensures (λ s vs k e.
+    c.in_err-start.ensures.none s e.start_least e.start_greatest (sym (start_part s vs k _ (along s vs k _ c.widths-widths.result.now c.widths-widths.ensures.value e))))
 
-pub returns-in_default-data_values-clause-none : goal.returns-in_default-data_values-clause-none
-returns-in_default-data_values-clause-none c = λ s vs k e.
-    c.in_default-data_values.ensures.none vs e.valid (sym (data_slice s vs k _ (along s vs k _ c.widths-widths.result.now c.widths-widths.ensures.value e)))
+pub returns-in_err-values-clause-none : goal.returns-in_err-values-clause-none
+returns-in_err-values-clause-none c = rw c.from_residual-in_err-values.ensures (λ s vs k e.
+    c.in_err-values.ensures.none vs e.valid (sym (data_slice s vs k _ (along s vs k _ c.widths-widths.result.now c.widths-widths.ensures.value e))))
 
-pub returns-in_default-data_of-clause-none : goal.returns-in_default-data_of-clause-none
-returns-in_default-data_of-clause-none c = λ s vs k e.
-    c.in_default-data_of.ensures.none k e.check_valid (sym (check_slice s vs k _ (along s vs k _ c.widths-widths.result.now c.widths-widths.ensures.value e)))
+pub returns-in_err-check-clause-none : goal.returns-in_err-check-clause-none
+returns-in_err-check-clause-none c = rw c.from_residual-in_err-check.ensures (λ s vs k e.
+    c.in_err-check.ensures.none k e.check_valid (sym (check_slice s vs k _ (along s vs k _ c.widths-widths.result.now c.widths-widths.ensures.value e))))
 
 pub returns-clause-some : goal.returns-clause-some
 returns-clause-some c =
     let ws : List ℕ = c.widths-widths.result.now in
-    let start = c.in-Some.ensures.found in
-    let middle = c.in-Some-data_values.ensures.found in
-    let check = c.in-Some-data_of.ensures.found in
+    let start = c.in_ok-start.ensures.found in
+    let middle = c.in_ok-values.ensures.found in
+    let check = c.in_ok-check.ensures.found in
     let long = c.is_symbol_length.ensures.0 c.if-not-is_symbol_length.false in
     let most : length ws ≤ 595 = subst (λ xs. length xs ≤ 595) (sym c.widths-widths.ensures.value) c.widths-widths.ensures.valid.0 in
-    subst (IsCode128Symbol c.in-Some.start c.in-Some-data_values.values.items c.in-Some-data_of.check) c.widths-widths.ensures.value
+    subst (IsCode128Symbol c.in_ok-start.start c.in_ok-values.values.items c.in_ok-check.check) c.widths-widths.ensures.value
     (symbol_of _ _ _ ws long.0 most start.0 start.1 middle.0 check.0 start.2 middle.1 check.1 (c.is_stop.ensures.0 c.if-not-is_stop.false))

@@ -6,14 +6,14 @@ use Rattle.ean_code.proofs.Drawn.{left_valid}
 use Rattle.ean_code.proofs.LookupFacts.{of_pair, packed_four, pair_of, unpacked}
 use Rattle.ean_code.proofs.number_sets.character_with.Goals as goal
 
-pub returns-in_default-clause-none : goal.returns-in_default-clause-none
-returns-in_default-clause-none c = λ x h e.
-    c.in_default.ensures.none (pair_of x) h (ap (λ y. packed_widths (left_widths y)) (of_pair x.set x.digit) ∙ ap packed_widths e ∙ sym (packed_four c.args.widths.now c.requires.four))
+pub returns-in_err-of_b-clause-none : goal.returns-in_err-of_b-clause-none
+returns-in_err-of_b-clause-none c = rw c.from_residual.ensures (λ x h e.
+    c.in_err-of_b.ensures.none (pair_of x) h (ap (λ y. packed_widths (left_widths y)) (of_pair x.set x.digit) ∙ ap packed_widths e ∙ sym (packed_four c.args.widths.now c.requires.four)))
 
 pub returns-clause-found : goal.returns-clause-found
 returns-clause-found c =
-    let found = c.in-Some.ensures.found in
-    let x = character_of (c.in-Some.of_b, c.in-Some.digit) in
+    let found = c.in_ok-of_b.ensures.found in
+    let x = character_of (c.in_ok-of_b.of_b, c.in_ok-of_b.digit) in
     rw c.set_of-set.ensures (
       found.0,
       unpacked (left_widths x) c.args.widths.now (length-left x.set x.digit found.0) c.requires.four (left_valid x found.0) c.requires.valid
