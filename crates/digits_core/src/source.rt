@@ -4,7 +4,7 @@ ghost use Rattle.std.specs.Io.KnownBytes.{ReadConsumes};
 ghost use Rattle.digits_core.specs.Faults.{input_fault_text};
 ghost use Rattle.digits_core.specs.Bytes.{GaveAll, GaveAtMost, GaveMoreThan};
 
-use std::alloc::Global;
+use std::alloc::{AllocError, Global};
 use std::fmt;
 
 /// A read or a write failed. What it was asked of has failed from then on.
@@ -42,6 +42,26 @@ pub enum InputFault {
     NoMemory,
 }
 
+impl From<Failed> for InputFault {
+    ghost use Rattle.digits_core.specs.declared.source.InputFault.TheVariants.{ReadFault};
+
+    ghost from_gives = { λ _ fault. fault ≡ ReadFault };
+
+    fn from(_: Failed) -> InputFault {
+        InputFault::ReadFault
+    }
+}
+
+impl From<AllocError> for InputFault {
+    ghost use Rattle.digits_core.specs.declared.source.InputFault.TheVariants.{NoMemory};
+
+    ghost from_gives = { λ _ fault. fault ≡ NoMemory };
+
+    fn from(_: AllocError) -> InputFault {
+        InputFault::NoMemory
+    }
+}
+
 impl fmt::Display for InputFault {
     ghost output = { λ fault. Some (input_fault_text fault) };
 
@@ -73,17 +93,13 @@ pub fn read_all<S: Source>(
     let mut bytes = Vec::new(alloc);
     let mut chunk = [0u8; CHUNK];
     'reads: loop {
-        let Ok(count) = source.read(&mut chunk) else {
-            return Err(InputFault::ReadFault);
-        };
+        let count = source.read(&mut chunk)?;
         if count == 0 {
             return Ok(bytes);
         }
         if count > limit - bytes.len() {
             return Err(InputFault::InputSize);
         }
-        if bytes.extend_from_slice(&chunk[..count]).is_err() {
-            return Err(InputFault::NoMemory);
-        }
+        bytes.extend_from_slice(&chunk[..count])?;
     }
 }

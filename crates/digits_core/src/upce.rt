@@ -36,10 +36,7 @@ pub fn upce_expand(six: [u8; 6], check: u8) -> Option<Gtin>
     ensures some { IfSome result (IsUpceOf (digits_of six) (check - 48)) }
     ensures none { IfNone result ((gtin : List ℕ) → IsUpceOf (digits_of six) (check - 48) gtin → ⊥) }
 {
-    let Ok(gtin) = Gtin::read(&expanded(six, check)) else {
-        return None;
-    };
-    Some(gtin)
+    Gtin::read(&expanded(six, check)).ok()
 }
 
 /// Whether the digits of a GTIN-12 are as the table's first line has them.

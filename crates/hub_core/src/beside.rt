@@ -124,9 +124,7 @@ pub fn run_workers<'e, R: Threads + Wait + Sync, G: Gate + Sync, F: FnOnce() -> 
     ensures refused { IfErr result (λ e. e ≢ ServeFault.BadCount) }
 {
     let count = seats.len();
-    let Ok(mut back) = Vec::with_capacity(alloc, count) else {
-        return Err(ServeFault::NoMemory);
-    };
+    let mut back = Vec::with_capacity(alloc, count)?;
     thread::scope(
         thread::scope_env(),
         rt,
@@ -136,9 +134,7 @@ pub fn run_workers<'e, R: Threads + Wait + Sync, G: Gate + Sync, F: FnOnce() -> 
             ensures task { IfOk result (λ v. F.post task v.1) }
             ensures refused { IfErr result (λ e. e ≢ ServeFault.BadCount) }
         {
-            let Ok(mut handles) = Vec::with_capacity(alloc, seats.len()) else {
-                return Err(ServeFault::NoMemory);
-            };
+            let mut handles = Vec::with_capacity(alloc, seats.len())?;
             let started = start_all(rt, hub, scope, seats, gate, signals, &mut handles);
             if !started {
                 signals.tell_to_stop();

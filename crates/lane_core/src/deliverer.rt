@@ -8,7 +8,7 @@ use crate::delivery::Delivery;
 use crate::fault::{NoMemory, TakeFault};
 use crate::head::{Head, take_first};
 use crate::ticket::Ticket;
-use std::alloc::Global;
+use std::alloc::{AllocError, Global};
 use std::collections::{BTreeMap, BTreeSet};
 use std::marker::Model;
 
@@ -40,12 +40,10 @@ impl Model for Deliverer {
 }
 
 /// Heads of lanes whose first number was not taken in.
-fn missing_heads(alloc: Global, count: u16) -> Result<Vec<Head>, NoMemory>
+fn missing_heads(alloc: Global, count: u16) -> Result<Vec<Head>, AllocError>
     ensures { IfOk result (λ heads. heads.items ≡ replicate count Missing) }
 {
-    let Ok(mut heads) = Vec::with_capacity(alloc, usize::from(count)) else {
-        return Err(NoMemory);
-    };
+    let mut heads = Vec::with_capacity(alloc, usize::from(count))?;
     for _i in 0..count {
         heads.push_reserved(Head::Missing);
     }
@@ -99,11 +97,8 @@ impl Deliverer {
         requires { lanes ≤ 256 }
         ensures { IfOk result (λ d. d ≡ new_desk lanes) }
     {
-        let Ok(nexts) = vec![in alloc; 0; usize::from(lanes)] else {
-            return Err(NoMemory);
-        };
         Ok(Deliverer {
-            nexts,
+            nexts: vec![in alloc; 0; usize::from(lanes)]?,
             heads: missing_heads(alloc, lanes)?,
             later: BTreeMap::new(alloc),
             known: BTreeSet::new(alloc),

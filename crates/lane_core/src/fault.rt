@@ -3,6 +3,7 @@ ghost use Rattle.std.specs.Prelude.{Some};
 ghost use Rattle.lane_core.specs.Faults.{no_memory_text, take_fault_text};
 
 use crate::delivery::Delivery;
+use std::alloc::AllocError;
 use std::fmt;
 
 /// Memory was refused.
@@ -16,6 +17,12 @@ pub enum TakeFault {
     Stranger(Delivery),
     /// Memory to keep it was refused.
     NoMemory(Delivery),
+}
+
+impl From<AllocError> for NoMemory {
+    fn from(_: AllocError) -> NoMemory {
+        NoMemory
+    }
 }
 
 impl fmt::Display for NoMemory {

@@ -10,7 +10,7 @@ use crate::fault::NoMemory;
 use crate::job::Job;
 use crate::lane::Lane;
 use element_core::Year;
-use std::alloc::Global;
+use std::alloc::{AllocError, Global};
 use std::collections::VecDeque;
 use std::marker::Model;
 
@@ -43,12 +43,10 @@ impl Model for World {
 }
 
 /// Lanes that have done nothing yet.
-fn open_lanes(alloc: Global, count: u16) -> Result<Vec<Lane>, NoMemory>
+fn open_lanes(alloc: Global, count: u16) -> Result<Vec<Lane>, AllocError>
     ensures { IfOk result (λ lanes. map lane_held lanes.items ≡ replicate count (lane_of false 0 [] 0)) }
 {
-    let Ok(mut lanes) = Vec::with_capacity(alloc, usize::from(count)) else {
-        return Err(NoMemory);
-    };
+    let mut lanes = Vec::with_capacity(alloc, usize::from(count))?;
     for _i in 0..count {
         lanes.push_reserved(Lane {
             closed: false,
@@ -61,12 +59,10 @@ fn open_lanes(alloc: Global, count: u16) -> Result<Vec<Lane>, NoMemory>
 }
 
 /// Workers with no job.
-fn idle_workers(alloc: Global, count: u32) -> Result<Vec<Option<Job>>, NoMemory>
+fn idle_workers(alloc: Global, count: u32) -> Result<Vec<Option<Job>>, AllocError>
     ensures { IfOk result (λ workers. workers.items ≡ replicate count None) }
 {
-    let Ok(mut workers) = Vec::with_capacity(alloc, count as usize) else {
-        return Err(NoMemory);
-    };
+    let mut workers = Vec::with_capacity(alloc, count as usize)?;
     for _i in 0..count {
         workers.push_reserved(None);
     }

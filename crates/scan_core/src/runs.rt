@@ -97,9 +97,7 @@ impl Runs {
         if let Some(fault) = runs_fault(widths) {
             return Err(fault);
         }
-        let Ok(widths) = widths.to_vec(alloc) else {
-            return Err(RunFault::NoMemory);
-        };
+        let widths = widths.to_vec(alloc)?;
         Ok(Runs { widths })
     }
 
@@ -133,9 +131,7 @@ impl Runs {
         if width > MOST_DOTS as usize {
             return Err(RunFault::TooWide);
         }
-        let Ok(mut widths) = Vec::with_capacity(alloc, MANY_RUNS.min(width + 2)) else {
-            return Err(RunFault::NoMemory);
-        };
+        let mut widths = Vec::with_capacity(alloc, MANY_RUNS.min(width + 2))?;
         let mut dark = false;
         let mut end = run_end(bits, from, 0, width, dark);
         let mut run = end as u16;

@@ -106,9 +106,7 @@ pub fn print_sheets(alloc: Global, labels: &[Label], grid: Grid) -> Result<Vec<S
     let mut sheets = Vec::new(alloc);
     for i in 0..count {
         let here = part(labels, i * cells, cells);
-        let Ok(sheet) = print_sheet(alloc, here, &grid) else {
-            return Err(SheetFault::NoMemory);
-        };
+        let sheet = print_sheet(alloc, here, &grid)?;
         sheets.push(sheet)?;
     }
     Ok(sheets)

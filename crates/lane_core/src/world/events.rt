@@ -111,9 +111,7 @@ impl World {
         if self.workers[at].is_none() {
             return Ok(false);
         }
-        if self.results.reserve(1).is_err() {
-            return Err(NoMemory);
-        }
+        self.results.reserve(1)?;
         let Some(job) = mem::replace(&mut self.workers[at], None) else {
             return Ok(false);
         };
@@ -158,9 +156,7 @@ impl World {
             return Ok(false);
         }
         let outbox = &mut self.lanes[at].handed;
-        if outbox.reserve(1).is_err() {
-            return Err(NoMemory);
-        }
+        outbox.reserve(1)?;
         let Some(delivery) = self.deliverer.take_next(lane) else {
             return Ok(false);
         };

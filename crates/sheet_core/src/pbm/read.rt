@@ -45,10 +45,9 @@ fn read_header<R: Source>(reader: &mut R, first: u8) -> Result<Size, PbmFault>
             Step::Refused(fault) => return Err(fault),
             Step::Goes(reached) => state = reached,
         }
-        match next(reader) {
-            Err(_) => return Err(PbmFault::ReadFault),
-            Ok(None) => return Err(PbmFault::Truncated),
-            Ok(Some(b)) => byte = b,
+        match next(reader)? {
+            None => return Err(PbmFault::Truncated),
+            Some(b) => byte = b,
         }
     }
     Err(PbmFault::PbmHeader)
@@ -66,13 +65,9 @@ fn read_bytes<R: Source>(alloc: Global, reader: &mut R, count: usize) -> Result<
     'reads: while filled < count {
         if filled == bytes.len() {
             let more = (count - filled).min(PIECE);
-            if bytes.resize(filled + more, 0).is_err() {
-                return Err(PbmFault::NoMemory);
-            }
+            bytes.resize(filled + more, 0)?;
         }
-        let Ok(read) = reader.read(&mut bytes.as_mut_slice()[filled..]) else {
-            return Err(PbmFault::ReadFault);
-        };
+        let read = reader.read(&mut bytes.as_mut_slice()[filled..])?;
         if read == 0 {
             return Err(PbmFault::Truncated);
         }
@@ -133,20 +128,14 @@ pub fn read_pbm<R: Source>(alloc: Global, reader: &mut R) -> Result<Vec<Sheet>, 
 {
     let mut sheets = Vec::new(alloc);
     for _ in 0..4096u16 {
-        match next(reader) {
-            Err(_) => return Err(PbmFault::ReadFault),
-            Ok(None) => return Ok(sheets),
-            Ok(Some(first)) => {
-                let sheet = read_image(alloc, reader, first)?;
-                let Ok(()) = sheets.push(sheet) else {
-                    return Err(PbmFault::NoMemory);
-                };
-            }
-        }
+        let Some(first) = next(reader)? else {
+            return Ok(sheets);
+        };
+        let sheet = read_image(alloc, reader, first)?;
+        sheets.push(sheet)?;
     }
-    match next(reader) {
-        Err(_) => Err(PbmFault::ReadFault),
-        Ok(None) => Ok(sheets),
-        Ok(Some(_)) => Err(PbmFault::PbmSize),
+    match next(reader)? {
+        None => Ok(sheets),
+        Some(_) => Err(PbmFault::PbmSize),
     }
 }

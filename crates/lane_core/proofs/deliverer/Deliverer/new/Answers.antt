@@ -5,5 +5,5 @@ use Rattle.lane_core.proofs.deliverer.Deliverer.new.Goals as goal
 
 pub returns : goal.returns
 returns c =
-    let nexts : c.in-Ok.nexts.items ≡ replicate c.args.lanes 0 = search rules in
+    let nexts : c.in_ok-vec.field-0.items ≡ replicate c.args.lanes 0 = search rules in
     (λ i. desk_of (nexts i) (c.in_ok-missing_heads.ensures i) (c.new.ensures.empty i) (c.new-2.ensures.empty i)) ∙ new_is c.args.lanes

@@ -1,3 +1,4 @@
+use Rattle.std.specs.Prelude.{Err, Ok, OnErr, Result}
 use Rattle.std.proofs.Common.{◌<◌, [], ◌∷◌, ◌++◌, length, Bor, ap, ◌∙◌, arith}
 use Rattle.lane_core.specs.declared.event.Event.TheVariants.{Hand}
 use Rattle.lane_core.specs.declared.job.Plain.{Plain}
@@ -10,6 +11,11 @@ use Rattle.lane_core.proofs.LaneShowFacts.{hand_past}
 use Rattle.lane_core.proofs.NextFacts.{none_has}
 use Rattle.lane_core.proofs.ShowFacts.{shown_after}
 use Rattle.lane_core.proofs.world.World.hand.Goals as goal
+
+-- what holds at all holds of a refusal
+of_refusal : {T E : Type 0} (r : Result T E) (P : Type 0) → P → OnErr r P
+of_refusal (Ok x) P p = record {}
+of_refusal (Err e) P p = p
 
 pub returns-then-at-len-clause-steps : goal.returns-then-at-len-clause-steps
 returns-then-at-len-clause-steps c =
@@ -28,19 +34,19 @@ invariant_of-self c =
     let same = lane_same c.self.inside.lanes.items c.args.lane x record { closed = x.closed; issued = x.issued; handed = c.reserve.new.self; polled = x.polled } less c.index_mut.ensures.value (λ i. lane_of x.closed x.issued (c.reserve.ensures.items i) x.polled) in
     rw same c.self.invariant
 
-pub returns-then-is_err-clause-refused : goal.returns-then-is_err-clause-refused
-returns-then-is_err-clause-refused c =
+pub returns-in_err-reserve-clause-refused : goal.returns-in_err-reserve-clause-refused
+returns-in_err-reserve-clause-refused c =
     let less : c.args.lane < length c.self.inside.lanes.items = omega arith in
     let x = c.index_mut.result.now in
     let next = if_some c.next.result (λ (y : Bor Plain). IsNext c.self.inside.deliverer c.args.lane y.now) c.if-is_none.ensures c.next.ensures.some in
-    rw (← c.self.view_is) (hand_enabled (held c.self.inside) c.args.lane (lane_held x) next.0.now (lane_at c.self.inside.lanes.items c.args.lane x less c.index_mut.ensures.value) next.1)
+    of_refusal c.from_residual.result _ (rw (← c.self.view_is) (hand_enabled (held c.self.inside) c.args.lane (lane_held x) next.0.now (lane_at c.self.inside.lanes.items c.args.lane x less c.index_mut.ensures.value) next.1))
 
-pub returns-then-is_err-clause-unchanged : goal.returns-then-is_err-clause-unchanged
-returns-then-is_err-clause-unchanged c =
+pub returns-in_err-reserve-clause-unchanged : goal.returns-in_err-reserve-clause-unchanged
+returns-in_err-reserve-clause-unchanged c =
     let less : c.args.lane < length c.self.inside.lanes.items = omega arith in
     let x = c.index_mut.result.now in
     let same = lane_same c.self.inside.lanes.items c.args.lane x record { closed = x.closed; issued = x.issued; handed = c.reserve.new.self; polled = x.polled } less c.index_mut.ensures.value (λ i. lane_of x.closed x.issued (c.reserve.ensures.items i) x.polled) in
-    rw same c.self.view_is
+    of_refusal c.from_residual.result _ (rw same c.self.view_is)
 
 pub invariant_of-self-in_default : goal.invariant_of-self-in_default
 invariant_of-self-in_default c =

@@ -1,6 +1,7 @@
 use Rattle.std.proofs.Common.{rules, ◌≡◌, ◌+◌, List, [], ◌∷◌, ◌++◌, Err, refl, sym, subst, ◌∙◌, arith}
 use Rattle.std.specs.Prelude.{IfErr}
 use Rattle.sheet_core.specs.Bitmaps.{Bitmap}
+use Rattle.sheet_core.specs.declared.fault.PbmFault.TheVariants.{NoMemory, ReadFault}
 use Rattle.sheet_core.specs.pbm.Images.{Reads, images_of}
 use Rattle.sheet_core.proofs.pbm.FileFacts.{Had, broken, ended, had_more, had_none, image_refused, not_kept, too_many}
 use Rattle.sheet_core.proofs.pbm.HeaderFacts.{at_none, at_some}
@@ -10,49 +11,57 @@ use Rattle.sheet_core.proofs.pbm.read.read_pbm.Goals as goal
 pub loop-init : goal.loop-init
 loop-init g c = record { had = had_none (g.R.Source.left c.args.reader.now) c.new-sheets.result.items c.new-sheets.ensures.items; same = search rules }
 
-pub returns-in-Err-clause-err : goal.returns-in-Err-clause-err
-returns-in-Err-clause-err g c = broken _ _ _ _ _ c.loop.invariant.had c.in-Err.ensures.byte.1
+pub returns-in_err-first-clause-err : goal.returns-in_err-first-clause-err
+returns-in_err-first-clause-err g c =
+    let e = c.from_residual.ensures in
+    let r = broken _ _ _ _ _ c.loop.invariant.had c.in_err-first.ensures.byte.1 in
+    subst (λ r. IfErr r (λ fault. Reads images_of (g.R.Source.left c.args.reader.now) (g.R.Source.left c.next.new.reader) (Err fault))) (sym (err_is c.from_residual.result ReadFault e.0 e.1)) r
 
-pub returns-in-Ok-None-clause-ok : goal.returns-in-Ok-None-clause-ok
-returns-in-Ok-None-clause-ok g c =
-    let end = at_none _ _ _ c.in-Ok-None.field-0-is c.in-Ok-None.ensures.byte.1 in
+pub returns-in_default-clause-ok : goal.returns-in_default-clause-ok
+returns-in_default-clause-ok g c =
+    let end = at_none _ _ _ c.in_default.is c.in_ok-first.ensures.byte.1 in
     ended _ _ _ _ _ c.loop.invariant.had end.0
 
-pub returns-in_err-sheet-in-Ok-Some-clause-err : goal.returns-in_err-sheet-in-Ok-Some-clause-err
-returns-in_err-sheet-in-Ok-Some-clause-err g c =
-    let e = c.from_residual.ensures in
-    let first = at_some _ _ _ _ c.in-Ok-Some.field-0-is c.in-Ok-Some.ensures.byte.1 in
-    let fault = c.in_err-sheet-in-Ok-Some.field-0.0 in
-    let r = image_refused _ _ _ _ _ _ _ fault c.loop.invariant.had c.loop-test.true first c.in_err-sheet-in-Ok-Some.ensures.read in
-    subst (λ r. IfErr r (λ fault. Reads images_of (g.R.Source.left c.args.reader.now) (g.R.Source.left c.read_image.new.reader) (Err fault))) (sym (err_is c.from_residual.result fault e.0 e.1)) r
+pub returns-in_err-sheet-clause-err : goal.returns-in_err-sheet-clause-err
+returns-in_err-sheet-clause-err g c =
+    let e = c.from_residual-in_err-sheet.ensures in
+    let first = at_some _ _ _ _ c.in-Some.is c.in_ok-first.ensures.byte.1 in
+    let fault = c.in_err-sheet.field-0.0 in
+    let r = image_refused _ _ _ _ _ _ _ fault c.loop.invariant.had c.loop-test.true first c.in_err-sheet.ensures.read in
+    subst (λ r. IfErr r (λ fault. Reads images_of (g.R.Source.left c.args.reader.now) (g.R.Source.left c.read_image.new.reader) (Err fault))) (sym (err_is c.from_residual-in_err-sheet.result fault e.0 e.1)) r
+
+pub returns-in_err-push-clause-err : goal.returns-in_err-push-clause-err
+returns-in_err-push-clause-err g c =
+    let e = c.from_residual-in_err-push.ensures in
+    let first = at_some _ _ _ _ c.in-Some.is c.in_ok-first.ensures.byte.1 in
+    let s = c.in_ok-sheet.sheet in
+    let sheets : List Bitmap = c.loop.sheets.items ++ s ∷ [] in
+    let r = not_kept _ _ (c.loop.counter + 1) sheets
+    (had_more _ _ _ _ c.loop.counter c.loop.sheets.items sheets _ s c.loop.invariant.had c.loop-test.true first c.in_ok-sheet.ensures.read (λ bytes rest e. image_wider bytes rest s e) refl) in
+    subst (λ r. IfErr r (λ fault. Reads images_of (g.R.Source.left c.args.reader.now) (g.R.Source.left c.read_image.new.reader) (Err fault))) (sym (err_is c.from_residual-in_err-push.result NoMemory e.0 e.1)) r
 
 pub loop-preserved : goal.loop-preserved
 loop-preserved g c =
-    let first = at_some _ _ _ _ c.in-Ok-Some.field-0-is c.in-Ok-Some.ensures.byte.1 in
-    let s = c.in_ok-sheet-in-Ok-Some.sheet in
+    let first = at_some _ _ _ _ c.in-Some.is c.in_ok-first.ensures.byte.1 in
+    let s = c.in_ok-sheet.sheet in
     record {
-      had = had_more _ _ _ _ c.loop.counter c.loop.sheets.items c.push.new.self.items _ s c.loop.invariant.had c.loop-test.true first c.in_ok-sheet-in-Ok-Some.ensures.read (λ bytes rest e. image_wider bytes rest s e) c.in-Ok.ensures.items;
-      same = c.in_ok-sheet-in-Ok-Some.ensures.failed ∙ c.in-Ok-Some.ensures.byte.0 ∙ c.loop.invariant.same;
+      had = had_more _ _ _ _ c.loop.counter c.loop.sheets.items c.push.new.self.items _ s c.loop.invariant.had c.loop-test.true first c.in_ok-sheet.ensures.read (λ bytes rest e. image_wider bytes rest s e) c.in_ok-push.ensures.items;
+      same = c.in_ok-sheet.ensures.failed ∙ c.in_ok-first.ensures.byte.0 ∙ c.loop.invariant.same;
     }
 
-pub returns-in-Err-next-clause-err : goal.returns-in-Err-next-clause-err
-returns-in-Err-next-clause-err g c = broken _ _ _ _ _ c.loop.invariant.had c.in-Err-next.ensures.byte.1
+pub returns-in_err-next-clause-err : goal.returns-in_err-next-clause-err
+returns-in_err-next-clause-err g c =
+    let e = c.from_residual-in_err-next.ensures in
+    let r = broken _ _ _ _ _ c.loop.invariant.had c.in_err-next.ensures.byte.1 in
+    subst (λ r. IfErr r (λ fault. Reads images_of (g.R.Source.left c.args.reader.now) (g.R.Source.left c.next-2.new.reader) (Err fault))) (sym (err_is c.from_residual-in_err-next.result ReadFault e.0 e.1)) r
 
-pub returns-in-Ok-None-next-clause-ok : goal.returns-in-Ok-None-next-clause-ok
-returns-in-Ok-None-next-clause-ok g c =
-    let end = at_none _ _ _ c.in-Ok-None-next.field-0-is c.in-Ok-None-next.ensures.byte.1 in
+pub returns-in-None-clause-ok : goal.returns-in-None-clause-ok
+returns-in-None-clause-ok g c =
+    let end = at_none _ _ _ c.in-None.is c.in_ok-next.ensures.byte.1 in
     ended _ _ _ _ _ c.loop.invariant.had end.0
 
-pub returns-in-Ok-Some-next-clause-err : goal.returns-in-Ok-Some-next-clause-err
-returns-in-Ok-Some-next-clause-err g c =
+pub returns-in-Some-2-clause-err : goal.returns-in-Some-2-clause-err
+returns-in-Some-2-clause-err g c =
     let end : c.loop.counter ≡ 4096 = omega arith in
-    let last = at_some _ _ _ _ c.in-Ok-Some-next.field-0-is c.in-Ok-Some-next.ensures.byte.1 in
+    let last = at_some _ _ _ _ c.in-Some-2.is c.in_ok-next.ensures.byte.1 in
     too_many _ _ _ c.loop.sheets.items _ (subst (λ k. Had (g.R.Source.left c.args.reader.now) (g.R.Source.left c.loop.reader) k c.loop.sheets.items) end c.loop.invariant.had) last
-
-pub returns-in_default-clause-err : goal.returns-in_default-clause-err
-returns-in_default-clause-err g c =
-    let first = at_some _ _ _ _ c.in-Ok-Some.field-0-is c.in-Ok-Some.ensures.byte.1 in
-    let s = c.in_ok-sheet-in-Ok-Some.sheet in
-    let sheets : List Bitmap = c.loop.sheets.items ++ s ∷ [] in
-    not_kept _ _ (c.loop.counter + 1) sheets
-    (had_more _ _ _ _ c.loop.counter c.loop.sheets.items sheets _ s c.loop.invariant.had c.loop-test.true first c.in_ok-sheet-in-Ok-Some.ensures.read (λ bytes rest e. image_wider bytes rest s e) refl)
