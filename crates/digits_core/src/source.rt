@@ -4,7 +4,7 @@ ghost use Rattle.std.specs.Io.KnownBytes.{ReadConsumes};
 ghost use Rattle.digits_core.specs.Faults.{input_fault_text};
 ghost use Rattle.digits_core.specs.Bytes.{GaveAll, GaveAtMost, GaveMoreThan};
 
-use std::alloc::{AllocError, Global};
+use std::alloc::Global;
 use std::fmt;
 
 /// A read or a write failed. What it was asked of has failed from then on.
@@ -42,26 +42,6 @@ pub enum InputFault {
     NoMemory,
 }
 
-impl From<Failed> for InputFault {
-    ghost use Rattle.digits_core.specs.declared.source.InputFault.TheVariants.{ReadFault};
-
-    ghost from_gives = { λ _ fault. fault ≡ ReadFault };
-
-    fn from(_: Failed) -> InputFault {
-        InputFault::ReadFault
-    }
-}
-
-impl From<AllocError> for InputFault {
-    ghost use Rattle.digits_core.specs.declared.source.InputFault.TheVariants.{NoMemory};
-
-    ghost from_gives = { λ _ fault. fault ≡ NoMemory };
-
-    fn from(_: AllocError) -> InputFault {
-        InputFault::NoMemory
-    }
-}
-
 impl fmt::Display for InputFault {
     ghost output = { λ fault. Some (input_fault_text fault) };
 
@@ -93,13 +73,17 @@ pub fn read_all<S: Source>(
     let mut bytes = Vec::new(alloc);
     let mut chunk = [0u8; CHUNK];
     'reads: loop {
-        let count = source.read(&mut chunk)?;
+        let Ok(count) = source.read(&mut chunk) else {
+            return Err(InputFault::ReadFault);
+        };
         if count == 0 {
             return Ok(bytes);
         }
         if count > limit - bytes.len() {
             return Err(InputFault::InputSize);
         }
-        bytes.extend_from_slice(&chunk[..count])?;
+        if bytes.extend_from_slice(&chunk[..count]).is_err() {
+            return Err(InputFault::NoMemory);
+        }
     }
 }

@@ -65,6 +65,30 @@ impl fmt::Display for CommandFault {
     }
 }
 
+impl From<AllocError> for CommandFault {
+    ghost from_gives = { λ refused command. command ≡ no_memory };
+
+    fn from(_: AllocError) -> CommandFault {
+        CommandFault::NoMemory
+    }
+}
+
+impl From<Failed> for CommandFault {
+    ghost from_gives = { λ failed command. command ≡ failed_write };
+
+    fn from(_: Failed) -> CommandFault {
+        CommandFault::WriteFault
+    }
+}
+
+impl From<BadGrid> for CommandFault {
+    ghost from_gives = { λ refused command. command ≡ bad_grid };
+
+    fn from(_: BadGrid) -> CommandFault {
+        CommandFault::BadGrid
+    }
+}
+
 impl From<RecordsFault> for CommandFault {
     ghost from_gives = { λ fault command. command ≡ of_records fault };
 
@@ -86,22 +110,6 @@ impl From<AnswerFault> for CommandFault {
             AnswerFault::NoThread => CommandFault::NoThread,
             AnswerFault::NoMemory => CommandFault::NoMemory,
         }
-    }
-}
-
-impl From<Failed> for CommandFault {
-    ghost from_gives = { λ failed command. command ≡ failed_write };
-
-    fn from(_: Failed) -> CommandFault {
-        CommandFault::WriteFault
-    }
-}
-
-impl From<BadGrid> for CommandFault {
-    ghost from_gives = { λ refused command. command ≡ bad_grid };
-
-    fn from(_: BadGrid) -> CommandFault {
-        CommandFault::BadGrid
     }
 }
 
@@ -140,13 +148,5 @@ impl From<PbmFault> for CommandFault {
             PbmFault::ReadFault => CommandFault::ReadFault,
             PbmFault::NoMemory => CommandFault::NoMemory,
         }
-    }
-}
-
-impl From<AllocError> for CommandFault {
-    ghost from_gives = { λ refused command. command ≡ no_memory };
-
-    fn from(_: AllocError) -> CommandFault {
-        CommandFault::NoMemory
     }
 }

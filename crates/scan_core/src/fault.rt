@@ -10,7 +10,7 @@ use crate::stage::Stage;
 use code128_code::Code128Fault;
 use digits_core::Refusal;
 use element_core::ElementFault;
-use std::alloc::{AllocError, AllocFailed};
+use std::alloc::AllocFailed;
 use std::fmt;
 
 /// Why widths are no row.
@@ -22,14 +22,6 @@ pub enum RunFault {
     BadRuns,
     /// Memory for them was refused.
     NoMemory,
-}
-
-impl From<AllocError> for RunFault {
-    ghost from_gives = { λ _ fault. fault ≡ NoMemory };
-
-    fn from(_: AllocError) -> RunFault {
-        RunFault::NoMemory
-    }
 }
 
 impl<T: Drop> From<AllocFailed<T>> for RunFault {

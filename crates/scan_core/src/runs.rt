@@ -97,7 +97,9 @@ impl Runs {
         if let Some(fault) = runs_fault(widths) {
             return Err(fault);
         }
-        let widths = widths.to_vec(alloc)?;
+        let Ok(widths) = widths.to_vec(alloc) else {
+            return Err(RunFault::NoMemory);
+        };
         Ok(Runs { widths })
     }
 
@@ -131,7 +133,9 @@ impl Runs {
         if width > MOST_DOTS as usize {
             return Err(RunFault::TooWide);
         }
-        let mut widths = Vec::with_capacity(alloc, MANY_RUNS.min(width + 2))?;
+        let Ok(mut widths) = Vec::with_capacity(alloc, MANY_RUNS.min(width + 2)) else {
+            return Err(RunFault::NoMemory);
+        };
         let mut dark = false;
         let mut end = run_end(bits, from, 0, width, dark);
         let mut run = end as u16;

@@ -2,9 +2,9 @@
 ghost use Rattle.std.specs.Prelude.{Some, ◌≡◌, codes};
 ghost use Rattle.digits_core.specs.Refusals.{refusal_text};
 ghost use Rattle.sheet_core.specs.Faults.{pbm_fault_text, print_fault_text, sheet_fault_text};
+ghost use Rattle.sheet_core.specs.declared.fault.PbmFault.TheVariants.{ReadFault};
 
 use digits_core::{Failed, Refusal};
-use std::alloc::{AllocError, AllocFailed};
 use std::fmt;
 
 /// A grid is outside the limits.
@@ -56,73 +56,11 @@ pub enum PbmFault {
     NoMemory,
 }
 
-impl<T: Drop> From<AllocFailed<T>> for SheetFault {
-    ghost use Rattle.sheet_core.specs.declared.fault.SheetFault.TheVariants.{NoMemory};
-
-    ghost from_gives = { λ _ fault. fault ≡ NoMemory };
-
-    fn from(_: AllocFailed<T>) -> SheetFault {
-        SheetFault::NoMemory
-    }
-}
-
-impl From<AllocError> for SheetFault {
-    ghost use Rattle.sheet_core.specs.declared.fault.SheetFault.TheVariants.{NoMemory};
-
-    ghost from_gives = { λ _ fault. fault ≡ NoMemory };
-
-    fn from(_: AllocError) -> SheetFault {
-        SheetFault::NoMemory
-    }
-}
-
-impl From<SheetFault> for PrintFault {
-    ghost use Rattle.sheet_core.specs.declared.fault.PrintFault.TheVariants.{Sheet};
-
-    ghost from_gives = { λ sheet fault. fault ≡ Sheet sheet };
-
-    fn from(fault: SheetFault) -> PrintFault {
-        PrintFault::Sheet(fault)
-    }
-}
-
-impl From<Failed> for PrintFault {
-    ghost use Rattle.sheet_core.specs.declared.fault.PrintFault.TheVariants.{WriteFault};
-
-    ghost from_gives = { λ _ fault. fault ≡ WriteFault };
-
-    fn from(_: Failed) -> PrintFault {
-        PrintFault::WriteFault
-    }
-}
-
 impl From<Failed> for PbmFault {
-    ghost use Rattle.sheet_core.specs.declared.fault.PbmFault.TheVariants.{ReadFault};
-
     ghost from_gives = { λ _ fault. fault ≡ ReadFault };
 
     fn from(_: Failed) -> PbmFault {
         PbmFault::ReadFault
-    }
-}
-
-impl From<AllocError> for PbmFault {
-    ghost use Rattle.sheet_core.specs.declared.fault.PbmFault.TheVariants.{NoMemory};
-
-    ghost from_gives = { λ _ fault. fault ≡ NoMemory };
-
-    fn from(_: AllocError) -> PbmFault {
-        PbmFault::NoMemory
-    }
-}
-
-impl<T: Drop> From<AllocFailed<T>> for PbmFault {
-    ghost use Rattle.sheet_core.specs.declared.fault.PbmFault.TheVariants.{NoMemory};
-
-    ghost from_gives = { λ _ fault. fault ≡ NoMemory };
-
-    fn from(_: AllocFailed<T>) -> PbmFault {
-        PbmFault::NoMemory
     }
 }
 

@@ -106,8 +106,12 @@ pub fn print_sheets(alloc: Global, labels: &[Label], grid: Grid) -> Result<Vec<S
     let mut sheets = Vec::new(alloc);
     for i in 0..count {
         let here = part(labels, i * cells, cells);
-        let sheet = print_sheet(alloc, here, &grid)?;
-        sheets.push(sheet)?;
+        let Ok(sheet) = print_sheet(alloc, here, &grid) else {
+            return Err(SheetFault::NoMemory);
+        };
+        if sheets.push(sheet).is_err() {
+            return Err(SheetFault::NoMemory);
+        }
     }
     Ok(sheets)
 }

@@ -5,6 +5,7 @@ ghost use Rattle.scan_core.specs.Answers.{Reads};
 ghost use Rattle.scan_core.specs.declared.answer.Answer.{Answer};
 ghost use Rattle.hub_core.specs.Serving.{are_counts, served};
 ghost use Rattle.hub_core.specs.declared.fault.ServeFault.{ServeFault};
+ghost use Rattle.line_core.specs.declared.answers.serving.AnswerFault.TheVariants.{NoMemory};
 ghost use Rattle.line_core.specs.answers.Reports.{IsReport, lane_lines, with_lines};
 
 use crate::answers::report::{joined, push_each};
@@ -31,8 +32,6 @@ pub enum AnswerFault {
 }
 
 impl From<AllocError> for AnswerFault {
-    ghost use Rattle.line_core.specs.declared.answers.serving.AnswerFault.TheVariants.{NoMemory};
-
     ghost from_gives = { λ refused fault. fault ≡ NoMemory };
 
     fn from(_: AllocError) -> AnswerFault {

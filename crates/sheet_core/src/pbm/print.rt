@@ -130,11 +130,15 @@ pub fn print_pbm<W: Sink>(
     ensures write { W.failed sink.old ≡ false
         → (IsErrOf result PrintFault.WriteFault ↔ (W.failed sink.new ≡ true)) }
 {
-    check_labels(labels, &grid)?;
+    if let Err(fault) = check_labels(labels, &grid) {
+        return Err(PrintFault::Sheet(fault));
+    }
     let width = grid.columns * grid.cell_width;
     let Ok(mut line) = vec![in alloc; 0; stride(width)] else {
         return Err(PrintFault::Sheet(SheetFault::NoMemory));
     };
-    write_sheets(line.as_mut_slice(), labels, &grid, sink)?;
-    Ok(())
+    match write_sheets(line.as_mut_slice(), labels, &grid, sink) {
+        Ok(()) => Ok(()),
+        Err(Failed) => Err(PrintFault::WriteFault),
+    }
 }

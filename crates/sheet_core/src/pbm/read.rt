@@ -65,7 +65,9 @@ fn read_bytes<R: Source>(alloc: Global, reader: &mut R, count: usize) -> Result<
     'reads: while filled < count {
         if filled == bytes.len() {
             let more = (count - filled).min(PIECE);
-            bytes.resize(filled + more, 0)?;
+            if bytes.resize(filled + more, 0).is_err() {
+                return Err(PbmFault::NoMemory);
+            }
         }
         let read = reader.read(&mut bytes.as_mut_slice()[filled..])?;
         if read == 0 {
@@ -132,7 +134,9 @@ pub fn read_pbm<R: Source>(alloc: Global, reader: &mut R) -> Result<Vec<Sheet>, 
             return Ok(sheets);
         };
         let sheet = read_image(alloc, reader, first)?;
-        sheets.push(sheet)?;
+        if sheets.push(sheet).is_err() {
+            return Err(PbmFault::NoMemory);
+        }
     }
     match next(reader)? {
         None => Ok(sheets),

@@ -8,7 +8,7 @@ pub runs-init : goal.runs-init
 runs-init c =
     let e = c.run_end-end.ensures in
     record {
-      cut = rw c.in_ok-widths.ensures.items (first_run c.args.bits.now c.args.from c.run_end-end.result (λ k lt. e.alike k (omega arith) lt));
+      cut = rw c.in-Ok.ensures.items (first_run c.args.bits.now c.args.from c.run_end-end.result (λ k lt. e.alike k (omega arith) lt));
       in_row = e.in_row;
       next = e.ends;
     }

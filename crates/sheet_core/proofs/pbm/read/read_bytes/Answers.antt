@@ -5,7 +5,7 @@ use Rattle.std.specs.Result.{is_ok}
 use Rattle.std.proofs.KnownBytes.{Consumes-trans}
 use Rattle.std.specs.Io.KnownBytes.{Consumes}
 use Rattle.sheet_core.proofs.pbm.read.read_bytes.Goals as goal
-use Rattle.sheet_core.proofs.pbm.read.read_bytes.Goals.{then-filled-len+in_ok-resize, else-filled-len}
+use Rattle.sheet_core.proofs.pbm.read.read_bytes.Goals.{then-filled-len+else-is_err, else-filled-len}
 
 -- what is read behind the first bytes follows them
 read_behind : (f r n : ℕ) (xs buf post rest : List ℕ) → length xs ≡ f → r ≤ length buf → f + r ≤ n
@@ -33,14 +33,14 @@ reads-preserved g c =
     let inv = c.reads.invariant in
     let filled : ℕ = c.reads.filled in
     let front : take filled c.if-filled-len.bytes.items ≡ take filled c.reads.bytes.items = elim c.if-filled-len.branch [
-      | then-filled-len+in_ok-resize w ↦
+      | then-filled-len+else-is_err w ↦
           let items : length c.reads.bytes.items ≡ filled = omega (arith, c.reads.bytes.ok, w.if-filled-len.true, c.len.ensures) in
           rw w.bytes-is (ap (take filled) w.resize.ensures.items
           ∙ front_kept (is_ok w.resize.result) filled (filled + w.min-more.result) (filled + w.min-more.result - vec_len c.reads.bytes) c.reads.bytes.items items (omega arith))
       | else-filled-len w ↦ rw w.bytes-is refl
     ] in
     let fits : (filled ≤ vec_len c.if-filled-len.bytes) × (vec_len c.if-filled-len.bytes ≤ c.args.count) = elim c.if-filled-len.branch [
-      | then-filled-len+in_ok-resize w ↦
+      | then-filled-len+else-is_err w ↦
           let n : ℕ = filled + w.min-more.result in
           let below : n ≤ c.args.count = omega (arith, w.min-more.ensures, inv.few, inv.fits, c.reads-test.true) in
           let full : vec_len c.reads.bytes ≡ filled = omega (arith, w.if-filled-len.true, c.len.ensures) in

@@ -1,7 +1,8 @@
-use Rattle.std.proofs.Common.{rules, ◌≡◌, ◌+◌, List, [], ◌∷◌, ◌++◌, Err, refl, sym, subst, ◌∙◌, arith}
+use Rattle.std.proofs.Common.{rules, true, ◌≡◌, ◌+◌, List, [], ◌∷◌, ◌++◌, Err, refl, sym, subst, ◌∙◌, arith}
 use Rattle.std.specs.Prelude.{IfErr}
+use Rattle.std.specs.Result.{is_ok}
 use Rattle.sheet_core.specs.Bitmaps.{Bitmap}
-use Rattle.sheet_core.specs.declared.fault.PbmFault.TheVariants.{NoMemory, ReadFault}
+use Rattle.sheet_core.specs.declared.fault.PbmFault.TheVariants.{ReadFault}
 use Rattle.sheet_core.specs.pbm.Images.{Reads, images_of}
 use Rattle.sheet_core.proofs.pbm.FileFacts.{Had, broken, ended, had_more, had_none, image_refused, not_kept, too_many}
 use Rattle.sheet_core.proofs.pbm.HeaderFacts.{at_none, at_some}
@@ -30,22 +31,21 @@ returns-in_err-sheet-clause-err g c =
     let r = image_refused _ _ _ _ _ _ _ fault c.loop.invariant.had c.loop-test.true first c.in_err-sheet.ensures.read in
     subst (λ r. IfErr r (λ fault. Reads images_of (g.R.Source.left c.args.reader.now) (g.R.Source.left c.read_image.new.reader) (Err fault))) (sym (err_is c.from_residual-in_err-sheet.result fault e.0 e.1)) r
 
-pub returns-in_err-push-clause-err : goal.returns-in_err-push-clause-err
-returns-in_err-push-clause-err g c =
-    let e = c.from_residual-in_err-push.ensures in
+pub returns-then-is_err-clause-err : goal.returns-then-is_err-clause-err
+returns-then-is_err-clause-err g c =
     let first = at_some _ _ _ _ c.in-Some.is c.in_ok-first.ensures.byte.1 in
     let s = c.in_ok-sheet.sheet in
     let sheets : List Bitmap = c.loop.sheets.items ++ s ∷ [] in
-    let r = not_kept _ _ (c.loop.counter + 1) sheets
-    (had_more _ _ _ _ c.loop.counter c.loop.sheets.items sheets _ s c.loop.invariant.had c.loop-test.true first c.in_ok-sheet.ensures.read (λ bytes rest e. image_wider bytes rest s e) refl) in
-    subst (λ r. IfErr r (λ fault. Reads images_of (g.R.Source.left c.args.reader.now) (g.R.Source.left c.read_image.new.reader) (Err fault))) (sym (err_is c.from_residual-in_err-push.result NoMemory e.0 e.1)) r
+    not_kept _ _ (c.loop.counter + 1) sheets
+    (had_more _ _ _ _ c.loop.counter c.loop.sheets.items sheets _ s c.loop.invariant.had c.loop-test.true first c.in_ok-sheet.ensures.read (λ bytes rest e. image_wider bytes rest s e) refl)
 
 pub loop-preserved : goal.loop-preserved
 loop-preserved g c =
     let first = at_some _ _ _ _ c.in-Some.is c.in_ok-first.ensures.byte.1 in
     let s = c.in_ok-sheet.sheet in
+    let pushed : is_ok c.push.result ≡ true = search rules in
     record {
-      had = had_more _ _ _ _ c.loop.counter c.loop.sheets.items c.push.new.self.items _ s c.loop.invariant.had c.loop-test.true first c.in_ok-sheet.ensures.read (λ bytes rest e. image_wider bytes rest s e) c.in_ok-push.ensures.items;
+      had = had_more _ _ _ _ c.loop.counter c.loop.sheets.items c.push.new.self.items _ s c.loop.invariant.had c.loop-test.true first c.in_ok-sheet.ensures.read (λ bytes rest e. image_wider bytes rest s e) (rw pushed at c.push.ensures.items);
       same = c.in_ok-sheet.ensures.failed ∙ c.in_ok-first.ensures.byte.0 ∙ c.loop.invariant.same;
     }
 
