@@ -1,12 +1,12 @@
 -- What a machine's events have pushed on its queues and popped from them, and what they leave as it is.
-use Rattle.std.specs.Prelude.{◌≡◌, ◌==◌, ℕ, cond, true, is_some, List, [], ◌∷◌, ◌++◌, Option, None, Some, option_to_list, length, slice_get, take}
+use Rattle.std.specs.Prelude.{◌≡◌, ◌==◌, ◌&&◌, ℕ, cond, not, nat_lt, true, is_some, List, [], ◌∷◌, ◌++◌, Option, None, Some, option_to_list, length, slice_get, take}
 use Rattle.std.specs.List.{list_all}
 use Rattle.lane_core.specs.declared.event.Event.{Event}
 use Rattle.lane_core.specs.declared.event.Event.TheVariants.{Submit, Take, Post, Collect, Hand, Poll, Close}
 use Rattle.lane_core.specs.declared.job.Plain.{Plain}
 use Rattle.lane_core.specs.Plain.{plain_of}
-use Rattle.lane_core.specs.Machine.{State, IsReached, after, is_closed, issued_of, polled_by, polled_of, run, start, step, submitted_by}
-use Rattle.lane_core.specs.Tickets.{numbered}
+use Rattle.lane_core.specs.Machine.{State, IsReached, after, handed_of, is_closed, issued_of, polled_by, polled_of, run, start, step, submitted_by}
+use Rattle.lane_core.specs.Tickets.{is_among, numbered}
 use Rattle.lane_core.specs.Weights.{OneForOne}
 
 -- these, where the event is done
@@ -70,6 +70,17 @@ abbrev pub QueuesKeep : Type 0
 QueuesKeep = (lanes workers year : ℕ) (es : List Event) →
     Keeps (all_of job_pushed (start lanes workers year) es) (all_of job_popped (start lanes workers year) es) (run (start lanes workers year) es).jobs
     × Keeps (all_of result_pushed (start lanes workers year) es) (all_of result_popped (start lanes workers year) es) (run (start lanes workers year) es).results
+
+-- each event is done exactly where its condition holds
+abbrev pub EventsAreDone : Type 0
+EventsAreDone = (s : State) (l w : ℕ) (row : List ℕ) →
+    (is_some (step s (Submit l row)) ≡ (is_some (slice_get s.lanes l) && (not (is_closed s l) && nat_lt (issued_of s l) 4294967296)))
+    × (is_some (step s (Take w)) ≡ (is_some (slice_get s.workers w) && (not (nat_lt 0 (length (held_by (slice_get s.workers w)))) && nat_lt 0 (length s.jobs))))
+    × (is_some (step s (Post w)) ≡ nat_lt 0 (length (held_by (slice_get s.workers w))))
+    × (is_some (step s Collect) ≡ nat_lt 0 (length s.results))
+    × (is_some (step s (Hand l)) ≡ (is_some (slice_get s.lanes l) && is_among l (handed_of s l) s.waiting))
+    × (is_some (step s (Poll l)) ≡ nat_lt (polled_of s l) (handed_of s l))
+    × (is_some (step s (Close l)) ≡ (is_some (slice_get s.lanes l) && not (is_closed s l)))
 
 -- what a lane has submitted is its numbers 0, 1, 2 and so on under the machine's year, and what it has polled is the first of it
 abbrev pub PolledInOrder : Type 0

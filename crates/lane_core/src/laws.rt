@@ -1,5 +1,5 @@
 //! Laws about the machine and about lists of tickets: each function does nothing, and its contract is the law.
-ghost use Rattle.lane_core.specs.History.{DoneStaysDone, ListsGrow, NothingAfterClose, PolledInOrder, QueuesKeep};
+ghost use Rattle.lane_core.specs.History.{DoneStaysDone, EventsAreDone, ListsGrow, NothingAfterClose, PolledInOrder, QueuesKeep};
 ghost use Rattle.lane_core.specs.Reading.{AnswersAreRead, PolledAreRead};
 ghost use Rattle.lane_core.specs.Settling.{AllFound, ClaimsSettle, KeptWhole, ReceivedFirst, SameLists};
 ghost use Rattle.lane_core.specs.Whereabouts.{LostIsNone, OnePlace, TicketsOnce};
@@ -7,6 +7,11 @@ ghost use Rattle.lane_core.specs.Whereabouts.{LostIsNone, OnePlace, TicketsOnce}
 /// Each issued ticket is in one place, once, and no other is in any.
 pub fn tickets_once()
     ensures { TicketsOnce }
+{}
+
+/// Each event is done exactly where its condition holds.
+pub fn events_are_done()
+    ensures { EventsAreDone }
 {}
 
 /// No ticket is in two places: where `World::place` finds it, and nowhere else.

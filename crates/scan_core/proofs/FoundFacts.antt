@@ -1,15 +1,37 @@
 -- What a row is found to show as a candidate.
-use Rattle.std.proofs.Common.{◌≡◌, ℕ, List, length, Result, sym, ap, subst, ◌∙◌}
+use Rattle.std.proofs.Common.{◌≡◌, ℕ, List, length, Option, Some, None, refl, sym, ap, subst, ◌∙◌}
+use Rattle.ean_code.specs.Symbols.{Kind}
+use Rattle.scan_core.specs.declared.symbol.Symbol.{Symbol}
+use Rattle.scan_core.specs.declared.symbol.Symbol.TheVariants.{Number, BadCheckDigit, Characters}
+use Rattle.scan_core.specs.Reading.{IsSymbolAs, ShowsSymbol, content_of}
 use Rattle.scan_core.specs.declared.carrier.Carrier.{Carrier}
-use Rattle.scan_core.specs.declared.fault.RowFault.{RowFault}
 use Rattle.scan_core.specs.declared.stage.Stage.TheVariants as stages
 use Rattle.scan_core.specs.Row.{IsRow, inner}
-use Rattle.scan_core.specs.Showing.{HasForm, IsCandidate, IsQuiet, Rounds, Way, along, kind_of}
+use Rattle.scan_core.specs.Showing.{HasForm, IsCandidate, IsQuiet, IsSymbol, Rounds, Way, along, kind_of}
 use Rattle.scan_core.specs.Showing.Way.{Forwards}
-use Rattle.scan_core.specs.Answers.{Fails, Spells, Tells}
+use Rattle.scan_core.specs.Answers.{Fails, SpellsAs, Tells}
 use Rattle.scan_core.proofs.CandidateFacts.{candidate_dots}
-use Rattle.scan_core.proofs.ContentFacts.{spelled_form}
 use Rattle.scan_core.proofs.WayFacts.{along-along, one_lying, rounds_along, rounds_lying}
+
+-- modules that are found to be a symbol have the form, and spell its content
+symbol_form : (kind : Option Kind) (ms : List ℕ) (s : Symbol) → IsSymbolAs kind ms s → IsSymbol kind ms
+symbol_form (Some kind) ms (Number gtin) a = (a.0, a.1)
+symbol_form (Some kind) ms BadCheckDigit a = (a.0, a.1)
+symbol_form (Some kind) ms (Characters values) a = absurd a
+symbol_form None ms (Number gtin) a = absurd a
+symbol_form None ms BadCheckDigit a = absurd a
+symbol_form None ms (Characters values) a = (values.start, values.values.items, values.check, a)
+
+symbol_spells : (kind : Option Kind) (ms : List ℕ) (s : Symbol) → IsSymbolAs kind ms s → SpellsAs kind ms (content_of s)
+symbol_spells (Some kind) ms (Number gtin) a = (gtin, a, refl)
+symbol_spells (Some kind) ms BadCheckDigit a = (a, refl)
+symbol_spells (Some kind) ms (Characters values) a = absurd a
+symbol_spells None ms (Number gtin) a = absurd a
+symbol_spells None ms BadCheckDigit a = absurd a
+symbol_spells None ms (Characters values) a = (values.start, values.values.items, values.check, a, refl)
+
+pub symbol_tells : (runs : List ℕ) (c : Carrier) (s : Symbol) → ShowsSymbol runs c s → Tells runs c (content_of s)
+symbol_tells runs c s a = (a.0, a.1, a.2, symbol_spells (kind_of c) a.1 s a.3)
 
 -- runs that are no modules forwards are none any way
 pub fails_rounding : (runs : List ℕ) (c : Carrier) (N : ℕ) → IsQuiet runs N → ((modules : List ℕ) → Rounds (inner runs) N modules → ⊥)
@@ -20,8 +42,8 @@ module _ (runs : List ℕ) (c : Carrier) (N : ℕ) (modules : List ℕ) (candida
     (quiet : IsQuiet runs N) (rounds : Rounds (inner runs) N modules)
   where
     -- modules that spell something some way are shown that way
-    pub found_tells : (x : Result (List ℕ) RowFault) (way : Way) → Spells c (along way modules) x → Tells runs c x
-    found_tells x way spells = (
+    pub found_shows : (s : Symbol) (way : Way) → IsSymbolAs (kind_of c) (along way modules) s → ShowsSymbol runs c s
+    found_shows s way is = (
       way,
       along way modules,
       record {
@@ -29,9 +51,9 @@ module _ (runs : List ℕ) (c : Carrier) (N : ℕ) (modules : List ℕ) (candida
         candidate = candidate;
         quiet = quiet;
         rounds = rounds_along way (inner runs) N modules rounds;
-        form = spelled_form (kind_of c) (along way modules) x spells;
+        form = symbol_form (kind_of c) (along way modules) s is;
       },
-      spells,
+      is,
     )
 
     -- where what the runs round to has the form no way, no list has it any way

@@ -1,5 +1,11 @@
 -- What the reader of a row comes by on its way to the answer.
-use Rattle.std.specs.Prelude.{◌≡◌, ℕ, List, ◌++◌, Result, Ok, Err, codes, nat_lt, if◌then◌else◌}
+use Rattle.std.specs.Prelude.{◌≡◌, ℕ, List, ◌++◌, Option, Some, None, Result, Ok, Err, codes, nat_lt, if◌then◌else◌}
+use Rattle.ean_code.specs.Spelling.{IsSpelled}
+use Rattle.ean_code.specs.Symbols.{Kind}
+use Rattle.ean_code.specs.declared.reading.Spelled.TheVariants as spelled
+use Rattle.code128_code.specs.Symbols.{IsCode128Symbol}
+use Rattle.scan_core.specs.declared.carrier.Carrier.{Carrier}
+use Rattle.scan_core.specs.Showing.{Shows, Way, kind_of}
 use Rattle.digits_core.specs.Digits.{ascii_of}
 use Rattle.element_core.specs.Elements.{IsElements, FirstFault, Listing}
 use Rattle.element_core.specs.declared.fault.ElementFault.{ElementFault}
@@ -13,7 +19,7 @@ use Rattle.scan_core.specs.declared.symbol.Symbol.TheVariants.{Number, BadCheckD
 use Rattle.code128_code.specs.declared.symbol_values.Values.{Values}
 use Rattle.scan_core.specs.declared.found.Found.{Found}
 use Rattle.scan_core.specs.declared.found.Found.TheVariants as found
-use Rattle.scan_core.specs.Answers.{IsRefused, Tells, number_of, row_text}
+use Rattle.scan_core.specs.Answers.{IsRefused, number_of, row_text}
 
 -- the fault of a row that fails at this stage
 abbrev pub stage_fault : Stage → RowFault
@@ -39,6 +45,19 @@ content_of (Number gtin) = number_text gtin
 content_of BadCheckDigit = Err SymbolCheckDigit
 content_of (Characters values) = text_in values
 
+-- the modules, a symbol of this kind or else of Code 128, are found to be this
+abbrev pub IsSymbolAs : Option Kind → List ℕ → Symbol → Type 0
+IsSymbolAs (Some kind) modules (Number gtin) = IsSpelled kind modules (spelled.Found gtin)
+IsSymbolAs (Some kind) modules BadCheckDigit = IsSpelled kind modules spelled.BadCheck
+IsSymbolAs (Some kind) modules (Characters values) = ⊥
+IsSymbolAs None modules (Number gtin) = ⊥
+IsSymbolAs None modules BadCheckDigit = ⊥
+IsSymbolAs None modules (Characters values) = IsCode128Symbol values.start values.values.items values.check modules
+
+-- the row shows this symbol of the carrier, one way or the other
+abbrev pub ShowsSymbol : List ℕ → Carrier → Symbol → Type 0
+ShowsSymbol runs carrier symbol = (way : Way) × (modules : List ℕ) × Shows runs carrier way modules × IsSymbolAs (kind_of carrier) modules symbol
+
 -- under this reference year these are the elements of what is spelled, or this is the fault
 abbrev pub IsReadAs : ℕ → Result (List ℕ) RowFault → Result Listing RowFault → Type 0
 IsReadAs year (Ok text) (Ok listing) = (listing.year ≡ year) × IsElements year text listing.list
@@ -47,6 +66,6 @@ IsReadAs year (Err fault) read = read ≡ Err fault
 
 -- this is found in the row: a symbol that it shows, or why it is refused, whatever the year
 abbrev pub IsFound : List ℕ → Found → Type 0
-IsFound runs (found.Number carrier gtin) = Tells runs carrier (number_text gtin)
-IsFound runs (found.Characters carrier values) = Tells runs carrier (text_in values)
+IsFound runs (found.Number carrier gtin) = ShowsSymbol runs carrier (Number gtin)
+IsFound runs (found.Characters carrier values) = ShowsSymbol runs carrier (Characters values)
 IsFound runs (found.Refused fault) = (year : ℕ) → IsRefused runs year fault

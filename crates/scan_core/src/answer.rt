@@ -1,7 +1,7 @@
 //! What a row says.
 ghost use Rattle.std.specs.Prelude.{None, Some, ◌≡◌, ◌≢◌, IfErr, IfOk, OnOk, ℕ, length, sum};
-ghost use Rattle.scan_core.specs.Answers.{Fails, FailsAt, IsAnswer, IsRefused, Tells};
-ghost use Rattle.scan_core.specs.Reading.{IsFound, content_of};
+ghost use Rattle.scan_core.specs.Answers.{Fails, FailsAt, IsAnswer, IsRefused};
+ghost use Rattle.scan_core.specs.Reading.{IsFound, ShowsSymbol};
 ghost use Rattle.scan_core.specs.Row.{IsRow, inner, runs_fault};
 ghost use Rattle.scan_core.specs.Showing.{IsCandidate};
 
@@ -41,7 +41,7 @@ fn try_candidate(widths: &[u16], total: u32, candidate: Candidate) -> Result<Sho
     requires row { IsRow widths.now }
     requires sum { total ≡ sum (inner widths.now) }
     requires counted { IsCandidate candidate.carrier (length (inner widths.now)) candidate.count }
-    ensures shown { IfOk result (λ s. Tells widths.now s.carrier (content_of s.symbol)) }
+    ensures shown { IfOk result (λ s. ShowsSymbol widths.now s.carrier s.symbol) }
     ensures fails { IfErr result (λ stage. Fails widths.now candidate.carrier candidate.count stage) }
 {
     if !is_quiet(widths, total, candidate.count) {
@@ -68,7 +68,7 @@ fn try_both(widths: &[u16], total: u32, fixed: Candidate, gs1128: Candidate) -> 
     requires counted_gs1128 { IsCandidate gs1128.carrier (length (inner widths.now)) gs1128.count }
     requires fixed { fixed.carrier ≢ Carrier.Gs1128 }
     requires gs1128 { gs1128.carrier ≡ Carrier.Gs1128 }
-    ensures shown { IfOk result (λ s. Tells widths.now s.carrier (content_of s.symbol)) }
+    ensures shown { IfOk result (λ s. ShowsSymbol widths.now s.carrier s.symbol) }
     ensures fails { IfErr result (λ stage. FailsAt widths.now stage) }
 {
     match try_candidate(widths, total, fixed) {
@@ -83,7 +83,7 @@ fn try_both(widths: &[u16], total: u32, fixed: Candidate, gs1128: Candidate) -> 
 /// The symbol that the row shows, or why it is refused.
 fn find_shown(widths: &[u16]) -> Result<Shown, RowFault>
     requires { IsRow widths.now }
-    ensures shown { IfOk result (λ s. Tells widths.now s.carrier (content_of s.symbol)) }
+    ensures shown { IfOk result (λ s. ShowsSymbol widths.now s.carrier s.symbol) }
     ensures refused { IfErr result (λ fault. (year : ℕ) → IsRefused widths.now year fault) }
 {
     if widths.len() == 1 {

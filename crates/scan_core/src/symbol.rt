@@ -1,10 +1,9 @@
 //! The symbol that modules are, and what it says.
-ghost use Rattle.std.specs.Prelude.{IfNone, IfSome, List, ℕ};
+ghost use Rattle.std.specs.Prelude.{IfNone, IfSome, List, Some, ℕ};
 ghost use Rattle.ean_code.specs.Spelling.{IsSpelled};
 ghost use Rattle.ean_code.specs.Symbols.{IsNumberSymbol, Kind};
-ghost use Rattle.scan_core.specs.Answers.{Spells, SpellsNumber};
-ghost use Rattle.scan_core.specs.Reading.{content_of};
-ghost use Rattle.scan_core.specs.Showing.{HasForm, Way, along};
+ghost use Rattle.scan_core.specs.Reading.{IsSymbolAs};
+ghost use Rattle.scan_core.specs.Showing.{HasForm, Way, along, kind_of};
 
 use crate::carrier::Carrier;
 use code128_code::{Values, values};
@@ -25,7 +24,7 @@ pub(crate) enum Symbol {
 /// The symbol of EAN, UPC or ITF-14 that was found, if it was one.
 fn number(spelled: Spelled) -> Option<Symbol>
     ensures found { (kind : Kind) (modules : List ℕ) → IsSpelled kind modules spelled
-        → IfSome result (λ s. SpellsNumber kind modules (content_of s)) }
+        → IfSome result (λ s. IsSymbolAs (Some kind) modules s) }
     ensures none { (kind : Kind) (modules : List ℕ) → IsSpelled kind modules spelled
         → IfNone result (((digits : List ℕ) × IsNumberSymbol kind modules digits) → ⊥) }
 {
@@ -38,7 +37,7 @@ fn number(spelled: Spelled) -> Option<Symbol>
 
 /// The symbol of the carrier that the modules are, read from the left.
 fn read_symbol(carrier: Carrier, modules: &Modules) -> Option<Symbol>
-    ensures found { IfSome result (λ s. Spells carrier modules.now (content_of s)) }
+    ensures found { IfSome result (λ s. IsSymbolAs (kind_of carrier) modules.now s) }
     ensures none { IfNone result (HasForm carrier modules.now → ⊥) }
 {
     match carrier {
@@ -53,7 +52,7 @@ fn read_symbol(carrier: Carrier, modules: &Modules) -> Option<Symbol>
 /// The symbol of the carrier that the modules are, read from the left or else from the right. Where it is
 /// none from the left they are turned round.
 pub(crate) fn read_some_way(carrier: Carrier, modules: &mut Modules) -> Option<Symbol>
-    ensures found { IfSome result (λ s. (way : Way) × Spells carrier (along way modules.old) (content_of s)) }
+    ensures found { IfSome result (λ s. (way : Way) × IsSymbolAs (kind_of carrier) (along way modules.old) s) }
     ensures none { IfNone result ((way : Way) → HasForm carrier (along way modules.old) → ⊥) }
 {
     match read_symbol(carrier, modules) {

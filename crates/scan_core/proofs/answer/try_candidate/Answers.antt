@@ -1,9 +1,8 @@
 use Rattle.std.proofs.Common.{◌∙◌, ap, rules, sum, sym}
-use Rattle.scan_core.specs.Reading.{content_of}
 use Rattle.scan_core.specs.Row.{inner}
 use Rattle.scan_core.specs.Showing.{IsQuiet, Rounds}
 use Rattle.scan_core.proofs.CandidateFacts.{most_modules}
-use Rattle.scan_core.proofs.FoundFacts.{fails_pattern, fails_rounding, found_tells}
+use Rattle.scan_core.proofs.FoundFacts.{fails_pattern, fails_rounding, found_shows}
 use Rattle.scan_core.proofs.answer.try_candidate.Goals as goal
 
 pub round-requires-clause-sum : goal.round-requires-clause-sum
@@ -27,7 +26,7 @@ returns-in-Some-read_some_way-clause-shown c =
     let rounds : Rounds (inner runs) N modules = rw c.inner.ensures at c.in-Some.ensures.found in
     let quiet : IsQuiet runs N = search rules in
     let found = c.in-Some-read_some_way.ensures.found in
-    found_tells runs c.args.candidate.carrier N modules c.requires.counted quiet rounds (content_of c.in-Some-read_some_way.symbol) found.0 found.1
+    found_shows runs c.args.candidate.carrier N modules c.requires.counted quiet rounds c.in-Some-read_some_way.symbol found.0 found.1
 
 pub returns-in-None-clause-fails : goal.returns-in-None-clause-fails
 returns-in-None-clause-fails c =
