@@ -120,7 +120,8 @@ impl Deliverer {
     /// Keeps the delivery until its lane is given it.
     ///
     /// A delivery of no such lane, or of a number that was taken in before, is a `Stranger`; else
-    /// only memory can be refused. Either way nothing changes, and it comes back.
+    /// only memory can be refused, and that not to a lane's next number, which needs none. Either way
+    /// nothing changes, and it comes back.
     pub fn take_in(&mut self, delivery: Delivery) -> Result<(), TakeFault>
         ensures taken { OnOk result (TakesIn self.old delivery self.new) }
         ensures refused { IfErr result (ComesBack self.old delivery) }

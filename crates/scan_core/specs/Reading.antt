@@ -1,5 +1,5 @@
 -- What the reader of a row comes by on its way to the answer.
-use Rattle.std.specs.Prelude.{◌≡◌, ℕ, List, ◌++◌, Option, Some, None, Result, Ok, Err, codes, nat_lt, if◌then◌else◌}
+use Rattle.std.specs.Prelude.{⊤, ◌≡◌, ℕ, List, ◌++◌, Option, Some, None, Result, Ok, Err, codes, nat_lt, if◌then◌else◌}
 use Rattle.ean_code.specs.Spelling.{IsSpelled}
 use Rattle.ean_code.specs.Symbols.{Kind}
 use Rattle.ean_code.specs.declared.reading.Spelled.TheVariants as spelled
@@ -11,7 +11,7 @@ use Rattle.element_core.specs.Elements.{IsElements, FirstFault, Listing}
 use Rattle.element_core.specs.declared.fault.ElementFault.{ElementFault}
 use Rattle.code128_code.specs.Texts.{symbol_text}
 use Rattle.scan_core.specs.declared.fault.RowFault.{RowFault}
-use Rattle.scan_core.specs.declared.fault.RowFault.TheVariants.{QuietZone, Modules, Pattern, SymbolCheckDigit, Elements}
+use Rattle.scan_core.specs.declared.fault.RowFault.TheVariants.{QuietZone, Modules, Pattern, SymbolCheckDigit, Code128, Elements}
 use Rattle.scan_core.specs.declared.stage.Stage.{Stage}
 use Rattle.scan_core.specs.declared.stage.Stage.TheVariants as stages
 use Rattle.scan_core.specs.declared.symbol.Symbol.{Symbol}
@@ -64,8 +64,18 @@ IsReadAs year (Ok text) (Ok listing) = (listing.year ≡ year) × IsElements yea
 IsReadAs year (Ok text) (Err fault) = (first : ElementFault) × FirstFault year text first × (fault ≡ Elements first)
 IsReadAs year (Err fault) read = read ≡ Err fault
 
--- this is found in the row: a symbol that it shows, or why it is refused, whatever the year
+-- the fault is one of the row or of a check digit, and not of the text that the values of a symbol say
+abbrev pub IsBeforeText : RowFault → Type 0
+IsBeforeText (Code128 fault) = ⊥
+IsBeforeText (Elements fault) = ⊥
+IsBeforeText fault = ⊤
+
+-- the row is refused for this before a text is read, whatever the year
+abbrev pub IsUnread : List ℕ → RowFault → Type 0
+IsUnread runs fault = IsBeforeText fault × ((year : ℕ) → IsRefused runs year fault)
+
+-- this is found in the row: the symbol that it shows, or why it shows none, or a wrong check digit
 abbrev pub IsFound : List ℕ → Found → Type 0
 IsFound runs (found.Number carrier gtin) = ShowsSymbol runs carrier (Number gtin)
 IsFound runs (found.Characters carrier values) = ShowsSymbol runs carrier (Characters values)
-IsFound runs (found.Refused fault) = (year : ℕ) → IsRefused runs year fault
+IsFound runs (found.Refused fault) = IsUnread runs fault

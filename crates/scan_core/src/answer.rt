@@ -1,7 +1,7 @@
 //! What a row says.
 ghost use Rattle.std.specs.Prelude.{None, Some, ◌≡◌, ◌≢◌, IfErr, IfOk, OnOk, ℕ, length, sum};
-ghost use Rattle.scan_core.specs.Answers.{Fails, FailsAt, IsAnswer, IsRefused};
-ghost use Rattle.scan_core.specs.Reading.{IsFound, ShowsSymbol};
+ghost use Rattle.scan_core.specs.Answers.{Fails, FailsAt, IsAnswer};
+ghost use Rattle.scan_core.specs.Reading.{IsFound, IsUnread, ShowsSymbol};
 ghost use Rattle.scan_core.specs.Row.{IsRow, inner, runs_fault};
 ghost use Rattle.scan_core.specs.Showing.{IsCandidate};
 
@@ -84,7 +84,7 @@ fn try_both(widths: &[u16], total: u32, fixed: Candidate, gs1128: Candidate) -> 
 fn find_shown(widths: &[u16]) -> Result<Shown, RowFault>
     requires { IsRow widths.now }
     ensures shown { IfOk result (λ s. ShowsSymbol widths.now s.carrier s.symbol) }
-    ensures refused { IfErr result (λ fault. (year : ℕ) → IsRefused widths.now year fault) }
+    ensures refused { IfErr result (IsUnread widths.now) }
 {
     if widths.len() == 1 {
         return Err(RowFault::Blank);

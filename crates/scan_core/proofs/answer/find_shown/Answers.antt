@@ -6,7 +6,21 @@ use Rattle.scan_core.specs.Showing.{IsCandidate}
 use Rattle.scan_core.proofs.CandidateFacts.{which}
 use Rattle.scan_core.proofs.RowFacts.{has_dark}
 use Rattle.scan_core.proofs.StageFacts.{alone_fixed, alone_gs1128, refused_at}
+use Rattle.scan_core.specs.declared.stage.Stage.{Stage}
+use Rattle.scan_core.specs.declared.stage.Stage.TheVariants.{QuietZone, Modules, Pattern}
+use Rattle.scan_core.specs.Reading.{IsBeforeText, stage_fault}
 use Rattle.scan_core.proofs.answer.find_shown.Goals as goal
+
+before_text : (stage : Stage) → IsBeforeText (stage_fault stage)
+before_text QuietZone = tt
+before_text Modules = tt
+before_text Pattern = tt
+
+pub returns-in_err-try_both-in-Some-Some-clause-refused : goal.returns-in_err-try_both-in-Some-Some-clause-refused
+returns-in_err-try_both-in-Some-Some-clause-refused c =
+    let p = err_from_is_err_and c.from_residual.result c.from_residual.ensures.1 in
+    let stage = c.in_err-try_both-in-Some-Some.field-0.0 in
+    rw (p.1, p.2) (before_text stage, λ year. refused_at stage c.args.widths.now year c.in_err-try_both-in-Some-Some.ensures.fails)
 
 pub returns-in_err-try_candidate-in-Some-None-clause-refused :
     goal.returns-in_err-try_candidate-in-Some-None-clause-refused
@@ -17,11 +31,13 @@ returns-in_err-try_candidate-in-Some-None-clause-refused c =
     let fixed = c.in-Some-None.fixed in
     let stage = c.in_err-try_candidate-in-Some-None.field-0.0 in
     let candidate : IsCandidate fixed.carrier (length (inner runs)) fixed.count = rw c.inner-inner.ensures at c.in-Some-None.ensures.found in
-    rw (p.1, p.2)
-    (λ year. refused_at stage runs year
-    (alone_fixed runs fixed.carrier fixed.count stage c.in-Some-None.ensures.fixed candidate
-    (λ M h. c.in-Some-None.ensures'.none M (rw c.inner-inner.ensures h))
-    c.in_err-try_candidate-in-Some-None.ensures.fails))
+    rw (p.1, p.2) (
+      before_text stage,
+      λ year. refused_at stage runs year
+          (alone_fixed runs fixed.carrier fixed.count stage c.in-Some-None.ensures.fixed candidate
+          (λ M h. c.in-Some-None.ensures'.none M (rw c.inner-inner.ensures h))
+          c.in_err-try_candidate-in-Some-None.ensures.fails),
+    )
 
 pub returns-in_err-try_candidate-in-None-Some-clause-refused :
     goal.returns-in_err-try_candidate-in-None-Some-clause-refused
@@ -33,21 +49,25 @@ returns-in_err-try_candidate-in-None-Some-clause-refused c =
     let stage = c.in_err-try_candidate-in-None-Some.field-0.0 in
     let is = c.in-None-Some.ensures.gs1128 in
     let candidate : IsCandidate gs1128.carrier (length (inner runs)) gs1128.count = rw c.inner-inner.ensures at c.in-None-Some.ensures.found in
-    rw (p.1, p.2)
-    (λ year. refused_at stage runs year
-    (alone_gs1128 runs gs1128.count stage (subst (λ d. IsCandidate d (length (inner runs)) gs1128.count) is candidate)
-    (λ d M ne h. (rw c.in-None-Some.is-0 at c.fixed_candidate.ensures.none) d M ne (rw c.inner-inner.ensures h))
-    (subst (λ d. Fails runs d gs1128.count stage) is c.in_err-try_candidate-in-None-Some.ensures.fails)))
+    rw (p.1, p.2) (
+      before_text stage,
+      λ year. refused_at stage runs year
+          (alone_gs1128 runs gs1128.count stage (subst (λ d. IsCandidate d (length (inner runs)) gs1128.count) is candidate)
+          (λ d M ne h. (rw c.in-None-Some.is-0 at c.fixed_candidate.ensures.none) d M ne (rw c.inner-inner.ensures h))
+          (subst (λ d. Fails runs d gs1128.count stage) is c.in_err-try_candidate-in-None-Some.ensures.fails)),
+    )
 
 pub returns-in-None-None-clause-refused : goal.returns-in-None-None-clause-refused
 returns-in-None-None-clause-refused c =
     let runs = c.args.widths.now in
-    let odd = c.requires.odd_number in
-    λ year. (
-      has_dark runs c.requires (omega arith),
-      λ d N h.
-          elim (which d) [
-            | inl e ↦ c.in-None-None.ensures.none N (rw c.inner-inner.ensures (subst (λ o. IsCandidate o (length (inner runs)) N) e h))
-            | inr ne ↦ (rw c.in-None-None.is-0 at c.fixed_candidate.ensures.none) d N ne (rw c.inner-inner.ensures h)
-          ],
+    let odd = c.requires.odd_number in (
+      tt,
+      λ year. (
+        has_dark runs c.requires (omega arith),
+        λ d N h.
+            elim (which d) [
+              | inl e ↦ c.in-None-None.ensures.none N (rw c.inner-inner.ensures (subst (λ o. IsCandidate o (length (inner runs)) N) e h))
+              | inr ne ↦ (rw c.in-None-None.is-0 at c.fixed_candidate.ensures.none) d N ne (rw c.inner-inner.ensures h)
+            ],
+      ),
     )

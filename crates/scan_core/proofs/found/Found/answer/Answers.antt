@@ -22,4 +22,4 @@ returns-in-Number c =
     λ runs found. answer_from runs c.args.year of.carrier (number_text of.gtin) (Ok c.of_gtin.result) (symbol_tells runs of.carrier (Number of.gtin) (rw of.is at found)) (c.of_gtin.ensures.year, subst (λ l. IsElements c.args.year (canonical l) c.of_gtin.result.list) c.of_gtin.ensures.list c.of_gtin.ensures.reads)
 
 pub returns-in-Refused : goal.returns-in-Refused
-returns-in-Refused c = λ runs found. (rw c.in-Refused.is at found) c.args.year
+returns-in-Refused c = λ runs found. (rw c.in-Refused.is at found).1 c.args.year
