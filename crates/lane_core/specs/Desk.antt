@@ -51,7 +51,7 @@ pub record TakesIn (d : Desk) (x : Plain) (e : Desk) : Type 0 where
 -- x comes back, as a stranger exactly where it is not new; to its lane's next number no memory is refused
 abbrev pub ComesBack : Desk → Plain → TakeFault → Type 0
 ComesBack d x (Stranger y) = (is_new d x ≡ false) × (y ≡ x)
-ComesBack d x (NoMemory y) = (is_new d x ≡ true) × (x.number ≡ next_of d x.lane → ⊥) × (y ≡ x)
+ComesBack d x (NoMemory y) = (is_new d x ≡ true) × (y ≡ x) × (x.number ≡ next_of d x.lane → ⊥)
 
 -- whether lane l's next number waits
 abbrev pub has_next : Desk → ℕ → Bool
