@@ -1,9 +1,10 @@
 -- Rows that stay in their places, and rows that are sent.
-use Rattle.std.proofs.Common.{◌≡◌, ◌≤◌, ◌<◌, ◌+◌, ◌++◌, ◌∷◌, ◌∙◌, ◌&&◌, [], List, None, Option, Some, ap, append_assoc, arith, length, map, nat_le, refl, suc, sym, take, true, zero, ℕ}
+use Rattle.std.proofs.Common.{◌≡◌, ◌≤◌, ◌<◌, ◌+◌, ◌++◌, ◌∷◌, ◌∙◌, ◌&&◌, [], All, List, None, Option, Some, ap, append_assoc, arith, length, map, nat_le, refl, suc, sym, take, true, zero, ℕ}
 use Rattle.std.specs.List.{AllZip}
 use Rattle.std.proofs.lemmas.Bool.{and_parts}
 use Rattle.std.proofs.lemmas.Bool.Decides.{nat_tests}
-use Rattle.std.proofs.lemmas.List.{length-append, length-take-le, map-append}
+use Rattle.std.proofs.lemmas.List.{length-append, length-take-le, map-append, nil_from_length}
+use Rattle.std.proofs.lemmas.List.Elements.{All-cons, All-head, All-nil, All-tail}
 use Rattle.scan_core.specs.Answers.{IsAnswer, Reads}
 use Rattle.scan_core.specs.declared.answer.Answer.{Answer}
 use Rattle.lane_core.specs.Plain.{plain_of}
@@ -121,6 +122,23 @@ lanes_read lane year (here ∷ places) [] (a ∷ answers) h = absurd h
 lanes_read lane year (here ∷ places) (rows ∷ sent) [] h = absurd h
 lanes_read lane year (here ∷ places) (rows ∷ sent) (a ∷ answers) h =
     (lane_read lane 0 year here rows a h.0, lanes_read (lane + 1) year places sent answers h.1)
+
+-- ---- lanes without rows
+
+-- of lanes without rows none is sent
+pub none_sent : {S : Type 0} (f : S → List (List ℕ)) (places : List (List (Option (List ℕ)))) (sent : List S) → AllZip HasPlaces places (map f sent)
+    → All (λ rows. rows ≡ []) (woven_each (λ row. row) places (map f sent)) → All (λ v. f v ≡ []) sent
+none_sent {S} f [] [] fits all = let P : S → Type 0 = λ v. f v ≡ [] in All-nil P
+none_sent f [] (s ∷ sent) fits all = absurd fits
+none_sent {S} f (here ∷ places) [] fits all = absurd fits
+none_sent {S} f (here ∷ places) (s ∷ sent) fits all =
+    let P : S → Type 0 = λ v. f v ≡ [] in
+    let Q : List (List ℕ) → Type 0 = λ rows. rows ≡ [] in
+    let first = woven (λ row. row) here (f s) in
+    let rest = woven_each (λ row. row) places (map f sent) in
+    let few = few_sent (λ row. row) here (f s) in
+    let none = ap length (All-head Q first rest all) in
+    All-cons P s sent (nil_from_length (f s) (omega (arith, few, none))) (none_sent f places sent fits.1 (All-tail Q first rest all))
 
 -- ---- numbers of rows
 

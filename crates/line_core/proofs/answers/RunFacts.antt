@@ -1,12 +1,13 @@
 -- Rows that are answered in runs.
-use Rattle.std.proofs.Common.{◌≡◌, ◌≤◌, ◌<◌, ◌*◌, ◌+◌, ◌-◌, ◌++◌, ◌∷◌, ◌∙◌, ◌&&◌, [], All, List, ap, append_assoc, arith, drop, length, map, nat_le, refl, reverse, suc, sym, take, true, zero, ℕ}
+use Rattle.std.proofs.Common.{◌≡◌, ◌≤◌, ◌<◌, ◌*◌, ◌+◌, ◌-◌, ◌++◌, ◌∷◌, ◌∙◌, ◌&&◌, [], All, Err, IsErrAnd, List, Result, ap, append_assoc, arith, drop, length, map, nat_le, refl, reverse, suc, sym, take, true, zero, ℕ}
 use Rattle.std.specs.List.{AllZip, concat}
 use Rattle.std.proofs.Math.Seq.{take-add}
 use Rattle.std.proofs.lemmas.Bool.{and_parts}
 use Rattle.std.proofs.lemmas.Bool.Decides.{nat_tests}
 use Rattle.std.proofs.lemmas.List.{append-nil, drop_all, length-drop, length-map, length-reverse, length-take, map-append, reverse-append, take-append-drop, take_all}
-use Rattle.std.proofs.lemmas.List.Elements.{All-head, All-rest}
+use Rattle.std.proofs.lemmas.List.Elements.{All-head, All-map, All-rest, All-weaker}
 use Rattle.std.proofs.lemmas.List.Folds.{concat-append}
+use Rattle.std.proofs.lemmas.Result.{err_from_is_err_and}
 use Rattle.std.proofs.lemmas.Slice.Zip.{AllZip-long}
 use Rattle.scan_core.specs.Answers.{IsAnswer, Reads}
 use Rattle.scan_core.specs.declared.answer.Answer.{Answer}
@@ -72,6 +73,21 @@ module _ {X : Type 0} where
       let rest = All-rest P (drop n rows) (map (drop n) feeds) (map (drop n) (rows ∷ feeds)) refl all in
       rw (drop_none n rows here, all_taken n feeds rest) refl
 
+  -- of empty lists the first are none, and none is left
+  pub rowless_taken : (n : ℕ) (rests : List (List X)) → All (λ rest. rest ≡ []) rests → All (λ rows. rows ≡ []) (map (take n) rests)
+  rowless_taken n rests all =
+      let P : List X → Type 0 = λ rows. rows ≡ [] in
+      let Q : List X → Type 0 = λ rows. take n rows ≡ [] in
+      All-map P (take n) rests (All-weaker P Q (λ rows none. ap (take n) none ∙ take_all n [] (omega arith)) rests all)
+
+  pub rowless_left : {V : Type 0} (f : V → List X) (n : ℕ) (vs : List V) → All (λ v. f v ≡ []) vs → All (λ rest. rest ≡ []) (map (drop n) (map f vs))
+  rowless_left {V} f n vs all =
+      let P : List X → Type 0 = λ rows. rows ≡ [] in
+      let Q : List X → Type 0 = λ rows. drop n rows ≡ [] in
+      let R : V → Type 0 = λ v. f v ≡ [] in
+      let S : V → Type 0 = λ v. drop n (f v) ≡ [] in
+      All-map P (drop n) (map f vs) (All-map Q f vs (All-weaker R S (λ v none. ap (drop n) none ∙ drop_all n [] (omega arith)) vs all))
+
   -- lists before anything is dropped, and after more is
   pub none_dropped : (feeds : List (List X)) → feeds ≡ map (drop 0) feeds
   none_dropped [] = refl
@@ -89,6 +105,13 @@ module _ {X : Type 0} where
   -- texts joined, and one more
   pub joined_more : (f : X → List ℕ) (ts : List X) (t : X) → concat (map f (ts ++ t ∷ [])) ≡ concat (map f ts) ++ f t
   joined_more f ts t = ap concat (map-append f ts (t ∷ [])) ∙ concat-append (map f ts) (f t ∷ []) ∙ ap (λ u. concat (map f ts) ++ u) (append-nil (f t))
+
+-- a refusal that was passed on is the same
+pub passed_on : {A E : Type 0} (r : Result A E) (f g : E) → IsErrAnd r (λ y. y ≡ f) → r ≡ Err g → f ≡ g
+passed_on r f g told is =
+    let e = err_from_is_err_and r told in
+    let k = sym e.1 ∙ is in
+    let h : e.0 ≡ g = cc in sym e.2 ∙ h
 
 pub count_more : {X Y : Type 0} (xs : List X) (ys : List Y) (x : X) (y : Y) → length xs ≡ length ys → length (xs ++ x ∷ []) ≡ length (ys ++ y ∷ [])
 count_more [] [] x y same = refl

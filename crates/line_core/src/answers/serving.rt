@@ -1,5 +1,5 @@
 //! Rows that workers answer, and the report of the answers.
-ghost use Rattle.std.specs.Prelude.{[], ◌≡◌, ◌≢◌, ◌↔◌, ◌≤◌, All, List, drop, length, map, take, true, IfOk, IsTrue, string_bytes};
+ghost use Rattle.std.specs.Prelude.{[], ◌≡◌, ◌≢◌, ◌↔◌, ◌≤◌, All, List, drop, length, map, take, true, IfOk, IsErrOf, IsTrue, string_bytes};
 ghost use Rattle.std.specs.List.{AllZip};
 ghost use Rattle.scan_core.specs.Answers.{Reads};
 ghost use Rattle.scan_core.specs.declared.answer.Answer.{Answer};
@@ -71,7 +71,7 @@ fn no_deliveries(alloc: Global, feeds: Vec<Vec<Runs>>) -> Result<Vec<Vec<Deliver
 }
 
 /// The deliveries of each feed's rows, read by so many workers beside each other. Where there is no row
-/// no thread is started.
+/// no thread is started, and so none is refused.
 fn serve_all<R: Threads + Wait + Sync, G: Gate + Sync>(
     rt: &R,
     alloc: Global,
@@ -81,8 +81,9 @@ fn serve_all<R: Threads + Wait + Sync, G: Gate + Sync>(
     gate: &G,
 ) -> Result<Vec<Vec<Delivery>>, AnswerFault>
     requires { are_counts (map (λ feed. feed.items) feeds.items) workers ≡ true }
-    ensures { IfOk result (λ v. map (λ list. list.items) v.items
+    ensures lists { IfOk result (λ v. map (λ list. list.items) v.items
         ≡ served year (map (λ feed. feed.items) feeds.items)) }
+    ensures threads { IsErrOf result AnswerFault.NoThread → All (λ feed. feed.items ≡ []) feeds.items → ⊥ }
 {
     if are_rowless(feeds.as_slice()) {
         return Ok(no_deliveries(alloc, feeds)?);
@@ -125,6 +126,7 @@ fn answer_run<R: Threads + Wait + Sync, G: Gate + Sync>(
     ensures lines { IfOk result (λ v. (answers : List (List Answer))
         × AllZip (λ rows read. Reads rows year read) (map (take RUN) lanes.0.items) answers
         × (map string_bytes v.1.items ≡ with_lines 0 first (map string_bytes lanes.1.items) answers)) }
+    ensures threads { IsErrOf result AnswerFault.NoThread → All (λ rest. rest ≡ []) lanes.0.items → ⊥ }
 {
     let (rests, texts) = lanes;
     let (runs, rests) = next_runs(alloc, rests)?;
@@ -145,9 +147,10 @@ fn answer_runs<R: Threads + Wait + Sync, G: Gate + Sync>(
     gate: &G,
 ) -> Result<Vec<String>, AnswerFault>
     requires { are_counts (map (λ feed. feed.items) feeds.items) workers ≡ true }
-    ensures { IfOk result (λ v. (answers : List (List Answer))
+    ensures lines { IfOk result (λ v. (answers : List (List Answer))
         × AllZip (λ rows read. Reads rows year read) (map (λ feed. feed.items) feeds.items) answers
         × (map string_bytes v.items ≡ lane_lines 0 answers)) }
+    ensures threads { IsErrOf result AnswerFault.NoThread → All (λ feed. feed.items ≡ []) feeds.items → ⊥ }
 {
     let mut lanes = start(alloc, feeds)?;
     for run in 0..MOST_RUNS {
@@ -164,6 +167,7 @@ fn answer_runs<R: Threads + Wait + Sync, G: Gate + Sync>(
 ///
 /// The rows are served in runs. A row that is too short for a symbol is read as its line is written, and
 /// no worker is asked for it; the gate sees each other row under its number among those of its run.
+/// `NoThread` comes only where a feed has a row.
 pub fn answer_lines<R: Threads + Wait + Sync, G: Gate + Sync>(
     rt: &R,
     alloc: Global,
@@ -173,7 +177,8 @@ pub fn answer_lines<R: Threads + Wait + Sync, G: Gate + Sync>(
     gate: &G,
 ) -> Result<String, AnswerFault>
     requires { are_counts (map (λ feed. feed.items) feeds.items) workers ≡ true }
-    ensures { IfOk result (λ lines. IsReport year (map (λ feed. feed.items) feeds.items) (string_bytes lines)) }
+    ensures report { IfOk result (λ lines. IsReport year (map (λ feed. feed.items) feeds.items) (string_bytes lines)) }
+    ensures threads { IsErrOf result AnswerFault.NoThread → All (λ feed. feed.items ≡ []) feeds.items → ⊥ }
 {
     let texts = answer_runs(rt, alloc, feeds, workers, year, gate)?;
     Ok(joined(alloc, texts)?)

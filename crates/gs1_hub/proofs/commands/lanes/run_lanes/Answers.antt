@@ -22,7 +22,7 @@ returns-in_err-write_all g c =
       cut = λ same. records_cut (lanes_meaning o.lanes) (λ rows. feeds ≡ feeds_of o.lanes rows) (λ rows text. IsReport o.year (feeds_of o.lanes rows) text)
           (lanes_command o).refuses lines c.as_bytes.result.now
           (g.S.Source.left c.args.source.now) (g.S.Source.left c.read_feeds.new.source) (g.W.Sink.taken c.args.sink.now) (g.W.Sink.taken c.write_all.new.sink)
-          c.in_ok-feeds.ensures.ok (λ rows are. subst (λ f. IsReport o.year f lines) are c.in_ok-lines.ensures) (c.as_bytes.ensures.value ∙ c.as_str.ensures.value) c.in_err-write_all.ensures.err;
+          c.in_ok-feeds.ensures.ok (λ rows are. subst (λ f. IsReport o.year f lines) are c.in_ok-lines.ensures.report) (c.as_bytes.ensures.value ∙ c.as_str.ensures.value) c.in_err-write_all.ensures.err;
       refused = search rules;
       unwritten = search rules;
       read = search rules;

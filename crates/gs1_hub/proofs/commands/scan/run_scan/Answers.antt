@@ -28,7 +28,7 @@ returns-in_err-write_all g c =
     record {
       ok = search rules;
       cut = λ same. images_cut o (g.S.Source.left c.args.source.now) (g.S.Source.left c.read_pbm.new.reader) (g.W.Sink.taken c.args.sink.now) (g.W.Sink.taken c.write_all.new.sink)
-          sheets feeds lines c.as_bytes.result.now (c.in_ok-grid.ensures.exact.0 refl) c.in_ok-sheets.ensures.ok c.in_ok-sheets.ensures.end size are c.in_ok-lines.ensures
+          sheets feeds lines c.as_bytes.result.now (c.in_ok-grid.ensures.exact.0 refl) c.in_ok-sheets.ensures.ok c.in_ok-sheets.ensures.end size are c.in_ok-lines.ensures.report
           (c.as_bytes.ensures.value ∙ c.as_str.ensures.value) c.in_err-write_all.ensures.err;
       refused = search rules;
       unwritten = search rules;

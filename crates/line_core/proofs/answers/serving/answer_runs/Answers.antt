@@ -1,9 +1,10 @@
-use Rattle.std.proofs.Common.{◌*◌, ◌≡◌, ◌≤◌, ◌∙◌, [], All, ap, arith, drop, map, string_bytes, subst, sym, take}
+use Rattle.std.proofs.Common.{◌*◌, ◌≡◌, ◌≤◌, ◌∙◌, [], All, Err, ap, arith, drop, map, string_bytes, subst, sym, take}
 use Rattle.std.specs.List.{AllZip}
 use Rattle.scan_core.specs.Answers.{Reads}
 use Rattle.line_core.specs.declared.answers.rest.TheConstants.{RUN}
 use Rattle.line_core.specs.answers.Reports.{with_lines}
-use Rattle.line_core.proofs.answers.RunFacts.{all_taken, both, counted_short, more_dropped, no_text, none_dropped, none_read, rest_counts, run_lines, run_read, run_step, short_taken, texts_count}
+use Rattle.line_core.proofs.answers.RunFacts.{all_taken, both, counted_short, more_dropped, no_text, none_dropped, none_read, passed_on, rest_counts, rowless_left, run_lines, run_read, run_step, short_taken, texts_count}
+use Rattle.line_core.specs.declared.answers.serving.AnswerFault.TheVariants.{NoThread}
 use Rattle.line_core.proofs.answers.serving.answer_runs.Goals as goal
 
 pub loop-run-init : goal.loop-run-init
@@ -17,16 +18,16 @@ loop-run-init g c =
       texts = c.in_ok-lanes.ensures.texts ∙ no_text (λ feed. feed.items) c.args.feeds.items ∙ none.2;
     }
 
-pub returns-then-are_empty : goal.returns-then-are_empty
-returns-then-are_empty g c =
+pub returns-then-are_empty-clause-lines : goal.returns-then-are_empty-clause-lines
+returns-then-are_empty-clause-lines g c =
     let inv = c.loop-run.invariant in
     let feeds = map (λ feed. feed.items) c.args.feeds.items in
     let first = c.loop-run.run * RUN in
     let all : All (λ rest. rest ≡ []) (map (drop first) feeds) = subst (All (λ rest. rest ≡ [])) (c.as_slice.ensures.value ∙ inv.rests) (c.are_empty.ensures.0 c.if-are_empty.true) in
     (inv.answers, subst (λ fs. AllZip (λ rows read. Reads rows c.args.year read) fs inv.answers) (all_taken first feeds all) inv.read, inv.texts)
 
-pub returns : goal.returns
-returns g c =
+pub returns-clause-lines : goal.returns-clause-lines
+returns-clause-lines g c =
     let inv = c.loop-run.invariant in
     let feeds = map (λ feed. feed.items) c.args.feeds.items in
     let first = c.loop-run.run * RUN in
@@ -60,3 +61,10 @@ loop-run-preserved g c =
       read = subst (λ k. AllZip (λ rows read. Reads rows year read) (map (take k) feeds) (both inv.answers new.0)) (sym step) (run_read year first RUN feeds inv.answers new.0 inv.read is);
       texts = new.2 ∙ ap (λ ts. with_lines 0 first ts new.0) inv.texts ∙ run_lines year 0 first RUN feeds inv.answers new.0 inv.read is;
     }
+
+pub returns-in_err-lanes-2-clause-threads : goal.returns-in_err-lanes-2-clause-threads
+returns-in_err-lanes-2-clause-threads g c = λ refused none.
+    let inv = c.loop-run.invariant in
+    let left = subst (All (λ rest. rest ≡ [])) (sym inv.rests) (rowless_left (λ feed. feed.items) (c.loop-run.run * RUN) c.args.feeds.items none) in
+    let told = c.from_residual-in_err-lanes-2.ensures in
+    c.in_err-lanes-2.ensures.threads (ap Err (passed_on c.from_residual-in_err-lanes-2.result c.in_err-lanes-2.field-0.0 NoThread told.1 refused)) left
