@@ -14,6 +14,8 @@ ghost use Rattle.gs1_c.specs.Lines.{IsDigitLine, IsDotsLine, IsRowLine, IsTextLi
 mod answer;
 mod buffer;
 mod label;
+#[cfg(test)]
+mod tests;
 
 use answer::{put_answer, put_dots};
 use buffer::{put, put_elements, put_refusal, put_words};

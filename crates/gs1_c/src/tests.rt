@@ -1,0 +1,110 @@
+//! What each call puts, against values from outside.
+
+use crate::{gs1_c_digit, gs1_c_dots, gs1_c_gtin, gs1_c_label, gs1_c_row, gs1_c_text};
+use std::process::Abort;
+
+// 9501101530003 as EAN-13, its light ends included, at one dot a module, and the same as packed dots.
+const WIDTHS: &[u16] = &[
+    11, 1, 1, 1, 1, 2, 3, 1, 1, 1, 2, 3, 1, 2, 2, 2, 2, 2, 2, 1, 1, 1, 2, 3, 2, 2, 2, 1, 1, 1, 1,
+    1, 1, 1, 2, 3, 1, 1, 4, 1, 1, 3, 2, 1, 1, 3, 2, 1, 1, 3, 2, 1, 1, 1, 4, 1, 1, 1, 1, 1, 7,
+];
+
+const DOTS: &[u8] = b"\x00\x15\x8A\x76\x66\x53\x99\x54\xE8\x5C\xB9\x72\x85\x40\x00";
+
+/// A call and what it is asked.
+#[derive(Clone, Copy)]
+enum Asked<'a> {
+    Gtin(&'a [u8]),
+    Digit(&'a [u8]),
+    Text(&'a [u8], u16),
+    Row(&'a [u16], u16),
+    Dots(&'a [u8], u32, u16),
+    Label(u32, &'a [u8], u16, u16),
+}
+
+/// What the call answers; a label in a cell of three rows, at one dot a module.
+fn answer(asked: Asked, out: &mut [u8]) -> usize {
+    match asked {
+        Asked::Gtin(text) => gs1_c_gtin(text, out),
+        Asked::Digit(text) => gs1_c_digit(text, out),
+        Asked::Text(text, year) => gs1_c_text(text, year, out),
+        Asked::Row(widths, year) => gs1_c_row(widths, year, out),
+        Asked::Dots(bits, count, year) => gs1_c_dots(bits, count, year, out),
+        Asked::Label(kind, text, year, width) => gs1_c_label(kind, text, year, 1, width, 3, out),
+    }
+}
+
+#[test]
+fn each_call_puts_its_line(rt: HostRuntime) {
+    let cases: &[(Asked, &[u8])] = &[
+        (Asked::Gtin(b"9501101530003"), b"gtin 09501101530003"),
+        (Asked::Gtin(b"950110153000X"), b"refused 2 NotDigit 12"),
+        (Asked::Digit(b"950110153000"), b"digit 3"),
+        (Asked::Digit(b""), b"refused 1 Length"),
+        (
+            Asked::Text(b"10AB\x1D17261231", 2026),
+            b"hri (10)AB(17)261231",
+        ),
+        (
+            Asked::Text(b"10AB\x1D17261301", 2026),
+            b"refused 9 ValueDate 5",
+        ),
+        (Asked::Text(b"10AB", 1950), b"refused 42 Words"),
+        (Asked::Row(WIDTHS, 2026), b"]E0 (01)09501101530003"),
+        (Asked::Row(&[113], 2026), b"refused 19 Blank"),
+        (Asked::Row(&[1, 0, 1], 2026), b"refused 18 BadRuns"),
+        (Asked::Row(WIDTHS, 2150), b"refused 42 Words"),
+        (Asked::Dots(DOTS, 113, 2026), b"]E0 (01)09501101530003"),
+        (Asked::Dots(DOTS, 121, 2026), b"refused 18 BadRuns"),
+        (Asked::Dots(&[0; 8192], 65_536, 2026), b"refused 17 TooWide"),
+        (Asked::Dots(DOTS, 113, 2150), b"refused 42 Words"),
+        (
+            Asked::Label(6, b"9501101530003", 2026, 113),
+            b"refused 40 Kind",
+        ),
+        (
+            Asked::Label(0, b"9501101530003", 1950, 113),
+            b"refused 42 Words",
+        ),
+        (
+            Asked::Label(0, b"9501101530003", 2026, 4097),
+            b"refused 25 BadGrid",
+        ),
+        (
+            Asked::Label(0, b"9501101530003", 2026, 112),
+            b"refused 27 LabelWidth 0",
+        ),
+        (
+            Asked::Label(4, b"10AB^", 2026, 400),
+            b"refused 7 ValueCharacter 0",
+        ),
+    ];
+    let mut out = [0; 292];
+    for &(asked, wanted) in cases {
+        let count = answer(asked, &mut out);
+        assert_eq!(rt; out.get(..count), Some(wanted));
+    }
+}
+
+#[test]
+fn each_kind_is_drawn_by_its_number(rt: HostRuntime) {
+    // The first 32 dots of the bars: the left quiet zone, the guard and the first characters.
+    let cases: &[(u32, &[u8], &[u8])] = &[
+        (0, b"9501101530003", b"\x00\x15\x8A\x76"),
+        (1, b"012345000065", b"\x00\x51\xA6\x49"),
+        (2, b"96385074", b"\x01\x45\xAF\x7A"),
+        (3, b"012345000065", b"\x00\x56\x64\xDE"),
+        (4, b"422528", b"\x00\x34\xE7\xAE"),
+        (5, b"09501101530003", b"\x00\x2A\x8E\xE2"),
+    ];
+    for &(kind, text, bars) in cases {
+        let mut out = [255; 69];
+        assert_eq!(rt; answer(Asked::Label(kind, text, 2026, 160), &mut out), 69);
+        assert_eq!(rt;
+            out[..29],
+            *b"P4\n160 3\n\0\0\0\0\0\0\0\0\0\0\0\0\0\0\0\0\0\0\0\0".as_slice()
+        );
+        assert_eq!(rt; out[29..33], *bars);
+        assert_eq!(rt; out[49..], *[0; 20].as_slice());
+    }
+}
