@@ -113,6 +113,10 @@ class CheckTest(CommandTest):
         self.checks("text,17000229", "hri (17)000229\n", 2026)
         self.checks("text,17000229", "refused 9 ValueDate 0\n", 2060)
 
+    def test_16777216_bytes_of_input(self):
+        self.checks(16_777_216 * "\n", "")
+        self.checks(16_777_217 * "\n", "refused 44 InputSize")
+
     def test_records_in_order(self):
         for given, wanted in [
             ("", ""),

@@ -141,6 +141,10 @@ class FailuresTest(CommandTest):
         records = 1_500_000 * b"digit,123\n"
         self.is_refused(self.limited(CHECK, records, 8), "refused 43 NoMemory")
 
+    def test_an_image_takes_the_memory_of_its_bytes(self):
+        # Its header tells of 512 MiB, of which no byte comes.
+        self.is_refused(self.limited(f"scan {GRID} --workers 1", b"P4 65535 65535 ", ROOM), "refused 30 Truncated")
+
     def test_a_thread_for_each_worker(self):
         # There is room for a thread, and none for sixteen.
         for command, given, output in [

@@ -9,6 +9,12 @@ def grid(width, height, columns, rows, module=1):
     return f"print --module {module} --width {width} --height {height} --columns {columns} --rows {rows} --year 2026"
 
 
+def first_dark_dot(printed, width, y):
+    """Where row `y` of an image of such a width, of whole bytes, has its first dark dot."""
+    dots = printed[printed.index(b"\n", len("P4\n")) + 1 :][y * width // 8 : (y + 1) * width // 8]
+    return width - int.from_bytes(dots, "big").bit_length()
+
+
 class PrintTest(CommandTest):
     def test_sheets(self):
         for rows, header, records, images, labelled, light in [
@@ -62,6 +68,38 @@ class PrintTest(CommandTest):
             with self.subTest(given):
                 for output in ["", " --text"]:
                     self.gives(grid(113, 3, 2, 2) + output, given, wanted)
+
+    def test_the_narrowest_cells(self):
+        # The symbol and the quiet zones left and right of it, in modules.
+        for record, line, width in [
+            ("ean13,9501101530003", "ean13 (01)09501101530003", 11 + 95 + 7),
+            ("upca,012345000065", "upca (01)00012345000065", 9 + 95 + 9),
+            ("ean8,96385074", "ean8 (01)00000096385074", 7 + 67 + 7),
+            ("upce,012345000065", "upce (01)00012345000065", 9 + 51 + 7),
+            ("gs1128,422528", "gs1128 (422)528", 10 + 79 + 10),
+            ("itf14,09501101530003", "itf14 (01)09501101530003", 10 + 135 + 10),
+        ]:
+            for module in [1, 3]:
+                with self.subTest(record, module=module):
+                    height = 2 * module + 1
+                    fits = grid(width * module, height, 1, 1, module) + " --text"
+                    self.gives(fits, record, f"0 0 {line}\n")
+                    self.gives(grid(width * module - 1, height, 1, 1, module) + " --text", record, "refused 27 LabelWidth 0")
+
+    def test_symbols_begin_after_their_left_quiet_zones(self):
+        for record, left in [
+            (RECORD, 11),
+            ("upca,012345000065", 9),
+            ("ean8,96385074", 7),
+            ("upce,012345000065", 9),
+            ("gs1128,422528", 10),
+            ("itf14,09501101530003", 10),
+        ]:
+            for module in [1, 3]:
+                with self.subTest(record, module=module):
+                    it = ran(grid(480, 2 * module + 1, 1, 1, module), record.encode())
+                    self.assertEqual(it.outcome()[::2], (0, ""))
+                    self.assertEqual(first_dark_dot(it.output, 480, module), left * module)
 
     def test_what_does_not_fit(self):
         ean13 = "0 0 ean13 (01)09501101530003\n"

@@ -1,7 +1,7 @@
 """Images that are scanned: the lines of their columns, each refusal, and inputs and outputs that fail."""
 
 from program import Breaking, CommandTest, ran, ran_to
-from sheets import BAR_ROW, HIGH, LOW, image
+from sheets import BAR_ROW, HIGH, LABEL, LOW, image
 
 # One label of each kind.
 LABELS = (
@@ -142,6 +142,24 @@ class ScanTest(CommandTest):
                 bad = header.encode() + bytes(count)
                 self.gives(scan(113, 3, 1, 1), bad, wanted)
                 self.gives(scan(113, 3, 1, 1), image(LOW, 1, 0) + bad, wanted)
+
+    def test_white_space_in_headers(self):
+        for space, wanted in [
+            (" ", LINE),
+            ("\t", LINE),
+            ("\n", LINE),
+            ("\r", LINE),
+            ("\r\n", LINE),
+            ("\v", "refused 29 PbmHeader"),
+            ("\f", "refused 29 PbmHeader"),
+            ("\0", "refused 29 PbmHeader"),
+            ("\x85", "refused 29 PbmHeader"),
+            ("\xa0", "refused 29 PbmHeader"),
+        ]:
+            # A height is ended by one byte, and what follows it is a dot.
+            for header in [f"P4{space}113 3\n", f"P4\n113{space}3\n", f"P4\n113 3{space[0]}"]:
+                with self.subTest(header):
+                    self.gives(scan(113, 3, 1, 1), header.encode("latin-1") + LABEL, wanted)
 
     def test_all_images_are_read_before_their_sizes_count(self):
         for header, count, wanted in [
