@@ -1,16 +1,25 @@
 -- A run of a command, from its parts.
-use Rattle.std.proofs.Common.{◌≡◌, List, Ok, Option, subst, true, ℕ}
+use Rattle.std.proofs.Common.{◌≡◌, ◌∙◌, ◌∷◌, [], All, Err, IsErrAnd, List, Ok, Option, Result, inr, map, refl, subst, sym, true, Bool, ℕ}
+use Rattle.std.specs.List.{AllZip, flat_map, range_with_len}
 use Rattle.std.specs.Io.KnownBytes.{IsAtEnd}
 use Rattle.digits_core.specs.Bytes.{TookFront}
+use Rattle.std.proofs.lemmas.List.Elements.{All-cons, All-head, All-map, All-nil, All-tail}
 use Rattle.sheet_core.specs.Bitmaps.{Bitmap}
 use Rattle.sheet_core.specs.Grids.{IsGrid}
 use Rattle.sheet_core.specs.pbm.Images.{Reads, images_of}
 use Rattle.line_core.specs.Grids.{cells_of}
 use Rattle.line_core.specs.answers.Reports.{IsReport}
 use Rattle.line_core.specs.input.Records.{Meaning, Takes}
-use Rattle.line_core.specs.scan.Columns.{AreColumns, have_size}
+use Rattle.line_core.specs.lanes.Feeds.{LaneRow, feed_of, feeds_of, lanes_meaning}
+use Rattle.line_core.specs.scan.Columns.{AreColumns, HaveDots, column_dots, have_size}
+use Rattle.line_core.specs.declared.answers.serving.AnswerFault.{AnswerFault}
+use Rattle.line_core.specs.declared.answers.serving.AnswerFault.TheVariants as answers
+use Rattle.gs1_hub.specs.Faults.{of_answers}
 use Rattle.gs1_hub.specs.Runs.{WritesRecords, Wrote}
-use Rattle.gs1_hub.specs.commands.Scans.{scan_command}
+use Rattle.gs1_hub.specs.commands.Lanes.{RefusesLanes}
+use Rattle.gs1_hub.specs.commands.Scans.{RefusesScan, scan_command}
+use Rattle.gs1_hub.specs.declared.fault.CommandFault.{CommandFault}
+use Rattle.gs1_hub.specs.declared.fault.CommandFault.TheVariants as command
 use Rattle.gs1_hub.specs.declared.commands.scan.options.ScanOptions.{ScanOptions}
 
 -- records were taken, and a sink took a prefix of their text
@@ -26,3 +35,73 @@ pub images_cut : (o : ScanOptions) (left rest before after : Option (List ℕ)) 
     → IsReport o.year feeds text → sent ≡ text → TookFront before after sent → Wrote (scan_command o) TookFront left rest before after
 images_cut o left rest before after sheets feeds text sent grid read end size are report is sunk =
     (read.bytes, text, (read.consumed, end), (sheets, (grid, read.tells, size), feeds, are, report), subst (λ t. TookFront before after t) is sunk)
+
+-- ---- rows that were not answered
+
+-- a refusal of the answers is that of no read and of no write
+no_read : (f : AnswerFault) → of_answers f ≡ command.ReadFault → ⊥
+no_read answers.NoThread same = cc
+no_read answers.NoMemory same = cc
+
+no_write : (f : AnswerFault) → of_answers f ≡ command.WriteFault → ⊥
+no_write answers.NoThread same = cc
+no_write answers.NoMemory same = cc
+
+told_by : {A : Type 0} (r : Result A CommandFault) (f : AnswerFault) (other : CommandFault) → IsErrAnd r (λ e. e ≡ of_answers f) → r ≡ Err other → of_answers f ≡ other
+told_by (Ok x) f other told same = absurd told
+told_by (Err e) f other told same = let here : e ≡ other = cc in sym told ∙ here
+
+pub unanswered_not_read : {A : Type 0} (r : Result A CommandFault) (f : AnswerFault) → IsErrAnd r (λ e. e ≡ of_answers f) → r ≡ Err command.ReadFault → ⊥
+unanswered_not_read r f told same = no_read f (told_by r f command.ReadFault told same)
+
+pub unanswered_not_cut : {A : Type 0} (r : Result A CommandFault) (f : AnswerFault) → IsErrAnd r (λ e. e ≡ of_answers f) → r ≡ Err command.WriteFault → ⊥
+unanswered_not_cut r f told same = no_write f (told_by r f command.WriteFault told same)
+
+pub never_refused : {A E : Type 0} (x : A) (e : E) → (let r : Result A E = Ok x in r ≡ Err e) → ⊥
+never_refused x e same = cc
+
+-- lists of no rows, behind their values
+rowless : {V : Type 0} (f : V → List (List ℕ)) (vs : List V) → All (λ rows. rows ≡ []) (map f vs) → All (λ v. f v ≡ []) vs
+rowless {V} f [] all = let P : V → Type 0 = λ v. f v ≡ [] in All-nil P
+rowless {V} f (v ∷ vs) all =
+    let P : V → Type 0 = λ v. f v ≡ [] in
+    let Q : List (List ℕ) → Type 0 = λ rows. rows ≡ [] in
+    All-cons P v vs (All-head Q (f v) (map f vs) all) (rowless f vs (All-tail Q (f v) (map f vs) all))
+
+-- of no rows no lane has one
+no_lane_rows : (lanes : ℕ) (rows : List LaneRow) (feeds : List (List (List ℕ))) → feeds ≡ feeds_of lanes rows → rows ≡ [] → All (λ feed. feed ≡ []) feeds
+no_lane_rows lanes rows feeds are none =
+    let P : List (List ℕ) → Type 0 = λ feed. feed ≡ [] in
+    let each : All P (feeds_of lanes []) = All-map P (λ lane. feed_of lane []) (range_with_len 0 lanes) (λ k d low. refl) in
+    subst (All P) (sym are) (subst (λ r. All P (feeds_of lanes r)) (sym none) each)
+
+-- the answers to the rows of the lanes are refused
+pub lanes_unanswered : {V : Type 0} (f : V → List (List ℕ)) (lanes : ℕ) (feeds : List V) (left rest : Option (List ℕ)) (fault : AnswerFault)
+    → Takes (lanes_meaning lanes) (λ rows. map f feeds ≡ feeds_of lanes rows) left rest → (fault ≡ answers.NoThread → All (λ v. f v ≡ []) feeds → ⊥) → RefusesLanes lanes left rest (of_answers fault)
+lanes_unanswered f lanes feeds left rest answers.NoThread h some = (h.0, h.1, h.2, h.3, λ none. some refl (rowless f feeds (no_lane_rows lanes h.2 (map f feeds) h.4 none)))
+lanes_unanswered f lanes feeds left rest answers.NoMemory h some = tt
+
+-- of no images no column has a row
+no_dots : (rows : List (List ℕ)) → HaveDots rows [] → rows ≡ []
+no_dots [] are = refl
+no_dots (row ∷ rows) are = absurd are
+
+no_column_rows : (show : ℕ → Bitmap → List (List Bool)) (columns : List ℕ) (feeds : List (List (List ℕ))) → AllZip (λ rows column. HaveDots rows (flat_map (show column) [])) feeds columns
+    → All (λ feed. feed ≡ []) feeds
+no_column_rows show [] [] are = let P : List (List ℕ) → Type 0 = λ feed. feed ≡ [] in All-nil P
+no_column_rows show (column ∷ columns) [] are = absurd are
+no_column_rows show [] (rows ∷ feeds) are = absurd are
+no_column_rows show (column ∷ columns) (rows ∷ feeds) are =
+    let P : List (List ℕ) → Type 0 = λ feed. feed ≡ [] in
+    All-cons P rows feeds (no_dots rows are.0) (no_column_rows show columns feeds are.1)
+
+-- the answers to the rows of the columns are refused
+pub images_unanswered : {V : Type 0} (f : V → List (List ℕ)) (o : ScanOptions) (sheets : List Bitmap) (feeds : List V) (left rest : Option (List ℕ)) (fault : AnswerFault)
+    → IsGrid (cells_of o.grid) → Reads images_of left rest (Ok sheets) → IsAtEnd rest → have_size (cells_of o.grid) sheets ≡ true
+    → AreColumns (cells_of o.grid) sheets (map f feeds) → (fault ≡ answers.NoThread → All (λ v. f v ≡ []) feeds → ⊥) → RefusesScan o left rest (of_answers fault)
+images_unanswered f o sheets feeds left rest answers.NoThread grid read end size are some =
+    let g = cells_of o.grid in
+    let rowless_all = λ (none : sheets ≡ []). rowless f feeds (no_column_rows (column_dots g) (range_with_len 0 g.columns) (map f feeds) (subst (λ s. AreColumns g s (map f feeds)) none are)) in
+    (grid, (read.bytes, (read.consumed, end), sheets, (grid, read.tells, size), λ none. some refl (rowless_all none)))
+images_unanswered f o sheets feeds left rest answers.NoMemory grid read end size are some =
+    (grid, record { bytes = read.bytes; consumed = read.consumed; tells = inr (sheets, read.tells) })

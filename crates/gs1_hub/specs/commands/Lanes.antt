@@ -1,5 +1,5 @@
 -- The command `lanes`.
-use Rattle.std.specs.Prelude.{⊤, ℕ, List, Option, codes}
+use Rattle.std.specs.Prelude.{◌≢◌, ℕ, List, [], Option, codes}
 use Rattle.clap.specs.Words.{App, Row, new_app, with_rule}
 use Rattle.line_core.specs.answers.Reports.{IsReport}
 use Rattle.line_core.specs.input.Records.{Takes}
@@ -18,9 +18,9 @@ lanes_app = with_rule (with_rule (with_rule (new_app (codes "lanes")) (number_ru
 abbrev pub HasLanes : List Row → LaneOptions → Type 0
 HasLanes rows o = HasNumber (codes "lanes") rows o.lanes × IsLaneCount o.lanes × HasWorkers rows o.workers × HasYear rows o.year
 
--- why `lanes` refuses the input: the records, then a thread that could not be started
+-- why `lanes` refuses the input: the records, then a thread that could not be started, and only where there is a row
 abbrev pub RefusesLanes : ℕ → Option (List ℕ) → Option (List ℕ) → CommandFault → Type 0
-RefusesLanes lanes left rest command.NoThread = Takes (lanes_meaning lanes) (λ rows. ⊤) left rest
+RefusesLanes lanes left rest command.NoThread = Takes (lanes_meaning lanes) (λ rows. rows ≢ []) left rest
 RefusesLanes lanes left rest f = RefusesRecords (lanes_meaning lanes) left rest f
 
 -- the report of the answers to the rows that records give each lane

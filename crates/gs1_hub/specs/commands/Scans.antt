@@ -1,5 +1,5 @@
 -- The command `scan`.
-use Rattle.std.specs.Prelude.{◌≡◌, ◌⊎◌, ⊤, ℕ, true, false, List, [], Option, Ok, Err, codes}
+use Rattle.std.specs.Prelude.{◌≡◌, ◌≢◌, ◌⊎◌, ⊤, ℕ, true, false, List, [], Option, Ok, Err, codes}
 use Rattle.clap.specs.Words.{App, Row, new_app, with_rule}
 use Rattle.digits_core.specs.Bytes.{GaveAll}
 use Rattle.sheet_core.specs.Bitmaps.{Bitmap}
@@ -37,14 +37,14 @@ abbrev pub GaveOtherSize : ScanOptions → Option (List ℕ) → Option (List �
 GaveOtherSize o left rest = (bytes : List ℕ) × GaveAll left rest bytes × (sheets : List Bitmap) × (images_of bytes ≡ (Ok sheets, []))
     × (have_size (cells_of o.grid) sheets ≡ false)
 
--- why `scan` refuses the input in a grid: the first byte that cannot stand in an image, then an image of another size, then a thread that could not be started
+-- why `scan` refuses the input in a grid: the first byte that cannot stand in an image, then an image of another size, then a thread that could not be started, and only where there is an image
 abbrev pub RefusesImages : ScanOptions → Option (List ℕ) → Option (List ℕ) → CommandFault → Type 0
 RefusesImages o left rest command.NotP4 = Reads images_of left rest (Err pbm.NotP4)
 RefusesImages o left rest command.PbmHeader = Reads images_of left rest (Err pbm.PbmHeader)
 RefusesImages o left rest command.Truncated = Reads images_of left rest (Err pbm.Truncated)
 RefusesImages o left rest command.PbmSize = Reads images_of left rest (Err pbm.PbmSize) ⊎ GaveOtherSize o left rest
 RefusesImages o left rest command.ReadFault = Reads images_of left rest (Err pbm.ReadFault)
-RefusesImages o left rest command.NoThread = (bytes : List ℕ) × GaveAll left rest bytes × (sheets : List Bitmap) × AreImages o bytes sheets
+RefusesImages o left rest command.NoThread = (bytes : List ℕ) × GaveAll left rest bytes × (sheets : List Bitmap) × AreImages o bytes sheets × (sheets ≢ [])
 RefusesImages o left rest command.WriteFault = ⊤
 RefusesImages o left rest command.NoMemory = Reads images_of left rest (Err pbm.NoMemory)
 RefusesImages o left rest _ = ⊥
