@@ -79,12 +79,14 @@ class PrintTest(CommandTest):
             ("gs1128,422528", "gs1128 (422)528", 10 + 79 + 10),
             ("itf14,09501101530003", "itf14 (01)09501101530003", 10 + 135 + 10),
         ]:
-            for module in [1, 3]:
-                with self.subTest(record, module=module):
-                    height = 2 * module + 1
-                    fits = grid(width * module, height, 1, 1, module) + " --text"
-                    self.gives(fits, record, f"0 0 {line}\n")
-                    self.gives(grid(width * module - 1, height, 1, 1, module) + " --text", record, "refused 27 LabelWidth 0")
+            for module, dots, wanted in [
+                (1, width, f"0 0 {line}\n"),
+                (1, width - 1, "refused 27 LabelWidth 0"),
+                (3, 3 * width, f"0 0 {line}\n"),
+                (3, 3 * width - 1, "refused 27 LabelWidth 0"),
+            ]:
+                with self.subTest(record, width=dots):
+                    self.gives(grid(dots, 2 * module + 1, 1, 1, module) + " --text", record, wanted)
 
     def test_symbols_begin_after_their_left_quiet_zones(self):
         for record, left in [

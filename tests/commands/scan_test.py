@@ -152,14 +152,11 @@ class ScanTest(CommandTest):
             ("\r\n", LINE),
             ("\v", "refused 29 PbmHeader"),
             ("\f", "refused 29 PbmHeader"),
-            ("\0", "refused 29 PbmHeader"),
-            ("\x85", "refused 29 PbmHeader"),
-            ("\xa0", "refused 29 PbmHeader"),
         ]:
-            # A height is ended by one byte, and what follows it is a dot.
+            # One byte ends the height; the next is one of dots.
             for header in [f"P4{space}113 3\n", f"P4\n113{space}3\n", f"P4\n113 3{space[0]}"]:
-                with self.subTest(header):
-                    self.gives(scan(113, 3, 1, 1), header.encode("latin-1") + LABEL, wanted)
+                with self.subTest(header=header):
+                    self.gives(scan(113, 3, 1, 1), header.encode() + LABEL, wanted)
 
     def test_all_images_are_read_before_their_sizes_count(self):
         for header, count, wanted in [
