@@ -17,6 +17,12 @@ get_set (y ∷ ys) zero (suc k) x t e = inr e
 get_set (y ∷ ys) (suc l) zero x t e = inr e
 get_set (y ∷ ys) (suc l) (suc k) x t e = ⊎_elim (λ (h : (k ≡ l) × (x ≡ t)). inl (ap suc h.0, h.1)) (λ h. inr h) (get_set ys l k x t e)
 
+-- the element that was put there
+pub got_set : {X : Type 0} (xs : List X) (l : ℕ) (x t : X) → slice_get (set xs l x) l ≡ Some t → x ≡ t
+got_set [] l x t e = absurd cc
+got_set (y ∷ ys) zero x t e = cc
+got_set (y ∷ ys) (suc l) x t e = got_set ys l x t e
+
 pub same_ring : (a b c : PushEnd) → SameProducer a b → SameProducer b c → SameProducer a c
 same_ring a b c x y = ((y.0.0 ∙ x.0.0, y.0.1 ∙ x.0.1, y.0.2 ∙ x.0.2, y.0.3 ∙ x.0.3), y.1 ∙ x.1)
 

@@ -1,11 +1,12 @@
 -- The deliverer's seat: what it has collected, what is in its hand, and what it has handed to each lane.
-use Rattle.std.specs.Prelude.{◌≡◌, ◌≢◌, ◌⊎◌, ◌&&◌, ℕ, Bool, not, true, false, List, [], ◌∷◌, ◌++◌, Option, Some, None, option_to_list, MatchOption, length, slice_index_or}
+use Rattle.std.specs.Prelude.{◌≡◌, ◌≢◌, ◌⊎◌, ◌&&◌, ℕ, Bool, not, true, false, List, [], ◌∷◌, ◌++◌, Option, Some, None, option_to_list, MatchOption, length, slice_get, slice_index_or}
 use Rattle.lane_core.specs.declared.job.Plain.{Plain}
 use Rattle.lane_core.specs.Desk.{Desk, GivesNext, TakesIn, has_next, is_new, lanes_of}
 use Rattle.lane_core.specs.Settling.{sifted}
 use Rattle.lane_core.specs.Tickets.{is_among}
 use Rattle.hub_core.specs.Passes.{popped_by}
-use Rattle.hub_core.specs.Rings.{all_sent}
+use Rattle.rtrb.specs.Ring.{known_free}
+use Rattle.hub_core.specs.Rings.{PushEnd, all_sent}
 use Rattle.hub_core.specs.declared.deliverer_seat.DelivererSeat.{DelivererSeat}
 use Rattle.hub_core.specs.declared.deliverer_seat.Collected.{Collected}
 use Rattle.hub_core.specs.declared.deliverer_seat.Collected.TheVariants as collecting
@@ -66,10 +67,14 @@ collected_as gathering.Nothing = collecting.Nothing
 collected_as (gathering.Taken _) = collecting.Taken
 collected_as gathering.NoMemory = collecting.NoMemory
 
+-- lane l's ring was seen with no free place
+abbrev pub RingIsFull : DelivererSeat → ℕ → Type 0
+RingIsFull s l = (r : PushEnd) → slice_get s.rings.items l ≡ Some r → known_free r ≡ 0
+
 -- how the lists grow with each answer of `hand`
 abbrev pub Hands : DelivererSeat → ℕ → Handed → DelivererSeat → Type 0
 Hands s l handing.Nothing t = (has_next (desk_of s) l ≡ false) × (t ≡ s)
-Hands s l handing.RingFull t = (has_next (desk_of s) l ≡ true) × (desk_of t ≡ desk_of s) × (collected t ≡ collected s) × (in_hand t ≡ in_hand s) × SameHanded s t
+Hands s l handing.RingFull t = (has_next (desk_of s) l ≡ true) × (desk_of t ≡ desk_of s) × (collected t ≡ collected s) × (in_hand t ≡ in_hand s) × SameHanded s t × RingIsFull t l
 Hands s l handing.Given t =
     (x : Plain)
     × GivesNext (desk_of s) l x (desk_of t)

@@ -35,7 +35,7 @@ pub use fault::{HubFault, ServeFault, SubmitFault};
 pub use gate::{Gate, OpenGate};
 pub use hub::Hub;
 pub use lane_seat::LaneSeat;
-pub use laws::{answers_are_read, served_by_place, settled_are_read};
+pub use laws::{answers_are_read, served_by_place, settled_are_read, tickets_are_kept};
 pub use parts::Parts;
 pub use rule::{OneForOne, Trace};
 pub use serving::serve;

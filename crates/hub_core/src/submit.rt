@@ -37,15 +37,17 @@ impl Hub {
             lane: seat.lane,
             number: seat.issued,
         };
-        match self
-            .jobs
-            .push_as::<Pushes, R>(rt, &mut seat.pass, Job::new(ticket, row, self.year))
-        {
+        let job = Job {
+            ticket,
+            row,
+            year: self.year,
+        };
+        match self.jobs.push_as::<Pushes, R>(rt, &mut seat.pass, job) {
             Ok(()) => {
                 seat.issued += 1;
                 Ok(ticket)
             }
-            Err(job) => Err(SubmitFault::Full(job.into_row())),
+            Err(job) => Err(SubmitFault::Full(job.row)),
         }
     }
 }

@@ -25,7 +25,7 @@ impl Hub {
                 let Some(job) = self.jobs.pop_as::<Pops, R>(rt, &mut seat.takes) else {
                     return Worked::Nothing;
                 };
-                gate.pass(job.ticket());
+                gate.pass(job.ticket);
                 decode(job)
             }
         };

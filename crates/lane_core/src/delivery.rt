@@ -36,21 +36,21 @@ impl Delivery {
         ensures lane { result.lane ≡ self.now.lane }
         ensures number { result.number ≡ self.now.number }
     {
-        self.job.ticket()
+        self.job.ticket
     }
 
     /// The row.
     pub fn row(&self) -> &Runs
         ensures { result.now ≡ self.now.widths }
     {
-        self.job.row()
+        &self.job.row
     }
 
     /// The reference year of its dates.
     pub fn year(&self) -> Year
         ensures { result ≡ self.now.year }
     {
-        self.job.year()
+        self.job.year
     }
 
     /// The answer to the row by the reference year: a delivery has no other. Its elements are made here, of the
@@ -58,7 +58,7 @@ impl Delivery {
     pub fn answer(&self) -> Answer
         ensures { IsAnswer self.now.widths self.now.year result }
     {
-        self.found.answer(self.job.year())
+        self.found.answer(self.year())
     }
 }
 
@@ -66,6 +66,6 @@ impl Delivery {
 pub fn decode(job: Job) -> Delivery
     ensures { result ≡ job }
 {
-    let found = find_symbol(job.row());
+    let found = find_symbol(&job.row);
     Delivery { job, found }
 }

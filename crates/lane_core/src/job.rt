@@ -1,6 +1,4 @@
 //! A row on its way to be read.
-ghost use Rattle.std.specs.Prelude.{◌≡◌};
-ghost use Rattle.lane_core.specs.Plain.{plain_of};
 
 use crate::ticket::Ticket;
 use element_core::Year;
@@ -23,9 +21,12 @@ pub struct Plain {
 /// A row under its ticket, to be read by the reference year.
 #[derive(Debug, Drop)]
 pub struct Job {
-    ticket: Ticket,
-    row: Runs,
-    year: Year,
+    /// The row's ticket.
+    pub ticket: Ticket,
+    /// The row.
+    pub row: Runs,
+    /// The reference year of its dates.
+    pub year: Year,
 }
 
 impl Model for Job {
@@ -36,42 +37,4 @@ impl Model for Job {
     ghost use Rattle.lane_core.specs.Plain.{plain_of};
 
     ghost view = { λ job. plain_of job.ticket.lane job.ticket.number job.year job.row };
-}
-
-impl Job {
-    /// The row under this ticket.
-    pub fn new(ticket: Ticket, row: Runs, year: Year) -> Job
-        ensures { result ≡ plain_of ticket.lane ticket.number year row }
-    {
-        Job { ticket, row, year }
-    }
-
-    /// The row's ticket.
-    pub fn ticket(&self) -> Ticket
-        ensures lane { result.lane ≡ self.now.lane }
-        ensures number { result.number ≡ self.now.number }
-    {
-        self.ticket
-    }
-
-    /// The row.
-    pub fn row(&self) -> &Runs
-        ensures { result.now ≡ self.now.widths }
-    {
-        &self.row
-    }
-
-    /// The reference year of its dates.
-    pub fn year(&self) -> Year
-        ensures { result ≡ self.now.year }
-    {
-        self.year
-    }
-
-    /// The row, where the job is not done.
-    pub fn into_row(self) -> Runs
-        ensures { result ≡ self.widths }
-    {
-        self.row
-    }
 }

@@ -15,7 +15,11 @@ use std::test::Fail;
 /// The delivery of an EAN-13 row under the ticket.
 fn delivery(alloc: Global, lane: u8, number: u32) -> Result<Delivery, Fail> {
     let year = Year::new(2026).ok_or("year")?;
-    Ok(decode(Job::new(Ticket { lane, number }, row(alloc, EAN13)?, year)))
+    Ok(decode(Job {
+        ticket: Ticket { lane, number },
+        row: row(alloc, EAN13)?,
+        year,
+    }))
 }
 
 /// Whether it is the lane's delivery of that number.
@@ -239,9 +243,9 @@ fn passes_over_what_cannot_be_done(rt: HostRuntime) -> Result<(), Fail> {
 
 /// That a job has this ticket, the EAN-8 row and this year.
 fn is_job<R: Abort>(rt: &R, job: &Job, ticket: Ticket, year: Year) {
-    assert_eq!(*rt; job.ticket(), ticket);
-    assert_eq!(*rt; job.row().widths(), EAN8);
-    assert_eq!(*rt; job.year(), year);
+    assert_eq!(*rt; job.ticket, ticket);
+    assert_eq!(*rt; job.row.widths(), EAN8);
+    assert_eq!(*rt; job.year, year);
 }
 
 /// The same of a delivery.
@@ -256,9 +260,13 @@ fn gives_a_job_and_its_parts_back(rt: HostRuntime) -> Result<(), Fail> {
     let alloc = rt.alloc();
     let year = Year::new(2026).ok_or("year")?;
     let ticket = Ticket { lane: 2, number: 9 };
-    let job = Job::new(ticket, row(alloc, EAN8)?, year);
+    let job = Job {
+        ticket,
+        row: row(alloc, EAN8)?,
+        year,
+    };
     is_job(&rt, &job, ticket, year);
-    let delivery = decode(Job::new(ticket, job.into_row(), year));
+    let delivery = decode(job);
     is_delivery(&rt, &delivery, ticket, year);
     let text = format!(in alloc; "{} {}", TakeFault::Stranger(delivery), NoMemory)?;
     assert_eq!(rt; text.as_str(), "refused 32 Stranger refused 43 NoMemory");

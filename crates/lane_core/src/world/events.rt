@@ -67,12 +67,17 @@ impl World {
             lane,
             number: issued as u32,
         };
-        match self.jobs.push_back(Job::new(ticket, row, self.year)) {
+        let job = Job {
+            ticket,
+            row,
+            year: self.year,
+        };
+        match self.jobs.push_back(job) {
             Ok(()) => {
                 self.lanes[at].issued = issued + 1;
                 Ok(true)
             }
-            Err(failed) => Err(Event::Submit(lane, failed.value.into_row())),
+            Err(failed) => Err(Event::Submit(lane, failed.value.row)),
         }
     }
 

@@ -16,7 +16,7 @@ use std::collections::VecDeque;
 fn is_job_of(jobs: &VecDeque<Job>, ticket: Ticket) -> bool
     ensures { result ≡ is_among ticket.lane ticket.number jobs.now.items }
 {
-    jobs.iter().any(|job| job.ticket() == ticket)
+    jobs.iter().any(|job| job.ticket == ticket)
 }
 
 /// Whether one of the deliveries has the ticket.
@@ -31,7 +31,7 @@ fn has_ticket(job: &Option<Job>, ticket: Ticket) -> bool
     ensures { result ≡ is_among ticket.lane ticket.number (option_to_list job.now) }
 {
     match job {
-        Some(job) => job.ticket() == ticket,
+        Some(job) => job.ticket == ticket,
         None => false,
     }
 }

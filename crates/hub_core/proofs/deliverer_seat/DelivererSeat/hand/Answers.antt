@@ -1,12 +1,14 @@
 use Rattle.std.proofs.Common.{rules, ◌≡◌, ◌<◌, ◌++◌, ◌∷◌, [], List, get_or, length, set, refl, sym, ap, ◌∙◌, subst, arith, option_to_list}
 use Rattle.std.proofs.lemmas.List.{length-map, length-set}
-use Rattle.rtrb.specs.Ring.{sent}
+use Rattle.std.specs.List.{slice_get}
+use Rattle.std.proofs.Common.{Some}
+use Rattle.rtrb.specs.Ring.{known_free, sent}
 use Rattle.lane_core.specs.declared.job.Plain.{Plain}
 use Rattle.hub_core.specs.Passes.{popped_by}
 use Rattle.hub_core.specs.Rings.{PushEnd, all_sent}
 use Rattle.hub_core.specs.Stock.{Stocks}
 use Rattle.hub_core.proofs.NextFacts.{is_there}
-use Rattle.hub_core.proofs.RingFacts.{ends_set, same_ring, sent_more, sent_same}
+use Rattle.hub_core.proofs.RingFacts.{ends_set, got_set, same_ring, sent_more, sent_same}
 use Rattle.hub_core.proofs.StockFacts.{given_else, given_now, handed_one}
 use Rattle.hub_core.proofs.deliverer_seat.DelivererSeat.hand.Goals as goal
 
@@ -26,8 +28,14 @@ pub returns-then-is_full-clause-hands : goal.returns-then-is_full-clause-hands
 returns-then-is_full-clause-hands c =
     let s = c.args.self.now in
     let less : c.from.result < length s.rings.items = omega (arith, c.from.ensures, c.requires, s.stocks.keeps.lanes, length-map s.rings.items (λ (r : PushEnd). sent r)) in
-    let same = sent_same s.rings.items c.from.result c.index_mut-ring.result.now c.is_full.new.self c.index_mut-ring.ensures.value less c.is_full.ensures.looked.1 in
-    (c.next.ensures.exactly.0 (is_there c.next.result (search rules)), refl, refl, refl, λ l. ap (λ gs. get_or gs l []) same)
+    let same = sent_same s.rings.items c.from.result c.index_mut-ring.result.now c.is_full.new.self c.index_mut-ring.ensures.value less c.is_full.ensures.looked.1 in (
+      c.next.ensures.exactly.0 (is_there c.next.result (search rules)),
+      refl,
+      refl,
+      refl,
+      (λ l. ap (λ gs. get_or gs l []) same),
+      λ (r : PushEnd) at. subst (λ (u : PushEnd). known_free u ≡ 0) (got_set s.rings.items c.from.result c.is_full.new.self r (subst (λ k. slice_get (set s.rings.items c.from.result c.is_full.new.self) k ≡ Some r) (sym c.from.ensures) at)) (c.is_full.ensures.value.0 (search rules)),
+    )
 
 pub returns-then-is_full-clause-of_hub : goal.returns-then-is_full-clause-of_hub
 returns-then-is_full-clause-of_hub c =

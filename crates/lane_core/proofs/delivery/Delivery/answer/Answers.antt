@@ -5,5 +5,5 @@ use Rattle.lane_core.proofs.delivery.Delivery.answer.Goals as goal
 
 pub returns : goal.returns
 returns c =
-    subst (λ (plain : Plain). IsAnswer plain.widths plain.year c.answer.result) c.self.view_is
+    subst (λ (plain : Plain). IsAnswer plain.widths c.args.self.now.year c.answer.result) c.self.view_is
     (rw c.year.ensures at c.answer.ensures c.self.inside.job.widths c.self.invariant)

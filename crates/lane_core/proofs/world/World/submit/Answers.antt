@@ -1,4 +1,5 @@
-use Rattle.std.proofs.Common.{◌+◌, ◌<◌, ◌^◌, [], ◌∷◌, ◌++◌, length, ap, ◌∙◌, arith}
+use Rattle.std.proofs.Common.{List, ℕ, ◌+◌, ◌<◌, ◌^◌, [], ◌∷◌, ◌++◌, length, ap, ◌∙◌, arith}
+use Rattle.std.specs.declared.alloc.AllocFailed.{AllocFailed}
 use Rattle.lane_core.specs.declared.event.Event.TheVariants.{Submit}
 use Rattle.lane_core.specs.declared.job.Plain.{Plain}
 use Rattle.lane_core.specs.declared.lane.Lane.{Lane}
@@ -34,8 +35,8 @@ invariant_of-self c =
     let open_ = ap (λ (x : Lane). x.closed) (same_lane lanes c.args.lane x c.index.result.now less c.index_mut.ensures.value c.index.ensures) ∙ c.if-index.false in
     let issued = ap (λ (x : Lane). x.issued) (same_lane lanes c.args.lane c.index-2.result.now x less c.index-2.ensures c.index_mut.ensures.value) in
     let room : x.issued < 2 ^ 32 = omega arith in
-    let job = c.new.ensures ∙ (λ i. plain_of c.args.lane (issued i) c.self.inside.year c.args.row) in
-    let jobs = c.in-Ok.ensures.items ∙ (λ i. c.self.inside.jobs.items ++ job i ∷ []) in
+    let job = ap (λ (n : ℕ). plain_of c.args.lane n c.self.inside.year c.args.row) issued in
+    let jobs = ◌∙◌ {A = List Plain} c.in-Ok.ensures.items (ap (λ (x : Plain). c.self.inside.jobs.items ++ x ∷ []) job) in
     let steps = submit_done (held c.self.inside) c.args.lane c.args.row (lane_held x) at open_ room in
     rw (issued, map_put lane_held lanes c.args.lane record { closed = x.closed; issued = x.issued + 1; handed = x.handed; polled = x.polled }, jobs)
     (shown_after (held c.self.inside) _ (Submit c.args.lane c.args.row) _ c.self.invariant steps)
@@ -49,8 +50,8 @@ returns-in-Ok-clause-steps c =
     let open_ = ap (λ (x : Lane). x.closed) (same_lane lanes c.args.lane x c.index.result.now less c.index_mut.ensures.value c.index.ensures) ∙ c.if-index.false in
     let issued = ap (λ (x : Lane). x.issued) (same_lane lanes c.args.lane c.index-2.result.now x less c.index-2.ensures c.index_mut.ensures.value) in
     let room : x.issued < 2 ^ 32 = omega arith in
-    let job = c.new.ensures ∙ (λ i. plain_of c.args.lane (issued i) c.self.inside.year c.args.row) in
-    let jobs = c.in-Ok.ensures.items ∙ (λ i. c.self.inside.jobs.items ++ job i ∷ []) in
+    let job = ap (λ (n : ℕ). plain_of c.args.lane n c.self.inside.year c.args.row) issued in
+    let jobs = ◌∙◌ {A = List Plain} c.in-Ok.ensures.items (ap (λ (x : Plain). c.self.inside.jobs.items ++ x ∷ []) job) in
     let steps = submit_done (held c.self.inside) c.args.lane c.args.row (lane_held x) at open_ room in
     rw (← c.self.view_is)
     (rw (issued, map_put lane_held lanes c.args.lane record { closed = x.closed; issued = x.issued + 1; handed = x.handed; polled = x.polled }, jobs)
@@ -65,5 +66,5 @@ returns-in-Err-clause-refused c =
     let open_ = ap (λ (x : Lane). x.closed) (same_lane lanes c.args.lane x c.index.result.now less c.index-2.ensures c.index.ensures) ∙ c.if-index.false in
     let room : x.issued < 2 ^ 32 = omega arith in
     let steps = submit_done (held c.self.inside) c.args.lane c.args.row (lane_held x) at open_ room in
-    let row = c.into_row.ensures ∙ ap (λ (x : Plain). x.widths) (c.in-Err.ensures.value_returned ∙ c.new.ensures) in
+    let row = ap (λ (f : AllocFailed Plain). f.value.widths) c.failed.view_is ∙ ap (λ (x : Plain). x.widths) c.in-Err.ensures.value_returned in
     rw (← c.self.view_is) ((λ i. Submit c.args.lane (row i)), λ s reached shows. (steps s reached shows).0)

@@ -1,0 +1,5 @@
+use Rattle.hub_core.proofs.GivenFacts.{ticket_kept}
+use Rattle.hub_core.proofs.laws.tickets_are_kept.Goals as goal
+
+pub returns : goal.returns
+returns c = ticket_kept
