@@ -6,7 +6,7 @@ ghost use Rattle.clap.specs.declared.builder.command.Command.TheViews.{out-Comma
 ghost use Rattle.digits_core.specs.Bytes.{TookFront};
 ghost use Rattle.line_core.specs.Grids.{cells_of};
 ghost use Rattle.gs1_hub.specs.Runs.{Ran};
-ghost use Rattle.gs1_hub.specs.commands.Prints.{HasOutput, HasPrint, IsPrinted, IsUnprinted, OnePrint, print_app, print_command};
+ghost use Rattle.gs1_hub.specs.commands.Prints.{HasPrint, IsPrinted, IsUnprinted, OnePrint, print_app, print_command};
 ghost use Rattle.gs1_hub.specs.declared.commands.print.options.Output.{Output};
 ghost use Rattle.gs1_hub.specs.declared.commands.print.options.PrintOptions.{PrintOptions};
 
@@ -57,19 +57,6 @@ pub fn print_words<'a>(alloc: Global) -> Result<Command<'a>, AllocError>
         .arg(flag(alloc, "text", TEXT))
 }
 
-/// What is to be written of the labels.
-fn output_named(matches: &ArgMatches<'_>) -> Option<Output>
-    ensures some { IfSome result (HasOutput (rows_of (found_of matches.now))) }
-    ensures none { IfNone result ((o : Output)
-        → HasOutput (rows_of (found_of matches.now)) o → ⊥) }
-{
-    if flag_named(matches, "text")? {
-        Some(Output::Lines)
-    } else {
-        Some(Output::Images)
-    }
-}
-
 /// The options of the command `print`.
 pub fn options_named(matches: &ArgMatches<'_>) -> Option<PrintOptions>
     ensures some { IfSome result (HasPrint (rows_of (found_of matches.now))) }
@@ -83,7 +70,7 @@ pub fn options_named(matches: &ArgMatches<'_>) -> Option<PrintOptions>
         number_named(matches, "columns")?,
         number_named(matches, "rows")?,
         number_named(matches, "year")?,
-        output_named(matches)?,
+        flag_named(matches, "text")?,
     )
 }
 

@@ -38,7 +38,7 @@ impl Intake for LabelRecords {
 
 /// The labels that a source gives, in their order.
 ///
-/// The source gives CSV records of two fields: a kind, `ean13`, `upca`, `ean8` or `upce` with a GTIN,
+/// The source gives CSV records of two fields: a kind, `ean13`, `upca`, `ean8`, `upce` or `itf14` with a GTIN,
 /// or `gs1128` with an element string.
 pub fn read_labels<S: Source>(
     alloc: Global,

@@ -3,6 +3,7 @@ ghost use Rattle.std.specs.Prelude.{◌≡◌, ◌↔◌, IfSome, IsSome};
 ghost use Rattle.line_core.specs.Grids.{HasNumbers};
 ghost use Rattle.line_core.specs.Numbers.{AreGridNumbers};
 ghost use Rattle.gs1_hub.specs.Arguments.{IsReferenceYear};
+ghost use Rattle.gs1_hub.specs.commands.Prints.{asks_lines};
 
 use element_core::Year;
 use line_core::GridOptions;
@@ -28,8 +29,8 @@ pub struct PrintOptions {
 }
 
 impl PrintOptions {
-    /// These numbers, or none where one of them alone lies outside its range. What they may be
-    /// together is for the grid that is made of them.
+    /// These numbers, and lines of text in place of images where `text` is set; none where one number alone
+    /// lies outside its range. What they may be together is for the grid that is made of them.
     pub fn new(
         module_dots: u16,
         width: u16,
@@ -37,15 +38,16 @@ impl PrintOptions {
         columns: u16,
         rows: u16,
         year: u16,
-        output: Output,
+        text: bool,
     ) -> Option<PrintOptions>
         ensures taken { IsSome result
             ↔ (AreGridNumbers module_dots width height columns rows × IsReferenceYear year) }
         ensures grid { IfSome result (λ o. HasNumbers module_dots width height columns rows o.grid) }
-        ensures rest { IfSome result (λ o. (o.year ≡ year) × (o.output ≡ output)) }
+        ensures rest { IfSome result (λ o. (o.year ≡ year) × (asks_lines o.output ≡ text)) }
     {
         let grid = GridOptions::new(module_dots, width, height, columns, rows)?;
         let year = Year::new(year)?;
+        let output = if text { Output::Lines } else { Output::Images };
         Some(PrintOptions { grid, year, output })
     }
 }
