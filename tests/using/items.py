@@ -1,0 +1,70 @@
+"""Compares the public items of the libraries with the two lists of docs/DECISIONS.md: those of the scope, and those beyond it.
+
+Usage: items.py ROOT. An item is what a crate's src/lib.rt passes on by `pub use`, and each `pub fn` of a type among these, as
+`Type::call`. In the lists an item stands between backquotes in the second column of a row, after its crate in the first.
+"""
+import glob
+import re
+import sys
+
+HEADINGS = ["### Of the scope", "### Beyond the scope"]
+
+
+def passed_on(crate):
+    """What src/lib.rt passes on."""
+    with open(f"{crate}/src/lib.rt", encoding="utf-8") as it:
+        used = re.findall(r"^pub use ([^;]*);", it.read(), re.MULTILINE)
+    for path in used:
+        names = path[path.index("{") + 1 : path.index("}")].split(",") if "{" in path else [path.rsplit("::", 1)[1]]
+        yield from (name.strip() for name in names if name.strip())
+
+
+def calls(crate):
+    """The public calls of each type, as `Type::call`."""
+    for file in glob.glob(f"{crate}/src/**/*.rt", recursive=True):
+        with open(file, encoding="utf-8") as it:
+            lines = it.read().split("\n")
+        owner = None
+        for line in lines:
+            block = re.match(r"impl(?:<[^{]*>)? (\w+)(?:<[^{]*>)? \{$", line)
+            if block:
+                owner = block[1]
+            elif line == "}":
+                owner = None
+            call = re.match(r"    pub (?:const )?fn (\w+)", line)
+            if owner and call:
+                yield f"{owner}::{call[1]}"
+
+
+def items_of(crate):
+    """All public items of a crate."""
+    names = set(passed_on(crate))
+    return names | {it for it in calls(crate) if it.split("::")[0] in names}
+
+
+def listed(page):
+    """The items that the page lists, each with its crate, and how often."""
+    counts = {}
+    for heading in HEADINGS:
+        section = page[page.index(heading) :].split("\n#", 1)[0]
+        for crate, items in re.findall(r"^\| `(\w+)` \| ([^|]*) \|", section, re.MULTILINE):
+            for item in re.findall(r"`([\w:]+)`", items):
+                counts[crate, item] = counts.get((crate, item), 0) + 1
+    return counts
+
+
+def main():
+    root = sys.argv[1]
+    with open(f"{root}/docs/DECISIONS.md", encoding="utf-8") as it:
+        counts = listed(it.read())
+    crates = sorted({crate for crate, _ in counts})
+    there = {(crate, item) for crate in crates for item in items_of(f"{root}/crates/{crate}")}
+    differ = sorted(there ^ counts.keys() | {it for it, count in counts.items() if count > 1})
+    for crate, item in differ:
+        how = "listed twice" if counts.get((crate, item), 0) > 1 else "not listed" if (crate, item) in there else "not there"
+        print(f"docs/DECISIONS.md: {crate}::{item} is {how}", file=sys.stderr)
+    print(f"public items: {len(there)} of {len(crates)} libraries, {len(differ)} differ")
+    sys.exit(0 if there and not differ else 1)
+
+
+main()
