@@ -11,5 +11,4 @@ mod rows;
 mod runs;
 mod serving;
 mod sheets;
-mod station;
 mod symbols;

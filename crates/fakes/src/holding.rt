@@ -1,72 +1,86 @@
 //! A gate that holds a row.
 
+use crate::waiting::reaches;
 use hub_core::Gate;
 use lane_core::Ticket;
+use std::alloc::{AllocError, Global};
 use std::sync::atomic::{AtomicU64, Ordering};
-use std::thread;
 
-/// How often a held row looks whether it may go on.
-const TURN_LIMIT: u64 = 50_000_000;
-
-/// Holds number 0 of lane 0 until the last number has come, and counts how often each comes.
+/// Counts how often each row of some lanes comes, and holds one of them until another has come.
 #[derive(Drop)]
 pub struct Holding {
-    last: u32,
-    firsts: AtomicU64,
-    between: AtomicU64,
-    lasts: AtomicU64,
+    held: Ticket,
+    until: Ticket,
+    /// How often each row has come, lane by lane and by number.
+    came: Vec<Vec<AtomicU64>>,
+    /// How often any other row has come.
     others: AtomicU64,
+    /// How often a wait was ended by its limit.
     limits_met: AtomicU64,
 }
 
+/// A counter for each row of a lane.
+fn counters(alloc: Global, rows: usize) -> Result<Vec<AtomicU64>, AllocError> {
+    let mut counters = Vec::with_capacity(alloc, rows)?;
+    for _ in 0..rows {
+        counters.push(AtomicU64::new(0))?;
+    }
+    Ok(counters)
+}
+
 impl Holding {
-    /// A gate that has seen no row.
-    pub fn until(last: u32) -> Holding {
-        Holding {
-            last,
-            firsts: AtomicU64::new(0),
-            between: AtomicU64::new(0),
-            lasts: AtomicU64::new(0),
+    /// A gate that has seen no row of these lanes, each with so many rows. The row that is `held` goes on
+    /// once that of `until` has come.
+    pub fn new(
+        alloc: Global,
+        lanes: &[usize],
+        held: Ticket,
+        until: Ticket,
+    ) -> Result<Holding, AllocError> {
+        let mut came = Vec::with_capacity(alloc, lanes.len())?;
+        for &rows in lanes {
+            came.push(counters(alloc, rows)?)?;
+        }
+        Ok(Holding {
+            held,
+            until,
+            came,
             others: AtomicU64::new(0),
             limits_met: AtomicU64::new(0),
-        }
+        })
     }
 
-    /// Waits until the last number has come, or as long as it may.
-    fn hold(&self) {
-        for _ in 0..TURN_LIMIT {
-            if self.lasts.load(Ordering::SeqCst) > 0 {
-                return;
-            }
-            thread::yield_now();
-        }
-        self.limits_met.fetch_add(1, Ordering::SeqCst);
+    /// How often a row has come; none of a row that is not of the lanes.
+    fn count(&self, ticket: Ticket) -> Option<&AtomicU64> {
+        let lane = self.came.get(usize::from(ticket.lane))?;
+        lane.get(ticket.number as usize)
     }
 
-    /// How often the first, those between, the last and any other came, and how often a wait was
-    /// ended by its limit.
-    pub fn counts(&self) -> [u64; 5] {
-        [
-            self.firsts.load(Ordering::SeqCst),
-            self.between.load(Ordering::SeqCst),
-            self.lasts.load(Ordering::SeqCst),
-            self.others.load(Ordering::SeqCst),
-            self.limits_met.load(Ordering::SeqCst),
-        ]
+    /// Whether each row of the lanes has come once, and no other, and each wait has ended before its limit.
+    pub fn saw_each_once(&self) -> bool {
+        self.others.load(Ordering::SeqCst) == 0
+            && self.limits_met.load(Ordering::SeqCst) == 0
+            && self.came.iter().all(|lane| lane
+                .iter()
+                .all(|count| count.load(Ordering::SeqCst) == 1))
     }
 }
 
 impl Gate for Holding {
     fn pass(&self, ticket: Ticket) {
-        if ticket.lane != 0 || ticket.number > self.last {
+        let Some(count) = self.count(ticket) else {
             self.others.fetch_add(1, Ordering::SeqCst);
-        } else if ticket.number == self.last {
-            self.lasts.fetch_add(1, Ordering::SeqCst);
-        } else if ticket.number == 0 {
-            self.firsts.fetch_add(1, Ordering::SeqCst);
-            self.hold();
-        } else {
-            self.between.fetch_add(1, Ordering::SeqCst);
+            return;
+        };
+        count.fetch_add(1, Ordering::SeqCst);
+        if ticket != self.held {
+            return;
+        }
+        if !self
+            .count(self.until)
+            .is_some_and(|count| reaches(count, 1))
+        {
+            self.limits_met.fetch_add(1, Ordering::SeqCst);
         }
     }
 }

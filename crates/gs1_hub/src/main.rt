@@ -13,6 +13,8 @@ mod commands;
 mod fault;
 mod help;
 mod laws;
+#[cfg(test)]
+mod tests;
 mod words;
 
 use crate::buffered::Buffered;

@@ -1,8 +1,8 @@
 //! The hub's calls one by one, on one thread.
 
 use crate::tests::rows::{EAN8, EAN13, GS1_128, row};
-use crate::tests::station::{Closed, Station, is_answer};
 use element_core::Year;
+use fakes::{Closed, Station, is_answer};
 use hub_core::{Collected, Handed, Hub, HubFault, Shape, SubmitFault, Worked};
 use lane_core::{Delivery, Ticket};
 use scan_core::{Carrier, Runs};

@@ -1,9 +1,0 @@
-use Rattle.std.proofs.Common.{◌≡◌, ◌∙◌, sym, ap}
-use Rattle.acceptance.proofs.StationFacts.{counted}
-use Rattle.acceptance.proofs.tests.station.Station.new.Goals as goal
-
-pub invariant_of-result : goal.invariant_of-result
-invariant_of-result g c = record {
-  all = c.in-Ok.ensures.seats;
-  count = counted c.in-Ok.parts.lanes.items _ c.in-Ok.ensures.lanes ∙ sym (c.in-Ok.ensures.seats.deliverer.lanes ∙ ap (λ shape. shape.lanes) c.in-Ok.ensures.shape.0);
-}

@@ -1,0 +1,288 @@
+//! A hub with all its seats at hand, for tests that use them one by one.
+ghost use Rattle.std.specs.Prelude.{◌≡◌, ◌<◌, All, IfOk, length};
+ghost use Rattle.hub_core.specs.Delivering.{lane_count};
+ghost use Rattle.hub_core.specs.Hubs.{AreAllSeats, IsDelivererOf, IsLaneOf};
+ghost use Rattle.hub_core.specs.Lanes.{numbers_of};
+
+use crate::lane_gate::{LaneGate, first_polled, polls_nothing};
+use element_core::Year;
+use hub_core::{
+    ClosedLane, Collected, DelivererSeat, Handed, Hub, LaneSeat, OpenGate, Parts, Shape, Signals,
+    SubmitFault, Unsettled, Worked, WorkerSeat, run_workers,
+};
+use lane_core::{Delivery, Ticket};
+use scan_core::{Answer, Carrier, Runs};
+use std::alloc::{AllocError, Global};
+use std::sync::Wait;
+use std::thread::Threads;
+
+/// Why a hub does not do what is asked of it.
+#[derive(Clone, Copy, Debug, PartialEq, Eq)]
+pub enum StationFault {
+    /// It has no such seat.
+    NoSeat,
+    /// It is not of this shape, a thread could not be started, or memory was refused.
+    Refused,
+}
+
+impl From<AllocError> for StationFault {
+    fn from(_: AllocError) -> StationFault {
+        StationFault::Refused
+    }
+}
+
+/// A hub and all its seats.
+#[derive(Drop)]
+pub struct Station {
+    hub: Hub,
+    lanes: Vec<LaneSeat>,
+    workers: Vec<WorkerSeat>,
+    deliverer: DelivererSeat,
+    ghost all: { AreAllSeats hub lanes.items workers.items deliverer },
+    ghost count: { length lanes.items ≡ lane_count deliverer },
+}
+
+/// Whether it is the lane's delivery of that number, read as the carrier's.
+pub fn is_answer(found: Option<&Delivery>, lane: u8, number: u32, wanted: Carrier) -> bool {
+    match found {
+        Some(delivery) => {
+            delivery.ticket() == Ticket { lane, number }
+                && matches!(delivery.answer(), Answer::Read { carrier, .. } if carrier == wanted)
+        }
+        None => false,
+    }
+}
+
+/// Closes each lane, in their order.
+fn close_all(alloc: Global, lanes: Vec<LaneSeat>) -> Result<Vec<ClosedLane>, StationFault>
+    ensures { IfOk result (λ v. v.items ≡ lanes.items) }
+{
+    let mut closed = Vec::new(alloc);
+    for lane in lanes {
+        if closed.push(lane.close()).is_err() {
+            return Err(StationFault::Refused);
+        }
+    }
+    Ok(closed)
+}
+
+impl Station {
+    /// A station of this shape, for 2026.
+    pub fn new<R: Wait>(rt: &R, alloc: Global, shape: Shape) -> Result<Station, StationFault> {
+        let year = Year::new(2026).ok_or(StationFault::Refused)?;
+        match Hub::new(rt, alloc, shape, year) {
+            Ok(parts) => {
+                let Parts {
+                    hub,
+                    lanes,
+                    workers,
+                    deliverer,
+                } = parts;
+                Ok(Station {
+                    hub,
+                    lanes,
+                    workers,
+                    deliverer,
+                })
+            }
+            Err(_) => Err(StationFault::Refused),
+        }
+    }
+
+    /// What becomes of the row that this lane submits.
+    pub fn offer<R: Wait>(
+        &mut self,
+        rt: &R,
+        lane: usize,
+        row: Runs,
+    ) -> Result<Result<Ticket, SubmitFault>, StationFault> {
+        if lane >= self.lanes.len() {
+            return Err(StationFault::NoSeat);
+        }
+        Ok(self.hub.submit(rt, &mut self.lanes[lane], row))
+    }
+
+    /// The same in words: its ticket, or why it comes back, and how many runs it has.
+    pub fn submit<R: Wait>(
+        &mut self,
+        rt: &R,
+        alloc: Global,
+        lane: usize,
+        row: Runs,
+    ) -> Result<String, StationFault> {
+        match self.offer(rt, lane, row)? {
+            Ok(Ticket { lane, number }) => Ok(format!(in alloc; "{lane}/{number}")?),
+            Err(fault) => {
+                let text = format!(in alloc; "{fault}")?;
+                let (SubmitFault::Spent(row) | SubmitFault::Full(row)) = fault;
+                Ok(format!(in alloc; "{text} {}", row.widths().len())?)
+            }
+        }
+    }
+
+    /// What this worker does.
+    pub fn work<R: Wait>(&mut self, rt: &R, worker: usize) -> Result<Worked, StationFault> {
+        if worker >= self.workers.len() {
+            return Err(StationFault::NoSeat);
+        }
+        Ok(self.hub.work(rt, &mut self.workers[worker], &OpenGate))
+    }
+
+    /// What is collected.
+    pub fn collect<R: Wait>(&mut self, rt: &R) -> Collected {
+        self.hub.collect(rt, &mut self.deliverer)
+    }
+
+    /// Whether the lane's next delivery waits, has this number and is read as the carrier's.
+    pub fn has_next(&self, lane: u8, number: u32, carrier: Carrier) -> Result<bool, StationFault> {
+        if usize::from(lane) >= self.lanes.len() {
+            return Err(StationFault::NoSeat);
+        }
+        Ok(is_answer(self.deliverer.next(lane), lane, number, carrier))
+    }
+
+    /// How many tickets the lane has issued.
+    pub fn issued(&self, lane: usize) -> Result<u32, StationFault> {
+        Ok(self.lanes.get(lane).ok_or(StationFault::NoSeat)?.issued())
+    }
+
+    /// What becomes of the lane's next delivery.
+    pub fn hand(&mut self, lane: u8) -> Result<Handed, StationFault> {
+        if usize::from(lane) >= self.lanes.len() {
+            return Err(StationFault::NoSeat);
+        }
+        Ok(self.deliverer.hand(lane))
+    }
+
+    /// What this lane polls.
+    pub fn poll(&mut self, lane: usize) -> Result<Option<Delivery>, StationFault> {
+        if lane >= self.lanes.len() {
+            return Err(StationFault::NoSeat);
+        }
+        Ok(self.lanes[lane].poll())
+    }
+
+    /// Runs the workers on threads of their own, and opens the gate once the free lane has polled a delivery and
+    /// the held one was tried: the station, what the free lane polled, and whether the other polled nothing while
+    /// its row was at the gate.
+    pub fn poll_and_open<R: Threads + Wait + Sync>(
+        self,
+        rt: &R,
+        alloc: Global,
+        gate: &LaneGate,
+        (free, held): (u8, u8),
+    ) -> Result<(Station, Option<Delivery>, bool), StationFault> {
+        let Station {
+            hub,
+            lanes,
+            workers,
+            deliverer,
+        } = self;
+        let (free, held) = (usize::from(free), usize::from(held));
+        if free.max(held) >= lanes.len() {
+            return Err(StationFault::NoSeat);
+        }
+        let shared = &hub;
+        let signals = Signals::new();
+        let task = move || -> (Vec<LaneSeat>, DelivererSeat, Option<Delivery>, bool)
+            requires { All (IsLaneOf shared.now) lanes.items × IsDelivererOf shared.now deliverer × (free < length lanes.items) × (held < length lanes.items) }
+            ensures lanes { All (IsLaneOf shared.entry.now) result.0.items × (numbers_of result.0.items ≡ numbers_of lanes.items) }
+            ensures deliverer { IsDelivererOf shared.entry.now result.1 }
+        {
+            let mut lanes = lanes;
+            let mut deliverer = deliverer;
+            let polled = first_polled(rt, shared, &mut lanes[free], &mut deliverer);
+            let is_held = polls_nothing(rt, shared, gate, &mut lanes[held], &mut deliverer);
+            gate.open();
+            (lanes, deliverer, polled, is_held)
+        };
+        match run_workers(rt, alloc, shared, workers, gate, &signals, task) {
+            Ok((workers, (lanes, deliverer, polled, is_held))) => {
+                let station = Station {
+                    hub,
+                    lanes,
+                    workers,
+                    deliverer,
+                };
+                Ok((station, polled, is_held))
+            }
+            Err(_) => Err(StationFault::Refused),
+        }
+    }
+
+    /// The station with all its lanes closed.
+    pub fn close(self, alloc: Global) -> Result<Closed, StationFault> {
+        let Station {
+            hub,
+            lanes,
+            workers,
+            deliverer,
+        } = self;
+        let lanes = close_all(alloc, lanes)?;
+        Ok(Closed {
+            hub,
+            lanes,
+            workers,
+            deliverer,
+        })
+    }
+}
+
+/// A hub and all its seats, after the close of each lane.
+#[derive(Drop)]
+pub struct Closed {
+    hub: Hub,
+    lanes: Vec<ClosedLane>,
+    workers: Vec<WorkerSeat>,
+    deliverer: DelivererSeat,
+    ghost all: { AreAllSeats hub lanes.items workers.items deliverer },
+}
+
+impl Closed {
+    /// Whether this lane has polled all.
+    pub fn is_done(&self, lane: usize) -> Result<bool, StationFault> {
+        Ok(self.lanes.get(lane).ok_or(StationFault::NoSeat)?.is_done())
+    }
+
+    /// What this lane polls.
+    pub fn poll(&mut self, lane: usize) -> Result<Option<Delivery>, StationFault> {
+        if lane >= self.lanes.len() {
+            return Err(StationFault::NoSeat);
+        }
+        Ok(self.lanes[lane].poll())
+    }
+
+    /// The same with the seats of the lanes, and those of the workers, in the other order.
+    pub fn turned(mut self) -> Closed {
+        self.lanes.reverse();
+        self.workers.reverse();
+        self
+    }
+
+    /// The lists that settling gives; where memory was refused, those that settling again gives.
+    pub fn settle<R: Wait>(
+        self,
+        rt: &R,
+        alloc: Global,
+    ) -> Result<Vec<Vec<Delivery>>, StationFault> {
+        let Closed {
+            hub,
+            lanes,
+            workers,
+            deliverer,
+        } = self;
+        let Unsettled {
+            hub,
+            lanes,
+            workers,
+            deliverer,
+        } = match hub.settle(rt, alloc, lanes, workers, deliverer) {
+            Ok(lists) => return Ok(lists),
+            Err(unsettled) => unsettled,
+        };
+        match hub.settle(rt, alloc, lanes, workers, deliverer) {
+            Ok(lists) => Ok(lists),
+            Err(_) => Err(StationFault::Refused),
+        }
+    }
+}

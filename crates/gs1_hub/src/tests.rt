@@ -1,0 +1,117 @@
+//! Each run of a command once, and gates that see its workers beside each other.
+
+use crate::commands::lanes::options::LaneOptions;
+use crate::commands::print::options::PrintOptions;
+use crate::commands::scan::options::ScanOptions;
+use crate::commands::{Asked, run};
+use digits_core::{FromReader, ToWriter};
+use element_core::Year;
+use fakes::{Holding, Meeting};
+use hub_core::{Gate, OpenGate};
+use lane_core::Ticket;
+use std::process::Abort;
+use std::sync::Wait;
+use std::test::Fail;
+use std::thread::Threads;
+
+// The rows of 9501101530003 as EAN-13 and of 96385074 as EAN-8, at one dot a module.
+const EAN13: &str = "11 1 1 1 1 2 3 1 1 1 2 3 1 2 2 2 2 2 2 1 1 1 2 3 2 2 2 1 1 1 1 1 \
+                     1 1 2 3 1 1 4 1 1 3 2 1 1 3 2 1 1 3 2 1 1 1 4 1 1 1 1 1 7";
+const EAN8: &str = "7 1 1 1 3 1 1 2 1 1 1 4 1 4 1 1 1 2 1 3 1 1 1 1 1 1 2 3 1 3 2 1 \
+                    1 1 3 1 2 1 1 3 2 1 1 1 7";
+
+// An image of two cells of 113 by 3 dots, one above the other, each with the EAN-13.
+const TWO_LABELS: &[u8] = b"P4\n113 6\n\
+    \0\0\0\0\0\0\0\0\0\0\0\0\0\0\0\x00\x15\x8A\x76\x66\x53\x99\x54\xE8\x5C\xB9\x72\x85\x40\x00\
+    \0\0\0\0\0\0\0\0\0\0\0\0\0\0\0\0\0\0\0\0\0\0\0\0\0\0\0\0\0\0\
+    \x00\x15\x8A\x76\x66\x53\x99\x54\xE8\x5C\xB9\x72\x85\x40\x00\0\0\0\0\0\0\0\0\0\0\0\0\0\0\0";
+
+// Two records of that label.
+const TWO_RECORDS: &[u8] = b"ean13,9501101530003\nean13,9501101530003\n";
+
+/// The ticket of a row.
+fn ticket(lane: u8, number: u32) -> Ticket {
+    Ticket { lane, number }
+}
+
+/// That a command writes this of an input, its workers passing the gate.
+fn writes<R: Threads + Wait + AllocGlobal + Sync + Abort, G: Gate + Sync>(
+    rt: &R,
+    asked: Asked,
+    input: &[u8],
+    gate: &G,
+    wanted: &[u8],
+) -> Result<(), Fail> {
+    let alloc = rt.alloc();
+    let mut source = FromReader::new(input);
+    let mut sink = ToWriter::new(Vec::new(alloc));
+    if let Err(fault) = run(rt, alloc, asked, &mut source, &mut sink, gate) {
+        return Err(Fail::from(format!(in alloc; "{fault}")?));
+    }
+    assert_eq!(*rt; sink.into_inner().as_slice(), wanted);
+    Ok(())
+}
+
+#[test]
+fn check_answers_a_text(rt: HostRuntime) -> Result<(), Fail> {
+    let year = Year::new(2026).ok_or("year")?;
+    writes(&rt, Asked::Check(year), b"digit,950110153000\n", &OpenGate, b"digit 3\n")
+}
+
+#[test]
+fn print_writes_images_or_lines(rt: HostRuntime) -> Result<(), Fail> {
+    let images = PrintOptions::new(1, 113, 3, 1, 2, 2026, false).ok_or("options")?;
+    writes(&rt, Asked::Print(images), TWO_RECORDS, &OpenGate, TWO_LABELS)?;
+    let lines = PrintOptions::new(1, 113, 3, 1, 2, 2026, true).ok_or("options")?;
+    let wanted = b"0 0 ean13 (01)09501101530003\n0 1 ean13 (01)09501101530003\n";
+    writes(&rt, Asked::Print(lines), TWO_RECORDS, &OpenGate, wanted)
+}
+
+#[test]
+fn two_workers_read_the_rows_of_a_lane(rt: HostRuntime) -> Result<(), Fail> {
+    let options = LaneOptions::new(1, 2, 2026).ok_or("options")?;
+    let input = format!(in rt.alloc(); "0,{EAN13}\n0,{EAN8}\n")?;
+    let gate = Holding::new(rt.alloc(), &[2], ticket(0, 0), ticket(0, 1))?;
+    let wanted = b"0 0 ]E0 (01)09501101530003\n0 1 ]E4 (01)00000096385074\n";
+    writes(&rt, Asked::Lanes(options), input.as_bytes(), &gate, wanted)?;
+    assert!(rt; gate.saw_each_once());
+    Ok(())
+}
+
+#[test]
+fn two_workers_read_the_rows_of_a_column(rt: HostRuntime) -> Result<(), Fail> {
+    let options = ScanOptions::new(1, 113, 3, 1, 2, 2, 2026).ok_or("options")?;
+    let gate = Holding::new(rt.alloc(), &[2], ticket(0, 0), ticket(0, 1))?;
+    let wanted = b"0 0 ]E0 (01)09501101530003\n0 1 ]E0 (01)09501101530003\n";
+    writes(&rt, Asked::Scan(options), TWO_LABELS, &gate, wanted)?;
+    assert!(rt; gate.saw_each_once());
+    Ok(())
+}
+
+#[test]
+fn a_row_of_the_last_lane_is_held_alone(rt: HostRuntime) -> Result<(), Fail> {
+    let options = LaneOptions::new(3, 2, 2026).ok_or("options")?;
+    let input = format!(in rt.alloc(); "2,{EAN8}\n0,{EAN13}\n2,{EAN13}\n0,{EAN8}\n")?;
+    let gate = Holding::new(rt.alloc(), &[2, 0, 2], ticket(2, 0), ticket(2, 1))?;
+    let wanted = b"0 0 ]E0 (01)09501101530003\n0 1 ]E4 (01)00000096385074\n\
+        2 0 ]E4 (01)00000096385074\n2 1 ]E0 (01)09501101530003\n";
+    writes(&rt, Asked::Lanes(options), input.as_bytes(), &gate, wanted)?;
+    assert!(rt; gate.saw_each_once());
+    Ok(())
+}
+
+#[test]
+fn sixteen_workers_are_at_work_at_once(rt: HostRuntime) -> Result<(), Fail> {
+    let alloc = rt.alloc();
+    let options = LaneOptions::new(16, 16, 2026).ok_or("options")?;
+    let mut input = String::new(alloc);
+    let mut wanted = String::new(alloc);
+    for lane in 0..16 {
+        input.push_str(format!(in alloc; "{lane},{EAN8}\n")?.as_str())?;
+        wanted.push_str(format!(in alloc; "{lane} 0 ]E4 (01)00000096385074\n")?.as_str())?;
+    }
+    let gate = Meeting::of(16);
+    writes(&rt, Asked::Lanes(options), input.as_bytes(), &gate, wanted.as_bytes())?;
+    assert!(rt; gate.has_met());
+    Ok(())
+}
