@@ -23,4 +23,5 @@ pub mod SortFacts
 pub mod ServeFacts
 pub mod SortAllFacts
 pub mod StockFacts
+pub mod TrafficFacts
 pub mod WeightFacts

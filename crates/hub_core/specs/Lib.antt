@@ -17,4 +17,5 @@ pub mod Shapes
 pub mod Standing
 pub mod Stock
 pub mod Submitting
+pub mod Traffics
 pub mod Workers

@@ -11,7 +11,7 @@ ghost use Rattle.hub_core.specs.Standing.{GivesRows, Owes, StandsFor};
 
 use crate::closed_lane::ClosedLane;
 use crate::deliverer_seat::DelivererSeat;
-use crate::emptying::pour_all;
+use crate::drain::pour_all;
 use crate::hub::Hub;
 use crate::lists::{make_lists, sort_all};
 use crate::worker_seat::WorkerSeat;
@@ -67,7 +67,28 @@ impl Hub {
     ghost use Rattle.hub_core.specs.Delivering.{collected, taken_in};
     ghost use Rattle.hub_core.specs.Hubs.{AreAllSeats, shape_of};
     ghost use Rattle.hub_core.specs.Lanes.{polled, received};
-    ghost use Rattle.hub_core.specs.Standing.{GivesRows, Owes, StandsFor};
+    ghost use Rattle.hub_core.specs.Standing.{GivesRows, Owes, PolledFirst, StandsFor};
+
+    /// Takes all seats back, and drops what no lane has polled: what each has polled is the first of what its
+    /// rows are served. No memory is taken.
+    pub fn finish<R: Wait>(
+        self,
+        rt: &R,
+        alloc: Global,
+        lanes: Vec<ClosedLane>,
+        workers: Vec<WorkerSeat>,
+        deliverer: DelivererSeat,
+    )
+        requires { AreAllSeats self lanes.items workers.items deliverer }
+        ensures { PolledFirst self lanes.items }
+    {
+        let mut lists = Vec::new(alloc);
+        pour_all(rt, &self, &mut lists, lanes, workers, deliverer);
+        // Laws, by which the clause follows: none of these calls does anything.
+        kept_whole();
+        received_first();
+        all_found();
+    }
 
     /// What the lanes have not polled: list `i` is lane `i`'s, by number, whatever order the seats
     /// come in.
