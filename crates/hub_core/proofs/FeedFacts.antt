@@ -66,18 +66,11 @@ one_given feeds given old new lane row taken was =
       record { count = count; all = all; short = was.short },
     )
 
-pub same_given : (feeds given old new : List (List (List ℕ))) → new ≡ old → AreGiven feeds given old → AreGiven feeds given new
-same_given feeds given old new same was = subst (AreGiven feeds given) (sym same) was
-
 none_appended : {X : Type 0} (rests : List (List X)) (n : ℕ) → length rests ≡ n → appended (replicate n []) rests ≡ rests
 none_appended [] zero count = refl
 none_appended [] (suc n) count = absurd (omega (arith, count))
 none_appended (ys ∷ rests) zero count = absurd (omega (arith, count))
 none_appended (ys ∷ rests) (suc n) count = ap (λ v. ys ∷ v) (none_appended rests n (omega (arith, count)))
-
-pub if_some : {X : Type 0} (o : Option X) (P Q : X → Type 0) → ((x : X) → P x → Q x) → IfSome o P → IfSome o Q
-if_some None P Q f p = tt
-if_some (Some x) P Q f p = f x p
 
 -- the list of this lane has one more
 pub list_more : {V X : Type 0} (f : V → List X) (vs : List V) (i lane : ℕ) (v w : V) (x : X) (brought : List (List X)) → i ≡ lane → lane < length brought → v ≡ get_or vs i v → f w ≡ f v ++ x ∷ []

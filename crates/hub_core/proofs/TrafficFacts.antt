@@ -22,10 +22,6 @@ use Rattle.hub_core.specs.declared.lane_seat.LaneSeat.{LaneSeat}
 use Rattle.hub_core.proofs.NumberFacts.{less_or}
 use Rattle.hub_core.proofs.ServeFacts.{lanes_counted}
 
-pub if_ok : {X F : Type 0} (r : Result X F) (P Q : Type 0) → (P → Q) → IfOk r (λ _. P) → IfOk r (λ _. Q)
-if_ok (Ok x) P Q f p = f p
-if_ok (Err e) P Q f p = tt
-
 pub if_none : (o : Option (ℕ × List ℕ)) (P : (ℕ × List ℕ) → Type 0) → o ≡ None → IfSome o P
 if_none o P none = subst (λ x. IfSome x P) (sym none) tt
 

@@ -1,5 +1,5 @@
 -- Rows that are left of each lane, and those that were given.
-use Rattle.std.specs.Prelude.{◌≡◌, ◌<◌, ◌==◌, ◌++◌, ℕ, Bool, true, List, [], ◌∷◌, length, map, slice_index_or, slice_set}
+use Rattle.std.specs.Prelude.{◌≡◌, ◌<◌, ◌==◌, ◌++◌, ℕ, Bool, true, List, [], ◌∷◌, length, map, replicate, slice_index_or, slice_set}
 use Rattle.std.specs.List.{list_all}
 use Rattle.std.specs.Vec.Iter.{into_iter_items}
 use Rattle.hub_core.specs.Serving.{are_short}
@@ -28,3 +28,11 @@ pub record AreGiven (feeds given rests : List (List (List ℕ))) : Type 0 where
   pub count : length given ≡ length rests
   pub all : appended given rests ≡ feeds
   pub short : are_short feeds ≡ true
+
+-- at first no row of the feeds was given
+abbrev pub GivenAtFirst : Type 0
+GivenAtFirst = (feeds : List (List (List ℕ))) → are_short feeds ≡ true → AreGiven feeds (replicate (length feeds) []) feeds
+
+-- once no row is left, all were given
+abbrev pub GivenAtLast : Type 0
+GivenAtLast = (feeds given rests : List (List (List ℕ))) → AreGiven feeds given rests → are_given rests ≡ true → given ≡ feeds

@@ -49,7 +49,7 @@ pub record IsNextOf (x : Plain) (given : List (List (List ℕ))) (brought : List
   pub number : x.number ≡ length (slice_index_or brought x.lane [])
 
 -- the traffic was brought all that it was to be brought
-abbrev pub IsKept : {F : Type 0} → Ended F → Type 0
+abbrev pub IsKept : {W B : Type 0} → Ended W B → Type 0
 IsKept (Lost fault) = ⊥
 IsKept Done = ⊤
 IsKept NoMemory = ⊤

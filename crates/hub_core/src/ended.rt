@@ -2,13 +2,13 @@
 
 /// Why a traffic is served no longer.
 #[derive(Drop)]
-pub enum Ended<F> {
+pub enum Ended<W, B> {
     /// The traffic has ended, and all that it gave has come back.
     Done,
     /// Memory was refused.
     NoMemory,
-    /// The traffic stopped it, where it was to wait.
-    Stopped(F),
+    /// The traffic could not wait for more.
+    Stopped(W),
     /// The traffic could not be brought a delivery, which is lost.
-    Lost(F),
+    Lost(B),
 }

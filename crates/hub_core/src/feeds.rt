@@ -2,7 +2,7 @@
 ghost use Rattle.std.specs.Prelude.{◌≡◌, ◌==◌, IfOk, IfSome, None, length, map, vec_len};
 ghost use Rattle.std.specs.List.{list_all};
 ghost use Rattle.std.specs.Vec.Iter.{into_iter_len};
-ghost use Rattle.hub_core.specs.Feeds.{IsTaken, are_given, rests_of};
+ghost use Rattle.hub_core.specs.Feeds.{GivenAtFirst, GivenAtLast, IsTaken, are_given, rests_of};
 
 use scan_core::Runs;
 use std::alloc::{AllocError, Global};
@@ -52,6 +52,8 @@ impl Feeds {
     /// The lane's next row.
     fn take_of(&mut self, lane: u8) -> Option<Runs>
         ensures some { IfSome result (λ row. IsTaken (rests_of self.old) lane row (rests_of self.new)) }
+        ensures given { IfSome result (λ row. (feeds given : List (List (List ℕ))) → AreGiven feeds given (rests_of self.old)
+            → HasRoom lane given × AreGiven feeds (with_more lane row given) (rests_of self.new)) }
         ensures none { result ≡ None → rests_of self.new ≡ rests_of self.old }
     {
         let index = usize::from(lane);
@@ -64,6 +66,8 @@ impl Feeds {
     /// The next row of this lane or one after it.
     fn take_from(&mut self, first: u8) -> Option<(u8, Runs)>
         ensures some { IfSome result (λ r. IsTaken (rests_of self.old) r.0 r.1 (rests_of self.new)) }
+        ensures given { IfSome result (λ r. (feeds given : List (List (List ℕ))) → AreGiven feeds given (rests_of self.old)
+            → HasRoom r.0 given × AreGiven feeds (with_more r.0 r.1 given) (rests_of self.new)) }
         ensures none { result ≡ None → rests_of self.new ≡ rests_of self.old }
     {
         for lane in first..MOST_LANES {
@@ -78,6 +82,8 @@ impl Feeds {
     /// The next row, and its lane. Of up to 16 lanes that have rows each has its turn.
     pub fn take(&mut self) -> Option<(u8, Runs)>
         ensures some { IfSome result (λ r. IsTaken (rests_of self.old) r.0 r.1 (rests_of self.new)) }
+        ensures given { IfSome result (λ r. (feeds given : List (List (List ℕ))) → AreGiven feeds given (rests_of self.old)
+            → HasRoom r.0 given × AreGiven feeds (with_more r.0 r.1 given) (rests_of self.new)) }
         ensures none { result ≡ None → rests_of self.new ≡ rests_of self.old }
     {
         match self.take_from(self.turn) {
@@ -86,3 +92,9 @@ impl Feeds {
         }
     }
 }
+
+/// A law: of feeds of which none is too long no row was given at first, and all were once none is left.
+pub fn feeds_are_given()
+    ensures first { GivenAtFirst }
+    ensures last { GivenAtLast }
+{}

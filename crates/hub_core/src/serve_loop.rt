@@ -16,9 +16,10 @@ use crate::fault::{HubFault, ServeFault, SubmitFault};
 use crate::gate::Gate;
 use crate::hub::Hub;
 use crate::lane_seat::LaneSeat;
+use crate::pace::Pace;
 use crate::parts::Parts;
 use crate::shape::Shape;
-use crate::signals::{Patience, Signals};
+use crate::signals::Signals;
 use crate::traffic::Traffic;
 use crate::worker_seat::WorkerSeat;
 use crate::worker_threads::run_workers;
@@ -32,7 +33,7 @@ use std::thread::Threads;
 const CAPACITY: u16 = 64;
 
 /// How many rows are submitted before deliveries are collected, and the other way round.
-const IN_A_TURN: u32 = 64;
+const IN_A_TURN: u32 = 16;
 
 /// More rows than these that are under way, once the calling thread was woken, are work for one worker more.
 const SHARE: u32 = 16;
@@ -108,7 +109,7 @@ fn submit_some<R: Wait, T: Traffic>(
     traffic: &mut T,
     seats: &mut Vec<LaneSeat>,
     held: &mut Option<(u8, Runs)>,
-    signals: &Signals,
+    pace: &mut Pace,
 ) -> Submitted
     requires { Serves hub.now seats.old.items held.old × ((start : T) × T.Came start traffic.old (given_to seats.old.items held.old) (polled_by seats.old.items)) }
     ensures serves { Serves hub.now seats.new.items held.new }
@@ -116,17 +117,12 @@ fn submit_some<R: Wait, T: Traffic>(
     ensures nothing { result ≡ Submitted.Nothing → held.new ≡ None }
 {
     let mut submitted = Submitted::Row;
-    let mut is_more = false;
     for _i in 0..IN_A_TURN {
         submitted = submit_next(rt, hub, traffic, seats, held);
         if submitted != Submitted::Row {
             break;
         }
-        is_more = true;
-    }
-    // Told once they are all there, a worker takes them without waiting for each.
-    if is_more {
-        signals.notify_of_rows(hub.shape.workers);
+        pace.has_queued();
     }
     submitted
 }
@@ -138,7 +134,7 @@ fn bring_next<T: Traffic>(
     seats: &mut Vec<LaneSeat>,
     held: &Option<(u8, Runs)>,
     index: usize,
-) -> Result<(), T::Fault>
+) -> Result<(), T::BringFault>
     requires { Serves hub.now seats.old.items held.now × ((start : T) × T.Came start traffic.old (given_to seats.old.items held.now) (polled_by seats.old.items)) × (index < vec_len seats.old) }
     ensures serves { Serves hub.now seats.new.items held.now }
     ensures count { vec_len seats.new ≡ vec_len seats.old }
@@ -160,7 +156,7 @@ fn pass_on<T: Traffic>(
     deliverer: &mut DelivererSeat,
     held: &Option<(u8, Runs)>,
     lane: u8,
-) -> Result<(), T::Fault>
+) -> Result<(), T::BringFault>
     requires { Serves hub.now seats.old.items held.now × ((start : T) × T.Came start traffic.old (given_to seats.old.items held.now) (polled_by seats.old.items)) × IsDelivererOf hub.now deliverer.old }
     ensures serves { Serves hub.now seats.new.items held.now }
     ensures came { IfOk result (λ _. (start : T) → T.Came start traffic.old (given_to seats.old.items held.now) (polled_by seats.old.items) → T.Came start traffic.new (given_to seats.new.items held.now) (polled_by seats.new.items)) }
@@ -187,7 +183,7 @@ fn collect_some<R: Wait, T: Traffic>(
     seats: &mut Vec<LaneSeat>,
     deliverer: &mut DelivererSeat,
     held: &Option<(u8, Runs)>,
-) -> Result<Gathered, T::Fault>
+) -> Result<Gathered, T::BringFault>
     requires { Serves hub.now seats.old.items held.now × ((start : T) × T.Came start traffic.old (given_to seats.old.items held.now) (polled_by seats.old.items)) × IsDelivererOf hub.now deliverer.old }
     ensures serves { Serves hub.now seats.new.items held.now }
     ensures came { IfOk result (λ _. (start : T) → T.Came start traffic.old (given_to seats.old.items held.now) (polled_by seats.old.items) → T.Came start traffic.new (given_to seats.new.items held.now) (polled_by seats.new.items)) }
@@ -224,7 +220,7 @@ fn wait_for_more<T: Traffic>(
     hub: &Hub,
     traffic: &mut T,
     seats: &Vec<LaneSeat>,
-) -> Result<bool, T::Fault>
+) -> Result<bool, T::WaitFault>
     requires { Serves hub.now seats.now.items None × ((start : T) × T.Came start traffic.old (given_to seats.now.items None) (polled_by seats.now.items)) × AreEven seats.now.items }
     ensures came { (start : T) → T.Came start traffic.old (given_to seats.now.items None) (polled_by seats.now.items) → T.Came start traffic.new (given_to seats.now.items None) (polled_by seats.now.items) }
     ensures ended { result ≡ Ok false → T.has_ended traffic.new ≡ true }
@@ -243,8 +239,8 @@ fn take_turn<R: Wait, T: Traffic>(
     deliverer: &mut DelivererSeat,
     held: &mut Option<(u8, Runs)>,
     signals: &Signals,
-    patience: &mut Patience,
-) -> Result<Turn, T::Fault>
+    pace: &mut Pace,
+) -> Result<Turn, T::BringFault>
     requires { Serves hub.now seats.old.items held.old × ((start : T) × T.Came start traffic.old (given_to seats.old.items held.old) (polled_by seats.old.items)) × IsDelivererOf hub.now deliverer.old }
     ensures serves { Serves hub.now seats.new.items held.new }
     ensures came { IfOk result (λ _. (start : T) → T.Came start traffic.old (given_to seats.old.items held.old) (polled_by seats.old.items) → T.Came start traffic.new (given_to seats.new.items held.new) (polled_by seats.new.items)) }
@@ -254,10 +250,11 @@ fn take_turn<R: Wait, T: Traffic>(
     let seen = signals.deliveries.given();
     let gathered = collect_some(rt, hub, traffic, seats, deliverer, held)?;
     signals.places.notify_all();
-    if patience.has_just_slept() && are_many(seats.as_slice()) {
+    if pace.has_just_waited() && are_many(seats.as_slice()) {
         signals.jobs.notify_one();
     }
-    let submitted = submit_some(rt, hub, traffic, seats, held, signals);
+    let submitted = submit_some(rt, hub, traffic, seats, held, pace);
+    pace.tell_of_rows(signals, hub.shape.workers, submitted == Submitted::Row);
     match gathered {
         Gathered::Taken(_) => Ok(Turn::GoesOn),
         Gathered::NoMemory => Ok(Turn::NoMemory),
@@ -268,7 +265,7 @@ fn take_turn<R: Wait, T: Traffic>(
             if submitted == Submitted::Nothing && are_even(seats.as_slice()) {
                 return Ok(Turn::Even);
             }
-            patience.wait(rt, signals, seen);
+            pace.wait(rt, signals, seen);
             Ok(Turn::GoesOn)
         }
     }
@@ -282,7 +279,7 @@ fn run<R: Wait, T: Traffic>(
     seats: &mut Vec<LaneSeat>,
     deliverer: &mut DelivererSeat,
     signals: &Signals,
-) -> Ended<T::Fault>
+) -> Ended<T::WaitFault, T::BringFault>
     requires { Serves hub.now seats.old.items None × ((start : T) × T.Came start traffic.old (given_to seats.old.items None) (polled_by seats.old.items)) × IsDelivererOf hub.now deliverer.old }
     ensures serves { (held : Option (ℕ × List ℕ)) × Serves hub.now seats.new.items held
         × (IsKept result → (start : T) → T.Came start traffic.old (given_to seats.old.items None) (polled_by seats.old.items) → T.Came start traffic.new (given_to seats.new.items held) (polled_by seats.new.items))
@@ -290,17 +287,10 @@ fn run<R: Wait, T: Traffic>(
     ensures deliverer { IsDelivererOf hub.now deliverer.new }
 {
     let mut held = None;
-    let mut patience = Patience::new();
+    let mut pace = Pace::new();
     for _ in rt.forever() {
         match take_turn(
-            rt,
-            hub,
-            traffic,
-            seats,
-            deliverer,
-            &mut held,
-            signals,
-            &mut patience,
+            rt, hub, traffic, seats, deliverer, &mut held, signals, &mut pace,
         ) {
             Ok(Turn::GoesOn) => {}
             Ok(Turn::NoMemory) => return Ended::NoMemory,
@@ -331,7 +321,7 @@ fn serve_seats<R: Threads + Wait + Sync, G: Gate + Sync, T: Traffic + Drop>(
         Vec<LaneSeat>,
         Vec<WorkerSeat>,
         DelivererSeat,
-        Ended<T::Fault>,
+        Ended<T::WaitFault, T::BringFault>,
     ),
     ServeFault,
 >
@@ -343,7 +333,12 @@ fn serve_seats<R: Threads + Wait + Sync, G: Gate + Sync, T: Traffic + Drop>(
 {
     let told = Signals::new();
     let signals = &told;
-    let task = move || -> (T, Vec<LaneSeat>, DelivererSeat, Ended<T::Fault>)
+    let task = move || -> (
+        T,
+        Vec<LaneSeat>,
+        DelivererSeat,
+        Ended<T::WaitFault, T::BringFault>,
+    )
         requires { Serves hub.now seats.items None × T.Came traffic traffic (given_to seats.items None) (polled_by seats.items) × IsDelivererOf hub.now deliverer }
         ensures serves { (held : Option (ℕ × List ℕ)) × Serves hub.entry.now result.1.items held × (IsKept result.3 → T.Came traffic result.0 (given_to result.1.items held) (polled_by result.1.items)) × (result.3 ≡ Ended.Done → (T.has_ended result.0 ≡ true) × AreEven result.1.items × (held ≡ None)) }
         ensures deliverer { IsDelivererOf hub.entry.now result.2 }
@@ -411,7 +406,7 @@ pub fn serve_traffic<R: Threads + Wait + Sync, G: Gate + Sync, T: Traffic + Drop
     workers: u8,
     year: Year,
     gate: &G,
-) -> Result<(T, Ended<T::Fault>), ServeFault>
+) -> Result<(T, Ended<T::WaitFault, T::BringFault>), ServeFault>
     requires counts { (is_count lanes ≡ true) × (is_count workers ≡ true) }
     requires fresh { T.Came traffic traffic (replicate lanes []) (replicate lanes []) }
     ensures served { IfOk result (λ v. IsKept v.1 → (given : List (List (List ℕ))) × (brought : List (List Plain)) × T.Came traffic v.0 given brought × AreServedFirst year given brought

@@ -1,19 +1,15 @@
 //! How a thread that finds nothing to do sleeps, and how another wakes it. No claim rests on it.
 
+use std::hint;
 use std::sync::Wait;
 use std::sync::atomic::{AtomicU64, Ordering};
 use std::time::Duration;
-use std::{hint, mem};
 
-/// How often a thread looks at a signal before it sleeps: to sleep and be woken takes longer.
+/// How often a worker looks at a signal before it sleeps: to sleep and be woken takes longer.
 const LOOKS: u32 = 100;
 
 /// How many microseconds a thread sleeps at most before it looks again for what it was told of.
-const REST: u64 = 1_000_000;
-
-/// So many microseconds the calling thread waits for a delivery before it wakes a further worker, and
-/// twice as many the next time.
-const PATIENCE: u64 = 1_000;
+pub(crate) const REST: u64 = 1_000_000;
 
 /// A thread sleeps while the low 32 bits of a word are what they were.
 const WORDS: u64 = 4_294_967_296;
@@ -53,9 +49,10 @@ impl Signal {
         self.sleepers.load(Ordering::SeqCst)
     }
 
-    /// Waits while it was given so often, first awake and then asleep, for so many microseconds at most.
-    fn wait<R: Wait>(&self, rt: &R, seen: u64, nap: u64) {
-        for _ in 0..LOOKS {
+    /// Waits while it was given so often: it looks so many times, and then sleeps for so many microseconds
+    /// at most.
+    pub(crate) fn wait<R: Wait>(&self, rt: &R, seen: u64, looks: u32, nap: u64) {
+        for _ in 0..looks {
             if self.given() != seen {
                 return;
             }
@@ -69,7 +66,7 @@ impl Signal {
 
     /// Waits until it is given again.
     pub(crate) fn rest<R: Wait>(&self, rt: &R, seen: u64) {
-        self.wait(rt, seen, REST);
+        self.wait(rt, seen, LOOKS, REST);
     }
 
     /// Gives it, and wakes a thread where so many sleep.
@@ -141,44 +138,5 @@ impl Signals {
     /// Whether the workers are asked to stop.
     pub(crate) fn is_stop_requested(&self) -> bool {
         self.stop.load(Ordering::SeqCst) == STOP_REQUESTED
-    }
-}
-
-/// How the calling thread waits while rows are under way.
-///
-/// Where none comes back for a while, the workers that are awake may all be held by their gate, so it
-/// wakes one that sleeps, and one more each time that it has waited twice as long.
-#[derive(Clone, Copy)]
-pub(crate) struct Patience {
-    /// How many microseconds it waits at most.
-    nap: u64,
-    /// Whether it has slept since it was last asked.
-    has_slept: bool,
-}
-
-impl Patience {
-    /// It has not waited.
-    pub(crate) fn new() -> Patience {
-        Patience {
-            nap: PATIENCE,
-            has_slept: false,
-        }
-    }
-
-    /// Whether it has slept since it was last asked.
-    pub(crate) fn has_just_slept(&mut self) -> bool {
-        mem::replace(&mut self.has_slept, false)
-    }
-
-    /// Waits for a delivery, where so many signals of one were seen.
-    pub(crate) fn wait<R: Wait>(&mut self, rt: &R, signals: &Signals, seen: u64) {
-        signals.deliveries.wait(rt, seen, self.nap);
-        self.has_slept = true;
-        if signals.deliveries.given() != seen {
-            self.nap = PATIENCE;
-        } else {
-            self.nap = self.nap.saturating_mul(2).min(REST);
-            signals.jobs.notify_one();
-        }
     }
 }

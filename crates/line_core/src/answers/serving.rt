@@ -11,10 +11,13 @@ ghost use Rattle.line_core.specs.answers.Reports.{AreLinesOf, IsReport, lane_lin
 
 use crate::answers::report::{joined, push_line};
 use element_core::Year;
-use hub_core::{Ended, Feeds, Gate, ServeFault, Traffic, answers_are_read, serve_traffic};
+use hub_core::{
+    Ended, Feeds, Gate, ServeFault, Traffic, answers_are_read, feeds_are_given, serve_traffic,
+};
 use lane_core::Delivery;
 use scan_core::Runs;
 use std::alloc::{AllocError, Global};
+use std::convert::Infallible;
 use std::sync::Wait;
 use std::thread::Threads;
 
@@ -67,7 +70,9 @@ impl Traffic for Answering {
     ghost use Rattle.hub_core.specs.Feeds.{AreGiven, are_given, rests_of};
     ghost use Rattle.line_core.specs.answers.Reports.{AreLinesOf};
 
-    type Fault = AllocError;
+    type WaitFault = Infallible;
+
+    type BringFault = AllocError;
 
     ghost Came = { λ start s given brought. AreGiven (rests_of start.feeds) given (rests_of s.feeds) × AreLinesOf brought (map string_bytes s.texts.items) };
 
@@ -89,7 +94,7 @@ impl Traffic for Answering {
         )
     }
 
-    fn wait(&mut self) -> Result<bool, AllocError> {
+    fn wait(&mut self) -> Result<bool, Infallible> {
         Ok(!self.feeds.is_empty())
     }
 }
@@ -125,7 +130,8 @@ fn answer_each<R: Threads + Wait + Sync, G: Gate + Sync>(
         feeds: Feeds::new(alloc, feeds)?,
         texts,
     };
-    // A law, by which the clause follows: the call does nothing.
+    // Laws, by which the clause follows: none of these calls does anything.
+    feeds_are_given();
     answers_are_read();
     match serve_traffic(rt, alloc, traffic, lanes, workers, year, gate) {
         Ok((traffic, Ended::Done)) => Ok(traffic.texts),

@@ -1,8 +1,9 @@
 use Rattle.std.proofs.Common.{◌≡◌, ◌<◌, ◌∙◌, arith, length, sym}
 use Rattle.std.proofs.lemmas.List.{length-map}
+use Rattle.std.proofs.lemmas.Result.{IfOk-weaker}
 use Rattle.hub_core.specs.Lanes.{polled}
 use Rattle.hub_core.specs.Traffics.{given_to, polled_by}
-use Rattle.hub_core.proofs.TrafficFacts.{came_brought, came_same, if_ok, lane_at, next_of, room_same, seat_at, step_serves}
+use Rattle.hub_core.proofs.TrafficFacts.{came_brought, came_same, lane_at, next_of, room_same, seat_at, step_serves}
 use Rattle.hub_core.proofs.serve_loop.bring_next.Goals as goal
 
 pub bring-requires : goal.bring-requires
@@ -48,8 +49,8 @@ returns-in-Some-clause-came g c =
     let t = c.poll.new.self in
     let next = next_of c.args.hub.now seats held c.args.index c.index_mut.result.now t c.in-Some.delivery c.requires.0 low at
     c.poll.ensures.submitted polls.0 polls.1 polls.2 (omega (arith, t.polled_issued, t.counted, t.polls_counted)) in
-    if_ok c.bring.result _ _
-    (λ bring start was.
+    IfOk-weaker c.bring.result _ _
+    (λ _ bring start was.
     came_brought (g.T.Traffic.Came start c.bring.new.self) seats held c.args.index c.in-Some.delivery.lane c.index_mut.result.now t c.in-Some.delivery
     (lane ∙ sym polls.0) low at c.poll.ensures.submitted polls.2
     (bring start (given_to seats held) (polled_by seats) was next))
