@@ -2,13 +2,13 @@
 #![tactic(auto)]
 
 mod closed_lane;
-mod collect;
 mod deliverer_seat;
 mod drain;
 mod ended;
 mod fault;
 mod feeds;
 mod gate;
+mod gathered;
 mod hand;
 mod hub;
 mod lane_seat;
@@ -23,9 +23,7 @@ mod serving;
 mod settle;
 mod shape;
 mod signals;
-mod submit;
 mod traffic;
-mod work;
 mod worker_seat;
 mod worker_threads;
 

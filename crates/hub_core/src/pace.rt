@@ -5,10 +5,10 @@ use std::mem;
 use std::sync::Wait;
 
 /// So many rows are queued before a worker is woken for them, while there are more and there is room.
-const WAKE_FOR: u32 = 24;
+const WAKE_FOR: u32 = 48;
 
-/// How often the calling thread looks for a delivery before it sleeps: some tens of microseconds.
-const LOOKS: u32 = 10_000;
+/// How often the calling thread looks for a delivery before it sleeps: to sleep and be woken takes longer.
+const LOOKS: u32 = 1_000;
 
 /// How many microseconds the calling thread waits for a delivery before it wakes a further worker, and
 /// twice as many the next time.

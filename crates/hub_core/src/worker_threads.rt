@@ -13,7 +13,7 @@ use std::thread;
 use std::thread::{Promise, PromisedHandle, Scope, Threads};
 
 /// How many deliveries a worker posts before it tells the calling thread of them.
-const TOLD_TOGETHER: u32 = 16;
+const TOLD_TOGETHER: u32 = 32;
 
 /// A worker's seat comes back as one of this hub.
 #[derive(Clone, Copy)]
