@@ -10,7 +10,7 @@ ghost use Rattle.hub_core.specs.Fresh.{IsPairedIn};
 ghost use Rattle.hub_core.specs.Hubs.{AreAllSeats, IsWorkerOf};
 ghost use Rattle.hub_core.specs.Lanes.{numbers_of, submitted};
 ghost use Rattle.hub_core.specs.Passes.{parts_of, popped_by, pushed_by};
-ghost use Rattle.hub_core.specs.Pouring.{AreFromFirst, Finds, all_received, to_lanes};
+ghost use Rattle.hub_core.specs.Draining.{AreFromFirst, Finds, all_received, to_lanes};
 ghost use Rattle.hub_core.specs.Rule.{trace};
 ghost use Rattle.hub_core.specs.Workers.{hand_of, posted, taken};
 
@@ -136,7 +136,7 @@ pub(crate) fn place_rings(
 /// A lane's numbers in its ring are below those that wait, and these and what is under way below those
 /// in the queue of jobs; so in this order only what is in hands and in the queue of results can come
 /// out of turn.
-pub(crate) fn pour_all<R: Wait>(
+pub(crate) fn drain_all<R: Wait>(
     rt: &R,
     hub: &Hub,
     lists: &mut Vec<Vec<Delivery>>,

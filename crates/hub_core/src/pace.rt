@@ -5,10 +5,11 @@ use std::mem;
 use std::sync::Wait;
 
 /// So many rows are queued before a worker is woken for them, while there are more and there is room.
-const WAKE_FOR: u32 = 48;
+const WAKE_FOR: u32 = 32;
 
-/// How often the calling thread looks for a delivery before it sleeps: to sleep and be woken takes longer.
-const LOOKS: u32 = 1_000;
+/// How often the calling thread looks for a delivery before it sleeps, for some microseconds. It is worth more
+/// looks than a worker's: while it sleeps no row is submitted.
+const LOOKS: u32 = 5_000;
 
 /// How many microseconds the calling thread waits for a delivery before it wakes a further worker, and
 /// twice as many the next time.
@@ -16,8 +17,8 @@ const PATIENCE: u64 = 1_000;
 
 /// What the calling thread remembers of what it told the workers and of its waits.
 ///
-/// One worker is woken where all sleep, and one more where the calling thread had to wait for them and
-/// many rows are under way. Where no delivery comes for a while, the workers that are awake may all be held
+/// One worker is woken where all sleep, and one more where the calling thread had to sleep and many rows are
+/// under way. Where no delivery comes for a while, the workers that are awake may all be held
 /// by their gate, so one that sleeps is woken, and one more each time that it has waited twice as long.
 #[derive(Clone, Copy)]
 pub(crate) struct Pace {
@@ -25,8 +26,8 @@ pub(crate) struct Pace {
     untold: u32,
     /// How many microseconds it waits at most.
     nap: u64,
-    /// Whether it has waited since it was last asked.
-    has_waited: bool,
+    /// Whether it has slept since it was last asked.
+    has_slept: bool,
 }
 
 impl Pace {
@@ -35,7 +36,7 @@ impl Pace {
         Pace {
             untold: 0,
             nap: PATIENCE,
-            has_waited: false,
+            has_slept: false,
         }
     }
 
@@ -52,15 +53,14 @@ impl Pace {
         }
     }
 
-    /// Whether it has waited since it was last asked.
-    pub(crate) fn has_just_waited(&mut self) -> bool {
-        mem::replace(&mut self.has_waited, false)
+    /// Whether it has slept since it was last asked.
+    pub(crate) fn has_just_slept(&mut self) -> bool {
+        mem::replace(&mut self.has_slept, false)
     }
 
     /// Waits for a delivery, where so many signals of one were seen.
     pub(crate) fn wait<R: Wait>(&mut self, rt: &R, signals: &Signals, seen: u64) {
-        signals.deliveries.wait(rt, seen, LOOKS, self.nap);
-        self.has_waited = true;
+        self.has_slept = signals.deliveries.wait(rt, seen, LOOKS, self.nap);
         if signals.deliveries.given() != seen {
             self.nap = PATIENCE;
         } else {

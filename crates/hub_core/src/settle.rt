@@ -11,7 +11,7 @@ ghost use Rattle.hub_core.specs.Standing.{GivesRows, Owes, StandsFor};
 
 use crate::closed_lane::ClosedLane;
 use crate::deliverer_seat::DelivererSeat;
-use crate::drain::pour_all;
+use crate::drain::drain_all;
 use crate::hub::Hub;
 use crate::lists::sort_all;
 use crate::worker_seat::WorkerSeat;
@@ -49,7 +49,7 @@ pub(crate) fn give_all<R: Wait>(
     ensures none_dropped { All (λ lane. polled lane ≡ received lane) lanes.items }
     ensures none_aside { taken_in deliverer ≡ collected deliverer }
 {
-    pour_all(rt, hub, lists, lanes, workers, deliverer);
+    drain_all(rt, hub, lists, lanes, workers, deliverer);
     sort_all(lists);
     // Laws, by which the clauses follow: none of these calls does anything.
     kept_whole();

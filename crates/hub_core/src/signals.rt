@@ -50,11 +50,11 @@ impl Signal {
     }
 
     /// Waits while it was given so often: it looks so many times, and then sleeps for so many microseconds
-    /// at most.
-    pub(crate) fn wait<R: Wait>(&self, rt: &R, seen: u64, looks: u32, nap: u64) {
+    /// at most. Whether it slept.
+    pub(crate) fn wait<R: Wait>(&self, rt: &R, seen: u64, looks: u32, nap: u64) -> bool {
         for _ in 0..looks {
             if self.given() != seen {
-                return;
+                return false;
             }
             hint::spin_loop();
         }
@@ -62,9 +62,10 @@ impl Signal {
         self.given
             .park_timeout(rt, (seen % WORDS) as u32, Duration::from_micros(nap));
         self.sleepers.fetch_sub(1, Ordering::SeqCst);
+        true
     }
 
-    /// Waits until it is given again.
+    /// Waits until it is given again, for a second at most.
     pub(crate) fn rest<R: Wait>(&self, rt: &R, seen: u64) {
         self.wait(rt, seen, LOOKS, REST);
     }

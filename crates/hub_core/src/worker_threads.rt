@@ -13,7 +13,7 @@ use std::thread;
 use std::thread::{Promise, PromisedHandle, Scope, Threads};
 
 /// How many deliveries a worker posts before it tells the calling thread of them.
-const TOLD_TOGETHER: u32 = 32;
+const NOTIFIED_TOGETHER: u32 = 16;
 
 /// A worker's seat comes back as one of this hub.
 #[derive(Clone, Copy)]
@@ -45,7 +45,7 @@ fn run_worker<R: Wait, G: Gate>(
         match hub.work(rt, &mut seat, gate) {
             Worked::Posted => {
                 posted = posted.wrapping_add(1);
-                if posted % TOLD_TOGETHER == 0 {
+                if posted % NOTIFIED_TOGETHER == 0 {
                     signals.deliveries.notify_one();
                 }
             }

@@ -2,8 +2,8 @@ use Rattle.std.proofs.Common.{rules, ap, arith}
 use Rattle.crossbeam_queue.specs.Passes.{view}
 use Rattle.hub_core.specs.declared.rule.Trace.{Trace}
 use Rattle.hub_core.proofs.RuleFacts.{merges}
-use Rattle.hub_core.proofs.PourFacts.{worker_jobs, worker_results}
-use Rattle.hub_core.proofs.PourFacts.{hands_filled}
+use Rattle.hub_core.proofs.DrainFacts.{worker_jobs, worker_results}
+use Rattle.hub_core.proofs.DrainFacts.{hands_filled}
 use Rattle.hub_core.proofs.drain.place_hands.Goals as goal
 
 pub absorb-requires-clause-rule : goal.absorb-requires-clause-rule

@@ -6,7 +6,7 @@ use Rattle.hub_core.specs.declared.lane_seat.LaneSeat.{LaneSeat}
 use Rattle.hub_core.specs.declared.rule.Trace.{Trace}
 use Rattle.hub_core.specs.Fresh.{IsPairedIn}
 use Rattle.hub_core.specs.Lanes.{lane_of}
-use Rattle.hub_core.specs.Pouring.{AreFromFirst}
+use Rattle.hub_core.specs.Draining.{AreFromFirst}
 use Rattle.hub_core.proofs.FillFacts.{filled_none}
 use Rattle.hub_core.proofs.PairFacts.{HasJobs, RingFilled, ends_more, ends_same, from_first, lane_jobs, none_left, pair_now, ring_filled, sent_now}
 use Rattle.hub_core.proofs.RingFacts.{sent_same}

@@ -8,7 +8,7 @@ use Rattle.hub_core.specs.Filling.{Fills}
 use Rattle.hub_core.specs.Fresh.{IsPairedIn}
 use Rattle.hub_core.specs.Lanes.{numbers_of, submitted}
 use Rattle.hub_core.specs.Passes.{parts_of, pushed_by, popped_by}
-use Rattle.hub_core.specs.Pouring.{AreFromFirst, all_received, to_lanes}
+use Rattle.hub_core.specs.Draining.{AreFromFirst, all_received, to_lanes}
 use Rattle.hub_core.specs.Rings.{all_sent}
 use Rattle.hub_core.specs.Rule.{trace}
 use Rattle.hub_core.proofs.PairFacts.{AreSameEnds}

@@ -13,7 +13,7 @@ pub returns : goal.returns
 returns g c =
     let ls = c.args.lanes.items in
     let d = c.args.deliverer in
-    let p = c.pour_all.ensures in
+    let p = c.drain_all.ensures in
     let whole = whole_from c.args.self ls c.args.workers.items d p.0 p.1 p.2 c.all_found.ensures c.received_first.ensures c.kept_whole.ensures c.requires p.3 in
     λ i v e.
     let front = all_at (λ (s : LaneSeat). (left : List Plain) × (received s ++ left ≡ get_or (all_sent d.rings.items) (lane_of s) [])) ls i v p.3.first e in

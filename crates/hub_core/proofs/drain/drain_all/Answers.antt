@@ -9,8 +9,8 @@ use Rattle.hub_core.specs.declared.rule.Trace.{Trace}
 use Rattle.hub_core.proofs.FillFacts.{filled_then}
 use Rattle.hub_core.proofs.NumberFacts.{each_counted}
 use Rattle.hub_core.proofs.PairFacts.{all_paired, all_rings}
-use Rattle.hub_core.proofs.PourFacts.{all_weigh, jobs_whole, results_whole}
-use Rattle.hub_core.proofs.drain.pour_all.Goals as goal
+use Rattle.hub_core.proofs.DrainFacts.{all_weigh, jobs_whole, results_whole}
+use Rattle.hub_core.proofs.drain.drain_all.Goals as goal
 
 pub place_rings-requires-clause-rings : goal.place_rings-requires-clause-rings
 place_rings-requires-clause-rings g c =

@@ -44,10 +44,10 @@ worker_results b v w ss s was is =
 filled_as : (t u : List Listed) (xs ys : List Plain) → xs ≡ ys → Fills t u xs → Fills t u ys
 filled_as t u xs ys e f = subst (λ (l : List Plain). Fills t u l) e f
 
-pub poured : (b v w : Trace) (x y : Plain) (t u u' : List Listed) (xs : List Plain) → v.parts ≡ 1024 → v.pushed ≡ b.pushed → Fills t u xs → ((h : Plain → ℕ) → weigh h v.popped ≡ weigh h b.popped + weigh h xs)
+pub drained : (b v w : Trace) (x y : Plain) (t u u' : List Listed) (xs : List Plain) → v.parts ≡ 1024 → v.pushed ≡ b.pushed → Fills t u xs → ((h : Plain → ℕ) → weigh h v.popped ≡ weigh h b.popped + weigh h xs)
     → w ≡ trace v.parts v.pushed (v.popped ++ x ∷ []) → y ≡ x → Fills u u' (y ∷ [])
     → (w.parts ≡ 1024) × (w.pushed ≡ b.pushed) × ((ys : List Plain) × Fills t u' ys × ((h : Plain → ℕ) → weigh h w.popped ≡ weigh h b.popped + weigh h ys))
-poured b v w x y t u u' xs whole same filled was is what more = (
+drained b v w x y t u u' xs whole same filled was is what more = (
   ap (λ (h : Trace). h.parts) is ∙ whole,
   ap (λ (h : Trace). h.pushed) is ∙ same,
   (
@@ -57,10 +57,10 @@ poured b v w x y t u u' xs whole same filled was is what more = (
   ),
 )
 
-pub poured_out : {X : Type 0} (f : X → Plain) (b v : Trace) (items : List X) (xs : List Plain) → v.pushed ≡ b.pushed → ((h : Plain → ℕ) → weigh h v.popped ≡ weigh h b.popped + weigh h xs) → length items ≡ 0
+pub drained_out : {X : Type 0} (f : X → Plain) (b v : Trace) (items : List X) (xs : List Plain) → v.pushed ≡ b.pushed → ((h : Plain → ℕ) → weigh h v.popped ≡ weigh h b.popped + weigh h xs) → length items ≡ 0
     → ((h : Plain → ℕ) → weigh h v.pushed ≡ weigh h v.popped + weigh h (map f items)) → (h : Plain → ℕ) → weigh h b.pushed ≡ weigh h b.popped + weigh h xs
-poured_out f b v [] xs same was none settled h = let e = ap (weigh h) same in omega (arith, was h, settled h, e)
-poured_out f b v (i ∷ is) xs same was none settled h = absurd (omega arith)
+drained_out f b v [] xs same was none settled h = let e = ap (weigh h) same in omega (arith, was h, settled h, e)
+drained_out f b v (i ∷ is) xs same was none settled h = absurd (omega arith)
 
 pub waited : (b v w : List Plain) (x : Plain) (t u u' : List Listed) (xs : List Plain) → Fills t u xs → ((h : Plain → ℕ) → weigh h b ≡ weigh h v + weigh h xs)
     → ((h : Plain → ℕ) → weigh h v ≡ h x + weigh h w) → Fills u u' (x ∷ [])
