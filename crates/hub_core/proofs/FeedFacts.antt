@@ -1,32 +1,108 @@
--- Feeds one of which has had its turn.
-use Rattle.std.proofs.Common.{◌≡◌, ℕ, List, [], ◌∷◌, ◌++◌, get_or, length, set, suc, zero, refl, ap, ◌∙◌, subst, arith}
-use lib.ListN.{take, drop}
+-- Rows that are left of each lane, one of which was given.
+use Rattle.std.proofs.Common.{◌≡◌, ℕ, ◌+◌, ◌<◌, ◌≤◌, ◌==◌, ◌++◌, ◌&&◌, IfSome, Option, Some, None, option_to_list, leb, true, zero, suc, List, [], ◌∷◌, get_or, length, length-append, map, replicate, set, refl, sym, ap, ◌∙◌, subst, arith, append-nil, append_assoc}
+use Rattle.std.proofs.lemmas.Bool.{and_parts, both_ways, leb-true, ne_eqb}
+use Rattle.std.specs.List.{list_all}
+use Rattle.std.proofs.lemmas.List.{get_or-map, length-map, length-replicate, length-set, map-append, map-set, replicate-append-replicate}
 use Rattle.std.proofs.Math.Seq.{map-set_same}
-use Rattle.std.proofs.lemmas.List.Elements.{All-set}
-use Rattle.hub_core.specs.Feeds.{AreFeedsOf, AreSameFeeds, IsFeedOf, IsSameFeed, all_rows, feed_lane}
-use Rattle.hub_core.specs.declared.feed.Feed.{Feed}
-use Rattle.hub_core.specs.declared.hub.Hub.{Hub}
+use Rattle.hub_core.specs.Feeds.{AreGiven, IsTaken, appended, are_given}
+use Rattle.hub_core.specs.Serving.{are_short}
+use Rattle.hub_core.specs.Traffics.{HasRoom, with_more}
 
-pub turn_same : (old now : List Feed) (i : ℕ) (g d : Feed) → IsSameFeed (get_or now i d) g → AreSameFeeds old now → AreSameFeeds old (set now i g)
-turn_same old now i g d same are = (
-  map-set_same feed_lane now i g d same.0 ∙ are.0,
-  map-set_same all_rows now i g d same.1 ∙ are.1,
+appended_more : {X : Type 0} (given old : List (List X)) (i : ℕ) (row : X) (rest : List X) → i < length old → length given ≡ length old → get_or old i [] ≡ row ∷ rest
+    → appended (set given i (get_or given i [] ++ row ∷ [])) (set old i rest) ≡ appended given old
+appended_more [] [] i row rest low count first = absurd (omega (arith, low))
+appended_more [] (ys ∷ old) i row rest low count first = absurd (omega (arith, count))
+appended_more (xs ∷ given) [] i row rest low count first = absurd (omega (arith, count))
+appended_more (xs ∷ given) (ys ∷ old) zero row rest low count first =
+    ap (λ v. v ∷ appended given old) (append_assoc xs (row ∷ []) rest ∙ ap (λ v. xs ++ v) (sym first))
+appended_more (xs ∷ given) (ys ∷ old) (suc i) row rest low count first =
+    ap (λ v. (xs ++ ys) ∷ v) (appended_more given old i row rest (omega (arith, low)) (omega (arith, count)) first)
+
+short_room : (given old : List (List (List ℕ))) (i : ℕ) (row : List ℕ) (rest : List (List ℕ)) → i < length old → length given ≡ length old → get_or old i [] ≡ row ∷ rest
+    → are_short (appended given old) ≡ true → length (get_or given i []) < 4294967295
+short_room [] [] i row rest low count first short = absurd (omega (arith, low))
+short_room [] (ys ∷ old) i row rest low count first short = absurd (omega (arith, count))
+short_room (xs ∷ given) [] i row rest low count first short = absurd (omega (arith, count))
+short_room (xs ∷ given) (ys ∷ old) zero row rest low count first short =
+    let s = and_parts (leb (length (xs ++ ys)) 4294967295) (are_short (appended given old)) short in
+    omega (arith, leb-true (length (xs ++ ys)) 4294967295 s.0, length-append xs ys, ap length first)
+short_room (xs ∷ given) (ys ∷ old) (suc i) row rest low count first short =
+    let s = and_parts (leb (length (xs ++ ys)) 4294967295) (are_short (appended given old)) short in
+    short_room given old i row rest (omega (arith, low)) (omega (arith, count)) first s.1
+
+-- the row that was taken was the first of those that were left
+pub taken : {V : Type 0} (f : V → List (List ℕ)) (vs : List V) (i lane : ℕ) (v w : V) (o : Option (List ℕ)) → i ≡ lane → i < length vs → v ≡ get_or vs i v → f v ≡ option_to_list o ++ f w
+    → IfSome o (λ row. IsTaken (map f vs) lane row (map f (set vs i w)))
+taken f vs i lane v w None is low at next = tt
+taken f vs i lane v w (Some row) is low at next = (
+  f w,
+  omega (arith, low, is, length-map vs f),
+  ap (λ k. get_or (map f vs) k []) (sym is) ∙ (get_or-map f vs i v [] low ∙ (ap f (sym at) ∙ next)),
+  map-set f vs i w ∙ ap (λ k. set (map f vs) k (f w)) is,
 )
 
-pub same_then : (a b d : List Feed) → AreSameFeeds a b → AreSameFeeds b d → AreSameFeeds a d
-same_then a b d p q = (q.0 ∙ p.0, q.1 ∙ p.1)
+pub untaken : {V : Type 0} (f : V → List (List ℕ)) (vs : List V) (i : ℕ) (v w : V) (o : Option (List ℕ)) → v ≡ get_or vs i v → f v ≡ option_to_list o ++ f w
+    → o ≡ None → map f (set vs i w) ≡ map f vs
+untaken f vs i v w o at next none = map-set_same f vs i w v (sym (next ∙ ap (λ r. option_to_list r ++ f w) none) ∙ ap f at)
 
--- the feed that had its turn, which stood in place i
-pub one_turn : (now : List Feed) (i : ℕ) (f g : Feed) → f ≡ get_or now i f → IsSameFeed f g → AreSameFeeds now (set now i g)
-one_turn now i f g at same = turn_same now now i g f (subst (λ h. IsSameFeed h g) at same) (refl, refl)
+pub given_by : {V : Type 0} (f : V → List (List ℕ)) (n : V → ℕ) (vs : List V) → ((v : V) → length (f v) ≡ n v)
+    → list_all (λ v. n v == 0) vs ≡ are_given (map f vs)
+given_by f n [] same = refl
+given_by f n (v ∷ vs) same =
+    ap (λ k. (k == 0) && list_all (λ u. n u == 0) vs) (sym (same v))
+    ∙ ap (λ b. (length (f v) == 0) && b) (given_by f n vs same)
 
-pub turn_of : (h : Hub) (now : List Feed) (i : ℕ) (g : Feed) → IsFeedOf h g → AreFeedsOf h now → AreFeedsOf h (set now i g)
-turn_of h now i g is are = All-set (IsFeedOf h) now i g is are
+-- one more row was given
+pub one_given : (feeds given old new : List (List (List ℕ))) (lane : ℕ) (row : List ℕ) → IsTaken old lane row new → AreGiven feeds given old
+    → HasRoom lane given × AreGiven feeds (with_more lane row given) new
+one_given feeds given old new lane row taken was =
+    let rest = taken.0 in
+    let low = taken.1 in
+    let first = taken.2 in
+    let is : new ≡ set old lane rest = taken.3 in
+    let all : appended (with_more lane row given) new ≡ feeds = ap (appended (with_more lane row given)) is ∙ (appended_more given old lane row rest low was.count first ∙ was.all) in
+    let count : length (with_more lane row given) ≡ length new = length-set given lane (get_or given lane [] ++ row ∷ []) ∙ (was.count ∙ (sym (length-set old lane rest) ∙ ap length (sym is))) in (
+      (omega (arith, low, was.count), short_room given old lane row rest low was.count first (ap are_short was.all ∙ was.short)),
+      record { count = count; all = all; short = was.short },
+    )
 
--- all of them were written
-pub whole_is : {X : Type 0} (now items : List X) (n : ℕ) → length now ≡ n → length items ≡ n → take n (now ++ drop (length now) items) ≡ now
-whole_is [] items zero a b = refl
-whole_is [] items (suc n) a b = absurd (omega arith)
-whole_is (x ∷ xs) [] n a b = absurd (omega arith)
-whole_is (x ∷ xs) (y ∷ ys) zero a b = absurd (omega arith)
-whole_is (x ∷ xs) (y ∷ ys) (suc n) a b = ap (λ zs. x ∷ zs) (whole_is xs ys n (omega arith) (omega arith))
+none_appended : {X : Type 0} (rests : List (List X)) (n : ℕ) → length rests ≡ n → appended (replicate n []) rests ≡ rests
+none_appended [] zero count = refl
+none_appended [] (suc n) count = absurd (omega (arith, count))
+none_appended (ys ∷ rests) zero count = absurd (omega (arith, count))
+none_appended (ys ∷ rests) (suc n) count = ap (λ v. ys ∷ v) (none_appended rests n (omega (arith, count)))
+
+-- the list of this lane has one more
+pub list_more : {V X : Type 0} (f : V → List X) (vs : List V) (i lane : ℕ) (v w : V) (x : X) (brought : List (List X)) → i ≡ lane → lane < length brought → v ≡ get_or vs i v → f w ≡ f v ++ x ∷ []
+    → map f vs ≡ brought → map f (set vs i w) ≡ with_more lane x brought
+list_more {V} {X} f vs i lane v w x brought is low at more all =
+    let long : length brought ≡ length vs = ap length (sym all) ∙ length-map vs f in
+    let here : get_or brought lane [] ≡ f v = ap (λ xss. get_or xss lane []) (sym all) ∙ (ap (λ k. get_or (map f vs) k []) (sym is) ∙ (get_or-map f vs i v [] (omega (arith, low, is, long)) ∙ ap f (sym at))) in
+    map-set f vs i w ∙ (ap (λ xss. set xss i (f w)) all ∙ (ap (λ k. set brought k (f w)) is ∙ ap (set brought lane) (more ∙ ap (λ (xs : List X). xs ++ x ∷ []) (sym here))))
+
+-- one more empty list
+pub empty_more : {V X : Type 0} (f : V → List X) (old new : List V) (v : V) (n k : ℕ) → new ≡ old ++ v ∷ [] → f v ≡ [] → map f old ≡ replicate n [] → k ≡ suc n → map f new ≡ replicate k []
+empty_more {V} {X} f old new v n k is none all more =
+    ap (map f) is ∙ (map-append f old (v ∷ []) ∙ (ap (λ (xs : List X). map f old ++ xs ∷ []) none ∙ (ap (λ (xss : List (List X)). xss ++ [] ∷ []) all ∙ (replicate-append-replicate n 1 [] ∙ ap (λ m. replicate m []) (omega (arith, more))))))
+
+-- nothing was given
+pub none_given : (feeds rests : List (List (List ℕ))) (n : ℕ) → rests ≡ feeds → length feeds ≡ n → are_short feeds ≡ true → AreGiven feeds (replicate n []) rests
+none_given feeds rests n is count short = record {
+  count = length-replicate n [] ∙ (sym count ∙ ap length (sym is));
+  all = none_appended rests n (ap length is ∙ count) ∙ is;
+  short = short;
+}
+
+all_appended : (given rests : List (List (List ℕ))) → length given ≡ length rests → are_given rests ≡ true → appended given rests ≡ given
+all_appended [] rests count are = refl
+all_appended (xs ∷ given) [] count are = absurd (omega (arith, count))
+all_appended (xs ∷ given) ([] ∷ rests) count are =
+    let rest = all_appended given rests (omega (arith, count)) are in
+    (λ j. append-nil xs j ∷ rest j)
+all_appended (xs ∷ given) ((y ∷ ys) ∷ rests) count are =
+    let first = and_parts (length (y ∷ ys) == 0) (are_given rests) are in
+    absurd (both_ways (length (y ∷ ys) == 0) (ne_eqb (length (y ∷ ys)) 0 (λ e. absurd (omega (arith, e)))) first.0)
+
+-- all were given
+pub all_given : (feeds given rests : List (List (List ℕ))) → AreGiven feeds given rests → are_given rests ≡ true → given ≡ feeds
+all_given feeds given rests was are = sym (all_appended given rests was.count are) ∙ was.all

@@ -12,7 +12,7 @@ use Rattle.hub_core.specs.declared.worker_seat.WorkerSeat.{WorkerSeat}
 use Rattle.hub_core.specs.Delivering.{handed, lane_count}
 use Rattle.hub_core.specs.Filling.{AreMade, AreOwn, Fills, Listed, Sorts, items_of}
 use Rattle.hub_core.specs.Lanes.{lane_of, polled, received, submitted}
-use Rattle.hub_core.specs.Pouring.{Finds}
+use Rattle.hub_core.specs.Draining.{Finds}
 use Rattle.hub_core.specs.Serving.{weigh_all}
 use Rattle.hub_core.specs.Standing.{Owes}
 use Rattle.hub_core.proofs.NumberFacts.{by_place, weigh_ones}

@@ -1,4 +1,4 @@
--- The rings of a hub, emptied one by one.
+-- The rings of a hub, drained one by one.
 use Rattle.std.proofs.Common.{◌≡◌, ⊎_elim, ℕ, ◌+◌, ◌<◌, List, [], ◌∷◌, ◌++◌, get_or, length, length-append, set, Some, refl, sym, ap, ◌∙◌, subst, arith, append_assoc, append-nil}
 use Rattle.std.specs.List.{slice_get, All, flat_map}
 use Rattle.std.proofs.lemmas.List.{get_or-map, length-map, length-set}
@@ -16,11 +16,11 @@ use Rattle.hub_core.specs.Filling.{Fills, Listed}
 use Rattle.hub_core.specs.Fresh.{IsPairedIn}
 use Rattle.hub_core.specs.Hubs.{ArePushEnds, IsDelivererOf, IsLaneOf, shape_of}
 use Rattle.hub_core.specs.Lanes.{lane_of, numbers_of, received, submitted}
-use Rattle.hub_core.specs.Pouring.{AreFromFirst, all_received, to_lanes}
+use Rattle.hub_core.specs.Draining.{AreFromFirst, all_received, to_lanes}
 use Rattle.hub_core.specs.Rings.{PushEnd, all_sent}
 use Rattle.hub_core.specs.Rule.{trace}
 use Rattle.hub_core.proofs.FillFacts.{filled_then, same_some}
-use Rattle.hub_core.proofs.PourFacts.{flat_map_more, trace_is}
+use Rattle.hub_core.proofs.DrainFacts.{flat_map_more, trace_is}
 use Rattle.hub_core.proofs.RingFacts.{get_set, same_ring}
 use Rattle.hub_core.proofs.WeightFacts.{weigh-append, weigh-map}
 
@@ -35,7 +35,7 @@ same_self r = ((refl, refl, refl, refl), refl)
 pub ends_same : (rings : List PushEnd) → AreSameEnds rings rings
 ends_same rings = record { long = refl; each = λ l r t e f. subst (λ (u : PushEnd). SameProducer r u) (same_some r t rings l e f) (same_self r) }
 
--- one of the rings was emptied
+-- one of the rings was drained
 pub ends_more : (old now : List PushEnd) (l : ℕ) (r t : PushEnd) → AreSameEnds old now → r ≡ get_or now l r → l < length now → SameProducer r t → AreSameEnds old (set now l t)
 ends_more old now l r t ends at less same = record {
   long = length-set now l t ∙ ends.long;

@@ -17,7 +17,7 @@ use Rattle.hub_core.specs.declared.worker_seat.WorkerSeat.{WorkerSeat}
 use Rattle.hub_core.specs.Delivering.{collected, desk_of, hand_of, handed, lane_count, taken_in}
 use Rattle.hub_core.specs.Hubs.{AreAllSeats, HasEach, IsLaneOf, shape_of, year_of}
 use Rattle.hub_core.specs.Lanes.{lane_of, numbers_of, polled, polled_count, received, submitted}
-use Rattle.hub_core.specs.Pouring.{Finds}
+use Rattle.hub_core.specs.Draining.{Finds}
 use Rattle.hub_core.specs.Rings.{all_sent}
 use Rattle.hub_core.specs.Serving.{weigh_all}
 use Rattle.hub_core.specs.Standing.{StandsFor}

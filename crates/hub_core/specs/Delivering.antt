@@ -10,8 +10,8 @@ use Rattle.hub_core.specs.Rings.{PushEnd, all_sent}
 use Rattle.hub_core.specs.declared.deliverer_seat.DelivererSeat.{DelivererSeat}
 use Rattle.hub_core.specs.declared.deliverer_seat.Collected.{Collected}
 use Rattle.hub_core.specs.declared.deliverer_seat.Collected.TheVariants as collecting
-use Rattle.hub_core.specs.declared.collect.Gathered.{Gathered}
-use Rattle.hub_core.specs.declared.collect.Gathered.TheVariants as gathering
+use Rattle.hub_core.specs.declared.gathered.Gathered.{Gathered}
+use Rattle.hub_core.specs.declared.gathered.Gathered.TheVariants as gathering
 use Rattle.hub_core.specs.declared.deliverer_seat.Handed.{Handed}
 use Rattle.hub_core.specs.declared.deliverer_seat.Handed.TheVariants as handing
 

@@ -1,39 +1,38 @@
--- A lane that is served: its seat, the rows that it has not submitted, and what it has polled.
-use Rattle.std.specs.Prelude.{◌≡◌, ◌≤◌, ◌++◌, ℕ, List, [], All, length, map, reverse}
-use Rattle.hub_core.specs.Hubs.{IsLaneOf, shape_of}
-use Rattle.hub_core.specs.Lanes.{issued_of, lane_of, polled_count, rows_of}
-use Rattle.hub_core.specs.declared.feed.Feed.{Feed}
-use Rattle.hub_core.specs.declared.hub.Hub.{Hub}
-use Rattle.hub_core.specs.declared.lane_seat.LaneSeat.{LaneSeat}
+-- Rows that are left of each lane, and those that were given.
+use Rattle.std.specs.Prelude.{◌≡◌, ◌<◌, ◌==◌, ◌++◌, ℕ, Bool, true, List, [], ◌∷◌, length, map, replicate, slice_index_or, slice_set}
+use Rattle.std.specs.List.{list_all}
+use Rattle.std.specs.Vec.Iter.{into_iter_items}
+use Rattle.hub_core.specs.Serving.{are_short}
+use Rattle.hub_core.specs.declared.feeds.Feeds.{Feeds}
 
--- the rows of its feed: those that were submitted, then those that are left, of which the last comes first
-abbrev pub all_rows : Feed → List (List ℕ)
-all_rows f = rows_of f.seat ++ reverse f.rows.items
+-- the rows that are left of each lane, in their order
+abbrev pub rests_of : Feeds → List (List (List ℕ))
+rests_of f = map (λ rest. into_iter_items rest) f.rests.items
 
--- its seat is one of this hub, which has tickets for all its rows
-pub record IsFeedOf (h : Hub) (f : Feed) : Type 0 where
-  pub seat : IsLaneOf h f.seat
-  pub tickets : length (all_rows f) ≤ (shape_of h).limit
+-- whether no row is left
+abbrev pub are_given : List (List (List ℕ)) → Bool
+are_given rests = list_all (λ rest. length rest == 0) rests
 
--- the same lane, and the same rows in all
-abbrev pub IsSameFeed : Feed → Feed → Type 0
-IsSameFeed f g = (lane_of g.seat ≡ lane_of f.seat) × (all_rows g ≡ all_rows f)
+-- this row was the first of those that were left of this lane
+abbrev pub IsTaken : List (List (List ℕ)) → ℕ → List ℕ → List (List (List ℕ)) → Type 0
+IsTaken old lane row new = (rest : List (List ℕ)) × (lane < length old) × (slice_index_or old lane [] ≡ row ∷ rest) × (new ≡ slice_set old lane rest)
 
--- each row was submitted, and its delivery was polled
-pub record IsDone (f : Feed) : Type 0 where
-  pub submitted : f.rows.items ≡ []
-  pub polled : polled_count f.seat ≡ issued_of f.seat
+-- the lists of each lane one after the other
+abbrev pub appended : {X : Type 0} → List (List X) → List (List X) → List (List X)
+appended [] rests = []
+appended (xs ∷ given) [] = []
+appended (xs ∷ given) (ys ∷ rests) = (xs ++ ys) ∷ appended given rests
 
-abbrev pub feed_lane : Feed → ℕ
-feed_lane f = lane_of f.seat
+-- of the feeds, none too long, these rows were given and those are left
+pub record AreGiven (feeds given rests : List (List (List ℕ))) : Type 0 where
+  pub count : length given ≡ length rests
+  pub all : appended given rests ≡ feeds
+  pub short : are_short feeds ≡ true
 
-abbrev pub seats_of : List Feed → List LaneSeat
-seats_of feeds = map (λ f. f.seat) feeds
+-- at first no row of the feeds was given
+abbrev pub GivenAtFirst : Type 0
+GivenAtFirst = (feeds : List (List (List ℕ))) → are_short feeds ≡ true → AreGiven feeds (replicate (length feeds) []) feeds
 
--- all are feeds of this hub
-abbrev pub AreFeedsOf : Hub → List Feed → Type 0
-AreFeedsOf h feeds = All (IsFeedOf h) feeds
-
--- the same lanes, each with the same rows in all
-abbrev pub AreSameFeeds : List Feed → List Feed → Type 0
-AreSameFeeds old new = (map feed_lane new ≡ map feed_lane old) × (map all_rows new ≡ map all_rows old)
+-- once no row is left, all were given
+abbrev pub GivenAtLast : Type 0
+GivenAtLast = (feeds given rests : List (List (List ℕ))) → AreGiven feeds given rests → are_given rests ≡ true → given ≡ feeds

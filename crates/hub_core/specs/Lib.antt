@@ -1,5 +1,6 @@
 pub use Rattle.scan_core.specs.Answers
 pub mod Delivering
+pub mod Draining
 pub mod Faults
 pub mod Feeds
 pub mod Filling
@@ -9,7 +10,6 @@ pub mod Keeping
 pub mod Lanes
 pub mod Laws
 pub mod Passes
-pub mod Pouring
 pub mod Rings
 pub mod Rule
 pub mod Serving
@@ -17,4 +17,5 @@ pub mod Shapes
 pub mod Standing
 pub mod Stock
 pub mod Submitting
+pub mod Traffics
 pub mod Workers

@@ -25,6 +25,10 @@ pub record StandsFor (s : State) (h : Hub) (ls : List LaneSeat) (ws : List Worke
   pub results : OneForOne (flat_map posted ws) (collected d) s.results
   pub waiting : s.waiting ≡ (desk_of d).waiting ++ hand_of d
 
+-- what each lane polled is the first of what its rows are served
+abbrev pub PolledFirst : Hub → List LaneSeat → Type 0
+PolledFirst h lanes = (i : ℕ) (v : LaneSeat) → slice_get lanes i ≡ Some v → (rest : List Plain) × (polled v ++ rest ≡ numbered_rows (lane_of v) 0 (year_of h) (rows_of v))
+
 -- each lane's list is what it had not polled
 abbrev pub Owes : List LaneSeat → List (List Plain) → Type 0
 Owes lanes lists = (i : ℕ) (v : LaneSeat) → slice_get lanes i ≡ Some v → polled v ++ slice_index_or lists (lane_of v) [] ≡ submitted v

@@ -1,80 +1,100 @@
-//! The lanes that are served, one after the other.
-ghost use Rattle.std.specs.Prelude.{◌≡◌, ◌≤◌, All, IfOk, length, map, true, vec_len};
-ghost use Rattle.hub_core.specs.Feeds.{AreFeedsOf, AreSameFeeds, IsDone, all_rows, seats_of};
-ghost use Rattle.hub_core.specs.Fresh.{HasDoneNothing};
-ghost use Rattle.hub_core.specs.Hubs.{IsLaneOf, shape_of};
+//! Rows that are left of each lane.
+ghost use Rattle.std.specs.Prelude.{◌≡◌, ◌==◌, IfOk, IfSome, None, length, map, vec_len};
+ghost use Rattle.std.specs.List.{list_all};
+ghost use Rattle.std.specs.Vec.Iter.{into_iter_len};
+ghost use Rattle.hub_core.specs.Feeds.{GivenAtFirst, GivenAtLast, IsTaken, are_given, rests_of};
 
-use crate::closed_lane::ClosedLane;
-use crate::feed::Feed;
-use crate::hub::Hub;
-use crate::lane_seat::LaneSeat;
-use crate::signals::Signals;
-use lane_core::Delivery;
 use scan_core::Runs;
 use std::alloc::{AllocError, Global};
-use std::sync::Wait;
+use std::vec::IntoIter;
 
-/// The feed of a lane that has done nothing.
-fn feed(alloc: Global, seat: LaneSeat, rows: Vec<Runs>) -> Result<Feed, AllocError>
-    requires { HasDoneNothing seat }
-    ensures { IfOk result (λ f. (f.seat ≡ seat) × (all_rows f ≡ rows.items)) }
-{
-    let list = Vec::with_capacity(alloc, rows.len())?;
-    let mut rows = rows;
-    rows.reverse();
-    Ok(Feed { seat, rows, list })
+/// The most lanes.
+const MOST_LANES: u8 = 16;
+
+/// Rows of each lane in their order, of which the first were given, the lanes in turn.
+#[derive(Drop)]
+pub struct Feeds {
+    pub(crate) rests: Vec<IntoIter<Runs>>,
+    // The lane whose turn it is.
+    turn: u8,
 }
 
-/// A feed for each lane, in their order.
-pub(crate) fn make_feeds(
-    alloc: Global,
-    seats: Vec<LaneSeat>,
-    rows: Vec<Vec<Runs>>,
-) -> Result<Vec<Feed>, AllocError>
-    requires { All HasDoneNothing seats.items × (length rows.items ≡ length seats.items) }
-    ensures seats { IfOk result (λ v. seats_of v.items ≡ seats.items) }
-    ensures rows { IfOk result (λ v. map all_rows v.items ≡ map (λ r. r.items) rows.items) }
+/// Whether no row is left.
+fn are_empty(rests: &[IntoIter<Runs>]) -> bool
+    ensures { result ≡ list_all (λ rest. into_iter_len rest == 0) rests.now }
 {
-    let mut feeds = Vec::with_capacity(alloc, seats.len())?;
-    for (seat, rows) in seats.into_iter().zip(rows) {
-        feeds.push(feed(alloc, seat, rows)?)?;
+    rests.iter().all(|rest| rest.len() == 0)
+}
+
+impl Feeds {
+    ghost use Rattle.std.specs.Prelude.{◌≡◌, ℕ, IfOk, IfSome, List, None, map, true};
+    ghost use Rattle.hub_core.specs.Feeds.{AreGiven, IsTaken, are_given, rests_of};
+    ghost use Rattle.hub_core.specs.Traffics.{HasRoom, with_more};
+
+    /// These rows of each lane.
+    pub fn new(alloc: Global, rows: Vec<Vec<Runs>>) -> Result<Feeds, AllocError>
+        ensures { IfOk result (λ f. rests_of f ≡ map (λ feed. feed.items) rows.items) }
+    {
+        let mut rests = Vec::with_capacity(alloc, rows.len())?;
+        for feed in rows {
+            rests.push(feed.into_iter())?;
+        }
+        Ok(Feeds { rests, turn: 0 })
     }
-    Ok(feeds)
-}
 
-/// Each lane submits its next rows, until the queue of jobs is full.
-pub(crate) fn submit_each<R: Wait>(rt: &R, hub: &Hub, feeds: &mut Vec<Feed>, signals: &Signals)
-    requires { AreFeedsOf hub.now feeds.old.items }
-    ensures of_hub { AreFeedsOf hub.now feeds.new.items }
-    ensures same { AreSameFeeds feeds.old.items feeds.new.items }
-{
-    for index in 0..feeds.len() {
-        if !feeds[index].submit_rows(rt, hub, signals) {
-            break;
+    /// Whether no row is left.
+    pub fn is_empty(&self) -> bool
+        ensures { result ≡ are_given (rests_of self.now) }
+    {
+        are_empty(self.rests.as_slice())
+    }
+
+    /// The lane's next row.
+    fn take_of(&mut self, lane: u8) -> Option<Runs>
+        ensures some { IfSome result (λ row. IsTaken (rests_of self.old) lane row (rests_of self.new)) }
+        ensures given { IfSome result (λ row. (feeds given : List (List (List ℕ))) → AreGiven feeds given (rests_of self.old)
+            → HasRoom lane given × AreGiven feeds (with_more lane row given) (rests_of self.new)) }
+        ensures none { result ≡ None → rests_of self.new ≡ rests_of self.old }
+    {
+        let index = usize::from(lane);
+        if index >= self.rests.len() {
+            return None;
+        }
+        self.rests[index].next()
+    }
+
+    /// The next row of this lane or one after it.
+    fn take_from(&mut self, first: u8) -> Option<(u8, Runs)>
+        ensures some { IfSome result (λ r. IsTaken (rests_of self.old) r.0 r.1 (rests_of self.new)) }
+        ensures given { IfSome result (λ r. (feeds given : List (List (List ℕ))) → AreGiven feeds given (rests_of self.old)
+            → HasRoom r.0 given × AreGiven feeds (with_more r.0 r.1 given) (rests_of self.new)) }
+        ensures none { result ≡ None → rests_of self.new ≡ rests_of self.old }
+    {
+        for lane in first..MOST_LANES {
+            if let Some(row) = self.take_of(lane) {
+                self.turn = lane + 1;
+                return Some((lane, row));
+            }
+        }
+        None
+    }
+
+    /// The next row, and its lane. Of up to 16 lanes that have rows each has its turn.
+    pub fn take(&mut self) -> Option<(u8, Runs)>
+        ensures some { IfSome result (λ r. IsTaken (rests_of self.old) r.0 r.1 (rests_of self.new)) }
+        ensures given { IfSome result (λ r. (feeds given : List (List (List ℕ))) → AreGiven feeds given (rests_of self.old)
+            → HasRoom r.0 given × AreGiven feeds (with_more r.0 r.1 given) (rests_of self.new)) }
+        ensures none { result ≡ None → rests_of self.new ≡ rests_of self.old }
+    {
+        match self.take_from(self.turn) {
+            Some(row) => Some(row),
+            None => self.take_from(0),
         }
     }
 }
 
-/// Whether each row of each lane was submitted and its delivery polled.
-pub(crate) fn are_done(feeds: &[Feed]) -> bool
-    ensures { result ≡ true → All IsDone feeds.now }
-{
-    feeds.iter().all(|feed| feed.is_done())
-}
-
-/// Closes each lane; and what each has polled.
-pub(crate) fn close_each(
-    alloc: Global,
-    feeds: Vec<Feed>,
-) -> Result<(Vec<ClosedLane>, Vec<Vec<Delivery>>), AllocError>
-    ensures seats { IfOk result (λ v. v.0.items ≡ seats_of feeds.items) }
-    ensures lists { IfOk result (λ v. map (λ list. list.items) v.1.items ≡ map (λ f. f.list.items) feeds.items) }
-{
-    let mut closed = Vec::with_capacity(alloc, feeds.len())?;
-    let mut lists = Vec::with_capacity(alloc, feeds.len())?;
-    for feed in feeds {
-        closed.push(feed.seat.close())?;
-        lists.push(feed.list)?;
-    }
-    Ok((closed, lists))
-}
+/// A law: of feeds of which none is too long no row was given at first, and all were once none is left.
+pub fn feeds_are_given()
+    ensures first { GivenAtFirst }
+    ensures last { GivenAtLast }
+{}

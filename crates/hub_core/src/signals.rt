@@ -1,15 +1,15 @@
-//! How a thread that finds nothing to do sleeps, and how another wakes it.
+//! How a thread that finds nothing to do sleeps, and how another wakes it. No claim rests on it.
 
 use std::hint;
 use std::sync::Wait;
 use std::sync::atomic::{AtomicU64, Ordering};
 use std::time::Duration;
 
-/// How often a thread pauses and looks at the signal before it sleeps: to sleep and be woken takes longer.
-const PAUSES: u32 = 100;
+/// How often a worker looks at a signal before it sleeps: to sleep and be woken takes longer.
+const LOOKS: u32 = 100;
 
-/// How many microseconds a thread sleeps at most before it looks again.
-const NAP: u64 = 1_000;
+/// How many microseconds a thread sleeps at most before it looks again for what it was told of.
+pub(crate) const REST: u64 = 1_000_000;
 
 /// A thread sleeps while the low 32 bits of a word are what they were.
 const WORDS: u64 = 4_294_967_296;
@@ -17,8 +17,8 @@ const WORDS: u64 = 4_294_967_296;
 /// The value of the word that lets workers go on.
 const GOING_ON: u64 = 0;
 
-/// The value of the word that tells workers to stop.
-const TOLD: u64 = 1;
+/// The value of the word that asks workers to stop.
+const STOP_REQUESTED: u64 = 1;
 
 /// How often a signal was given, and how many threads sleep until it is given again.
 ///
@@ -44,32 +44,51 @@ impl Signal {
         self.given.load(Ordering::SeqCst)
     }
 
-    /// Waits while it was given so often, first awake and then asleep, but not for long.
-    pub(crate) fn wait<R: Wait>(&self, rt: &R, seen: u64) {
-        for _ in 0..PAUSES {
+    /// How many threads sleep until it is given.
+    fn sleepers(&self) -> u64 {
+        self.sleepers.load(Ordering::SeqCst)
+    }
+
+    /// Waits while it was given so often: it looks so many times, and then sleeps for so many microseconds
+    /// at most. Whether it slept.
+    pub(crate) fn wait<R: Wait>(&self, rt: &R, seen: u64, looks: u32, nap: u64) -> bool {
+        for _ in 0..looks {
             if self.given() != seen {
-                return;
+                return false;
             }
             hint::spin_loop();
         }
         self.sleepers.fetch_add(1, Ordering::SeqCst);
         self.given
-            .park_timeout(rt, (seen % WORDS) as u32, Duration::from_micros(NAP));
+            .park_timeout(rt, (seen % WORDS) as u32, Duration::from_micros(nap));
         self.sleepers.fetch_sub(1, Ordering::SeqCst);
+        true
+    }
+
+    /// Waits until it is given again, for a second at most.
+    pub(crate) fn rest<R: Wait>(&self, rt: &R, seen: u64) {
+        self.wait(rt, seen, LOOKS, REST);
+    }
+
+    /// Gives it, and wakes a thread where so many sleep.
+    fn notify_where(&self, asleep: u64) {
+        self.given.fetch_add(1, Ordering::SeqCst);
+        if self.sleepers() >= asleep {
+            self.given.wake_one();
+        }
     }
 
     /// Gives it, and wakes a thread that sleeps.
     pub(crate) fn notify_one(&self) {
-        self.given.fetch_add(1, Ordering::SeqCst);
-        if self.sleepers.load(Ordering::SeqCst) > 0 {
-            self.given.wake_one();
-        }
+        self.notify_where(1);
     }
 
     /// Gives it, and wakes all threads that sleep.
     pub(crate) fn notify_all(&self) {
         self.given.fetch_add(1, Ordering::SeqCst);
-        self.given.wake_all();
+        if self.sleepers() > 0 {
+            self.given.wake_all();
+        }
     }
 }
 
@@ -77,8 +96,10 @@ impl Signal {
 /// the workers are to stop. It carries no claim.
 #[derive(Drop)]
 pub struct Signals {
-    /// To the workers: there are jobs, or places for deliveries.
+    /// To the workers: there are jobs.
     pub(crate) jobs: Signal,
+    /// To the workers with a delivery in hand: there are places for deliveries.
+    pub(crate) places: Signal,
     /// To the calling thread: there are deliveries, or no jobs.
     pub(crate) deliveries: Signal,
     stop: AtomicU64,
@@ -89,25 +110,34 @@ impl Signals {
     pub fn new() -> Signals {
         Signals {
             jobs: Signal::new(),
+            places: Signal::new(),
             deliveries: Signal::new(),
             stop: AtomicU64::new(GOING_ON),
         }
     }
 
-    /// Tells the workers that rows were submitted, or that there is room for deliveries. A worker that
-    /// was not told looks again within a millisecond.
+    /// Tells the workers that rows were submitted and that there is room for deliveries: one that found no
+    /// job is woken, and all that found no place. A worker that was not told looks again within a second.
     pub fn notify_workers(&self) {
         self.jobs.notify_one();
+        self.places.notify_all();
     }
 
-    /// Tells all workers to stop, those too that sleep.
-    pub(crate) fn tell_to_stop(&self) {
-        self.stop.store(TOLD, Ordering::SeqCst);
+    /// Tells so many workers that rows were submitted. One is woken where all sleep: a worker that is
+    /// awake looks for jobs until it finds none.
+    pub(crate) fn notify_of_rows(&self, workers: u8) {
+        self.jobs.notify_where(u64::from(workers));
+    }
+
+    /// Asks all workers to stop, those too that sleep.
+    pub(crate) fn request_stop(&self) {
+        self.stop.store(STOP_REQUESTED, Ordering::SeqCst);
         self.jobs.notify_all();
+        self.places.notify_all();
     }
 
-    /// Whether the workers are told to stop.
-    pub(crate) fn is_told(&self) -> bool {
-        self.stop.load(Ordering::SeqCst) == TOLD
+    /// Whether the workers are asked to stop.
+    pub(crate) fn is_stop_requested(&self) -> bool {
+        self.stop.load(Ordering::SeqCst) == STOP_REQUESTED
     }
 }

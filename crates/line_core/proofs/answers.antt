@@ -1,3 +1,1 @@
-pub mod PlaceFacts
 pub mod ReportFacts
-pub mod RunFacts

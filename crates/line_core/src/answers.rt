@@ -1,5 +1,3 @@
-//! Rows that are answered: the runs in which they are served, and the report of their answers.
-mod report;
-mod rest;
+//! Rows that are answered, and the report of their answers.
+pub mod report;
 pub mod serving;
-mod short;

@@ -1,3 +1,3 @@
 //! Records that are scanned: a lane, and the widths of a row.
 pub mod feeds;
-mod widths;
+pub mod widths;

@@ -95,7 +95,7 @@ fn a_worker_that_is_held_holds_no_other_row(rt: HostRuntime) -> Result<(), Fail>
     Ok(())
 }
 
-/// How many rows a lane is fed.
+/// How many rows each of sixteen lanes is fed.
 fn count_of(lane: u8) -> u16 {
     u16::from(lane) * 40
 }
@@ -109,10 +109,10 @@ fn widths_of(lane: u8, number: u16) -> &'static [u16] {
     }
 }
 
-/// The feed of a lane.
-fn long_feed(alloc: Global, lane: u8) -> Result<Vec<Runs>, Fail> {
+/// The feed of a lane, of so many rows.
+fn long_feed(alloc: Global, lane: u8, count: u16) -> Result<Vec<Runs>, Fail> {
     let mut feed = Vec::new(alloc);
-    for number in 0..count_of(lane) {
+    for number in 0..count {
         feed.push(row(alloc, widths_of(lane, number))?)?;
     }
     Ok(feed)
@@ -122,15 +122,15 @@ fn long_feed(alloc: Global, lane: u8) -> Result<Vec<Runs>, Fail> {
 fn long_feeds(alloc: Global) -> Result<Vec<Vec<Runs>>, Fail> {
     let mut feeds = Vec::new(alloc);
     for lane in 0..16 {
-        feeds.push(long_feed(alloc, lane)?)?;
+        feeds.push(long_feed(alloc, lane, count_of(lane))?)?;
     }
     Ok(feeds)
 }
 
-/// That a lane's deliveries are those of its feed, in their order.
-fn are_of_the_feed<R: Abort>(rt: &R, lane: u8, list: &[Delivery]) -> Result<(), Fail> {
-    assert_eq!(*rt; list.len(), usize::from(count_of(lane)));
-    for number in 0..count_of(lane) {
+/// That a lane's deliveries are those of its feed of so many rows, in their order.
+fn are_of_the_feed<R: Abort>(rt: &R, lane: u8, count: u16, list: &[Delivery]) -> Result<(), Fail> {
+    assert_eq!(*rt; list.len(), usize::from(count));
+    for number in 0..count {
         let delivery = list.get(usize::from(number)).ok_or("a delivery")?;
         assert_eq!(*rt; delivery.ticket().number, u32::from(number));
         assert_eq!(*rt; delivery.row().widths(), widths_of(lane, number));
@@ -149,7 +149,7 @@ fn serve_in_order<R: Threads + Wait + AllocGlobal + Sync + Abort>(
     assert_eq!(*rt; lists.len(), 16);
     for lane in 0..16 {
         let list = lists.get(usize::from(lane)).ok_or("a list")?;
-        are_of_the_feed(rt, lane, list.as_slice())?;
+        are_of_the_feed(rt, lane, count_of(lane), list.as_slice())?;
     }
     Ok(())
 }
@@ -161,6 +161,29 @@ fn many_rows_and_workers_change_no_order(rt: HostRuntime) -> Result<(), Fail> {
         serve_in_order(&rt, workers)?;
     }
     Ok(())
+}
+
+/// The deliveries of one lane with so many rows, whose two workers pass this gate.
+fn served_past<R: Threads + Wait + AllocGlobal + Sync, G: Gate + Sync>(
+    rt: &R,
+    count: u16,
+    gate: &G,
+) -> Result<Vec<Vec<Delivery>>, Fail> {
+    let alloc = rt.alloc();
+    let year = Year::new(2026).ok_or("year")?;
+    let mut feeds = Vec::new(alloc);
+    feeds.push(long_feed(alloc, 0, count)?)?;
+    Ok(serve(rt, alloc, feeds, 2, year, gate)?)
+}
+
+#[test]
+fn a_held_row_holds_none_of_three_thousand(rt: HostRuntime) -> Result<(), Fail> {
+    let last = Ticket { lane: 0, number: 3_000 };
+    let gate = Holding::new(rt.alloc(), &[3_001], FIRST, last)?;
+    let lists = served_past(&rt, 3_001, &gate)?;
+    assert!(rt; gate.saw_each_once());
+    let list = lists.get(0).ok_or("a list")?;
+    are_of_the_feed(&rt, 0, 3_001, list.as_slice())
 }
 
 /// That so many workers serve no such lanes.

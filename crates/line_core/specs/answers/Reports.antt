@@ -5,6 +5,8 @@ use Rattle.std.specs.List.{AllZip}
 use Rattle.scan_core.specs.Answers.{Reads}
 use Rattle.scan_core.specs.Lines.{answer_text}
 use Rattle.scan_core.specs.declared.answer.Answer.{Answer}
+use Rattle.lane_core.specs.declared.job.Plain.{Plain}
+use Rattle.hub_core.specs.Laws.{AreAnswersOf}
 
 -- a line: the lane, the number of the row in its lane, the answer and a line feed
 abbrev pub line_of : ℕ → ℕ → Answer → List ℕ
@@ -29,11 +31,9 @@ abbrev pub lane_lines : ℕ → List (List Answer) → List (List ℕ)
 lane_lines lane [] = []
 lane_lines lane (answers ∷ rest) = lines_from lane 0 answers ∷ lane_lines (lane + 1) rest
 
--- the texts of the lanes, from one on, each with the lines of the lane's next answers from a number on
-abbrev pub with_lines : ℕ → ℕ → List (List ℕ) → List (List Answer) → List (List ℕ)
-with_lines lane number [] rest = []
-with_lines lane number (text ∷ texts) [] = []
-with_lines lane number (text ∷ texts) (answers ∷ rest) = (text ++ lines_from lane number answers) ∷ with_lines (lane + 1) number texts rest
+-- the texts are the lines of what each lane was brought
+abbrev pub AreLinesOf : List (List Plain) → List (List ℕ) → Type 0
+AreLinesOf brought texts = (answers : List (List Answer)) × AllZip AreAnswersOf brought answers × (texts ≡ lane_lines 0 answers)
 
 -- the text is the report of the answers to these rows under the reference year
 abbrev pub IsReport : ℕ → List (List (List ℕ)) → List ℕ → Type 0

@@ -9,9 +9,9 @@ returns g c =
     let ls = c.args.lanes.items in
     let ws = c.args.workers.items in
     let d = c.args.deliverer in
-    let p = c.pour_all.ensures in
+    let p = c.drain_all.ensures in
     let whole = whole_from c.args.hub.now ls ws d p.0 p.1 p.2 c.all_found.ensures c.received_first.ensures c.kept_whole.ensures c.requires.seats p.3 in
-    let lists = owed ls ws d p.0 p.1 p.2 _ c.args.lists.now.items c.pour_all.new.lists.items c.sort_all.new.lists.items c.claims_settle.ensures p.3 whole c.requires.seats.deliverer.lanes c.requires.made p.4 c.sort_all.ensures in
+    let lists = owed ls ws d p.0 p.1 p.2 _ c.args.lists.now.items c.drain_all.new.lists.items c.sort_all.new.lists.items c.claims_settle.ensures p.3 whole c.requires.seats.deliverer.lanes c.requires.made p.4 c.sort_all.ensures in
     record {
       counted = c.sort_all.ensures.0 ∙ p.4.counted;
       lists = lists;

@@ -1,5 +1,5 @@
 use Rattle.std.proofs.Common.{rules, string_bytes, sym}
-use Rattle.line_core.proofs.answers.RunFacts.{joined_more}
+use Rattle.line_core.proofs.answers.ReportFacts.{joined_more}
 use Rattle.line_core.proofs.answers.report.joined.Goals as goal
 
 pub loop-text-preserved : goal.loop-text-preserved

@@ -1,0 +1,67 @@
+use Rattle.std.proofs.Common.{rules, List, ◌≡◌, ◌<◌, [], ◌∷◌, ◌++◌, length, refl, sym, ap, ◌∙◌, arith, subst, append_assoc}
+use Rattle.std.proofs.lemmas.List.Elements.{All-head, All-rest, All-same}
+use Rattle.std.specs.Vec.Iter.{into_iter_items}
+use Rattle.crossbeam_queue.specs.Passes.{view}
+use Rattle.hub_core.specs.declared.lane_seat.LaneSeat.{LaneSeat}
+use Rattle.hub_core.specs.declared.rule.Trace.{Trace}
+use Rattle.hub_core.specs.Fresh.{IsPairedIn}
+use Rattle.hub_core.specs.Lanes.{lane_of}
+use Rattle.hub_core.specs.Draining.{AreFromFirst}
+use Rattle.hub_core.proofs.FillFacts.{filled_none}
+use Rattle.hub_core.proofs.PairFacts.{HasJobs, RingFilled, ends_more, ends_same, from_first, lane_jobs, none_left, pair_now, ring_filled, sent_now}
+use Rattle.hub_core.proofs.RingFacts.{sent_same}
+use Rattle.hub_core.proofs.RuleFacts.{merges}
+use Rattle.hub_core.proofs.drain.place_rings.Goals as goal
+
+pub loop-closed-init : goal.loop-closed-init
+loop-closed-init c = record {
+  can = search rules;
+  ends = search rules;
+  same = search rules;
+  all = refl;
+  left = search rules;
+  jobs = search rules;
+  rings = ends_same c.args.rings.now.items;
+  sent = refl;
+  filled = ([], filled_none c.args.lists.now.items, λ h. refl);
+  received = search rules;
+}
+
+pub absorb-requires-clause-rule : goal.absorb-requires-clause-rule
+absorb-requires-clause-rule c = merges _ _ _ _ _ (let e = ap (λ (v : Trace). v.parts) c.loop-closed.invariant.jobs in omega arith)
+
+pub place_rest-requires : goal.place_rest-requires
+place_rest-requires c =
+    let paired : IsPairedIn c.args.rings.now.items c.closed.inside.seat = subst (λ (s : LaneSeat). IsPairedIn c.args.rings.now.items s) (sym c.closed.view_is) (All-head (IsPairedIn c.args.rings.now.items) c.in-Some.closed c.next.new.self.rest.items (All-same (IsPairedIn c.args.rings.now.items) _ _ (sym c.in-Some.ensures.steps.0) c.loop-closed.invariant.left)) in
+    pair_now c.args.rings.now.items c.loop-closed.rings.items c.closed.inside.seat c.index_mut.result.now paired c.loop-closed.invariant.rings c.index_mut.ensures.value
+
+pub loop-closed-preserved : goal.loop-closed-preserved
+loop-closed-preserved c =
+    let inv = c.loop-closed.invariant in
+    let rings = c.args.rings.now.items in
+    let now = c.loop-closed.rings.items in
+    let seat = c.closed.inside.seat in
+    let ring = c.index_mut.result.now in
+    let low : lane_of seat < length now = search rules in
+    let rest = c.place_rest.ensures in
+    let left = rest.fills.2 ∙ sent_now rings now seat ring inv.sent c.index_mut.ensures.value low in
+    let is : seat ≡ c.in-Some.closed = c.closed.view_is in
+    record {
+      can = search rules;
+      ends = search rules;
+      same = search rules;
+      all = append_assoc c.loop-closed.yielded (c.in-Some.closed ∷ []) _ ∙ (ap (λ l. c.loop-closed.yielded ++ l) (sym c.in-Some.ensures.steps.0) ∙ inv.all);
+      left = All-rest (IsPairedIn rings) c.in-Some.closed c.next.new.self.rest.items _ c.in-Some.ensures.steps.0 inv.left;
+      jobs = subst (λ (s : LaneSeat). HasJobs (view c.args.all_jobs.now) (view c.absorb.new.pass) (c.loop-closed.yielded ++ s ∷ [])) is (lane_jobs (view c.args.all_jobs.now) (view c.loop-closed.all_jobs) (view c.absorb.new.pass) c.loop-closed.yielded seat inv.jobs c.absorb.ensures.rule);
+      rings = ends_more rings now (lane_of seat) ring c.place_rest.new.producer inv.rings c.index_mut.ensures.value low rest.same.0;
+      sent = sent_same now (lane_of seat) ring c.place_rest.new.producer c.index_mut.ensures.value low rest.same.1 ∙ inv.sent;
+      filled = subst (λ (s : LaneSeat). RingFilled c.args.lists.now.items c.place_rest.new.lists.items rings (c.loop-closed.yielded ++ s ∷ [])) is (ring_filled c.args.lists.now.items c.loop-closed.lists.items c.place_rest.new.lists.items rings c.loop-closed.yielded seat inv.filled.0 rest.fills.0 inv.filled.1 rest.fills.1 inv.filled.2 left);
+      received = subst (λ (s : LaneSeat). AreFromFirst rings (c.loop-closed.yielded ++ s ∷ [])) is (from_first rings c.loop-closed.yielded seat rest.fills.0 inv.received left);
+    }
+
+pub returns-clause-received : goal.returns-clause-received
+returns-clause-received c =
+    let start : into_iter_items c.into_iter-closed-iterator.result ≡ c.args.lanes.items = search rules in
+    let none : length (into_iter_items c.loop-closed.closed-iterator) ≡ 0 = search rules in
+    let all = none_left c.loop-closed.yielded (into_iter_items c.loop-closed.closed-iterator) c.args.lanes.items none (c.loop-closed.invariant.all ∙ start) in
+    subst (λ (ss : List LaneSeat). AreFromFirst c.args.rings.now.items ss) all c.loop-closed.invariant.received

@@ -1,0 +1,27 @@
+use Rattle.std.proofs.Common.{◌≡◌, ◌++◌, ◌∙◌, [], List, ap, append_assoc, drop, get_or, length, sym, take}
+use Rattle.std.proofs.lemmas.List.{take-append-drop}
+use Rattle.lane_core.specs.declared.job.Plain.{Plain}
+use Rattle.hub_core.specs.Delivering.{handed}
+use Rattle.hub_core.specs.Hubs.{IsLaneOf}
+use Rattle.hub_core.specs.Lanes.{lane_of, polled, received, submitted}
+use Rattle.hub_core.specs.Rings.{all_sent}
+use Rattle.hub_core.specs.declared.lane_seat.LaneSeat.{LaneSeat}
+use Rattle.hub_core.proofs.SeatFacts.{all_at, whole_from}
+use Rattle.hub_core.proofs.hub.Hub.finish.Goals as goal
+
+pub returns : goal.returns
+returns g c =
+    let ls = c.args.lanes.items in
+    let d = c.args.deliverer in
+    let p = c.drain_all.ensures in
+    let whole = whole_from c.args.self ls c.args.workers.items d p.0 p.1 p.2 c.all_found.ensures c.received_first.ensures c.kept_whole.ensures c.requires p.3 in
+    λ i v e.
+    let front = all_at (λ (s : LaneSeat). (left : List Plain) × (received s ++ left ≡ get_or (all_sent d.rings.items) (lane_of s) [])) ls i v p.3.first e in
+    let n = length (handed d (lane_of v)) in
+    let rest = drop n (submitted v) in (
+      front.0 ++ rest,
+      ap (λ (xs : List Plain). xs ++ (front.0 ++ rest)) (whole.polled i v e).0
+          ∙ (sym (append_assoc (received v) front.0 rest)
+          ∙ (ap (λ (xs : List Plain). xs ++ rest) (front.1 ∙ sym (whole.handed i v e))
+          ∙ (take-append-drop n (submitted v) ∙ (all_at (IsLaneOf c.args.self) ls i v c.requires.lanes e).rows))),
+    )

@@ -1,0 +1,50 @@
+use Rattle.std.proofs.Common.{◌≡◌, ◌∙◌, [], All, List, None, Option, ap, arith, length, map, replicate, subst, sym, true, ℕ}
+use Rattle.lane_core.specs.declared.job.Plain.{Plain}
+use Rattle.hub_core.specs.Hubs.{IsWorkerOf, shape_of, year_of}
+use Rattle.hub_core.specs.Serving.{served}
+use Rattle.hub_core.specs.Standing.{PolledFirst}
+use Rattle.hub_core.specs.Traffics.{AreServedFirst, Serves, given_to, polled_by}
+use Rattle.hub_core.proofs.ServeFacts.{lanes_counted}
+use Rattle.hub_core.proofs.TrafficFacts.{all_served, came_fresh, seats_counted, serves_fresh, served_first}
+use Rattle.hub_core.proofs.serve_loop.serve_traffic.Goals as goal
+
+pub serve_seats-requires-after_bounds : goal.serve_seats-requires-after_bounds
+serve_seats-requires-after_bounds g c κs within =
+    let hub = c.in_ok-hub.field-0.hub in
+    let lanes = c.in_ok-hub.field-0.lanes.items in
+    let is = c.in_ok-hub.ensures in
+    let count = lanes_counted lanes c.args.lanes is.lanes in (
+      serves_fresh hub lanes c.args.lanes is.seats.lanes is.lanes is.shape.0 is.shape.1,
+      came_fresh (g.T.Traffic.Came c.args.traffic c.args.traffic) lanes c.args.lanes is.unused count c.requires.fresh,
+      is.seats.workers,
+      is.seats.deliverer,
+    )
+
+pub close_all-closed-requires : goal.close_all-closed-requires
+close_all-closed-requires g c =
+    let done = c.in_ok-traffic.ensures.serves in
+    let hub = c.in_ok-hub.field-0.hub in
+    let seats = c.in_ok-traffic.lanes.items in
+    let is = c.in_ok-hub.ensures in
+    let now = seats_counted hub seats done.0 done.1 in
+    let before = lanes_counted c.in_ok-hub.field-0.lanes.items c.args.lanes is.lanes in
+    let room = c.in_ok-room.ensures in
+    (room.items, room.len, omega (arith, now, before, is.shape.0, room.capacity, c.len.ensures, c.in_ok-hub.field-0.lanes.ok.0, c.in_ok-traffic.lanes.ok.0))
+
+pub returns-clause-served : goal.returns-clause-served
+returns-clause-served g c =
+    λ kept.
+    let hub = c.in_ok-hub.field-0.hub in
+    let seats = c.in_ok-traffic.lanes.items in
+    let done = c.in_ok-traffic.ensures.serves in
+    let first : PolledFirst hub seats = subst (PolledFirst hub) c.close_all-closed.ensures c.finish.ensures in
+    let year : year_of hub ≡ c.args.year = c.in_ok-hub.ensures.shape.2 in (
+      given_to seats done.0,
+      polled_by seats,
+      done.2 kept,
+      subst (λ y. AreServedFirst y (given_to seats done.0) (polled_by seats)) year (served_first hub seats done.0 done.1 first),
+      λ ended.
+          let end = done.3 ended in
+          let all = all_served hub seats (subst (λ o. Serves hub seats o) end.2 done.1) first end.1 in
+          (end.0, subst (λ o. polled_by seats ≡ served c.args.year (given_to seats o)) (sym end.2) (all ∙ ap (λ y. served y (given_to seats None)) year)),
+    )

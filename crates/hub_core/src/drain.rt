@@ -1,0 +1,167 @@
+//! Takes all that no lane has polled out of the hands, queues and rings of a hub.
+ghost use Rattle.std.specs.Prelude.{◌≡◌, ◌<◌, ◌≤◌, ◌++◌, ◌+◌, [], ◌∷◌, ℕ, List, All, length, option_to_list};
+ghost use Rattle.std.specs.List.{flat_map};
+ghost use Rattle.crossbeam_queue.specs.Passes.{view, IsPassOf};
+ghost use Rattle.rtrb.specs.Ring.{sent, received, IsPair, SameProducer};
+ghost use Rattle.lane_core.specs.declared.job.Plain.{Plain};
+ghost use Rattle.lane_core.specs.Weights.{weigh};
+ghost use Rattle.hub_core.specs.Filling.{Fills};
+ghost use Rattle.hub_core.specs.Fresh.{IsPairedIn};
+ghost use Rattle.hub_core.specs.Hubs.{AreAllSeats, IsWorkerOf};
+ghost use Rattle.hub_core.specs.Lanes.{numbers_of, submitted};
+ghost use Rattle.hub_core.specs.Passes.{parts_of, popped_by, pushed_by};
+ghost use Rattle.hub_core.specs.Draining.{AreFromFirst, Finds, all_received, to_lanes};
+ghost use Rattle.hub_core.specs.Rule.{trace};
+ghost use Rattle.hub_core.specs.Workers.{hand_of, posted, taken};
+
+use crate::closed_lane::ClosedLane;
+use crate::deliverer_seat::DelivererSeat;
+use crate::hub::Hub;
+use crate::lane_seat::LaneSeat;
+use crate::lists::place;
+use crate::rule::{Part, Pops, Queue, Queued, Trace};
+use crate::worker_seat::WorkerSeat;
+use crossbeam_queue::Pass;
+use lane_core::{Deliverer, Delivery, Job};
+use rtrb::{Consumer, Producer};
+use std::sync::Wait;
+
+/// Places a delivery, where there is one.
+pub(crate) fn place_any(lists: &mut Vec<Vec<Delivery>>, held: Option<Delivery>)
+    ensures { Fills lists.old.items lists.new.items (option_to_list held) }
+{
+    if let Some(delivery) = held {
+        place(lists, delivery);
+    }
+}
+
+/// Joins the workers' passes, and places what is in their hands.
+pub(crate) fn place_hands(
+    hub: &Hub,
+    all_jobs: &mut Pass<Job, Trace>,
+    all_results: &mut Pass<Delivery, Trace>,
+    lists: &mut Vec<Vec<Delivery>>,
+    workers: Vec<WorkerSeat>,
+)
+    requires passes { IsPassOf hub.now.jobs all_jobs.old × IsPassOf hub.now.results all_results.old × (0 < parts_of all_jobs.old) × (0 < parts_of all_results.old) }
+    requires workers { All (IsWorkerOf hub.now) workers.items }
+    ensures same { IsPassOf hub.now.jobs all_jobs.new × IsPassOf hub.now.results all_results.new }
+    ensures jobs { view all_jobs.new ≡ trace (parts_of all_jobs.old + length workers.items) (pushed_by all_jobs.old) (popped_by all_jobs.old ++ flat_map taken workers.items) }
+    ensures results { view all_results.new ≡ trace (parts_of all_results.old + length workers.items) (pushed_by all_results.old ++ flat_map posted workers.items) (popped_by all_results.old) }
+    ensures fills { Fills lists.old.items lists.new.items (flat_map hand_of workers.items) }
+{
+    for seat in workers {
+        let WorkerSeat { takes, posts, held } = seat;
+        hub.jobs.absorb::<Part>(all_jobs, takes);
+        hub.results.absorb::<Part>(all_results, posts);
+        place_any(lists, held);
+    }
+}
+
+/// Empties a queue.
+pub(crate) fn place_queue<T: Queued, R: Wait>(
+    rt: &R,
+    queue: &Queue<T>,
+    all: &mut Pass<T, Trace>,
+    lists: &mut Vec<Vec<Delivery>>,
+)
+    requires { IsPassOf queue.now all.old × (parts_of all.old ≡ 1024) }
+    ensures fills { (xs : List Plain) × Fills lists.old.items lists.new.items xs × ((h : Plain → ℕ) → weigh h (pushed_by all.old) ≡ weigh h (popped_by all.old) + weigh h xs) }
+{
+    for _ in rt.forever() {
+        let Some(item) = queue.pop_as::<Pops, R>(rt, all) else {
+            break;
+        };
+        place(lists, item.into_delivery());
+    }
+}
+
+/// Takes out what waits.
+pub(crate) fn place_waiting(deliverer: &mut Deliverer, lists: &mut Vec<Vec<Delivery>>)
+    ensures fills { (xs : List Plain) × Fills lists.old.items lists.new.items xs × ((h : Plain → ℕ) → weigh h deliverer.old.waiting ≡ weigh h xs) }
+{
+    while let Some(delivery) = deliverer.take_any() {
+        place(lists, delivery);
+    }
+}
+
+/// Takes out of a ring what is left there, with both its ends at hand.
+fn place_rest(
+    producer: &mut Producer<Delivery>,
+    consumer: &mut Consumer<Delivery>,
+    lists: &mut Vec<Vec<Delivery>>,
+)
+    requires { IsPair producer.old consumer.old }
+    ensures same { SameProducer producer.old producer.new × (sent producer.new ≡ sent producer.old) }
+    ensures fills { (xs : List Plain) × Fills lists.old.items lists.new.items xs × (received consumer.old ++ xs ≡ sent producer.old) }
+{
+    let left = consumer.slots_beside(producer);
+    for _i in 0..left {
+        place(lists, consumer.pop_known());
+    }
+}
+
+/// Joins the lanes' passes, and places what is left in their rings.
+pub(crate) fn place_rings(
+    hub: &Hub,
+    all_jobs: &mut Pass<Job, Trace>,
+    rings: &mut Vec<Producer<Delivery>>,
+    lists: &mut Vec<Vec<Delivery>>,
+    lanes: Vec<ClosedLane>,
+)
+    requires passes { IsPassOf hub.now.jobs all_jobs.old × (0 < parts_of all_jobs.old) × All (λ s. IsPassOf hub.now.jobs s.pass) lanes.items }
+    requires rings { All (IsPairedIn rings.old.items) lanes.items }
+    ensures same { IsPassOf hub.now.jobs all_jobs.new }
+    ensures jobs { view all_jobs.new ≡ trace (parts_of all_jobs.old + length lanes.items) (pushed_by all_jobs.old ++ flat_map submitted lanes.items) (popped_by all_jobs.old) }
+    ensures fills { (xs : List Plain) × Fills lists.old.items lists.new.items xs × ((h : Plain → ℕ) → weigh h xs + all_received h lanes.items ≡ to_lanes h rings.old.items (numbers_of lanes.items)) }
+    ensures received { AreFromFirst rings.old.items lanes.items }
+{
+    for closed in lanes {
+        let LaneSeat {
+            lane,
+            pass,
+            ring,
+            ..
+        } = closed.seat;
+        let mut ring = ring;
+        let count = rings.len();
+        prove!((lane as usize) < count);
+        hub.jobs.absorb::<Part>(all_jobs, pass);
+        place_rest(&mut rings[lane as usize], &mut ring, lists);
+    }
+}
+
+/// Takes all that no lane has polled out of the hub's parts, into the lists.
+///
+/// A lane's numbers in its ring are below those that wait, and these and what is under way below those
+/// in the queue of jobs; so in this order only what is in hands and in the queue of results can come
+/// out of turn.
+pub(crate) fn drain_all<R: Wait>(
+    rt: &R,
+    hub: &Hub,
+    lists: &mut Vec<Vec<Delivery>>,
+    lanes: Vec<ClosedLane>,
+    workers: Vec<WorkerSeat>,
+    deliverer: DelivererSeat,
+)
+    requires { AreAllSeats hub.now lanes.items workers.items deliverer }
+    ensures { (jobs results found : List Plain) × Finds lanes.items workers.items deliverer jobs results found × Fills lists.old.items lists.new.items found }
+{
+    let DelivererSeat {
+        jobs,
+        collects,
+        deliverer,
+        held,
+        rings,
+    } = deliverer;
+    let mut jobs = jobs;
+    let mut collects = collects;
+    let mut deliverer = deliverer;
+    let mut rings = rings;
+    place_rings(hub, &mut jobs, &mut rings, lists, lanes);
+    place_waiting(&mut deliverer, lists);
+    place_any(lists, held);
+    place_hands(hub, &mut jobs, &mut collects, lists, workers);
+    place_queue(rt, &hub.results, &mut collects, lists);
+    place_queue(rt, &hub.jobs, &mut jobs, lists);
+}

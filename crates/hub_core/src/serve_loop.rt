@@ -1,0 +1,429 @@
+//! The one loop of the calling thread, by which a traffic is served by workers beside each other.
+ghost use Rattle.std.specs.Prelude.{◌≡◌, ◌<◌, ◌≢◌, [], All, IfErr, IfOk, IfSome, List, None, Ok, Option, ℕ, false, length, replicate, true, vec_capacity, vec_len, ◌≤◌};
+ghost use Rattle.std.specs.List.{range_with_len};
+ghost use Rattle.lane_core.specs.declared.job.Plain.{Plain};
+ghost use Rattle.hub_core.specs.Fresh.{HasDoneNothing};
+ghost use Rattle.hub_core.specs.Hubs.{AreAllSeats, IsDelivererOf, IsWorkerOf, shape_of, year_of};
+ghost use Rattle.hub_core.specs.Lanes.{numbers_of};
+ghost use Rattle.hub_core.specs.Serving.{are_short, is_count, served};
+ghost use Rattle.hub_core.specs.Traffics.{AreEven, AreServedFirst, HasRoom, IsKept, Serves, given_to, polled_by, with_held};
+
+use crate::closed_lane::ClosedLane;
+use crate::deliverer_seat::{DelivererSeat, Handed};
+use crate::ended::Ended;
+use crate::fault::{HubFault, ServeFault, SubmitFault};
+use crate::gate::Gate;
+use crate::gathered::Gathered;
+use crate::hub::Hub;
+use crate::lane_seat::LaneSeat;
+use crate::pace::Pace;
+use crate::parts::Parts;
+use crate::shape::Shape;
+use crate::signals::Signals;
+use crate::traffic::Traffic;
+use crate::worker_seat::WorkerSeat;
+use crate::worker_threads::run_workers;
+use element_core::Year;
+use scan_core::Runs;
+use std::alloc::Global;
+use std::sync::Wait;
+use std::thread::Threads;
+
+/// What each queue and each ring holds.
+const CAPACITY: u16 = 64;
+
+/// How many rows are submitted before deliveries are collected, and the other way round.
+const IN_A_TURN: u32 = 16;
+
+/// More rows than these that are under way, once the calling thread has slept, are work for one worker more.
+const SHARE: u32 = 16;
+
+/// What a turn leaves to do.
+#[derive(Clone, Copy, Debug, PartialEq, Eq)]
+enum Turn {
+    /// The next turn.
+    GoesOn,
+    /// All that was given has come back, and nothing more is there.
+    Even,
+    /// Memory was refused.
+    NoMemory,
+}
+
+/// What became of a row to be submitted.
+#[derive(Clone, Copy, Debug, PartialEq, Eq)]
+enum Submitted {
+    /// There was none.
+    Nothing,
+    /// It was submitted.
+    Row,
+    /// It is in hand: the queue of jobs had no room.
+    Held,
+}
+
+/// The row in hand, else the traffic's next.
+fn next_row<T: Traffic>(traffic: &mut T, held: &mut Option<(u8, Runs)>) -> Option<(u8, Runs)>
+    requires { (start : T) × (lists : List (List (List ℕ))) × (brought : List (List Plain)) × T.Came start traffic.old (with_held held.old lists) brought }
+    ensures held { held.new ≡ None }
+    ensures came { (start : T) (lists : List (List (List ℕ))) (brought : List (List Plain)) → T.Came start traffic.old (with_held held.old lists) brought
+        → T.Came start traffic.new (with_held result lists) brought }
+    ensures room { (start : T) (lists : List (List (List ℕ))) (brought : List (List Plain)) → T.Came start traffic.old (with_held held.old lists) brought
+        → IfSome held.old (λ r. HasRoom r.0 lists) → IfSome result (λ r. HasRoom r.0 lists) }
+{
+    match held.take() {
+        Some(row) => Some(row),
+        None => traffic.next(),
+    }
+}
+
+/// Submits the next row.
+fn submit_next<R: Wait, T: Traffic>(
+    rt: &R,
+    hub: &Hub,
+    traffic: &mut T,
+    seats: &mut Vec<LaneSeat>,
+    held: &mut Option<(u8, Runs)>,
+) -> Submitted
+    requires { Serves hub.now seats.old.items held.old × ((start : T) × T.Came start traffic.old (given_to seats.old.items held.old) (polled_by seats.old.items)) }
+    ensures serves { Serves hub.now seats.new.items held.new }
+    ensures came { (start : T) → T.Came start traffic.old (given_to seats.old.items held.old) (polled_by seats.old.items) → T.Came start traffic.new (given_to seats.new.items held.new) (polled_by seats.new.items) }
+    ensures nothing { result ≡ Submitted.Nothing → held.new ≡ None }
+{
+    let Some((lane, row)) = next_row(traffic, held) else {
+        return Submitted::Nothing;
+    };
+    let index = usize::from(lane);
+    match hub.submit(rt, &mut seats[index], row) {
+        Ok(_) => Submitted::Row,
+        Err(SubmitFault::Full(row)) => {
+            *held = Some((lane, row));
+            Submitted::Held
+        }
+        Err(SubmitFault::Spent(_)) => unreachable!(),
+    }
+}
+
+/// Submits the next rows.
+fn submit_some<R: Wait, T: Traffic>(
+    rt: &R,
+    hub: &Hub,
+    traffic: &mut T,
+    seats: &mut Vec<LaneSeat>,
+    held: &mut Option<(u8, Runs)>,
+    pace: &mut Pace,
+) -> Submitted
+    requires { Serves hub.now seats.old.items held.old × ((start : T) × T.Came start traffic.old (given_to seats.old.items held.old) (polled_by seats.old.items)) }
+    ensures serves { Serves hub.now seats.new.items held.new }
+    ensures came { (start : T) → T.Came start traffic.old (given_to seats.old.items held.old) (polled_by seats.old.items) → T.Came start traffic.new (given_to seats.new.items held.new) (polled_by seats.new.items) }
+    ensures nothing { result ≡ Submitted.Nothing → held.new ≡ None }
+{
+    let mut submitted = Submitted::Row;
+    for _i in 0..IN_A_TURN {
+        submitted = submit_next(rt, hub, traffic, seats, held);
+        if submitted != Submitted::Row {
+            break;
+        }
+        pace.has_queued();
+    }
+    submitted
+}
+
+/// Polls the lane's next delivery, where it is seen, and brings it.
+fn bring_next<T: Traffic>(
+    hub: &Hub,
+    traffic: &mut T,
+    seats: &mut Vec<LaneSeat>,
+    held: &Option<(u8, Runs)>,
+    index: usize,
+) -> Result<(), T::BringFault>
+    requires { Serves hub.now seats.old.items held.now × ((start : T) × T.Came start traffic.old (given_to seats.old.items held.now) (polled_by seats.old.items)) × (index < vec_len seats.old) }
+    ensures serves { Serves hub.now seats.new.items held.now }
+    ensures count { vec_len seats.new ≡ vec_len seats.old }
+    ensures came { IfOk result (λ _. (start : T) → T.Came start traffic.old (given_to seats.old.items held.now) (polled_by seats.old.items) → T.Came start traffic.new (given_to seats.new.items held.now) (polled_by seats.new.items)) }
+{
+    let _ = hub;
+    let _ = held;
+    match seats[index].poll() {
+        Some(delivery) => traffic.bring(delivery),
+        None => Ok(()),
+    }
+}
+
+/// Hands the lane its next numbers, and brings each at once.
+fn pass_on<T: Traffic>(
+    hub: &Hub,
+    traffic: &mut T,
+    seats: &mut Vec<LaneSeat>,
+    deliverer: &mut DelivererSeat,
+    held: &Option<(u8, Runs)>,
+    lane: u8,
+) -> Result<(), T::BringFault>
+    requires { Serves hub.now seats.old.items held.now × ((start : T) × T.Came start traffic.old (given_to seats.old.items held.now) (polled_by seats.old.items)) × IsDelivererOf hub.now deliverer.old }
+    ensures serves { Serves hub.now seats.new.items held.now }
+    ensures came { IfOk result (λ _. (start : T) → T.Came start traffic.old (given_to seats.old.items held.now) (polled_by seats.old.items) → T.Came start traffic.new (given_to seats.new.items held.now) (polled_by seats.new.items)) }
+    ensures deliverer { IsDelivererOf hub.now deliverer.new }
+{
+    let index = usize::from(lane);
+    if index >= seats.len() {
+        return Ok(());
+    }
+    for _i in 0..u64::MAX {
+        if deliverer.hand(lane) == Handed::Nothing {
+            break;
+        }
+        bring_next(hub, traffic, seats, held, index)?;
+    }
+    Ok(())
+}
+
+/// Collects what was posted, and passes each on.
+fn collect_some<R: Wait, T: Traffic>(
+    rt: &R,
+    hub: &Hub,
+    traffic: &mut T,
+    seats: &mut Vec<LaneSeat>,
+    deliverer: &mut DelivererSeat,
+    held: &Option<(u8, Runs)>,
+) -> Result<Gathered, T::BringFault>
+    requires { Serves hub.now seats.old.items held.now × ((start : T) × T.Came start traffic.old (given_to seats.old.items held.now) (polled_by seats.old.items)) × IsDelivererOf hub.now deliverer.old }
+    ensures serves { Serves hub.now seats.new.items held.now }
+    ensures came { IfOk result (λ _. (start : T) → T.Came start traffic.old (given_to seats.old.items held.now) (polled_by seats.old.items) → T.Came start traffic.new (given_to seats.new.items held.now) (polled_by seats.new.items)) }
+    ensures deliverer { IsDelivererOf hub.now deliverer.new }
+{
+    let mut gathered = Gathered::Nothing;
+    for _i in 0..IN_A_TURN {
+        gathered = hub.gather(rt, deliverer);
+        let Gathered::Taken(lane) = gathered else {
+            break;
+        };
+        pass_on(hub, traffic, seats, deliverer, held, lane)?;
+    }
+    Ok(gathered)
+}
+
+/// Whether each ticket that was issued was polled.
+fn are_even(seats: &[LaneSeat]) -> bool
+    ensures { result ≡ true → AreEven seats.now }
+{
+    seats.iter().all(|seat| seat.polled == seat.issued)
+}
+
+/// Whether there is work for a further worker.
+fn are_many(seats: &[LaneSeat]) -> bool {
+    let under_way = seats.iter().fold(0u32, |sum, seat| {
+        sum.saturating_add(seat.issued - seat.polled)
+    });
+    under_way > SHARE
+}
+
+/// Waits for more, where nothing is under way and nothing in hand.
+fn wait_for_more<T: Traffic>(
+    hub: &Hub,
+    traffic: &mut T,
+    seats: &Vec<LaneSeat>,
+) -> Result<bool, T::WaitFault>
+    requires { Serves hub.now seats.now.items None × ((start : T) × T.Came start traffic.old (given_to seats.now.items None) (polled_by seats.now.items)) × AreEven seats.now.items }
+    ensures came { (start : T) → T.Came start traffic.old (given_to seats.now.items None) (polled_by seats.now.items) → T.Came start traffic.new (given_to seats.now.items None) (polled_by seats.now.items) }
+    ensures ended { result ≡ Ok false → T.has_ended traffic.new ≡ true }
+{
+    let _ = hub;
+    let _ = seats;
+    traffic.wait()
+}
+
+/// Collects, submits, and where there is nothing to do waits for a delivery.
+fn take_turn<R: Wait, T: Traffic>(
+    rt: &R,
+    hub: &Hub,
+    traffic: &mut T,
+    seats: &mut Vec<LaneSeat>,
+    deliverer: &mut DelivererSeat,
+    held: &mut Option<(u8, Runs)>,
+    signals: &Signals,
+    pace: &mut Pace,
+) -> Result<Turn, T::BringFault>
+    requires { Serves hub.now seats.old.items held.old × ((start : T) × T.Came start traffic.old (given_to seats.old.items held.old) (polled_by seats.old.items)) × IsDelivererOf hub.now deliverer.old }
+    ensures serves { Serves hub.now seats.new.items held.new }
+    ensures came { IfOk result (λ _. (start : T) → T.Came start traffic.old (given_to seats.old.items held.old) (polled_by seats.old.items) → T.Came start traffic.new (given_to seats.new.items held.new) (polled_by seats.new.items)) }
+    ensures deliverer { IsDelivererOf hub.now deliverer.new }
+    ensures even { result ≡ Ok Turn.Even → AreEven seats.new.items × (held.new ≡ None) }
+{
+    let seen = signals.deliveries.given();
+    let gathered = collect_some(rt, hub, traffic, seats, deliverer, held)?;
+    signals.places.notify_all();
+    if pace.has_just_slept() && are_many(seats.as_slice()) {
+        signals.jobs.notify_one();
+    }
+    let submitted = submit_some(rt, hub, traffic, seats, held, pace);
+    pace.tell_of_rows(signals, hub.shape.workers, submitted == Submitted::Row);
+    match gathered {
+        Gathered::Taken(_) => Ok(Turn::GoesOn),
+        Gathered::NoMemory => Ok(Turn::NoMemory),
+        Gathered::Nothing => {
+            if submitted == Submitted::Row {
+                return Ok(Turn::GoesOn);
+            }
+            if submitted == Submitted::Nothing && are_even(seats.as_slice()) {
+                return Ok(Turn::Even);
+            }
+            pace.wait(rt, signals, seen);
+            Ok(Turn::GoesOn)
+        }
+    }
+}
+
+/// Submits, collects, hands and brings in turn, until the traffic ends.
+fn run<R: Wait, T: Traffic>(
+    rt: &R,
+    hub: &Hub,
+    traffic: &mut T,
+    seats: &mut Vec<LaneSeat>,
+    deliverer: &mut DelivererSeat,
+    signals: &Signals,
+) -> Ended<T::WaitFault, T::BringFault>
+    requires { Serves hub.now seats.old.items None × ((start : T) × T.Came start traffic.old (given_to seats.old.items None) (polled_by seats.old.items)) × IsDelivererOf hub.now deliverer.old }
+    ensures serves { (held : Option (ℕ × List ℕ)) × Serves hub.now seats.new.items held
+        × (IsKept result → (start : T) → T.Came start traffic.old (given_to seats.old.items None) (polled_by seats.old.items) → T.Came start traffic.new (given_to seats.new.items held) (polled_by seats.new.items))
+        × (result ≡ Ended.Done → (T.has_ended traffic.new ≡ true) × AreEven seats.new.items × (held ≡ None)) }
+    ensures deliverer { IsDelivererOf hub.now deliverer.new }
+{
+    let mut held = None;
+    let mut pace = Pace::new();
+    for _ in rt.forever() {
+        match take_turn(
+            rt, hub, traffic, seats, deliverer, &mut held, signals, &mut pace,
+        ) {
+            Ok(Turn::GoesOn) => {}
+            Ok(Turn::NoMemory) => return Ended::NoMemory,
+            Ok(Turn::Even) => match wait_for_more(hub, traffic, seats) {
+                Ok(true) => {}
+                Ok(false) => return Ended::Done,
+                Err(fault) => return Ended::Stopped(fault),
+            },
+            Err(fault) => return Ended::Lost(fault),
+        }
+    }
+    unreachable!()
+}
+
+/// Serves the traffic beside the workers.
+fn serve_seats<R: Threads + Wait + Sync, G: Gate + Sync, T: Traffic + Drop>(
+    rt: &R,
+    alloc: Global,
+    hub: &Hub,
+    traffic: T,
+    seats: Vec<LaneSeat>,
+    workers: Vec<WorkerSeat>,
+    deliverer: DelivererSeat,
+    gate: &G,
+) -> Result<
+    (
+        T,
+        Vec<LaneSeat>,
+        Vec<WorkerSeat>,
+        DelivererSeat,
+        Ended<T::WaitFault, T::BringFault>,
+    ),
+    ServeFault,
+>
+    requires { Serves hub.now seats.items None × T.Came traffic traffic (given_to seats.items None) (polled_by seats.items) × All (IsWorkerOf hub.now) workers.items × IsDelivererOf hub.now deliverer }
+    ensures serves { IfOk result (λ v. (held : Option (ℕ × List ℕ)) × Serves hub.now v.1.items held × (IsKept v.4 → T.Came traffic v.0 (given_to v.1.items held) (polled_by v.1.items)) × (v.4 ≡ Ended.Done → (T.has_ended v.0 ≡ true) × AreEven v.1.items × (held ≡ None))) }
+    ensures workers { IfOk result (λ v. All (IsWorkerOf hub.now) v.2.items × (vec_len v.2 ≡ vec_len workers)) }
+    ensures deliverer { IfOk result (λ v. IsDelivererOf hub.now v.3) }
+    ensures refused { IfErr result (λ e. e ≢ ServeFault.BadCount) }
+{
+    let told = Signals::new();
+    let signals = &told;
+    let task = move || -> (
+        T,
+        Vec<LaneSeat>,
+        DelivererSeat,
+        Ended<T::WaitFault, T::BringFault>,
+    )
+        requires { Serves hub.now seats.items None × T.Came traffic traffic (given_to seats.items None) (polled_by seats.items) × IsDelivererOf hub.now deliverer }
+        ensures serves { (held : Option (ℕ × List ℕ)) × Serves hub.entry.now result.1.items held × (IsKept result.3 → T.Came traffic result.0 (given_to result.1.items held) (polled_by result.1.items)) × (result.3 ≡ Ended.Done → (T.has_ended result.0 ≡ true) × AreEven result.1.items × (held ≡ None)) }
+        ensures deliverer { IsDelivererOf hub.entry.now result.2 }
+    {
+        let mut traffic = traffic;
+        let mut seats = seats;
+        let mut deliverer = deliverer;
+        let ended = run(rt, hub, &mut traffic, &mut seats, &mut deliverer, signals);
+        (traffic, seats, deliverer, ended)
+    };
+    let (workers, (traffic, seats, deliverer, ended)) = run_workers(
+        rt, alloc, hub, workers, gate, signals, task,
+    )?;
+    Ok((traffic, seats, workers, deliverer, ended))
+}
+
+/// A hub with as many tickets a lane as there are.
+fn new_hub<R: Wait>(
+    rt: &R,
+    alloc: Global,
+    lanes: u8,
+    workers: u8,
+    year: Year,
+) -> Result<Parts, ServeFault>
+    requires counts { (is_count lanes ≡ true) × (is_count workers ≡ true) }
+    ensures shape { IfOk result (λ p. ((shape_of p.hub).lanes ≡ lanes) × ((shape_of p.hub).limit ≡ 4294967295) × (year_of p.hub ≡ year)) }
+    ensures lanes { IfOk result (λ p. numbers_of p.lanes.items ≡ range_with_len 0 lanes) }
+    ensures seats { IfOk result (λ p. AreAllSeats p.hub p.lanes.items p.workers.items p.deliverer) }
+    ensures unused { IfOk result (λ p. All HasDoneNothing p.lanes.items) }
+    ensures refused { IfErr result (λ e. e ≡ ServeFault.NoMemory) }
+{
+    let shape = Shape {
+        lanes,
+        workers,
+        capacity: CAPACITY,
+        limit: u32::MAX,
+    };
+    match Hub::new(rt, alloc, shape, year) {
+        Ok(parts) => Ok(parts),
+        Err(HubFault::NoMemory) => Err(ServeFault::NoMemory),
+        Err(HubFault::BadCount) => unreachable!(),
+    }
+}
+
+/// Closes each lane, in room that was taken before.
+fn close_all(seats: Vec<LaneSeat>, room: Vec<ClosedLane>) -> Vec<ClosedLane>
+    requires { (room.items ≡ []) × (vec_len room ≡ 0) × (vec_len seats ≤ vec_capacity room) }
+    ensures { result.items ≡ seats.items }
+{
+    let mut closed = room;
+    for seat in seats {
+        closed.push_reserved(seat.close());
+    }
+    closed
+}
+
+/// Serves a traffic that has given nothing: the calling thread submits its rows, collects, hands and
+/// brings their deliveries, and so many workers read them beside each other, each row once the gate has
+/// let its ticket pass.
+pub fn serve_traffic<R: Threads + Wait + Sync, G: Gate + Sync, T: Traffic + Drop>(
+    rt: &R,
+    alloc: Global,
+    traffic: T,
+    lanes: u8,
+    workers: u8,
+    year: Year,
+    gate: &G,
+) -> Result<(T, Ended<T::WaitFault, T::BringFault>), ServeFault>
+    requires counts { (is_count lanes ≡ true) × (is_count workers ≡ true) }
+    requires fresh { T.Came traffic traffic (replicate lanes []) (replicate lanes []) }
+    ensures served { IfOk result (λ v. IsKept v.1 → (given : List (List (List ℕ))) × (brought : List (List Plain)) × T.Came traffic v.0 given brought × AreServedFirst year given brought
+        × (v.1 ≡ Ended.Done → (T.has_ended v.0 ≡ true) × (brought ≡ served year given))) }
+    ensures refused { IfErr result (λ e. e ≢ ServeFault.BadCount) }
+{
+    let Parts {
+        hub,
+        lanes,
+        workers,
+        deliverer,
+    } = new_hub(rt, alloc, lanes, workers, year)?;
+    let room = Vec::with_capacity(alloc, lanes.len())?;
+    let (traffic, lanes, workers, deliverer, ended) = serve_seats(
+        rt, alloc, &hub, traffic, lanes, workers, deliverer, gate,
+    )?;
+    let closed = close_all(lanes, room);
+    hub.finish(rt, alloc, closed, workers, deliverer);
+    Ok((traffic, ended))
+}

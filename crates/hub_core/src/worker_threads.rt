@@ -1,0 +1,157 @@
+//! A thread for each worker's seat.
+ghost use Rattle.std.specs.Prelude.{◌≡◌, ◌≢◌, [], ◌≤◌, ◌<◌, All, IfOk, IfErr, ◌+◌, true, vec_len, vec_capacity};
+ghost use Rattle.hub_core.specs.Hubs.{IsWorkerOf};
+
+use crate::fault::ServeFault;
+use crate::gate::Gate;
+use crate::hub::Hub;
+use crate::signals::Signals;
+use crate::worker_seat::{Worked, WorkerSeat};
+use std::alloc::Global;
+use std::sync::Wait;
+use std::thread;
+use std::thread::{Promise, PromisedHandle, Scope, Threads};
+
+/// How many deliveries a worker posts before it tells the calling thread of them.
+const NOTIFIED_TOGETHER: u32 = 16;
+
+/// A worker's seat comes back as one of this hub.
+#[derive(Clone, Copy)]
+struct OfHub<'a>(&'a Hub);
+
+impl<'a> Promise<WorkerSeat> for OfHub<'a> {
+    ghost use Rattle.hub_core.specs.Hubs.{IsWorkerOf};
+
+    ghost kept_by = { λ p r. IsWorkerOf p.0.now r };
+}
+
+/// Works until it is asked to stop and then finds nothing to do.
+fn run_worker<R: Wait, G: Gate>(
+    rt: &R,
+    hub: &Hub,
+    seat: WorkerSeat,
+    gate: &G,
+    signals: &Signals,
+) -> WorkerSeat
+    requires { IsWorkerOf hub.now seat }
+    ensures { IsWorkerOf hub.now result }
+{
+    let mut seat = seat;
+    let mut posted: u32 = 0;
+    for _ in rt.forever() {
+        let jobs = signals.jobs.given();
+        let places = signals.places.given();
+        let is_last = signals.is_stop_requested();
+        match hub.work(rt, &mut seat, gate) {
+            Worked::Posted => {
+                posted = posted.wrapping_add(1);
+                if posted % NOTIFIED_TOGETHER == 0 {
+                    signals.deliveries.notify_one();
+                }
+            }
+            _ if is_last => break,
+            Worked::Nothing => {
+                signals.deliveries.notify_one();
+                signals.jobs.rest(rt, jobs);
+            }
+            Worked::Held => {
+                signals.deliveries.notify_one();
+                signals.places.rest(rt, places);
+            }
+        }
+    }
+    seat
+}
+
+/// Joins all threads.
+fn join_all<'a>(
+    rt: &impl Threads,
+    hub: &'a Hub,
+    back: &mut Vec<WorkerSeat>,
+    handles: Vec<PromisedHandle<WorkerSeat, OfHub<'a>>>,
+)
+    requires of_hub { All (IsWorkerOf hub.now) back.old.items × All (λ h. h.promise.0.now ≡ hub.now) handles.items }
+    requires room { vec_len back.old + vec_len handles ≤ vec_capacity back.old }
+    ensures seats { All (IsWorkerOf hub.now) back.new.items }
+    ensures count { vec_len back.new ≡ vec_len back.old + vec_len handles.entry }
+{
+    for handle in handles {
+        back.push_reserved(handle.join(rt));
+    }
+}
+
+/// Starts a thread for each worker. False where one could not be started.
+fn start_all<'s, 'e: 's, R: Threads + Wait + Sync, G: Gate + Sync>(
+    rt: &'e R,
+    hub: &'e Hub,
+    scope: &'s Scope<'s, &'e ()>,
+    seats: Vec<WorkerSeat>,
+    gate: &'e G,
+    signals: &'e Signals,
+    handles: &mut Vec<PromisedHandle<WorkerSeat, OfHub<'e>>>,
+) -> bool
+    requires of_hub { All (IsWorkerOf hub.now) seats.items × All (λ h. h.promise.0.now ≡ hub.now) handles.old.items }
+    requires room { vec_len handles.old + vec_len seats ≤ vec_capacity handles.old }
+    ensures of_hub { All (λ h. h.promise.0.now ≡ hub.entry.now) handles.new.items }
+    ensures count { (vec_len handles.new ≤ vec_len handles.old + vec_len seats) × (result ≡ true → vec_len handles.new ≡ vec_len handles.old + vec_len seats) }
+{
+    for seat in seats {
+        let started = scope.spawn_with(
+            OfHub(hub),
+            move || -> WorkerSeat
+                requires { IsWorkerOf hub.now seat }
+                ensures { IsWorkerOf hub.entry.now result }
+            { run_worker(rt, hub, seat, gate, signals) },
+        );
+        match started {
+            Ok(handle) => handles.push_reserved(handle),
+            Err(_) => return false,
+        }
+    }
+    true
+}
+
+/// Runs the workers, each on a thread of its own, beside a task of the calling thread. Once the task has
+/// ended they are asked to stop, and each stops when it then finds no job or no place for its answer.
+///
+/// All threads have ended when it returns. `NoThread` says that a thread could not be started,
+/// `NoMemory` that memory was refused: the task has not begun then, and the seats are dropped.
+pub fn run_workers<'e, R: Threads + Wait + Sync, G: Gate + Sync, F: FnOnce() -> T + Drop, T: Drop>(
+    rt: &'e R,
+    alloc: Global,
+    hub: &'e Hub,
+    seats: Vec<WorkerSeat>,
+    gate: &'e G,
+    signals: &'e Signals,
+    task: F,
+) -> Result<(Vec<WorkerSeat>, T), ServeFault>
+    requires { All (IsWorkerOf hub.now) seats.items × F.pre task }
+    ensures seats { IfOk result (λ v. All (IsWorkerOf hub.now) v.0.items × (vec_len v.0 ≡ vec_len seats)) }
+    ensures task { IfOk result (λ v. F.post task v.1) }
+    ensures refused { IfErr result (λ e. e ≢ ServeFault.BadCount) }
+{
+    let count = seats.len();
+    let mut back = Vec::with_capacity(alloc, count)?;
+    thread::scope(
+        thread::scope_env(),
+        rt,
+        |scope| -> Result<(Vec<WorkerSeat>, T), ServeFault>
+            requires { All (IsWorkerOf hub.now) seats.items × F.pre task × (back.items ≡ []) × (vec_len back ≡ 0) × (vec_capacity back ≡ vec_len seats) }
+            ensures seats { IfOk result (λ v. All (IsWorkerOf hub.entry.now) v.0.items × (vec_len v.0 ≡ vec_len seats)) }
+            ensures task { IfOk result (λ v. F.post task v.1) }
+            ensures refused { IfErr result (λ e. e ≢ ServeFault.BadCount) }
+        {
+            let mut handles = Vec::with_capacity(alloc, seats.len())?;
+            let started = start_all(rt, hub, scope, seats, gate, signals, &mut handles);
+            if !started {
+                signals.request_stop();
+                join_all(rt, hub, &mut back, handles);
+                return Err(ServeFault::NoThread);
+            }
+            let done = task();
+            signals.request_stop();
+            join_all(rt, hub, &mut back, handles);
+            Ok((back, done))
+        },
+    )
+}
