@@ -1,5 +1,7 @@
 """Characters of Code 128, as the standard prints them, and symbols of them."""
 
+import re
+
 from rows import runs
 
 # The widths of the values 0 to 105, bar first. The last three start a symbol in code sets A, B and C.
@@ -25,9 +27,6 @@ SHIFT = 98
 TO_C, TO_B, TO_A = 99, 100, 101
 FNC1 = 102
 
-# The 82 characters of a value.
-CHARACTERS = "!\"%&'()*+,-./0123456789:;<=>?ABCDEFGHIJKLMNOPQRSTUVWXYZ_abcdefghijklmnopqrstuvwxyz"
-
 
 def check_character(start, values):
     """The check character of these values."""
@@ -38,6 +37,26 @@ def symbol(start, values, check=None):
     """The widths of a symbol of these values, in groups: its check character is the right one where none is given."""
     check = check_character(start, values) if check is None else check
     return " ".join([*(PATTERNS[value] for value in [start, *values, check]), STOP])
+
+
+def encoded(text):
+    """The values that a text, with ^ for each separator, is printed with after start C and the first FNC1."""
+    values, set_c, place = [], True, 0
+    while place < len(text):
+        digits = len(re.match("[0-9]*", text[place:])[0])
+        if text[place] == "^":
+            values.append(FNC1)
+            place += 1
+        elif set_c and digits >= 2:
+            values.append(int(text[place : place + 2]))
+            place += 2
+        elif set_c or digits >= 4 and digits % 2 == 0:
+            values.append(TO_B if set_c else TO_C)
+            set_c = not set_c
+        else:
+            values.append(ord(text[place]) - 32)
+            place += 1
+    return values
 
 
 def row(groups):

@@ -2,7 +2,9 @@
 
 import itertools
 
-from code128 import A, B, C, CHARACTERS, FNC1, PATTERNS, SHIFT, STOP, TO_A, TO_B, TO_C, check_character, row, symbol
+from code128 import A, B, C, FNC1, PATTERNS, SHIFT, STOP, TO_A, TO_B, TO_C, check_character, encoded, row, symbol
+from element_strings import X
+from program import field
 from rows import RowTest
 from sheets import SymbolTest, dots_of
 
@@ -36,7 +38,7 @@ def answer(value):
     """What is answered to AI 91 with this value, in which the letter A stands before and after another character."""
     if value[1] == "\x1d":
         return "refused 5 UnknownAi 4"
-    return f"]C1 (91){value}" if set(value) <= set(CHARACTERS) else "refused 7 ValueCharacter 0"
+    return f"]C1 (91){value}" if set(value) <= set(X) else "refused 7 ValueCharacter 0"
 
 
 def widths_of(count, modules):
@@ -225,7 +227,7 @@ class PrintedTest(SymbolTest):
     def has_values(self, cases):
         """That texts print with these values after start C and FNC1."""
         self.prints(512, [
-            (f"gs1128,{text}", dots_of(10, symbol(C, [FNC1, *values]), 512)) for text, values in cases
+            (f"gs1128,{field(text)}", dots_of(10, symbol(C, [FNC1, *values]), 512)) for text, values in cases
         ])
 
     def test_each_pair_of_digits(self):
@@ -234,8 +236,7 @@ class PrintedTest(SymbolTest):
     def test_each_character(self):
         # Between letters, so that a digit has no digit beside it.
         self.has_values([
-            (f'"91a{character.replace(chr(34), 2 * chr(34))}b"', [91, TO_B, 65, ord(character) - 32, 66])
-            for character in CHARACTERS
+            (f"91a{character}b", [91, TO_B, 65, ord(character) - 32, 66]) for character in X
         ])
 
     def test_each_check_character(self):
@@ -247,7 +248,7 @@ class PrintedTest(SymbolTest):
         self.has_values(found.values())
 
     def test_the_choice_of_code_sets(self):
-        self.has_values([
+        texts = [
             ("0109501101530003", [1, 9, 50, 11, 1, 53, 0, 3]),
             ("422528", [42, 25, 28]),
             ("10AB^17261231", [10, TO_B, 33, 34, FNC1, TO_C, 17, 26, 12, 31]),
@@ -273,7 +274,14 @@ class PrintedTest(SymbolTest):
             ("10123^2112", [10, 12, TO_B, 19, FNC1, TO_C, 21, 12]),
             ("10A^211", [10, TO_B, 33, FNC1, 18, 17, 17]),
             ("10A12^2112", [10, TO_B, 33, 17, 18, FNC1, TO_C, 21, 12]),
-            # A separator that is not needed is not printed.
+        ]
+        self.has_values(texts)
+        for text, values in texts:
+            with self.subTest(text):
+                self.assertEqual(encoded(text), values)
+
+    def test_separators_that_are_not_needed(self):
+        self.has_values([
             ("2011^10A^", [20, 11, 10, TO_B, 33]),
             ("0109501101530003^10A", [1, 9, 50, 11, 1, 53, 0, 3, 10, TO_B, 33]),
         ])

@@ -1,4 +1,5 @@
-"""Symbols of numbers: guard patterns and characters as the standards print them, at one dot a module, without their light ends."""
+"""Symbols of numbers at one dot a module, without their light ends: guard patterns and characters as the standards print
+them."""
 
 # A number for each first digit. Over them each digit stands in each number set.
 EAN13 = [
