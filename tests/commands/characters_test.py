@@ -8,7 +8,7 @@ SEPARATORS = "^\x1d"
 ASCII = [chr(number) for number in range(128)]
 
 # Letters of other languages and signs of 2, 3 and 4 bytes in UTF-8.
-OTHER = [chr(number) for number in range(128, 256)] + ["\u0100", "\u07ff", "\u0800", "\u20ac", "\uff21", "\U00010000", "\U0001f600"]
+OTHER = [chr(number) for number in range(128, 256)] + list("\u0100\u07ff\u0800\u20ac\uff21\U00010000\U0001f600")
 
 
 class CharactersTest(CommandTest):

@@ -20,7 +20,8 @@ class DatesTest(CommandTest):
     def has_dates(self, cases, year=2026):
         """That elements, each its AI and its value, are taken, or refused by their date."""
         self.gives_lines(f"check --year {year}", [
-            (f"text,{ai}{value}", f"hri ({ai}){value}" if taken else "refused 9 ValueDate 0") for ai, value, taken in cases
+            (f"text,{ai}{value}", f"hri ({ai}){value}" if taken else "refused 9 ValueDate 0")
+            for ai, value, taken in cases
         ])
 
     def test_each_day_of_a_year(self):
@@ -81,5 +82,5 @@ class DatesTest(CommandTest):
             (2149, False),
         ]:
             with self.subTest(year):
-                self.has_dates([("17", "000229", taken), ("7003", "0002290000", taken), ("8008", "00022900", taken)], year)
+                self.has_dates([("17", "000229", taken), ("7003", "0002291530", taken), ("8008", "00022915", taken)], year)
                 self.has_dates([("17", f"{it}0229", int(it) % 4 == 0) for it in TWO_DIGITS[1:]], year)

@@ -69,7 +69,8 @@ class DigitsTest(CommandTest):
             for length in range(40)
         ])
         self.checks([
-            (f"upce,{length * '0'}", "gtin 00000000000000" if length == 8 else "refused 1 Length") for length in range(40)
+            (f"upce,{length * '0'}", "gtin 00000000000000" if length == 8 else "refused 1 Length")
+            for length in range(40)
         ])
 
     def test_the_lengths_come_first(self):

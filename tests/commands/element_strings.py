@@ -23,7 +23,12 @@ def with_digits(greatest, *beginnings):
 
 
 MEASURES = [
-    *between(310, 316), *between(320, 329), *between(330, 337), *between(340, 349), *between(350, 357), *between(360, 369)
+    *between(310, 316),
+    *between(320, 329),
+    *between(330, 337),
+    *between(340, 349),
+    *between(350, 357),
+    *between(360, 369),
 ]
 
 # Each AI with the parts of its value.

@@ -1,4 +1,4 @@
-"""Element strings: each AI of the product with its lengths, its characters and its check digits, alone and beside others."""
+"""Element strings: each AI with its lengths, its characters and its check digits, alone and beside others."""
 
 from code128 import C, FNC1, encoded, row, symbol
 from element_strings import ANY, CHECKED, PARTS, TIME, check_digit, is_predefined, lengths, value

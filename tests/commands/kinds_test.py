@@ -24,11 +24,11 @@ PRINTED = {
 
 # Words that no command takes.
 OTHERS = """
-    gtin8 gtin12 gtin13 gtin14 gtin-8 gtin-12 gtin-13 gtin-14 isbn isbn10 isbn13 issn ismn ean ean2 ean5 ean-8 ean-13 ean14
-    ean128 upc upc-a upc-e upcb upcd jan jan8 jan13 itf itf-14 itf6 itf16 i2of5 interleaved2of5 code128 code39 code93 codabar
-    gs1 gs1-128 gs1_128 ucc128 databar gs1databar datamatrix gs1datamatrix qr qrcode pdf417 aztec sscc sscc18 gln gsin grai
-    giai gsrn gdti gcn ai ais hri element elements elementstring string number digits check checkdigit payload kind label row
-    lane scan print lanes help year none null 0 1 01 00 e0 c1
+    gtin8 gtin12 gtin13 gtin14 gtin-8 gtin-12 gtin-13 gtin-14 isbn isbn10 isbn13 issn ismn ean ean2 ean5 ean-8
+    ean-13 ean14 ean128 upc upc-a upc-e upcb upcd jan jan8 jan13 itf itf-14 itf6 itf16 i2of5 interleaved2of5 code128
+    code39 code93 codabar gs1 gs1-128 gs1_128 ucc128 databar gs1databar datamatrix gs1datamatrix qr qrcode pdf417
+    aztec sscc sscc18 gln gsin grai giai gsrn gdti gcn ai ais hri element elements elementstring string number
+    digits check checkdigit payload kind label row lane scan print lanes help year none null 0 1 01 00 e0 c1
 """.split()
 
 

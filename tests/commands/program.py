@@ -1,6 +1,7 @@
 """Runs of the program, and what a test says of one."""
 
 import ctypes
+import itertools
 import mmap
 import os
 import resource
@@ -95,6 +96,15 @@ class CommandTest(unittest.TestCase):
         wrong = [(record, line, told) for (record, line), told in zip(cases, lines) if line != told]
         self.assertEqual(wrong[:20], [], "records with the line that is wanted and the one that is told")
         self.assertEqual(len(lines), len(cases))
+
+    def writes_lines(self, command, given, lines):
+        """That a command writes so much text: what is told of a failure is its first line that differs."""
+        it = ran(command, given)
+        self.assertEqual((it.status, it.error), (0, b""))
+        if it.output != "".join(lines).encode():
+            told = it.output.decode().splitlines(keepends=True)
+            for place, (line, found) in enumerate(itertools.zip_longest(lines, told)):
+                self.assertEqual(found, line, f"line {place}")
 
     def is_refused(self, it, line, output=b""):
         """That a run was refused with this line, and wrote this before."""

@@ -1,5 +1,4 @@
-"""Symbols of numbers at one dot a module, without their light ends: guard patterns and characters as the standards print
-them."""
+"""Symbols of numbers at one dot a module, without their light ends: guards and characters as the standards print them."""
 
 # A number for each first digit. Over them each digit stands in each number set.
 EAN13 = [
