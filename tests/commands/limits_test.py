@@ -53,16 +53,15 @@ class TextsTest(CommandTest):
 
 class RowsTest(RowTest):
     def test_the_numbers_of_runs(self):
-        # Of all odd numbers those of a carrier have another fault.
-        counts = {33, 59, 43, 77, *(6 * k + 7 for k in range(3, 99))}
-        given = [(count, "0,100 " + count * "9 " + "100\n") for count in range(1, 1_001, 2)]
-        others = [count for count, _ in given if count not in counts]
-        self.gives(
-            "lanes --lanes 1 --workers 1 --year 2026",
-            "".join(line for count, line in given if count not in counts),
-            "".join(f"0 {number} refused 20 RunCount\n" for number in range(len(others))),
-        )
-        self.reads([([100, *(6 * k + 7) * [9], 100], "refused 23 Pattern") for k in range(3, 99)])
+        # Runs of nine dots are no number of modules of an EAN-13 or a UPC-E, and two modules of a GS1-128. ITF-14, with 77
+        # runs, has widths of its own.
+        wanted = {33: "refused 22 Modules", 59: "refused 22 Modules"}
+        wanted.update((6 * k + 7, "refused 23 Pattern") for k in range(3, 99))
+        self.reads([
+            ([100, *count * [9], 100], wanted.get(count, "refused 20 RunCount"))
+            for count in range(1, 1_001, 2)
+            if count != 77
+        ])
 
     def test_light_ends_of_five_modules(self):
         cases = []
