@@ -83,6 +83,26 @@ class ReadTest(RowTest):
             cases.append((row("upce", f"111 {six} 111111"), wanted.get(choice, "refused 23 Pattern")))
         self.reads(cases)
 
+    def test_wide_guards(self):
+        # Each run of the guard patterns two modules wide.
+        cases = []
+        for kind, groups in [("ean13", EAN13[3][1]), ("ean8", EAN8[2][1]), ("upce", UPCE[4][2])]:
+            for place, guard in enumerate(groups.split()):
+                for run in range(len(guard)) if set(guard) == {"1"} else ():
+                    wide = guard[:run] + "2" + guard[run + 1 :]
+                    cases.append((row(kind, replaced(groups, place, wide)), "refused 23 Pattern"))
+        self.assertEqual(len(cases), 11 + 11 + 9)
+        self.reads(cases)
+
+    def test_other_ends_of_itf14(self):
+        # Each other choice of narrow and wide elements for the start and for the stop.
+        groups = ITF14[1][1]
+        cases = []
+        for place, right in [(0, "1111"), (-1, "311")]:
+            others = {"".join(it) for it in itertools.product("13", repeat=len(right))} - {right}
+            cases += [(row("itf14", replaced(groups, place, it)), "refused 23 Pattern") for it in sorted(others)]
+        self.reads(cases)
+
     def test_itf14_pairs_without_a_digit(self):
         # The first pair, 76, with each other choice of narrow and wide elements for one of its digits.
         groups = ITF14[0][1]
