@@ -82,7 +82,7 @@ def lengths(ai):
 
 
 def value(ai, length):
-    """A value of the AI, of this length, which is one of its lengths or above them."""
+    """A value of the AI cut to this length, or with more of the same after it."""
     told = ""
     for part in PARTS[ai]:
         room = length - len(told)
