@@ -1,7 +1,7 @@
 """Rows that lanes send: records and their faults, and what is answered to rows of each carrier, in both directions."""
 
 from program import CommandTest
-from rows import EAN8_ROW, GS1128_ROW, SYMBOL, WIDE_SPACE, WRONG_CHECK_DIGIT
+from rows import EAN8_ROW, GS1128_ROW, SYMBOL, WIDE_SPACE, WRONG_CHECK_DIGIT, runs
 
 
 class RecordsTest(CommandTest):
@@ -109,11 +109,6 @@ STOP = "2331112"
 
 # (17)000229 as Code 128, from its start to its check character.
 DATE = "211232 411131 123221 212222 222221 322211 124211"
-
-
-def runs(groups, dots=1):
-    """The widths of groups of digits, at so many dots a module."""
-    return [int(digit) * dots for group in groups.split() for digit in group]
 
 
 def two_widths(groups, narrow, wide):

@@ -1,12 +1,7 @@
 """Labels that are printed: the bytes of their sheets, their lines, each refusal and their order."""
 
 from program import Breaking, CommandTest, ran
-from sheets import HIGH, LOW, RECORD, image
-
-
-def grid(width, height, columns, rows, module=1):
-    """The command `print` with such cells, at so many dots a module."""
-    return f"print --module {module} --width {width} --height {height} --columns {columns} --rows {rows} --year 2026"
+from sheets import HIGH, LOW, RECORD, grid, image
 
 
 def first_dark_dot(printed, width, y):

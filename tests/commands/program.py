@@ -1,6 +1,7 @@
 """Runs of the program, and what a test says of one."""
 
 import ctypes
+import itertools
 import mmap
 import os
 import resource
@@ -47,6 +48,11 @@ def ran_to(room, command, given):
         return Ran(it.status, file.read(), it.error)
 
 
+def field(text):
+    """A field of a record with this text: between quotes where CSV wants them."""
+    return '"' + text.replace('"', '""') + '"' if set(text) & set('",\r\n') else text
+
+
 class Breaking:
     """A file of some bytes, after which a read fails: the last bytes of a page of memory, and the page after it is
     of a file that has no such page."""
@@ -80,6 +86,25 @@ class CommandTest(unittest.TestCase):
             self.is_refused(ran(command, given), wanted)
         else:
             self.assertEqual(ran(command, given).outcome(), (0, wanted.encode(), ""))
+
+    def gives_lines(self, command, cases):
+        """That one run writes these lines, one for each record: the records with their lines."""
+        it = ran(command, "".join(f"{record}\n" for record, _ in cases).encode())
+        self.assertEqual((it.status, it.error), (0, b""))
+        lines = it.output.decode().removesuffix("\n").split("\n")
+        # Enough of what differs, since one fault can show in thousands of records.
+        wrong = [(record, line, told) for (record, line), told in zip(cases, lines) if line != told]
+        self.assertEqual(wrong[:20], [], "records with the line that is wanted and the one that is told")
+        self.assertEqual(len(lines), len(cases))
+
+    def writes_lines(self, command, given, lines):
+        """That a command writes so much text: what is told of a failure is its first line that differs."""
+        it = ran(command, given)
+        self.assertEqual((it.status, it.error), (0, b""))
+        if it.output != "".join(lines).encode():
+            told = it.output.decode().splitlines(keepends=True)
+            for place, (line, found) in enumerate(itertools.zip_longest(lines, told)):
+                self.assertEqual(found, line, f"line {place}")
 
     def is_refused(self, it, line, output=b""):
         """That a run was refused with this line, and wrote this before."""

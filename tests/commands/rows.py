@@ -1,4 +1,6 @@
-"""Rows of widths at one dot a module, as records have them."""
+"""Rows of widths at one dot a module, as records have them, and what is said of rows."""
+
+from program import CommandTest
 
 # The symbol of 9501101530003 as EAN-13: its runs but for the two light ends.
 SYMBOL = (
@@ -29,3 +31,22 @@ GS1128_ROW = (
     "10 2 1 1 2 3 2 4 1 1 1 3 1 1 1 2 1 3 3 3 2 1 1 2 2 3 2 2 1 1 2 1 2 "
     "1 4 2 1 2 3 3 1 1 1 2 10"
 )
+
+
+def runs(groups, dots=1):
+    """The widths of groups of digits, at so many dots a module."""
+    return [int(digit) * dots for group in groups.split() for digit in group]
+
+
+class RowTest(CommandTest):
+    """A test of rows."""
+
+    def reads(self, cases, year=2026):
+        """That rows of widths, each with its two light ends, have these answers, in both directions."""
+        records = [
+            ("0," + " ".join(map(str, turned)), answer) for widths, answer in cases for turned in (widths, widths[::-1])
+        ]
+        self.gives_lines(
+            f"lanes --lanes 1 --workers 1 --year {year}",
+            [(record, f"0 {number} {answer}") for number, (record, answer) in enumerate(records)],
+        )

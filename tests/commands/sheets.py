@@ -1,4 +1,7 @@
-"""Images of labels, drawn by hand."""
+"""Images of labels, drawn by hand or from widths, and what is said of them."""
+
+from program import CommandTest, ran
+from rows import runs
 
 # The record of a label of 113 modules with its quiet zones.
 RECORD = "ean13,9501101530003\n"
@@ -19,3 +22,36 @@ HIGH = b"P4\n113 6\n"
 def image(header, labelled, light):
     """An image: its header, then cells with the label, then cells without one."""
     return header + labelled * LABEL + light * LIGHT
+
+
+def grid(width, height, columns, rows, module=1):
+    """The command `print` with such cells, at so many dots a module."""
+    return f"print --module {module} --width {width} --height {height} --columns {columns} --rows {rows} --year 2026"
+
+
+def dots_of(left, groups, width):
+    """A row of so many dots: light ones, then the bars and spaces of these widths, and light ones again."""
+    dots = "".join("10"[place % 2] * run for place, run in enumerate(runs(groups)))
+    return ("0" * left + dots).ljust(width, "0")
+
+
+def packed(dots):
+    """The bytes of a row of dots."""
+    count = (len(dots) + 7) // 8
+    return int(dots.ljust(8 * count, "0"), 2).to_bytes(count, "big")
+
+
+class SymbolTest(CommandTest):
+    """A test of symbols that are printed."""
+
+    def prints(self, width, cases):
+        """That records, each in a cell of so many dots on a sheet of its own, print as these rows of dots."""
+        it = ran(grid(width, 3, 1, 1), "".join(f"{record}\n" for record, _ in cases).encode())
+        self.assertEqual((it.status, it.error), (0, b""))
+        light = packed(width * "0")
+        images = [b"P4\n%d 3\n" % width + light + packed(dots) + light for _, dots in cases]
+        size = len(images[0])
+        self.assertEqual(len(it.output), size * len(cases))
+        told = [it.output[place : place + size] for place in range(0, len(it.output), size)]
+        wrong = [(record, image, found) for (record, _), image, found in zip(cases, images, told) if image != found]
+        self.assertEqual(wrong[:20], [], "records with the image that is wanted and the one that is printed")

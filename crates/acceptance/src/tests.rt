@@ -1,6 +1,7 @@
 //! The tests, a module for each subject.
 
 mod adapters;
+mod code_sets;
 mod element_lists;
 mod elements;
 mod held;

@@ -133,3 +133,32 @@ fn an_element_has_its_day_by_the_reference_year(rt: HostRuntime) -> Result<(), F
     }
     Ok(())
 }
+
+#[test]
+fn a_year_of_two_digits_is_the_nearest(rt: HostRuntime) -> Result<(), Fail> {
+    // From 49 years before the reference year to 50 years after it, whatever the century.
+    let cases: &[(u16, &[u8; 8], i16)] = &[
+        (1951, b"17010101", 2001),
+        (1951, b"17020101", 1902),
+        (1999, b"17490101", 2049),
+        (1999, b"17500101", 1950),
+        (2000, b"17500101", 2050),
+        (2000, b"17510101", 1951),
+        (2049, b"17990101", 2099),
+        (2049, b"17000101", 2000),
+        (2050, b"17000101", 2100),
+        (2050, b"17010101", 2001),
+        (2099, b"17490101", 2149),
+        (2099, b"17500101", 2050),
+        (2100, b"17500101", 2150),
+        (2100, b"17510101", 2051),
+        (2148, b"17980101", 2198),
+        (2148, b"17990101", 2099),
+        (2149, b"17990101", 2199),
+    ];
+    for &(reference, text, year) in cases {
+        let element = element(&parsed_in(reference, text)?, 0)?;
+        assert_eq!(rt; day_of(&element), Some((year, 1, 1)));
+    }
+    Ok(())
+}

@@ -24,7 +24,7 @@ fn elements_of(text: &[u8]) -> Result<Elements, Fail> {
 }
 
 /// The values of a symbol, its check character right or wrong.
-fn shown(start: u8, data: &[u8], check: u8) -> Values {
+pub fn shown(start: u8, data: &[u8], check: u8) -> Values {
     let mut values = ArrayVec::new();
     let _ = values.try_extend_from_slice(data);
     Values {
