@@ -17,6 +17,7 @@ use std::thread::Threads;
 // The rows of 9501101530003 as EAN-13 and of 96385074 as EAN-8, at one dot a module.
 const EAN13: &str = "11 1 1 1 1 2 3 1 1 1 2 3 1 2 2 2 2 2 2 1 1 1 2 3 2 2 2 1 1 1 1 1 \
                      1 1 2 3 1 1 4 1 1 3 2 1 1 3 2 1 1 3 2 1 1 1 4 1 1 1 1 1 7";
+
 const EAN8: &str = "7 1 1 1 3 1 1 2 1 1 1 4 1 4 1 1 1 2 1 3 1 1 1 1 1 1 2 3 1 3 2 1 \
                     1 1 3 1 2 1 1 3 2 1 1 1 7";
 
@@ -55,13 +56,25 @@ fn writes<R: Threads + Wait + AllocGlobal + Sync + Abort, G: Gate + Sync>(
 #[test]
 fn check_answers_a_text(rt: HostRuntime) -> Result<(), Fail> {
     let year = Year::new(2026).ok_or("year")?;
-    writes(&rt, Asked::Check(year), b"digit,950110153000\n", &OpenGate, b"digit 3\n")
+    writes(
+        &rt,
+        Asked::Check(year),
+        b"digit,950110153000\n",
+        &OpenGate,
+        b"digit 3\n",
+    )
 }
 
 #[test]
 fn print_writes_images_or_lines(rt: HostRuntime) -> Result<(), Fail> {
     let images = PrintOptions::new(1, 113, 3, 1, 2, 2026, false).ok_or("options")?;
-    writes(&rt, Asked::Print(images), TWO_RECORDS, &OpenGate, TWO_LABELS)?;
+    writes(
+        &rt,
+        Asked::Print(images),
+        TWO_RECORDS,
+        &OpenGate,
+        TWO_LABELS,
+    )?;
     let lines = PrintOptions::new(1, 113, 3, 1, 2, 2026, true).ok_or("options")?;
     let wanted = b"0 0 ean13 (01)09501101530003\n0 1 ean13 (01)09501101530003\n";
     writes(&rt, Asked::Print(lines), TWO_RECORDS, &OpenGate, wanted)
@@ -111,7 +124,35 @@ fn sixteen_workers_are_at_work_at_once(rt: HostRuntime) -> Result<(), Fail> {
         wanted.push_str(format!(in alloc; "{lane} 0 ]E4 (01)00000096385074\n")?.as_str())?;
     }
     let gate = Meeting::of(16);
-    writes(&rt, Asked::Lanes(options), input.as_bytes(), &gate, wanted.as_bytes())?;
+    writes(
+        &rt,
+        Asked::Lanes(options),
+        input.as_bytes(),
+        &gate,
+        wanted.as_bytes(),
+    )?;
     assert!(rt; gate.has_met());
+    Ok(())
+}
+
+#[test]
+fn each_row_of_a_long_lane_comes_once(rt: HostRuntime) -> Result<(), Fail> {
+    let alloc = rt.alloc();
+    let options = LaneOptions::new(1, 2, 2026).ok_or("options")?;
+    let mut input = String::new(alloc);
+    let mut wanted = String::new(alloc);
+    for number in 0..5_000 {
+        input.push_str("0,7\n")?;
+        wanted.push_str(format!(in alloc; "0 {number} refused 19 Blank\n")?.as_str())?;
+    }
+    let gate = Holding::new(alloc, &[5_000], ticket(0, 0), ticket(0, 4_999))?;
+    writes(
+        &rt,
+        Asked::Lanes(options),
+        input.as_bytes(),
+        &gate,
+        wanted.as_bytes(),
+    )?;
+    assert!(rt; gate.saw_each_once());
     Ok(())
 }
