@@ -178,7 +178,10 @@ fn served_past<R: Threads + Wait + AllocGlobal + Sync, G: Gate + Sync>(
 
 #[test]
 fn a_held_row_holds_none_of_three_thousand(rt: HostRuntime) -> Result<(), Fail> {
-    let last = Ticket { lane: 0, number: 3_000 };
+    let last = Ticket {
+        lane: 0,
+        number: 3_000,
+    };
     let gate = Holding::new(rt.alloc(), &[3_001], FIRST, last)?;
     let lists = served_past(&rt, 3_001, &gate)?;
     assert!(rt; gate.saw_each_once());
