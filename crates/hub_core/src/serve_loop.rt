@@ -35,7 +35,10 @@ const CAPACITY: u16 = 64;
 /// How many rows are submitted before deliveries are collected, and the other way round.
 const IN_A_TURN: u32 = 16;
 
-/// More rows than these that are under way, once the calling thread has slept, are work for one worker more.
+/// How many deliveries are collected where the calling thread has slept: all that were posted meanwhile.
+const AFTER_A_SLEEP: u32 = 64;
+
+/// More rows than these that are under way after that are work for one worker more.
 const SHARE: u32 = 16;
 
 /// What a turn leaves to do.
@@ -175,7 +178,7 @@ fn pass_on<T: Traffic>(
     Ok(())
 }
 
-/// Collects what was posted, and passes each on.
+/// Collects so many of what was posted at most, and passes each on.
 fn collect_some<R: Wait, T: Traffic>(
     rt: &R,
     hub: &Hub,
@@ -183,6 +186,7 @@ fn collect_some<R: Wait, T: Traffic>(
     seats: &mut Vec<LaneSeat>,
     deliverer: &mut DelivererSeat,
     held: &Option<(u8, Runs)>,
+    most: u32,
 ) -> Result<Gathered, T::BringFault>
     requires { Serves hub.now seats.old.items held.now × ((start : T) × T.Came start traffic.old (given_to seats.old.items held.now) (polled_by seats.old.items)) × IsDelivererOf hub.now deliverer.old }
     ensures serves { Serves hub.now seats.new.items held.now }
@@ -190,7 +194,7 @@ fn collect_some<R: Wait, T: Traffic>(
     ensures deliverer { IsDelivererOf hub.now deliverer.new }
 {
     let mut gathered = Gathered::Nothing;
-    for _i in 0..IN_A_TURN {
+    for _i in 0..most {
         gathered = hub.gather(rt, deliverer);
         let Gathered::Taken(lane) = gathered else {
             break;
@@ -248,9 +252,11 @@ fn take_turn<R: Wait, T: Traffic>(
     ensures even { result ≡ Ok Turn.Even → AreEven seats.new.items × (held.new ≡ None) }
 {
     let seen = signals.deliveries.given();
-    let gathered = collect_some(rt, hub, traffic, seats, deliverer, held)?;
+    let has_slept = pace.has_just_slept();
+    let most = if has_slept { AFTER_A_SLEEP } else { IN_A_TURN };
+    let gathered = collect_some(rt, hub, traffic, seats, deliverer, held, most)?;
     signals.places.notify_all();
-    if pace.has_just_slept() && are_many(seats.as_slice()) {
+    if has_slept && are_many(seats.as_slice()) {
         signals.jobs.notify_one();
     }
     let submitted = submit_some(rt, hub, traffic, seats, held, pace);

@@ -25,6 +25,14 @@ impl<'a> Promise<WorkerSeat> for OfHub<'a> {
     ghost kept_by = { λ p r. IsWorkerOf p.0.now r };
 }
 
+/// Tells the calling thread of the deliveries that it was not told of, where there are so many.
+fn tell_of(signals: &Signals, untold: &mut u32, least: u32) {
+    if *untold >= least {
+        *untold = 0;
+        signals.deliveries.notify_one();
+    }
+}
+
 /// Works until it is asked to stop and then finds nothing to do.
 fn run_worker<R: Wait, G: Gate>(
     rt: &R,
@@ -37,25 +45,23 @@ fn run_worker<R: Wait, G: Gate>(
     ensures { IsWorkerOf hub.now result }
 {
     let mut seat = seat;
-    let mut posted: u32 = 0;
+    let mut untold: u32 = 0;
     for _ in rt.forever() {
         let jobs = signals.jobs.given();
         let places = signals.places.given();
         let is_last = signals.is_stop_requested();
         match hub.work(rt, &mut seat, gate) {
             Worked::Posted => {
-                posted = posted.wrapping_add(1);
-                if posted % NOTIFIED_TOGETHER == 0 {
-                    signals.deliveries.notify_one();
-                }
+                untold = untold.saturating_add(1);
+                tell_of(signals, &mut untold, NOTIFIED_TOGETHER);
             }
             _ if is_last => break,
             Worked::Nothing => {
-                signals.deliveries.notify_one();
+                tell_of(signals, &mut untold, 1);
                 signals.jobs.rest(rt, jobs);
             }
             Worked::Held => {
-                signals.deliveries.notify_one();
+                tell_of(signals, &mut untold, 1);
                 signals.places.rest(rt, places);
             }
         }
