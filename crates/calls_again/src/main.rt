@@ -8,13 +8,14 @@ ghost use Rattle.lane_core.specs.Desk.{lanes_of};
 use digits_core::{Gtin, Sink, ToWriter};
 use element_core::Year;
 use fakes::Station;
-use hub_core::{Collected, OpenGate, Shape};
+use hub_core::{Collected, OpenGate, Shape, serve};
 use lane_core::{Deliverer, Delivery, Event, Job, TakeFault, Ticket, World, decode};
 use scan_core::Runs;
 use sheet_core::{Grid, Label, PrintFault, Sheet, SheetFault, print_pbm, print_sheets};
 use std::alloc::Global;
 use std::io;
 use std::sync::Wait;
+use std::thread::Threads;
 
 // 9501101530003 as EAN-13 and 96385074 as EAN-8, their light ends included, at one dot a module.
 const EAN13: &[u16] = &[
@@ -173,6 +174,25 @@ fn run_hub<R: Wait>(rt: &R, alloc: Global) -> Option<(Collected, usize)> {
     }
 }
 
+/// How many deliveries two rows of a lane are served; none where memory was refused.
+fn try_serve<R: Threads + Wait + Sync>(rt: &R, alloc: Global, year: Year) -> Option<usize> {
+    let mut feed = Vec::new(alloc);
+    feed.push(row(alloc, EAN13)?).ok()?;
+    feed.push(row(alloc, EAN8)?).ok()?;
+    let mut feeds = Vec::new(alloc);
+    feeds.push(feed).ok()?;
+    let lists = serve(rt, alloc, feeds, 1, year, &OpenGate).ok()?;
+    Some(lists.first()?.len())
+}
+
+/// The same, from the beginning again where there was none.
+fn run_serve<R: Threads + Wait + Sync>(rt: &R, alloc: Global, year: Year) -> Option<usize> {
+    match try_serve(rt, alloc, year) {
+        Some(found) => Some(found),
+        None => try_serve(rt, alloc, year),
+    }
+}
+
 /// Sheets of the labels.
 fn sheets(alloc: Global, labels: &[Label], grid: Grid) -> Option<Vec<Sheet>> {
     match print_sheets(alloc, labels, grid) {
@@ -216,6 +236,7 @@ fn main(rt: HostRuntime) -> io::Result<()> {
     println!(rt; "machine: {:?}", run_machine(alloc, year))?;
     println!(rt; "deliverer: {:?}", run_deliverer(alloc, year))?;
     println!(rt; "hub: {:?}", run_hub(&rt, alloc))?;
+    println!(rt; "served: {:?}", run_serve(&rt, alloc, year))?;
     let labels = [Label::Ean13(gtin)];
     for sheet in &sheets(alloc, &labels, grid).unwrap_or(Vec::new(alloc)) {
         let runs = count_runs(alloc, sheet);
