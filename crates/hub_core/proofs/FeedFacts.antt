@@ -1,5 +1,5 @@
 -- Rows that are left of each lane, one of which was given.
-use Rattle.std.proofs.Common.{◌≡◌, ℕ, ◌+◌, ◌<◌, ◌≤◌, ◌==◌, ◌++◌, ◌&&◌, IfSome, Option, Some, None, option_to_list, leb, true, zero, suc, List, [], ◌∷◌, get_or, length, length-append, map, replicate, set, refl, sym, ap, ◌∙◌, subst, arith, append-nil, append_assoc}
+use Rattle.std.proofs.Common.{◌≡◌, ℕ, ◌<◌, ◌==◌, ◌++◌, ◌&&◌, IfSome, Option, Some, None, option_to_list, leb, true, zero, suc, List, [], ◌∷◌, get_or, length, length-append, map, replicate, set, refl, sym, ap, ◌∙◌, arith, append-nil, append_assoc}
 use Rattle.std.proofs.lemmas.Bool.{and_parts, both_ways, leb-true, ne_eqb}
 use Rattle.std.specs.List.{list_all}
 use Rattle.std.proofs.lemmas.List.{get_or-map, length-map, length-replicate, length-set, map-append, map-set, replicate-append-replicate}

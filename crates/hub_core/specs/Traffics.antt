@@ -1,10 +1,10 @@
 -- What a traffic gives and is brought, and the seats of a hub that serves it.
-use Rattle.std.specs.Prelude.{◌≡◌, ◌<◌, ◌++◌, ℕ, List, [], ◌∷◌, All, length, map, true, IfSome, Option, Some, None, slice_set, slice_index_or, ⊤}
+use Rattle.std.specs.Prelude.{◌≡◌, ◌<◌, ◌++◌, ℕ, List, [], ◌∷◌, All, length, map, IfSome, Option, Some, None, slice_set, slice_index_or, ⊤}
 use Rattle.std.specs.List.{range_with_len}
 use Rattle.lane_core.specs.declared.job.Plain.{Plain}
 use Rattle.hub_core.specs.Hubs.{IsLaneOf, shape_of}
 use Rattle.hub_core.specs.Lanes.{numbers_of, polled, polled_count, issued_of, rows_of}
-use Rattle.hub_core.specs.Serving.{are_short, served}
+use Rattle.hub_core.specs.Serving.{served}
 use Rattle.hub_core.specs.declared.ended.Ended.{Ended}
 use Rattle.hub_core.specs.declared.ended.Ended.TheVariants.{Done, Lost, NoMemory, Stopped}
 use Rattle.hub_core.specs.declared.hub.Hub.{Hub}

@@ -1,7 +1,5 @@
-use Rattle.std.proofs.Common.{◌≡◌, ◌<◌, ◌∙◌, arith, length, sym}
-use Rattle.std.proofs.lemmas.List.{length-map}
+use Rattle.std.proofs.Common.{◌<◌, ◌∙◌, arith, length, sym}
 use Rattle.std.proofs.lemmas.Result.{IfOk-weaker}
-use Rattle.hub_core.specs.Lanes.{polled}
 use Rattle.hub_core.specs.Traffics.{given_to, polled_by}
 use Rattle.hub_core.proofs.TrafficFacts.{came_brought, came_same, lane_at, next_of, room_same, seat_at, step_serves}
 use Rattle.hub_core.proofs.serve_loop.bring_next.Goals as goal

@@ -1,4 +1,3 @@
-use Rattle.std.proofs.Common.{◌≡◌, ◌<◌, vec_len}
 use Rattle.hub_core.specs.Hubs.{IsDelivererOf}
 use Rattle.hub_core.specs.Traffics.{Serves, given_to, polled_by}
 use Rattle.hub_core.proofs.serve_loop.collect_some.Given as goal

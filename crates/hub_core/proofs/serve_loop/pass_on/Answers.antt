@@ -1,4 +1,4 @@
-use Rattle.std.proofs.Common.{◌<◌, arith, length}
+use Rattle.std.proofs.Common.{arith}
 use Rattle.hub_core.proofs.TrafficFacts.{seats_counted}
 use Rattle.hub_core.proofs.serve_loop.pass_on.Goals as goal
 

@@ -1,4 +1,4 @@
-use Rattle.std.proofs.Common.{◌≡◌, ◌<◌, vec_len}
+use Rattle.std.proofs.Common.{◌<◌, vec_len}
 use Rattle.hub_core.specs.Hubs.{IsDelivererOf}
 use Rattle.hub_core.specs.Traffics.{Serves, given_to, polled_by}
 use Rattle.hub_core.proofs.serve_loop.pass_on.Given as goal

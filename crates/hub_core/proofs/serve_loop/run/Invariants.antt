@@ -1,4 +1,4 @@
-use Rattle.std.proofs.Common.{◌≡◌, None}
+use Rattle.std.proofs.Common.{None}
 use Rattle.hub_core.specs.Hubs.{IsDelivererOf}
 use Rattle.hub_core.specs.Traffics.{Serves, given_to, polled_by}
 use Rattle.hub_core.proofs.serve_loop.run.Given as goal

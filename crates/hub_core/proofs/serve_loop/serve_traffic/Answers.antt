@@ -1,6 +1,5 @@
-use Rattle.std.proofs.Common.{◌≡◌, ◌∙◌, [], All, List, None, Option, ap, arith, length, map, replicate, subst, sym, true, ℕ}
-use Rattle.lane_core.specs.declared.job.Plain.{Plain}
-use Rattle.hub_core.specs.Hubs.{IsWorkerOf, shape_of, year_of}
+use Rattle.std.proofs.Common.{◌≡◌, ◌∙◌, None, ap, arith, subst, sym}
+use Rattle.hub_core.specs.Hubs.{year_of}
 use Rattle.hub_core.specs.Serving.{served}
 use Rattle.hub_core.specs.Standing.{PolledFirst}
 use Rattle.hub_core.specs.Traffics.{AreServedFirst, Serves, given_to, polled_by}

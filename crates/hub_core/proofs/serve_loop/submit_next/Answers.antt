@@ -1,4 +1,4 @@
-use Rattle.std.proofs.Common.{◌≡◌, ◌<◌, ◌∙◌, Some, arith, map, set, length}
+use Rattle.std.proofs.Common.{◌<◌, Some, arith, map, set, length}
 use Rattle.std.proofs.lemmas.List.{length-map}
 use Rattle.hub_core.specs.Lanes.{polled, rows_of}
 use Rattle.hub_core.specs.Traffics.{HasRoom}

@@ -1,5 +1,4 @@
-use Rattle.std.proofs.Common.{None, map}
-use Rattle.hub_core.specs.Lanes.{rows_of}
+use Rattle.std.proofs.Common.{None}
 use Rattle.hub_core.specs.Traffics.{given_to, polled_by}
 use Rattle.hub_core.proofs.TrafficFacts.{even_given}
 use Rattle.hub_core.proofs.serve_loop.wait_for_more.Goals as goal

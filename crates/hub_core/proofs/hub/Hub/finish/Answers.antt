@@ -1,9 +1,9 @@
-use Rattle.std.proofs.Common.{◌≡◌, ◌++◌, ◌∙◌, [], List, ap, append_assoc, drop, get_or, length, sym, take}
+use Rattle.std.proofs.Common.{◌≡◌, ◌++◌, ◌∙◌, [], List, ap, append_assoc, drop, get_or, length, sym}
 use Rattle.std.proofs.lemmas.List.{take-append-drop}
 use Rattle.lane_core.specs.declared.job.Plain.{Plain}
 use Rattle.hub_core.specs.Delivering.{handed}
 use Rattle.hub_core.specs.Hubs.{IsLaneOf}
-use Rattle.hub_core.specs.Lanes.{lane_of, polled, received, submitted}
+use Rattle.hub_core.specs.Lanes.{lane_of, received, submitted}
 use Rattle.hub_core.specs.Rings.{all_sent}
 use Rattle.hub_core.specs.declared.lane_seat.LaneSeat.{LaneSeat}
 use Rattle.hub_core.proofs.SeatFacts.{all_at, whole_from}

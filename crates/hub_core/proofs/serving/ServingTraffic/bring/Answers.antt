@@ -1,5 +1,4 @@
-use Rattle.std.proofs.Common.{◌≡◌, ◌<◌, ◌∙◌}
-use Rattle.std.proofs.lemmas.List.{length-map}
+use Rattle.std.proofs.Common.{◌∙◌}
 use Rattle.hub_core.proofs.FeedFacts.{list_more}
 use Rattle.hub_core.proofs.serving.ServingTraffic.bring.Goals as goal
 
