@@ -27,6 +27,9 @@ const TWO_LABELS: &[u8] = b"P4\n113 6\n\
     \0\0\0\0\0\0\0\0\0\0\0\0\0\0\0\0\0\0\0\0\0\0\0\0\0\0\0\0\0\0\
     \x00\x15\x8A\x76\x66\x53\x99\x54\xE8\x5C\xB9\x72\x85\x40\x00\0\0\0\0\0\0\0\0\0\0\0\0\0\0\0";
 
+// Its row through the bars.
+const BARS: &[u8] = b"\x00\x15\x8A\x76\x66\x53\x99\x54\xE8\x5C\xB9\x72\x85\x40\x00";
+
 // Two records of that label.
 const TWO_RECORDS: &[u8] = b"ean13,9501101530003\nean13,9501101530003\n";
 
@@ -113,26 +116,57 @@ fn a_row_of_the_last_lane_is_held_alone(rt: HostRuntime) -> Result<(), Fail> {
     Ok(())
 }
 
+/// That sixteen workers are at work at once on this input, and write a line like this for each of sixteen lanes.
+fn meet<R: Threads + Wait + AllocGlobal + Sync + Abort>(
+    rt: &R,
+    asked: Asked,
+    input: &[u8],
+    answer: &str,
+) -> Result<(), Fail> {
+    let alloc = rt.alloc();
+    let mut wanted = String::new(alloc);
+    for lane in 0..16 {
+        wanted.push_str(format!(in alloc; "{lane} 0 {answer}\n")?.as_str())?;
+    }
+    let gate = Meeting::of(alloc, 16)?;
+    writes(rt, asked, input, &gate, wanted.as_bytes())?;
+    assert!(*rt; gate.has_met());
+    Ok(())
+}
+
 #[test]
-fn sixteen_workers_are_at_work_at_once(rt: HostRuntime) -> Result<(), Fail> {
+fn sixteen_workers_read_rows_of_lanes_at_once(rt: HostRuntime) -> Result<(), Fail> {
     let alloc = rt.alloc();
     let options = LaneOptions::new(16, 16, 2026).ok_or("options")?;
     let mut input = String::new(alloc);
-    let mut wanted = String::new(alloc);
     for lane in 0..16 {
         input.push_str(format!(in alloc; "{lane},{EAN8}\n")?.as_str())?;
-        wanted.push_str(format!(in alloc; "{lane} 0 ]E4 (01)00000096385074\n")?.as_str())?;
     }
-    let gate = Meeting::of(16);
-    writes(
+    meet(
         &rt,
         Asked::Lanes(options),
         input.as_bytes(),
-        &gate,
-        wanted.as_bytes(),
-    )?;
-    assert!(rt; gate.has_met());
-    Ok(())
+        "]E4 (01)00000096385074",
+    )
+}
+
+#[test]
+fn sixteen_workers_read_rows_of_columns_at_once(rt: HostRuntime) -> Result<(), Fail> {
+    // Cells of 120 dots, which are whole bytes.
+    let options = ScanOptions::new(1, 120, 3, 16, 1, 16, 2026).ok_or("options")?;
+    let mut input = Vec::new(rt.alloc());
+    input.extend_from_slice(b"P4\n1920 3\n")?;
+    for y in 0..3 {
+        for _ in 0..16 {
+            input.extend_from_slice(if y == 1 { BARS } else { &[0; 15] })?;
+        }
+    }
+    meet(
+        &rt,
+        Asked::Scan(options),
+        input.as_slice(),
+        "]E0 (01)09501101530003",
+    )
 }
 
 #[test]

@@ -2,7 +2,7 @@
 
 use crate::tests::rows::{EAN8, EAN13, GS1_128, row};
 use element_core::Year;
-use fakes::Holding;
+use fakes::{Holding, Meeting};
 use hub_core::{Gate, OpenGate, serve};
 use lane_core::{Delivery, Ticket};
 use scan_core::Runs;
@@ -92,6 +92,15 @@ fn a_worker_that_is_held_holds_no_other_row(rt: HostRuntime) -> Result<(), Fail>
          0: 0/1 45 Read { carrier: Ean8\n\
          0: 0/2 45 Read { carrier: Gs1128\n",
     );
+    Ok(())
+}
+
+#[test]
+fn sixteen_workers_run_beside_each_other(rt: HostRuntime) -> Result<(), Fail> {
+    let lane: &[&[u16]] = &[EAN8];
+    let gate = Meeting::of(rt.alloc(), 16)?;
+    answered(&rt, &[lane; 16], 16, &gate)?;
+    assert!(rt; gate.has_met());
     Ok(())
 }
 
