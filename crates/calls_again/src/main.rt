@@ -172,8 +172,8 @@ fn send<R: Wait>(rt: &R, alloc: Global, hub: &mut Station, again: bool) -> Optio
 }
 
 /// A hub of one lane that three rows are sent through, and that is settled. What became of the last when it was
-/// collected, and how many deliveries settling gave; none where memory was refused to the making of the hub, to a row or
-/// to the closing of the lane.
+/// collected, and how many deliveries settling gave, 0 where it was refused twice; none where memory was refused to the
+/// making of the hub, to a row or to the closing of the lane.
 fn try_hub<R: Wait>(rt: &R, alloc: Global, again: bool) -> Option<(Collected, usize)> {
     let shape = Shape {
         lanes: 1,
@@ -183,8 +183,11 @@ fn try_hub<R: Wait>(rt: &R, alloc: Global, again: bool) -> Option<(Collected, us
     };
     let mut hub = Station::new(rt, alloc, shape).ok()?;
     let collected = send(rt, alloc, &mut hub, again)?;
-    let lists = hub.close(alloc).ok()?.settle(rt, alloc).ok()?;
-    Some((collected, lists.first()?.len()))
+    let settled = match hub.close(alloc).ok()?.settle(rt, alloc) {
+        Ok(lists) => lists.first().map_or(0, |list| list.len()),
+        Err(_) => 0,
+    };
+    Some((collected, settled))
 }
 
 /// The same, from the beginning again where there was none.
