@@ -3,7 +3,7 @@ ghost use Rattle.std.specs.Prelude.{◌≡◌, ◌<◌, ◌≢◌, [], All, IfEr
 ghost use Rattle.std.specs.List.{range_with_len};
 ghost use Rattle.lane_core.specs.declared.job.Plain.{Plain};
 ghost use Rattle.hub_core.specs.Fresh.{HasDoneNothing};
-ghost use Rattle.hub_core.specs.Hubs.{AreAllSeats, IsDelivererOf, IsWorkerOf, shape_of, year_of};
+ghost use Rattle.hub_core.specs.Hubs.{AreAllSeats, Holds, IsDelivererOf, IsWorkerOf, shape_of, year_of};
 ghost use Rattle.hub_core.specs.Lanes.{numbers_of};
 ghost use Rattle.hub_core.specs.Serving.{are_short, is_count, served};
 ghost use Rattle.hub_core.specs.Traffics.{AreEven, AreServedFirst, HasRoom, IsKept, Serves, given_to, polled_by, with_held};
@@ -361,7 +361,7 @@ fn serve_seats<R: Threads + Wait + Sync, G: Gate + Sync, T: Traffic + Drop>(
     Ok((traffic, seats, workers, deliverer, ended))
 }
 
-/// A hub with as many tickets a lane as there are.
+/// A hub whose queues and rings hold 64, with as many tickets a lane as there are.
 fn new_hub<R: Wait>(
     rt: &R,
     alloc: Global,
@@ -374,6 +374,7 @@ fn new_hub<R: Wait>(
     ensures lanes { IfOk result (λ p. numbers_of p.lanes.items ≡ range_with_len 0 lanes) }
     ensures seats { IfOk result (λ p. AreAllSeats p.hub p.lanes.items p.workers.items p.deliverer) }
     ensures unused { IfOk result (λ p. All HasDoneNothing p.lanes.items) }
+    ensures capacity { IfOk result (λ p. Holds p.hub p.deliverer 64) }
     ensures refused { IfErr result (λ e. e ≡ ServeFault.NoMemory) }
 {
     let shape = Shape {
