@@ -1,29 +1,38 @@
-// The calls of the module. A pointer and a count are 64 bits wide, so BigInts; each call answers with bytes in a
-// buffer of the page's, which stands behind the module's own memory.
+// The calls of the module. A pointer and a count are 64 bits wide, so BigInts, in both modules: the one whose memory has 64-bit
+// addresses, and the one that was made of it for browsers without such memory. Each call answers with bytes in a buffer of the
+// page's, which stands behind the module's own memory.
 "use strict";
 
 class Gs1 {
   static kinds = ["ean13", "upca", "ean8", "upce", "gs1128", "itf14"];
 
-  // Whether this browser runs modules whose memory has 64-bit addresses.
-  static runsHere() {
-    return typeof WebAssembly === "object"
-      && WebAssembly.validate(Uint8Array.of(0, 0x61, 0x73, 0x6d, 1, 0, 0, 0, 5, 3, 1, 4, 0));
+  // The first bytes of a module, and those of one that has a memory with addresses of 32 or of 64 bits.
+  static header = [0, 0x61, 0x73, 0x6d, 1, 0, 0, 0];
+  static memories = { 32: [5, 3, 1, 0, 0], 64: [5, 3, 1, 4, 0] };
+
+  // Whether this browser runs modules whose memory has addresses of so many bits.
+  static runs(bits) {
+    return typeof WebAssembly === "object" && WebAssembly.validate(Uint8Array.of(...Gs1.header, ...Gs1.memories[bits]));
   }
 
-  static async load(bytes) {
+  // The module of these bytes, whose memory has addresses of so many bits.
+  static async load(bytes, bits) {
     const { instance } = await WebAssembly.instantiate(bytes, {});
-    return new Gs1(instance.exports);
+    return new Gs1(instance.exports, bits);
   }
 
   // 256 KiB for the widths of a row or a text, and then room for an answer.
-  constructor(calls) {
+  constructor(calls, bits) {
     this.calls = calls;
-    this.input = Number(calls.memory.grow(6n)) * 65536;
+    this.bits = bits;
+    this.input = this.grow(6) * 65536;
     this.output = this.input + 4 * 65536;
     this.room = 2 * 65536;
     this.look();
   }
+
+  // Makes the memory larger by so many pages of 64 KiB; how many it had.
+  grow(pages) { return Number(this.calls.memory.grow(this.bits === 64 ? BigInt(pages) : pages)); }
 
   look() {
     this.words = new Uint16Array(this.calls.memory.buffer, this.input, 2 * 65536);
@@ -36,7 +45,7 @@ class Gs1 {
     let count = Number(call(...words, BigInt(this.output), BigInt(this.room)));
     if (count > this.room) {
       const pages = Math.ceil((count - this.room) / 65536);
-      this.calls.memory.grow(BigInt(pages));
+      this.grow(pages);
       this.room += pages * 65536;
       this.look();
       count = Number(call(...words, BigInt(this.output), BigInt(this.room)));
@@ -57,6 +66,12 @@ class Gs1 {
   row(ends, first, last, year) {
     for (let i = first; i <= last; i++) this.words[i - first] = ends[i] - (i ? ends[i - 1] : 0);
     return this.line(this.ask(this.calls.gs1_c_row, BigInt(this.input), BigInt(last - first + 1), year));
+  }
+
+  // What a row of these widths says, light first and last.
+  widths(widths, year) {
+    this.words.set(widths);
+    return this.line(this.ask(this.calls.gs1_c_row, BigInt(this.input), BigInt(widths.length), year));
   }
 
   gtin(text) { return this.line(this.ask(this.calls.gs1_c_gtin, ...this.put(text))); }

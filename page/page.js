@@ -4,6 +4,9 @@ const at = (id) => document.getElementById(id);
 const number = (id) => Math.min(65535, Math.max(0, Math.trunc(Number(at(id).value)) || 0));
 let gs1, drawn, picture;
 
+// The colour of the marks on a picture.
+const MARK = "#0a7d32";
+
 // What to do about a refusal, as docs/FAULTS.md says.
 const remedyOf = (line) => GS1_FAULTS[line.split(" ")[1]] ?? "";
 
@@ -54,23 +57,28 @@ function closest(refused) {
 function read() {
   if (!picture) return;
   const from = performance.now();
-  const reader = new Reader(gs1, number("year")), { symbols, refused } = reader.read(picture, number("level"));
-  // One row alone beside symbols of several is chance.
-  const several = symbols.filter((s) => s.rows > 1), kept = several.length ? several : symbols;
+  const reader = new Reader(gs1, number("year")), { symbols, refused } = reader.read(picture, number("level"), picture.own);
   [picture.passed, picture.calls] = [performance.now() - from, reader.calls];
-  picture.symbols = kept;
+  picture.symbols = inReadingOrder(symbols);
   const body = at("found").tBodies[0];
-  body.replaceChildren(...kept.map(({ line, rows }, i) => {
+  body.replaceChildren(...picture.symbols.map(({ line, rows }, i) => {
     const row = document.createElement("tr");
     for (const cell of [i + 1, line, rows]) row.insertCell().textContent = cell;
     return row;
   }));
-  at("found").hidden = !kept.length;
-  if (kept.length) say("told", kept.length === 1 ? kept[0].line : `${kept.length} symbols`, "remedy");
+  at("found").hidden = !symbols.length;
+  if (symbols.length) say("told", symbols.length === 1 ? symbols[0].line : `${symbols.length} symbols`, "remedy");
   else say("told", closest(refused), "remedy");
-  mark(kept);
+  mark(picture.symbols);
 }
 
+// The level is a person's own from then on.
+function level() {
+  if (picture) picture.own = true;
+  read();
+}
+
+// Shows the picture, and around each symbol a frame with its number, which covers none of it.
 function mark(symbols) {
   const canvas = at("picture"), pen = canvas.getContext("2d");
   canvas.hidden = false;
@@ -78,18 +86,24 @@ function mark(symbols) {
     [canvas.width, canvas.height] = [picture.width, picture.height];
     pen.drawImage(picture.image, 0, 0);
   } else show(canvas, picture);
-  const size = Math.max(11, Math.round(picture.width / 64));
-  pen.lineWidth = Math.max(2, size / 6);
+  const size = Math.max(11, Math.round(picture.width / 64)), wide = Math.max(2, Math.round(size / 8));
+  pen.lineWidth = wide;
   pen.font = `bold ${size}px sans-serif`;
-  pen.textBaseline = "top";
-  symbols.forEach(({ left, right, top, bottom, line }, i) => {
-    pen.strokeStyle = "#0a7d32";
-    pen.strokeRect(left, top, right - left, bottom - top);
-    const words = `${i + 1}  ${line}`;
-    pen.fillStyle = "#0a7d32";
-    pen.fillRect(left, top, pen.measureText(words).width + size / 2, size * 1.3);
+  [pen.textBaseline, pen.textAlign] = ["middle", "center"];
+  symbols.forEach((symbol, i) => {
+    const corners = symbol.corners(wide / 2);
+    pen.strokeStyle = MARK;
+    pen.beginPath();
+    for (const { x, y } of corners) pen.lineTo(x, y);
+    pen.closePath();
+    pen.stroke();
+    // The number stands left of the upper left corner, as wide as the picture has room there.
+    const { x, y } = corners.reduce((a, b) => a.x + a.y <= b.x + b.y ? a : b), tag = size * 1.2;
+    const across = Math.min(tag, Math.max(x, size * 0.6)), left = Math.max(0, x - across), top = Math.max(0, y);
+    pen.fillStyle = MARK;
+    pen.fillRect(left, top, across, tag);
     pen.fillStyle = "white";
-    pen.fillText(words, left + size / 4, top + size * 0.15);
+    pen.fillText(i + 1, left + across / 2, top + tag / 2 + wide / 4, across);
   });
 }
 
@@ -137,7 +151,8 @@ async function takeClipboard() {
 
 function listen() {
   for (const id of ["kind", "text", "module", "width", "height", "year"]) at(id).addEventListener("input", draw);
-  for (const id of ["level", "year"]) at(id).addEventListener("input", read);
+  at("level").addEventListener("input", level);
+  at("year").addEventListener("input", read);
   at("png").addEventListener("click", () => at("label").toBlob((blob) => save(blob, "label.png")));
   at("pbm").addEventListener("click", () => save(new Blob([drawn]), "label.pbm"));
   // So that the same file, changed since, can be chosen again.
@@ -163,12 +178,15 @@ function stop(problem) {
   document.querySelector("main").hidden = true;
 }
 
+// The modules of page/build by the bits of their addresses, the one that was proved first.
+const modules = () => ({ 64: typeof GS1_WASM === "string" && GS1_WASM, 32: typeof GS1_WASM_32 === "string" && GS1_WASM_32 });
+
 async function start() {
-  if (!Gs1.runsHere()) {
-    return stop("This browser has no WebAssembly with 64-bit memory, which this page needs. Chrome and Edge have it from 133, Firefox from 134.");
-  }
-  if (typeof GS1_WASM !== "string") return stop("The module gs1.module.js is not beside this page: page/build makes it.");
-  gs1 = await Gs1.load(Uint8Array.from(atob(GS1_WASM), (c) => c.charCodeAt(0)));
+  const made = modules();
+  if (!made[64]) return stop("The module gs1.module.js is not beside this page: page/build makes it.");
+  const bits = [64, 32].find((width) => made[width] && Gs1.runs(width));
+  if (!bits) return stop(`This browser runs no WebAssembly${made[32] ? "" : " with 64-bit memory, and the page was built without the 32-bit module"}.`);
+  gs1 = await Gs1.load(Uint8Array.from(atob(made[bits]), (c) => c.charCodeAt(0)), bits);
   for (const kind of Gs1.kinds) at("kind").add(new Option(kind));
   listen();
   draw();

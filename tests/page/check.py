@@ -165,9 +165,28 @@ def reads(page):
     same("what is told of them", shown(page), f"{len(boxes)} symbols")
     rows = json.loads(page.value("JSON.stringify([...at('found').tBodies[0].rows].map((r) => [...r.cells].map((c) => c.textContent)))"))
     same("the table", rows, [[str(i + 1), box["line"], str(box["rows"])] for i, box in enumerate(boxes)])
-    marks = page.value("""picture.symbols.map(({ left, right, top, bottom }) => [[left, bottom - 9], [right - 1, bottom - 9], [left + 9, bottom - 1],
-        [left + 1, top + 1]].map(([x, y]) => at('picture').getContext('2d').getImageData(x, y, 1, 1).data.join()).join(' ')).join(' ')""")
+    marks = page.value("""(() => {
+        const pen = at('picture').getContext('2d'), colours = ({ x, y }) => pen.getImageData(Math.floor(x), Math.floor(y), 1, 1).data.join();
+        const inside = ({ x, y }) => x >= 0 && y >= 0 && x < picture.width && y < picture.height;
+        const middle = (a, b) => ({ x: (a.x + b.x) / 2, y: (a.y + b.y) / 2 });
+        return picture.symbols.flatMap((symbol) => symbol.corners(1).map((corner, i, all) => middle(corner, all[(i + 1) % 4])))
+            .filter(inside).map(colours).join(' ');
+    })()""")
     same("the marks on the picture", set(marks.split()), {"10,125,50,255"})
+    covered = page.value("""(() => {
+        const shown = at('picture').getContext('2d');
+        return picture.symbols.reduce((sum, { box: { left, right, top, bottom } }) => {
+            const { data } = shown.getImageData(left, top, right - left, bottom - top);
+            for (let i = 0, k = 0; i < data.length; i += 4, k++) {
+                const [x, y] = [left + k % (right - left), top + Math.floor(k / (right - left))];
+                sum += data[i] !== picture.grey[y * picture.width + x];
+            }
+            return sum;
+        }, 0);
+    })()""")
+    same("dots of symbols that marks cover", covered, 0)
+    order = [(box["box"]["top"] // 100, box["box"]["left"]) for box in boxes]
+    same("the marks in the order of reading", order, sorted(order))
 
     page.value("picture.symbols = []")
     with open(f"{ROOT}/examples/labels.png", "rb") as file:
@@ -284,7 +303,7 @@ def counts_symbols(page):
     streak = light[:60] + bytes(40) + light[100:]
     png(f"{WORK}/streaks.png", len(row), 60, lambda y: streak if y % 7 in (2, 3) else light)
     choose(page, f"{WORK}/streaks.png")
-    same("a symbol with streaks", [(s["line"], s["top"], s["bottom"], s["rows"]) for s in json.loads(page.value("JSON.stringify(picture.symbols)"))],
+    same("a symbol with streaks", [(s["line"], s["box"]["top"], s["box"]["bottom"], s["rows"]) for s in json.loads(page.value("JSON.stringify(picture.symbols)"))],
          [("]E0 (01)09501101530003", 0, 58, 42)])
     png(f"{WORK}/single.png", len(row), 9, lambda y: light if y in (2, 6) else b"\xff" * len(row))
     choose(page, f"{WORK}/single.png")
@@ -401,16 +420,25 @@ def main():
         same("the dark scheme", light, True)
     finally:
         dark.close()
-    old = Browser("about:blank#", started="true")
-    try:
-        old.call("Page.enable")
-        old.call("Page.addScriptToEvaluateOnNewDocument", source="WebAssembly.validate = () => false")
-        old.go(url)
-        same("a browser without 64-bit memory", old.value("at('problem').hidden"), False)
-        same("what it is told", "64-bit memory" in old.value("at('problem').textContent"), True)
-        same("nothing else is shown", old.value("document.querySelector('main').hidden"), True)
-    finally:
-        old.close()
+    for bits, works in ((32, True), (0, False)):
+        old = Browser("about:blank#", started="true")
+        try:
+            old.call("Page.enable")
+            old.call("Page.addScriptToEvaluateOnNewDocument", source=f"""
+                const validate = WebAssembly.validate;
+                WebAssembly.validate = (bytes) => (bytes[11] & 4 ? 64 : 32) <= {bits} && validate(bytes);""")
+            old.go(url)
+            same(f"a browser with memory of {bits} bits", old.value("[at('problem').hidden, document.querySelector('main').hidden].join()"),
+                 "true,false" if works else "false,true")
+            if works:
+                same("what it runs", old.value("gs1.bits"), bits)
+                draws(old)
+                choose(old, f"{ROOT}/examples/labels.png")
+                same("the symbols that it reads", len(answers(old)), 6)
+            else:
+                same("what it is told", old.value("at('problem').textContent"), "This browser runs no WebAssembly.")
+        finally:
+            old.close()
     print(f"{counts['compared']} compared, {counts['wrong']} wrong")
     return counts["wrong"] != 0
 

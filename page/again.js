@@ -1,0 +1,99 @@
+// Looks again at the stripes of a picture that its rows did not read: along rows across these stripes, whose edges are
+// between dots and by the light around, and whose windows are straightened.
+"use strict";
+
+// The looks, each where those before found nothing: how many rows a dot apart are taken in the mean, how many such rows at
+// most, and the blur that is taken out of them, in dots.
+const LOOKS = [
+  { lines: 1, rows: 240, blur: 0 },
+  { lines: 3, rows: 120, blur: 0 },
+  { lines: 3, rows: 60, blur: 0.8 },
+  { lines: 5, rows: 60, blur: 1.3 },
+  { lines: 7, rows: 40, blur: 2 },
+  { lines: 9, rows: 40, blur: 2.7 },
+];
+
+// The fewest rows that read a symbol, and how many for each row that reads something else there.
+const FEWEST_ROWS = 2, ROWS_AGAINST = 4;
+
+// The greatest gap between rows of one symbol, as a part of its width.
+const GAP = 0.2;
+
+// What rows read, put together by what it says and where.
+class Tally {
+  constructor() { this.found = []; }
+
+  add(line, left, right, v, step) {
+    const near = (right - left) / 8, gap = (right - left) * GAP + step;
+    let symbol = this.found.find((s) => s.line === line && v - s.last <= gap
+      && Math.abs(s.left - left) < near + s.drift && Math.abs(s.right - right) < near + s.drift);
+    if (!symbol) this.found.push(symbol = { line, left, right, first: v, rows: 0, drift: near });
+    symbol.left = Math.min(symbol.left, left);
+    symbol.right = Math.max(symbol.right, right);
+    symbol.last = v;
+    symbol.rows++;
+  }
+
+  // How many rows say something else where a symbol is.
+  against(symbol) {
+    const others = this.found.filter((s) => s.line !== symbol.line && s.left < symbol.right && symbol.left < s.right
+      && s.first <= symbol.last && symbol.first <= s.last);
+    return others.reduce((sum, s) => sum + s.rows, 0);
+  }
+
+  sure() { return this.found.filter((s) => s.rows >= FEWEST_ROWS && s.rows >= ROWS_AGAINST * this.against(s)); }
+}
+
+class Again {
+  constructor(reader, picture) {
+    this.reader = reader;
+    this.picture = picture;
+    this.ends = new Float32Array(2 * Math.ceil(Math.hypot(picture.width, picture.height)) + 8);
+  }
+
+  // The symbols that are shown, and those on stripes outside of them. One that is shown in part is made as large as it is.
+  symbols(shown) {
+    let symbols = shown;
+    const { side, blocks } = stripedBlocks(this.picture, symbols);
+    const rest = (all) => together(all.filter((block) => !symbols.some((symbol) => symbol.isNear(block))), side);
+    for (const direction of directionsOf(blocks)) {
+      let left = rest(direction.blocks);
+      for (const look of LOOKS) {
+        if (left.length < FEWEST_BLOCKS) break;
+        const found = this.along(new Grid({ ...direction, blocks: left }, side, look.rows), look);
+        for (const symbol of found) symbols = joined(symbols, symbol);
+        left = rest(left);
+      }
+    }
+    return symbols;
+  }
+
+  // The symbols that the rows of a grid show.
+  along(grid, look) {
+    const tally = new Tally();
+    for (let row = 0; row < grid.count; row++) {
+      const v = grid.top + (row + 0.5) * grid.step, { from, profile } = grid.profile(this.picture, v, look.lines);
+      if (profile.length < FEWEST) continue;
+      const bounds = boundsOf(profile), clear = look.blur ? sharpened(profile, bounds, look.blur) : profile;
+      const count = edgesOf(clear, bounds, this.ends);
+      eachWindow(this.ends, count, (first, last, shapes) => {
+        const left = from + this.ends[first], right = from + this.ends[last - 1];
+        const line = this.answer(first, last, shapes);
+        if (line) tally.add(line, left, right, v, grid.step);
+        return line !== null;
+      });
+    }
+    return tally.sure().map((s) => new Found({ ...s, top: s.first - grid.step / 2, bottom: s.last + grid.step / 2, frame: grid }));
+  }
+
+  // What a window says, or nothing where it is refused in each shape.
+  answer(first, last, shapes) {
+    for (const shape of shapes) {
+      const widths = straightened(this.ends, first, last, shape);
+      if (!widths) continue;
+      const line = this.reader.askWidths(widths);
+      if (!line.startsWith("refused")) return line;
+    }
+    return null;
+  }
+}

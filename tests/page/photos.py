@@ -1,0 +1,157 @@
+"""The page, zbarimg and ZXingReader on the same pictures: prints how many of each group they read, and asserts the limits.
+
+Usage: photos.py WORK [GROUP...]. WORK is a folder for the pictures; with groups, these alone are read and no limit is asserted.
+Its last lines are the limits, each with what was seen.
+"""
+import concurrent.futures
+import json
+import os
+import re
+import subprocess
+import sys
+
+import pictures
+from browser import Browser
+
+ROOT = os.path.dirname(os.path.dirname(os.path.dirname(os.path.abspath(__file__))))
+READERS = ("page", "zbarimg", "ZXingReader")
+ALL_READ = ("mild photograph", "upright, turned by 90 degrees", "upright, turned by 270 degrees", "1.2 dots a module")
+WITHOUT = 1000
+
+
+class Page:
+    """The page in a browser, asked of files."""
+
+    def __init__(self):
+        self.browser = Browser(f"file://{ROOT}/page/index.html")
+        self.browser.value("globalThis.chosen = document.createElement('input'), chosen.type = 'file', chosen.multiple = true, 0")
+
+    def lines(self, paths):
+        """What each of the pictures says: a list of lines; and the milliseconds that all took."""
+        node = self.browser.call("Runtime.evaluate", expression="chosen")["result"]["objectId"]
+        self.browser.call("DOM.setFileInputFiles", files=[os.path.abspath(path) for path in paths], objectId=node)
+        told = json.loads(self.browser.value("""(async () => {
+            const lines = [];
+            let passed = 0;
+            for (const file of chosen.files) {
+                const taken = await pictureOf(file), from = performance.now();
+                const { symbols } = new Reader(gs1, 2026).read(taken, levelOf(taken.grey));
+                passed += performance.now() - from;
+                lines.push(symbols.map(({ line }) => line));
+            }
+            return JSON.stringify({ lines, passed });
+        })()"""))
+        return told["lines"], told["passed"]
+
+
+def run(*words):
+    return subprocess.run(words, stdout=subprocess.PIPE, stderr=subprocess.DEVNULL).stdout.decode("latin-1")
+
+
+def said(symbol, name, read):
+    """What another reader read, in the words of the symbol: a number has 14 digits, and a separator is nothing."""
+    if symbol.kind == "gs1128":
+        return read.replace("\x1d", "")
+    if symbol.kind == "upce" and name.startswith("UPC") and len(read) == 8:
+        read = pictures.gtin12(read)
+    return read.zfill(14)
+
+
+def by_zbarimg(symbol, path):
+    lines = run("zbarimg", "--quiet", "--nodbus", path).splitlines()
+    return [said(symbol, *line.partition(":")[::2]) for line in lines if ":" in line]
+
+
+def by_zxing(symbol, path):
+    told = run("ZXingReader", path)
+    names, bytes_read = (re.findall(rf"^{word}: +(.*?) *$", told, re.MULTILINE) for word in ("Format", "Bytes"))
+    return [said(symbol, name, bytes.fromhex(read).decode("latin-1")) for name, read in zip(names, bytes_read) if name != "None"]
+
+
+def compare(page, name, symbols, work, pool):
+    """How many pictures of a group each reader reads, and in how many it reads something else; the page's milliseconds."""
+    made = pictures.group(name, symbols, work)
+    lines, passed = page.lines([path for _, path in made])
+    right, wrong = dict.fromkeys(READERS, 0), dict.fromkeys(READERS, 0)
+
+    def note(reader, wanted, got):
+        right[reader] += wanted in got
+        wrong[reader] += any(read != wanted for read in got)
+
+    for (symbol, path), found in zip(made, lines):
+        note("page", symbol.line, found)
+        if any(line != symbol.line for line in found):
+            print(f"wrong: {os.path.basename(path)}: {found}, not {symbol.line}", file=sys.stderr)
+    for reader, ask in (("zbarimg", by_zbarimg), ("ZXingReader", by_zxing)):
+        for (symbol, _), got in zip(made, pool.map(lambda pair: ask(*pair), made)):
+            note(reader, symbol.says, got)
+    for _, path in made:
+        os.remove(path)
+    return len(made), right, wrong, passed
+
+
+def table(page, names, symbols, work):
+    """Prints a row for each group and one for all; the counts of all, and of the page by group."""
+    row = "| {:36} | {:>8} | {:>5} | {:>7} | {:>11} | {:>15} |"
+    print(row.format("group", "pictures", *READERS, "ms of the page"))
+    print("|---|---|---|---|---|---|")
+    total, right, wrong, by_group = 0, dict.fromkeys(READERS, 0), dict.fromkeys(READERS, 0), {}
+    with concurrent.futures.ThreadPoolExecutor(2) as pool:
+        for name in names:
+            count, read, otherwise, passed = compare(page, name, symbols, work, pool)
+            print(row.format(name, count, *read.values(), f"{passed / count:.0f}"), flush=True)
+            total, by_group[name] = total + count, (read["page"], count)
+            for reader in READERS:
+                right[reader] += read[reader]
+                wrong[reader] += otherwise[reader]
+    print(row.format("all", total, *right.values(), ""))
+    print(row.format("pictures with something else read", total, *wrong.values(), ""))
+    return total, right, wrong, by_group
+
+
+def without(page, symbols, work):
+    """How many of the pictures without a symbol show the page one."""
+    paths, found = pictures.without_symbol(WITHOUT, symbols, work), 0
+    for i in range(0, len(paths), 50):
+        lines, _ = page.lines(paths[i:i + 50])
+        for path, told in zip(paths[i:i + 50], lines):
+            if told:
+                found += 1
+                print(f"wrong: {os.path.basename(path)}: {told}, which is no symbol", file=sys.stderr)
+    return len(paths), found
+
+
+def limits(total, right, wrong, by_group, none):
+    """What the page has to reach: what is asked, what was seen, and whether it holds."""
+    yield "pictures, at least 1,800", total, total >= 1800
+    yield "read, at least 85 of 100", f"{100 * right['page'] / total:.1f}", right["page"] >= 0.85 * total
+    for reader in READERS[1:]:
+        yield f"read, more than by {reader}", f"{right['page']}, {right[reader]}", right["page"] > right[reader]
+    for name in ALL_READ:
+        read, count = by_group[name]
+        yield f"{name}, all read", f"{read} of {count}", read == count
+    read, count = by_group["usual photograph"]
+    yield "usual photograph, at least 80 of 100", f"{read} of {count}", read >= 0.8 * count
+    yield "pictures with a wrong answer, none", wrong["page"], wrong["page"] == 0
+    yield f"symbols found in {none[0]} pictures without one, none", none[1], none[1] == 0 and none[0] >= WITHOUT
+
+
+def main():
+    work, names = sys.argv[1], sys.argv[2:]
+    symbols, page = pictures.symbols(work), Page()
+    try:
+        counts = table(page, names or list(pictures.GROUPS), symbols, work)
+        if names:
+            return 0
+        none = without(page, symbols, work)
+    finally:
+        page.browser.close()
+    missed = 0
+    for asked, seen, holds in limits(*counts, none):
+        missed += not holds
+        print(f"{'holds' if holds else 'MISSED'}: {asked}: {seen}")
+    return 1 if missed else 0
+
+
+if __name__ == "__main__":
+    sys.exit(main())
