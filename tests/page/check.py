@@ -65,6 +65,11 @@ def type_words(page, **words):
         page.value(f"at({json.dumps(field)}).value = {json.dumps(str(word))}, at({json.dumps(field)}).dispatchEvent(new Event('input'))")
 
 
+def tick(page, **boxes):
+    for field, on in boxes.items():
+        page.value(f"at({json.dumps(field)}).checked = {json.dumps(on)}, at({json.dumps(field)}).dispatchEvent(new Event('input'))")
+
+
 LABELS = [
     ("ean13", "9501101530003"), ("upca", "012345000065"), ("ean8", "96385074"), ("upce", "012345000065"),
     ("itf14", "09501101530003"), ("gs1128", "010950110153000317261231"), ("gs1128", "10AB^17261231"), ("gs1128", "10AB^21C^17261231"), ("gs1128", "422528"),
@@ -128,6 +133,7 @@ def saves(page):
     """What the buttons save is what is drawn."""
     page.call("Browser.setDownloadBehavior", behavior="allow", downloadPath=os.path.abspath(WORK))
     type_words(page, kind="gs1128", text="10AB^17261231", module=2, width=480, height=120)
+    tick(page, digits=False)
     wanted = drawn(page)
     for name in ("pbm", "png"):
         page.value(f"at('{name}').click()")
@@ -137,6 +143,89 @@ def saves(page):
     choose(page, f"{WORK}/label.png")
     same("the PNG that is saved", page.value("picture.grey.join() === pixelsOfPbm(drawn).grey.join()"), True)
     same("what it says", answers(page), ["]C1 (10)AB(17)261231"])
+    tick(page, digits=True)
+
+
+def saved(page, name):
+    """The bytes that a button saves."""
+    path = f"{WORK}/label.{name}"
+    if os.path.exists(path):
+        os.remove(path)
+    page.value(f"at('{name}').click()")
+    wait_for(path)
+    with open(path, "rb") as file:
+        return file.read()
+
+
+# The kinds with what stands under their bars, the modules of symbol and quiet zones (GS1 General Specifications, 5.2.3, 5.3.2 and
+# 5.4.3), and the least height of bars in millimetres at modules of 0.33866 mm, four dots of 300 an inch.
+KINDS = [
+    ("ean13", "9501101530003", 113, 23.4), ("upca", "012345000065", 113, 23.4), ("ean8", "96385074", 81, 18.7), ("upce", "01234565", 67, 23.4),
+    ("gs1128", "(01)09501101530003(17)261231", 10 + 178 + 10, 31.75), ("itf14", "09501101530003", 155, 31.75),
+]
+
+
+def prints(page):
+    """Each kind with its sample, as wide as it needs; sizes on paper; warnings; and the files of a label."""
+    page.call("Browser.setDownloadBehavior", behavior="allow", downloadPath=os.path.abspath(WORK))
+    tick(page, fit=True, digits=True)
+    type_words(page, resolution=300, module=4, height=380)
+    for kind, digits, modules, high in KINDS:
+        type_words(page, kind=kind)
+        same(f"the sample of {kind}", page.value("at('said').className"), "")
+        same(f"the width of {kind}", int(page.value("at('width').value")), 4 * modules)
+        same(f"the digits of {kind}", page.value("at('label').digits"), digits)
+        for height, warned in ((int(high / 25.4 * 300) + 2, 0), (int(high / 25.4 * 300) - 2, 1)):
+            type_words(page, height=height)
+            same(f"warnings of {kind}, {height} dots high", page.value("at('warnings').children.length"), warned)
+        type_words(page, height=380)
+        with open(f"{WORK}/digits-{kind}.png", "wb") as file:
+            file.write(saved(page, "png"))
+        choose(page, f"{WORK}/digits-{kind}.png")
+        same(f"the picture of {kind} with digits", len(answers(page)), 1)
+    for resolution, module, warned in ((203, 2, 1), (203, 3, 0), (203, 5, 0), (203, 6, 1), (300, 3, 1), (600, 6, 1), (600, 7, 0)):
+        type_words(page, kind="ean13", resolution=resolution, module=module, height=1024)
+        same(f"warnings of {module} dots of {resolution}", page.value("at('warnings').children.length"), warned)
+    type_words(page, kind="upca", resolution=203, module=3, height=240)
+    same("sizes in millimetres", page.value("at('size').textContent"), "module 3 dots, 0.38 mm; width 339 dots, 42.38 mm; bars 240 dots, 30.00 mm")
+    image, resolution = saved(page, "png"), struct.pack(">IIB", 8000, 8000, 1)
+    same("the resolution of the PNG", image[33:54], struct.pack(">I", 9) + b"pHYs" + resolution + struct.pack(">I", zlib.crc32(b"pHYs" + resolution)))
+    wanted = drawn(page)
+    zpl = saved(page, "zpl").decode()
+    same("the ZPL", zpl, f"^XA\n^PW339\n^LL240\n^FO0,0^GFA,{43 * 240},{43 * 240},43,{wanted[-43 * 240:].hex().upper()}^FS\n^XZ\n")
+    svg = saved(page, "svg").decode()
+    same("the size of the SVG", re.match(r'<svg xmlns="http://www.w3.org/2000/svg" width="(.*?)" height="(.*?)" viewBox="(.*?)">', svg).groups(),
+         ("42.375mm", "33.750mm", "0 0 339 270"))
+    same("the digits of the SVG", re.search(r"<text[^>]*>(.*?)</text>", svg)[1], "012345000065")
+    same("the dots of the SVG", page.value("""new Promise((done) => {
+        const image = new Image(), canvas = new OffscreenCanvas(339, 240), pen = canvas.getContext('2d');
+        image.onload = () => { pen.drawImage(image, 0, 0, 339, 270); done(greyOf(pen.getImageData(0, 0, 339, 240)).grey.join() === pixelsOfPbm(drawn).grey.join()); };
+        image.src = 'data:image/svg+xml,' + encodeURIComponent(svgOf(drawn, at('label').digits, 3, 203));
+    })"""), True)
+
+
+def prints_sheets(page):
+    """A sheet of pasted lines, as it comes out of the printer: at its size, and read again."""
+    tick(page, fit=True, digits=True)
+    type_words(page, resolution=300, module=4, height=280)
+    lines = ["ean13,9501101530003", 'gs1128,"010950110153000317261231"', "ean8,96385074", "ean13,9501101530004", "box,1", "itf14,09501101530003"]
+    page.value(f"at('lines').value = {json.dumps(chr(10).join(lines))}, at('make').click()")
+    same("what is told of a sheet", page.value("at('sheeted').textContent"), "4 labels, 2 refused")
+    same("the lines that are refused", page.value("[...at('refusals').children].map((item) => item.textContent.split(':')[0]).join()"), "line 4,line 5")
+    same("names of the labels", page.value("at('sheet').querySelector('svg').getAttribute('aria-label')"), "ean13 9501101530003")
+    printed = page.call("Page.printToPDF", preferCSSPageSize=True, paperWidth=8.27, paperHeight=11.69)["data"]
+    with open(f"{WORK}/sheet.pdf", "wb") as file:
+        file.write(base64.b64decode(printed))
+    subprocess.run(["pdftoppm", "-r", "300", "-gray", "-png", f"{WORK}/sheet.pdf", f"{WORK}/sheet"], check=True)
+    same("pages of the sheet", sorted(name for name in os.listdir(WORK) if re.match(r"sheet-.*png", name)), ["sheet-1.png"])
+    choose(page, f"{WORK}/sheet-1.png")
+    same("the printed labels", sorted(answers(page)), ["]C1 (01)09501101530003(17)261231", "]E0 (01)09501101530003", "]E4 (01)00000096385074", "]I1 (01)09501101530003"])
+    width = page.value("picture.symbols.filter(({ line }) => line.startsWith(']E0')).map(({ box }) => box.right - box.left)[0]")
+    same("an EAN-13 at 100 %, in dots of 300 an inch", abs(width - 95 * 4) <= 2, True)
+    page.value("at('lines').value = 'ean8,96385074\\n'.repeat(100000), at('make').click()")
+    same("a text of 100,000 lines", page.value("at('sheeted').textContent"), "1000 labels, 0 refused; a sheet takes 1000, so 99000 lines are left out")
+    page.value("at('lines').value = '', at('make').click()")
+    same("a text of no lines", page.value("[at('sheeted').textContent, at('print').disabled].join()"), "0 labels, 0 refused,true")
 
 
 def wait_for(path):
@@ -190,7 +279,7 @@ def reads(page):
 
     page.value("picture.symbols = []")
     with open(f"{ROOT}/examples/labels.png", "rb") as file:
-        blob = "fetch('data:image/png;base64,%s').then((got) => got.blob())" % base64.b64encode(file.read()).decode()
+        blob = """Promise.resolve(new Blob([Uint8Array.from(atob('%s'), (c) => c.charCodeAt(0))], { type: 'image/png' }))""" % base64.b64encode(file.read()).decode()
     page.value(blob + """.then((blob) => {
         const data = new DataTransfer();
         data.items.add(new File([blob], 'pasted.png', { type: 'image/png' }));
@@ -204,7 +293,7 @@ def reads(page):
     page.value(blob + ".then((blob) => navigator.clipboard.write([new ClipboardItem({ 'image/png': blob })]))")
     page.value("at('paste').click(), document.taken")
     same("the symbols of the clipboard", sorted(answers(page)), wanted)
-    type_words(page, kind="gs1128", text="010950110153000310AB^17261231", width=620, height=80)
+    type_words(page, kind="gs1128", text="010950110153000310AB^17261231", module=2, width=620, height=80)
     page.picture(PICTURE)
     page.value("navigator.clipboard.writeText('no picture')")
     page.value("at('paste').click(), document.taken")
@@ -371,11 +460,11 @@ def stands_for_all(page):
     type_words(page, kind="ean13", text="9501101530003")
     order = []
     page.value("at('kind').focus()")
-    for _ in range(11):
+    for _ in range(18):
         order.append(page.value("document.activeElement.id"))
         for kind in ("rawKeyDown", "keyUp"):
             page.call("Input.dispatchKeyEvent", type=kind, key="Tab", code="Tab", windowsVirtualKeyCode=9)
-    same("the order of the keyboard", " ".join(order), "kind text module width height year png pbm file paste level")
+    same("the order of the keyboard", " ".join(order), "kind text resolution module width height year fit digits png svg pbm zpl lines make file paste level")
     page.value("at('text').select()")
     page.call("Input.insertText", text="96385074")
     same("words by the keyboard", page.value("at('said').textContent"), "gtin 00000096385074")
@@ -384,6 +473,29 @@ def stands_for_all(page):
     for width in (320, 360):
         page.call("Emulation.setDeviceMetricsOverride", width=width, height=800, deviceScaleFactor=1, mobile=True)
         same(f"wider than a screen of {width}", page.value("document.documentElement.scrollWidth"), width)
+
+
+def runs_in_node():
+    """The same calls by the 32-bit module in Node, compared with what the program answers."""
+    sizes = "--module 2 --width 480 --height 120".split()
+    calls, wanted = [], []
+    for kind, text in LABELS:
+        image = answer("print", "--columns", "1", "--rows", "1", *sizes, "--year", "2026", text=f"{kind},{text}\n".encode())
+        calls.append(["label", kind, text, 2026, 2, 480, 120])
+        wanted.append(base64.b64encode(image).decode() if image.startswith(b"P4") else image.decode().strip().removeprefix("record 0: "))
+        name, check = ("elements", "text") if kind == "gs1128" else ("gtin", "gtin")
+        calls.append([name, text, 2026] if name == "elements" else [name, text])
+        wanted.append(answer("check", "--year", "2026", text=f"{check},{text}\n".encode()).decode().strip())
+    with open(f"{ROOT}/examples/labels.pbm", "rb") as file:
+        image = file.read()
+    calls.append(["read", base64.b64encode(image).decode()])
+    wanted.append(scanned(image, *GRID))
+    done = subprocess.run(["node", f"{ROOT}/tests/page/calls.js"], input=json.dumps(calls).encode(), stdout=subprocess.PIPE, check=True)
+    told = json.loads(done.stdout)
+    version = subprocess.run(["node", "--version"], stdout=subprocess.PIPE, check=True).stdout.decode().strip()
+    print(f"Node {version}, {'with' if told['wide'] else 'without'} 64-bit memory: {len(calls)} calls by the 32-bit module")
+    for call, got, want in zip(calls, told["answers"], wanted):
+        same(f"in Node, {call[:3]}", sorted(got) if isinstance(got, list) else got, want)
 
 
 def has_remedies(page):
@@ -405,6 +517,8 @@ def main():
         draws(page)
         draws_sizes(page)
         saves(page)
+        prints(page)
+        prints_sheets(page)
         reads(page)
         takes_the_last(page)
         counts_symbols(page)
@@ -413,6 +527,7 @@ def main():
         stands_for_all(page)
     finally:
         page.close()
+    runs_in_node()
     dark = Browser(url, dark=True)
     try:
         same("a dark page", dark.value("getComputedStyle(document.documentElement).colorScheme"), "light dark")
