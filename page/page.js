@@ -8,10 +8,12 @@ let gs1;
 // What to do about a refusal, as docs/FAULTS.md says.
 const remedyOf = (line) => GS1_FAULTS[line.split(" ")[1]] ?? "";
 
-function say(id, line, place) {
+// Says a line, and at another place what to do about it where it is a refusal.
+function say(id, line, place, remedy = remedyOf) {
+  const refused = line.startsWith("refused");
+  at(id).classList.toggle("refused", refused);
+  at(place).textContent = refused ? remedy(line) : "";
   at(id).textContent = line;
-  at(id).classList.toggle("refused", line.startsWith("refused"));
-  at(place).textContent = line.startsWith("refused") ? remedyOf(line) : "";
 }
 
 // ---- start
@@ -32,7 +34,7 @@ async function start() {
   if (!bits) return stop(`This browser runs no WebAssembly${made[32] ? "" : " with 64-bit memory, and the page was built without the 32-bit module"}.`);
   gs1 = await Gs1.load(Uint8Array.from(atob(made[bits]), (c) => c.charCodeAt(0)), bits);
   for (const kind of Gs1.kinds) at("kind").add(new Option(kind));
-  for (const listen of [listenToDraw, listenToSheet, listenToRead]) listen();
+  for (const listen of [listenToDraw, listenToSheet, listenToRead, listenToCamera]) listen();
   for (const form of document.forms) form.addEventListener("submit", (event) => event.preventDefault());
   draw();
 }

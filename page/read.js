@@ -1,10 +1,28 @@
 // Takes pictures, reads them, and shows what they say.
 "use strict";
 
-let picture;
+// The pictures that were taken together, and the one that is shown.
+let pictures = [], picture;
 
 // The colour of the marks on a picture.
 const MARK = "#0a7d32";
+
+// What the symbology identifiers stand for (ISO/IEC 15424).
+const SYMBOLS = { "]E0": "EAN-13, UPC-A or UPC-E", "]E4": "EAN-8", "]C1": "GS1-128", "]I1": "ITF-14" };
+
+// What to do about a picture that shows no symbol, by the number of the refusal.
+const PICTURE_REMEDIES = {
+  13: "The bars are read, but their check character is wrong: the label is damaged, or the picture is blurred. Take it again, nearer and sharper.",
+  14: "This is a Code 128 symbol, but no GS1-128: print it with FNC1 first.",
+  19: "No bars are seen: take the label larger and in the middle of the picture, or move the slider.",
+  20: "There are bars, but no whole symbol: have all of the label in the picture, with white at both ends, and turn the picture so that the bars stand upright.",
+  21: "The light zone beside the bars is too narrow: leave white at both ends, as wide as five of the narrowest bars. A frame or a print beside the bars hides it.",
+  22: "The bars are blurred, or seen too much aslant: hold the camera still, nearer and straight above the label, or move the slider.",
+  23: "The bars are no whole symbol: have all of the label in the picture, with white at both ends, sharp and not covered, or turn the picture.",
+  24: "The digits do not pass their check: the label is damaged or printed wrong. Take the picture again, and if it stays compare the label with its number.",
+};
+
+const pictureRemedyOf = (line) => PICTURE_REMEDIES[line.split(" ")[1]] ?? remedyOf(line);
 
 // The refusal that tells most: of the rows that came furthest, not those beside the symbol.
 function closest(refused) {
@@ -13,27 +31,61 @@ function closest(refused) {
   return [...refused].sort((a, b) => rank(a[0]) - rank(b[0]) || b[1] - a[1])[0]?.[0] ?? "refused 19 Blank";
 }
 
+// Reads a picture: its symbols in the order of reading, and the refusal where it has none.
+function readPicture(taken) {
+  const from = performance.now(), reader = new Reader(gs1, number("year"));
+  const { symbols, refused } = reader.read(taken, taken.level, taken.own);
+  taken.symbols = inReadingOrder(symbols);
+  taken.refused = symbols.length ? null : closest(refused);
+  [taken.passed, taken.calls] = [performance.now() - from, reader.calls];
+}
+
 function read() {
   if (!picture) return;
-  const from = performance.now();
-  const reader = new Reader(gs1, number("year")), { symbols, refused } = reader.read(picture, number("level"), picture.own);
-  [picture.passed, picture.calls] = [performance.now() - from, reader.calls];
-  picture.symbols = inReadingOrder(symbols);
-  const body = at("found").tBodies[0];
-  body.replaceChildren(...picture.symbols.map(({ line, rows }, i) => {
+  readPicture(picture);
+  tell();
+}
+
+// Shows what all pictures say, and the one that is shown with its marks.
+function tell() {
+  const rows = pictures.flatMap(({ name, symbols, refused }) => symbols.length
+    ? symbols.map(({ line, rows: count }, i) => [i + 1, name, line, SYMBOLS[line.slice(0, 3)], count])
+    : [["", name, refused, pictureRemedyOf(refused), ""]]);
+  const count = pictures.reduce((sum, { symbols }) => sum + symbols.length, 0), one = pictures.length === 1;
+  at("found").tBodies[0].replaceChildren(...rows.map((cells) => {
     const row = document.createElement("tr");
-    for (const cell of [i + 1, line, rows]) row.insertCell().textContent = cell;
+    for (const cell of cells) row.insertCell().textContent = cell;
     return row;
   }));
-  at("found").hidden = !symbols.length;
-  if (symbols.length) say("told", symbols.length === 1 ? symbols[0].line : `${symbols.length} symbols`, "remedy");
-  else say("told", closest(refused), "remedy");
+  at("results").hidden = one && !count;
+  if (one && !count) say("told", picture.refused, "remedy", pictureRemedyOf);
+  else if (one && count === 1) say("told", picture.symbols[0].line, "remedy");
+  else say("told", one ? `${count} symbols` : `${count} symbols in ${pictures.length} pictures`, "remedy");
   mark(picture.symbols);
+}
+
+// What was found as lines of text, and as CSV (RFC 4180).
+const foundLines = () => pictures.flatMap(({ symbols }) => symbols.map(({ line }) => line.slice(4)));
+
+function foundCsv() {
+  const quoted = (word) => /[",\r\n]/.test(word) ? `"${word.replaceAll('"', '""')}"` : word;
+  const rows = pictures.flatMap(({ name, symbols }) => symbols.map(({ line }, i) => [name, String(i + 1), line.slice(0, 3), line.slice(4)]));
+  return [["picture", "number", "symbol", "text"], ...rows].map((row) => row.map(quoted).join(",") + "\r\n").join("");
+}
+
+async function copyFound() {
+  try {
+    await navigator.clipboard.writeText(foundLines().join("\n"));
+    at("copied").textContent = "copied";
+  } catch {
+    at("copied").textContent = "this browser keeps the clipboard from pages: select the table and copy it";
+  }
 }
 
 // The level is a person's own from then on.
 function level() {
-  if (picture) picture.own = true;
+  if (!picture) return;
+  [picture.own, picture.level] = [true, number("level")];
   read();
 }
 
@@ -80,18 +132,34 @@ async function pictureOf(file) {
   }
 }
 
-// Takes a file as the picture, but where another was taken in the meantime. One that is no picture is told, and the
-// picture before it stays.
+// Takes files as pictures, but where others were taken in the meantime. One that is no picture is told, and where none is one the
+// pictures before them stay.
 let takes = 0;
 
-async function take(file) {
-  if (!file) return say("told", "there is no picture", "remedy");
-  const turn = ++takes, taken = await pictureOf(file);
-  if (turn !== takes) return;
-  if (!taken) return say("told", `${file.name || "this"} is no picture that this browser opens`, "remedy");
-  picture = taken;
-  at("level").value = levelOf(picture.grey);
-  read();
+async function take(...files) {
+  if (!files.length || !files[0]) return say("told", "there is no picture", "remedy");
+  const turn = ++takes, taken = [], others = [];
+  for (const file of files) {
+    const one = await pictureOf(file);
+    if (turn !== takes) return;
+    if (one) taken.push({ ...one, name: file.name ?? "" });
+    else others.push(file.name || "this");
+  }
+  if (taken.length) takePictures(taken);
+  if (others.length === 1) say(taken.length ? "remedy" : "told", `${others[0]} is no picture that this browser opens`, "remedy");
+  else if (others.length) say(taken.length ? "remedy" : "told", `${others.join(", ")} are no pictures that this browser opens`, "remedy");
+}
+
+// Reads pictures and shows the last one.
+function takePictures(taken) {
+  for (const one of taken) {
+    one.level = levelOf(one.grey);
+    readPicture(one);
+  }
+  [pictures, picture] = [taken, taken[taken.length - 1]];
+  at("level").value = picture.level;
+  at("copied").textContent = "";
+  tell();
 }
 
 async function takeClipboard() {
@@ -108,10 +176,15 @@ async function takeClipboard() {
 
 function listenToRead() {
   at("level").addEventListener("input", level);
-  at("year").addEventListener("input", read);
+  at("year").addEventListener("input", () => {
+    pictures.forEach(readPicture);
+    if (picture) tell();
+  });
   // So that the same file, changed since, can be chosen again.
   at("file").addEventListener("click", () => { at("file").value = ""; });
-  at("file").addEventListener("change", () => { document.taken = take(at("file").files[0]); });
+  at("file").addEventListener("change", () => { document.taken = take(...at("file").files); });
+  at("copy").addEventListener("click", () => { document.copied = copyFound(); });
+  at("csv").addEventListener("click", () => save(new Blob([foundCsv()], { type: "text/csv" }), "found.csv"));
   at("paste").addEventListener("click", () => { document.taken = takeClipboard(); });
   addEventListener("paste", (event) => {
     const file = [...event.clipboardData.files].find(({ type }) => type.startsWith("image/"));
@@ -121,7 +194,7 @@ function listenToRead() {
     addEventListener(name, (event) => {
       event.preventDefault();
       at("drop").classList.toggle("over", name === "dragover");
-      if (name === "drop") document.taken = take(event.dataTransfer.files[0]);
+      if (name === "drop") document.taken = take(...event.dataTransfer.files);
     });
   }
 }

@@ -14,7 +14,8 @@ import time
 class Browser:
     """A browser with one page open, of this size. It is ended and its profile removed by `close`."""
 
-    def __init__(self, url, width=1000, height=1400, dark=False, started="document.readyState === 'complete' && !!document.started"):
+    def __init__(self, url, width=1000, height=1400, dark=False, started="document.readyState === 'complete' && !!document.started",
+                 switches=()):
         to_read, self._to = os.pipe()
         self._of, to_write = os.pipe()
 
@@ -25,7 +26,7 @@ class Browser:
 
         self._profile = tempfile.mkdtemp()
         words = ["chromium", "--headless", "--no-sandbox", "--disable-gpu", f"--user-data-dir={self._profile}",
-                 "--remote-debugging-pipe", "about:blank"]
+                 "--remote-debugging-pipe", *switches, "about:blank"]
         self._process = subprocess.Popen(words, preexec_fn=pipes, close_fds=False,
                                          stdout=subprocess.DEVNULL, stderr=subprocess.DEVNULL)
         os.close(to_read), os.close(to_write)
@@ -80,11 +81,11 @@ class Browser:
                 raise TimeoutError(script)
             time.sleep(0.05)
 
-    def choose(self, path):
-        """Chooses a file, as a user does in the dialog, and waits until it is taken."""
+    def choose(self, *paths):
+        """Chooses files, as a user does in the dialog, and waits until they are taken."""
         self.value("document.taken = null")
         node = self.call("Runtime.evaluate", expression="at('file')")["result"]["objectId"]
-        self.call("DOM.setFileInputFiles", files=[os.path.abspath(path)], objectId=node)
+        self.call("DOM.setFileInputFiles", files=[os.path.abspath(path) for path in paths], objectId=node)
         self.until("document.taken !== null")
         self.value("document.taken")
 

@@ -4,6 +4,7 @@ Usage: check.py PROGRAM CALLS WORK PICTURE. PROGRAM is gs1_hub, CALLS tests/embe
 files, and PICTURE where a picture of the page is left. Its last line is the counts.
 """
 import base64
+import csv
 import json
 import os
 import random
@@ -253,7 +254,8 @@ def reads(page):
     boxes = json.loads(page.value("JSON.stringify(picture.symbols)"))
     same("what is told of them", shown(page), f"{len(boxes)} symbols")
     rows = json.loads(page.value("JSON.stringify([...at('found').tBodies[0].rows].map((r) => [...r.cells].map((c) => c.textContent)))"))
-    same("the table", rows, [[str(i + 1), box["line"], str(box["rows"])] for i, box in enumerate(boxes)])
+    kinds = {"]E0": "EAN-13, UPC-A or UPC-E", "]E4": "EAN-8", "]C1": "GS1-128", "]I1": "ITF-14"}
+    same("the table", rows, [[str(i + 1), "labels.pbm", box["line"], kinds[box["line"][:3]], str(box["rows"])] for i, box in enumerate(boxes)])
     marks = page.value("""(() => {
         const pen = at('picture').getContext('2d'), colours = ({ x, y }) => pen.getImageData(Math.floor(x), Math.floor(y), 1, 1).data.join();
         const inside = ({ x, y }) => x >= 0 && y >= 0 && x < picture.width && y < picture.height;
@@ -325,7 +327,7 @@ def reads(page):
     png(f"{WORK}/blank.png", 300, 20, lambda y: b"\xff" * 300)
     choose(page, f"{WORK}/blank.png")
     same("a blank picture", shown(page), "refused 19 Blank")
-    same("what to do about it", page.value("at('remedy').textContent.split(':')[0]"), "the scan missed the symbol")
+    same("what to do about it", page.value("at('remedy').textContent.split(':')[0]"), "No bars are seen")
 
     # Symbols with other grey values, turned end for end, and a quiet zone that is too narrow.
     row = symbol_row(2)
@@ -363,6 +365,112 @@ def reads(page):
     type_words(page, level=150, year=1950)
     same("the year 1950", (shown(page), page.value("at('said').textContent")), ("refused 42 Words",) * 2)
     type_words(page, year=2026)
+
+
+def reads_several(page):
+    """Several files at once, one of them no picture and one without a symbol; what was found as text and as CSV."""
+    row = symbol_row(2)
+    png(f"{WORK}/a, b.png", len(row), 9, lambda y: bytes(255 * light for light in row))
+    png(f"{WORK}/nothing.png", 300, 20, lambda y: b"\xff" * 300)
+    with open(f"{WORK}/note.txt", "w") as file:
+        file.write("no picture\n")
+    page.choose(f"{WORK}/a, b.png", f"{WORK}/note.txt", f"{WORK}/nothing.png", f"{ROOT}/examples/labels.png")
+    same("what is told of several", shown(page), "7 symbols in 3 pictures")
+    same("what is told of the one that is none", page.value("at('remedy').textContent"), "note.txt is no picture that this browser opens")
+    rows = json.loads(page.value("JSON.stringify([...at('found').tBodies[0].rows].map((r) => [...r.cells].slice(0, 3).map((c) => c.textContent)))"))
+    same("the first rows of the table", rows[:3], [["1", "a, b.png", "]E0 (01)09501101530003"], ["", "nothing.png", "refused 19 Blank"],
+                                                   ["1", "labels.png", "]E0 (01)09501101530003"]])
+    page.call("Browser.grantPermissions", permissions=["clipboardReadWrite", "clipboardSanitizedWrite"])
+    page.call("Page.bringToFront")
+    page.value("at('copy').click(), document.copied")
+    texts = [row[2][4:] for row in rows if row[0]]
+    same("what is copied", page.value("navigator.clipboard.readText()"), "\n".join(texts))
+    same("what is told of it", page.value("at('copied').textContent"), "copied")
+    page.call("Browser.setDownloadBehavior", behavior="allow", downloadPath=os.path.abspath(WORK))
+    page.value("at('csv').click()")
+    wait_for(f"{WORK}/found.csv")
+    with open(f"{WORK}/found.csv", newline="") as file:
+        records = list(csv.reader(file))
+    same("the CSV", records, [["picture", "number", "symbol", "text"], *([row[1], row[0], row[2][:3], row[2][4:]] for row in rows if row[0])])
+
+
+def reads_odd_pictures(page):
+    """Pictures that are transparent, animated, of 16 bits a channel: the symbol is read in each."""
+    row = symbol_row(2)
+    line = bytes(255 * light for light in row)
+    deep = b"".join(bytes((value, value)) for value in line)
+    with open(f"{WORK}/deep.png", "wb") as file:
+        rows = zlib.compress(b"".join(b"\0" + deep for _ in range(9)))
+        chunks = (b"IHDR", struct.pack(">IIBBBBB", len(row), 9, 16, 0, 0, 0, 0)), (b"IDAT", rows), (b"IEND", b"")
+        file.write(b"\x89PNG\r\n\x1a\n" + b"".join(struct.pack(">I", len(data)) + name + data + struct.pack(">I", zlib.crc32(name + data))
+                                                   for name, data in chunks))
+    choose(page, f"{WORK}/deep.png")
+    same("a picture of 16 bits a channel", answers(page), ["]E0 (01)09501101530003"])
+    with open(f"{WORK}/moving.gif", "wb") as file:
+        file.write(gif([line] * 9, [b"\xff" * len(row)] * 9))
+    choose(page, f"{WORK}/moving.gif")
+    same("an animated picture, its first frame", answers(page), ["]E0 (01)09501101530003"])
+
+
+def gif(*frames):
+    """An animated GIF of black and white frames: codes of a dot each, cleared before the table grows."""
+    width, height = len(frames[0][0]), len(frames[0])
+    data = b"GIF89a" + struct.pack("<HHBBB", width, height, 0x80, 0, 0) + b"\0\0\0\xff\xff\xff"
+    data += b"!\xff\x0bNETSCAPE2.0\x03\x01\0\0\0"
+    for frame in frames:
+        bits = ""
+        for i, value in enumerate(b"".join(frame)):
+            # The code 4 clears; codes have three bits as long as fewer than two dots follow it.
+            bits = (f"{value & 1:03b}" + ("100" if i % 2 == 0 else "")) + bits
+        bits = "101" + bits
+        packed = bytes(int(bits[max(0, end - 8):end], 2) for end in range(len(bits), 0, -8))
+        data += b"!\xf9\x04\0\x0a\0\0\0," + struct.pack("<HHHHB", 0, 0, width, height, 0) + b"\x02"
+        data += b"".join(bytes((len(packed[i:i + 255]),)) + packed[i:i + 255] for i in range(0, len(packed), 255)) + b"\0"
+    return data + b";"
+
+
+def films(path, frames):
+    """Writes a film of 640 by 480 dots for the browser's fake camera, each frame a function of its rows."""
+    with open(path, "wb") as file:
+        file.write(b"YUV4MPEG2 W640 H480 F10:1 Ip A1:1 C420jpeg\n")
+        for row_of in frames:
+            file.write(b"FRAME\n" + b"".join(row_of(y) for y in range(480)) + b"\x80" * (640 * 480 // 2))
+
+
+def reads_by_camera(url):
+    """The browser's fake camera shows nothing, and then a label; a camera that is refused, and one that goes away."""
+    row = symbol_row(4)
+    line = (b"\xe0" * 60 + bytes(40 + 180 * light for light in row) + b"\xe0" * 640)[:640]
+    blank = b"\xe0" * 640
+    films(f"{WORK}/film.y4m", [lambda y: blank] * 5 + [lambda y: line if 100 < y < 380 else blank] * 30)
+    switches = ["--use-fake-device-for-media-stream", f"--use-file-for-fake-video-capture={os.path.abspath(WORK)}/film.y4m"]
+    page = Browser(url, switches=[*switches, "--use-fake-ui-for-media-stream"])
+    try:
+        page.value("at('camera').click(), document.read")
+        same("what the camera shows", (shown(page), answers(page)), ("]E0 (01)09501101530003", ["]E0 (01)09501101530003"]))
+        same("the camera ends with it", page.value("[stream, at('video').hidden, at('camera').textContent].join()"), ",true,read by the camera")
+        passed = json.loads(page.value("JSON.stringify(document.frames)"))
+        print(f"camera, 640 by 480: {len(passed)} frames, {min(passed):.1f} to {max(passed):.1f} ms each")
+        page.value("at('level').value = 255, at('camera').click(), new Promise((done) => setTimeout(done, 300))")
+        page.value("stream && stream.getVideoTracks()[0].dispatchEvent(new Event('ended'))")
+        same("a camera that goes away", shown(page) in ("the camera is gone", "]E0 (01)09501101530003"), True)
+        page.value("Object.defineProperty(navigator, 'mediaDevices', { value: undefined, configurable: true }), stopCamera(), at('camera').click(), document.read")
+        same("a browser that keeps cameras from files", shown(page).startswith("this browser keeps cameras from pages"), True)
+    finally:
+        page.close()
+    refused = Browser(url, switches=switches)
+    try:
+        refused.call("Browser.setPermission", permission={"name": "camera"}, setting="denied")
+        refused.value("at('camera').click(), document.read")
+        same("a camera that is refused", shown(refused).startswith("the camera is refused to this page"), True)
+    finally:
+        refused.close()
+    without = Browser(url, switches=["--use-fake-ui-for-media-stream"])
+    try:
+        without.value("at('camera').click(), document.read")
+        same("no camera", shown(without), "there is no camera")
+    finally:
+        without.close()
 
 
 def takes_the_last(page):
@@ -460,11 +568,11 @@ def stands_for_all(page):
     type_words(page, kind="ean13", text="9501101530003")
     order = []
     page.value("at('kind').focus()")
-    for _ in range(18):
+    for _ in range(19):
         order.append(page.value("document.activeElement.id"))
         for kind in ("rawKeyDown", "keyUp"):
             page.call("Input.dispatchKeyEvent", type=kind, key="Tab", code="Tab", windowsVirtualKeyCode=9)
-    same("the order of the keyboard", " ".join(order), "kind text resolution module width height year fit digits png svg pbm zpl lines make file paste level")
+    same("the order of the keyboard", " ".join(order), "kind text resolution module width height year fit digits png svg pbm zpl lines make file paste camera level")
     page.value("at('text').select()")
     page.call("Input.insertText", text="96385074")
     same("words by the keyboard", page.value("at('said').textContent"), "gtin 00000096385074")
@@ -520,6 +628,8 @@ def main():
         prints(page)
         prints_sheets(page)
         reads(page)
+        reads_several(page)
+        reads_odd_pictures(page)
         takes_the_last(page)
         counts_symbols(page)
         large(page)
@@ -527,6 +637,7 @@ def main():
         stands_for_all(page)
     finally:
         page.close()
+    reads_by_camera(url)
     runs_in_node()
     dark = Browser(url, dark=True)
     try:

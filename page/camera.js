@@ -1,0 +1,92 @@
+// Reads what a camera shows, until two frames agree.
+"use strict";
+
+// The milliseconds between two frames, at least.
+const PAUSE = 30;
+
+let stream;
+
+const CAMERA_PROBLEMS = {
+  NotAllowedError: "the camera is refused to this page: allow it in the browser's settings of the page",
+  NotFoundError: "there is no camera",
+  NotReadableError: "the camera is taken by another program",
+};
+
+function cameraProblem(error) {
+  return CAMERA_PROBLEMS[error.name] ?? `the camera does not start: ${error.name}`;
+}
+
+function stopCamera() {
+  for (const track of stream?.getTracks() ?? []) track.stop();
+  stream = null;
+  at("video").hidden = true;
+  at("video").srcObject = null;
+  at("camera").textContent = "read by the camera";
+}
+
+async function startCamera() {
+  if (!navigator.mediaDevices?.getUserMedia) {
+    return say("told", "this browser keeps cameras from pages that are opened from a file: open the page from a server, as https", "remedy");
+  }
+  try {
+    stream = await navigator.mediaDevices.getUserMedia({ video: { facingMode: "environment", width: { ideal: 1280 } } });
+  } catch (error) {
+    return say("told", cameraProblem(error), "remedy");
+  }
+  const [track] = stream.getVideoTracks();
+  track.addEventListener("ended", () => {
+    if (!stream) return;
+    stopCamera();
+    say("told", "the camera is gone", "remedy");
+  });
+  at("camera").textContent = "stop the camera";
+  at("video").srcObject = stream;
+  at("video").hidden = false;
+  await at("video").play();
+  say("told", "hold the label before the camera", "remedy");
+  await readFrames();
+}
+
+// A frame of the camera as a picture.
+function frameOf(video) {
+  const canvas = new OffscreenCanvas(video.videoWidth, video.videoHeight);
+  const pen = canvas.getContext("2d", { willReadFrequently: true });
+  pen.drawImage(video, 0, 0);
+  return { ...greyOf(pen.getImageData(0, 0, canvas.width, canvas.height)), image: canvas, name: "camera" };
+}
+
+// Reads frame by frame; where two that follow each other show the same, the second is held and the camera ends.
+async function readFrames() {
+  let before = "";
+  while (stream) {
+    const frame = frameOf(at("video"));
+    frame.level = levelOf(frame.grey);
+    readPicture(frame);
+    document.frames = [...document.frames ?? [], frame.passed];
+    const says = frame.symbols.map(({ line }) => line).sort().join("\n");
+    if (says && says === before) return hold(frame);
+    before = says;
+    await new Promise((done) => setTimeout(done, PAUSE));
+  }
+}
+
+function hold(frame) {
+  stopCamera();
+  takePictures([frame]);
+  beep();
+}
+
+// A tone of a tenth of a second.
+function beep() {
+  const audio = new AudioContext(), tone = audio.createOscillator();
+  tone.frequency.value = 1760;
+  tone.connect(audio.destination);
+  tone.start();
+  tone.stop(audio.currentTime + 0.1);
+  tone.addEventListener("ended", () => audio.close());
+}
+
+function listenToCamera() {
+  at("camera").addEventListener("click", () => { document.read = stream ? stopCamera() : startCamera(); });
+  addEventListener("pagehide", stopCamera);
+}
