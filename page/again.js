@@ -13,6 +13,9 @@ const LOOKS = [
   { lines: 9, rows: 40, blur: 2.7 },
 ];
 
+// The look for symbols whose quiet zones are too narrow: a module wide at least.
+const CROWDED = { lines: 3, rows: 12, blur: 0, quiet: 1 };
+
 // The fewest rows that read a symbol, and how many for each row that reads something else there.
 const FEWEST_ROWS = 2, ROWS_AGAINST = 4;
 
@@ -68,6 +71,16 @@ class Again {
     return symbols;
   }
 
+  // Whether there is a symbol that wants nothing but wider quiet zones.
+  isCrowded() {
+    const { side, blocks } = stripedBlocks(this.picture, []);
+    return directionsOf(blocks).some((direction) => {
+      const left = together(direction.blocks, side);
+      if (left.length < FEWEST_BLOCKS) return false;
+      return this.along(new Grid({ ...direction, blocks: left }, side, CROWDED.rows), CROWDED).length > 0;
+    });
+  }
+
   // The symbols that the rows of a grid show.
   along(grid, look) {
     const tally = new Tally();
@@ -78,19 +91,20 @@ class Again {
       const count = edgesOf(clear, bounds, this.ends);
       eachWindow(this.ends, count, (first, last, shapes) => {
         const left = from + this.ends[first], right = from + this.ends[last - 1];
-        const line = this.answer(first, last, shapes);
+        const line = this.answer(first, last, shapes, look.quiet);
         if (line) tally.add(line, left, right, v, grid.step);
         return line !== null;
-      });
+      }, look.quiet);
     }
     return tally.sure().map((s) => new Found({ ...s, top: s.first - grid.step / 2, bottom: s.last + grid.step / 2, frame: grid }));
   }
 
-  // What a window says, or nothing where it is refused in each shape.
-  answer(first, last, shapes) {
+  // What a window says, or nothing where it is refused in each shape. Quiet zones that may be narrower are told as wide.
+  answer(first, last, shapes, quiet = QUIET) {
     for (const shape of shapes) {
       const widths = straightened(this.ends, first, last, shape);
       if (!widths) continue;
+      if (quiet < QUIET) widths[0] = widths[widths.length - 1] = MOST_QUIET * PARTS;
       const line = this.reader.askWidths(widths);
       if (!line.startsWith("refused")) return line;
     }

@@ -47,12 +47,12 @@ async function startCamera() {
   await readFrames();
 }
 
-// A frame of the camera as a picture.
+// A frame of the camera as a picture, which another follows.
 function frameOf(video) {
   const canvas = new OffscreenCanvas(video.videoWidth, video.videoHeight);
   const pen = canvas.getContext("2d", { willReadFrequently: true });
   pen.drawImage(video, 0, 0);
-  return { ...greyOf(pen.getImageData(0, 0, canvas.width, canvas.height)), image: canvas, name: "camera" };
+  return { ...greyOf(pen.getImageData(0, 0, canvas.width, canvas.height)), image: canvas, name: "camera", passing: true };
 }
 
 // Reads frame by frame; where two that follow each other show the same, the second is held and the camera ends.

@@ -37,6 +37,7 @@ function readPicture(taken) {
   const { symbols, refused } = reader.read(taken, taken.level, taken.own);
   taken.symbols = inReadingOrder(symbols);
   taken.refused = symbols.length ? null : closest(refused);
+  if (taken.refused && !taken.own && !taken.passing && new Again(reader, taken).isCrowded()) taken.refused = "refused 21 QuietZone";
   [taken.passed, taken.calls] = [performance.now() - from, reader.calls];
 }
 

@@ -13,6 +13,7 @@ import struct
 import subprocess
 import sys
 import time
+import zipfile
 import zlib
 
 from browser import Browser
@@ -357,6 +358,13 @@ def reads(page):
     png(f"{WORK}/narrow.png", len(narrow), 9, lambda y: bytes(255 * light for light in narrow) if y < 3 else b"\xff" * len(narrow))
     choose(page, f"{WORK}/narrow.png")
     same("a quiet zone that is too narrow, above more rows that are blank", shown(page), "refused 21 QuietZone")
+    crowded = [255 * light for light in row[22 - 4:-14 + 4]]
+    tall = [b"\xff" * 600] * 40 + [b"\xff" * 100 + bytes([0] * 20 + crowded + [0] * 20) + b"\xff" * 360] * 80 + [b"\xff" * 600] * 40
+    tall = [line[:600] for line in tall]
+    png(f"{WORK}/crowded.png", 600, 160, lambda y: tall[y])
+    choose(page, f"{WORK}/crowded.png")
+    same("a symbol between frames two modules away", (shown(page), answers(page)), ("refused 21 QuietZone", []))
+    same("what to do about it", page.value("at('remedy').textContent").startswith("The light zone beside the bars is too narrow"), True)
     png(f"{WORK}/greys.png", len(row), 9, lambda y: bytes(200 if light else 120 for light in row))
     choose(page, f"{WORK}/greys.png")
     for level, wanted in ((100, "refused 19 Blank"), (121, "]E0 (01)09501101530003"), (200, "]E0 (01)09501101530003"), (201, "refused 20 RunCount")):
@@ -550,12 +558,43 @@ def large(page):
     alone = float(done.stdout)
     print(f"4,000 by 3,000 pixels: {passed:.0f} ms for {calls} calls, which take {alone:.1f} ms from C: {passed / alone:.1f} times as long")
     same("4,000 by 3,000 in a second", passed < 1000, True)
+    photograph(page)
     png(f"{WORK}/huge.png", 8000, 8000, lambda y: b"\xff" * 8000)
     choose(page, f"{WORK}/huge.png")
     same("8,000 by 8,000", shown(page), "refused 19 Blank")
     png(f"{WORK}/full.png", 8000, 8000, lambda y: shifted[y % 7] * 2)
     choose(page, f"{WORK}/full.png")
     same("the symbols of 8,000 by 8,000", answers(page), ["]E0 (01)09501101530003"] * 8)
+
+
+def photograph(page):
+    """A photograph of 4,000 by 3,000: the label is turned, the light falls, and there is a grain."""
+    page.value("""(async () => {
+        const canvas = new OffscreenCanvas(4000, 3000), pen = canvas.getContext('2d');
+        pen.fillStyle = '#777';
+        pen.fillRect(0, 0, 4000, 3000);
+        pen.translate(2000, 1500);
+        pen.rotate(12 * Math.PI / 180);
+        pen.fillStyle = '#eee';
+        pen.fillRect(-1100, -700, 2200, 1400);
+        pen.fillStyle = '#222';
+        %s.forEach((light, x) => light || pen.fillRect(x * 8 - 452, -300, 8, 500));
+        pen.font = '90px sans-serif';
+        pen.fillText('Noriladle, 500 g, best before the end of the year', -1000, -400);
+        pen.fillText('9 501101 530003', -400, 320);
+        const image = pen.getImageData(0, 0, 4000, 3000), { data } = image;
+        for (let i = 0, seed = 1; i < data.length; i += 4) {
+            seed = seed * 1664525 + 1013904223 >>> 0;
+            const value = data[i] * (1 - 0.4 * (i / 4 %% 4000) / 4000) + (seed >>> 24) / 8 - 16;
+            data[i] = data[i + 1] = data[i + 2] = value;
+        }
+        pen.putImageData(image, 0, 0);
+        await take(new File([await canvas.convertToBlob({ type: 'image/jpeg', quality: 0.85 })], 'photograph.jpg'));
+    })()""" % symbol_row(1))
+    same("a photograph of 4,000 by 3,000", answers(page), ["]E0 (01)09501101530003"])
+    passed = min(page.value("read(), picture.passed") for _ in range(3))
+    print(f"a photograph of 4,000 by 3,000 pixels: {passed:.0f} ms for {page.value('picture.calls')} calls")
+    same("a photograph of 4,000 by 3,000 in two seconds", passed < 2000, True)
 
 
 def stands_for_all(page):
@@ -606,6 +645,64 @@ def runs_in_node():
         same(f"in Node, {call[:3]}", sorted(got) if isinstance(got, list) else got, want)
 
 
+def contrasts(page, scheme):
+    """Each text stands out from its ground by 4.5 to 1 (WCAG 2.2, 1.4.3), also what is told of a refusal."""
+    page.value("at('text').value = 'x', draw()")
+    low = json.loads(page.value("""(() => {
+        const shades = (colour) => colour.match(/[\\d.]+/g).map(Number);
+        const light = (colour) => shades(colour).slice(0, 3).reduce((sum, value, i) => {
+            const v = value / 255;
+            return sum + [0.2126, 0.7152, 0.0722][i] * (v <= 0.04045 ? v / 12.92 : ((v + 0.055) / 1.055) ** 2.4);
+        }, 0);
+        const ground = (element) => {
+            for (let at = element; at; at = at.parentElement) {
+                const colour = getComputedStyle(at).backgroundColor;
+                if ((shades(colour)[3] ?? 1) > 0) return colour;
+            }
+            return matchMedia('(prefers-color-scheme: dark)').matches ? 'rgb(18, 18, 18)' : 'rgb(255, 255, 255)';
+        };
+        const found = [];
+        for (const element of document.querySelectorAll('body *')) {
+            const words = [...element.childNodes].some((node) => node.nodeType === 3 && node.textContent.trim());
+            if (!words || !element.checkVisibility() || element.disabled || element.closest('svg')) continue;
+            const [a, b] = [light(getComputedStyle(element).color), light(ground(element))].sort((x, y) => y - x);
+            if ((a + 0.05) / (b + 0.05) < 4.5) found.push(`${element.tagName} ${element.id}: ${((a + 0.05) / (b + 0.05)).toFixed(2)}`);
+        }
+        return JSON.stringify(found);
+    })()"""))
+    same(f"texts that stand out too little, {scheme}", low, [])
+    type_words(page, kind="ean13")
+
+
+def keeps_to_itself(page, url):
+    """The page asks no network, and its policy forbids all but its own scripts and style."""
+    page.call("Network.enable")
+    page.value("performance.clearResourceTimings()")
+    asked = json.loads(page.value("JSON.stringify(performance.getEntriesByType('resource').map(({ name }) => name).filter((name) => !/^(file|blob|data):/.test(name)))"))
+    same("what is asked of the network", asked, [])
+    policy = page.value("document.querySelector('meta[http-equiv=Content-Security-Policy]').content")
+    same("the policy begins with nothing", policy.startswith("default-src 'none'; "), True)
+    for what, script in (("a fetch", "fetch('http://127.0.0.1:9/').then(() => 'done', () => 'refused')"),
+                         ("a script of its own words", "(() => { const s = document.createElement('script'); s.textContent = 'globalThis.ran = 1'; document.head.append(s); return globalThis.ran ? 'done' : 'refused'; })()"),
+                         ("a picture of another place", "new Promise((done) => { const i = new Image(); i.onload = () => done('done'); i.onerror = () => done('refused'); i.src = 'http://127.0.0.1:9/a.png'; })")):
+        same(f"{what}, by the policy", page.value(script), "refused")
+
+
+def is_packed():
+    """The zip has the page and all that it names, and opens by itself."""
+    with zipfile.ZipFile(f"{ROOT}/page/out/noriladle-page.zip") as packed:
+        packed.extractall(f"{WORK}/packed")
+    with open(f"{WORK}/packed/noriladle-page/index.html") as file:
+        named = re.findall(r'(?:src|href)="(.*?)"', file.read())
+    same("the files of the zip", sorted(os.listdir(f"{WORK}/packed/noriladle-page")), sorted(["index.html", *named]))
+    page = Browser(f"file://{os.path.abspath(WORK)}/packed/noriladle-page/index.html")
+    try:
+        choose(page, f"{ROOT}/examples/labels.png")
+        same("the symbols that the packed page reads", len(answers(page)), 6)
+    finally:
+        page.close()
+
+
 def has_remedies(page):
     """What to do is said of each refusal that the page can show, in the words of docs/FAULTS.md."""
     with open(f"{ROOT}/docs/FAULTS.md", encoding="utf-8") as file:
@@ -634,16 +731,20 @@ def main():
         counts_symbols(page)
         large(page)
         has_remedies(page)
+        contrasts(page, "light")
+        keeps_to_itself(page, url)
         stands_for_all(page)
     finally:
         page.close()
     reads_by_camera(url)
+    is_packed()
     runs_in_node()
     dark = Browser(url, dark=True)
     try:
         same("a dark page", dark.value("getComputedStyle(document.documentElement).colorScheme"), "light dark")
         light = dark.value("matchMedia('(prefers-color-scheme: dark)').matches")
         same("the dark scheme", light, True)
+        contrasts(dark, "dark")
     finally:
         dark.close()
     for bits, works in ((32, True), (0, False)):
