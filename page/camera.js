@@ -62,7 +62,6 @@ async function readFrames() {
     const frame = frameOf(at("video"));
     frame.level = levelOf(frame.grey);
     readPicture(frame);
-    document.frames = [...document.frames ?? [], frame.passed];
     const says = frame.symbols.map(({ line }) => line).sort().join("\n");
     if (says && says === before) return hold(frame);
     before = says;
