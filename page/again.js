@@ -16,8 +16,11 @@ const LOOKS = [
 // The look for symbols whose quiet zones are too narrow: a module wide at least.
 const CROWDED = { lines: 3, rows: 12, blur: 0, quiet: 1 };
 
-// The fewest rows that read a symbol, and how many for each row that reads something else there.
-const FEWEST_ROWS = 2, ROWS_AGAINST = 4;
+// The fewest rows that read a symbol.
+const FEWEST_ROWS = 2;
+
+// Two symbols that are fewer rows apart than this have no light between them, so they are one.
+const ROWS_APART = 3;
 
 // The greatest gap between rows of one symbol, as a part of its width.
 const GAP = 0.2;
@@ -30,7 +33,7 @@ class Tally {
     const near = (right - left) / 8, gap = (right - left) * GAP + step;
     let symbol = this.found.find((s) => s.line === line && v - s.last <= gap
       && Math.abs(s.left - left) < near + s.drift && Math.abs(s.right - right) < near + s.drift);
-    if (!symbol) this.found.push(symbol = { line, left, right, first: v, rows: 0, drift: near });
+    if (!symbol) this.found.push(symbol = { line, left, right, first: v, rows: 0, drift: near, apart: ROWS_APART * step });
     symbol.left = Math.min(symbol.left, left);
     symbol.right = Math.max(symbol.right, right);
     symbol.last = v;
@@ -40,7 +43,7 @@ class Tally {
   // How many rows say something else where a symbol is.
   against(symbol) {
     const others = this.found.filter((s) => s.line !== symbol.line && s.left < symbol.right && symbol.left < s.right
-      && s.first <= symbol.last && symbol.first <= s.last);
+      && s.first <= symbol.last + s.apart && symbol.first <= s.last + s.apart);
     return others.reduce((sum, s) => sum + s.rows, 0);
   }
 

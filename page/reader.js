@@ -32,6 +32,52 @@ function darkBetween(ends, count, left, right) {
   return false;
 }
 
+// How many rows read a symbol for each row that reads something else there.
+const ROWS_AGAINST = 4;
+
+const near = (a, b) => Math.abs(a.left - b.left) < (b.right - b.left) / 8 && Math.abs(a.right - b.right) < (b.right - b.left) / 8;
+
+// The symbols that the rows of a picture show, each with the box that its rows fill and their number.
+class Bands {
+  constructor() { [this.symbols, this.open] = [[], []]; }
+
+  // A symbol ends above a row that is light where it stood.
+  endWhereLight(ends, count) { this.open = this.open.filter(({ last }) => darkBetween(ends, count, last.left, last.right)); }
+
+  // A symbol ends where it went unread for too many rows.
+  endUnread(y) {
+    this.open = this.open.filter(({ bottom, last }) => y - bottom < Math.max(MOST_UNREAD, (last.right - last.left) / 4));
+  }
+
+  // Row y shows a line between `left` and `right`.
+  add({ line, left, right }, y) {
+    const place = { left, right }, here = this.open.filter(({ last }) => near(last, place));
+    let symbol = here.find((other) => other.line === line);
+    if (!symbol) {
+      symbol = { line, left, right, top: y, rows: 0, against: 0 };
+      this.symbols.push(symbol);
+      this.open.push(symbol);
+    }
+    for (const other of here) {
+      if (other === symbol) continue;
+      other.against++;
+      symbol.against = Math.max(symbol.against, other.rows);
+    }
+    [symbol.left, symbol.right, symbol.bottom] = [Math.min(symbol.left, left), Math.max(symbol.right, right), y + 1];
+    symbol.last = place;
+    symbol.rows++;
+  }
+
+  sure() { return this.symbols.filter(({ rows, against }) => rows >= ROWS_AGAINST * against); }
+}
+
+// Whether two rows have the same runs.
+function sameRuns(ends, count, before, runs) {
+  if (count !== runs) return false;
+  for (let i = 0; i < count; i++) if (ends[i] !== before[i]) return false;
+  return true;
+}
+
 // Reads rows of pictures, and keeps what they say.
 class Reader {
   constructor(gs1, year) {
@@ -86,38 +132,28 @@ class Reader {
 
   // The same of the rows of the picture alone, whose dots are dark below the level.
   readRows({ width, height, grey }, level) {
-    const symbols = [], refused = new Map();
-    let ends = new Uint32Array(width + 2), before = new Uint32Array(width + 2), runs = -1, found = [], told = new Map();
-    let open = [];
+    const bands = new Bands(), refused = new Map();
+    let ends = new Uint32Array(width + 2), before = new Uint32Array(width + 2), runs = -1, row = null;
     for (let y = 0; y < height; y++) {
       const count = runsOf(grey, y * width, width, level, ends);
-      let same = count === runs;
-      for (let i = 0; same && i < count; i++) same = ends[i] === before[i];
-      if (!same) {
-        [found, told] = [[], new Map()];
-        if (count === 1) told.set("refused 19 Blank", 1);
-        else this.seek(ends, 0, count - 1, found, told);
-        if (!found.length && !told.size) told.set("refused 20 RunCount", 1);
-        // A symbol ends above a row that is light where it stood.
-        open = open.filter((s) => darkBetween(ends, count, ...s.ends));
+      if (!sameRuns(ends, count, before, runs)) {
+        row = this.readRuns(ends, count);
+        bands.endWhereLight(ends, count);
       }
-      open = open.filter((s) => y - s.bottom < Math.max(MOST_UNREAD, (s.ends[1] - s.ends[0]) / 4));
-      for (const [line, times] of told) refused.set(line, (refused.get(line) ?? 0) + times);
-      for (const { line, left, right } of found) {
-        const near = (right - left) / 8;
-        let symbol = open.find((s) => s.line === line
-          && Math.abs(s.ends[0] - left) < near && Math.abs(s.ends[1] - right) < near);
-        if (!symbol) {
-          symbol = { line, left, right, top: y, rows: 0 };
-          symbols.push(symbol);
-          open.push(symbol);
-        }
-        [symbol.left, symbol.right, symbol.bottom] = [Math.min(symbol.left, left), Math.max(symbol.right, right), y + 1];
-        symbol.ends = [left, right];
-        symbol.rows++;
-      }
+      bands.endUnread(y);
+      for (const [line, times] of row.refused) refused.set(line, (refused.get(line) ?? 0) + times);
+      for (const found of row.found) bands.add(found, y);
       [ends, before, runs] = [before, ends, count];
     }
-    return { symbols, refused };
+    return { symbols: bands.sure(), refused };
+  }
+
+  // What the runs of a row show, and why parts of it are refused.
+  readRuns(ends, count) {
+    const found = [], refused = new Map();
+    if (count === 1) refused.set("refused 19 Blank", 1);
+    else this.seek(ends, 0, count - 1, found, refused);
+    if (!found.length && !refused.size) refused.set("refused 20 RunCount", 1);
+    return { found, refused };
   }
 }
