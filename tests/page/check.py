@@ -388,6 +388,14 @@ def reads_several(page):
     rows = json.loads(page.value("JSON.stringify([...at('found').tBodies[0].rows].map((r) => [...r.cells].slice(0, 3).map((c) => c.textContent)))"))
     same("the first rows of the table", rows[:3], [["1", "a, b.png", "]E0 (01)09501101530003"], ["", "nothing.png", "refused 19 Blank"],
                                                    ["1", "labels.png", "]E0 (01)09501101530003"]])
+    # The right one stands a little higher than the left one beside it, and a third one below both.
+    light, blank = bytes(255 * light for light in row), b"\xff" * len(row)
+    png(f"{WORK}/beside.png", 2 * len(row), 200,
+        lambda y: (light if 10 <= y < 90 or y >= 120 else blank) + (light if y < 80 else blank))
+    choose(page, f"{WORK}/beside.png")
+    places = page.value("picture.symbols.map(({ box }) => [box.left, box.top].join(' ')).join()")
+    same("the order of reading", places, f"22 10,{22 + len(row)} 0,22 120")
+    page.choose(f"{WORK}/a, b.png", f"{WORK}/note.txt", f"{WORK}/nothing.png", f"{ROOT}/examples/labels.png")
     page.call("Browser.grantPermissions", permissions=["clipboardReadWrite", "clipboardSanitizedWrite"])
     page.call("Page.bringToFront")
     page.value("at('copy').click(), document.copied")
