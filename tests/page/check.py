@@ -296,7 +296,9 @@ def reads(page):
     page.value(blob + ".then((blob) => navigator.clipboard.write([new ClipboardItem({ 'image/png': blob })]))")
     page.value("at('paste').click(), document.taken")
     same("the symbols of the clipboard", sorted(answers(page)), wanted)
-    type_words(page, kind="gs1128", text="010950110153000310AB^17261231", module=2, width=620, height=80)
+    tick(page, fit=True)
+    type_words(page, kind="gs1128", text="010950110153000310AB^17261231", resolution=300, module=4, height=380)
+    page.value("at('lines').value = 'ean13,9501101530003\\nean8,96385074', at('make').click()")
     page.picture(PICTURE)
     page.value("navigator.clipboard.writeText('no picture')")
     page.value("at('paste').click(), document.taken")
@@ -644,11 +646,11 @@ def stands_for_all(page):
     type_words(page, kind="ean13", text="9501101530003")
     order = []
     page.value("at('kind').focus()")
-    for _ in range(19):
+    for _ in range(20):
         order.append(page.value("document.activeElement.id"))
         for kind in ("rawKeyDown", "keyUp"):
             page.call("Input.dispatchKeyEvent", type=kind, key="Tab", code="Tab", windowsVirtualKeyCode=9)
-    same("the order of the keyboard", " ".join(order), "kind text resolution module width height year fit digits png svg pbm zpl lines make file paste camera level")
+    same("the order of the keyboard", " ".join(order), "kind text resolution module width height year fit digits png svg pbm zpl lines make print file paste camera level")
     page.value("at('text').select()")
     page.call("Input.insertText", text="96385074")
     same("words by the keyboard", page.value("at('said').textContent"), "gtin 00000096385074")
