@@ -28,10 +28,14 @@ async function startCamera() {
   if (!navigator.mediaDevices?.getUserMedia) {
     return say("told", "this browser keeps cameras from pages that are opened from a file: open the page from a server, as https", "remedy");
   }
+  // While a person is asked, the button asks no second time.
+  at("camera").disabled = true;
   try {
     stream = await navigator.mediaDevices.getUserMedia({ video: { facingMode: "environment", width: { ideal: 1280 } } });
   } catch (error) {
     return say("told", cameraProblem(error), "remedy");
+  } finally {
+    at("camera").disabled = false;
   }
   const [track] = stream.getVideoTracks();
   track.addEventListener("ended", () => {
