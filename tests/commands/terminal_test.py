@@ -9,6 +9,7 @@ import tty
 
 import program
 from program import CommandTest, ran
+from rows import EAN8_ROW
 from sheets import LOW, RECORD, image
 
 GRID = "--module 1 --width 113 --height 3 --columns 1 --rows 1 --year 2026"
@@ -104,7 +105,13 @@ class TerminalTest(CommandTest):
         said = remedies()
 
         def short(mebibytes):
-            return lambda: resource.setrlimit(resource.RLIMIT_AS, (mebibytes << 20, mebibytes << 20))
+            """So much room for memory and for threads, each with a stack of eight MiB."""
+
+            def limit():
+                resource.setrlimit(resource.RLIMIT_STACK, (8 << 20, resource.getrlimit(resource.RLIMIT_STACK)[1]))
+                resource.setrlimit(resource.RLIMIT_AS, (mebibytes << 20, mebibytes << 20))
+
+            return {"preexec_fn": limit}
 
         folder = os.open("/", os.O_RDONLY)
         with open("/dev/full", "wb") as full, open("/dev/zero", "rb") as zeros:
@@ -112,7 +119,8 @@ class TerminalTest(CommandTest):
                 (CHECK, folder, {}, "refused 37 ReadFault"),
                 (CHECK, b"digit,12", {"stdout": full}, "refused 38 WriteFault"),
                 ("--help", b"", {"stdout": full}, "refused 38 WriteFault"),
-                (CHECK, 1_500_000 * b"digit,123\n", {"preexec_fn": short(8)}, "refused 43 NoMemory"),
+                (LANES.replace("--workers 1", "--workers 16"), f"0,{EAN8_ROW}".encode(), short(40), "refused 36 NoThread"),
+                (CHECK, 1_500_000 * b"digit,123\n", short(8), "refused 43 NoMemory"),
                 (CHECK, zeros, {}, "refused 44 InputSize"),
             ]:
                 with self.subTest(line):
