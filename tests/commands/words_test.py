@@ -1,11 +1,13 @@
 """Command lines: what they ask for, which are refused, and which ask for help."""
 
+import os
 import re
 
 from program import CommandTest, ran, ran_to
 from sheets import LOW, RECORD, image
 
-VERSION = "gs1_hub 1.0.0 (rattle logic dac8208d650f15bf)\n"
+with open(os.path.join(os.path.dirname(__file__), "..", "..", "VERSION"), encoding="utf-8") as it:
+    VERSION = f"gs1_hub {it.read().strip()} (rattle logic dac8208d650f15bf)\n"
 
 YEAR = "--year <YEAR> Year that 1951 to 2149"
 WORKERS = "--workers <COUNT> threads 1 to 16"

@@ -9,7 +9,7 @@ use digits_core::{Sink, write_all};
 
 /// The product's version and, in parentheses, the sum of the logic that proves it, with which `rt version`
 /// ends.
-pub const VERSION: &str = "1.0.0 (rattle logic dac8208d650f15bf)";
+pub const VERSION: &str = "1.1.0 (rattle logic dac8208d650f15bf)";
 
 /// What the program is for.
 pub const HUB: &str = "Checks, prints and scans GS1 bar codes";

@@ -13,6 +13,7 @@ mod commands;
 mod fault;
 mod help;
 mod laws;
+mod remedies;
 #[cfg(test)]
 mod tests;
 mod words;
@@ -21,10 +22,12 @@ use crate::buffered::Buffered;
 use crate::commands::{Asked, run};
 use crate::fault::CommandFault;
 use crate::help::write_help;
-use crate::words::{WordsFault, read_words};
+use crate::remedies::remedy;
+use crate::words::{WordsFault, read_words, sentence};
 use digits_core::{FromReader, Sink, Source, ToWriter};
 use hub_core::{Gate, OpenGate};
 use std::alloc::Global;
+use std::io::IsTerminal;
 use std::process::ExitCode;
 use std::sync::Wait;
 use std::thread::Threads;
@@ -50,9 +53,9 @@ fn run_buffered<R: Threads + Wait + Sync, S: Source, W: Sink, G: Gate + Sync>(
     Ok(())
 }
 
-/// The exit status of a command that has run. A refusal is told on standard error, and without one nothing
-/// is told, so that nothing fails.
-fn finish(rt: &impl Eprint, ran: Result<(), CommandFault>) -> io::Result<ExitCode>
+/// The exit status of a command that has run. A refusal is told on standard error, at a terminal with what
+/// to do about it, and without one nothing is told, so that nothing fails.
+fn finish(rt: &impl Eprint, ran: Result<(), CommandFault>, terminal: bool) -> io::Result<ExitCode>
     ensures status { IfOk result (λ code. exit_status code ≡ status_of ran) }
     ensures quiet { OnOk ran (IsOk result) }
 {
@@ -60,6 +63,9 @@ fn finish(rt: &impl Eprint, ran: Result<(), CommandFault>) -> io::Result<ExitCod
         Ok(()) => Ok(ExitCode::SUCCESS),
         Err(fault) => {
             eprintln!(rt; "{fault}")?;
+            if terminal {
+                eprintln!(rt; "{}", remedy(&fault))?;
+            }
             Ok(ExitCode::from(1))
         }
     }
@@ -67,29 +73,38 @@ fn finish(rt: &impl Eprint, ran: Result<(), CommandFault>) -> io::Result<ExitCod
 
 /// The exit status where the words ask for no command. Help goes to the sink, and a refusal, of the words
 /// or of the writing, is told on standard error.
-fn explain<W: Sink>(rt: &impl Eprint, fault: &WordsFault, sink: &mut W) -> io::Result<ExitCode>
+fn explain<W: Sink>(
+    rt: &impl Eprint,
+    fault: &WordsFault,
+    sink: &mut W,
+    terminal: bool,
+) -> io::Result<ExitCode>
     ensures status { W.failed sink.old ≡ false
         → IfOk result (λ code. exit_status code ≡ words_status fault.now (W.failed sink.new)) }
     ensures took { W.failed sink.old ≡ false
         → TookHelp fault.now (W.failed sink.new) (W.taken sink.old) (W.taken sink.new) }
 {
     match fault {
-        WordsFault::Help(text) => finish(rt, write_help(text.as_str(), sink)),
+        WordsFault::Help(text) => finish(rt, write_help(text.as_str(), sink), terminal),
         WordsFault::Words => {
             eprintln!(rt; "{fault}")?;
             Ok(ExitCode::from(2))
         }
-        WordsFault::NoMemory => {
-            eprintln!(rt; "{fault}")?;
-            Ok(ExitCode::from(1))
-        }
+        WordsFault::NoMemory => finish(rt, Err(CommandFault::NoMemory), terminal),
     }
 }
 
 fn main(rt: HostRuntime) -> io::Result<ExitCode> {
+    let terminal = rt.stderr().is_terminal();
+    let mut said = None;
     let asked = match env::args(&rt) {
         Ok(args) => match args.collect::<Vec<String>>(rt.alloc()) {
-            Ok(words) => read_words(rt.alloc(), words.as_slice()),
+            Ok(words) => {
+                if terminal {
+                    said = sentence(rt.alloc(), words.as_slice());
+                }
+                read_words(rt.alloc(), words.as_slice())
+            }
             Err(_) => Err(WordsFault::NoMemory),
         },
         Err(error) if error.kind() == io::ErrorKind::OutOfMemory => Err(WordsFault::NoMemory),
@@ -98,17 +113,20 @@ fn main(rt: HostRuntime) -> io::Result<ExitCode> {
     match asked {
         Ok(asked) => {
             let Ok(reader) = io::BufReader::new(rt.alloc(), rt.reader()) else {
-                return explain(
-                    &rt,
-                    &WordsFault::NoMemory,
-                    &mut ToWriter::new(io::writer(&rt)),
-                );
+                return finish(&rt, Err(CommandFault::NoMemory), terminal);
             };
             let mut source = FromReader::new(reader);
             let mut sink = Buffered::new(ToWriter::new(io::writer(&rt)));
             let ran = run_buffered(&rt, rt.alloc(), asked, &mut source, &mut sink, &OpenGate);
-            finish(&rt, ran)
+            finish(&rt, ran, terminal)
         }
-        Err(fault) => explain(&rt, &fault, &mut ToWriter::new(io::writer(&rt))),
+        Err(fault) => {
+            let mut sink = ToWriter::new(io::writer(&rt));
+            let status = explain(&rt, &fault, &mut sink, terminal)?;
+            if let Some(text) = said {
+                eprint!(rt; "{text}")?;
+            }
+            Ok(status)
+        }
     }
 }

@@ -76,3 +76,14 @@ pub fn read_words(alloc: Global, words: &[String]) -> Result<Asked, WordsFault>
         None => unreachable!(),
     }
 }
+
+/// What clap says of words that it refuses: which word, and what it expected. None where it takes them, where
+/// they ask for help or the version, and where there is no memory to say it.
+pub fn sentence(alloc: Global, words: &[String]) -> Option<String> {
+    let hub = hub_words(alloc).ok()?;
+    let error = hub.try_get_matches_from(words).err()?;
+    match error.kind() {
+        ErrorKind::DisplayHelp | ErrorKind::DisplayVersion => None,
+        _ => error.to_string(alloc).ok(),
+    }
+}
