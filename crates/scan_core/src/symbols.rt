@@ -169,6 +169,7 @@ impl<'a> Symbols<'a> {
     pub fn of_widths(widths: &'a [u16], year: Year) -> Result<Symbols<'a>, RunFault>
         ensures ok { IfOk result (λ s. s ≡ search_of widths.now year) }
         ensures taken { OnOk result (runs_fault widths.now ≡ None) }
+        ensures few { OnOk result (length widths.now ≤ 65537) }
         ensures refused { IfErr result (λ fault. runs_fault widths.now ≡ Some fault) }
     {
         if let Some(fault) = runs_fault(widths) {
