@@ -33,11 +33,13 @@ enum gs1_kind { GS1_EAN13 = 0, GS1_UPCA = 1, GS1_EAN8 = 2, GS1_UPCE = 3, GS1_GS1
 
 /* The library's calls, whose pointers are never null, also where the count is 0: call those below. */
 size_t gs1_c_row(const uint16_t *widths, size_t count, uint16_t year, uint8_t *out, size_t room);
+size_t gs1_c_row_elements(const uint16_t *widths, size_t count, uint16_t year, uint8_t *out, size_t room);
 size_t gs1_c_find(const uint16_t *widths, size_t count, uint16_t year, uint8_t *out, size_t room);
 size_t gs1_c_dots(const uint8_t *bits, size_t bytes, uint32_t count, uint16_t year, uint8_t *out, size_t room);
 size_t gs1_c_gtin(const uint8_t *text, size_t length, uint8_t *out, size_t room);
 size_t gs1_c_digit(const uint8_t *text, size_t length, uint8_t *out, size_t room);
 size_t gs1_c_text(const uint8_t *text, size_t length, uint16_t year, uint8_t *out, size_t room);
+size_t gs1_c_text_elements(const uint8_t *text, size_t length, uint16_t year, uint8_t *out, size_t room);
 size_t gs1_c_label(uint32_t kind, const uint8_t *text, size_t length, uint16_t year,
                    uint16_t module_dots, uint16_t width, uint16_t height, uint8_t *out, size_t room);
 
@@ -54,6 +56,12 @@ static inline void *gs1_none(void) {
  * is read by the reference year, 1951 to 2149; any other year is `refused 42 Words`. */
 static inline size_t gs1_row(const uint16_t *widths, size_t count, uint16_t year, uint8_t *out, size_t room) {
     return gs1_c_row(GS1_SOME(const uint16_t *, widths), count, year, GS1_SOME(uint8_t *, out), room);
+}
+
+/* The same with the elements as data: of each its AI, `=` and its value, with a tab between each two, as
+ * `]E0 01=09501101530003`. Different lists of elements have different answers. */
+static inline size_t gs1_row_elements(const uint16_t *widths, size_t count, uint16_t year, uint8_t *out, size_t room) {
+    return gs1_c_row_elements(GS1_SOME(const uint16_t *, widths), count, year, GS1_SOME(uint8_t *, out), room);
 }
 
 /* Every symbol of a row, from the left: a line of each window of its runs that begins and ends with a light
@@ -85,6 +93,11 @@ static inline size_t gs1_digit(const uint8_t *text, size_t length, uint8_t *out,
 /* The elements of an element string, in which byte 29 is the separator, as `hri (10)AB(17)261231`. */
 static inline size_t gs1_text(const uint8_t *text, size_t length, uint16_t year, uint8_t *out, size_t room) {
     return gs1_c_text(GS1_SOME(const uint8_t *, text), length, year, GS1_SOME(uint8_t *, out), room);
+}
+
+/* The same with the elements as data, as gs1_row_elements: `data 10=AB<TAB>17=261231`. */
+static inline size_t gs1_text_elements(const uint8_t *text, size_t length, uint16_t year, uint8_t *out, size_t room) {
+    return gs1_c_text_elements(GS1_SOME(const uint8_t *, text), length, year, GS1_SOME(uint8_t *, out), room);
 }
 
 /* A label as a PBM image (P4, netpbm's pbm(5)) of `width` by `height` dots, its modules `module_dots` wide:

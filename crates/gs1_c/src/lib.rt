@@ -10,7 +10,7 @@ ghost use Rattle.std.specs.Prelude.{List, ℕ};
 ghost use Rattle.digits_core.specs.Buffers.{IsPut};
 ghost use Rattle.gs1_c.specs.Found.{AreSymbolsPut};
 ghost use Rattle.gs1_c.specs.Labels.{IsLabelBytes, one_cell};
-ghost use Rattle.gs1_c.specs.Lines.{IsDigitLine, IsDotsLine, IsRowLine, IsTextLine, gtin_line};
+ghost use Rattle.gs1_c.specs.Lines.{IsDigitLine, IsDotsLine, IsRowLine, IsRowPairs, IsTextLine, IsTextPairs, gtin_line};
 
 mod answer;
 mod buffer;
@@ -19,8 +19,8 @@ mod label;
 #[cfg(test)]
 mod tests;
 
-use answer::{put_answer, put_dots};
-use buffer::{put, put_elements, put_refusal, put_words};
+use answer::{put_answer, put_answer_pairs, put_dots};
+use buffer::{put, put_elements, put_pairs, put_refusal, put_words};
 use digits_core::{Gtin, payload_digit};
 use element_core::{Elements, Year};
 use found::put_symbols;
@@ -84,6 +84,36 @@ pub extern "C" fn gs1_c_row(widths: &[u16], year: u16, out: &mut [u8]) -> usize
     };
     match read_widths(widths, year) {
         Ok(answer) => put_answer(&answer, out),
+        Err(fault) => put_refusal(fault.refusal(), out),
+    }
+}
+
+/// What a row says, as `gs1_c_row`, with the elements as data: of each its AI, `=` and its value, with a tab
+/// between each two, as `]E0 01=09501101530003`. Different lists of elements have different lines.
+#[unsafe(no_mangle)]
+pub extern "C" fn gs1_c_row_elements(widths: &[u16], year: u16, out: &mut [u8]) -> usize
+    ensures { (line : List ℕ) × IsRowPairs year widths.now line × IsPut line out.old out.new result }
+{
+    let Some(year) = Year::new(year) else {
+        return put(WORDS, out);
+    };
+    match read_widths(widths, year) {
+        Ok(answer) => put_answer_pairs(&answer, out),
+        Err(fault) => put_refusal(fault.refusal(), out),
+    }
+}
+
+/// The elements of an element string, as `gs1_c_text`, as data: of each its AI, `=` and its value, with a tab
+/// between each two, as `data 10=AB<TAB>17=261231`. Different lists of elements have different lines.
+#[unsafe(no_mangle)]
+pub extern "C" fn gs1_c_text_elements(text: &[u8], year: u16, out: &mut [u8]) -> usize
+    ensures { (line : List ℕ) × IsTextPairs year text.now line × IsPut line out.old out.new result }
+{
+    let Some(year) = Year::new(year) else {
+        return put(WORDS, out);
+    };
+    match Elements::parse(text, year) {
+        Ok(elements) => put_pairs(b"data", &elements, out),
         Err(fault) => put_refusal(fault.refusal(), out),
     }
 }
