@@ -1,6 +1,9 @@
 //! What each call puts, against values from outside.
 
-use crate::{gs1_c_digit, gs1_c_dots, gs1_c_find, gs1_c_gtin, gs1_c_label, gs1_c_row, gs1_c_text};
+use crate::{
+    gs1_c_digit, gs1_c_dots, gs1_c_find, gs1_c_gtin, gs1_c_label, gs1_c_row, gs1_c_row_elements,
+    gs1_c_text, gs1_c_text_elements,
+};
 use std::process::Abort;
 
 // 9501101530003 as EAN-13, its light ends included, at one dot a module, and the same as packed dots.
