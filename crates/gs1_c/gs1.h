@@ -3,7 +3,7 @@
  * Each call answers with bytes, without an end mark, and returns how many they are. They stand at the front
  * of `out` where `room` is at least their number; else `out` is as it was, and the number says how much
  * room to bring. So a call with a `room` of 0 tells the size of its answer. A line has at most GS1_LINE
- * bytes. A question that is refused is answered by `refused`, a number, a name and, where it has one, a
+ * bytes, and one of gs1_find at most GS1_FOUND. A question that is refused is answered by `refused`, a number, a name and, where it has one, a
  * place, as `refused 2 NotDigit 12`; docs/FAULTS.md says what to do about each.
  *
  * No call takes memory, keeps anything, waits, prints or ends the program, so calls in several threads at a
@@ -25,15 +25,21 @@ extern "C" {
 /* The most bytes of a line: room for each answer but an image. */
 #define GS1_LINE 292
 
+/* The most bytes of the line of a symbol that gs1_find found. */
+#define GS1_FOUND 304
+
 /* The kinds of labels: GS1_GS1128 of an element string, the others of a GTIN. */
 enum gs1_kind { GS1_EAN13 = 0, GS1_UPCA = 1, GS1_EAN8 = 2, GS1_UPCE = 3, GS1_GS1128 = 4, GS1_ITF14 = 5 };
 
 /* The library's calls, whose pointers are never null, also where the count is 0: call those below. */
 size_t gs1_c_row(const uint16_t *widths, size_t count, uint16_t year, uint8_t *out, size_t room);
+size_t gs1_c_row_elements(const uint16_t *widths, size_t count, uint16_t year, uint8_t *out, size_t room);
+size_t gs1_c_find(const uint16_t *widths, size_t count, uint16_t year, uint8_t *out, size_t room);
 size_t gs1_c_dots(const uint8_t *bits, size_t bytes, uint32_t count, uint16_t year, uint8_t *out, size_t room);
 size_t gs1_c_gtin(const uint8_t *text, size_t length, uint8_t *out, size_t room);
 size_t gs1_c_digit(const uint8_t *text, size_t length, uint8_t *out, size_t room);
 size_t gs1_c_text(const uint8_t *text, size_t length, uint16_t year, uint8_t *out, size_t room);
+size_t gs1_c_text_elements(const uint8_t *text, size_t length, uint16_t year, uint8_t *out, size_t room);
 size_t gs1_c_label(uint32_t kind, const uint8_t *text, size_t length, uint16_t year,
                    uint16_t module_dots, uint16_t width, uint16_t height, uint8_t *out, size_t room);
 
@@ -52,9 +58,23 @@ static inline size_t gs1_row(const uint16_t *widths, size_t count, uint16_t year
     return gs1_c_row(GS1_SOME(const uint16_t *, widths), count, year, GS1_SOME(uint8_t *, out), room);
 }
 
-/* The same of `count` dots packed in bytes, as a row of PBM has them: the first dot of a byte in its high bit,
- * and 1 is dark. `bits` reaches (count + 7) / 8 bytes; what stands behind the last dot does not matter. More
- * than 65,535 dots are `refused 17 TooWide`. */
+/* The same with the elements as data: of each its AI, `=` and its value, with a tab between each two, as
+ * `]E0 01=09501101530003`. Different lists of elements have different answers. */
+static inline size_t gs1_row_elements(const uint16_t *widths, size_t count, uint16_t year, uint8_t *out, size_t room) {
+    return gs1_c_row_elements(GS1_SOME(const uint16_t *, widths), count, year, GS1_SOME(uint8_t *, out), room);
+}
+
+/* Every symbol of a row, from the left: a line of each window of its runs that begins and ends with a light
+ * run and is read as a row, with its first run, how many runs it has and what gs1_row says of these, as
+ * `0 61 ]E0 (01)09501101530003`, and a line feed at its end. A row with no symbol has no line. Unlike the other
+ * calls it puts as many whole lines as there is room for; the number returned is that of all of them. */
+static inline size_t gs1_find(const uint16_t *widths, size_t count, uint16_t year, uint8_t *out, size_t room) {
+    return gs1_c_find(GS1_SOME(const uint16_t *, widths), count, year, GS1_SOME(uint8_t *, out), room);
+}
+
+/* What gs1_row says of the row of `count` dots packed in bytes, as a row of PBM has them: the first dot of a
+ * byte in its high bit, and 1 is dark. `bits` reaches (count + 7) / 8 bytes; what stands behind the last dot
+ * does not matter. More than 65,535 dots are `refused 17 TooWide`. */
 static inline size_t gs1_dots(const uint8_t *bits, uint32_t count, uint16_t year, uint8_t *out, size_t room) {
     return gs1_c_dots(GS1_SOME(const uint8_t *, bits), (size_t)(((uint64_t)count + 7) / 8), count, year,
                       GS1_SOME(uint8_t *, out), room);
@@ -73,6 +93,11 @@ static inline size_t gs1_digit(const uint8_t *text, size_t length, uint8_t *out,
 /* The elements of an element string, in which byte 29 is the separator, as `hri (10)AB(17)261231`. */
 static inline size_t gs1_text(const uint8_t *text, size_t length, uint16_t year, uint8_t *out, size_t room) {
     return gs1_c_text(GS1_SOME(const uint8_t *, text), length, year, GS1_SOME(uint8_t *, out), room);
+}
+
+/* The same with the elements as data, as gs1_row_elements: `data 10=AB<TAB>17=261231`. */
+static inline size_t gs1_text_elements(const uint8_t *text, size_t length, uint16_t year, uint8_t *out, size_t room) {
+    return gs1_c_text_elements(GS1_SOME(const uint8_t *, text), length, year, GS1_SOME(uint8_t *, out), room);
 }
 
 /* A label as a PBM image (P4, netpbm's pbm(5)) of `width` by `height` dots, its modules `module_dots` wide:

@@ -35,7 +35,7 @@ belongs_is_character Numeric b h = digit_is_character b h
 belongs_is_character Date b h = digit_is_character b h
 belongs_is_character DateAndTime b h = digit_is_character b h
 
-all_weaker : (p q : ℕ → Bool) → ((b : ℕ) → p b ≡ true → q b ≡ true) → (v : List ℕ) → list_all p v ≡ true → list_all q v ≡ true
+pub all_weaker : (p q : ℕ → Bool) → ((b : ℕ) → p b ≡ true → q b ≡ true) → (v : List ℕ) → list_all p v ≡ true → list_all q v ≡ true
 all_weaker p q f [] h = refl
 all_weaker p q f (b ∷ v) h = let k = and_parts (p b) (list_all p v) h in and_from (q b) (list_all q v) (f b k.0) (all_weaker p q f v k.1)
 
@@ -43,7 +43,7 @@ all-append : (q : ℕ → Bool) (a b : List ℕ) → list_all q a ≡ true → l
 all-append q [] b h k = k
 all-append q (x ∷ a) b h k = let p = and_parts (q x) (list_all q a) h in and_from (q x) (list_all q (a ++ b)) p.0 (all-append q a b p.1 k)
 
-value_letters : (parts : List Part) (v : List ℕ) → length v ≤ greatest_of parts → each_part has_characters parts v ≡ true → list_all is_character v ≡ true
+pub value_letters : (parts : List Part) (v : List ℕ) → length v ≤ greatest_of parts → each_part has_characters parts v ≡ true → list_all is_character v ≡ true
 value_letters [] v le h = rw (nil_from_length v (omega arith)) refl
 value_letters (p ∷ parts) v le h =
     let q = and_parts (has_characters p (take p.greatest v)) (each_part has_characters parts (drop p.greatest v)) h in

@@ -13,6 +13,8 @@ pub mod Letters
 pub mod DayLemmas
 pub mod PieceLemmas
 pub mod Lines
+pub mod PairLines
+pub mod PairsApart
 pub mod GtinLemmas
 pub mod DayLaws
 pub mod Dated

@@ -2,7 +2,7 @@
 -- (GS1 General Specifications, section 7.8).
 -- A text says one list of elements or has one first fault. A canonical text reads back as its elements.
 use Rattle.std.specs.Prelude.{◌≡◌, ◌⊎◌, ℕ, ◌+◌, ◌%◌, ◌<◌, ◌≤◌, Bool, true, false, ◌&&◌, ◌||◌, not, List, [], ◌∷◌, ◌++◌, length, take, drop, Option, Some, None, IsTrue, MatchOption, Contains, nat_lt, nat_le, ◌==◌, if◌then◌else◌, is_some, flat_map, map, codes}
-use Rattle.std.specs.List.{list_all, AllByRecursion}
+use Rattle.std.specs.List.{list_all, AllByRecursion, join_with_byte}
 use Rattle.element_core.specs.declared.fault.ElementFault.{ElementFault}
 use Rattle.element_core.specs.declared.fault.ElementFault.TheVariants.{Empty, UnknownAi, ValueLength, ValueCharacter, ValueCheckDigit, ValueDate, MissingSeparator, TooLong}
 use Rattle.element_core.specs.declared.part.Part.{Part}
@@ -240,6 +240,14 @@ entry_time e = time_by e.value (row_at e.ai)
 abbrev pub hri : List Entry → List ℕ
 hri es = flat_map (λ e. (40 ∷ e.ai) ++ (41 ∷ e.value)) es
 
+-- an element as a pair: its AI, "=" and its value
+abbrev pub pair_text : Entry → List ℕ
+pair_text e = e.ai ++ (61 ∷ e.value)
+
+-- the pairs, with a tab between each two
+abbrev pub pairs_text : List Entry → List ℕ
+pairs_text es = join_with_byte 9 (map pair_text es)
+
 -- ---- what callers see of a list of elements
 
 -- a list of elements under its reference year
@@ -273,6 +281,11 @@ OneAnswer = (year : ℕ) (text : List ℕ) →
 abbrev pub CanonicalReads : Type 0
 CanonicalReads = (year : ℕ) (text : List ℕ) (es : List Entry) → IsElements year text es
     → IsElements year (canonical es) es × (length (canonical es) ≤ length text)
+
+-- different lists of elements have different pairs: no AI has the byte "=", and no value a tab
+abbrev pub PairsDiffer : Type 0
+PairsDiffer = (year other : ℕ) (text more : List ℕ) (es fs : List Entry) → IsElements year text es → IsElements other more fs
+    → pairs_text es ≡ pairs_text fs → es ≡ fs
 
 -- each text is a list of elements or has a first fault
 abbrev pub EachText : Type 0

@@ -4,19 +4,20 @@ ghost use Rattle.std.specs.Prelude.{◌≡◌, ◌+◌, ◌<◌, ◌≤◌, [], 
 ghost use Rattle.digits_core.specs.Buffers.{pasted};
 ghost use Rattle.element_core.specs.Days.{IsDay};
 ghost use Rattle.element_core.specs.Rows.{entry_in};
-ghost use Rattle.element_core.specs.Elements.{Entry, IsElements, FirstFault, canonical, entry_day, entry_time, gtin_entry, hri, is_printable};
+ghost use Rattle.element_core.specs.Elements.{Entry, IsElements, FirstFault, canonical, entry_day, entry_time, gtin_entry, hri, is_printable, pairs_text};
 
 use crate::draft::{append, gap_length};
 use crate::element::{Element, day_of_element, time_of_element};
 use crate::fault::ElementFault;
 use crate::front::element_at;
 use crate::hri::{add_line_of, line_of, put_line};
+use crate::pair_line::pairs_of;
 use crate::pairs::{Pair, first_fault, needs_separator};
 use crate::shown_list::{count_of, element_of};
 use crate::text::{Text, copied};
 use crate::year::Year;
 use arrayvec::ArrayString;
-use digits_core::Gtin;
+use digits_core::{Gtin, put_at};
 use std::alloc::AllocError;
 use std::marker::Model;
 
@@ -197,5 +198,36 @@ impl Elements {
         line.reserve(text.len() + (text.len() + 1) / 4 * 2)?;
         add_line_of(line, text);
         Ok(())
+    }
+    /// The elements as pairs: of each its AI, `=` and its value, with a tab between each two. Different
+    /// lists of elements have different pairs.
+    pub fn pairs(&self) -> ArrayString<288>
+        ensures { result.bytes ≡ pairs_text self.now.list }
+    {
+        pairs_of(self.text.as_slice())
+    }
+
+    /// Puts the pairs into `out` from `at` on where there is room for all of them; else `out` is as it
+    /// was. The answer is how many bytes they have, at most 288.
+    pub fn put_pairs(&self, at: usize, out: &mut [u8]) -> usize
+        ensures count { result ≡ length (pairs_text self.now.list) }
+        ensures few { result ≤ 288 }
+        ensures put { at + result ≤ length out.old → out.new ≡ pasted out.old at (pairs_text self.now.list) }
+        ensures unchanged { length out.old < at + result → out.new ≡ out.old }
+    {
+        let pairs = self.pairs();
+        let bytes = pairs.as_bytes();
+        if at <= out.len() && bytes.len() <= out.len() - at {
+            put_at(bytes, at, out);
+        }
+        bytes.len()
+    }
+
+    /// Puts the pairs at the end of a text. Where there is no memory for them, the text stays as it was.
+    pub fn push_pairs(&self, line: &mut String) -> Result<(), AllocError>
+        ensures ok { OnOk result (string_bytes line.new ≡ string_bytes line.old ++ pairs_text self.now.list) }
+        ensures err { OnErr result (string_bytes line.new ≡ string_bytes line.old) }
+    {
+        line.push_str(self.pairs().as_str())
     }
 }

@@ -22,7 +22,7 @@ fn ascii_str(bytes: &[u8]) -> &str
 }
 
 /// Puts ASCII bytes at the end.
-fn push_bytes(line: &mut ArrayString<288>, bytes: &[u8])
+pub(crate) fn push_bytes(line: &mut ArrayString<288>, bytes: &[u8])
     requires ascii { All (λ b. b < 128) bytes.now }
     requires room { array_string_len line.old + length bytes.now ≤ 288 }
     ensures { line.new.bytes ≡ line.old.bytes ++ bytes.now }

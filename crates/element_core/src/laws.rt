@@ -2,7 +2,7 @@
 
 ghost use Rattle.element_core.specs.Days.{DayZero, YearWindow};
 ghost use Rattle.element_core.specs.Table.{CountsFirstRows, NoAiBeginsAnother, FirstDigitsDecide, PartsHaveOneLength};
-ghost use Rattle.element_core.specs.Elements.{CanonicalReads, DatedElements, EachText, GtinReads, OneAnswer, ReadAsBefore, TimedElements};
+ghost use Rattle.element_core.specs.Elements.{CanonicalReads, DatedElements, EachText, GtinReads, OneAnswer, PairsDiffer, ReadAsBefore, TimedElements};
 ghost use Rattle.element_core.specs.Pairs.{FaultlessPairs, PairLengths, PairsAsTexts, UnknownPairs};
 ghost use Rattle.element_core.specs.Fronts.{ReadsPieces};
 
@@ -24,6 +24,11 @@ pub fn one_answer()
 /// The canonical text of a list is an element string of the same list, and no longer.
 pub fn canonical_reads()
     ensures { CanonicalReads }
+{}
+
+/// Different lists of elements have different pairs, so that the pairs say which elements they are.
+pub fn pairs_differ()
+    ensures { PairsDiffer }
 {}
 
 /// The element of a GTIN is read back from its text, under each reference year.

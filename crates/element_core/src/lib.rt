@@ -12,6 +12,7 @@ mod formats;
 mod front;
 mod hri;
 mod laws;
+mod pair_line;
 mod pairs;
 mod part;
 mod row;
@@ -27,7 +28,7 @@ pub use elements::Elements;
 pub use fault::ElementFault;
 pub use laws::{
     canonical_reads, dated_elements, day_zero, each_text, faultless_pairs, first_digits_decide,
-    gtin_reads, no_ai_begins_another, one_answer, pair_faults, parts_have_one_length,
+    gtin_reads, no_ai_begins_another, one_answer, pair_faults, pairs_differ, parts_have_one_length,
     read_as_before, reads_pieces, timed_elements, year_window,
 };
 pub use pairs::Pair;

@@ -1,1 +1,2 @@
+mod FoundFacts
 mod PutFacts

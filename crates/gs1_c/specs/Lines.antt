@@ -6,12 +6,12 @@ use Rattle.digits_core.specs.Faults.{digit_fault_text}
 use Rattle.digits_core.specs.Gtins.{gtin_fault}
 use Rattle.digits_core.specs.Payloads.{payload_fault}
 use Rattle.digits_core.specs.declared.fault.DigitFault.{DigitFault}
-use Rattle.element_core.specs.Elements.{Entry, FirstFault, IsElements, hri}
+use Rattle.element_core.specs.Elements.{Entry, FirstFault, IsElements, hri, pairs_text}
 use Rattle.element_core.specs.Faults.{element_fault_text}
 use Rattle.element_core.specs.declared.fault.ElementFault.{ElementFault}
 use Rattle.scan_core.specs.Answers.{IsAnswer}
 use Rattle.scan_core.specs.Faults.{run_fault_text}
-use Rattle.scan_core.specs.Lines.{answer_text}
+use Rattle.scan_core.specs.Lines.{answer_pairs, answer_text}
 use Rattle.scan_core.specs.Bits.{dots_at}
 use Rattle.scan_core.specs.Row.{IsRow, dots_of, runs_fault}
 use Rattle.scan_core.specs.declared.answer.Answer.{Answer}
@@ -78,3 +78,25 @@ IsDatedDots year bits count line =
 abbrev pub IsDotsLine : ℕ → List ℕ → ℕ → List ℕ → Type 0
 IsDotsLine year bits count line =
     ((IsYear year → ⊥) × (line ≡ words_text)) ⊎ (IsYear year × IsDatedDots year bits count line)
+
+-- ---- the same, with the elements as pairs
+
+-- the line of an element string under a reference year
+abbrev pub IsDatedTextPairs : ℕ → List ℕ → List ℕ → Type 0
+IsDatedTextPairs year text line =
+    ((list : List Entry) × IsElements year text list × (line ≡ codes "data " ++ pairs_text list))
+    ⊎ ((fault : ElementFault) × FirstFault year text fault × (line ≡ element_fault_text fault))
+
+-- the line of an element string
+abbrev pub IsTextPairs : ℕ → List ℕ → List ℕ → Type 0
+IsTextPairs year text line = ((IsYear year → ⊥) × (line ≡ words_text)) ⊎ (IsYear year × IsDatedTextPairs year text line)
+
+-- the line of widths by their fault, under a reference year
+abbrev pub IsDatedRowPairs : ℕ → List ℕ → Option RunFault → List ℕ → Type 0
+IsDatedRowPairs year widths None line = (a : Answer) × IsAnswer widths year a × (line ≡ answer_pairs a)
+IsDatedRowPairs year widths (Some fault) line = line ≡ run_fault_text fault
+
+-- the line of widths
+abbrev pub IsRowPairs : ℕ → List ℕ → List ℕ → Type 0
+IsRowPairs year widths line =
+    ((IsYear year → ⊥) × (line ≡ words_text)) ⊎ (IsYear year × IsDatedRowPairs year widths (runs_fault widths) line)

@@ -2,7 +2,7 @@
 ghost use Rattle.std.specs.Prelude.{◌∷◌, ◌++◌};
 ghost use Rattle.digits_core.specs.Buffers.{IsPut};
 ghost use Rattle.digits_core.specs.Refusals.{refusal_text};
-ghost use Rattle.element_core.specs.Elements.{hri};
+ghost use Rattle.element_core.specs.Elements.{hri, pairs_text};
 
 use digits_core::Refusal;
 use element_core::Elements;
@@ -38,6 +38,19 @@ pub fn put_elements(word: &[u8], elements: &Elements, out: &mut [u8]) -> usize
 {
     let space = word.len();
     let count = space + 1 + elements.put_hri(space + 1, out);
+    if count <= out.len() {
+        out[..space].copy_from_slice(word);
+        out[space] = b' ';
+    }
+    count
+}
+
+/// The same of a word and the pairs of elements.
+pub fn put_pairs(word: &[u8], elements: &Elements, out: &mut [u8]) -> usize
+    ensures { IsPut (word.now ++ (32 ∷ pairs_text elements.now.list)) out.old out.new result }
+{
+    let space = word.len();
+    let count = space + 1 + elements.put_pairs(space + 1, out);
     if count <= out.len() {
         out[..space].copy_from_slice(word);
         out[space] = b' ';

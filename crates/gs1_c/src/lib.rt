@@ -8,19 +8,22 @@
 
 ghost use Rattle.std.specs.Prelude.{List, ℕ};
 ghost use Rattle.digits_core.specs.Buffers.{IsPut};
+ghost use Rattle.gs1_c.specs.Found.{AreSymbolsPut};
 ghost use Rattle.gs1_c.specs.Labels.{IsLabelBytes, one_cell};
-ghost use Rattle.gs1_c.specs.Lines.{IsDigitLine, IsDotsLine, IsRowLine, IsTextLine, gtin_line};
+ghost use Rattle.gs1_c.specs.Lines.{IsDigitLine, IsDotsLine, IsRowLine, IsRowPairs, IsTextLine, IsTextPairs, gtin_line};
 
 mod answer;
 mod buffer;
+mod found;
 mod label;
 #[cfg(test)]
 mod tests;
 
-use answer::{put_answer, put_dots};
-use buffer::{put, put_elements, put_refusal, put_words};
+use answer::{put_answer, put_answer_pairs, put_dots};
+use buffer::{put, put_elements, put_pairs, put_refusal, put_words};
 use digits_core::{Gtin, payload_digit};
 use element_core::{Elements, Year};
+use found::put_symbols;
 use label::{kind_numbered, put_kind};
 use scan_core::read_widths;
 use sheet_core::Grid;
@@ -83,6 +86,53 @@ pub extern "C" fn gs1_c_row(widths: &[u16], year: u16, out: &mut [u8]) -> usize
         Ok(answer) => put_answer(&answer, out),
         Err(fault) => put_refusal(fault.refusal(), out),
     }
+}
+
+/// What a row says, as `gs1_c_row`, with the elements as data: of each its AI, `=` and its value, with a tab
+/// between each two, as `]E0 01=09501101530003`. Different lists of elements have different lines.
+#[unsafe(no_mangle)]
+pub extern "C" fn gs1_c_row_elements(widths: &[u16], year: u16, out: &mut [u8]) -> usize
+    ensures { (line : List ℕ) × IsRowPairs year widths.now line × IsPut line out.old out.new result }
+{
+    let Some(year) = Year::new(year) else {
+        return put(WORDS, out);
+    };
+    match read_widths(widths, year) {
+        Ok(answer) => put_answer_pairs(&answer, out),
+        Err(fault) => put_refusal(fault.refusal(), out),
+    }
+}
+
+/// The elements of an element string, as `gs1_c_text`, as data: of each its AI, `=` and its value, with a tab
+/// between each two, as `data 10=AB<TAB>17=261231`. Different lists of elements have different lines.
+#[unsafe(no_mangle)]
+pub extern "C" fn gs1_c_text_elements(text: &[u8], year: u16, out: &mut [u8]) -> usize
+    ensures { (line : List ℕ) × IsTextPairs year text.now line × IsPut line out.old out.new result }
+{
+    let Some(year) = Year::new(year) else {
+        return put(WORDS, out);
+    };
+    match Elements::parse(text, year) {
+        Ok(elements) => put_pairs(b"data", &elements, out),
+        Err(fault) => put_refusal(fault.refusal(), out),
+    }
+}
+
+/// Every symbol of a row, given as `gs1_c_row` takes it: of each window of its runs that begins and ends
+/// with a light run and is read as a row, from the left, a line of its first run, how many runs it has and
+/// what `gs1_c_row` says of them, as `0 61 ]E0 (01)09501101530003`, each with a line feed at its end. A row
+/// with no symbol has no line.
+///
+/// The count is that of all lines. Those stand at the front of `out`, from the left, that it has room for:
+/// each whole or not at all, and behind them it is as it was.
+#[unsafe(no_mangle)]
+pub extern "C" fn gs1_c_find(widths: &[u16], year: u16, out: &mut [u8]) -> usize
+    ensures { AreSymbolsPut year widths.now out.old out.new result }
+{
+    let Some(year) = Year::new(year) else {
+        return put(WORDS, out);
+    };
+    put_symbols(widths, year, out)
 }
 
 /// What a row of `count` packed dots says, as `gs1_c_row` of its widths. A byte has its first dot in its

@@ -1,12 +1,22 @@
 //! What each call puts, against values from outside.
 
-use crate::{gs1_c_digit, gs1_c_dots, gs1_c_gtin, gs1_c_label, gs1_c_row, gs1_c_text};
+use crate::{
+    gs1_c_digit, gs1_c_dots, gs1_c_find, gs1_c_gtin, gs1_c_label, gs1_c_row, gs1_c_row_elements,
+    gs1_c_text, gs1_c_text_elements,
+};
 use std::process::Abort;
 
 // 9501101530003 as EAN-13, its light ends included, at one dot a module, and the same as packed dots.
 const WIDTHS: &[u16] = &[
     11, 1, 1, 1, 1, 2, 3, 1, 1, 1, 2, 3, 1, 2, 2, 2, 2, 2, 2, 1, 1, 1, 2, 3, 2, 2, 2, 1, 1, 1, 1,
     1, 1, 1, 2, 3, 1, 1, 4, 1, 1, 3, 2, 1, 1, 3, 2, 1, 1, 3, 2, 1, 1, 1, 4, 1, 1, 1, 1, 1, 7,
+];
+
+// The same in a frame of two dark lines.
+const FRAMED: &[u16] = &[
+    3, 2, 11, 1, 1, 1, 1, 2, 3, 1, 1, 1, 2, 3, 1, 2, 2, 2, 2, 2, 2, 1, 1, 1, 2, 3, 2, 2, 2, 1, 1,
+    1, 1, 1, 1, 1, 2, 3, 1, 1, 4, 1, 1, 3, 2, 1, 1, 3, 2, 1, 1, 3, 2, 1, 1, 1, 4, 1, 1, 1, 1, 1, 7,
+    2, 3,
 ];
 
 const DOTS: &[u8] = b"\x00\x15\x8A\x76\x66\x53\x99\x54\xE8\x5C\xB9\x72\x85\x40\x00";
@@ -20,7 +30,10 @@ enum Asked<'a> {
     Gtin(&'a [u8]),
     Digit(&'a [u8]),
     Text(&'a [u8], u16),
+    TextElements(&'a [u8], u16),
     Row(&'a [u16], u16),
+    RowElements(&'a [u16], u16),
+    Find(&'a [u16], u16),
     Dots(&'a [u8], u32, u16),
     Label(u32, &'a [u8], u16, u16),
 }
@@ -31,7 +44,10 @@ fn answer(asked: Asked, out: &mut [u8]) -> usize {
         Asked::Gtin(text) => gs1_c_gtin(text, out),
         Asked::Digit(text) => gs1_c_digit(text, out),
         Asked::Text(text, year) => gs1_c_text(text, year, out),
+        Asked::TextElements(text, year) => gs1_c_text_elements(text, year, out),
         Asked::Row(widths, year) => gs1_c_row(widths, year, out),
+        Asked::RowElements(widths, year) => gs1_c_row_elements(widths, year, out),
+        Asked::Find(widths, year) => gs1_c_find(widths, year, out),
         Asked::Dots(bits, count, year) => gs1_c_dots(bits, count, year, out),
         Asked::Label(kind, text, year, width) => gs1_c_label(kind, text, year, 1, width, 3, out),
     }
@@ -53,10 +69,27 @@ fn each_call_puts_its_line(rt: HostRuntime) {
             b"refused 9 ValueDate 5",
         ),
         (Asked::Text(b"10AB", 1950), b"refused 42 Words"),
+        (
+            Asked::TextElements(b"10A\x1D17261231", 2026),
+            b"data 10=A\t17=261231",
+        ),
+        (
+            Asked::TextElements(b"10A(17)261231", 2026),
+            b"data 10=A(17)261231",
+        ),
+        (Asked::TextElements(b"10AB", 1950), b"refused 42 Words"),
         (Asked::Row(WIDTHS, 2026), b"]E0 (01)09501101530003"),
+        (Asked::RowElements(WIDTHS, 2026), b"]E0 01=09501101530003"),
+        (Asked::RowElements(&[113], 2026), b"refused 19 Blank"),
         (Asked::Row(&[113], 2026), b"refused 19 Blank"),
         (Asked::Row(&[1, 0, 1], 2026), b"refused 18 BadRuns"),
         (Asked::Row(WIDTHS, 2150), b"refused 42 Words"),
+        (Asked::Row(FRAMED, 2026), b"refused 20 RunCount"),
+        (Asked::Find(WIDTHS, 2026), b"0 61 ]E0 (01)09501101530003\n"),
+        (Asked::Find(FRAMED, 2026), b"2 61 ]E0 (01)09501101530003\n"),
+        (Asked::Find(&[113], 2026), b""),
+        (Asked::Find(&[1, 0, 1], 2026), b"refused 18 BadRuns"),
+        (Asked::Find(WIDTHS, 2150), b"refused 42 Words"),
         (Asked::Dots(DOTS, 113, 2026), b"]E0 (01)09501101530003"),
         (Asked::Dots(DOTS, 121, 2026), b"refused 18 BadRuns"),
         (Asked::Dots(&[0; 8192], 65_536, 2026), b"refused 17 TooWide"),

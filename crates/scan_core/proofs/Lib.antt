@@ -15,5 +15,7 @@ pub mod RowFacts
 pub mod RunsOfDots
 pub mod ShownFacts
 pub mod StageFacts
+pub mod SymbolFacts
 pub mod TurnedFacts
 pub mod WayFacts
+pub mod WindowFacts

@@ -1,7 +1,7 @@
 -- Rows and their dots.
-use Rattle.std.proofs.Common.{◌≡◌, ℕ, zero, suc, ◌-◌, ◌%◌, ◌<◌, ◌≤◌, ◌==◌, ◌&&◌, nat_le, Bool, true, false, List, [], ◌∷◌, ◌++◌, length, take, drop, sum, replicate, Some, None, Contains, length-drop, refl, subst, arith, if◌then◌else◌}
+use Rattle.std.proofs.Common.{◌≡◌, ℕ, zero, suc, ◌-◌, ◌%◌, ◌<◌, ◌≤◌, ◌==◌, ◌&&◌, nat_le, Bool, true, false, List, [], ◌∷◌, ◌++◌, length, take, drop, sum, replicate, Some, None, Contains, length-drop, refl, subst, arith, inl, inr, if◌then◌else◌}
 use Rattle.std.specs.List.{AllByRecursion, list_all}
-use Rattle.std.proofs.lemmas.Bool.{and_parts, le-leb, leb-true}
+use Rattle.std.proofs.lemmas.Bool.{and_parts, cases_lt, le-leb, leb-true}
 use Rattle.std.specs.Cmp.Derive.{both_true}
 use Rattle.std.proofs.lemmas.Bool.Decides.{nat_tests}
 use Rattle.std.proofs.lemmas.List.{append-nil, length-take-le}
@@ -102,3 +102,11 @@ too_wide ws odd dots wide =
     let odd_number : (length ws % 2 == 1) ≡ true = grind (arith, nat_tests) in
     let large : nat_le (sum ws) 65535 ≡ false = grind (arith, nat_tests) in
     rw (odd_number, dots, large) refl
+
+-- a row has no more runs than that
+pub row_short : (ws : List ℕ) → IsRow ws → length ws ≤ 65537
+row_short ws row =
+    elim (cases_lt 65537 (length ws)) [
+      | inl many ↦ absurd (let most = row.at_most in let wide = many_runs ws (tested (inner ws) row.each_inner) many in omega arith)
+      | inr few ↦ few
+    ]

@@ -15,4 +15,6 @@ pub mod Lines
 pub mod Ratios
 pub mod Reading
 pub mod Row
+pub mod Searches
 pub mod Showing
+pub mod Windows

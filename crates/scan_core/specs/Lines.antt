@@ -1,6 +1,6 @@
 -- What a row says, as it stands in an output line.
 use Rattle.std.specs.Prelude.{ℕ, List, ◌∷◌, ◌++◌, codes}
-use Rattle.element_core.specs.Elements.{hri}
+use Rattle.element_core.specs.Elements.{hri, pairs_text}
 use Rattle.scan_core.specs.Faults.{row_fault_text}
 use Rattle.scan_core.specs.declared.answer.Answer.{Answer}
 use Rattle.scan_core.specs.declared.answer.Answer.TheVariants as answer
@@ -19,3 +19,8 @@ identifier carrier.Gs1128 = codes "]C1"
 abbrev pub answer_text : Answer → List ℕ
 answer_text (answer.Read c elements) = identifier c ++ (32 ∷ hri elements.list)
 answer_text (answer.Refused fault) = row_fault_text fault
+
+-- the same, with the elements as pairs
+abbrev pub answer_pairs : Answer → List ℕ
+answer_pairs (answer.Read c elements) = identifier c ++ (32 ∷ pairs_text elements.list)
+answer_pairs (answer.Refused fault) = row_fault_text fault

@@ -2,6 +2,7 @@
 ghost use Rattle.scan_core.specs.BeforeItf14.{OtherRowsKeep};
 ghost use Rattle.scan_core.specs.Ratios.{EachRatioIsRead};
 ghost use Rattle.scan_core.specs.Laws.{DotsDetermine, DotsMakeRow, NeverTooLong, OneAnswer, OneSymbol, ReplacedCharacterIsNoticed, ReplacementIsNoticed, RowOrFault, SymbolMeasures, TurnedDots, TurnedRow};
+ghost use Rattle.scan_core.specs.Windows.{SymbolsAreTold, TurnedSymbols, WholeRow};
 
 /// A row shows at most one symbol, and reads as it in one way.
 pub fn one_symbol()
@@ -94,3 +95,20 @@ pub fn each_ratio_is_read()
     ean_code::measures();
     element_core::gtin_reads();
 }
+
+/// What the search of a row tells is its symbols: each that there is, from the left.
+pub fn symbols_are_told()
+    ensures { SymbolsAreTold }
+{
+    one_answer();
+}
+
+/// A row that is read as a whole is a symbol of itself.
+pub fn whole_row()
+    ensures { WholeRow }
+{}
+
+/// A row turned end for end has the same symbols, in reverse order where none stands inside another.
+pub fn turned_symbols()
+    ensures { TurnedSymbols }
+{}

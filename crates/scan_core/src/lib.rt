@@ -14,6 +14,8 @@ mod rounding;
 mod runs;
 mod stage;
 mod symbol;
+mod symbols;
+mod window;
 
 pub use answer::{Answer, find_symbol, read_row, read_widths};
 pub use carrier::Carrier;
@@ -23,6 +25,8 @@ pub use found::Found;
 pub use laws::{
     dots_determine, dots_make_row, each_ratio_is_read, never_too_long, one_answer, one_symbol,
     other_rows_keep, replaced_character_is_noticed, replacement_is_noticed, row_or_fault,
-    symbol_measures, turned_dots, turned_row,
+    symbol_measures, symbols_are_told, turned_dots, turned_row, turned_symbols, whole_row,
 };
 pub use runs::Runs;
+pub use symbols::Symbols;
+pub use window::Window;

@@ -1,0 +1,15 @@
+use Rattle.std.proofs.Common.{◌≡◌, ◌++◌, length}
+use Rattle.element_core.specs.Elements.{pairs_text}
+use Rattle.element_core.specs.Shown.{shown_elements}
+use Rattle.element_core.specs.Walks.{AreAscii}
+use Rattle.element_core.proofs.PairLines.{more_pairs}
+use Rattle.element_core.proofs.pair_line.pairs_of.Given as goal
+
+abbrev pub invariant-loop-front : goal.invariant-loop-front
+invariant-loop-front l = record {
+  line : l.line.bytes ++ more_pairs (shown_elements l.rest) ≡ pairs_text (shown_elements l.text);
+  ascii : AreAscii (shown_elements l.rest);
+}
+
+abbrev pub decreases-loop-front : goal.decreases-loop-front
+decreases-loop-front l = length l.rest

@@ -1,0 +1,21 @@
+use Rattle.std.proofs.Common.{◌≡◌, ◌∙◌, ◌+◌, ◌≤◌, ◌∷◌, ◌++◌, ℕ, List, ap, arith, drop, length, length-append, slice_set}
+use Rattle.digits_core.specs.Buffers.{pasted}
+use Rattle.element_core.specs.Elements.{pairs_text}
+use Rattle.gs1_c.proofs.PutFacts.{word_before}
+use Rattle.gs1_c.proofs.buffer.put_pairs.Goals as goal
+
+pub returns-then-count-out : goal.returns-then-count-out
+returns-then-count-out c =
+    let word = c.args.word.now in
+    let line : List ℕ = pairs_text c.args.elements.now.list in
+    let out = c.args.out.now in
+    let size = c.put_pairs.ensures.count in
+    let count = length-append word (32 ∷ line) in
+    record {
+      counted = omega (arith, count, size);
+      front = λ fits.
+          let room : length word + 1 + length line ≤ length out = omega (arith, count, fits) in
+          let put : c.put_pairs.new.out ≡ pasted out (length word + 1) line = c.put_pairs.ensures.put (omega (arith, room, size)) in
+          rw (c.copy_from_slice.ensures.after) (ap (λ o. slice_set (word ++ drop (length word) o) (length word) 32) put ∙ word_before word line out room);
+      unchanged = λ short. absurd (omega (arith, count, size, c.if-count-out.true, c.put_pairs.auto.out, short));
+    }

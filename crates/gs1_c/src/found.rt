@@ -1,0 +1,92 @@
+//! The lines of the symbols of a row.
+ghost use Rattle.std.specs.Prelude.{None, ◌≡◌, ◌+◌, ◌++◌, ◌<◌, ◌≤◌, ◌^◌, ◌∷◌, [], List, length, map};
+ghost use Rattle.std.specs.Fmt.{decimal};
+ghost use Rattle.digits_core.specs.Buffers.{pasted};
+ghost use Rattle.gs1_c.specs.Found.{ArePut, AreDatedSymbolsPut, symbol_line};
+ghost use Rattle.scan_core.specs.Row.{runs_fault};
+ghost use Rattle.scan_core.specs.Windows.{AreTold};
+ghost use Rattle.scan_core.specs.declared.window.Window.{Window};
+
+use crate::buffer::put_refusal;
+use arrayvec::ArrayVec;
+use digits_core::put_at;
+use element_core::Year;
+use itoa::Buffer;
+use scan_core::{Symbols, Window, row_or_fault, symbols_are_told};
+
+/// More bytes than a line has: two numbers, an identifier and the elements, with what stands between.
+const MOST: usize = 400;
+
+/// Puts bytes at the end of a line.
+fn push(line: &mut ArrayVec<u8, MOST>, bytes: &[u8])
+    requires { length line.old.items + length bytes.now ≤ 400 }
+    ensures { line.new.items ≡ line.old.items ++ bytes.now }
+{
+    let _ = line.try_extend_from_slice(bytes);
+}
+
+/// Puts a number and a space at the end of a line.
+fn push_number(line: &mut ArrayVec<u8, MOST>, number: usize)
+    requires { length line.old.items + 41 ≤ 400 }
+    ensures put { line.new.items ≡ line.old.items ++ (decimal number ++ 32 ∷ []) }
+    ensures few { length line.new.items ≤ length line.old.items + 41 }
+{
+    let mut digits = Buffer::new();
+    push(line, digits.format(number).as_bytes());
+    push(line, b" ");
+}
+
+/// The line of a symbol.
+fn line_of(window: &Window) -> ArrayVec<u8, MOST>
+    ensures line { result.items ≡ symbol_line window.now }
+    ensures few { length result.items ≤ 400 }
+{
+    let mut line = ArrayVec::new();
+    push_number(&mut line, window.first);
+    push_number(&mut line, window.count);
+    push(&mut line, window.carrier.identifier().as_bytes());
+    push(&mut line, b" ");
+    push(&mut line, window.elements.hri().as_bytes());
+    push(&mut line, b"\n");
+    line
+}
+
+/// Puts a line into `out` from `at` on where it has room for it, and says where the line ends.
+fn put_line(line: &[u8], at: usize, out: &mut [u8]) -> usize
+    requires { at + length line.now < 2 ^ 64 }
+    ensures end { result ≡ at + length line.now }
+    ensures put { at + length line.now ≤ length out.old → out.new ≡ pasted out.old at line.now }
+    ensures unchanged { length out.old < at + length line.now → out.new ≡ out.old }
+{
+    let end = at + line.len();
+    if end <= out.len() {
+        put_at(line, at, out);
+    }
+    end
+}
+
+/// Puts the lines of what a search tells, as many as there is room for, and says how many bytes all of
+/// them have.
+fn put_told(search: Symbols<'_>, out: &mut [u8]) -> usize
+    requires { length search.runs ≤ 65537 }
+    ensures { (ws : List Window) × AreTold search.entry ws × ArePut (map symbol_line ws) out.old out.new result }
+{
+    let mut search = search;
+    let mut end = 0;
+    'symbols: while let Some(window) = search.next_symbol() {
+        end = put_line(line_of(&window).as_slice(), end, out);
+    }
+    end
+}
+
+/// The same of the symbols of the row of these widths, or why they are no row.
+pub fn put_symbols(widths: &[u16], year: Year, out: &mut [u8]) -> usize
+    ensures { AreDatedSymbolsPut year widths.now (runs_fault widths.now) out.old out.new result }
+{
+    symbols_are_told();
+    row_or_fault();
+    match Symbols::of_widths(widths, year) {
+        Ok(search) => put_told(search, out),
+        Err(fault) => put_refusal(fault.refusal(), out),
+    }
+}

@@ -1,0 +1,5 @@
+use Rattle.scan_core.proofs.SymbolFacts.{whole_row}
+use Rattle.scan_core.proofs.laws.whole_row.Goals as goal
+
+pub returns : goal.returns
+returns c = whole_row

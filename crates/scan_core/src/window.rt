@@ -1,0 +1,17 @@
+//! A symbol of a row, and where it stands.
+
+use crate::carrier::Carrier;
+use element_core::Elements;
+
+/// A window of a row's runs that is read as a row.
+#[derive(Debug, Drop)]
+pub struct Window {
+    /// The index of its first run, a light one.
+    pub first: usize,
+    /// How many runs it has, with the light ones at its ends: from 27 to 597.
+    pub count: usize,
+    /// The symbol's kind.
+    pub carrier: Carrier,
+    /// Its elements, dates under the reference year.
+    pub elements: Elements,
+}
