@@ -1,5 +1,5 @@
 -- A run of a command, from its parts.
-use Rattle.std.proofs.Common.{◌≡◌, ◌∙◌, ◌∷◌, [], All, Err, IsErrAnd, List, Ok, Option, Result, inr, map, refl, subst, sym, true, Bool, ℕ}
+use Rattle.std.proofs.Common.{◌≡◌, ◌∙◌, ◌∷◌, [], All, Err, IsErrAnd, List, Ok, Option, Result, ap, inr, map, refl, subst, sym, true, Bool, ℕ}
 use Rattle.std.specs.List.{AllZip, flat_map, range_with_len}
 use Rattle.std.specs.Io.KnownBytes.{IsAtEnd}
 use Rattle.digits_core.specs.Bytes.{TookFront}
@@ -14,7 +14,11 @@ use Rattle.line_core.specs.lanes.Feeds.{LaneRow, feed_of, feeds_of, lanes_meanin
 use Rattle.line_core.specs.scan.Columns.{AreColumns, HaveDots, column_dots, have_size}
 use Rattle.line_core.specs.declared.answers.serving.AnswerFault.{AnswerFault}
 use Rattle.line_core.specs.declared.answers.serving.AnswerFault.TheVariants as answers
-use Rattle.gs1_hub.specs.Faults.{of_answers}
+use Rattle.line_core.specs.answers.Rows.{RefusesRows}
+use Rattle.line_core.specs.declared.answers.rows.RowsFault.{RowsFault}
+use Rattle.line_core.specs.declared.answers.rows.RowsFault.TheVariants as rows
+use Rattle.line_core.specs.declared.input.fault.RecordsFault.TheVariants as records
+use Rattle.gs1_hub.specs.Faults.{of_answers, of_rows}
 use Rattle.gs1_hub.specs.Runs.{WritesRecords, Wrote}
 use Rattle.gs1_hub.specs.commands.Lanes.{RefusesLanes}
 use Rattle.gs1_hub.specs.commands.Scans.{RefusesScan, scan_command}
@@ -68,18 +72,44 @@ rowless {V} f (v ∷ vs) all =
     let Q : List (List ℕ) → Type 0 = λ rows. rows ≡ [] in
     All-cons P v vs (All-head Q (f v) (map f vs) all) (rowless f vs (All-tail Q (f v) (map f vs) all))
 
--- of no rows no lane has one
-no_lane_rows : (lanes : ℕ) (rows : List LaneRow) (feeds : List (List (List ℕ))) → feeds ≡ feeds_of lanes rows → rows ≡ [] → All (λ feed. feed ≡ []) feeds
-no_lane_rows lanes rows feeds are none =
-    let P : List (List ℕ) → Type 0 = λ feed. feed ≡ [] in
-    let each : All P (feeds_of lanes []) = All-map P (λ lane. feed_of lane []) (range_with_len 0 lanes) (λ k d low. refl) in
-    subst (All P) (sym are) (subst (λ r. All P (feeds_of lanes r)) (sym none) each)
+-- ---- the rows of records that were not answered
 
--- the answers to the rows of the lanes are refused
-pub lanes_unanswered : {V : Type 0} (f : V → List (List ℕ)) (lanes : ℕ) (feeds : List V) (left rest : Option (List ℕ)) (fault : AnswerFault)
-    → Takes (lanes_meaning lanes) (λ rows. map f feeds ≡ feeds_of lanes rows) left rest → (fault ≡ answers.NoThread → All (λ v. f v ≡ []) feeds → ⊥) → RefusesLanes lanes left rest (of_answers fault)
-lanes_unanswered f lanes feeds left rest answers.NoThread h some = (h.0, h.1, h.2, h.3, λ none. some refl (rowless f feeds (no_lane_rows lanes h.2 (map f feeds) h.4 none)))
-lanes_unanswered f lanes feeds left rest answers.NoMemory h some = tt
+pub rows_unanswered : (lanes : ℕ) (left rest : Option (List ℕ)) (fault : RowsFault) → RefusesRows lanes left rest fault → RefusesLanes lanes left rest (of_rows fault)
+rows_unanswered lanes left rest (rows.Records records.ReadFault) why = why
+rows_unanswered lanes left rest (rows.Records records.InputSize) why = why
+rows_unanswered lanes left rest (rows.Records (records.Record i f)) why = why
+rows_unanswered lanes left rest (rows.Records records.NoMemory) why = tt
+rows_unanswered lanes left rest rows.NoThread why = why
+
+rows_no_write : (f : RowsFault) → of_rows f ≡ command.WriteFault → ⊥
+rows_no_write (rows.Records records.ReadFault) same = cc
+rows_no_write (rows.Records records.InputSize) same = cc
+rows_no_write (rows.Records (records.Record i f)) same = cc
+rows_no_write (rows.Records records.NoMemory) same = cc
+rows_no_write rows.NoThread same = cc
+
+rows_read : (f : RowsFault) → of_rows f ≡ command.ReadFault → f ≡ rows.Records records.ReadFault
+rows_read (rows.Records records.ReadFault) same = refl
+rows_read (rows.Records records.InputSize) same = cc
+rows_read (rows.Records (records.Record i f)) same = cc
+rows_read (rows.Records records.NoMemory) same = cc
+rows_read rows.NoThread same = cc
+
+rows_told : {A : Type 0} (r : Result A CommandFault) (f : RowsFault) (other : CommandFault) → IsErrAnd r (λ e. e ≡ of_rows f) → r ≡ Err other → of_rows f ≡ other
+rows_told (Ok x) f other told same = absurd told
+rows_told (Err e) f other told same = let here : e ≡ other = cc in sym told ∙ here
+
+-- no write has failed then
+pub rows_not_cut : {A : Type 0} (r : Result A CommandFault) (f : RowsFault) → IsErrAnd r (λ e. e ≡ of_rows f) → r ≡ Err command.WriteFault → ⊥
+rows_not_cut r f told same = rows_no_write f (rows_told r f command.WriteFault told same)
+
+-- and a read only where that is told
+pub rows_not_read : {A : Type 0} (r : Result A CommandFault) (f : RowsFault) → IsErrAnd r (λ e. e ≡ of_rows f) → r ≡ Err command.ReadFault → f ≡ rows.Records records.ReadFault
+rows_not_read r f told same = rows_read f (rows_told r f command.ReadFault told same)
+
+pub read_told : {A : Type 0} (r : Result A CommandFault) (f : RowsFault) → IsErrAnd r (λ e. e ≡ of_rows f) → f ≡ rows.Records records.ReadFault → r ≡ Err command.ReadFault
+read_told (Ok x) f told is = absurd told
+read_told (Err e) f told is = ap (λ x. Err x) (told ∙ ap of_rows is)
 
 -- of no images no column has a row
 no_dots : (rows : List (List ℕ)) → HaveDots rows [] → rows ≡ []

@@ -17,6 +17,8 @@ use Rattle.hub_core.specs.declared.fault.ServeFault.TheVariants as serve
 use Rattle.line_core.specs.input.Faults.{record_fault_text}
 use Rattle.line_core.specs.declared.answers.serving.AnswerFault.{AnswerFault}
 use Rattle.line_core.specs.declared.answers.serving.AnswerFault.TheVariants as answers
+use Rattle.line_core.specs.declared.answers.rows.RowsFault.{RowsFault}
+use Rattle.line_core.specs.declared.answers.rows.RowsFault.TheVariants as rows
 use Rattle.line_core.specs.declared.input.fault.RecordsFault.{RecordsFault}
 use Rattle.line_core.specs.declared.input.fault.RecordsFault.TheVariants as records
 use Rattle.gs1_hub.specs.declared.fault.CommandFault.{CommandFault}
@@ -52,6 +54,11 @@ of_records records.ReadFault = command.ReadFault
 of_records records.InputSize = command.InputSize
 of_records (records.Record i f) = command.Record i f
 of_records records.NoMemory = command.NoMemory
+
+-- a fault of the rows of records, as the command's
+abbrev pub of_rows : RowsFault → CommandFault
+of_rows (rows.Records fault) = of_records fault
+of_rows rows.NoThread = command.NoThread
 
 -- a fault of the answers, as the command's
 abbrev pub of_answers : AnswerFault → CommandFault

@@ -1,10 +1,10 @@
 //! Why a command is refused as a whole.
 ghost use Rattle.std.specs.Prelude.{Some, ◌≡◌};
-ghost use Rattle.gs1_hub.specs.Faults.{bad_grid, command_fault_text, failed_write, no_memory, of_answers, of_images, of_prints, of_records, of_sheets};
+ghost use Rattle.gs1_hub.specs.Faults.{bad_grid, command_fault_text, failed_write, no_memory, of_answers, of_images, of_prints, of_records, of_rows, of_sheets};
 
 use digits_core::{Failed, InputFault};
 use hub_core::ServeFault;
-use line_core::{AnswerFault, RecordFault, RecordsFault};
+use line_core::{AnswerFault, RecordFault, RecordsFault, RowsFault};
 use sheet_core::{BadGrid, PbmFault, PrintFault, SheetFault, WriteFault};
 use std::alloc::AllocError;
 use std::fmt;
@@ -98,6 +98,17 @@ impl From<RecordsFault> for CommandFault {
             RecordsFault::InputSize => CommandFault::InputSize,
             RecordsFault::Record(index, fault) => CommandFault::Record(index, fault),
             RecordsFault::NoMemory => CommandFault::NoMemory,
+        }
+    }
+}
+
+impl From<RowsFault> for CommandFault {
+    ghost from_gives = { λ fault command. command ≡ of_rows fault };
+
+    fn from(fault: RowsFault) -> CommandFault {
+        match fault {
+            RowsFault::Records(fault) => CommandFault::from(fault),
+            RowsFault::NoThread => CommandFault::NoThread,
         }
     }
 }

@@ -1,1 +1,2 @@
 pub mod ReportFacts
+pub mod RowFacts

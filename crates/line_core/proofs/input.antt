@@ -1,3 +1,4 @@
 pub mod FirstFault
+pub mod ReadFacts
 pub mod Reaching
 pub mod TwoFields

@@ -10,11 +10,11 @@ mod lanes;
 mod print;
 mod scan;
 
+pub use answers::rows::{RowsFault, answer_records};
 pub use answers::serving::{AnswerFault, answer_lines};
 pub use check::lines::check_lines;
 pub use grid::{GridOptions, MOST_COLUMNS, MOST_HEIGHT, MOST_MODULE_DOTS, MOST_ROWS, MOST_WIDTH};
 pub use input::fault::{RecordFault, RecordsFault};
-pub use lanes::feeds::read_feeds;
 pub use print::label_lines::label_lines;
 pub use print::labels::read_labels;
 pub use scan::columns::{are_of_size, column_feeds};

@@ -14,7 +14,7 @@ use crate::fault::CommandFault;
 use clap::{ArgMatches, Command};
 use digits_core::{Sink, Source, write_all};
 use hub_core::Gate;
-use line_core::{answer_lines, read_feeds};
+use line_core::answer_records;
 use scan_core::{one_answer, row_or_fault};
 use std::alloc::{AllocError, Global};
 use std::sync::Wait;
@@ -77,8 +77,15 @@ pub fn run_lanes<R: Threads + Wait + Sync, S: Source, W: Sink, G: Gate + Sync>(
 ) -> Result<(), CommandFault>
     ensures { Ran (lanes_command options) S.left S.failed W.taken W.failed source.old source.new sink.old sink.new result }
 {
-    let feeds = read_feeds(alloc, options.lanes, source)?;
-    let lines = answer_lines(rt, alloc, feeds, options.workers, options.year, gate)?;
+    let lines = answer_records(
+        rt,
+        alloc,
+        options.lanes,
+        options.workers,
+        options.year,
+        source,
+        gate,
+    )?;
     write_all(sink, lines.as_str().as_bytes())?;
     Ok(())
 }

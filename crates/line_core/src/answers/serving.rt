@@ -1,5 +1,7 @@
 //! Rows that workers answer, and the report of the answers.
-ghost use Rattle.std.specs.Prelude.{[], ◌≡◌, ◌≢◌, ◌↔◌, All, List, length, map, replicate, true, IfOk, IsErrOf, IsTrue, string_bytes};
+ghost use Rattle.std.specs.Prelude.{[], ◌≡◌, ◌≢◌, ◌↔◌, ◌<◌, All, List, length, map, replicate, slice_index_or, true, vec_len, IfOk, IsErrOf, IsTrue, string_bytes};
+ghost use Rattle.lane_core.specs.declared.job.Plain.{Plain};
+ghost use Rattle.hub_core.specs.Traffics.{with_more};
 ghost use Rattle.std.specs.List.{AllZip};
 ghost use Rattle.scan_core.specs.Answers.{Reads};
 ghost use Rattle.scan_core.specs.declared.answer.Answer.{Answer};
@@ -39,7 +41,7 @@ impl From<AllocError> for AnswerFault {
 }
 
 /// Why rows are not answered, where they are not served.
-fn fault_of(fault: ServeFault) -> AnswerFault
+pub fn fault_of(fault: ServeFault) -> AnswerFault
     requires { fault ≢ ServeFault.BadCount }
     ensures memory { fault ≡ ServeFault.NoMemory → result ≡ AnswerFault.NoMemory }
     ensures thread { fault ≡ ServeFault.NoThread → result ≡ AnswerFault.NoThread }
@@ -83,15 +85,7 @@ impl Traffic for Answering {
     }
 
     fn bring(&mut self, delivery: Delivery) -> Result<(), AllocError> {
-        let ticket = delivery.ticket();
-        let index = usize::from(ticket.lane);
-        let answer = delivery.answer();
-        push_line(
-            &mut self.texts[index],
-            index,
-            ticket.number as usize,
-            &answer,
-        )
+        push_answer_of(&mut self.texts, delivery)
     }
 
     fn wait(&mut self) -> Result<bool, Infallible> {
@@ -99,8 +93,20 @@ impl Traffic for Answering {
     }
 }
 
+/// Appends the line that answers a delivery to the text of its lane.
+pub fn push_answer_of(texts: &mut Vec<String>, delivery: Delivery) -> Result<(), AllocError>
+    requires { delivery.lane < vec_len texts.old }
+    ensures { IfOk result (λ _. (brought : List (List Plain)) → delivery.lane < length brought → delivery.number ≡ length (slice_index_or brought delivery.lane [])
+        → AreLinesOf brought (map string_bytes texts.old.items) → AreLinesOf (with_more delivery.lane delivery brought) (map string_bytes texts.new.items)) }
+{
+    let ticket = delivery.ticket();
+    let index = usize::from(ticket.lane);
+    let answer = delivery.answer();
+    push_line(&mut texts[index], index, ticket.number as usize, &answer)
+}
+
 /// A text for the lines of each lane.
-fn make_texts(alloc: Global, lanes: u8) -> Result<Vec<String>, AllocError>
+pub fn make_texts(alloc: Global, lanes: u8) -> Result<Vec<String>, AllocError>
     ensures { IfOk result (λ v. map string_bytes v.items ≡ replicate lanes []) }
 {
     let mut texts = Vec::with_capacity(alloc, usize::from(lanes))?;

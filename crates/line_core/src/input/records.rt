@@ -5,7 +5,7 @@ ghost use Rattle.line_core.specs.input.Records.{AreItems, Meaning, NamesFirst, R
 ghost use Rattle.line_core.specs.declared.input.fault.RecordFault.{RecordFault};
 
 use crate::input::fault::{RecordRefusal, RecordsFault};
-use csv::{ByteRecord, ErrorKind, ReaderBuilder};
+use csv::{ByteRecord, ErrorKind, Reader, ReaderBuilder};
 use digits_core::{Source, read_all};
 use std::alloc::Global;
 
@@ -45,8 +45,55 @@ pub fn two_fields(fields: &ByteRecord) -> Option<(&[u8], &[u8])>
     Some((fields.get(0)?, fields.get(1)?))
 }
 
+/// The records of bytes, which are read one after another.
+#[derive(Drop)]
+pub struct Records<'a> {
+    reader: Reader<&'a [u8]>,
+    /// The record that was read last. It has each in turn, so that its room is taken once.
+    pub last: ByteRecord,
+}
+
+impl<'a> Records<'a> {
+    ghost use Rattle.std.specs.Prelude.{[], ◌≡◌, ◌∷◌, ◌++◌, List, Ok, ℕ, false, true, IfErr};
+    ghost use Rattle.csv.specs.Records.{fields_of};
+    ghost use Rattle.line_core.specs.input.Reading.{HasRead};
+    ghost use Rattle.line_core.specs.input.Records.{Fields, records_of};
+    ghost use Rattle.line_core.specs.declared.input.fault.RecordRefusal.{RecordRefusal};
+
+    /// The records of these bytes, none of which was read.
+    pub fn new(alloc: Global, bytes: &'a [u8]) -> Records<'a>
+        ensures { HasRead bytes.now result [] }
+    {
+        let reader = ReaderBuilder::new()
+            .has_headers(false)
+            .flexible(true)
+            .from_reader(alloc, bytes);
+        Records {
+            reader,
+            last: ByteRecord::new(alloc),
+        }
+    }
+
+    /// Reads the next record. False at the end.
+    pub fn read(&mut self) -> Result<bool, RecordRefusal>
+        requires { (bytes : List ℕ) × (rows : List Fields) × HasRead bytes self.old rows }
+        ensures more { result ≡ Ok true → (bytes : List ℕ) (rows : List Fields) → HasRead bytes self.old rows
+            → HasRead bytes self.new (rows ++ fields_of self.new.last ∷ []) }
+        ensures end { result ≡ Ok false → (bytes : List ℕ) (rows : List Fields) → HasRead bytes self.old rows → rows ≡ records_of bytes }
+        ensures refused { IfErr result (λ refusal. refusal ≡ RecordRefusal.NoMemory) }
+    {
+        match self.reader.read_byte_record(&mut self.last) {
+            Ok(is_found) => Ok(is_found),
+            Err(error) => match error.into_kind() {
+                ErrorKind::OutOfMemory | ErrorKind::Io(_) => Err(RecordRefusal::NoMemory),
+                _ => unreachable!(),
+            },
+        }
+    }
+}
+
 /// Takes the records of the bytes.
-fn read_records<I: Intake>(
+pub fn read_records<I: Intake>(
     alloc: Global,
     intake: &I,
     made: &mut I::Made,
@@ -58,24 +105,14 @@ fn read_records<I: Intake>(
         × I.makes intake.now items made.new) }
     ensures refused { IfErr result (NamesFirst (I.means intake.now) (records_of bytes.now)) }
 {
-    let mut reader = ReaderBuilder::new()
-        .has_headers(false)
-        .flexible(true)
-        .from_reader(alloc, bytes);
-    // One record has each in turn, so that its room is taken once.
-    let mut record = ByteRecord::new(alloc);
-    'records: for index in 0..usize::MAX {
-        let is_found = match reader.read_byte_record(&mut record) {
-            Ok(is_found) => is_found,
-            Err(error) => match error.into_kind() {
-                ErrorKind::OutOfMemory | ErrorKind::Io(_) => return Err(RecordsFault::NoMemory),
-                _ => unreachable!(),
-            },
-        };
-        if !is_found {
-            return Ok(());
+    let mut records = Records::new(alloc, bytes);
+    'each: for index in 0..usize::MAX {
+        match records.read() {
+            Ok(true) => {}
+            Ok(false) => return Ok(()),
+            Err(_) => return Err(RecordsFault::NoMemory),
         }
-        match intake.take(made, &record) {
+        match intake.take(made, &records.last) {
             Ok(()) => {}
             Err(refusal) => return Err(refusal.at(index)),
         }

@@ -1,22 +1,21 @@
-//! The rows that records give each lane.
-ghost use Rattle.std.specs.Prelude.{None, Some, [], ◌≡◌, ◌<◌, ◌↔◌, false, length, map, true, IfErr, IfNone, IfOk, IfSome, IsErrOf, OnOk};
+//! The rows of the records of lanes.
+ghost use Rattle.std.specs.Prelude.{None, Some, Ok, [], ◌≡◌, ◌<◌, ◌≤◌, ◌∷◌, ◌++◌, List, ℕ, false, length, IfErr, IfNone, IfOk, IfSome, OnOk};
 ghost use Rattle.csv.specs.Records.{fields_of};
-ghost use Rattle.hub_core.specs.Serving.{are_short};
-ghost use Rattle.line_core.specs.lanes.Feeds.{feeds_of, is_lane, lanes_meaning};
-ghost use Rattle.line_core.specs.input.Records.{Refuses, Takes};
+ghost use Rattle.line_core.specs.lanes.Feeds.{LaneRow, is_lane, lanes_meaning};
+ghost use Rattle.line_core.specs.input.Reading.{HasRead};
+ghost use Rattle.line_core.specs.input.Records.{AreItems, Fields, NamesFirst, records_of};
 ghost use Rattle.line_core.specs.lanes.Widths.{number_in};
 ghost use Rattle.line_core.specs.declared.input.fault.RecordFault.{RecordFault};
 
 use crate::input::fault::{RecordFault, RecordRefusal, RecordsFault};
-use crate::input::records::{Intake, read_input, two_fields};
+use crate::input::records::{INPUT_LIMIT, Intake, Records, read_records, two_fields};
 use crate::lanes::widths::{number_in, read_runs};
 use csv::ByteRecord;
-use digits_core::Source;
 use scan_core::Runs;
-use std::alloc::{AllocError, Global};
+use std::alloc::Global;
 
 /// The lane that a field names.
-fn lane_in(field: &[u8], lanes: u8) -> Option<u8>
+pub fn lane_in(field: &[u8], lanes: u8) -> Option<u8>
     ensures some { IfSome result (λ lane. number_in 2 field.now ≡ Some lane) }
     ensures low { IfSome result (λ lane. lane < lanes) }
     ensures none { IfNone result (is_lane lanes field.now ≡ false) }
@@ -28,7 +27,11 @@ fn lane_in(field: &[u8], lanes: u8) -> Option<u8>
 }
 
 /// The lane of a record and its row.
-fn read_record(alloc: Global, lanes: u8, fields: &ByteRecord) -> Result<(u8, Runs), RecordRefusal>
+pub fn read_record(
+    alloc: Global,
+    lanes: u8,
+    fields: &ByteRecord,
+) -> Result<(u8, Runs), RecordRefusal>
     ensures row { IfOk result (λ row. lanes_meaning lanes (fields_of fields.now) (Ok row)) }
     ensures low { IfOk result (λ row. row.0 < lanes) }
     ensures refused { (f : RecordFault) → result ≡ Err (RecordRefusal.Record f)
@@ -40,27 +43,7 @@ fn read_record(alloc: Global, lanes: u8, fields: &ByteRecord) -> Result<(u8, Run
     Ok((lane, runs))
 }
 
-/// The rows of each lane, in the order of their records.
-#[derive(Drop)]
-struct Feeds {
-    rows: Vec<Vec<Runs>>,
-}
-
-impl Feeds {
-    /// As many feeds as lanes, with no row yet.
-    fn new(alloc: Global, lanes: u8) -> Result<Feeds, AllocError>
-        ensures { IfOk result (λ feeds. map (λ feed. feed.items) feeds.rows.items
-            ≡ feeds_of lanes []) }
-    {
-        let mut rows = Vec::new(alloc);
-        for _ in 0..lanes {
-            rows.push(Vec::new(alloc))?;
-        }
-        Ok(Feeds { rows })
-    }
-}
-
-/// The records of so many lanes, each with a lane and the widths of a row.
+/// The records of so many lanes, each with a lane and the widths of a row. Nothing is kept of them.
 #[derive(Clone, Copy)]
 struct LaneRecords {
     alloc: Global,
@@ -70,41 +53,42 @@ struct LaneRecords {
 impl Intake for LaneRecords {
     type Item = (u8, Runs);
 
-    type Made = Feeds;
+    type Made = ();
 
     ghost means = { λ records. lanes_meaning records.lanes };
 
-    ghost makes = { λ records rows feeds. map (λ feed. feed.items) feeds.rows.items
-        ≡ feeds_of records.lanes rows };
+    ghost makes = { λ records rows made. Unit {0} };
 
-    fn take(&self, feeds: &mut Feeds, fields: &ByteRecord) -> Result<(), RecordRefusal> {
-        let (lane, runs) = read_record(self.alloc, self.lanes, fields)?;
-        if feeds.rows[usize::from(lane)].push(runs).is_err() {
-            return Err(RecordRefusal::NoMemory);
-        }
+    fn take(&self, _made: &mut (), fields: &ByteRecord) -> Result<(), RecordRefusal> {
+        read_record(self.alloc, self.lanes, fields)?;
         Ok(())
     }
 }
 
-/// The rows that a source gives each lane, in their order.
-///
-/// The source gives CSV records of two fields: a lane, and the widths of a row in dots with one
-/// space between them.
-pub fn read_feeds<S: Source>(
+/// Looks whether each record of the bytes means a row of a lane.
+pub fn check_rows(alloc: Global, lanes: u8, bytes: &[u8]) -> Result<(), RecordsFault>
+    requires { length bytes.now ≤ INPUT_LIMIT }
+    ensures ok { OnOk result ((items : List LaneRow) × AreItems (lanes_meaning lanes) (records_of bytes.now) items) }
+    ensures refused { IfErr result (NamesFirst (lanes_meaning lanes) (records_of bytes.now)) }
+{
+    read_records(alloc, &LaneRecords { alloc, lanes }, &mut (), bytes)
+}
+
+/// Reads the next record, and has its row. None at the end.
+pub fn next_row(
     alloc: Global,
     lanes: u8,
-    source: &mut S,
-) -> Result<Vec<Vec<Runs>>, RecordsFault>
-    ensures ok { IfOk result (λ v. Takes (lanes_meaning lanes)
-        (λ rows. map (λ feed. feed.items) v.items ≡ feeds_of lanes rows) (S.left source.old) (S.left source.new)) }
-    ensures count { IfOk result (λ v. length v.items ≡ lanes) }
-    ensures short { IfOk result (λ v. are_short (map (λ feed. feed.items) v.items) ≡ true) }
-    ensures refused { IfErr result
-        (Refuses (lanes_meaning lanes) (S.left source.old) (S.left source.new)) }
-    ensures fault { S.failed source.old ≡ false
-        → (IsErrOf result RecordsFault.ReadFault ↔ (S.failed source.new ≡ true)) }
+    records: &mut Records<'_>,
+) -> Result<Option<(u8, Runs)>, RecordRefusal>
+    requires { (bytes : List ℕ) × (rows : List Fields) × HasRead bytes records.old rows }
+    ensures low { IfOk result (λ next. IfSome next (λ row. row.0 < lanes)) }
+    ensures more { IfOk result (λ next. IfSome next (λ row. (bytes : List ℕ) (rows : List Fields) → HasRead bytes records.old rows
+        → (fields : Fields) × HasRead bytes records.new (rows ++ fields ∷ []) × lanes_meaning lanes fields (Ok row))) }
+    ensures end { result ≡ Ok None → (bytes : List ℕ) (rows : List Fields) → HasRead bytes records.old rows → rows ≡ records_of bytes }
 {
-    let mut feeds = Feeds::new(alloc, lanes)?;
-    read_input(alloc, &LaneRecords { alloc, lanes }, &mut feeds, source)?;
-    Ok(feeds.rows)
+    if !records.read()? {
+        return Ok(None);
+    }
+    let row = read_record(alloc, lanes, &records.last)?;
+    Ok(Some(row))
 }
