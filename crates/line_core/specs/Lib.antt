@@ -4,5 +4,6 @@ pub mod answers
 pub mod check
 pub mod input
 pub mod lanes
+pub mod live
 pub mod print
 pub mod scan

@@ -7,6 +7,7 @@ mod check;
 mod grid;
 mod input;
 mod lanes;
+mod live;
 mod print;
 mod scan;
 
@@ -15,6 +16,9 @@ pub use answers::serving::{AnswerFault, answer_lines};
 pub use check::lines::check_lines;
 pub use grid::{GridOptions, MOST_COLUMNS, MOST_HEIGHT, MOST_MODULE_DOTS, MOST_ROWS, MOST_WIDTH};
 pub use input::fault::{RecordFault, RecordsFault};
+pub use live::answering::{LiveTerms, answer_live};
+pub use live::fault::LiveFault;
+pub use live::form::Form;
 pub use print::label_lines::label_lines;
 pub use print::labels::read_labels;
 pub use scan::columns::{are_of_size, column_feeds};

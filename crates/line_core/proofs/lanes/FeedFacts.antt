@@ -1,5 +1,5 @@
 -- The feeds as records come.
-use Rattle.std.proofs.Common.{◌==◌, ◌+◌, ◌++◌, ◌<◌, ◌≡◌, ◌≢◌, ◌∙◌, ◌∷◌, inl, inr, List, [], ap, arith, false, get_or, length, map, refl, set, sym, true, ℕ}
+use Rattle.std.proofs.Common.{◌==◌, ◌++◌, ◌<◌, ◌≡◌, ◌≢◌, ◌∙◌, ◌∷◌, inl, inr, List, [], ap, arith, false, get_or, length, map, refl, set, sym, true, ℕ}
 use Rattle.std.specs.List.{filter}
 use Rattle.std.proofs.lemmas.Bool.{eq-eqb, ne_eqb, cases_eq}
 use Rattle.std.proofs.lemmas.List.{append-nil, get_or-set_other, get_or-set_same, length-set, map-append}

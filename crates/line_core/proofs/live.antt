@@ -1,0 +1,10 @@
+pub mod CameFacts
+pub mod EndFacts
+pub mod FieldsFacts
+pub mod GrowFacts
+pub mod KeepFacts
+pub mod LogFacts
+pub mod MeaningFacts
+pub mod ReplyFacts
+pub mod TurnFacts
+pub mod WireFacts

@@ -1,0 +1,9 @@
+pub mod Answering
+pub mod Came
+pub mod Finish
+pub mod Lived
+pub mod Meaning
+pub mod Replies
+pub mod Stops
+pub mod Text
+pub mod Turns

@@ -1,0 +1,55 @@
+-- What is written for each record of an input.
+use Rattle.std.specs.Prelude.{◌==◌, ◌+◌, ◌++◌, ◌∷◌, ℕ, List, [], Option, Some, None, Result, Ok, Err, codes, nat_lt, if◌then◌else◌}
+use Rattle.std.specs.Fmt.{decimal}
+use Rattle.std.specs.List.{filter_map}
+
+-- the line of a refusal: the lane where the record names one, no number, and why it is refused
+abbrev pub refusal_line : Option ℕ → List ℕ → List ℕ
+refusal_line None words = codes "- - " ++ words ++ (10 ∷ [])
+refusal_line (Some lane) words = decimal lane ++ codes " - " ++ words ++ (10 ∷ [])
+
+-- what a record means: a row of a lane, or the line that refuses it
+abbrev pub Meant : Type 0
+Meant = Result (ℕ × List ℕ) (List ℕ)
+
+-- what is written for a record: the answer to this row of a lane under this number, or this line
+pub data Reply : Type 0 where
+  Row : ℕ → ℕ → List ℕ → Reply
+  Line : List ℕ → Reply
+
+-- the numbers of the lanes' next rows
+abbrev pub Numbers : Type 0
+Numbers = ℕ → ℕ
+
+abbrev pub one_later : ℕ → Numbers → Numbers
+one_later lane next = λ l. if l == lane then next l + 1 else next l
+
+-- as many rows as a lane has
+abbrev pub most_rows : ℕ
+most_rows = 4294967295
+
+-- a row gets its lane's next number, unless the lane has had all
+abbrev pub reply_to : Numbers → Meant → Reply
+reply_to next (Ok row) = if nat_lt (next row.0) most_rows then Row row.0 (next row.0) row.1 else Line (refusal_line (Some row.0) (codes "refused 35 Spent"))
+reply_to next (Err line) = Line line
+
+abbrev pub numbers_after : Numbers → Reply → Numbers
+numbers_after next (Row lane number widths) = one_later lane next
+numbers_after next (Line line) = next
+
+-- what is written for records, in their order
+abbrev pub replies_from : Numbers → List Meant → List Reply
+replies_from next [] = []
+replies_from next (m ∷ records) = reply_to next m ∷ replies_from (numbers_after next (reply_to next m)) records
+
+-- what is written for lines, of which some mean no record
+abbrev pub replies_to : (List ℕ → Option Meant) → List (List ℕ) → List Reply
+replies_to meant lines = replies_from (λ lane. 0) (filter_map meant lines)
+
+-- the numbers after these records
+abbrev pub numbers_from : Numbers → List Meant → Numbers
+numbers_from next [] = next
+numbers_from next (m ∷ records) = numbers_from (numbers_after next (reply_to next m)) records
+
+abbrev pub numbers_of : (List ℕ → Option Meant) → List (List ℕ) → Numbers
+numbers_of meant lines = numbers_from (λ lane. 0) (filter_map meant lines)

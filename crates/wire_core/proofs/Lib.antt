@@ -1,0 +1,3 @@
+pub mod EventFacts
+pub mod LineFacts
+pub mod PieceFacts

@@ -1,0 +1,15 @@
+use Rattle.std.proofs.Common.{◌≡◌, ◌++◌, ℕ, List, length}
+use Rattle.std.specs.List.{concat}
+use Rattle.wire_core.specs.Events.{Event, writes_of}
+use Rattle.wire_core.proofs.wire.write_all.Given as goal
+
+abbrev pub decreases-writes : goal.decreases-writes
+decreases-writes g l = length l.rest
+
+abbrev pub invariant-writes : goal.invariant-writes
+invariant-writes g l = record {
+  did : (start : _) (events : List Event) → g.W.Wire.Did start l.fn.wire events
+      → (pieces : List (List ℕ)) × g.W.Wire.Did start l.wire (events ++ writes_of pieces) × (concat pieces ++ l.rest ≡ l.fn.bytes);
+  same : g.W.Wire.write_failed l.wire ≡ g.W.Wire.write_failed l.fn.wire;
+  read : g.W.Wire.read_failed l.wire ≡ g.W.Wire.read_failed l.fn.wire;
+}

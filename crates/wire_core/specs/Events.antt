@@ -1,0 +1,28 @@
+-- What goes over a wire: reads and writes in their order.
+use Rattle.std.specs.Prelude.{ℕ, List, [], map}
+use Rattle.std.specs.List.{flat_map}
+
+-- what a read gave, or what a write took
+pub data Event : Type 0 where
+  Read : List ℕ → Event
+  Wrote : List ℕ → Event
+
+abbrev pub bytes_read : Event → List ℕ
+bytes_read (Read bytes) = bytes
+bytes_read (Wrote bytes) = []
+
+abbrev pub bytes_written : Event → List ℕ
+bytes_written (Read bytes) = []
+bytes_written (Wrote bytes) = bytes
+
+-- all bytes that the reads gave
+abbrev pub was_read : List Event → List ℕ
+was_read events = flat_map bytes_read events
+
+-- all bytes that the writes took
+abbrev pub was_written : List Event → List ℕ
+was_written events = flat_map bytes_written events
+
+-- these pieces were written, one after another
+abbrev pub writes_of : List (List ℕ) → List Event
+writes_of pieces = map (λ piece. Wrote piece) pieces

@@ -1,0 +1,12 @@
+//! What goes over a wire: reads and writes in one order, and the lines of an input, however it is cut into pieces.
+#![tactic(auto)]
+
+mod laws;
+mod lines;
+mod wire;
+mod wired;
+
+pub use laws::lines_are_pieces;
+pub use lines::{Lines, MOST_LINE};
+pub use wire::{Wire, write_all};
+pub use wired::Wired;

@@ -1,0 +1,160 @@
+//! The lines of an input that comes in pieces.
+ghost use Rattle.std.specs.Prelude.{◌≡◌, ◌≤◌, ◌↔◌, ◌||◌, ◌<◌, nat_lt, drop, if◌then◌else◌, vec_capacity, ◌∷◌, ◌++◌, [], ℕ, List, None, Some, false, true, IfNone, IfOk, IfSome, OnErr, OnOk, IsErr, length};
+ghost use Rattle.wire_core.specs.Events.{Event};
+ghost use Rattle.wire_core.specs.Events.Event.{Read};
+ghost use Rattle.wire_core.specs.Lines.{arrived, first_line, line_of, nothing_held, with_room, without_line};
+
+use crate::wire::Wire;
+use digits_core::Failed;
+use memchr::memchr;
+use std::alloc::{AllocError, Global};
+use std::marker::Model;
+
+/// As many bytes as a line has at most, without the line feed and a carriage return before it.
+pub const MOST_LINE: usize = 65_536;
+
+/// How many bytes are asked for at a time.
+const CHUNK: usize = 65_536;
+
+/// What is held at most: a line with its carriage return, and what one more read gives.
+const ROOM: usize = MOST_LINE + 1 + CHUNK;
+
+/// The bytes of an input that came and were not taken yet. Of a line that is too long the front is given up, so
+/// that what is held has a limit.
+#[derive(Drop)]
+pub struct Lines {
+    bytes: Vec<u8>,
+    start: usize,
+    chunk: Vec<u8>,
+    is_cut: bool,
+    has_ended: bool,
+}
+
+impl Model for Lines {
+    ghost use Rattle.std.specs.Prelude.{◌≡◌, ◌≤◌, drop, length, vec_capacity};
+    ghost use Rattle.wire_core.specs.Lines.{Held};
+
+    ghost Value = { Held };
+
+    ghost view = { λ s. record { rest = drop s.start s.bytes.items; is_cut = s.is_cut; has_ended = s.has_ended } };
+
+    ghost invariant = { λ s. (s.start ≤ length s.bytes.items) × (131073 ≤ vec_capacity s.bytes) × (length s.chunk.items ≡ 65536) };
+}
+
+/// The bytes before the first line feed, where there is one, or where these are the last bytes of the input.
+fn first_line(bytes: &[u8], are_last: bool) -> Option<&[u8]>
+    ensures some { IfSome result (λ line. first_line bytes.now are_last ≡ Some line.now) }
+    ensures none { IfNone result (first_line bytes.now are_last ≡ None) }
+{
+    match memchr(b'\n', bytes) {
+        Some(end) => Some(&bytes[..end]),
+        None if are_last => Some(bytes),
+        None => None,
+    }
+}
+
+/// Keeps the bytes from `start` on, or none where they are too many for a line or its front was given up before;
+/// and says whether it was given up.
+fn keep_rest(bytes: &mut Vec<u8>, start: usize, is_cut: bool) -> bool
+    requires { start ≤ length bytes.old.items }
+    ensures cut { result ≡ (is_cut || nat_lt 65537 (length (drop start bytes.old.items))) }
+    ensures rest { bytes.new.items ≡ (if result then [] else drop start bytes.old.items) }
+    ensures few { length bytes.new.items ≤ 65537 }
+    ensures capacity { vec_capacity bytes.new ≡ vec_capacity bytes.old }
+{
+    if is_cut || bytes.len() - start > MOST_LINE + 1 {
+        bytes.clear();
+        return true;
+    }
+    bytes.drain(..start);
+    false
+}
+
+/// Reads bytes behind those that are held, in room that was taken before, and says how many.
+fn read_behind<W: Wire>(
+    bytes: &mut Vec<u8>,
+    chunk: &mut Vec<u8>,
+    wire: &mut W,
+) -> Result<usize, Failed>
+    requires few { length bytes.old.items ≤ 65537 }
+    requires room { 131073 ≤ vec_capacity bytes.old }
+    requires chunk { length chunk.old.items ≡ 65536 }
+    ensures ok { IfOk result (λ count. (more : List ℕ) × (length more ≡ count) × (bytes.new.items ≡ bytes.old.items ++ more)
+        × ((start : W) (events : List Event) → W.Did start wire.old events → W.Did start wire.new (events ++ Read more ∷ []))) }
+    ensures err { OnErr result ((bytes.new.items ≡ bytes.old.items)
+        × ((start : W) (events : List Event) → W.Did start wire.old events → W.Did start wire.new events)) }
+    ensures fault { W.read_failed wire.old ≡ false → (IsErr result ↔ (W.read_failed wire.new ≡ true)) }
+    ensures write { W.write_failed wire.new ≡ W.write_failed wire.old }
+    ensures capacity { vec_capacity bytes.old ≤ vec_capacity bytes.new }
+    ensures same { length chunk.new.items ≡ length chunk.old.items }
+{
+    let count = wire.read(chunk.as_mut_slice())?;
+    // There is room.
+    let _ = bytes.extend_from_slice(&chunk.as_slice()[..count]);
+    Ok(count)
+}
+
+impl Lines {
+    /// Nothing has come. What is held is given room for once.
+    pub fn new(alloc: Global) -> Result<Lines, AllocError>
+        ensures { IfOk result (λ lines. lines ≡ nothing_held) }
+    {
+        Ok(Lines {
+            bytes: Vec::with_capacity(alloc, ROOM)?,
+            start: 0,
+            chunk: Vec::from_elem(alloc, 0u8, CHUNK)?,
+            is_cut: false,
+            has_ended: false,
+        })
+    }
+
+    /// The next line without its line feed, and where its front was given up what is left of it; none where more
+    /// has to come first, and none at the end of the input.
+    pub fn line(&self) -> Option<&[u8]>
+        ensures some { IfSome result (λ line. line_of self.now ≡ Some line.now) }
+        ensures none { IfNone result (line_of self.now ≡ None) }
+    {
+        let rest = &self.bytes.as_slice()[self.start..];
+        let are_last = self.has_ended && (self.is_cut || !rest.is_empty());
+        first_line(rest, are_last)
+    }
+
+    /// Whether the line's front was given up, as it was too long.
+    pub fn is_cut(&self) -> bool
+        ensures { result ≡ self.now.is_cut }
+    {
+        self.is_cut
+    }
+
+    /// Whether the input has ended.
+    pub fn has_ended(&self) -> bool
+        ensures { result ≡ self.now.has_ended }
+    {
+        self.has_ended
+    }
+
+    /// Takes the line, which has so many bytes, with its line feed.
+    pub fn take_line(&mut self, count: usize)
+        requires { (line : List ℕ) × (line_of self.old ≡ Some line) × (length line ≡ count) }
+        ensures { self.new ≡ without_line self.old }
+    {
+        self.start = self.bytes.len().min(self.start + count + 1);
+        self.is_cut = false;
+    }
+
+    /// Reads what there is, where no line is held and the input has not ended.
+    pub fn read<W: Wire>(&mut self, wire: &mut W) -> Result<(), Failed>
+        ensures ok { OnOk result ((bytes : List ℕ) × (self.new ≡ arrived self.old bytes)
+            × ((start : W) (events : List Event) → W.Did start wire.old events → W.Did start wire.new (events ++ Read bytes ∷ []))) }
+        ensures err { OnErr result ((self.new ≡ with_room self.old)
+            × ((start : W) (events : List Event) → W.Did start wire.old events → W.Did start wire.new events)) }
+        ensures fault { W.read_failed wire.old ≡ false → (IsErr result ↔ (W.read_failed wire.new ≡ true)) }
+        ensures write { W.write_failed wire.new ≡ W.write_failed wire.old }
+    {
+        self.is_cut = keep_rest(&mut self.bytes, self.start, self.is_cut);
+        self.start = 0;
+        let count = read_behind(&mut self.bytes, &mut self.chunk, wire)?;
+        self.has_ended = count == 0;
+        Ok(())
+    }
+}

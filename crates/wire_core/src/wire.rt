@@ -1,0 +1,54 @@
+//! A reader and a writer whose calls stand in one order.
+ghost use Rattle.std.specs.Prelude.{◌≡◌, ◌↔◌, ◌<◌, ◌≤◌, ◌∷◌, ◌++◌, [], ℕ, List, Bool, true, false, length, take, IfOk, OnOk, OnErr, IsErr};
+ghost use Rattle.std.specs.List.{concat};
+ghost use Rattle.wire_core.specs.Events.{Event, writes_of};
+ghost use Rattle.wire_core.specs.Events.Event.{Read, Wrote};
+
+use digits_core::Failed;
+
+/// A reader and a writer whose calls stand in one order.
+pub trait Wire {
+    // From the first state it came to the second by these reads and writes, in their order.
+    ghost Did: { Self → Self → List Event → Type 0 };
+    // Whether a read has failed.
+    ghost read_failed: { Self → Bool };
+    // Whether a write has failed.
+    ghost write_failed: { Self → Bool };
+
+    /// Reads at most as many bytes as `buf` has, into its front, and says how many; 0 into a buffer that is not
+    /// empty is the end. An interruption is a failure.
+    fn read(&mut self, buf: &mut [u8]) -> Result<usize, Failed>
+        ensures bound { IfOk result (λ n. n ≤ length buf.new) }
+        ensures did { IfOk result (λ n. (start : Self) (events : List Event) → Did start self.old events → Did start self.new (events ++ Read (take n buf.new) ∷ [])) }
+        ensures none { OnErr result ((start : Self) (events : List Event) → Did start self.old events → Did start self.new events) }
+        ensures ok { OnOk result (read_failed self.new ≡ read_failed self.old) }
+        ensures err { OnErr result (read_failed self.new ≡ true) }
+        ensures other { write_failed self.new ≡ write_failed self.old };
+
+    /// Writes a prefix of the bytes and says how many they are, at least one of a piece that has some.
+    fn write(&mut self, bytes: &[u8]) -> Result<usize, Failed>
+        ensures bound { IfOk result (λ n. n ≤ length bytes.now) }
+        ensures some { IfOk result (λ n. 0 < length bytes.now → 0 < n) }
+        ensures did { IfOk result (λ n. (start : Self) (events : List Event) → Did start self.old events → Did start self.new (events ++ Wrote (take n bytes.now) ∷ [])) }
+        ensures none { OnErr result ((start : Self) (events : List Event) → Did start self.old events → Did start self.new events) }
+        ensures ok { OnOk result (write_failed self.new ≡ write_failed self.old) }
+        ensures err { OnErr result (write_failed self.new ≡ true) }
+        ensures other { read_failed self.new ≡ read_failed self.old };
+}
+
+/// Writes all the bytes, in as many writes as it takes. After an `Err` a prefix of them went out.
+pub fn write_all<W: Wire>(wire: &mut W, bytes: &[u8]) -> Result<(), Failed>
+    ensures ok { OnOk result ((start : W) (events : List Event) → W.Did start wire.old events
+        → (pieces : List (List ℕ)) × W.Did start wire.new (events ++ writes_of pieces) × (concat pieces ≡ bytes.now)) }
+    ensures err { OnErr result ((start : W) (events : List Event) → W.Did start wire.old events
+        → (pieces : List (List ℕ)) × (rest : List ℕ) × W.Did start wire.new (events ++ writes_of pieces) × (concat pieces ++ rest ≡ bytes.now)) }
+    ensures fault { W.write_failed wire.old ≡ false → (IsErr result ↔ (W.write_failed wire.new ≡ true)) }
+    ensures read { W.read_failed wire.new ≡ W.read_failed wire.old }
+{
+    let mut rest = bytes;
+    'writes: while !rest.is_empty() {
+        let count = wire.write(rest)?;
+        rest = &rest[count..];
+    }
+    Ok(())
+}

@@ -1,0 +1,45 @@
+//! A wire of any reader and any writer.
+ghost use Rattle.std.specs.Prelude.{◌≡◌};
+
+use crate::wire::Wire;
+use digits_core::{Failed, Sink, Source};
+
+/// A source and a sink as one wire. What the source gave and the sink took is known as far as each tells it, and
+/// not which came first.
+#[derive(Drop)]
+pub struct Wired<S: Source, W: Sink> {
+    source: S,
+    sink: W,
+}
+
+impl<S: Source, W: Sink> Wired<S, W> {
+    ghost use Rattle.std.specs.Prelude.{[]};
+
+    /// A wire that reads of the source and writes to the sink.
+    pub fn new(source: S, sink: W) -> Wired<S, W>
+        ensures source { result.source ≡ source }
+        ensures sink { result.sink ≡ sink }
+        ensures fresh { ⟦<Wired<S, W> as Wire>⟧.Did result result [] }
+    {
+        Wired { source, sink }
+    }
+}
+
+impl<S: Source, W: Sink> Wire for Wired<S, W> {
+    ghost use Rattle.std.specs.Io.KnownBytes.{Appends, Consumes};
+    ghost use Rattle.wire_core.specs.Events.{was_read, was_written};
+
+    ghost Did = { λ start wire events. Consumes (S.left start.source) (S.left wire.source) (was_read events) × Appends (W.taken start.sink) (W.taken wire.sink) (was_written events) };
+
+    ghost read_failed = { λ wire. S.failed wire.source };
+
+    ghost write_failed = { λ wire. W.failed wire.sink };
+
+    fn read(&mut self, buf: &mut [u8]) -> Result<usize, Failed> {
+        self.source.read(buf)
+    }
+
+    fn write(&mut self, bytes: &[u8]) -> Result<usize, Failed> {
+        self.sink.write(bytes)
+    }
+}
