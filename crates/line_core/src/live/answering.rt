@@ -56,7 +56,8 @@ fn ending(stopped: Option<LiveFault>, ended: Ended<Stopped, Infallible>) -> Resu
 /// other, all through one hub, and each passes the gate before a row.
 ///
 /// Before each read all records that have come are answered. It ends with the input, or where a read or a write
-/// fails or memory is refused. `Err` says that it could not begin: nothing was read or written.
+/// fails or memory is refused. `Err` says that it could not begin, for want of memory or of a thread; the wire is
+/// dropped then, so that no clause can say what became of it.
 pub fn answer_live<R: Threads + Wait + Sync, W: Wire + Drop, G: Gate + Sync>(
     rt: &R,
     alloc: Global,
