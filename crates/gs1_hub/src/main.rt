@@ -126,8 +126,13 @@ fn main(rt: HostRuntime) -> io::Result<ExitCode> {
             // Without buffers, so that a read gives what is there and an answer goes out at once.
             let source = FromReader::new(rt.reader());
             let sink = ToWriter::new(io::writer(&rt));
-            let ran = match run_live(&rt, rt.alloc(), options, Wired::new(source, sink), &OpenGate)
-            {
+            let ran = match run_live(
+                &rt,
+                rt.alloc(),
+                options,
+                Wired::new(source, sink),
+                &OpenGate,
+            ) {
                 Ok((_, ended)) => ended,
                 Err(fault) => Err(fault),
             };

@@ -8,7 +8,9 @@ ghost use Rattle.gs1_hub.specs.declared.commands.live.options.LiveOptions.{LiveO
 
 pub mod options;
 
-use crate::arguments::{byte_named, command, flag, flag_named, number, number_named, workers, year};
+use crate::arguments::{
+    byte_named, command, flag, flag_named, number, number_named, workers, year,
+};
 use crate::commands::lanes::LANE_COUNT;
 use crate::commands::lanes::options::MOST_LANES;
 use crate::commands::live::options::LiveOptions;
