@@ -26,6 +26,9 @@ class WordsTest(CommandTest):
         for words, given, wanted in [
             ("lanes --lanes 3 --workers=16 --year 2026", b"2,0", b"2 0 refused 19 Blank\n"),
             ("lanes --year 1951 --workers 1 --lanes 16", b"15,0", b"15 0 refused 19 Blank\n"),
+            ("live --lanes 3 --workers=16 --year 2026", b"2,0", b"2 0 refused 19 Blank\n"),
+            ("live --elements --year 1951 --workers 1 --lanes 16", b"15,0", b"15 0 refused 19 Blank\n"),
+            ("live --lanes=1 --elements --workers 1 --year=2149", b"1,0", b"- - refused 41 BadLane\n"),
             ("check --year 2149", b"digit,12", b"digit 3\n"),
             ("check --year=1951", b"digit,12", b"digit 3\n"),
             ("print --rows 1 --year 2026 --columns=1 --height 3 --width 113 --module 1", RECORD.encode(), label),
@@ -55,6 +58,8 @@ class WordsTest(CommandTest):
             "scan --module 8 --width 4096 --height 1024 --columns 1 --rows 16 --workers 16 --year 2149",
             "scan --module 1 --width 1024 --height 3 --columns 16 --rows 64 --workers 1 --year 1951",
             "lanes --lanes 16 --workers 16 --year 2149",
+            "live --lanes 16 --workers 16 --year 2149",
+            "live --lanes 1 --workers 1 --year 1951 --elements",
         ]:
             with self.subTest(words):
                 self.assertEqual(ran(words, b"").outcome(), (0, b"", ""))
@@ -88,6 +93,22 @@ class WordsTest(CommandTest):
             "lanes --lanes 1 --workers 1 --year 2150",
             "lanes --lanes 1 --lanes 1 --workers 1 --year 2026",
             "lanes --lanes 1 --workers 1 --year 2026 more",
+            "live",
+            "live --lanes 1 --workers 1",
+            "live --lanes 1 --year 2026",
+            "live --workers 1 --year 2026",
+            "live --lanes 0 --workers 1 --year 2026",
+            "live --lanes 17 --workers 1 --year 2026",
+            "live --lanes 1 --workers 0 --year 2026",
+            "live --lanes 1 --workers 17 --year 2026",
+            "live --lanes 1 --workers 1 --year 1950",
+            "live --lanes 1 --workers 1 --year 2150",
+            "live --lanes 1 --lanes 1 --workers 1 --year 2026",
+            "live --lanes 1 --workers 1 --year 2026 --elements --elements",
+            "live --lanes 1 --workers 1 --year 2026 --elements 1",
+            "live --lanes 1 --workers 1 --year 2026 --text",
+            "live --lanes 1 --workers 1 --year 2026 more",
+            "lanes --lanes 1 --workers 1 --year 2026 --elements",
             "print --module 1 --width 113 --height 3 --columns 1 --rows 1",
             "print --module 9 --width 113 --height 3 --columns 1 --rows 1 --year 2026",
             "print --module 1 --width 4097 --height 3 --columns 1 --rows 1 --year 2026",
@@ -151,6 +172,7 @@ class WordsTest(CommandTest):
         for command, options in [
             ("check", [YEAR]),
             ("lanes", ["--lanes <COUNT> lanes 1 to 16", WORKERS, YEAR]),
+            ("live", ["--lanes <COUNT> lanes 1 to 16", WORKERS, YEAR, "--elements element AI value"]),
             ("print", [*GRID, YEAR, "--text line label"]),
             ("scan", [*GRID, WORKERS, YEAR]),
         ]:
@@ -160,14 +182,14 @@ class WordsTest(CommandTest):
                     self.assertTrue(any(all(word in line for word in option.split()) for line in lines))
 
     def test_examples(self):
-        for command in ["check", "lanes", "print", "scan"]:
+        for command in ["check", "lanes", "live", "print", "scan"]:
             shown = self.help_of(f"{command} --help")
             self.assertRegex(shown, rf"(?m)^  \$ .*gs1_hub {re.escape(command)} --")
             self.assertEqual(self.help_of(f"{command} -h"), shown)
 
     def test_help_of_the_program(self):
         shown = self.help_of("--help")
-        for part in ["check", "print", "lanes", "scan", "--help", "--version", "Exit status"]:
+        for part in ["check", "print", "lanes", "scan", "live", "--help", "--version", "Exit status"]:
             self.assertIn(part, shown)
 
     def test_the_version(self):

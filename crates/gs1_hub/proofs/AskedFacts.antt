@@ -4,8 +4,10 @@ use Rattle.clap.specs.Faults.{fault_of}
 use Rattle.clap.specs.Simple.{subcommand_of}
 use Rattle.clap.specs.Walk.{Row, Rule, Text, rows_after}
 use Rattle.line_core.specs.Numbers.{most_columns, most_dots, most_height, most_rows, most_width}
-use Rattle.gs1_hub.specs.Arguments.{HasFlag, first_year, last_year, most_lanes, most_workers}
+use Rattle.gs1_hub.specs.Arguments.{HasFlag, asks_elements, first_year, last_year, most_lanes, most_workers}
 use Rattle.gs1_hub.specs.commands.Prints.{HasOutput}
+use Rattle.line_core.specs.declared.live.form.Form.{Form}
+use Rattle.line_core.specs.declared.live.form.Form.TheVariants as form
 use Rattle.gs1_hub.specs.Asking.{Asks}
 use Rattle.gs1_hub.specs.Laws.{TakenAsk}
 use Rattle.gs1_hub.specs.commands.{AsksIn, hub_app}
@@ -13,6 +15,7 @@ use Rattle.gs1_hub.specs.declared.commands.Asked.{Asked}
 use Rattle.gs1_hub.specs.declared.commands.print.options.Output.{Output}
 use Rattle.gs1_hub.specs.declared.commands.print.options.Output.TheVariants as output
 use Rattle.gs1_hub.specs.declared.commands.Asked.TheVariants as asked
+use Rattle.gs1_hub.specs.declared.commands.Batch.TheVariants as batch
 use Rattle.gs1_hub.proofs.NumberRows.{Passed, flag, help}
 use Rattle.gs1_hub.proofs.TakenWords.{Range, flag_beside, named, number_beside, number_of, numbers, required, shape}
 
@@ -40,7 +43,7 @@ unfolding AskedIn
 check_asked words p =
     let given = required (codes "check") check_rules (rows_after check_rules [] words) p.checked in
     let y = number_of (codes "check") (year ∷ []) words p (codes "year") first_year last_year refl (given.0 refl) in
-    (asked.Check y.0, (refl, y.1))
+    (asked.Batch (batch.Check y.0), (refl, y.1))
 
 -- what the flag asks for
 abbrev output_of : Bool → Output
@@ -66,7 +69,7 @@ print_asked words p =
     let r = number (codes "rows") 1 most_rows refl refl (given.1.1.1.1.0 refl) in
     let y = number (codes "year") first_year last_year refl refl (given.1.1.1.1.1.0 refl) in
     let t = flag_beside (codes "print") (codes "text") refl (grid (year ∷ [])) words p refl in (
-      asked.Print (record { grid = record { module_dots = m.0; width = w.0; height = h.0; columns = c.0; rows = r.0; numbers = (m.1.1, w.1.1, h.1.1, c.1.1, r.1.1) }; year = y.0; output = output_of t.0 }),
+      asked.Batch (batch.Print (record { grid = record { module_dots = m.0; width = w.0; height = h.0; columns = c.0; rows = r.0; numbers = (m.1.1, w.1.1, h.1.1, c.1.1, r.1.1) }; year = y.0; output = output_of t.0 })),
       (refl, ((m.1.0, w.1.0, h.1.0, c.1.0, r.1.0, (m.1.1, w.1.1, h.1.1, c.1.1, r.1.1)), y.1, output_given (rows_after print_rules [] words) t.0 t.1)),
     )
 
@@ -81,7 +84,7 @@ lanes_asked words p =
     let n = number (codes "lanes") 1 most_lanes refl (given.0 refl) in
     let k = number (codes "workers") 1 most_workers refl (given.1.0 refl) in
     let y = number (codes "year") first_year last_year refl (given.1.1.0 refl) in
-    (asked.Lanes (record { lanes = n.0; workers = k.0; year = y.0; some_lanes = n.1.1; some_workers = k.1.1 }), (refl, (n.1.0, n.1.1, k.1, y.1)))
+    (asked.Batch (batch.Lanes (record { lanes = n.0; workers = k.0; year = y.0; some_lanes = n.1.1; some_workers = k.1.1 })), (refl, (n.1.0, n.1.1, k.1, y.1)))
 
 abbrev scan_rules : List Rule
 scan_rules = numbers (grid (workers ∷ year ∷ [])) ++ help ∷ []
@@ -98,14 +101,39 @@ scan_asked words p =
     let r = number (codes "rows") 1 most_rows refl (given.1.1.1.1.0 refl) in
     let k = number (codes "workers") 1 most_workers refl (given.1.1.1.1.1.0 refl) in
     let y = number (codes "year") first_year last_year refl (given.1.1.1.1.1.1.0 refl) in (
-      asked.Scan (record { grid = record { module_dots = m.0; width = w.0; height = h.0; columns = c.0; rows = r.0; numbers = (m.1.1, w.1.1, h.1.1, c.1.1, r.1.1) }; workers = k.0; year = y.0; some_workers = k.1.1 }),
+      asked.Batch (batch.Scan (record { grid = record { module_dots = m.0; width = w.0; height = h.0; columns = c.0; rows = r.0; numbers = (m.1.1, w.1.1, h.1.1, c.1.1, r.1.1) }; workers = k.0; year = y.0; some_workers = k.1.1 })),
       (refl, ((m.1.0, w.1.0, h.1.0, c.1.0, r.1.0, (m.1.1, w.1.1, h.1.1, c.1.1, r.1.1)), k.1, y.1)),
+    )
+
+-- how elements are written by what the flag asks for
+abbrev form_of : Bool → Form
+form_of false = form.HumanReadable
+form_of true = form.Pairs
+
+form_given : (rows : List Row) (b : Bool) → HasFlag (codes "elements") rows b → HasFlag (codes "elements") rows (asks_elements (form_of b))
+form_given rows false h = h
+form_given rows true h = h
+
+abbrev live_rules : List Rule
+live_rules = numbers (lanes ∷ workers ∷ year ∷ []) ++ flag (codes "elements") ∷ help ∷ []
+
+live_asked : (words : List Text) → Passed (shape (codes "live") live_rules) words → AskedIn (codes "live") (rows_after live_rules [] words)
+unfolding AskedIn
+live_asked words p =
+    let given = required (codes "live") live_rules (rows_after live_rules [] words) p.checked in
+    let number = number_beside (codes "live") (codes "elements") refl (lanes ∷ workers ∷ year ∷ []) words p in
+    let n = number (codes "lanes") 1 most_lanes refl refl (given.0 refl) in
+    let k = number (codes "workers") 1 most_workers refl refl (given.1.0 refl) in
+    let y = number (codes "year") first_year last_year refl refl (given.1.1.0 refl) in
+    let e = flag_beside (codes "live") (codes "elements") refl (lanes ∷ workers ∷ year ∷ []) words p refl in (
+      asked.Live (record { lanes = n.0; workers = k.0; year = y.0; form = form_of e.0; some_lanes = n.1.1; some_workers = k.1.1 }),
+      (refl, (n.1.0, n.1.1, k.1, y.1, form_given (rows_after live_rules [] words) e.0 e.1)),
     )
 
 pub asked_for : (words : List Text) → fault_of hub_app words ≡ [] → (a : Asked) × Asks (subcommand_of hub_app words) a
 unfolding AskedIn
 asked_for words none =
-    let found = named AskedIn words (check_asked, (print_asked, (lanes_asked, (scan_asked, tt)))) none in
+    let found = named AskedIn words (check_asked, (print_asked, (lanes_asked, (scan_asked, (live_asked, tt))))) none in
     (found.2.0, subst (λ o. Asks o found.2.0) (sym found.1) found.2.1)
 
 pub taken_words_ask : TakenAsk

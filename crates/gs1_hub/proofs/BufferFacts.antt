@@ -7,8 +7,8 @@ use Rattle.gs1_hub.specs.Runs.{Wrote}
 use Rattle.gs1_hub.specs.commands.{command_of}
 use Rattle.gs1_hub.specs.declared.fault.CommandFault.{CommandFault}
 use Rattle.gs1_hub.specs.declared.fault.CommandFault.TheVariants as command
-use Rattle.gs1_hub.specs.declared.commands.Asked.{Asked}
-use Rattle.gs1_hub.specs.declared.commands.Asked.TheVariants as asked
+use Rattle.gs1_hub.specs.declared.commands.Batch.{Batch}
+use Rattle.gs1_hub.specs.declared.commands.Batch.TheVariants as batch
 
 -- it took a front, and the rest waits or did not come
 pub took_front : (a b c : Option (List ℕ)) (first last text : List ℕ) → IfSome a (λ bytes. bytes ≡ []) → first ≡ [] → TookFront (append_known a first) b text
@@ -26,12 +26,12 @@ took_front (Some x) (Some y) (Some z) first last text fresh start front kept =
     )
 
 -- a command that writes may be refused by its writer
-pub may_fail : (a : Asked) (took : Option (List ℕ) → Option (List ℕ) → List ℕ → Type 0) (left rest before after : Option (List ℕ))
+pub may_fail : (a : Batch) (took : Option (List ℕ) → Option (List ℕ) → List ℕ → Type 0) (left rest before after : Option (List ℕ))
     → Wrote (command_of a) took left rest before after → (command_of a).refuses left rest command.WriteFault
-may_fail (asked.Check year) took left rest before after wrote = tt
-may_fail (asked.Print o) took left rest before after wrote = (wrote.3.2.0, tt)
-may_fail (asked.Lanes o) took left rest before after wrote = tt
-may_fail (asked.Scan o) took left rest before after wrote = (wrote.3.1.0, tt)
+may_fail (batch.Check year) took left rest before after wrote = tt
+may_fail (batch.Print o) took left rest before after wrote = (wrote.3.2.0, tt)
+may_fail (batch.Lanes o) took left rest before after wrote = tt
+may_fail (batch.Scan o) took left rest before after wrote = (wrote.3.1.0, tt)
 
 -- a failed write is refused as such
 pub refused_as : {X : Type 0} (r : Result X CommandFault) (fault : CommandFault) (P : CommandFault → Type 0) → IsErrAnd r (λ f. f ≡ fault) → P fault → IfErr r P

@@ -7,6 +7,8 @@ use Rattle.clap.specs.declared.builder.ArgAction.TheVariants.{Set, SetTrue}
 use Rattle.clap.specs.declared.builder.value_parser.ValueParser.TheVariants as vp
 use Rattle.line_core.specs.Numbers.{AreGridNumbers, most_columns, most_dots, most_height, most_rows, most_width}
 use Rattle.line_core.specs.declared.grid.GridOptions.{GridOptions}
+use Rattle.line_core.specs.declared.live.form.Form.{Form}
+use Rattle.line_core.specs.declared.live.form.Form.TheVariants as form
 
 -- the greatest numbers of lanes and of workers; the least is 1
 abbrev pub most_lanes : ℕ
@@ -94,3 +96,8 @@ flag_text false = codes "false"
 
 abbrev pub HasFlag : Text → List Row → Bool → Type 0
 HasFlag name rows is_set = one_of name rows ≡ Some (flag_text is_set)
+
+-- elements one by one are asked for by a flag, else it is the human-readable text
+abbrev pub asks_elements : Form → Bool
+asks_elements form.HumanReadable = false
+asks_elements form.Pairs = true

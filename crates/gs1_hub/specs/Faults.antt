@@ -21,6 +21,8 @@ use Rattle.line_core.specs.declared.answers.rows.RowsFault.{RowsFault}
 use Rattle.line_core.specs.declared.answers.rows.RowsFault.TheVariants as rows
 use Rattle.line_core.specs.declared.input.fault.RecordsFault.{RecordsFault}
 use Rattle.line_core.specs.declared.input.fault.RecordsFault.TheVariants as records
+use Rattle.line_core.specs.declared.live.fault.LiveFault.{LiveFault}
+use Rattle.line_core.specs.declared.live.fault.LiveFault.TheVariants as live
 use Rattle.gs1_hub.specs.declared.fault.CommandFault.{CommandFault}
 use Rattle.gs1_hub.specs.declared.fault.CommandFault.TheVariants as command
 use Rattle.gs1_hub.specs.declared.words.WordsFault.{WordsFault}
@@ -65,12 +67,22 @@ abbrev pub of_answers : AnswerFault → CommandFault
 of_answers answers.NoThread = command.NoThread
 of_answers answers.NoMemory = command.NoMemory
 
--- a failed write and a refused growth, as the command's
+-- a fault of a live input, as the command's
+abbrev pub of_live : LiveFault → CommandFault
+of_live live.ReadFault = command.ReadFault
+of_live live.WriteFault = command.WriteFault
+of_live live.NoMemory = command.NoMemory
+of_live live.NoThread = command.NoThread
+
+-- a failed write, a refused growth and a thread that could not be started, as the command's
 abbrev pub failed_write : CommandFault
 failed_write = command.WriteFault
 
 abbrev pub no_memory : CommandFault
 no_memory = command.NoMemory
+
+abbrev pub no_thread : CommandFault
+no_thread = command.NoThread
 
 -- a grid outside the limits, as the command's
 abbrev pub bad_grid : CommandFault

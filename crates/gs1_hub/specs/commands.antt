@@ -1,6 +1,7 @@
 -- The commands: which there are, and what the words of one ask for.
 pub mod Checks
 pub mod Lanes
+pub mod Lives
 pub mod Prints
 pub mod Scans
 use Rattle.std.specs.Prelude.{◌≡◌, true, List, codes}
@@ -9,10 +10,13 @@ use Rattle.gs1_hub.specs.Arguments.{HasYear}
 use Rattle.gs1_hub.specs.Runs.{Command}
 use Rattle.gs1_hub.specs.commands.Checks.{check_app, check_command}
 use Rattle.gs1_hub.specs.commands.Lanes.{HasLanes, lanes_app, lanes_command}
+use Rattle.gs1_hub.specs.commands.Lives.{HasLive, live_app}
 use Rattle.gs1_hub.specs.commands.Prints.{HasPrint, print_app, print_command}
 use Rattle.gs1_hub.specs.commands.Scans.{HasScan, scan_app, scan_command}
 use Rattle.gs1_hub.specs.declared.commands.Asked.{Asked}
 use Rattle.gs1_hub.specs.declared.commands.Asked.TheVariants as asked
+use Rattle.gs1_hub.specs.declared.commands.Batch.{Batch}
+use Rattle.gs1_hub.specs.declared.commands.Batch.TheVariants as batch
 
 -- a command is wanted, there is no command `help`, and there is a version
 abbrev pub hub_top : App
@@ -22,20 +26,29 @@ hub_top = let fresh = new_app (codes "gs1_hub") in record fresh { top = record f
 abbrev pub text_app : App
 text_app = with_subcommand (with_subcommand hub_top check_app.top) print_app.top
 
+-- the program with the commands over their whole input
+abbrev pub row_app : App
+row_app = with_subcommand (with_subcommand text_app lanes_app.top) scan_app.top
+
 -- the program with its commands
 abbrev pub hub_app : App
-hub_app = with_subcommand (with_subcommand text_app lanes_app.top) scan_app.top
+hub_app = with_subcommand row_app live_app.top
+
+-- the command of this name over its whole input, with its numbers
+abbrev pub BatchIn : Text → List Row → Batch → Type 0
+BatchIn name rows (batch.Check year) = (name ≡ codes "check") × HasYear rows year
+BatchIn name rows (batch.Print o) = (name ≡ codes "print") × HasPrint rows o
+BatchIn name rows (batch.Lanes o) = (name ≡ codes "lanes") × HasLanes rows o
+BatchIn name rows (batch.Scan o) = (name ≡ codes "scan") × HasScan rows o
 
 -- the command of this name, with its numbers
 abbrev pub AsksIn : Text → List Row → Asked → Type 0
-AsksIn name rows (asked.Check year) = (name ≡ codes "check") × HasYear rows year
-AsksIn name rows (asked.Print o) = (name ≡ codes "print") × HasPrint rows o
-AsksIn name rows (asked.Lanes o) = (name ≡ codes "lanes") × HasLanes rows o
-AsksIn name rows (asked.Scan o) = (name ≡ codes "scan") × HasScan rows o
+AsksIn name rows (asked.Batch b) = BatchIn name rows b
+AsksIn name rows (asked.Live o) = (name ≡ codes "live") × HasLive rows o
 
--- the command that is asked for
-abbrev pub command_of : Asked → Command
-command_of (asked.Check year) = check_command year
-command_of (asked.Print o) = print_command o
-command_of (asked.Lanes o) = lanes_command o
-command_of (asked.Scan o) = scan_command o
+-- the command that is asked for, over its whole input
+abbrev pub command_of : Batch → Command
+command_of (batch.Check year) = check_command year
+command_of (batch.Print o) = print_command o
+command_of (batch.Lanes o) = lanes_command o
+command_of (batch.Scan o) = scan_command o

@@ -2,11 +2,13 @@
 ghost use Rattle.std.specs.Prelude.{◌≡◌, IfNone, IfOk, IfSome};
 ghost use Rattle.clap.specs.Words.{app_of, found_of, rows_of};
 ghost use Rattle.gs1_hub.specs.Runs.{Ran};
-ghost use Rattle.gs1_hub.specs.commands.{AsksIn, command_of, hub_app, text_app};
+ghost use Rattle.gs1_hub.specs.commands.{AsksIn, BatchIn, command_of, hub_app, row_app, text_app};
 ghost use Rattle.gs1_hub.specs.declared.commands.Asked.{Asked};
+ghost use Rattle.gs1_hub.specs.declared.commands.Batch.{Batch};
 
 pub mod check;
 pub mod lanes;
+pub mod live;
 pub mod print;
 pub mod scan;
 
@@ -14,6 +16,8 @@ use crate::arguments::year_named;
 use crate::commands::check::{check_words, run_check};
 use crate::commands::lanes::options::LaneOptions;
 use crate::commands::lanes::{lanes_words, run_lanes};
+use crate::commands::live::live_words;
+use crate::commands::live::options::LiveOptions;
 use crate::commands::print::options::PrintOptions;
 use crate::commands::print::{print_words, run_print};
 use crate::commands::scan::options::ScanOptions;
@@ -28,9 +32,9 @@ use std::alloc::{AllocError, Global};
 use std::sync::Wait;
 use std::thread::Threads;
 
-/// What the words ask for.
+/// A command over its whole input, of which it writes nothing before it has read all.
 #[derive(Clone, Copy, Debug, PartialEq, Eq)]
-pub enum Asked {
+pub enum Batch {
     /// Texts are to be checked, dates under this reference year.
     Check(Year),
     /// Labels are to be printed.
@@ -39,6 +43,15 @@ pub enum Asked {
     Lanes(LaneOptions),
     /// The sheets of these images are to be read.
     Scan(ScanOptions),
+}
+
+/// What the words ask for.
+#[derive(Clone, Copy, Debug, PartialEq, Eq)]
+pub enum Asked {
+    /// A command over its whole input.
+    Batch(Batch),
+    /// The rows of these lanes are to be read as they come.
+    Live(LiveOptions),
 }
 
 /// The program with the commands that take texts.
@@ -55,13 +68,35 @@ fn text_words<'a>(alloc: Global) -> Result<Command<'a>, AllocError>
         .subcommand(print_words(alloc)?)
 }
 
-/// The program with its commands, as `clap` reads their words.
-pub fn hub_words<'a>(alloc: Global) -> Result<Command<'a>, AllocError>
-    ensures { IfOk result (λ c. app_of c ≡ hub_app) }
+/// The program with the commands over their whole input.
+fn row_words<'a>(alloc: Global) -> Result<Command<'a>, AllocError>
+    ensures { IfOk result (λ c. app_of c ≡ row_app) }
 {
     text_words(alloc)?
         .subcommand(lanes_words(alloc)?)?
         .subcommand(scan_words(alloc)?)
+}
+
+/// The program with its commands, as `clap` reads their words.
+pub fn hub_words<'a>(alloc: Global) -> Result<Command<'a>, AllocError>
+    ensures { IfOk result (λ c. app_of c ≡ hub_app) }
+{
+    row_words(alloc)?.subcommand(live_words(alloc)?)
+}
+
+/// What the matches of a command over its whole input ask for.
+fn batch_by(name: &str, matches: &ArgMatches<'_>) -> Option<Batch>
+    ensures some { IfSome result (BatchIn name.now (rows_of (found_of matches.now))) }
+    ensures none { IfNone result ((b : Batch)
+        → BatchIn name.now (rows_of (found_of matches.now)) b → ⊥) }
+{
+    match name {
+        "check" => year_named(matches).map(Batch::Check),
+        "print" => print::options_named(matches).map(Batch::Print),
+        "lanes" => lanes::options_named(matches).map(Batch::Lanes),
+        "scan" => scan::options_named(matches).map(Batch::Scan),
+        _ => None,
+    }
 }
 
 /// What the matches of a command ask for.
@@ -71,19 +106,16 @@ pub fn asked_by(name: &str, matches: &ArgMatches<'_>) -> Option<Asked>
         → AsksIn name.now (rows_of (found_of matches.now)) a → ⊥) }
 {
     match name {
-        "check" => year_named(matches).map(Asked::Check),
-        "print" => print::options_named(matches).map(Asked::Print),
-        "lanes" => lanes::options_named(matches).map(Asked::Lanes),
-        "scan" => scan::options_named(matches).map(Asked::Scan),
-        _ => None,
+        "live" => live::options_named(matches).map(Asked::Live),
+        _ => batch_by(name, matches).map(Asked::Batch),
     }
 }
 
-/// Runs the command that is asked for. The gate is for the workers of those that read rows.
+/// Runs a command over its whole input. The gate is for the workers of those that read rows.
 pub fn run<R: Threads + Wait + Sync, S: Source, W: Sink, G: Gate + Sync>(
     rt: &R,
     alloc: Global,
-    asked: Asked,
+    asked: Batch,
     source: &mut S,
     sink: &mut W,
     gate: &G,
@@ -92,9 +124,9 @@ pub fn run<R: Threads + Wait + Sync, S: Source, W: Sink, G: Gate + Sync>(
         source.old source.new sink.old sink.new result }
 {
     match asked {
-        Asked::Check(year) => run_check(alloc, year, source, sink),
-        Asked::Print(options) => run_print(alloc, options, source, sink),
-        Asked::Lanes(options) => run_lanes(rt, alloc, options, source, sink, gate),
-        Asked::Scan(options) => run_scan(rt, alloc, options, source, sink, gate),
+        Batch::Check(year) => run_check(alloc, year, source, sink),
+        Batch::Print(options) => run_print(alloc, options, source, sink),
+        Batch::Lanes(options) => run_lanes(rt, alloc, options, source, sink, gate),
+        Batch::Scan(options) => run_scan(rt, alloc, options, source, sink, gate),
     }
 }

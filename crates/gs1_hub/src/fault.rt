@@ -1,10 +1,10 @@
 //! Why a command is refused as a whole.
 ghost use Rattle.std.specs.Prelude.{Some, ◌≡◌};
-ghost use Rattle.gs1_hub.specs.Faults.{bad_grid, command_fault_text, failed_write, no_memory, of_answers, of_images, of_prints, of_records, of_rows, of_sheets};
+ghost use Rattle.gs1_hub.specs.Faults.{bad_grid, command_fault_text, failed_write, no_memory, of_answers, of_images, of_live, of_prints, of_records, of_rows, of_sheets};
 
 use digits_core::{Failed, InputFault};
 use hub_core::ServeFault;
-use line_core::{AnswerFault, RecordFault, RecordsFault, RowsFault};
+use line_core::{AnswerFault, LiveFault, RecordFault, RecordsFault, RowsFault};
 use sheet_core::{BadGrid, PbmFault, PrintFault, SheetFault, WriteFault};
 use std::alloc::AllocError;
 use std::fmt;
@@ -120,6 +120,19 @@ impl From<AnswerFault> for CommandFault {
         match fault {
             AnswerFault::NoThread => CommandFault::NoThread,
             AnswerFault::NoMemory => CommandFault::NoMemory,
+        }
+    }
+}
+
+impl From<LiveFault> for CommandFault {
+    ghost from_gives = { λ fault command. command ≡ of_live fault };
+
+    fn from(fault: LiveFault) -> CommandFault {
+        match fault {
+            LiveFault::ReadFault => CommandFault::ReadFault,
+            LiveFault::WriteFault => CommandFault::WriteFault,
+            LiveFault::NoMemory => CommandFault::NoMemory,
+            LiveFault::NoThread => CommandFault::NoThread,
         }
     }
 }

@@ -16,7 +16,7 @@ pub const HUB: &str = "Checks, prints and scans GS1 bar codes";
 
 /// How a label is printed and read back, and what the exit statuses mean.
 pub const HUB_EXAMPLE: &str = "\
-Each command reads standard input to its end and writes standard output.
+Each command reads standard input to its end and writes standard output; `live` answers line by line.
 `gs1_hub COMMAND --help` has its options, its input and an example.
 
 Print a label and read it back:

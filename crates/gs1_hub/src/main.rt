@@ -19,7 +19,8 @@ mod tests;
 mod words;
 
 use crate::buffered::Buffered;
-use crate::commands::{Asked, run};
+use crate::commands::live::run_live;
+use crate::commands::{Asked, Batch, run};
 use crate::fault::CommandFault;
 use crate::help::write_help;
 use crate::remedies::remedy;
@@ -32,13 +33,14 @@ use std::process::ExitCode;
 use std::sync::Wait;
 use std::thread::Threads;
 use std::{env, io};
+use wire_core::Wired;
 
 /// Runs the command with a buffer before its output, and writes what waits in it at the end. Before it runs
 /// nothing waits, and nothing is known to have been taken.
 fn run_buffered<R: Threads + Wait + Sync, S: Source, W: Sink, G: Gate + Sync>(
     rt: &R,
     alloc: Global,
-    asked: Asked,
+    asked: Batch,
     source: &mut S,
     sink: &mut Buffered<W>,
     gate: &G,
@@ -111,13 +113,29 @@ fn main(rt: HostRuntime) -> io::Result<ExitCode> {
         Err(_) => Err(WordsFault::Words),
     };
     match asked {
-        Ok(asked) => {
+        Ok(Asked::Batch(batch)) => {
             let Ok(reader) = io::BufReader::new(rt.alloc(), rt.reader()) else {
                 return finish(&rt, Err(CommandFault::NoMemory), terminal);
             };
             let mut source = FromReader::new(reader);
             let mut sink = Buffered::new(ToWriter::new(io::writer(&rt)));
-            let ran = run_buffered(&rt, rt.alloc(), asked, &mut source, &mut sink, &OpenGate);
+            let ran = run_buffered(&rt, rt.alloc(), batch, &mut source, &mut sink, &OpenGate);
+            finish(&rt, ran, terminal)
+        }
+        Ok(Asked::Live(options)) => {
+            // Without buffers, so that a read gives what is there and an answer goes out at once.
+            let source = FromReader::new(rt.reader());
+            let sink = ToWriter::new(io::writer(&rt));
+            let ran = match run_live(
+                &rt,
+                rt.alloc(),
+                options,
+                Wired::new(source, sink),
+                &OpenGate,
+            ) {
+                Ok((_, ended)) => ended,
+                Err(fault) => Err(fault),
+            };
             finish(&rt, ran, terminal)
         }
         Err(fault) => {

@@ -42,8 +42,8 @@ pub fn remedy(fault: &CommandFault) -> &'static str {
              in parts"
         }
         CommandFault::NoThread => {
-            "a thread could not be started (lanes, scan); an input without rows starts none: fewer \
-             workers, or a larger limit of threads"
+            "a thread could not be started (lanes, scan, live); but for live an input without rows \
+             starts none: fewer workers, or a larger limit of threads"
         }
         CommandFault::ReadFault => {
             "the input could not be read: look at where the input comes from"

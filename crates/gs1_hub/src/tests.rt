@@ -3,7 +3,7 @@
 use crate::commands::lanes::options::LaneOptions;
 use crate::commands::print::options::PrintOptions;
 use crate::commands::scan::options::ScanOptions;
-use crate::commands::{Asked, run};
+use crate::commands::{Batch, run};
 use digits_core::{FromReader, ToWriter};
 use element_core::Year;
 use fakes::{Holding, Meeting};
@@ -41,7 +41,7 @@ fn ticket(lane: u8, number: u32) -> Ticket {
 /// That a command writes this of an input, its workers passing the gate.
 fn writes<R: Threads + Wait + AllocGlobal + Sync + Abort, G: Gate + Sync>(
     rt: &R,
-    asked: Asked,
+    asked: Batch,
     input: &[u8],
     gate: &G,
     wanted: &[u8],
@@ -61,7 +61,7 @@ fn check_answers_a_text(rt: HostRuntime) -> Result<(), Fail> {
     let year = Year::new(2026).ok_or("year")?;
     writes(
         &rt,
-        Asked::Check(year),
+        Batch::Check(year),
         b"digit,950110153000\n",
         &OpenGate,
         b"digit 3\n",
@@ -73,14 +73,14 @@ fn print_writes_images_or_lines(rt: HostRuntime) -> Result<(), Fail> {
     let images = PrintOptions::new(1, 113, 3, 1, 2, 2026, false).ok_or("options")?;
     writes(
         &rt,
-        Asked::Print(images),
+        Batch::Print(images),
         TWO_RECORDS,
         &OpenGate,
         TWO_LABELS,
     )?;
     let lines = PrintOptions::new(1, 113, 3, 1, 2, 2026, true).ok_or("options")?;
     let wanted = b"0 0 ean13 (01)09501101530003\n0 1 ean13 (01)09501101530003\n";
-    writes(&rt, Asked::Print(lines), TWO_RECORDS, &OpenGate, wanted)
+    writes(&rt, Batch::Print(lines), TWO_RECORDS, &OpenGate, wanted)
 }
 
 #[test]
@@ -89,7 +89,7 @@ fn two_workers_read_the_rows_of_a_lane(rt: HostRuntime) -> Result<(), Fail> {
     let input = format!(in rt.alloc(); "0,{EAN13}\n0,{EAN8}\n")?;
     let gate = Holding::new(rt.alloc(), &[2], ticket(0, 0), ticket(0, 1))?;
     let wanted = b"0 0 ]E0 (01)09501101530003\n0 1 ]E4 (01)00000096385074\n";
-    writes(&rt, Asked::Lanes(options), input.as_bytes(), &gate, wanted)?;
+    writes(&rt, Batch::Lanes(options), input.as_bytes(), &gate, wanted)?;
     assert!(rt; gate.saw_each_once());
     Ok(())
 }
@@ -99,7 +99,7 @@ fn two_workers_read_the_rows_of_a_column(rt: HostRuntime) -> Result<(), Fail> {
     let options = ScanOptions::new(1, 113, 3, 1, 2, 2, 2026).ok_or("options")?;
     let gate = Holding::new(rt.alloc(), &[2], ticket(0, 0), ticket(0, 1))?;
     let wanted = b"0 0 ]E0 (01)09501101530003\n0 1 ]E0 (01)09501101530003\n";
-    writes(&rt, Asked::Scan(options), TWO_LABELS, &gate, wanted)?;
+    writes(&rt, Batch::Scan(options), TWO_LABELS, &gate, wanted)?;
     assert!(rt; gate.saw_each_once());
     Ok(())
 }
@@ -111,7 +111,7 @@ fn a_row_of_the_last_lane_is_held_alone(rt: HostRuntime) -> Result<(), Fail> {
     let gate = Holding::new(rt.alloc(), &[2, 0, 2], ticket(2, 0), ticket(2, 1))?;
     let wanted = b"0 0 ]E0 (01)09501101530003\n0 1 ]E4 (01)00000096385074\n\
         2 0 ]E4 (01)00000096385074\n2 1 ]E0 (01)09501101530003\n";
-    writes(&rt, Asked::Lanes(options), input.as_bytes(), &gate, wanted)?;
+    writes(&rt, Batch::Lanes(options), input.as_bytes(), &gate, wanted)?;
     assert!(rt; gate.saw_each_once());
     Ok(())
 }
@@ -119,7 +119,7 @@ fn a_row_of_the_last_lane_is_held_alone(rt: HostRuntime) -> Result<(), Fail> {
 /// That sixteen workers are at work at once on this input, and write a line like this for each of sixteen lanes.
 fn meet<R: Threads + Wait + AllocGlobal + Sync + Abort>(
     rt: &R,
-    asked: Asked,
+    asked: Batch,
     input: &[u8],
     answer: &str,
 ) -> Result<(), Fail> {
@@ -144,7 +144,7 @@ fn sixteen_workers_read_rows_of_lanes_at_once(rt: HostRuntime) -> Result<(), Fai
     }
     meet(
         &rt,
-        Asked::Lanes(options),
+        Batch::Lanes(options),
         input.as_bytes(),
         "]E4 (01)00000096385074",
     )
@@ -163,7 +163,7 @@ fn sixteen_workers_read_rows_of_columns_at_once(rt: HostRuntime) -> Result<(), F
     }
     meet(
         &rt,
-        Asked::Scan(options),
+        Batch::Scan(options),
         input.as_slice(),
         "]E0 (01)09501101530003",
     )
@@ -182,7 +182,7 @@ fn each_row_of_a_long_lane_comes_once(rt: HostRuntime) -> Result<(), Fail> {
     let gate = Holding::new(alloc, &[5_000], ticket(0, 0), ticket(0, 4_999))?;
     writes(
         &rt,
-        Asked::Lanes(options),
+        Batch::Lanes(options),
         input.as_bytes(),
         &gate,
         wanted.as_bytes(),

@@ -35,7 +35,7 @@ Example, a row of 100 light dots:
   0 0 refused 19 Blank";
 
 /// The option `--lanes`.
-const LANE_COUNT: &str = "How many lanes there are, 1 to 16";
+pub const LANE_COUNT: &str = "How many lanes there are, 1 to 16";
 
 /// The options of the command `lanes`.
 pub fn options_named(matches: &ArgMatches<'_>) -> Option<LaneOptions>

@@ -1,0 +1,32 @@
+-- The command `live`.
+use Rattle.std.specs.Prelude.{◌≡◌, Bool, List, Result, Ok, Err, codes}
+use Rattle.clap.specs.Words.{App, Row, new_app, with_rule}
+use Rattle.wire_core.specs.Events.{Event}
+use Rattle.line_core.specs.live.Lived.{Lived}
+use Rattle.line_core.specs.declared.live.answering.LiveTerms.{LiveTerms}
+use Rattle.line_core.specs.declared.live.fault.LiveFault.{LiveFault}
+use Rattle.gs1_hub.specs.Arguments.{HasFlag, HasNumber, HasWorkers, HasYear, IsLaneCount, asks_elements, flag_rule, most_lanes, number_rule, workers_rule, year_rule}
+use Rattle.gs1_hub.specs.Faults.{of_live}
+use Rattle.gs1_hub.specs.declared.fault.CommandFault.{CommandFault}
+use Rattle.gs1_hub.specs.declared.commands.live.options.LiveOptions.{LiveOptions}
+
+-- `live --lanes N --workers K --year Y [--elements]`
+abbrev pub live_app : App
+live_app = with_rule (with_rule (with_rule (with_rule (new_app (codes "live")) (number_rule (codes "lanes") 1 most_lanes)) workers_rule) year_rule) (flag_rule (codes "elements"))
+
+-- its options among the matches, each in its range
+abbrev pub HasLive : List Row → LiveOptions → Type 0
+HasLive rows o = HasNumber (codes "lanes") rows o.lanes × IsLaneCount o.lanes × HasWorkers rows o.workers × HasYear rows o.year × HasFlag (codes "elements") rows (asks_elements o.form)
+
+-- what is asked for of a live input
+abbrev pub live_terms : LiveOptions → LiveTerms
+live_terms o = record { lanes = o.lanes; workers = o.workers; year = o.year; form = o.form }
+
+-- an end, with its fault as the command's
+abbrev pub command_end : Result (Unit {0}) LiveFault → Result (Unit {0}) CommandFault
+command_end (Ok u) = Ok u
+command_end (Err fault) = Err (of_live fault)
+
+-- what a run of `live` leaves of its wire: what a live input leaves of it, with the same end
+abbrev pub IsLive : {W : Type 0} → LiveOptions → (W → W → List Event → Type 0) → (W → Bool) → (W → Bool) → W → W → Result (Unit {0}) CommandFault → Type 0
+IsLive o did read_failed write_failed wire after result = (stopped : Result (Unit {0}) LiveFault) × Lived (live_terms o) did read_failed write_failed wire after stopped × (result ≡ command_end stopped)
