@@ -81,28 +81,46 @@ fn the_most_elements_fill_the_line(rt: HostRuntime) -> Result<(), Fail> {
     has_line(&rt, &elements, repeated(alloc, "(20)07")?.as_str())
 }
 
+/// That the elements of a text have this human-readable line and these pairs.
+fn has_pairs<R: AllocGlobal + Abort>(
+    rt: &R,
+    text: &[u8],
+    line: &str,
+    pairs: &str,
+) -> Result<(), Fail> {
+    let elements = parsed(text)?;
+    assert_eq!(*rt; elements.hri().as_str(), line);
+    assert_eq!(*rt; elements.pairs().as_str(), pairs);
+    let mut pushed = String::new(rt.alloc());
+    elements.push_pairs(&mut pushed)?;
+    assert_eq!(*rt; pushed.as_str(), pairs);
+    Ok(())
+}
+
 #[test]
 fn pairs_tell_what_a_line_does_not(rt: HostRuntime) -> Result<(), Fail> {
-    let cases: &[(&[u8], &str, &str)] = &[
-        (b"10A(17)261231", "(10)A(17)261231", "10=A(17)261231"),
-        (b"10A\x1D17261231", "(10)A(17)261231", "10=A\t17=261231"),
-        (
-            b"0109501101530003",
-            "(01)09501101530003",
-            "01=09501101530003",
-        ),
-    ];
-    for &(text, line, pairs) in cases {
-        let elements = parsed(text)?;
-        assert_eq!(rt; elements.hri().as_str(), line);
-        assert_eq!(rt; elements.pairs().as_str(), pairs);
-        let mut pushed = String::new(rt.alloc());
-        elements.push_pairs(&mut pushed)?;
-        assert_eq!(rt; pushed.as_str(), pairs);
-        let mut out = [0; 20];
-        let count = elements.put_pairs(0, &mut out);
-        assert_eq!(rt; out.get(..count), Some(pairs.as_bytes()));
-    }
+    has_pairs(&rt, b"10A(17)261231", "(10)A(17)261231", "10=A(17)261231")?;
+    has_pairs(
+        &rt,
+        b"10A\x1D17261231",
+        "(10)A(17)261231",
+        "10=A\t17=261231",
+    )?;
+    has_pairs(
+        &rt,
+        b"0109501101530003",
+        "(01)09501101530003",
+        "01=09501101530003",
+    )
+}
+
+#[test]
+fn pairs_are_put_into_a_buffer(rt: HostRuntime) -> Result<(), Fail> {
+    let elements = parsed(b"10A\x1D17261231")?;
+    let mut out = [0; 20];
+    let count = elements.put_pairs(0, &mut out);
+    assert_eq!(rt; count, 14);
+    assert_eq!(rt; out.as_slice(), b"10=A\t17=261231\0\0\0\0\0\0".as_slice());
     Ok(())
 }
 
