@@ -1,4 +1,5 @@
 pub mod CameFacts
+pub mod CsvFacts
 pub mod EndFacts
 pub mod FieldsFacts
 pub mod GrowFacts

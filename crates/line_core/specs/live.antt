@@ -1,6 +1,7 @@
 pub mod Answering
 pub mod Came
 pub mod Finish
+pub mod Laws
 pub mod Lived
 pub mod Meaning
 pub mod Replies
