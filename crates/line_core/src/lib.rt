@@ -19,7 +19,7 @@ pub use input::fault::{RecordFault, RecordsFault};
 pub use live::answering::{LiveTerms, answer_live};
 pub use live::fault::LiveFault;
 pub use live::form::Form;
-pub use live::laws::lines_are_records;
+pub use live::laws::{lines_are_records, lines_are_report};
 pub use print::label_lines::label_lines;
 pub use print::labels::read_labels;
 pub use scan::columns::{are_of_size, column_feeds};
