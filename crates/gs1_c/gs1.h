@@ -28,6 +28,22 @@ extern "C" {
 /* The most bytes of the line of a symbol that gs1_find found. */
 #define GS1_FOUND 304
 
+/* The version of the library. */
+#define GS1_VERSION "1.1.0"
+
+/* The numbers of refusals, as docs/FAULTS.md has them. */
+enum gs1_fault {
+    GS1_FAULT_LENGTH = 1, GS1_FAULT_NOT_DIGIT = 2, GS1_FAULT_CHECK_DIGIT = 3, GS1_FAULT_EMPTY = 4,
+    GS1_FAULT_UNKNOWN_AI = 5, GS1_FAULT_VALUE_LENGTH = 6, GS1_FAULT_VALUE_CHARACTER = 7,
+    GS1_FAULT_VALUE_CHECK_DIGIT = 8, GS1_FAULT_VALUE_DATE = 9, GS1_FAULT_MISSING_SEPARATOR = 10,
+    GS1_FAULT_TOO_LONG = 11, GS1_FAULT_TOO_MANY_CHARACTERS = 12, GS1_FAULT_CHECK_CHARACTER = 13,
+    GS1_FAULT_NOT_GS1 = 14, GS1_FAULT_FUNCTION_CHARACTER = 15, GS1_FAULT_CODE_SET = 16,
+    GS1_FAULT_TOO_WIDE = 17, GS1_FAULT_BAD_RUNS = 18, GS1_FAULT_BLANK = 19, GS1_FAULT_RUN_COUNT = 20,
+    GS1_FAULT_QUIET_ZONE = 21, GS1_FAULT_MODULES = 22, GS1_FAULT_PATTERN = 23,
+    GS1_FAULT_SYMBOL_CHECK_DIGIT = 24, GS1_FAULT_BAD_GRID = 25, GS1_FAULT_LABEL_KIND = 26,
+    GS1_FAULT_LABEL_WIDTH = 27, GS1_FAULT_KIND = 40, GS1_FAULT_WORDS = 42
+};
+
 /* The kinds of labels: GS1_GS1128 of an element string, the others of a GTIN. */
 enum gs1_kind { GS1_EAN13 = 0, GS1_UPCA = 1, GS1_EAN8 = 2, GS1_UPCE = 3, GS1_GS1128 = 4, GS1_ITF14 = 5 };
 
@@ -36,6 +52,8 @@ size_t gs1_c_row(const uint16_t *widths, size_t count, uint16_t year, uint8_t *o
 size_t gs1_c_row_elements(const uint16_t *widths, size_t count, uint16_t year, uint8_t *out, size_t room);
 size_t gs1_c_find(const uint16_t *widths, size_t count, uint16_t year, uint8_t *out, size_t room);
 size_t gs1_c_dots(const uint8_t *bits, size_t bytes, uint32_t count, uint16_t year, uint8_t *out, size_t room);
+size_t gs1_c_dots_elements(const uint8_t *bits, size_t bytes, uint32_t count, uint16_t year, uint8_t *out, size_t room);
+size_t gs1_c_scan(const uint8_t *text, size_t length, uint16_t year, uint8_t *out, size_t room);
 size_t gs1_c_gtin(const uint8_t *text, size_t length, uint8_t *out, size_t room);
 size_t gs1_c_digit(const uint8_t *text, size_t length, uint8_t *out, size_t room);
 size_t gs1_c_text(const uint8_t *text, size_t length, uint16_t year, uint8_t *out, size_t room);
@@ -78,6 +96,20 @@ static inline size_t gs1_find(const uint16_t *widths, size_t count, uint16_t yea
 static inline size_t gs1_dots(const uint8_t *bits, uint32_t count, uint16_t year, uint8_t *out, size_t room) {
     return gs1_c_dots(GS1_SOME(const uint8_t *, bits), (size_t)(((uint64_t)count + 7) / 8), count, year,
                       GS1_SOME(uint8_t *, out), room);
+}
+
+/* The same with the elements as data, as gs1_row_elements. */
+static inline size_t gs1_dots_elements(const uint8_t *bits, uint32_t count, uint16_t year, uint8_t *out, size_t room) {
+    return gs1_c_dots_elements(GS1_SOME(const uint8_t *, bits), (size_t)(((uint64_t)count + 7) / 8), count, year,
+                               GS1_SOME(uint8_t *, out), room);
+}
+
+/* What a text says that a scanner sends: a symbology identifier, and behind it the digits of a GTIN (`]E0`, `]E4`,
+ * `]I1`) or an element string in which byte 29 is the separator (`]C1`, `]e0`, `]d2`, `]Q3`, `]J1`). The identifier
+ * and the elements as data, as `]C1 10=AB<TAB>17=261231`; a place is an offset behind the identifier. Any other
+ * identifier is `refused 40 Kind`. */
+static inline size_t gs1_scan(const uint8_t *text, size_t length, uint16_t year, uint8_t *out, size_t room) {
+    return gs1_c_scan(GS1_SOME(const uint8_t *, text), length, year, GS1_SOME(uint8_t *, out), room);
 }
 
 /* The GTIN of 8, 12, 13 or 14 digits, as `gtin 09501101530003`. */

@@ -9,6 +9,8 @@ refused is raised as a :class:`Refusal`, with its number and its name.
     3
     >>> read_elements("10AB\\x1d17261231", year=2026)
     '(10)AB(17)261231'
+    >>> read_scan("]C110AB\\x1d17261231", year=2026).elements
+    (Element(ai='10', value='AB'), Element(ai='17', value='261231'))
 """
 from __future__ import annotations
 
@@ -17,9 +19,14 @@ import enum
 import re
 from dataclasses import dataclass
 from pathlib import Path
-from typing import Any, Optional, Sequence, Union
+from typing import Any, List, Optional, Sequence, Tuple, Union
 
-__all__ = ["Answer", "Kind", "Refusal", "check_digit", "draw_label", "read_dots", "read_elements", "read_gtin", "read_row"]
+__all__ = [
+    "Answer", "Element", "Found", "Kind", "Refusal", "check_digit", "draw_label", "find", "parse_elements", "read_dots",
+    "read_elements", "read_gtin", "read_row", "read_scan",
+]
+
+__version__ = "1.1.0"
 
 _MOST = 65_535
 _LINE = 292
@@ -27,13 +34,16 @@ _LINE_OF_REFUSAL = re.compile(r"refused (\d+) (\w+)(?: (\d+))?")
 
 _library = ctypes.CDLL(str(Path(__file__).with_name("libgs1.so")))
 _SIZE, _U16, _U32, _BYTES = ctypes.c_size_t, ctypes.c_uint16, ctypes.c_uint32, ctypes.c_char_p
-_library.gs1_c_row.argtypes = [ctypes.POINTER(_U16), _SIZE, _U16, _BYTES, _SIZE]
-_library.gs1_c_dots.argtypes = [_BYTES, _SIZE, _U32, _U16, _BYTES, _SIZE]
+_library.gs1_c_row_elements.argtypes = [ctypes.POINTER(_U16), _SIZE, _U16, _BYTES, _SIZE]
+_library.gs1_c_find.argtypes = [ctypes.POINTER(_U16), _SIZE, _U16, _BYTES, _SIZE]
+_library.gs1_c_dots_elements.argtypes = [_BYTES, _SIZE, _U32, _U16, _BYTES, _SIZE]
+_library.gs1_c_scan.argtypes = [_BYTES, _SIZE, _U16, _BYTES, _SIZE]
 _library.gs1_c_gtin.argtypes = [_BYTES, _SIZE, _BYTES, _SIZE]
 _library.gs1_c_digit.argtypes = [_BYTES, _SIZE, _BYTES, _SIZE]
 _library.gs1_c_text.argtypes = [_BYTES, _SIZE, _U16, _BYTES, _SIZE]
+_library.gs1_c_text_elements.argtypes = [_BYTES, _SIZE, _U16, _BYTES, _SIZE]
 _library.gs1_c_label.argtypes = [_U32, _BYTES, _SIZE, _U16, _U16, _U16, _U16, _BYTES, _SIZE]
-for _name in ("row", "dots", "gtin", "digit", "text", "label"):
+for _name in ("row_elements", "find", "dots_elements", "scan", "gtin", "digit", "text", "text_elements", "label"):
     getattr(_library, f"gs1_c_{_name}").restype = _SIZE
 
 
@@ -66,22 +76,46 @@ class Kind(enum.Enum):
 
 
 @dataclass(frozen=True)
+class Element:
+    """An element of a list: an Application Identifier and its value."""
+
+    ai: str
+    value: str
+
+
+@dataclass(frozen=True)
 class Answer:
-    """What a row says."""
+    """What a row, or a text from a scanner, says."""
 
     identifier: str
     """The symbology identifier: ``]E0`` of EAN-13, UPC-A and UPC-E, ``]E4`` of EAN-8, ``]I1`` of ITF-14, ``]C1`` of
     GS1-128."""
-    text: str
-    """The elements, each Application Identifier in parentheses before its value: ``(01)09501101530003``."""
+    elements: Tuple[Element, ...]
+
+    @property
+    def text(self) -> str:
+        """The human-readable line: each Application Identifier in parentheses before its value, as
+        ``(01)09501101530003``. Different elements may have one line, since a value may have parentheses."""
+        return "".join(f"({element.ai}){element.value}" for element in self.elements)
 
     @property
     def gtin(self) -> Optional[str]:
         """The 14 digits of the GTIN, where the first element is one."""
-        return self.text[4:18] if self.text.startswith("(01)") else None
+        return self.elements[0].value if self.elements[0].ai == "01" else None
 
     def __str__(self) -> str:
         return f"{self.identifier} {self.text}"
+
+
+@dataclass(frozen=True)
+class Found:
+    """A symbol of a row."""
+
+    first: int
+    """The index of its first run, the light one before it."""
+    count: int
+    """How many runs it has, with the light ones at its ends."""
+    answer: Answer
 
 
 def _ask(call: Any, *words: Any) -> bytes:
@@ -106,18 +140,39 @@ def _line(answer: bytes) -> str:
 
 
 def _answer(answer: bytes) -> Answer:
-    """The answer to a row, where it is no refusal."""
-    identifier, _, text = _line(answer).partition(" ")
-    return Answer(identifier, text)
+    """The answer, where it is no refusal."""
+    identifier, _, elements = _line(answer).partition(" ")
+    return Answer(identifier, _elements(elements))
+
+
+def _elements(pairs: str) -> Tuple[Element, ...]:
+    """The elements of pairs: no Application Identifier has an equals sign, and no value a tab."""
+    return tuple(Element(ai, value) for ai, _, value in (pair.partition("=") for pair in pairs.split("\t")))
 
 
 def _bytes(text: Union[str, bytes]) -> bytes:
-    return text.encode("utf-8", "surrogatepass") if isinstance(text, str) else bytes(text)
+    if isinstance(text, str):
+        return text.encode("utf-8", "surrogatepass")
+    if isinstance(text, (bytes, bytearray, memoryview)):
+        return bytes(text)
+    raise TypeError(f"a text is str or bytes, and not {type(text).__name__}")
 
 
 def _u16(number: int) -> int:
     """The number, or 0 in place of one that no answer allows."""
     return number if 0 <= number <= _MOST else 0
+
+
+def _ask_of_widths(call: Any, widths: Sequence[int], year: int) -> bytes:
+    """What a call answers to widths."""
+    if any(width < 0 for width in widths):
+        raise ValueError("a width is below 0")
+    row = (_U16 * len(widths))(*(min(width, _MOST) for width in widths))
+    answer = _ask(call, row, len(widths), _u16(year))
+    # What is wrong with the year or the number of runs is told first.
+    if any(width > _MOST for width in widths) and answer not in (b"refused 42 Words", b"refused 18 BadRuns"):
+        raise Refusal(17, "TooWide")
+    return answer
 
 
 def read_row(widths: Sequence[int], year: int) -> Answer:
@@ -129,14 +184,21 @@ def read_row(widths: Sequence[int], year: int) -> Answer:
     :raises Refusal: what is no row, or shows no symbol that says elements; 42 ``Words`` of a year out of range.
     :raises ValueError: a width is below 0.
     """
-    if any(width < 0 for width in widths):
-        raise ValueError("a width is below 0")
-    row = (_U16 * len(widths))(*(min(width, _MOST) for width in widths))
-    answer = _ask(_library.gs1_c_row, row, len(widths), _u16(year))
-    # What is wrong with the year or the number of runs is told first.
-    if any(width > _MOST for width in widths) and answer not in (b"refused 42 Words", b"refused 18 BadRuns"):
-        raise Refusal(17, "TooWide")
-    return _answer(answer)
+    return _answer(_ask_of_widths(_library.gs1_c_row_elements, widths, year))
+
+
+def find(widths: Sequence[int], year: int) -> List[Found]:
+    """Every symbol of a row of a scan, from the left: what stands beside or between them is passed over.
+
+    The widths are those of :func:`read_row`. Each window of their runs that begins and ends with a light run and is
+    read as a row is a symbol.
+
+    :raises Refusal: 18 ``BadRuns`` and 17 ``TooWide`` of what is no row; 42 ``Words`` of a year out of range.
+    :raises ValueError: a width is below 0.
+    """
+    lines = _line(_ask_of_widths(_library.gs1_c_find, widths, year)).splitlines()
+    places = [(int(first), int(count)) for first, count, _ in (line.split(" ", 2) for line in lines)]
+    return [Found(first, count, read_row(widths[first:first + count], year)) for first, count in places]
 
 
 def read_dots(dots: Union[bytes, bytearray, memoryview], width: int, year: int) -> Answer:
@@ -155,7 +217,20 @@ def read_dots(dots: Union[bytes, bytearray, memoryview], width: int, year: int) 
     if width > 8 * len(packed):
         # As one dot of no byte, since the number may have more than 32 bits.
         packed, width = b"", 1
-    return _answer(_ask(_library.gs1_c_dots, packed, len(packed), min(width, _MOST + 1), _u16(year)))
+    return _answer(_ask(_library.gs1_c_dots_elements, packed, len(packed), min(width, _MOST + 1), _u16(year)))
+
+
+def read_scan(text: Union[str, bytes], year: int) -> Answer:
+    """What a text says that a scanner sends: a symbology identifier, and what the symbol says.
+
+    Behind ``]E0``, ``]E4`` and ``]I1`` stand the digits of a GTIN, behind ``]C1``, ``]e0``, ``]d2``, ``]Q3`` and
+    ``]J1`` an element string, in which ``"\\x1d"`` is the separator. A place is an offset behind the identifier.
+
+    :raises Refusal: 40 ``Kind`` of any other identifier, 1 to 3 of the digits, 4 to 11 of the element string, and
+        42 ``Words`` of a year out of range.
+    """
+    said = _bytes(text)
+    return _answer(_ask(_library.gs1_c_scan, said, len(said), _u16(year)))
 
 
 def read_gtin(text: Union[str, bytes]) -> str:
@@ -185,16 +260,32 @@ def read_elements(text: Union[str, bytes], year: int) -> str:
     return _line(_ask(_library.gs1_c_text, elements, len(elements), _u16(year))).partition(" ")[2]
 
 
+def parse_elements(text: Union[str, bytes], year: int) -> Tuple[Element, ...]:
+    """The elements of an element string, in which ``"\\x1d"`` is the separator.
+
+    :raises Refusal: as :func:`read_elements`.
+    """
+    elements = _bytes(text)
+    return _elements(_line(_ask(_library.gs1_c_text_elements, elements, len(elements), _u16(year))).partition(" ")[2])
+
+
 def draw_label(
-    kind: Kind, text: Union[str, bytes], year: int, *, module: int = 2, width: int = 480, height: int = 120
+    kind: Union[Kind, str], text: Union[str, bytes], year: int, *, module: int = 2, width: int = 480, height: int = 120
 ) -> bytes:
     """A label as the bytes of a PBM image, of ``width`` by ``height`` dots, its modules ``module`` dots wide.
 
+    The kind may be told by its name, as ``"ean13"``.
+
     A module is 1 to 8 dots, the width 1 to 4,096, and the height more than two modules and at most 1,024.
 
-    :raises Refusal: 42 ``Words`` of a year out of range, 25 ``BadGrid`` of the dots, 1 to 11 of the text, and
+    :raises Refusal: 40 ``Kind`` of a name that is none, 42 ``Words`` of a year out of range, 25 ``BadGrid`` of the dots, 1 to 11 of the text, and
         26 ``LabelKind`` and 27 ``LabelWidth`` of a label that has no such symbol or does not fit.
     """
+    if not isinstance(kind, Kind):
+        named = {known.name.lower(): known for known in Kind}.get(kind)
+        if named is None:
+            raise Refusal(40, "Kind")
+        kind = named
     said = _bytes(text)
     words = [_u16(number) for number in (year, module, width, height)]
     image = _ask(_library.gs1_c_label, kind.value, said, len(said), *words)

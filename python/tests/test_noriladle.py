@@ -2,10 +2,12 @@
 import pytest
 
 import noriladle
-from noriladle import Answer, Kind, Refusal
+from noriladle import Answer, Element, Found, Kind, Refusal
 
 EAN13 = [int(width) for width in """11 1 1 1 1 2 3 1 1 1 2 3 1 2 2 2 2 2 2 1 1 1 2 3 2 2 2 1 1 1 1 1 1 1 2 3 1 1 4
 1 1 3 2 1 1 3 2 1 1 3 2 1 1 1 4 1 1 1 1 1 7""".split()]
+FRAMED = [3, 2] + EAN13 + [2, 3]
+READ = Answer("]E0", (Element("01", "09501101530003"),))
 IMAGE = b"P4\n113 3\n" + bytes(15) + bytes.fromhex("00158A7666539954E85CB972854000") + bytes(15)
 
 
@@ -17,11 +19,11 @@ def refusal(call, *words, **named):
 
 
 def test_reads_a_row_either_way():
-    wanted = Answer("]E0", "(01)09501101530003")
-    assert noriladle.read_row(EAN13, 2026) == wanted
-    assert noriladle.read_row(EAN13[::-1], 2026) == wanted
+    assert noriladle.read_row(EAN13, 2026) == READ
+    assert noriladle.read_row(EAN13[::-1], 2026) == READ
     assert noriladle.read_row(tuple(EAN13), year=1951).gtin == "09501101530003"
-    assert str(wanted) == "]E0 (01)09501101530003"
+    assert READ.text == "(01)09501101530003"
+    assert str(READ) == "]E0 (01)09501101530003"
 
 
 @pytest.mark.parametrize("widths, year, wanted", [
@@ -44,14 +46,33 @@ def test_refuses_a_row(widths, year, wanted):
     assert refusal(noriladle.read_row, widths, year) == wanted
 
 
-def test_refuses_a_width_below_0():
+@pytest.mark.parametrize("call", [noriladle.read_row, noriladle.find])
+def test_refuses_a_width_below_0(call):
     with pytest.raises(ValueError) as raised:
-        noriladle.read_row([5, -1, 5], 2026)
+        call([5, -1, 5], 2026)
     assert raised.type is ValueError
 
 
+def test_finds_each_symbol_of_a_row():
+    assert noriladle.find(EAN13, 2026) == [Found(0, 61, READ)]
+    assert noriladle.find(FRAMED, 2026) == [Found(2, 61, READ)]
+    assert noriladle.find(EAN13[:-1] + EAN13, 2026) == [Found(0, 61, READ), Found(60, 61, READ)]
+    assert noriladle.find([100], 2026) == []
+    many = noriladle.find((EAN13[:-1]) * 100 + [7], 2026)
+    assert [(found.first, found.count, found.answer) for found in many] == [(60 * i, 61, READ) for i in range(100)]
+
+
+@pytest.mark.parametrize("widths, year, wanted", [
+    ([5, 3], 2026, (18, "BadRuns", None)),
+    ([70_000], 2026, (17, "TooWide", None)),
+    (EAN13, 1950, (42, "Words", None)),
+])
+def test_finds_nothing_in_what_is_no_row(widths, year, wanted):
+    assert refusal(noriladle.find, widths, year) == wanted
+
+
 def test_reads_packed_dots():
-    wanted = Answer("]E0", "(01)09501101530003")
+    wanted = READ
     row = IMAGE[9 + 15:9 + 30]
     assert noriladle.read_dots(row, 113, 2026) == wanted
     assert noriladle.read_dots(bytearray(row), width=113, year=2149) == wanted
@@ -110,6 +131,40 @@ def test_reads_elements():
     assert refusal(noriladle.read_elements, "", 2026) == (4, "Empty", None)
     assert refusal(noriladle.read_elements, "1" * 193, 2026) == (11, "TooLong", None)
     assert refusal(noriladle.read_elements, "10AB", 0) == (42, "Words", None)
+
+
+def test_tells_elements_apart():
+    one, two = "10A(17)261231", "10A\x1d17261231"
+    assert noriladle.read_elements(one, 2026) == noriladle.read_elements(two, 2026)
+    assert noriladle.parse_elements(one, 2026) == (Element("10", "A(17)261231"),)
+    assert noriladle.parse_elements(two, 2026) == (Element("10", "A"), Element("17", "261231"))
+    assert refusal(noriladle.parse_elements, "17250229", 2026) == (9, "ValueDate", 0)
+
+
+def test_reads_what_scanners_send():
+    assert noriladle.read_scan("]E09501101530003", 2026) == READ
+    assert noriladle.read_scan(b"]E496385074", 2026) == Answer("]E4", (Element("01", "00000096385074"),))
+    elements = (Element("10", "A=B"), Element("17", "261231"))
+    for identifier in ("]C1", "]e0", "]d2", "]Q3", "]J1"):
+        assert noriladle.read_scan(identifier + "10A=B\x1d17261231", 2026) == Answer(identifier, elements)
+    assert refusal(noriladle.read_scan, "]E09501101530004", 2026) == (3, "CheckDigit", None)
+    assert refusal(noriladle.read_scan, "]C117250229", 2026) == (9, "ValueDate", 0)
+    assert refusal(noriladle.read_scan, "]A010AB", 2026) == (40, "Kind", None)
+    assert refusal(noriladle.read_scan, "", 2026) == (40, "Kind", None)
+    assert refusal(noriladle.read_scan, "]C110AB", 1950) == (42, "Words", None)
+
+
+@pytest.mark.parametrize("call", [noriladle.read_gtin, noriladle.check_digit])
+@pytest.mark.parametrize("text", [9501101530003, None, ["9"], 12])
+def test_takes_no_text_but_text(call, text):
+    with pytest.raises(TypeError):
+        call(text)
+
+
+def test_draws_a_label_by_its_kinds_name():
+    for kind, text in [("ean13", "9501101530003"), ("itf14", "09501101530003"), ("gs1128", "10AB")]:
+        assert noriladle.draw_label(kind, text, 2026) == noriladle.draw_label(Kind[kind.upper()], text, 2026)
+    assert refusal(noriladle.draw_label, "ean14", "9501101530003", 2026) == (40, "Kind", None)
 
 
 def test_draws_a_label():

@@ -1,5 +1,6 @@
 """The module's answers to the lines of standard input, one a line: `rows` for the lines of `lanes`, `dots` for the same
-as packed dots, `check` for those of `check`. The year is 2026."""
+as packed dots, `finds` for the symbols of such lines, with an empty line behind those of a row, `check` for those of
+`check`. The year is 2026."""
 import sys
 
 import noriladle
@@ -26,6 +27,8 @@ def answer(line):
         if sys.argv[1] == "check":
             return CHECKS[first](second)
         widths = [int(width) for width in second.split()]
+        if sys.argv[1] == "finds":
+            return "".join(f"{it.first} {it.count} {it.answer}\n" for it in noriladle.find(widths, YEAR))
         return noriladle.read_row(widths, YEAR) if sys.argv[1] == "rows" else read_packed(widths)
     except noriladle.Refusal as refusal:
         return refusal

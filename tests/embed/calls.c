@@ -1,6 +1,7 @@
 /* Calls the library from C. With no words: the worked cases, each into a buffer of every size from 0 to past
  * its answer. With a word: the answers to the lines of standard input, one a line, by the word: `rows` for the
- * lines of `lanes`, `dots` for the same as packed dots, `check` for those of `check`, `labels MODULE WIDTH HEIGHT`
+ * lines of `lanes`, `dots` for the same as packed dots, `finds` for the symbols of such lines, with an empty line behind
+ * those of a row, `check` for those of `check`, `labels MODULE WIDTH HEIGHT`
  * for those of `print`, whose images are written with nothing between them. With `time COUNT`: the milliseconds of
  * so many calls on the rows of such lines, in turn. The year is 2026. */
 #include "gs1.h"
@@ -15,7 +16,7 @@ static long checks, wrong;
 
 /* A question: which call, and what it is asked. */
 struct asked {
-    enum { ROW, DOTS, GTIN, DIGIT, TEXT, LABEL } call;
+    enum { ROW, ROW_ELEMENTS, FIND, DOTS, DOTS_ELEMENTS, SCAN, GTIN, DIGIT, TEXT, TEXT_ELEMENTS, LABEL } call;
     const void *items;
     size_t count;
     unsigned year, kind, module_dots, width, height;
@@ -24,10 +25,15 @@ struct asked {
 static size_t ask(const struct asked *q, uint8_t *out, size_t room) {
     switch (q->call) {
     case ROW: return gs1_row(q->items, q->count, (uint16_t)q->year, out, room);
+    case ROW_ELEMENTS: return gs1_row_elements(q->items, q->count, (uint16_t)q->year, out, room);
+    case FIND: return gs1_find(q->items, q->count, (uint16_t)q->year, out, room);
     case DOTS: return gs1_dots(q->items, (uint32_t)q->count, (uint16_t)q->year, out, room);
+    case DOTS_ELEMENTS: return gs1_dots_elements(q->items, (uint32_t)q->count, (uint16_t)q->year, out, room);
+    case SCAN: return gs1_scan(q->items, q->count, (uint16_t)q->year, out, room);
     case GTIN: return gs1_gtin(q->items, q->count, out, room);
     case DIGIT: return gs1_digit(q->items, q->count, out, room);
     case TEXT: return gs1_text(q->items, q->count, (uint16_t)q->year, out, room);
+    case TEXT_ELEMENTS: return gs1_text_elements(q->items, q->count, (uint16_t)q->year, out, room);
     case LABEL:
         return gs1_label((enum gs1_kind)q->kind, q->items, q->count, (uint16_t)q->year, (uint16_t)q->module_dots,
                          (uint16_t)q->width, (uint16_t)q->height, out, room);
@@ -39,7 +45,7 @@ static size_t ask(const struct asked *q, uint8_t *out, size_t room) {
  * the address sanitizer sees a byte past it. */
 static void want(const char *what, const struct asked *asked, const void *wanted, size_t length) {
     struct asked q = *asked;
-    size_t size = q.call == ROW ? q.count * sizeof(uint16_t) : q.call == DOTS ? (q.count + 7) / 8 : q.count;
+    size_t size = q.call <= FIND ? q.count * sizeof(uint16_t) : q.call <= DOTS_ELEMENTS ? (q.count + 7) / 8 : q.count;
     void *items = size ? malloc(size) : NULL;
     if (size) memcpy(items, asked->items, size);
     q.items = items;
@@ -79,6 +85,10 @@ static void text(const char *text, unsigned year, const char *wanted) {
 
 static void row(const char *what, const uint16_t *widths, size_t count, unsigned year, const char *wanted) {
     line(what, (struct asked){.call = ROW, .items = widths, .count = count, .year = year}, wanted);
+}
+
+static void scan(const char *text, unsigned year, const char *wanted) {
+    line(text, (struct asked){.call = SCAN, .items = text, .count = strlen(text), .year = year}, wanted);
 }
 
 /* The dots of widths, packed; the bits behind the last are set. The answer is how many dots they are. */
@@ -182,6 +192,45 @@ static void cases(void) {
     text("0109501101530", YEAR, "refused 6 ValueLength 0");
     text("", YEAR, "refused 4 Empty");
 
+    line("a row's elements", (struct asked){.call = ROW_ELEMENTS, .items = EAN13, .count = COUNT, .year = YEAR}, "]E0 01=09501101530003");
+    line("no row's", (struct asked){.call = ROW_ELEMENTS, .items = EAN13, .count = 2, .year = YEAR}, "refused 18 BadRuns");
+    uint8_t *bits;
+    size_t dots_of_row = pack(EAN13, COUNT, &bits);
+    line("the elements of dots", (struct asked){.call = DOTS_ELEMENTS, .items = bits, .count = dots_of_row, .year = YEAR}, "]E0 01=09501101530003");
+    line("those of no dots", (struct asked){.call = DOTS_ELEMENTS, .items = bits, .count = 0, .year = YEAR}, "refused 19 Blank");
+    free(bits);
+    const char *lot = "10A(17)261231", *dated = "10A\x1d" "17261231";
+    line(lot, (struct asked){.call = TEXT_ELEMENTS, .items = lot, .count = strlen(lot), .year = YEAR}, "data 10=A(17)261231");
+    line(dated, (struct asked){.call = TEXT_ELEMENTS, .items = dated, .count = strlen(dated), .year = YEAR}, "data 10=A\t17=261231");
+    scan("]E09501101530003", YEAR, "]E0 01=09501101530003");
+    scan("]I109501101530003", YEAR, "]I1 01=09501101530003");
+    scan("]E496385074", YEAR, "]E4 01=00000096385074");
+    scan("]E096385075", YEAR, "refused 3 CheckDigit");
+    scan("]d210A\x1d" "17261231", YEAR, "]d2 10=A\t17=261231");
+    scan("]C117250229", YEAR, "refused 9 ValueDate 0");
+    scan("]C1", YEAR, "refused 4 Empty");
+    scan("]A010AB", YEAR, "refused 40 Kind");
+    scan("]C", YEAR, "refused 40 Kind");
+    scan("", YEAR, "refused 40 Kind");
+    scan("]A0", 1950, "refused 42 Words");
+
+    /* Two symbols that share a light end: as many whole lines as there is room for. */
+    uint16_t two[2 * COUNT - 1];
+    memcpy(two, EAN13, sizeof EAN13);
+    memcpy(two + COUNT - 1, EAN13, sizeof EAN13);
+    const char *lines = "0 61 ]E0 (01)09501101530003\n60 61 ]E0 (01)09501101530003\n";
+    size_t first = (size_t)(strchr(lines, '\n') - lines) + 1, all = strlen(lines);
+    for (size_t room = 0; room <= all + 2; room++) {
+        uint8_t *found = room ? malloc(room) : NULL;
+        if (room) memset(found, '.', room);
+        size_t put = room < first ? 0 : room < all ? first : all;
+        int bad = gs1_find(two, 2 * COUNT - 1, YEAR, found, room) != all || (put && memcmp(found, lines, put));
+        for (size_t i = put; i < room; i++) bad |= found[i] != '.';
+        if (bad) wrong++, puts("wrong: two symbols");
+        free(found);
+        checks++;
+    }
+
     char many[194];
     memset(many, '1', 193);
     many[193] = 0;
@@ -219,13 +268,19 @@ static void print(const struct asked *q, const char *end) {
     free(out);
 }
 
-static void answer_row(char *words) {
+static void answer_widths(char *words, int call) {
     uint16_t *widths = malloc(MOST_RUNS * sizeof *widths);
     size_t count = 0;
     for (char *word = strtok(strchr(words, ',') + 1, " "); word; word = strtok(NULL, " ")) widths[count++] = (uint16_t)atoi(word);
-    print(&(struct asked){.call = ROW, .items = widths, .count = count, .year = YEAR}, "\n");
+    struct asked q = {.items = widths, .count = count, .year = YEAR};
+    q.call = call;
+    print(&q, "\n");
     free(widths);
 }
+
+static void answer_row(char *words) { answer_widths(words, ROW); }
+
+static void answer_finds(char *words) { answer_widths(words, FIND); }
 
 static void answer_dots(char *words) {
     uint16_t *widths = malloc(MOST_RUNS * sizeof *widths);
@@ -296,6 +351,7 @@ int main(int count, char **words) {
     while (fgets(input, sizeof input, stdin)) {
         input[strcspn(input, "\n")] = 0;
         if (!strcmp(words[1], "rows")) answer_row(input);
+        else if (!strcmp(words[1], "finds")) answer_finds(input);
         else if (!strcmp(words[1], "dots")) answer_dots(input);
         else if (!strcmp(words[1], "check")) answer_check(input);
         else answer_label(input, words + 2);

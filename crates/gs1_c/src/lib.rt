@@ -10,22 +10,25 @@ ghost use Rattle.std.specs.Prelude.{List, ℕ};
 ghost use Rattle.digits_core.specs.Buffers.{IsPut};
 ghost use Rattle.gs1_c.specs.Found.{AreSymbolsPut};
 ghost use Rattle.gs1_c.specs.Labels.{IsLabelBytes, one_cell};
-ghost use Rattle.gs1_c.specs.Lines.{IsDigitLine, IsDotsLine, IsRowLine, IsRowPairs, IsTextLine, IsTextPairs, gtin_line};
+ghost use Rattle.gs1_c.specs.Lines.{IsDigitLine, IsDotsLine, IsDotsPairs, IsRowLine, IsRowPairs, IsTextLine, IsTextPairs, gtin_line};
+ghost use Rattle.gs1_c.specs.Scanned.{IsScanLine};
 
 mod answer;
 mod buffer;
 mod found;
 mod label;
+mod scanned;
 #[cfg(test)]
 mod tests;
 
-use answer::{put_answer, put_answer_pairs, put_dots};
+use answer::{put_read, put_read_pairs, read_packed};
 use buffer::{put, put_elements, put_pairs, put_refusal, put_words};
 use digits_core::{Gtin, payload_digit};
 use element_core::{Elements, Year};
 use found::put_symbols;
 use label::{kind_numbered, put_kind};
 use scan_core::read_widths;
+use scanned::put_scanned;
 use sheet_core::Grid;
 
 /// The line of a year that is none.
@@ -82,10 +85,7 @@ pub extern "C" fn gs1_c_row(widths: &[u16], year: u16, out: &mut [u8]) -> usize
     let Some(year) = Year::new(year) else {
         return put(WORDS, out);
     };
-    match read_widths(widths, year) {
-        Ok(answer) => put_answer(&answer, out),
-        Err(fault) => put_refusal(fault.refusal(), out),
-    }
+    put_read(&read_widths(widths, year), out)
 }
 
 /// What a row says, as `gs1_c_row`, with the elements as data: of each its AI, `=` and its value, with a tab
@@ -97,10 +97,7 @@ pub extern "C" fn gs1_c_row_elements(widths: &[u16], year: u16, out: &mut [u8]) 
     let Some(year) = Year::new(year) else {
         return put(WORDS, out);
     };
-    match read_widths(widths, year) {
-        Ok(answer) => put_answer_pairs(&answer, out),
-        Err(fault) => put_refusal(fault.refusal(), out),
-    }
+    put_read_pairs(&read_widths(widths, year), out)
 }
 
 /// The elements of an element string, as `gs1_c_text`, as data: of each its AI, `=` and its value, with a tab
@@ -116,6 +113,21 @@ pub extern "C" fn gs1_c_text_elements(text: &[u8], year: u16, out: &mut [u8]) ->
         Ok(elements) => put_pairs(b"data", &elements, out),
         Err(fault) => put_refusal(fault.refusal(), out),
     }
+}
+
+/// What a text says that a scanner sends: a symbology identifier (ISO/IEC 15424), and behind it the digits of a
+/// GTIN (`]E0`, `]E4`, `]I1`) or an element string in which byte 29 is the separator (`]C1`, `]e0`, `]d2`, `]Q3`,
+/// `]J1`). The identifier and the elements as data, as `]C1 10=AB<TAB>17=261231`; or why what stands behind the
+/// identifier is refused, a place being an offset in it. Any other identifier is `refused 40 Kind`, and a year
+/// that is no reference year `refused 42 Words` before that.
+#[unsafe(no_mangle)]
+pub extern "C" fn gs1_c_scan(text: &[u8], year: u16, out: &mut [u8]) -> usize
+    ensures { (line : List ℕ) × IsScanLine year text.now line × IsPut line out.old out.new result }
+{
+    let Some(year) = Year::new(year) else {
+        return put(WORDS, out);
+    };
+    put_scanned(text, year, out)
 }
 
 /// Every symbol of a row, given as `gs1_c_row` takes it: of each window of its runs that begins and ends
@@ -145,7 +157,18 @@ pub extern "C" fn gs1_c_dots(bits: &[u8], count: u32, year: u16, out: &mut [u8])
     let Some(year) = Year::new(year) else {
         return put(WORDS, out);
     };
-    put_dots(bits, count, year, out)
+    put_read(&read_packed(bits, count, year), out)
+}
+
+/// What a row of packed dots says, as `gs1_c_dots`, with the elements as data, as in `gs1_c_row_elements`.
+#[unsafe(no_mangle)]
+pub extern "C" fn gs1_c_dots_elements(bits: &[u8], count: u32, year: u16, out: &mut [u8]) -> usize
+    ensures { (line : List ℕ) × IsDotsPairs year bits.now count line × IsPut line out.old out.new result }
+{
+    let Some(year) = Year::new(year) else {
+        return put(WORDS, out);
+    };
+    put_read_pairs(&read_packed(bits, count, year), out)
 }
 
 /// The image of a label as PBM (netpbm, pbm(5)), of `width` by `height` dots, with modules of

@@ -1,8 +1,8 @@
 //! What each call puts, against values from outside.
 
 use crate::{
-    gs1_c_digit, gs1_c_dots, gs1_c_find, gs1_c_gtin, gs1_c_label, gs1_c_row, gs1_c_row_elements,
-    gs1_c_text, gs1_c_text_elements,
+    gs1_c_digit, gs1_c_dots, gs1_c_dots_elements, gs1_c_find, gs1_c_gtin, gs1_c_label, gs1_c_row,
+    gs1_c_row_elements, gs1_c_scan, gs1_c_text, gs1_c_text_elements,
 };
 use std::process::Abort;
 
@@ -35,6 +35,8 @@ enum Asked<'a> {
     RowElements(&'a [u16], u16),
     Find(&'a [u16], u16),
     Dots(&'a [u8], u32, u16),
+    DotsElements(&'a [u8], u32, u16),
+    Scan(&'a [u8], u16),
     Label(u32, &'a [u8], u16, u16),
 }
 
@@ -49,6 +51,8 @@ fn answer(asked: Asked, out: &mut [u8]) -> usize {
         Asked::RowElements(widths, year) => gs1_c_row_elements(widths, year, out),
         Asked::Find(widths, year) => gs1_c_find(widths, year, out),
         Asked::Dots(bits, count, year) => gs1_c_dots(bits, count, year, out),
+        Asked::DotsElements(bits, count, year) => gs1_c_dots_elements(bits, count, year, out),
+        Asked::Scan(text, year) => gs1_c_scan(text, year, out),
         Asked::Label(kind, text, year, width) => gs1_c_label(kind, text, year, 1, width, 3, out),
     }
 }
@@ -94,6 +98,43 @@ fn each_call_puts_its_line(rt: HostRuntime) {
         (Asked::Dots(DOTS, 121, 2026), b"refused 18 BadRuns"),
         (Asked::Dots(&[0; 8192], 65_536, 2026), b"refused 17 TooWide"),
         (Asked::Dots(DOTS, 113, 2150), b"refused 42 Words"),
+        (
+            Asked::DotsElements(DOTS, 113, 2026),
+            b"]E0 01=09501101530003",
+        ),
+        (Asked::DotsElements(DOTS, 121, 2026), b"refused 18 BadRuns"),
+        (Asked::DotsElements(DOTS, 113, 2150), b"refused 42 Words"),
+        (
+            Asked::Scan(b"]E09501101530003", 2026),
+            b"]E0 01=09501101530003",
+        ),
+        (Asked::Scan(b"]E496385074", 2026), b"]E4 01=00000096385074"),
+        (
+            Asked::Scan(b"]I109501101530003", 2026),
+            b"]I1 01=09501101530003",
+        ),
+        (
+            Asked::Scan(b"]E09501101530004", 2026),
+            b"refused 3 CheckDigit",
+        ),
+        (
+            Asked::Scan(b"]C110A(17)261231", 2026),
+            b"]C1 10=A(17)261231",
+        ),
+        (
+            Asked::Scan(b"]C110A\x1D17261231", 2026),
+            b"]C1 10=A\t17=261231",
+        ),
+        (Asked::Scan(b"]e010AB", 2026), b"]e0 10=AB"),
+        (Asked::Scan(b"]d210AB", 2026), b"]d2 10=AB"),
+        (Asked::Scan(b"]Q310AB", 2026), b"]Q3 10=AB"),
+        (Asked::Scan(b"]J110AB", 2026), b"]J1 10=AB"),
+        (Asked::Scan(b"]C1", 2026), b"refused 4 Empty"),
+        (Asked::Scan(b"]C017261301", 2026), b"refused 40 Kind"),
+        (Asked::Scan(b"]C", 2026), b"refused 40 Kind"),
+        (Asked::Scan(b"", 2026), b"refused 40 Kind"),
+        (Asked::Scan(b"10AB", 2026), b"refused 40 Kind"),
+        (Asked::Scan(b"]C10", 1950), b"refused 42 Words"),
         (
             Asked::Label(6, b"9501101530003", 2026, 113),
             b"refused 40 Kind",

@@ -1,0 +1,32 @@
+"""Rows of one to three others beside each other, some in a frame, and what is to be found in them.
+
+Usage: finds.py ROWS ANSWERS COUNT SEED INTO. ROWS has lines of `lanes`, and ANSWERS what each of its rows says. INTO.rows
+gets such lines, and INTO.wanted of each row a line for each of its parts that is read, with its first run and its number of
+runs, and then an empty line.
+"""
+import random
+import sys
+
+rows_file, answers_file, count, seed, into = sys.argv[1:]
+with open(rows_file, encoding="ascii") as it:
+    rows = [[int(width) for width in line.partition(",")[2].split()] for line in it]
+with open(answers_file, encoding="ascii") as it:
+    answers = [line.rstrip("\n") for line in it]
+assert len(rows) == len(answers)
+chance = random.Random(int(seed))
+with open(f"{into}.rows", "w", encoding="ascii") as asked, open(f"{into}.wanted", "w", encoding="ascii") as wanted:
+    for _ in range(int(count)):
+        framed = chance.random() < 0.5
+        widths = [chance.randint(0, 9), chance.randint(1, 9)] if framed else []
+        lines = []
+        for part in range(chance.randint(1, 3)):
+            at = chance.randrange(len(rows))
+            if part:
+                widths.append(chance.randint(1, 9))
+            if not answers[at].startswith("refused"):
+                lines.append(f"{len(widths)} {len(rows[at])} {answers[at]}\n")
+            widths += rows[at]
+        if framed:
+            widths += [chance.randint(1, 9), chance.randint(0, 9)]
+        asked.write("0," + " ".join(str(width) for width in widths) + "\n")
+        wanted.write("".join(lines) + "\n")
