@@ -1,0 +1,23 @@
+"""The callers of docs/EMBED.md: each is written to a file, made and run as the page says, and what it prints is compared.
+
+Usage: callers.py PAGE FOLDER. A block of `c`, `cpp` or `python` is FOLDER/caller.c, .cpp or .py, and the block after it is a
+command and its output. The last line is the counts, and the status is 0 where all are as the page has them.
+"""
+import re
+import subprocess
+import sys
+
+page, folder = sys.argv[1:]
+with open(page, encoding="utf-8") as it:
+    blocks = re.findall(r"^```(\w+)\n(.*?)^```\n+```\n\$ (.*?)\n(.*?)^```$", it.read(), re.MULTILINE | re.DOTALL)
+other = 0
+for language, source, command, wanted in blocks:
+    ending = {"c": "c", "cpp": "cpp", "python": "py"}[language]
+    with open(f"{folder}/caller.{ending}", "w", encoding="utf-8") as it:
+        it.write(source)
+    ran = subprocess.run(["bash", "-c", command], cwd=folder, capture_output=True, text=True, check=False)
+    if ran.stdout != wanted or ran.returncode != 0:
+        other += 1
+        print(f"{command}: status {ran.returncode}\n{ran.stdout}{ran.stderr}", file=sys.stderr)
+print(f"callers: {len(blocks)}, {other} differ")
+sys.exit(other != 0 or len(blocks) != 3)
