@@ -15,7 +15,6 @@ use Rattle.gs1_hub.specs.declared.commands.Asked.{Asked}
 use Rattle.gs1_hub.specs.declared.commands.print.options.Output.{Output}
 use Rattle.gs1_hub.specs.declared.commands.print.options.Output.TheVariants as output
 use Rattle.gs1_hub.specs.declared.commands.Asked.TheVariants as asked
-use Rattle.gs1_hub.specs.declared.commands.Batch.TheVariants as batch
 use Rattle.gs1_hub.proofs.NumberRows.{Passed, flag, help}
 use Rattle.gs1_hub.proofs.TakenWords.{Range, flag_beside, named, number_beside, number_of, numbers, required, shape}
 
@@ -43,7 +42,7 @@ unfolding AskedIn
 check_asked words p =
     let given = required (codes "check") check_rules (rows_after check_rules [] words) p.checked in
     let y = number_of (codes "check") (year ∷ []) words p (codes "year") first_year last_year refl (given.0 refl) in
-    (asked.Batch (batch.Check y.0), (refl, y.1))
+    (asked.Check y.0, (refl, y.1))
 
 -- what the flag asks for
 abbrev output_of : Bool → Output
@@ -69,7 +68,7 @@ print_asked words p =
     let r = number (codes "rows") 1 most_rows refl refl (given.1.1.1.1.0 refl) in
     let y = number (codes "year") first_year last_year refl refl (given.1.1.1.1.1.0 refl) in
     let t = flag_beside (codes "print") (codes "text") refl (grid (year ∷ [])) words p refl in (
-      asked.Batch (batch.Print (record { grid = record { module_dots = m.0; width = w.0; height = h.0; columns = c.0; rows = r.0; numbers = (m.1.1, w.1.1, h.1.1, c.1.1, r.1.1) }; year = y.0; output = output_of t.0 })),
+      asked.Print (record { grid = record { module_dots = m.0; width = w.0; height = h.0; columns = c.0; rows = r.0; numbers = (m.1.1, w.1.1, h.1.1, c.1.1, r.1.1) }; year = y.0; output = output_of t.0 }),
       (refl, ((m.1.0, w.1.0, h.1.0, c.1.0, r.1.0, (m.1.1, w.1.1, h.1.1, c.1.1, r.1.1)), y.1, output_given (rows_after print_rules [] words) t.0 t.1)),
     )
 
@@ -84,7 +83,7 @@ lanes_asked words p =
     let n = number (codes "lanes") 1 most_lanes refl (given.0 refl) in
     let k = number (codes "workers") 1 most_workers refl (given.1.0 refl) in
     let y = number (codes "year") first_year last_year refl (given.1.1.0 refl) in
-    (asked.Batch (batch.Lanes (record { lanes = n.0; workers = k.0; year = y.0; some_lanes = n.1.1; some_workers = k.1.1 })), (refl, (n.1.0, n.1.1, k.1, y.1)))
+    (asked.Lanes (record { lanes = n.0; workers = k.0; year = y.0; some_lanes = n.1.1; some_workers = k.1.1 }), (refl, (n.1.0, n.1.1, k.1, y.1)))
 
 abbrev scan_rules : List Rule
 scan_rules = numbers (grid (workers ∷ year ∷ [])) ++ help ∷ []
@@ -101,7 +100,7 @@ scan_asked words p =
     let r = number (codes "rows") 1 most_rows refl (given.1.1.1.1.0 refl) in
     let k = number (codes "workers") 1 most_workers refl (given.1.1.1.1.1.0 refl) in
     let y = number (codes "year") first_year last_year refl (given.1.1.1.1.1.1.0 refl) in (
-      asked.Batch (batch.Scan (record { grid = record { module_dots = m.0; width = w.0; height = h.0; columns = c.0; rows = r.0; numbers = (m.1.1, w.1.1, h.1.1, c.1.1, r.1.1) }; workers = k.0; year = y.0; some_workers = k.1.1 })),
+      asked.Scan (record { grid = record { module_dots = m.0; width = w.0; height = h.0; columns = c.0; rows = r.0; numbers = (m.1.1, w.1.1, h.1.1, c.1.1, r.1.1) }; workers = k.0; year = y.0; some_workers = k.1.1 }),
       (refl, ((m.1.0, w.1.0, h.1.0, c.1.0, r.1.0, (m.1.1, w.1.1, h.1.1, c.1.1, r.1.1)), k.1, y.1)),
     )
 
@@ -126,8 +125,8 @@ live_asked words p =
     let k = number (codes "workers") 1 most_workers refl refl (given.1.0 refl) in
     let y = number (codes "year") first_year last_year refl refl (given.1.1.0 refl) in
     let e = flag_beside (codes "live") (codes "elements") refl (lanes ∷ workers ∷ year ∷ []) words p refl in (
-      asked.Live (record { lanes = n.0; workers = k.0; year = y.0; form = form_of e.0; some_lanes = n.1.1; some_workers = k.1.1 }),
-      (refl, (n.1.0, n.1.1, k.1, y.1, form_given (rows_after live_rules [] words) e.0 e.1)),
+      asked.Live (record { rows = record { lanes = n.0; workers = k.0; year = y.0; some_lanes = n.1.1; some_workers = k.1.1 }; form = form_of e.0 }),
+      (refl, ((n.1.0, n.1.1, k.1, y.1), form_given (rows_after live_rules [] words) e.0 e.1)),
     )
 
 pub asked_for : (words : List Text) → fault_of hub_app words ≡ [] → (a : Asked) × Asks (subcommand_of hub_app words) a

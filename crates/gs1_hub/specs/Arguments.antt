@@ -60,6 +60,10 @@ year_rule = number_rule (codes "year") first_year last_year
 abbrev pub workers_rule : Rule
 workers_rule = number_rule (codes "workers") 1 most_workers
 
+-- `--lanes N --workers K --year Y`, of a command over rows of lanes
+abbrev pub with_lanes : App → App
+with_lanes a = with_rule (with_rule (with_rule a (number_rule (codes "lanes") 1 most_lanes)) workers_rule) year_rule
+
 -- `--module M --width W --height H`, in dots
 abbrev pub with_cell : App → App
 with_cell a = with_rule (with_rule (with_rule a (number_rule (codes "module") 1 most_dots)) (number_rule (codes "width") 1 most_width)) (number_rule (codes "height") 1 most_height)

@@ -4,7 +4,7 @@ pub mod Lanes
 pub mod Lives
 pub mod Prints
 pub mod Scans
-use Rattle.std.specs.Prelude.{◌≡◌, true, List, codes}
+use Rattle.std.specs.Prelude.{◌≡◌, Err, Ok, Result, true, List, codes}
 use Rattle.clap.specs.Words.{App, Row, Text, new_app, with_subcommand}
 use Rattle.gs1_hub.specs.Arguments.{HasYear}
 use Rattle.gs1_hub.specs.Runs.{Command}
@@ -17,6 +17,7 @@ use Rattle.gs1_hub.specs.declared.commands.Asked.{Asked}
 use Rattle.gs1_hub.specs.declared.commands.Asked.TheVariants as asked
 use Rattle.gs1_hub.specs.declared.commands.Batch.{Batch}
 use Rattle.gs1_hub.specs.declared.commands.Batch.TheVariants as batch
+use Rattle.gs1_hub.specs.declared.commands.live.options.LiveOptions.{LiveOptions}
 
 -- a command is wanted, there is no command `help`, and there is a version
 abbrev pub hub_top : App
@@ -34,19 +35,23 @@ row_app = with_subcommand (with_subcommand text_app lanes_app.top) scan_app.top
 abbrev pub hub_app : App
 hub_app = with_subcommand row_app live_app.top
 
--- the command of this name over its whole input, with its numbers
-abbrev pub BatchIn : Text → List Row → Batch → Type 0
-BatchIn name rows (batch.Check year) = (name ≡ codes "check") × HasYear rows year
-BatchIn name rows (batch.Print o) = (name ≡ codes "print") × HasPrint rows o
-BatchIn name rows (batch.Lanes o) = (name ≡ codes "lanes") × HasLanes rows o
-BatchIn name rows (batch.Scan o) = (name ≡ codes "scan") × HasScan rows o
-
 -- the command of this name, with its numbers
 abbrev pub AsksIn : Text → List Row → Asked → Type 0
-AsksIn name rows (asked.Batch b) = BatchIn name rows b
+AsksIn name rows (asked.Check year) = (name ≡ codes "check") × HasYear rows year
+AsksIn name rows (asked.Print o) = (name ≡ codes "print") × HasPrint rows o
+AsksIn name rows (asked.Lanes o) = (name ≡ codes "lanes") × HasLanes rows o
+AsksIn name rows (asked.Scan o) = (name ≡ codes "scan") × HasScan rows o
 AsksIn name rows (asked.Live o) = (name ≡ codes "live") × HasLive rows o
 
--- the command that is asked for, over its whole input
+-- the command over its whole input that is asked for, or what is read as it comes
+abbrev pub batch_of : Asked → Result Batch LiveOptions
+batch_of (asked.Check year) = Ok (batch.Check year)
+batch_of (asked.Print o) = Ok (batch.Print o)
+batch_of (asked.Lanes o) = Ok (batch.Lanes o)
+batch_of (asked.Scan o) = Ok (batch.Scan o)
+batch_of (asked.Live o) = Err o
+
+-- what a command over its whole input writes and refuses
 abbrev pub command_of : Batch → Command
 command_of (batch.Check year) = check_command year
 command_of (batch.Print o) = print_command o

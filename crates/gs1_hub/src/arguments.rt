@@ -2,13 +2,16 @@
 ghost use Rattle.std.specs.Prelude.{◌<◌, ◌≡◌, ◌^◌, Bool, ℕ, IfNone, IfOk, IfSome, false};
 ghost use Rattle.clap.specs.Words.{app_of, found_of, new_app, rows_of, rule_of};
 ghost use Rattle.clap.specs.declared.builder.command.Command.TheViews.{out-Command};
-ghost use Rattle.gs1_hub.specs.Arguments.{HasFlag, HasNumber, HasYear, flag_rule, number_rule, with_cell, with_places, workers_rule, year_rule};
+ghost use Rattle.gs1_hub.specs.Arguments.{HasFlag, HasNumber, HasYear, flag_rule, number_rule, with_cell, with_lanes, with_places, workers_rule, year_rule};
 
 use clap::builder::ValueParser;
 use clap::{Arg, ArgAction, ArgMatches, Command};
 use element_core::Year;
 use line_core::{MOST_COLUMNS, MOST_HEIGHT, MOST_MODULE_DOTS, MOST_ROWS, MOST_WIDTH};
 use std::alloc::{AllocError, Global};
+
+/// How many lanes there are at most.
+pub const MOST_LANES: u8 = 16;
 
 /// How many workers there are at most.
 pub const MOST_WORKERS: u8 = 16;
@@ -33,6 +36,9 @@ const COLUMNS: &str = "Cells beside each other on a sheet, 1 to 16";
 
 /// The option `--rows`.
 const ROWS: &str = "Cells above each other on a sheet, 1 to 64";
+
+/// The option `--lanes`.
+const LANES: &str = "How many lanes there are, 1 to 16";
 
 /// The option `--workers`.
 const WORKERS: &str = "How many threads read rows beside each other, 1 to 16";
@@ -98,6 +104,19 @@ pub fn workers<'a>(alloc: Global) -> Arg<'a>
 {
     let most = u16::from(MOST_WORKERS);
     number(alloc, "workers", 1, most, "COUNT", WORKERS)
+}
+
+/// The command with the options of rows of lanes: how many lanes there are, how many workers, and the year.
+pub fn with_lanes<'a>(alloc: Global, command: Command<'a>) -> Result<Command<'a>, AllocError>
+    ensures app { IfOk result (λ c. app_of c ≡ with_lanes (app_of command.entry)) }
+    ensures own { (out-Command command.entry).has_globals ≡ false
+        → IfOk result (λ c. (out-Command c).has_globals ≡ false) }
+{
+    let most = u16::from(MOST_LANES);
+    command
+        .arg(number(alloc, "lanes", 1, most, "COUNT", LANES))?
+        .arg(workers(alloc))?
+        .arg(year(alloc))
 }
 
 /// The command with the options of a cell: how wide a module is, and how wide and high the cell.

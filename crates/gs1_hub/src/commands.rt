@@ -2,7 +2,7 @@
 ghost use Rattle.std.specs.Prelude.{◌≡◌, IfNone, IfOk, IfSome};
 ghost use Rattle.clap.specs.Words.{app_of, found_of, rows_of};
 ghost use Rattle.gs1_hub.specs.Runs.{Ran};
-ghost use Rattle.gs1_hub.specs.commands.{AsksIn, BatchIn, command_of, hub_app, row_app, text_app};
+ghost use Rattle.gs1_hub.specs.commands.{AsksIn, batch_of, command_of, hub_app, row_app, text_app};
 ghost use Rattle.gs1_hub.specs.declared.commands.Asked.{Asked};
 ghost use Rattle.gs1_hub.specs.declared.commands.Batch.{Batch};
 
@@ -32,6 +32,21 @@ use std::alloc::{AllocError, Global};
 use std::sync::Wait;
 use std::thread::Threads;
 
+/// What the words ask for.
+#[derive(Clone, Copy, Debug, PartialEq, Eq)]
+pub enum Asked {
+    /// Texts are to be checked, dates under this reference year.
+    Check(Year),
+    /// Labels are to be printed.
+    Print(PrintOptions),
+    /// The rows of these lanes are to be read.
+    Lanes(LaneOptions),
+    /// The sheets of these images are to be read.
+    Scan(ScanOptions),
+    /// The rows of these lanes are to be read as they come.
+    Live(LiveOptions),
+}
+
 /// A command over its whole input, of which it writes nothing before it has read all.
 #[derive(Clone, Copy, Debug, PartialEq, Eq)]
 pub enum Batch {
@@ -45,13 +60,19 @@ pub enum Batch {
     Scan(ScanOptions),
 }
 
-/// What the words ask for.
-#[derive(Clone, Copy, Debug, PartialEq, Eq)]
-pub enum Asked {
-    /// A command over its whole input.
-    Batch(Batch),
-    /// The rows of these lanes are to be read as they come.
-    Live(LiveOptions),
+impl Asked {
+    /// The command over its whole input that is asked for, or what is to be read as it comes.
+    pub fn batch(self) -> Result<Batch, LiveOptions>
+        ensures { result ≡ batch_of self }
+    {
+        match self {
+            Asked::Check(year) => Ok(Batch::Check(year)),
+            Asked::Print(options) => Ok(Batch::Print(options)),
+            Asked::Lanes(options) => Ok(Batch::Lanes(options)),
+            Asked::Scan(options) => Ok(Batch::Scan(options)),
+            Asked::Live(options) => Err(options),
+        }
+    }
 }
 
 /// The program with the commands that take texts.
@@ -84,21 +105,6 @@ pub fn hub_words<'a>(alloc: Global) -> Result<Command<'a>, AllocError>
     row_words(alloc)?.subcommand(live_words(alloc)?)
 }
 
-/// What the matches of a command over its whole input ask for.
-fn batch_by(name: &str, matches: &ArgMatches<'_>) -> Option<Batch>
-    ensures some { IfSome result (BatchIn name.now (rows_of (found_of matches.now))) }
-    ensures none { IfNone result ((b : Batch)
-        → BatchIn name.now (rows_of (found_of matches.now)) b → ⊥) }
-{
-    match name {
-        "check" => year_named(matches).map(Batch::Check),
-        "print" => print::options_named(matches).map(Batch::Print),
-        "lanes" => lanes::options_named(matches).map(Batch::Lanes),
-        "scan" => scan::options_named(matches).map(Batch::Scan),
-        _ => None,
-    }
-}
-
 /// What the matches of a command ask for.
 pub fn asked_by(name: &str, matches: &ArgMatches<'_>) -> Option<Asked>
     ensures some { IfSome result (AsksIn name.now (rows_of (found_of matches.now))) }
@@ -106,8 +112,12 @@ pub fn asked_by(name: &str, matches: &ArgMatches<'_>) -> Option<Asked>
         → AsksIn name.now (rows_of (found_of matches.now)) a → ⊥) }
 {
     match name {
+        "check" => year_named(matches).map(Asked::Check),
+        "print" => print::options_named(matches).map(Asked::Print),
+        "lanes" => lanes::options_named(matches).map(Asked::Lanes),
+        "scan" => scan::options_named(matches).map(Asked::Scan),
         "live" => live::options_named(matches).map(Asked::Live),
-        _ => batch_by(name, matches).map(Asked::Batch),
+        _ => None,
     }
 }
 
@@ -115,15 +125,15 @@ pub fn asked_by(name: &str, matches: &ArgMatches<'_>) -> Option<Asked>
 pub fn run<R: Threads + Wait + Sync, S: Source, W: Sink, G: Gate + Sync>(
     rt: &R,
     alloc: Global,
-    asked: Batch,
+    batch: Batch,
     source: &mut S,
     sink: &mut W,
     gate: &G,
 ) -> Result<(), CommandFault>
-    ensures { Ran (command_of asked) S.left S.failed W.taken W.failed
+    ensures { Ran (command_of batch) S.left S.failed W.taken W.failed
         source.old source.new sink.old sink.new result }
 {
-    match asked {
+    match batch {
         Batch::Check(year) => run_check(alloc, year, source, sink),
         Batch::Print(options) => run_print(alloc, options, source, sink),
         Batch::Lanes(options) => run_lanes(rt, alloc, options, source, sink, gate),

@@ -19,6 +19,7 @@ mod tests;
 mod words;
 
 use crate::buffered::Buffered;
+use crate::commands::live::options::LiveOptions;
 use crate::commands::live::run_live;
 use crate::commands::{Asked, Batch, run};
 use crate::fault::CommandFault;
@@ -28,11 +29,11 @@ use crate::words::{WordsFault, read_words, sentence};
 use digits_core::{FromReader, Sink, Source, ToWriter};
 use hub_core::{Gate, OpenGate};
 use std::alloc::Global;
-use std::io::IsTerminal;
+use std::env::{self, Env};
+use std::io::{self, Input, IsTerminal};
 use std::process::ExitCode;
 use std::sync::Wait;
 use std::thread::Threads;
-use std::{env, io};
 use wire_core::Wired;
 
 /// Runs the command with a buffer before its output, and writes what waits in it at the end. Before it runs
@@ -40,17 +41,17 @@ use wire_core::Wired;
 fn run_buffered<R: Threads + Wait + Sync, S: Source, W: Sink, G: Gate + Sync>(
     rt: &R,
     alloc: Global,
-    asked: Batch,
+    batch: Batch,
     source: &mut S,
     sink: &mut Buffered<W>,
     gate: &G,
 ) -> Result<(), CommandFault>
     requires empty { sink.old.waiting ≡ [] }
     requires fresh { IfSome (W.taken sink.old.sink) (λ bytes. bytes ≡ []) }
-    ensures { Ran (command_of asked) S.left S.failed (λ s. W.taken s.sink) (λ s. W.failed s.sink)
+    ensures { Ran (command_of batch) S.left S.failed (λ s. W.taken s.sink) (λ s. W.failed s.sink)
         source.old source.new sink.old sink.new result }
 {
-    run(rt, alloc, asked, source, sink, gate)?;
+    run(rt, alloc, batch, source, sink, gate)?;
     sink.flush()?;
     Ok(())
 }
@@ -96,55 +97,65 @@ fn explain<W: Sink>(
     }
 }
 
-fn main(rt: HostRuntime) -> io::Result<ExitCode> {
-    let terminal = rt.stderr().is_terminal();
-    let mut said = None;
-    let asked = match env::args(&rt) {
+/// The words of the command line, the program's name first.
+fn words_given<R: Env + AllocGlobal>(rt: &R) -> Result<Vec<String>, WordsFault> {
+    match env::args(rt) {
         Ok(args) => match args.collect::<Vec<String>>(rt.alloc()) {
-            Ok(words) => {
-                if terminal {
-                    said = sentence(rt.alloc(), words.as_slice());
-                }
-                read_words(rt.alloc(), words.as_slice())
-            }
+            Ok(words) => Ok(words),
             Err(_) => Err(WordsFault::NoMemory),
         },
         Err(error) if error.kind() == io::ErrorKind::OutOfMemory => Err(WordsFault::NoMemory),
         Err(_) => Err(WordsFault::Words),
+    }
+}
+
+/// Runs a command over standard input as a whole, with buffers before it and before standard output.
+fn run_over_input<R: Threads + Wait + Sync + Input + Print + AllocGlobal>(
+    rt: &R,
+    batch: Batch,
+) -> Result<(), CommandFault> {
+    let Ok(reader) = io::BufReader::new(rt.alloc(), rt.reader()) else {
+        return Err(CommandFault::NoMemory);
     };
-    match asked {
-        Ok(Asked::Batch(batch)) => {
-            let Ok(reader) = io::BufReader::new(rt.alloc(), rt.reader()) else {
-                return finish(&rt, Err(CommandFault::NoMemory), terminal);
-            };
-            let mut source = FromReader::new(reader);
-            let mut sink = Buffered::new(ToWriter::new(io::writer(&rt)));
-            let ran = run_buffered(&rt, rt.alloc(), batch, &mut source, &mut sink, &OpenGate);
-            finish(&rt, ran, terminal)
-        }
-        Ok(Asked::Live(options)) => {
-            // Without buffers, so that a read gives what is there and an answer goes out at once.
-            let source = FromReader::new(rt.reader());
-            let sink = ToWriter::new(io::writer(&rt));
-            let ran = match run_live(
-                &rt,
-                rt.alloc(),
-                options,
-                Wired::new(source, sink),
-                &OpenGate,
-            ) {
-                Ok((_, ended)) => ended,
-                Err(fault) => Err(fault),
-            };
-            finish(&rt, ran, terminal)
-        }
+    let mut source = FromReader::new(reader);
+    let mut sink = Buffered::new(ToWriter::new(io::writer(rt)));
+    run_buffered(rt, rt.alloc(), batch, &mut source, &mut sink, &OpenGate)
+}
+
+/// Runs `live` on standard input and output without buffers, so that a read gives what is there and an answer
+/// goes out at once.
+fn run_as_input_comes<R: Threads + Wait + Sync + Input + Print + AllocGlobal>(
+    rt: &R,
+    options: LiveOptions,
+) -> Result<(), CommandFault> {
+    let wire = Wired::new(FromReader::new(rt.reader()), ToWriter::new(io::writer(rt)));
+    let (_, ended) = run_live(rt, rt.alloc(), options, wire, &OpenGate)?;
+    ended
+}
+
+/// Runs what the words ask for, or tells at a terminal, after the refusal, what clap says of them.
+fn answer_words<R: Threads + Wait + Sync + Input + Print + Eprint + AllocGlobal>(
+    rt: &R,
+    words: &[String],
+    terminal: bool,
+) -> io::Result<ExitCode> {
+    match read_words(rt.alloc(), words).map(Asked::batch) {
+        Ok(Ok(batch)) => finish(rt, run_over_input(rt, batch), terminal),
+        Ok(Err(options)) => finish(rt, run_as_input_comes(rt, options), terminal),
         Err(fault) => {
-            let mut sink = ToWriter::new(io::writer(&rt));
-            let status = explain(&rt, &fault, &mut sink, terminal)?;
-            if let Some(text) = said {
+            let status = explain(rt, &fault, &mut ToWriter::new(io::writer(rt)), terminal)?;
+            if terminal && let Some(text) = sentence(rt.alloc(), words) {
                 eprint!(rt; "{text}")?;
             }
             Ok(status)
         }
+    }
+}
+
+fn main(rt: HostRuntime) -> io::Result<ExitCode> {
+    let terminal = rt.stderr().is_terminal();
+    match words_given(&rt) {
+        Ok(words) => answer_words(&rt, words.as_slice(), terminal),
+        Err(fault) => explain(&rt, &fault, &mut ToWriter::new(io::writer(&rt)), terminal),
     }
 }

@@ -45,7 +45,7 @@ returns-in_err-flush g c =
       ok = search rules;
       cut = λ same. (wrote.0, wrote.1, wrote.2, wrote.3, front);
       refused = refused_as result command.WriteFault _ write
-          (may_fail c.args.asked TookFront (left c.args.source.now) (left c.run.new.source) (taken before.sink) (taken after.sink) (wrote.0, wrote.1, wrote.2, wrote.3, front));
+          (may_fail c.args.batch TookFront (left c.args.source.now) (left c.run.new.source) (taken before.sink) (taken after.sink) (wrote.0, wrote.1, wrote.2, wrote.3, front));
       unwritten = refused_as result command.WriteFault _ write (λ other. absurd (other refl));
       read = search rules;
       write = search rules;

@@ -1,10 +1,10 @@
 -- The command `lanes`.
 use Rattle.std.specs.Prelude.{◌≢◌, ℕ, List, [], Option, codes}
-use Rattle.clap.specs.Words.{App, Row, new_app, with_rule}
+use Rattle.clap.specs.Words.{App, Row, new_app}
 use Rattle.line_core.specs.answers.Reports.{IsReport}
 use Rattle.line_core.specs.input.Records.{Takes}
 use Rattle.line_core.specs.lanes.Feeds.{feeds_of, lanes_meaning}
-use Rattle.gs1_hub.specs.Arguments.{HasNumber, HasWorkers, HasYear, IsLaneCount, most_lanes, number_rule, workers_rule, year_rule}
+use Rattle.gs1_hub.specs.Arguments.{HasNumber, HasWorkers, HasYear, IsLaneCount, with_lanes}
 use Rattle.gs1_hub.specs.Runs.{Command, RefusesRecords, WritesOnce, WritesRecords}
 use Rattle.gs1_hub.specs.declared.fault.CommandFault.{CommandFault}
 use Rattle.gs1_hub.specs.declared.fault.CommandFault.TheVariants as command
@@ -12,7 +12,7 @@ use Rattle.gs1_hub.specs.declared.commands.lanes.options.LaneOptions.{LaneOption
 
 -- `lanes --lanes N --workers K --year Y`
 abbrev pub lanes_app : App
-lanes_app = with_rule (with_rule (with_rule (new_app (codes "lanes")) (number_rule (codes "lanes") 1 most_lanes)) workers_rule) year_rule
+lanes_app = with_lanes (new_app (codes "lanes"))
 
 -- its options among the matches, each in its range
 abbrev pub HasLanes : List Row → LaneOptions → Type 0

@@ -5,22 +5,23 @@ use Rattle.wire_core.specs.Events.{Event}
 use Rattle.line_core.specs.live.Lived.{Lived}
 use Rattle.line_core.specs.declared.live.answering.LiveTerms.{LiveTerms}
 use Rattle.line_core.specs.declared.live.fault.LiveFault.{LiveFault}
-use Rattle.gs1_hub.specs.Arguments.{HasFlag, HasNumber, HasWorkers, HasYear, IsLaneCount, asks_elements, flag_rule, most_lanes, number_rule, workers_rule, year_rule}
+use Rattle.gs1_hub.specs.Arguments.{HasFlag, asks_elements, flag_rule, with_lanes}
 use Rattle.gs1_hub.specs.Faults.{of_live}
+use Rattle.gs1_hub.specs.commands.Lanes.{HasLanes}
 use Rattle.gs1_hub.specs.declared.fault.CommandFault.{CommandFault}
 use Rattle.gs1_hub.specs.declared.commands.live.options.LiveOptions.{LiveOptions}
 
 -- `live --lanes N --workers K --year Y [--elements]`
 abbrev pub live_app : App
-live_app = with_rule (with_rule (with_rule (with_rule (new_app (codes "live")) (number_rule (codes "lanes") 1 most_lanes)) workers_rule) year_rule) (flag_rule (codes "elements"))
+live_app = with_rule (with_lanes (new_app (codes "live"))) (flag_rule (codes "elements"))
 
--- its options among the matches, each in its range
+-- its options among the matches: those of `lanes`, and whether the flag is set
 abbrev pub HasLive : List Row → LiveOptions → Type 0
-HasLive rows o = HasNumber (codes "lanes") rows o.lanes × IsLaneCount o.lanes × HasWorkers rows o.workers × HasYear rows o.year × HasFlag (codes "elements") rows (asks_elements o.form)
+HasLive rows o = HasLanes rows o.rows × HasFlag (codes "elements") rows (asks_elements o.form)
 
 -- what is asked for of a live input
 abbrev pub live_terms : LiveOptions → LiveTerms
-live_terms o = record { lanes = o.lanes; workers = o.workers; year = o.year; form = o.form }
+live_terms o = record { lanes = o.rows.lanes; workers = o.rows.workers; year = o.rows.year; form = o.form }
 
 -- an end, with its fault as the command's
 abbrev pub command_end : Result (Unit {0}) LiveFault → Result (Unit {0}) CommandFault

@@ -8,8 +8,8 @@ ghost use Rattle.gs1_hub.specs.declared.commands.lanes.options.LaneOptions.{Lane
 
 pub mod options;
 
-use crate::arguments::{byte_named, command, number, number_named, workers, year};
-use crate::commands::lanes::options::{LaneOptions, MOST_LANES};
+use crate::arguments::{byte_named, command, number_named, with_lanes};
+use crate::commands::lanes::options::LaneOptions;
 use crate::fault::CommandFault;
 use clap::{ArgMatches, Command};
 use digits_core::{Sink, Source, write_all};
@@ -34,9 +34,6 @@ Example, a row of 100 light dots:
   $ echo 0,100 | gs1_hub lanes --lanes 1 --workers 1 --year 2026
   0 0 refused 19 Blank";
 
-/// The option `--lanes`.
-pub const LANE_COUNT: &str = "How many lanes there are, 1 to 16";
-
 /// The options of the command `lanes`.
 pub fn options_named(matches: &ArgMatches<'_>) -> Option<LaneOptions>
     ensures some { IfSome result (HasLanes (rows_of (found_of matches.now))) }
@@ -55,11 +52,7 @@ pub fn lanes_words<'a>(alloc: Global) -> Result<Command<'a>, AllocError>
     ensures app { IfOk result (λ c. app_of c ≡ lanes_app) }
     ensures own { IfOk result (λ c. (out-Command c).has_globals ≡ false) }
 {
-    let most = u16::from(MOST_LANES);
-    command(alloc, "lanes", ABOUT, EXAMPLE)
-        .arg(number(alloc, "lanes", 1, most, "COUNT", LANE_COUNT))?
-        .arg(workers(alloc))?
-        .arg(year(alloc))
+    with_lanes(alloc, command(alloc, "lanes", ABOUT, EXAMPLE))
 }
 
 /// Answers the rows that a source gives, a line for each, lane by lane and by number. Workers read

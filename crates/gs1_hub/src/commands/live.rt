@@ -8,11 +8,8 @@ ghost use Rattle.gs1_hub.specs.declared.commands.live.options.LiveOptions.{LiveO
 
 pub mod options;
 
-use crate::arguments::{
-    byte_named, command, flag, flag_named, number, number_named, workers, year,
-};
-use crate::commands::lanes::LANE_COUNT;
-use crate::commands::lanes::options::MOST_LANES;
+use crate::arguments::{command, flag, flag_named, with_lanes};
+use crate::commands::lanes;
 use crate::commands::live::options::LiveOptions;
 use crate::fault::CommandFault;
 use clap::{ArgMatches, Command};
@@ -49,12 +46,8 @@ pub fn options_named(matches: &ArgMatches<'_>) -> Option<LiveOptions>
     ensures none { IfNone result ((o : LiveOptions)
         → HasLive (rows_of (found_of matches.now)) o → ⊥) }
 {
-    LiveOptions::new(
-        byte_named(matches, "lanes")?,
-        byte_named(matches, "workers")?,
-        number_named(matches, "year")?,
-        flag_named(matches, "elements")?,
-    )
+    let rows = lanes::options_named(matches)?;
+    Some(LiveOptions::new(rows, flag_named(matches, "elements")?))
 }
 
 /// The words of the command `live`, as `clap` reads them.
@@ -62,12 +55,9 @@ pub fn live_words<'a>(alloc: Global) -> Result<Command<'a>, AllocError>
     ensures app { IfOk result (λ c. app_of c ≡ live_app) }
     ensures own { IfOk result (λ c. (out-Command c).has_globals ≡ false) }
 {
-    let most = u16::from(MOST_LANES);
-    command(alloc, "live", ABOUT, EXAMPLE)
-        .arg(number(alloc, "lanes", 1, most, "COUNT", LANE_COUNT))?
-        .arg(workers(alloc))?
-        .arg(year(alloc))?
-        .arg(flag(alloc, "elements", ELEMENTS))
+    with_lanes(alloc, command(alloc, "live", ABOUT, EXAMPLE))?.arg(flag(
+        alloc, "elements", ELEMENTS,
+    ))
 }
 
 /// Answers each record that comes over a wire by one line, in the order of the records. Workers read the rows beside
@@ -87,10 +77,11 @@ pub fn run_live<R: Threads + Wait + Sync, W: Wire + Drop, G: Gate + Sync>(
     ensures lived { IfOk result (λ v. IsLive options W.Did W.read_failed W.write_failed wire v.0 v.1) }
     ensures refused { IfErr result (λ fault. (fault ≡ no_memory) ⊎ (fault ≡ no_thread)) }
 {
+    let rows = options.rows;
     let terms = LiveTerms {
-        lanes: options.lanes,
-        workers: options.workers,
-        year: options.year,
+        lanes: rows.lanes,
+        workers: rows.workers,
+        year: rows.year,
         form: options.form,
     };
     let (wire, ended) = answer_live(rt, alloc, terms, wire, gate)?;

@@ -2,11 +2,8 @@
 ghost use Rattle.std.specs.Prelude.{◌≡◌, ◌↔◌, IfSome, IsSome};
 ghost use Rattle.gs1_hub.specs.Arguments.{IsLaneCount, IsReferenceYear, IsWorkerCount};
 
-use crate::arguments::MOST_WORKERS;
+use crate::arguments::{MOST_LANES, MOST_WORKERS};
 use element_core::Year;
-
-/// How many lanes there are at most.
-pub const MOST_LANES: u8 = 16;
 
 /// The options of the command `lanes`.
 #[derive(Clone, Copy, Debug, PartialEq, Eq)]
