@@ -3,7 +3,8 @@
  * lines of `lanes`, `dots` for the same as packed dots, `finds` for the symbols of such lines, with an empty line behind
  * those of a row, `check` for those of `check`, `labels MODULE WIDTH HEIGHT`
  * for those of `print`, whose images are written with nothing between them. With `time COUNT`: the milliseconds of
- * so many calls on the rows of such lines, in turn. The year is 2026. */
+ * so many calls on the rows of such lines, in turn: gs1_find of those that begin with `find`, and gs1_row of the
+ * others. The year is 2026. */
 #include "gs1.h"
 #include <stdio.h>
 #include <stdlib.h>
@@ -319,18 +320,20 @@ static void measure(long calls) {
     static char input[1 << 16];
     static uint16_t widths[64][4096];
     static size_t counts[64];
+    static size_t (*asked[64])(const uint16_t *, size_t, uint16_t, uint8_t *, size_t);
     size_t rows = 0;
     while (rows < 64 && fgets(input, sizeof input, stdin)) {
         size_t count = 0;
+        asked[rows] = strncmp(input, "find,", 5) ? gs1_row : gs1_find;
         for (char *word = strtok(strchr(input, ',') + 1, " \n"); word && count < 4096; word = strtok(NULL, " \n"))
             widths[rows][count++] = (uint16_t)atoi(word);
         counts[rows++] = count;
     }
     double least = 1e9;
     for (int attempt = 0; attempt < 7; attempt++) {
-        uint8_t out[GS1_LINE];
+        uint8_t out[16 * GS1_FOUND];
         clock_t from = clock();
-        for (long i = 0; i < calls; i++) gs1_row(widths[i % (long)rows], counts[i % (long)rows], YEAR, out, sizeof out);
+        for (long i = 0; i < calls; i++) asked[i % (long)rows](widths[i % (long)rows], counts[i % (long)rows], YEAR, out, sizeof out);
         double passed = (double)(clock() - from) * 1000 / CLOCKS_PER_SEC;
         if (passed < least) least = passed;
     }

@@ -553,21 +553,17 @@ def beside_c(page, what, passed, height=None):
     """Prints how long a picture took, and how long C takes for as many of the rows that its first rows, or all of them, ask."""
     calls = page.value("picture.calls")
     asked = page.value("""(() => {
-        const rows = [], { row, widths } = Gs1.prototype;
-        Gs1.prototype.row = function (ends, first, last, year) {
-            rows.push([...ends.subarray(first, last + 1)].map((end, i) => end - (first + i ? ends[first + i - 1] : 0)).join(' '));
-            return row.call(this, ends, first, last, year);
-        };
-        Gs1.prototype.widths = function (asked, year) {
-            rows.push(asked.join(' '));
-            return widths.call(this, asked, year);
+        const rows = [], { ask } = Gs1.prototype;
+        Gs1.prototype.ask = function (call, ...words) {
+            rows.push(`${call === this.calls.gs1_c_find ? 'find' : 'row'},${this.words.subarray(0, Number(words[1])).join(' ')}`);
+            return ask.call(this, call, ...words);
         };
         new Reader(gs1, 2026).read({ ...picture, height: %s }, picture.level, picture.own);
-        Object.assign(Gs1.prototype, { row, widths });
+        Object.assign(Gs1.prototype, { ask });
         return rows.join('\\n');
     })()""" % (height or "picture.height"))
     with open(f"{WORK}/asked", "w") as file:
-        file.write("".join(f"0,{widths}\n" for widths in asked.splitlines()))
+        file.write(asked + "\n")
     # Few calls take too little time for the clock.
     timed = max(calls, 20000)
     done = subprocess.run([CALLS, "time", str(timed)], stdin=open(f"{WORK}/asked"), stdout=subprocess.PIPE, check=True)
