@@ -52,16 +52,20 @@ const WIDEST_MEAN = 3;
 const ASLANT = 0.6;
 
 // Calls `take` with the first run, the last one and the shapes of each window between light runs that are wide enough
-// for quiet zones of so many modules. Where it takes the window, the next one begins at its end.
+// for quiet zones of so many modules. One of five is wider than every run between, of which none has more than four; so
+// even stripes have no window. Where it takes the window, the next one begins at its end.
 function eachWindow(ends, count, take, modules = QUIET) {
   for (let first = 0; first < count; first += 2) {
     const quiet = ends[first] - (first ? ends[first - 1] : 0);
+    let run = first + 1, widest = 0;
     for (const [runs, shapes] of SHAPES) {
       const last = first + runs + 1;
       if (last >= count) break;
+      for (; run < last; run++) widest = Math.max(widest, ends[run] - ends[run - 1]);
+      if (widest * modules >= quiet * QUIET) break;
       const inner = ends[last - 1] - ends[first];
       if (inner * modules > quiet * runs * WIDEST_MEAN) break;
-      const least = inner * modules * ASLANT / shapes[0].modules;
+      const least = Math.max(widest * modules / QUIET, inner * modules * ASLANT / shapes[0].modules);
       if (quiet < least || ends[last] - ends[last - 1] < least) continue;
       if (take(first, last, shapes)) {
         first = last - 2;
