@@ -16,6 +16,9 @@ const LOOKS = [
 // The look for symbols whose quiet zones are too narrow: a module wide at least.
 const CROWDED = { lines: 3, rows: 12, blur: 0, quiet: 1 };
 
+// The fewest dots of a row across a symbol: one for each run of a GS1-128 of three characters.
+const FEWEST_DOTS = 25;
+
 // The fewest rows that read a symbol.
 const FEWEST_ROWS = 2;
 
@@ -89,7 +92,7 @@ class Again {
     const tally = new Tally();
     for (let row = 0; row < grid.count; row++) {
       const v = grid.top + (row + 0.5) * grid.step, { from, profile } = grid.profile(this.picture, v, look.lines);
-      if (profile.length < FEWEST) continue;
+      if (profile.length < FEWEST_DOTS) continue;
       const bounds = boundsOf(profile), clear = look.blur ? sharpened(profile, bounds, look.blur) : profile;
       const count = edgesOf(clear, bounds, this.ends);
       eachWindow(this.ends, count, (first, last, shapes) => {

@@ -61,11 +61,20 @@ class Gs1 {
     return [BigInt(this.input), BigInt(written)];
   }
 
-  // What the runs from `first` to `last`, both light, say as a row; run i goes from `ends[i - 1]`, or 0, up to `ends[i]`,
-  // which is at most 65,535.
-  row(ends, first, last, year) {
+  // Puts the runs from `first` to `last`, both light, for a call: their place and how many they are. Run i goes from
+  // `ends[i - 1]`, or 0, up to `ends[i]`, which is at most 65,535.
+  putRuns(ends, first, last) {
     for (let i = first; i <= last; i++) this.words[i - first] = ends[i] - (i ? ends[i - 1] : 0);
-    return this.line(this.ask(this.calls.gs1_c_row, BigInt(this.input), BigInt(last - first + 1), year));
+    return [BigInt(this.input), BigInt(last - first + 1)];
+  }
+
+  // What these runs say as a row.
+  row(ends, first, last, year) { return this.line(this.ask(this.calls.gs1_c_row, ...this.putRuns(ends, first, last), year)); }
+
+  // The symbols of a row of so many runs, from the left: the first run and how many runs each has, with its light ends, and its line.
+  find(ends, count, year) {
+    const lines = this.line(this.ask(this.calls.gs1_c_find, ...this.putRuns(ends, 0, count - 1), year));
+    return Array.from(lines.matchAll(/(\d+) (\d+) (.*)\n/g), ([, first, runs, line]) => ({ first: Number(first), runs: Number(runs), line }));
   }
 
   // What a row of these widths says, light first and last.

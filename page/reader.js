@@ -17,12 +17,6 @@ function runsOf(grey, from, width, level, ends) {
   return count;
 }
 
-// The fewest runs between the light ends of a symbol: those of a GS1-128 of three characters.
-const FEWEST = 25;
-
-// The fewest dots of a light end: five modules of a dot each.
-const NARROWEST = 5;
-
 // The most rows, damaged ones, that a symbol may go unread and be the same: so many, or a quarter of its width.
 const MOST_UNREAD = 16;
 
@@ -78,7 +72,18 @@ function sameRuns(ends, count, before, runs) {
   return true;
 }
 
-// Reads rows of pictures, and keeps what they say.
+// Calls `take` with each row of a picture, whose dots are dark below the level: the ends of its runs, how many they are, where it
+// is, and whether it has other runs than the row before.
+function eachRow({ width, height, grey }, level, take) {
+  let ends = new Uint32Array(width + 2), before = new Uint32Array(width + 2), runs = -1;
+  for (let y = 0; y < height; y++) {
+    const count = runsOf(grey, y * width, width, level, ends);
+    take(ends, count, y, !sameRuns(ends, count, before, runs));
+    [ends, before, runs] = [before, ends, count];
+  }
+}
+
+// Reads pictures, and counts what it asks of the library.
 class Reader {
   constructor(gs1, year) {
     this.gs1 = gs1;
@@ -98,62 +103,48 @@ class Reader {
     return this.gs1.widths(widths, this.year);
   }
 
-  // Looks for symbols between two light runs: reads what stands there, and where that is refused cuts it at its widest
-  // light gap, of several the one nearest the middle.
-  seek(ends, first, last, found, refused) {
-    if (last - first - 1 < FEWEST) return;
-    const line = this.ask(ends, first, last);
-    if (!line.startsWith("refused")) {
-      found.push({ line, left: ends[first], right: ends[last - 1] });
-      return;
-    }
-    refused.set(line, (refused.get(line) ?? 0) + 1);
-    const middle = (first + last) / 2;
-    let widest = NARROWEST, at = first;
-    for (let i = first + 2; i < last - 1; i += 2) {
-      const width = ends[i] - ends[i - 1];
-      if (width > widest || (width === widest && Math.abs(i - middle) < Math.abs(at - middle))) [widest, at] = [width, i];
-    }
-    if (at === first) return;
-    this.seek(ends, first, at, found, refused);
-    this.seek(ends, at, last, found, refused);
+  // The symbols of a row, each with its place.
+  find(ends, count) {
+    this.calls++;
+    const found = this.gs1.find(ends, count, this.year);
+    return found.map(({ first, runs, line }) => ({ line, left: ends[first], right: ends[first + runs - 2] }));
   }
 
-  // The symbols of a picture, each with the box that its rows fill and their number; the refusals, with their numbers. Where the
-  // rows of the picture show none, rows across its stripes are read, unless the level is a person's own.
+  // The symbols of a picture, each with the box that its rows fill and their number; or, where it shows none, the refusals with
+  // their numbers. Beside the rows of the picture those across its stripes are read, unless the level is a person's own.
   read(picture, level, own = false) {
-    const { symbols, refused } = this.readRows(picture, level);
-    const single = symbols.map((symbol) => new Found(symbol));
+    const shown = this.readRows(picture, level).map((symbol) => new Found(symbol));
     // One row alone beside symbols of several is chance.
-    const several = single.filter(({ rows }) => rows > 1);
+    const several = shown.filter(({ rows }) => rows > 1);
     const all = own ? several : new Again(this, picture).symbols(several);
-    return { symbols: all.length ? all : single, refused };
+    const symbols = all.length ? all : shown;
+    return { symbols, refused: symbols.length ? new Map() : this.refusals(picture, level) };
   }
 
-  // The same of the rows of the picture alone, whose dots are dark below the level.
-  readRows({ width, height, grey }, level) {
-    const bands = new Bands(), refused = new Map();
-    let ends = new Uint32Array(width + 2), before = new Uint32Array(width + 2), runs = -1, row = null;
-    for (let y = 0; y < height; y++) {
-      const count = runsOf(grey, y * width, width, level, ends);
-      if (!sameRuns(ends, count, before, runs)) {
-        row = this.readRuns(ends, count);
+  // What the rows of a picture show.
+  readRows(picture, level) {
+    const bands = new Bands();
+    let found = [];
+    eachRow(picture, level, (ends, count, y, isNew) => {
+      if (isNew) {
+        found = this.find(ends, count);
         bands.endWhereLight(ends, count);
       }
       bands.endUnread(y);
-      for (const [line, times] of row.refused) refused.set(line, (refused.get(line) ?? 0) + times);
-      for (const found of row.found) bands.add(found, y);
-      [ends, before, runs] = [before, ends, count];
-    }
-    return { symbols: bands.sure(), refused };
+      for (const symbol of found) bands.add(symbol, y);
+    });
+    return bands.sure();
   }
 
-  // What the runs of a row show, and why parts of it are refused.
-  readRuns(ends, count) {
-    const found = [], refused = new Map();
-    if (count === 1) refused.set("refused 19 Blank", 1);
-    else this.seek(ends, 0, count - 1, found, refused);
-    if (!found.length && !refused.size) refused.set("refused 20 RunCount", 1);
-    return { found, refused };
+  // Why the rows of a picture are refused: whole, and windows of them that may be symbols.
+  refusals(picture, level) {
+    const refused = new Map();
+    const note = (line) => { refused.set(line, (refused.get(line) ?? 0) + 1); };
+    eachRow(picture, level, (ends, count, y, isNew) => {
+      if (!isNew) return;
+      note(this.ask(ends, 0, count - 1));
+      eachWindow(ends, count, (first, last) => note(this.ask(ends, first, last)));
+    });
+    return refused;
   }
 }
