@@ -345,6 +345,16 @@ def reads(page):
     png(f"{WORK}/bordered.png", len(bordered), 9, lambda y: bytes(255 * light for light in bordered))
     choose(page, f"{WORK}/bordered.png")
     same("a symbol in a dark border", answers(page), ["]E0 (01)09501101530003"])
+    framed = [0] * 3 + row + [0] * 3 + row[::-1] + [0] * 3
+    png(f"{WORK}/framed.png", len(framed), 9, lambda y: bytes(255 * light for light in framed))
+    choose(page, f"{WORK}/framed.png")
+    places = page.value("picture.symbols.map(({ line, box }) => [line, box.left, box.right].join(' ')).join()")
+    same("two symbols in frames side by side, one turned", places,
+         f"]E0 (01)09501101530003 {3 + 22} {3 + len(row) - 14},]E0 (01)09501101530003 {6 + len(row) + 14} {6 + 2 * len(row) - 22}")
+    wrong = [0] * 3 + symbol_row(2, "1 1 3 2") + [0] * 3
+    png(f"{WORK}/digit.png", len(wrong), 9, lambda y: bytes(255 * light for light in wrong))
+    choose(page, f"{WORK}/digit.png")
+    same("a wrong check digit in a dark border", (shown(page), answers(page)), ("refused 24 SymbolCheckDigit", []))
     for ink, ground in (("black", ""), ("rgba(0, 0, 0, 0.7)", ""), ("rgb(0, 0, 200)", "rgb(255, 220, 0)"), ("rgb(0, 90, 0)", "rgb(255, 60, 60)"),
                         ("rgb(120, 0, 0)", "rgb(0, 100, 0)")):
         page.value("""(() => {
@@ -532,11 +542,15 @@ def counts_symbols(page):
     choose(page, f"{WORK}/noise.png")
     same("noise", (shown(page).split()[0], answers(page)), ("refused", []))
     same("noise in a second", quickest(page, 1000) < 1000, True)
+    png(f"{WORK}/fence.png", 640, 480, lambda y: (b"\0\0" + b"\xff" * 10) * 53 + b"\xff" * 4)
+    choose(page, f"{WORK}/fence.png")
+    same("thin stripes, all alike", (shown(page), answers(page)), ("refused 20 RunCount", []))
+    same("thin stripes in two seconds", quickest(page, 2000) < 2000, True)
 
 
-def symbol_row(dots):
-    """9501101530003 as an EAN-13 in its quiet zones, 1 where light."""
-    widths = "11 1 1 1 1 2 3 1 1 1 2 3 1 2 2 2 2 2 2 1 1 1 2 3 2 2 2 1 1 1 1 1 1 1 2 3 1 1 4 1 1 3 2 1 1 3 2 1 1 3 2 1 1 1 4 1 1 1 1 1 7"
+def symbol_row(dots, last="1 4 1 1"):
+    """9501101530003 as an EAN-13 in its quiet zones, or with another last digit, 1 where light."""
+    widths = "11 1 1 1 1 2 3 1 1 1 2 3 1 2 2 2 2 2 2 1 1 1 2 3 2 2 2 1 1 1 1 1 1 1 2 3 1 1 4 1 1 3 2 1 1 3 2 1 1 3 2 1 1 " + last + " 1 1 1 7"
     return [light for i, width in enumerate(widths.split()) for light in [1 - i % 2] * (int(width) * dots)]
 
 
