@@ -564,7 +564,7 @@ def quickest(page, limit):
 
 
 def beside_c(page, what, passed, height=None):
-    """Prints how long a picture took, and how long C takes for as many of the rows that its first rows, or all of them, ask."""
+    """Prints how long a picture took, and how long C takes for as many calls, by 64 of those that its first rows, or all, ask."""
     calls = page.value("picture.calls")
     asked = page.value("""(() => {
         const rows = [], { ask } = Gs1.prototype;
@@ -576,8 +576,9 @@ def beside_c(page, what, passed, height=None):
         Object.assign(Gs1.prototype, { ask });
         return rows.join('\\n');
     })()""" % (height or "picture.height"))
+    lines = asked.splitlines()
     with open(f"{WORK}/asked", "w") as file:
-        file.write(asked + "\n")
+        file.writelines(line + "\n" for line in lines[::-(-len(lines) // 64)])
     # Few calls take too little time for the clock.
     timed = max(calls, 20000)
     done = subprocess.run([CALLS, "time", str(timed)], stdin=open(f"{WORK}/asked"), stdout=subprocess.PIPE, check=True)
