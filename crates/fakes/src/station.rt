@@ -184,7 +184,12 @@ impl Station {
         }
         let shared = &hub;
         let signals = Signals::new();
-        let task = move || -> (Vec<LaneSeat>, DelivererSeat, Option<Delivery>, bool)
+        let task = move |lanes: Vec<LaneSeat>| -> (
+            Vec<LaneSeat>,
+            DelivererSeat,
+            Option<Delivery>,
+            bool,
+        )
             requires { All (IsLaneOf shared.now) lanes.items × IsDelivererOf shared.now deliverer × (free < length lanes.items) × (held < length lanes.items) }
             ensures lanes { All (IsLaneOf shared.entry.now) result.0.items × (numbers_of result.0.items ≡ numbers_of lanes.items) }
             ensures deliverer { IsDelivererOf shared.entry.now result.1 }
@@ -196,7 +201,7 @@ impl Station {
             gate.open();
             (lanes, deliverer, polled, is_held)
         };
-        match run_workers(rt, alloc, shared, workers, gate, &signals, task) {
+        match run_workers(rt, alloc, shared, workers, gate, &signals, lanes, task) {
             Ok((workers, (lanes, deliverer, polled, is_held))) => {
                 let station = Station {
                     hub,

@@ -129,7 +129,7 @@ fn run_as_input_comes<R: Threads + Wait + Sync + Input + Print + AllocGlobal>(
     options: LiveOptions,
 ) -> Result<(), CommandFault> {
     let wire = Wired::new(FromReader::new(rt.reader()), ToWriter::new(io::writer(rt)));
-    let (_, ended) = run_live(rt, rt.alloc(), options, wire, &OpenGate)?;
+    let (_, ended) = run_live(rt, rt.alloc(), options, wire, &OpenGate);
     ended
 }
 

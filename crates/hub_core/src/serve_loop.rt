@@ -11,7 +11,7 @@ ghost use Rattle.hub_core.specs.Traffics.{AreEven, AreServedFirst, HasRoom, IsKe
 use crate::closed_lane::ClosedLane;
 use crate::deliverer_seat::{DelivererSeat, Handed};
 use crate::ended::Ended;
-use crate::fault::{HubFault, ServeFault, SubmitFault};
+use crate::fault::{HubFault, ServeFault, SubmitFault, Unstarted};
 use crate::gate::Gate;
 use crate::gathered::Gathered;
 use crate::hub::Hub;
@@ -329,17 +329,18 @@ fn serve_seats<R: Threads + Wait + Sync, G: Gate + Sync, T: Traffic + Drop>(
         DelivererSeat,
         Ended<T::WaitFault, T::BringFault>,
     ),
-    ServeFault,
+    Unstarted<T>,
 >
     requires { Serves hub.now seats.items None × T.Came traffic traffic (given_to seats.items None) (polled_by seats.items) × All (IsWorkerOf hub.now) workers.items × IsDelivererOf hub.now deliverer }
     ensures serves { IfOk result (λ v. (held : Option (ℕ × List ℕ)) × Serves hub.now v.1.items held × (IsKept v.4 → T.Came traffic v.0 (given_to v.1.items held) (polled_by v.1.items)) × (v.4 ≡ Ended.Done → (T.has_ended v.0 ≡ true) × AreEven v.1.items × (held ≡ None))) }
     ensures workers { IfOk result (λ v. All (IsWorkerOf hub.now) v.2.items × (vec_len v.2 ≡ vec_len workers)) }
     ensures deliverer { IfOk result (λ v. IsDelivererOf hub.now v.3) }
-    ensures refused { IfErr result (λ e. e ≢ ServeFault.BadCount) }
+    ensures refused { IfErr result (λ e. e.fault ≢ ServeFault.BadCount) }
+    ensures untouched { IfErr result (λ e. e.input ≡ traffic) }
 {
     let told = Signals::new();
     let signals = &told;
-    let task = move || -> (
+    let task = move |traffic: T| -> (
         T,
         Vec<LaneSeat>,
         DelivererSeat,
@@ -356,7 +357,7 @@ fn serve_seats<R: Threads + Wait + Sync, G: Gate + Sync, T: Traffic + Drop>(
         (traffic, seats, deliverer, ended)
     };
     let (workers, (traffic, seats, deliverer, ended)) = run_workers(
-        rt, alloc, hub, workers, gate, signals, task,
+        rt, alloc, hub, workers, gate, signals, traffic, task,
     )?;
     Ok((traffic, seats, workers, deliverer, ended))
 }
@@ -405,6 +406,9 @@ fn close_all(seats: Vec<LaneSeat>, room: Vec<ClosedLane>) -> Vec<ClosedLane>
 /// Serves a traffic that has given nothing: the calling thread submits its rows, collects, hands and
 /// brings their deliveries, and so many workers read them beside each other, each row once the gate has
 /// let its ticket pass.
+///
+/// `NoThread` says that a thread could not be started, `NoMemory` that the hub or its threads were refused
+/// memory: the traffic has given nothing then, and is given back as it was.
 pub fn serve_traffic<R: Threads + Wait + Sync, G: Gate + Sync, T: Traffic + Drop>(
     rt: &R,
     alloc: Global,
@@ -413,20 +417,34 @@ pub fn serve_traffic<R: Threads + Wait + Sync, G: Gate + Sync, T: Traffic + Drop
     workers: u8,
     year: Year,
     gate: &G,
-) -> Result<(T, Ended<T::WaitFault, T::BringFault>), ServeFault>
+) -> Result<(T, Ended<T::WaitFault, T::BringFault>), Unstarted<T>>
     requires counts { (is_count lanes ≡ true) × (is_count workers ≡ true) }
     requires fresh { T.Came traffic traffic (replicate lanes []) (replicate lanes []) }
     ensures served { IfOk result (λ v. IsKept v.1 → (given : List (List (List ℕ))) × (brought : List (List Plain)) × T.Came traffic v.0 given brought × AreServedFirst year given brought
         × (v.1 ≡ Ended.Done → (T.has_ended v.0 ≡ true) × (brought ≡ served year given))) }
-    ensures refused { IfErr result (λ e. e ≢ ServeFault.BadCount) }
+    ensures refused { IfErr result (λ e. e.fault ≢ ServeFault.BadCount) }
+    ensures untouched { IfErr result (λ e. e.input ≡ traffic) }
 {
+    let Ok(room) = Vec::with_capacity(alloc, usize::from(lanes)) else {
+        return Err(Unstarted {
+            fault: ServeFault::NoMemory,
+            input: traffic,
+        });
+    };
     let Parts {
         hub,
         lanes,
         workers,
         deliverer,
-    } = new_hub(rt, alloc, lanes, workers, year)?;
-    let room = Vec::with_capacity(alloc, lanes.len())?;
+    } = match new_hub(rt, alloc, lanes, workers, year) {
+        Ok(parts) => parts,
+        Err(fault) => {
+            return Err(Unstarted {
+                fault,
+                input: traffic,
+            });
+        }
+    };
     let (traffic, lanes, workers, deliverer, ended) = serve_seats(
         rt, alloc, &hub, traffic, lanes, workers, deliverer, gate,
     )?;

@@ -2,7 +2,7 @@
 ghost use Rattle.std.specs.Prelude.{◌≡◌, ◌≢◌, [], ◌≤◌, ◌<◌, All, IfOk, IfErr, ◌+◌, true, vec_len, vec_capacity};
 ghost use Rattle.hub_core.specs.Hubs.{IsWorkerOf};
 
-use crate::fault::ServeFault;
+use crate::fault::{ServeFault, Unstarted};
 use crate::gate::Gate;
 use crate::hub::Hub;
 use crate::signals::Signals;
@@ -117,44 +117,68 @@ fn start_all<'s, 'e: 's, R: Threads + Wait + Sync, G: Gate + Sync>(
     true
 }
 
-/// Runs the workers, each on a thread of its own, beside a task of the calling thread. Once the task has
-/// ended they are asked to stop, and each stops when it then finds no job or no place for its answer.
+/// Runs the workers, each on a thread of its own, beside a task of the calling thread, which is handed its
+/// input. Once the task has ended they are asked to stop, and each stops when it then finds no job or no
+/// place for its answer.
 ///
 /// All threads have ended when it returns. `NoThread` says that a thread could not be started,
-/// `NoMemory` that memory was refused: the task has not begun then, and the seats are dropped.
-pub fn run_workers<'e, R: Threads + Wait + Sync, G: Gate + Sync, F: FnOnce() -> T + Drop, T: Drop>(
+/// `NoMemory` that memory was refused: the task has not begun then, and its input is given back as it was;
+/// the task and the seats are dropped.
+pub fn run_workers<
+    'e,
+    R: Threads + Wait + Sync,
+    G: Gate + Sync,
+    I: Drop,
+    F: FnOnce(I) -> T + Drop,
+    T: Drop,
+>(
     rt: &'e R,
     alloc: Global,
     hub: &'e Hub,
     seats: Vec<WorkerSeat>,
     gate: &'e G,
     signals: &'e Signals,
+    input: I,
     task: F,
-) -> Result<(Vec<WorkerSeat>, T), ServeFault>
-    requires { All (IsWorkerOf hub.now) seats.items × F.pre task }
+) -> Result<(Vec<WorkerSeat>, T), Unstarted<I>>
+    requires { All (IsWorkerOf hub.now) seats.items × F.pre task input }
     ensures seats { IfOk result (λ v. All (IsWorkerOf hub.now) v.0.items × (vec_len v.0 ≡ vec_len seats)) }
-    ensures task { IfOk result (λ v. F.post task v.1) }
-    ensures refused { IfErr result (λ e. e ≢ ServeFault.BadCount) }
+    ensures task { IfOk result (λ v. F.post task input v.1) }
+    ensures refused { IfErr result (λ e. e.fault ≢ ServeFault.BadCount) }
+    ensures untouched { IfErr result (λ e. e.input ≡ input) }
 {
-    let count = seats.len();
-    let mut back = Vec::with_capacity(alloc, count)?;
+    let Ok(mut back) = Vec::with_capacity(alloc, seats.len()) else {
+        return Err(Unstarted {
+            fault: ServeFault::NoMemory,
+            input,
+        });
+    };
     thread::scope(
         thread::scope_env(),
         rt,
-        |scope| -> Result<(Vec<WorkerSeat>, T), ServeFault>
-            requires { All (IsWorkerOf hub.now) seats.items × F.pre task × (back.items ≡ []) × (vec_len back ≡ 0) × (vec_capacity back ≡ vec_len seats) }
+        |scope| -> Result<(Vec<WorkerSeat>, T), Unstarted<I>>
+            requires { All (IsWorkerOf hub.now) seats.items × F.pre task input × (back.items ≡ []) × (vec_len back ≡ 0) × (vec_capacity back ≡ vec_len seats) }
             ensures seats { IfOk result (λ v. All (IsWorkerOf hub.entry.now) v.0.items × (vec_len v.0 ≡ vec_len seats)) }
-            ensures task { IfOk result (λ v. F.post task v.1) }
-            ensures refused { IfErr result (λ e. e ≢ ServeFault.BadCount) }
+            ensures task { IfOk result (λ v. F.post task input v.1) }
+            ensures refused { IfErr result (λ e. e.fault ≢ ServeFault.BadCount) }
+            ensures untouched { IfErr result (λ e. e.input ≡ input) }
         {
-            let mut handles = Vec::with_capacity(alloc, seats.len())?;
+            let Ok(mut handles) = Vec::with_capacity(alloc, seats.len()) else {
+                return Err(Unstarted {
+                    fault: ServeFault::NoMemory,
+                    input,
+                });
+            };
             let started = start_all(rt, hub, scope, seats, gate, signals, &mut handles);
             if !started {
                 signals.request_stop();
                 join_all(rt, hub, &mut back, handles);
-                return Err(ServeFault::NoThread);
+                return Err(Unstarted {
+                    fault: ServeFault::NoThread,
+                    input,
+                });
             }
-            let done = task();
+            let done = task(input);
             signals.request_stop();
             join_all(rt, hub, &mut back, handles);
             Ok((back, done))

@@ -1,8 +1,8 @@
 //! The command `live`: records in, the answer of each out as soon as it can be.
-ghost use Rattle.std.specs.Prelude.{◌≡◌, ◌⊎◌, [], IfErr, IfNone, IfOk, IfSome, false};
+ghost use Rattle.std.specs.Prelude.{◌≡◌, [], IfNone, IfOk, IfSome, IsErrOf, false};
 ghost use Rattle.clap.specs.Words.{app_of, found_of, rows_of};
 ghost use Rattle.clap.specs.declared.builder.command.Command.TheViews.{out-Command};
-ghost use Rattle.gs1_hub.specs.Faults.{no_memory, no_thread};
+ghost use Rattle.gs1_hub.specs.Faults.{no_thread};
 ghost use Rattle.gs1_hub.specs.commands.Lives.{HasLive, IsLive, live_app};
 ghost use Rattle.gs1_hub.specs.declared.commands.live.options.LiveOptions.{LiveOptions};
 
@@ -64,18 +64,18 @@ pub fn live_words<'a>(alloc: Global) -> Result<Command<'a>, AllocError>
 /// each other, and each passes the gate before a row.
 ///
 /// A record is a line: a lane, a comma, and the widths of a row in dots with one space between them. Before each read
-/// all records that have come are answered. The wire is given back with the end that the run came to; `Err` says that
-/// it could not begin, for want of memory or of a thread; the wire is dropped then.
+/// all records that have come are answered. The wire is given back with the end that the run came to: as it was, where
+/// it could not begin for want of memory or of a thread.
 pub fn run_live<R: Threads + Wait + Sync, W: Wire + Drop, G: Gate + Sync>(
     rt: &R,
     alloc: Global,
     options: LiveOptions,
     wire: W,
     gate: &G,
-) -> Result<(W, Result<(), CommandFault>), CommandFault>
+) -> (W, Result<(), CommandFault>)
     requires fresh { W.Did wire wire [] }
-    ensures lived { IfOk result (λ v. IsLive options W.Did W.read_failed W.write_failed wire v.0 v.1) }
-    ensures refused { IfErr result (λ fault. (fault ≡ no_memory) ⊎ (fault ≡ no_thread)) }
+    ensures lived { IsLive options W.Did W.read_failed W.write_failed wire result.0 result.1 }
+    ensures untouched { IsErrOf result.1 no_thread → result.0 ≡ wire }
 {
     let rows = options.rows;
     let terms = LiveTerms {
@@ -84,9 +84,9 @@ pub fn run_live<R: Threads + Wait + Sync, W: Wire + Drop, G: Gate + Sync>(
         year: rows.year,
         form: options.form,
     };
-    let (wire, ended) = answer_live(rt, alloc, terms, wire, gate)?;
+    let (wire, ended) = answer_live(rt, alloc, terms, wire, gate);
     match ended {
-        Ok(()) => Ok((wire, Ok(()))),
-        Err(fault) => Ok((wire, Err(CommandFault::from(fault)))),
+        Ok(()) => (wire, Ok(())),
+        Err(fault) => (wire, Err(CommandFault::from(fault))),
     }
 }

@@ -1,5 +1,5 @@
 -- A live input at its beginning and at its end.
-use Rattle.std.proofs.Common.{◌≡◌, ◌<◌, ◌++◌, ◌&&◌, ◌∙◌, ◌∷◌, ⊎_elim, All, Bool, Err, List, None, Option, Result, Some, [], ap, append-nil, arith, get_or, is_none, IsErrOf, length, OnOk, nat_eq, refl, replicate, subst, suc, sym, true, zero, ℕ}
+use Rattle.std.proofs.Common.{◌≡◌, ◌<◌, ◌++◌, ◌&&◌, ◌∙◌, ◌∷◌, ◌⊎◌, ⊎_elim, All, Bool, Err, List, None, Option, Result, Some, [], ap, append-nil, arith, get_or, is_none, IsErrOf, length, OnOk, nat_eq, refl, replicate, subst, suc, sym, true, zero, ℕ}
 use Rattle.std.specs.List.{slice_get}
 use Rattle.std.proofs.lemmas.Bool.{and_parts, eqb-true}
 use Rattle.std.proofs.lemmas.List.{length-replicate}
@@ -17,14 +17,15 @@ use Rattle.wire_core.specs.Events.{Event, was_read, was_written}
 use Rattle.wire_core.specs.Events.Event.{Read}
 use Rattle.wire_core.specs.Lines.{Held, line_of, nothing_held, pieces_of}
 use Rattle.wire_core.proofs.PieceFacts.{lines_are_pieces}
-use Rattle.line_core.specs.live.Answering.{AnswersBy}
+use Rattle.line_core.specs.live.Answering.{AnswersBy, IsFrontBy, IsPromptBy}
 use Rattle.line_core.specs.live.Came.{HasCome, IsInTurn, Keeps, Tells, WasGiven}
 use Rattle.line_core.specs.live.Replies.{Reply, replies_to}
 use Rattle.line_core.specs.live.Replies.Reply.{Row, Line}
 use Rattle.line_core.specs.live.Stops.{TellsFaults}
-use Rattle.line_core.specs.live.Text.{IsReply, line_meant}
+use Rattle.line_core.specs.live.Text.{AnsweredAll, IsReply, line_meant}
 use Rattle.line_core.specs.live.Turns.{IsFresh}
-use Rattle.line_core.specs.live.Lived.{EndsAs}
+use Rattle.line_core.specs.live.Lived.{EndsAs, Lived}
+use Rattle.line_core.specs.declared.live.answering.LiveTerms.{LiveTerms}
 use Rattle.line_core.specs.declared.live.fault.LiveFault.{LiveFault}
 use Rattle.line_core.specs.declared.live.fault.LiveFault.TheVariants as fault
 use Rattle.line_core.specs.declared.live.form.Form.{Form}
@@ -48,6 +49,15 @@ empty_before (x ∷ before) after is = (let never : ⊥ = cc is in absurd never)
 no_event : (before after : List Event) (bytes : List ℕ) → [] ≡ before ++ Read bytes ∷ after → ⊥
 no_event [] after bytes is = (let never : ⊥ = cc is in never)
 no_event (e ∷ before) after bytes is = (let never : ⊥ = cc is in never)
+
+-- no read and no write: nothing came before a read, and what was written is the first of whatever answers
+nothing_prompt : {X : Type 0} (L : X → List ℕ → Type 0) (records : List (List ℕ) → List X) → IsPromptBy L records []
+nothing_prompt L records before after bytes is = absurd (no_event before after bytes is)
+
+nothing_front : {X : Type 0} (L : X → List ℕ → Type 0) (records : List (List ℕ) → List X) → IsFrontBy L records []
+nothing_front L records before after is =
+    let none = empty_before before after is in
+    ([], records (pieces_of (was_read before)), [], [], refl, tt, sym (append-nil (was_written before) ∙ ap was_written none))
 
 pub come_at_first : (f : Form) (n : ℕ) (lanes : List Waiting) (places : List Place) (h : Held) (stopped : Option LiveFault) → length lanes ≡ n → n < 256 → All IsFresh lanes → places ≡ [] → h ≡ nothing_held → stopped ≡ None
     → HasCome f [] lanes places h stopped (replicate n []) (replicate n [])
@@ -78,8 +88,8 @@ come_at_first f n lanes places h stopped count few fresh none held going = recor
     answers = ([], tt, refl);
   }));
   stands = record {
-    prompt = λ before after bytes is. absurd (no_event before after bytes is);
-    front = λ before after is. let none = empty_before before after is in ([], replies_to (line_meant (length lanes)) (pieces_of (was_read before)), [], [], refl, tt, sym (append-nil (was_written before) ∙ ap was_written none));
+    prompt = nothing_prompt (Tells f (replicate n []) (replicate n [])) (replies_to (line_meant (length lanes)));
+    front = nothing_front (Tells f (replicate n []) (replicate n [])) (replies_to (line_meant (length lanes)));
     ended = λ is. (let e = ap (λ g. g.has_ended) held in let never : ⊥ = cc (e, is) in absurd never);
     answered = λ is. (let never : ⊥ = cc (going, is) in absurd never);
   };
@@ -91,7 +101,25 @@ told_at_first a b stopped none = record {
   failed_read = λ first is. (let never : ⊥ = cc (first, is) in absurd never);
   write_fault = λ first is. (let never : ⊥ = cc (none, is) in absurd never);
   failed_write = λ first is. (let never : ⊥ = cc (first, is) in absurd never);
+  begun = λ is. (let never : ⊥ = cc (none, is) in never);
 }
+
+-- what a live input leaves of its wire where it has not begun
+pub lived_nothing : {W : Type 0} (t : LiveTerms) (did : W → W → List Event → Type 0) (read_failed write_failed : W → Bool) (wire after : W) (result : Result (Unit {0}) LiveFault) (f : LiveFault) → did wire wire [] → after ≡ wire
+    → result ≡ Err f → (f ≡ fault.NoMemory) ⊎ (f ≡ fault.NoThread) → Lived t did read_failed write_failed wire after result
+lived_nothing t did read_failed write_failed wire after result f fresh same is why =
+    let no_read : IsErrOf result fault.ReadFault → ⊥ = λ err. ⊎_elim (λ (e : f ≡ fault.NoMemory). (let never : ⊥ = cc (is, err, e) in never)) (λ (e : f ≡ fault.NoThread). (let never : ⊥ = cc (is, err, e) in never)) why in
+    let no_write : IsErrOf result fault.WriteFault → ⊥ = λ err. ⊎_elim (λ (e : f ≡ fault.NoMemory). (let never : ⊥ = cc (is, err, e) in never)) (λ (e : f ≡ fault.NoThread). (let never : ⊥ = cc (is, err, e) in never)) why in
+    record {
+      events = [];
+      were_done = subst (λ w. did wire w []) (sym same) fresh;
+      prompt = nothing_prompt (IsReply t.year t.form) (replies_to (line_meant t.lanes));
+      front = nothing_front (IsReply t.year t.form) (replies_to (line_meant t.lanes));
+      ok = subst (λ r. OnOk r (AnsweredAll t.lanes t.form t.year [])) (sym is) tt;
+      cut = λ err. absurd (no_read err);
+      read = λ first. (λ err. absurd (no_read err), λ failed. (let then = ap read_failed same in let never : ⊥ = cc (first, failed, then) in absurd never));
+      write = λ first. (λ err. absurd (no_write err), λ failed. (let then = ap write_failed same in let never : ⊥ = cc (first, failed, then) in absurd never));
+    }
 
 -- ---- the end
 

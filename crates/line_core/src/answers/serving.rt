@@ -142,7 +142,7 @@ fn answer_each<R: Threads + Wait + Sync, G: Gate + Sync>(
     match serve_traffic(rt, alloc, traffic, lanes, workers, year, gate) {
         Ok((traffic, Ended::Done)) => Ok(traffic.texts),
         Ok(_) => Err(AnswerFault::NoMemory),
-        Err(fault) => Err(fault_of(fault)),
+        Err(refused) => Err(fault_of(refused.fault)),
     }
 }
 

@@ -1,5 +1,5 @@
 //! Records that are answered as they come.
-ghost use Rattle.std.specs.Prelude.{◌≡◌, ◌⊎◌, [], IfErr, IfOk, true};
+ghost use Rattle.std.specs.Prelude.{◌≡◌, ◌⊎◌, [], IsErrOf, true};
 ghost use Rattle.hub_core.specs.Serving.{is_count};
 ghost use Rattle.hub_core.specs.declared.fault.ServeFault.{ServeFault};
 ghost use Rattle.line_core.specs.live.Lived.{EndsAs, Lived};
@@ -8,7 +8,7 @@ use crate::live::fault::LiveFault;
 use crate::live::form::Form;
 use crate::live::input::{Live, Stopped};
 use element_core::Year;
-use hub_core::{Ended, Gate, ServeFault, serve_traffic, served_by_place};
+use hub_core::{Ended, Gate, ServeFault, Unstarted, serve_traffic, served_by_place};
 use std::alloc::Global;
 use std::convert::Infallible;
 use std::sync::Wait;
@@ -55,23 +55,24 @@ fn ending(stopped: Option<LiveFault>, ended: Ended<Stopped, Infallible>) -> Resu
 /// lane and the widths of a row, with a comma between them, on a line. So many workers read the rows beside each
 /// other, all through one hub, and each passes the gate before a row.
 ///
-/// Before each read all records that have come are answered. It ends with the input, or where a read or a write
-/// fails or memory is refused. `Err` says that it could not begin, for want of memory or of a thread; the wire is
-/// dropped then, so that no clause can say what became of it.
+/// Before each read all records that have come are answered. It ends with the input, where a read or a write
+/// fails, where memory is refused, or where it cannot begin for want of memory or of a thread. The wire is given
+/// back at each end: as it was, where it could not begin, and `NoThread` says that it could not.
 pub fn answer_live<R: Threads + Wait + Sync, W: Wire + Drop, G: Gate + Sync>(
     rt: &R,
     alloc: Global,
     terms: LiveTerms,
     wire: W,
     gate: &G,
-) -> Result<(W, Result<(), LiveFault>), LiveFault>
+) -> (W, Result<(), LiveFault>)
     requires counts { (is_count terms.lanes ≡ true) × (is_count terms.workers ≡ true) }
     requires fresh { W.Did wire wire [] }
-    ensures lived { IfOk result (λ v. Lived terms W.Did W.read_failed W.write_failed wire v.0 v.1) }
-    ensures refused { IfErr result (λ fault. (fault ≡ LiveFault.NoMemory) ⊎ (fault ≡ LiveFault.NoThread)) }
+    ensures lived { Lived terms W.Did W.read_failed W.write_failed wire result.0 result.1 }
+    ensures untouched { IsErrOf result.1 LiveFault.NoThread → result.0 ≡ wire }
 {
-    let Ok(live) = Live::new(alloc, terms.lanes, terms.form, wire) else {
-        return Err(LiveFault::NoMemory);
+    let live = match Live::new(alloc, terms.lanes, terms.form, wire) {
+        Ok(live) => live,
+        Err(wire) => return (wire, Err(LiveFault::NoMemory)),
     };
     // A law, by which the clause follows: the call does nothing.
     served_by_place();
@@ -86,8 +87,8 @@ pub fn answer_live<R: Threads + Wait + Sync, W: Wire + Drop, G: Gate + Sync>(
     ) {
         Ok((live, ended)) => {
             let result = ending(live.stopped(), ended);
-            Ok((live.wire, result))
+            (live.wire, result)
         }
-        Err(fault) => Err(fault_of(fault)),
+        Err(Unstarted { fault, input: live }) => (live.wire, Err(fault_of(fault))),
     }
 }

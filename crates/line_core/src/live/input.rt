@@ -1,5 +1,5 @@
 //! The traffic of a live input: the rows of the lines that come over a wire, and the lines that answer them.
-ghost use Rattle.std.specs.Prelude.{◌≡◌, [], Bool, IfOk, List, Ok, OnOk, ℕ, false, length, replicate, true};
+ghost use Rattle.std.specs.Prelude.{◌≡◌, [], Bool, IfErr, IfOk, List, Ok, OnOk, ℕ, false, length, replicate, true};
 ghost use Rattle.lane_core.specs.declared.job.Plain.{Plain};
 ghost use Rattle.hub_core.specs.Traffics.{IsEven};
 ghost use Rattle.wire_core.specs.Events.{Event};
@@ -12,13 +12,13 @@ use crate::live::fault::{LiveFault, is_open};
 use crate::live::form::Form;
 use crate::live::place::push_places;
 use crate::live::progress::{Progress, TURN, Taken};
-use crate::live::waiting::{end_turn, make_lanes};
+use crate::live::waiting::end_turn;
 use hub_core::Traffic;
 use lane_core::Delivery;
 use scan_core::Runs;
-use std::alloc::{AllocError, Global};
+use std::alloc::Global;
 use std::convert::Infallible;
-use wire_core::{Lines, Wire, write_all};
+use wire_core::{Wire, write_all};
 
 /// The live input has stopped; why, it tells itself.
 #[derive(Clone, Copy, Debug, PartialEq, Eq)]
@@ -103,28 +103,26 @@ fn read_on<W: Wire>(wire: &mut W, progress: &mut Progress) -> Result<bool, Stopp
 }
 
 impl<W: Wire> Live<W> {
-    /// A live input of so many lanes, of which nothing has been read.
-    pub fn new(alloc: Global, lanes: u8, form: Form, wire: W) -> Result<Live<W>, AllocError>
-    where
-        W: Drop,
+    /// A live input of so many lanes, of which nothing has been read. Where memory is refused the wire is given
+    /// back.
+    pub fn new(alloc: Global, lanes: u8, form: Form, wire: W) -> Result<Live<W>, W>
         requires { W.Did wire wire [] }
         ensures came { IfOk result (λ s. ⟦<Live<W> as Traffic>⟧.Came s s (replicate lanes []) (replicate lanes [])) }
         ensures wire { IfOk result (λ s. s.wire ≡ wire) }
         ensures form { IfOk result (λ s. s.form ≡ form) }
         ensures count { IfOk result (λ s. length s.progress.lanes.items ≡ lanes) }
+        ensures refused { IfErr result (λ w. w ≡ wire) }
     {
-        Ok(Live {
-            wire,
-            alloc,
-            form,
-            text: String::new(alloc),
-            progress: Progress {
-                lanes: make_lanes(alloc, lanes)?,
-                places: Vec::new(alloc),
-                lines: Lines::new(alloc)?,
-                stopped: None,
-            },
-        })
+        match Progress::new(alloc, lanes) {
+            Ok(progress) => Ok(Live {
+                wire,
+                alloc,
+                form,
+                text: String::new(alloc),
+                progress,
+            }),
+            Err(_) => Err(wire),
+        }
     }
 
     /// Why it has stopped, if it has.

@@ -1,5 +1,5 @@
 //! How far a live input has come: what is held of it, and the places of the turn's records.
-ghost use Rattle.std.specs.Prelude.{◌≡◌, ◌<◌, ◌≤◌, ◌+◌, ℕ, List, MatchResult, Some, length, slice_get, vec_len};
+ghost use Rattle.std.specs.Prelude.{◌≡◌, ◌<◌, ◌≤◌, ◌+◌, [], ℕ, IfOk, List, MatchResult, None, Some, length, replicate, slice_get, vec_len};
 ghost use Rattle.lane_core.specs.declared.job.Plain.{Plain};
 ghost use Rattle.wire_core.specs.Events.{Event};
 ghost use Rattle.wire_core.specs.Lines.{without_line};
@@ -12,7 +12,7 @@ ghost use Rattle.line_core.specs.declared.live.waiting.Waiting.{Waiting};
 use crate::live::fault::LiveFault;
 use crate::live::place::Place;
 use crate::live::record::{LineFault, Record, next_record};
-use crate::live::waiting::{Waiting, next_number};
+use crate::live::waiting::{Waiting, make_lanes, next_number};
 use lane_core::Delivery;
 use scan_core::Runs;
 use std::alloc::{AllocError, Global};
@@ -46,6 +46,20 @@ pub struct Progress {
 }
 
 impl Progress {
+    /// Nothing has come, of so many lanes.
+    pub fn new(alloc: Global, lanes: u8) -> Result<Progress, AllocError>
+        ensures come { IfOk result (λ p. (f : Form) → IsAt f [] p (replicate lanes []) (replicate lanes [])) }
+        ensures count { IfOk result (λ p. length p.lanes.items ≡ lanes) }
+        ensures going { IfOk result (λ p. p.stopped ≡ None) }
+    {
+        Ok(Progress {
+            lanes: make_lanes(alloc, lanes)?,
+            places: Vec::new(alloc),
+            lines: Lines::new(alloc)?,
+            stopped: None,
+        })
+    }
+
     /// Keeps the place of a row of this lane. False where the lane has had all its numbers.
     fn keep_row(&mut self, lane: u8) -> Result<bool, AllocError>
         requires low { lane < vec_len self.old.lanes }

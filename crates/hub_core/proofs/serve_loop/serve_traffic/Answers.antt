@@ -9,9 +9,9 @@ use Rattle.hub_core.proofs.serve_loop.serve_traffic.Goals as goal
 
 pub serve_seats-requires-after_bounds : goal.serve_seats-requires-after_bounds
 serve_seats-requires-after_bounds g c κs within =
-    let hub = c.in_ok-hub.field-0.hub in
-    let lanes = c.in_ok-hub.field-0.lanes.items in
-    let is = c.in_ok-hub.ensures in
+    let hub = c.in-Ok-new_hub.parts.hub in
+    let lanes = c.in-Ok-new_hub.parts.lanes.items in
+    let is = c.in-Ok-new_hub.ensures in
     let count = lanes_counted lanes c.args.lanes is.lanes in (
       serves_fresh hub lanes c.args.lanes is.seats.lanes is.lanes is.shape.0 is.shape.1,
       came_fresh (g.T.Traffic.Came c.args.traffic c.args.traffic) lanes c.args.lanes is.unused count c.requires.fresh,
@@ -22,22 +22,22 @@ serve_seats-requires-after_bounds g c κs within =
 pub close_all-closed-requires : goal.close_all-closed-requires
 close_all-closed-requires g c =
     let done = c.in_ok-traffic.ensures.serves in
-    let hub = c.in_ok-hub.field-0.hub in
+    let hub = c.in-Ok-new_hub.parts.hub in
     let seats = c.in_ok-traffic.lanes.items in
-    let is = c.in_ok-hub.ensures in
+    let is = c.in-Ok-new_hub.ensures in
     let now = seats_counted hub seats done.0 done.1 in
-    let before = lanes_counted c.in_ok-hub.field-0.lanes.items c.args.lanes is.lanes in
-    let room = c.in_ok-room.ensures in
-    (room.items, room.len, omega (arith, now, before, is.shape.0, room.capacity, c.len.ensures, c.in_ok-hub.field-0.lanes.ok.0, c.in_ok-traffic.lanes.ok.0))
+    let before = lanes_counted c.in-Ok-new_hub.parts.lanes.items c.args.lanes is.lanes in
+    let room = c.in-Ok.ensures in
+    (room.items, room.len, omega (arith, now, before, is.shape.0, room.capacity, c.from.ensures, c.in-Ok-new_hub.parts.lanes.ok.0, c.in_ok-traffic.lanes.ok.0))
 
 pub returns-clause-served : goal.returns-clause-served
 returns-clause-served g c =
     λ kept.
-    let hub = c.in_ok-hub.field-0.hub in
+    let hub = c.in-Ok-new_hub.parts.hub in
     let seats = c.in_ok-traffic.lanes.items in
     let done = c.in_ok-traffic.ensures.serves in
     let first : PolledFirst hub seats = subst (PolledFirst hub) c.close_all-closed.ensures c.finish.ensures in
-    let year : year_of hub ≡ c.args.year = c.in_ok-hub.ensures.shape.2 in (
+    let year : year_of hub ≡ c.args.year = c.in-Ok-new_hub.ensures.shape.2 in (
       given_to seats done.0,
       polled_by seats,
       done.2 kept,

@@ -1,4 +1,5 @@
-use Rattle.std.proofs.Common.{◌≡◌, ◌∙◌, None, ap, length, sym, subst}
+use Rattle.std.proofs.Common.{inl}
+use Rattle.std.proofs.Common.{◌≡◌, ◌∙◌, None, ap, length, refl, sym, subst}
 use Rattle.hub_core.specs.declared.ended.Ended.TheVariants.{Done}
 use Rattle.wire_core.specs.Events.{was_read, was_written}
 use Rattle.wire_core.specs.Lines.{pieces_of}
@@ -7,7 +8,7 @@ use Rattle.line_core.specs.live.Replies.{replies_to}
 use Rattle.line_core.specs.live.Text.{AnsweredAll, IsReply, line_meant}
 use Rattle.line_core.specs.live.Answering.{AnswersBy}
 use Rattle.line_core.specs.declared.live.fault.LiveFault.TheVariants as fault
-use Rattle.line_core.proofs.live.EndFacts.{all_answered, at_a_regular_end, finished, it_is_told, none_lost, tells_reply, why_it_ended}
+use Rattle.line_core.proofs.live.EndFacts.{all_answered, at_a_regular_end, finished, it_is_told, lived_nothing, none_lost, tells_reply, why_it_ended}
 use Rattle.line_core.proofs.live.LogFacts.{answers_weaker, front_weaker, prompt_weaker}
 use Rattle.line_core.proofs.live.answering.answer_live.Goals as goal
 
@@ -55,3 +56,12 @@ returns-in-Ok-serve_traffic-clause-lived g c =
         λ is. it_is_told c.stopped.result c.in-Ok-serve_traffic.ended c.ending-result.result fault.WriteFault ends (same ∙ told.failed_write (ap g.W.Wire.write_failed wire ∙ first) is),
       );
     }
+
+-- no memory for a live input
+pub returns-in-Err-clause-lived : goal.returns-in-Err-clause-lived
+returns-in-Err-clause-lived g c = lived_nothing c.args.terms g.W.Wire.Did g.W.Wire.read_failed g.W.Wire.write_failed c.args.wire _ _ fault.NoMemory c.requires.fresh c.in-Err.ensures.refused refl (inl refl)
+
+-- no memory for a hub, or no thread
+pub returns-in-Err-serve_traffic-clause-lived : goal.returns-in-Err-serve_traffic-clause-lived
+returns-in-Err-serve_traffic-clause-lived g c =
+    lived_nothing c.args.terms g.W.Wire.Did g.W.Wire.read_failed g.W.Wire.write_failed c.args.wire _ _ c.fault_of.result c.requires.fresh (ap (λ s. s.wire) c.in-Err-serve_traffic.ensures.untouched ∙ c.in-Ok.ensures.wire) refl c.fault_of.ensures.either

@@ -7,7 +7,7 @@ use Rattle.fakes.proofs.station.fn.Station.poll_and_open.task.Goals as goal
 
 pub returns : goal.returns
 returns g c =
-    let items = c.captures.lanes.items in
+    let items = c.args.lanes.items in
     let i = c.captures.free in
     let k = c.captures.held in
     let free = c.first_polled-polled.new.seat in
