@@ -1,14 +1,17 @@
 //! Each run of a command once, and gates that see its workers beside each other.
 
 use crate::commands::lanes::options::LaneOptions;
+use crate::commands::live::options::LiveOptions;
+use crate::commands::live::run_live;
 use crate::commands::print::options::PrintOptions;
 use crate::commands::scan::options::ScanOptions;
 use crate::commands::{Batch, run};
 use digits_core::{FromReader, ToWriter};
 use element_core::Year;
-use fakes::{Holding, Meeting};
+use fakes::{Happened, Holding, Meeting, Recorded};
 use hub_core::{Gate, OpenGate};
 use lane_core::Ticket;
+use std::alloc::Global;
 use std::process::Abort;
 use std::sync::Wait;
 use std::test::Fail;
@@ -189,4 +192,71 @@ fn each_row_of_a_long_lane_comes_once(rt: HostRuntime) -> Result<(), Fail> {
     )?;
     assert!(rt; gate.saw_each_once());
     Ok(())
+}
+
+// What `live` reads and writes of this input, twelve bytes at a time: a read begins with `<`, a write with `>`.
+const LIVE_INPUT: &[u8] = b"0,100\n0,1 2\n0,100\n0,100";
+
+const LIVE_CALLS: &[&str] = &[
+    "<0,100\n0,1 2\n",
+    ">0 0 refused ",
+    ">19 Blank\n0 -",
+    "> refused 18 ",
+    ">BadRuns\n",
+    "<0,100\n0,100",
+    ">0 1 refused ",
+    ">19 Blank\n",
+    "<",
+    ">0 2 refused ",
+    ">19 Blank\n",
+];
+
+/// What a wire did.
+fn told(alloc: Global, wire: &Recorded<'_>) -> Result<String, Fail> {
+    let mut text = String::new(alloc);
+    for call in wire.happened() {
+        let (mark, bytes) = match call {
+            Happened::Read(bytes) => ("<", bytes),
+            Happened::Wrote(bytes) => (">", bytes),
+        };
+        text.push_str(mark)?;
+        text.push_str(str::from_utf8(bytes.as_slice()).map_err(|_| "text")?)?;
+    }
+    Ok(text)
+}
+
+/// That `live` makes the first `calls` of its calls on a wire that fails at the next, and how it ends.
+fn lives<R: Threads + Wait + AllocGlobal + Sync + Abort>(
+    rt: &R,
+    calls: usize,
+    ending: &str,
+) -> Result<(), Fail> {
+    let alloc = rt.alloc();
+    let options = LiveOptions::new(1, 2, 2026, false).ok_or("options")?;
+    let wire = Recorded::new(alloc, LIVE_INPUT, 12, calls);
+    let (wire, ended) = run_live(rt, alloc, options, wire, &OpenGate).map_err(|_| "start")?;
+    let mut wanted = String::new(alloc);
+    for call in &LIVE_CALLS[..calls] {
+        wanted.push_str(call)?;
+    }
+    assert_eq!(*rt; told(alloc, &wire)?.as_str(), wanted.as_str());
+    let ended = match ended {
+        Ok(()) => String::new(alloc),
+        Err(fault) => fault.to_string(alloc)?,
+    };
+    assert_eq!(*rt; ended.as_str(), ending);
+    Ok(())
+}
+
+#[test]
+fn live_reads_and_writes_in_turn(rt: HostRuntime) -> Result<(), Fail> {
+    for (calls, next) in LIVE_CALLS.iter().enumerate() {
+        let ending = if next.starts_with('<') {
+            "refused 37 ReadFault"
+        } else {
+            "refused 38 WriteFault"
+        };
+        lives(&rt, calls, ending)?;
+    }
+    lives(&rt, LIVE_CALLS.len(), "")
 }

@@ -1,9 +1,9 @@
 //! A row that is held back at the gate is not delivered, and holds no other lane back.
 
 use crate::tests::rows::{EAN8, EAN13, row};
-use fakes::{Closed, LaneGate, Station, is_answer};
 use hub_core::Shape;
 use scan_core::Carrier;
+use station::{Closed, LaneGate, Station, is_answer};
 use std::process::Abort;
 use std::sync::Wait;
 use std::test::Fail;

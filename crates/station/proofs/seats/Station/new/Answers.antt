@@ -1,6 +1,6 @@
 use Rattle.std.proofs.Common.{◌∙◌, sym, ap}
-use Rattle.fakes.proofs.StationFacts.{counted}
-use Rattle.fakes.proofs.station.Station.new.Goals as goal
+use Rattle.station.proofs.StationFacts.{counted}
+use Rattle.station.proofs.seats.Station.new.Goals as goal
 
 pub invariant_of-result : goal.invariant_of-result
 invariant_of-result g c = record {

@@ -1,0 +1,107 @@
+//! A wire that keeps what it did.
+ghost use Rattle.std.specs.Prelude.{◌≡◌, [], false};
+ghost use Rattle.fakes.specs.Recorded.{events_of};
+
+use digits_core::Failed;
+use std::alloc::{AllocError, Global};
+use wire_core::Wire;
+
+/// A read that gave these bytes, or a write that took them.
+#[derive(Debug, Drop, PartialEq, Eq)]
+pub enum Happened {
+    /// A read gave these bytes.
+    Read(Vec<u8>),
+    /// A write took these bytes.
+    Wrote(Vec<u8>),
+}
+
+/// A wire in memory: it gives and takes a few bytes at a time, fails after so many calls, and keeps what it did.
+/// It fails too where its memory is refused, and then at each call.
+#[derive(Drop)]
+pub struct Recorded<'a> {
+    alloc: Global,
+    left: &'a [u8],
+    most: usize,
+    calls_left: usize,
+    happened: Vec<Happened>,
+    read_failed: bool,
+    write_failed: bool,
+}
+
+impl<'a> Recorded<'a> {
+    /// A wire that has done nothing. It gives these bytes, at most `most` at a read and at least one, takes as
+    /// many at a write, and fails after so many calls.
+    pub fn new(alloc: Global, bytes: &'a [u8], most: usize, calls: usize) -> Recorded<'a>
+        ensures fresh { ⟦<Recorded<'a> as Wire>⟧.Did result result [] }
+        ensures readable { ⟦<Recorded<'a> as Wire>⟧.read_failed result ≡ false }
+        ensures writable { ⟦<Recorded<'a> as Wire>⟧.write_failed result ≡ false }
+    {
+        Recorded {
+            alloc,
+            left: bytes,
+            most,
+            calls_left: calls,
+            happened: Vec::new(alloc),
+            read_failed: false,
+            write_failed: false,
+        }
+    }
+
+    /// The reads and writes that it did, in their order.
+    pub fn happened(&self) -> &[Happened]
+        ensures { result.now ≡ self.now.happened.items }
+    {
+        self.happened.as_slice()
+    }
+
+    /// How many of so many bytes go over at a call.
+    fn count_of(&self, bytes: usize) -> usize {
+        bytes.min(self.most.max(1))
+    }
+
+    /// Keeps a call that is one of those that do not fail.
+    fn keep(&mut self, call: Result<Happened, AllocError>) -> Result<(), Failed> {
+        if self.calls_left > 0
+            && let Ok(happened) = call
+            && self.happened.push(happened).is_ok()
+        {
+            self.calls_left -= 1;
+            return Ok(());
+        }
+        self.calls_left = 0;
+        Err(Failed)
+    }
+}
+
+impl<'a> Wire for Recorded<'a> {
+    ghost use Rattle.std.specs.Prelude.{◌++◌};
+
+    ghost Did = { λ start wire events. events_of wire.happened.items ≡ events_of start.happened.items ++ events };
+
+    ghost read_failed = { λ wire. wire.read_failed };
+
+    ghost write_failed = { λ wire. wire.write_failed };
+
+    fn read(&mut self, buf: &mut [u8]) -> Result<usize, Failed> {
+        let count = self.count_of(self.left.len().min(buf.len()));
+        let (piece, left) = self.left.split_at(count);
+        let kept = piece.to_vec(self.alloc).map(Happened::Read);
+        if self.keep(kept).is_err() {
+            self.read_failed = true;
+            return Err(Failed);
+        }
+        buf[..count].copy_from_slice(piece);
+        self.left = left;
+        Ok(count)
+    }
+
+    fn write(&mut self, bytes: &[u8]) -> Result<usize, Failed> {
+        let count = self.count_of(bytes.len());
+        let kept = bytes[..count].to_vec(self.alloc).map(Happened::Wrote);
+        if self.keep(kept).is_err() {
+            self.write_failed = true;
+            return Err(Failed);
+        }
+        Ok(count)
+    }
+}
