@@ -1,5 +1,6 @@
 //! A wire that keeps what it did.
-ghost use Rattle.std.specs.Prelude.{◌≡◌, [], false};
+ghost use Rattle.std.specs.Prelude.{◌≡◌, ◌<◌, ◌≤◌, ◌∷◌, ◌++◌, [], OnErr, OnOk, Ok, false};
+ghost use Rattle.fakes.specs.declared.recorded.Happened.{Happened};
 ghost use Rattle.fakes.specs.Recorded.{events_of};
 
 use digits_core::Failed;
@@ -55,21 +56,33 @@ impl<'a> Recorded<'a> {
     }
 
     /// How many of so many bytes go over at a call.
-    fn count_of(&self, bytes: usize) -> usize {
+    fn count_of(&self, bytes: usize) -> usize
+        ensures few { result ≤ bytes }
+        ensures some { 0 < bytes → 0 < result }
+    {
         bytes.min(self.most.max(1))
     }
 
-    /// Keeps a call that is one of those that do not fail.
-    fn keep(&mut self, call: Result<Happened, AllocError>) -> Result<(), Failed> {
-        if self.calls_left > 0
-            && let Ok(happened) = call
-            && self.happened.push(happened).is_ok()
-        {
-            self.calls_left -= 1;
-            return Ok(());
-        }
+    /// Keeps a call, where it is one of those that do not fail. After one that fails each fails.
+    fn keep(&mut self, call: Result<Happened, AllocError>) -> Result<(), Failed>
+        ensures kept { OnOk result ((happened : Happened) × (call ≡ Ok happened) × (self.new.happened.items ≡ self.old.happened.items ++ happened ∷ [])) }
+        ensures none { OnErr result (self.new.happened.items ≡ self.old.happened.items) }
+        ensures left { self.new.left ≡ self.old.left }
+        ensures failed { (self.new.read_failed ≡ self.old.read_failed) × (self.new.write_failed ≡ self.old.write_failed) }
+    {
+        let left = self.calls_left;
         self.calls_left = 0;
-        Err(Failed)
+        let Ok(happened) = call else {
+            return Err(Failed);
+        };
+        if left == 0 {
+            return Err(Failed);
+        }
+        let Ok(()) = self.happened.push(happened) else {
+            return Err(Failed);
+        };
+        self.calls_left = left - 1;
+        Ok(())
     }
 }
 
