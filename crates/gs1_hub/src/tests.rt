@@ -232,9 +232,10 @@ fn lives<R: Threads + Wait + AllocGlobal + Sync + Abort>(
     ending: &str,
 ) -> Result<(), Fail> {
     let alloc = rt.alloc();
-    let options = LiveOptions::new(1, 2, 2026, false).ok_or("options")?;
+    let rows = LaneOptions::new(1, 2, 2026).ok_or("options")?;
     let wire = Recorded::new(alloc, LIVE_INPUT, 12, calls);
-    let (wire, ended) = run_live(rt, alloc, options, wire, &OpenGate).map_err(|_| "start")?;
+    let options = LiveOptions::new(rows, false);
+    let (wire, ended) = run_live(rt, alloc, options, wire, &OpenGate);
     let mut wanted = String::new(alloc);
     for call in &LIVE_CALLS[..calls] {
         wanted.push_str(call)?;
