@@ -64,8 +64,8 @@ pub fn live_words<'a>(alloc: Global) -> Result<Command<'a>, AllocError>
 /// each other, and each passes the gate before a row.
 ///
 /// A record is a line: a lane, a comma, and the widths of a row in dots with one space between them. Before each read
-/// all records that have come are answered. The wire is given back with the end that the run came to: as it was, where
-/// it could not begin for want of memory or of a thread.
+/// all records that have come are answered. The wire is given back with the end that the run came to; after `NoThread`
+/// it is as it was, so that nothing was read and nothing written.
 pub fn run_live<R: Threads + Wait + Sync, W: Wire + Drop, G: Gate + Sync>(
     rt: &R,
     alloc: Global,

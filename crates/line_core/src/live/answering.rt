@@ -55,9 +55,9 @@ fn ending(stopped: Option<LiveFault>, ended: Ended<Stopped, Infallible>) -> Resu
 /// lane and the widths of a row, with a comma between them, on a line. So many workers read the rows beside each
 /// other, all through one hub, and each passes the gate before a row.
 ///
-/// Before each read all records that have come are answered. It ends with the input, where a read or a write
-/// fails, where memory is refused, or where it cannot begin for want of memory or of a thread. The wire is given
-/// back at each end: as it was, where it could not begin, and `NoThread` says that it could not.
+/// Before each read all records that have come are answered. It ends with the input, or where a read or a write
+/// fails, memory is refused or a thread could not be started. The wire is given back at each end; after
+/// `NoThread` it is as it was, so that nothing was read and nothing written.
 pub fn answer_live<R: Threads + Wait + Sync, W: Wire + Drop, G: Gate + Sync>(
     rt: &R,
     alloc: Global,
