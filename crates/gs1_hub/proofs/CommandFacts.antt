@@ -3,14 +3,13 @@ use Rattle.std.proofs.Common.{◌≡◌, ◌∙◌, ◌∷◌, [], All, Err, IsE
 use Rattle.std.specs.List.{AllZip, flat_map, range_with_len}
 use Rattle.std.specs.Io.KnownBytes.{IsAtEnd}
 use Rattle.digits_core.specs.Bytes.{TookFront}
-use Rattle.std.proofs.lemmas.List.Elements.{All-cons, All-head, All-map, All-nil, All-tail}
+use Rattle.std.proofs.lemmas.List.Elements.{All-cons, All-head, All-nil, All-tail}
 use Rattle.sheet_core.specs.Bitmaps.{Bitmap}
 use Rattle.sheet_core.specs.Grids.{IsGrid}
 use Rattle.sheet_core.specs.pbm.Images.{Reads, images_of}
 use Rattle.line_core.specs.Grids.{cells_of}
 use Rattle.line_core.specs.answers.Reports.{IsReport}
 use Rattle.line_core.specs.input.Records.{Meaning, Takes}
-use Rattle.line_core.specs.lanes.Feeds.{LaneRow, feed_of, feeds_of, lanes_meaning}
 use Rattle.line_core.specs.scan.Columns.{AreColumns, HaveDots, column_dots, have_size}
 use Rattle.line_core.specs.declared.answers.serving.AnswerFault.{AnswerFault}
 use Rattle.line_core.specs.declared.answers.serving.AnswerFault.TheVariants as answers
