@@ -128,7 +128,11 @@ fn run_as_input_comes<R: Threads + Wait + Sync + Input + Print + AllocGlobal>(
     rt: &R,
     options: LiveOptions,
 ) -> Result<(), CommandFault> {
-    let wire = Wired::new(FromReader::new(rt.reader()), ToWriter::new(io::writer(rt)));
+    // In a box: a large reader that is moved with its wire takes the compiler minutes.
+    let Ok(reader) = Box::new(rt.alloc(), rt.reader()) else {
+        return Err(CommandFault::NoMemory);
+    };
+    let wire = Wired::new(FromReader::new(reader), ToWriter::new(io::writer(rt)));
     let (_, ended) = run_live(rt, rt.alloc(), options, wire, &OpenGate);
     ended
 }

@@ -237,7 +237,7 @@ fn lives<R: Threads + Wait + AllocGlobal + Sync + Abort>(
     let options = LiveOptions::new(rows, false);
     let (wire, ended) = run_live(rt, alloc, options, wire, &OpenGate);
     let mut wanted = String::new(alloc);
-    for call in &LIVE_CALLS[..calls] {
+    for call in LIVE_CALLS.iter().take(calls) {
         wanted.push_str(call)?;
     }
     assert_eq!(*rt; told(alloc, &wire)?.as_str(), wanted.as_str());

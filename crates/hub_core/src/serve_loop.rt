@@ -316,23 +316,23 @@ fn serve_seats<R: Threads + Wait + Sync, G: Gate + Sync, T: Traffic + Drop>(
     rt: &R,
     alloc: Global,
     hub: &Hub,
-    traffic: T,
+    traffic: Box<T>,
     seats: Vec<LaneSeat>,
     workers: Vec<WorkerSeat>,
     deliverer: DelivererSeat,
     gate: &G,
 ) -> Result<
     (
-        T,
+        Box<T>,
         Vec<LaneSeat>,
         Vec<WorkerSeat>,
         DelivererSeat,
         Ended<T::WaitFault, T::BringFault>,
     ),
-    Unstarted<T>,
+    Unstarted<Box<T>>,
 >
-    requires { Serves hub.now seats.items None × T.Came traffic traffic (given_to seats.items None) (polled_by seats.items) × All (IsWorkerOf hub.now) workers.items × IsDelivererOf hub.now deliverer }
-    ensures serves { IfOk result (λ v. (held : Option (ℕ × List ℕ)) × Serves hub.now v.1.items held × (IsKept v.4 → T.Came traffic v.0 (given_to v.1.items held) (polled_by v.1.items)) × (v.4 ≡ Ended.Done → (T.has_ended v.0 ≡ true) × AreEven v.1.items × (held ≡ None))) }
+    requires { Serves hub.now seats.items None × T.Came traffic.value traffic.value (given_to seats.items None) (polled_by seats.items) × All (IsWorkerOf hub.now) workers.items × IsDelivererOf hub.now deliverer }
+    ensures serves { IfOk result (λ v. (held : Option (ℕ × List ℕ)) × Serves hub.now v.1.items held × (IsKept v.4 → T.Came traffic.value v.0.value (given_to v.1.items held) (polled_by v.1.items)) × (v.4 ≡ Ended.Done → (T.has_ended v.0.value ≡ true) × AreEven v.1.items × (held ≡ None))) }
     ensures workers { IfOk result (λ v. All (IsWorkerOf hub.now) v.2.items × (vec_len v.2 ≡ vec_len workers)) }
     ensures deliverer { IfOk result (λ v. IsDelivererOf hub.now v.3) }
     ensures refused { IfErr result (λ e. e.fault ≢ ServeFault.BadCount) }
@@ -340,20 +340,27 @@ fn serve_seats<R: Threads + Wait + Sync, G: Gate + Sync, T: Traffic + Drop>(
 {
     let told = Signals::new();
     let signals = &told;
-    let task = move |traffic: T| -> (
-        T,
+    let task = move |traffic: Box<T>| -> (
+        Box<T>,
         Vec<LaneSeat>,
         DelivererSeat,
         Ended<T::WaitFault, T::BringFault>,
     )
-        requires { Serves hub.now seats.items None × T.Came traffic traffic (given_to seats.items None) (polled_by seats.items) × IsDelivererOf hub.now deliverer }
-        ensures serves { (held : Option (ℕ × List ℕ)) × Serves hub.entry.now result.1.items held × (IsKept result.3 → T.Came traffic result.0 (given_to result.1.items held) (polled_by result.1.items)) × (result.3 ≡ Ended.Done → (T.has_ended result.0 ≡ true) × AreEven result.1.items × (held ≡ None)) }
+        requires { Serves hub.now seats.items None × T.Came traffic.value traffic.value (given_to seats.items None) (polled_by seats.items) × IsDelivererOf hub.now deliverer }
+        ensures serves { (held : Option (ℕ × List ℕ)) × Serves hub.entry.now result.1.items held × (IsKept result.3 → T.Came traffic.value result.0.value (given_to result.1.items held) (polled_by result.1.items)) × (result.3 ≡ Ended.Done → (T.has_ended result.0.value ≡ true) × AreEven result.1.items × (held ≡ None)) }
         ensures deliverer { IsDelivererOf hub.entry.now result.2 }
     {
         let mut traffic = traffic;
         let mut seats = seats;
         let mut deliverer = deliverer;
-        let ended = run(rt, hub, &mut traffic, &mut seats, &mut deliverer, signals);
+        let ended = run(
+            rt,
+            hub,
+            traffic.as_mut(),
+            &mut seats,
+            &mut deliverer,
+            signals,
+        );
         (traffic, seats, deliverer, ended)
     };
     let (workers, (traffic, seats, deliverer, ended)) = run_workers(
@@ -403,25 +410,20 @@ fn close_all(seats: Vec<LaneSeat>, room: Vec<ClosedLane>) -> Vec<ClosedLane>
     closed
 }
 
-/// Serves a traffic that has given nothing: the calling thread submits its rows, collects, hands and
-/// brings their deliveries, and so many workers read them beside each other, each row once the gate has
-/// let its ticket pass.
-///
-/// `NoThread` says that a thread could not be started, `NoMemory` that the hub or its threads were refused
-/// memory: the traffic has given nothing then, and is given back as it was.
-pub fn serve_traffic<R: Threads + Wait + Sync, G: Gate + Sync, T: Traffic + Drop>(
+/// Serves a traffic that has given nothing.
+fn serve_boxed<R: Threads + Wait + Sync, G: Gate + Sync, T: Traffic + Drop>(
     rt: &R,
     alloc: Global,
-    traffic: T,
+    traffic: Box<T>,
     lanes: u8,
     workers: u8,
     year: Year,
     gate: &G,
-) -> Result<(T, Ended<T::WaitFault, T::BringFault>), Unstarted<T>>
+) -> Result<(Box<T>, Ended<T::WaitFault, T::BringFault>), Unstarted<Box<T>>>
     requires counts { (is_count lanes ≡ true) × (is_count workers ≡ true) }
-    requires fresh { T.Came traffic traffic (replicate lanes []) (replicate lanes []) }
-    ensures served { IfOk result (λ v. IsKept v.1 → (given : List (List (List ℕ))) × (brought : List (List Plain)) × T.Came traffic v.0 given brought × AreServedFirst year given brought
-        × (v.1 ≡ Ended.Done → (T.has_ended v.0 ≡ true) × (brought ≡ served year given))) }
+    requires fresh { T.Came traffic.value traffic.value (replicate lanes []) (replicate lanes []) }
+    ensures served { IfOk result (λ v. IsKept v.1 → (given : List (List (List ℕ))) × (brought : List (List Plain)) × T.Came traffic.value v.0.value given brought × AreServedFirst year given brought
+        × (v.1 ≡ Ended.Done → (T.has_ended v.0.value ≡ true) × (brought ≡ served year given))) }
     ensures refused { IfErr result (λ e. e.fault ≢ ServeFault.BadCount) }
     ensures untouched { IfErr result (λ e. e.input ≡ traffic) }
 {
@@ -451,4 +453,45 @@ pub fn serve_traffic<R: Threads + Wait + Sync, G: Gate + Sync, T: Traffic + Drop
     let closed = close_all(lanes, room);
     hub.finish(rt, alloc, closed, workers, deliverer);
     Ok((traffic, ended))
+}
+
+/// Serves a traffic that has given nothing: the calling thread submits its rows, collects, hands and
+/// brings their deliveries, and so many workers read them beside each other, each row once the gate has
+/// let its ticket pass.
+///
+/// `NoThread` says that a thread could not be started, `NoMemory` that the hub or its threads were refused
+/// memory: the traffic has given nothing then, and is given back as it was.
+pub fn serve_traffic<R: Threads + Wait + Sync, G: Gate + Sync, T: Traffic + Drop>(
+    rt: &R,
+    alloc: Global,
+    traffic: T,
+    lanes: u8,
+    workers: u8,
+    year: Year,
+    gate: &G,
+) -> Result<(T, Ended<T::WaitFault, T::BringFault>), Unstarted<T>>
+    requires counts { (is_count lanes ≡ true) × (is_count workers ≡ true) }
+    requires fresh { T.Came traffic traffic (replicate lanes []) (replicate lanes []) }
+    ensures served { IfOk result (λ v. IsKept v.1 → (given : List (List (List ℕ))) × (brought : List (List Plain)) × T.Came traffic v.0 given brought × AreServedFirst year given brought
+        × (v.1 ≡ Ended.Done → (T.has_ended v.0 ≡ true) × (brought ≡ served year given))) }
+    ensures refused { IfErr result (λ e. e.fault ≢ ServeFault.BadCount) }
+    ensures untouched { IfErr result (λ e. e.input ≡ traffic) }
+{
+    // In a box, since a large one that is moved from result to result takes the compiler minutes.
+    let traffic = match Box::new(alloc, traffic) {
+        Ok(traffic) => traffic,
+        Err(refused) => {
+            return Err(Unstarted {
+                fault: ServeFault::NoMemory,
+                input: refused.value,
+            });
+        }
+    };
+    match serve_boxed(rt, alloc, traffic, lanes, workers, year, gate) {
+        Ok((traffic, ended)) => Ok((Box::into_inner(traffic), ended)),
+        Err(refused) => Err(Unstarted {
+            fault: refused.fault,
+            input: Box::into_inner(refused.input),
+        }),
+    }
 }

@@ -5,7 +5,7 @@ use Rattle.hub_core.specs.Standing.{PolledFirst}
 use Rattle.hub_core.specs.Traffics.{AreServedFirst, Serves, given_to, polled_by}
 use Rattle.hub_core.proofs.ServeFacts.{lanes_counted}
 use Rattle.hub_core.proofs.TrafficFacts.{all_served, came_fresh, seats_counted, serves_fresh, served_first}
-use Rattle.hub_core.proofs.serve_loop.serve_traffic.Goals as goal
+use Rattle.hub_core.proofs.serve_loop.serve_boxed.Goals as goal
 
 pub serve_seats-requires-after_bounds : goal.serve_seats-requires-after_bounds
 serve_seats-requires-after_bounds g c κs within =
@@ -14,7 +14,7 @@ serve_seats-requires-after_bounds g c κs within =
     let is = c.in-Ok-new_hub.ensures in
     let count = lanes_counted lanes c.args.lanes is.lanes in (
       serves_fresh hub lanes c.args.lanes is.seats.lanes is.lanes is.shape.0 is.shape.1,
-      came_fresh (g.T.Traffic.Came c.args.traffic c.args.traffic) lanes c.args.lanes is.unused count c.requires.fresh,
+      came_fresh (g.T.Traffic.Came c.args.traffic.value c.args.traffic.value) lanes c.args.lanes is.unused count c.requires.fresh,
       is.seats.workers,
       is.seats.deliverer,
     )
