@@ -13,8 +13,9 @@ const LOOKS = [
   { lines: 9, rows: 40, blur: 2.7 },
 ];
 
-// The look for symbols whose quiet zones are too narrow: a module wide at least.
-const CROWDED = { lines: 3, rows: 12, blur: 0, quiet: 1 };
+// The look for symbols whose quiet zones are too narrow: a module wide at least. Of stripes that are all alike nearly every
+// window is such a one, so only so many are tried.
+const CROWDED = { lines: 3, rows: 12, blur: 0, quiet: 1, most: 4000 };
 
 // The fewest dots of a row across a symbol: one for each run of a GS1-128 of three characters.
 const FEWEST_DOTS = 25;
@@ -89,13 +90,15 @@ class Again {
 
   // The symbols that the rows of a grid show.
   along(grid, look) {
-    const tally = new Tally();
-    for (let row = 0; row < grid.count; row++) {
+    const tally = new Tally(), most = look.most ?? Infinity;
+    let tried = 0;
+    for (let row = 0; row < grid.count && tried <= most; row++) {
       const v = grid.top + (row + 0.5) * grid.step, { from, profile } = grid.profile(this.picture, v, look.lines);
       if (profile.length < FEWEST_DOTS) continue;
       const bounds = boundsOf(profile), clear = look.blur ? sharpened(profile, bounds, look.blur) : profile;
       const count = edgesOf(clear, bounds, this.ends);
       eachWindow(this.ends, count, (first, last, shapes) => {
+        if (++tried > most) return true;
         const left = from + this.ends[first], right = from + this.ends[last - 1];
         const line = this.answer(first, last, shapes, look.quiet);
         if (line) tally.add(line, left, right, v, grid.step);

@@ -5,8 +5,8 @@ const at = (id) => document.getElementById(id);
 const number = (id) => Math.min(65535, Math.max(0, Math.trunc(Number(at(id).value)) || 0));
 let gs1;
 
-// What to do about a refusal, as docs/FAULTS.md says.
-const remedyOf = (line) => GS1_FAULTS[line.split(" ")[1]] ?? "";
+// What to do about a refusal, as docs/FAULTS.md says; of the words that the page asks with only the year can be wrong.
+const remedyOf = (line) => line === "refused 42 Words" ? "The year is to be from 1951 to 2149." : GS1_FAULTS[line.split(" ")[1]] ?? "";
 
 // Says a line, and at another place what to do about it where it is a refusal.
 function say(id, line, place, remedy = remedyOf) {

@@ -5,7 +5,10 @@
 const BETWEEN = "(?:[ \\t\\n\\v\\f\\r]|#[^\\r\\n]*[\\r\\n])+";
 const HEADER = new RegExp(`^P4${BETWEEN}(\\d{1,5})${BETWEEN}(\\d{1,5})[ \\t\\n\\v\\f\\r]`);
 
-// The images of a PBM file (P4), one below another, as pixels; or nothing where it is none.
+// The most dots of a picture that is made of images.
+const MOST_DOTS = 2 ** 28;
+
+// The images of a PBM file (P4), one below another, as pixels; or nothing where it is none, or they are too many.
 function pixelsOfPbm(bytes) {
   const images = [];
   for (let from = 0; from < bytes.length;) {
@@ -19,6 +22,7 @@ function pixelsOfPbm(bytes) {
   if (!images.length) return null;
   const width = Math.max(...images.map((image) => image.width));
   const height = images.reduce((sum, image) => sum + image.height, 0);
+  if (width * height > MOST_DOTS) return null;
   const grey = new Uint8Array(width * height).fill(255);
   let row = 0;
   for (const image of images) {

@@ -69,9 +69,11 @@ function tell() {
 const foundLines = () => pictures.flatMap(({ symbols }) => symbols.map(({ line }) => line.slice(4)));
 
 function foundCsv() {
+  // A table takes a cell that begins so for a formula.
+  const text = (word) => /^[=+\-@\t\r]/.test(word) ? `'${word}` : word;
   const quoted = (word) => /[",\r\n]/.test(word) ? `"${word.replaceAll('"', '""')}"` : word;
   const rows = pictures.flatMap(({ name, symbols }) => symbols.map(({ line }, i) => [name, String(i + 1), line.slice(0, 3), line.slice(4)]));
-  return [["picture", "number", "symbol", "text"], ...rows].map((row) => row.map(quoted).join(",") + "\r\n").join("");
+  return [["picture", "number", "symbol", "text"], ...rows].map((row) => row.map(text).map(quoted).join(",") + "\r\n").join("");
 }
 
 async function copyFound() {
@@ -139,6 +141,7 @@ let takes = 0;
 
 async function take(...files) {
   if (!files.length || !files[0]) return say("told", "there is no picture", "remedy");
+  if (stream) stopCamera();
   const turn = ++takes, taken = [], others = [];
   for (const file of files) {
     const one = await pictureOf(file);
@@ -164,8 +167,11 @@ function takePictures(taken) {
 }
 
 async function takeClipboard() {
+  const turn = ++takes;
   try {
-    for (const item of await navigator.clipboard.read()) {
+    const items = await navigator.clipboard.read();
+    if (turn !== takes) return;
+    for (const item of items) {
       const type = item.types.find((name) => name.startsWith("image/"));
       if (type) return await take(await item.getType(type));
     }
@@ -193,6 +199,8 @@ function listenToRead() {
   });
   for (const name of ["dragover", "dragleave", "drop"]) {
     addEventListener(name, (event) => {
+      // Text that is dropped goes where it was dropped.
+      if (!event.dataTransfer.types.includes("Files")) return;
       event.preventDefault();
       at("drop").classList.toggle("over", name === "dragover");
       if (name === "drop") document.taken = take(...event.dataTransfer.files);

@@ -7,7 +7,7 @@ const MOST_LABELS = 1000;
 // A line `kind,text` as a label, or why it is none; a text may stand in quotes, a quote in it twice.
 function labelOf(line) {
   const comma = line.indexOf(","), kind = line.slice(0, comma).trim();
-  if (comma < 0 || !LABELS[kind]) return { refused: `a line is a kind, a comma and a text, and a kind is one of ${Gs1.kinds.join(", ")}` };
+  if (comma < 0 || !Object.hasOwn(LABELS, kind)) return { refused: `a line is a kind, a comma and a text, and a kind is one of ${Gs1.kinds.join(", ")}` };
   const word = line.slice(comma + 1).trim(), text = /^".*"$/.test(word) ? word.slice(1, -1).replaceAll('""', '"') : word;
   const { year, module, height, resolution } = typed(), width = widthOf(gs1, kind, text, year, module);
   const image = typeof width === "string" ? width : gs1.label(kind, text, year, module, width, height);
