@@ -3,7 +3,7 @@
 #![tactic(auto)]
 
 ghost use Rattle.std.specs.Prelude.{◌≡◌, ◌<◌, IfSome, length};
-ghost use Rattle.lane_core.specs.Desk.{lanes_of};
+ghost use Rattle.lane_core.specs.ReorderBuffer.{lanes_of};
 
 use digits_core::{Gtin, Sink, ToWriter};
 use element_core::Year;

@@ -87,13 +87,15 @@ impl<'a> Recorded<'a> {
 }
 
 impl<'a> Wire for Recorded<'a> {
-    ghost use Rattle.std.specs.Prelude.{◌++◌};
+    ghost use Rattle.std.specs.Prelude.{◌≡◌, ◌++◌, []};
 
     ghost Did = { λ start wire events. events_of wire.happened.items ≡ events_of start.happened.items ++ events };
 
     ghost read_failed = { λ wire. wire.read_failed };
 
     ghost write_failed = { λ wire. wire.write_failed };
+
+    ghost at_end = { λ wire. wire.left.now ≡ [] };
 
     fn read(&mut self, buf: &mut [u8]) -> Result<usize, Failed> {
         let count = self.count_of(self.left.len().min(buf.len()));

@@ -1,5 +1,4 @@
 pub mod AskedFacts
-pub mod BesideFacts
 pub mod BufferFacts
 pub mod CheckOnce
 pub mod CommandFacts

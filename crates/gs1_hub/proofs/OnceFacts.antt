@@ -13,7 +13,7 @@ use Rattle.line_core.specs.lanes.Widths.{are_widths, field_fault, widths_in, wor
 use Rattle.line_core.specs.declared.input.fault.RecordFault.{RecordFault}
 use Rattle.line_core.specs.declared.input.fault.RecordFault.TheVariants as fault
 use Rattle.gs1_hub.specs.commands.Lanes.{OneLanes}
-use Rattle.gs1_hub.proofs.BesideFacts.{same_beside}
+use Rattle.line_core.proofs.Beside.{same_beside}
 
 -- where each record means one item at most, bytes mean one list of items
 pub mean_once : {Item : Type 0} (means : Meaning Item) → ((fields : Fields) (x y : Item) → means fields (Ok x) → means fields (Ok y) → x ≡ y)

@@ -1,19 +1,14 @@
 -- Laws about what the commands write and read.
-use Rattle.std.specs.Prelude.{◌≡◌, ◌↔◌, ◌≤◌, ◌<◌, ◌+◌, ◌*◌, ◌/◌, ℕ, List, [], Option, Some, None, length, map, slice_get}
-use Rattle.std.specs.List.{AllZip, flat_map, range_with_len}
+use Rattle.std.specs.Prelude.{◌≡◌, ◌↔◌, ◌≤◌, ◌<◌, ◌+◌, ◌*◌, ◌/◌, ℕ, List, [], Some, length, slice_get}
 use Rattle.clap.specs.Words.{Text, fault_of}
-use Rattle.scan_core.specs.Answers.{Reads}
 use Rattle.scan_core.specs.declared.answer.Answer.{Answer}
-use Rattle.scan_core.specs.declared.answer.Answer.TheVariants.{Read, Refused}
-use Rattle.scan_core.specs.declared.fault.RowFault.TheVariants.{Blank}
 use Rattle.scan_core.specs.Row.{IsRow, dots_of}
 use Rattle.sheet_core.specs.Bitmaps.{Bitmap, cell_dots}
 use Rattle.sheet_core.specs.Drawing.{cell_count, sheet_count}
 use Rattle.sheet_core.specs.Grids.{Cells}
-use Rattle.sheet_core.specs.Labels.{carrier_of}
 use Rattle.sheet_core.specs.declared.label.Label.{Label}
 use Rattle.line_core.specs.Grids.{cells_of}
-use Rattle.line_core.specs.print.Labels.{label_list, print_meaning}
+use Rattle.line_core.specs.print.Labels.{print_meaning}
 use Rattle.gs1_hub.specs.Asking.{WordsAsk}
 use Rattle.gs1_hub.specs.commands.{hub_app}
 use Rattle.gs1_hub.specs.commands.Prints.{IsPrint}
@@ -23,25 +18,8 @@ use Rattle.gs1_hub.specs.declared.commands.print.options.Output.TheVariants as o
 use Rattle.gs1_hub.specs.declared.commands.print.options.PrintOptions.{PrintOptions}
 use Rattle.gs1_hub.specs.declared.commands.scan.options.ScanOptions.{ScanOptions}
 use Rattle.line_core.specs.input.Records.{AreItems, Fields}
-use Rattle.line_core.specs.answers.Reports.{report}
-use Rattle.line_core.specs.scan.Columns.{AreColumns, column_cells}
-
--- what a scan answers for a cell: the carrier and the elements of its label, or that it is blank
-abbrev pub cell_answer : ℕ → Option Label → Answer
-cell_answer year (Some l) = Read (carrier_of l) (record { year = year; list = label_list l })
-cell_answer year None = Refused Blank
-
--- the answers of a column of a sheet, from the top; labels fill the cells in their order, sheet after sheet
-abbrev pub sheet_answers : Cells → ℕ → List Label → ℕ → ℕ → List Answer
-sheet_answers g year labels column sheet = map (λ cell. cell_answer year (slice_get labels (sheet * cell_count g + cell))) (column_cells g column)
-
--- the answers of a column, sheet after sheet
-abbrev pub column_answers : Cells → ℕ → List Label → ℕ → List Answer
-column_answers g year labels column = flat_map (sheet_answers g year labels column) (range_with_len 0 (sheet_count g (length labels)))
-
--- the report of labels: the answer of each cell, column by column
-abbrev pub labels_report : Cells → ℕ → List Label → List ℕ
-labels_report g year labels = report (map (column_answers g year labels) (range_with_len 0 g.columns))
+use Rattle.line_core.specs.scan.Columns.{AreColumns}
+use Rattle.line_core.specs.scan.Printed.{AreScanned, cell_answer, column_answers, labels_answers, labels_report}
 
 -- what `print` writes of the labels of records as at most 4,096 images, for a scan in the same grid and year
 pub record IsPrintFor (scan : ScanOptions) (print : PrintOptions) (rows : List Fields) (labels : List Label) (bytes : List ℕ) : Type 0 where
@@ -57,11 +35,10 @@ abbrev pub PrintedIsAnswered : Type 0
 PrintedIsAnswered =
     (scan : ScanOptions) (print : PrintOptions) (rows : List Fields) (labels : List Label) (bytes : List ℕ)
     → IsPrintFor scan print rows labels bytes
-    → (sheets : List Bitmap) (feeds : List (List (List ℕ))) (answers : List (List Answer))
+    → (sheets : List Bitmap) (answers : List (List Answer))
     → AreImages scan bytes sheets
-    → AreColumns (cells_of scan.grid) sheets feeds
-    → AllZip (λ rows read. Reads rows scan.year read) feeds answers
-    → answers ≡ map (column_answers (cells_of scan.grid) scan.year labels) (range_with_len 0 scan.grid.columns)
+    → AreScanned (cells_of scan.grid) sheets scan.year answers
+    → answers ≡ labels_answers (cells_of scan.grid) scan.year labels
 
 -- so `scan` takes it, and what it writes is one text, the report of the labels
 abbrev pub PrintedIsScanned : Type 0

@@ -3,8 +3,8 @@ ghost use Rattle.gs1_hub.specs.Laws.{AnswersByPlace, PrintedIsAnswered, PrintedI
 
 use digits_core::gtins_are_checked;
 use element_core::{canonical_reads, gtin_reads};
-use scan_core::{dots_determine, dots_make_row, one_answer};
-use sheet_core::{bar_rows_answer, empty_cells_are_blank, printed_is_read};
+use line_core::{printed_answer, scanned_once};
+use sheet_core::printed_is_read;
 
 /// Of what `print` writes as at most 4,096 images, a scan in the same grid and year answers for each
 /// cell the carrier and the elements of its label, or that it is blank. So `scan` takes it, and what it
@@ -17,11 +17,8 @@ pub fn printed_is_scanned()
     gtin_reads();
     canonical_reads();
     printed_is_read();
-    bar_rows_answer();
-    empty_cells_are_blank();
-    dots_determine();
-    dots_make_row();
-    one_answer();
+    printed_answer();
+    scanned_once();
 }
 
 /// A scan of labels has an answer for each row of cells of each sheet, which answers the label that was

@@ -1,19 +1,19 @@
 -- One more delivery out of a queue, a hand or a ring into its list.
 use Rattle.std.proofs.Common.{◌≡◌, ℕ, ◌+◌, ◌≤◌, List, [], ◌∷◌, ◌++◌, length, length-append, map, option_to_list, sym, ap, ◌∙◌, subst, arith, append_assoc, append-nil}
-use Rattle.std.specs.List.{flat_map}
+use Rattle.std.specs.List.{flat_map, sum_by}
 use Rattle.std.proofs.lemmas.Grind.{flat_map-append}
+use Rattle.std.proofs.lemmas.List.Sums.{sum_by-append}
 use Rattle.crossbeam_queue.specs.Passes.{view}
 use Rattle.lane_core.specs.declared.job.Plain.{Plain}
-use Rattle.lane_core.specs.Weights.{OneForOne, weigh}
+use Rattle.lane_core.specs.Weights.{OneForOne}
 use Rattle.hub_core.specs.declared.rule.Trace.{Trace}
 use Rattle.hub_core.specs.declared.lane_seat.LaneSeat.{LaneSeat}
 use Rattle.hub_core.specs.declared.worker_seat.WorkerSeat.{WorkerSeat}
-use Rattle.hub_core.specs.Filling.{Fills, Listed}
+use Rattle.hub_core.specs.DrainedLists.{DrainsInto, Listed}
 use Rattle.hub_core.specs.Lanes.{submitted}
 use Rattle.hub_core.specs.Rule.{trace}
 use Rattle.hub_core.specs.Workers.{hand_of, posted, taken}
-use Rattle.hub_core.proofs.FillFacts.{filled_then}
-use Rattle.hub_core.proofs.WeightFacts.{weigh-append}
+use Rattle.hub_core.proofs.DrainedFacts.{drained_then}
 
 pub trace_is : (a b : ℕ) (c d e f : List Plain) → a ≡ b → c ≡ d → e ≡ f → trace a c e ≡ trace b d f
 trace_is a b c d e f x y z i = trace (x i) (y i) (z i)
@@ -22,57 +22,57 @@ pub flat_map_more : {X A : Type 0} (f : X → List A) (xs : List X) (x : X) → 
 flat_map_more f xs x = flat_map-append f xs (x ∷ []) ∙ ap (λ l. flat_map f xs ++ l) (append-nil (f x))
 
 pub worker_jobs : (b v w : Trace) (ss : List WorkerSeat) (s : WorkerSeat)
-    → v ≡ trace (b.parts + length ss) b.pushed (b.popped ++ flat_map taken ss)
-    → w ≡ trace (v.parts + (view s.takes).parts) (v.pushed ++ (view s.takes).pushed) (v.popped ++ (view s.takes).popped)
-    → w ≡ trace (b.parts + length (ss ++ s ∷ [])) b.pushed (b.popped ++ flat_map taken (ss ++ s ∷ []))
+    → v ≡ trace (b.shares + length ss) b.pushed (b.popped ++ flat_map taken ss)
+    → w ≡ trace (v.shares + (view s.takes).shares) (v.pushed ++ (view s.takes).pushed) (v.popped ++ (view s.takes).popped)
+    → w ≡ trace (b.shares + length (ss ++ s ∷ [])) b.pushed (b.popped ++ flat_map taken (ss ++ s ∷ []))
 worker_jobs b v w ss s was is =
     is ∙ trace_is _ _ _ _ _ _
-    (let e = ap (λ (h : Trace). h.parts) was in let f = s.part_of_jobs in omega (arith, length-append ss (s ∷ [])))
+    (let e = ap (λ (h : Trace). h.shares) was in let f = s.share_of_jobs in omega (arith, length-append ss (s ∷ [])))
     (ap (λ l. v.pushed ++ l) s.takes_only ∙ (append-nil v.pushed ∙ ap (λ (h : Trace). h.pushed) was))
     (ap (λ (h : Trace). h.popped ++ taken s) was ∙ (append_assoc b.popped (flat_map taken ss) (taken s) ∙ ap (λ l. b.popped ++ l) (sym (flat_map_more taken ss s))))
 
 pub worker_results : (b v w : Trace) (ss : List WorkerSeat) (s : WorkerSeat)
-    → v ≡ trace (b.parts + length ss) (b.pushed ++ flat_map posted ss) b.popped
-    → w ≡ trace (v.parts + (view s.posts).parts) (v.pushed ++ (view s.posts).pushed) (v.popped ++ (view s.posts).popped)
-    → w ≡ trace (b.parts + length (ss ++ s ∷ [])) (b.pushed ++ flat_map posted (ss ++ s ∷ [])) b.popped
+    → v ≡ trace (b.shares + length ss) (b.pushed ++ flat_map posted ss) b.popped
+    → w ≡ trace (v.shares + (view s.posts).shares) (v.pushed ++ (view s.posts).pushed) (v.popped ++ (view s.posts).popped)
+    → w ≡ trace (b.shares + length (ss ++ s ∷ [])) (b.pushed ++ flat_map posted (ss ++ s ∷ [])) b.popped
 worker_results b v w ss s was is =
     is ∙ trace_is _ _ _ _ _ _
-    (let e = ap (λ (h : Trace). h.parts) was in let f = s.part_of_results in omega (arith, length-append ss (s ∷ [])))
+    (let e = ap (λ (h : Trace). h.shares) was in let f = s.share_of_results in omega (arith, length-append ss (s ∷ [])))
     (ap (λ (h : Trace). h.pushed ++ posted s) was ∙ (append_assoc b.pushed (flat_map posted ss) (posted s) ∙ ap (λ l. b.pushed ++ l) (sym (flat_map_more posted ss s))))
     (ap (λ l. v.popped ++ l) s.posts_only ∙ (append-nil v.popped ∙ ap (λ (h : Trace). h.popped) was))
 
-filled_as : (t u : List Listed) (xs ys : List Plain) → xs ≡ ys → Fills t u xs → Fills t u ys
-filled_as t u xs ys e f = subst (λ (l : List Plain). Fills t u l) e f
+drained_as : (t u : List Listed) (xs ys : List Plain) → xs ≡ ys → DrainsInto t u xs → DrainsInto t u ys
+drained_as t u xs ys e f = subst (λ (l : List Plain). DrainsInto t u l) e f
 
-pub drained : (b v w : Trace) (x y : Plain) (t u u' : List Listed) (xs : List Plain) → v.parts ≡ 1024 → v.pushed ≡ b.pushed → Fills t u xs → ((h : Plain → ℕ) → weigh h v.popped ≡ weigh h b.popped + weigh h xs)
-    → w ≡ trace v.parts v.pushed (v.popped ++ x ∷ []) → y ≡ x → Fills u u' (y ∷ [])
-    → (w.parts ≡ 1024) × (w.pushed ≡ b.pushed) × ((ys : List Plain) × Fills t u' ys × ((h : Plain → ℕ) → weigh h w.popped ≡ weigh h b.popped + weigh h ys))
-drained b v w x y t u u' xs whole same filled was is what more = (
-  ap (λ (h : Trace). h.parts) is ∙ whole,
+pub drained_one : (b v w : Trace) (x y : Plain) (t u u' : List Listed) (xs : List Plain) → v.shares ≡ 1024 → v.pushed ≡ b.pushed → DrainsInto t u xs → ((h : Plain → ℕ) → sum_by h v.popped ≡ sum_by h b.popped + sum_by h xs)
+    → w ≡ trace v.shares v.pushed (v.popped ++ x ∷ []) → y ≡ x → DrainsInto u u' (y ∷ [])
+    → (w.shares ≡ 1024) × (w.pushed ≡ b.pushed) × ((ys : List Plain) × DrainsInto t u' ys × ((h : Plain → ℕ) → sum_by h w.popped ≡ sum_by h b.popped + sum_by h ys))
+drained_one b v w x y t u u' xs whole same drained was is what more = (
+  ap (λ (h : Trace). h.shares) is ∙ whole,
   ap (λ (h : Trace). h.pushed) is ∙ same,
   (
     xs ++ y ∷ [],
-    filled_then t u u' xs (y ∷ []) filled more,
-    λ h. let e = ap (λ (p : Trace). weigh h p.popped) is in let f = ap h what in omega (arith, was h, e, weigh-append h v.popped (x ∷ []), weigh-append h xs (y ∷ [])),
+    drained_then t u u' xs (y ∷ []) drained more,
+    λ h. let e = ap (λ (p : Trace). sum_by h p.popped) is in let f = ap h what in omega (arith, was h, e, sum_by-append h v.popped (x ∷ []), sum_by-append h xs (y ∷ [])),
   ),
 )
 
-pub drained_out : {X : Type 0} (f : X → Plain) (b v : Trace) (items : List X) (xs : List Plain) → v.pushed ≡ b.pushed → ((h : Plain → ℕ) → weigh h v.popped ≡ weigh h b.popped + weigh h xs) → length items ≡ 0
-    → ((h : Plain → ℕ) → weigh h v.pushed ≡ weigh h v.popped + weigh h (map f items)) → (h : Plain → ℕ) → weigh h b.pushed ≡ weigh h b.popped + weigh h xs
-drained_out f b v [] xs same was none settled h = let e = ap (weigh h) same in omega (arith, was h, settled h, e)
+pub drained_out : {X : Type 0} (f : X → Plain) (b v : Trace) (items : List X) (xs : List Plain) → v.pushed ≡ b.pushed → ((h : Plain → ℕ) → sum_by h v.popped ≡ sum_by h b.popped + sum_by h xs) → length items ≡ 0
+    → ((h : Plain → ℕ) → sum_by h v.pushed ≡ sum_by h v.popped + sum_by h (map f items)) → (h : Plain → ℕ) → sum_by h b.pushed ≡ sum_by h b.popped + sum_by h xs
+drained_out f b v [] xs same was none settled h = let e = ap (sum_by h) same in omega (arith, was h, settled h, e)
 drained_out f b v (i ∷ is) xs same was none settled h = absurd (omega arith)
 
-pub waited : (b v w : List Plain) (x : Plain) (t u u' : List Listed) (xs : List Plain) → Fills t u xs → ((h : Plain → ℕ) → weigh h b ≡ weigh h v + weigh h xs)
-    → ((h : Plain → ℕ) → weigh h v ≡ h x + weigh h w) → Fills u u' (x ∷ [])
-    → (ys : List Plain) × Fills t u' ys × ((h : Plain → ℕ) → weigh h b ≡ weigh h w + weigh h ys)
-waited b v w x t u u' xs filled was gave more =
-    (xs ++ x ∷ [], filled_then t u u' xs (x ∷ []) filled more, λ h. omega (arith, was h, gave h, weigh-append h xs (x ∷ [])))
+pub waited : (b v w : List Plain) (x : Plain) (t u u' : List Listed) (xs : List Plain) → DrainsInto t u xs → ((h : Plain → ℕ) → sum_by h b ≡ sum_by h v + sum_by h xs)
+    → ((h : Plain → ℕ) → sum_by h v ≡ h x + sum_by h w) → DrainsInto u u' (x ∷ [])
+    → (ys : List Plain) × DrainsInto t u' ys × ((h : Plain → ℕ) → sum_by h b ≡ sum_by h w + sum_by h ys)
+waited b v w x t u u' xs drained was gave more =
+    (xs ++ x ∷ [], drained_then t u u' xs (x ∷ []) drained more, λ h. omega (arith, was h, gave h, sum_by-append h xs (x ∷ [])))
 
-pub rest_more : (i n : ℕ) (as' bs known xs : List Plain) (x : Plain) (t u u' : List Listed) → i + length as' ≡ n → Fills t u xs → xs ++ as' ≡ known → as' ≡ x ∷ bs → Fills u u' (x ∷ [])
-    → (i + 1 + length bs ≡ n) × ((ys : List Plain) × Fills t u' ys × (ys ++ bs ≡ known))
-rest_more i n as' bs known xs x t u u' left filled was front more = (
+pub rest_more : (i n : ℕ) (as' bs known xs : List Plain) (x : Plain) (t u u' : List Listed) → i + length as' ≡ n → DrainsInto t u xs → xs ++ as' ≡ known → as' ≡ x ∷ bs → DrainsInto u u' (x ∷ [])
+    → (i + 1 + length bs ≡ n) × ((ys : List Plain) × DrainsInto t u' ys × (ys ++ bs ≡ known))
+rest_more i n as' bs known xs x t u u' left drained was front more = (
   omega (arith, ap length front),
-  (xs ++ x ∷ [], filled_then t u u' xs (x ∷ []) filled more, append_assoc xs (x ∷ []) bs ∙ (ap (λ l. xs ++ l) (sym front) ∙ was)),
+  (xs ++ x ∷ [], drained_then t u u' xs (x ∷ []) drained more, append_assoc xs (x ∷ []) bs ∙ (ap (λ l. xs ++ l) (sym front) ∙ was)),
 )
 
 pub rest_all : (i n : ℕ) (ks known got got' all all' xs : List Plain) → i + length ks ≡ n → n ≤ i → xs ++ ks ≡ known → got' ++ known ≡ all' → got' ≡ got → all' ≡ all → got ++ xs ≡ all
@@ -81,26 +81,26 @@ rest_all i n [] known got got' all all' xs left end was fifo same same' =
     ap (λ l. l ++ xs) (sym same) ∙ (ap (λ l. got' ++ l) e ∙ (fifo ∙ same'))
 rest_all i n (k ∷ ks) known got got' all all' xs left end was fifo same same' = absurd (omega arith)
 
-pub hands_filled : (t u u' : List Listed) (ss : List WorkerSeat) (s : WorkerSeat) → Fills t u (flat_map hand_of ss) → Fills u u' (option_to_list s.held) → Fills t u' (flat_map hand_of (ss ++ s ∷ []))
-hands_filled t u u' ss s was more = filled_as t u' _ _ (sym (flat_map_more hand_of ss s)) (filled_then t u u' (flat_map hand_of ss) (option_to_list s.held) was more)
+pub hands_drained : (t u u' : List Listed) (ss : List WorkerSeat) (s : WorkerSeat) → DrainsInto t u (flat_map hand_of ss) → DrainsInto u u' (option_to_list s.held) → DrainsInto t u' (flat_map hand_of (ss ++ s ∷ []))
+hands_drained t u u' ss s was more = drained_as t u' _ _ (sym (flat_map_more hand_of ss s)) (drained_then t u u' (flat_map hand_of ss) (option_to_list s.held) was more)
 
-pub all_weigh : (h : Plain → ℕ) (xs ys zs us vs ws : List Plain) → weigh h (((((xs ++ ys) ++ zs) ++ us) ++ vs) ++ ws) ≡ weigh h xs + weigh h ys + weigh h zs + weigh h us + weigh h vs + weigh h ws
-all_weigh h xs ys zs us vs ws =
-    omega (arith, weigh-append h xs ys, weigh-append h (xs ++ ys) zs, weigh-append h ((xs ++ ys) ++ zs) us, weigh-append h (((xs ++ ys) ++ zs) ++ us) vs, weigh-append h ((((xs ++ ys) ++ zs) ++ us) ++ vs) ws)
+pub sum_joined : (h : Plain → ℕ) (xs ys zs us vs ws : List Plain) → sum_by h (((((xs ++ ys) ++ zs) ++ us) ++ vs) ++ ws) ≡ sum_by h xs + sum_by h ys + sum_by h zs + sum_by h us + sum_by h vs + sum_by h ws
+sum_joined h xs ys zs us vs ws =
+    omega (arith, sum_by-append h xs ys, sum_by-append h (xs ++ ys) zs, sum_by-append h ((xs ++ ys) ++ zs) us, sum_by-append h (((xs ++ ys) ++ zs) ++ us) vs, sum_by-append h ((((xs ++ ys) ++ zs) ++ us) ++ vs) ws)
 
 -- what the queue of jobs held is what was submitted and not taken
 pub jobs_whole : (b v w : Trace) (p q : ℕ) (ls : List LaneSeat) (ws : List WorkerSeat) (xs : List Plain) → b.pushed ≡ [] → b.popped ≡ []
     → v ≡ trace p (b.pushed ++ flat_map submitted ls) b.popped → w ≡ trace q v.pushed (v.popped ++ flat_map taken ws)
-    → ((h : Plain → ℕ) → weigh h w.pushed ≡ weigh h w.popped + weigh h xs) → OneForOne (flat_map submitted ls) (flat_map taken ws) xs
+    → ((h : Plain → ℕ) → sum_by h w.pushed ≡ sum_by h w.popped + sum_by h xs) → OneForOne (flat_map submitted ls) (flat_map taken ws) xs
 jobs_whole b v w p q ls ws xs none_pushed none_popped v_is w_is whole h =
     let pushed : w.pushed ≡ flat_map submitted ls = ap (λ (t : Trace). t.pushed) w_is ∙ (ap (λ (t : Trace). t.pushed) v_is ∙ ap (λ l. l ++ flat_map submitted ls) none_pushed) in
     let popped : w.popped ≡ flat_map taken ws = ap (λ (t : Trace). t.popped) w_is ∙ (ap (λ (t : Trace). t.popped ++ flat_map taken ws) v_is ∙ ap (λ l. l ++ flat_map taken ws) none_popped) in
-    omega (arith, whole h, ap (weigh h) pushed, ap (weigh h) popped)
+    omega (arith, whole h, ap (sum_by h) pushed, ap (sum_by h) popped)
 
 -- what the queue of results held is what was posted and not collected
 pub results_whole : (b w : Trace) (q : ℕ) (ws : List WorkerSeat) (xs : List Plain) → b.pushed ≡ [] → w ≡ trace q (b.pushed ++ flat_map posted ws) b.popped
-    → ((h : Plain → ℕ) → weigh h w.pushed ≡ weigh h w.popped + weigh h xs) → OneForOne (flat_map posted ws) b.popped xs
+    → ((h : Plain → ℕ) → sum_by h w.pushed ≡ sum_by h w.popped + sum_by h xs) → OneForOne (flat_map posted ws) b.popped xs
 results_whole b w q ws xs none w_is whole h =
     let pushed : w.pushed ≡ flat_map posted ws = ap (λ (t : Trace). t.pushed) w_is ∙ ap (λ l. l ++ flat_map posted ws) none in
     let popped : w.popped ≡ b.popped = ap (λ (t : Trace). t.popped) w_is in
-    omega (arith, whole h, ap (weigh h) pushed, ap (weigh h) popped)
+    omega (arith, whole h, ap (sum_by h) pushed, ap (sum_by h) popped)

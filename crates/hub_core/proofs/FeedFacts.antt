@@ -106,3 +106,10 @@ all_appended (xs ∷ given) ((y ∷ ys) ∷ rests) count are =
 -- all were given
 pub all_given : (feeds given rests : List (List (List ℕ))) → AreGiven feeds given rests → are_given rests ≡ true → given ≡ feeds
 all_given feeds given rests was are = sym (all_appended given rests was.count are) ∙ was.all
+
+-- ---- where none is taken
+
+-- where none is left of any lane, all were given
+pub all_left : (rests : List (List (List ℕ))) → ((l : ℕ) → l < length rests → get_or rests l [] ≡ []) → are_given rests ≡ true
+all_left [] none = refl
+all_left (xs ∷ rests) none = ap (λ b. b && are_given rests) (ap (λ ys. length ys == 0) (none 0 (omega arith))) ∙ all_left rests (λ l low. none (suc l) (omega (arith, low)))

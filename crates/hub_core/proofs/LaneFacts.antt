@@ -12,12 +12,12 @@ use Rattle.hub_core.specs.Serving.{numbered_rows}
 use Rattle.hub_core.proofs.OrderFacts.{numbered_more}
 
 -- what a lane's seat keeps, after a push
-pub lane_more : (v w : Trace) (x : Plain) (lane issued : ℕ) → w ≡ trace v.parts (v.pushed ++ x ∷ []) v.popped
-    → v.parts ≡ 1 → v.popped ≡ [] → issued ≡ length v.pushed → numbered lane 0 v.pushed ≡ true → x.lane ≡ lane → x.number ≡ issued
-    → (w.parts ≡ 1) × (w.popped ≡ []) × (issued + 1 ≡ length w.pushed) × (numbered lane 0 w.pushed ≡ true)
-lane_more v w x lane issued is part none count order at number =
+pub lane_more : (v w : Trace) (x : Plain) (lane issued : ℕ) → w ≡ trace v.shares (v.pushed ++ x ∷ []) v.popped
+    → v.shares ≡ 1 → v.popped ≡ [] → issued ≡ length v.pushed → numbered lane 0 v.pushed ≡ true → x.lane ≡ lane → x.number ≡ issued
+    → (w.shares ≡ 1) × (w.popped ≡ []) × (issued + 1 ≡ length w.pushed) × (numbered lane 0 w.pushed ≡ true)
+lane_more v w x lane issued is share none count order at number =
     let put : w.pushed ≡ v.pushed ++ x ∷ [] = ap (λ (h : Trace). h.pushed) is in (
-      ap (λ (h : Trace). h.parts) is ∙ part,
+      ap (λ (h : Trace). h.shares) is ∙ share,
       ap (λ (h : Trace). h.popped) is ∙ none,
       omega (arith, ap length put, length-append v.pushed (x ∷ [])),
       ap (numbered lane 0) put ∙ numbered_more lane 0 v.pushed x order at (omega arith),

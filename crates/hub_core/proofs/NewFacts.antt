@@ -1,12 +1,14 @@
 -- A new hub and its seats.
 use Rattle.std.proofs.Common.{◌≡◌, ◌==◌, ◌&&◌, ◌||◌, ℕ, ◌+◌, ◌-◌, ◌<◌, ◌≤◌, nat_lt, nat_le, Bool, true, false, zero, suc, List, [], ◌∷◌, get_or, length, map, refl, sym, ap, ◌∙◌, subst, arith, Option, None, Some}
-use Rattle.std.specs.List.{slice_get, All, range_with_len}
+use Rattle.std.specs.List.{slice_get, All, range_with_len, sum_by, count_by}
 use Rattle.std.proofs.lemmas.Bool.{and_parts}
 use Rattle.std.proofs.lemmas.Bool.Decides.{nat_tests}
+use Rattle.std.proofs.lemmas.List.Sums.{sum_by-cons}
 use Rattle.rtrb.specs.Ring.{IsPair, SameProducer}
 use Rattle.lane_core.specs.declared.job.Plain.{Plain}
-use Rattle.lane_core.specs.Desk.{Desk, new_desk, was_taken}
-use Rattle.lane_core.specs.Weights.{once, weigh}
+use Rattle.lane_core.specs.ReorderBuffer.{ReorderBuffer, new_buffer, was_taken}
+use Rattle.lane_core.specs.Weights.{once}
+use Rattle.lane_core.proofs.WeightFacts.{false_from}
 use Rattle.hub_core.specs.declared.rule.Trace.{Trace}
 use Rattle.hub_core.specs.declared.shape.Shape.{Shape}
 use Rattle.hub_core.specs.declared.lane_seat.LaneSeat.{LaneSeat}
@@ -17,9 +19,9 @@ use Rattle.hub_core.specs.Rings.{PushEnd, all_sent}
 use Rattle.hub_core.specs.Rule.{trace}
 use Rattle.hub_core.specs.Serving.{is_count, numbered_rows}
 use Rattle.hub_core.specs.Shapes.{is_allowed}
-use Rattle.hub_core.specs.Stock.{Stocks}
-use Rattle.hub_core.proofs.KeepingFacts.{fresh_keeps}
-use Rattle.hub_core.proofs.WeightFacts.{empties_at, empties_weigh}
+use Rattle.hub_core.specs.Accounting.{Accounted}
+use Rattle.hub_core.proofs.InOrderFacts.{fresh_in_order}
+use Rattle.hub_core.proofs.WeightFacts.{empties_at, sum_empties}
 
 count_small : (n : ℕ) → is_count n ≡ true → n ≤ 16
 count_small n e = let s = and_parts (nat_le 1 n) (nat_le n 16) e in le_from n s.1
@@ -33,13 +35,13 @@ small s e =
     let b = and_parts (is_count s.workers) ((nat_le 1 s.capacity && nat_le s.capacity 1024) && nat_le 1 s.limit) a.1 in
     (count_small s.lanes a.0, count_small s.workers b.0)
 
--- the parts of the queue of jobs that are left
-pub left_of_jobs : (a b c : Trace) (n w : ℕ) → n ≤ 16 → w ≤ 16 → a ≡ trace 1024 [] [] → b ≡ trace (a.parts - n) a.pushed a.popped → c ≡ trace (b.parts - w) b.pushed b.popped
-    → (c.pushed ≡ []) × (c.popped ≡ []) × (0 < c.parts) × (c.parts + n + w ≡ 1024)
+-- the shares of the queue of jobs that are left
+pub left_of_jobs : (a b c : Trace) (n w : ℕ) → n ≤ 16 → w ≤ 16 → a ≡ trace 1024 [] [] → b ≡ trace (a.shares - n) a.pushed a.popped → c ≡ trace (b.shares - w) b.pushed b.popped
+    → (c.pushed ≡ []) × (c.popped ≡ []) × (0 < c.shares) × (c.shares + n + w ≡ 1024)
 left_of_jobs a b c n w few fewer first cut cut' =
-    let p = ap (λ (t : Trace). t.parts) first in
-    let q = ap (λ (t : Trace). t.parts) cut in
-    let r = ap (λ (t : Trace). t.parts) cut' in (
+    let p = ap (λ (t : Trace). t.shares) first in
+    let q = ap (λ (t : Trace). t.shares) cut in
+    let r = ap (λ (t : Trace). t.shares) cut' in (
       ap (λ (t : Trace). t.pushed) cut' ∙ (ap (λ (t : Trace). t.pushed) cut ∙ ap (λ (t : Trace). t.pushed) first),
       ap (λ (t : Trace). t.popped) cut' ∙ (ap (λ (t : Trace). t.popped) cut ∙ ap (λ (t : Trace). t.popped) first),
       omega arith,
@@ -47,18 +49,18 @@ left_of_jobs a b c n w few fewer first cut cut' =
     )
 
 -- and of the queue of results
-pub left_of_results : (a b : Trace) (w : ℕ) → w ≤ 16 → a ≡ trace 1024 [] [] → b ≡ trace (a.parts - w) a.pushed a.popped
-    → (b.pushed ≡ []) × (b.popped ≡ []) × (0 < b.parts) × (b.parts + w ≡ 1024)
+pub left_of_results : (a b : Trace) (w : ℕ) → w ≤ 16 → a ≡ trace 1024 [] [] → b ≡ trace (a.shares - w) a.pushed a.popped
+    → (b.pushed ≡ []) × (b.popped ≡ []) × (0 < b.shares) × (b.shares + w ≡ 1024)
 left_of_results a b w few first cut =
-    let p = ap (λ (t : Trace). t.parts) first in
-    let q = ap (λ (t : Trace). t.parts) cut in (
+    let p = ap (λ (t : Trace). t.shares) first in
+    let q = ap (λ (t : Trace). t.shares) cut in (
       ap (λ (t : Trace). t.pushed) cut ∙ ap (λ (t : Trace). t.pushed) first,
       ap (λ (t : Trace). t.popped) cut ∙ ap (λ (t : Trace). t.popped) first,
       omega arith,
       omega arith,
     )
 
-tail_all : {X : Type 0} (P : X → Type 0) (x : X) (xs : List X) → All P (x ∷ xs) → All P xs
+pub tail_all : {X : Type 0} (P : X → Type 0) (x : X) (xs : List X) → All P (x ∷ xs) → All P xs
 tail_all P x xs all k d low = all (suc k) d (omega arith)
 
 unsent_all : (capacity : ℕ) (rings : List PushEnd) → All (IsUnsent capacity) rings → all_sent rings ≡ map (λ _. []) rings
@@ -72,38 +74,34 @@ or_none : (a b : Bool) → a ≡ b → (a || false) ≡ b
 or_none true b e = e
 or_none false b e = e
 
-none_so : (b : Bool) → once b ≡ 0 → b ≡ false
-none_so true e = absurd (omega arith)
-none_so false e = refl
-
 not_below : (k : ℕ) → once (nat_lt k 0) ≡ 0
 not_below k = grind (arith, nat_tests)
 
-pub fresh_stocks : (n capacity : ℕ) (rings : List PushEnd) (d : Desk) (collected : List Plain) → d ≡ new_desk n → length rings ≡ n → All (IsUnsent capacity) rings → collected ≡ []
-    → Stocks d collected [] (all_sent rings)
-fresh_stocks n capacity rings d collected is long unsent none =
+pub fresh_accounted : (n capacity : ℕ) (rings : List PushEnd) (d : ReorderBuffer) (collected : List Plain) → d ≡ new_buffer n → length rings ≡ n → All (IsUnsent capacity) rings → collected ≡ []
+    → Accounted d collected [] (all_sent rings)
+fresh_accounted n capacity rings d collected is long unsent none =
     let given = unsent_all capacity rings unsent in
-    let keeps = fresh_keeps n rings d is long in
-    let waiting = ap (λ (e : Desk). e.waiting) is in
-    subst (λ (x : List Plain × List (List Plain)). Stocks d x.0 [] x.1) (λ i. (sym none i, sym given i)) record {
-      keeps = keeps;
-      none_lost = λ h. let a = ap (weigh h) waiting in let b = empties_weigh h rings in omega arith;
-      known = λ l k. or_none (was_taken d l k) false (none_so (was_taken d l k) (
-          let t = keeps.taken l k in
-          let w = ap (weigh (λ x. once ((x.lane == l) && (x.number == k)))) waiting in
-          let z = sym (keeps.counted l) ∙ ap length (empties_at rings l) in
+    let giving = fresh_in_order n rings d is long in
+    let waiting = ap (λ (e : ReorderBuffer). e.waiting) is in
+    subst (λ (x : List Plain × List (List Plain)). Accounted d x.0 [] x.1) (λ i. (sym none i, sym given i)) record {
+      giving = giving;
+      none_lost = λ h. let a = ap (sum_by h) waiting in let b = sum_empties h rings in omega arith;
+      known = λ l k. or_none (was_taken d l k) false (false_from (was_taken d l k) (
+          let t = giving.taken l k in
+          let w = ap (count_by (λ x. (x.lane == l) && (x.number == k))) waiting in
+          let z = sym (giving.counted l) ∙ ap length (empties_at rings l) in
           let y = ap (λ m. once (nat_lt k m)) z in
           omega (arith, t, w, y, not_below k)));
       fresh = refl;
     }
 
-each_from : (a n l : ℕ) → weigh (λ k. once (k == l)) (range_with_len a n) + once (nat_lt l a) ≡ once (nat_lt l (a + n))
+each_from : (a n l : ℕ) → count_by (λ k. k == l) (range_with_len a n) + once (nat_lt l a) ≡ once (nat_lt l (a + n))
 each_from a zero l = let e : a ≡ a + 0 = omega arith in let w = ap (λ m. once (nat_lt l m)) e in omega arith
 each_from a (suc n) l =
     let rest = each_from (a + 1) n l in
     let e : a + 1 + n ≡ a + suc n = omega arith in
     let w = ap (λ m. once (nat_lt l m)) e in
-    omega (arith, one_more l a)
+    omega (arith, sum_by-cons (λ k. once (k == l)) a (range_with_len (a + 1) n), one_more l a)
   where
     one_more : (k n : ℕ) → once (nat_lt k (n + 1)) ≡ once (nat_lt k n) + once (n == k)
     one_more k n = grind (arith, nat_tests)
@@ -112,7 +110,7 @@ pub has_each : (n : ℕ) (numbers : List ℕ) → numbers ≡ range_with_len 0 n
 has_each n numbers is l =
     let e : 0 + n ≡ n = omega arith in
     let w = ap (λ m. once (nat_lt l m)) e in
-    let a = ap (weigh (λ k. once (k == l))) is in
+    let a = ap (count_by (λ k. k == l)) is in
     omega (arith, each_from 0 n l, not_below l)
 
 pub given_none : (capacity : ℕ) (rings : List PushEnd) (l : ℕ) → All (IsUnsent capacity) rings → get_or (all_sent rings) l [] ≡ []

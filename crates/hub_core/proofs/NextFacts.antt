@@ -1,24 +1,26 @@
 -- A lane's next number: whether it was collected and is not in hand.
 use Rattle.std.proofs.Common.{◌≡◌, ℕ, ◌+◌, ◌<◌, ◌≤◌, ◌&&◌, ◌||◌, not, nat_lt, cond, Bool, true, false, List, [], ◌∷◌, ◌++◌, refl, sym, ap, ◌∙◌, subst, arith, Option, Some, None}
-use Rattle.std.specs.List.{fold, list_all}
+use Rattle.std.specs.List.{fold, list_all, count_by}
 use Rattle.std.specs.Option.{IfSome, is_some, is_none}
+use Rattle.std.proofs.Math.Bool.{or_assoc}
 use Rattle.std.proofs.lemmas.Bool.{and_parts}
 use Rattle.std.proofs.lemmas.Bool.Decides.{nat_tests}
 use Rattle.std.proofs.lemmas.List.Folds.{list_any-append}
 use Rattle.lane_core.specs.declared.job.Plain.{Plain}
-use Rattle.lane_core.specs.Desk.{Desk, IsNext, has_next, is_new, lanes_of, next_of, was_taken}
+use Rattle.lane_core.specs.ReorderBuffer.{ReorderBuffer, IsNext, has_next, is_new, lanes_of, next_of, was_taken}
 use Rattle.lane_core.specs.Settling.{sift, sifted}
-use Rattle.lane_core.specs.Tickets.{is_among, is_ticket_of, times}
+use Rattle.lane_core.specs.Tickets.{is_among, is_ticket_of}
 use Rattle.lane_core.specs.Weights.{once}
-use Rattle.hub_core.specs.Stock.{Stocks}
-use Rattle.hub_core.proofs.KeepingFacts.{among_times, times_among}
+use Rattle.lane_core.proofs.WeightFacts.{among_from, among_times}
+use Rattle.hub_core.specs.Accounting.{Accounted}
 use Rattle.hub_core.proofs.LaneFacts.{ticket_parts}
+use Rattle.hub_core.proofs.AccountingFacts.{not_taken}
 
 pub is_there : {X : Type 0} (o : Option X) → is_none o ≡ false → is_some o ≡ true
 is_there None none = absurd (cc)
 is_there (Some x) none = refl
 
-pub with_number : {X : Type 0} (f : X → Plain) (d : Desk) (l : ℕ) (o : Option X) (n : ℕ) → n ≡ next_of d l → IfSome o (λ x. IsNext d l (f x)) → IfSome o (λ x. IsNext d l (f x) × ((f x).number ≡ n))
+pub with_number : {X : Type 0} (f : X → Plain) (d : ReorderBuffer) (l : ℕ) (o : Option X) (n : ℕ) → n ≡ next_of d l → IfSome o (λ x. IsNext d l (f x)) → IfSome o (λ x. IsNext d l (f x) × ((f x).number ≡ n))
 with_number f d l None n e is = tt
 with_number f d l (Some x) n e is = (is, is.number ∙ sym e)
 
@@ -46,29 +48,19 @@ sift_by false n l k seen x e low = passed (is_ticket_of l k x) (is_among l k see
     passed false true f = refl
     passed false false f = refl
 
-or_assoc : (a b c : Bool) → ((a || b) || c) ≡ (a || (b || c))
-or_assoc true b c = refl
-or_assoc false b c = refl
-
 or_nothing : (b : Bool) → b ≡ (b || false)
 or_nothing true = refl
 or_nothing false = refl
 
-among_from : (n l k : ℕ) (seen xs : List Plain) → l < n → is_among l k (fold (sift n) seen xs) ≡ (is_among l k seen || is_among l k xs)
-among_from n l k seen [] low = or_nothing (is_among l k seen)
-among_from n l k seen (x ∷ xs) low =
-    among_from n l k (sift n seen x) xs low
+among_folded : (n l k : ℕ) (seen xs : List Plain) → l < n → is_among l k (fold (sift n) seen xs) ≡ (is_among l k seen || is_among l k xs)
+among_folded n l k seen [] low = or_nothing (is_among l k seen)
+among_folded n l k seen (x ∷ xs) low =
+    among_folded n l k (sift n seen x) xs low
     ∙ (ap (λ b. b || is_among l k xs) (sift_by (nat_lt x.lane n && not (is_among x.lane x.number seen)) n l k seen x refl low)
     ∙ or_assoc (is_among l k seen) (is_ticket_of l k x) (is_among l k xs))
 
 among_sifted : (n l k : ℕ) (xs : List Plain) → l < n → is_among l k (sifted n xs) ≡ is_among l k xs
-among_sifted n l k xs low = among_from n l k [] xs low
-
-same_by : (a b : Bool) → once a ≡ once b → a ≡ b
-same_by true true e = refl
-same_by true false e = absurd (omega arith)
-same_by false true e = absurd (omega arith)
-same_by false false e = refl
+among_sifted n l k xs low = among_folded n l k [] xs low
 
 one_by : (b : Bool) (n : ℕ) (t : Bool) → once t ≡ 0 + n → (b ≡ true → 1 ≤ n) → (1 ≤ n → b ≡ true) → t ≡ b
 one_by true n true e f g = refl
@@ -80,28 +72,23 @@ not_less_self : (n : ℕ) → once (nat_lt n n) ≡ 0
 not_less_self n = grind (arith, nat_tests)
 
 -- the next number was taken in where it waits
-next_taken : (d : Desk) (c hand : List Plain) (gs : List (List Plain)) (l : ℕ) → Stocks d c hand gs → was_taken d l (next_of d l) ≡ has_next d l
+next_taken : (d : ReorderBuffer) (c hand : List Plain) (gs : List (List Plain)) (l : ℕ) → Accounted d c hand gs → was_taken d l (next_of d l) ≡ has_next d l
 next_taken d c hand gs l s =
-    let t = s.keeps.taken l (next_of d l) in
-    one_by (has_next d l) (times l (next_of d l) d.waiting) (was_taken d l (next_of d l)) (omega (arith, t, not_less_self (next_of d l)))
-    (λ e. among_times l (next_of d l) d.waiting e) (λ e. times_among l (next_of d l) d.waiting e)
+    let t = s.giving.taken l (next_of d l) in
+    one_by (has_next d l) (count_by (is_ticket_of l (next_of d l)) d.waiting) (was_taken d l (next_of d l)) (omega (arith, t, not_less_self (next_of d l)))
+    (λ e. among_times l (next_of d l) d.waiting e) (λ e. among_from l (next_of d l) d.waiting e)
 
-fresh_apart : (d : Desk) (l k : ℕ) (hand : List Plain) → list_all (is_new d) hand ≡ true → is_among l k hand ≡ true → was_taken d l k ≡ false
+fresh_apart : (d : ReorderBuffer) (l k : ℕ) (hand : List Plain) → list_all (is_new d) hand ≡ true → is_among l k hand ≡ true → was_taken d l k ≡ false
 fresh_apart d l k [] all e = absurd (cc)
 fresh_apart d l k (y ∷ ys) all e =
     let s = and_parts (is_new d y) (list_all (is_new d) ys) all in
     or_else (is_ticket_of l k y) (is_among l k ys) (was_taken d l k) e
-    (λ h. let p = ticket_parts l k y h in subst (λ (m : ℕ × ℕ). was_taken d m.0 m.1 ≡ false) (λ i. (p.0 i, p.1 i)) (not_was (nat_lt y.lane (lanes_of d)) (was_taken d y.lane y.number) s.0))
+    (λ h. let p = ticket_parts l k y h in subst (λ (m : ℕ × ℕ). was_taken d m.0 m.1 ≡ false) (λ i. (p.0 i, p.1 i)) (not_taken (nat_lt y.lane (lanes_of d)) (was_taken d y.lane y.number) s.0))
     (λ h. fresh_apart d l k ys s.1 h)
   where
     or_else : (a b t : Bool) → (a || b) ≡ true → (a ≡ true → t ≡ false) → (b ≡ true → t ≡ false) → t ≡ false
     or_else true b t e f g = f refl
     or_else false b t e f g = g e
-
-    not_was : (a b : Bool) → (a && not b) ≡ true → b ≡ false
-    not_was true false e = refl
-    not_was true true e = absurd (cc)
-    not_was false b e = absurd (cc)
 
 there_by : (w h a : Bool) → (w || h) ≡ a → (h ≡ true → w ≡ false) → (a && not h) ≡ w
 there_by true true a e f = absurd (let g = f refl in cc)
@@ -110,7 +97,7 @@ there_by false true a e f = ap (λ b. b && false) (sym e)
 there_by false false a e f = ap (λ b. b && true) (sym e)
 
 -- the lane's next number was collected and is not in hand exactly where it waits
-pub next_is : (d : Desk) (c hand : List Plain) (gs : List (List Plain)) (l n : ℕ) → Stocks d c hand gs → l < lanes_of d → n ≡ next_of d l
+pub next_is : (d : ReorderBuffer) (c hand : List Plain) (gs : List (List Plain)) (l n : ℕ) → Accounted d c hand gs → l < lanes_of d → n ≡ next_of d l
     → (is_among l n c && not (is_among l n hand)) ≡ has_next d l
 next_is d c hand gs l n s low is =
     let k = next_of d l in

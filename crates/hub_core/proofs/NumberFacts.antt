@@ -1,20 +1,14 @@
 -- Numbers that are each there once, in any order.
-use Rattle.std.proofs.Common.{◌≡◌, ◌≢◌, ◌⊎◌, inl, inr, ⊎_elim, ℕ, ◌+◌, ◌<◌, ◌≤◌, ◌==◌, cond, nat_lt, Bool, true, false, zero, suc, List, [], ◌∷◌, get_or, length, refl, sym, ap, ◌∙◌, arith}
-use Rattle.std.specs.List.{range_with_len}
-use Rattle.std.proofs.lemmas.Bool.{cases_eq, eq-eqb, ne_eqb}
-use Rattle.std.proofs.lemmas.Bool.Decides.{nat_tests}
+use Rattle.std.proofs.Common.{◌≡◌, ◌≢◌, ⊎_elim, ℕ, ◌+◌, ◌<◌, ◌≤◌, ◌==◌, cond, nat_lt, Bool, true, false, zero, suc, List, [], ◌∷◌, get_or, length, refl, sym, ap, ◌∙◌, arith}
+use Rattle.std.specs.List.{range_with_len, sum_by, count_by}
+use Rattle.std.proofs.lemmas.Bool.{cases_eq, cases_lt, eq-eqb, le-ltb, lt-ltb, ne_eqb}
 use Rattle.std.proofs.lemmas.List.FromFn.{fill_by_all}
-use Rattle.lane_core.specs.Weights.{once, weigh}
+use Rattle.std.proofs.lemmas.List.Sums.{sum_by-cons}
+use Rattle.lane_core.specs.Weights.{once}
 use Rattle.hub_core.specs.Hubs.{HasEach}
-use Rattle.hub_core.proofs.WeightFacts.{weigh-map}
+use Rattle.hub_core.proofs.WeightFacts.{sum_by-map}
 
-below : (m n : ℕ) → m < n → nat_lt m n ≡ true
-below m n h = grind (arith, nat_tests)
-
-above : (m n : ℕ) → n ≤ m → nat_lt m n ≡ false
-above m n h = grind (arith, nat_tests)
-
--- what a number weighs is that of m or that of another
+-- what a number counts for is that of m or that of another
 split_by : (F : ℕ → ℕ) (m k : ℕ) → F k ≡ cond (k == m) (F m) 0 + cond (k == m) 0 (F k)
 split_by F m k = ⊎_elim
     (λ (e : k ≡ m).
@@ -26,9 +20,9 @@ split_by F m k = ⊎_elim
     let b : cond (k == m) 0 (F k) ≡ F k = ap (λ b. cond b 0 (F k)) (ne_eqb k m e) in omega arith)
     (cases_eq k m)
 
-split : (F : ℕ → ℕ) (m : ℕ) (ks : List ℕ) → weigh F ks ≡ weigh (λ k. cond (k == m) (F m) 0) ks + weigh (λ k. cond (k == m) 0 (F k)) ks
+split : (F : ℕ → ℕ) (m : ℕ) (ks : List ℕ) → sum_by F ks ≡ sum_by (λ k. cond (k == m) (F m) 0) ks + sum_by (λ k. cond (k == m) 0 (F k)) ks
 split F m [] = refl
-split F m (k ∷ ks) = omega (arith, split_by F m k, split F m ks)
+split F m (k ∷ ks) = omega (arith, sum_by-cons F k ks, sum_by-cons (λ j. cond (j == m) (F m) 0) k ks, sum_by-cons (λ j. cond (j == m) 0 (F j)) k ks, split_by F m k, split F m ks)
 
 none_by : (b : Bool) (c n m : ℕ) → once b + n ≡ 0 → (n ≡ 0 → m ≡ 0) → cond b c 0 + m ≡ 0
 none_by true c n m e f = absurd (omega arith)
@@ -38,69 +32,68 @@ one_by : (b : Bool) (c n m : ℕ) → once b + n ≡ 1 → (n ≡ 0 → m ≡ 0)
 one_by true c n m e f g = let z = f (omega arith) in omega arith
 one_by false c n m e f g = let z = g (omega arith) in omega arith
 
-picked_none : (c m : ℕ) (ks : List ℕ) → weigh (λ k. once (k == m)) ks ≡ 0 → weigh (λ k. cond (k == m) c 0) ks ≡ 0
+picked_none : (c m : ℕ) (ks : List ℕ) → count_by (λ k. k == m) ks ≡ 0 → sum_by (λ k. cond (k == m) c 0) ks ≡ 0
 picked_none c m [] e = refl
-picked_none c m (k ∷ ks) e = none_by (k == m) c (weigh (λ j. once (j == m)) ks) (weigh (λ j. cond (j == m) c 0) ks) e (λ f. picked_none c m ks f)
+picked_none c m (k ∷ ks) e =
+    let count = sum_by-cons (λ j. once (j == m)) k ks in
+    omega (arith, sum_by-cons (λ j. cond (j == m) c 0) k ks, none_by (k == m) c (count_by (λ j. j == m) ks) (sum_by (λ j. cond (j == m) c 0) ks) (omega arith) (λ f. picked_none c m ks f))
 
-picked_one : (c m : ℕ) (ks : List ℕ) → weigh (λ k. once (k == m)) ks ≡ 1 → weigh (λ k. cond (k == m) c 0) ks ≡ c
+picked_one : (c m : ℕ) (ks : List ℕ) → count_by (λ k. k == m) ks ≡ 1 → sum_by (λ k. cond (k == m) c 0) ks ≡ c
 picked_one c m [] e = absurd (omega arith)
-picked_one c m (k ∷ ks) e = one_by (k == m) c (weigh (λ j. once (j == m)) ks) (weigh (λ j. cond (j == m) c 0) ks) e (λ f. picked_none c m ks f) (λ f. picked_one c m ks f)
+picked_one c m (k ∷ ks) e =
+    let count = sum_by-cons (λ j. once (j == m)) k ks in
+    omega (arith, sum_by-cons (λ j. cond (j == m) c 0) k ks, one_by (k == m) c (count_by (λ j. j == m) ks) (sum_by (λ j. cond (j == m) c 0) ks) (omega arith) (λ f. picked_none c m ks f) (λ f. picked_one c m ks f))
 
 -- numbers past m are not m
-range_above : (F : ℕ → ℕ) (m a n : ℕ) → m < a → weigh (λ k. cond (k == m) 0 (F k)) (range_with_len a n) ≡ weigh F (range_with_len a n)
+range_above : (F : ℕ → ℕ) (m a n : ℕ) → m < a → sum_by (λ k. cond (k == m) 0 (F k)) (range_with_len a n) ≡ sum_by F (range_with_len a n)
 range_above F m a zero less = refl
 range_above F m a (suc n) less =
     let b : cond (a == m) 0 (F a) ≡ F a = ap (λ b. cond b 0 (F a)) (ne_eqb a m (λ e. omega arith)) in
-    omega (arith, range_above F m (a + 1) n (omega arith))
-
-pub less_or : (k m : ℕ) → (k < m) ⊎ (m ≤ k)
-less_or k zero = inr (omega arith)
-less_or zero (suc m) = inl (omega arith)
-less_or (suc k) (suc m) = ⊎_elim (λ (e : k < m). inl (omega arith)) (λ (e : m ≤ k). inr (omega arith)) (less_or k m)
+    omega (arith, sum_by-cons F a (range_with_len (a + 1) n), sum_by-cons (λ k. cond (k == m) 0 (F k)) a (range_with_len (a + 1) n), range_above F m (a + 1) n (omega arith))
 
 past_by : (F : ℕ → ℕ) (m k : ℕ) → (k < m → F k ≡ 0) → (m ≤ k → ⊥) → F k ≡ 0
-past_by F m k low high = ⊎_elim (λ (e : k < m). low e) (λ (e : m ≤ k). absurd (high e)) (less_or k m)
+past_by F m k low high = ⊎_elim (λ (e : k < m). low e) (λ (e : m ≤ k). absurd (high e)) (cases_lt k m)
 
--- where none is m or past it, and the others weigh nothing
-none_past : (F : ℕ → ℕ) (m : ℕ) (ks : List ℕ) → ((l : ℕ) → m ≤ l → weigh (λ k. once (k == l)) ks ≡ 0) → ((l : ℕ) → l < m → F l ≡ 0) → weigh F ks ≡ 0
+-- where none is m or past it, and the others count for nothing
+none_past : (F : ℕ → ℕ) (m : ℕ) (ks : List ℕ) → ((l : ℕ) → m ≤ l → count_by (λ k. k == l) ks ≡ 0) → ((l : ℕ) → l < m → F l ≡ 0) → sum_by F ks ≡ 0
 none_past F m [] none low = refl
 none_past F m (k ∷ ks) none low =
-    let here = past_by F m k (low k) (λ e. let a = none k e in let b : once (k == k) ≡ 1 = ap once (eq-eqb k k refl) in omega arith) in
-    omega (arith, none_past F m ks (λ l e. let a = none l e in omega arith) low)
+    let here = past_by F m k (low k) (λ e. let a = none k e in let b : once (k == k) ≡ 1 = ap once (eq-eqb k k refl) in omega (arith, sum_by-cons (λ j. once (j == k)) k ks)) in
+    omega (arith, sum_by-cons F k ks, none_past F m ks (λ l e. let a = none l e in omega (arith, sum_by-cons (λ j. once (j == l)) k ks)) low)
 
 zero_both : (b : Bool) → ◌≡◌ {A = ℕ} (cond b 0 0) 0
 zero_both true = refl
 zero_both false = refl
 
-from_each : (F : ℕ → ℕ) (m n : ℕ) (ks : List ℕ) → ((l : ℕ) → m ≤ l → weigh (λ k. once (k == l)) ks ≡ once (nat_lt l (m + n))) → ((l : ℕ) → l < m → F l ≡ 0) → weigh F ks ≡ weigh F (range_with_len m n)
-from_each F m zero ks counts low = none_past F m ks (λ l e. counts l e ∙ ap once (above l (m + 0) (omega arith))) low
+from_each : (F : ℕ → ℕ) (m n : ℕ) (ks : List ℕ) → ((l : ℕ) → m ≤ l → count_by (λ k. k == l) ks ≡ once (nat_lt l (m + n))) → ((l : ℕ) → l < m → F l ≡ 0) → sum_by F ks ≡ sum_by F (range_with_len m n)
+from_each F m zero ks counts low = none_past F m ks (λ l e. counts l e ∙ ap once (le-ltb l (m + 0) (omega arith))) low
 from_each F m (suc n) ks counts low =
     let G : ℕ → ℕ = λ k. cond (k == m) 0 (F k) in
-    let one = counts m (omega arith) ∙ ap once (below m (m + suc n) (omega arith)) in
+    let one = counts m (omega arith) ∙ ap once (lt-ltb m (m + suc n) (omega arith)) in
     let same : m + suc n ≡ m + 1 + n = omega arith in
     let rest = from_each G (m + 1) n ks (λ l e. counts l (omega arith) ∙ ap (λ j. once (nat_lt l j)) same)
     (λ l e. ⊎_elim
     (λ (f : l ≡ m). ap (λ b. cond b 0 (F l)) (eq-eqb l m f))
     (λ (f : l ≢ m). ap (λ j. cond (l == m) 0 j) (low l (omega arith)) ∙ zero_both (l == m))
     (cases_eq l m)) in
-    omega (arith, split F m ks, picked_one (F m) m ks one, range_above F m (m + 1) n (omega arith))
+    omega (arith, sum_by-cons F m (range_with_len (m + 1) n), split F m ks, picked_one (F m) m ks one, range_above F m (m + 1) n (omega arith))
 
--- numbers that are each there once weigh what those numbers do
-pub each_weighs : (n : ℕ) (ks : List ℕ) → HasEach n ks → (F : ℕ → ℕ) → weigh F ks ≡ weigh F (range_with_len 0 n)
-each_weighs n ks each F = let same : n ≡ 0 + n = omega arith in from_each F 0 n ks (λ l e. each l ∙ ap (λ j. once (nat_lt l j)) same) (λ l e. absurd (omega arith))
+-- numbers that are each there once have the sum of those numbers
+pub sum_each : (n : ℕ) (ks : List ℕ) → HasEach n ks → (F : ℕ → ℕ) → sum_by F ks ≡ sum_by F (range_with_len 0 n)
+sum_each n ks each F = let same : n ≡ 0 + n = omega arith in from_each F 0 n ks (λ l e. each l ∙ ap (λ j. once (nat_lt l j)) same) (λ l e. absurd (omega arith))
 
-ones : (a n : ℕ) → weigh (λ _. 1) (range_with_len a n) ≡ n
+ones : (a n : ℕ) → sum_by (λ _. 1) (range_with_len a n) ≡ n
 ones a zero = refl
-ones a (suc n) = omega (arith, ones (a + 1) n)
+ones a (suc n) = omega (arith, sum_by-cons (λ _. 1) a (range_with_len (a + 1) n), ones (a + 1) n)
 
-pub weigh_ones : {X : Type 0} (xs : List X) → weigh (λ _. 1) xs ≡ length xs
-weigh_ones [] = refl
-weigh_ones (x ∷ xs) = omega (arith, weigh_ones xs)
+pub sum_ones : {X : Type 0} (xs : List X) → sum_by (λ _. 1) xs ≡ length xs
+sum_ones [] = refl
+sum_ones (x ∷ xs) = omega (arith, sum_by-cons (λ _. 1) x xs, sum_ones xs)
 
 pub each_counted : (n : ℕ) (ks : List ℕ) → HasEach n ks → length ks ≡ n
-each_counted n ks each = sym (weigh_ones ks) ∙ (each_weighs n ks each (λ _. 1) ∙ ones 0 n)
+each_counted n ks each = sym (sum_ones ks) ∙ (sum_each n ks each (λ _. 1) ∙ ones 0 n)
 
--- what the lists weigh, by their places
-pub by_place : {X : Type 0} (f : X → ℕ) (xs : List X) (n : ℕ) (d : X) → length xs ≡ n → weigh (λ l. f (get_or xs l d)) (range_with_len 0 n) ≡ weigh f xs
+-- the sum over lists, by their places
+pub by_place : {X : Type 0} (f : X → ℕ) (xs : List X) (n : ℕ) (d : X) → length xs ≡ n → sum_by (λ l. f (get_or xs l d)) (range_with_len 0 n) ≡ sum_by f xs
 by_place f xs n d long =
-    sym (weigh-map f (λ l. get_or xs l d) (range_with_len 0 n)) ∙ ap (weigh f) (sym (fill_by_all (λ l. get_or xs l d) xs n d long (λ k e. refl)))
+    sym (sum_by-map f (λ l. get_or xs l d) (range_with_len 0 n)) ∙ ap (sum_by f) (sym (fill_by_all (λ l. get_or xs l d) xs n d long (λ k e. refl)))

@@ -1,24 +1,26 @@
 -- What each lane's list has at the end: what the lane had not polled.
-use Rattle.std.proofs.Common.{◌≡◌, ℕ, ◌<◌, ◌≤◌, ◌==◌, zero, suc, List, [], ◌∷◌, get_or, length, map, Some, refl, sym, ap, ◌∙◌, subst, arith}
-use Rattle.std.specs.List.{list_all, slice_get}
+use Rattle.std.proofs.Common.{◌≡◌, ◌++◌, ℕ, ◌<◌, ◌≤◌, ◌==◌, zero, suc, List, [], ◌∷◌, get_or, length, map, Some, refl, sym, ap, ◌∙◌, subst, arith}
+use Rattle.std.specs.List.{list_all, slice_get, sum_by}
 use Rattle.std.proofs.lemmas.List.{length-map}
 use Rattle.std.proofs.lemmas.Option.{get_or_from_slice_get, same_Some}
+use Rattle.std.specs.List.Sorted.{IsPermutation}
+use Rattle.std.proofs.lemmas.List.Sums.{sum_by-cons}
+use Rattle.std.proofs.lemmas.List.Sorted.{sum_by-IsPermutation, length_permutation}
 use Rattle.lane_core.specs.declared.job.Plain.{Plain}
 use Rattle.lane_core.specs.Settling.{Claim, ClaimsSettle, GivesDue, IsClaim, rises}
-use Rattle.lane_core.specs.Weights.{SameItems, once, weigh}
+use Rattle.lane_core.specs.Weights.{once}
 use Rattle.hub_core.specs.declared.deliverer_seat.DelivererSeat.{DelivererSeat}
 use Rattle.hub_core.specs.declared.lane_seat.LaneSeat.{LaneSeat}
 use Rattle.hub_core.specs.declared.worker_seat.WorkerSeat.{WorkerSeat}
 use Rattle.hub_core.specs.Delivering.{handed, lane_count}
-use Rattle.hub_core.specs.Filling.{AreMade, AreOwn, Fills, Listed, Sorts, items_of}
+use Rattle.hub_core.specs.DrainedLists.{AreMade, AreOwn, DrainsInto, Listed, Sorts, items_of}
 use Rattle.hub_core.specs.Lanes.{lane_of, polled, received, submitted}
 use Rattle.hub_core.specs.Draining.{Finds}
-use Rattle.hub_core.specs.Serving.{weigh_all}
-use Rattle.hub_core.specs.Standing.{Owes}
-use Rattle.hub_core.proofs.NumberFacts.{by_place, weigh_ones}
-use Rattle.hub_core.proofs.SeatFacts.{Whole, at_map, by_seat, map_at, one_lane, weigh_same}
+use Rattle.hub_core.specs.Serving.{sum_all}
+use Rattle.hub_core.proofs.NumberFacts.{by_place, sum_ones}
+use Rattle.hub_core.proofs.SeatFacts.{Whole, at_map, by_seat, map_at, one_lane, sum_same}
 use Rattle.hub_core.proofs.SortFacts.{all_same}
-use Rattle.hub_core.proofs.WeightFacts.{weigh-map}
+use Rattle.hub_core.proofs.WeightFacts.{sum_by-map}
 
 is_there : {X : Type 0} (xs : List X) (i : ℕ) → i < length xs → (x : X) × (slice_get xs i ≡ Some x)
 is_there [] i low = absurd (omega arith)
@@ -29,21 +31,24 @@ no_items : (xs : List Plain) → length xs ≡ 0 → xs ≡ []
 no_items [] e = refl
 no_items (x ∷ xs) e = absurd (omega arith)
 
-empty_at : (lists : List Listed) (l : ℕ) (v : Listed) → weigh_all (λ (_ : Plain). 1) (items_of lists) ≡ 0 → slice_get lists l ≡ Some v → v.items ≡ []
+empty_at : (lists : List Listed) (l : ℕ) (v : Listed) → sum_all (λ (_ : Plain). 1) (items_of lists) ≡ 0 → slice_get lists l ≡ Some v → v.items ≡ []
 empty_at [] l v none e = absurd (cc)
-empty_at (x ∷ xs) zero v none e = let a = ap (λ (u : Listed). length u.items) (same_Some x v e) in no_items v.items (omega (arith, weigh_ones x.items))
-empty_at (x ∷ xs) (suc l) v none e = empty_at xs l v (omega arith) e
+empty_at (x ∷ xs) zero v none e =
+    let a = ap (λ (u : Listed). length u.items) (same_Some x v e) in no_items v.items (omega (arith, sum_by-cons (λ (ys : List Plain). sum_by (λ _. 1) ys) x.items (items_of xs), sum_ones x.items))
+empty_at (x ∷ xs) (suc l) v none e = empty_at xs l v (omega (arith, sum_by-cons (λ (ys : List Plain). sum_by (λ _. 1) ys) x.items (items_of xs))) e
 
-own_empty : (lists : List Listed) → weigh_all (λ (_ : Plain). 1) (items_of lists) ≡ 0 → AreOwn lists
+own_empty : (lists : List Listed) → sum_all (λ (_ : Plain). 1) (items_of lists) ≡ 0 → AreOwn lists
 own_empty lists none l v e = ap (list_all (λ (x : Plain). x.lane == l)) (empty_at lists l v none e)
 
--- sorted lists weigh the same
-sorted_weigh : (h : Plain → ℕ) (old new : List Listed) → length new ≡ length old → ((l : ℕ) (v w : Listed) → slice_get old l ≡ Some v → slice_get new l ≡ Some w → SameItems w.items v.items)
-    → weigh_all h (items_of new) ≡ weigh_all h (items_of old)
-sorted_weigh h [] [] long same = refl
-sorted_weigh h [] (w ∷ ws) long same = absurd (omega arith)
-sorted_weigh h (v ∷ vs) [] long same = absurd (omega arith)
-sorted_weigh h (v ∷ vs) (w ∷ ws) long same = let here = same 0 v w refl refl h in omega (arith, sorted_weigh h vs ws (omega arith) (λ l a b e f. same (suc l) a b e f))
+-- sorted lists have the same sum
+sum_sorted : (h : Plain → ℕ) (old new : List Listed) → length new ≡ length old → ((l : ℕ) (v w : Listed) → slice_get old l ≡ Some v → slice_get new l ≡ Some w → IsPermutation v.items w.items)
+    → sum_all h (items_of new) ≡ sum_all h (items_of old)
+sum_sorted h [] [] long same = refl
+sum_sorted h [] (w ∷ ws) long same = absurd (omega arith)
+sum_sorted h (v ∷ vs) [] long same = absurd (omega arith)
+sum_sorted h (v ∷ vs) (w ∷ ws) long same =
+    let here = sum_by-IsPermutation h v.items w.items (same 0 v w refl refl) in
+    omega (arith, sum_by-cons (λ (ys : List Plain). sum_by h ys) v.items (items_of vs), sum_by-cons (λ (ys : List Plain). sum_by h ys) w.items (items_of ws), sum_sorted h vs ws (omega arith) (λ l a b e f. same (suc l) a b e f))
 
 -- lane l's list at the end
 abbrev list_at : List Listed → ℕ → List Plain
@@ -55,44 +60,48 @@ list_is lists l w e = sym (get_or_from_slice_get (items_of lists) l w.items [] (
 abbrev claim_of : List Listed → LaneSeat → Claim
 claim_of lists s = record { lane = lane_of s; submitted = submitted s; polled = polled s; given = list_at lists (lane_of s) }
 
--- one lane's lists: as they were made, filled and sorted
-record Lists (made filled sorted : List Listed) (l : ℕ) : Type 0 where
+-- one lane's lists: as they were made, drained into and sorted
+record Lists (made drained sorted : List Listed) (l : ℕ) : Type 0 where
   start : Listed
   end : Listed
   list : Listed
   at_start : slice_get made l ≡ Some start
-  at_end : slice_get filled l ≡ Some end
+  at_end : slice_get drained l ≡ Some end
   at_list : slice_get sorted l ≡ Some list
 
-lists_at : (made filled sorted : List Listed) (l n : ℕ) → l < n → length made ≡ n → length filled ≡ n → length sorted ≡ n → Lists made filled sorted l
-lists_at made filled sorted l n low a b c =
+lists_at : (made drained sorted : List Listed) (l n : ℕ) → l < n → length made ≡ n → length drained ≡ n → length sorted ≡ n → Lists made drained sorted l
+lists_at made drained sorted l n low a b c =
     let x = is_there made l (omega arith) in
-    let y = is_there filled l (omega arith) in
+    let y = is_there drained l (omega arith) in
     let z = is_there sorted l (omega arith) in
     record { start = x.0; end = y.0; list = z.0; at_start = x.1; at_end = y.1; at_list = z.1 }
 
-pub owed : (ls : List LaneSeat) (ws : List WorkerSeat) (d : DelivererSeat) (jobs results found : List Plain) (n : ℕ) (made filled sorted : List Listed)
-    → ClaimsSettle → Finds ls ws d jobs results found → Whole ls ws d jobs results → lane_count d ≡ n → AreMade ls n made → Fills made filled found → Sorts filled sorted → Owes ls (items_of sorted)
-owed ls ws d jobs results found n made filled sorted claims_settle finds whole count are_made fills sorts =
+-- each lane's list is what it had not polled
+abbrev pub Owes : List LaneSeat → List (List Plain) → Type 0
+Owes lanes lists = (i : ℕ) (v : LaneSeat) → slice_get lanes i ≡ Some v → polled v ++ get_or lists (lane_of v) [] ≡ submitted v
+
+pub owed : (ls : List LaneSeat) (ws : List WorkerSeat) (d : DelivererSeat) (jobs results found : List Plain) (n : ℕ) (made drained sorted : List Listed)
+    → ClaimsSettle → Finds ls ws d jobs results found → Whole ls ws d jobs results → lane_count d ≡ n → AreMade ls n made → DrainsInto made drained found → Sorts drained sorted → Owes ls (items_of sorted)
+owed ls ws d jobs results found n made drained sorted claims_settle finds whole count are_made drains sorts =
     let m = lane_count d in
     let one = one_lane m ls whole.each in
     let long_made : length made ≡ m = are_made.counted ∙ sym count in
-    let long_filled : length filled ≡ m = fills.counted ∙ long_made in
-    let long_sorted : length sorted ≡ m = sorts.0 ∙ long_filled in
-    let own = fills.own (own_empty made (are_made.empty (λ (_ : Plain). 1))) in
-    let given : (g : Plain → ℕ) → weigh (λ (s : LaneSeat). weigh g (list_at sorted (lane_of s))) ls ≡ weigh_all g (items_of filled) = λ g.
-    by_seat m ls whole.each (λ l. weigh g (list_at sorted l))
-    ∙ (by_place (weigh g) (items_of sorted) m [] (length-map sorted (λ (v : Listed). v.items) ∙ long_sorted)
-    ∙ sorted_weigh g filled sorted sorts.0 (λ l v w e f. (sorts.1 l v w e f).0)) in
-    let settled = claims_settle (map (claim_of sorted) ls) found fills.dropped
+    let long_drained : length drained ≡ m = drains.counted ∙ long_made in
+    let long_sorted : length sorted ≡ m = sorts.0 ∙ long_drained in
+    let own = drains.own (own_empty made (are_made.empty (λ (_ : Plain). 1))) in
+    let given : (g : Plain → ℕ) → sum_by (λ (s : LaneSeat). sum_by g (list_at sorted (lane_of s))) ls ≡ sum_all g (items_of drained) = λ g.
+    by_seat m ls whole.each (λ l. sum_by g (list_at sorted l))
+    ∙ (by_place (sum_by g) (items_of sorted) m [] (length-map sorted (λ (v : Listed). v.items) ∙ long_sorted)
+    ∙ sum_sorted g drained sorted sorts.0 (λ l v w e f. (sorts.1 l v w e f).0)) in
+    let settled = claims_settle (map (claim_of sorted) ls) found drains.dropped
     (λ i c e.
     let p = at_map (claim_of sorted) ls i c e in
     let s = p.0 in
     let l = lane_of s in
-    let at = lists_at made filled sorted l m (whole.low i s p.1) long_made long_filled long_sorted in
+    let at = lists_at made drained sorted l m (whole.low i s p.1) long_made long_drained long_sorted in
     let same = sorts.1 l at.end at.list at.at_end at.at_list in
     let list = list_is sorted l at.list at.at_list in
-    subst (λ (c : Claim). IsClaim c × GivesDue c fills.dropped) p.2 (
+    subst (λ (c : Claim). IsClaim c × GivesDue c drains.dropped) p.2 (
       record {
         submitted = s.in_order;
         polled = s.polled_in_order;
@@ -100,23 +109,23 @@ owed ls ws d jobs results found n made filled sorted claims_settle finds whole c
         rising = ap rises (sym {A = List Plain} list) ∙ same.1;
       },
       λ less.
-          let due = are_made.room l at.start at.at_start i s p.1 refl (one l) in
-          let room = fills.room l at.start at.end at.at_start at.at_end in
-          let counted = same.0 (λ _. 1) in
+          let unpolled = are_made.room l at.start at.at_start i s p.1 refl (one l) in
+          let room = drains.room l at.start at.end at.at_start at.at_end in
+          let counted = length_permutation at.end.items at.list.items same.0 in
           let at_list = ap length list in
           let len = at.end.ok.0 in
-          fills.full l at.end at.at_end (omega (arith, room.0, weigh_ones at.list.items, weigh_ones at.end.items)),
+          drains.full l at.end at.at_end (omega (arith, room.0)),
     ))
-    (λ l. subst (λ k. k ≤ 1) (sym (weigh-map (λ (c : Claim). once (c.lane == l)) (claim_of sorted) ls)) (one l))
+    (λ l. subst (λ k. k ≤ 1) (sym (sum_by-map (λ (c : Claim). once (c.lane == l)) (claim_of sorted) ls)) (one l))
     (λ g.
-    let a = weigh-map (λ (c : Claim). weigh g c.submitted) (claim_of sorted) ls ∙ whole.sum g in
-    let b = weigh-map (λ (c : Claim). weigh g c.polled) (claim_of sorted) ls ∙ weigh_same (λ (s : LaneSeat). weigh g (polled s)) (λ (s : LaneSeat). weigh g (received s)) ls (λ i s e. ap (weigh g) (whole.polled i s e).0) in
-    let e = weigh-map (λ l. weigh g (handed d l)) (λ (s : LaneSeat). lane_of s) ls ∙ whole.sent g in
+    let a = sum_by-map (λ (c : Claim). sum_by g c.submitted) (claim_of sorted) ls ∙ whole.sum g in
+    let b = sum_by-map (λ (c : Claim). sum_by g c.polled) (claim_of sorted) ls ∙ sum_same (λ (s : LaneSeat). sum_by g (polled s)) (λ (s : LaneSeat). sum_by g (received s)) ls (λ i s e. ap (sum_by g) (whole.polled i s e).0) in
+    let e = sum_by-map (λ l. sum_by g (handed d l)) (λ (s : LaneSeat). lane_of s) ls ∙ whole.sent g in
     let f = finds.whole g in
     omega arith)
     (λ g.
-    let a = weigh-map (λ (c : Claim). weigh g c.given) (claim_of sorted) ls ∙ given g in
-    let b = fills.whole g in
+    let a = sum_by-map (λ (c : Claim). sum_by g c.given) (claim_of sorted) ls ∙ given g in
+    let b = drains.whole g in
     let c = are_made.empty g in
     omega arith) in
     λ i v e. settled i (claim_of sorted v) (map_at (claim_of sorted) ls i v e)

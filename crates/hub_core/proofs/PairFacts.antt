@@ -1,28 +1,28 @@
 -- The rings of a hub, drained one by one.
 use Rattle.std.proofs.Common.{◌≡◌, ⊎_elim, ℕ, ◌+◌, ◌<◌, List, [], ◌∷◌, ◌++◌, get_or, length, length-append, set, Some, refl, sym, ap, ◌∙◌, subst, arith, append_assoc, append-nil}
-use Rattle.std.specs.List.{slice_get, All, flat_map}
+use Rattle.std.specs.List.{slice_get, All, flat_map, sum_by}
 use Rattle.std.proofs.lemmas.List.{get_or-map, length-map, length-set}
 use Rattle.std.proofs.lemmas.List.Elements.{All-push, All-weaker}
 use Rattle.std.proofs.lemmas.Option.{slice_get-get_or}
+use Rattle.std.proofs.lemmas.List.Sums.{sum_by-append}
 use Rattle.crossbeam_queue.specs.Passes.{view}
 use Rattle.rtrb.specs.Ring.{IsPair, SameProducer, sent}
 use Rattle.lane_core.specs.declared.job.Plain.{Plain}
-use Rattle.lane_core.specs.Weights.{weigh}
 use Rattle.hub_core.specs.declared.deliverer_seat.DelivererSeat.{DelivererSeat}
 use Rattle.hub_core.specs.declared.hub.Hub.{Hub}
 use Rattle.hub_core.specs.declared.lane_seat.LaneSeat.{LaneSeat}
 use Rattle.hub_core.specs.declared.rule.Trace.{Trace}
-use Rattle.hub_core.specs.Filling.{Fills, Listed}
+use Rattle.hub_core.specs.DrainedLists.{DrainsInto, Listed}
 use Rattle.hub_core.specs.Fresh.{IsPairedIn}
 use Rattle.hub_core.specs.Hubs.{ArePushEnds, IsDelivererOf, IsLaneOf, shape_of}
 use Rattle.hub_core.specs.Lanes.{lane_of, numbers_of, received, submitted}
 use Rattle.hub_core.specs.Draining.{AreFromFirst, all_received, to_lanes}
 use Rattle.hub_core.specs.Rings.{PushEnd, all_sent}
 use Rattle.hub_core.specs.Rule.{trace}
-use Rattle.hub_core.proofs.FillFacts.{filled_then, same_some}
+use Rattle.hub_core.proofs.DrainedFacts.{drained_then, same_some}
 use Rattle.hub_core.proofs.DrainFacts.{flat_map_more, trace_is}
 use Rattle.hub_core.proofs.RingFacts.{get_set, same_ring}
-use Rattle.hub_core.proofs.WeightFacts.{weigh-append, weigh-map}
+use Rattle.hub_core.proofs.WeightFacts.{sum_by-map}
 
 -- the ends are those that they were
 pub record AreSameEnds (old new : List PushEnd) : Type 0 where
@@ -58,15 +58,15 @@ pair_now old now s t paired ends at =
 
 -- the lanes' passes were joined to b
 abbrev pub HasJobs : Trace → Trace → List LaneSeat → Type 0
-HasJobs b w ss = w ≡ trace (b.parts + length ss) (b.pushed ++ flat_map submitted ss) b.popped
+HasJobs b w ss = w ≡ trace (b.shares + length ss) (b.pushed ++ flat_map submitted ss) b.popped
 
 pub lane_jobs : (b v w : Trace) (ss : List LaneSeat) (s : LaneSeat)
     → HasJobs b v ss
-    → w ≡ trace (v.parts + (view s.pass).parts) (v.pushed ++ (view s.pass).pushed) (v.popped ++ (view s.pass).popped)
+    → w ≡ trace (v.shares + (view s.pass).shares) (v.pushed ++ (view s.pass).pushed) (v.popped ++ (view s.pass).popped)
     → HasJobs b w (ss ++ s ∷ [])
 lane_jobs b v w ss s was is =
     is ∙ trace_is _ _ _ _ _ _
-    (let e = ap (λ (h : Trace). h.parts) was in let f = s.part in omega (arith, length-append ss (s ∷ [])))
+    (let e = ap (λ (h : Trace). h.shares) was in let f = s.share in omega (arith, length-append ss (s ∷ [])))
     (ap (λ (h : Trace). h.pushed ++ submitted s) was ∙ (append_assoc b.pushed (flat_map submitted ss) (submitted s) ∙ ap (λ l. b.pushed ++ l) (sym (flat_map_more submitted ss s))))
     (ap (λ l. v.popped ++ l) s.pushes_only ∙ (append-nil v.popped ∙ ap (λ (h : Trace). h.popped) was))
 
@@ -76,24 +76,24 @@ sent_now old now s t same at low =
     sym (get_or-map (λ (r : PushEnd). sent r) now (lane_of s) t [] low ∙ ap (λ (r : PushEnd). sent r) (sym at)) ∙ ap (λ xs. get_or xs (lane_of s) []) same
 
 -- what these lanes had left in their rings was placed
-abbrev pub RingFilled : List Listed → List Listed → List PushEnd → List LaneSeat → Type 0
-RingFilled t u rings ss = (xs : List Plain) × Fills t u xs × ((h : Plain → ℕ) → weigh h xs + all_received h ss ≡ to_lanes h rings (numbers_of ss))
+abbrev pub RingDrained : List Listed → List Listed → List PushEnd → List LaneSeat → Type 0
+RingDrained t u rings ss = (xs : List Plain) × DrainsInto t u xs × ((h : Plain → ℕ) → sum_by h xs + all_received h ss ≡ to_lanes h rings (numbers_of ss))
 
-pub ring_filled : (t u u' : List Listed) (rings : List PushEnd) (ss : List LaneSeat) (s : LaneSeat) (xs ys : List Plain) → Fills t u xs → Fills u u' ys
-    → ((h : Plain → ℕ) → weigh h xs + all_received h ss ≡ to_lanes h rings (numbers_of ss)) → received s ++ ys ≡ get_or (all_sent rings) (lane_of s) []
-    → RingFilled t u' rings (ss ++ s ∷ [])
-ring_filled t u u' rings ss s xs ys filled more was left = (
+pub ring_drained : (t u u' : List Listed) (rings : List PushEnd) (ss : List LaneSeat) (s : LaneSeat) (xs ys : List Plain) → DrainsInto t u xs → DrainsInto u u' ys
+    → ((h : Plain → ℕ) → sum_by h xs + all_received h ss ≡ to_lanes h rings (numbers_of ss)) → received s ++ ys ≡ get_or (all_sent rings) (lane_of s) []
+    → RingDrained t u' rings (ss ++ s ∷ [])
+ring_drained t u u' rings ss s xs ys drained more was left = (
   xs ++ ys,
-  filled_then t u u' xs ys filled more,
+  drained_then t u u' xs ys drained more,
   λ h.
-      let g : ℕ → ℕ = λ l. weigh h (get_or (all_sent rings) l []) in
-      let a = weigh-append (λ (v : LaneSeat). weigh h (received v)) ss (s ∷ []) in
-      let b = weigh-map g lane_of (ss ++ s ∷ []) in
-      let c = weigh-append (λ (v : LaneSeat). g (lane_of v)) ss (s ∷ []) in
-      let d = weigh-map g lane_of ss in
-      let e = ap (weigh h) left in
-      let f = weigh-append h (received s) ys in
-      omega (arith, was h, weigh-append h xs ys),
+      let g : ℕ → ℕ = λ l. sum_by h (get_or (all_sent rings) l []) in
+      let a = sum_by-append (λ (v : LaneSeat). sum_by h (received v)) ss (s ∷ []) in
+      let b = sum_by-map g lane_of (ss ++ s ∷ []) in
+      let c = sum_by-append (λ (v : LaneSeat). g (lane_of v)) ss (s ∷ []) in
+      let d = sum_by-map g lane_of ss in
+      let e = ap (sum_by h) left in
+      let f = sum_by-append h (received s) ys in
+      omega (arith, was h, sum_by-append h xs ys),
 )
 
 -- what came out of its ring is the first of what it was sent
@@ -115,7 +115,7 @@ all_paired h rings ss ends long each = All-weaker (IsLaneOf h) (IsPairedIn rings
 
 -- a ring for each lane
 pub all_rings : (h : Hub) (d : DelivererSeat) → IsDelivererOf h d → length d.rings.items ≡ (shape_of h).lanes
-all_rings h d of_hub = sym (length-map d.rings.items (λ (r : PushEnd). sent r)) ∙ (d.stocks.keeps.lanes ∙ of_hub.lanes)
+all_rings h d of_hub = sym (length-map d.rings.items (λ (r : PushEnd). sent r)) ∙ (d.accounted.giving.lanes ∙ of_hub.lanes)
 
 pub none_left : {X : Type 0} (xs ys all : List X) → length ys ≡ 0 → xs ++ ys ≡ all → xs ≡ all
 none_left xs [] all none is = sym (append-nil xs) ∙ is

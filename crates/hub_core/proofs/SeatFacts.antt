@@ -1,31 +1,33 @@
 -- The parts of a hub as lanes of the machine, and as accounts of what they submitted and were handed.
-use Rattle.std.proofs.Common.{◌≡◌, ◌≢◌, ⊎_elim, ℕ, ◌+◌, ◌<◌, ◌≤◌, ◌==◌, cond, nat_lt, option_map, Bool, true, false, zero, suc, List, [], ◌∷◌, ◌++◌, get_or, length, length-append, map, take, Option, Some, None, option_to_list, refl, sym, ap, ◌∙◌, subst, arith}
-use Rattle.std.specs.List.{All, flat_map, range_with_len, slice_get}
-use Rattle.std.proofs.lemmas.Bool.{and_from, and_parts, cases_eq, eq-eqb, ne_eqb}
+use Rattle.std.proofs.Common.{◌≡◌, ◌≢◌, ⊎_elim, ℕ, ◌+◌, ◌<◌, ◌≤◌, ◌==◌, cond, nat_lt, option_map, true, zero, suc, List, [], ◌∷◌, ◌++◌, get_or, length, length-append, map, take, Option, Some, None, option_to_list, refl, sym, ap, ◌∙◌, subst, arith}
+use Rattle.std.specs.List.{All, flat_map, range_with_len, slice_get, sum_by, count_by}
+use Rattle.std.proofs.lemmas.Bool.{and_from, and_parts, cases_eq, cases_lt, eq-eqb, ne_eqb}
 use Rattle.std.proofs.lemmas.List.FromFn.{get_or-map-range_with_len, length-map-range_with_len}
 use Rattle.std.proofs.lemmas.Option.{get_or_from_slice_get, same_Some, slice_get-get_or, slice_get-map, slice_get_past, slice_get_within}
+use Rattle.std.proofs.lemmas.List.Sums.{sum_by-append, sum_by-cons}
 use Rattle.lane_core.specs.declared.job.Plain.{Plain}
 use Rattle.lane_core.specs.Machine.{LaneState, State, lane_state, of_lane, state}
 use Rattle.lane_core.specs.Settling.{Account, AllFound, KeptWhole, ReceivedFirst}
 use Rattle.lane_core.specs.Tickets.{numbered}
-use Rattle.lane_core.specs.Weights.{OneForOne, once, weigh}
+use Rattle.lane_core.specs.Weights.{OneForOne, once}
 use Rattle.lane_core.specs.Whereabouts.{NothingLost}
 use Rattle.hub_core.specs.declared.deliverer_seat.DelivererSeat.{DelivererSeat}
 use Rattle.hub_core.specs.declared.hub.Hub.{Hub}
 use Rattle.hub_core.specs.declared.lane_seat.LaneSeat.{LaneSeat}
 use Rattle.hub_core.specs.declared.worker_seat.WorkerSeat.{WorkerSeat}
-use Rattle.hub_core.specs.Delivering.{collected, desk_of, hand_of, handed, lane_count, taken_in}
+use Rattle.hub_core.specs.Delivering.{collected, buffer_of, hand_of, handed, lane_count, taken_in}
 use Rattle.hub_core.specs.Hubs.{AreAllSeats, HasEach, IsLaneOf, shape_of, year_of}
 use Rattle.hub_core.specs.Lanes.{lane_of, numbers_of, polled, polled_count, received, submitted}
 use Rattle.hub_core.specs.Draining.{Finds}
 use Rattle.hub_core.specs.Rings.{all_sent}
-use Rattle.hub_core.specs.Serving.{weigh_all}
+use Rattle.hub_core.specs.Serving.{sum_all}
 use Rattle.hub_core.specs.Standing.{StandsFor}
 use Rattle.hub_core.specs.Workers.{posted, taken}
 use Rattle.hub_core.specs.Workers as worker
-use Rattle.hub_core.proofs.DueFacts.{at_least}
-use Rattle.hub_core.proofs.NumberFacts.{by_place, each_weighs, less_or}
-use Rattle.hub_core.proofs.WeightFacts.{weigh-append, weigh-map}
+use Rattle.hub_core.proofs.UnpolledFacts.{at_least}
+use Rattle.hub_core.proofs.NumberFacts.{by_place, sum_each}
+use Rattle.hub_core.proofs.WeightFacts.{sum_by-map}
+use Rattle.hub_core.proofs.OrderFacts.{few_once}
 
 pub at_map : {A B : Type 0} (f : A → B) (xs : List A) (i : ℕ) (b : B) → slice_get (map f xs) i ≡ Some b → (a : A) × (slice_get xs i ≡ Some a) × (f a ≡ b)
 at_map f [] i b e = absurd (cc)
@@ -38,25 +40,21 @@ map_at f xs i a e = slice_get-map f xs i ∙ ap (option_map f) e
 pub all_at : {X : Type 0} (P : X → Type 0) (xs : List X) (i : ℕ) (x : X) → All P xs → slice_get xs i ≡ Some x → P x
 all_at P xs i x all e = subst P (get_or_from_slice_get xs i x x e) (all i x (slice_get_within xs i x e))
 
-pub weigh_same : {X : Type 0} (f g : X → ℕ) (xs : List X) → ((i : ℕ) (x : X) → slice_get xs i ≡ Some x → f x ≡ g x) → weigh f xs ≡ weigh g xs
-weigh_same f g [] each = refl
-weigh_same f g (x ∷ xs) each = let here = each 0 x refl in omega (arith, weigh_same f g xs (λ i y e. each (suc i) y e))
+pub sum_same : {X : Type 0} (f g : X → ℕ) (xs : List X) → ((i : ℕ) (x : X) → slice_get xs i ≡ Some x → f x ≡ g x) → sum_by f xs ≡ sum_by g xs
+sum_same f g [] each = refl
+sum_same f g (x ∷ xs) each = let here = each 0 x refl in omega (arith, sum_by-cons f x xs, sum_by-cons g x xs, sum_same f g xs (λ i y e. each (suc i) y e))
 
-weigh-flat_map : {X A : Type 0} (g : A → ℕ) (f : X → List A) (xs : List X) → weigh g (flat_map f xs) ≡ weigh (λ x. weigh g (f x)) xs
-weigh-flat_map g f [] = refl
-weigh-flat_map g f (x ∷ xs) = omega (arith, weigh-append g (f x) (flat_map f xs), weigh-flat_map g f xs)
-
-once_few : (b : Bool) → once b ≤ 1
-once_few true = omega arith
-once_few false = omega arith
+sum_by-flat_map : {X A : Type 0} (g : A → ℕ) (f : X → List A) (xs : List X) → sum_by g (flat_map f xs) ≡ sum_by (λ x. sum_by g (f x)) xs
+sum_by-flat_map g f [] = refl
+sum_by-flat_map g f (x ∷ xs) = omega (arith, sum_by-cons (λ y. sum_by g (f y)) x xs, sum_by-append g (f x) (flat_map f xs), sum_by-flat_map g f xs)
 
 -- no lane has two seats
-pub one_lane : (n : ℕ) (ls : List LaneSeat) → HasEach n (numbers_of ls) → (l : ℕ) → weigh (λ (s : LaneSeat). once (lane_of s == l)) ls ≤ 1
-one_lane n ls each l = subst (λ m. m ≤ 1) (sym (each l) ∙ weigh-map (λ k. once (k == l)) (λ (s : LaneSeat). lane_of s) ls) (once_few (nat_lt l n))
+pub one_lane : (n : ℕ) (ls : List LaneSeat) → HasEach n (numbers_of ls) → (l : ℕ) → count_by (λ (s : LaneSeat). lane_of s == l) ls ≤ 1
+one_lane n ls each l = subst (λ m. m ≤ 1) (sym (each l) ∙ sum_by-map (λ k. once (k == l)) (λ (s : LaneSeat). lane_of s) ls) (few_once (nat_lt l n))
 
 -- all lanes of a hub, by number or by seat
-pub by_seat : (n : ℕ) (ls : List LaneSeat) → HasEach n (numbers_of ls) → (F : ℕ → ℕ) → weigh (λ (s : LaneSeat). F (lane_of s)) ls ≡ weigh F (range_with_len 0 n)
-by_seat n ls each F = sym (weigh-map F (λ (s : LaneSeat). lane_of s) ls) ∙ each_weighs n (numbers_of ls) each F
+pub by_seat : (n : ℕ) (ls : List LaneSeat) → HasEach n (numbers_of ls) → (F : ℕ → ℕ) → sum_by (λ (s : LaneSeat). F (lane_of s)) ls ≡ sum_by F (range_with_len 0 n)
+by_seat n ls each F = sym (sum_by-map F (λ (s : LaneSeat). lane_of s) ls) ∙ sum_each n (numbers_of ls) each F
 
 numbered_front : (l n : ℕ) (xs ys : List Plain) → numbered l n (xs ++ ys) ≡ true → numbered l n xs ≡ true
 numbered_front l n [] ys e = refl
@@ -68,8 +66,8 @@ numbered_front l n (x ∷ xs) ys e =
 hands_whole : (ws : List WorkerSeat) → OneForOne (flat_map taken ws) (flat_map posted ws) (flat_map worker.hand_of ws)
 hands_whole [] h = refl
 hands_whole (w ∷ ws) h =
-    let a = ap (weigh h) w.none_lost in
-    omega (arith, hands_whole ws h, weigh-append h (taken w) (flat_map taken ws), weigh-append h (posted w) (flat_map posted ws), weigh-append h (worker.hand_of w) (flat_map worker.hand_of ws), weigh-append h (posted w) (worker.hand_of w))
+    let a = ap (sum_by h) w.none_lost in
+    omega (arith, hands_whole ws h, sum_by-append h (taken w) (flat_map taken ws), sum_by-append h (posted w) (flat_map posted ws), sum_by-append h (worker.hand_of w) (flat_map worker.hand_of ws), sum_by-append h (posted w) (worker.hand_of w))
 
 -- what all parts of a hub are, and where all that was submitted is
 pub record Whole (ls : List LaneSeat) (ws : List WorkerSeat) (d : DelivererSeat) (jobs results : List Plain) : Type 0 where
@@ -77,8 +75,8 @@ pub record Whole (ls : List LaneSeat) (ws : List WorkerSeat) (d : DelivererSeat)
   pub low : (i : ℕ) (s : LaneSeat) → slice_get ls i ≡ Some s → lane_of s < lane_count d
   pub long : length (all_sent d.rings.items) ≡ lane_count d
   pub aside : taken_in d ≡ collected d
-  pub sum : (g : Plain → ℕ) → weigh (λ (s : LaneSeat). weigh g (submitted s)) ls ≡ ((((weigh g jobs + weigh g (flat_map worker.hand_of ws)) + weigh g results) + weigh g (desk_of d).waiting) + weigh g (hand_of d)) + weigh_all g (all_sent d.rings.items)
-  pub sent : (g : Plain → ℕ) → weigh (λ (s : LaneSeat). weigh g (handed d (lane_of s))) ls ≡ weigh_all g (all_sent d.rings.items)
+  pub sum : (g : Plain → ℕ) → sum_by (λ (s : LaneSeat). sum_by g (submitted s)) ls ≡ ((((sum_by g jobs + sum_by g (flat_map worker.hand_of ws)) + sum_by g results) + sum_by g (buffer_of d).waiting) + sum_by g (hand_of d)) + sum_all g (all_sent d.rings.items)
+  pub sent : (g : Plain → ℕ) → sum_by (λ (s : LaneSeat). sum_by g (handed d (lane_of s))) ls ≡ sum_all g (all_sent d.rings.items)
   pub polled : (i : ℕ) (s : LaneSeat) → slice_get ls i ≡ Some s → (polled s ≡ received s) × (polled_count s ≤ length (handed d (lane_of s)))
   pub handed : (i : ℕ) (s : LaneSeat) → slice_get ls i ≡ Some s → take (length (handed d (lane_of s))) (submitted s) ≡ handed d (lane_of s)
 
@@ -95,38 +93,38 @@ whole_from h ls ws d jobs results found all_found received_first kept_whole seat
     let count : (shape_of h).lanes ≡ n = sym seats.deliverer.lanes in
     let each : HasEach n (numbers_of ls) = subst (λ m. HasEach m (numbers_of ls)) count seats.each_lane in
     let low : (i : ℕ) (s : LaneSeat) → slice_get ls i ≡ Some s → lane_of s < n = λ i s e. let less = (all_at (IsLaneOf h) ls i s seats.lanes e).lane in omega arith in
-    let keeps = d.stocks.keeps in
+    let giving = d.accounted.giving in
     let one = one_lane n ls each in
-    let found_all = all_found n (map account ls) (flat_map taken ws) (flat_map posted ws) (collected d) jobs (flat_map worker.hand_of ws) results (desk_of d).waiting (hand_of d) (λ g. weigh_all g (all_sent d.rings.items))
+    let found_all = all_found n (map account ls) (flat_map taken ws) (flat_map posted ws) (collected d) jobs (flat_map worker.hand_of ws) results (buffer_of d).waiting (hand_of d) (λ g. sum_all g (all_sent d.rings.items))
     (λ i a e. let p = at_map account ls i a e in subst (λ (b : Account). numbered b.lane 0 b.submitted ≡ true) p.2 p.0.in_order)
     (λ i a e. let p = at_map account ls i a e in subst (λ (b : Account). b.lane < n) p.2 (low i p.0 p.1))
-    (λ l. subst (λ m. m ≤ 1) (sym (weigh-map (λ (a : Account). once (a.lane == l)) account ls)) (one l))
-    (λ g. weigh-map (λ (a : Account). weigh g a.submitted) account ls ∙ (sym (weigh-flat_map g (λ (s : LaneSeat). submitted s) ls) ∙ finds.jobs g))
+    (λ l. subst (λ m. m ≤ 1) (sym (sum_by-map (λ (a : Account). once (a.lane == l)) account ls)) (one l))
+    (λ g. sum_by-map (λ (a : Account). sum_by g a.submitted) account ls ∙ (sym (sum_by-flat_map g (λ (s : LaneSeat). submitted s) ls) ∙ finds.jobs g))
     (hands_whole ws)
     finds.results
-    d.stocks.none_lost in
-    let sum : (g : Plain → ℕ) → weigh (λ (s : LaneSeat). weigh g (submitted s)) ls ≡ ((((weigh g jobs + weigh g (flat_map worker.hand_of ws)) + weigh g results) + weigh g (desk_of d).waiting) + weigh g (hand_of d)) + weigh_all g (all_sent d.rings.items) = λ g.
-    sym (weigh-map (λ (a : Account). weigh g a.submitted) account ls) ∙ found_all.1 g in
-    let sent : (g : Plain → ℕ) → weigh (λ (s : LaneSeat). weigh g (handed d (lane_of s))) ls ≡ weigh_all g (all_sent d.rings.items) = λ g.
-    by_seat n ls each (λ l. weigh g (handed d l)) ∙ by_place (weigh g) (all_sent d.rings.items) n [] keeps.lanes in
+    d.accounted.none_lost in
+    let sum : (g : Plain → ℕ) → sum_by (λ (s : LaneSeat). sum_by g (submitted s)) ls ≡ ((((sum_by g jobs + sum_by g (flat_map worker.hand_of ws)) + sum_by g results) + sum_by g (buffer_of d).waiting) + sum_by g (hand_of d)) + sum_all g (all_sent d.rings.items) = λ g.
+    sym (sum_by-map (λ (a : Account). sum_by g a.submitted) account ls) ∙ found_all.1 g in
+    let sent : (g : Plain → ℕ) → sum_by (λ (s : LaneSeat). sum_by g (handed d (lane_of s))) ls ≡ sum_all g (all_sent d.rings.items) = λ g.
+    by_seat n ls each (λ l. sum_by g (handed d l)) ∙ by_place (sum_by g) (all_sent d.rings.items) n [] giving.lanes in
     let first = received_first (map (handed_account d) ls)
     (λ i a e. let p = at_map (handed_account d) ls i a e in subst (λ (b : Account). numbered b.lane 0 b.submitted ≡ true) p.2 p.0.in_order)
-    (λ i a e. let p = at_map (handed_account d) ls i a e in subst (λ (b : Account). numbered b.lane 0 b.received ≡ true) p.2 (keeps.in_order (lane_of p.0)))
-    (λ l. subst (λ m. m ≤ 1) (sym (weigh-map (λ (a : Account). once (a.lane == l)) (handed_account d) ls)) (one l))
+    (λ i a e. let p = at_map (handed_account d) ls i a e in subst (λ (b : Account). numbered b.lane 0 b.received ≡ true) p.2 (giving.in_order (lane_of p.0)))
+    (λ l. subst (λ m. m ≤ 1) (sym (sum_by-map (λ (a : Account). once (a.lane == l)) (handed_account d) ls)) (one l))
     (λ g.
-    let a = weigh-map (λ (a : Account). weigh g a.received) (handed_account d) ls ∙ sent g in
-    let b = weigh-map (λ (a : Account). weigh g a.submitted) (handed_account d) ls ∙ sum g in
+    let a = sum_by-map (λ (a : Account). sum_by g a.received) (handed_account d) ls ∙ sent g in
+    let b = sum_by-map (λ (a : Account). sum_by g a.submitted) (handed_account d) ls ∙ sum g in
     omega arith) in
     record {
       each = each;
       low = low;
-      long = keeps.lanes;
+      long = giving.lanes;
       aside = found_all.0;
       sum = sum;
       sent = sent;
       polled = λ i s e.
           let front = all_at (λ (v : LaneSeat). (left : List Plain) × (received v ++ left ≡ get_or (all_sent d.rings.items) (lane_of v) [])) ls i s finds.first e in
-          let order = numbered_front (lane_of s) 0 (received s) front.0 (ap (numbered (lane_of s) 0) front.1 ∙ keeps.in_order (lane_of s)) in
+          let order = numbered_front (lane_of s) 0 (received s) front.0 (ap (numbered (lane_of s) 0) front.1 ∙ giving.in_order (lane_of s)) in
           let same = kept_whole (lane_of s) 0 (received s) order in
           (same, (let a = ap length same in let b = ap length front.1 in let c = length-append (received s) front.0 in omega arith));
       handed = λ i s e. first i (handed_account d s) (map_at (handed_account d) ls i s e);
@@ -148,19 +146,20 @@ state_is d P (v ∷ vs) l none each = ⊎_elim
     (λ (e : lane_of v ≢ l). subst P (sym (ap (λ b. cond b (lane_shown d v) (state_at d vs l)) (ne_eqb (lane_of v) l e))) (state_is d P vs l none (λ i u f. each (suc i) u f)))
     (cases_eq (lane_of v) l)
 
-state_there : (d : DelivererSeat) (ls : List LaneSeat) (l i : ℕ) (v : LaneSeat) → slice_get ls i ≡ Some v → lane_of v ≡ l → weigh (λ (s : LaneSeat). once (lane_of s == l)) ls ≤ 1 → state_at d ls l ≡ lane_shown d v
+state_there : (d : DelivererSeat) (ls : List LaneSeat) (l i : ℕ) (v : LaneSeat) → slice_get ls i ≡ Some v → lane_of v ≡ l → count_by (λ (s : LaneSeat). lane_of s == l) ls ≤ 1 → state_at d ls l ≡ lane_shown d v
 state_there d [] l i v e at one = absurd (cc)
 state_there d (x ∷ xs) l zero v e at one =
     let same = same_Some x v e in
     ap (λ b. cond b (lane_shown d x) (state_at d xs l)) (eq-eqb (lane_of x) l (ap (λ (s : LaneSeat). lane_of s) same ∙ at)) ∙ ap (lane_shown d) same
 state_there d (x ∷ xs) l (suc i) v e at one =
+    let count = sum_by-cons (λ (s : LaneSeat). once (lane_of s == l)) x xs in
     let there = at_least (λ (s : LaneSeat). lane_of s) xs l i v e at in
     ap (λ b. cond b (lane_shown d x) (state_at d xs l)) (ne_eqb (lane_of x) l (λ f. let a : once (lane_of x == l) ≡ 1 = ap once (eq-eqb (lane_of x) l f) in omega arith))
     ∙ state_there d xs l i v e at (omega arith)
 
 -- the state that the parts are
 abbrev pub state_of : Hub → List LaneSeat → List WorkerSeat → DelivererSeat → List Plain → List Plain → State
-state_of h ls ws d jobs results = state (year_of h) (map (state_at d ls) (range_with_len 0 (lane_count d))) jobs (map worker.in_hand ws) results ((desk_of d).waiting ++ hand_of d)
+state_of h ls ws d jobs results = state (year_of h) (map (state_at d ls) (range_with_len 0 (lane_count d))) jobs (map worker.in_hand ws) results ((buffer_of d).waiting ++ hand_of d)
 
 there : (f : ℕ → LaneState) (n l : ℕ) → l < n → slice_get (map f (range_with_len 0 n)) l ≡ Some (f l)
 there f n l low =
@@ -170,7 +169,7 @@ by_lane : (f : ℕ → LaneState) (n l : ℕ) (P : Option LaneState → Type 0) 
 by_lane f n l P none some = ⊎_elim
     (λ (e : l < n). subst P (sym (there f n l e)) some)
     (λ (past : n ≤ l). subst P (sym (slice_get_past (map f (range_with_len 0 n)) l (let e = length-map-range_with_len f 0 n in omega arith))) none)
-    (less_or l n)
+    (cases_lt l n)
 
 pub stands_for : (h : Hub) (ls : List LaneSeat) (ws : List WorkerSeat) (d : DelivererSeat) (jobs results found : List Plain)
     → AreAllSeats h ls ws d → Finds ls ws d jobs results found → Whole ls ws d jobs results → StandsFor (state_of h ls ws d jobs results) h ls ws d
@@ -185,10 +184,10 @@ stands_for h ls ws d jobs results found seats finds whole = record {
 }
 
 -- all lanes of the state, by seat
-lanes_weigh : (n : ℕ) (d : DelivererSeat) (ls : List LaneSeat) (G : LaneState → ℕ) → HasEach n (numbers_of ls) → weigh G (map (state_at d ls) (range_with_len 0 n)) ≡ weigh (λ (s : LaneSeat). G (lane_shown d s)) ls
-lanes_weigh n d ls G each =
-    weigh-map G (state_at d ls) (range_with_len 0 n) ∙ (sym (by_seat n ls each (λ l. G (state_at d ls l)))
-    ∙ weigh_same (λ (s : LaneSeat). G (state_at d ls (lane_of s))) (λ (s : LaneSeat). G (lane_shown d s)) ls (λ i s e. ap G (state_there d ls (lane_of s) i s e refl (one_lane n ls each (lane_of s)))))
+sum_lanes : (n : ℕ) (d : DelivererSeat) (ls : List LaneSeat) (G : LaneState → ℕ) → HasEach n (numbers_of ls) → sum_by G (map (state_at d ls) (range_with_len 0 n)) ≡ sum_by (λ (s : LaneSeat). G (lane_shown d s)) ls
+sum_lanes n d ls G each =
+    sum_by-map G (state_at d ls) (range_with_len 0 n) ∙ (sym (by_seat n ls each (λ l. G (state_at d ls l)))
+    ∙ sum_same (λ (s : LaneSeat). G (state_at d ls (lane_of s))) (λ (s : LaneSeat). G (lane_shown d s)) ls (λ i s e. ap G (state_there d ls (lane_of s) i s e refl (one_lane n ls each (lane_of s)))))
 
 shorter : (k : ℕ) (xs ys : List Plain) → take k xs ≡ ys → length ys ≤ length xs
 shorter zero xs ys e = let a = ap length e in omega arith
@@ -208,11 +207,11 @@ nothing_lost h ls ws d jobs results whole =
       handed = λ l. by_lane f n l (λ o. of_lane 0 (λ v. v.handed) o ≤ length (of_lane [] (λ v. v.submitted) o)) (omega arith)
           (state_is d (λ v. v.handed ≤ length v.submitted) ls l (omega arith) (λ i v e at. shorter _ (submitted v) (handed d (lane_of v)) (whole.handed i v e)));
       whole = λ g.
-          let a = lanes_weigh n d ls (λ v. weigh g v.submitted) whole.each ∙ whole.sum g in
-          let b = lanes_weigh n d ls (λ v. weigh g (take v.handed v.submitted)) whole.each
-          ∙ (weigh_same (λ (s : LaneSeat). weigh g (take (length (handed d (lane_of s))) (submitted s))) (λ (s : LaneSeat). weigh g (handed d (lane_of s))) ls (λ i s e. ap (weigh g) (whole.handed i s e)) ∙ whole.sent g) in
-          let c = weigh-map (λ o. weigh g (option_to_list o)) worker.in_hand ws ∙ sym (weigh-flat_map g worker.hand_of ws) in
-          let e = weigh-append g (desk_of d).waiting (hand_of d) in
+          let a = sum_lanes n d ls (λ v. sum_by g v.submitted) whole.each ∙ whole.sum g in
+          let b = sum_lanes n d ls (λ v. sum_by g (take v.handed v.submitted)) whole.each
+          ∙ (sum_same (λ (s : LaneSeat). sum_by g (take (length (handed d (lane_of s))) (submitted s))) (λ (s : LaneSeat). sum_by g (handed d (lane_of s))) ls (λ i s e. ap (sum_by g) (whole.handed i s e)) ∙ whole.sent g) in
+          let c = sum_by-map (λ o. sum_by g (option_to_list o)) worker.in_hand ws ∙ sym (sum_by-flat_map g worker.hand_of ws) in
+          let e = sum_by-append g (buffer_of d).waiting (hand_of d) in
           omega arith;
     }
 

@@ -2,7 +2,7 @@
 use Rattle.std.proofs.Common.{◌≡◌, ◌≢◌, ⊎_elim, ℕ, ◌<◌, ◌≤◌, ◌+◌, ◌++◌, List, [], ◌∷◌, zero, suc, All, IfSome, Option, Some, None, drop, get_or, length, length-append, map, replicate, set, refl, sym, ap, ◌∙◌, append-nil, append_assoc, subst, arith}
 use Rattle.std.specs.List.{range_with_len, slice_get}
 use Rattle.std.proofs.Math.Seq.{map-set_same}
-use Rattle.std.proofs.lemmas.Bool.{cases_eq}
+use Rattle.std.proofs.lemmas.Bool.{cases_eq, cases_lt}
 use Rattle.std.proofs.lemmas.Grind.{get_or-set_at}
 use Rattle.std.proofs.lemmas.List.{get_or-map, get_or-set_other, get_or_past, length-map, length-set, map-append, map-set}
 use Rattle.std.proofs.lemmas.List.Elements.{All-set}
@@ -15,12 +15,13 @@ use Rattle.hub_core.specs.Fresh.{HasDoneNothing}
 use Rattle.hub_core.specs.Hubs.{IsLaneOf, shape_of, year_of}
 use Rattle.hub_core.specs.Lanes.{issued_of, lane_of, numbers_of, polled, polled_count, received, rows_of, submitted}
 use Rattle.hub_core.specs.Serving.{numbered_feeds, numbered_rows, served}
-use Rattle.hub_core.specs.Standing.{PolledFirst}
+use Rattle.hub_core.proofs.LaneViewFacts.{PolledFirst}
 use Rattle.hub_core.specs.Traffics.{AreEven, AreServedFirst, HasRoom, IsEven, IsNextOf, Serves, given_to, polled_by, with_held, with_more}
 use Rattle.hub_core.specs.declared.hub.Hub.{Hub}
 use Rattle.hub_core.specs.declared.lane_seat.LaneSeat.{LaneSeat}
-use Rattle.hub_core.proofs.NumberFacts.{less_or}
 use Rattle.hub_core.proofs.ServeFacts.{lanes_counted}
+use Rattle.hub_core.proofs.OrderFacts.{rows_long}
+use Rattle.hub_core.proofs.NewFacts.{tail_all}
 
 pub if_none : (o : Option (ℕ × List ℕ)) (P : (ℕ × List ℕ) → Type 0) → o ≡ None → IfSome o P
 if_none o P none = subst (λ x. IfSome x P) (sym none) tt
@@ -115,7 +116,7 @@ given_more seats (Some r) i =
     let here : get_or (set lists r.0 v) i [] ≡ v = get_or-set_at lists r.0 i v [] e low in
     omega (arith, ap length here, length-append (get_or lists r.0 []) (r.1 ∷ []), ap (λ k. length (get_or lists k [])) e))
     (λ (past : length lists ≤ r.0). omega (arith, ap length (get_or_past lists i [] (omega (arith, past, e)))))
-    (less_or r.0 (length lists)))
+    (cases_lt r.0 (length lists)))
     (λ (e : i ≢ r.0). omega (arith, ap length (get_or-set_other lists r.0 i v [] e)))
     (cases_eq i r.0)
 
@@ -186,9 +187,6 @@ serves_fresh h seats n lanes numbers count limit = record {
   room = tt;
 }
 
-all_rest : {X : Type 0} (P : X → Type 0) (x : X) (xs : List X) → All P (x ∷ xs) → All P xs
-all_rest P x xs all k d low = all (suc k) d (omega (arith, low))
-
 none_left : {X : Type 0} (xs ys zs : List X) → xs ++ ys ≡ zs → length xs ≡ length zs → xs ≡ zs
 none_left xs [] zs e same = sym (append-nil xs) ∙ e
 none_left xs (y ∷ ys) zs e same = absurd (omega (arith, ap length e, length-append xs (y ∷ ys)))
@@ -205,14 +203,10 @@ done_from m year (s ∷ seats) (suc n) numbers owed even =
     let lane : lane_of s ≡ m = ap (λ (ns : List ℕ). get_or ns 0 m) numbers in
     let mine = owed 0 s refl in
     let count : length (polled s) ≡ length (numbered_rows (lane_of s) 0 year (rows_of s)) =
-    even 0 s (omega arith) ∙ (sym (length-map (submitted s) (λ (x : Plain). x.widths)) ∙ sym (length-numbered (lane_of s) 0 year (rows_of s))) in
+    even 0 s (omega arith) ∙ (sym (length-map (submitted s) (λ (x : Plain). x.widths)) ∙ sym (rows_long (lane_of s) 0 year (rows_of s))) in
     let here : polled s ≡ numbered_rows m 0 year (rows_of s) = none_left (polled s) mine.0 _ mine.1 count ∙ ap (λ l. numbered_rows l 0 year (rows_of s)) lane in
-    let rest = done_from (m + 1) year seats n (ap (drop 1) numbers) (λ i v e. owed (suc i) v e) (all_rest (λ (v : LaneSeat). polled_count v ≡ issued_of v) s seats even) in
+    let rest = done_from (m + 1) year seats n (ap (drop 1) numbers) (λ i v e. owed (suc i) v e) (tail_all (λ (v : LaneSeat). polled_count v ≡ issued_of v) s seats even) in
     (λ j. here j ∷ rest j)
-  where
-    length-numbered : (l k y : ℕ) (rows : List (List ℕ)) → length (numbered_rows l k y rows) ≡ length rows
-    length-numbered l k y [] = refl
-    length-numbered l k y (r ∷ rows) = ap suc (length-numbered l (k + 1) y rows)
 
 pub all_served : (h : Hub) (seats : List LaneSeat) → Serves h seats None → PolledFirst h seats → AreEven seats → polled_by seats ≡ served (year_of h) (given_to seats None)
 all_served h seats was first even = done_from 0 (year_of h) seats (shape_of h).lanes was.numbers first even
@@ -281,4 +275,4 @@ served_first h seats held was first i = ⊎_elim
     (λ (past : length seats ≤ i).
     let rest = get_or (served (year_of h) (given_to seats held)) i [] in
     (rest, ap (λ (v : List Plain). v ++ rest) (get_or_past (polled_by seats) i [] (omega (arith, past, length-map seats polled)))))
-    (less_or i (length seats))
+    (cases_lt i (length seats))

@@ -1,7 +1,7 @@
 -- The deliverer's seat: what it has collected, what is in its hand, and what it has handed to each lane.
 use Rattle.std.specs.Prelude.{◌≡◌, ◌≢◌, ◌⊎◌, ◌&&◌, ℕ, Bool, not, true, false, List, [], ◌∷◌, ◌++◌, Option, Some, None, option_to_list, MatchOption, length, slice_get, slice_index_or}
 use Rattle.lane_core.specs.declared.job.Plain.{Plain}
-use Rattle.lane_core.specs.Desk.{Desk, GivesNext, TakesIn, has_next, is_new, lanes_of}
+use Rattle.lane_core.specs.ReorderBuffer.{ReorderBuffer, GivesNext, TakesIn, has_next, is_new, lanes_of}
 use Rattle.lane_core.specs.Settling.{sifted}
 use Rattle.lane_core.specs.Tickets.{is_among}
 use Rattle.hub_core.specs.Passes.{popped_by}
@@ -10,8 +10,8 @@ use Rattle.hub_core.specs.Rings.{PushEnd, all_sent}
 use Rattle.hub_core.specs.declared.deliverer_seat.DelivererSeat.{DelivererSeat}
 use Rattle.hub_core.specs.declared.deliverer_seat.Collected.{Collected}
 use Rattle.hub_core.specs.declared.deliverer_seat.Collected.TheVariants as collecting
-use Rattle.hub_core.specs.declared.gathered.Gathered.{Gathered}
-use Rattle.hub_core.specs.declared.gathered.Gathered.TheVariants as gathering
+use Rattle.hub_core.specs.declared.collected_by_lane.CollectedByLane.{CollectedByLane}
+use Rattle.hub_core.specs.declared.collected_by_lane.CollectedByLane.TheVariants as by_lane
 use Rattle.hub_core.specs.declared.deliverer_seat.Handed.{Handed}
 use Rattle.hub_core.specs.declared.deliverer_seat.Handed.TheVariants as handing
 
@@ -25,11 +25,11 @@ abbrev pub hand_of : DelivererSeat → List Plain
 hand_of s = option_to_list s.held
 
 -- what waits, and each lane's next number
-abbrev pub desk_of : DelivererSeat → Desk
-desk_of s = s.deliverer
+abbrev pub buffer_of : DelivererSeat → ReorderBuffer
+buffer_of s = s.deliverer
 
 abbrev pub lane_count : DelivererSeat → ℕ
-lane_count s = lanes_of (desk_of s)
+lane_count s = lanes_of (buffer_of s)
 
 -- what lane l was handed
 abbrev pub handed : DelivererSeat → ℕ → List Plain
@@ -52,20 +52,20 @@ abbrev pub Takes : DelivererSeat → Plain → DelivererSeat → Type 0
 Takes s x t = MatchOption (in_hand s) (collected t ≡ collected s ++ x ∷ []) (λ d. (d ≡ x) × (collected t ≡ collected s))
 
 -- x was taken in; or it is a stranger, and was set aside
-abbrev pub TakesOrSetsAside : Desk → Plain → Desk → Type 0
+abbrev pub TakesOrSetsAside : ReorderBuffer → Plain → ReorderBuffer → Type 0
 TakesOrSetsAside d x e = TakesIn d x e ⊎ ((is_new d x ≡ false) × (e ≡ d))
 
 -- how the lists grow with each answer of `collect`
 abbrev pub Collects : DelivererSeat → Collected → DelivererSeat → Type 0
-Collects s collecting.Nothing t = (in_hand s ≡ None) × (in_hand t ≡ None) × (collected t ≡ collected s) × (desk_of t ≡ desk_of s) × SameHanded s t
-Collects s collecting.Taken t = (x : Plain) × Takes s x t × TakesOrSetsAside (desk_of s) x (desk_of t) × (in_hand t ≡ None) × SameHanded s t
-Collects s collecting.NoMemory t = (x : Plain) × Takes s x t × (in_hand t ≡ Some x) × (desk_of t ≡ desk_of s) × SameHanded s t
+Collects s collecting.Nothing t = (in_hand s ≡ None) × (in_hand t ≡ None) × (collected t ≡ collected s) × (buffer_of t ≡ buffer_of s) × SameHanded s t
+Collects s collecting.Taken t = (x : Plain) × Takes s x t × TakesOrSetsAside (buffer_of s) x (buffer_of t) × (in_hand t ≡ None) × SameHanded s t
+Collects s collecting.NoMemory t = (x : Plain) × Takes s x t × (in_hand t ≡ Some x) × (buffer_of t ≡ buffer_of s) × SameHanded s t
 
 -- the answer of `collect` without the lane
-abbrev pub collected_as : Gathered → Collected
-collected_as gathering.Nothing = collecting.Nothing
-collected_as (gathering.Taken _) = collecting.Taken
-collected_as gathering.NoMemory = collecting.NoMemory
+abbrev pub collected_as : CollectedByLane → Collected
+collected_as by_lane.Nothing = collecting.Nothing
+collected_as (by_lane.Taken _) = collecting.Taken
+collected_as by_lane.NoMemory = collecting.NoMemory
 
 -- lane l's ring was seen with no free place
 abbrev pub RingIsFull : DelivererSeat → ℕ → Type 0
@@ -73,11 +73,11 @@ RingIsFull s l = (r : PushEnd) → slice_get s.rings.items l ≡ Some r → know
 
 -- how the lists grow with each answer of `hand`
 abbrev pub Hands : DelivererSeat → ℕ → Handed → DelivererSeat → Type 0
-Hands s l handing.Nothing t = (has_next (desk_of s) l ≡ false) × (t ≡ s)
-Hands s l handing.RingFull t = (has_next (desk_of s) l ≡ true) × (desk_of t ≡ desk_of s) × (collected t ≡ collected s) × (in_hand t ≡ in_hand s) × SameHanded s t × RingIsFull t l
+Hands s l handing.Nothing t = (has_next (buffer_of s) l ≡ false) × (t ≡ s)
+Hands s l handing.RingFull t = (has_next (buffer_of s) l ≡ true) × (buffer_of t ≡ buffer_of s) × (collected t ≡ collected s) × (in_hand t ≡ in_hand s) × SameHanded s t × RingIsFull t l
 Hands s l handing.Given t =
     (x : Plain)
-    × GivesNext (desk_of s) l x (desk_of t)
+    × GivesNext (buffer_of s) l x (buffer_of t)
     × (x.number ≡ length (handed s l))
     × (handed t l ≡ handed s l ++ x ∷ [])
     × ((m : ℕ) → m ≢ l → handed t m ≡ handed s m)

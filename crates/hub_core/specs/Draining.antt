@@ -1,9 +1,9 @@
 -- What was found in the rings, and in all.
 use Rattle.std.specs.Prelude.{◌≡◌, ◌+◌, ◌++◌, ℕ, List, [], All, slice_index_or}
-use Rattle.std.specs.List.{flat_map}
+use Rattle.std.specs.List.{flat_map, sum_by}
 use Rattle.lane_core.specs.declared.job.Plain.{Plain}
-use Rattle.lane_core.specs.Weights.{OneForOne, weigh}
-use Rattle.hub_core.specs.Delivering.{collected, desk_of, hand_of}
+use Rattle.lane_core.specs.Weights.{OneForOne}
+use Rattle.hub_core.specs.Delivering.{collected, buffer_of, hand_of}
 use Rattle.hub_core.specs.Lanes.{lane_of, numbers_of, received, submitted}
 use Rattle.hub_core.specs.Rings.{PushEnd, all_sent}
 use Rattle.hub_core.specs.Workers.{posted, taken}
@@ -16,16 +16,16 @@ use Rattle.hub_core.specs.declared.deliverer_seat.DelivererSeat.{DelivererSeat}
 abbrev pub AreFromFirst : List PushEnd → List LaneSeat → Type 0
 AreFromFirst rings lanes = All (λ s. (left : List Plain) × (received s ++ left ≡ slice_index_or (all_sent rings) (lane_of s) [])) lanes
 
--- the weights of all that came out of the rings, and of all that these lanes were sent
+-- the sum over all that came out of the rings, and over all that these lanes were sent
 abbrev pub all_received : (Plain → ℕ) → List LaneSeat → ℕ
-all_received h lanes = weigh (λ s. weigh h (received s)) lanes
+all_received h lanes = sum_by (λ s. sum_by h (received s)) lanes
 
 abbrev pub to_lanes : (Plain → ℕ) → List PushEnd → List ℕ → ℕ
-to_lanes h rings numbers = weigh (λ l. weigh h (slice_index_or (all_sent rings) l [])) numbers
+to_lanes h rings numbers = sum_by (λ l. sum_by h (slice_index_or (all_sent rings) l [])) numbers
 
 -- what was found of all that the lanes had not polled: the jobs and the results of the queues, and all of it
 pub record Finds (ls : List LaneSeat) (ws : List WorkerSeat) (d : DelivererSeat) (queued_jobs queued_results found : List Plain) : Type 0 where
   pub jobs : OneForOne (flat_map submitted ls) (flat_map taken ws) queued_jobs
   pub results : OneForOne (flat_map posted ws) (collected d) queued_results
   pub first : AreFromFirst d.rings.items ls
-  pub whole : (h : Plain → ℕ) → weigh h found + all_received h ls ≡ ((((weigh h queued_jobs + weigh h (flat_map worker.hand_of ws)) + weigh h queued_results) + weigh h (desk_of d).waiting) + weigh h (hand_of d)) + to_lanes h d.rings.items (numbers_of ls)
+  pub whole : (h : Plain → ℕ) → sum_by h found + all_received h ls ≡ ((((sum_by h queued_jobs + sum_by h (flat_map worker.hand_of ws)) + sum_by h queued_results) + sum_by h (buffer_of d).waiting) + sum_by h (hand_of d)) + to_lanes h d.rings.items (numbers_of ls)

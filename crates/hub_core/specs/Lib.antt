@@ -1,12 +1,13 @@
 pub use Rattle.scan_core.specs.Answers
+pub mod Accounting
 pub mod Delivering
+pub mod DrainedLists
 pub mod Draining
 pub mod Faults
 pub mod Feeds
-pub mod Filling
 pub mod Fresh
 pub mod Hubs
-pub mod Keeping
+pub mod Lane
 pub mod Lanes
 pub mod Laws
 pub mod Passes
@@ -15,7 +16,6 @@ pub mod Rule
 pub mod Serving
 pub mod Shapes
 pub mod Standing
-pub mod Stock
 pub mod Submitting
 pub mod Traffics
 pub mod Workers

@@ -1,15 +1,13 @@
--- The parts of a hub as a state of the machine, and what settling gives.
-use Rattle.std.specs.Prelude.{◌≡◌, ℕ, List, [], ◌++◌, true, Some, length, map, slice_get, slice_index_or}
+-- The parts of a hub as a state of the machine.
+use Rattle.std.specs.Prelude.{◌≡◌, ℕ, List, ◌++◌, true, Some, length, map, slice_get}
 use Rattle.std.specs.List.{flat_map}
-use Rattle.lane_core.specs.declared.job.Plain.{Plain}
 use Rattle.lane_core.specs.Machine.{State, lane_state}
 use Rattle.lane_core.specs.Weights.{OneForOne}
-use Rattle.hub_core.specs.Lanes.{lane_of, polled, polled_count, rows_of, submitted}
+use Rattle.hub_core.specs.Lanes.{lane_of, polled_count, submitted}
 use Rattle.hub_core.specs.Hubs.{shape_of, year_of}
-use Rattle.hub_core.specs.Serving.{numbered_rows}
 use Rattle.hub_core.specs.Workers.{posted, taken}
 use Rattle.hub_core.specs.Workers as worker
-use Rattle.hub_core.specs.Delivering.{collected, desk_of, hand_of, handed}
+use Rattle.hub_core.specs.Delivering.{collected, buffer_of, hand_of, handed}
 use Rattle.hub_core.specs.declared.hub.Hub.{Hub}
 use Rattle.hub_core.specs.declared.lane_seat.LaneSeat.{LaneSeat}
 use Rattle.hub_core.specs.declared.worker_seat.WorkerSeat.{WorkerSeat}
@@ -23,16 +21,4 @@ pub record StandsFor (s : State) (h : Hub) (ls : List LaneSeat) (ws : List Worke
   pub jobs : OneForOne (flat_map submitted ls) (flat_map taken ws) s.jobs
   pub workers : s.workers ≡ map worker.in_hand ws
   pub results : OneForOne (flat_map posted ws) (collected d) s.results
-  pub waiting : s.waiting ≡ (desk_of d).waiting ++ hand_of d
-
--- what each lane polled is the first of what its rows are served
-abbrev pub PolledFirst : Hub → List LaneSeat → Type 0
-PolledFirst h lanes = (i : ℕ) (v : LaneSeat) → slice_get lanes i ≡ Some v → (rest : List Plain) × (polled v ++ rest ≡ numbered_rows (lane_of v) 0 (year_of h) (rows_of v))
-
--- each lane's list is what it had not polled
-abbrev pub Owes : List LaneSeat → List (List Plain) → Type 0
-Owes lanes lists = (i : ℕ) (v : LaneSeat) → slice_get lanes i ≡ Some v → polled v ++ slice_index_or lists (lane_of v) [] ≡ submitted v
-
--- what each lane polled and then its list are its rows, numbered from 0 on, under the hub's year
-abbrev pub GivesRows : Hub → List LaneSeat → List (List Plain) → Type 0
-GivesRows h lanes lists = (i : ℕ) (v : LaneSeat) → slice_get lanes i ≡ Some v → polled v ++ slice_index_or lists (lane_of v) [] ≡ numbered_rows (lane_of v) 0 (year_of h) (rows_of v)
+  pub waiting : s.waiting ≡ (buffer_of d).waiting ++ hand_of d

@@ -1,15 +1,14 @@
 //! Takes all that no lane has polled out of the hands, queues and rings of a hub.
 ghost use Rattle.std.specs.Prelude.{◌≡◌, ◌<◌, ◌≤◌, ◌++◌, ◌+◌, [], ◌∷◌, ℕ, List, All, length, option_to_list};
-ghost use Rattle.std.specs.List.{flat_map};
+ghost use Rattle.std.specs.List.{flat_map, sum_by};
 ghost use Rattle.crossbeam_queue.specs.Passes.{view, IsPassOf};
 ghost use Rattle.rtrb.specs.Ring.{sent, received, IsPair, SameProducer};
 ghost use Rattle.lane_core.specs.declared.job.Plain.{Plain};
-ghost use Rattle.lane_core.specs.Weights.{weigh};
-ghost use Rattle.hub_core.specs.Filling.{Fills};
+ghost use Rattle.hub_core.specs.DrainedLists.{DrainsInto};
 ghost use Rattle.hub_core.specs.Fresh.{IsPairedIn};
 ghost use Rattle.hub_core.specs.Hubs.{AreAllSeats, IsWorkerOf};
 ghost use Rattle.hub_core.specs.Lanes.{numbers_of, submitted};
-ghost use Rattle.hub_core.specs.Passes.{parts_of, popped_by, pushed_by};
+ghost use Rattle.hub_core.specs.Passes.{shares_of, popped_by, pushed_by};
 ghost use Rattle.hub_core.specs.Draining.{AreFromFirst, Finds, all_received, to_lanes};
 ghost use Rattle.hub_core.specs.Rule.{trace};
 ghost use Rattle.hub_core.specs.Workers.{hand_of, posted, taken};
@@ -19,7 +18,7 @@ use crate::deliverer_seat::DelivererSeat;
 use crate::hub::Hub;
 use crate::lane_seat::LaneSeat;
 use crate::lists::place;
-use crate::rule::{Part, Pops, Queue, Queued, Trace};
+use crate::rule::{Pops, Queue, Queued, Share, Trace};
 use crate::worker_seat::WorkerSeat;
 use crossbeam_queue::Pass;
 use lane_core::{Deliverer, Delivery, Job};
@@ -28,7 +27,7 @@ use std::sync::Wait;
 
 /// Places a delivery, where there is one.
 pub(crate) fn place_any(lists: &mut Vec<Vec<Delivery>>, held: Option<Delivery>)
-    ensures { Fills lists.old.items lists.new.items (option_to_list held) }
+    ensures { DrainsInto lists.old.items lists.new.items (option_to_list held) }
 {
     if let Some(delivery) = held {
         place(lists, delivery);
@@ -43,30 +42,30 @@ pub(crate) fn place_hands(
     lists: &mut Vec<Vec<Delivery>>,
     workers: Vec<WorkerSeat>,
 )
-    requires passes { IsPassOf hub.now.jobs all_jobs.old × IsPassOf hub.now.results all_results.old × (0 < parts_of all_jobs.old) × (0 < parts_of all_results.old) }
+    requires passes { IsPassOf hub.now.jobs all_jobs.old × IsPassOf hub.now.results all_results.old × (0 < shares_of all_jobs.old) × (0 < shares_of all_results.old) }
     requires workers { All (IsWorkerOf hub.now) workers.items }
     ensures same { IsPassOf hub.now.jobs all_jobs.new × IsPassOf hub.now.results all_results.new }
-    ensures jobs { view all_jobs.new ≡ trace (parts_of all_jobs.old + length workers.items) (pushed_by all_jobs.old) (popped_by all_jobs.old ++ flat_map taken workers.items) }
-    ensures results { view all_results.new ≡ trace (parts_of all_results.old + length workers.items) (pushed_by all_results.old ++ flat_map posted workers.items) (popped_by all_results.old) }
-    ensures fills { Fills lists.old.items lists.new.items (flat_map hand_of workers.items) }
+    ensures jobs { view all_jobs.new ≡ trace (shares_of all_jobs.old + length workers.items) (pushed_by all_jobs.old) (popped_by all_jobs.old ++ flat_map taken workers.items) }
+    ensures results { view all_results.new ≡ trace (shares_of all_results.old + length workers.items) (pushed_by all_results.old ++ flat_map posted workers.items) (popped_by all_results.old) }
+    ensures drains { DrainsInto lists.old.items lists.new.items (flat_map hand_of workers.items) }
 {
     for seat in workers {
         let WorkerSeat { takes, posts, held } = seat;
-        hub.jobs.absorb::<Part>(all_jobs, takes);
-        hub.results.absorb::<Part>(all_results, posts);
+        hub.jobs.absorb::<Share>(all_jobs, takes);
+        hub.results.absorb::<Share>(all_results, posts);
         place_any(lists, held);
     }
 }
 
-/// Empties a queue.
+/// Drains a queue.
 pub(crate) fn place_queue<T: Queued, R: Wait>(
     rt: &R,
     queue: &Queue<T>,
     all: &mut Pass<T, Trace>,
     lists: &mut Vec<Vec<Delivery>>,
 )
-    requires { IsPassOf queue.now all.old × (parts_of all.old ≡ 1024) }
-    ensures fills { (xs : List Plain) × Fills lists.old.items lists.new.items xs × ((h : Plain → ℕ) → weigh h (pushed_by all.old) ≡ weigh h (popped_by all.old) + weigh h xs) }
+    requires { IsPassOf queue.now all.old × (shares_of all.old ≡ 1024) }
+    ensures drains { (xs : List Plain) × DrainsInto lists.old.items lists.new.items xs × ((h : Plain → ℕ) → sum_by h (pushed_by all.old) ≡ sum_by h (popped_by all.old) + sum_by h xs) }
 {
     for _ in rt.forever() {
         let Some(item) = queue.pop_as::<Pops, R>(rt, all) else {
@@ -78,7 +77,7 @@ pub(crate) fn place_queue<T: Queued, R: Wait>(
 
 /// Takes out what waits.
 pub(crate) fn place_waiting(deliverer: &mut Deliverer, lists: &mut Vec<Vec<Delivery>>)
-    ensures fills { (xs : List Plain) × Fills lists.old.items lists.new.items xs × ((h : Plain → ℕ) → weigh h deliverer.old.waiting ≡ weigh h xs) }
+    ensures drains { (xs : List Plain) × DrainsInto lists.old.items lists.new.items xs × ((h : Plain → ℕ) → sum_by h deliverer.old.waiting ≡ sum_by h xs) }
 {
     while let Some(delivery) = deliverer.take_any() {
         place(lists, delivery);
@@ -93,7 +92,7 @@ fn place_rest(
 )
     requires { IsPair producer.old consumer.old }
     ensures same { SameProducer producer.old producer.new × (sent producer.new ≡ sent producer.old) }
-    ensures fills { (xs : List Plain) × Fills lists.old.items lists.new.items xs × (received consumer.old ++ xs ≡ sent producer.old) }
+    ensures drains { (xs : List Plain) × DrainsInto lists.old.items lists.new.items xs × (received consumer.old ++ xs ≡ sent producer.old) }
 {
     let left = consumer.slots_beside(producer);
     for _i in 0..left {
@@ -109,11 +108,11 @@ pub(crate) fn place_rings(
     lists: &mut Vec<Vec<Delivery>>,
     lanes: Vec<ClosedLane>,
 )
-    requires passes { IsPassOf hub.now.jobs all_jobs.old × (0 < parts_of all_jobs.old) × All (λ s. IsPassOf hub.now.jobs s.pass) lanes.items }
+    requires passes { IsPassOf hub.now.jobs all_jobs.old × (0 < shares_of all_jobs.old) × All (λ s. IsPassOf hub.now.jobs s.pass) lanes.items }
     requires rings { All (IsPairedIn rings.old.items) lanes.items }
     ensures same { IsPassOf hub.now.jobs all_jobs.new }
-    ensures jobs { view all_jobs.new ≡ trace (parts_of all_jobs.old + length lanes.items) (pushed_by all_jobs.old ++ flat_map submitted lanes.items) (popped_by all_jobs.old) }
-    ensures fills { (xs : List Plain) × Fills lists.old.items lists.new.items xs × ((h : Plain → ℕ) → weigh h xs + all_received h lanes.items ≡ to_lanes h rings.old.items (numbers_of lanes.items)) }
+    ensures jobs { view all_jobs.new ≡ trace (shares_of all_jobs.old + length lanes.items) (pushed_by all_jobs.old ++ flat_map submitted lanes.items) (popped_by all_jobs.old) }
+    ensures drains { (xs : List Plain) × DrainsInto lists.old.items lists.new.items xs × ((h : Plain → ℕ) → sum_by h xs + all_received h lanes.items ≡ to_lanes h rings.old.items (numbers_of lanes.items)) }
     ensures received { AreFromFirst rings.old.items lanes.items }
 {
     for closed in lanes {
@@ -126,7 +125,7 @@ pub(crate) fn place_rings(
         let mut ring = ring;
         let count = rings.len();
         prove!((lane as usize) < count);
-        hub.jobs.absorb::<Part>(all_jobs, pass);
+        hub.jobs.absorb::<Share>(all_jobs, pass);
         place_rest(&mut rings[lane as usize], &mut ring, lists);
     }
 }
@@ -145,7 +144,7 @@ pub(crate) fn drain_all<R: Wait>(
     deliverer: DelivererSeat,
 )
     requires { AreAllSeats hub.now lanes.items workers.items deliverer }
-    ensures { (jobs results found : List Plain) × Finds lanes.items workers.items deliverer jobs results found × Fills lists.old.items lists.new.items found }
+    ensures { (jobs results found : List Plain) × Finds lanes.items workers.items deliverer jobs results found × DrainsInto lists.old.items lists.new.items found }
 {
     let DelivererSeat {
         jobs,

@@ -27,8 +27,8 @@ fn are_empty(rests: &[IntoIter<Runs>]) -> bool
 }
 
 impl Feeds {
-    ghost use Rattle.std.specs.Prelude.{◌≡◌, ℕ, IfOk, IfSome, List, None, map, true};
-    ghost use Rattle.hub_core.specs.Feeds.{AreGiven, IsTaken, are_given, rests_of};
+    ghost use Rattle.std.specs.Prelude.{◌≡◌, ◌<◌, ◌≤◌, [], ℕ, IfOk, IfSome, List, None, length, map, slice_index_or, true};
+    ghost use Rattle.hub_core.specs.Feeds.{AreGiven, IsTaken, NoneIsLeft, are_given, rests_of};
     ghost use Rattle.hub_core.specs.Traffics.{HasRoom, with_more};
 
     /// These rows of each lane.
@@ -55,6 +55,7 @@ impl Feeds {
         ensures given { IfSome result (λ row. (feeds given : List (List (List ℕ))) → AreGiven feeds given (rests_of self.old)
             → HasRoom lane given × AreGiven feeds (with_more lane row given) (rests_of self.new)) }
         ensures none { result ≡ None → rests_of self.new ≡ rests_of self.old }
+        ensures left { result ≡ None → lane < length (rests_of self.old) → slice_index_or (rests_of self.old) lane [] ≡ [] }
     {
         let index = usize::from(lane);
         if index >= self.rests.len() {
@@ -69,6 +70,7 @@ impl Feeds {
         ensures given { IfSome result (λ r. (feeds given : List (List (List ℕ))) → AreGiven feeds given (rests_of self.old)
             → HasRoom r.0 given × AreGiven feeds (with_more r.0 r.1 given) (rests_of self.new)) }
         ensures none { result ≡ None → rests_of self.new ≡ rests_of self.old }
+        ensures left { result ≡ None → NoneIsLeft first 16 (rests_of self.old) }
     {
         for lane in first..MOST_LANES {
             if let Some(row) = self.take_of(lane) {
@@ -85,6 +87,7 @@ impl Feeds {
         ensures given { IfSome result (λ r. (feeds given : List (List (List ℕ))) → AreGiven feeds given (rests_of self.old)
             → HasRoom r.0 given × AreGiven feeds (with_more r.0 r.1 given) (rests_of self.new)) }
         ensures none { result ≡ None → rests_of self.new ≡ rests_of self.old }
+        ensures left { result ≡ None → length (rests_of self.old) ≤ 16 → are_given (rests_of self.old) ≡ true }
     {
         match self.take_from(self.turn) {
             Some(row) => Some(row),

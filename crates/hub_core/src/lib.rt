@@ -2,13 +2,13 @@
 #![tactic(auto)]
 
 mod closed_lane;
+mod collected_by_lane;
 mod deliverer_seat;
 mod drain;
 mod ended;
 mod fault;
 mod feeds;
 mod gate;
-mod gathered;
 mod hand;
 mod hub;
 mod lane_seat;
@@ -35,7 +35,9 @@ pub use feeds::{Feeds, feeds_are_given};
 pub use gate::{Gate, OpenGate};
 pub use hub::Hub;
 pub use lane_seat::LaneSeat;
-pub use laws::{answers_are_read, served_by_place, settled_are_read, tickets_are_kept};
+pub use laws::{
+    answers_are_read, deliveries_by_place, headline, served_by_place, tickets_are_kept,
+};
 pub use parts::Parts;
 pub use rule::{OneForOne, Trace};
 pub use serve_loop::serve_traffic;

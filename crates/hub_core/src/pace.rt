@@ -12,16 +12,21 @@ const WAKE_FOR: u32 = 32;
 const LOOKS: u32 = 5_000;
 
 /// How many microseconds the calling thread waits for a delivery before it wakes a further worker, and
-/// twice as many the next time.
+/// twice as many the next time where there is no further one.
 const PATIENCE: u64 = 1_000;
 
 /// What the calling thread remembers of what it told the workers and of its waits.
 ///
 /// One worker is woken where all sleep, and one more where the calling thread had to sleep and many rows are
-/// under way. Where no delivery comes for a while, the workers that are awake may all be held
-/// by their gate, so one that sleeps is woken, and one more each time that it has waited twice as long.
+/// under way. Where no delivery comes for a while, the workers that are awake may all be held by their gate: one
+/// that sleeps is woken, and from then on one where all but so many sleep, until all rows have come back.
 #[derive(Clone, Copy)]
-pub(crate) struct Pace {
+pub(crate) struct Pace<'a> {
+    signals: &'a Signals,
+    /// How many workers there are.
+    workers: u8,
+    /// How many of them may be held, fewer than all.
+    held: u8,
     /// How many rows were queued since the workers were told.
     untold: u32,
     /// How many microseconds it waits at most.
@@ -30,10 +35,13 @@ pub(crate) struct Pace {
     has_slept: bool,
 }
 
-impl Pace {
+impl<'a> Pace<'a> {
     /// Nothing was queued, and it has not waited.
-    pub(crate) fn new() -> Pace {
+    pub(crate) fn new(signals: &'a Signals, workers: u8) -> Pace<'a> {
         Pace {
+            signals,
+            workers,
+            held: 0,
             untold: 0,
             nap: PATIENCE,
             has_slept: false,
@@ -45,12 +53,34 @@ impl Pace {
         self.untold = self.untold.saturating_add(1);
     }
 
-    /// Tells so many workers of the rows that were queued: of a few only where no more come for now.
-    pub(crate) fn tell_of_rows(&mut self, signals: &Signals, workers: u8, are_more: bool) {
+    /// Remembers that all rows have come back, and so that no worker is held.
+    pub(crate) fn is_even(&mut self) {
+        self.held = 0;
+    }
+
+    /// Tells the workers of the rows that were queued: of a few only where no more come for now. One is woken
+    /// where all sleep that are not held: a worker that is awake looks for rows until it finds none.
+    pub(crate) fn tell_of_rows(&mut self, are_more: bool) {
         if self.untold >= WAKE_FOR || (self.untold > 0 && !are_more) {
             self.untold = 0;
-            signals.notify_of_rows(workers);
+            let free = self.workers.saturating_sub(self.held);
+            self.signals.jobs.notify_where(u64::from(free));
         }
+    }
+
+    /// Tells the workers that there are places for deliveries.
+    pub(crate) fn tell_of_places(&self) {
+        self.signals.places.notify_all();
+    }
+
+    /// Wakes one more worker.
+    pub(crate) fn wake_one_more(&self) {
+        self.signals.jobs.notify_one();
+    }
+
+    /// How many signals of a delivery were given.
+    pub(crate) fn signals_seen(&self) -> u64 {
+        self.signals.deliveries.given()
     }
 
     /// Whether it has slept since it was last asked.
@@ -59,13 +89,17 @@ impl Pace {
     }
 
     /// Waits for a delivery, where so many signals of one were seen.
-    pub(crate) fn wait<R: Wait>(&mut self, rt: &R, signals: &Signals, seen: u64) {
-        self.has_slept = signals.deliveries.wait(rt, seen, LOOKS, self.nap);
-        if signals.deliveries.given() != seen {
+    pub(crate) fn wait<R: Wait>(&mut self, rt: &R, seen: u64) {
+        self.has_slept = self.signals.deliveries.wait(rt, seen, LOOKS, self.nap);
+        if self.signals_seen() != seen {
             self.nap = PATIENCE;
+            return;
+        }
+        if self.held < self.workers.saturating_sub(1) {
+            self.held = self.held.saturating_add(1);
         } else {
             self.nap = self.nap.saturating_mul(2).min(REST);
-            signals.jobs.notify_one();
         }
+        self.wake_one_more();
     }
 }

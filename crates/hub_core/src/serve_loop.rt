@@ -9,11 +9,11 @@ ghost use Rattle.hub_core.specs.Serving.{are_short, is_count, served};
 ghost use Rattle.hub_core.specs.Traffics.{AreEven, AreServedFirst, HasRoom, IsKept, Serves, given_to, polled_by, with_held};
 
 use crate::closed_lane::ClosedLane;
+use crate::collected_by_lane::CollectedByLane;
 use crate::deliverer_seat::{DelivererSeat, Handed};
 use crate::ended::Ended;
 use crate::fault::{HubFault, ServeFault, SubmitFault, Unstarted};
 use crate::gate::Gate;
-use crate::gathered::Gathered;
 use crate::hub::Hub;
 use crate::lane_seat::LaneSeat;
 use crate::pace::Pace;
@@ -39,7 +39,7 @@ const IN_A_TURN: u32 = 16;
 const AFTER_A_SLEEP: u32 = 64;
 
 /// More rows than these that are under way after that are work for one worker more.
-const SHARE: u32 = 16;
+const ROWS_A_WORKER: u32 = 16;
 
 /// What a turn leaves to do.
 #[derive(Clone, Copy, Debug, PartialEq, Eq)]
@@ -112,7 +112,7 @@ fn submit_some<R: Wait, T: Traffic>(
     traffic: &mut T,
     seats: &mut Vec<LaneSeat>,
     held: &mut Option<(u8, Runs)>,
-    pace: &mut Pace,
+    pace: &mut Pace<'_>,
 ) -> Submitted
     requires { Serves hub.now seats.old.items held.old × ((start : T) × T.Came start traffic.old (given_to seats.old.items held.old) (polled_by seats.old.items)) }
     ensures serves { Serves hub.now seats.new.items held.new }
@@ -187,21 +187,21 @@ fn collect_some<R: Wait, T: Traffic>(
     deliverer: &mut DelivererSeat,
     held: &Option<(u8, Runs)>,
     most: u32,
-) -> Result<Gathered, T::BringFault>
+) -> Result<CollectedByLane, T::BringFault>
     requires { Serves hub.now seats.old.items held.now × ((start : T) × T.Came start traffic.old (given_to seats.old.items held.now) (polled_by seats.old.items)) × IsDelivererOf hub.now deliverer.old }
     ensures serves { Serves hub.now seats.new.items held.now }
     ensures came { IfOk result (λ _. (start : T) → T.Came start traffic.old (given_to seats.old.items held.now) (polled_by seats.old.items) → T.Came start traffic.new (given_to seats.new.items held.now) (polled_by seats.new.items)) }
     ensures deliverer { IsDelivererOf hub.now deliverer.new }
 {
-    let mut gathered = Gathered::Nothing;
+    let mut collected = CollectedByLane::Nothing;
     for _i in 0..most {
-        gathered = hub.gather(rt, deliverer);
-        let Gathered::Taken(lane) = gathered else {
+        collected = hub.collect_by_lane(rt, deliverer);
+        let CollectedByLane::Taken(lane) = collected else {
             break;
         };
         pass_on(hub, traffic, seats, deliverer, held, lane)?;
     }
-    Ok(gathered)
+    Ok(collected)
 }
 
 /// Whether each ticket that was issued was polled.
@@ -216,7 +216,7 @@ fn are_many(seats: &[LaneSeat]) -> bool {
     let under_way = seats.iter().fold(0u32, |sum, seat| {
         sum.saturating_add(seat.issued - seat.polled)
     });
-    under_way > SHARE
+    under_way > ROWS_A_WORKER
 }
 
 /// Waits for more, where nothing is under way and nothing in hand.
@@ -242,8 +242,7 @@ fn take_turn<R: Wait, T: Traffic>(
     seats: &mut Vec<LaneSeat>,
     deliverer: &mut DelivererSeat,
     held: &mut Option<(u8, Runs)>,
-    signals: &Signals,
-    pace: &mut Pace,
+    pace: &mut Pace<'_>,
 ) -> Result<Turn, T::BringFault>
     requires { Serves hub.now seats.old.items held.old × ((start : T) × T.Came start traffic.old (given_to seats.old.items held.old) (polled_by seats.old.items)) × IsDelivererOf hub.now deliverer.old }
     ensures serves { Serves hub.now seats.new.items held.new }
@@ -251,27 +250,27 @@ fn take_turn<R: Wait, T: Traffic>(
     ensures deliverer { IsDelivererOf hub.now deliverer.new }
     ensures even { result ≡ Ok Turn.Even → AreEven seats.new.items × (held.new ≡ None) }
 {
-    let seen = signals.deliveries.given();
+    let seen = pace.signals_seen();
     let has_slept = pace.has_just_slept();
     let most = if has_slept { AFTER_A_SLEEP } else { IN_A_TURN };
-    let gathered = collect_some(rt, hub, traffic, seats, deliverer, held, most)?;
-    signals.places.notify_all();
+    let collected = collect_some(rt, hub, traffic, seats, deliverer, held, most)?;
+    pace.tell_of_places();
     if has_slept && are_many(seats.as_slice()) {
-        signals.jobs.notify_one();
+        pace.wake_one_more();
     }
     let submitted = submit_some(rt, hub, traffic, seats, held, pace);
-    pace.tell_of_rows(signals, hub.shape.workers, submitted == Submitted::Row);
-    match gathered {
-        Gathered::Taken(_) => Ok(Turn::GoesOn),
-        Gathered::NoMemory => Ok(Turn::NoMemory),
-        Gathered::Nothing => {
+    pace.tell_of_rows(submitted == Submitted::Row);
+    match collected {
+        CollectedByLane::Taken(_) => Ok(Turn::GoesOn),
+        CollectedByLane::NoMemory => Ok(Turn::NoMemory),
+        CollectedByLane::Nothing => {
             if submitted == Submitted::Row {
                 return Ok(Turn::GoesOn);
             }
             if submitted == Submitted::Nothing && are_even(seats.as_slice()) {
                 return Ok(Turn::Even);
             }
-            pace.wait(rt, signals, seen);
+            pace.wait(rt, seen);
             Ok(Turn::GoesOn)
         }
     }
@@ -293,18 +292,19 @@ fn run<R: Wait, T: Traffic>(
     ensures deliverer { IsDelivererOf hub.now deliverer.new }
 {
     let mut held = None;
-    let mut pace = Pace::new();
+    let mut pace = Pace::new(signals, hub.shape.workers);
     for _ in rt.forever() {
-        match take_turn(
-            rt, hub, traffic, seats, deliverer, &mut held, signals, &mut pace,
-        ) {
+        match take_turn(rt, hub, traffic, seats, deliverer, &mut held, &mut pace) {
             Ok(Turn::GoesOn) => {}
             Ok(Turn::NoMemory) => return Ended::NoMemory,
-            Ok(Turn::Even) => match wait_for_more(hub, traffic, seats) {
-                Ok(true) => {}
-                Ok(false) => return Ended::Done,
-                Err(fault) => return Ended::Stopped(fault),
-            },
+            Ok(Turn::Even) => {
+                pace.is_even();
+                match wait_for_more(hub, traffic, seats) {
+                    Ok(true) => {}
+                    Ok(false) => return Ended::Done,
+                    Err(fault) => return Ended::Stopped(fault),
+                }
+            }
             Err(fault) => return Ended::Lost(fault),
         }
     }
@@ -338,8 +338,8 @@ fn serve_seats<R: Threads + Wait + Sync, G: Gate + Sync, T: Traffic + Drop>(
     ensures refused { IfErr result (λ e. e.fault ≢ ServeFault.BadCount) }
     ensures untouched { IfErr result (λ e. e.input ≡ traffic) }
 {
-    let told = Signals::new();
-    let signals = &told;
+    let shared = Signals::new();
+    let signals = &shared;
     let task = move |traffic: Box<T>| -> (
         Box<T>,
         Vec<LaneSeat>,

@@ -1,13 +1,14 @@
 //! Settling: the deliveries that no lane has polled.
 
-ghost use Rattle.std.specs.Prelude.{◌≡◌, All, length};
+ghost use Rattle.std.specs.Prelude.{◌≡◌, All, length, map};
 ghost use Rattle.lane_core.specs.Machine.{State};
 ghost use Rattle.lane_core.specs.Whereabouts.{EachOnce};
 ghost use Rattle.hub_core.specs.Delivering.{collected, taken_in};
-ghost use Rattle.hub_core.specs.Filling.{AreMade, items_of};
-ghost use Rattle.hub_core.specs.Hubs.{AreAllSeats, shape_of};
-ghost use Rattle.hub_core.specs.Lanes.{polled, received};
-ghost use Rattle.hub_core.specs.Standing.{GivesRows, Owes, StandsFor};
+ghost use Rattle.hub_core.specs.DrainedLists.{AreMade, items_of};
+ghost use Rattle.hub_core.specs.Hubs.{AreAllSeats, shape_of, year_of};
+ghost use Rattle.hub_core.specs.Lane.{AreSettled};
+ghost use Rattle.hub_core.specs.Lanes.{as_lane, polled, received};
+ghost use Rattle.hub_core.specs.Standing.{StandsFor};
 
 use crate::closed_lane::ClosedLane;
 use crate::deliverer_seat::DelivererSeat;
@@ -43,8 +44,7 @@ pub(crate) fn give_all<R: Wait>(
     requires seats { AreAllSeats hub.now lanes.items workers.items deliverer }
     requires made { AreMade lanes.items (shape_of hub.now).lanes lists.old.items }
     ensures counted { length lists.new.items ≡ length lists.old.items }
-    ensures lists { Owes lanes.items (items_of lists.new.items) }
-    ensures rows { GivesRows hub.now lanes.items (items_of lists.new.items) }
+    ensures settled { AreSettled (year_of hub.now) (map as_lane lanes.items) (items_of lists.new.items) }
     ensures state { (s : State) × StandsFor s hub.now lanes.items workers.items deliverer × EachOnce s }
     ensures none_dropped { All (λ lane. polled lane ≡ received lane) lanes.items }
     ensures none_aside { taken_in deliverer ≡ collected deliverer }

@@ -71,7 +71,7 @@ impl Signal {
     }
 
     /// Gives it, and wakes a thread where so many sleep.
-    fn notify_where(&self, asleep: u64) {
+    pub(crate) fn notify_where(&self, asleep: u64) {
         self.given.fetch_add(1, Ordering::SeqCst);
         if self.sleepers() >= asleep {
             self.given.wake_one();
@@ -121,12 +121,6 @@ impl Signals {
     pub fn notify_workers(&self) {
         self.jobs.notify_one();
         self.places.notify_all();
-    }
-
-    /// Tells so many workers that rows were submitted. One is woken where all sleep: a worker that is
-    /// awake looks for jobs until it finds none.
-    pub(crate) fn notify_of_rows(&self, workers: u8) {
-        self.jobs.notify_where(u64::from(workers));
     }
 
     /// Asks all workers to stop, those too that sleep.

@@ -5,33 +5,24 @@ use Rattle.std.specs.List.{list_any}
 use Rattle.std.specs.Map.{lookup, remove_entry, values_of}
 use Rattle.std.specs.Option.{is_some}
 use Rattle.std.specs.Set.{remove_key}
-use Rattle.lane_core.specs.declared.head.Head.TheVariants.{Missing, Here, Out}
+use Rattle.std.proofs.lemmas.Bool.{and_parts, eqb-true}
+use Rattle.lane_core.specs.declared.next_slot.NextSlot.TheVariants.{Here, Out}
 use Rattle.lane_core.specs.declared.job.Plain.{Plain}
 use Rattle.lane_core.specs.declared.ticket.Ticket.{Ticket}
-use Rattle.lane_core.specs.Desk.{is_known}
-use Rattle.lane_core.specs.Drawer.{Advances, AreIndexed, is_tied}
+use Rattle.lane_core.specs.ReorderBuffer.{is_known}
+use Rattle.lane_core.specs.NextSlots.{Advances, AreIndexed, is_tied}
 use Rattle.lane_core.specs.Tickets.{is_among, is_ticket_of}
-use Rattle.lane_core.proofs.DrawerFacts.{Finds, any_finds, both_true, eq_from, found_among, found_ticket, gone_known, gone_more, gone_tied}
+use Rattle.lane_core.proofs.LookupFacts.{Finds, any_finds, found_among, found_ticket, gone_known, gone_more, gone_tied}
 
 none_come : (a b : Bool) → ((a && false) || b) ≡ b
 none_come true b = refl
 none_come false b = refl
 
--- a number that is not known, or too great to be one
-pub not_there : (l k : ℕ) (es : List (Ticket × Plain)) (ks : List Ticket) → AreIndexed es ks → (k < 2 ^ 32 → is_known l k ks ≡ false) → Advances l k es ks es ks Missing
-not_there l k es ks indexed none = record {
-  own = tt;
-  indexed = indexed;
-  waiting = λ h. omega arith;
-  same = λ m n. none_come ((l == m) && (k == n)) (is_known m n ks);
-  gone = none;
-}
-
 come_there : (l k m n : ℕ) (ks ts : List Ticket) → is_known l k ks ≡ true → (((l == m) && (k == n)) ≡ false → is_known m n ts ≡ is_known m n ks)
     → (b : Bool) → ((l == m) && (k == n)) ≡ b → ((((l == m) && (k == n)) && true) || is_known m n ts) ≡ is_known m n ks
 come_there l k m n ks ts there other true is =
-    let p = both_true (l == m) (k == n) is in
-    ap (λ b. (b && true) || is_known m n ts) is ∙ (sym there ∙ (λ i. is_known (eq_from l m p.0 i) (eq_from k n p.1 i) ks))
+    let p = and_parts (l == m) (k == n) is in
+    ap (λ b. (b && true) || is_known m n ts) is ∙ (sym there ∙ (λ i. is_known (eqb-true l m p.0 i) (eqb-true k n p.1 i) ks))
 come_there l k m n ks ts there other false is = ap (λ b. (b && true) || is_known m n ts) is ∙ other is
 
 module _ (test : Ticket → Bool) (l k : ℕ) (finds : Finds test l k) (es : List (Ticket × Plain)) (ks : List Ticket) (indexed : AreIndexed es ks)
@@ -51,8 +42,8 @@ module _ (test : Ticket → Bool) (l k : ℕ) (finds : Finds test l k) (es : Lis
     where
       by : (b : Bool) → ((l == m) && (k == n)) ≡ b → is_known m n (remove_key test ks) ≡ true
       by true e =
-          let p = both_true (l == m) (k == n) e in
-          absurd (let c : true ≡ false = sym is ∙ ((λ i. is_among (sym (eq_from l m p.0) i) (sym (eq_from k n p.1) i) (values_of fs)) ∙ none) in cc)
+          let p = and_parts (l == m) (k == n) e in
+          absurd (let c : true ≡ false = sym is ∙ ((λ i. is_among (sym (eqb-true l m p.0) i) (sym (eqb-true k n p.1) i) (values_of fs)) ∙ none) in cc)
       by false e = gone_known test l k finds m n e ks ∙ indexed.among m n (less m n is)
 
   -- it was taken out of turn

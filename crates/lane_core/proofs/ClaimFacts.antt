@@ -1,17 +1,18 @@
 -- What lanes are given of all that was found.
 use Rattle.std.proofs.Common.{◌≡◌, ◌⊎◌, inl, inr, ⊎_elim, ℕ, ◌+◌, ◌≤◌, ◌==◌, ◌&&◌, not, nat_lt, cond, Bool, true, false, zero, suc, List, [], ◌∷◌, ◌++◌, length, Some, refl, sym, ap, ◌∙◌, arith}
-use Rattle.std.specs.List.{slice_get, list_all}
+use Rattle.std.specs.List.{slice_get, list_all, sum_by, count_by}
 use Rattle.std.specs.Prelude.{take}
 use Rattle.std.proofs.lemmas.Bool.Decides.{nat_tests}
+use Rattle.std.proofs.lemmas.List.Sums.{sum_by-append, sum_by-cons}
+use Rattle.std.proofs.lemmas.Bool.{and_parts, eqb-true}
 use Rattle.lane_core.specs.declared.job.Plain.{Plain}
 use Rattle.lane_core.specs.Settling.{Account, AreNumbered, Claim, EachLaneOnce, GivesDue, IsClaim, rises}
 use Rattle.lane_core.specs.Tickets.{numbered}
-use Rattle.lane_core.specs.Weights.{SameItems, once, weigh}
-use Rattle.lane_core.proofs.DrawerFacts.{both_true, eq_from}
+use Rattle.lane_core.specs.Weights.{once}
 use Rattle.lane_core.proofs.SameFacts.{is_same, same_from, same_self}
 use Rattle.lane_core.proofs.SettlingFacts.{only}
 use Rattle.lane_core.proofs.SiftFacts.{later, other_lane, own_lane}
-use Rattle.lane_core.proofs.WeightFacts.{eq_self, true_from, weigh-append}
+use Rattle.lane_core.proofs.WeightFacts.{eq_self, true_from}
 
 here_or_there : (b : Bool) (n : ℕ) → 1 ≤ once b + n → (b ≡ true) ⊎ (1 ≤ n)
 here_or_there true n e = inl refl
@@ -21,120 +22,129 @@ not_less : (m n : ℕ) → not (nat_lt m n) ≡ true → n ≤ m
 not_less m n e = grind (arith, nat_tests)
 
 -- the first of a rising list is least
-least : (x g : Plain) (gs : List Plain) → rises (g ∷ gs) ≡ true → 1 ≤ weigh (λ z. once (is_same x z)) gs → g.number ≤ x.number
+least : (x g : Plain) (gs : List Plain) → rises (g ∷ gs) ≡ true → 1 ≤ count_by (λ z. is_same x z) gs → g.number ≤ x.number
 least x g [] e there = absurd (omega arith)
 least x g (y ∷ ys) e there =
-    let s = both_true (not (nat_lt y.number g.number)) (rises (y ∷ ys)) e in
+    let count = sum_by-cons (λ z. once (is_same x z)) y ys in
+    let s = and_parts (not (nat_lt y.number g.number)) (rises (y ∷ ys)) e in
     let up = not_less y.number g.number s.0 in
     ⊎_elim
     (λ (h : is_same x y ≡ true). let k = ap (λ (p : Plain). p.number) (same_from x y h) in omega arith)
-    (λ (h : 1 ≤ weigh (λ z. once (is_same x z)) ys). let k = least x y ys s.1 h in omega arith)
-    (here_or_there (is_same x y) (weigh (λ z. once (is_same x z)) ys) there)
+    (λ (h : 1 ≤ count_by (λ z. is_same x z) ys). let k = least x y ys s.1 h in omega arith)
+    (here_or_there (is_same x y) (count_by (λ z. is_same x z) ys) (omega arith))
 
 tail_rises : (g : Plain) (gs : List Plain) → rises (g ∷ gs) ≡ true → rises gs ≡ true
 tail_rises g [] e = refl
-tail_rises g (y ∷ ys) e = (both_true (not (nat_lt y.number g.number)) (rises (y ∷ ys)) e).1
+tail_rises g (y ∷ ys) e = (and_parts (not (nat_lt y.number g.number)) (rises (y ∷ ys)) e).1
 
-cancel : (h : Plain → ℕ) (x y : Plain) (xs ys : List Plain) → x ≡ y → weigh h (x ∷ xs) ≡ weigh h (y ∷ ys) → weigh h xs ≡ weigh h ys
-cancel h x y xs ys e same = let f = ap h e in omega arith
+cancel : (h : Plain → ℕ) (x y : Plain) (xs ys : List Plain) → x ≡ y → sum_by h (x ∷ xs) ≡ sum_by h (y ∷ ys) → sum_by h xs ≡ sum_by h ys
+cancel h x y xs ys e same = let f = ap h e in omega (arith, sum_by-cons h x xs, sum_by-cons h y ys)
 
 -- a rising list with the items of a lane's numbers is that list
-rising_whole : (l n : ℕ) (xs ys : List Plain) → numbered l n xs ≡ true → rises ys ≡ true → SameItems xs ys → ys ≡ xs
+rising_whole : (l n : ℕ) (xs ys : List Plain) → numbered l n xs ≡ true → rises ys ≡ true → ((h : Plain → ℕ) → sum_by h xs ≡ sum_by h ys) → ys ≡ xs
 rising_whole l n [] [] a up same = refl
-rising_whole l n [] (y ∷ ys) a up same = absurd (let e = same (λ _. 1) in omega arith)
-rising_whole l n (x ∷ xs) [] a up same = absurd (let e = same (λ _. 1) in omega arith)
+rising_whole l n [] (y ∷ ys) a up same = absurd (let e = same (λ _. 1) in omega (arith, sum_by-cons (λ _. 1) y ys))
+rising_whole l n (x ∷ xs) [] a up same = absurd (let e = same (λ _. 1) in omega (arith, sum_by-cons (λ _. 1) x xs))
 rising_whole l n (x ∷ xs) (y ∷ ys) a up same =
-    let s = both_true (x.lane == l) ((x.number == n) && numbered l (suc n) xs) a in
-    let t = both_true (x.number == n) (numbered l (suc n) xs) s.1 in
-    let at = eq_from x.number n t.0 in
+    let s = and_parts (x.lane == l) ((x.number == n) && numbered l (suc n) xs) a in
+    let t = and_parts (x.number == n) (numbered l (suc n) xs) s.1 in
+    let at = eqb-true x.number n t.0 in
     let self : once (is_same x x) ≡ 1 = ap once (same_self x) in
     let x_there = same (λ z. once (is_same x z)) in
+    let x_left = sum_by-cons (λ z. once (is_same x z)) x xs in
+    let x_right = sum_by-cons (λ z. once (is_same x z)) y ys in
     let low : y.number ≤ n = ⊎_elim
     (λ (h : is_same x y ≡ true). let k = ap (λ (p : Plain). p.number) (same_from x y h) in omega arith)
-    (λ (h : 1 ≤ weigh (λ z. once (is_same x z)) ys). let k = least x y ys up h in omega arith)
-    (here_or_there (is_same x y) (weigh (λ z. once (is_same x z)) ys) (omega arith)) in
+    (λ (h : 1 ≤ count_by (λ z. is_same x z) ys). let k = least x y ys up h in omega arith)
+    (here_or_there (is_same x y) (count_by (λ z. is_same x z) ys) (omega arith)) in
     let y_self : once (is_same y y) ≡ 1 = ap once (same_self y) in
     let y_there = same (λ z. once (is_same y z)) in
+    let y_left = sum_by-cons (λ z. once (is_same y z)) x xs in
+    let y_right = sum_by-cons (λ z. once (is_same y z)) y ys in
     let none = later l (suc n) y xs t.1 (omega arith) in
     let first : y ≡ x = same_from y x (true_from (is_same y x) (omega arith)) in
     let rest = rising_whole l (suc n) xs ys t.1 (tail_rises y ys up) (λ h. cancel h x y xs ys (sym first) (same h)) in
     λ i. first i ∷ rest i
 
 -- two lists of a lane's numbers begin alike, where the first of the one is in the other
-heads : (l n : ℕ) (x p : Plain) (xs ps : List Plain) → numbered l n (x ∷ xs) ≡ true → numbered l n (p ∷ ps) ≡ true → 1 ≤ weigh (λ z. once (is_same p z)) (x ∷ xs)
+begin_alike : (l n : ℕ) (x p : Plain) (xs ps : List Plain) → numbered l n (x ∷ xs) ≡ true → numbered l n (p ∷ ps) ≡ true → 1 ≤ count_by (λ z. is_same p z) (x ∷ xs)
     → (p ≡ x) × (numbered l (suc n) xs ≡ true) × (numbered l (suc n) ps ≡ true)
-heads l n x p xs ps a b there =
-    let s = both_true (x.lane == l) ((x.number == n) && numbered l (suc n) xs) a in
-    let t = both_true (x.number == n) (numbered l (suc n) xs) s.1 in
-    let u = both_true (p.lane == l) ((p.number == n) && numbered l (suc n) ps) b in
-    let v = both_true (p.number == n) (numbered l (suc n) ps) u.1 in
-    let at = eq_from p.number n v.0 in
+begin_alike l n x p xs ps a b there =
+    let count = sum_by-cons (λ z. once (is_same p z)) x xs in
+    let s = and_parts (x.lane == l) ((x.number == n) && numbered l (suc n) xs) a in
+    let t = and_parts (x.number == n) (numbered l (suc n) xs) s.1 in
+    let u = and_parts (p.lane == l) ((p.number == n) && numbered l (suc n) ps) b in
+    let v = and_parts (p.number == n) (numbered l (suc n) ps) u.1 in
+    let at = eqb-true p.number n v.0 in
     let none = later l (suc n) p xs t.1 (omega arith) in
     (same_from p x (true_from (is_same p x) (omega arith)), t.1, v.1)
 
 -- a lane's numbers that were polled, and the rest of them
-front_and_rest : (l n : ℕ) (xs ps ys : List Plain) → numbered l n xs ≡ true → numbered l n ps ≡ true → rises ys ≡ true → SameItems xs (ps ++ ys) → ps ++ ys ≡ xs
+front_and_rest : (l n : ℕ) (xs ps ys : List Plain) → numbered l n xs ≡ true → numbered l n ps ≡ true → rises ys ≡ true → ((h : Plain → ℕ) → sum_by h xs ≡ sum_by h (ps ++ ys)) → ps ++ ys ≡ xs
 front_and_rest l n xs [] ys a b up same = rising_whole l n xs ys a up same
-front_and_rest l n [] (p ∷ ps) ys a b up same = absurd (let e = same (λ _. 1) in omega arith)
+front_and_rest l n [] (p ∷ ps) ys a b up same = absurd (let e = same (λ _. 1) in omega (arith, sum_by-cons (λ _. 1) p (ps ++ ys)))
 front_and_rest l n (x ∷ xs) (p ∷ ps) ys a b up same =
     let self : once (is_same p p) ≡ 1 = ap once (same_self p) in
     let there = same (λ z. once (is_same p z)) in
-    let h = heads l n x p xs ps a b (omega arith) in
+    let h = begin_alike l n x p xs ps a b (omega (arith, sum_by-cons (λ z. once (is_same p z)) p (ps ++ ys))) in
     let rest = front_and_rest l (suc n) xs ps ys h.1 h.2 up (λ g. cancel g x p xs (ps ++ ys) (sym h.0) (same g)) in
     λ i. h.0 i ∷ rest i
 
-less_left : (h : Plain → ℕ) (x y : Plain) (xs ys : List Plain) → x ≡ y → weigh h (x ∷ xs) ≤ weigh h (y ∷ ys) → weigh h xs ≤ weigh h ys
-less_left h x y xs ys e less = let f = ap h e in omega arith
+less_left : (h : Plain → ℕ) (x y : Plain) (xs ys : List Plain) → x ≡ y → sum_by h (x ∷ xs) ≤ sum_by h (y ∷ ys) → sum_by h xs ≤ sum_by h ys
+less_left h x y xs ys e less = let f = ap h e in omega (arith, sum_by-cons h x xs, sum_by-cons h y ys)
 
 -- a lane's numbers among its numbers are the first of them
-first_of : (l n : ℕ) (xs ps : List Plain) → numbered l n xs ≡ true → numbered l n ps ≡ true → ((h : Plain → ℕ) → weigh h ps ≤ weigh h xs) → take (length ps) xs ≡ ps
+first_of : (l n : ℕ) (xs ps : List Plain) → numbered l n xs ≡ true → numbered l n ps ≡ true → ((h : Plain → ℕ) → sum_by h ps ≤ sum_by h xs) → take (length ps) xs ≡ ps
 first_of l n xs [] a b less = refl
-first_of l n [] (p ∷ ps) a b less = absurd (let e = less (λ _. 1) in omega arith)
+first_of l n [] (p ∷ ps) a b less = absurd (let e = less (λ _. 1) in omega (arith, sum_by-cons (λ _. 1) p ps))
 first_of l n (x ∷ xs) (p ∷ ps) a b less =
     let self : once (is_same p p) ≡ 1 = ap once (same_self p) in
     let there = less (λ z. once (is_same p z)) in
-    let h = heads l n x p xs ps a b (omega arith) in
+    let h = begin_alike l n x p xs ps a b (omega (arith, sum_by-cons (λ z. once (is_same p z)) p ps)) in
     let rest = first_of l (suc n) xs ps h.1 h.2 (λ g. less_left g p x ps xs h.0 (less g)) in
     λ i. sym h.0 i ∷ rest i
 
 pub received_first : (accounts : List Account) → AreNumbered accounts → ((i : ℕ) (a : Account) → slice_get accounts i ≡ Some a → numbered a.lane 0 a.received ≡ true) → EachLaneOnce accounts
-    → ((h : Plain → ℕ) → weigh (λ a. weigh h a.received) accounts ≤ weigh (λ a. weigh h a.submitted) accounts)
+    → ((h : Plain → ℕ) → sum_by (λ a. sum_by h a.received) accounts ≤ sum_by (λ a. sum_by h a.submitted) accounts)
     → (i : ℕ) (a : Account) → slice_get accounts i ≡ Some a → take (length a.received) a.submitted ≡ a.received
 received_first accounts out back one less i a e =
     first_of a.lane 0 a.submitted a.received (out i a e) (back i a e) (λ h.
     let cut : Plain → ℕ = λ x. cond (x.lane == a.lane) (h x) 0 in
-    let p = only (λ (u : Account). weigh cut u.submitted) (λ (u : Account). u.lane == a.lane) accounts i a e (λ j u e' no. other_lane a.lane u.lane 0 h u.submitted (out j u e') no) (one a.lane) (eq_self a.lane) in
-    let q = only (λ (u : Account). weigh cut u.received) (λ (u : Account). u.lane == a.lane) accounts i a e (λ j u e' no. other_lane a.lane u.lane 0 h u.received (back j u e') no) (one a.lane) (eq_self a.lane) in
+    let p = only (λ (u : Account). sum_by cut u.submitted) (λ (u : Account). u.lane == a.lane) accounts i a e (λ j u e' no. other_lane a.lane u.lane 0 h u.submitted (out j u e') no) (one a.lane) (eq_self a.lane) in
+    let q = only (λ (u : Account). sum_by cut u.received) (λ (u : Account). u.lane == a.lane) accounts i a e (λ j u e' no. other_lane a.lane u.lane 0 h u.received (back j u e') no) (one a.lane) (eq_self a.lane) in
     omega (arith, p, q, own_lane a.lane 0 h a.submitted (out i a e), own_lane a.lane 0 h a.received (back i a e), less cut))
 
--- what is one lane's weighs nothing for the test of another
-other_given : (l m : ℕ) (h : Plain → ℕ) (xs : List Plain) → list_all (λ (x : Plain). x.lane == m) xs ≡ true → (m == l) ≡ false → weigh (λ x. cond (x.lane == l) (h x) 0) xs ≡ 0
+-- what is one lane's has no sum for the test of another
+other_given : (l m : ℕ) (h : Plain → ℕ) (xs : List Plain) → list_all (λ (x : Plain). x.lane == m) xs ≡ true → (m == l) ≡ false → sum_by (λ x. cond (x.lane == l) (h x) 0) xs ≡ 0
 other_given l m h [] e f = refl
 other_given l m h (x ∷ xs) e f =
-    let s = both_true (x.lane == m) (list_all (λ (y : Plain). y.lane == m) xs) e in
-    let is : (x.lane == l) ≡ false = ap (λ k. k == l) (eq_from x.lane m s.0) ∙ f in
+    let s = and_parts (x.lane == m) (list_all (λ (y : Plain). y.lane == m) xs) e in
+    let is : (x.lane == l) ≡ false = ap (λ k. k == l) (eqb-true x.lane m s.0) ∙ f in
     let rest = other_given l m h xs s.1 f in
-    let here : cond (x.lane == l) (h x) 0 ≡ 0 = ap (λ b. cond b (h x) 0) is in omega arith
+    let here : cond (x.lane == l) (h x) 0 ≡ 0 = ap (λ b. cond b (h x) 0) is in omega (arith, sum_by-cons (λ (y : Plain). cond (y.lane == l) (h y) 0) x xs)
 
-own_given : (l : ℕ) (h : Plain → ℕ) (xs : List Plain) → list_all (λ (x : Plain). x.lane == l) xs ≡ true → weigh (λ x. cond (x.lane == l) (h x) 0) xs ≡ weigh h xs
+own_given : (l : ℕ) (h : Plain → ℕ) (xs : List Plain) → list_all (λ (x : Plain). x.lane == l) xs ≡ true → sum_by (λ x. cond (x.lane == l) (h x) 0) xs ≡ sum_by h xs
 own_given l h [] e = refl
 own_given l h (x ∷ xs) e =
-    let s = both_true (x.lane == l) (list_all (λ (y : Plain). y.lane == l) xs) e in
+    let s = and_parts (x.lane == l) (list_all (λ (y : Plain). y.lane == l) xs) e in
     let rest = own_given l h xs s.1 in
-    let here : cond (x.lane == l) (h x) 0 ≡ h x = ap (λ b. cond b (h x) 0) s.0 in omega arith
+    let here : cond (x.lane == l) (h x) 0 ≡ h x = ap (λ b. cond b (h x) 0) s.0 in omega (arith, sum_by-cons (λ (y : Plain). cond (y.lane == l) (h y) 0) x xs, sum_by-cons h x xs)
 
 none_by : (b : Bool) (c n m : ℕ) → once b + n ≡ 0 → (n ≡ 0 → m ≡ 0) → cond b c 0 + m ≡ 0
 none_by true c n m e f = absurd (omega arith)
 none_by false c n m e f = let z = f (omega arith) in omega arith
 
--- where no item passes the test, those that do weigh nothing
-none_weigh : (l : ℕ) (h : Plain → ℕ) (xs : List Plain) → weigh (λ x. once (x.lane == l)) xs ≡ 0 → weigh (λ x. cond (x.lane == l) (h x) 0) xs ≡ 0
-none_weigh l h [] e = refl
-none_weigh l h (x ∷ xs) e = none_by (x.lane == l) (h x) (weigh (λ (y : Plain). once (y.lane == l)) xs) (weigh (λ (y : Plain). cond (y.lane == l) (h y) 0) xs) e (λ f. none_weigh l h xs f)
+-- where no item passes the test, those that do have no sum
+none_counted : (l : ℕ) (h : Plain → ℕ) (xs : List Plain) → count_by (λ x. x.lane == l) xs ≡ 0 → sum_by (λ x. cond (x.lane == l) (h x) 0) xs ≡ 0
+none_counted l h [] e = refl
+none_counted l h (x ∷ xs) e =
+    let count = sum_by-cons (λ (y : Plain). once (y.lane == l)) x xs in
+    let here = none_by (x.lane == l) (h x) (count_by (λ (y : Plain). y.lane == l) xs) (sum_by (λ (y : Plain). cond (y.lane == l) (h y) 0) xs) (omega arith) (λ f. none_counted l h xs f) in
+    omega (arith, sum_by-cons (λ (y : Plain). cond (y.lane == l) (h y) 0) x xs)
 
-weigh_ones : (xs : List Plain) → weigh (λ _. 1) xs ≡ length xs
-weigh_ones [] = refl
-weigh_ones (x ∷ xs) = omega (arith, weigh_ones xs)
+sum_ones : (xs : List Plain) → sum_by (λ _. 1) xs ≡ length xs
+sum_ones [] = refl
+sum_ones (x ∷ xs) = omega (arith, sum_by-cons (λ _. 1) x xs, sum_ones xs)
 
 zero_or_some : (n : ℕ) → (n ≡ 0) ⊎ (1 ≤ n)
 zero_or_some zero = inl refl
@@ -142,22 +152,22 @@ zero_or_some (suc n) = inr (omega arith)
 
 pub claims_settle : (claims : List Claim) (found dropped : List Plain)
     → ((i : ℕ) (c : Claim) → slice_get claims i ≡ Some c → IsClaim c × GivesDue c dropped)
-    → ((l : ℕ) → weigh (λ c. once (c.lane == l)) claims ≤ 1)
-    → ((h : Plain → ℕ) → weigh (λ c. weigh h c.submitted) claims ≡ weigh (λ c. weigh h c.polled) claims + weigh h found)
-    → ((h : Plain → ℕ) → weigh (λ c. weigh h c.given) claims + weigh h dropped ≡ weigh h found)
+    → ((l : ℕ) → count_by (λ c. c.lane == l) claims ≤ 1)
+    → ((h : Plain → ℕ) → sum_by (λ c. sum_by h c.submitted) claims ≡ sum_by (λ c. sum_by h c.polled) claims + sum_by h found)
+    → ((h : Plain → ℕ) → sum_by (λ c. sum_by h c.given) claims + sum_by h dropped ≡ sum_by h found)
     → (i : ℕ) (c : Claim) → slice_get claims i ≡ Some c → c.polled ++ c.given ≡ c.submitted
 claims_settle claims found dropped each one all_found all_given i c at =
     let mine = each i c at in
-    let sum : (h : Plain → ℕ) → weigh h c.submitted ≡ (weigh h c.polled + weigh h c.given) + weigh (λ x. cond (x.lane == c.lane) (h x) 0) dropped = λ h.
+    let sum : (h : Plain → ℕ) → sum_by h c.submitted ≡ (sum_by h c.polled + sum_by h c.given) + sum_by (λ x. cond (x.lane == c.lane) (h x) 0) dropped = λ h.
     let cut : Plain → ℕ = λ x. cond (x.lane == c.lane) (h x) 0 in
-    let p = only (λ (u : Claim). weigh cut u.submitted) (λ (u : Claim). u.lane == c.lane) claims i c at (λ j u e no. other_lane c.lane u.lane 0 h u.submitted (each j u e).0.submitted no) (one c.lane) (eq_self c.lane) in
-    let q = only (λ (u : Claim). weigh cut u.polled) (λ (u : Claim). u.lane == c.lane) claims i c at (λ j u e no. other_lane c.lane u.lane 0 h u.polled (each j u e).0.polled no) (one c.lane) (eq_self c.lane) in
-    let r = only (λ (u : Claim). weigh cut u.given) (λ (u : Claim). u.lane == c.lane) claims i c at (λ j u e no. other_given c.lane u.lane h u.given (each j u e).0.own no) (one c.lane) (eq_self c.lane) in
+    let p = only (λ (u : Claim). sum_by cut u.submitted) (λ (u : Claim). u.lane == c.lane) claims i c at (λ j u e no. other_lane c.lane u.lane 0 h u.submitted (each j u e).0.submitted no) (one c.lane) (eq_self c.lane) in
+    let q = only (λ (u : Claim). sum_by cut u.polled) (λ (u : Claim). u.lane == c.lane) claims i c at (λ j u e no. other_lane c.lane u.lane 0 h u.polled (each j u e).0.polled no) (one c.lane) (eq_self c.lane) in
+    let r = only (λ (u : Claim). sum_by cut u.given) (λ (u : Claim). u.lane == c.lane) claims i c at (λ j u e no. other_given c.lane u.lane h u.given (each j u e).0.own no) (one c.lane) (eq_self c.lane) in
     omega (arith, p, q, r, own_lane c.lane 0 h c.submitted mine.0.submitted, own_lane c.lane 0 h c.polled mine.0.polled, own_given c.lane h c.given mine.0.own, all_found cut, all_given cut) in
-    let lost = weigh (λ (x : Plain). once (x.lane == c.lane)) dropped in
+    let lost = count_by (λ (x : Plain). x.lane == c.lane) dropped in
     let counts = sum (λ _. 1) in
     let none : lost ≡ 0 = ⊎_elim (λ (e : lost ≡ 0). e)
-    (λ (e : 1 ≤ lost). mine.1 (omega (arith, counts, weigh_ones c.submitted, weigh_ones c.polled, weigh_ones c.given)))
+    (λ (e : 1 ≤ lost). mine.1 (omega (arith, counts, sum_ones c.submitted, sum_ones c.polled, sum_ones c.given)))
     (zero_or_some lost) in
     front_and_rest c.lane 0 c.submitted c.polled c.given mine.0.submitted mine.0.polled mine.0.rising
-    (λ h. omega (arith, sum h, none_weigh c.lane h dropped none, weigh-append h c.polled c.given))
+    (λ h. omega (arith, sum h, none_counted c.lane h dropped none, sum_by-append h c.polled c.given))

@@ -1,18 +1,19 @@
 -- What holds of every state that a machine comes to, and that each event keeps it.
 use Rattle.std.proofs.Common.{◌≡◌, ◌≢◌, ⊎_elim, ℕ, ◌+◌, ◌≤◌, ◌==◌, ◌&&◌, not, nat_lt, Bool, true, false, zero, suc, List, [], ◌∷◌, ◌++◌, length, length-append, set, Option, Some, None, option_to_list, refl, sym, ap, ◌∙◌, arith}
-use Rattle.std.specs.List.{slice_get, list_all}
+use Rattle.std.specs.List.{slice_get, list_all, sum_by}
 use Rattle.std.proofs.lemmas.List.Folds.{list_all-append}
 use Rattle.std.proofs.lemmas.Grind.{common_steps}
+use Rattle.std.proofs.lemmas.List.Sums.{sum_by-append, sum_by-le-sum_by}
+use Rattle.std.proofs.lemmas.Bool.{cases_eq, ne_eqb}
 use Rattle.lane_core.specs.declared.job.Plain.{Plain}
 use Rattle.lane_core.specs.Machine.{LaneState, State, lane_state, state, handed_of, issued_of, of_lane, polled_of, submitted_by, without}
 use Rattle.lane_core.specs.Tickets.{is_among, is_ticket_of, numbered}
-use Rattle.lane_core.specs.Weights.{once, weigh}
-use Rattle.lane_core.specs.Whereabouts.{times_under_way, weigh_under_way}
-use Rattle.lane_core.proofs.DeskFacts.{same_or}
+use Rattle.lane_core.specs.Weights.{once}
+use Rattle.lane_core.specs.Whereabouts.{times_under_way, sum_under_way}
 use Rattle.lane_core.proofs.LaneFacts.{lane_else, lane_here, lane_kept, lane_was}
 use Rattle.lane_core.proofs.SameFacts.{is_same, same_self}
-use Rattle.lane_core.proofs.UnderWay.{times_without, under_way_more, weigh_without}
-use Rattle.lane_core.proofs.WeightFacts.{eq_self, ne_false, one_more, other_ticket, own_ticket, weigh-append, weigh_less}
+use Rattle.lane_core.proofs.UnderWay.{times_without, under_way_more, sum_without}
+use Rattle.lane_core.proofs.WeightFacts.{eq_self, one_more, other_ticket, own_ticket}
 
 -- whether the item is the one of its number among these
 abbrev pub is_item : Plain → Option Plain → Bool
@@ -28,11 +29,11 @@ pub record Good (s : State) : Type 0 where
   pub few : (l : ℕ) → polled_of s l ≤ handed_of s l
   pub in_order : (l : ℕ) → numbered l 0 (submitted_by s l) ≡ true
   pub same_year : (l : ℕ) → list_all (λ x. x.year == s.year) (submitted_by s l) ≡ true
-  pub own : weigh_under_way (λ x. once (not (is_own s x))) s ≡ 0
+  pub own : sum_under_way (λ x. once (not (is_own s x))) s ≡ 0
 
 -- where items only went from place to place
 pub moved : (s : State) (jobs : List Plain) (workers : List (Option Plain)) (results waiting : List Plain)
-    → ((h : Plain → ℕ) → weigh_under_way h (state s.year s.lanes jobs workers results waiting) ≡ weigh_under_way h s)
+    → ((h : Plain → ℕ) → sum_under_way h (state s.year s.lanes jobs workers results waiting) ≡ sum_under_way h s)
     → Good s → Good (state s.year s.lanes jobs workers results waiting)
 moved s jobs workers results waiting same good = record {
   one = λ l k. let e = same (λ x. once (is_ticket_of l k x)) in omega (arith, good.one l k);
@@ -58,10 +59,10 @@ settled s l v w at submitted handed few good =
           let x = lane_here 0 (λ u. u.polled) s.lanes l m v w at e in
           let y = lane_here 0 (λ u. u.handed) s.lanes l m v w at e in omega arith)
           (λ (e : m ≢ l). let x = lane_else 0 (λ u. u.polled) s.lanes l m w e in omega arith)
-          (same_or m l);
+          (cases_eq m l);
       in_order = λ m. ap (numbered m 0) (sub m) ∙ good.in_order m;
       same_year = λ m. ap (list_all (λ (x : Plain). x.year == s.year)) (sub m) ∙ good.same_year m;
-      own = (λ i. weigh_under_way (λ x. once (not (is_item x (slice_get (sub x.lane i) x.number)))) s) ∙ good.own;
+      own = (λ i. sum_under_way (λ x. once (not (is_item x (slice_get (sub x.lane i) x.number)))) s) ∙ good.own;
     }
 
 -- where a lane was handed its next number
@@ -84,27 +85,27 @@ given s l v at waits good =
           omega (arith, one_more k v.handed))
           (λ (e : m ≢ l).
           let a = ap (λ j. once (nat_lt k j)) (lane_else 0 (λ u. u.handed) s.lanes l m w e) in
-          let other : once ((l == m) && (v.handed == k)) ≡ 0 = ap (λ c. once (c && (v.handed == k))) (ne_false l m (λ f. e (sym f))) in
+          let other : once ((l == m) && (v.handed == k)) ≡ 0 = ap (λ c. once (c && (v.handed == k))) (ne_eqb l m (λ f. e (sym f))) in
           omega arith)
-          (same_or m l);
+          (cases_eq m l);
       few = λ m. let a = good.few m in let c = p m in
           ⊎_elim
           (λ (e : m ≡ l). let h = lane_here 0 (λ u. u.handed) s.lanes l m v w at e in let i = lane_was 0 (λ u. u.handed) s.lanes l m v at e in omega arith)
           (λ (e : m ≢ l). let h = lane_else 0 (λ u. u.handed) s.lanes l m w e in omega arith)
-          (same_or m l);
+          (cases_eq m l);
       in_order = λ m. ap (numbered m 0) (sub m) ∙ good.in_order m;
       same_year = λ m. ap (list_all (λ (x : Plain). x.year == s.year)) (sub m) ∙ good.same_year m;
       own =
-          let fewer = weigh_without l v.handed (λ x. once (not (is_own s x))) s.waiting in
-          let none : weigh_under_way (λ x. once (not (is_own s x))) (state s.year s.lanes s.jobs s.workers s.results (without l v.handed s.waiting)) ≡ 0 = omega (arith, good.own) in
-          (λ i. weigh_under_way (λ x. once (not (is_item x (slice_get (sub x.lane i) x.number)))) (state s.year s.lanes s.jobs s.workers s.results (without l v.handed s.waiting))) ∙ none;
+          let fewer = sum_without l v.handed (λ x. once (not (is_own s x))) s.waiting in
+          let none : sum_under_way (λ x. once (not (is_own s x))) (state s.year s.lanes s.jobs s.workers s.results (without l v.handed s.waiting)) ≡ 0 = omega (arith, good.own) in
+          (λ i. sum_under_way (λ x. once (not (is_item x (slice_get (sub x.lane i) x.number)))) (state s.year s.lanes s.jobs s.workers s.results (without l v.handed s.waiting))) ∙ none;
     }
 
 pub numbered_more : (lane n : ℕ) (xs : List Plain) (x : Plain) → numbered lane n xs ≡ true → x.lane ≡ lane → x.number ≡ n + length xs → numbered lane n (xs ++ x ∷ []) ≡ true
 numbered_more lane n [] x h e f = grind (arith, common_steps)
 numbered_more lane n (y ∷ xs) x h e f = let rest = numbered_more lane (suc n) xs x in grind (arith, common_steps, rest)
 
-once_le : (b : Bool) → once b ≤ 1
+pub once_le : (b : Bool) → once b ≤ 1
 once_le true = omega arith
 once_le false = omega arith
 
@@ -140,11 +141,11 @@ added s l v x at lane number year good =
     let b = ap (λ (xs : List Plain). once (not (is_item y (slice_get xs y.number)))) (here y.lane e).1 in
     let c = item_more y v.submitted (x ∷ []) y.number in omega arith)
     (λ (e : y.lane ≢ l). let a = ap (λ (xs : List Plain). once (not (is_item y (slice_get xs y.number)))) (else_ y.lane e) in omega arith)
-    (same_or y.lane l) in
+    (cases_eq y.lane l) in
     let new : is_own t x ≡ true = ap (λ (xs : List Plain). is_item x (slice_get xs x.number)) (here x.lane lane).0 ∙ last_item x v.submitted x.number number in
     record {
       one = λ m k.
-          let more = weigh-append (λ (y : Plain). once (is_ticket_of m k y)) s.jobs (x ∷ []) in
+          let more = sum_by-append (λ (y : Plain). once (is_ticket_of m k y)) s.jobs (x ∷ []) in
           let hh = ap (λ n. once (nat_lt k n)) (h m) in
           let was = good.one m k in
           ⊎_elim
@@ -157,12 +158,12 @@ added s l v x at lane number year good =
           let n = ap (λ (xs : List Plain). once (nat_lt k (length xs))) (else_ m e) in
           let other = other_ticket l m k x lane e in
           omega arith)
-          (same_or m l);
+          (cases_eq m l);
       few = λ m. let a = good.few m in let b = h m in let c = p m in omega arith;
       in_order = λ m. ⊎_elim
           (λ (e : m ≡ l). ap (numbered m 0) (here m e).0 ∙ numbered_more m 0 v.submitted x (ap (numbered m 0) (sym (here m e).1) ∙ good.in_order m) (lane ∙ sym e) (omega arith))
           (λ (e : m ≢ l). ap (numbered m 0) (else_ m e) ∙ good.in_order m)
-          (same_or m l);
+          (cases_eq m l);
       same_year = λ m. ⊎_elim
           (λ (e : m ≡ l).
           ap (list_all (λ (y : Plain). y.year == s.year)) (here m e).0
@@ -170,15 +171,15 @@ added s l v x at lane number year good =
           ∙ ((λ i. (ap (list_all (λ (y : Plain). y.year == s.year)) (sym (here m e).1) ∙ good.same_year m) i && ((year i == s.year) && true))
           ∙ ap (λ b. true && (b && true)) (eq_self s.year))))
           (λ (e : m ≢ l). ap (list_all (λ (y : Plain). y.year == s.year)) (else_ m e) ∙ good.same_year m)
-          (same_or m l);
+          (cases_eq m l);
       own =
           let f : Plain → ℕ = λ y. once (not (is_own t y)) in
           let g : Plain → ℕ = λ y. once (not (is_own s y)) in
           let more = under_way_more s (set s.lanes l w) x f in
           let last : f x ≡ 0 = ap (λ b. once (not b)) new in
-          let jobs = weigh_less f g still s.jobs in
-          let workers = weigh_less (λ (o : Option Plain). weigh f (option_to_list o)) (λ (o : Option Plain). weigh g (option_to_list o)) (λ o. weigh_less f g still (option_to_list o)) s.workers in
-          let results = weigh_less f g still s.results in
-          let waiting = weigh_less f g still s.waiting in
-          zero_of (weigh_under_way f t) (weigh_under_way g s) (omega arith) good.own;
+          let jobs = sum_by-le-sum_by f g s.jobs still in
+          let workers = sum_by-le-sum_by (λ (o : Option Plain). sum_by f (option_to_list o)) (λ (o : Option Plain). sum_by g (option_to_list o)) s.workers (λ o. sum_by-le-sum_by f g (option_to_list o) still) in
+          let results = sum_by-le-sum_by f g s.results still in
+          let waiting = sum_by-le-sum_by f g s.waiting still in
+          zero_of (sum_under_way f t) (sum_under_way g s) (omega arith) good.own;
     }

@@ -1,38 +1,43 @@
 -- A world shows the machine's next state: a lane is handed its next number.
 use Rattle.std.proofs.Common.{◌≡◌, ◌≢◌, ⊎_elim, ℕ, ◌+◌, ◌<◌, ◌==◌, ◌&&◌, ◌||◌, not, nat_lt, cond, Bool, true, false, zero, suc, List, [], ◌∷◌, ◌++◌, length, set, get_or, Option, Some, None, refl, sym, ap, ◌∙◌, arith}
-use Rattle.std.specs.List.{slice_get}
+use Rattle.std.specs.List.{slice_get, sum_by, count_by}
 use Rattle.std.specs.Option.{IfSome, is_some}
 use Rattle.std.proofs.lemmas.Bool.Decides.{nat_tests}
+use Rattle.std.proofs.lemmas.List.Sums.{sum_by-cons}
+use Rattle.std.proofs.lemmas.List.Sorted.{sum_by-IsPermutation}
+use Rattle.std.proofs.lemmas.Bool.{and_parts, cases_eq, eqb-true}
+use Rattle.std.proofs.Math.Bool.{or_comm}
+use Rattle.std.proofs.lemmas.List.{map-set}
 use Rattle.lane_core.specs.declared.event.Event.TheVariants.{Hand}
 use Rattle.lane_core.specs.declared.job.Plain.{Plain}
 use Rattle.lane_core.specs.Contents.{Contents, IsEnabled, LaneContents, Shows, Steps, contents, lane_of, shown_lane}
-use Rattle.lane_core.specs.Desk.{Desk, GivesNext, IsNext, has_next, next_of}
+use Rattle.lane_core.specs.ReorderBuffer.{ReorderBuffer, GivesNext, IsNext, has_next, next_of}
 use Rattle.lane_core.specs.Machine.{LaneState, State, hand, handed_of, lane_state, of_lane, state, submitted_by, without}
 use Rattle.lane_core.specs.Tickets.{is_among, is_ticket_of}
-use Rattle.lane_core.specs.Weights.{once, weigh}
-use Rattle.lane_core.proofs.DeskFacts.{same_or}
-use Rattle.lane_core.proofs.DrawerFacts.{both_true, eq_from}
+use Rattle.lane_core.specs.Weights.{once}
 use Rattle.lane_core.proofs.GoodFacts.{is_item, is_own}
 use Rattle.lane_core.proofs.LaneFacts.{lane_else, lane_here, lane_was}
 use Rattle.lane_core.proofs.LaneShowFacts.{found}
-use Rattle.lane_core.proofs.ListFacts.{map_put, number_at, take_more}
-use Rattle.lane_core.proofs.SameFacts.{same_from}
+use Rattle.lane_core.proofs.ListFacts.{number_at, take_more}
+use Rattle.lane_core.proofs.SameFacts.{permutation_from, same_from}
 use Rattle.lane_core.proofs.ShowFacts.{done, idle}
 use Rattle.lane_core.proofs.StepFacts.{reached_good}
 use Rattle.lane_core.proofs.WeightFacts.{among_from, among_times, eq_self, not_among, not_among_times}
+use Rattle.lane_core.proofs.LookupFacts.{or_assoc}
+use Rattle.lane_core.proofs.SiftFacts.{inside}
 
 -- the lane's next number is as many as it was handed
-next_is : (c : Contents) (s : State) (l : ℕ) (v : LaneState) → Shows c s → slice_get s.lanes l ≡ Some v → next_of c.desk l ≡ v.handed
+next_is : (c : Contents) (s : State) (l : ℕ) (v : LaneState) → Shows c s → slice_get s.lanes l ≡ Some v → next_of c.buffer l ≡ v.handed
 next_is c s l v shows at = ap (λ (xs : List ℕ). get_or xs l 0) shows.nexts ∙ number_at (λ (u : LaneState). u.handed) s.lanes l v at
 
-none_at : (c : Contents) (s : State) (l : ℕ) (o : Option LaneState) → slice_get s.lanes l ≡ o → Shows c s → has_next c.desk l ≡ false → hand s l o ≡ None
+none_at : (c : Contents) (s : State) (l : ℕ) (o : Option LaneState) → slice_get s.lanes l ≡ o → Shows c s → has_next c.buffer l ≡ false → hand s l o ≡ None
 none_at c s l None at shows none = refl
 none_at c s l (Some v) at shows none =
-    let gone : is_among l v.handed c.desk.waiting ≡ false = ap (λ n. is_among l n c.desk.waiting) (sym (next_is c s l v shows at)) ∙ none in
-    let off = not_among l v.handed s.waiting (sym (shows.waiting (λ y. once (is_ticket_of l v.handed y))) ∙ not_among_times l v.handed c.desk.waiting gone) in
+    let gone : is_among l v.handed c.buffer.waiting ≡ false = ap (λ n. is_among l n c.buffer.waiting) (sym (next_is c s l v shows at)) ∙ none in
+    let off = not_among l v.handed s.waiting (sum_by-IsPermutation (λ y. once (is_ticket_of l v.handed y)) c.buffer.waiting s.waiting shows.waiting ∙ not_among_times l v.handed c.buffer.waiting gone) in
     λ i. cond (off i) (Some (state s.year (set s.lanes l (lane_state v.submitted v.closed v.polled (v.handed + 1))) s.jobs s.workers s.results (without l v.handed s.waiting))) None
 
-pub hand_none : (c : Contents) (l : ℕ) → has_next c.desk l ≡ false → Steps c (Hand l) false c
+pub hand_none : (c : Contents) (l : ℕ) → has_next c.buffer l ≡ false → Steps c (Hand l) false c
 hand_none c l none = λ s r shows. idle c s (Hand l) (none_at c s l (slice_get s.lanes l) refl shows none) shows
 
 -- an item that is the one of its number
@@ -40,54 +45,41 @@ item_from : (x : Plain) (o : Option Plain) → is_item x o ≡ true → o ≡ So
 item_from x None e = absurd (cc)
 item_from x (Some y) e = let same = same_from x y e in λ i. Some (sym same i)
 
-is_from : (b : Bool) → once (not b) ≡ 0 → b ≡ true
-is_from true e = refl
-is_from false e = absurd (omega arith)
-
 -- what is its lane's own is what was submitted under its number
 own_from : (s : State) (x : Plain) (l n : ℕ) → once (not (is_own s x)) ≡ 0 → x.lane ≡ l → x.number ≡ n → slice_get (submitted_by s l) n ≡ Some x
 own_from s x l n own lane number =
-    (λ i. slice_get (submitted_by s (sym lane i)) (sym number i)) ∙ item_from x (slice_get (submitted_by s x.lane) x.number) (is_from (is_own s x) own)
+    (λ i. slice_get (submitted_by s (sym lane i)) (sym number i)) ∙ item_from x (slice_get (submitted_by s x.lane) x.number) (inside (is_own s x) own)
 
 first_by : (b : Bool) (s : State) (l n : ℕ) (x y : Plain) (xs : List Plain) (h : Plain → ℕ) → slice_get (submitted_by s l) n ≡ Some x → once (not (is_own s y)) ≡ 0 → is_ticket_of l n y ≡ b → (b || is_among l n xs) ≡ true
-    → (is_among l n xs ≡ true → weigh h (without l n xs) + h x ≡ weigh h xs)
-    → weigh h (cond b xs (y ∷ without l n xs)) + h x ≡ h y + weigh h xs
+    → (is_among l n xs ≡ true → sum_by h (without l n xs) + h x ≡ sum_by h xs)
+    → sum_by h (cond b xs (y ∷ without l n xs)) + h x ≡ h y + sum_by h xs
 first_by true s l n x y xs h at own is any rest =
-    let t = both_true (y.lane == l) (y.number == n) is in
-    let there = own_from s y l n own (eq_from y.lane l t.0) (eq_from y.number n t.1) in
+    let t = and_parts (y.lane == l) (y.number == n) is in
+    let there = own_from s y l n own (eqb-true y.lane l t.0) (eqb-true y.number n t.1) in
     let both : Some x ≡ Some y = sym at ∙ there in
     let same : x ≡ y = cc in
     let weight = ap h same in omega arith
-first_by false s l n x y xs h at own is any rest = let e = rest any in omega arith
+first_by false s l n x y xs h at own is any rest = let e = rest any in omega (arith, sum_by-cons h y (without l n xs))
 
 -- what waits without the lane's next number
-without_own : (s : State) (l n : ℕ) (x : Plain) (xs : List Plain) (h : Plain → ℕ) → slice_get (submitted_by s l) n ≡ Some x → weigh (λ y. once (not (is_own s y))) xs ≡ 0 → is_among l n xs ≡ true
-    → weigh h (without l n xs) + h x ≡ weigh h xs
+without_own : (s : State) (l n : ℕ) (x : Plain) (xs : List Plain) (h : Plain → ℕ) → slice_get (submitted_by s l) n ≡ Some x → count_by (λ y. not (is_own s y)) xs ≡ 0 → is_among l n xs ≡ true
+    → sum_by h (without l n xs) + h x ≡ sum_by h xs
 without_own s l n x [] h at own any = absurd (cc)
 without_own s l n x (y ∷ xs) h at own any =
-    first_by (is_ticket_of l n y) s l n x y xs h at (omega arith) refl any (λ f. without_own s l n x xs h at (omega arith) f)
+    let lost = sum_by-cons (λ z. once (not (is_own s z))) y xs in
+    omega (arith, sum_by-cons h y xs, first_by (is_ticket_of l n y) s l n x y xs h at (omega arith) refl any (λ f. without_own s l n x xs h at (omega arith) f))
 
 ticket_is : (l n m k : ℕ) (y : Plain) → is_ticket_of l n y ≡ true → is_ticket_of m k y ≡ ((l == m) && (n == k))
 ticket_is l n m k y e =
-    let t = both_true (y.lane == l) (y.number == n) e in
-    let a = eq_from y.lane l t.0 in
-    let b = eq_from y.number n t.1 in
+    let t = and_parts (y.lane == l) (y.number == n) e in
+    let a = eqb-true y.lane l t.0 in
+    let b = eqb-true y.number n t.1 in
     λ i. (a i == m) && (b i == k)
-
-or_swap : (a b : Bool) → (a || b) ≡ (b || a)
-or_swap true true = refl
-or_swap true false = refl
-or_swap false true = refl
-or_swap false false = refl
-
-or_assoc : (a b c : Bool) → (a || (b || c)) ≡ ((a || b) || c)
-or_assoc true b c = refl
-or_assoc false b c = refl
 
 among_by : (b : Bool) (l n m k : ℕ) (y : Plain) (xs : List Plain) → is_ticket_of l n y ≡ b → (b || is_among l n xs) ≡ true
     → (is_among l n xs ≡ true → is_among m k xs ≡ (is_among m k (without l n xs) || ((l == m) && (n == k))))
     → (is_ticket_of m k y || is_among m k xs) ≡ (is_among m k (cond b xs (y ∷ without l n xs)) || ((l == m) && (n == k)))
-among_by true l n m k y xs is any rest = ap (λ b. b || is_among m k xs) (ticket_is l n m k y is) ∙ or_swap ((l == m) && (n == k)) (is_among m k xs)
+among_by true l n m k y xs is any rest = ap (λ b. b || is_among m k xs) (ticket_is l n m k y is) ∙ or_comm ((l == m) && (n == k)) (is_among m k xs)
 among_by false l n m k y xs is any rest = ap (λ b. is_ticket_of m k y || b) (rest any) ∙ or_assoc (is_ticket_of m k y) (is_among m k (without l n xs)) ((l == m) && (n == k))
 
 among_without : (l n m k : ℕ) (xs : List Plain) → is_among l n xs ≡ true → is_among m k xs ≡ (is_among m k (without l n xs) || ((l == m) && (n == k)))
@@ -113,9 +105,9 @@ below_handed s l m k v at =
     let w = lane_state v.submitted v.closed v.polled (v.handed + 1) in ⊎_elim
     (λ (e : m ≡ l). ap (λ n. nat_lt k n) (lane_here 0 (λ u. u.handed) s.lanes l m v w at e) ∙ (one_more m l k v.handed e ∙ ap (λ n. nat_lt k n || ((l == m) && (v.handed == k))) (sym (lane_was 0 (λ u. u.handed) s.lanes l m v at e))))
     (λ (e : m ≢ l). ap (λ n. nat_lt k n) (lane_else 0 (λ u. u.handed) s.lanes l m w e) ∙ no_more m l k v.handed (handed_of s m) e)
-    (same_or m l)
+    (cases_eq m l)
 
-pub hand_done : (c : Contents) (l : ℕ) (x : LaneContents) (y : Plain) (e : Desk) → slice_get c.lanes l ≡ Some x → GivesNext c.desk l y e
+pub hand_done : (c : Contents) (l : ℕ) (x : LaneContents) (y : Plain) (e : ReorderBuffer) → slice_get c.lanes l ≡ Some x → GivesNext c.buffer l y e
     → Steps c (Hand l) true (contents c.year (set c.lanes l (lane_of x.closed x.issued (x.handed ++ y ∷ []) x.polled)) c.jobs c.workers c.results e)
 hand_done c l x y e at gives = λ s r shows.
     let f = found c s l x shows at in
@@ -123,14 +115,14 @@ hand_done c l x y e at gives = λ s r shows.
     let good = reached_good s r in
     let number : y.number ≡ v.handed = gives.number ∙ next_is c s l v shows f.1 in
     let own_all = good.own in
-    let there = shows.waiting (λ z. once (not (is_own s z))) in
+    let there = sum_by-IsPermutation (λ z. once (not (is_own s z))) c.buffer.waiting s.waiting shows.waiting in
     let less = gives.leaves.waiting (λ z. once (not (is_own s z))) in
-    let none : weigh (λ z. once (not (is_own s z))) s.waiting ≡ 0 = omega arith in
+    let none : count_by (λ z. not (is_own s z)) s.waiting ≡ 0 = omega arith in
     let own : once (not (is_own s y)) ≡ 0 = omega arith in
     let row = own_from s y l v.handed own gives.lane number in
     let row_here : slice_get v.submitted v.handed ≡ Some y = ap (λ (xs : List Plain). slice_get xs v.handed) (sym (lane_was [] (λ u. u.submitted) s.lanes l l v f.1 refl)) ∙ row in
     let ticket : once (is_ticket_of l v.handed y) ≡ 1 = (λ i. once ((gives.lane i == l) && (number i == v.handed))) ∙ (λ i. once (eq_self l i && eq_self v.handed i)) in
-    let times_there = shows.waiting (λ z. once (is_ticket_of l v.handed z)) in
+    let times_there = sum_by-IsPermutation (λ z. once (is_ticket_of l v.handed z)) c.buffer.waiting s.waiting shows.waiting in
     let times_less = gives.leaves.waiting (λ z. once (is_ticket_of l v.handed z)) in
     let waits = among_from l v.handed s.waiting (omega arith) in
     let w = lane_state v.submitted v.closed v.polled (v.handed + 1) in
@@ -140,12 +132,12 @@ hand_done c l x y e at gives = λ s r shows.
     done c _ s t (Hand l) (ap (hand s l) f.1 ∙ (λ i. cond (waits i) (Some t) None))
     record {
       year = shows.year;
-      lanes = (λ i. set (shows.lanes i) l (sym shown i)) ∙ sym (map_put shown_lane s.lanes l w);
+      lanes = (λ i. set (shows.lanes i) l (sym shown i)) ∙ sym (map-set shown_lane s.lanes l w);
       jobs = shows.jobs;
       workers = shows.workers;
       results = shows.results;
-      nexts = gives.nexts ∙ ((λ i. set (shows.nexts i) l (next_is c s l v shows f.1 i + 1)) ∙ sym (map_put (λ (u : LaneState). u.handed) s.lanes l w));
-      waiting = λ h. let a = gives.leaves.waiting h in let b = shows.waiting h in let d = without_own s l v.handed y s.waiting h row none waits in omega arith;
+      nexts = gives.nexts ∙ ((λ i. set (shows.nexts i) l (next_is c s l v shows f.1 i + 1)) ∙ sym (map-set (λ (u : LaneState). u.handed) s.lanes l w));
+      waiting = permutation_from e.waiting (without l v.handed s.waiting) (λ h. let a = gives.leaves.waiting h in let b = sum_by-IsPermutation h c.buffer.waiting s.waiting shows.waiting in let d = without_own s l v.handed y s.waiting h row none waits in omega arith);
       known = λ m k.
           gives.leaves.known m k
           ∙ (shows.known m k
@@ -158,16 +150,16 @@ contained : (l n : ℕ) (y : Plain) (xs : List Plain) → y.lane ≡ l → y.num
 contained l n y [] lane number k less is = absurd (omega arith)
 contained l n y (x ∷ xs) lane number zero less is =
     ap (λ b. b || is_among l n xs) ((λ i. ((is i).lane == l) && ((is i).number == n)) ∙ ((λ i. (lane i == l) && (number i == n)) ∙ (λ i. eq_self l i && eq_self n i)))
-contained l n y (x ∷ xs) lane number (suc k) less is = ap (λ b. is_ticket_of l n x || b) (contained l n y xs lane number k (omega arith) is) ∙ or_swap (is_ticket_of l n x) true
+contained l n y (x ∷ xs) lane number (suc k) less is = ap (λ b. is_ticket_of l n x || b) (contained l n y xs lane number k (omega arith) is) ∙ or_comm (is_ticket_of l n x) true
 
 -- where the lane's next number waits, it may be handed
-pub hand_enabled : (c : Contents) (l : ℕ) (x : LaneContents) (y : Plain) → slice_get c.lanes l ≡ Some x → IsNext c.desk l y → IsEnabled c (Hand l)
+pub hand_enabled : (c : Contents) (l : ℕ) (x : LaneContents) (y : Plain) → slice_get c.lanes l ≡ Some x → IsNext c.buffer l y → IsEnabled c (Hand l)
 hand_enabled c l x y at next = λ s r shows.
     let f = found c s l x shows at in
     let v = f.0 in
-    let here = contained l v.handed y c.desk.waiting next.lane (next.number ∙ next_is c s l v shows f.1) next.waits.0 next.waits.1 next.waits.2 in
-    let there = shows.waiting (λ z. once (is_ticket_of l v.handed z)) in
-    let least = among_times l v.handed c.desk.waiting here in
+    let here = contained l v.handed y c.buffer.waiting next.lane (next.number ∙ next_is c s l v shows f.1) next.waits.0 next.waits.1 next.waits.2 in
+    let there = sum_by-IsPermutation (λ z. once (is_ticket_of l v.handed z)) c.buffer.waiting s.waiting shows.waiting in
+    let least = among_times l v.handed c.buffer.waiting here in
     let waits = among_from l v.handed s.waiting (omega arith) in
     ap (λ o. is_some o) (ap (hand s l) f.1 ∙ (λ i. cond (waits i) (Some (state s.year (set s.lanes l (lane_state v.submitted v.closed v.polled (v.handed + 1))) s.jobs s.workers s.results (without l v.handed s.waiting))) None))
 

@@ -1,10 +1,11 @@
 -- The lanes of a world by their places.
 use Rattle.std.proofs.Common.{◌≡◌, ℕ, ◌<◌, List, map, length, get_or, set, Some, sym, ap, ◌∙◌}
 use Rattle.std.specs.List.{slice_get}
+use Rattle.std.proofs.lemmas.List.{map-set}
 use Rattle.lane_core.specs.declared.lane.Lane.{Lane}
 use Rattle.lane_core.specs.Contents.{LaneContents}
 use Rattle.lane_core.specs.Holding.{lane_held}
-use Rattle.lane_core.proofs.ListFacts.{get_map, length_map, map_put, placed, set_same}
+use Rattle.lane_core.proofs.ListFacts.{get_map, length_map, placed, set_same}
 
 pub lane_at : (lanes : List Lane) (i : ℕ) (x : Lane) → i < length lanes → x ≡ get_or lanes i x → slice_get (map lane_held lanes) i ≡ Some (lane_held x)
 lane_at lanes i x less is = get_map lane_held lanes i x (placed lanes i x less is)
@@ -19,8 +20,8 @@ count_held lanes = length_map lane_held lanes
 -- a lane that holds the same
 pub lane_same : (lanes : List Lane) (i : ℕ) (x y : Lane) → i < length lanes → x ≡ get_or lanes i x → lane_held y ≡ lane_held x → map lane_held (set lanes i y) ≡ map lane_held lanes
 lane_same lanes i x y less is same =
-    map_put lane_held lanes i y ∙ (ap (set (map lane_held lanes) i) same ∙ set_same (map lane_held lanes) i (lane_held x) (lane_at lanes i x less is))
+    map-set lane_held lanes i y ∙ (ap (set (map lane_held lanes) i) same ∙ set_same (map lane_held lanes) i (lane_held x) (lane_at lanes i x less is))
 
 -- a lane that holds something else
 pub lane_put : (lanes : List Lane) (i : ℕ) (y : Lane) (h : LaneContents) → lane_held y ≡ h → map lane_held (set lanes i y) ≡ set (map lane_held lanes) i h
-lane_put lanes i y h is = map_put lane_held lanes i y ∙ ap (set (map lane_held lanes) i) is
+lane_put lanes i y h is = map-set lane_held lanes i y ∙ ap (set (map lane_held lanes) i) is

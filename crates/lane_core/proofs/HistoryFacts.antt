@@ -1,12 +1,12 @@
 -- What the events of a machine leave as it is, and what they push and pop.
 use Rattle.std.proofs.Common.{◌≡◌, ◌≢◌, ⊎_elim, ℕ, ◌≤◌, ◌^◌, ◌&&◌, not, nat_lt, cond, Bool, true, false, List, [], ◌∷◌, ◌++◌, length, append_assoc, append-nil, set, Option, Some, None, refl, sym, ap, ◌∙◌, arith}
 use Rattle.std.specs.List.{slice_get}
+use Rattle.std.proofs.lemmas.Bool.{cases_eq}
 use Rattle.lane_core.specs.declared.event.Event.{Event}
 use Rattle.lane_core.specs.declared.event.Event.TheVariants.{Submit, Take, Post, Collect, Hand, Poll, Close}
 use Rattle.lane_core.specs.declared.job.Plain.{Plain}
 use Rattle.lane_core.specs.Machine.{LaneState, State, after, close, collect, hand, is_closed, next_job, or_same, poll, polled_of, post, run, state, submit, submitted_by, take_job}
 use Rattle.lane_core.specs.Tickets.{is_among}
-use Rattle.lane_core.proofs.DeskFacts.{same_or}
 use Rattle.lane_core.proofs.LaneFacts.{lane_else, lane_here, lane_was}
 
 -- a lane's submitted rows and polled number from one state to another
@@ -48,7 +48,7 @@ changed s i l v w jobs results waiting more at submitted polled closed = ⊎_eli
       polled = let a = lane_else 0 (λ u. u.polled) s.lanes i l w e in omega arith;
       closed = λ c. (refl, lane_else false (λ u. u.closed) s.lanes i l w e ∙ c);
     })
-    (same_or l i)
+    (cases_eq l i)
 
 submit_grows : (l : ℕ) (s : State) (i : ℕ) (row : List ℕ) (o : Option LaneState) → slice_get s.lanes i ≡ o → Grows s (or_same s (submit s i row o)) l
 submit_grows l s i row None at = stays s l

@@ -1,8 +1,8 @@
 -- What there is of a lane, after a lane was changed.
 use Rattle.std.proofs.Common.{◌≡◌, ◌≢◌, ⊎_elim, ℕ, zero, suc, List, [], ◌∷◌, set, Some, refl, sym, ap, ◌∙◌}
 use Rattle.std.specs.List.{slice_get}
+use Rattle.std.proofs.lemmas.Bool.{cases_eq}
 use Rattle.lane_core.specs.Machine.{LaneState, of_lane}
-use Rattle.lane_core.proofs.DeskFacts.{same_or}
 
 pub get_here : {X : Type 0} (xs : List X) (l : ℕ) (x v : X) → slice_get xs l ≡ Some v → slice_get (set xs l x) l ≡ Some x
 get_here [] l x v e = absurd (cc)
@@ -31,4 +31,4 @@ pub lane_kept : {X : Type 0} (d : X) (f : LaneState → X) (vs : List LaneState)
 lane_kept d f vs l m v w at same = ⊎_elim
     (λ (h : m ≡ l). lane_here d f vs l m v w at h ∙ (same ∙ sym (lane_was d f vs l m v at h)))
     (λ (h : m ≢ l). lane_else d f vs l m w h)
-    (same_or m l)
+    (cases_eq m l)

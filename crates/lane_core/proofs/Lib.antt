@@ -1,15 +1,14 @@
 pub mod AdvanceFacts
+pub mod BufferFacts
 pub mod ClaimFacts
-pub mod DeskFacts
-pub mod DrawerFacts
 pub mod GoodFacts
 pub mod HandShowFacts
-pub mod HeadFacts
 pub mod HeldFacts
 pub mod HistoryFacts
 pub mod LaneFacts
 pub mod LaneShowFacts
 pub mod ListFacts
+pub mod LookupFacts
 pub mod NextFacts
 pub mod OnePlaceFacts
 pub mod PlaceFacts
@@ -21,6 +20,7 @@ pub mod SeenFacts
 pub mod SettlingFacts
 pub mod ShowFacts
 pub mod SiftFacts
+pub mod SlotFacts
 pub mod StepFacts
 pub mod TakingFacts
 pub mod UnderWay

@@ -1,14 +1,17 @@
 -- A ticket is in one place at most: the places stand in a row, and together have it once.
 use Rattle.std.proofs.Common.{◌≡◌, ℕ, ◌+◌, ◌≤◌, ◌&&◌, ◌||◌, Bool, false, not, nat_lt, true, zero, suc, List, [], ◌∷◌, Option, option_to_list, get_or, refl, sym, ap, ◌∙◌, arith}
+use Rattle.std.specs.List.{sum_by, count_by}
+use Rattle.std.proofs.lemmas.List.Sums.{sum_by-cons}
 use Rattle.lane_core.specs.declared.job.Plain.{Plain}
 use Rattle.lane_core.specs.declared.place.Place.{Place}
 use Rattle.lane_core.specs.declared.place.Place.TheVariants.{JobQueue, Worker, ResultQueue, Waiting, Outbox, Polled}
 use Rattle.lane_core.specs.Machine.{State, IsReached, handed_of, issued_of, polled_of}
-use Rattle.lane_core.specs.Tickets.{is_among, is_held_by, times}
-use Rattle.lane_core.specs.Weights.{once, weigh}
+use Rattle.lane_core.specs.Tickets.{is_among, is_held_by, is_ticket_of}
+use Rattle.lane_core.specs.Weights.{once}
 use Rattle.lane_core.specs.Whereabouts.{IsAt}
 use Rattle.lane_core.proofs.PolledFacts.{tickets_once}
 use Rattle.lane_core.proofs.WeightFacts.{among_times}
+use Rattle.lane_core.proofs.GoodFacts.{once_le}
 
 abbrev rank : Place → ℕ
 rank JobQueue = 0
@@ -32,10 +35,10 @@ ranked Polled = refl
 -- how often the ticket is in each place
 abbrev counts : State → ℕ → ℕ → List ℕ
 counts s l k =
-    times l k s.jobs
-    ∷ weigh (λ o. times l k (option_to_list o)) s.workers
-    ∷ times l k s.results
-    ∷ times l k s.waiting
+    count_by (is_ticket_of l k) s.jobs
+    ∷ sum_by (λ o. count_by (is_ticket_of l k) (option_to_list o)) s.workers
+    ∷ count_by (is_ticket_of l k) s.results
+    ∷ count_by (is_ticket_of l k) s.waiting
     ∷ once (not (nat_lt k (polled_of s l)) && nat_lt k (handed_of s l))
     ∷ once (nat_lt k (polled_of s l))
     ∷ []
@@ -44,13 +47,11 @@ held_here : (b c : Bool) (n m : ℕ) → (b ≡ true → 1 ≤ n) → (c ≡ tru
 held_here true c n m f g e = let a = f refl in omega arith
 held_here false c n m f g e = let a = g e in omega arith
 
-once_most : (b : Bool) → once b ≤ 1
-once_most true = omega arith
-once_most false = omega arith
-
-held_times : (l k : ℕ) (workers : List (Option Plain)) → is_held_by l k workers ≡ true → 1 ≤ weigh (λ o. times l k (option_to_list o)) workers
+held_times : (l k : ℕ) (workers : List (Option Plain)) → is_held_by l k workers ≡ true → 1 ≤ sum_by (λ o. count_by (is_ticket_of l k) (option_to_list o)) workers
 held_times l k [] e = absurd (cc)
-held_times l k (o ∷ os) e = held_here (is_among l k (option_to_list o)) (is_held_by l k os) (times l k (option_to_list o)) (weigh (λ p. times l k (option_to_list p)) os) (λ f. among_times l k (option_to_list o) f) (λ f. held_times l k os f) e
+held_times l k (o ∷ os) e =
+    let here = held_here (is_among l k (option_to_list o)) (is_held_by l k os) (count_by (is_ticket_of l k) (option_to_list o)) (sum_by (λ p. count_by (is_ticket_of l k) (option_to_list p)) os) (λ f. among_times l k (option_to_list o) f) (λ f. held_times l k os f) e in
+    omega (arith, sum_by-cons (λ (p : Option Plain). count_by (is_ticket_of l k) (option_to_list p)) o os)
 
 there : (s : State) (l k : ℕ) (p : Place) → IsAt s l k p → 1 ≤ get_or (counts s l k) (rank p) 0
 there s l k JobQueue a = among_times l k s.jobs a
@@ -79,6 +80,6 @@ alone (x ∷ xs) (suc i) (suc j) few a b = ap suc (alone xs i j (omega arith) a 
 pub one_place : (s : State) (l k : ℕ) (p q : Place) → IsReached s → IsAt s l k p → IsAt s l k q → p ≡ q
 one_place s l k p q r a b =
     let once_there = tickets_once s l k r in
-    let most = once_most (nat_lt k (issued_of s l)) in
+    let most = once_le (nat_lt k (issued_of s l)) in
     let same = alone (counts s l k) (rank p) (rank q) (omega (arith, once_there, most)) (there s l k p a) (there s l k q b) in
     sym (ranked p) ∙ (ap of_rank same ∙ ranked q)

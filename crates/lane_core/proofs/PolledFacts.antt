@@ -2,19 +2,20 @@
 use Rattle.std.proofs.Common.{◌≡◌, ℕ, ◌+◌, ◌≤◌, ◌==◌, ◌&&◌, not, nat_lt, true, zero, suc, List, [], ◌∷◌, ◌++◌, length, take, refl, sym, ap, ◌∙◌, arith}
 use Rattle.std.specs.List.{list_all}
 use Rattle.std.proofs.lemmas.Bool.Decides.{nat_tests}
+use Rattle.std.proofs.lemmas.Bool.{and_parts}
+use Rattle.std.proofs.lemmas.List.{length-take-le}
 use Rattle.lane_core.specs.declared.event.Event.{Event}
 use Rattle.lane_core.specs.declared.job.Plain.{Plain}
 use Rattle.lane_core.specs.Machine.{State, IsReached, handed_of, is_closed, issued_of, polled_by, polled_of, run, submitted_by}
 use Rattle.lane_core.specs.Tickets.{numbered}
 use Rattle.lane_core.specs.Weights.{once}
 use Rattle.lane_core.specs.Whereabouts.{times_at}
-use Rattle.lane_core.proofs.DrawerFacts.{both_true}
 use Rattle.lane_core.proofs.GoodFacts.{Good}
 use Rattle.lane_core.proofs.HistoryFacts.{close_holds, run_grows}
 use Rattle.lane_core.proofs.StepFacts.{reached_good, reached_run}
 use Rattle.lane_core.proofs.WeightFacts.{is_below, not_below}
 
-out_or_polled : (k p h : ℕ) → p ≤ h → once (not (nat_lt k p) && nat_lt k h) + once (nat_lt k p) ≡ once (nat_lt k h)
+pub out_or_polled : (k p h : ℕ) → p ≤ h → once (not (nat_lt k p) && nat_lt k h) + once (nat_lt k p) ≡ once (nat_lt k h)
 out_or_polled k p h e = grind (arith, nat_tests)
 
 pub tickets_once : (s : State) (l k : ℕ) → IsReached s → times_at s l k ≡ once (nat_lt k (issued_of s l))
@@ -37,14 +38,9 @@ pub numbered-take : (l n p : ℕ) (xs : List Plain) → numbered l n xs ≡ true
 numbered-take l n zero xs e = refl
 numbered-take l n (suc p) [] e = refl
 numbered-take l n (suc p) (x ∷ xs) e =
-    let s = both_true (x.lane == l) ((x.number == n) && numbered l (suc n) xs) e in
-    let t = both_true (x.number == n) (numbered l (suc n) xs) s.1 in
+    let s = and_parts (x.lane == l) ((x.number == n) && numbered l (suc n) xs) e in
+    let t = and_parts (x.number == n) (numbered l (suc n) xs) s.1 in
     λ i. s.0 i && (t.0 i && numbered-take l (suc n) p xs t.1 i)
-
-length-take : (p : ℕ) (xs : List Plain) → p ≤ length xs → length (take p xs) ≡ p
-length-take zero xs e = refl
-length-take (suc p) [] e = absurd (omega arith)
-length-take (suc p) (x ∷ xs) e = ap suc (length-take p xs (omega arith))
 
 pub polled_in_order : (s : State) (l : ℕ) → IsReached s →
     (numbered l 0 (submitted_by s l) ≡ true)
@@ -56,7 +52,7 @@ polled_in_order s l r =
       good.in_order l,
       good.same_year l,
       numbered-take l 0 (polled_of s l) (submitted_by s l) (good.in_order l),
-      length-take (polled_of s l) (submitted_by s l) (polled_issued s l good),
+      length-take-le (polled_of s l) (submitted_by s l) (polled_issued s l good),
     )
 
 -- the first p of a list begin the first q of a longer one

@@ -1,7 +1,8 @@
 -- What events push on the queues is what they pop and what the queues hold.
 use Rattle.std.proofs.Common.{◌≡◌, ℕ, ◌^◌, ◌&&◌, not, nat_lt, cond, Bool, true, false, List, [], ◌∷◌, ◌++◌, length, append_assoc, append-nil, take, Option, Some, None, refl, sym, ap, ◌∙◌}
-use Rattle.std.specs.List.{slice_get}
+use Rattle.std.specs.List.{slice_get, sum_by}
 use Rattle.std.specs.Option.{is_some}
+use Rattle.std.proofs.lemmas.List.Sums.{sum_by-append}
 use Rattle.lane_core.specs.declared.event.Event.{Event}
 use Rattle.lane_core.specs.declared.event.Event.TheVariants.{Submit, Take, Post, Collect, Hand, Poll, Close}
 use Rattle.lane_core.specs.declared.job.Plain.{Plain}
@@ -9,8 +10,6 @@ use Rattle.lane_core.specs.Plain.{plain_of}
 use Rattle.lane_core.specs.History.{Keeps, all_of, held_by, job_popped, job_pushed, result_popped, result_pushed}
 use Rattle.lane_core.specs.Machine.{LaneState, State, after, close, collect, hand, of_lane, or_same, poll, post, run, start, submit, take_job}
 use Rattle.lane_core.specs.Tickets.{is_among}
-use Rattle.lane_core.specs.Weights.{weigh}
-use Rattle.lane_core.proofs.WeightFacts.{weigh-append}
 
 -- in any lane's event neither queue changes, save that a submit pushes its job
 lane_jobs : (s : State) (b : Bool) (t : State) → t.jobs ≡ s.jobs → s.jobs ++ [] ≡ [] ++ (or_same s (cond b (Some t) None)).jobs
@@ -109,12 +108,13 @@ run_queue q f g each s (e ∷ es) =
     ∙ sym (append_assoc (g s e) (all_of g t es) (q (run t es))))))
 
 keeps_from : (pushed popped held : List Plain) → pushed ≡ popped ++ held → Keeps pushed popped held
-keeps_from pushed popped held e = (e, λ h. ap (weigh h) e ∙ weigh-append h popped held)
+keeps_from pushed popped held e = (e, λ h. ap (sum_by h) e ∙ sum_by-append h popped held)
 
 pub queues_keep : (lanes workers year : ℕ) (es : List Event) →
     Keeps (all_of job_pushed (start lanes workers year) es) (all_of job_popped (start lanes workers year) es) (run (start lanes workers year) es).jobs
     × Keeps (all_of result_pushed (start lanes workers year) es) (all_of result_popped (start lanes workers year) es) (run (start lanes workers year) es).results
-queues_keep lanes workers year es = (
-  keeps_from _ _ _ (run_queue (λ s. s.jobs) job_pushed job_popped step_jobs (start lanes workers year) es),
-  keeps_from _ _ _ (run_queue (λ s. s.results) result_pushed result_popped step_results (start lanes workers year) es),
-)
+queues_keep lanes workers year es =
+    let s = start lanes workers year in (
+      keeps_from (all_of job_pushed s es) (all_of job_popped s es) (run s es).jobs (run_queue (λ t. t.jobs) job_pushed job_popped step_jobs s es),
+      keeps_from (all_of result_pushed s es) (all_of result_popped s es) (run s es).results (run_queue (λ t. t.results) result_pushed result_popped step_results s es),
+    )

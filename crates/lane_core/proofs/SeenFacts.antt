@@ -1,15 +1,15 @@
 -- What a world's lane says of the state that it shows.
 use Rattle.std.proofs.Common.{◌≡◌, ℕ, ◌+◌, ◌<◌, ◌≤◌, ◌&&◌, ◌||◌, not, nat_lt, Bool, true, false, List, [], ◌∷◌, length, take, option_to_list, Option, Some, refl, sym, ap, ◌∙◌, arith}
-use Rattle.std.specs.List.{slice_get}
+use Rattle.std.specs.List.{slice_get, sum_by, count_by}
 use Rattle.std.proofs.lemmas.Bool.Decides.{nat_tests}
+use Rattle.std.proofs.lemmas.List.Sums.{sum_by-cons}
+use Rattle.std.proofs.lemmas.List.{take-take}
 use Rattle.lane_core.specs.declared.job.Plain.{Plain}
 use Rattle.lane_core.specs.Contents.{Contents, LaneContents, Shows}
 use Rattle.lane_core.specs.Machine.{State, IsReached, handed_of, is_closed, issued_of, polled_by, polled_of}
-use Rattle.lane_core.specs.Tickets.{is_among, is_held_by, times}
-use Rattle.lane_core.specs.Weights.{weigh}
+use Rattle.lane_core.specs.Tickets.{is_among, is_held_by, is_ticket_of}
 use Rattle.lane_core.proofs.LaneFacts.{lane_was}
 use Rattle.lane_core.proofs.LaneShowFacts.{found, handed_count}
-use Rattle.lane_core.proofs.ListFacts.{take_take}
 use Rattle.lane_core.proofs.StepFacts.{few_of, reached_good}
 use Rattle.lane_core.proofs.WeightFacts.{among_from, is_below, not_among_times, not_below}
 
@@ -37,7 +37,7 @@ seen c s l x r shows at =
       issued = ap (λ (u : LaneContents). u.issued) (sym f.2) ∙ ap (λ (xs : List Plain). length xs) (sym sub);
       polled = sym polled ∙ sym polls;
       handed = count ∙ sym (lane_was 0 (λ u. u.handed) s.lanes l l v f.1 refl);
-      list = ap (λ (u : LaneContents). take u.polled u.handed) (sym f.2) ∙ (take_take v.polled v.handed v.submitted few ∙ (λ i. take (sym polls i) (sym sub i)));
+      list = ap (λ (u : LaneContents). take u.polled u.handed) (sym f.2) ∙ (take-take v.polled v.handed v.submitted few ∙ (λ i. take (sym polls i) (sym sub i)));
       few = omega arith;
     }
 
@@ -46,11 +46,12 @@ not_held true c n m f g e = absurd (cc)
 not_held false c n m f g e = let a = f refl in let b = g e in omega arith
 
 -- what no worker holds is held no time
-held_none : (l k : ℕ) (workers : List (Option Plain)) → is_held_by l k workers ≡ false → weigh (λ o. times l k (option_to_list o)) workers ≡ 0
+held_none : (l k : ℕ) (workers : List (Option Plain)) → is_held_by l k workers ≡ false → sum_by (λ o. count_by (is_ticket_of l k) (option_to_list o)) workers ≡ 0
 held_none l k [] e = refl
 held_none l k (o ∷ os) e =
-    not_held (is_among l k (option_to_list o)) (is_held_by l k os) (times l k (option_to_list o)) (weigh (λ o. times l k (option_to_list o)) os)
-    (λ f. not_among_times l k (option_to_list o) f) (λ f. held_none l k os f) e
+    let here = not_held (is_among l k (option_to_list o)) (is_held_by l k os) (count_by (is_ticket_of l k) (option_to_list o)) (sum_by (λ o. count_by (is_ticket_of l k) (option_to_list o)) os)
+    (λ f. not_among_times l k (option_to_list o) f) (λ f. held_none l k os f) e in
+    omega (arith, sum_by-cons (λ (p : Option Plain). count_by (is_ticket_of l k) (option_to_list p)) o os)
 
 -- an issued ticket that is in no other place waits
 pub waits : (c : Contents) (s : State) (l k : ℕ) → IsReached s → Shows c s → k < issued_of s l → handed_of s l ≤ k
@@ -64,9 +65,6 @@ waits c s l k r shows issued handed jobs workers results =
     let e = is_below k (issued_of s l) issued in
     let f = not_below k (handed_of s l) handed in
     among_from l k s.waiting (omega arith)
-
-pub polled_true : (k p : ℕ) → k < p → nat_lt k p ≡ true
-polled_true k p e = grind (arith, nat_tests)
 
 pub outbox_true : (k p h : ℕ) → p ≤ k → k < h → (not (nat_lt k p) && nat_lt k h) ≡ true
 outbox_true k p h a b = grind (arith, nat_tests)

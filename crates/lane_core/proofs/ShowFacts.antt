@@ -1,20 +1,25 @@
 -- A world shows the machine's next state: events of workers and queues, and those that are disabled.
 use Rattle.std.proofs.Common.{◌≡◌, ℕ, ◌<◌, ◌≤◌, ◌&&◌, ◌||◌, not, nat_lt, Bool, true, false, zero, suc, List, [], ◌∷◌, ◌++◌, map, length, set, get_or, replicate, Option, Some, None, refl, sym, ap, ◌∙◌, subst, arith}
-use Rattle.std.specs.List.{slice_get}
+use Rattle.std.specs.List.{slice_get, count_by}
 use Rattle.std.specs.Option.{is_some}
 use Rattle.std.proofs.lemmas.Bool.Decides.{nat_tests}
 use Rattle.std.proofs.lemmas.List.Folds.{list_any-append}
+use Rattle.std.proofs.lemmas.List.Sums.{sum_by-append, sum_by-cons}
+use Rattle.std.proofs.lemmas.List.Sorted.{sum_by-IsPermutation, IsPermutation-refl}
+use Rattle.std.proofs.lemmas.Bool.{lt-ltb}
 use Rattle.lane_core.specs.declared.event.Event.{Event}
 use Rattle.lane_core.specs.declared.event.Event.TheVariants.{Take, Post, Collect}
 use Rattle.lane_core.specs.declared.job.Plain.{Plain}
 use Rattle.lane_core.specs.Contents.{Contents, IsShown, Shows, Steps, contents, lane_of, shown_lane}
-use Rattle.lane_core.specs.Desk.{Desk, TakesIn, is_new, new_desk, was_taken}
+use Rattle.lane_core.specs.ReorderBuffer.{ReorderBuffer, TakesIn, is_new, new_buffer, was_taken}
 use Rattle.lane_core.specs.Machine.{LaneState, State, after, collect, handed_of, issued_of, lane_state, of_lane, or_same, post, start, step, take_job}
-use Rattle.lane_core.specs.Tickets.{is_among, is_ticket_of, times}
+use Rattle.lane_core.specs.Tickets.{is_among, is_ticket_of}
 use Rattle.lane_core.specs.Weights.{once}
-use Rattle.lane_core.proofs.ListFacts.{get_past, length_map}
+use Rattle.lane_core.proofs.ListFacts.{length_map}
+use Rattle.lane_core.proofs.SameFacts.{permutation_from}
 use Rattle.lane_core.proofs.StepFacts.{of_fresh, reached_good, reached_more}
-use Rattle.lane_core.proofs.WeightFacts.{is_below, not_among, weigh-append}
+use Rattle.lane_core.proofs.WeightFacts.{is_below, not_among}
+use Rattle.lane_core.proofs.SiftFacts.{ticket_self}
 
 -- an event that is done, and one that is not
 pub done : (c d : Contents) (s t : State) (e : Event) → step s e ≡ Some t → Shows d t → (is_some (step s e) ≡ true) × Shows d (after s e)
@@ -27,22 +32,8 @@ pub shown_after : (c d : Contents) (e : Event) (b : Bool) → IsShown c → Step
 shown_after c d e b shown steps = (after shown.0 e, reached_more shown.0 e shown.1, (steps shown.0 shown.1 shown.2).1)
 
 -- a worker takes a job
-take_none : (s : State) (w : ℕ) (o : Option (Option Plain)) → take_job s w o [] ≡ None
-take_none s w None = refl
-take_none s w (Some None) = refl
-take_none s w (Some (Some x)) = refl
-
-pub take_empty : (c : Contents) (w : ℕ) → c.jobs ≡ [] → Steps c (Take w) false c
-take_empty c w is = λ s r shows. idle c s (Take w) (ap (take_job s w (slice_get s.workers w)) (sym shows.jobs ∙ is) ∙ take_none s w (slice_get s.workers w)) shows
-
-pub take_past : (c : Contents) (w : ℕ) → length c.workers ≤ w → Steps c (Take w) false c
-take_past c w past = λ s r shows. idle c s (Take w) (ap (λ (ws : List (Option Plain)). take_job s w (slice_get ws w) s.jobs) (sym shows.workers) ∙ ap (λ o. take_job s w o s.jobs) (get_past c.workers w past)) shows
-
-pub take_busy : (c : Contents) (w : ℕ) (x : Plain) → slice_get c.workers w ≡ Some (Some x) → Steps c (Take w) false c
-take_busy c w x at = λ s r shows. idle c s (Take w) (ap (λ (ws : List (Option Plain)). take_job s w (slice_get ws w) s.jobs) (sym shows.workers) ∙ ap (λ o. take_job s w o s.jobs) at) shows
-
 pub take_done : (c : Contents) (w : ℕ) (x : Plain) (jobs : List Plain) → slice_get c.workers w ≡ Some None → c.jobs ≡ x ∷ jobs
-    → Steps c (Take w) true (contents c.year c.lanes jobs (set c.workers w (Some x)) c.results c.desk)
+    → Steps c (Take w) true (contents c.year c.lanes jobs (set c.workers w (Some x)) c.results c.buffer)
 take_done c w x jobs at is = λ s r shows. done c _ s _ (Take w)
     ((λ i. take_job s w (slice_get (sym shows.workers i) w) (sym shows.jobs i)) ∙ (λ i. take_job s w (at i) (is i)))
     record {
@@ -57,14 +48,8 @@ take_done c w x jobs at is = λ s r shows. done c _ s _ (Take w)
     }
 
 -- a worker posts a result
-pub post_past : (c : Contents) (w : ℕ) → length c.workers ≤ w → Steps c (Post w) false c
-post_past c w past = λ s r shows. idle c s (Post w) (ap (λ (ws : List (Option Plain)). post s w (slice_get ws w)) (sym shows.workers) ∙ ap (post s w) (get_past c.workers w past)) shows
-
-pub post_free : (c : Contents) (w : ℕ) → slice_get c.workers w ≡ Some None → Steps c (Post w) false c
-post_free c w at = λ s r shows. idle c s (Post w) (ap (λ (ws : List (Option Plain)). post s w (slice_get ws w)) (sym shows.workers) ∙ ap (post s w) at) shows
-
 pub post_done : (c : Contents) (w : ℕ) (x : Plain) → slice_get c.workers w ≡ Some (Some x)
-    → Steps c (Post w) true (contents c.year c.lanes c.jobs (set c.workers w None) (c.results ++ x ∷ []) c.desk)
+    → Steps c (Post w) true (contents c.year c.lanes c.jobs (set c.workers w None) (c.results ++ x ∷ []) c.buffer)
 post_done c w x at = λ s r shows. done c _ s _ (Post w)
     (ap (λ (ws : List (Option Plain)). post s w (slice_get ws w)) (sym shows.workers) ∙ ap (post s w) at)
     record {
@@ -78,17 +63,14 @@ post_done c w x at = λ s r shows. done c _ s _ (Post w)
       known = shows.known;
     }
 
--- the deliverer collects a result
-pub collect_empty : (c : Contents) → c.results ≡ [] → Steps c Collect false c
-collect_empty c is = λ s r shows. idle c s Collect (ap (collect s) (sym shows.results ∙ is)) shows
-
 or_last : (a b t : Bool) → (a || b || t) ≡ (a || (b || (t || false)))
 or_last true b t = refl
 or_last false true t = refl
 or_last false false true = refl
 or_last false false false = refl
 
-pub collect_done : (c : Contents) (x : Plain) (results : List Plain) (e : Desk) → c.results ≡ x ∷ results → TakesIn c.desk x e
+-- the deliverer collects a result
+pub collect_done : (c : Contents) (x : Plain) (results : List Plain) (e : ReorderBuffer) → c.results ≡ x ∷ results → TakesIn c.buffer x e
     → Steps c Collect true (contents c.year c.lanes c.jobs c.workers results e)
 collect_done c x results e is taken = λ s r shows. done c _ s _ Collect (ap (collect s) (sym shows.results ∙ is))
     record {
@@ -98,15 +80,12 @@ collect_done c x results e is taken = λ s r shows. done c _ s _ Collect (ap (co
       workers = shows.workers;
       results = refl;
       nexts = taken.nexts ∙ shows.nexts;
-      waiting = λ h. let a = taken.waiting h in let b = shows.waiting h in let d = weigh-append h s.waiting (x ∷ []) in omega arith;
+      waiting = permutation_from e.waiting (s.waiting ++ x ∷ []) (λ h. let a = taken.waiting h in let b = sum_by-IsPermutation h c.buffer.waiting s.waiting shows.waiting in let d = sum_by-append h s.waiting (x ∷ []) in omega arith);
       known = λ l k. taken.known l k
           ∙ (ap (λ b. b || is_ticket_of l k x) (shows.known l k)
           ∙ (or_last (nat_lt k (handed_of s l)) (is_among l k s.waiting) (is_ticket_of l k x)
           ∙ ap (λ b. nat_lt k (handed_of s l) || b) (sym (list_any-append (is_ticket_of l k) s.waiting (x ∷ [])))));
     }
-
-ticket_self : (x : Plain) → once (is_ticket_of x.lane x.number x) ≡ 1
-ticket_self x = grind (arith, nat_tests)
 
 lane_there : (vs : List LaneState) (l k : ℕ) → k < length (of_lane [] (λ v. v.submitted) (slice_get vs l)) → l < length vs
 lane_there [] l k e = absurd (omega arith)
@@ -123,26 +102,24 @@ neither false b e f = f
 new_from : (a b : Bool) → a ≡ true → b ≡ false → (a && not b) ≡ true
 new_from a b e f = λ i. e i && not (f i)
 
-below_true : (k n : ℕ) → k < n → nat_lt k n ≡ true
-below_true k n e = grind (arith, nat_tests)
-
 -- no result is a stranger
-pub result_is_new : (c : Contents) (x : Plain) (results : List Plain) → c.results ≡ x ∷ results → IsShown c → is_new c.desk x ≡ true
+pub result_is_new : (c : Contents) (x : Plain) (results : List Plain) → c.results ≡ x ∷ results → IsShown c → is_new c.buffer x ≡ true
 result_is_new c x results is shown =
     let s = shown.0 in
     let shows = shown.2 in
     let good = reached_good s shown.1 in
     let one = good.one x.lane x.number in
-    let here = ap (times x.lane x.number) (sym shows.results ∙ is) in
+    let here = ap (count_by (is_ticket_of x.lane x.number)) (sym shows.results ∙ is) in
     let self = ticket_self x in
+    let first = sum_by-cons (λ y. once (is_ticket_of x.lane x.number y)) x results in
     let issued : x.number < issued_of s x.lane = below_from x.number (issued_of s x.lane) (omega arith) in
     let there = lane_there s.lanes x.lane x.number issued in
     let most : once (nat_lt x.number (issued_of s x.lane)) ≡ 1 = is_below x.number (issued_of s x.lane) issued in
     let handed : once (nat_lt x.number (handed_of s x.lane)) ≡ 0 = omega arith in
-    let none : times x.lane x.number s.waiting ≡ 0 = omega arith in
+    let none : count_by (is_ticket_of x.lane x.number) s.waiting ≡ 0 = omega arith in
     let waits : is_among x.lane x.number s.waiting ≡ false = not_among x.lane x.number s.waiting none in
     let count = ap (λ (xs : List ℕ). length xs) shows.nexts ∙ length_map (λ (v : LaneState). v.handed) s.lanes in
-    new_from (nat_lt x.lane (length c.desk.nexts)) (was_taken c.desk x.lane x.number) (below_true x.lane (length c.desk.nexts) (omega arith))
+    new_from (nat_lt x.lane (length c.buffer.nexts)) (was_taken c.buffer x.lane x.number) (lt-ltb x.lane (length c.buffer.nexts) (omega arith))
     (shows.known x.lane x.number ∙ neither (nat_lt x.number (handed_of s x.lane)) (is_among x.lane x.number s.waiting) handed waits)
 
 map_each : {X Y : Type 0} (f : X → Y) (n : ℕ) (x : X) → map f (replicate n x) ≡ replicate n (f x)
@@ -155,7 +132,7 @@ zeros (suc n) zero = refl
 zeros (suc n) (suc l) = zeros n l
 
 -- a new world
-pub start_shown : (lanes workers year : ℕ) → Shows (contents year (replicate lanes (lane_of false 0 [] 0)) [] (replicate workers None) [] (new_desk lanes)) (start lanes workers year)
+pub start_shown : (lanes workers year : ℕ) → Shows (contents year (replicate lanes (lane_of false 0 [] 0)) [] (replicate workers None) [] (new_buffer lanes)) (start lanes workers year)
 start_shown lanes workers year =
     let fresh = lane_state [] false 0 0 in
     record {
@@ -165,9 +142,9 @@ start_shown lanes workers year =
       workers = refl;
       results = refl;
       nexts = sym (map_each (λ (v : LaneState). v.handed) lanes fresh);
-      waiting = λ h. refl;
+      waiting = IsPermutation-refl [];
       known = λ l k. ap (λ n. nat_lt k n || false) (zeros lanes l ∙ sym (of_fresh 0 (λ v. v.handed) fresh lanes l refl));
     }
 
-pub start_is_shown : (lanes workers year : ℕ) → IsShown (contents year (replicate lanes (lane_of false 0 [] 0)) [] (replicate workers None) [] (new_desk lanes))
+pub start_is_shown : (lanes workers year : ℕ) → IsShown (contents year (replicate lanes (lane_of false 0 [] 0)) [] (replicate workers None) [] (new_buffer lanes))
 start_is_shown lanes workers year = (start lanes workers year, (lanes, workers, year, [], refl), start_shown lanes workers year)

@@ -1,6 +1,7 @@
 -- What each event keeps, and so each list of events.
 use Rattle.std.proofs.Common.{◌≡◌, ℕ, ◌+◌, ◌≤◌, ◌^◌, ◌==◌, ◌&&◌, not, nat_lt, cond, Bool, true, false, zero, suc, List, [], ◌∷◌, ◌++◌, length, replicate, Option, Some, None, refl, ap, ◌∙◌, subst, arith}
 use Rattle.std.specs.List.{slice_get, list_all}
+use Rattle.std.proofs.lemmas.Bool.{ltb-true}
 use Rattle.lane_core.specs.declared.event.Event.{Event}
 use Rattle.lane_core.specs.declared.event.Event.TheVariants.{Submit, Take, Post, Collect, Hand, Poll, Close}
 use Rattle.lane_core.specs.declared.job.Plain.{Plain}
@@ -10,7 +11,7 @@ use Rattle.lane_core.specs.Weights.{once}
 use Rattle.lane_core.proofs.GoodFacts.{Good, added, given, is_own, moved, settled}
 use Rattle.lane_core.proofs.LaneFacts.{lane_was}
 use Rattle.lane_core.proofs.UnderWay.{collected_under_way, posted_under_way, taken_under_way}
-use Rattle.lane_core.proofs.WeightFacts.{less_from, none_in}
+use Rattle.lane_core.proofs.WeightFacts.{none_in}
 
 by_test : (s t : State) (b : Bool) → Good s → (b ≡ true → Good t) → Good (or_same s (cond b (Some t) None))
 by_test s t true a f = f refl
@@ -42,7 +43,7 @@ hand_keeps s l (Some v) at good = by_test s _ (is_among l v.handed s.waiting) go
 poll_keeps : (s : State) (l : ℕ) (o : Option LaneState) → slice_get s.lanes l ≡ o → Good s → Good (or_same s (poll s l o))
 poll_keeps s l None at good = good
 poll_keeps s l (Some v) at good = by_test s _ (nat_lt v.polled v.handed) good
-    (λ e. settled s l v (lane_state v.submitted v.closed (v.polled + 1) v.handed) at refl refl (let f = less_from v.polled v.handed e in omega arith) good)
+    (λ e. settled s l v (lane_state v.submitted v.closed (v.polled + 1) v.handed) at refl refl (let f = ltb-true v.polled v.handed e in omega arith) good)
 
 -- a lane has polled no more than it was handed
 pub few_of : (s : State) (l : ℕ) (v : LaneState) → slice_get s.lanes l ≡ Some v → Good s → v.polled ≤ v.handed

@@ -1,12 +1,12 @@
 -- What a world keeps, and the state of the machine that it shows.
 use Rattle.std.specs.Prelude.{◌≡◌, ◌||◌, ℕ, Bool, nat_lt, is_some, true, false, List, Option, map, length, take}
+use Rattle.std.specs.List.Sorted.{IsPermutation}
 use Rattle.lane_core.specs.declared.event.Event.{Event}
 use Rattle.lane_core.specs.declared.event.Event.TheVariants.{Submit, Take, Post, Collect, Hand, Poll, Close}
 use Rattle.lane_core.specs.declared.job.Plain.{Plain}
-use Rattle.lane_core.specs.Desk.{Desk, was_taken}
+use Rattle.lane_core.specs.ReorderBuffer.{ReorderBuffer, was_taken}
 use Rattle.lane_core.specs.Machine.{LaneState, State, IsReached, after, handed_of, step}
 use Rattle.lane_core.specs.Tickets.{is_among}
-use Rattle.lane_core.specs.Weights.{SameItems}
 
 -- of a lane: whether it is closed, how many tickets it has issued, what it was handed, and how much of that it has polled
 pub record LaneContents : Type 0 where
@@ -22,13 +22,13 @@ pub record Contents : Type 0 where
   pub jobs : List Plain
   pub workers : List (Option Plain)
   pub results : List Plain
-  pub desk : Desk
+  pub buffer : ReorderBuffer
 
 abbrev pub lane_of : Bool → ℕ → List Plain → ℕ → LaneContents
 lane_of closed issued handed polled = record { closed = closed; issued = issued; handed = handed; polled = polled }
 
-abbrev pub contents : ℕ → List LaneContents → List Plain → List (Option Plain) → List Plain → Desk → Contents
-contents year lanes jobs workers results desk = record { year = year; lanes = lanes; jobs = jobs; workers = workers; results = results; desk = desk }
+abbrev pub contents : ℕ → List LaneContents → List Plain → List (Option Plain) → List Plain → ReorderBuffer → Contents
+contents year lanes jobs workers results buffer = record { year = year; lanes = lanes; jobs = jobs; workers = workers; results = results; buffer = buffer }
 
 -- a lane keeps what it was handed: the first of what it has submitted
 abbrev pub shown_lane : LaneState → LaneContents
@@ -41,9 +41,9 @@ pub record Shows (c : Contents) (s : State) : Type 0 where
   pub jobs : c.jobs ≡ s.jobs
   pub workers : c.workers ≡ s.workers
   pub results : c.results ≡ s.results
-  pub nexts : c.desk.nexts ≡ map (λ v. v.handed) s.lanes
-  pub waiting : SameItems c.desk.waiting s.waiting
-  pub known : (l k : ℕ) → was_taken c.desk l k ≡ (nat_lt k (handed_of s l) || is_among l k s.waiting)
+  pub nexts : c.buffer.nexts ≡ map (λ v. v.handed) s.lanes
+  pub waiting : IsPermutation c.buffer.waiting s.waiting
+  pub known : (l k : ℕ) → was_taken c.buffer l k ≡ (nat_lt k (handed_of s l) || is_among l k s.waiting)
 
 -- it shows a state that some events lead to
 abbrev pub IsShown : Contents → Type 0

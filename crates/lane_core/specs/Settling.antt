@@ -1,9 +1,9 @@
 -- Several lanes whose rows went from place to place: what can be said of their lists, whoever carried them.
 use Rattle.std.specs.Prelude.{◌≡◌, ◌==◌, ◌&&◌, ◌+◌, ◌<◌, ◌≤◌, ℕ, suc, Bool, true, not, nat_lt, cond, List, [], ◌∷◌, ◌++◌, Some, length, slice_get, take}
-use Rattle.std.specs.List.{fold, list_all}
+use Rattle.std.specs.List.{count_by, fold, list_all, sum_by}
 use Rattle.lane_core.specs.declared.job.Plain.{Plain}
 use Rattle.lane_core.specs.Tickets.{is_among, numbered}
-use Rattle.lane_core.specs.Weights.{OneForOne, SameItems, once, weigh}
+use Rattle.lane_core.specs.Weights.{OneForOne}
 
 -- whether its lane is none of the first n
 abbrev pub is_elsewhere : ℕ → Plain → Bool
@@ -34,7 +34,7 @@ AreNumbered accounts = (i : ℕ) (a : Account) → slice_get accounts i ≡ Some
 
 -- no lane comes twice
 abbrev pub EachLaneOnce : List Account → Type 0
-EachLaneOnce accounts = (l : ℕ) → weigh (λ a. once (a.lane == l)) accounts ≤ 1
+EachLaneOnce accounts = (l : ℕ) → count_by (λ a. a.lane == l) accounts ≤ 1
 
 -- a lane's numbers in order are all kept
 abbrev pub KeptWhole : Type 0
@@ -42,7 +42,7 @@ KeptWhole = (lane n : ℕ) (xs : List Plain) → numbered lane n xs ≡ true →
 
 -- two lists of one lane's numbers with the same items are one list
 abbrev pub SameLists : Type 0
-SameLists = (lane n : ℕ) (xs ys : List Plain) → numbered lane n xs ≡ true → numbered lane n ys ≡ true → SameItems xs ys → xs ≡ ys
+SameLists = (lane n : ℕ) (xs ys : List Plain) → numbered lane n xs ≡ true → numbered lane n ys ≡ true → ((h : Plain → ℕ) → sum_by h xs ≡ sum_by h ys) → xs ≡ ys
 
 -- where the lanes together received no more than they submitted, each its own numbers in order, each received the first of its own rows
 abbrev pub ReceivedFirst : Type 0
@@ -51,7 +51,7 @@ ReceivedFirst =
     → AreNumbered accounts
     → ((i : ℕ) (a : Account) → slice_get accounts i ≡ Some a → numbered a.lane 0 a.received ≡ true)
     → EachLaneOnce accounts
-    → ((h : Plain → ℕ) → weigh (λ a. weigh h a.received) accounts ≤ weigh (λ a. weigh h a.submitted) accounts)
+    → ((h : Plain → ℕ) → sum_by (λ a. sum_by h a.received) accounts ≤ sum_by (λ a. sum_by h a.submitted) accounts)
     → (i : ℕ) (a : Account) → slice_get accounts i ≡ Some a → take (length a.received) a.submitted ≡ a.received
 
 -- where both queues are one for one and nothing was lost on the way, nothing was set aside, and all that was submitted is in some place
@@ -61,12 +61,12 @@ AllFound =
     → AreNumbered accounts
     → ((i : ℕ) (a : Account) → slice_get accounts i ≡ Some a → a.lane < n)
     → EachLaneOnce accounts
-    → ((h : Plain → ℕ) → weigh (λ a. weigh h a.submitted) accounts ≡ weigh h taken + weigh h jobs)
+    → ((h : Plain → ℕ) → sum_by (λ a. sum_by h a.submitted) accounts ≡ sum_by h taken + sum_by h jobs)
     → OneForOne taken posted hands
     → OneForOne posted collected results
-    → ((h : Plain → ℕ) → weigh h (sifted n collected) ≡ (weigh h waiting + weigh h hand) + sent h)
+    → ((h : Plain → ℕ) → sum_by h (sifted n collected) ≡ (sum_by h waiting + sum_by h hand) + sent h)
     → (sifted n collected ≡ collected)
-    × ((h : Plain → ℕ) → weigh (λ a. weigh h a.submitted) accounts ≡ ((((weigh h jobs + weigh h hands) + weigh h results) + weigh h waiting) + weigh h hand) + sent h)
+    × ((h : Plain → ℕ) → sum_by (λ a. sum_by h a.submitted) accounts ≡ ((((sum_by h jobs + sum_by h hands) + sum_by h results) + sum_by h waiting) + sum_by h hand) + sent h)
 
 -- whether each number is no less than the one before it
 abbrev pub rises : List Plain → Bool
@@ -90,14 +90,14 @@ pub record IsClaim (c : Claim) : Type 0 where
 
 -- nothing of a lane was dropped as long as less than its due was given
 abbrev pub GivesDue : Claim → List Plain → Type 0
-GivesDue c dropped = length c.polled + length c.given < length c.submitted → weigh (λ x. once (x.lane == c.lane)) dropped ≡ 0
+GivesDue c dropped = length c.polled + length c.given < length c.submitted → count_by (λ x. x.lane == c.lane) dropped ≡ 0
 
 -- where all that the lanes had not polled was found, and each was given of it up to its due, each was given what it had not polled
 abbrev pub ClaimsSettle : Type 0
 ClaimsSettle =
     (claims : List Claim) (found dropped : List Plain)
     → ((i : ℕ) (c : Claim) → slice_get claims i ≡ Some c → IsClaim c × GivesDue c dropped)
-    → ((l : ℕ) → weigh (λ c. once (c.lane == l)) claims ≤ 1)
-    → ((h : Plain → ℕ) → weigh (λ c. weigh h c.submitted) claims ≡ weigh (λ c. weigh h c.polled) claims + weigh h found)
-    → ((h : Plain → ℕ) → weigh (λ c. weigh h c.given) claims + weigh h dropped ≡ weigh h found)
+    → ((l : ℕ) → count_by (λ c. c.lane == l) claims ≤ 1)
+    → ((h : Plain → ℕ) → sum_by (λ c. sum_by h c.submitted) claims ≡ sum_by (λ c. sum_by h c.polled) claims + sum_by h found)
+    → ((h : Plain → ℕ) → sum_by (λ c. sum_by h c.given) claims + sum_by h dropped ≡ sum_by h found)
     → (i : ℕ) (c : Claim) → slice_get claims i ≡ Some c → c.polled ++ c.given ≡ c.submitted

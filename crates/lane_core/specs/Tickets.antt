@@ -2,7 +2,6 @@
 use Rattle.std.specs.Prelude.{◌==◌, ◌&&◌, ℕ, suc, Bool, true, List, [], ◌∷◌, Option, option_to_list}
 use Rattle.std.specs.List.{list_any}
 use Rattle.lane_core.specs.declared.job.Plain.{Plain}
-use Rattle.lane_core.specs.Weights.{once, weigh}
 
 -- whether it is lane l's number k
 abbrev pub is_ticket_of : ℕ → ℕ → Plain → Bool
@@ -15,10 +14,6 @@ is_among l k xs = list_any (is_ticket_of l k) xs
 -- whether a worker holds it
 abbrev pub is_held_by : ℕ → ℕ → List (Option Plain) → Bool
 is_held_by l k workers = list_any (λ o. is_among l k (option_to_list o)) workers
-
--- how often it is
-abbrev pub times : ℕ → ℕ → List Plain → ℕ
-times l k xs = weigh (λ x. once (is_ticket_of l k x)) xs
 
 -- they are the lane's numbers from n on, in order
 abbrev pub numbered : ℕ → ℕ → List Plain → Bool

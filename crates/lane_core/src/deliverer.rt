@@ -1,12 +1,12 @@
 //! Hands each lane its deliveries by number, whatever order they come in.
 ghost use Rattle.std.specs.Prelude.{◌≡◌, ◌≢◌, ◌<◌, ◌≤◌, ◌↔◌, ◌^◌, [], replicate, true, false, IsSome, IfErr, IfOk, IfNone, IfSome, OnErr, OnOk};
-ghost use Rattle.lane_core.specs.declared.head.Head.TheVariants.{Missing};
-ghost use Rattle.lane_core.specs.Drawer.{Advances, AreIndexed};
-ghost use Rattle.lane_core.specs.Desk.{lanes_of, new_desk, was_taken, has_next, TakesIn, ComesBack, IsNext, GivesNext, GivesAny};
+ghost use Rattle.lane_core.specs.declared.next_slot.NextSlot.TheVariants.{Missing};
+ghost use Rattle.lane_core.specs.NextSlots.{Advances, AreIndexed};
+ghost use Rattle.lane_core.specs.ReorderBuffer.{lanes_of, new_buffer, was_taken, has_next, TakesIn, ComesBack, IsNext, GivesNext, GivesAny};
 
 use crate::delivery::Delivery;
 use crate::fault::{NoMemory, TakeFault};
-use crate::head::{Head, take_first};
+use crate::next_slot::{NextSlot, take_first};
 use crate::ticket::Ticket;
 use std::alloc::{AllocError, Global};
 use std::collections::{BTreeMap, BTreeSet};
@@ -21,7 +21,7 @@ use std::marker::Model;
 pub struct Deliverer {
     nexts: Vec<u64>,
     /// What there is of each lane's next number.
-    heads: Vec<Head>,
+    slots: Vec<NextSlot>,
     /// What waits of later numbers.
     later: BTreeMap<Ticket, Delivery>,
     /// The tickets of later numbers that were taken in, whether they still wait or not.
@@ -29,65 +29,65 @@ pub struct Deliverer {
 }
 
 impl Model for Deliverer {
-    ghost use Rattle.lane_core.specs.Desk.{Desk};
-    ghost use Rattle.lane_core.specs.Drawer.{AreKept, desk_of};
+    ghost use Rattle.lane_core.specs.ReorderBuffer.{ReorderBuffer};
+    ghost use Rattle.lane_core.specs.NextSlots.{AreKept, buffer_of};
 
-    ghost Value = { Desk };
+    ghost Value = { ReorderBuffer };
 
-    ghost view = { λ d. desk_of d.nexts.items d.heads.items d.later.entries d.known.keys };
+    ghost view = { λ d. buffer_of d.nexts.items d.slots.items d.later.entries d.known.keys };
 
-    ghost invariant = { λ d. AreKept d.nexts.items d.heads.items d.later.entries d.known.keys };
+    ghost invariant = { λ d. AreKept d.nexts.items d.slots.items d.later.entries d.known.keys };
 }
 
-/// Heads of lanes whose first number was not taken in.
-fn missing_heads(alloc: Global, count: u16) -> Result<Vec<Head>, AllocError>
-    ensures { IfOk result (λ heads. heads.items ≡ replicate count Missing) }
+/// Slots of lanes whose first number was not taken in.
+fn missing_slots(alloc: Global, count: u16) -> Result<Vec<NextSlot>, AllocError>
+    ensures { IfOk result (λ slots. slots.items ≡ replicate count Missing) }
 {
-    let mut heads = Vec::with_capacity(alloc, usize::from(count))?;
+    let mut slots = Vec::with_capacity(alloc, usize::from(count))?;
     for _i in 0..count {
-        heads.push_reserved(Head::Missing);
+        slots.push_reserved(NextSlot::Missing);
     }
-    Ok(heads)
+    Ok(slots)
 }
 
 /// What there is of the lane's number `next`, which is its next from now on and no later one.
-fn head_of(
+fn slot_of(
     later: &mut BTreeMap<Ticket, Delivery>,
     known: &mut BTreeSet<Ticket>,
     lane: u8,
     next: u64,
-) -> Head
+) -> NextSlot
     requires { AreIndexed later.old.entries known.old.keys }
     ensures { Advances lane next later.old.entries known.old.keys later.new.entries known.new.keys result }
 {
     let Ok(number) = u32::try_from(next) else {
-        return Head::Missing;
+        return NextSlot::Missing;
     };
     let ticket = Ticket { lane, number };
     if !known.remove(&ticket) {
-        return Head::Missing;
+        return NextSlot::Missing;
     }
     match later.remove(&ticket) {
-        Some(delivery) => Head::Here(delivery),
-        None => Head::Out,
+        Some(delivery) => NextSlot::Here(delivery),
+        None => NextSlot::Out,
     }
 }
 
 /// Puts into the lane's place what there is of its number `next`, which is its next from now on. The place is
 /// left as it is where no later number was taken in, as mostly.
 fn advance(
-    head: &mut Head,
+    slot: &mut NextSlot,
     later: &mut BTreeMap<Ticket, Delivery>,
     known: &mut BTreeSet<Ticket>,
     lane: u8,
     next: u64,
 )
-    requires missing { head.old ≡ Missing }
+    requires missing { slot.old ≡ Missing }
     requires indexed { AreIndexed later.old.entries known.old.keys }
-    ensures { Advances lane next later.old.entries known.old.keys later.new.entries known.new.keys head.new }
+    ensures { Advances lane next later.old.entries known.old.keys later.new.entries known.new.keys slot.new }
 {
     if !known.is_empty() {
-        *head = head_of(later, known, lane, next);
+        *slot = slot_of(later, known, lane, next);
     }
 }
 
@@ -95,11 +95,11 @@ impl Deliverer {
     /// A deliverer of these lanes; each lane's next number is 0.
     pub fn new(alloc: Global, lanes: u16) -> Result<Deliverer, NoMemory>
         requires { lanes ≤ 256 }
-        ensures { IfOk result (λ d. d ≡ new_desk lanes) }
+        ensures { IfOk result (λ d. d ≡ new_buffer lanes) }
     {
         Ok(Deliverer {
             nexts: vec![in alloc; 0; usize::from(lanes)]?,
-            heads: missing_heads(alloc, lanes)?,
+            slots: missing_slots(alloc, lanes)?,
             later: BTreeMap::new(alloc),
             known: BTreeSet::new(alloc),
         })
@@ -114,7 +114,7 @@ impl Deliverer {
         let number = u64::from(ticket.number);
         let given = number < self.nexts[lane];
         let is_next = number == self.nexts[lane];
-        given | (is_next & self.heads[lane].has_come()) | self.known.contains(&ticket)
+        given | (is_next & self.slots[lane].has_come()) | self.known.contains(&ticket)
     }
 
     /// Keeps the delivery until its lane is given it.
@@ -134,7 +134,7 @@ impl Deliverer {
             return Err(TakeFault::Stranger(delivery));
         }
         if u64::from(ticket.number) == self.nexts[lane] {
-            self.heads[lane] = Head::Here(delivery);
+            self.slots[lane] = NextSlot::Here(delivery);
             return Ok(());
         }
         let Ok(_) = self.known.insert(ticket) else {
@@ -155,8 +155,8 @@ impl Deliverer {
         ensures some { IfSome result (λ x. IsNext self.now lane x.now) }
         ensures exactly { IsSome result ↔ (has_next self.now lane ≡ true) }
     {
-        match &self.heads[usize::from(lane)] {
-            Head::Here(delivery) => Some(delivery),
+        match &self.slots[usize::from(lane)] {
+            NextSlot::Here(delivery) => Some(delivery),
             _ => None,
         }
     }
@@ -169,11 +169,11 @@ impl Deliverer {
         ensures lanes { lanes_of self.new ≡ lanes_of self.old }
     {
         let index = usize::from(lane);
-        let delivery = self.heads[index].take(Head::Missing)?;
+        let delivery = self.slots[index].take(NextSlot::Missing)?;
         let next = self.nexts[index] + 1;
         self.nexts[index] = next;
         advance(
-            &mut self.heads[index],
+            &mut self.slots[index],
             &mut self.later,
             &mut self.known,
             lane,
@@ -191,7 +191,7 @@ impl Deliverer {
     {
         match self.later.pop_first() {
             Some((_, delivery)) => Some(delivery),
-            None => take_first(self.heads.as_mut_slice()),
+            None => take_first(self.slots.as_mut_slice()),
         }
     }
 }

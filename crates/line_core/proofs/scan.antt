@@ -1,2 +1,3 @@
 pub mod ColumnCounts
 pub mod ColumnFacts
+pub mod PrintedFacts

@@ -1,7 +1,6 @@
 //! An input that is answered as it comes, a line for each record in the order of the records.
 pub mod answering;
 pub mod fault;
-pub mod form;
 pub mod input;
 pub mod laws;
 pub mod place;

@@ -1,2 +1,3 @@
 //! Sheets that are scanned: the rows of their columns.
 pub mod columns;
+pub mod laws;

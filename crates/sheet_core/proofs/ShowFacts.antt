@@ -2,10 +2,11 @@
 use Rattle.std.proofs.lemmas.Slice.Zip.{AllZip-long}
 use Rattle.std.proofs.lemmas.List.Elements.{All-contains, All-replicate}
 use Rattle.std.specs.Prelude.{Contains}
-use Rattle.std.proofs.Common.{◌≡◌, ℕ, ◌+◌, ◌-◌, ◌*◌, ◌%◌, ◌<◌, ◌≤◌, ◌&&◌, true, List, [], ◌∷◌, ◌++◌, Ok, length, map, sum, refl, sym, ap, ap₂, subst, ◌∙◌, get_or, arith, replicate, false, Bool}
+use Rattle.std.proofs.Common.{◌≡◌, ℕ, ◌+◌, ◌-◌, ◌*◌, ◌%◌, ◌<◌, ◌≤◌, true, List, [], ◌∷◌, ◌++◌, Ok, length, map, sum, refl, sym, ap, nat_le, nat_lt, subst, ◌∙◌, get_or, arith, replicate, false, Bool}
 use Rattle.std.specs.List.{AllZip, AllByRecursion}
 use Rattle.std.proofs.lemmas.List.{length-append, length-map, take_at, get_or_push}
-use Rattle.std.proofs.lemmas.Bool.{le-leb, lt-ltb}
+use Rattle.std.proofs.lemmas.Bool.{and_parts}
+use Rattle.std.proofs.lemmas.Bool.Decides.{nat_tests}
 use Rattle.std.proofs.lemmas.Option.{get_or_from_slice_get, slice_get_within, slice_get_past}
 use Rattle.ean_code.specs.Symbols.Kind.{Ean13 as KindEan13, Ean8 as KindEan8, UpcE as KindUpcE, Itf14 as KindItf14}
 use Rattle.ean_code.specs.Widths.{AreWidths}
@@ -19,15 +20,16 @@ use Rattle.ean_code.specs.Laws.{Measures as EanMeasures}
 use Rattle.scan_core.specs.Laws.{DotsDetermine, OneAnswer, SymbolMeasures}
 use Rattle.scan_core.specs.Row.{IsRow, dots_of, inner}
 use Rattle.scan_core.specs.Answers.{IsAnswer, Spells, row_text}
-use Rattle.scan_core.specs.declared.answer.Answer.TheVariants.{Read}
 use Rattle.scan_core.specs.Showing.{HasForm, IsCandidate, IsQuiet, IsRun, Rounds, Shows}
 use Rattle.scan_core.specs.Showing.Way.{Forwards}
 use Rattle.sheet_core.specs.declared.label.Label.{Label}
 use Rattle.sheet_core.specs.declared.label.Label.TheVariants.{Ean13, UpcA, Ean8, UpcE, Itf14, Gs1128}
-use Rattle.sheet_core.specs.Drawing.{bar_dots, cell_count, is_bar_row}
+use Rattle.sheet_core.specs.Drawing.{ArePrinted, bar_dots, cell_count, is_bar_row}
+use Rattle.sheet_core.specs.BarRows.{IsBarRow, label_answer}
+use Rattle.sheet_core.specs.Bitmaps.{Bitmap}
 use Rattle.sheet_core.specs.Grids.{Cells, IsGrid}
 use Rattle.sheet_core.specs.Labels.{Drawn, FitsCell, IsDrawn, IsLabelSymbol, carrier_of, label_text}
-use Rattle.sheet_core.specs.Laws.{BarRowsAnswer, BarRowsShow, EmptyCellsAreBlank}
+use Rattle.sheet_core.specs.Laws.{BarRowsAnswer, BarRowsShow, DrawnIsRead, EmptyCellsAreBlank}
 use Rattle.sheet_core.proofs.CellFacts.{cell_runs, printed_runs, reach, sum-cell_runs, sum-wider}
 use Rattle.sheet_core.proofs.CornerFacts.{empty_row, label_row}
 use Rattle.sheet_core.proofs.LabelFacts.{all_at, drawn_at, symbol_of_upce}
@@ -152,17 +154,35 @@ printed_shows one_row measures g label s runs grid drawn fits row dots =
     } in
     subst (λ rs. Shows rs (carrier_of label) Forwards ms) same shown
 
-pub bar_rows_show : DotsDetermine → Measured → BarRowsShow
-bar_rows_show one_row measures labels g sheets i cell y label sheet runs printed at within low high here row dots =
+-- a row through bars is one of the cell's rows
+below_top : (g : Cells) (y : ℕ) → is_bar_row g y ≡ true → y < g.height
+below_top g y bar =
+    let low = (and_parts (nat_le g.dots y) (nat_lt (y + g.dots) g.height) bar).1 in
+    grind (arith, nat_tests)
+
+-- what is drawn of the label of a row through bars, and that the row has its dots
+record FoundOf (g : Cells) (label : Label) (row : List ℕ) : Type 0 where
+  s : Drawn
+  drawn : IsDrawn label s
+  fits : FitsCell g s
+  dots : dots_of row ≡ bar_dots g s
+
+found_of : (labels : List Label) (g : Cells) (sheets : List Bitmap) (label : Label) (row : List ℕ) → ArePrinted labels g sheets → IsBarRow labels g sheets label row
+    → FoundOf g label row
+found_of labels g sheets label row printed bar =
     let grid = printed.grid in
-    let place : ℕ = i * cell_count g + cell in
-    let found = slice_get_within labels place label here in
-    let d = drawn_at labels printed.symbols place label printed.drawn found (sym (get_or_from_slice_get labels place label label here)) in
-    let fits = all_at (FitsCell g) printed.symbols place d.s printed.fit d.here in
+    let place : ℕ = bar.sheet * cell_count g + bar.cell in
+    let found = slice_get_within labels place label bar.label_is in
+    let d = drawn_at labels printed.symbols place label printed.drawn found (sym (get_or_from_slice_get labels place label label bar.label_is)) in
     let columns = grid.columns_least in
-    let bar : is_bar_row g y ≡ true = ap₂ (λ a b. a && b) (le-leb g.dots y low) (lt-ltb (y + g.dots) g.height high) in
-    let cells = label_row printed.symbols g i sheet cell y d.s (printed.shown.each i sheet at) (omega arith) within (omega arith) bar d.here in
-    (d.s.modules, d.drawn.symbol, printed_shows one_row measures g label d.s runs grid d.drawn fits row (dots ∙ cells))
+    let top = below_top g bar.y bar.through_bars in
+    let cells = label_row printed.symbols g bar.sheet bar.bitmap bar.cell bar.y d.s (printed.shown.each bar.sheet bar.bitmap bar.sheet_is) (omega arith) bar.cell_is top bar.through_bars d.here in
+    record { s = d.s; drawn = d.drawn; fits = all_at (FitsCell g) printed.symbols place d.s printed.fit d.here; dots = bar.dots ∙ cells }
+
+pub bar_rows_show : DotsDetermine → Measured → BarRowsShow
+bar_rows_show one_row measures labels g sheets label row printed bar =
+    let d = found_of labels g sheets label row printed bar in
+    (d.s.modules, d.drawn.symbol, printed_shows one_row measures g label d.s row printed.grid d.drawn d.fits bar.row_is d.dots)
 
 -- a label's symbol spells its text
 spelled : ModulesSay → (label : Label) (ms : List ℕ) → IsLabelSymbol label ms → Spells (carrier_of label) ms (Ok (label_text label))
@@ -176,12 +196,16 @@ spelled say (Gs1128 l) ms h =
     let values : List ℕ = data_values text in
     (105, values, mod103 105 values, h.drawn, ap row_text (sym ((say 105 (mod103 105 values) values ms text h.drawn).1 h.says)))
 
+pub drawn_is_read : DotsDetermine → Measured → ModulesSay → OneAnswer → DrawnIsRead
+drawn_is_read one_row measures say one g label s row year list said grid drawn fits is dots elements =
+    let shown = printed_shows one_row measures g label s row grid drawn fits is dots in
+    let read : IsAnswer row year (label_answer label year list) = (label_text label, (Forwards, s.modules, shown, spelled say label s.modules drawn.symbol), refl, elements) in
+    (λ h. one row year said (label_answer label year list) is h read, λ e. subst (IsAnswer row year) (sym e) read)
+
 pub bar_rows_answer : DotsDetermine → Measured → ModulesSay → OneAnswer → BarRowsAnswer
-bar_rows_answer one_row measures say one labels g sheets i cell y label sheet runs year list printed at within low high here row dots elements =
-    let shown = bar_rows_show one_row measures labels g sheets i cell y label sheet runs printed at within low high here row dots in
-    let read : IsAnswer runs year (Read (carrier_of label) (record { year = year; list = list })) =
-    (label_text label, (Forwards, shown.0, shown.2, spelled say label shown.0 shown.1), refl, elements) in
-    (read, λ answer is. one runs year answer (Read (carrier_of label) (record { year = year; list = list })) row is read)
+bar_rows_answer one_row measures say one labels g sheets label row year list said printed bar elements =
+    let d = found_of labels g sheets label row printed bar in
+    drawn_is_read one_row measures say one g label d.s row year list said printed.grid d.drawn d.fits bar.row_is d.dots elements
 
 pub empty_cells_are_blank : EmptyCellsAreBlank
 empty_cells_are_blank labels g sheets i cell y sheet runs year printed at within low past dots dark =

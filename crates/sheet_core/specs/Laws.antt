@@ -4,7 +4,7 @@ use Rattle.std.specs.List.{AllByRecursion}
 use Rattle.element_core.specs.Elements.{Entry, IsElements}
 use Rattle.scan_core.specs.Answers.{IsAnswer}
 use Rattle.scan_core.specs.declared.answer.Answer.{Answer}
-use Rattle.scan_core.specs.declared.answer.Answer.TheVariants.{Read, Refused}
+use Rattle.scan_core.specs.declared.answer.Answer.TheVariants.{Refused}
 use Rattle.scan_core.specs.declared.fault.RowFault.TheVariants.{Blank}
 use Rattle.scan_core.specs.Row.{IsRow, dots_of}
 use Rattle.scan_core.specs.Showing.{Shows}
@@ -12,10 +12,11 @@ use Rattle.scan_core.specs.Showing.Way.{Forwards}
 use Rattle.sheet_core.specs.declared.fault.PbmFault.{PbmFault}
 use Rattle.sheet_core.specs.declared.pbm.state.Size.{Size}
 use Rattle.sheet_core.specs.declared.label.Label.{Label}
+use Rattle.sheet_core.specs.BarRows.{IsBarRow, label_answer}
 use Rattle.sheet_core.specs.Bitmaps.{Bitmap, IsBitmap, cell_dots}
-use Rattle.sheet_core.specs.Drawing.{ArePrinted, cell_count}
-use Rattle.sheet_core.specs.Grids.{Cells}
-use Rattle.sheet_core.specs.Labels.{Drawn, IsDrawn, IsLabelSymbol, carrier_of, label_text}
+use Rattle.sheet_core.specs.Drawing.{ArePrinted, bar_dots, cell_count}
+use Rattle.sheet_core.specs.Grids.{Cells, IsGrid}
+use Rattle.sheet_core.specs.Labels.{Drawn, FitsCell, IsDrawn, IsLabelSymbol, carrier_of, label_text}
 use Rattle.sheet_core.specs.pbm.Grammar.{IsHeader, IsPbm}
 use Rattle.sheet_core.specs.pbm.Headers.{header_of}
 use Rattle.sheet_core.specs.pbm.Images.{images_of, pbm_of}
@@ -28,33 +29,32 @@ OneDrawn = (label : Label) (s t : Drawn) → IsDrawn label s → IsDrawn label t
 -- each row through the bars of a printed label's cell shows the label's symbol, from left to right
 abbrev pub BarRowsShow : Type 0
 BarRowsShow =
-    (labels : List Label) (g : Cells) (sheets : List Bitmap) (i cell y : ℕ) (label : Label) (sheet : Bitmap) (runs : List ℕ)
+    (labels : List Label) (g : Cells) (sheets : List Bitmap) (label : Label) (row : List ℕ)
     → ArePrinted labels g sheets
-    → slice_get sheets i ≡ Some sheet
-    → cell < cell_count g
-    → g.dots ≤ y
-    → y + g.dots < g.height
-    → slice_get labels (i * cell_count g + cell) ≡ Some label
-    → IsRow runs
-    → dots_of runs ≡ cell_dots g sheet cell y
-    → (modules : List ℕ) × IsLabelSymbol label modules × Shows runs (carrier_of label) Forwards modules
+    → IsBarRow labels g sheets label row
+    → (modules : List ℕ) × IsLabelSymbol label modules × Shows row (carrier_of label) Forwards modules
 
--- under a reference year under which the label's text says these elements, each row through the bars of its cell says the label's carrier and
+-- under a reference year under which the label's text says these elements, each row through the bars of its cell answers the label's carrier and
 -- these elements, and nothing else
 abbrev pub BarRowsAnswer : Type 0
 BarRowsAnswer =
-    (labels : List Label) (g : Cells) (sheets : List Bitmap) (i cell y : ℕ) (label : Label) (sheet : Bitmap) (runs : List ℕ) (year : ℕ) (list : List Entry)
+    (labels : List Label) (g : Cells) (sheets : List Bitmap) (label : Label) (row : List ℕ) (year : ℕ) (list : List Entry) (said : Answer)
     → ArePrinted labels g sheets
-    → slice_get sheets i ≡ Some sheet
-    → cell < cell_count g
-    → g.dots ≤ y
-    → y + g.dots < g.height
-    → slice_get labels (i * cell_count g + cell) ≡ Some label
-    → IsRow runs
-    → dots_of runs ≡ cell_dots g sheet cell y
+    → IsBarRow labels g sheets label row
     → IsElements year (label_text label) list
-    → IsAnswer runs year (Read (carrier_of label) (record { year = year; list = list }))
-    × ((answer : Answer) → IsAnswer runs year answer → answer ≡ Read (carrier_of label) (record { year = year; list = list }))
+    → IsAnswer row year said ↔ (said ≡ label_answer label year list)
+
+-- and so does each row with the dots of what is drawn of a label, on whatever sheet
+abbrev pub DrawnIsRead : Type 0
+DrawnIsRead =
+    (g : Cells) (label : Label) (s : Drawn) (row : List ℕ) (year : ℕ) (list : List Entry) (said : Answer)
+    → IsGrid g
+    → IsDrawn label s
+    → FitsCell g s
+    → IsRow row
+    → dots_of row ≡ bar_dots g s
+    → IsElements year (label_text label) list
+    → IsAnswer row year said ↔ (said ≡ label_answer label year list)
 
 -- each row of a cell of a printed sheet that has no label is refused as blank
 abbrev pub EmptyCellsAreBlank : Type 0

@@ -1,5 +1,6 @@
 pub use Rattle.scan_core.specs.Bits
 pub use Rattle.scan_core.specs.Row
+pub mod BarRows
 pub mod Bitmaps
 pub mod Drawing
 pub mod Faults

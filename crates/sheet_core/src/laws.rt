@@ -1,5 +1,5 @@
 //! Laws about the definitions, each the contract of a function that does nothing.
-ghost use Rattle.sheet_core.specs.Laws.{BarRowsAnswer, BarRowsShow, EmptyCellsAreBlank, FilesAreRead, FilesAreRefused, HeadersAreRead, HeadersAreRefused, OneDrawn, OneReading, PrintedIsRead, WrittenIsRead};
+ghost use Rattle.sheet_core.specs.Laws.{BarRowsAnswer, BarRowsShow, DrawnIsRead, EmptyCellsAreBlank, FilesAreRead, FilesAreRefused, HeadersAreRead, HeadersAreRefused, OneDrawn, OneReading, PrintedIsRead, WrittenIsRead};
 ghost use Rattle.sheet_core.specs.PrintLaws.{OneBitmap, OnePrinted};
 
 use code128_code::modules_say;
@@ -23,6 +23,18 @@ pub fn bar_rows_show()
 /// its text says under the reference year, and nothing else.
 pub fn bar_rows_answer()
     ensures { BarRowsAnswer }
+{
+    dots_determine();
+    ean_code::measures();
+    symbol_measures();
+    modules_say();
+    one_answer();
+}
+
+/// Each row with the dots of what is drawn of a label answers the label's carrier and the elements that
+/// its text says under the reference year, and nothing else.
+pub fn drawn_is_read()
+    ensures { DrawnIsRead }
 {
     dots_determine();
     ean_code::measures();

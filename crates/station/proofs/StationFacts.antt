@@ -1,13 +1,14 @@
 -- All seats of a hub: one of which was used, or all of them in the other order.
 use Rattle.std.proofs.Common.{◌≡◌, ◌==◌, ℕ, ◌+◌, ◌-◌, ◌<◌, All, List, [], ◌∷◌, get_or, length, map, reverse, set, sym, ap, ◌∙◌, subst, arith}
 use mathlib.Core.List.{reverse_aux}
-use Rattle.std.specs.List.{range_with_len}
+use Rattle.std.specs.List.{range_with_len, sum_by}
 use Rattle.std.proofs.Math.Seq.{map-set_same}
 use Rattle.std.proofs.lemmas.List.{get_or-reverse, length-map, length-reverse}
 use Rattle.std.proofs.lemmas.List.Elements.{All-set}
 use Rattle.std.proofs.lemmas.List.FromFn.{length-range_with_len}
+use Rattle.std.proofs.lemmas.List.Sums.{sum_by-cons}
 use Rattle.hub_core.specs.Delivering.{lane_count}
-use Rattle.lane_core.specs.Weights.{once, weigh}
+use Rattle.lane_core.specs.Weights.{once}
 use Rattle.hub_core.specs.Hubs.{AreAllSeats, HasEach, IsDelivererOf, IsLaneOf, IsWorkerOf, shape_of}
 use Rattle.hub_core.specs.Lanes.{lane_of, numbers_of}
 use Rattle.hub_core.specs.declared.hub.Hub.{Hub}
@@ -29,9 +30,9 @@ pub counted : (ls : List LaneSeat) (n : ℕ) → numbers_of ls ≡ range_with_le
 counted ls n numbers = sym (length-map ls lane_of) ∙ (ap length numbers ∙ length-range_with_len 0 n)
 
 -- each seat's number, from the last seat to the first
-weigh_turned : {X : Type 0} (h : ℕ → ℕ) (g : X → ℕ) (xs ys : List X) → weigh h (map g (reverse_aux xs ys)) ≡ weigh h (map g xs) + weigh h (map g ys)
-weigh_turned h g [] ys = omega arith
-weigh_turned h g (x ∷ xs) ys = omega (arith, weigh_turned h g xs (x ∷ ys))
+sum_turned : {X : Type 0} (h : ℕ → ℕ) (g : X → ℕ) (xs ys : List X) → sum_by h (map g (reverse_aux xs ys)) ≡ sum_by h (map g xs) + sum_by h (map g ys)
+sum_turned h g [] ys = omega arith
+sum_turned h g (x ∷ xs) ys = omega (arith, sum_by-cons h (g x) (map g xs), sum_by-cons h (g x) (map g ys), sum_turned h g xs (x ∷ ys))
 
 all_turned : {X : Type 0} (P : X → Type 0) (xs : List X) → All P xs → All P (reverse xs)
 all_turned P xs all k d low =
@@ -43,7 +44,7 @@ seats_turned h ls ws d all = record {
   lanes = all_turned (IsLaneOf h) ls all.lanes;
   workers = all_turned (IsWorkerOf h) ws all.workers;
   deliverer = all.deliverer;
-  each_lane = λ l. omega (arith, weigh_turned (λ k. once (k == l)) lane_of ls [], all.each_lane l);
+  each_lane = λ l. omega (arith, sum_turned (λ k. once (k == l)) lane_of ls [], all.each_lane l);
   each_worker = length-reverse ws ∙ all.each_worker;
 }
 

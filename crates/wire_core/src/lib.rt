@@ -9,4 +9,4 @@ mod wired;
 pub use laws::lines_are_pieces;
 pub use lines::{Lines, MOST_LINE};
 pub use wire::{Wire, write_all};
-pub use wired::Wired;
+pub use wired::{Wired, all_was_read};

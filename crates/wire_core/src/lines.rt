@@ -85,6 +85,7 @@ fn read_behind<W: Wire>(
         × ((start : W) (events : List Event) → W.Did start wire.old events → W.Did start wire.new events)) }
     ensures fault { W.read_failed wire.old ≡ false → (IsErr result ↔ (W.read_failed wire.new ≡ true)) }
     ensures write { W.write_failed wire.new ≡ W.write_failed wire.old }
+    ensures end { IfOk result (λ count. count ≡ 0 → W.at_end wire.new) }
     ensures capacity { vec_capacity bytes.old ≤ vec_capacity bytes.new }
     ensures same { length chunk.new.items ≡ length chunk.old.items }
 {
@@ -150,6 +151,7 @@ impl Lines {
             × ((start : W) (events : List Event) → W.Did start wire.old events → W.Did start wire.new events)) }
         ensures fault { W.read_failed wire.old ≡ false → (IsErr result ↔ (W.read_failed wire.new ≡ true)) }
         ensures write { W.write_failed wire.new ≡ W.write_failed wire.old }
+        ensures end { OnOk result (self.new.has_ended ≡ true → W.at_end wire.new) }
     {
         self.is_cut = keep_rest(&mut self.bytes, self.start, self.is_cut);
         self.start = 0;

@@ -14,6 +14,8 @@ pub trait Wire {
     ghost read_failed: { Self → Bool };
     // Whether a write has failed.
     ghost write_failed: { Self → Bool };
+    // Nothing more comes.
+    ghost at_end: { Self → Type 0 };
 
     /// Reads at most as many bytes as `buf` has, into its front, and says how many; 0 into a buffer that is not
     /// empty is the end. An interruption is a failure.
@@ -23,7 +25,8 @@ pub trait Wire {
         ensures none { OnErr result ((start : Self) (events : List Event) → Did start self.old events → Did start self.new events) }
         ensures ok { OnOk result (read_failed self.new ≡ read_failed self.old) }
         ensures err { OnErr result (read_failed self.new ≡ true) }
-        ensures other { write_failed self.new ≡ write_failed self.old };
+        ensures other { write_failed self.new ≡ write_failed self.old }
+        ensures end { IfOk result (λ n. n ≡ 0 → 0 < length buf.new → at_end self.new) };
 
     /// Writes a prefix of the bytes and says how many they are, at least one of a piece that has some.
     fn write(&mut self, bytes: &[u8]) -> Result<usize, Failed>
@@ -33,7 +36,8 @@ pub trait Wire {
         ensures none { OnErr result ((start : Self) (events : List Event) → Did start self.old events → Did start self.new events) }
         ensures ok { OnOk result (write_failed self.new ≡ write_failed self.old) }
         ensures err { OnErr result (write_failed self.new ≡ true) }
-        ensures other { read_failed self.new ≡ read_failed self.old };
+        ensures other { read_failed self.new ≡ read_failed self.old }
+        ensures end { at_end self.old → at_end self.new };
 }
 
 /// Writes all the bytes, in as many writes as it takes. After an `Err` a prefix of them went out.
@@ -44,6 +48,7 @@ pub fn write_all<W: Wire>(wire: &mut W, bytes: &[u8]) -> Result<(), Failed>
         → (pieces : List (List ℕ)) × (rest : List ℕ) × W.Did start wire.new (events ++ writes_of pieces) × (concat pieces ++ rest ≡ bytes.now)) }
     ensures fault { W.write_failed wire.old ≡ false → (IsErr result ↔ (W.write_failed wire.new ≡ true)) }
     ensures read { W.read_failed wire.new ≡ W.read_failed wire.old }
+    ensures end { W.at_end wire.old → W.at_end wire.new }
 {
     let mut rest = bytes;
     'writes: while !rest.is_empty() {

@@ -1,5 +1,7 @@
 //! A wire of any reader and any writer.
-ghost use Rattle.std.specs.Prelude.{◌≡◌};
+ghost use Rattle.std.specs.Prelude.{◌≡◌, IfSome, List};
+ghost use Rattle.wire_core.specs.Events.{Event, was_read};
+ghost use Rattle.wire_core.specs.declared.wired.Wired.{Wired};
 
 use crate::wire::Wire;
 use digits_core::{Failed, Sink, Source};
@@ -25,8 +27,15 @@ impl<S: Source, W: Sink> Wired<S, W> {
     }
 }
 
+/// A law: where nothing more comes over a wire of a source, its reads have given all that the source had, if that is
+/// known.
+pub fn all_was_read<S: Source, W: Sink>()
+    ensures { (start wire : Wired S W) (events : List Event) → ⟦<Wired<S, W> as Wire>⟧.Did start wire events → ⟦<Wired<S, W> as Wire>⟧.at_end wire
+        → IfSome (S.left start.source) (λ bytes. was_read events ≡ bytes) }
+{}
+
 impl<S: Source, W: Sink> Wire for Wired<S, W> {
-    ghost use Rattle.std.specs.Io.KnownBytes.{Appends, Consumes};
+    ghost use Rattle.std.specs.Io.KnownBytes.{Appends, Consumes, IsAtEnd};
     ghost use Rattle.wire_core.specs.Events.{was_read, was_written};
 
     ghost Did = { λ start wire events. Consumes (S.left start.source) (S.left wire.source) (was_read events) × Appends (W.taken start.sink) (W.taken wire.sink) (was_written events) };
@@ -34,6 +43,8 @@ impl<S: Source, W: Sink> Wire for Wired<S, W> {
     ghost read_failed = { λ wire. S.failed wire.source };
 
     ghost write_failed = { λ wire. W.failed wire.sink };
+
+    ghost at_end = { λ wire. IsAtEnd (S.left wire.source) };
 
     fn read(&mut self, buf: &mut [u8]) -> Result<usize, Failed> {
         self.source.read(buf)

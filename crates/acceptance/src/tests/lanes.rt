@@ -1,6 +1,6 @@
 //! The tickets of a lane, deliveries out of order, and the machine event by event.
 ghost use Rattle.std.specs.Prelude.{◌<◌, IfOk, length};
-ghost use Rattle.lane_core.specs.Desk.{lanes_of};
+ghost use Rattle.lane_core.specs.ReorderBuffer.{lanes_of};
 
 use crate::tests::rows::{EAN8, EAN13, row};
 use element_core::Year;

@@ -74,7 +74,7 @@ pub fn run_live<R: Threads + Wait + Sync, W: Wire + Drop, G: Gate + Sync>(
     gate: &G,
 ) -> (W, Result<(), CommandFault>)
     requires fresh { W.Did wire wire [] }
-    ensures lived { IsLive options W.Did W.read_failed W.write_failed wire result.0 result.1 }
+    ensures lived { IsLive options W.Did W.read_failed W.write_failed W.at_end wire result.0 result.1 }
     ensures untouched { IsErrOf result.1 no_thread → result.0 ≡ wire }
 {
     let rows = options.rows;

@@ -14,8 +14,7 @@ use crate::fault::CommandFault;
 use clap::{ArgMatches, Command};
 use digits_core::{Sink, Source, write_all};
 use hub_core::Gate;
-use line_core::{answer_lines, are_of_size, column_feeds};
-use scan_core::{dots_determine, one_answer};
+use line_core::{answer_lines, are_of_size, column_feeds, scanned_once};
 use sheet_core::{files_are_read, read_pbm};
 use std::alloc::{AllocError, Global};
 use std::sync::Wait;
@@ -98,6 +97,5 @@ pub fn run_scan<R: Threads + Wait + Sync, S: Source, W: Sink, G: Gate + Sync>(
 pub fn one_scan()
     ensures { OneScan }
 {
-    dots_determine();
-    one_answer();
+    scanned_once();
 }

@@ -77,15 +77,15 @@ pub texts_long : {V : Type 0} (f : V → List ℕ) (vs : List V) (brought : List
 texts_long f vs brought was = omega (arith, ap length was.2, lanes_long 0 was.0, AllZip-long AreAnswersOf brought was.0 was.1, length-map vs f)
 
 -- a delivery was brought, and its line was pushed
-pub lines_brought : {V E : Type 0} (f : V → List ℕ) (vs : List V) (i : ℕ) (v w : V) (r : Result (Unit {0}) E) (x : Plain) (n : ℕ) (a : Answer) → i ≡ x.lane → n ≡ x.number → v ≡ get_or vs i v → IsAnswer x.widths x.year a
-    → OnOk r (f w ≡ f v ++ line_of i n a)
+pub lines_brought : {V E : Type 0} (f : V → List ℕ) (vs : List V) (i : ℕ) (v w : V) (r : Result (Unit {0}) E) (x : Plain) (l n : ℕ) (a : Answer) → i ≡ x.lane → l ≡ x.lane → n ≡ x.number → v ≡ get_or vs i v → IsAnswer x.widths x.year a
+    → OnOk r (f w ≡ f v ++ line_of l n a)
     → IfOk r (λ _. (brought : List (List Plain)) → x.lane < length brought → x.number ≡ length (get_or brought x.lane []) → AreLinesOf brought (map f vs) → AreLinesOf (with_more x.lane x brought) (map f (set vs i w)))
-lines_brought f vs i v w (Err e) x n a is same at answers pushed = tt
-lines_brought f vs i v w (Ok u) x n a is same at answers pushed = λ brought low number was.
+lines_brought f vs i v w (Err e) x l n a is lane same at answers pushed = tt
+lines_brought f vs i v w (Ok u) x l n a is lane same at answers pushed = λ brought low number was.
     let long = AllZip-long AreAnswersOf brought was.0 was.1 in
     let there : length (map f vs) ≡ length was.0 = ap length was.2 ∙ lanes_long 0 was.0 in
     let here : get_or (map f vs) x.lane [] ≡ f v = ap (λ k. get_or (map f vs) k []) (sym is) ∙ (get_or-map f vs i v [] (omega (arith, low, is, long, there, length-map vs f)) ∙ ap f (sym at)) in
-    let line : f w ≡ get_or (map f vs) x.lane [] ++ line_of x.lane x.number a = pushed ∙ (ap (λ k. f v ++ line_of k n a) is ∙ (ap (λ m. f v ++ line_of x.lane m a) same ∙ ap (λ t. t ++ line_of x.lane x.number a) (sym here))) in
+    let line : f w ≡ get_or (map f vs) x.lane [] ++ line_of x.lane x.number a = pushed ∙ (ap (λ k. f v ++ line_of k n a) lane ∙ (ap (λ m. f v ++ line_of x.lane m a) same ∙ ap (λ t. t ++ line_of x.lane x.number a) (sym here))) in
     subst (AreLinesOf (with_more x.lane x brought)) (sym (map-set f vs i w ∙ ap (λ k. set (map f vs) k (f w)) is))
     (lines_more brought (map f vs) (f w) x.lane x a low number answers line was)
 

@@ -28,7 +28,7 @@ use Rattle.line_core.specs.live.Lived.{EndsAs, Lived}
 use Rattle.line_core.specs.declared.live.answering.LiveTerms.{LiveTerms}
 use Rattle.line_core.specs.declared.live.fault.LiveFault.{LiveFault}
 use Rattle.line_core.specs.declared.live.fault.LiveFault.TheVariants as fault
-use Rattle.line_core.specs.declared.live.form.Form.{Form}
+use Rattle.line_core.specs.declared.answers.form.Form.{Form}
 use Rattle.line_core.specs.declared.live.place.Place.{Place}
 use Rattle.line_core.specs.declared.live.waiting.Waiting.{Waiting}
 use Rattle.line_core.proofs.live.GrowFacts.{got_more}
@@ -105,9 +105,9 @@ told_at_first a b stopped none = record {
 }
 
 -- what a live input leaves of its wire where it has not begun
-pub lived_nothing : {W : Type 0} (t : LiveTerms) (did : W → W → List Event → Type 0) (read_failed write_failed : W → Bool) (wire after : W) (result : Result (Unit {0}) LiveFault) (f : LiveFault) → did wire wire [] → after ≡ wire
-    → result ≡ Err f → (f ≡ fault.NoMemory) ⊎ (f ≡ fault.NoThread) → Lived t did read_failed write_failed wire after result
-lived_nothing t did read_failed write_failed wire after result f fresh same is why =
+pub lived_nothing : {W : Type 0} (t : LiveTerms) (did : W → W → List Event → Type 0) (read_failed write_failed : W → Bool) (at_end : W → Type 0) (wire after : W) (result : Result (Unit {0}) LiveFault) (f : LiveFault) → did wire wire [] → after ≡ wire
+    → result ≡ Err f → (f ≡ fault.NoMemory) ⊎ (f ≡ fault.NoThread) → Lived t did read_failed write_failed at_end wire after result
+lived_nothing t did read_failed write_failed at_end wire after result f fresh same is why =
     let no_read : IsErrOf result fault.ReadFault → ⊥ = λ err. ⊎_elim (λ (e : f ≡ fault.NoMemory). (let never : ⊥ = cc (is, err, e) in never)) (λ (e : f ≡ fault.NoThread). (let never : ⊥ = cc (is, err, e) in never)) why in
     let no_write : IsErrOf result fault.WriteFault → ⊥ = λ err. ⊎_elim (λ (e : f ≡ fault.NoMemory). (let never : ⊥ = cc (is, err, e) in never)) (λ (e : f ≡ fault.NoThread). (let never : ⊥ = cc (is, err, e) in never)) why in
     record {
@@ -115,7 +115,7 @@ lived_nothing t did read_failed write_failed wire after result f fresh same is w
       were_done = subst (λ w. did wire w []) (sym same) fresh;
       prompt = nothing_prompt (IsReply t.year t.form) (replies_to (line_meant t.lanes));
       front = nothing_front (IsReply t.year t.form) (replies_to (line_meant t.lanes));
-      ok = subst (λ r. OnOk r (AnsweredAll t.lanes t.form t.year [])) (sym is) tt;
+      ok = subst (λ r. OnOk r (AnsweredAll t.lanes t.form t.year [] × at_end after)) (sym is) tt;
       cut = λ err. absurd (no_read err);
       read = λ first. (λ err. absurd (no_read err), λ failed. (let then = ap read_failed same in let never : ⊥ = cc (first, failed, then) in absurd never));
       write = λ first. (λ err. absurd (no_write err), λ failed. (let then = ap write_failed same in let never : ⊥ = cc (first, failed, then) in absurd never));

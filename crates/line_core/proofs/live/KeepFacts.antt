@@ -16,10 +16,11 @@ use Rattle.line_core.specs.live.Came.{IsPlaceOf, AreWaiting, Keeps, Says, Stands
 use Rattle.line_core.specs.live.Meaning.{IsFound}
 use Rattle.line_core.specs.live.Replies.{Reply, numbers_after, numbers_of, most_rows, refusal_line, replies_from, replies_to, reply_to}
 use Rattle.line_core.specs.live.Replies.Reply.{Row, Line}
-use Rattle.line_core.specs.live.Text.{HasEnded, line_fault_text, line_meant, numbered_line}
+use Rattle.line_core.specs.answers.Reports.{numbered_line}
+use Rattle.line_core.specs.live.Text.{HasEnded, line_fault_text, line_meant}
 use Rattle.line_core.specs.declared.live.fault.LiveFault.{LiveFault}
 use Rattle.line_core.specs.declared.live.fault.LiveFault.TheVariants.{ReadFault}
-use Rattle.line_core.specs.declared.live.form.Form.{Form}
+use Rattle.line_core.specs.declared.answers.form.Form.{Form}
 use Rattle.line_core.specs.declared.live.place.Place.{Place}
 use Rattle.line_core.specs.declared.live.place.Place.TheVariants as place
 use Rattle.line_core.specs.declared.live.record.LineFault.{LineFault}

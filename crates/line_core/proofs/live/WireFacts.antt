@@ -9,11 +9,11 @@ use Rattle.wire_core.specs.Events.{Event, writes_of}
 use Rattle.wire_core.specs.Events.Event.{Read}
 use Rattle.wire_core.specs.Lines.{Held, arrived, line_of, with_room}
 use Rattle.line_core.specs.live.Came.{HasCome, IsAt, IsInTurn, IsReady, IsStoppedBy, Keeps, Says, Stands}
-use Rattle.line_core.specs.live.Stops.{IsOpen, TellsFaults}
+use Rattle.line_core.specs.live.Stops.{IsOpen, TellsEnd, TellsFaults}
 use Rattle.line_core.specs.live.Turns.{IsEnded}
 use Rattle.line_core.specs.declared.live.fault.LiveFault.{LiveFault}
 use Rattle.line_core.specs.declared.live.fault.LiveFault.TheVariants.{NoMemory, ReadFault, WriteFault}
-use Rattle.line_core.specs.declared.live.form.Form.{Form}
+use Rattle.line_core.specs.declared.answers.form.Form.{Form}
 use Rattle.line_core.specs.declared.live.place.Place.{Place}
 use Rattle.line_core.specs.declared.live.progress.Progress.{Progress}
 use Rattle.line_core.specs.declared.live.waiting.Waiting.{Waiting}
@@ -96,17 +96,17 @@ told_stopped a b c d old new (inr by) t = record {
 }
 
 -- so far a live input has come, which had this wire, this form and so many lanes at first
-abbrev Has : {W : Type 0} → (W → W → List Event → Type 0) → (W → Bool) → (W → Bool) → W → Form → ℕ → W → Form → Progress → List (List (List ℕ)) → List (List Plain) → Type 0
-Has did read_failed write_failed start first count wire f p given brought = (events : List Event) × did start wire events × IsAt f events p given brought × (f ≡ first)
-    × (length p.lanes.items ≡ count) × TellsFaults (read_failed start) (read_failed wire) (write_failed start) (write_failed wire) p.stopped
+abbrev Has : {W : Type 0} → (W → W → List Event → Type 0) → (W → Bool) → (W → Bool) → (W → Type 0) → W → Form → ℕ → W → Form → Progress → List (List (List ℕ)) → List (List Plain) → Type 0
+Has did read_failed write_failed at_end start first count wire f p given brought = (events : List Event) × did start wire events × IsAt f events p given brought × (f ≡ first)
+    × (length p.lanes.items ≡ count) × TellsFaults (read_failed start) (read_failed wire) (write_failed start) (write_failed wire) p.stopped × TellsEnd p.lines (at_end wire)
 
 -- further rows were taken of it, and its wire and its form stay
-pub took_on : {W : Type 0} (did : W → W → List Event → Type 0) (read_failed write_failed : W → Bool) (start : W) (first : Form) (count : ℕ) (wire now : W) (f form : Form) (old new : Progress) (given more : List (List (List ℕ))) (brought : List (List Plain))
-    → now ≡ wire → form ≡ f → Has did read_failed write_failed start first count wire f old given brought
+pub took_on : {W : Type 0} (did : W → W → List Event → Type 0) (read_failed write_failed : W → Bool) (at_end : W → Type 0) (start : W) (first : Form) (count : ℕ) (wire now : W) (f form : Form) (old new : Progress) (given more : List (List (List ℕ))) (brought : List (List Plain))
+    → now ≡ wire → form ≡ f → new.lines.has_ended ≡ old.lines.has_ended → Has did read_failed write_failed at_end start first count wire f old given brought
     → ((events : List Event) → IsAt f events old given brought → IsAt f events new more brought)
     → ((a b c d : Bool) → TellsFaults a b c d old.stopped → TellsFaults a b c d new.stopped)
-    → Has did read_failed write_failed start first count now form new more brought
-took_on did read_failed write_failed start first count wire now f form old new given more brought same_wire same_form came on told =
+    → Has did read_failed write_failed at_end start first count now form new more brought
+took_on did read_failed write_failed at_end start first count wire now f form old new given more brought same_wire same_form same_end came on told =
     let at = on came.0 came.2 in
-    let kept : Has did read_failed write_failed start first count wire f new more brought = (came.0, came.1, at, came.3, sym at.waiting.deliveries ∙ came.2.waiting.deliveries ∙ came.4, told _ _ _ _ came.5) in
-    subst (λ w. Has did read_failed write_failed start first count w form new more brought) (sym same_wire) (subst (λ g. Has did read_failed write_failed start first count wire g new more brought) (sym same_form) kept)
+    let kept : Has did read_failed write_failed at_end start first count wire f new more brought = (came.0, came.1, at, came.3, sym at.waiting.deliveries ∙ came.2.waiting.deliveries ∙ came.4, told _ _ _ _ came.5, λ ended. came.6 (sym same_end ∙ ended)) in
+    subst (λ w. Has did read_failed write_failed at_end start first count w form new more brought) (sym same_wire) (subst (λ g. Has did read_failed write_failed at_end start first count wire g new more brought) (sym same_form) kept)

@@ -3,14 +3,25 @@ use Rattle.std.specs.Prelude.{◌≡◌, ◌+◌, ◌++◌, ℕ, List, [], ◌�
 use Rattle.std.specs.Fmt.{decimal}
 use Rattle.std.specs.List.{AllZip}
 use Rattle.scan_core.specs.Answers.{Reads}
-use Rattle.scan_core.specs.Lines.{answer_text}
+use Rattle.scan_core.specs.Lines.{answer_pairs, answer_text}
 use Rattle.scan_core.specs.declared.answer.Answer.{Answer}
 use Rattle.lane_core.specs.declared.job.Plain.{Plain}
 use Rattle.hub_core.specs.Laws.{AreAnswersOf}
+use Rattle.line_core.specs.declared.answers.form.Form.{Form}
+use Rattle.line_core.specs.declared.answers.form.Form.TheVariants as form
 
--- a line: the lane, the number of the row in its lane, the answer and a line feed
+-- an answer: its elements in the human-readable form, or as pairs
+abbrev pub said : Form → Answer → List ℕ
+said form.HumanReadable = answer_text
+said form.Pairs = answer_pairs
+
+-- the line of an answer: the lane, the number of the row in its lane, the answer and a line feed
+abbrev pub numbered_line : Form → ℕ → ℕ → Answer → List ℕ
+numbered_line f lane number a = decimal lane ++ (32 ∷ []) ++ decimal number ++ (32 ∷ []) ++ said f a ++ (10 ∷ [])
+
+-- the same with the elements in the human-readable form
 abbrev pub line_of : ℕ → ℕ → Answer → List ℕ
-line_of lane number a = decimal lane ++ (32 ∷ []) ++ decimal number ++ (32 ∷ []) ++ answer_text a ++ (10 ∷ [])
+line_of lane number a = numbered_line form.HumanReadable lane number a
 
 -- the lines of a lane, from a number on
 abbrev pub lines_from : ℕ → ℕ → List Answer → List ℕ

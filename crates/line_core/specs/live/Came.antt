@@ -11,8 +11,9 @@ use Rattle.wire_core.specs.Lines.{Held, Takes}
 use Rattle.line_core.specs.live.Answering.{AnswersBy, IsFrontBy, IsPromptBy, whole_lines}
 use Rattle.line_core.specs.live.Replies.{Reply, numbers_of, refusal_line, replies_to}
 use Rattle.line_core.specs.live.Replies.Reply.{Row, Line}
-use Rattle.line_core.specs.live.Text.{HasEnded, line_fault_text, line_meant, numbered_line}
-use Rattle.line_core.specs.declared.live.form.Form.{Form}
+use Rattle.line_core.specs.answers.Reports.{numbered_line}
+use Rattle.line_core.specs.live.Text.{HasEnded, line_fault_text, line_meant}
+use Rattle.line_core.specs.declared.answers.form.Form.{Form}
 use Rattle.line_core.specs.declared.live.fault.LiveFault.{LiveFault}
 use Rattle.line_core.specs.declared.live.fault.LiveFault.TheVariants.{NoMemory, ReadFault, WriteFault}
 use Rattle.line_core.specs.declared.live.place.Place.{Place}

@@ -1,5 +1,6 @@
 -- Why a live input is answered no longer, and what its wire tells of it.
 use Rattle.std.specs.Prelude.{◌≡◌, ◌≢◌, ◌⊎◌, Bool, true, false, Option, Some, None}
+use Rattle.wire_core.specs.Lines.{Held}
 use Rattle.line_core.specs.declared.live.fault.LiveFault.{LiveFault}
 use Rattle.line_core.specs.declared.live.fault.LiveFault.TheVariants.{NoMemory, NoThread, ReadFault, WriteFault}
 
@@ -14,3 +15,7 @@ pub record TellsFaults (read_at_first read write_at_first write : Bool) (stopped
   pub write_fault : write_at_first ≡ false → stopped ≡ Some WriteFault → write ≡ true
   pub failed_write : write_at_first ≡ false → write ≡ true → stopped ≡ Some WriteFault
   pub begun : stopped ≢ Some NoThread
+
+-- where the input has ended nothing more comes over the wire
+abbrev pub TellsEnd : Held → Type 0 → Type 0
+TellsEnd h at_end = h.has_ended ≡ true → at_end

@@ -1,10 +1,8 @@
 -- What a line of a live input means, and the text that answers the lines.
 use Rattle.std.specs.Prelude.{◌≡◌, ◌==◌, ◌++◌, ◌∷◌, ℕ, List, [], Option, Some, None, Ok, Err, codes, length, nat_lt, if◌then◌else◌}
-use Rattle.std.specs.Fmt.{decimal}
 use Rattle.std.specs.List.{slice_split}
 use Rattle.std.specs.Str.Parse.{digits_value}
 use Rattle.scan_core.specs.Answers.{IsAnswer}
-use Rattle.scan_core.specs.Lines.{answer_pairs, answer_text}
 use Rattle.scan_core.specs.declared.answer.Answer.{Answer}
 use Rattle.wire_core.specs.Events.{Event, was_read, was_written}
 use Rattle.wire_core.specs.Events.Event.{Read}
@@ -12,6 +10,7 @@ use Rattle.wire_core.specs.Lines.{most_line, pieces_of}
 use Rattle.line_core.specs.input.Faults.{record_fault_text}
 use Rattle.line_core.specs.lanes.Feeds.{is_lane}
 use Rattle.line_core.specs.lanes.Widths.{field_fault, widths_in}
+use Rattle.line_core.specs.answers.Reports.{numbered_line}
 use Rattle.line_core.specs.live.Answering.{AnswersBy, IsFrontBy, IsPromptBy, whole_lines}
 use Rattle.line_core.specs.live.Replies.{Meant, Reply, refusal_line, replies_to}
 use Rattle.line_core.specs.live.Replies.Reply.{Row, Line}
@@ -19,8 +18,7 @@ use Rattle.line_core.specs.declared.input.fault.RecordFault.{RecordFault}
 use Rattle.line_core.specs.declared.input.fault.RecordFault.TheVariants as fault
 use Rattle.line_core.specs.declared.live.record.LineFault.{LineFault}
 use Rattle.line_core.specs.declared.live.record.LineFault.TheVariants as line_fault
-use Rattle.line_core.specs.declared.live.form.Form.{Form}
-use Rattle.line_core.specs.declared.live.form.Form.TheVariants as form
+use Rattle.line_core.specs.declared.answers.form.Form.{Form}
 
 -- ---- lines
 
@@ -59,15 +57,6 @@ abbrev pub line_meant : ℕ → List ℕ → Option Meant
 line_meant lanes line = text_meant lanes (without_return line)
 
 -- ---- the text
-
--- an answer: its elements in the human-readable form, or as pairs
-abbrev pub said : Form → Answer → List ℕ
-said form.HumanReadable = answer_text
-said form.Pairs = answer_pairs
-
--- the line of an answer: the lane, the number of the row in its lane, the answer and a line feed
-abbrev pub numbered_line : Form → ℕ → ℕ → Answer → List ℕ
-numbered_line f lane number a = decimal lane ++ (32 ∷ []) ++ decimal number ++ (32 ∷ []) ++ said f a ++ (10 ∷ [])
 
 -- a row has the line of its answer
 abbrev pub IsReply : ℕ → Form → Reply → List ℕ → Type 0

@@ -11,6 +11,7 @@ ghost use Rattle.hub_core.specs.declared.fault.ServeFault.{ServeFault};
 ghost use Rattle.line_core.specs.declared.answers.serving.AnswerFault.TheVariants.{NoMemory};
 ghost use Rattle.line_core.specs.answers.Reports.{AreLinesOf, IsReport, lane_lines};
 
+use crate::answers::form::Form;
 use crate::answers::report::{joined, push_line};
 use element_core::Year;
 use hub_core::{
@@ -102,7 +103,13 @@ pub fn push_answer_of(texts: &mut Vec<String>, delivery: Delivery) -> Result<(),
     let ticket = delivery.ticket();
     let index = usize::from(ticket.lane);
     let answer = delivery.answer();
-    push_line(&mut texts[index], index, ticket.number as usize, &answer)
+    push_line(
+        &mut texts[index],
+        Form::HumanReadable,
+        ticket.lane,
+        ticket.number,
+        &answer,
+    )
 }
 
 /// A text for the lines of each lane.

@@ -4,8 +4,8 @@ ghost use Rattle.hub_core.specs.Serving.{is_count};
 ghost use Rattle.hub_core.specs.declared.fault.ServeFault.{ServeFault};
 ghost use Rattle.line_core.specs.live.Lived.{EndsAs, Lived};
 
+use crate::answers::form::Form;
 use crate::live::fault::LiveFault;
-use crate::live::form::Form;
 use crate::live::input::{Live, Stopped};
 use element_core::Year;
 use hub_core::{Ended, Gate, ServeFault, Unstarted, serve_traffic, served_by_place};
@@ -67,7 +67,7 @@ pub fn answer_live<R: Threads + Wait + Sync, W: Wire + Drop, G: Gate + Sync>(
 ) -> (W, Result<(), LiveFault>)
     requires counts { (is_count terms.lanes ≡ true) × (is_count terms.workers ≡ true) }
     requires fresh { W.Did wire wire [] }
-    ensures lived { Lived terms W.Did W.read_failed W.write_failed wire result.0 result.1 }
+    ensures lived { Lived terms W.Did W.read_failed W.write_failed W.at_end wire result.0 result.1 }
     ensures untouched { IsErrOf result.1 LiveFault.NoThread → result.0 ≡ wire }
 {
     let live = match Live::new(alloc, terms.lanes, terms.form, wire) {

@@ -5,11 +5,11 @@ ghost use Rattle.hub_core.specs.Traffics.{IsEven};
 ghost use Rattle.wire_core.specs.Events.{Event};
 ghost use Rattle.line_core.specs.live.Came.{IsAt};
 ghost use Rattle.line_core.specs.live.Finish.{is_finished};
-ghost use Rattle.line_core.specs.live.Stops.{IsOpen, TellsFaults};
-ghost use Rattle.line_core.specs.declared.live.form.Form.{Form};
+ghost use Rattle.line_core.specs.live.Stops.{IsOpen, TellsEnd, TellsFaults};
+ghost use Rattle.line_core.specs.declared.answers.form.Form.{Form};
 
+use crate::answers::form::Form;
 use crate::live::fault::{LiveFault, is_open};
-use crate::live::form::Form;
 use crate::live::place::push_places;
 use crate::live::progress::{Progress, TURN, Taken};
 use crate::live::waiting::end_turn;
@@ -49,6 +49,7 @@ fn write_turn<W: Wire>(
     ensures written { OnOk result (progress.new.places.items ≡ []) }
     ensures still { OnOk result (progress.new.stopped ≡ progress.old.stopped) }
     ensures lanes { length progress.new.lanes.items ≡ length progress.old.lanes.items }
+    ensures end { TellsEnd progress.old.lines (W.at_end wire.old) → TellsEnd progress.new.lines (W.at_end wire.new) }
     ensures faults { (read write : Bool) → TellsFaults read (W.read_failed wire.old) write (W.write_failed wire.old) progress.old.stopped → TellsFaults read (W.read_failed wire.new) write (W.write_failed wire.new) progress.new.stopped }
 {
     text.clear();
@@ -82,6 +83,7 @@ fn read_on<W: Wire>(wire: &mut W, progress: &mut Progress) -> Result<bool, Stopp
         → (later : List Event) × W.Did start wire.new later × IsAt form later progress.new given brought }
     ensures ended { result ≡ Ok false → is_finished progress.new ≡ true }
     ensures lanes { progress.new.lanes ≡ progress.old.lanes }
+    ensures end { TellsEnd progress.old.lines (W.at_end wire.old) → TellsEnd progress.new.lines (W.at_end wire.new) }
     ensures faults { (read write : Bool) → TellsFaults read (W.read_failed wire.old) write (W.write_failed wire.old) progress.old.stopped → TellsFaults read (W.read_failed wire.new) write (W.write_failed wire.new) progress.new.stopped }
 {
     if progress.stopped.is_some() {
@@ -138,14 +140,15 @@ impl<W: Wire> Traffic for Live<W> {
     ghost use Rattle.wire_core.specs.Events.{Event};
     ghost use Rattle.line_core.specs.live.Came.{IsAt};
     ghost use Rattle.line_core.specs.live.Finish.{is_finished};
-    ghost use Rattle.line_core.specs.live.Stops.{TellsFaults};
+    ghost use Rattle.line_core.specs.live.Stops.{TellsEnd, TellsFaults};
 
     type WaitFault = Stopped;
 
     type BringFault = Infallible;
 
     ghost Came = { λ start s given brought. (events : List Event) × W.Did start.wire s.wire events × IsAt s.form events s.progress given brought × (s.form ≡ start.form)
-        × (length s.progress.lanes.items ≡ length start.progress.lanes.items) × TellsFaults (W.read_failed start.wire) (W.read_failed s.wire) (W.write_failed start.wire) (W.write_failed s.wire) s.progress.stopped };
+        × (length s.progress.lanes.items ≡ length start.progress.lanes.items) × TellsFaults (W.read_failed start.wire) (W.read_failed s.wire) (W.write_failed start.wire) (W.write_failed s.wire) s.progress.stopped
+        × TellsEnd s.progress.lines (W.at_end s.wire) };
 
     ghost has_ended = { λ s. is_finished s.progress };
 

@@ -3,13 +3,12 @@ ghost use Rattle.std.specs.Prelude.{◌≡◌, ◌++◌, [], All, List, ℕ, IfO
 ghost use Rattle.std.specs.List.{AllZip, concat};
 ghost use Rattle.line_core.specs.live.Came.{IsReady, Says};
 ghost use Rattle.line_core.specs.live.Replies.{refusal_line};
-ghost use Rattle.line_core.specs.live.Text.{line_fault_text, numbered_line, said};
+ghost use Rattle.line_core.specs.live.Text.{line_fault_text};
 
-use crate::answers::report::push_number;
-use crate::live::form::Form;
+use crate::answers::form::Form;
+use crate::answers::report::{push_line, push_number};
 use crate::live::record::LineFault;
 use crate::live::waiting::Waiting;
-use scan_core::Answer;
 use std::alloc::AllocError;
 use std::fmt::Write;
 
@@ -20,39 +19,6 @@ pub enum Place {
     Row(u8, u32),
     /// Why it got no ticket, and the lane that it names.
     Refused(Option<u8>, LineFault),
-}
-
-/// Appends an answer.
-fn push_answer(text: &mut String, form: Form, answer: &Answer) -> Result<(), AllocError>
-    ensures { OnOk result (string_bytes text.new ≡ string_bytes text.old ++ said form answer.now) }
-{
-    match answer {
-        Answer::Read { carrier, elements } => {
-            text.push_str(carrier.identifier())?;
-            text.push(' ')?;
-            match form {
-                Form::HumanReadable => elements.push_hri(text),
-                Form::Pairs => elements.push_pairs(text),
-            }
-        }
-        Answer::Refused(fault) => write!(text, "{fault}"),
-    }
-}
-
-/// Appends the line of an answer.
-fn push_numbered(
-    text: &mut String,
-    form: Form,
-    lane: u8,
-    number: u32,
-    answer: &Answer,
-) -> Result<(), AllocError>
-    ensures { OnOk result (string_bytes text.new ≡ string_bytes text.old ++ numbered_line form lane number answer.now) }
-{
-    push_number(text, usize::from(lane))?;
-    push_number(text, number as usize)?;
-    push_answer(text, form, answer)?;
-    text.push('\n')
 }
 
 /// Appends the line of a refusal.
@@ -82,7 +48,7 @@ fn push_place(
         Place::Row(lane, number) => {
             let waiting = &lanes[usize::from(lane)];
             let index = (number - waiting.first) as usize;
-            push_numbered(
+            push_line(
                 text,
                 form,
                 lane,

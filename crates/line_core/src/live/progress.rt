@@ -1,12 +1,12 @@
 //! How far a live input has come: what is held of it, and the places of the turn's records.
-ghost use Rattle.std.specs.Prelude.{◌≡◌, ◌<◌, ◌≤◌, ◌+◌, [], ℕ, IfOk, List, MatchResult, None, Some, length, replicate, slice_get, vec_len};
+ghost use Rattle.std.specs.Prelude.{◌≡◌, ◌<◌, ◌≤◌, ◌+◌, [], ℕ, IfOk, List, MatchResult, None, Some, false, length, replicate, slice_get, vec_len};
 ghost use Rattle.lane_core.specs.declared.job.Plain.{Plain};
 ghost use Rattle.wire_core.specs.Events.{Event};
 ghost use Rattle.wire_core.specs.Lines.{without_line};
 ghost use Rattle.hub_core.specs.Traffics.{IsNextOf, with_more};
 ghost use Rattle.line_core.specs.live.Came.{IsAt, IsStoppedBy, KeepsRow, Took};
 ghost use Rattle.line_core.specs.live.Meaning.{IsFound};
-ghost use Rattle.line_core.specs.declared.live.form.Form.{Form};
+ghost use Rattle.line_core.specs.declared.answers.form.Form.{Form};
 ghost use Rattle.line_core.specs.declared.live.waiting.Waiting.{Waiting};
 
 use crate::live::fault::LiveFault;
@@ -51,6 +51,7 @@ impl Progress {
         ensures come { IfOk result (λ p. (f : Form) → IsAt f [] p (replicate lanes []) (replicate lanes [])) }
         ensures count { IfOk result (λ p. length p.lanes.items ≡ lanes) }
         ensures going { IfOk result (λ p. p.stopped ≡ None) }
+        ensures begun { IfOk result (λ p. p.lines.has_ended ≡ false) }
     {
         Ok(Progress {
             lanes: make_lanes(alloc, lanes)?,
@@ -109,6 +110,7 @@ impl Progress {
         requires { (f : Form) × (events : List Event) × (given : List (List (List ℕ))) × (brought : List (List Plain)) × IsAt f events self.old given brought }
         ensures came { (f : Form) (events : List Event) (given : List (List (List ℕ))) (brought : List (List Plain)) → IsAt f events self.old given brought
             → MatchResult result (Took (IsAt f events self.new) given brought) (λ _. IsAt f events self.new given brought) }
+        ensures ended { self.new.lines.has_ended ≡ self.old.lines.has_ended }
         ensures stopped { self.new.stopped ≡ self.old.stopped }
     {
         let lanes = self.lanes.len() as u8;
@@ -128,6 +130,7 @@ impl Progress {
     pub fn take_next(&mut self, alloc: Global) -> Taken
         requires { (f : Form) × (events : List Event) × (given : List (List (List ℕ))) × (brought : List (List Plain)) × IsAt f events self.old given brought }
         ensures came { (f : Form) (events : List Event) (given : List (List (List ℕ))) (brought : List (List Plain)) → IsAt f events self.old given brought → Took (IsAt f events self.new) given brought result }
+        ensures ended { self.new.lines.has_ended ≡ self.old.lines.has_ended }
         ensures told { IsStoppedBy self.old.stopped self.new.stopped }
     {
         if self.stopped.is_some() || self.places.len() >= TURN {
@@ -146,6 +149,7 @@ impl Progress {
     pub fn bring(&mut self, delivery: Delivery)
         requires { (f : Form) × (events : List Event) × (given : List (List (List ℕ))) × (brought : List (List Plain)) × IsAt f events self.old given brought × IsNextOf delivery given brought }
         ensures came { (f : Form) (events : List Event) (given : List (List (List ℕ))) (brought : List (List Plain)) → IsAt f events self.old given brought → IsNextOf delivery given brought → IsAt f events self.new given (with_more delivery.lane delivery brought) }
+        ensures lines { self.new.lines ≡ self.old.lines }
         ensures stopped { self.new.stopped ≡ self.old.stopped }
     {
         let index = usize::from(delivery.ticket().lane);

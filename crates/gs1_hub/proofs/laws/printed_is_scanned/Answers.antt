@@ -5,9 +5,9 @@ use Rattle.gs1_hub.proofs.laws.printed_is_scanned.Goals as goal
 pub returns-clause-answered : goal.returns-clause-answered
 returns-clause-answered c =
     let say = labels_say c.gtins_are_checked.ensures c.gtin_reads.ensures c.canonical_reads.ensures in
-    printed_is_answered say c.printed_is_read.ensures c.bar_rows_answer.ensures c.empty_cells_are_blank.ensures c.dots_determine.ensures c.dots_make_row.ensures c.one_answer.ensures
+    printed_is_answered say c.printed_is_read.ensures c.printed_answer.ensures c.scanned_once.ensures
 
 pub returns-clause-scanned : goal.returns-clause-scanned
 returns-clause-scanned c =
     let say = labels_say c.gtins_are_checked.ensures c.gtin_reads.ensures c.canonical_reads.ensures in
-    printed_is_scanned say c.printed_is_read.ensures c.bar_rows_answer.ensures c.empty_cells_are_blank.ensures c.dots_determine.ensures c.dots_make_row.ensures c.one_answer.ensures
+    printed_is_scanned say c.printed_is_read.ensures c.printed_answer.ensures c.scanned_once.ensures

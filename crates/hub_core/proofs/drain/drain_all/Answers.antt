@@ -2,14 +2,15 @@ use Rattle.std.proofs.Common.{rules, ◌++◌, option_to_list, ap, arith}
 use Rattle.std.specs.List.{flat_map}
 use Rattle.std.proofs.lemmas.List.{length-map}
 use Rattle.crossbeam_queue.specs.Passes.{view}
-use Rattle.hub_core.specs.Lanes.{lane_of}
+use Rattle.hub_core.specs.Hubs.{shape_of}
+use Rattle.hub_core.specs.Lanes.{lane_of, numbers_of}
 use Rattle.hub_core.specs.Workers.{hand_of}
 use Rattle.hub_core.specs.declared.lane_seat.LaneSeat.{LaneSeat}
 use Rattle.hub_core.specs.declared.rule.Trace.{Trace}
-use Rattle.hub_core.proofs.FillFacts.{filled_then}
+use Rattle.hub_core.proofs.DrainedFacts.{drained_then}
 use Rattle.hub_core.proofs.NumberFacts.{each_counted}
 use Rattle.hub_core.proofs.PairFacts.{all_paired, all_rings}
-use Rattle.hub_core.proofs.DrainFacts.{all_weigh, jobs_whole, results_whole}
+use Rattle.hub_core.proofs.DrainFacts.{sum_joined, jobs_whole, results_whole}
 use Rattle.hub_core.proofs.drain.drain_all.Goals as goal
 
 pub place_rings-requires-clause-rings : goal.place_rings-requires-clause-rings
@@ -18,18 +19,18 @@ place_rings-requires-clause-rings g c =
 
 pub place_queue-requires-2 : goal.place_queue-requires-2
 place_queue-requires-2 g c =
-    let a = ap (λ (v : Trace). v.parts) c.place_rings.ensures.jobs in
-    let b = ap (λ (v : Trace). v.parts) c.place_hands.ensures.jobs in
-    let d = each_counted _ _ c.requires.each_lane in
+    let a = ap (λ (v : Trace). v.shares) c.place_rings.ensures.jobs in
+    let b = ap (λ (v : Trace). v.shares) c.place_hands.ensures.jobs in
+    let d = each_counted (shape_of c.args.hub.now).lanes (numbers_of c.args.lanes.items) c.requires.each_lane in
     let e = length-map c.args.lanes.items (λ (s : LaneSeat). lane_of s) in
-    (search rules, (let f = c.requires.deliverer.parts_of_jobs in let k = c.requires.each_worker in omega arith))
+    (search rules, (let f = c.requires.deliverer.shares_of_jobs in let k = c.requires.each_worker in omega arith))
 
 pub returns : goal.returns
 returns g c =
-    let rings = c.place_rings.ensures.fills in
-    let jobs = c.place_queue-2.ensures.fills in
-    let results = c.place_queue.ensures.fills in
-    let waiting = c.place_waiting.ensures.fills in
+    let rings = c.place_rings.ensures.drains in
+    let jobs = c.place_queue-2.ensures.drains in
+    let results = c.place_queue.ensures.drains in
+    let waiting = c.place_waiting.ensures.drains in
     let hands = flat_map hand_of c.args.workers.items in
     let held = option_to_list c.args.deliverer.held in
     let found = ((((rings.0 ++ waiting.0) ++ held) ++ hands) ++ results.0) ++ jobs.0 in
@@ -41,7 +42,7 @@ returns g c =
         jobs = jobs_whole (view c.args.deliverer.jobs) (view c.place_rings.new.all_jobs) (view c.place_hands.new.all_jobs) _ _ c.args.lanes.items c.args.workers.items jobs.0 idle.0 idle.1 c.place_rings.ensures.jobs c.place_hands.ensures.jobs jobs.2;
         results = results_whole (view c.args.deliverer.collects) (view c.place_hands.new.all_results) _ c.args.workers.items results.0 c.args.deliverer.collects_only c.place_hands.ensures.results results.2;
         first = c.place_rings.ensures.received;
-        whole = λ h. let e = all_weigh h rings.0 waiting.0 held hands results.0 jobs.0 in let r = rings.2 h in let w = waiting.2 h in omega arith;
+        whole = λ h. let e = sum_joined h rings.0 waiting.0 held hands results.0 jobs.0 in let r = rings.2 h in let w = waiting.2 h in omega arith;
       },
-      filled_then _ _ _ _ _ (filled_then _ _ _ _ _ (filled_then _ _ _ _ _ (filled_then _ _ _ _ _ (filled_then _ _ _ _ _ rings.1 waiting.1) c.place_any.ensures) c.place_hands.ensures.fills) results.1) jobs.1,
+      drained_then _ _ _ _ _ (drained_then _ _ _ _ _ (drained_then _ _ _ _ _ (drained_then _ _ _ _ _ (drained_then _ _ _ _ _ rings.1 waiting.1) c.place_any.ensures) c.place_hands.ensures.drains) results.1) jobs.1,
     )

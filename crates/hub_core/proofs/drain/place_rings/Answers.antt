@@ -7,8 +7,8 @@ use Rattle.hub_core.specs.declared.rule.Trace.{Trace}
 use Rattle.hub_core.specs.Fresh.{IsPairedIn}
 use Rattle.hub_core.specs.Lanes.{lane_of}
 use Rattle.hub_core.specs.Draining.{AreFromFirst}
-use Rattle.hub_core.proofs.FillFacts.{filled_none}
-use Rattle.hub_core.proofs.PairFacts.{HasJobs, RingFilled, ends_more, ends_same, from_first, lane_jobs, none_left, pair_now, ring_filled, sent_now}
+use Rattle.hub_core.proofs.DrainedFacts.{drained_none}
+use Rattle.hub_core.proofs.PairFacts.{HasJobs, RingDrained, ends_more, ends_same, from_first, lane_jobs, none_left, pair_now, ring_drained, sent_now}
 use Rattle.hub_core.proofs.RingFacts.{sent_same}
 use Rattle.hub_core.proofs.RuleFacts.{merges}
 use Rattle.hub_core.proofs.drain.place_rings.Goals as goal
@@ -23,12 +23,12 @@ loop-closed-init c = record {
   jobs = search rules;
   rings = ends_same c.args.rings.now.items;
   sent = refl;
-  filled = ([], filled_none c.args.lists.now.items, λ h. refl);
+  drained = ([], drained_none c.args.lists.now.items, λ h. refl);
   received = search rules;
 }
 
 pub absorb-requires-clause-rule : goal.absorb-requires-clause-rule
-absorb-requires-clause-rule c = merges _ _ _ _ _ (let e = ap (λ (v : Trace). v.parts) c.loop-closed.invariant.jobs in omega arith)
+absorb-requires-clause-rule c = merges _ _ _ _ _ (let e = ap (λ (v : Trace). v.shares) c.loop-closed.invariant.jobs in omega arith)
 
 pub place_rest-requires : goal.place_rest-requires
 place_rest-requires c =
@@ -44,7 +44,7 @@ loop-closed-preserved c =
     let ring = c.index_mut.result.now in
     let low : lane_of seat < length now = search rules in
     let rest = c.place_rest.ensures in
-    let left = rest.fills.2 ∙ sent_now rings now seat ring inv.sent c.index_mut.ensures.value low in
+    let left = rest.drains.2 ∙ sent_now rings now seat ring inv.sent c.index_mut.ensures.value low in
     let is : seat ≡ c.in-Some.closed = c.closed.view_is in
     record {
       can = search rules;
@@ -55,8 +55,8 @@ loop-closed-preserved c =
       jobs = subst (λ (s : LaneSeat). HasJobs (view c.args.all_jobs.now) (view c.absorb.new.pass) (c.loop-closed.yielded ++ s ∷ [])) is (lane_jobs (view c.args.all_jobs.now) (view c.loop-closed.all_jobs) (view c.absorb.new.pass) c.loop-closed.yielded seat inv.jobs c.absorb.ensures.rule);
       rings = ends_more rings now (lane_of seat) ring c.place_rest.new.producer inv.rings c.index_mut.ensures.value low rest.same.0;
       sent = sent_same now (lane_of seat) ring c.place_rest.new.producer c.index_mut.ensures.value low rest.same.1 ∙ inv.sent;
-      filled = subst (λ (s : LaneSeat). RingFilled c.args.lists.now.items c.place_rest.new.lists.items rings (c.loop-closed.yielded ++ s ∷ [])) is (ring_filled c.args.lists.now.items c.loop-closed.lists.items c.place_rest.new.lists.items rings c.loop-closed.yielded seat inv.filled.0 rest.fills.0 inv.filled.1 rest.fills.1 inv.filled.2 left);
-      received = subst (λ (s : LaneSeat). AreFromFirst rings (c.loop-closed.yielded ++ s ∷ [])) is (from_first rings c.loop-closed.yielded seat rest.fills.0 inv.received left);
+      drained = subst (λ (s : LaneSeat). RingDrained c.args.lists.now.items c.place_rest.new.lists.items rings (c.loop-closed.yielded ++ s ∷ [])) is (ring_drained c.args.lists.now.items c.loop-closed.lists.items c.place_rest.new.lists.items rings c.loop-closed.yielded seat inv.drained.0 rest.drains.0 inv.drained.1 rest.drains.1 inv.drained.2 left);
+      received = subst (λ (s : LaneSeat). AreFromFirst rings (c.loop-closed.yielded ++ s ∷ [])) is (from_first rings c.loop-closed.yielded seat rest.drains.0 inv.received left);
     }
 
 pub returns-clause-received : goal.returns-clause-received

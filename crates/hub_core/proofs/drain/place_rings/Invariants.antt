@@ -1,13 +1,12 @@
 use Rattle.std.proofs.Common.{◌≡◌, ◌+◌, ◌++◌, ℕ, List, length}
-use Rattle.std.specs.List.{All, flat_map}
+use Rattle.std.specs.List.{All, flat_map, sum_by}
 use Rattle.std.specs.Vec.Iter.{into_iter_items}
 use Rattle.crossbeam_queue.specs.Passes.{view, IsPassOf}
 use Rattle.lane_core.specs.declared.job.Plain.{Plain}
-use Rattle.lane_core.specs.Weights.{weigh}
-use Rattle.hub_core.specs.Filling.{Fills}
+use Rattle.hub_core.specs.DrainedLists.{DrainsInto}
 use Rattle.hub_core.specs.Fresh.{IsPairedIn}
 use Rattle.hub_core.specs.Lanes.{numbers_of, submitted}
-use Rattle.hub_core.specs.Passes.{parts_of, pushed_by, popped_by}
+use Rattle.hub_core.specs.Passes.{shares_of, pushed_by, popped_by}
 use Rattle.hub_core.specs.Draining.{AreFromFirst, all_received, to_lanes}
 use Rattle.hub_core.specs.Rings.{all_sent}
 use Rattle.hub_core.specs.Rule.{trace}
@@ -21,9 +20,9 @@ invariant-loop-closed l = record {
   same : IsPassOf l.hub.jobs l.all_jobs;
   all : l.yielded ++ into_iter_items l.closed-iterator ≡ into_iter_items l.initial.closed-iterator;
   left : All (IsPairedIn l.initial.rings.items) (into_iter_items l.closed-iterator);
-  jobs : view l.all_jobs ≡ trace (parts_of l.initial.all_jobs + length l.yielded) (pushed_by l.initial.all_jobs ++ flat_map submitted l.yielded) (popped_by l.initial.all_jobs);
+  jobs : view l.all_jobs ≡ trace (shares_of l.initial.all_jobs + length l.yielded) (pushed_by l.initial.all_jobs ++ flat_map submitted l.yielded) (popped_by l.initial.all_jobs);
   rings : AreSameEnds l.initial.rings.items l.rings.items;
   sent : all_sent l.rings.items ≡ all_sent l.initial.rings.items;
-  filled : (xs : List Plain) × Fills l.initial.lists.items l.lists.items xs × ((h : Plain → ℕ) → weigh h xs + all_received h l.yielded ≡ to_lanes h l.initial.rings.items (numbers_of l.yielded));
+  drained : (xs : List Plain) × DrainsInto l.initial.lists.items l.lists.items xs × ((h : Plain → ℕ) → sum_by h xs + all_received h l.yielded ≡ to_lanes h l.initial.rings.items (numbers_of l.yielded));
   received : AreFromFirst l.initial.rings.items l.yielded;
 }

@@ -1,10 +1,10 @@
 use Rattle.std.proofs.Common.{[], arith}
-use Rattle.hub_core.proofs.FillFacts.{filled_none}
+use Rattle.hub_core.proofs.DrainedFacts.{drained_none}
 use Rattle.hub_core.proofs.DrainFacts.{waited}
 use Rattle.hub_core.proofs.drain.place_waiting.Goals as goal
 
 pub loop-delivery-init : goal.loop-delivery-init
-loop-delivery-init c = ([], filled_none c.args.lists.now.items, λ h. omega arith)
+loop-delivery-init c = ([], drained_none c.args.lists.now.items, λ h. omega arith)
 
 pub loop-delivery-preserved : goal.loop-delivery-preserved
 loop-delivery-preserved c =

@@ -8,11 +8,11 @@ use Rattle.hub_core.specs.declared.lane_seat.LaneSeat.{LaneSeat}
 use Rattle.hub_core.specs.Fresh.{HasDoneNothing, IsPairedIn, IsUnsent}
 use Rattle.hub_core.specs.Rings.{PopEnd, PushEnd}
 use Rattle.hub_core.proofs.RuleFacts.{forks}
-use Rattle.hub_core.proofs.PartFacts.{cut_more, lanes_more, paired_more}
+use Rattle.hub_core.proofs.NewSeatFacts.{cut_more, lanes_more, paired_more}
 use Rattle.hub_core.proofs.parts.make_lanes.Goals as goal
 
 pub another-pass-requires-clause-rule : goal.another-pass-requires-clause-rule
-another-pass-requires-clause-rule c = forks _ _ _ (let e = ap (λ (v : Trace). v.parts) c.loop-lane.invariant.left in omega arith)
+another-pass-requires-clause-rule c = forks _ _ _ (let e = ap (λ (v : Trace). v.shares) c.loop-lane.invariant.left in omega arith)
 
 pub loop-lane-preserved : goal.loop-lane-preserved
 loop-lane-preserved c =
@@ -30,7 +30,7 @@ loop-lane-preserved c =
       seats = subst (λ (l : List LaneSeat). All (λ (s : LaneSeat). IsPassOf c.args.jobs.now s.pass × HasDoneNothing s) l) (sym c.push_reserved.ensures.items)
           (All-push (λ (s : LaneSeat). IsPassOf c.args.jobs.now s.pass × HasDoneNothing s) c.loop-lane.seats.items seat inv.seats (search rules));
       count = ap length c.push_reserved-in-loop-lane.ensures.items ∙ omega (arith, length-append c.loop-lane.rings.items (c.in_ok-producer.producer ∷ []));
-      filled = search rules;
+      drained = search rules;
       unsent = subst (λ (l : List PushEnd). All (IsUnsent c.args.capacity) l) (sym c.push_reserved-in-loop-lane.ensures.items) (All-push (IsUnsent c.args.capacity) c.loop-lane.rings.items c.in_ok-producer.producer inv.unsent (new.producer.0, new.producer.2));
       paired = subst (λ (x : List PushEnd × List LaneSeat). All (IsPairedIn x.0) x.1) (λ i. (sym c.push_reserved-in-loop-lane.ensures.items i, sym c.push_reserved.ensures.items i)) p;
     }

@@ -3,18 +3,18 @@ use Rattle.std.specs.List.{range_with_len}
 use Rattle.crossbeam_queue.specs.Passes.{view, IsPassOf}
 use Rattle.hub_core.specs.Fresh.{HasDoneNothing, IsPairedIn, IsUnsent}
 use Rattle.hub_core.specs.Lanes.{numbers_of}
-use Rattle.hub_core.specs.Passes.{parts_of}
+use Rattle.hub_core.specs.Passes.{shares_of}
 use Rattle.hub_core.specs.Rule.{trace}
 use Rattle.hub_core.proofs.parts.make_lanes.Given as goal
 
 abbrev pub invariant-loop-lane : goal.invariant-loop-lane
 invariant-loop-lane l = record {
   of_jobs : IsPassOf l.jobs l.all_jobs;
-  left : view l.all_jobs ≡ trace (parts_of l.initial.all_jobs - l.lane) (view l.initial.all_jobs).pushed (view l.initial.all_jobs).popped;
+  left : view l.all_jobs ≡ trace (shares_of l.initial.all_jobs - l.lane) (view l.initial.all_jobs).pushed (view l.initial.all_jobs).popped;
   lanes : numbers_of l.seats.items ≡ range_with_len 0 l.lane;
   seats : All (λ s. IsPassOf l.jobs s.pass × HasDoneNothing s) l.seats.items;
   count : length l.rings.items ≡ l.lane;
-  filled : vec_len l.seats ≡ l.lane;
+  drained : vec_len l.seats ≡ l.lane;
   unsent : All (IsUnsent l.capacity) l.rings.items;
   paired : All (IsPairedIn l.rings.items) l.seats.items;
 }

@@ -1,7 +1,7 @@
 use Rattle.std.proofs.Common.{◌≡◌, ◌∙◌, None, ap, arith, subst, sym}
 use Rattle.hub_core.specs.Hubs.{year_of}
 use Rattle.hub_core.specs.Serving.{served}
-use Rattle.hub_core.specs.Standing.{PolledFirst}
+use Rattle.hub_core.proofs.LaneViewFacts.{PolledFirst, first_of}
 use Rattle.hub_core.specs.Traffics.{AreServedFirst, Serves, given_to, polled_by}
 use Rattle.hub_core.proofs.ServeFacts.{lanes_counted}
 use Rattle.hub_core.proofs.TrafficFacts.{all_served, came_fresh, seats_counted, serves_fresh, served_first}
@@ -36,7 +36,7 @@ returns-clause-served g c =
     let hub = c.in-Ok-new_hub.parts.hub in
     let seats = c.in_ok-traffic.lanes.items in
     let done = c.in_ok-traffic.ensures.serves in
-    let first : PolledFirst hub seats = subst (PolledFirst hub) c.close_all-closed.ensures c.finish.ensures in
+    let first : PolledFirst hub seats = subst (PolledFirst hub) c.close_all-closed.ensures (first_of hub _ c.finish.ensures) in
     let year : year_of hub ≡ c.args.year = c.in-Ok-new_hub.ensures.shape.2 in (
       given_to seats done.0,
       polled_by seats,

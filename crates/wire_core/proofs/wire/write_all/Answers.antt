@@ -13,4 +13,5 @@ writes-preserved g c = record {
       (old.0 ++ piece ∷ [], subst (g.W.Wire.Did start _) (one_more_write events old.0 piece) (c.in_ok-count.ensures.did start _ old.1), grind (arith, common_steps, more, whole));
   same = c.in_ok-count.ensures.ok ∙ c.writes.invariant.same;
   read = c.in_ok-count.ensures.other ∙ c.writes.invariant.read;
+  end = λ was. c.in_ok-count.ensures.end (c.writes.invariant.end was);
 }

@@ -12,4 +12,5 @@ invariant-writes g l = record {
       → (pieces : List (List ℕ)) × g.W.Wire.Did start l.wire (events ++ writes_of pieces) × (concat pieces ++ l.rest ≡ l.fn.bytes);
   same : g.W.Wire.write_failed l.wire ≡ g.W.Wire.write_failed l.fn.wire;
   read : g.W.Wire.read_failed l.wire ≡ g.W.Wire.read_failed l.fn.wire;
+  end : g.W.Wire.at_end l.fn.wire → g.W.Wire.at_end l.wire;
 }

@@ -6,28 +6,28 @@ use Rattle.rtrb.specs.Ring.{known_free, sent}
 use Rattle.lane_core.specs.declared.job.Plain.{Plain}
 use Rattle.hub_core.specs.Passes.{popped_by}
 use Rattle.hub_core.specs.Rings.{PushEnd, all_sent}
-use Rattle.hub_core.specs.Stock.{Stocks}
+use Rattle.hub_core.specs.Accounting.{Accounted}
 use Rattle.hub_core.proofs.NextFacts.{is_there}
 use Rattle.hub_core.proofs.RingFacts.{ends_set, got_set, same_ring, sent_more, sent_same}
-use Rattle.hub_core.proofs.StockFacts.{given_else, given_now, handed_one}
+use Rattle.hub_core.proofs.AccountingFacts.{given_else, given_now, handed_one}
 use Rattle.hub_core.proofs.deliverer_seat.DelivererSeat.hand.Goals as goal
 
 pub invariant_of-self-then-is_full : goal.invariant_of-self-then-is_full
 invariant_of-self-then-is_full c =
     let s = c.args.self.now in
-    let less : c.from.result < length s.rings.items = omega (arith, c.from.ensures, c.requires, s.stocks.keeps.lanes, length-map s.rings.items (λ (r : PushEnd). sent r)) in
+    let less : c.from.result < length s.rings.items = omega (arith, c.from.ensures, c.requires, s.accounted.giving.lanes, length-map s.rings.items (λ (r : PushEnd). sent r)) in
     let same = sent_same s.rings.items c.from.result c.index_mut-ring.result.now c.is_full.new.self c.index_mut-ring.ensures.value less c.is_full.ensures.looked.1 in
     record {
       idle_at_jobs = s.idle_at_jobs;
-      parts = s.parts;
+      shares = s.shares;
       collects_only = s.collects_only;
-      stocks = subst (λ (gs : List (List Plain)). Stocks s.deliverer (popped_by s.collects) (option_to_list s.held) gs) (sym same) s.stocks;
+      accounted = subst (λ (gs : List (List Plain)). Accounted s.deliverer (popped_by s.collects) (option_to_list s.held) gs) (sym same) s.accounted;
     }
 
 pub returns-then-is_full-clause-hands : goal.returns-then-is_full-clause-hands
 returns-then-is_full-clause-hands c =
     let s = c.args.self.now in
-    let less : c.from.result < length s.rings.items = omega (arith, c.from.ensures, c.requires, s.stocks.keeps.lanes, length-map s.rings.items (λ (r : PushEnd). sent r)) in
+    let less : c.from.result < length s.rings.items = omega (arith, c.from.ensures, c.requires, s.accounted.giving.lanes, length-map s.rings.items (λ (r : PushEnd). sent r)) in
     let same = sent_same s.rings.items c.from.result c.index_mut-ring.result.now c.is_full.new.self c.index_mut-ring.ensures.value less c.is_full.ensures.looked.1 in (
       c.next.ensures.exactly.0 (is_there c.next.result (search rules)),
       refl,
@@ -40,42 +40,42 @@ returns-then-is_full-clause-hands c =
 pub returns-then-is_full-clause-of_hub : goal.returns-then-is_full-clause-of_hub
 returns-then-is_full-clause-of_hub c =
     let s = c.args.self.now in
-    let less : c.from.result < length s.rings.items = omega (arith, c.from.ensures, c.requires, s.stocks.keeps.lanes, length-map s.rings.items (λ (r : PushEnd). sent r)) in
+    let less : c.from.result < length s.rings.items = omega (arith, c.from.ensures, c.requires, s.accounted.giving.lanes, length-map s.rings.items (λ (r : PushEnd). sent r)) in
     λ h is. record {
       jobs = is.jobs;
       results = is.results;
       rings = ends_set h s.rings.items c.from.result c.index_mut-ring.result.now c.is_full.new.self is.rings c.index_mut-ring.ensures.value less c.is_full.ensures.looked.0;
       lanes = is.lanes;
-      parts_of_jobs = is.parts_of_jobs;
-      parts_of_results = is.parts_of_results;
+      shares_of_jobs = is.shares_of_jobs;
+      shares_of_results = is.shares_of_results;
     }
 
 pub invariant_of-self-in-Some : goal.invariant_of-self-in-Some
 invariant_of-self-in-Some c =
     let s = c.args.self.now in
-    let less : c.from.result < length s.rings.items = omega (arith, c.from.ensures, c.requires, s.stocks.keeps.lanes, length-map s.rings.items (λ (r : PushEnd). sent r)) in
+    let less : c.from.result < length s.rings.items = omega (arith, c.from.ensures, c.requires, s.accounted.giving.lanes, length-map s.rings.items (λ (r : PushEnd). sent r)) in
     let is : sent c.push_reserved.new.self ≡ sent c.index_mut-ring.result.now ++ c.in-Some.delivery ∷ [] = c.push_reserved.ensures.sent.0 ∙ ap (λ l. l ++ c.in-Some.delivery ∷ []) c.is_full.ensures.looked.1 in
     let more = sent_more s.rings.items c.from.result c.index_mut-ring.result.now c.push_reserved.new.self c.in-Some.delivery c.index_mut-ring.ensures.value less is in
     let put = more ∙ ap (λ k. set (all_sent s.rings.items) k (get_or (all_sent s.rings.items) k [] ++ c.in-Some.delivery ∷ [])) c.from.ensures in
     record {
       idle_at_jobs = s.idle_at_jobs;
-      parts = s.parts;
+      shares = s.shares;
       collects_only = s.collects_only;
-      stocks = handed_one s.deliverer c.take_next.new.self c.args.lane c.in-Some.delivery (popped_by s.collects) (option_to_list s.held) (all_sent s.rings.items) _ c.requires c.in-Some.ensures.some put s.stocks;
+      accounted = handed_one s.deliverer c.take_next.new.self c.args.lane c.in-Some.delivery (popped_by s.collects) (option_to_list s.held) (all_sent s.rings.items) _ c.requires c.in-Some.ensures.some put s.accounted;
     }
 
 pub returns-clause-hands : goal.returns-clause-hands
 returns-clause-hands c =
     let s = c.args.self.now in
-    let less : c.from.result < length s.rings.items = omega (arith, c.from.ensures, c.requires, s.stocks.keeps.lanes, length-map s.rings.items (λ (r : PushEnd). sent r)) in
+    let less : c.from.result < length s.rings.items = omega (arith, c.from.ensures, c.requires, s.accounted.giving.lanes, length-map s.rings.items (λ (r : PushEnd). sent r)) in
     let is : sent c.push_reserved.new.self ≡ sent c.index_mut-ring.result.now ++ c.in-Some.delivery ∷ [] = c.push_reserved.ensures.sent.0 ∙ ap (λ l. l ++ c.in-Some.delivery ∷ []) c.is_full.ensures.looked.1 in
     let more = sent_more s.rings.items c.from.result c.index_mut-ring.result.now c.push_reserved.new.self c.in-Some.delivery c.index_mut-ring.ensures.value less is in
     let put = more ∙ ap (λ k. set (all_sent s.rings.items) k (get_or (all_sent s.rings.items) k [] ++ c.in-Some.delivery ∷ [])) c.from.ensures in
-    let low : c.args.lane < length (all_sent s.rings.items) = omega (arith, c.requires, s.stocks.keeps.lanes) in
+    let low : c.args.lane < length (all_sent s.rings.items) = omega (arith, c.requires, s.accounted.giving.lanes) in
     let g = c.in-Some.ensures.some in (
       c.in-Some.delivery,
       g,
-      g.number ∙ sym (s.stocks.keeps.counted c.args.lane),
+      g.number ∙ sym (s.accounted.giving.counted c.args.lane),
       given_now (all_sent s.rings.items) _ c.args.lane c.in-Some.delivery low put,
       (λ m apart. given_else (all_sent s.rings.items) _ c.args.lane m c.in-Some.delivery apart put),
       refl,
@@ -85,7 +85,7 @@ returns-clause-hands c =
 pub returns-clause-of_hub : goal.returns-clause-of_hub
 returns-clause-of_hub c =
     let s = c.args.self.now in
-    let less : c.from.result < length s.rings.items = omega (arith, c.from.ensures, c.requires, s.stocks.keeps.lanes, length-map s.rings.items (λ (r : PushEnd). sent r)) in
+    let less : c.from.result < length s.rings.items = omega (arith, c.from.ensures, c.requires, s.accounted.giving.lanes, length-map s.rings.items (λ (r : PushEnd). sent r)) in
     let g = c.in-Some.ensures.some in
     let looked = c.is_full.ensures.looked.0 in
     let pushed = c.push_reserved.ensures.ring in
@@ -94,6 +94,6 @@ returns-clause-of_hub c =
       results = is.results;
       rings = ends_set h s.rings.items c.from.result c.index_mut-ring.result.now c.push_reserved.new.self is.rings c.index_mut-ring.ensures.value less (same_ring c.index_mut-ring.result.now c.is_full.new.self c.push_reserved.new.self looked pushed);
       lanes = ap length g.nexts ∙ (length-set s.deliverer.nexts c.args.lane _ ∙ is.lanes);
-      parts_of_jobs = is.parts_of_jobs;
-      parts_of_results = is.parts_of_results;
+      shares_of_jobs = is.shares_of_jobs;
+      shares_of_results = is.shares_of_results;
     }

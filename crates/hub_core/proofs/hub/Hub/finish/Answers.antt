@@ -6,6 +6,7 @@ use Rattle.hub_core.specs.Hubs.{IsLaneOf}
 use Rattle.hub_core.specs.Lanes.{lane_of, received, submitted}
 use Rattle.hub_core.specs.Rings.{all_sent}
 use Rattle.hub_core.specs.declared.lane_seat.LaneSeat.{LaneSeat}
+use Rattle.hub_core.proofs.LaneViewFacts.{polled_first}
 use Rattle.hub_core.proofs.SeatFacts.{all_at, whole_from}
 use Rattle.hub_core.proofs.hub.Hub.finish.Goals as goal
 
@@ -15,7 +16,7 @@ returns g c =
     let d = c.args.deliverer in
     let p = c.drain_all.ensures in
     let whole = whole_from c.args.self ls c.args.workers.items d p.0 p.1 p.2 c.all_found.ensures c.received_first.ensures c.kept_whole.ensures c.requires p.3 in
-    λ i v e.
+    polled_first c.args.self ls (λ i v e.
     let front = all_at (λ (s : LaneSeat). (left : List Plain) × (received s ++ left ≡ get_or (all_sent d.rings.items) (lane_of s) [])) ls i v p.3.first e in
     let n = length (handed d (lane_of v)) in
     let rest = drop n (submitted v) in (
@@ -24,4 +25,4 @@ returns g c =
           ∙ (sym (append_assoc (received v) front.0 rest)
           ∙ (ap (λ (xs : List Plain). xs ++ rest) (front.1 ∙ sym (whole.handed i v e))
           ∙ (take-append-drop n (submitted v) ∙ (all_at (IsLaneOf c.args.self) ls i v c.requires.lanes e).rows))),
-    )
+    ))

@@ -1,7 +1,9 @@
-use Rattle.std.proofs.Common.{rules, get_or, length, refl, sym, ap, ◌∙◌, arith}
+use Rattle.std.proofs.Common.{rules, get_or, length, map, refl, sym, ap, ◌∙◌, arith}
 use Rattle.std.proofs.lemmas.List.{length-replicate}
-use Rattle.lane_core.specs.Desk.{Desk}
-use Rattle.hub_core.proofs.NewFacts.{fresh_stocks, given_none, has_each, left_of_jobs, left_of_results, no_rows, ring_of, same_ends, small}
+use Rattle.lane_core.specs.ReorderBuffer.{ReorderBuffer}
+use Rattle.hub_core.specs.Lane.{new_lane}
+use Rattle.hub_core.proofs.LaneViewFacts.{fresh_lanes}
+use Rattle.hub_core.proofs.NewFacts.{fresh_accounted, given_none, has_each, left_of_jobs, left_of_results, no_rows, ring_of, same_ends, small}
 use Rattle.hub_core.proofs.hub.Hub.new.Goals as goal
 
 pub invariant_of-deliverer : goal.invariant_of-deliverer
@@ -11,9 +13,9 @@ invariant_of-deliverer g c =
     let r = left_of_results _ _ c.args.shape.workers few.1 c.in_ok-results.ensures.3 c.in_ok-workers.ensures.results.1 in
     record {
       idle_at_jobs = (j.0, j.1);
-      parts = (j.2, r.2);
+      shares = (j.2, r.2);
       collects_only = r.0;
-      stocks = fresh_stocks c.from.result c.from-capacity.result c.in_ok-lanes.rings.items c.in_ok-deliverer.deliverer _ c.in_ok-deliverer.ensures (c.in_ok-lanes.ensures.rings.0 ∙ sym c.from.ensures) c.in_ok-lanes.ensures.rings.1 r.1;
+      accounted = fresh_accounted c.from.result c.from-capacity.result c.in_ok-lanes.rings.items c.in_ok-deliverer.deliverer _ c.in_ok-deliverer.ensures (c.in_ok-lanes.ensures.rings.0 ∙ sym c.from.ensures) c.in_ok-lanes.ensures.rings.1 r.1;
     }
 
 pub returns-clause-seats : goal.returns-clause-seats
@@ -39,9 +41,9 @@ returns-clause-seats g c =
         jobs = c.in_ok-workers.ensures.jobs.0;
         results = c.in_ok-workers.ensures.results.0;
         rings = same_ends _ c.in_ok-lanes.rings.items made;
-        lanes = ap (λ (e : Desk). length e.nexts) c.in_ok-deliverer.ensures ∙ (length-replicate c.from.result 0 ∙ c.from.ensures);
-        parts_of_jobs = j.3;
-        parts_of_results = r.3;
+        lanes = ap (λ (e : ReorderBuffer). length e.nexts) c.in_ok-deliverer.ensures ∙ (length-replicate c.from.result 0 ∙ c.from.ensures);
+        shares_of_jobs = j.3;
+        shares_of_results = r.3;
       };
       each_lane = has_each c.args.shape.lanes _ c.in_ok-lanes.ensures.lanes;
       each_worker = c.in_ok-workers.ensures.count;
@@ -58,3 +60,6 @@ returns-clause-unused g c =
       empty_hand = refl;
       none_handed = λ l. given_none c.from-capacity.result c.in_ok-lanes.rings.items l c.in_ok-lanes.ensures.rings.1;
     }
+
+pub returns-clause-seen : goal.returns-clause-seen
+returns-clause-seen g c = fresh_lanes c.in_ok-lanes.lanes.items (λ k d less. (c.in_ok-lanes.ensures.seats k d less).1) ∙ ap (map new_lane) c.in_ok-lanes.ensures.lanes

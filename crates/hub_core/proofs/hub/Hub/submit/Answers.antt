@@ -1,19 +1,24 @@
-use Rattle.std.proofs.Common.{◌∷◌, [], ◌∙◌, ap, arith, length, length-append, refl}
+use Rattle.std.proofs.Common.{rules, ◌∷◌, [], ◌∙◌, ap, arith, length, length-append, map, refl, sym}
+use Rattle.std.proofs.lemmas.List.{length-map, map-append}
 use Rattle.crossbeam_queue.specs.Passes.{view}
+use Rattle.lane_core.specs.Issuing.{ticket_of}
 use Rattle.lane_core.specs.Plain.{plain_of}
+use Rattle.lane_core.specs.declared.job.Plain.{Plain}
 use Rattle.hub_core.specs.declared.rule.Trace.{Trace}
+use Rattle.hub_core.specs.Lanes.{as_lane, polled}
 use Rattle.hub_core.proofs.RuleFacts.{puts}
 use Rattle.hub_core.proofs.LaneFacts.{lane_more, rows_and_one}
+use Rattle.hub_core.proofs.LaneViewFacts.{a_lane}
 use Rattle.hub_core.proofs.hub.Hub.submit.Goals as goal
 
 pub push_as-requires-clause-rule : goal.push_as-requires-clause-rule
-push_as-requires-clause-rule g c = (puts _ _ _ _ _ (let p = c.args.seat.now.part in omega arith), λ items views b at. tt)
+push_as-requires-clause-rule g c = (puts _ _ _ _ _ (let p = c.args.seat.now.share in omega arith), λ items views b at. tt)
 
 pub invariant_of-seat : goal.invariant_of-seat
 invariant_of-seat g c =
     let s = c.args.seat.now in
-    let r = lane_more _ _ _ _ _ c.in-Ok.ensures.rule s.part s.pushes_only s.counted s.in_order refl refl in
-    record { part = r.0; pushes_only = r.1; counted = r.2; in_order = r.3; polls_counted = s.polls_counted; polled_in_order = s.polled_in_order; polled_issued = (let p = s.polled_issued in omega arith) }
+    let r = lane_more _ _ _ _ _ c.in-Ok.ensures.rule s.share s.pushes_only s.counted s.in_order refl refl in
+    record { share = r.0; pushes_only = r.1; counted = r.2; in_order = r.3; polls_counted = s.polls_counted; polled_in_order = s.polled_in_order; polled_issued = (let p = s.polled_issued in omega arith) }
 
 pub returns-in-Ok-clause-of_hub : goal.returns-in-Ok-clause-of_hub
 returns-in-Ok-clause-of_hub g c =
@@ -28,3 +33,20 @@ returns-in-Ok-clause-of_hub g c =
       limit = (let n = ap length put in let m = length-append (view s.pass).pushed (plain_of s.lane s.issued c.args.self.now.year c.args.row ∷ []) in let k = s.counted in let j = c.if-seat-self.false in omega arith);
       rows = rows_and_one s.lane c.args.self.now.year s.issued (view s.pass).pushed _ c.args.row r.rows s.counted put;
     }
+
+pub returns-in-Ok-clause-seen : goal.returns-in-Ok-clause-seen
+unfolding as_lane
+returns-in-Ok-clause-seen g c =
+    let s = c.args.seat.now in
+    let put = ap (λ (t : Trace). t.pushed) c.in-Ok.ensures.rule in
+    ap (λ rows. a_lane s.lane rows (polled s)) (ap (map (λ (x : Plain). x.widths)) put ∙ map-append (λ (x : Plain). x.widths) (view s.pass).pushed (plain_of s.lane s.issued c.args.self.now.year c.args.row ∷ []))
+
+pub returns-in-Ok-clause-ticket : goal.returns-in-Ok-clause-ticket
+unfolding as_lane
+returns-in-Ok-clause-ticket g c =
+    let s = c.args.seat.now in
+    ap (ticket_of s.lane) (s.counted ∙ sym (length-map (view s.pass).pushed (λ (x : Plain). x.widths)))
+
+pub returns-in-Err-clause-seen : goal.returns-in-Err-clause-seen
+unfolding as_lane
+returns-in-Err-clause-seen g c = search rules

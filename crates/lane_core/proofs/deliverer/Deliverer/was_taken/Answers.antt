@@ -1,9 +1,9 @@
 use Rattle.std.proofs.Common.{◌≡◌, ◌==◌, ◌&&◌, ◌||◌, nat_lt, Bool, true, false, sym, ap, ◌∙◌, get_or, arith}
 use Rattle.std.proofs.lemmas.Grind.{common_steps}
-use Rattle.lane_core.specs.Desk.{is_known, was_taken}
-use Rattle.lane_core.specs.Drawer.{has_come, head_at}
-use Rattle.lane_core.proofs.DeskFacts.{was_is}
-use Rattle.lane_core.proofs.DrawerFacts.{any_finds, finds_own}
+use Rattle.lane_core.specs.ReorderBuffer.{is_known, was_taken}
+use Rattle.lane_core.specs.NextSlots.{has_come, slot_at}
+use Rattle.lane_core.proofs.BufferFacts.{was_is}
+use Rattle.lane_core.proofs.LookupFacts.{any_finds, finds_own}
 use Rattle.lane_core.proofs.deliverer.Deliverer.was_taken.Goals as goal
 
 either_of : (a b x c d y : Bool) → a ≡ c → b ≡ d → x ≡ y → ((a || b) || x) ≡ (c || d || y)
@@ -15,11 +15,11 @@ returns c =
     let lane = c.args.ticket.lane in
     let number = c.args.ticket.number in
     let nexts = c.self.inside.nexts.items in
-    let heads = c.self.inside.heads.items in
+    let slots = c.self.inside.slots.items in
     let given : nat_lt c.from-number.result c.index.result.now ≡ nat_lt number (get_or nexts lane 0) = grind (arith, common_steps) in
     let is_next : (c.from-number.result == c.index-2.result.now) ≡ (get_or nexts lane 0 == number) = grind (arith, common_steps) in
-    let come : c.has_come.result ≡ has_come (head_at heads lane) = grind (arith, common_steps) in
+    let come : c.has_come.result ≡ has_come (slot_at slots lane) = grind (arith, common_steps) in
     let later : c.contains.result ≡ is_known lane number c.self.inside.known.keys = c.contains.ensures ∙ any_finds _ lane number (finds_own c.args.ticket) c.self.inside.known.keys in
     either_of _ _ _ _ _ _ given (λ i. is_next i && come i) later
-    ∙ (sym (was_is nexts heads c.self.inside.later.entries c.self.inside.known.keys c.self.invariant.lanes lane number)
+    ∙ (sym (was_is nexts slots c.self.inside.later.entries c.self.inside.known.keys c.self.invariant.lanes lane number)
     ∙ ap (λ d. was_taken d lane number) c.self.view_is)

@@ -1,10 +1,10 @@
 use Rattle.std.proofs.Common.{◌<◌, true, length, ap, ◌∙◌, arith}
+use Rattle.std.proofs.lemmas.List.{map-set}
 use Rattle.lane_core.specs.declared.event.Event.TheVariants.{Close}
 use Rattle.lane_core.specs.declared.lane.Lane.{Lane}
 use Rattle.lane_core.specs.Holding.{held, lane_held}
 use Rattle.lane_core.proofs.HeldFacts.{count_held, lane_at, same_lane}
 use Rattle.lane_core.proofs.LaneShowFacts.{close_done, close_none, close_past}
-use Rattle.lane_core.proofs.ListFacts.{map_put}
 use Rattle.lane_core.proofs.ShowFacts.{shown_after}
 use Rattle.lane_core.proofs.world.World.close.Goals as goal
 
@@ -25,7 +25,7 @@ invariant_of-self c =
     let x = c.index_mut.result.now in
     let at = lane_at lanes c.args.lane x less c.index_mut.ensures.value in
     let open_ = ap (λ (x : Lane). x.closed) (same_lane lanes c.args.lane x c.index.result.now less c.index_mut.ensures.value c.index.ensures) ∙ c.if-index.false in
-    rw (map_put lane_held lanes c.args.lane record { closed = true; issued = x.issued; handed = x.handed; polled = x.polled })
+    rw (map-set lane_held lanes c.args.lane record { closed = true; issued = x.issued; handed = x.handed; polled = x.polled })
     (shown_after (held c.self.inside) _ (Close c.args.lane) _ c.self.invariant (close_done (held c.self.inside) c.args.lane (lane_held x) at open_))
 
 pub returns-clause-steps : goal.returns-clause-steps
@@ -36,5 +36,5 @@ returns-clause-steps c =
     let at = lane_at lanes c.args.lane x less c.index_mut.ensures.value in
     let open_ = ap (λ (x : Lane). x.closed) (same_lane lanes c.args.lane x c.index.result.now less c.index_mut.ensures.value c.index.ensures) ∙ c.if-index.false in
     rw (← c.self.view_is)
-    (rw (map_put lane_held lanes c.args.lane record { closed = true; issued = x.issued; handed = x.handed; polled = x.polled })
+    (rw (map-set lane_held lanes c.args.lane record { closed = true; issued = x.issued; handed = x.handed; polled = x.polled })
     (close_done (held c.self.inside) c.args.lane (lane_held x) at open_))

@@ -3,7 +3,7 @@ use Rattle.std.proofs.Common.{◌<◌, [], ◌∷◌, ◌++◌, length, Bor, ap,
 use Rattle.lane_core.specs.declared.event.Event.TheVariants.{Hand}
 use Rattle.lane_core.specs.declared.job.Plain.{Plain}
 use Rattle.lane_core.specs.Contents.{lane_of}
-use Rattle.lane_core.specs.Desk.{IsNext}
+use Rattle.lane_core.specs.ReorderBuffer.{IsNext}
 use Rattle.lane_core.specs.Holding.{held, lane_held}
 use Rattle.lane_core.proofs.HandShowFacts.{hand_done, hand_enabled, hand_none, if_some}
 use Rattle.lane_core.proofs.HeldFacts.{count_held, lane_at, lane_put, lane_same}

@@ -1,9 +1,10 @@
 use Rattle.std.proofs.Common.{◌<◌, length, arith, sym, ap, ◌∙◌}
+use Rattle.std.proofs.lemmas.Bool.{lt-ltb}
 use Rattle.lane_core.specs.Holding.{held, lane_held}
 use Rattle.lane_core.specs.Machine.{handed_of, polled_of}
 use Rattle.lane_core.specs.Tickets.{is_held_by}
 use Rattle.lane_core.proofs.HeldFacts.{lane_at}
-use Rattle.lane_core.proofs.SeenFacts.{outbox_true, polled_true, seen, waits}
+use Rattle.lane_core.proofs.SeenFacts.{outbox_true, seen, waits}
 use Rattle.lane_core.proofs.world.World.place.Goals as goal
 
 pub returns-then-index-clause-none : goal.returns-then-index-clause-none
@@ -22,7 +23,7 @@ returns-then-index-2-clause-found c =
     let less : l < length lanes = omega arith in
     rw (← c.self.view_is) (λ s reached shows.
     let a = seen (held c.self.inside) s l (lane_held c.index-2.result.now) reached shows (lane_at lanes l c.index-2.result.now less c.index-2.ensures) in
-    let b = a.polled in polled_true c.args.ticket.number (polled_of s l) (omega arith))
+    let b = a.polled in lt-ltb c.args.ticket.number (polled_of s l) (omega arith))
 
 pub returns-then-index-len-clause-found : goal.returns-then-index-len-clause-found
 returns-then-index-len-clause-found c =

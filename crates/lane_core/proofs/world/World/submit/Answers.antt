@@ -1,5 +1,6 @@
 use Rattle.std.proofs.Common.{List, ℕ, ◌+◌, ◌<◌, ◌^◌, [], ◌∷◌, ◌++◌, length, ap, ◌∙◌, arith}
 use Rattle.std.specs.declared.alloc.AllocFailed.{AllocFailed}
+use Rattle.std.proofs.lemmas.List.{map-set}
 use Rattle.lane_core.specs.declared.event.Event.TheVariants.{Submit}
 use Rattle.lane_core.specs.declared.job.Plain.{Plain}
 use Rattle.lane_core.specs.declared.lane.Lane.{Lane}
@@ -7,7 +8,6 @@ use Rattle.lane_core.specs.Plain.{plain_of}
 use Rattle.lane_core.specs.Holding.{held, lane_held}
 use Rattle.lane_core.proofs.HeldFacts.{count_held, lane_at, same_lane}
 use Rattle.lane_core.proofs.LaneShowFacts.{submit_closed, submit_done, submit_full, submit_past}
-use Rattle.lane_core.proofs.ListFacts.{map_put}
 use Rattle.lane_core.proofs.ShowFacts.{shown_after}
 use Rattle.lane_core.proofs.world.World.submit.Goals as goal
 
@@ -38,7 +38,7 @@ invariant_of-self c =
     let job = ap (λ (n : ℕ). plain_of c.args.lane n c.self.inside.year c.args.row) issued in
     let jobs = ◌∙◌ {A = List Plain} c.in-Ok.ensures.items (ap (λ (x : Plain). c.self.inside.jobs.items ++ x ∷ []) job) in
     let steps = submit_done (held c.self.inside) c.args.lane c.args.row (lane_held x) at open_ room in
-    rw (issued, map_put lane_held lanes c.args.lane record { closed = x.closed; issued = x.issued + 1; handed = x.handed; polled = x.polled }, jobs)
+    rw (issued, map-set lane_held lanes c.args.lane record { closed = x.closed; issued = x.issued + 1; handed = x.handed; polled = x.polled }, jobs)
     (shown_after (held c.self.inside) _ (Submit c.args.lane c.args.row) _ c.self.invariant steps)
 
 pub returns-in-Ok-clause-steps : goal.returns-in-Ok-clause-steps
@@ -54,7 +54,7 @@ returns-in-Ok-clause-steps c =
     let jobs = ◌∙◌ {A = List Plain} c.in-Ok.ensures.items (ap (λ (x : Plain). c.self.inside.jobs.items ++ x ∷ []) job) in
     let steps = submit_done (held c.self.inside) c.args.lane c.args.row (lane_held x) at open_ room in
     rw (← c.self.view_is)
-    (rw (issued, map_put lane_held lanes c.args.lane record { closed = x.closed; issued = x.issued + 1; handed = x.handed; polled = x.polled }, jobs)
+    (rw (issued, map-set lane_held lanes c.args.lane record { closed = x.closed; issued = x.issued + 1; handed = x.handed; polled = x.polled }, jobs)
     steps)
 
 pub returns-in-Err-clause-refused : goal.returns-in-Err-clause-refused

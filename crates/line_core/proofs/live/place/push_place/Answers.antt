@@ -2,7 +2,7 @@ use Rattle.std.proofs.Common.{◌≡◌, ◌≤◌, ◌<◌, ◌+◌, ◌∙◌,
 use Rattle.std.proofs.lemmas.Option.{get_or_from_slice_get, slice_get_read}
 use Rattle.std.proofs.lemmas.Result.{on_ok_weaker}
 use Rattle.line_core.specs.live.Came.{IsReady, Says}
-use Rattle.line_core.specs.live.Text.{numbered_line}
+use Rattle.line_core.specs.answers.Reports.{numbered_line}
 use Rattle.line_core.specs.declared.live.waiting.Waiting.{Waiting}
 use Rattle.line_core.proofs.live.place.push_place.Goals as goal
 
@@ -23,10 +23,10 @@ returns-in-Row c =
     let low : (v.first ≤ c.in-Row.number) × (c.in-Row.number < v.first + length v.deliveries.items) =
     subst (λ (w : Waiting). (w.first ≤ c.in-Row.number) × (c.in-Row.number < w.first + length w.deliveries.items)) (sym same) (r.3, r.4) in
     let x = c.index.result.now in
-    on_ok_weaker c.push_numbered.result (λ p. (
+    on_ok_weaker c.push_line.result (λ p. (
       numbered_line c.args.form c.in-Row.lane c.in-Row.number c.answer.result,
       p,
       subst (λ place. Says c.args.form c.args.lanes.now place (numbered_line c.args.form c.in-Row.lane c.in-Row.number c.answer.result)) (sym c.in-Row.is)
           (v, x, c.answer.result, r.2 ∙ ap Some (sym same), low.0, slice_get_read v.deliveries.items (length v.deliveries.items) _ x refl (omega (arith, low.0, low.1)) c.index.ensures, c.answer.ensures, refl),
     ))
-    c.push_numbered.ensures
+    c.push_line.ensures

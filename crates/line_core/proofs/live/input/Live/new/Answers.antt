@@ -10,4 +10,5 @@ returns-in-Ok-clause-came g c = (
   refl,
   refl,
   told_at_first _ _ c.in-Ok.progress.stopped c.in-Ok.ensures.going,
+  λ ended. (let begun = c.in-Ok.ensures.begun in let never : ⊥ = cc (begun, ended) in absurd never),
 )

@@ -3,7 +3,7 @@ use Rattle.lane_core.specs.declared.job.Plain.{Plain}
 use Rattle.wire_core.specs.Events.{Event}
 use Rattle.line_core.specs.live.Came.{IsAt}
 use Rattle.line_core.specs.live.Stops.{TellsFaults}
-use Rattle.line_core.specs.declared.live.form.Form.{Form}
+use Rattle.line_core.specs.declared.answers.form.Form.{Form}
 use Rattle.line_core.proofs.live.input.LiveTraffic.next.Given as goal
 
 abbrev pub invariant-lines : goal.invariant-lines
@@ -11,5 +11,6 @@ invariant-lines g l = record {
   came : (f : Form) (events : List Event) (given : List (List (List ℕ))) (brought : List (List Plain)) → IsAt f events l.fn.self.progress given brought → IsAt f events l.self.progress given brought;
   wire : l.self.wire ≡ l.fn.self.wire;
   form : l.self.form ≡ l.fn.self.form;
+  ended : l.self.progress.lines.has_ended ≡ l.fn.self.progress.lines.has_ended;
   told : (a b c d : Bool) → TellsFaults a b c d l.fn.self.progress.stopped → TellsFaults a b c d l.self.progress.stopped;
 }

@@ -1,0 +1,5 @@
+use Rattle.hub_core.proofs.SettledFacts.{deliveries_by_place as law}
+use Rattle.hub_core.proofs.laws.deliveries_by_place.Goals as goal
+
+pub returns : goal.returns
+returns c = law

@@ -1,0 +1,5 @@
+use Rattle.hub_core.proofs.LaneViewFacts.{headline}
+use Rattle.hub_core.proofs.laws.headline.Goals as goal
+
+pub returns : goal.returns
+returns c = headline

@@ -1,0 +1,104 @@
+-- What is known of the lanes' next numbers.
+use Rattle.std.proofs.Common.{◌≡◌, ◌≢◌, ⊎_elim, ℕ, ◌+◌, ◌<◌, ◌≤◌, ◌^◌, ◌==◌, ◌||◌, nat_lt, Bool, true, false, zero, suc, List, [], ◌∷◌, ◌++◌, length, set, get_or, refl, sym, ap, ◌∙◌, arith}
+use Rattle.std.specs.Prelude.{Contains}
+use Rattle.std.proofs.lemmas.Bool.Decides.{nat_tests}
+use Rattle.std.proofs.lemmas.List.Folds.{list_any-append}
+use Rattle.std.specs.Map.{values_of}
+use Rattle.std.specs.List.{sum_by}
+use Rattle.std.proofs.lemmas.List.Sums.{sum_by-append}
+use Rattle.std.proofs.lemmas.Bool.{and_parts, cases_lt, eqb-true, false_from_ne_true}
+use Rattle.lane_core.specs.declared.next_slot.NextSlot.{NextSlot}
+use Rattle.lane_core.specs.declared.next_slot.NextSlot.TheVariants.{Missing, Here, Out}
+use Rattle.lane_core.specs.declared.job.Plain.{Plain}
+use Rattle.lane_core.specs.declared.ticket.Ticket.{Ticket}
+use Rattle.lane_core.specs.ReorderBuffer.{has_next}
+use Rattle.lane_core.specs.NextSlots.{AreKept, IsSlotOf, buffer_of, slot_at, is_here, waiting_at, waiting_of}
+use Rattle.lane_core.specs.Tickets.{is_among, is_ticket_of}
+use Rattle.lane_core.proofs.LookupFacts.{none_past}
+
+-- one slot's content in another's place
+pub set_sum : (h : Plain → ℕ) (hs : List NextSlot) (i : ℕ) (a : NextSlot) → i < length hs
+    → sum_by h (waiting_at (set hs i a)) + sum_by h (waiting_of (slot_at hs i)) ≡ sum_by h (waiting_at hs) + sum_by h (waiting_of a)
+set_sum h [] i a low = absurd (omega arith)
+set_sum h (x ∷ hs) zero a low =
+    let new = sum_by-append h (waiting_of a) (waiting_at hs) in
+    let old = sum_by-append h (waiting_of x) (waiting_at hs) in
+    omega arith
+set_sum h (x ∷ hs) (suc i) a low =
+    let new = sum_by-append h (waiting_of x) (waiting_at (set hs i a)) in
+    let old = sum_by-append h (waiting_of x) (waiting_at hs) in
+    let rest = set_sum h hs i a (omega arith) in
+    omega arith
+
+-- the lane and number of a delivery that waits as its lane's next
+pub own_parts : (l k : ℕ) (x : Plain) → IsSlotOf l k (Here x) → (x.lane ≡ l) × (x.number ≡ k) × (k < 2 ^ 32)
+own_parts l k x is =
+    let s = and_parts (is_ticket_of l k x) (nat_lt k (2 ^ 32)) is in
+    let t = and_parts (x.lane == l) (x.number == k) s.0 in
+    (eqb-true x.lane l t.0, eqb-true x.number k t.1, lt_from k (2 ^ 32) s.1)
+  where
+    lt_from : (m n : ℕ) → nat_lt m n ≡ true → m < n
+    lt_from m n e = grind (arith, nat_tests)
+
+ticket_at : (l k : ℕ) (x : Plain) → IsSlotOf l k (Here x) → is_ticket_of l k x ≡ true
+ticket_at l k x is = (and_parts (is_ticket_of l k x) (nat_lt k (2 ^ 32)) is).0
+
+other_lane : (l m k : ℕ) (x : Plain) → x.lane ≡ l → l ≢ m → is_ticket_of m k x ≡ false
+other_lane l m k x at other = grind (arith, nat_tests)
+
+-- of another lane none waits
+none_of : (lane next : ℕ → ℕ) (hs : List NextSlot) (l k : ℕ) → ((j : ℕ) → j < length hs → IsSlotOf (lane j) (next j) (slot_at hs j)) → ((j : ℕ) → lane j ≢ l)
+    → is_among l k (waiting_at hs) ≡ false
+none_of lane next [] l k own other = refl
+none_of lane next (Missing ∷ hs) l k own other = none_of (λ j. lane (suc j)) (λ j. next (suc j)) hs l k (λ j low. own (suc j) (omega arith)) (λ j. other (suc j))
+none_of lane next (Here x ∷ hs) l k own other =
+    ap (λ b. b || is_among l k (waiting_at hs)) (other_lane (lane 0) l k x (own_parts (lane 0) (next 0) x (own 0 (omega arith))).0 (other 0))
+    ∙ none_of (λ j. lane (suc j)) (λ j. next (suc j)) hs l k (λ j low. own (suc j) (omega arith)) (λ j. other (suc j))
+none_of lane next (Out ∷ hs) l k own other = none_of (λ j. lane (suc j)) (λ j. next (suc j)) hs l k (λ j low. own (suc j) (omega arith)) (λ j. other (suc j))
+
+-- a lane's next number waits where its slot says so
+here_of : (lane next : ℕ → ℕ) (hs : List NextSlot) (l : ℕ) → ((j : ℕ) → j < length hs → IsSlotOf (lane j) (next j) (slot_at hs j)) → ((i j : ℕ) → lane i ≡ lane j → i ≡ j)
+    → l < length hs → is_among (lane l) (next l) (waiting_at hs) ≡ is_here (slot_at hs l)
+here_of lane next [] l own apart low = absurd (omega arith)
+here_of lane next (Missing ∷ hs) zero own apart low =
+    none_of (λ j. lane (suc j)) (λ j. next (suc j)) hs (lane 0) (next 0) (λ j less. own (suc j) (omega arith)) (λ j e. let c = apart (suc j) 0 e in absurd (omega arith))
+here_of lane next (Out ∷ hs) zero own apart low =
+    none_of (λ j. lane (suc j)) (λ j. next (suc j)) hs (lane 0) (next 0) (λ j less. own (suc j) (omega arith)) (λ j e. let c = apart (suc j) 0 e in absurd (omega arith))
+here_of lane next (Here x ∷ hs) zero own apart low = ap (λ b. b || is_among (lane 0) (next 0) (waiting_at hs)) (ticket_at (lane 0) (next 0) x (own 0 low))
+here_of lane next (Missing ∷ hs) (suc l) own apart low =
+    here_of (λ j. lane (suc j)) (λ j. next (suc j)) hs l (λ j less. own (suc j) (omega arith)) (λ i j e. let c = apart (suc i) (suc j) e in omega arith) (omega arith)
+here_of lane next (Out ∷ hs) (suc l) own apart low =
+    here_of (λ j. lane (suc j)) (λ j. next (suc j)) hs l (λ j less. own (suc j) (omega arith)) (λ i j e. let c = apart (suc i) (suc j) e in omega arith) (omega arith)
+here_of lane next (Here x ∷ hs) (suc l) own apart low =
+    ap (λ b. b || is_among (lane (suc l)) (next (suc l)) (waiting_at hs)) (other_lane (lane 0) (lane (suc l)) (next (suc l)) x (own_parts (lane 0) (next 0) x (own 0 (omega arith))).0 (λ e. let c = apart 0 (suc l) e in absurd (omega arith)))
+    ∙ here_of (λ j. lane (suc j)) (λ j. next (suc j)) hs l (λ j less. own (suc j) (omega arith)) (λ i j e. let c = apart (suc i) (suc j) e in omega arith) (omega arith)
+
+-- one that waits as its lane's next number is among all that wait
+pub contained : (hs : List NextSlot) (l : ℕ) (x : Plain) (rest : List Plain) → l < length hs → slot_at hs l ≡ Here x → Contains (waiting_at hs ++ rest) x
+contained [] l x rest low is = absurd (omega arith)
+contained (Missing ∷ hs) zero x rest low is = absurd (cc)
+contained (Out ∷ hs) zero x rest low is = absurd (cc)
+contained (Here y ∷ hs) zero x rest low is = (0, omega arith, here_is y x is)
+  where
+    here_is : (y x : Plain) → Here y ≡ Here x → y ≡ x
+    here_is y x e = cc
+contained (Missing ∷ hs) (suc l) x rest low is = contained hs l x rest (omega arith) is
+contained (Out ∷ hs) (suc l) x rest low is = contained hs l x rest (omega arith) is
+contained (Here y ∷ hs) (suc l) x rest low is = let c = contained hs l x rest (omega arith) is in (suc c.0, (let less = c.1 in omega arith), c.2)
+
+or_false : (a b : Bool) → b ≡ false → (a || b) ≡ a
+or_false true b e = refl
+or_false false b e = e
+
+-- a lane's next number waits exactly where its slot says so
+pub next_waits : (nexts : List ℕ) (hs : List NextSlot) (es : List (Ticket × Plain)) (ks : List Ticket) (l : ℕ) → AreKept nexts hs es ks → l < length nexts
+    → has_next (buffer_of nexts hs es ks) l ≡ is_here (slot_at hs l)
+next_waits nexts hs es ks l kept low =
+    let n = get_or nexts l 0 in
+    let more : is_among l n (waiting_at hs ++ values_of es) ≡ (is_among l n (waiting_at hs) || is_among l n (values_of es)) = list_any-append (is_ticket_of l n) (waiting_at hs) (values_of es) in
+    let none : is_among l n (values_of es) ≡ false = ⊎_elim
+    (λ (small : n < 2 ^ 32). false_from_ne_true (is_among l n (values_of es)) (λ is. let c : true ≡ false = sym (kept.indexed.among l n is) ∙ kept.apart l low small in cc))
+    (λ (great : 2 ^ 32 ≤ n). none_past l n es kept.indexed.tied great)
+    (cases_lt n (2 ^ 32)) in
+    more ∙ (or_false (is_among l n (waiting_at hs)) (is_among l n (values_of es)) none
+    ∙ here_of (λ j. j) (λ j. get_or nexts j 0) hs l (λ j less. kept.own j (let c = kept.lanes in omega arith)) (λ i j e. e) (let c = kept.lanes in omega arith))

@@ -1,0 +1,56 @@
+//! A lane's next number.
+ghost use Rattle.std.specs.Prelude.{◌≡◌, ◌<◌, ℕ, [], false, length, slice_set, IfNone, IfSome};
+ghost use Rattle.lane_core.specs.NextSlots.{has_come, slot_at, is_here, waiting_at};
+ghost use Rattle.lane_core.specs.declared.next_slot.NextSlot.TheVariants.{Here, Out};
+
+use crate::delivery::Delivery;
+use std::mem;
+
+/// What a deliverer has of a lane's next number.
+#[derive(Debug, Drop)]
+pub(crate) enum NextSlot {
+    /// It was not taken in.
+    Missing,
+    /// It waits.
+    Here(Delivery),
+    /// It was taken out of turn, so the lane is given nothing more.
+    Out,
+}
+
+impl NextSlot {
+    /// Whether the number was taken in.
+    pub(crate) fn has_come(&self) -> bool
+        ensures { result ≡ has_come self.now }
+    {
+        !matches!(self, NextSlot::Missing)
+    }
+
+    /// The delivery that waits, in whose place `left` stands then; else nothing changes.
+    pub(crate) fn take(&mut self, left: NextSlot) -> Option<Delivery>
+        ensures some { IfSome result (λ x. (self.old ≡ Here x) × (self.new ≡ left)) }
+        ensures none { IfNone result ((is_here self.old ≡ false) × (self.new ≡ self.old)) }
+    {
+        match mem::replace(self, left) {
+            NextSlot::Here(delivery) => Some(delivery),
+            other => {
+                *self = other;
+                None
+            }
+        }
+    }
+}
+
+/// The delivery of the first slot that has one, taken out of turn; else nothing changes.
+pub(crate) fn take_first(slots: &mut [NextSlot]) -> Option<Delivery>
+    ensures some { IfSome result (λ x. (i : ℕ) × (i < length slots.old) × (slot_at slots.old i ≡ Here x)
+        × (slots.new ≡ slice_set slots.old i Out)) }
+    ensures none { IfNone result ((waiting_at slots.old ≡ []) × (slots.new ≡ slots.old)) }
+    ensures len { length slots.new ≡ length slots.old }
+{
+    for i in 0..slots.len() {
+        if let Some(delivery) = slots[i].take(NextSlot::Out) {
+            return Some(delivery);
+        }
+    }
+    None
+}

@@ -1,0 +1,14 @@
+//! Laws of the machine, each the contract of a function that does nothing.
+ghost use Rattle.streams_core.specs.Laws.{AnsweredOnce, NoneIsLeftOut};
+
+/// Whatever happens, in whatever order, the till has taken the answers to the first of its rows, in order and each
+/// once; and where an answer is left, the next that it takes is that to its next row.
+pub fn answered_once()
+    ensures { AnsweredOnce }
+{}
+
+/// Up to the last answer every row has been answered, once and in order, and only answers that the till has taken are
+/// taken out of the stream.
+pub fn none_is_left_out()
+    ensures { NoneIsLeftOut }
+{}

@@ -1,0 +1,68 @@
+-- The words of the theorems: those of the crates below, passed on, and a few of their own.
+pub use Rattle.std.specs.List.{AllByRecursion, AllZip}
+pub use Rattle.digits_core.specs.Digits.{AreAsciiDigits, AreDigits, IsChecked, digits_of}
+pub use Rattle.element_core.specs.Elements.{Entry, IsElements}
+pub use Rattle.ean_code.specs.Symbols.{IsCheckedPlace, Kind, widths_of}
+pub use Rattle.code128_code.specs.Symbols.{IsCode128Symbol, characters_of, mod103}
+pub use Rattle.code128_code.specs.declared.fault.Code128Fault.TheVariants.{CheckCharacter}
+pub use Rattle.scan_core.specs.Answers.{IsAnswer, Reads}
+pub use Rattle.scan_core.specs.Row.{IsRow, dots_of}
+pub use Rattle.scan_core.specs.Showing.{Shows, Way, kind_of}
+pub use Rattle.scan_core.specs.Windows.{AreSymbolsOf, AreTold, search_of}
+pub use Rattle.scan_core.specs.declared.answer.Answer.{Answer as Said}
+pub use Rattle.scan_core.specs.declared.answer.Answer.TheVariants.{Refused}
+pub use Rattle.scan_core.specs.declared.carrier.Carrier.{Carrier}
+pub use Rattle.scan_core.specs.declared.carrier.Carrier.TheVariants.{Gs1128}
+pub use Rattle.scan_core.specs.declared.fault.RowFault.TheVariants.{Code128, SymbolCheckDigit}
+pub use Rattle.scan_core.specs.declared.window.Window.{Window}
+pub use Rattle.sheet_core.specs.BarRows.{IsBarRow, label_answer}
+pub use Rattle.sheet_core.specs.Bitmaps.{Bitmap}
+pub use Rattle.sheet_core.specs.Drawing.{ArePrinted, bar_dots}
+pub use Rattle.sheet_core.specs.Grids.{Cells, IsGrid}
+pub use Rattle.sheet_core.specs.Labels.{Drawn, FitsCell, IsDrawn, label_text}
+pub use Rattle.sheet_core.specs.declared.label.Label.{Label}
+pub use Rattle.sheet_core.specs.pbm.Images.{images_of, pbm_of}
+pub use Rattle.lane_core.specs.declared.job.Plain.{Plain}
+pub use Rattle.hub_core.specs.Hubs.{AreAllSeats, year_of}
+pub use Rattle.hub_core.specs.Lane.{AreSettled, Lane}
+pub use Rattle.hub_core.specs.Lanes.{as_lane}
+pub use Rattle.hub_core.specs.Laws.{AreAnswersOf}
+pub use Rattle.hub_core.specs.Serving.{served}
+pub use Rattle.wire_core.specs.Lines.{most_line, pieces_of}
+pub use Rattle.line_core.specs.input.Records.{AreItems, records_of}
+pub use Rattle.line_core.specs.lanes.Feeds.{LaneRow, feeds_of, lanes_meaning}
+pub use Rattle.line_core.specs.live.Laws.{IsPlain, IsReordered, record_lines}
+pub use Rattle.line_core.specs.live.Replies.{most_rows}
+pub use Rattle.line_core.specs.live.Text.{Answers, fields_in}
+pub use Rattle.line_core.specs.declared.answers.form.Form.TheVariants.{HumanReadable}
+pub use Rattle.line_core.specs.scan.Printed.{AreScanned, SaysElements, labels_answers}
+use Rattle.std.specs.Prelude.{◌≡◌, ◌≢◌, ◌<◌, ℕ, List, Result, Ok, Err, length, slice_index, slice_set}
+use Rattle.ean_code.specs.Spelling.{IsGtinOf}
+use Rattle.ean_code.specs.Symbols.{digit_count}
+use Rattle.element_core.specs.Elements.{FirstFault}
+use Rattle.element_core.specs.declared.fault.ElementFault.{ElementFault}
+
+-- P is true of one value, and of no other
+abbrev pub ExactlyOne : {X : Type 0} → (X → Type 0) → Type 0
+ExactlyOne {X} P = (x : X) × P x × ((y : X) → P y → y ≡ x)
+
+-- the text is the element string of this list, or has this first fault
+abbrev pub Means : ℕ → List ℕ → Result (List Entry) ElementFault → Type 0
+Means year text (Ok list) = IsElements year text list
+Means year text (Err fault) = FirstFault year text fault
+
+-- the digits of a number of this kind, its check digit right
+pub record IsSymbolNumber (kind : Kind) (digits : List ℕ) : Type 0 where
+  pub count : length digits ≡ digit_count kind
+  pub digits_are : AreDigits digits
+  pub gtin : List ℕ
+  pub gtin_is : IsGtinOf kind digits gtin
+  pub checked : IsChecked gtin
+
+-- one of them is another, and the rest are the same
+pub record OneReplaced (old new : List ℕ) : Type 0 where
+  pub place : ℕ
+  pub item : ℕ
+  pub within : place < length old
+  pub other : item ≢ slice_index old place
+  pub new_is : new ≡ slice_set old place item
