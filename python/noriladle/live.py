@@ -1,0 +1,318 @@
+"""A running hub for asyncio: ``gs1_hub live`` as a child process, and an object for each of its lanes.
+
+    >>> async def read(*rows):
+    ...     async with Hub(lanes=4, workers=2, year=2026) as hub:
+    ...         return [await hub.lane(2).read(row) for row in rows]
+    >>> gum = "7 1 1 1 3 1 1 2 1 1 1 4 1 4 1 1 1 2 1 3 1 1 1 1 1 1 2 3 1 3 2 1 1 1 3 1 2 1 1 3 2 1 1 1 7"
+    >>> replies = asyncio.run(read([100], gum))
+    >>> print(*replies, sep="\\n")
+    2 0 refused 19 Blank
+    2 1 ]E4 (01)00000096385074
+    >>> replies[1].answer.elements
+    (Element(ai='01', value='00000096385074'),)
+
+Each lane gets the replies to its rows, in the order in which they were submitted, and each once. Any number of tasks
+may ask at the same time, all in the event loop in which the block was entered.
+"""
+from __future__ import annotations
+
+import asyncio
+import contextlib
+import os
+import signal
+from collections import OrderedDict, deque
+from dataclasses import dataclass
+from types import TracebackType
+from typing import AsyncIterator, Deque, Iterable, List, Optional, Sequence, Tuple, Type, Union, cast
+
+from . import Answer, Refusal, _bytes, _elements, _refusal
+
+__all__ = ["Hub", "HubEnded", "Lane", "Reply", "Widths"]
+
+Widths = Union[Sequence[int], str, bytes]
+"""A row of a scan: the widths of its runs in dots, light and dark in turn, light first and last; or their text, with
+one space between each two."""
+
+_WIDEST = 99_999
+"""The widest run of five digits; each above 65,535 is refused as too wide."""
+_PATIENCE = 5
+"""How many seconds the process may take to end, once its input has."""
+
+
+class HubEnded(Exception):
+    """The hub's process has ended, or its block was left: what has no reply gets none.
+
+    It is no OSError, so that whoever tries a connection again does not try a dead hub again with it.
+
+    ``status`` is that with which the process ended, below 0 the number of a signal; None where it was not waited for.
+    """
+
+    def __init__(self, why: str, status: Optional[int] = None) -> None:
+        super().__init__(why)
+        self.status = status
+
+
+@dataclass(frozen=True)
+class Reply:
+    """What a row is answered with."""
+
+    lane: int
+    number: Optional[int]
+    """The row's number in its lane, from 0; None of what is no row (17, 18, 39 or 44) or comes after the lane's last
+    number (35): it takes none."""
+    answer: Union[Answer, Refusal]
+    """What the row says, or why it is refused."""
+
+    def __str__(self) -> str:
+        """The line of ``gs1_hub live``, but for the lane of 39 and 44, which that does not tell."""
+        return f"{self.lane} {'-' if self.number is None else self.number} {self.answer}"
+
+
+class Lane:
+    """One lane of a hub, of :meth:`Hub.lane`."""
+
+    def __init__(self, hub: Hub, number: int) -> None:
+        self._hub = hub
+        self.number = number
+
+    async def read(self, widths: Widths) -> Reply:
+        """The reply to a row, whose answer may be a refusal.
+
+        Where the call is cancelled, its row may have been submitted, and then it has a number all the same.
+
+        :raises HubEnded: the hub has ended before it replied.
+        :raises ValueError: a width is below 0, or a text has a line end.
+        """
+        return await self._hub._ask(self.number, widths)
+
+    async def read_all(self, rows: Iterable[Widths], ahead: int = 256) -> AsyncIterator[Reply]:
+        """The replies to rows, in their order. At most ``ahead`` rows (1 or more) are taken before their replies are.
+
+        :raises HubEnded: as :meth:`read`; all replies that had come are given before.
+        :raises ValueError: as :meth:`read`.
+        """
+        asked: Deque[asyncio.Future[Reply]] = deque()
+        try:
+            for row in rows:
+                if len(asked) >= ahead:
+                    yield await asked.popleft()
+                asked.append(self._hub._ask(self.number, row))
+            while asked:
+                yield await asked.popleft()
+        finally:
+            for reply in asked:
+                reply.cancel()
+
+
+class Hub:
+    """A hub of 1 to 16 lanes and 1 to 16 workers, which runs as long as the ``async with`` block.
+
+    ``year``, 1951 to 2149, is the one that dates of two digits are read by. At most ``most`` rows (1 or more) are in
+    the process at a time; later ones wait for their turn, in the order of the calls. ``program`` is the path of
+    ``gs1_hub``, or the words that start it; where none is given, it is that of the environment's ``GS1_HUB``, or the
+    ``gs1_hub`` of the ``PATH``.
+
+    At the end of the block all that was asked is answered first. Where an exception ends it, the process is killed.
+
+    :raises ValueError: a number is out of its range.
+    :raises OSError: on entering the block, the program cannot be started.
+    """
+
+    def __init__(
+        self,
+        lanes: int,
+        workers: int,
+        year: int,
+        *,
+        program: Union[str, Sequence[str], None] = None,
+        most: int = 1024,
+    ) -> None:
+        if not (1 <= lanes <= 16 and 1 <= workers <= 16 and 1951 <= year <= 2149 and most >= 1):
+            raise ValueError("1 to 16 lanes and workers, a year from 1951 to 2149, and at least 1 row at a time")
+        found = program or os.environ.get("GS1_HUB") or "gs1_hub"
+        options = f"live --elements --lanes {lanes} --workers {workers} --year {year}".split()
+        self._words = [*([found] if isinstance(found, str) else found), *options]
+        self.lanes = lanes
+        self._most = most
+        self._process: Optional[_Process] = None
+
+    async def __aenter__(self) -> Hub:
+        # A session of its own, so that the Ctrl-C that ends the caller leaves the process to the end of the block.
+        _, self._process = await asyncio.get_running_loop().subprocess_exec(
+            lambda: _Process(self.lanes, self._most), *self._words, start_new_session=True
+        )
+        return self
+
+    async def __aexit__(
+        self, kind: Optional[Type[BaseException]], fault: Optional[BaseException], trace: Optional[TracebackType]
+    ) -> None:
+        process = self._running()
+        try:
+            if kind is None:
+                await process.finish()
+        finally:
+            process.close()
+            process.kill()
+            await asyncio.wait([process.gone])
+
+    @property
+    def pid(self) -> int:
+        """The process's number."""
+        return self._running().pid
+
+    def lane(self, number: int) -> Lane:
+        """A lane, 0 or above and below ``lanes``.
+
+        :raises ValueError: there is no such lane.
+        """
+        if not 0 <= number < self.lanes:
+            raise ValueError(f"lane {number} of {self.lanes}")
+        return Lane(self, number)
+
+    async def ended(self) -> HubEnded:
+        """Waits until the process has ended, whatever ends it, and tells how it ended."""
+        gone = self._running().gone
+        await asyncio.wait([gone])
+        return gone.result()
+
+    def _ask(self, lane: int, widths: Widths) -> asyncio.Future[Reply]:
+        return self._running().ask(lane, widths)
+
+    def _running(self) -> _Process:
+        if self._process is None:
+            raise HubEnded("the hub's block has not been entered")
+        return self._process
+
+
+class _Process(asyncio.SubprocessProtocol):
+    """The process, the rows that it has and has not answered, and those that wait until it has fewer.
+
+    Rows wait only while it has ``most`` of them.
+    """
+
+    def __init__(self, lanes: int, most: int) -> None:
+        self._loop = asyncio.get_running_loop()
+        self._most = most
+        self._numbers = [0] * lanes
+        self._sent: Deque[Tuple[int, asyncio.Future[Reply]]] = deque()
+        self._waiting: OrderedDict[asyncio.Future[Reply], Tuple[int, bytes]] = OrderedDict()
+        self._out: List[bytes] = []
+        self._line = self._error = b""
+        self._wrong = ""
+        self._ended: Optional[Tuple[str, Optional[int]]] = None
+        self.gone: asyncio.Future[HubEnded] = self._loop.create_future()
+
+    def ask(self, lane: int, widths: Widths) -> asyncio.Future[Reply]:
+        """Submits a row, or lets it wait. Nothing is awaited before, so that rows have the order of the calls."""
+        record = b"%d,%s\n" % (lane, _text(widths))
+        reply: asyncio.Future[Reply] = self._loop.create_future()
+        if self._ended:
+            _fail(reply, HubEnded(*self._ended))
+        elif len(self._sent) < self._most:
+            self._send(lane, record, reply)
+        else:
+            self._waiting[reply] = lane, record
+            # A call that is cancelled no longer waits.
+            reply.add_done_callback(lambda done: self._waiting.pop(done, None))
+        return reply
+
+    async def finish(self) -> None:
+        """Waits until all that was asked is answered, and then a few seconds at most until the process has ended."""
+        self.close()
+        asked = [*(reply for _, reply in self._sent), *self._waiting]
+        if asked:
+            await asyncio.wait(asked)
+        self._stdin.close()
+        await asyncio.wait([self.gone], timeout=_PATIENCE)
+
+    def close(self) -> None:
+        """Lets nothing more be asked."""
+        self._ended = self._ended or ("the hub's block has ended", None)
+
+    def kill(self) -> None:
+        """Ends the process, and what it has started: it is the first of a group of its own."""
+        if not self.gone.done():
+            with contextlib.suppress(ProcessLookupError):
+                os.killpg(self.pid, signal.SIGKILL)
+
+    def connection_made(self, transport: asyncio.BaseTransport) -> None:
+        self._transport = cast(asyncio.SubprocessTransport, transport)
+        self._stdin = cast(asyncio.WriteTransport, self._transport.get_pipe_transport(0))
+        self.pid = self._transport.get_pid()
+
+    def pipe_data_received(self, fd: int, data: bytes) -> None:
+        if fd == 2:
+            self._error = (self._error + data)[-1024:]
+        elif not self._wrong:
+            *lines, self._line = (self._line + data).split(b"\n")
+            try:
+                for line in lines:
+                    self._take(line)
+            except (ValueError, IndexError):
+                self._wrong = f"the hub answered what was not asked: {line!r}"
+                self.kill()
+
+    def process_exited(self) -> None:
+        # What it has started may keep the pipes open.
+        self.kill()
+
+    def connection_lost(self, exc: Optional[Exception]) -> None:
+        """The process has ended, and all that it wrote has come."""
+        self._transport.close()
+        status = self._transport.get_returncode()
+        last = self._error.decode("utf-8", "replace").strip().rpartition("\n")[2]
+        ended = f"{self._wrong or 'the hub has ended'}, status {status}{last and ': ' + last}", status
+        self._ended = self._ended or ended
+        for reply in [*(reply for _, reply in self._sent), *self._waiting]:
+            if not reply.done():
+                _fail(reply, HubEnded(*ended))
+        self.gone.set_result(HubEnded(*ended))
+
+    def _send(self, lane: int, record: bytes, reply: asyncio.Future[Reply]) -> None:
+        if not self._out:
+            # One write of all rows of a turn of the loop.
+            self._loop.call_soon(self._flush)
+        self._out.append(record)
+        self._sent.append((lane, reply))
+
+    def _flush(self) -> None:
+        self._stdin.write(b"".join(self._out))
+        self._out.clear()
+
+    def _take(self, line: bytes) -> None:
+        """Gives a line to the call whose row it answers: they come in the order of the rows."""
+        asked, reply = self._sent[0]
+        lane, number, text = line.decode("ascii").split(" ", 2)
+        if lane not in ("-", str(asked)) or number not in ("-", str(self._numbers[asked])):
+            raise ValueError("of another row")
+        identifier, _, elements = text.partition(" ")
+        answer = _refusal(text) or Answer(identifier, _elements(elements))
+        # From here on nothing fails, so that no row is taken off without its reply.
+        self._sent.popleft()
+        if not reply.done():
+            reply.set_result(Reply(asked, None if number == "-" else int(number), answer))
+        self._numbers[asked] += number != "-"
+        while self._waiting and len(self._sent) < self._most:
+            following, (lane_of_it, record) = self._waiting.popitem(last=False)
+            if not following.done():
+                self._send(lane_of_it, record, following)
+
+
+def _fail(reply: asyncio.Future[Reply], fault: HubEnded) -> None:
+    reply.set_exception(fault)
+    # So that nothing is logged of one that is no longer waited for.
+    reply.exception()
+
+
+def _text(widths: Widths) -> bytes:
+    if isinstance(widths, (str, bytes)):
+        text = _bytes(widths)
+        if b"\n" in text:
+            raise ValueError("a row has no line end")
+        return text
+    if min(widths, default=0) < 0:
+        raise ValueError("a width is below 0")
+    if max(widths, default=0) > _WIDEST:
+        # So that it is not refused for its six digits.
+        widths = [min(width, _WIDEST) for width in widths]
+    return " ".join(map(str, widths)).encode("ascii")

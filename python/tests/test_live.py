@@ -1,0 +1,393 @@
+"""The running hub in Python, with the real program: that of $GS1_HUB, or gs1_hub on the PATH.
+
+Needs apt-get install python3-pytest; the last line of a run with -s has the speed.
+"""
+import asyncio
+import os
+import shutil
+import signal
+import sys
+import time
+from itertools import groupby
+from pathlib import Path
+
+import pytest
+
+import noriladle
+from noriladle import Answer, Element, Refusal, live
+from noriladle.live import Hub, HubEnded
+
+sys.path.insert(0, str(Path(__file__).parents[2] / "tests" / "live"))
+from shop import EAN13, PROGRAM, random_lanes  # noqa: E402
+
+LIMIT = 120
+WIDTHS = [int(width) for width in EAN13.split()]
+READ = Answer("]E0", (Element("01", "09501101530003"),))
+
+
+def run(test):
+    """Runs a test to its end, in a time in which none of them waits."""
+    asyncio.run(asyncio.wait_for(test, 60))
+
+
+def stop(hub):
+    """Stops the process, so that it answers nothing until it goes on."""
+    os.kill(hub.pid, signal.SIGSTOP)
+    while Path(f"/proc/{hub.pid}/stat").read_text().rpartition(")")[2].split()[0] != "T":
+        time.sleep(0.001)
+
+
+def is_gone(pid):
+    """Whether a process has ended; where it has not, it is killed, so that a test that fails leaves none."""
+    try:
+        os.kill(pid, signal.SIGKILL)
+    except ProcessLookupError:
+        return True
+    return False
+
+
+def widths_of(text):
+    """The row of a GS1-128 label of an element string."""
+    image = noriladle.draw_label("gs1128", text, 2026)
+    middle = image[-60 * 60:-60 * 59]
+    dots = "".join(f"{byte:08b}" for byte in middle)
+    return [len(list(run_of)) for _, run_of in groupby(dots)]
+
+
+def test_reads_a_row():
+    async def test():
+        async with Hub(lanes=4, workers=2, year=2026) as hub:
+            reply = await hub.lane(2).read(WIDTHS)
+            assert (reply.lane, reply.number, reply.answer) == (2, 0, READ)
+            assert str(reply) == "2 0 ]E0 (01)09501101530003"
+            assert str(await hub.lane(2).read(WIDTHS[::-1])) == "2 1 ]E0 (01)09501101530003"
+            assert str(await hub.lane(0).read(EAN13)) == "0 0 ]E0 (01)09501101530003"
+            assert str(await hub.lane(0).read(EAN13.encode())) == "0 1 ]E0 (01)09501101530003"
+    run(test())
+
+
+@pytest.mark.parametrize("text", ["10A(17)261231", "10A\x1d17261231", "10A=B\x1d21C"])
+def test_tells_elements_apart(text):
+    async def test():
+        async with Hub(1, 1, 2026) as hub:
+            reply = await hub.lane(0).read(widths_of(text))
+            assert reply.answer == Answer("]C1", noriladle.parse_elements(text, 2026))
+    run(test())
+
+
+@pytest.mark.parametrize("widths, wanted", [
+    ([100], "1 0 refused 19 Blank"),
+    ([0, 65_535, 0], "1 0 refused 20 RunCount"),
+    ([], "1 - refused 18 BadRuns"),
+    ("", "1 - refused 18 BadRuns"),
+    ([5, 3], "1 - refused 18 BadRuns"),
+    ([5, 700_000], "1 - refused 18 BadRuns"),
+    ([70_000], "1 - refused 17 TooWide"),
+    ([700_000], "1 - refused 17 TooWide"),
+    ([2 ** 70, 1, 1], "1 - refused 17 TooWide"),
+    ("700000", "1 - refused 18 BadRuns"),
+    ("3,100", "1 - refused 39 Csv"),
+    ("rm -rf", "1 - refused 18 BadRuns"),
+    ("\u20ac\udcff", "1 - refused 18 BadRuns"),
+    (b"\0\xff\r", "1 - refused 18 BadRuns"),
+    ("9" * 65_534, "1 - refused 18 BadRuns"),
+    ("9" * 65_535, "1 - refused 44 InputSize"),
+    ("9" * 10_000_000, "1 - refused 44 InputSize"),
+], ids=lambda it: str(it)[:30])
+def test_refuses_a_row(widths, wanted):
+    async def test():
+        async with Hub(2, 1, 2026) as hub:
+            reply = await hub.lane(1).read(widths)
+            assert str(reply) == wanted and isinstance(reply.answer, Refusal)
+            # The next row is not moved by it.
+            following = await hub.lane(1).read(WIDTHS)
+            assert (following.number, following.answer) == (0 if reply.number is None else 1, READ)
+    run(test())
+
+
+@pytest.mark.parametrize("widths", [[100], [0, 65_535, 0], [], [5, 3], [5, 700_000], [70_000], [700_000], [1] * 9_999],
+                         ids=lambda it: str(it)[:30])
+def test_refuses_as_the_library_does(widths):
+    async def test():
+        async with Hub(1, 1, 2026) as hub:
+            with pytest.raises(Refusal) as raised:
+                noriladle.read_row(widths, 2026)
+            assert str((await hub.lane(0).read(widths)).answer) == str(raised.value)
+    run(test())
+
+
+def test_refuses_what_cannot_be_sent():
+    async def test():
+        async with Hub(2, 1, 2026) as hub:
+            for widths in ("1\n2", b"\n", [1, -1, 1]):
+                with pytest.raises(ValueError):
+                    await hub.lane(0).read(widths)
+            for lane in (-1, 2):
+                with pytest.raises(ValueError):
+                    hub.lane(lane)
+            assert (await hub.lane(0).read(WIDTHS)).number == 0
+    run(test())
+    for numbers in ((0, 1, 2026), (17, 1, 2026), (1, 0, 2026), (1, 17, 2026), (1, 1, 1950), (1, 1, 2150)):
+        with pytest.raises(ValueError):
+            Hub(*numbers)
+    with pytest.raises(ValueError):
+        Hub(1, 1, 2026, most=0)
+
+
+def test_finds_the_program(tmp_path, monkeypatch):
+    async def test(**named):
+        async with Hub(1, 1, 2026, **named) as hub:
+            assert (await hub.lane(0).read(WIDTHS)).answer == READ
+    (tmp_path / "gs1_hub").symlink_to(os.path.abspath(shutil.which(PROGRAM)))
+    found = str(tmp_path / "gs1_hub")
+    monkeypatch.setenv("GS1_HUB", "no/such/program")
+    with pytest.raises(FileNotFoundError):
+        run(test())
+    run(test(program=found))
+    run(test(program=["nice", found]))
+    monkeypatch.setenv("GS1_HUB", found)
+    run(test())
+    monkeypatch.delenv("GS1_HUB")
+    monkeypatch.setenv("PATH", str(tmp_path))
+    run(test())
+
+
+@pytest.mark.parametrize("count, most", [(5_000, 1), (5_000, 64), (100_000, 1024)])
+def test_16_lanes_at_once(count, most):
+    """Each lane gets the lines of `gs1_hub lanes`."""
+    asked, wanted = random_lanes(count, 16)
+
+    async def lane(hub, number):
+        assert [str(reply) async for reply in hub.lane(number).read_all(asked[number])] == wanted[number]
+
+    async def test():
+        async with Hub(16, 4, 2026, most=most) as hub:
+            start = time.perf_counter()
+            await asyncio.gather(*(lane(hub, number) for number in range(16)))
+            print(f"16 lanes at once, {most} rows under way: {count / (time.perf_counter() - start):,.0f} rows a second")
+    run(test())
+
+
+def test_one_at_a_time():
+    """Each row is answered before the next exists."""
+    async def test():
+        async with Hub(4, 2, 2026) as hub:
+            lane, times = hub.lane(1), []
+            for number in range(5_000):
+                start = time.perf_counter()
+                reply = await lane.read(WIDTHS)
+                times.append((time.perf_counter() - start) * 1e6)
+                assert reply.number == number
+            times.sort()
+            print(f"\none at a time: median {times[2_500]:.0f} microseconds, 99 of 100 below {times[4_950]:.0f}")
+    run(test())
+
+
+def test_tasks_of_one_lane_keep_the_order_of_their_calls():
+    async def test():
+        async with Hub(1, 2, 2026, most=8) as hub:
+            replies = await asyncio.gather(*(hub.lane(0).read([width]) for width in range(1, 2_001)))
+            assert [reply.number for reply in replies] == list(range(2_000))
+    run(test())
+
+
+def test_a_later_call_does_not_pass_one_that_waits():
+    """A call is made in the very turn in which there is room again."""
+    async def test():
+        async with Hub(1, 1, 2026, most=1) as hub:
+            first, second = (asyncio.ensure_future(hub.lane(0).read([width])) for width in (1, 2))
+            assert (await first).number == 0
+            assert (await hub.lane(0).read([3])).number == 2
+            assert (await second).number == 1
+    run(test())
+
+
+def test_read_all_is_ahead_by_so_many():
+    async def test():
+        async with Hub(1, 1, 2026) as hub:
+            taken = []
+            rows = (taken.append(width) or [width] for width in range(1, 100))
+            async for reply in hub.lane(0).read_all(rows, ahead=5):
+                assert len(taken) == min(99, reply.number + 6)
+            assert len(taken) == 99
+    run(test())
+
+
+def test_read_all_that_is_left_early():
+    """What it has asked for ahead is given up: only that much has a number."""
+    async def test():
+        async with Hub(1, 1, 2026, most=2) as hub:
+            replies = hub.lane(0).read_all([[1]] * 100, ahead=50)
+            assert (await replies.__anext__()).number == 0
+            await replies.aclose()
+            assert (await hub.lane(0).read([1])).number <= 4
+    run(test())
+
+
+def test_no_more_is_under_way_than_allowed():
+    """A process that is stopped has `most` rows; the others wait here, and all are answered when it goes on."""
+    async def test():
+        async with Hub(1, 1, 2026, most=10) as hub:
+            await hub.lane(0).read(WIDTHS)
+            stop(hub)
+            asked = [asyncio.ensure_future(hub.lane(0).read(WIDTHS)) for _ in range(100)]
+            await asyncio.sleep(0.05)
+            assert len(hub._process._sent) == 10 and len(hub._process._waiting) == 90
+            assert not any(one.done() for one in asked)
+            os.kill(hub.pid, signal.SIGCONT)
+            assert [reply.number for reply in await asyncio.gather(*asked)] == list(range(1, 101))
+    run(test())
+
+
+def test_a_cancelled_call_takes_no_reply_of_another():
+    async def test():
+        async with Hub(2, 2, 2026, most=10) as hub:
+            stop(hub)
+            asked = [asyncio.ensure_future(hub.lane(0).read([width, 1, 1])) for width in range(1, 31)]
+            other = asyncio.ensure_future(hub.lane(1).read(WIDTHS))
+            await asyncio.sleep(0.05)
+            for call in asked[5:25]:
+                call.cancel()
+            os.kill(hub.pid, signal.SIGCONT)
+            kept = [await call for call in asked[:5] + asked[25:]]
+            # 5 to 9 had been submitted; 10 to 24 had not, and have no number.
+            assert [reply.number for reply in kept] == [*range(5), *range(10, 15)]
+            assert (await other).answer == READ
+            stop(hub)
+            with pytest.raises(asyncio.TimeoutError):
+                await asyncio.wait_for(hub.lane(1).read([100]), 0.05)
+            os.kill(hub.pid, signal.SIGCONT)
+            reply = await hub.lane(1).read(WIDTHS)
+            assert (reply.number, reply.answer) == (2, READ)
+    run(test())
+
+
+def test_cancelled_calls_leave_nothing():
+    """Callers that give up and ask again, of a process that is stopped, fill no memory."""
+    async def test():
+        async with Hub(1, 1, 2026, most=4) as hub:
+            stop(hub)
+            for _ in range(50):
+                calls = [asyncio.ensure_future(hub.lane(0).read([1])) for _ in range(100)]
+                await asyncio.sleep(0)
+                for call in calls:
+                    call.cancel()
+                await asyncio.wait(calls)
+            await asyncio.sleep(0)
+            assert len(hub._process._sent) == 4 and not hub._process._waiting
+            os.kill(hub.pid, signal.SIGCONT)
+            assert (await hub.lane(0).read([1])).number == 4
+    run(test())
+
+
+def test_death_reaches_every_waiting_call():
+    async def test():
+        async with Hub(4, 2, 2026, most=10) as hub:
+            stop(hub)
+            asked = [asyncio.ensure_future(hub.lane(number % 4).read(WIDTHS)) for number in range(100)]
+            await asyncio.sleep(0.05)
+            os.kill(hub.pid, signal.SIGKILL)
+            for fault in await asyncio.gather(*asked, return_exceptions=True):
+                assert isinstance(fault, HubEnded) and fault.status == -9
+            assert str(await hub.ended()) == "the hub has ended, status -9"
+            with pytest.raises(HubEnded, match="status -9"):
+                await hub.lane(0).read(WIDTHS)
+    run(test())
+
+
+def test_death_amid_rows():
+    """All replies that had come are given, and are what they should be."""
+    async def test():
+        asked, wanted = random_lanes(5_000, 1)
+        async with Hub(1, 2, 2026) as hub:
+            got = []
+            with pytest.raises(HubEnded):
+                async for reply in hub.lane(0).read_all(asked[0]):
+                    got.append(str(reply))
+                    if len(got) == 1_000:
+                        os.kill(hub.pid, signal.SIGKILL)
+                        await hub.ended()
+            assert 1_000 <= len(got) == hub._process._numbers[0] < 5_000
+            assert got == wanted[0][:len(got)]
+    run(test())
+
+
+def test_the_end_of_the_block():
+    """What was asked before it is answered; after it, nothing; and no process is left."""
+    async def test():
+        async with Hub(1, 1, 2026, most=3) as hub:
+            asked = [asyncio.ensure_future(hub.lane(0).read(WIDTHS)) for _ in range(50)]
+            await asyncio.sleep(0)
+        assert [call.result().number for call in asked] == list(range(50))
+        with pytest.raises(HubEnded):
+            await hub.lane(0).read(WIDTHS)
+        assert is_gone(hub.pid)
+        # The same hub may run again, and its numbers begin anew.
+        async with hub:
+            assert (await hub.lane(0).read(WIDTHS)).number == 0
+    run(test())
+    with pytest.raises(HubEnded):
+        Hub(1, 1, 2026).pid
+
+
+def test_an_exception_ends_the_block_too():
+    async def forever(hub):
+        async with hub:
+            while True:
+                await hub.lane(0).read(WIDTHS)
+
+    async def test():
+        with pytest.raises(KeyError):
+            async with Hub(1, 1, 2026) as hub:
+                raise KeyError
+        assert is_gone(hub.pid)
+        with pytest.raises(asyncio.TimeoutError):
+            await asyncio.wait_for(forever(hub), 0.3)
+        assert is_gone(hub.pid)
+    run(test())
+
+
+def test_a_process_that_does_not_end(monkeypatch):
+    """It is stopped, and does not see the end of its input: it is killed."""
+    monkeypatch.setattr(live, "_PATIENCE", 0.2)
+
+    async def test():
+        async with Hub(1, 1, 2026) as hub:
+            await hub.lane(0).read(WIDTHS)
+            stop(hub)
+        assert is_gone(hub.pid)
+    run(test())
+
+
+@pytest.mark.parametrize("script, why", [
+    ("exit 3", "the hub has ended, status 3"),
+    ("sleep 1000 & exit 3", "the hub has ended, status 3"),
+    ("echo first >&2; echo refused 36 NoThread >&2; exit 1", "the hub has ended, status 1: refused 36 NoThread"),
+    ("read row; echo 1 0 ]E0 01=1; sleep 1000", "what was not asked: .*1 0 ]E0 01=1"),  # Another lane.
+    ("read row; echo 0 1 ]E0 01=1; sleep 1000", "what was not asked: .*0 1 ]E0 01=1"),  # Another number.
+    ("read row; echo 0 0 ]E0 01=1; echo 0 0 ]E0 01=1; read row; sleep 1000", "what was not asked"),  # The same again.
+    ("read row; echo no answer; sleep 1000", "what was not asked"),
+    ("read row; printf '\\377 0 ]E0\\n'; sleep 1000", "what was not asked"),
+])
+def test_a_process_that_is_no_hub(script, why):
+    async def test():
+        async with Hub(2, 1, 2026, program=["sh", "-c", script]) as hub:
+            with pytest.raises(HubEnded, match=why):
+                while True:
+                    await hub.lane(0).read(WIDTHS)
+    run(test())
+
+
+def test_a_line_that_comes_in_two_pieces():
+    async def test():
+        script = "read row; printf '0 0 ]E0 0'; sleep 0.2; echo 1=1; read row"
+        async with Hub(1, 1, 2026, program=["sh", "-c", script]) as hub:
+            assert (await hub.lane(0).read(WIDTHS)).answer == Answer("]E0", (Element("01", "1"),))
+    run(test())
+
+
+def test_a_reply_to_nothing():
+    async def test():
+        async with Hub(2, 1, 2026, program=["sh", "-c", "echo 0 0 ]E0 01=1; sleep 1000"]) as hub:
+            assert str(await hub.ended()) == "the hub answered what was not asked: b'0 0 ]E0 01=1', status -9"
+    run(test())

@@ -1,0 +1,106 @@
+"""Rows, workers and tills of a chain of shops, for the tests and the measurement of by_redis.py."""
+import asyncio
+import signal
+import subprocess
+import sys
+
+from shop import ROOT, SEED, random_lanes
+
+SCRIPT = ROOT / "examples" / "live" / "by_redis.py"
+sys.path.insert(0, str(SCRIPT.parent))
+import by_redis  # noqa: E402
+from by_redis import Shop, Till, Worker  # noqa: E402, F401
+
+LANES = [str(lane) for lane in range(8)]
+
+
+def rows_of(count, seed=SEED, lanes=len(LANES)):
+    """Random rows, by lane, and what one run of `gs1_hub lanes` answers, by lane and with each answer's number."""
+    asked, lines = random_lanes(count, lanes, seed)
+    wanted = [[(int(number), answer) for _, number, answer in (line.split(" ", 2) for line in some)] for some in lines]
+    return tuple({str(lane): of_lane for lane, of_lane in enumerate(part)} for part in (asked, wanted))
+
+
+class Workers:
+    """Processes of by_redis.py that have the same lanes, by name."""
+
+    def __init__(self, address, count, milliseconds=3000):
+        self.words = [sys.executable, str(SCRIPT), "work", address]
+        self.more = [*LANES, "--year", "2026", "--lease", str(milliseconds)]
+        self.names = [f"worker{number}" for number in range(count)]
+        self.running = {}
+
+    def __enter__(self):
+        for name in self.names:
+            self.start(name)
+        return self
+
+    def __exit__(self, *_):
+        for name in list(self.running):
+            self.kill(name)
+
+    def start(self, name):
+        self.running[name] = subprocess.Popen([*self.words, name, *self.more], stderr=subprocess.PIPE, text=True)
+
+    def kill(self, name):
+        """Kills a worker, even one that sleeps, and gives what it said."""
+        process = self.running.pop(name)
+        process.kill()
+        return process.communicate()[1]
+
+    def end(self):
+        """Lets all end by themselves, and gives the last line of each."""
+        for process in self.running.values():
+            process.send_signal(signal.SIGTERM)
+        said = [process.communicate(timeout=20)[1].strip() for process in self.running.values()]
+        assert all(process.returncode == 0 for process in self.running.values()), said
+        self.running = {}
+        return [lines.rpartition("\n")[2] for lines in said]
+
+    async def share(self, shop):
+        """Waits until each has a lane."""
+        while True:
+            holders = [await (await shop.node(by_redis.lease(lane))).get(by_redis.lease(lane)) for lane in LANES]
+            if set(holders) == set(self.running):
+                return holders
+            await asyncio.sleep(0.1)
+
+
+async def read_lanes(address, asked, **more):
+    """What a till of each lane gets, all at once, and how often they submitted rows again."""
+    shop = Shop(address)
+    tills = {lane: Till(shop, lane, **more) for lane in asked}
+
+    async def one(lane):
+        return lane, [answer async for answer in tills[lane].read_all(asked[lane])]
+
+    got = dict(await asyncio.gather(*map(one, asked)))
+    await shop.close()
+    return got, sum(till.repeated for till in tills.values())
+
+
+async def read_lane(address, lane, texts, **more):
+    """The answers of one lane."""
+    got, _ = await read_lanes(address, {lane: texts}, **more)
+    return [answer for _, answer in got[lane]]
+
+
+async def streams(address, lanes):
+    """The IDs and answers that stand in the streams of answers, and the IDs in those of rows."""
+    shop, said, names = Shop(address), {}, {}
+    for lane in lanes:
+        node = await shop.node(by_redis.rows(lane))
+        said[lane] = [(name, entry["answer"]) for name, entry in await node.xrange(by_redis.answers(lane))]
+        names[lane] = [name for name, _ in await node.xrange(by_redis.rows(lane))]
+    await shop.close()
+    return said, names
+
+
+def check(address, wanted, got):
+    """Each till has the answers to its rows, in order and each once; and so has each stream."""
+    assert {lane: len(answers) for lane, answers in got.items()} == {lane: len(wanted[lane]) for lane in wanted}
+    assert got == wanted
+    said, names = asyncio.run(streams(address, wanted))
+    for lane in wanted:
+        assert said[lane] == [(f"1-{number}", answer) for number, answer in wanted[lane]]
+        assert names[lane] == [name for name, _ in said[lane]]

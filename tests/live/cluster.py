@@ -1,0 +1,109 @@
+"""A Redis Cluster of masters on loopback, for tests, whose nodes are started, killed and started again."""
+import random
+import shutil
+import socket
+import subprocess
+import tempfile
+import time
+from pathlib import Path
+
+CONFIGURATION = """bind 127.0.0.1
+port {port}
+dir {folder}
+logfile {folder}/log
+save ""
+cluster-enabled yes
+cluster-node-timeout 2000
+cluster-require-full-coverage no
+appendonly yes
+appendfsync always
+maxmemory-policy noeviction
+proto-max-bulk-len 1mb
+"""
+
+
+def ask(port, *words):
+    """A command to a node, and its reply as redis-cli prints it."""
+    command = ["redis-cli", "-p", str(port), *map(str, words)]
+    return subprocess.run(command, capture_output=True, text=True, timeout=10).stdout.strip()
+
+
+class Cluster:
+    """Nodes of a cluster, by their ports; `more` are further lines of their configuration."""
+
+    def __init__(self, nodes=3, more="", folders=None):
+        self.root = Path(tempfile.mkdtemp(prefix="redis-"))
+        self.ports = free_ports(nodes)
+        self.folders = dict(zip(self.ports, folders or [self.root / str(port) for port in self.ports]))
+        self.more, self.processes = more, {}
+
+    @property
+    def address(self):
+        return f"127.0.0.1:{self.ports[0]}"
+
+    def __enter__(self):
+        try:
+            for i, port in enumerate(self.ports):
+                self.start(port)
+                first, end = (16384 * n // len(self.ports) for n in (i, i + 1))
+                assert ask(port, "CLUSTER", "ADDSLOTSRANGE", first, end - 1) == "OK"
+                ask(port, "CLUSTER", "MEET", "127.0.0.1", self.ports[0])
+            self.wait()
+        except BaseException:
+            self.__exit__()
+            raise
+        return self
+
+    def __exit__(self, *_):
+        for port in self.processes:
+            self.kill(port)
+        shutil.rmtree(self.root)
+
+    def start(self, port):
+        """Starts a node, or starts it again, and waits until it answers."""
+        folder = self.folders[port]
+        folder.mkdir(exist_ok=True)
+        (folder / "configuration").write_text(CONFIGURATION.format(port=port, folder=folder) + self.more)
+        self.processes[port] = subprocess.Popen(["redis-server", str(folder / "configuration")])
+        while ask(port, "PING") != "PONG":
+            assert self.processes[port].poll() is None, (folder / "log").read_text()[-500:]
+            time.sleep(0.05)
+
+    def kill(self, port):
+        self.processes[port].kill()
+        self.processes[port].wait()
+
+    def wait(self):
+        """Until the nodes know of each other that they run: one that was started again says CLUSTERDOWN for a while."""
+        while not all("cluster_state:ok" in ask(port, "CLUSTER", "INFO")
+                      and ask(port, "CLUSTER", "NODES").count(" connected") == len(self.ports) for port in self.ports):
+            time.sleep(0.1)
+
+    def holder(self, key):
+        """The port of the node that has a key."""
+        return next(port for port in self.ports if not ask(port, "EXISTS", key).startswith("MOVED"))
+
+    def cut(self, port, most):
+        """Kills a node, cuts up to so many bytes off the end of its file, and starts it again: it has lost what it had
+        acknowledged last."""
+        self.kill(port)
+        file = max((self.folders[port] / "appendonlydir").glob("*.incr.aof"), key=lambda path: path.stat().st_mtime)
+        size = file.stat().st_size
+        with file.open("r+b") as kept:
+            kept.truncate(size - min(size // 3, most))
+        self.start(port)
+
+
+def free_ports(count):
+    """Ports that are free, with those of the cluster's bus, whose numbers are greater by 10,000."""
+    found = set()
+    while len(found) < count:
+        port = random.randrange(10_000, 20_000)
+        try:
+            for number in (port, port + 10_000):
+                with socket.socket() as tried:
+                    tried.bind(("127.0.0.1", number))
+            found.add(port)
+        except OSError:
+            pass
+    return sorted(found)

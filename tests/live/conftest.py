@@ -1,0 +1,23 @@
+"""A limit of its own for each test of this folder: 90 seconds, or those of its mark `limit`."""
+import signal
+
+import pytest
+
+
+def pytest_configure(config):
+    config.addinivalue_line("markers", "limit(seconds): how long the test may take")
+
+
+@pytest.fixture(autouse=True)
+def limit(request):
+    mark = request.node.get_closest_marker("limit")
+    seconds = mark.args[0] if mark else 90
+
+    def end(*_):
+        pytest.fail(f"not done after {seconds} seconds")
+
+    before = signal.signal(signal.SIGALRM, end)
+    signal.alarm(seconds)
+    yield
+    signal.alarm(0)
+    signal.signal(signal.SIGALRM, before)

@@ -1,0 +1,89 @@
+#!/usr/bin/env python3
+"""Tries the must-fail edits of the scripts: each is made in a copy, where the tests that it names must then fail.
+
+Usage: edits.py [FILE..]. The files are tests/live/must-fail/*.edit where none is given. An edit in them is
+
+    edit: NAME
+    test: WORDS             the tests, as words of pytest, from the root of the repository
+    file: PATH              a script, from the root
+    old: TEXT               what stands there once; it may go on over lines
+    new: TEXT               what is put in its place
+
+with more of the last three where it changes more than one place. Tests that do not end in their time have failed. The
+last line is 'N edits: F found, M missed', and the status is 0 where M is 0.
+"""
+from __future__ import annotations
+
+import os
+import re
+import shlex
+import shutil
+import subprocess
+import sys
+import tempfile
+from concurrent.futures import ThreadPoolExecutor
+from dataclasses import dataclass
+from pathlib import Path
+from typing import Iterator, List, Tuple
+
+ROOT = Path(__file__).resolve().parents[2]
+COPIED = ("python", "examples/live", "tests/live", "bench/rows.py")
+SECONDS = "100"
+EDIT = re.compile(r"edit: ([^\n]*)\ntest: ([^\n]*)\n(.*?)(?=\nedit: |\Z)", re.DOTALL)
+PAIR = re.compile(r"file: ([^\n]*)\nold: (.*?)\nnew: ?(.*?)(?=\nfile: |\s*\Z)", re.DOTALL)
+
+
+@dataclass(frozen=True)
+class Edit:
+    """An edit: its name, the words of its tests, and the changes, each a script with its old and its new text."""
+
+    name: str
+    test: str
+    changes: List[Tuple[str, str, str]]
+
+    def apply(self, folder: Path) -> None:
+        for path, old, new in self.changes:
+            text = (folder / path).read_text()
+            if text.count(old) != 1:
+                sys.exit(f"{self.name}: its old text is in {path} {text.count(old)} times, and not once: {old}")
+            (folder / path).write_text(text.replace(old, new))
+
+    def is_found(self) -> bool:
+        """Whether its tests fail in a copy with this edit."""
+        with tempfile.TemporaryDirectory(prefix="edit-") as folder:
+            for path in COPIED:
+                Path(folder, path).parent.mkdir(parents=True, exist_ok=True)
+                if (ROOT / path).is_dir():
+                    shutil.copytree(ROOT / path, Path(folder, path))
+                else:
+                    shutil.copy(ROOT / path, Path(folder, path))
+            self.apply(Path(folder))
+            words = ["timeout", "-s", "INT", "-k", "10", SECONDS, sys.executable, "-m", "pytest", "-q", "-x", f"--basetemp={folder}/tmp"]
+            paths = os.pathsep.join([f"{folder}/python", f"{folder}/tests/live"])
+            ran = subprocess.run(
+                [*words, *shlex.split(self.test)], cwd=folder, env={**os.environ, "PYTHONPATH": paths}, stdin=subprocess.DEVNULL,
+                capture_output=True, text=True,
+            )
+        found = ran.returncode == 1 and " failed" in ran.stdout or ran.returncode in (124, 137)
+        print(f"{'found' if found else 'MISSED'}: {self.name}", flush=True)
+        if not found:
+            print(ran.stdout[-500:] + ran.stderr[-500:], file=sys.stderr)
+        return found
+
+
+def edits_of(file: Path) -> Iterator[Edit]:
+    for name, test, changes in EDIT.findall(file.read_text()):
+        yield Edit(name, test, PAIR.findall(changes))
+
+
+def main() -> int:
+    files = [Path(word) for word in sys.argv[1:]] or sorted(ROOT.glob("tests/live/must-fail/*.edit"))
+    edits = [edit for file in files for edit in edits_of(file)]
+    with ThreadPoolExecutor(4) as pool:
+        found = list(pool.map(Edit.is_found, edits))
+    print(f"{len(found)} edits: {sum(found)} found, {len(found) - sum(found)} missed")
+    return 0 if found and all(found) else 1
+
+
+if __name__ == "__main__":
+    sys.exit(main())

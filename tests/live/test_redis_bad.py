@@ -1,0 +1,265 @@
+"""Bad input and full stores: what Redis, the workers and the tills of by_redis.py do."""
+import asyncio
+import os
+import re
+import socket
+import subprocess
+import sys
+import threading
+import time
+
+import pytest
+from redis.exceptions import NoPermissionError, RedisError
+
+from chain import LANES, SCRIPT, Shop, Till, Worker, Workers, by_redis, check, read_lane, read_lanes, rows_of, streams
+from cluster import Cluster, ask
+from noriladle.live import Hub
+from shop import EAN13, READ, ROOT, noise
+
+LIMIT = 600
+ROWS = by_redis.rows("3")
+NO_ROWS = {
+    "": "18 BadRuns", "3,100": "39 Csv", "no row": "18 BadRuns", "5 3": "18 BadRuns", "70000": "17 TooWide",
+    "1\n2": "18 BadRuns", "\u20ac": "18 BadRuns", "1 " * 40_000: "44 InputSize", "1 " * 5_000_000: "44 InputSize",
+    "100": "19 Blank",
+}
+
+
+@pytest.mark.limit(40)
+def test_what_is_no_row_has_one_answer_too():
+    with Cluster() as cluster, Workers(cluster.address, 1) as workers:
+        got = asyncio.run(read_lane(cluster.address, "3", [EAN13, *NO_ROWS, EAN13]))
+        assert got == [READ, *(f"refused {fault}" for fault in NO_ROWS.values()), READ]
+        # Behind the till's back: another field, bytes that are no text, and two fields of one name.
+        for words in (["x", "y"], ["widths", b"\xff\xfe\x01"], ["widths", "100", "widths", EAN13]):
+            add = ["redis-cli", "-p", str(cluster.holder(ROWS)), "XADD", ROWS, "*", *words]
+            subprocess.run(add, capture_output=True, check=True)
+        time.sleep(1)
+        said, names = asyncio.run(streams(cluster.address, ["3"]))
+        assert [name for name, _ in said["3"]] == names["3"] and len(names["3"]) == len(NO_ROWS) + 5
+        assert [answer for _, answer in said["3"][-3:]] == ["refused 18 BadRuns", "refused 18 BadRuns", READ]
+        workers.end()
+
+
+@pytest.mark.limit(40)
+def test_no_answer_waits_for_a_later_row():
+    """The command gets each row after the answer to the one before, and a blank line; the last has no line end."""
+    with Cluster(nodes=1) as cluster, Workers(cluster.address, 1):
+        words = [sys.executable, SCRIPT, "till", cluster.address, "3"]
+        with subprocess.Popen(words, stdin=subprocess.PIPE, stdout=subprocess.PIPE, text=True) as till:
+            for number in range(20):
+                till.stdin.write(f"{EAN13}\r\n\n")
+                till.stdin.flush()
+                assert till.stdout.readline() == f"{number} {READ}\n"
+            assert till.communicate("100", timeout=10)[0] == "20 refused 19 Blank\n"
+
+
+def test_a_foreign_row_is_told():
+    """Under an ID of the server it would hide the till's next row."""
+    with Cluster() as cluster, Workers(cluster.address, 1):
+        async def test():
+            shop = Shop(cluster.address)
+            till = Till(shop, "3")
+            assert await till.read(EAN13) == READ
+            await (await shop.node(ROWS)).xadd(ROWS, {"widths": "100"})
+            with pytest.raises(LookupError, match="lane 3: another has submitted 1-1 or a row above"):
+                await till.read(EAN13)
+            # The next till takes a series above.
+            assert await Till(shop, "3").read(EAN13) == READ
+            await shop.close()
+
+        asyncio.run(test())
+
+
+def test_a_foreign_answer_is_told():
+    with Cluster() as cluster:
+        async def test():
+            shop = Shop(cluster.address)
+            await shop.append(by_redis.answers("3"), "answer", [("7-0", READ)])
+            with pytest.raises(LookupError, match="lane 3: an answer to 7-0, which is not the next row"):
+                await Till(shop, "3").read(EAN13)
+            await shop.close()
+
+        asyncio.run(test())
+
+
+def test_all_or_none():
+    """Redis cuts the connection at a value of more than 1 MB; nothing of its batch stands there then."""
+    with Cluster(nodes=1) as cluster:
+        async def test():
+            shop = Shop(cluster.address)
+            with pytest.raises((RedisError, OSError)):
+                await shop.append(ROWS, "widths", [("1-0", "100"), ("1-1", "1 " * 1_000_000), ("1-2", "100")])
+            assert await shop.last(ROWS) == "0-0"
+            assert await shop.append(ROWS, "widths", [("1-0", "100"), ("1-1", "100")]) == 0
+            assert await shop.append(ROWS, "widths", [("1-1", "100"), ("1-2", "100")]) == 1
+            await shop.close()
+
+        asyncio.run(test())
+        assert asyncio.run(streams(cluster.address, ["3"]))[1]["3"] == ["1-0", "1-1", "1-2"]
+
+
+@pytest.mark.limit(40)
+def test_users_write_what_is_theirs():
+    """By the access control lists of docs/LIVE.md, for a till of lane 3 and for the workers."""
+    page = (ROOT / "docs" / "LIVE.md").read_text().replace("LANE", "3")
+    users = [line.split() for line in re.findall(r"^ACL SETUSER .*$", page, re.MULTILINE)]
+    assert [words[2] for words in users] == ["till.3", "worker"]
+    with Cluster() as cluster:
+        for port in cluster.ports:
+            assert [ask(port, *words) for words in users] == ["OK", "OK"]
+
+        async def test():
+            till, worker = (Shop(cluster.address, words[2], words[4][1:]) for words in users)
+            async with Hub(1, 1, 2026) as hub:
+                one = Worker(worker, "one", ["3"], hub)
+                running = asyncio.create_task(one.run())
+                assert await Till(till, "3").read(EAN13) == READ
+                assert len([answer async for answer in Till(till, "3", keep=0).read_all(["100"] * 600)]) == 600
+                one.stop()
+                await running
+            forbidden = [
+                till.append(by_redis.answers("3"), "answer", [("9-0", READ)]),
+                till.append(by_redis.rows("4"), "widths", [("9-0", EAN13)]),
+                till.read(by_redis.answers("4"), "0-0"),
+                Till(till, "4", series=1).read(EAN13),
+                worker.append(by_redis.rows("3"), "widths", [("9-0", EAN13)]),
+                Shop(cluster.address, "till.3", "wrong").last(by_redis.rows("3")),
+            ]
+            for call in forbidden[:-1]:
+                with pytest.raises(NoPermissionError):
+                    await call
+            with pytest.raises(RedisError):
+                await forbidden[-1]
+            await till.close()
+            await worker.close()
+
+        asyncio.run(test())
+
+
+def test_noise():
+    """1 MB of noise, 10 MB without an end, a value of 10 MB, and half a command: no row comes of it."""
+    head = b"*5\r\n$4\r\nXADD\r\n$%d\r\n%s\r\n$1\r\n*\r\n$6\r\nwidths\r\n" % (len(ROWS), ROWS.encode())
+    with Cluster() as cluster, Workers(cluster.address, 1):
+        assert asyncio.run(read_lane(cluster.address, "3", [EAN13])) == [READ]
+        before = asyncio.run(streams(cluster.address, ["3"]))
+        long, half = head + b"$10000000\r\n" + b"1" * 10_000_000, head + b"$300\r\n1 1 1"
+        for data in (noise(1_000_000), b"x" * 10_000_000, long, half):
+            for port in cluster.ports:
+                with socket.create_connection(("127.0.0.1", port)) as client:
+                    try:
+                        client.sendall(data)
+                    except OSError:
+                        pass
+        assert asyncio.run(streams(cluster.address, ["3"])) == before
+        assert asyncio.run(read_lane(cluster.address, "3", [EAN13])) == [READ]
+
+
+def when(seen, then):
+    """Starts a thread that waits until something is seen, and then does something."""
+    def wait():
+        while not seen():
+            time.sleep(0.1)
+        then()
+
+    thread = threading.Thread(target=wait, daemon=True)
+    thread.start()
+    return thread
+
+
+def test_full_memory():
+    """The nodes take no more; the tills wait, and go on by themselves when there is room."""
+    asked, wanted = rows_of(20_000)
+    with Cluster() as cluster, Workers(cluster.address, 2):
+        def limit(size):
+            for port in cluster.ports:
+                ask(port, "CONFIG", "SET", "maxmemory", size)
+
+        def free():
+            time.sleep(2)
+            limit(0)
+
+        limit(3_500_000)
+        thread = when(lambda: any("errorstat_OOM" in ask(port, "INFO", "errorstats") for port in cluster.ports), free)
+        got, again = asyncio.run(read_lanes(cluster.address, asked))
+        thread.join()
+        check(cluster.address, wanted, got)
+        print(f"rows submitted again {again} times")
+        assert again
+
+
+def test_little_memory_for_long():
+    """With `keep` 40,000 rows go through nodes of 4 MB: they are 7 MB, and their answers."""
+    asked, wanted = rows_of(40_000)
+    with Cluster() as cluster, Workers(cluster.address, 2):
+        for port in cluster.ports:
+            ask(port, "CONFIG", "SET", "maxmemory", 4_000_000)
+        got, _ = asyncio.run(read_lanes(cluster.address, asked, keep=500, most=256))
+        assert got == wanted
+        said, names = asyncio.run(streams(cluster.address, LANES))
+        assert all(len(names[lane]) < 1500 and len(said[lane]) < 1500 for lane in LANES)
+
+
+def test_what_has_no_answer_stays():
+    """With `keep` the till takes out rows that it has read, and those it has submitted stay."""
+    with Cluster(nodes=1) as cluster:
+        async def test():
+            shop = Shop(cluster.address)
+
+            async def answer_half():
+                while await shop.last(ROWS) != "1-599":
+                    await asyncio.sleep(0.05)
+                await shop.append(by_redis.answers("3"), "answer", [(f"1-{number}", READ) for number in range(300)])
+
+            answering = asyncio.create_task(answer_half())
+            async for number, _ in Till(shop, "3", keep=0).read_all([EAN13] * 600):
+                if number == 299:
+                    break
+            await answering
+            await shop.close()
+
+        asyncio.run(test())
+        said, names = asyncio.run(streams(cluster.address, ["3"]))
+        assert names["3"] == [f"1-{number}" for number in range(256, 600)]
+        assert [name for name, _ in said["3"]] == names["3"][:44]
+
+
+@pytest.fixture
+def small_disk(tmp_path):
+    """A file system of 1 MB."""
+    folder = tmp_path / "small"
+    folder.mkdir()
+    if os.geteuid() or subprocess.run(["mount", "-t", "tmpfs", "-o", "size=1m", "none", folder]).returncode:
+        pytest.skip("only root mounts a file system")
+    yield folder
+    subprocess.run(["umount", folder])
+
+
+@pytest.mark.parametrize("fsync", ["always", "everysec"])
+def test_full_disk(small_disk, fsync):
+    """`everysec`: the node refuses until there is room. `always`: it ends, and is started again with room."""
+    asked, wanted = rows_of(20_000)
+    folders = [small_disk, small_disk.parent / "second", small_disk.parent / "third"]
+    more = f"appendfsync {fsync}\nauto-aof-rewrite-percentage 0\n"
+    with Cluster(folders=folders, more=more) as cluster, Workers(cluster.address, 2):
+        port, seen = cluster.ports[0], []
+
+        def is_full():
+            if cluster.processes[port].poll() is not None:
+                seen.append("ended")
+            elif "errorstat_MISCONF" in ask(port, "INFO", "errorstats"):
+                seen.append("refused")
+            return seen
+
+        def free():
+            time.sleep(2)
+            subprocess.run(["mount", "-o", "remount,size=100m", small_disk], check=True)
+            if seen == ["ended"]:
+                cluster.start(port)
+
+        thread = when(is_full, free)
+        got, again = asyncio.run(read_lanes(cluster.address, asked))
+        thread.join()
+        check(cluster.address, wanted, got)
+        print(f"{fsync}: the node {seen[0]}; rows submitted again {again} times")
+        assert seen == [{"always": "ended", "everysec": "refused"}[fsync]]
