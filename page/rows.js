@@ -90,6 +90,9 @@ function boundsOf(profile) {
   return { low, high };
 }
 
+// The least width of a run, in dots.
+const LEAST_RUN = 0.05;
+
 // The ends of the runs of a row between its dots, light first and last, by the middle of what is darkest and lightest around;
 // how many. The middle of the first dot is at 0.
 function edgesOf(profile, { low, high }, ends) {
@@ -101,12 +104,12 @@ function edgesOf(profile, { low, high }, ends) {
     if (here === dark) continue;
     const before = i ? profile[i - 1] : profile[i], change = profile[i] - before;
     const at = flat || !change ? i - 0.5 : i - 1 + Math.min(1, Math.max(0, (level - before) / change));
-    ends[count] = Math.max(count ? ends[count - 1] + 0.05 : 0, at);
+    ends[count] = Math.max(count ? ends[count - 1] + LEAST_RUN : 0, at);
     count++;
     dark = here;
   }
   ends[count++] = profile.length;
-  if (dark) ends[count++] = profile.length + 0.05;
+  if (dark) ends[count++] = profile.length + LEAST_RUN;
   return count;
 }
 

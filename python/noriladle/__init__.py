@@ -19,11 +19,14 @@ import enum
 import re
 from dataclasses import dataclass
 from pathlib import Path
-from typing import Any, List, Optional, Sequence, Tuple, Union
+from typing import TYPE_CHECKING, Any, List, NamedTuple, Optional, Sequence, Tuple, Union
+
+if TYPE_CHECKING:
+    from .picture import Picture
 
 __all__ = [
-    "Answer", "Element", "Found", "Kind", "Refusal", "check_digit", "draw_label", "find", "parse_elements", "read_dots",
-    "read_elements", "read_gtin", "read_row", "read_scan",
+    "Answer", "Box", "Element", "Found", "Kind", "Refusal", "Symbol", "check_digit", "draw_label", "find",
+    "parse_elements", "read_dots", "read_elements", "read_gtin", "read_picture", "read_row", "read_scan",
 ]
 
 __version__ = "1.1.0"
@@ -118,6 +121,30 @@ class Found:
     answer: Answer
 
 
+class Box(NamedTuple):
+    """A part of a picture, in pixels from its left and its upper edge, as ``crop`` of Pillow takes it: ``right`` and
+    ``bottom`` are those behind the last."""
+
+    left: int
+    top: int
+    right: int
+    bottom: int
+
+
+@dataclass(frozen=True)
+class Symbol:
+    """A symbol of a picture."""
+
+    answer: Answer
+    box: Box
+    """The upright box around the part of its bars that was read."""
+    corners: Tuple[Tuple[float, float], ...]
+    """The four corners of this part, clockwise, each in pixels from the left and the upper edge of the picture. Its
+    sides are those of the rows that read it, which cross the bars at some angle."""
+    rows: int
+    """How many rows through the picture say so."""
+
+
 def _ask(call: Any, *words: Any) -> bytes:
     """The answer to a question, as many bytes as it has."""
     room = _LINE
@@ -129,13 +156,21 @@ def _ask(call: Any, *words: Any) -> bytes:
         room = length
 
 
+def _refusal(line: str) -> Optional[Refusal]:
+    """The refusal that a line tells, where it is one."""
+    told = _LINE_OF_REFUSAL.fullmatch(line)
+    if told is None:
+        return None
+    number, name, place = told.groups()
+    return Refusal(int(number), name, None if place is None else int(place))
+
+
 def _line(answer: bytes) -> str:
     """The line of an answer, where it is no refusal."""
     line = answer.decode("ascii")
-    refusal = _LINE_OF_REFUSAL.fullmatch(line)
+    refusal = _refusal(line)
     if refusal:
-        number, name, place = refusal.groups()
-        raise Refusal(int(number), name, None if place is None else int(place))
+        raise refusal
     return line
 
 
@@ -148,6 +183,11 @@ def _answer(answer: bytes) -> Answer:
 def _elements(pairs: str) -> Tuple[Element, ...]:
     """The elements of pairs: no Application Identifier has an equals sign, and no value a tab."""
     return tuple(Element(ai, value) for ai, _, value in (pair.partition("=") for pair in pairs.split("\t")))
+
+
+def _places(lines: str) -> List[Tuple[int, int]]:
+    """The first run and the number of runs of each symbol that was found."""
+    return [(int(first), int(count)) for first, count, _ in (line.split(" ", 2) for line in lines.splitlines())]
 
 
 def _bytes(text: Union[str, bytes]) -> bytes:
@@ -196,9 +236,31 @@ def find(widths: Sequence[int], year: int) -> List[Found]:
     :raises Refusal: 18 ``BadRuns`` and 17 ``TooWide`` of what is no row; 42 ``Words`` of a year out of range.
     :raises ValueError: a width is below 0.
     """
-    lines = _line(_ask_of_widths(_library.gs1_c_find, widths, year)).splitlines()
-    places = [(int(first), int(count)) for first, count, _ in (line.split(" ", 2) for line in lines)]
+    places = _places(_line(_ask_of_widths(_library.gs1_c_find, widths, year)))
     return [Found(first, count, read_row(widths[first:first + count], year)) for first, count in places]
+
+
+def read_picture(picture: Picture, year: int, *, level: Optional[int] = None) -> List[Symbol]:
+    """Every symbol of a picture, in the order of reading: line by line, and from left to right.
+
+    The picture is an image of Pillow's, the path of one (of a file with several, the first), or an array of rows of
+    grey values, of RGB or of RGBA: of 8 or 16 bits, or of ``bool``, of which ``True`` is light. It lies as its dots are
+    stored. A date is read by the reference year, 1951 to 2149.
+
+    Dots whose grey value is below the level, 1 to 255, are dark. Where none is given it is that which parts the
+    picture's values best, and what rows of the picture do not read is looked for at any angle, by the light around.
+
+    Needs numpy and Pillow: ``pip install noriladle[picture]``.
+
+    :raises ImportError: numpy or Pillow is not there.
+    :raises OSError: the file is not there, or no image.
+    :raises Refusal: 17 ``TooWide`` of rows of more than 65,535 dots; 42 ``Words`` of a year out of range.
+    :raises TypeError: the dots are of another type.
+    :raises ValueError: the array has another shape, or the level is out of range.
+    """
+    from . import picture as pictures
+
+    return pictures.read(picture, year, level)
 
 
 def read_dots(dots: Union[bytes, bytearray, memoryview], width: int, year: int) -> Answer:

@@ -4,8 +4,10 @@
  * those of a row, `check` for those of `check`, `labels MODULE WIDTH HEIGHT`
  * for those of `print`, whose images are written with nothing between them. With `time COUNT`: the milliseconds of
  * so many calls on the rows of such lines, in turn: gs1_find of those that begin with `find`, and gs1_row of the
- * others. The year is 2026. */
+ * others. With `threads`: whether several threads that ask the rows of such lines at once get the answers of one. The
+ * year is 2026. */
 #include "gs1.h"
+#include <pthread.h>
 #include <stdio.h>
 #include <stdlib.h>
 #include <string.h>
@@ -340,6 +342,45 @@ static void measure(long calls) {
     printf("%f\n", least);
 }
 
+/* The questions that all threads ask, and the answers that one thread got. */
+enum { THREADS = 8, QUESTIONS = 4000, ROOM = 16 * GS1_FOUND };
+static struct asked questions[QUESTIONS];
+static struct answer { size_t length; uint8_t bytes[ROOM]; } answers[QUESTIONS];
+static size_t question_count;
+
+/* Asks all questions, each into a buffer of its own. */
+static void *ask_all(void *others) {
+    for (size_t i = 0; i < question_count; i++) {
+        uint8_t out[ROOM];
+        size_t length = ask(&questions[i], out, sizeof out);
+        *(long *)others += length != answers[i].length || memcmp(out, answers[i].bytes, length);
+    }
+    return NULL;
+}
+
+/* Asks what the rows of standard input say, and which symbols they have, in one thread and then in several at once. */
+static int ask_at_once(void) {
+    static char input[1 << 16];
+    while (question_count + 2 <= QUESTIONS && fgets(input, sizeof input, stdin)) {
+        uint16_t *widths = malloc(MOST_RUNS * sizeof *widths);
+        size_t count = 0;
+        for (char *word = strtok(strchr(input, ',') + 1, " \n"); word; word = strtok(NULL, " \n")) widths[count++] = (uint16_t)atoi(word);
+        widths = realloc(widths, (count + 1) * sizeof *widths);
+        questions[question_count++] = (struct asked){.call = ROW_ELEMENTS, .items = widths, .count = count, .year = YEAR};
+        questions[question_count++] = (struct asked){.call = FIND, .items = widths, .count = count, .year = YEAR};
+    }
+    for (size_t i = 0; i < question_count; i++) answers[i].length = ask(&questions[i], answers[i].bytes, ROOM);
+    pthread_t threads[THREADS];
+    long others[THREADS] = {0}, all = 0;
+    for (int i = 0; i < THREADS; i++) pthread_create(&threads[i], NULL, ask_all, &others[i]);
+    for (int i = 0; i < THREADS; i++) {
+        pthread_join(threads[i], NULL);
+        all += others[i];
+    }
+    printf("%zu questions of %d threads at once, %ld answered otherwise\n", question_count, THREADS, all);
+    return all != 0 || question_count == 0;
+}
+
 int main(int count, char **words) {
     if (count == 1) {
         cases();
@@ -350,6 +391,7 @@ int main(int count, char **words) {
         measure(atol(words[2]));
         return 0;
     }
+    if (!strcmp(words[1], "threads")) return ask_at_once();
     static char input[1 << 20];
     while (fgets(input, sizeof input, stdin)) {
         input[strcspn(input, "\n")] = 0;

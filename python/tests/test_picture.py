@@ -1,0 +1,183 @@
+"""What is read of pictures: labels of known texts, as Pillow turns, blurs and shades them."""
+import math
+import subprocess
+import sys
+
+import noriladle
+import pytest
+from noriladle import Answer, Box, Element, Kind, Refusal, Symbol
+
+numpy = pytest.importorskip("numpy")
+Image = pytest.importorskip("PIL.Image")
+ImageFilter = pytest.importorskip("PIL.ImageFilter")
+
+# The runs of 9501101530003 as an EAN-13, and what they say.
+BARS = [int(width) for width in """1 1 1 1 2 3 1 1 1 2 3 1 2 2 2 2 2 2 1 1 1 2 3 2 2 2 1 1 1 1 1 1 1 2 3 1 1 4
+1 1 3 2 1 1 3 2 1 1 3 2 1 1 1 4 1 1 1 1 1""".split()]
+READ = Answer("]E0", (Element("01", "09501101530003"),))
+
+# A picture of 700 by 300 dots: bars of 3 dots a module from dot 150 up to 435, in rows 80 up to 200.
+GREY = numpy.full((300, 700), 230, numpy.uint8)
+GREY[80:200, 150:435] = numpy.repeat([30 if i % 2 == 0 else 230 for i in range(59)], [3 * width for width in BARS])
+BOX = Box(150, 80, 435, 200)
+SYMBOL = Symbol(READ, BOX, ((150, 80), (435, 80), (435, 200), (150, 200)), 120)
+
+
+def label(kind, text, **sizes):
+    """A label as an image of grey values."""
+    data = noriladle.draw_label(kind, text, 2026, **sizes)
+    width, height = (int(word) for word in data.split(b"\n", 2)[1].split())
+    bits = numpy.unpackbits(numpy.frombuffer(data, numpy.uint8, offset=len(data) - (width + 7) // 8 * height))
+    return Image.fromarray(255 - 255 * bits.reshape(height, -1)[:, :width])
+
+
+def texts(picture, **named):
+    return [str(symbol.answer) for symbol in noriladle.read_picture(picture, 2026, **named)]
+
+
+def turned(degrees):
+    """The picture turned clockwise about its middle, and where the corners of its symbol come to be."""
+    image = Image.fromarray(GREY).rotate(-degrees, Image.Resampling.BICUBIC, expand=True, fillcolor=230)
+    turn = complex(math.cos(math.radians(degrees)), math.sin(math.radians(degrees)))
+    middle = complex(*image.size) / 2
+    return image, [(complex(x, y) - (350 + 150j)) * turn + middle for x, y in SYMBOL.corners]
+
+
+def test_reads_a_picture_in_each_form(tmp_path):
+    image = Image.fromarray(GREY)
+    black = image.convert("1", dither=Image.Dither.NONE)
+    image.save(tmp_path / "grey.png")
+    black.save(tmp_path / "black.pbm")
+    clear = numpy.dstack([numpy.zeros_like(GREY)] * 3 + [255 - GREY])
+    forms = {
+        "grey": GREY, "RGB": numpy.dstack([GREY] * 3), "RGBA": numpy.dstack([GREY] * 3 + [numpy.full_like(GREY, 255)]),
+        "clear where light": clear, "bool": GREY > 128, "16 bits": GREY.astype(numpy.uint16) << 8,
+        "every second dot of an array": numpy.repeat(numpy.repeat(GREY, 2, axis=0), 2, axis=1)[::2, ::2],
+        "L": image, "1": black, "P": image.convert("P"), "RGB image": image.convert("RGB"),
+        "LA": Image.fromarray(clear).convert("LA"), "CMYK": image.convert("CMYK"),
+        "I;16": Image.fromarray(GREY.astype(numpy.uint16) << 8),
+        "path": tmp_path / "grey.png", "name": str(tmp_path / "black.pbm"),
+    }
+    for name, form in forms.items():
+        assert noriladle.read_picture(form, 2026) == [SYMBOL], name
+
+
+def test_takes_colours_by_their_light():
+    red, blue = (230, 30, 30), (30, 30, 230)
+    assert texts(numpy.where(GREY[..., None] > 128, red, blue).astype(numpy.uint8)) == [str(READ)]
+
+
+def test_reads_every_symbol_in_reading_order():
+    sheet = Image.new("L", (1000, 420), 255)
+    for place, kind, text in [((520, 205), "upca", "012345000065"), ((0, 0), "gs1128", "10AB\x1d17261231"),
+                              ((500, 10), "ean8", "96385074"), ((0, 210), "itf14", "09501101530003")]:
+        sheet.paste(label(kind, text, height=150), place)
+    assert texts(sheet) == ["]C1 (10)AB(17)261231", "]E4 (01)00000096385074", "]I1 (01)09501101530003", "]E0 (01)00012345000065"]
+
+
+def test_tells_symbols_of_one_line_apart():
+    for text in ("10A(17)261231", "10A\x1d17261231"):
+        symbol, = noriladle.read_picture(label(Kind.GS1128, text), 2026)
+        assert symbol.answer.elements == noriladle.parse_elements(text, 2026)
+
+
+@pytest.mark.parametrize("degrees", [5, 30, 45, 90, 137, 180, 270, 301])
+def test_reads_a_turned_picture(degrees):
+    image, corners = turned(degrees)
+    symbol, = noriladle.read_picture(image, 2026)
+    assert symbol.answer == READ
+    assert symbol.rows >= 2
+    # The angle is that of the stripes to within five degrees, and the symbol is 285 dots wide.
+    for corner in corners:
+        assert min(abs(corner - complex(x, y)) for x, y in symbol.corners) < 30
+    left, top, right, bottom = symbol.box
+    assert all(left <= x <= right and top <= y <= bottom for x, y in symbol.corners)
+    assert 0 <= left < right <= image.width and 0 <= top < bottom <= image.height
+
+
+def test_reads_what_a_photograph_shows():
+    aslant = Image.fromarray(GREY).transform((700, 300), Image.Transform.QUAD, (0, 0, 40, 300, 660, 300, 700, 0),
+                                             Image.Resampling.BICUBIC)
+    blurred = numpy.asarray(aslant.rotate(7, Image.Resampling.BICUBIC, fillcolor=230).filter(ImageFilter.GaussianBlur(1.2)))
+    shaded = blurred * numpy.linspace(1, 0.3, 700)
+    noisy = shaded + numpy.random.RandomState(7).normal(0, 4, shaded.shape)
+    assert texts(numpy.clip(noisy, 0, 255).astype(numpy.uint8)) == [str(READ)]
+
+
+def test_reads_by_a_level_alone_where_one_is_given():
+    light = numpy.where(GREY > 128, 230, 150).astype(numpy.uint8)
+    assert [texts(light, level=level) for level in (1, 150, 151, 230, 231, 255)] == [[], [], [str(READ)], [str(READ)], [], []]
+    image, _ = turned(30)
+    assert texts(image) == [str(READ)]
+    assert texts(image, level=128) == []
+
+
+@pytest.mark.parametrize("height, width", [(0, 0), (0, 5), (5, 0), (1, 1), (1, 500), (500, 1), (2, 2), (3, 3), (97, 33), (300, 300)])
+def test_finds_nothing_where_nothing_is(height, width):
+    noise = numpy.random.RandomState(7).randint(0, 256, (height, width)).astype(numpy.uint8)
+    for picture in (noise, noise * 0, noise * 0 + 255, noise > 128, noise // 128 * 3):
+        assert noriladle.read_picture(picture, 2026) == []
+
+
+@pytest.mark.parametrize("height, width", [(600, 20), (20, 600), (600, 24), (600, 25), (40, 40), (300, 300)])
+def test_finds_nothing_in_stripes(height, width):
+    stripes = numpy.repeat(numpy.random.RandomState(7).randint(0, 2, (1, width)) * 200, height, axis=0).astype(numpy.uint8)
+    for picture in (stripes, stripes.T, numpy.tile([0, 0, 200, 200], (height, width // 4)).astype(numpy.uint8)):
+        assert noriladle.read_picture(picture, 2026) == []
+
+
+def test_finds_no_number_that_is_wrong():
+    # The last digit's runs are those of another one.
+    row = numpy.repeat([0 if i % 2 == 0 else 255 for i in range(59)], BARS[:-7] + [2, 1, 2, 2] + BARS[-3:]).astype(numpy.uint8)
+    assert noriladle.read_picture(numpy.pad(numpy.tile(row, (50, 1)), 20, constant_values=255), 2026) == []
+
+
+def test_reads_a_date_by_the_year():
+    # 29 February is a day of 2000 and none of 2100.
+    image = label(Kind.GS1128, "17000229")
+    assert texts(image) == ["]C1 (17)000229"]
+    assert noriladle.read_picture(image, 2090) == []
+
+
+def test_refuses_a_year_and_a_width_out_of_range():
+    for year in (1950, 2150, -1, 65_536 + 2026):
+        with pytest.raises(Refusal) as raised:
+            noriladle.read_picture(GREY, year)
+        assert (raised.value.number, raised.value.name) == (42, "Words")
+    wide = numpy.full((3, 65_536), 255, numpy.uint8)
+    assert noriladle.read_picture(wide[:, :65_535], 2026) == []
+    with pytest.raises(Refusal) as raised:
+        noriladle.read_picture(wide, 2026)
+    assert (raised.value.number, raised.value.name) == (17, "TooWide")
+
+
+@pytest.mark.parametrize("picture, error", [
+    (None, TypeError), (7, TypeError), (b"P4", TypeError), ([[0, 1]], TypeError), (GREY.astype(float), TypeError),
+    (GREY.astype(numpy.int64), TypeError), (GREY[0], ValueError), (numpy.dstack([GREY] * 2), ValueError), (GREY[None, None], ValueError),
+    ("/nowhere/at/all.png", FileNotFoundError),
+])
+def test_takes_no_picture_but_a_picture(picture, error):
+    with pytest.raises(error):
+        noriladle.read_picture(picture, 2026)
+
+
+@pytest.mark.parametrize("level", [-1, 0, 256])
+def test_takes_no_level_out_of_range(level):
+    with pytest.raises(ValueError):
+        noriladle.read_picture(GREY, 2026, level=level)
+
+
+@pytest.mark.parametrize("missing", ["numpy", "PIL"])
+def test_needs_numpy_and_pillow_for_pictures_alone(missing):
+    script = f"""
+import sys
+sys.modules["{missing}"] = None
+import noriladle
+print(noriladle.check_digit("950110153000"))
+try:
+    noriladle.read_picture("picture.png", 2026)
+except ImportError as error:
+    print(error)
+"""
+    told = subprocess.run([sys.executable, "-c", script], capture_output=True, text=True, check=True)
+    assert told.stdout == "3\nread_picture needs numpy and Pillow: pip install 'noriladle[picture]'\n"
