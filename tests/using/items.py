@@ -1,13 +1,15 @@
-"""Compares the public items of the libraries with the two lists of docs/DECISIONS.md: those of the scope, and those beyond it.
+"""Compares the public items of the libraries with two lists: that of docs/DECISIONS.md, and items.txt beside this file.
 
 Usage: items.py ROOT. An item is what a crate's src/lib.rt passes on by `pub use`, and each `pub fn` of a type among these, as
-`Type::call`. In the lists an item stands between backquotes in the second column of a row, after its crate in the first.
+`Type::call`. In the page an item stands between backquotes in the second column of a row, after its crate in the first; in
+items.txt after its crate and a colon.
 """
+import collections
 import glob
 import re
 import sys
 
-HEADINGS = ["### Of the scope", "### Beyond the scope"]
+HEADING = "## Public items beyond the scope"
 
 
 def passed_on(crate):
@@ -42,21 +44,23 @@ def items_of(crate):
     return names | {it for it in calls(crate) if it.split("::")[0] in names}
 
 
-def listed(page):
-    """The items that the page lists, each with its crate, and how often."""
-    counts = {}
-    for heading in HEADINGS:
-        section = page[page.index(heading) :].split("\n#", 1)[0]
-        for crate, items in re.findall(r"^\| `(\w+)` \| ([^|]*) \|", section, re.MULTILINE):
-            for item in re.findall(r"`([\w:]+)`", items):
-                counts[crate, item] = counts.get((crate, item), 0) + 1
-    return counts
+def listed(page, rest):
+    """The items that the page and the other list have, each with its crate, and how often."""
+    section = page[page.index(HEADING) :].split("\n#", 1)[0]
+    items = [
+        (crate, item)
+        for crate, cell in re.findall(r"^\| `(\w+)` \| ([^|]*) \|", section, re.MULTILINE)
+        for item in re.findall(r"`([\w:]+)`", cell)
+    ]
+    for crate, names in re.findall(r"^(\w+): ((?:.*\n)(?:    .*\n)*)", rest, re.MULTILINE):
+        items += [(crate, item) for item in names.split()]
+    return collections.Counter(items)
 
 
 def main():
     root = sys.argv[1]
-    with open(f"{root}/docs/DECISIONS.md", encoding="utf-8") as it:
-        counts = listed(it.read())
+    with open(f"{root}/docs/DECISIONS.md", encoding="utf-8") as page, open(f"{root}/tests/using/items.txt", encoding="utf-8") as rest:
+        counts = listed(page.read(), rest.read())
     crates = sorted({crate for crate, _ in counts})
     there = {(crate, item) for crate in crates for item in items_of(f"{root}/crates/{crate}")}
     differ = sorted(there ^ counts.keys() | {it for it, count in counts.items() if count > 1})
