@@ -8,7 +8,7 @@ case ${1:-} in
     prove) rt all check "${@:2}" ;; #                 prove every crate, over what earlier checks kept
     test) tests/commands/run "${@:2}" ;; #            test the commands on the built program
     edits) tests/edits/run "${@:2}" ;; #              try each must-fail edit by itself; [CRATE..]
-    specs) tests/specs/run "${@:2}" ;; #              count what a reader of the theorems reads; [--list]
+    specs) tests/specs/run "${@:2}" ;; #              count what a reader of the theorems reads; [--list or --page]
     gate) .ci/run "${@:2}" ;; #                       the gate: all proofs, edits and tests, from nothing
     bench) bench/run "${@:2}" ;; #                    measure the program; [--against PROGRAM]
     package) package/build "${@:2}" ;; #              make the packages; [FOLDER]
