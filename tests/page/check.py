@@ -756,7 +756,7 @@ def is_packed():
 def has_remedies(page):
     """What to do is said of each refusal that the page can show, in the words of docs/FAULTS.md."""
     with open(f"{ROOT}/docs/FAULTS.md", encoding="utf-8") as file:
-        rows = [line.replace("`", "").split(" | ") for line in file if re.match(r"\| \d+ [A-Z]", line)]
+        rows = [line.replace("`", "").rstrip(" |\n").split(" | ") for line in file if re.match(r"\| \d+ [A-Z]", line)]
     wanted = {}
     for cells in rows:
         wanted.setdefault(cells[0].split()[1], f"{cells[1]}: {cells[2]}")
