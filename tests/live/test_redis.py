@@ -270,7 +270,7 @@ def test_nodes_lose_what_they_had_acknowledged():
 
         def cut_all():
             for port in cluster.ports * 2:
-                if not ended.wait(1):
+                if not ended.wait(0.1):
                     cluster.cut(port, 40_000)
                     cut.append(port)
 
