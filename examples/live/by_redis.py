@@ -26,9 +26,9 @@ from typing import (
     AsyncIterator, Awaitable, Callable, Deque, Dict, Iterable, Iterator, List, Optional, Sequence, Set, Tuple,
 )
 
-from redis.asyncio import Redis  # type: ignore[import]
-from redis.crc import key_slot  # type: ignore[import]
-from redis.exceptions import AuthenticationError, NoPermissionError, RedisError, ResponseError  # type: ignore[import]
+from redis.asyncio import Redis
+from redis.crc import key_slot
+from redis.exceptions import AuthenticationError, NoPermissionError, RedisError, ResponseError
 
 from noriladle.live import Hub
 
