@@ -116,6 +116,7 @@ class Hub:
 
     :raises ValueError: a number is out of its range.
     :raises OSError: on entering the block, the program cannot be started.
+    :raises RuntimeError: on entering the block, it was entered and has not been left.
     """
 
     def __init__(
@@ -134,13 +135,21 @@ class Hub:
         self._words = [*([found] if isinstance(found, str) else found), *options]
         self.lanes = lanes
         self._most = most
+        self._is_entered = False
         self._process: Optional[_Process] = None
 
     async def __aenter__(self) -> Hub:
-        # A session of its own, so that the Ctrl-C that ends the caller leaves the process to the end of the block.
-        _, self._process = await asyncio.get_running_loop().subprocess_exec(
-            lambda: _Process(self.lanes, self._most), *self._words, start_new_session=True
-        )
+        if self._is_entered:
+            raise RuntimeError("the hub's block has not been left")
+        self._is_entered = True
+        try:
+            # A session of its own, so that the Ctrl-C that ends the caller leaves the process to the end of the block.
+            _, self._process = await asyncio.get_running_loop().subprocess_exec(
+                lambda: _Process(self.lanes, self._most), *self._words, start_new_session=True
+            )
+        except BaseException:
+            self._is_entered = False
+            raise
         return self
 
     async def __aexit__(
@@ -154,6 +163,7 @@ class Hub:
             process.close()
             process.kill()
             await asyncio.wait([process.gone])
+            self._is_entered = False
 
     @property
     def pid(self) -> int:

@@ -330,6 +330,26 @@ def test_the_end_of_the_block():
         Hub(1, 1, 2026).pid
 
 
+def test_a_block_is_entered_once_at_a_time(tmp_path):
+    async def entered(hub):
+        async with hub:
+            return (await hub.lane(0).read(WIDTHS)).number
+
+    async def test():
+        hub = Hub(1, 1, 2026)
+        async with hub:
+            with pytest.raises(RuntimeError):
+                await entered(hub)
+            assert (await hub.lane(0).read(WIDTHS)).number == 0
+        first, second = await asyncio.gather(entered(hub), entered(hub), return_exceptions=True)
+        assert first == 0 and isinstance(second, RuntimeError)
+        absent = Hub(1, 1, 2026, program=str(tmp_path / "absent"))
+        for _ in range(2):
+            with pytest.raises(FileNotFoundError):
+                await entered(absent)
+    run(test())
+
+
 def test_an_exception_ends_the_block_too():
     async def forever(hub):
         async with hub:
