@@ -19,7 +19,7 @@ const PATIENCE: u64 = 1_000;
 ///
 /// One worker is woken where all sleep, and one more where the calling thread had to sleep and many rows are
 /// under way. Where no delivery comes for a while, the workers that are awake may all be held by their gate: one
-/// that sleeps is woken, and from then on one where all but so many sleep, until all rows have come back.
+/// that sleeps is woken, and from then on one where all but so many sleep, until all are seen to sleep.
 #[derive(Clone, Copy)]
 pub(crate) struct Pace<'a> {
     signals: &'a Signals,
@@ -31,7 +31,7 @@ pub(crate) struct Pace<'a> {
     untold: u32,
     /// How many microseconds it waits at most.
     nap: u64,
-    /// Whether it has slept since it was last asked.
+    /// Whether it has slept since `take_slept` was last called.
     has_slept: bool,
 }
 
@@ -48,14 +48,9 @@ impl<'a> Pace<'a> {
         }
     }
 
-    /// Remembers that a row was queued.
-    pub(crate) fn has_queued(&mut self) {
+    /// Counts a row that was queued.
+    pub(crate) fn count_queued(&mut self) {
         self.untold = self.untold.saturating_add(1);
-    }
-
-    /// Remembers that all rows have come back, and so that no worker is held.
-    pub(crate) fn is_even(&mut self) {
-        self.held = 0;
     }
 
     /// Tells the workers of the rows that were queued: of a few only where no more come for now. One is woken
@@ -63,6 +58,9 @@ impl<'a> Pace<'a> {
     pub(crate) fn tell_of_rows(&mut self, are_more: bool) {
         if self.untold >= WAKE_FOR || (self.untold > 0 && !are_more) {
             self.untold = 0;
+            if self.signals.jobs.sleepers() >= u64::from(self.workers) {
+                self.held = 0;
+            }
             let free = self.workers.saturating_sub(self.held);
             self.signals.jobs.notify_where(u64::from(free));
         }
@@ -83,8 +81,8 @@ impl<'a> Pace<'a> {
         self.signals.deliveries.given()
     }
 
-    /// Whether it has slept since it was last asked.
-    pub(crate) fn has_just_slept(&mut self) -> bool {
+    /// Whether it has slept since this was last called, which is forgotten.
+    pub(crate) fn take_slept(&mut self) -> bool {
         mem::replace(&mut self.has_slept, false)
     }
 

@@ -125,7 +125,7 @@ fn submit_some<R: Wait, T: Traffic>(
         if submitted != Submitted::Row {
             break;
         }
-        pace.has_queued();
+        pace.count_queued();
     }
     submitted
 }
@@ -251,7 +251,7 @@ fn take_turn<R: Wait, T: Traffic>(
     ensures even { result ≡ Ok Turn.Even → AreEven seats.new.items × (held.new ≡ None) }
 {
     let seen = pace.signals_seen();
-    let has_slept = pace.has_just_slept();
+    let has_slept = pace.take_slept();
     let most = if has_slept { AFTER_A_SLEEP } else { IN_A_TURN };
     let collected = collect_some(rt, hub, traffic, seats, deliverer, held, most)?;
     pace.tell_of_places();
@@ -297,14 +297,11 @@ fn run<R: Wait, T: Traffic>(
         match take_turn(rt, hub, traffic, seats, deliverer, &mut held, &mut pace) {
             Ok(Turn::GoesOn) => {}
             Ok(Turn::NoMemory) => return Ended::NoMemory,
-            Ok(Turn::Even) => {
-                pace.is_even();
-                match wait_for_more(hub, traffic, seats) {
-                    Ok(true) => {}
-                    Ok(false) => return Ended::Done,
-                    Err(fault) => return Ended::Stopped(fault),
-                }
-            }
+            Ok(Turn::Even) => match wait_for_more(hub, traffic, seats) {
+                Ok(true) => {}
+                Ok(false) => return Ended::Done,
+                Err(fault) => return Ended::Stopped(fault),
+            },
             Err(fault) => return Ended::Lost(fault),
         }
     }

@@ -45,7 +45,7 @@ impl Signal {
     }
 
     /// How many threads sleep until it is given.
-    fn sleepers(&self) -> u64 {
+    pub(crate) fn sleepers(&self) -> u64 {
         self.sleepers.load(Ordering::SeqCst)
     }
 
