@@ -29,6 +29,10 @@ more_follow_to : (f : ℕ → ℕ) (low more high higher : ℕ) (xs : List (List
 more_follow_to f low more high higher xs less fewer all k es at =
     let a = all k es at in (a.0, a.1, (let b = a.2 in omega arith), (let b = a.3 in omega arith), a.4)
 
+if_some : (o : Option (List Entry)) (P : Option (List Entry) → Type 0) → P None → ((es : List Entry) → o ≡ Some es → P (Some es)) → P o
+if_some None P none some = none
+if_some (Some es) P none some = some es refl
+
 -- ---- one stream
 
 -- of the entries that follow each other up to `count` the stream has all but the first, which have been taken
@@ -264,17 +268,9 @@ module _ (row answer : ℕ → ℕ) where
 
   after_one : (l : Lane) (e : Event) → IsSound l → IsSound (happens row answer l e)
   after_one l (Submit back count) s = submitted l back count s
-  after_one l (Rows_come which) s = by (slice_get l.sent which) refl
-    where
-      by : (o : Option (List Entry)) → slice_get l.sent which ≡ o → IsSound (with_rows l o)
-      by None e = s
-      by (Some es) e = rows_came l es s (s.sent which es e)
+  after_one l (Rows_come which) s = if_some (slice_get l.sent which) (λ o. IsSound (with_rows l o)) s (λ es e. rows_came l es s (s.sent which es e))
   after_one l (Answer back count) s = answered_some l back count s
-  after_one l (Answers_come which) s = by (slice_get l.given which) refl
-    where
-      by : (o : Option (List Entry)) → slice_get l.given which ≡ o → IsSound (with_answers l o)
-      by None e = s
-      by (Some es) e = answers_came l es s (s.given which es e)
+  after_one l (Answers_come which) s = if_some (slice_get l.given which) (λ o. IsSound (with_answers l o)) s (λ es e. answers_came l es s (s.given which es e))
   after_one l Take s =
       let found = left_of l s in
       subst (λ es. IsSound (take_first l es)) (sym found.2) (took l found.0 s found.1)
