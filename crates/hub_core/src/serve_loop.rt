@@ -425,10 +425,7 @@ fn serve_boxed<R: Threads + Wait + Sync, G: Gate + Sync, T: Traffic + Drop>(
     ensures untouched { IfErr result (λ e. e.input ≡ traffic) }
 {
     let Ok(room) = Vec::with_capacity(alloc, usize::from(lanes)) else {
-        return Err(Unstarted {
-            fault: ServeFault::NoMemory,
-            input: traffic,
-        });
+        return Err(Unstarted::new(ServeFault::NoMemory, traffic));
     };
     let Parts {
         hub,
@@ -437,12 +434,7 @@ fn serve_boxed<R: Threads + Wait + Sync, G: Gate + Sync, T: Traffic + Drop>(
         deliverer,
     } = match new_hub(rt, alloc, lanes, workers, year) {
         Ok(parts) => parts,
-        Err(fault) => {
-            return Err(Unstarted {
-                fault,
-                input: traffic,
-            });
-        }
+        Err(fault) => return Err(Unstarted::new(fault, traffic)),
     };
     let (traffic, lanes, workers, deliverer, ended) = serve_seats(
         rt, alloc, &hub, traffic, lanes, workers, deliverer, gate,
@@ -477,18 +469,13 @@ pub fn serve_traffic<R: Threads + Wait + Sync, G: Gate + Sync, T: Traffic + Drop
     // In a box, since a large one that is moved from result to result takes the compiler minutes.
     let traffic = match Box::new(alloc, traffic) {
         Ok(traffic) => traffic,
-        Err(refused) => {
-            return Err(Unstarted {
-                fault: ServeFault::NoMemory,
-                input: refused.value,
-            });
-        }
+        Err(refused) => return Err(Unstarted::new(ServeFault::NoMemory, refused.value)),
     };
     match serve_boxed(rt, alloc, traffic, lanes, workers, year, gate) {
         Ok((traffic, ended)) => Ok((Box::into_inner(traffic), ended)),
-        Err(refused) => Err(Unstarted {
-            fault: refused.fault,
-            input: Box::into_inner(refused.input),
-        }),
+        Err(refused) => {
+            let traffic = Box::into_inner(refused.input);
+            Err(Unstarted::new(refused.fault, traffic))
+        }
     }
 }

@@ -148,10 +148,7 @@ pub fn run_workers<
     ensures untouched { IfErr result (λ e. e.input ≡ input) }
 {
     let Ok(mut back) = Vec::with_capacity(alloc, seats.len()) else {
-        return Err(Unstarted {
-            fault: ServeFault::NoMemory,
-            input,
-        });
+        return Err(Unstarted::new(ServeFault::NoMemory, input));
     };
     thread::scope(
         thread::scope_env(),
@@ -164,19 +161,13 @@ pub fn run_workers<
             ensures untouched { IfErr result (λ e. e.input ≡ input) }
         {
             let Ok(mut handles) = Vec::with_capacity(alloc, seats.len()) else {
-                return Err(Unstarted {
-                    fault: ServeFault::NoMemory,
-                    input,
-                });
+                return Err(Unstarted::new(ServeFault::NoMemory, input));
             };
             let started = start_all(rt, hub, scope, seats, gate, signals, &mut handles);
             if !started {
                 signals.request_stop();
                 join_all(rt, hub, &mut back, handles);
-                return Err(Unstarted {
-                    fault: ServeFault::NoThread,
-                    input,
-                });
+                return Err(Unstarted::new(ServeFault::NoThread, input));
             }
             let done = task(input);
             signals.request_stop();
