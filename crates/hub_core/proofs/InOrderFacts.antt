@@ -1,5 +1,5 @@
 -- The deliverer and what it has given, call by call.
-use Rattle.std.proofs.Common.{◌≡◌, ◌≢◌, ◌==◌, ◌||◌, ◌+◌, ◌<◌, ◌∷◌, ◌∙◌, ◌++◌, [], Bool, List, ℕ, zero, suc, ap, arith, get_or, inl, inr, length, ltb, map, refl, replicate, set, subst, sym, true, false}
+use Rattle.std.proofs.Common.{◌≡◌, ◌≢◌, ◌==◌, ◌+◌, ◌<◌, ◌∷◌, ◌∙◌, ◌++◌, [], List, ℕ, zero, suc, ap, arith, get_or, inl, inr, length, ltb, map, refl, replicate, set, subst, sym, true}
 use Rattle.std.proofs.lemmas.Bool.{cases_eq}
 use Rattle.std.proofs.lemmas.List.{get_or-set_other, get_or-set_same, length-append, length-map, length-replicate, length-set}
 use Rattle.std.specs.List.{count_by}
@@ -7,9 +7,11 @@ use Rattle.lane_core.specs.ReorderBuffer.{ReorderBuffer, GivesNext, is_known, la
 use Rattle.lane_core.specs.declared.job.Plain.{Plain}
 use Rattle.lane_core.specs.Tickets.{is_ticket_of, numbered}
 use Rattle.lane_core.specs.Weights.{once}
+use Rattle.lane_core.proofs.GoodFacts.{numbered_more}
+use Rattle.lane_core.proofs.SlotFacts.{or_false}
 use Rattle.hub_core.specs.Accounting.{GivenInOrder}
 use Rattle.hub_core.proofs.WeightFacts.{empties_at}
-use Rattle.hub_core.proofs.OrderFacts.{below_one_more, numbered_more, other_lane, same_lane}
+use Rattle.hub_core.proofs.OrderFacts.{below_one_more, other_lane, same_lane}
 
 -- a ticket is among those that it is found of
 -- the next number of a lane that was given one, and of the others
@@ -67,10 +69,6 @@ zeros_at zero i k is = refl
 zeros_at (suc n) zero k is = sym is
 zeros_at (suc n) (suc i) k is = zeros_at n i k is
 
-neither : (a b : Bool) → b ≡ false → (a || b) ≡ a
-neither true b e = refl
-neither false b e = e
-
 -- a deliverer that took nothing in, and lanes that were given nothing
 pub fresh_in_order : {V : Type 0} (n : ℕ) (vs : List V) (d : ReorderBuffer) → d ≡ new_buffer n → length vs ≡ n → GivenInOrder d (map (λ _. []) vs)
 fresh_in_order n vs d is long =
@@ -83,7 +81,7 @@ fresh_in_order n vs d is long =
       taken = λ l k.
           let waiting = ap (λ (t : ReorderBuffer). t.waiting) is in
           let known = ap (λ (t : ReorderBuffer). is_known l k t.known) is in
-          let was : was_taken d l k ≡ ltb k (next_of d l) = neither (ltb k (next_of d l)) (is_known l k d.known) known in
+          let was : was_taken d l k ≡ ltb k (next_of d l) = or_false (ltb k (next_of d l)) (is_known l k d.known) known in
           let taken = ap once was in
           let t = ap (count_by (is_ticket_of l k)) waiting in
           omega arith;

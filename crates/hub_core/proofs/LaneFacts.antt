@@ -9,7 +9,7 @@ use Rattle.lane_core.specs.Tickets.{is_ticket_of, numbered}
 use Rattle.hub_core.specs.declared.rule.Trace.{Trace}
 use Rattle.hub_core.specs.Rule.{trace}
 use Rattle.hub_core.specs.Serving.{numbered_rows}
-use Rattle.hub_core.proofs.OrderFacts.{numbered_more}
+use Rattle.lane_core.proofs.GoodFacts.{numbered_more}
 
 -- what a lane's seat keeps, after a push
 pub lane_more : (v w : Trace) (x : Plain) (lane issued : ℕ) → w ≡ trace v.shares (v.pushed ++ x ∷ []) v.popped

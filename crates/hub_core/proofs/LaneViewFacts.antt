@@ -14,8 +14,9 @@ use Rattle.hub_core.specs.Lane.{ArePolledFirst, AreSettled, Lane, deliveries, ne
 use Rattle.hub_core.specs.Lanes.{as_lane, lane_of, polled, rows_of, submitted}
 use Rattle.hub_core.specs.Laws.{AreAnswersOf}
 use Rattle.hub_core.specs.Serving.{numbered_rows}
+use Rattle.lane_core.proofs.ListFacts.{get_back, get_map}
 use Rattle.hub_core.proofs.AnswerFacts.{rows_read}
-use Rattle.hub_core.proofs.SeatFacts.{all_at, at_map, map_at}
+use Rattle.hub_core.proofs.SeatFacts.{all_at}
 
 abbrev pub a_lane : ℕ → List (List ℕ) → List Plain → Lane
 a_lane n rows xs = record { number = n; rows = rows; polled = xs }
@@ -42,7 +43,7 @@ pub settled : (h : Hub) (ls : List LaneSeat) (lists : List (List Plain)) → Giv
 unfolding as_lane
 settled h ls lists gives k d less =
     let P : Lane → Type 0 = λ lane. lane.polled ++ get_or lists lane.number [] ≡ deliveries lane.number (year_of h) lane.rows in
-    let p = at_map as_lane ls k (get_or (map as_lane ls) k d) (slice_get-get_or (map as_lane ls) k d less) in
+    let p = get_back as_lane ls k (get_or (map as_lane ls) k d) (slice_get-get_or (map as_lane ls) k d less) in
     subst P p.2 (gives k p.0 p.1)
 
 -- what each lane polled is the first of what its rows are served
@@ -53,14 +54,14 @@ pub polled_first : (h : Hub) (ls : List LaneSeat) → PolledFirst h ls → ArePo
 unfolding as_lane
 polled_first h ls first k d less =
     let P : Lane → Type 0 = λ lane. (rest : List Plain) × (lane.polled ++ rest ≡ deliveries lane.number (year_of h) lane.rows) in
-    let p = at_map as_lane ls k (get_or (map as_lane ls) k d) (slice_get-get_or (map as_lane ls) k d less) in
+    let p = get_back as_lane ls k (get_or (map as_lane ls) k d) (slice_get-get_or (map as_lane ls) k d less) in
     subst P p.2 (first k p.0 p.1)
 
 -- and by seat
 pub first_of : (h : Hub) (ls : List LaneSeat) → ArePolledFirst (year_of h) (map as_lane ls) → PolledFirst h ls
 unfolding as_lane
 first_of h ls first i v at =
-    all_at (λ (lane : Lane). (rest : List Plain) × (lane.polled ++ rest ≡ deliveries lane.number (year_of h) lane.rows)) (map as_lane ls) i (as_lane v) first (map_at as_lane ls i v at)
+    all_at (λ (lane : Lane). (rest : List Plain) × (lane.polled ++ rest ≡ deliveries lane.number (year_of h) lane.rows)) (map as_lane ls) i (as_lane v) first (get_map as_lane ls i v at)
 
 pub headline : (year : ℕ) (lanes : List Lane) (lists : List (List Plain)) (i : ℕ) (lane : Lane) (answers : List Answer)
     → AreSettled year lanes lists → slice_get lanes i ≡ Some lane → AreAnswersOf (lane.polled ++ get_or lists lane.number []) answers → Reads lane.rows year answers

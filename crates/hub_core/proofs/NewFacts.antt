@@ -8,6 +8,7 @@ use Rattle.rtrb.specs.Ring.{IsPair, SameProducer}
 use Rattle.lane_core.specs.declared.job.Plain.{Plain}
 use Rattle.lane_core.specs.ReorderBuffer.{ReorderBuffer, new_buffer, was_taken}
 use Rattle.lane_core.specs.Weights.{once}
+use Rattle.lane_core.proofs.PlaceFacts.{none_below}
 use Rattle.lane_core.proofs.WeightFacts.{false_from}
 use Rattle.hub_core.specs.declared.rule.Trace.{Trace}
 use Rattle.hub_core.specs.declared.shape.Shape.{Shape}
@@ -74,9 +75,6 @@ or_none : (a b : Bool) → a ≡ b → (a || false) ≡ b
 or_none true b e = e
 or_none false b e = e
 
-not_below : (k : ℕ) → once (nat_lt k 0) ≡ 0
-not_below k = grind (arith, nat_tests)
-
 pub fresh_accounted : (n capacity : ℕ) (rings : List PushEnd) (d : ReorderBuffer) (collected : List Plain) → d ≡ new_buffer n → length rings ≡ n → All (IsUnsent capacity) rings → collected ≡ []
     → Accounted d collected [] (all_sent rings)
 fresh_accounted n capacity rings d collected is long unsent none =
@@ -91,7 +89,7 @@ fresh_accounted n capacity rings d collected is long unsent none =
           let w = ap (count_by (λ x. (x.lane == l) && (x.number == k))) waiting in
           let z = sym (giving.counted l) ∙ ap length (empties_at rings l) in
           let y = ap (λ m. once (nat_lt k m)) z in
-          omega (arith, t, w, y, not_below k)));
+          omega (arith, t, w, y, none_below k)));
       fresh = refl;
     }
 
@@ -111,7 +109,7 @@ has_each n numbers is l =
     let e : 0 + n ≡ n = omega arith in
     let w = ap (λ m. once (nat_lt l m)) e in
     let a = ap (count_by (λ k. k == l)) is in
-    omega (arith, each_from 0 n l, not_below l)
+    omega (arith, each_from 0 n l, none_below l)
 
 pub given_none : (capacity : ℕ) (rings : List PushEnd) (l : ℕ) → All (IsUnsent capacity) rings → get_or (all_sent rings) l [] ≡ []
 given_none capacity rings l unsent = ap (λ gs. get_or gs l []) (unsent_all capacity rings unsent) ∙ empties_at rings l

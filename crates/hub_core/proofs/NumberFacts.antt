@@ -5,6 +5,7 @@ use Rattle.std.proofs.lemmas.Bool.{cases_eq, cases_lt, eq-eqb, le-ltb, lt-ltb, n
 use Rattle.std.proofs.lemmas.List.FromFn.{fill_by_all}
 use Rattle.std.proofs.lemmas.List.Sums.{sum_by-cons}
 use Rattle.lane_core.specs.Weights.{once}
+use Rattle.lane_core.proofs.ClaimFacts.{none_by}
 use Rattle.hub_core.specs.Hubs.{HasEach}
 use Rattle.hub_core.proofs.WeightFacts.{sum_by-map}
 
@@ -23,10 +24,6 @@ split_by F m k = ⊎_elim
 split : (F : ℕ → ℕ) (m : ℕ) (ks : List ℕ) → sum_by F ks ≡ sum_by (λ k. cond (k == m) (F m) 0) ks + sum_by (λ k. cond (k == m) 0 (F k)) ks
 split F m [] = refl
 split F m (k ∷ ks) = omega (arith, sum_by-cons F k ks, sum_by-cons (λ j. cond (j == m) (F m) 0) k ks, sum_by-cons (λ j. cond (j == m) 0 (F j)) k ks, split_by F m k, split F m ks)
-
-none_by : (b : Bool) (c n m : ℕ) → once b + n ≡ 0 → (n ≡ 0 → m ≡ 0) → cond b c 0 + m ≡ 0
-none_by true c n m e f = absurd (omega arith)
-none_by false c n m e f = let z = f (omega arith) in omega arith
 
 one_by : (b : Bool) (c n m : ℕ) → once b + n ≡ 1 → (n ≡ 0 → m ≡ 0) → (n ≡ 1 → m ≡ c) → cond b c 0 + m ≡ c
 one_by true c n m e f g = let z = f (omega arith) in omega arith

@@ -17,8 +17,9 @@ use Rattle.hub_core.specs.DrainedLists.{AreMade, AreOwn, DrainsInto, Listed, Sor
 use Rattle.hub_core.specs.Lanes.{lane_of, polled, received, submitted}
 use Rattle.hub_core.specs.Draining.{Finds}
 use Rattle.hub_core.specs.Serving.{sum_all}
+use Rattle.lane_core.proofs.ListFacts.{get_back, get_map}
 use Rattle.hub_core.proofs.NumberFacts.{by_place, sum_ones}
-use Rattle.hub_core.proofs.SeatFacts.{Whole, at_map, by_seat, map_at, one_lane, sum_same}
+use Rattle.hub_core.proofs.SeatFacts.{Whole, by_seat, one_lane, sum_same}
 use Rattle.hub_core.proofs.SortFacts.{all_same}
 use Rattle.hub_core.proofs.WeightFacts.{sum_by-map}
 
@@ -55,7 +56,7 @@ abbrev list_at : List Listed → ℕ → List Plain
 list_at lists l = get_or (items_of lists) l []
 
 list_is : (lists : List Listed) (l : ℕ) (w : Listed) → slice_get lists l ≡ Some w → w.items ≡ list_at lists l
-list_is lists l w e = sym (get_or_from_slice_get (items_of lists) l w.items [] (map_at (λ (u : Listed). u.items) lists l w e))
+list_is lists l w e = sym (get_or_from_slice_get (items_of lists) l w.items [] (get_map (λ (u : Listed). u.items) lists l w e))
 
 abbrev claim_of : List Listed → LaneSeat → Claim
 claim_of lists s = record { lane = lane_of s; submitted = submitted s; polled = polled s; given = list_at lists (lane_of s) }
@@ -95,7 +96,7 @@ owed ls ws d jobs results found n made drained sorted claims_settle finds whole 
     ∙ sum_sorted g drained sorted sorts.0 (λ l v w e f. (sorts.1 l v w e f).0)) in
     let settled = claims_settle (map (claim_of sorted) ls) found drains.dropped
     (λ i c e.
-    let p = at_map (claim_of sorted) ls i c e in
+    let p = get_back (claim_of sorted) ls i c e in
     let s = p.0 in
     let l = lane_of s in
     let at = lists_at made drained sorted l m (whole.low i s p.1) long_made long_drained long_sorted in
@@ -128,4 +129,4 @@ owed ls ws d jobs results found n made drained sorted claims_settle finds whole 
     let b = drains.whole g in
     let c = are_made.empty g in
     omega arith) in
-    λ i v e. settled i (claim_of sorted v) (map_at (claim_of sorted) ls i v e)
+    λ i v e. settled i (claim_of sorted v) (get_map (claim_of sorted) ls i v e)

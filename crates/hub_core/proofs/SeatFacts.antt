@@ -1,9 +1,9 @@
 -- The parts of a hub as lanes of the machine, and as accounts of what they submitted and were handed.
-use Rattle.std.proofs.Common.{◌≡◌, ◌≢◌, ⊎_elim, ℕ, ◌+◌, ◌<◌, ◌≤◌, ◌==◌, cond, nat_lt, option_map, true, zero, suc, List, [], ◌∷◌, ◌++◌, get_or, length, length-append, map, take, Option, Some, None, option_to_list, refl, sym, ap, ◌∙◌, subst, arith}
+use Rattle.std.proofs.Common.{◌≡◌, ◌≢◌, ⊎_elim, ℕ, ◌+◌, ◌<◌, ◌≤◌, ◌==◌, cond, nat_lt, true, zero, suc, List, [], ◌∷◌, ◌++◌, get_or, length, length-append, map, take, Option, Some, None, option_to_list, refl, sym, ap, ◌∙◌, subst, arith}
 use Rattle.std.specs.List.{All, flat_map, range_with_len, slice_get, sum_by, count_by}
 use Rattle.std.proofs.lemmas.Bool.{and_from, and_parts, cases_eq, cases_lt, eq-eqb, ne_eqb}
 use Rattle.std.proofs.lemmas.List.FromFn.{get_or-map-range_with_len, length-map-range_with_len}
-use Rattle.std.proofs.lemmas.Option.{get_or_from_slice_get, same_Some, slice_get-get_or, slice_get-map, slice_get_past, slice_get_within}
+use Rattle.std.proofs.lemmas.Option.{get_or_from_slice_get, same_Some, slice_get-get_or, slice_get_past, slice_get_within}
 use Rattle.std.proofs.lemmas.List.Sums.{sum_by-append, sum_by-cons}
 use Rattle.lane_core.specs.declared.job.Plain.{Plain}
 use Rattle.lane_core.specs.Machine.{LaneState, State, lane_state, of_lane, state}
@@ -11,6 +11,8 @@ use Rattle.lane_core.specs.Settling.{Account, AllFound, KeptWhole, ReceivedFirst
 use Rattle.lane_core.specs.Tickets.{numbered}
 use Rattle.lane_core.specs.Weights.{OneForOne, once}
 use Rattle.lane_core.specs.Whereabouts.{NothingLost}
+use Rattle.lane_core.proofs.GoodFacts.{once_le}
+use Rattle.lane_core.proofs.ListFacts.{get_back, get_map}
 use Rattle.hub_core.specs.declared.deliverer_seat.DelivererSeat.{DelivererSeat}
 use Rattle.hub_core.specs.declared.hub.Hub.{Hub}
 use Rattle.hub_core.specs.declared.lane_seat.LaneSeat.{LaneSeat}
@@ -27,15 +29,6 @@ use Rattle.hub_core.specs.Workers as worker
 use Rattle.hub_core.proofs.UnpolledFacts.{at_least}
 use Rattle.hub_core.proofs.NumberFacts.{by_place, sum_each}
 use Rattle.hub_core.proofs.WeightFacts.{sum_by-map}
-use Rattle.hub_core.proofs.OrderFacts.{few_once}
-
-pub at_map : {A B : Type 0} (f : A → B) (xs : List A) (i : ℕ) (b : B) → slice_get (map f xs) i ≡ Some b → (a : A) × (slice_get xs i ≡ Some a) × (f a ≡ b)
-at_map f [] i b e = absurd (cc)
-at_map f (x ∷ xs) zero b e = (x, refl, same_Some (f x) b e)
-at_map f (x ∷ xs) (suc i) b e = at_map f xs i b e
-
-pub map_at : {A B : Type 0} (f : A → B) (xs : List A) (i : ℕ) (a : A) → slice_get xs i ≡ Some a → slice_get (map f xs) i ≡ Some (f a)
-map_at f xs i a e = slice_get-map f xs i ∙ ap (option_map f) e
 
 pub all_at : {X : Type 0} (P : X → Type 0) (xs : List X) (i : ℕ) (x : X) → All P xs → slice_get xs i ≡ Some x → P x
 all_at P xs i x all e = subst P (get_or_from_slice_get xs i x x e) (all i x (slice_get_within xs i x e))
@@ -50,7 +43,7 @@ sum_by-flat_map g f (x ∷ xs) = omega (arith, sum_by-cons (λ y. sum_by g (f y)
 
 -- no lane has two seats
 pub one_lane : (n : ℕ) (ls : List LaneSeat) → HasEach n (numbers_of ls) → (l : ℕ) → count_by (λ (s : LaneSeat). lane_of s == l) ls ≤ 1
-one_lane n ls each l = subst (λ m. m ≤ 1) (sym (each l) ∙ sum_by-map (λ k. once (k == l)) (λ (s : LaneSeat). lane_of s) ls) (few_once (nat_lt l n))
+one_lane n ls each l = subst (λ m. m ≤ 1) (sym (each l) ∙ sum_by-map (λ k. once (k == l)) (λ (s : LaneSeat). lane_of s) ls) (once_le (nat_lt l n))
 
 -- all lanes of a hub, by number or by seat
 pub by_seat : (n : ℕ) (ls : List LaneSeat) → HasEach n (numbers_of ls) → (F : ℕ → ℕ) → sum_by (λ (s : LaneSeat). F (lane_of s)) ls ≡ sum_by F (range_with_len 0 n)
@@ -96,8 +89,8 @@ whole_from h ls ws d jobs results found all_found received_first kept_whole seat
     let giving = d.accounted.giving in
     let one = one_lane n ls each in
     let found_all = all_found n (map account ls) (flat_map taken ws) (flat_map posted ws) (collected d) jobs (flat_map worker.hand_of ws) results (buffer_of d).waiting (hand_of d) (λ g. sum_all g (all_sent d.rings.items))
-    (λ i a e. let p = at_map account ls i a e in subst (λ (b : Account). numbered b.lane 0 b.submitted ≡ true) p.2 p.0.in_order)
-    (λ i a e. let p = at_map account ls i a e in subst (λ (b : Account). b.lane < n) p.2 (low i p.0 p.1))
+    (λ i a e. let p = get_back account ls i a e in subst (λ (b : Account). numbered b.lane 0 b.submitted ≡ true) p.2 p.0.in_order)
+    (λ i a e. let p = get_back account ls i a e in subst (λ (b : Account). b.lane < n) p.2 (low i p.0 p.1))
     (λ l. subst (λ m. m ≤ 1) (sym (sum_by-map (λ (a : Account). once (a.lane == l)) account ls)) (one l))
     (λ g. sum_by-map (λ (a : Account). sum_by g a.submitted) account ls ∙ (sym (sum_by-flat_map g (λ (s : LaneSeat). submitted s) ls) ∙ finds.jobs g))
     (hands_whole ws)
@@ -108,8 +101,8 @@ whole_from h ls ws d jobs results found all_found received_first kept_whole seat
     let sent : (g : Plain → ℕ) → sum_by (λ (s : LaneSeat). sum_by g (handed d (lane_of s))) ls ≡ sum_all g (all_sent d.rings.items) = λ g.
     by_seat n ls each (λ l. sum_by g (handed d l)) ∙ by_place (sum_by g) (all_sent d.rings.items) n [] giving.lanes in
     let first = received_first (map (handed_account d) ls)
-    (λ i a e. let p = at_map (handed_account d) ls i a e in subst (λ (b : Account). numbered b.lane 0 b.submitted ≡ true) p.2 p.0.in_order)
-    (λ i a e. let p = at_map (handed_account d) ls i a e in subst (λ (b : Account). numbered b.lane 0 b.received ≡ true) p.2 (giving.in_order (lane_of p.0)))
+    (λ i a e. let p = get_back (handed_account d) ls i a e in subst (λ (b : Account). numbered b.lane 0 b.submitted ≡ true) p.2 p.0.in_order)
+    (λ i a e. let p = get_back (handed_account d) ls i a e in subst (λ (b : Account). numbered b.lane 0 b.received ≡ true) p.2 (giving.in_order (lane_of p.0)))
     (λ l. subst (λ m. m ≤ 1) (sym (sum_by-map (λ (a : Account). once (a.lane == l)) (handed_account d) ls)) (one l))
     (λ g.
     let a = sum_by-map (λ (a : Account). sum_by g a.received) (handed_account d) ls ∙ sent g in
@@ -127,7 +120,7 @@ whole_from h ls ws d jobs results found all_found received_first kept_whole seat
           let order = numbered_front (lane_of s) 0 (received s) front.0 (ap (numbered (lane_of s) 0) front.1 ∙ giving.in_order (lane_of s)) in
           let same = kept_whole (lane_of s) 0 (received s) order in
           (same, (let a = ap length same in let b = ap length front.1 in let c = length-append (received s) front.0 in omega arith));
-      handed = λ i s e. first i (handed_account d s) (map_at (handed_account d) ls i s e);
+      handed = λ i s e. first i (handed_account d s) (get_map (handed_account d) ls i s e);
     }
 
 -- a seat as a lane of the machine

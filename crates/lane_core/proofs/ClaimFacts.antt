@@ -130,7 +130,7 @@ own_given l h (x ∷ xs) e =
     let rest = own_given l h xs s.1 in
     let here : cond (x.lane == l) (h x) 0 ≡ h x = ap (λ b. cond b (h x) 0) s.0 in omega (arith, sum_by-cons (λ (y : Plain). cond (y.lane == l) (h y) 0) x xs, sum_by-cons h x xs)
 
-none_by : (b : Bool) (c n m : ℕ) → once b + n ≡ 0 → (n ≡ 0 → m ≡ 0) → cond b c 0 + m ≡ 0
+pub none_by : (b : Bool) (c n m : ℕ) → once b + n ≡ 0 → (n ≡ 0 → m ≡ 0) → cond b c 0 + m ≡ 0
 none_by true c n m e f = absurd (omega arith)
 none_by false c n m e f = let z = f (omega arith) in omega arith
 

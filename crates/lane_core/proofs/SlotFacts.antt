@@ -86,7 +86,7 @@ contained (Missing ∷ hs) (suc l) x rest low is = contained hs l x rest (omega 
 contained (Out ∷ hs) (suc l) x rest low is = contained hs l x rest (omega arith) is
 contained (Here y ∷ hs) (suc l) x rest low is = let c = contained hs l x rest (omega arith) is in (suc c.0, (let less = c.1 in omega arith), c.2)
 
-or_false : (a b : Bool) → b ≡ false → (a || b) ≡ a
+pub or_false : (a b : Bool) → b ≡ false → (a || b) ≡ a
 or_false true b e = refl
 or_false false b e = e
 
