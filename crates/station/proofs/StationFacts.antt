@@ -1,11 +1,10 @@
 -- All seats of a hub: one of which was used, or all of them in the other order.
 use Rattle.std.proofs.Common.{◌≡◌, ◌==◌, ℕ, ◌+◌, ◌-◌, ◌<◌, All, List, [], ◌∷◌, get_or, length, map, reverse, set, sym, ap, ◌∙◌, subst, arith}
 use mathlib.Core.List.{reverse_aux}
-use Rattle.std.specs.List.{range_with_len, sum_by}
+use Rattle.std.specs.List.{sum_by}
 use Rattle.std.proofs.Math.Seq.{map-set_same}
 use Rattle.std.proofs.lemmas.List.{get_or-reverse, length-map, length-reverse}
 use Rattle.std.proofs.lemmas.List.Elements.{All-set}
-use Rattle.std.proofs.lemmas.List.FromFn.{length-range_with_len}
 use Rattle.std.proofs.lemmas.List.Sums.{sum_by-cons}
 use Rattle.hub_core.specs.Delivering.{lane_count}
 use Rattle.lane_core.specs.Weights.{once}
@@ -25,9 +24,6 @@ lane_used h ls ws d i s t same is all = record {
   each_lane = subst (HasEach (shape_of h).lanes) (sym (map-set_same lane_of ls i t s same)) all.each_lane;
   each_worker = all.each_worker;
 }
-
-pub counted : (ls : List LaneSeat) (n : ℕ) → numbers_of ls ≡ range_with_len 0 n → length ls ≡ n
-counted ls n numbers = sym (length-map ls lane_of) ∙ (ap length numbers ∙ length-range_with_len 0 n)
 
 -- each seat's number, from the last seat to the first
 sum_turned : {X : Type 0} (h : ℕ → ℕ) (g : X → ℕ) (xs ys : List X) → sum_by h (map g (reverse_aux xs ys)) ≡ sum_by h (map g xs) + sum_by h (map g ys)
