@@ -1,4 +1,5 @@
-use Rattle.std.proofs.Common.{◌<◌, true, length, ap, ◌∙◌, arith}
+use Rattle.std.proofs.Common.{◌≡◌, ◌<◌, false, true, Some, length, map, ap, ◌∙◌, arith}
+use Rattle.std.specs.List.{slice_get}
 use Rattle.std.proofs.lemmas.List.{map-set}
 use Rattle.lane_core.specs.declared.event.Event.TheVariants.{Close}
 use Rattle.lane_core.specs.declared.lane.Lane.{Lane}
@@ -7,6 +8,7 @@ use Rattle.lane_core.proofs.HeldFacts.{count_held, lane_at, same_lane}
 use Rattle.lane_core.proofs.LaneShowFacts.{close_done, close_none, close_past}
 use Rattle.lane_core.proofs.ShowFacts.{shown_after}
 use Rattle.lane_core.proofs.world.World.close.Goals as goal
+use Rattle.lane_core.proofs.world.World.close.Goals.{After-index_mut}
 
 pub returns-then-at-len-clause-steps : goal.returns-then-at-len-clause-steps
 returns-then-at-len-clause-steps c =
@@ -18,23 +20,29 @@ returns-then-index-clause-steps c =
     let less : c.args.lane < length c.self.inside.lanes.items = omega arith in
     rw (← c.self.view_is) (close_none (held c.self.inside) c.args.lane (lane_held c.index.result.now) (lane_at c.self.inside.lanes.items c.args.lane c.index.result.now less c.index.ensures) c.if-index.true)
 
+at : (c : After-index_mut) → slice_get (map lane_held c.self.inside.lanes.items) c.args.lane ≡ Some (lane_held c.index_mut.result.now)
+at c =
+    let less : c.args.lane < length c.self.inside.lanes.items = omega arith in
+    lane_at c.self.inside.lanes.items c.args.lane c.index_mut.result.now less c.index_mut.ensures.value
+
+still_open : (c : After-index_mut) → c.index_mut.result.now.closed ≡ false
+still_open c =
+    let less : c.args.lane < length c.self.inside.lanes.items = omega arith in
+    ap (λ (x : Lane). x.closed) (same_lane c.self.inside.lanes.items c.args.lane c.index_mut.result.now c.index.result.now less c.index_mut.ensures.value c.index.ensures) ∙ c.if-index.false
+
 pub invariant_of-self : goal.invariant_of-self
 invariant_of-self c =
-    let less : c.args.lane < length c.self.inside.lanes.items = omega arith in
     let lanes = c.self.inside.lanes.items in
     let x = c.index_mut.result.now in
-    let at = lane_at lanes c.args.lane x less c.index_mut.ensures.value in
-    let open_ = ap (λ (x : Lane). x.closed) (same_lane lanes c.args.lane x c.index.result.now less c.index_mut.ensures.value c.index.ensures) ∙ c.if-index.false in
+    let d = (goal.at.invariant_of-self c).After-index_mut in
     rw (map-set lane_held lanes c.args.lane record { closed = true; issued = x.issued; handed = x.handed; polled = x.polled })
-    (shown_after (held c.self.inside) _ (Close c.args.lane) _ c.self.invariant (close_done (held c.self.inside) c.args.lane (lane_held x) at open_))
+    (shown_after (held c.self.inside) _ (Close c.args.lane) _ c.self.invariant (close_done (held c.self.inside) c.args.lane (lane_held x) (at d) (still_open d)))
 
 pub returns-clause-steps : goal.returns-clause-steps
 returns-clause-steps c =
-    let less : c.args.lane < length c.self.inside.lanes.items = omega arith in
     let lanes = c.self.inside.lanes.items in
     let x = c.index_mut.result.now in
-    let at = lane_at lanes c.args.lane x less c.index_mut.ensures.value in
-    let open_ = ap (λ (x : Lane). x.closed) (same_lane lanes c.args.lane x c.index.result.now less c.index_mut.ensures.value c.index.ensures) ∙ c.if-index.false in
+    let d = (goal.at.returns-clause-steps c).After-index_mut in
     rw (← c.self.view_is)
     (rw (map-set lane_held lanes c.args.lane record { closed = true; issued = x.issued; handed = x.handed; polled = x.polled })
-    (close_done (held c.self.inside) c.args.lane (lane_held x) at open_))
+    (close_done (held c.self.inside) c.args.lane (lane_held x) (at d) (still_open d)))

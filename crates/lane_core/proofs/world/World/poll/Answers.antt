@@ -1,4 +1,5 @@
-use Rattle.std.proofs.Common.{◌+◌, ◌<◌, length, ap, arith}
+use Rattle.std.proofs.Common.{◌≡◌, ◌+◌, ◌<◌, Some, length, map, ap, arith}
+use Rattle.std.specs.List.{slice_get}
 use Rattle.std.proofs.lemmas.List.{map-set}
 use Rattle.lane_core.specs.declared.event.Event.TheVariants.{Poll}
 use Rattle.lane_core.specs.declared.lane.Lane.{Lane}
@@ -7,6 +8,7 @@ use Rattle.lane_core.proofs.HeldFacts.{count_held, lane_at, same_lane}
 use Rattle.lane_core.proofs.LaneShowFacts.{poll_done, poll_none, poll_past}
 use Rattle.lane_core.proofs.ShowFacts.{shown_after}
 use Rattle.lane_core.proofs.world.World.poll.Goals as goal
+use Rattle.lane_core.proofs.world.World.poll.Goals.{After-index_mut}
 
 pub returns-then-at-len-clause-steps : goal.returns-then-at-len-clause-steps
 returns-then-at-len-clause-steps c =
@@ -21,25 +23,36 @@ returns-then-polled-len-clause-steps c =
     let polled = ap (λ (x : Lane). x.polled) same in
     rw (← c.self.view_is) (poll_none (held c.self.inside) c.args.lane (lane_held c.index-2.result.now) (lane_at lanes c.args.lane c.index-2.result.now less c.index-2.ensures) (omega arith))
 
+at : (c : After-index_mut) → slice_get (map lane_held c.self.inside.lanes.items) c.args.lane ≡ Some (lane_held c.index_mut.result.now)
+at c =
+    let less : c.args.lane < length c.self.inside.lanes.items = omega arith in
+    lane_at c.self.inside.lanes.items c.args.lane c.index_mut.result.now less c.index_mut.ensures.value
+
+same_polled : (c : After-index_mut) → c.index.result.now.polled ≡ c.index_mut.result.now.polled
+same_polled c =
+    let less : c.args.lane < length c.self.inside.lanes.items = omega arith in
+    ap (λ (x : Lane). x.polled) (same_lane c.self.inside.lanes.items c.args.lane c.index.result.now c.index_mut.result.now less c.index.ensures c.index_mut.ensures.value)
+
+one_more : (c : After-index_mut) → c.index_mut.result.now.polled < length c.index_mut.result.now.handed.items
+one_more c =
+    let less : c.args.lane < length c.self.inside.lanes.items = omega arith in
+    let polled = same_polled c in
+    let handed = ap (λ (x : Lane). length x.handed.items) (same_lane c.self.inside.lanes.items c.args.lane c.index-2.result.now c.index_mut.result.now less c.index-2.ensures c.index_mut.ensures.value) in
+    omega arith
+
 pub invariant_of-self : goal.invariant_of-self
 invariant_of-self c =
-    let less : c.args.lane < length c.self.inside.lanes.items = omega arith in
     let lanes = c.self.inside.lanes.items in
     let x = c.index_mut.result.now in
-    let at = lane_at lanes c.args.lane x less c.index_mut.ensures.value in
-    let polled = ap (λ (x : Lane). x.polled) (same_lane lanes c.args.lane c.index.result.now x less c.index.ensures c.index_mut.ensures.value) in
-    let handed = ap (λ (x : Lane). length x.handed.items) (same_lane lanes c.args.lane c.index-2.result.now x less c.index-2.ensures c.index_mut.ensures.value) in
-    rw (polled, map-set lane_held lanes c.args.lane record { closed = x.closed; issued = x.issued; handed = x.handed; polled = x.polled + 1 })
-    (shown_after (held c.self.inside) _ (Poll c.args.lane) _ c.self.invariant (poll_done (held c.self.inside) c.args.lane (lane_held x) at (omega arith)))
+    let d = (goal.at.invariant_of-self c).After-index_mut in
+    rw (same_polled d, map-set lane_held lanes c.args.lane record { closed = x.closed; issued = x.issued; handed = x.handed; polled = x.polled + 1 })
+    (shown_after (held c.self.inside) _ (Poll c.args.lane) _ c.self.invariant (poll_done (held c.self.inside) c.args.lane (lane_held x) (at d) (one_more d)))
 
 pub returns-clause-steps : goal.returns-clause-steps
 returns-clause-steps c =
-    let less : c.args.lane < length c.self.inside.lanes.items = omega arith in
     let lanes = c.self.inside.lanes.items in
     let x = c.index_mut.result.now in
-    let at = lane_at lanes c.args.lane x less c.index_mut.ensures.value in
-    let polled = ap (λ (x : Lane). x.polled) (same_lane lanes c.args.lane c.index.result.now x less c.index.ensures c.index_mut.ensures.value) in
-    let handed = ap (λ (x : Lane). length x.handed.items) (same_lane lanes c.args.lane c.index-2.result.now x less c.index-2.ensures c.index_mut.ensures.value) in
+    let d = (goal.at.returns-clause-steps c).After-index_mut in
     rw (← c.self.view_is)
-    (rw (polled, map-set lane_held lanes c.args.lane record { closed = x.closed; issued = x.issued; handed = x.handed; polled = x.polled + 1 })
-    (poll_done (held c.self.inside) c.args.lane (lane_held x) at (omega arith)))
+    (rw (same_polled d, map-set lane_held lanes c.args.lane record { closed = x.closed; issued = x.issued; handed = x.handed; polled = x.polled + 1 })
+    (poll_done (held c.self.inside) c.args.lane (lane_held x) (at d) (one_more d)))

@@ -1,5 +1,6 @@
-use Rattle.std.proofs.Common.{List, ℕ, ◌+◌, ◌<◌, ◌^◌, [], ◌∷◌, ◌++◌, length, ap, ◌∙◌, arith}
+use Rattle.std.proofs.Common.{◌≡◌, List, ℕ, ◌+◌, ◌<◌, ◌^◌, [], ◌∷◌, ◌++◌, Some, false, length, map, ap, ◌∙◌, arith}
 use Rattle.std.specs.declared.alloc.AllocFailed.{AllocFailed}
+use Rattle.std.specs.List.{slice_get}
 use Rattle.std.proofs.lemmas.List.{map-set}
 use Rattle.lane_core.specs.declared.event.Event.TheVariants.{Submit}
 use Rattle.lane_core.specs.declared.job.Plain.{Plain}
@@ -10,6 +11,7 @@ use Rattle.lane_core.proofs.HeldFacts.{count_held, lane_at, same_lane}
 use Rattle.lane_core.proofs.LaneShowFacts.{submit_closed, submit_done, submit_full, submit_past}
 use Rattle.lane_core.proofs.ShowFacts.{shown_after}
 use Rattle.lane_core.proofs.world.World.submit.Goals as goal
+use Rattle.lane_core.proofs.world.World.submit.Goals.{After-index_mut}
 
 pub returns-then-at-len-clause-steps : goal.returns-then-at-len-clause-steps
 returns-then-at-len-clause-steps c =
@@ -26,35 +28,45 @@ returns-then-issued-from-clause-steps c =
     let less : c.args.lane < length c.self.inside.lanes.items = omega arith in
     rw (← c.self.view_is) (submit_full (held c.self.inside) c.args.lane c.args.row (lane_held c.index-2.result.now) (lane_at c.self.inside.lanes.items c.args.lane c.index-2.result.now less c.index-2.ensures) (omega arith))
 
+at : (c : After-index_mut) → slice_get (map lane_held c.self.inside.lanes.items) c.args.lane ≡ Some (lane_held c.index_mut.result.now)
+at c =
+    let less : c.args.lane < length c.self.inside.lanes.items = omega arith in
+    lane_at c.self.inside.lanes.items c.args.lane c.index_mut.result.now less c.index_mut.ensures.value
+
+still_open : (c : After-index_mut) → c.index_mut.result.now.closed ≡ false
+still_open c =
+    let less : c.args.lane < length c.self.inside.lanes.items = omega arith in
+    ap (λ (x : Lane). x.closed) (same_lane c.self.inside.lanes.items c.args.lane c.index_mut.result.now c.index.result.now less c.index_mut.ensures.value c.index.ensures) ∙ c.if-index.false
+
+same_issued : (c : After-index_mut) → c.index-2.result.now.issued ≡ c.index_mut.result.now.issued
+same_issued c =
+    let less : c.args.lane < length c.self.inside.lanes.items = omega arith in
+    ap (λ (x : Lane). x.issued) (same_lane c.self.inside.lanes.items c.args.lane c.index-2.result.now c.index_mut.result.now less c.index-2.ensures c.index_mut.ensures.value)
+
+room : (c : After-index_mut) → c.index_mut.result.now.issued < 2 ^ 32
+room c = let issued = same_issued c in omega arith
+
 pub invariant_of-self : goal.invariant_of-self
 invariant_of-self c =
-    let less : c.args.lane < length c.self.inside.lanes.items = omega arith in
     let lanes = c.self.inside.lanes.items in
     let x = c.index_mut.result.now in
-    let at = lane_at lanes c.args.lane x less c.index_mut.ensures.value in
-    let open_ = ap (λ (x : Lane). x.closed) (same_lane lanes c.args.lane x c.index.result.now less c.index_mut.ensures.value c.index.ensures) ∙ c.if-index.false in
-    let issued = ap (λ (x : Lane). x.issued) (same_lane lanes c.args.lane c.index-2.result.now x less c.index-2.ensures c.index_mut.ensures.value) in
-    let room : x.issued < 2 ^ 32 = omega arith in
-    let job = ap (λ (n : ℕ). plain_of c.args.lane n c.self.inside.year c.args.row) issued in
+    let d = (goal.at.invariant_of-self c).After-index_mut in
+    let job = ap (λ (n : ℕ). plain_of c.args.lane n c.self.inside.year c.args.row) (same_issued d) in
     let jobs = ◌∙◌ {A = List Plain} c.in-Ok.ensures.items (ap (λ (x : Plain). c.self.inside.jobs.items ++ x ∷ []) job) in
-    let steps = submit_done (held c.self.inside) c.args.lane c.args.row (lane_held x) at open_ room in
-    rw (issued, map-set lane_held lanes c.args.lane record { closed = x.closed; issued = x.issued + 1; handed = x.handed; polled = x.polled }, jobs)
+    let steps = submit_done (held c.self.inside) c.args.lane c.args.row (lane_held x) (at d) (still_open d) (room d) in
+    rw (same_issued d, map-set lane_held lanes c.args.lane record { closed = x.closed; issued = x.issued + 1; handed = x.handed; polled = x.polled }, jobs)
     (shown_after (held c.self.inside) _ (Submit c.args.lane c.args.row) _ c.self.invariant steps)
 
 pub returns-in-Ok-clause-steps : goal.returns-in-Ok-clause-steps
 returns-in-Ok-clause-steps c =
-    let less : c.args.lane < length c.self.inside.lanes.items = omega arith in
     let lanes = c.self.inside.lanes.items in
     let x = c.index_mut.result.now in
-    let at = lane_at lanes c.args.lane x less c.index_mut.ensures.value in
-    let open_ = ap (λ (x : Lane). x.closed) (same_lane lanes c.args.lane x c.index.result.now less c.index_mut.ensures.value c.index.ensures) ∙ c.if-index.false in
-    let issued = ap (λ (x : Lane). x.issued) (same_lane lanes c.args.lane c.index-2.result.now x less c.index-2.ensures c.index_mut.ensures.value) in
-    let room : x.issued < 2 ^ 32 = omega arith in
-    let job = ap (λ (n : ℕ). plain_of c.args.lane n c.self.inside.year c.args.row) issued in
+    let d = (goal.at.returns-in-Ok-clause-steps c).After-index_mut in
+    let job = ap (λ (n : ℕ). plain_of c.args.lane n c.self.inside.year c.args.row) (same_issued d) in
     let jobs = ◌∙◌ {A = List Plain} c.in-Ok.ensures.items (ap (λ (x : Plain). c.self.inside.jobs.items ++ x ∷ []) job) in
-    let steps = submit_done (held c.self.inside) c.args.lane c.args.row (lane_held x) at open_ room in
+    let steps = submit_done (held c.self.inside) c.args.lane c.args.row (lane_held x) (at d) (still_open d) (room d) in
     rw (← c.self.view_is)
-    (rw (issued, map-set lane_held lanes c.args.lane record { closed = x.closed; issued = x.issued + 1; handed = x.handed; polled = x.polled }, jobs)
+    (rw (same_issued d, map-set lane_held lanes c.args.lane record { closed = x.closed; issued = x.issued + 1; handed = x.handed; polled = x.polled }, jobs)
     steps)
 
 pub returns-in-Err-clause-refused : goal.returns-in-Err-clause-refused
