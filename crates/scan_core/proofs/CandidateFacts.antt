@@ -39,8 +39,8 @@ one_fixed c Gs1128 n N M p q a b = absurd (q refl)
 pub one_gs1128 : (n N M : ℕ) → IsCandidate Gs1128 n N → IsCandidate Gs1128 n M → N ≡ M
 one_gs1128 n N M a b = let i = a.3 in let j = b.3 in let p = a.4 in let q = b.4 in omega arith
 
--- a symbol has an odd number of runs, 595 at most, and is some modules wide
-pub few_runs : (c : Carrier) (n N : ℕ) → IsCandidate c n N → (1 < n) × (n ≤ 595) × (n % 2 ≡ 1)
+-- a symbol has an odd number of runs, 25 at least and 595 at most
+pub few_runs : (c : Carrier) (n N : ℕ) → IsCandidate c n N → (25 ≤ n) × (n ≤ 595) × (n % 2 ≡ 1)
 few_runs Ean13 n N a = let e = a.0 in (omega arith, omega arith, omega arith)
 few_runs Ean8 n N a = let e = a.0 in (omega arith, omega arith, omega arith)
 few_runs UpcE n N a = let e = a.0 in (omega arith, omega arith, omega arith)

@@ -5,6 +5,7 @@ pub mod ContentFacts
 pub mod CutFacts
 pub mod DotFacts
 pub mod EarlierFacts
+pub mod EndFacts
 pub mod FoundFacts
 pub mod LengthFacts
 pub mod OuterBars

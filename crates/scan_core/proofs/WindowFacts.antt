@@ -1,18 +1,19 @@
 -- Windows of a row.
-use Rattle.std.proofs.Common.{◌≡◌, ◌∙◌, ◌⊎◌, ℕ, zero, suc, ◌+◌, ◌-◌, ◌*◌, ◌%◌, ◌<◌, ◌≤◌, List, [], ◌∷◌, length, drop, sum, sym, ap, subst, inl, inr, arith, get_or, length-drop, length-take, max}
+use Rattle.std.proofs.Common.{◌≡◌, ◌∙◌, ◌⊎◌, ℕ, zero, suc, ◌+◌, ◌-◌, ◌*◌, ◌%◌, ◌<◌, ◌≤◌, List, [], ◌∷◌, length, drop, sum, sym, ap, subst, inl, inr, arith, get_or, length-drop, length-take, max, reverse}
 use Rattle.std.specs.List.{AllByRecursion}
 use Rattle.std.proofs.Math.Nat.{mul-le-mul_right}
 use Rattle.std.proofs.lemmas.Bool.{cases_lt}
-use Rattle.std.proofs.lemmas.List.{get_or-drop, get_or-take}
-use Rattle.std.proofs.lemmas.List.Elements.{AllZip-get_or}
+use Rattle.std.proofs.lemmas.List.{get_or-drop, get_or-reverse, get_or-take}
+use Rattle.std.proofs.lemmas.List.Elements.{AllZip-get_or, length_all_zip}
 use Rattle.std.proofs.lemmas.List.Sums.{sum_by-take-le, sum_by-take-drop}
 use Rattle.scan_core.specs.declared.carrier.Carrier.{Carrier}
 use Rattle.scan_core.specs.declared.window.Window.{Window}
 use Rattle.scan_core.specs.Row.{IsRow, inner}
-use Rattle.scan_core.specs.Showing.{IsCandidate, IsRun, Shows, Way, along}
-use Rattle.scan_core.specs.Searches.{HasRun}
+use Rattle.scan_core.specs.Showing.{IsCandidate, IsRun, Shows, Way, along, kind_of}
+use Rattle.scan_core.specs.Searches.{HasRun, MayEnd}
 use Rattle.scan_core.specs.Windows.{IsSymbolOf, runs_in}
 use Rattle.scan_core.proofs.CandidateFacts.{candidate_dots, few_runs}
+use Rattle.scan_core.proofs.EndFacts.{lying_narrow, may_end}
 use Rattle.scan_core.proofs.WayFacts.{rounds_lying}
 
 pub each_at : (P : ℕ → Type 0) (ws : List ℕ) → AllByRecursion P ws → (i : ℕ) → i < length ws → P (get_or ws i 0)
@@ -83,6 +84,42 @@ narrower ws c way ms row s i low =
       narrow s.N (sum (inner ws)) (get_or ws (1 + i) 0) m (get_or ws (length ws - 1) 0) some moved quiet.right,
     )
 
+-- ---- the runs next to the light ends
+
+-- of a row that shows a symbol
+ends_of : (ws : List ℕ) (c : Carrier) (way : Way) (ms : List ℕ) → IsRow ws → Shows ws c way ms
+    → MayEnd (get_or ws 0 0) (get_or ws 1 0) (get_or ws 2 0)
+    × MayEnd (get_or ws (length ws - 1) 0) (get_or ws (length ws - 2) 0) (get_or ws (length ws - 3) 0)
+ends_of ws c way ms row s =
+    let n = length-inner ws in
+    let many = (few_runs c (length (inner ws)) s.N s.candidate).0 in
+    let some = candidate_dots ws c s.N row s.candidate in
+    let W = sum (inner ws) in
+    let ks = along way ms in
+    let lying = rounds_lying way (inner ws) s.N ms s.rounds in
+    let long = length_all_zip (IsRun s.N W) (inner ws) ks lying in
+    let narrow = lying_narrow way (kind_of c) ms s.form in
+    let run : (i : ℕ) → i < length (inner ws) → IsRun s.N W (get_or ws (1 + i) 0) (get_or ks i 0) =
+    λ i low. subst (λ w. IsRun s.N W w (get_or ks i 0)) (inner-at ws i (omega arith)) (AllZip-get_or (IsRun s.N W) (inner ws) ks i 0 0 lying low) in
+    let from_end : (k : ℕ) → k < length (inner ws) → IsRun s.N W (get_or ws (length ws - 2 - k) 0) (get_or (reverse ks) k 0) =
+    λ k low.
+    let at : 1 + (length (inner ws) - 1 - k) ≡ length ws - 2 - k = omega arith in
+    let back : get_or ks (length (inner ws) - 1 - k) 0 ≡ get_or (reverse ks) k 0 =
+    ap (λ l. get_or ks (l - 1 - k) 0) long ∙ sym (get_or-reverse ks k 0 (omega arith)) in
+    subst (λ m. IsRun s.N W (get_or ws (length ws - 2 - k) 0) m) back
+    (subst (λ i. IsRun s.N W (get_or ws i 0) (get_or ks (length (inner ws) - 1 - k) 0)) at (run (length (inner ws) - 1 - k) (omega arith))) in
+    let second : length ws - 2 - 0 ≡ length ws - 2 = omega arith in
+    let third : length ws - 2 - 1 ≡ length ws - 3 = omega arith in
+    let left = narrow.0 in
+    let right = narrow.1 in
+    let quiet = s.quiet in (
+      may_end s.N W (get_or ws 0 0) (get_or ws 1 0) (get_or ws 2 0) (get_or ks 0 0) (get_or ks 1 0) some quiet.left
+          (run 0 (omega arith)) (run 1 (omega arith)) left.bar left.space,
+      may_end s.N W (get_or ws (length ws - 1) 0) (get_or ws (length ws - 2) 0) (get_or ws (length ws - 3) 0) (get_or (reverse ks) 0 0) (get_or (reverse ks) 1 0)
+          some quiet.right (subst (λ i. IsRun s.N W (get_or ws i 0) (get_or (reverse ks) 0 0)) second (from_end 0 (omega arith)))
+          (subst (λ i. IsRun s.N W (get_or ws i 0) (get_or (reverse ks) 1 0)) third (from_end 1 (omega arith))) right.bar right.space,
+    )
+
 -- ---- the symbols of a row
 
 module _ (runs : List ℕ) (year : ℕ) (row : IsRow runs) (w : Window) (s : IsSymbolOf runs year w) where
@@ -96,8 +133,35 @@ module _ (runs : List ℕ) (year : ℕ) (row : IsRow runs) (w : Window) (s : IsS
   window_candidate =
       subst (λ n. IsCandidate w.carrier n shown.N) (length-inner (runs_in runs w.first w.count) ∙ ap (λ n. n - 2) (length-runs_in runs w.first w.count s.within)) shown.candidate
 
-  pub window_counts : (3 < w.count) × (w.count ≤ 597)
+  pub window_counts : (27 ≤ w.count) × (w.count ≤ 597)
   window_counts = let few = few_runs w.carrier (w.count - 2) shown.N window_candidate in let many = few.0 in let most = few.1 in (omega arith, omega arith)
+
+  -- the runs next to its ends are narrow
+  pub window_ends : MayEnd (get_or runs w.first 0) (get_or runs (w.first + 1) 0) (get_or runs (w.first + 2) 0)
+      × MayEnd (get_or runs (w.first + w.count - 1) 0) (get_or runs (w.first + w.count - 2) 0) (get_or runs (w.first + w.count - 3) 0)
+  window_ends =
+      let ws = runs_in runs w.first w.count in
+      let long = length-runs_in runs w.first w.count s.within in
+      let counts = window_counts in
+      let many = counts.0 in
+      let both = ends_of ws w.carrier s.read.1.0 s.read.1.1 window_row shown in
+      let left = both.0 in
+      let right = both.1 in
+      let at : (i k : ℕ) → i < w.count → w.first + i ≡ k → get_or ws i 0 ≡ get_or runs k 0 =
+      λ i k low e. runs_in-at runs w.first w.count i low ∙ ap (λ j. get_or runs j 0) e in
+      let a = at 0 w.first (omega arith) (omega arith) in
+      let b = at 1 (w.first + 1) (omega arith) (omega arith) in
+      let c = at 2 (w.first + 2) (omega arith) (omega arith) in
+      let x = at (length ws - 1) (w.first + w.count - 1) (omega arith) (omega arith) in
+      let y = at (length ws - 2) (w.first + w.count - 2) (omega arith) (omega arith) in
+      let z = at (length ws - 3) (w.first + w.count - 3) (omega arith) (omega arith) in
+      let ld = left.narrow_dark in
+      let ll = left.narrow_light in
+      let rd = right.narrow_dark in
+      let rl = right.narrow_light in (
+        record { narrow_dark = omega arith; narrow_light = omega arith },
+        record { narrow_dark = omega arith; narrow_light = omega arith },
+      )
 
   -- each run between its ends is narrower than both
   pub window_narrow : (i : ℕ) → w.first < i → i + 1 < w.first + w.count

@@ -1,10 +1,8 @@
 //! Every symbol of a row.
-ghost use Rattle.std.specs.Prelude.{None, Some, ◌≡◌, ◌+◌, ◌-◌, ◌%◌, ◌<◌, ◌≤◌, IfErr, IfNone, IfOk, IfSome, OnOk, ℕ, false, length};
-ghost use Rattle.element_core.specs.Elements.{Listing};
-ghost use Rattle.scan_core.specs.Answers.{IsAnswer};
+ghost use Rattle.std.specs.Prelude.{None, ◌≡◌, ◌⊎◌, ◌<◌, ◌+◌, ◌%◌, ◌≤◌, ◌↔◌, IfErr, IfNone, IfOk, IfSome, IsTrue, OnOk, ℕ, false, length, slice_index};
 ghost use Rattle.scan_core.specs.Row.{IsRow, runs_fault};
 ghost use Rattle.scan_core.specs.Showing.{IsCandidate};
-ghost use Rattle.scan_core.specs.Searches.{AreNoneShorter, HasRun};
+ghost use Rattle.scan_core.specs.Searches.{AreNoneShorter, HasRun, IsNextPlace, MayEnd};
 ghost use Rattle.scan_core.specs.Windows.{IsNext, IsOver, IsSymbolOf, search_after, search_of};
 
 use crate::answer::{Answer, answer_in};
@@ -13,8 +11,14 @@ use crate::fault::RunFault;
 use crate::laws::one_answer;
 use crate::runs::runs_fault;
 use crate::window::Window;
-use element_core::{Elements, Year};
+use element_core::Year;
 use std::marker::Model;
+
+/// The shortest window has so many runs.
+const LEAST_RUNS: usize = 27;
+
+/// It has so many pairs of runs after its first run, but for the last.
+const LEAST_PAIRS: usize = 12;
 
 /// The longest window has so many pairs of runs after its first run.
 const MOST_PAIRS: usize = 298;
@@ -42,24 +46,11 @@ impl<'a> Model for Symbols<'a> {
     ghost invariant = { IsSearch };
 }
 
-/// What a row says that is read.
-#[derive(Drop)]
-struct Reading {
-    carrier: Carrier,
-    elements: Elements,
-}
-
-/// What the row of these widths says, if it is read.
-fn reading_of(widths: &[u16], year: Year) -> Option<Reading>
-    requires { IsRow widths.now }
-    ensures read { IfSome result (λ r. IsAnswer widths.now year (Answer.Read r.carrier r.elements)) }
-    ensures none { IfNone result ((c : Carrier) (l : Listing) → IsAnswer widths.now year (Answer.Read c l) → ⊥) }
-{
-    one_answer();
-    match answer_in(widths, year) {
-        Answer::Read { carrier, elements } => Some(Reading { carrier, elements }),
-        Answer::Refused(_) => None,
-    }
+/// Where a window stands.
+#[derive(Clone, Copy)]
+struct Place {
+    first: usize,
+    count: usize,
 }
 
 /// Whether a carrier has symbols of so many runs.
@@ -72,75 +63,96 @@ fn is_symbol_count(run_count: usize) -> bool
     }
 }
 
-/// The window of so many runs from this one on, if it has `least` runs or more and is read, where one
-/// of the runs between its ends is `widest` dots.
+/// The width of the widest run, or 0 where there is none.
+fn widest_of(widths: &[u16]) -> u16
+    ensures reached { (result ≡ 0) ⊎ ((i : ℕ) × (i < length widths.now) × (slice_index widths.now i ≡ result)) }
+    ensures widest { (i : ℕ) → i < length widths.now → slice_index widths.now i ≤ result }
+{
+    let mut widest = 0;
+    'runs: for i in 0..widths.len() {
+        widest = widths[i].max(widest);
+    }
+    widest
+}
+
+/// Whether a light run may be an end of a symbol that has these dark and light runs next to it.
 ///
-/// A run that is no narrower than a light end excludes it, and so does a number of runs that no symbol has.
-fn window_at(
-    widths: &[u16],
-    first: usize,
-    count: usize,
-    least: usize,
-    widest: u16,
-    year: Year,
-) -> Option<Window>
+/// An end is at least five modules, the dark run two at most, and the light one a single one, each to
+/// within a third of a module.
+fn may_end(end: u16, dark: u16, light: u16) -> bool
+    ensures { IsTrue result ↔ MayEnd end dark light }
+{
+    15 * u32::from(light) <= 4 * u32::from(end) && 15 * u32::from(dark) <= 7 * u32::from(end)
+}
+
+/// Whether the window of so many runs from this one on may be a symbol, where one of the runs between its
+/// ends is `widest` dots.
+fn may_be_symbol(widths: &[u16], first: usize, count: usize, widest: u16) -> bool
     requires row { IsRow widths.now }
-    requires light { first % 2 ≡ 0 }
-    requires odd { count % 2 ≡ 1 }
     requires many { 3 ≤ count }
     requires within { first + count ≤ length widths.now }
     requires run { HasRun widths.now first count widest }
-    ensures told { IfSome result (λ w. IsSymbolOf widths.now year w) }
-    ensures first { IfSome result (λ w. w.first ≡ first) }
-    ensures count { IfSome result (λ w. w.count ≡ count) }
-    ensures least { IfSome result (λ w. least ≤ w.count) }
-    ensures none { IfNone result ((v : Window) → IsSymbolOf widths.now year v → v.first ≡ first → v.count ≡ count → least ≤ v.count → ⊥) }
+    ensures { result ≡ false → (year : ℕ) (v : Window) → IsSymbolOf widths.now year v → v.first ≡ first → v.count ≡ count → ⊥ }
 {
-    if count < least {
-        return None;
-    }
-    if widths[first + count - 1] <= widest {
-        return None;
-    }
-    if !is_symbol_count(count - 2) {
-        return None;
-    }
-    let reading = reading_of(&widths[first..first + count], year)?;
-    Some(Window {
-        first,
-        count,
-        carrier: reading.carrier,
-        elements: reading.elements,
-    })
+    let last = first + count - 1;
+    widest < widths[last]
+        && may_end(widths[last], widths[last - 1], widths[last - 2])
+        && is_symbol_count(count - 2)
 }
 
-/// The first of the windows that begin with this run and have so many runs at least, shorter ones
-/// first, that is read.
+/// How many runs the first of the windows has that begin with this run, have so many runs at least and may
+/// be a symbol, shorter ones first.
 ///
 /// A window grows until one of its runs is no narrower than its light end: no longer one is read.
-fn window_from(widths: &[u16], first: usize, least: usize, year: Year) -> Option<Window>
+fn count_from(widths: &[u16], first: usize, least: usize) -> Option<usize>
     requires row { IsRow widths.now }
     requires light { first % 2 ≡ 0 }
-    requires within { first < length widths.now }
-    ensures told { IfSome result (λ w. IsSymbolOf widths.now year w) }
-    ensures first { IfSome result (λ w. w.first ≡ first) }
-    ensures least { IfSome result (λ w. least ≤ w.count) }
-    ensures shortest { IfSome result (λ w. AreNoneShorter widths.now year first least w.count) }
-    ensures none { IfNone result ((v : Window) → IsSymbolOf widths.now year v → v.first ≡ first → least ≤ v.count → ⊥) }
+    requires within { first + 27 ≤ length widths.now }
+    ensures odd { IfSome result (λ count. count % 2 ≡ 1) }
+    ensures within { IfSome result (λ count. first + count ≤ length widths.now) }
+    ensures least { IfSome result (λ count. least ≤ count) }
+    ensures shortest { IfSome result (λ count. (year : ℕ) → AreNoneShorter widths.now year first least count) }
+    ensures none { IfNone result ((year : ℕ) (v : Window) → IsSymbolOf widths.now year v → v.first ≡ first → least ≤ v.count → ⊥) }
 {
     let left = widths[first];
+    if !may_end(left, widths[first + 1], widths[first + 2]) || widths.len() - first < least {
+        return None;
+    }
     let pairs = ((widths.len() - first) / 2).min(MOST_PAIRS);
-    let mut widest = 0;
-    'pairs: for k in 0..pairs {
+    // No window of fewer than 27 runs is read, so the first 24 between its ends are looked at together.
+    let mut widest = widest_of(&widths[first + 1..first + 25]);
+    'pairs: for k in LEAST_PAIRS..pairs {
         let last = first + 2 * k + 2;
         widest = widths[last - 1].max(widest);
         if left <= widest {
             return None;
         }
-        if let Some(window) = window_at(widths, first, 2 * k + 3, least, widest, year) {
-            return Some(window);
+        if least <= 2 * k + 3 && may_be_symbol(widths, first, 2 * k + 3, widest) {
+            return Some(2 * k + 3);
         }
         widest = widths[last].max(widest);
+    }
+    None
+}
+
+/// The first of the windows that may be a symbol and begin after this run, or at it with so many runs at least.
+fn next_place(widths: &[u16], first: usize, least: usize) -> Option<Place>
+    requires row { IsRow widths.now }
+    requires light { first % 2 ≡ 0 }
+    ensures next { IfSome result (λ p. (year : ℕ) → IsNextPlace (record { runs = widths.now; year = year; first = first; least = least }) p) }
+    ensures over { IfNone result ((year : ℕ) → IsOver (record { runs = widths.now; year = year; first = first; least = least })) }
+{
+    let mut start = first;
+    let mut shortest = least;
+    'runs: while start < widths.len() && LEAST_RUNS <= widths.len() - start {
+        if let Some(count) = count_from(widths, start, shortest) {
+            return Some(Place {
+                first: start,
+                count,
+            });
+        }
+        start += 2;
+        shortest = 0;
     }
     None
 }
@@ -152,14 +164,20 @@ fn next_window(widths: &[u16], first: usize, least: usize, year: Year) -> Option
     ensures next { IfSome result (λ w. IsNext (record { runs = widths.now; year = year; first = first; least = least }) w) }
     ensures over { IfNone result (IsOver (record { runs = widths.now; year = year; first = first; least = least })) }
 {
-    let mut start = first;
-    let mut shortest = least;
-    'runs: while start < widths.len() {
-        if let Some(window) = window_from(widths, start, shortest, year) {
-            return Some(window);
+    one_answer();
+    let mut after = first;
+    let mut more = least;
+    'places: while let Some(Place { first, count }) = next_place(widths, after, more) {
+        after = first;
+        more = count + 1;
+        if let Answer::Read { carrier, elements } = answer_in(&widths[first..first + count], year) {
+            return Some(Window {
+                first,
+                count,
+                carrier,
+                elements,
+            });
         }
-        start += 2;
-        shortest = 0;
     }
     None
 }

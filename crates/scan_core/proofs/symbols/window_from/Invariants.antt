@@ -1,9 +1,0 @@
-use Rattle.std.proofs.Common.{◌≡◌, ◌⊎◌, ◌+◌, ◌*◌}
-use Rattle.scan_core.specs.Searches.{AreNoneShorter, HasRun}
-use Rattle.scan_core.proofs.symbols.window_from.Given as goal
-
-abbrev pub invariant-pairs : goal.invariant-pairs
-invariant-pairs l = record {
-  reached : (l.widest ≡ 0) ⊎ HasRun l.widths l.first (2 * l.k + 2) l.widest;
-  shorter : AreNoneShorter l.widths l.year l.first l.least (2 * l.k + 3);
-}
