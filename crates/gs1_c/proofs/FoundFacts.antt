@@ -1,5 +1,5 @@
 -- Lines that are put one after the other, as long as there is room.
-use Rattle.std.proofs.Common.{◌≡◌, ◌∙◌, ◌⊎◌, ℕ, ◌+◌, ◌-◌, ◌*◌, ◌<◌, ◌≤◌, List, [], ◌∷◌, ◌++◌, ap, arith, inl, inr, length, length-append, refl, sym}
+use Rattle.std.proofs.Common.{◌≡◌, ◌∙◌, ◌⊎◌, ℕ, ◌+◌, ◌-◌, ◌*◌, ◌<◌, ◌≤◌, List, [], ◌∷◌, ◌++◌, ap, append_assoc, arith, inl, inr, length, length-append, refl, sym}
 use Rattle.std.specs.Prelude.{flat_map}
 use Rattle.std.proofs.Math.Nat.{mul-le-mul_right}
 use Rattle.std.proofs.lemmas.Bool.{cases_lt, le-leb, lt-leb}
@@ -19,6 +19,23 @@ length-identifier Ean8 = refl
 length-identifier UpcE = refl
 length-identifier Itf14 = refl
 length-identifier Gs1128 = refl
+
+-- the parts of the line of a symbol
+six_parts : (a b c d e g : List ℕ) → ((((a ++ b) ++ c) ++ d) ++ e) ++ g ≡ a ++ (b ++ (c ++ (d ++ (e ++ g))))
+six_parts a b c d e g =
+    append_assoc (((a ++ b) ++ c) ++ d) e g ∙ append_assoc ((a ++ b) ++ c) d (e ++ g) ∙ append_assoc (a ++ b) c (d ++ (e ++ g))
+    ∙ append_assoc a b (c ++ (d ++ (e ++ g)))
+
+pub line_parts : (f c i h : List ℕ) → (((((f ++ 32 ∷ []) ++ (c ++ 32 ∷ [])) ++ i) ++ (32 ∷ [])) ++ h) ++ (10 ∷ [])
+    ≡ ((f ++ (32 ∷ c)) ++ (32 ∷ (i ++ (32 ∷ h)))) ++ (10 ∷ [])
+line_parts f c i h =
+    let behind : List ℕ = 32 ∷ (h ++ 10 ∷ []) in
+    let one : List ℕ = 32 ∷ [] in
+    let said : List ℕ = 32 ∷ (i ++ (32 ∷ h)) in
+    six_parts (f ++ one) (c ++ one) i one h (10 ∷ []) ∙ append_assoc f one ((c ++ one) ++ (i ++ behind))
+    ∙ ap (λ (t : List ℕ). f ++ (32 ∷ t)) (append_assoc c one (i ++ behind))
+    ∙ ap (λ (t : List ℕ). f ++ ((32 ∷ c) ++ (32 ∷ t))) (sym (append_assoc i (32 ∷ h) (10 ∷ [])))
+    ∙ sym (append_assoc f (32 ∷ c) (said ++ 10 ∷ [])) ∙ sym (append_assoc (f ++ (32 ∷ c)) said (10 ∷ []))
 
 -- the bytes of all lines
 abbrev pub all_of : List (List ℕ) → List ℕ

@@ -65,6 +65,48 @@ fn put_line(line: &[u8], at: usize, out: &mut [u8]) -> usize
     end
 }
 
+/// Puts a number and a space into `out` from `at` on, and says where they end.
+fn put_number(number: usize, at: usize, out: &mut [u8]) -> usize
+    requires { at + 41 ≤ length out.old }
+    ensures end { result ≡ at + length (decimal number ++ 32 ∷ []) }
+    ensures few { result ≤ at + 41 }
+    ensures put { out.new ≡ pasted out.old at (decimal number ++ 32 ∷ []) }
+{
+    let mut digits = Buffer::new();
+    let space = put_at(digits.format(number).as_bytes(), at, out);
+    put_at(b" ", space, out)
+}
+
+/// Puts the line of a symbol into `out` from `at` on, which has room for the longest, and says where it ends.
+fn put_whole(window: &Window, at: usize, out: &mut [u8]) -> usize
+    requires { at + 400 ≤ length out.old }
+    ensures end { result ≡ at + length (symbol_line window.now) }
+    ensures few { result ≤ at + 400 }
+    ensures put { out.new ≡ pasted out.old at (symbol_line window.now) }
+{
+    let count = put_number(window.first, at, out);
+    let carrier = put_number(window.count, count, out);
+    let space = put_at(window.carrier.identifier().as_bytes(), carrier, out);
+    let said = put_at(b" ", space, out);
+    let end = said + window.elements.put_hri(said, out);
+    put_at(b"\n", end, out)
+}
+
+/// Puts the line of a symbol into `out` from `at` on where it has room for it, and says where the line ends.
+fn put_symbol(window: &Window, at: usize, out: &mut [u8]) -> usize
+    requires { at + 400 < 2 ^ 64 }
+    ensures end { result ≡ at + length (symbol_line window.now) }
+    ensures few { result ≤ at + 400 }
+    ensures put { at + length (symbol_line window.now) ≤ length out.old → out.new ≡ pasted out.old at (symbol_line window.now) }
+    ensures unchanged { length out.old < at + length (symbol_line window.now) → out.new ≡ out.old }
+{
+    // Where there is room for any line it is put in its place at once.
+    if at + MOST <= out.len() {
+        return put_whole(window, at, out);
+    }
+    put_line(line_of(window).as_slice(), at, out)
+}
+
 /// Puts the lines of what a search tells, as many as there is room for, and says how many bytes all of
 /// them have.
 fn put_told(search: Symbols<'_>, out: &mut [u8]) -> usize
@@ -74,7 +116,7 @@ fn put_told(search: Symbols<'_>, out: &mut [u8]) -> usize
     let mut search = search;
     let mut end = 0;
     'symbols: while let Some(window) = search.next_symbol() {
-        end = put_line(line_of(&window).as_slice(), end, out);
+        end = put_symbol(&window, end, out);
     }
     end
 }

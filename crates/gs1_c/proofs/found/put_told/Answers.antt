@@ -1,4 +1,4 @@
-use Rattle.std.proofs.Common.{◌≡◌, ◌∙◌, ◌+◌, ◌*◌, ◌<◌, [], ◌∷◌, ◌++◌, List, ℕ, ap, ap₂, append_assoc, arith, length, length-append, map, refl, subst, sym}
+use Rattle.std.proofs.Common.{◌≡◌, ◌∙◌, ◌+◌, ◌*◌, ◌<◌, [], ◌∷◌, ◌++◌, List, ℕ, ap, append_assoc, arith, length, length-append, map, refl, subst, sym}
 use Rattle.std.proofs.lemmas.List.{append-nil, map-append}
 use Rattle.digits_core.specs.Buffers.{pasted}
 use Rattle.digits_core.proofs.Pasted.{pasted_none}
@@ -15,13 +15,12 @@ symbols-init c = record {
   small = omega arith;
 }
 
-pub put_line-end-requires : goal.put_line-end-requires
-put_line-end-requires c =
+pub put_symbol-end-requires : goal.put_symbol-end-requires
+put_symbol-end-requires c =
     let s = c.args.search in
     let W = length s.runs + 1 in
-    let short = c.line_of.ensures.few in
-    small_enough c.symbols.end (length c.as_slice.result.now) (steps_left W c.symbols.search.first c.symbols.search.least) (steps_left W s.first s.least)
-    c.symbols.invariant.small (omega (arith, ap length c.as_slice.ensures.value)) (few_steps W s.first s.least (let few = c.requires in omega arith))
+    small_enough c.symbols.end 400 (steps_left W c.symbols.search.first c.symbols.search.least) (steps_left W s.first s.least)
+    c.symbols.invariant.small (omega arith) (few_steps W s.first s.least (let few = c.requires in omega arith))
 
 pub symbols-preserved : goal.symbols-preserved
 symbols-preserved c =
@@ -30,12 +29,11 @@ symbols-preserved c =
     let s = c.symbols.search in
     let i = c.symbols.invariant in
     let t = i.told in
-    let p = c.put_line-end.ensures in
+    let p = c.put_symbol-end.ensures in
     let W = length c.args.search.runs + 1 in
     let old = c.args.out.now in
     let lines = map symbol_line t.0 in
     let line = symbol_line w in
-    let slice : c.as_slice.result.now ≡ line = c.as_slice.ensures.value ∙ c.line_of.ensures.line in
     let more : map symbol_line (t.0 ++ w ∷ []) ≡ lines ++ line ∷ [] = map-append symbol_line t.0 (w ∷ []) in
     let long = i.long in
     let within = e.next.symbol.within in
@@ -45,17 +43,17 @@ symbols-preserved c =
       told = (
         t.0 ++ w ∷ [],
         λ rest told. subst (AreTold c.args.search) (sym (append_assoc t.0 (w ∷ []) rest)) (t.1 (w ∷ rest) (e.next, subst (λ (r : Search). AreTold r rest) e.after told)),
-        omega (arith, p.end, t.2, ap length slice, ap (λ ls. length (all_of ls)) more, ap length (all_of-push lines line), length-append (all_of lines) line),
-        one_line old c.symbols.out c.put_line-end.new.out lines line t.3 long
-            (λ fits. p.put (omega (arith, t.2, ap length slice)) ∙ ap₂ (pasted c.symbols.out) t.2 slice)
-            (λ over. p.unchanged (omega (arith, t.2, ap length slice)))
+        omega (arith, p.end, t.2, ap (λ ls. length (all_of ls)) more, ap length (all_of-push lines line), length-append (all_of lines) line),
+        one_line old c.symbols.out c.put_symbol-end.new.out lines line t.3 long
+            (λ fits. p.put (omega (arith, t.2)) ∙ ap (λ k. pasted c.symbols.out k line) t.2)
+            (λ over. p.unchanged (omega (arith, t.2)))
             ∙ ap (λ ls. pasted old 0 (fitting (length old) ls)) (sym more),
       );
-      long = c.put_line-end.auto.out ∙ long;
+      long = c.put_symbol-end.auto.out ∙ long;
       same = ap (λ (r : Search). r.runs) e.after ∙ i.same;
-      small = small_more c.symbols.end c.put_line-end.result (length c.as_slice.result.now) (steps_left W s.first s.least)
+      small = small_more c.symbols.end c.put_symbol-end.result (length line) (steps_left W s.first s.least)
           (steps_left W c.next_symbol.new.self.first c.next_symbol.new.self.least) (400 * steps_left W c.args.search.first c.args.search.least)
-          p.end (let short = c.line_of.ensures.few in omega (arith, ap length c.as_slice.ensures.value))
+          p.end (let few = p.few in omega (arith, p.end))
           (subst (λ (r : Search). steps_left W r.first r.least < steps_left W s.first s.least) (sym e.after) less) i.small;
     }
 
