@@ -53,7 +53,8 @@ struct Place {
     count: usize,
 }
 
-/// Whether a carrier has symbols of so many runs.
+/// Whether a carrier has symbols of so many runs. Few windows come so far, so its division is kept out of the loop.
+#[inline(never)]
 fn is_symbol_count(run_count: usize) -> bool
     ensures { result ≡ false → (c : Carrier) (N : ℕ) → IsCandidate c run_count N → ⊥ }
 {
