@@ -93,6 +93,20 @@ fn put_whole(window: &Window, at: usize, out: &mut [u8]) -> usize
 }
 
 /// Puts the line of a symbol into `out` from `at` on where it has room for it, and says where the line ends.
+///
+/// The line is made first, which takes longer, and the room for it is no part of its caller's frame.
+#[inline(never)]
+fn put_made(window: &Window, at: usize, out: &mut [u8]) -> usize
+    requires { at + 400 < 2 ^ 64 }
+    ensures end { result ≡ at + length (symbol_line window.now) }
+    ensures few { result ≤ at + 400 }
+    ensures put { at + length (symbol_line window.now) ≤ length out.old → out.new ≡ pasted out.old at (symbol_line window.now) }
+    ensures unchanged { length out.old < at + length (symbol_line window.now) → out.new ≡ out.old }
+{
+    put_line(line_of(window).as_slice(), at, out)
+}
+
+/// The same, in the shorter way where there is room for any line.
 fn put_symbol(window: &Window, at: usize, out: &mut [u8]) -> usize
     requires { at + 400 < 2 ^ 64 }
     ensures end { result ≡ at + length (symbol_line window.now) }
@@ -100,11 +114,10 @@ fn put_symbol(window: &Window, at: usize, out: &mut [u8]) -> usize
     ensures put { at + length (symbol_line window.now) ≤ length out.old → out.new ≡ pasted out.old at (symbol_line window.now) }
     ensures unchanged { length out.old < at + length (symbol_line window.now) → out.new ≡ out.old }
 {
-    // Where there is room for any line it is put in its place at once.
     if at + MOST <= out.len() {
         return put_whole(window, at, out);
     }
-    put_line(line_of(window).as_slice(), at, out)
+    put_made(window, at, out)
 }
 
 /// Puts the lines of what a search tells, as many as there is room for, and says how many bytes all of
