@@ -5,6 +5,7 @@ pub mod Families
 pub mod Faults
 pub mod Fronts
 pub mod Growing
+pub mod Lines
 pub mod Listings
 pub mod Pairs
 pub mod PartTests

@@ -8,10 +8,12 @@ mod elements;
 mod family;
 mod fault;
 mod first_digits;
+mod form;
 mod formats;
 mod front;
 mod hri;
 mod laws;
+mod line;
 mod pair_line;
 mod pairs;
 mod part;
@@ -26,11 +28,13 @@ mod year;
 pub use element::Element;
 pub use elements::Elements;
 pub use fault::ElementFault;
+pub use form::Form;
 pub use laws::{
     canonical_reads, dated_elements, day_zero, each_text, faultless_pairs, first_digits_decide,
     gtin_reads, no_ai_begins_another, one_answer, pair_faults, pairs_differ, parts_have_one_length,
     read_as_before, reads_pieces, timed_elements, year_window,
 };
+pub use line::{Line, digit_line, elements_line, gtin_line};
 pub use pairs::Pair;
 pub use part::{Part, PartFormat};
 pub use row::{AiRow, ai_row};

@@ -6,7 +6,8 @@ use Rattle.digits_core.specs.Faults.{digit_fault_text}
 use Rattle.digits_core.specs.Gtins.{gtin_fault}
 use Rattle.digits_core.specs.declared.fault.DigitFault.{DigitFault}
 use Rattle.element_core.specs.Elements.{gtin_entry, pairs_text}
-use Rattle.gs1_c.specs.Lines.{IsElementsLine, IsInYear}
+use Rattle.element_core.specs.Lines.{IsElementsLine}
+use Rattle.gs1_c.specs.Lines.{IsInYear}
 use Rattle.gs1_c.specs.declared.scanned.Message.{Message}
 use Rattle.gs1_c.specs.declared.scanned.Message.TheVariants as message
 

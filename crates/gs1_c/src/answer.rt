@@ -1,57 +1,36 @@
 //! The lines of answers.
 ghost use Rattle.std.specs.Prelude.{◌≡◌, None, Some, IfErr, IfOk, length};
 ghost use Rattle.digits_core.specs.Buffers.{IsPut};
+ghost use Rattle.scan_core.specs.Lines.{said};
 ghost use Rattle.gs1_c.specs.Lines.{IsPackedAnswer, packed_fault, read_text};
-ghost use Rattle.scan_core.specs.Lines.{answer_pairs, answer_text};
 
 use crate::buffer::{put_elements, put_pairs, put_refusal};
-use element_core::Year;
+use element_core::{Form, Year};
 use scan_core::{Answer, RunFault, read_dots};
 
 /// The most dots of a row.
 const MOST_DOTS: u32 = 65_535;
 
-/// Puts the line of an answer.
-pub fn put_answer(answer: &Answer, out: &mut [u8]) -> usize
-    ensures { IsPut (answer_text answer.now) out.old out.new result }
+/// Puts the line of an answer, its elements in a form.
+fn put_answer(answer: &Answer, form: Form, out: &mut [u8]) -> usize
+    ensures { IsPut (said form answer.now) out.old out.new result }
 {
     match answer {
-        Answer::Read { carrier, elements } => {
-            put_elements(carrier.identifier().as_bytes(), elements, out)
-        }
+        Answer::Read { carrier, elements } => match form {
+            Form::HumanReadable => put_elements(carrier.identifier().as_bytes(), elements, out),
+            Form::Pairs => put_pairs(carrier.identifier().as_bytes(), elements, out),
+        },
         Answer::Refused(fault) => put_refusal(fault.refusal(), out),
     }
 }
 
-/// Puts the line of an answer with its elements as pairs.
-pub fn put_answer_pairs(answer: &Answer, out: &mut [u8]) -> usize
-    ensures { IsPut (answer_pairs answer.now) out.old out.new result }
-{
-    match answer {
-        Answer::Read { carrier, elements } => {
-            put_pairs(carrier.identifier().as_bytes(), elements, out)
-        }
-        Answer::Refused(why) => put_refusal(why.refusal(), out),
-    }
-}
-
-/// Puts the line of the answer to a row, or why it is none.
-pub fn put_read(read: &Result<Answer, RunFault>, out: &mut [u8]) -> usize
-    ensures { IsPut (read_text answer_text read.now) out.old out.new result }
+/// Puts the line of the answer to a row, its elements in a form, or why there is none.
+pub fn put_read(read: &Result<Answer, RunFault>, form: Form, out: &mut [u8]) -> usize
+    ensures { IsPut (read_text form read.now) out.old out.new result }
 {
     match read {
-        Ok(answer) => put_answer(answer, out),
+        Ok(answer) => put_answer(answer, form, out),
         Err(fault) => put_refusal(fault.refusal(), out),
-    }
-}
-
-/// Puts the same line with the elements as pairs.
-pub fn put_read_pairs(read: &Result<Answer, RunFault>, out: &mut [u8]) -> usize
-    ensures { IsPut (read_text answer_pairs read.now) out.old out.new result }
-{
-    match read {
-        Ok(answer) => put_answer_pairs(answer, out),
-        Err(why) => put_refusal(why.refusal(), out),
     }
 }
 

@@ -3,9 +3,10 @@ ghost use Rattle.std.specs.Prelude.{◌∷◌, ◌++◌};
 ghost use Rattle.digits_core.specs.Buffers.{IsPut};
 ghost use Rattle.digits_core.specs.Refusals.{refusal_text};
 ghost use Rattle.element_core.specs.Elements.{hri, pairs_text};
+ghost use Rattle.element_core.specs.Lines.{line_text};
 
 use digits_core::Refusal;
-use element_core::Elements;
+use element_core::{Elements, Line};
 use itoa::Buffer;
 
 /// Puts bytes at the front of `out` where it has room for them all, and says how many they are.
@@ -69,5 +70,21 @@ pub fn put_refusal(refusal: Refusal, out: &mut [u8]) -> usize
             let mut digits = Buffer::new();
             put_words(words, digits.format(place).as_bytes(), out)
         }
+    }
+}
+
+/// The same of a line.
+pub fn put_line(line: &Line, out: &mut [u8]) -> usize
+    ensures { IsPut (line_text line.now) out.old out.new result }
+{
+    match line {
+        Line::Said { word, text } => put_words(word.as_bytes(), text.as_bytes(), out),
+        Line::Refused { words, place } => put_refusal(
+            Refusal {
+                words,
+                place: *place,
+            },
+            out,
+        ),
     }
 }

@@ -6,11 +6,12 @@
 //! refused is answered by its refusal: `refused`, a number, a name and, where it has one, a place.
 #![tactic(auto)]
 
-ghost use Rattle.std.specs.Prelude.{List, ℕ};
+ghost use Rattle.std.specs.Prelude.{List, ℕ, codes};
 ghost use Rattle.digits_core.specs.Buffers.{IsPut};
+ghost use Rattle.element_core.specs.Lines.{IsDigitLine, gtin_line};
 ghost use Rattle.gs1_c.specs.Found.{AreSymbolsPut};
 ghost use Rattle.gs1_c.specs.Labels.{IsLabelBytes, one_cell};
-ghost use Rattle.gs1_c.specs.Lines.{IsDigitLine, IsDotsLine, IsDotsPairs, IsRowLine, IsRowPairs, IsTextLine, IsTextPairs, gtin_line};
+ghost use Rattle.gs1_c.specs.Lines.{IsDotsLine, IsRowLine, IsTextLine};
 ghost use Rattle.gs1_c.specs.Scanned.{IsScanLine};
 
 mod answer;
@@ -21,10 +22,9 @@ mod scanned;
 #[cfg(test)]
 mod tests;
 
-use answer::{put_read, put_read_pairs, read_packed};
-use buffer::{put, put_elements, put_pairs, put_refusal, put_words};
-use digits_core::{Gtin, payload_digit};
-use element_core::{Elements, Year};
+use answer::{put_read, read_packed};
+use buffer::{put, put_line, put_refusal};
+use element_core::{Form, Year, digit_line, elements_line, gtin_line};
 use found::put_symbols;
 use label::{kind_numbered, put_kind};
 use scan_core::read_widths;
@@ -40,10 +40,7 @@ const WORDS: &[u8] = b"refused 42 Words";
 pub extern "C" fn gs1_c_gtin(text: &[u8], out: &mut [u8]) -> usize
     ensures { IsPut (gtin_line text.now) out.old out.new result }
 {
-    match Gtin::read(text) {
-        Ok(gtin) => put_words(b"gtin", &gtin.digits14(), out),
-        Err(fault) => put_refusal(fault.refusal(), out),
-    }
+    put_line(&gtin_line(text), out)
 }
 
 /// The check digit of 1 to 17 digits that have none yet (GS1 General Specifications, section 7.9), as
@@ -52,10 +49,7 @@ pub extern "C" fn gs1_c_gtin(text: &[u8], out: &mut [u8]) -> usize
 pub extern "C" fn gs1_c_digit(text: &[u8], out: &mut [u8]) -> usize
     ensures { (line : List ℕ) × IsDigitLine text.now line × IsPut line out.old out.new result }
 {
-    match payload_digit(text) {
-        Ok(digit) => put_words(b"digit", &[b'0' + digit], out),
-        Err(fault) => put_refusal(fault.refusal(), out),
-    }
+    put_line(&digit_line(text), out)
 }
 
 /// The elements of an element string, in which byte 29 is the separator
@@ -63,15 +57,13 @@ pub extern "C" fn gs1_c_digit(text: &[u8], out: &mut [u8]) -> usize
 /// read by the reference year, 1951 to 2149; any other year is `refused 42 Words`.
 #[unsafe(no_mangle)]
 pub extern "C" fn gs1_c_text(text: &[u8], year: u16, out: &mut [u8]) -> usize
-    ensures { (line : List ℕ) × IsTextLine year text.now line × IsPut line out.old out.new result }
+    ensures { (line : List ℕ) × IsTextLine (codes "hri") Form.HumanReadable year text.now line × IsPut line out.old out.new result }
 {
     let Some(year) = Year::new(year) else {
         return put(WORDS, out);
     };
-    match Elements::parse(text, year) {
-        Ok(elements) => put_elements(b"hri", &elements, out),
-        Err(fault) => put_refusal(fault.refusal(), out),
-    }
+    let line = elements_line("hri", Form::HumanReadable, text, year);
+    put_line(&line, out)
 }
 
 /// What a row says, given as the widths of its runs in dots, light and dark in turn, light first and
@@ -80,39 +72,36 @@ pub extern "C" fn gs1_c_text(text: &[u8], year: u16, out: &mut [u8]) -> usize
 /// `refused 42 Words`.
 #[unsafe(no_mangle)]
 pub extern "C" fn gs1_c_row(widths: &[u16], year: u16, out: &mut [u8]) -> usize
-    ensures { (line : List ℕ) × IsRowLine year widths.now line × IsPut line out.old out.new result }
+    ensures { (line : List ℕ) × IsRowLine Form.HumanReadable year widths.now line × IsPut line out.old out.new result }
 {
     let Some(year) = Year::new(year) else {
         return put(WORDS, out);
     };
-    put_read(&read_widths(widths, year), out)
+    put_read(&read_widths(widths, year), Form::HumanReadable, out)
 }
 
 /// What a row says, as `gs1_c_row`, with the elements as data: of each its AI, `=` and its value, with a tab
 /// between each two, as `]E0 01=09501101530003`. Different lists of elements have different lines.
 #[unsafe(no_mangle)]
 pub extern "C" fn gs1_c_row_elements(widths: &[u16], year: u16, out: &mut [u8]) -> usize
-    ensures { (line : List ℕ) × IsRowPairs year widths.now line × IsPut line out.old out.new result }
+    ensures { (line : List ℕ) × IsRowLine Form.Pairs year widths.now line × IsPut line out.old out.new result }
 {
     let Some(year) = Year::new(year) else {
         return put(WORDS, out);
     };
-    put_read_pairs(&read_widths(widths, year), out)
+    put_read(&read_widths(widths, year), Form::Pairs, out)
 }
 
 /// The elements of an element string, as `gs1_c_text`, as data: of each its AI, `=` and its value, with a tab
 /// between each two, as `data 10=AB<TAB>17=261231`. Different lists of elements have different lines.
 #[unsafe(no_mangle)]
 pub extern "C" fn gs1_c_text_elements(text: &[u8], year: u16, out: &mut [u8]) -> usize
-    ensures { (line : List ℕ) × IsTextPairs year text.now line × IsPut line out.old out.new result }
+    ensures { (line : List ℕ) × IsTextLine (codes "data") Form.Pairs year text.now line × IsPut line out.old out.new result }
 {
     let Some(year) = Year::new(year) else {
         return put(WORDS, out);
     };
-    match Elements::parse(text, year) {
-        Ok(elements) => put_pairs(b"data", &elements, out),
-        Err(fault) => put_refusal(fault.refusal(), out),
-    }
+    put_line(&elements_line("data", Form::Pairs, text, year), out)
 }
 
 /// What a text says that a scanner sends: a symbology identifier (ISO/IEC 15424), and behind it the digits of a
@@ -152,23 +141,23 @@ pub extern "C" fn gs1_c_find(widths: &[u16], year: u16, out: &mut [u8]) -> usize
 /// has are `refused 18 BadRuns`, and more than 65,535 `refused 17 TooWide`.
 #[unsafe(no_mangle)]
 pub extern "C" fn gs1_c_dots(bits: &[u8], count: u32, year: u16, out: &mut [u8]) -> usize
-    ensures { (line : List ℕ) × IsDotsLine year bits.now count line × IsPut line out.old out.new result }
+    ensures { (line : List ℕ) × IsDotsLine Form.HumanReadable year bits.now count line × IsPut line out.old out.new result }
 {
     let Some(year) = Year::new(year) else {
         return put(WORDS, out);
     };
-    put_read(&read_packed(bits, count, year), out)
+    put_read(&read_packed(bits, count, year), Form::HumanReadable, out)
 }
 
 /// What a row of packed dots says, as `gs1_c_dots`, with the elements as data, as in `gs1_c_row_elements`.
 #[unsafe(no_mangle)]
 pub extern "C" fn gs1_c_dots_elements(bits: &[u8], count: u32, year: u16, out: &mut [u8]) -> usize
-    ensures { (line : List ℕ) × IsDotsPairs year bits.now count line × IsPut line out.old out.new result }
+    ensures { (line : List ℕ) × IsDotsLine Form.Pairs year bits.now count line × IsPut line out.old out.new result }
 {
     let Some(year) = Year::new(year) else {
         return put(WORDS, out);
     };
-    put_read_pairs(&read_packed(bits, count, year), out)
+    put_read(&read_packed(bits, count, year), Form::Pairs, out)
 }
 
 /// The image of a label as PBM (netpbm, pbm(5)), of `width` by `height` dots, with modules of

@@ -6,8 +6,8 @@ use Rattle.clap.specs.Walk.{Row, Rule, Text, rows_after}
 use Rattle.line_core.specs.Numbers.{most_columns, most_dots, most_height, most_rows, most_width}
 use Rattle.gs1_hub.specs.Arguments.{HasFlag, asks_elements, first_year, last_year, most_lanes, most_workers}
 use Rattle.gs1_hub.specs.commands.Prints.{HasOutput}
-use Rattle.line_core.specs.declared.answers.form.Form.{Form}
-use Rattle.line_core.specs.declared.answers.form.Form.TheVariants as form
+use Rattle.element_core.specs.declared.form.Form.{Form}
+use Rattle.element_core.specs.declared.form.Form.TheVariants as form
 use Rattle.gs1_hub.specs.Asking.{Asks}
 use Rattle.gs1_hub.specs.Laws.{TakenAsk}
 use Rattle.gs1_hub.specs.commands.{AsksIn, hub_app}

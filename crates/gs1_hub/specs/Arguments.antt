@@ -7,8 +7,8 @@ use Rattle.clap.specs.declared.builder.ArgAction.TheVariants.{Set, SetTrue}
 use Rattle.clap.specs.declared.builder.value_parser.ValueParser.TheVariants as vp
 use Rattle.line_core.specs.Numbers.{AreGridNumbers, most_columns, most_dots, most_height, most_rows, most_width}
 use Rattle.line_core.specs.declared.grid.GridOptions.{GridOptions}
-use Rattle.line_core.specs.declared.answers.form.Form.{Form}
-use Rattle.line_core.specs.declared.answers.form.Form.TheVariants as form
+use Rattle.element_core.specs.declared.form.Form.{Form}
+use Rattle.element_core.specs.declared.form.Form.TheVariants as form
 
 -- the greatest numbers of lanes and of workers; the least is 1
 abbrev pub most_lanes : ℕ

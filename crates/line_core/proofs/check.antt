@@ -1,2 +1,1 @@
-pub mod DigitFacts
 pub mod LineFacts

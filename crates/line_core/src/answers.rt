@@ -1,5 +1,4 @@
 //! Rows that are answered, and the report of their answers.
-pub mod form;
 pub mod report;
 pub mod rows;
 pub mod serving;

@@ -1,4 +1,3 @@
 //! Records that are checked: a kind and a text, answered by a line.
 pub mod answer;
-mod ascii;
 pub mod lines;

@@ -11,10 +11,10 @@ mod live;
 mod print;
 mod scan;
 
-pub use answers::form::Form;
 pub use answers::rows::{RowsFault, answer_records};
 pub use answers::serving::{AnswerFault, answer_lines};
 pub use check::lines::check_lines;
+pub use element_core::Form;
 pub use grid::{GridOptions, MOST_COLUMNS, MOST_HEIGHT, MOST_MODULE_DOTS, MOST_ROWS, MOST_WIDTH};
 pub use input::fault::{RecordFault, RecordsFault};
 pub use live::answering::{LiveTerms, answer_live};

@@ -34,7 +34,7 @@ pub use Rattle.line_core.specs.lanes.Feeds.{LaneRow, feeds_of, lanes_meaning}
 pub use Rattle.line_core.specs.live.Laws.{IsPlain, IsReordered, record_lines}
 pub use Rattle.line_core.specs.live.Replies.{most_rows}
 pub use Rattle.line_core.specs.live.Text.{Answers, fields_in}
-pub use Rattle.line_core.specs.declared.answers.form.Form.TheVariants.{HumanReadable}
+pub use Rattle.element_core.specs.declared.form.Form.TheVariants.{HumanReadable}
 pub use Rattle.line_core.specs.scan.Printed.{AreScanned, SaysElements, labels_answers}
 use Rattle.std.specs.Prelude.{◌≡◌, ◌≢◌, ◌<◌, ℕ, List, Result, Ok, Err, length, slice_index, slice_set}
 use Rattle.ean_code.specs.Spelling.{IsGtinOf}

@@ -17,7 +17,7 @@ use Rattle.line_core.specs.live.Replies.{most_rows}
 use Rattle.line_core.specs.live.Turns.{IsEnded, IsOneMore, IsRoomier}
 use Rattle.line_core.specs.declared.live.fault.LiveFault.{LiveFault}
 use Rattle.line_core.specs.declared.live.fault.LiveFault.TheVariants.{NoMemory}
-use Rattle.line_core.specs.declared.answers.form.Form.{Form}
+use Rattle.element_core.specs.declared.form.Form.{Form}
 use Rattle.line_core.specs.declared.live.place.Place.{Place}
 use Rattle.line_core.specs.declared.live.place.Place.TheVariants as place
 use Rattle.line_core.specs.declared.live.record.LineFault.{LineFault}

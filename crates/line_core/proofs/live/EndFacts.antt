@@ -28,7 +28,7 @@ use Rattle.line_core.specs.live.Lived.{EndsAs, Lived}
 use Rattle.line_core.specs.declared.live.answering.LiveTerms.{LiveTerms}
 use Rattle.line_core.specs.declared.live.fault.LiveFault.{LiveFault}
 use Rattle.line_core.specs.declared.live.fault.LiveFault.TheVariants as fault
-use Rattle.line_core.specs.declared.answers.form.Form.{Form}
+use Rattle.element_core.specs.declared.form.Form.{Form}
 use Rattle.line_core.specs.declared.live.place.Place.{Place}
 use Rattle.line_core.specs.declared.live.waiting.Waiting.{Waiting}
 use Rattle.line_core.proofs.live.GrowFacts.{got_more}

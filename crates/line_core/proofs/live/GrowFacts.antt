@@ -14,7 +14,7 @@ use Rattle.line_core.specs.live.Replies.{Reply, replies_to}
 use Rattle.line_core.specs.live.Replies.Reply.{Row, Line}
 use Rattle.line_core.specs.live.Text.{line_meant}
 use Rattle.line_core.specs.declared.live.fault.LiveFault.{LiveFault}
-use Rattle.line_core.specs.declared.answers.form.Form.{Form}
+use Rattle.element_core.specs.declared.form.Form.{Form}
 use Rattle.line_core.proofs.live.LogFacts.{answers_weaker, front_weaker, prompt_weaker}
 
 -- each list has more at its end, or is as it was

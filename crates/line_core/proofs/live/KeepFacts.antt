@@ -20,7 +20,7 @@ use Rattle.line_core.specs.answers.Reports.{numbered_line}
 use Rattle.line_core.specs.live.Text.{HasEnded, line_fault_text, line_meant}
 use Rattle.line_core.specs.declared.live.fault.LiveFault.{LiveFault}
 use Rattle.line_core.specs.declared.live.fault.LiveFault.TheVariants.{ReadFault}
-use Rattle.line_core.specs.declared.answers.form.Form.{Form}
+use Rattle.element_core.specs.declared.form.Form.{Form}
 use Rattle.line_core.specs.declared.live.place.Place.{Place}
 use Rattle.line_core.specs.declared.live.place.Place.TheVariants as place
 use Rattle.line_core.specs.declared.live.record.LineFault.{LineFault}

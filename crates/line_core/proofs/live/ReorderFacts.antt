@@ -19,7 +19,7 @@ use Rattle.line_core.specs.live.Replies.Reply.{Row}
 use Rattle.line_core.specs.live.Text.{IsReply, fields_in, fields_meant, line_fault_text, line_meant, row_or_line, text_meant, without_return}
 use Rattle.line_core.specs.declared.input.fault.RecordFault.{RecordFault}
 use Rattle.line_core.specs.declared.input.fault.RecordFault.TheVariants as fault
-use Rattle.line_core.specs.declared.answers.form.Form.TheVariants as form
+use Rattle.element_core.specs.declared.form.Form.TheVariants as form
 use Rattle.line_core.specs.declared.live.record.LineFault.TheVariants as line_fault
 use Rattle.line_core.proofs.live.CsvFacts.{lines_are_records}
 use Rattle.line_core.proofs.live.ReplyFacts.{later_other, later_same}

@@ -13,7 +13,7 @@ use Rattle.line_core.specs.live.Stops.{IsOpen, TellsEnd, TellsFaults}
 use Rattle.line_core.specs.live.Turns.{IsEnded}
 use Rattle.line_core.specs.declared.live.fault.LiveFault.{LiveFault}
 use Rattle.line_core.specs.declared.live.fault.LiveFault.TheVariants.{NoMemory, ReadFault, WriteFault}
-use Rattle.line_core.specs.declared.answers.form.Form.{Form}
+use Rattle.element_core.specs.declared.form.Form.{Form}
 use Rattle.line_core.specs.declared.live.place.Place.{Place}
 use Rattle.line_core.specs.declared.live.progress.Progress.{Progress}
 use Rattle.line_core.specs.declared.live.waiting.Waiting.{Waiting}

@@ -3,17 +3,12 @@ use Rattle.std.specs.Prelude.{◌≡◌, ◌+◌, ◌++◌, ℕ, List, [], ◌�
 use Rattle.std.specs.Fmt.{decimal}
 use Rattle.std.specs.List.{AllZip}
 use Rattle.scan_core.specs.Answers.{Reads}
-use Rattle.scan_core.specs.Lines.{answer_pairs, answer_text}
+use Rattle.scan_core.specs.Lines.{said}
 use Rattle.scan_core.specs.declared.answer.Answer.{Answer}
 use Rattle.lane_core.specs.declared.job.Plain.{Plain}
 use Rattle.hub_core.specs.Laws.{AreAnswersOf}
-use Rattle.line_core.specs.declared.answers.form.Form.{Form}
-use Rattle.line_core.specs.declared.answers.form.Form.TheVariants as form
-
--- an answer: its elements in the human-readable form, or as pairs
-abbrev pub said : Form → Answer → List ℕ
-said form.HumanReadable = answer_text
-said form.Pairs = answer_pairs
+use Rattle.element_core.specs.declared.form.Form.{Form}
+use Rattle.element_core.specs.declared.form.Form.TheVariants as form
 
 -- the line of an answer: the lane, the number of the row in its lane, the answer and a line feed
 abbrev pub numbered_line : Form → ℕ → ℕ → Answer → List ℕ

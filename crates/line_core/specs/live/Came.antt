@@ -13,7 +13,7 @@ use Rattle.line_core.specs.live.Replies.{Reply, numbers_of, refusal_line, replie
 use Rattle.line_core.specs.live.Replies.Reply.{Row, Line}
 use Rattle.line_core.specs.answers.Reports.{numbered_line}
 use Rattle.line_core.specs.live.Text.{HasEnded, line_fault_text, line_meant}
-use Rattle.line_core.specs.declared.answers.form.Form.{Form}
+use Rattle.element_core.specs.declared.form.Form.{Form}
 use Rattle.line_core.specs.declared.live.fault.LiveFault.{LiveFault}
 use Rattle.line_core.specs.declared.live.fault.LiveFault.TheVariants.{NoMemory, ReadFault, WriteFault}
 use Rattle.line_core.specs.declared.live.place.Place.{Place}

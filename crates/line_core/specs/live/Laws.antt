@@ -10,7 +10,7 @@ use Rattle.line_core.specs.input.Records.{AreItems, records_of}
 use Rattle.line_core.specs.lanes.Feeds.{LaneRow, feeds_of, lanes_meaning}
 use Rattle.line_core.specs.live.Replies.{most_rows}
 use Rattle.line_core.specs.live.Text.{Answers, fields_in, without_return}
-use Rattle.line_core.specs.declared.answers.form.Form.TheVariants as form
+use Rattle.element_core.specs.declared.form.Form.TheVariants as form
 
 -- ---- the lines of a plain text
 

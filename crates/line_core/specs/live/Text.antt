@@ -18,7 +18,7 @@ use Rattle.line_core.specs.declared.input.fault.RecordFault.{RecordFault}
 use Rattle.line_core.specs.declared.input.fault.RecordFault.TheVariants as fault
 use Rattle.line_core.specs.declared.live.record.LineFault.{LineFault}
 use Rattle.line_core.specs.declared.live.record.LineFault.TheVariants as line_fault
-use Rattle.line_core.specs.declared.answers.form.Form.{Form}
+use Rattle.element_core.specs.declared.form.Form.{Form}
 
 -- ---- lines
 

@@ -11,9 +11,8 @@ ghost use Rattle.hub_core.specs.declared.fault.ServeFault.{ServeFault};
 ghost use Rattle.line_core.specs.declared.answers.serving.AnswerFault.TheVariants.{NoMemory};
 ghost use Rattle.line_core.specs.answers.Reports.{AreLinesOf, IsReport, lane_lines};
 
-use crate::answers::form::Form;
 use crate::answers::report::{joined, push_line};
-use element_core::Year;
+use element_core::{Form, Year};
 use hub_core::{
     Ended, Feeds, Gate, ServeFault, Traffic, answers_are_read, feeds_are_given, serve_traffic,
 };

@@ -1,13 +1,14 @@
-//! The answers to texts that are checked.
-ghost use Rattle.std.specs.Prelude.{Some, ◌≡◌, length, IfNone};
+//! The lines of texts that are checked.
+ghost use Rattle.std.specs.Prelude.{◌≡◌, length, codes, IfNone};
 ghost use Rattle.digits_core.specs.Digits.{AreAsciiDigits};
-ghost use Rattle.line_core.specs.check.Checks.{IsAnswerAs, IsDigitAnswer, IsGtinAnswer, IsTextAnswer, IsUpceAnswer, check_text, kind_named, spelling_fault};
+ghost use Rattle.element_core.specs.Elements.{hri};
+ghost use Rattle.element_core.specs.Lines.{IsElementsLine, line_text};
+ghost use Rattle.line_core.specs.check.Checks.{IsLineAs, IsUpceLine, kind_named, spelling_fault};
+ghost use Rattle.line_core.specs.input.Spelling.{spelled_text};
 
-use crate::check::ascii::ascii_text;
 use crate::input::element_field::read_elements;
-use digits_core::{DigitFault, Gtin, not_digits, payload_digit, upce_expand};
-use element_core::{ElementFault, Elements, Year};
-use std::fmt;
+use digits_core::{DigitFault, not_digits, upce_expand};
+use element_core::{Form, Line, Year, digit_line, gtin_line};
 
 /// What a text is checked as.
 #[derive(Clone, Copy, Debug, PartialEq, Eq)]
@@ -22,43 +23,6 @@ pub enum CheckKind {
     Text,
 }
 
-/// The answer to a text.
-#[derive(Drop)]
-pub enum CheckAnswer {
-    /// The check digit, 0 to 9.
-    Digit(u8),
-    /// The GTIN.
-    Number(Gtin),
-    /// The elements.
-    Read(Elements),
-    /// The digits are refused.
-    BadDigits(DigitFault),
-    /// The element string is refused.
-    BadElements(ElementFault),
-}
-
-impl fmt::Display for CheckAnswer {
-    ghost output = { λ answer. Some (check_text answer) };
-
-    fn fmt<W: fmt::Write>(&self, f: &mut fmt::Formatter<W>) -> fmt::Result {
-        match self {
-            CheckAnswer::Digit(digit) => write!(f, "digit {digit}"),
-            CheckAnswer::Number(gtin) => {
-                let digits = gtin.digits14();
-                let text = ascii_text(&digits);
-                write!(f, "gtin {text}")
-            }
-            CheckAnswer::Read(elements) => {
-                let line = elements.hri();
-                let text = line.as_str();
-                write!(f, "hri {text}")
-            }
-            CheckAnswer::BadDigits(fault) => write!(f, "{fault}"),
-            CheckAnswer::BadElements(fault) => write!(f, "{fault}"),
-        }
-    }
-}
-
 /// The kind of this name.
 pub fn kind_named(name: &[u8]) -> Option<CheckKind>
     ensures { result ≡ kind_named name.now }
@@ -69,26 +33,6 @@ pub fn kind_named(name: &[u8]) -> Option<CheckKind>
         b"upce" => Some(CheckKind::Upce),
         b"text" => Some(CheckKind::Text),
         _ => None,
-    }
-}
-
-/// The check digit of digits that have none yet.
-fn digit_answer(text: &[u8]) -> CheckAnswer
-    ensures { IsDigitAnswer text.now result }
-{
-    match payload_digit(text) {
-        Ok(digit) => CheckAnswer::Digit(digit),
-        Err(fault) => CheckAnswer::BadDigits(fault),
-    }
-}
-
-/// The GTIN of its digits.
-fn gtin_answer(text: &[u8]) -> CheckAnswer
-    ensures { IsGtinAnswer text.now result }
-{
-    match Gtin::read(text) {
-        Ok(gtin) => CheckAnswer::Number(gtin),
-        Err(fault) => CheckAnswer::BadDigits(fault),
     }
 }
 
@@ -110,39 +54,39 @@ fn spelling_fault(text: &[u8]) -> Option<DigitFault>
     None
 }
 
-/// The GTIN that UPC-E digits stand for.
-fn upce_answer(text: &[u8]) -> CheckAnswer
-    ensures { IsUpceAnswer text.now result }
+/// The line of the GTIN that UPC-E digits stand for, or why they stand for none.
+fn upce_line(text: &[u8]) -> Line
+    ensures { IsUpceLine text.now (line_text result) }
 {
     if let Some(fault) = spelling_fault(text) {
-        return CheckAnswer::BadDigits(fault);
+        return Line::refused(fault.refusal());
     }
     let mut six = [0; 6];
     six.copy_from_slice(&text[1..7]);
     match upce_expand(six, text[7]) {
-        Some(gtin) => CheckAnswer::Number(gtin),
-        None => CheckAnswer::BadDigits(DigitFault::CheckDigit),
+        Some(gtin) => Line::of_gtin(&gtin),
+        None => Line::refused(DigitFault::CheckDigit.refusal()),
     }
 }
 
-/// The elements of a text.
-fn text_answer(field: &[u8], year: Year) -> CheckAnswer
-    ensures { IsTextAnswer year field.now result }
+/// The line of the elements of a text, or of its first fault.
+fn text_line(field: &[u8], year: Year) -> Line
+    ensures { IsElementsLine (codes "hri") hri year (spelled_text field.now) (line_text result) }
 {
     match read_elements(field, year) {
-        Ok(elements) => CheckAnswer::Read(elements),
-        Err(fault) => CheckAnswer::BadElements(fault),
+        Ok(elements) => Line::of_elements("hri", &elements, Form::HumanReadable),
+        Err(fault) => Line::refused(fault.refusal()),
     }
 }
 
-/// The answer to a text of a kind, under a reference year.
-pub fn answer_to(kind: CheckKind, text: &[u8], year: Year) -> CheckAnswer
-    ensures { IsAnswerAs year kind text.now result }
+/// The line of a text of a kind, under a reference year.
+pub fn line_of(kind: CheckKind, text: &[u8], year: Year) -> Line
+    ensures { IsLineAs year kind text.now (line_text result) }
 {
     match kind {
-        CheckKind::Digit => digit_answer(text),
-        CheckKind::Gtin => gtin_answer(text),
-        CheckKind::Upce => upce_answer(text),
-        CheckKind::Text => text_answer(text, year),
+        CheckKind::Digit => digit_line(text),
+        CheckKind::Gtin => gtin_line(text),
+        CheckKind::Upce => upce_line(text),
+        CheckKind::Text => text_line(text, year),
     }
 }

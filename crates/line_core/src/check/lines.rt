@@ -3,12 +3,12 @@ ghost use Rattle.std.specs.Prelude.{◌≡◌, ◌↔◌, true, false, IfErr, If
 ghost use Rattle.line_core.specs.check.Checks.{check_meaning, check_report};
 ghost use Rattle.line_core.specs.input.Records.{Refuses, Takes};
 
-use crate::check::answer::{CheckAnswer, answer_to, kind_named};
+use crate::check::answer::{kind_named, line_of};
 use crate::input::fault::{RecordFault, RecordRefusal, RecordsFault};
 use crate::input::records::{Intake, read_input, two_fields};
 use csv::ByteRecord;
 use digits_core::Source;
-use element_core::Year;
+use element_core::{Line, Year};
 use std::alloc::Global;
 use std::fmt::Write;
 
@@ -19,7 +19,7 @@ struct CheckRecords {
 }
 
 impl Intake for CheckRecords {
-    type Item = CheckAnswer;
+    type Item = Line;
 
     type Made = String;
 
@@ -30,8 +30,8 @@ impl Intake for CheckRecords {
     fn take(&self, lines: &mut String, fields: &ByteRecord) -> Result<(), RecordRefusal> {
         let (name, text) = two_fields(fields).ok_or(RecordFault::Csv)?;
         let kind = kind_named(name).ok_or(RecordFault::Kind)?;
-        let answer = answer_to(kind, text, self.year);
-        writeln!(lines, "{answer}")?;
+        let line = line_of(kind, text, self.year);
+        writeln!(lines, "{line}")?;
         Ok(())
     }
 }

@@ -4,10 +4,9 @@ ghost use Rattle.hub_core.specs.Serving.{is_count};
 ghost use Rattle.hub_core.specs.declared.fault.ServeFault.{ServeFault};
 ghost use Rattle.line_core.specs.live.Lived.{EndsAs, Lived};
 
-use crate::answers::form::Form;
 use crate::live::fault::LiveFault;
 use crate::live::input::{Live, Stopped};
-use element_core::Year;
+use element_core::{Form, Year};
 use hub_core::{Ended, Gate, ServeFault, Unstarted, serve_traffic, served_by_place};
 use std::alloc::Global;
 use std::convert::Infallible;

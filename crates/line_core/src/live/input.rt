@@ -6,13 +6,13 @@ ghost use Rattle.wire_core.specs.Events.{Event};
 ghost use Rattle.line_core.specs.live.Came.{IsAt};
 ghost use Rattle.line_core.specs.live.Finish.{is_finished};
 ghost use Rattle.line_core.specs.live.Stops.{IsOpen, TellsEnd, TellsFaults};
-ghost use Rattle.line_core.specs.declared.answers.form.Form.{Form};
+ghost use Rattle.element_core.specs.declared.form.Form.{Form};
 
-use crate::answers::form::Form;
 use crate::live::fault::{LiveFault, is_open};
 use crate::live::place::push_places;
 use crate::live::progress::{Progress, TURN, Taken};
 use crate::live::waiting::end_turn;
+use element_core::Form;
 use hub_core::Traffic;
 use lane_core::Delivery;
 use scan_core::Runs;

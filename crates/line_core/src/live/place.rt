@@ -5,10 +5,10 @@ ghost use Rattle.line_core.specs.live.Came.{IsReady, Says};
 ghost use Rattle.line_core.specs.live.Replies.{refusal_line};
 ghost use Rattle.line_core.specs.live.Text.{line_fault_text};
 
-use crate::answers::form::Form;
 use crate::answers::report::{push_line, push_number};
 use crate::live::record::LineFault;
 use crate::live::waiting::Waiting;
+use element_core::Form;
 use std::alloc::AllocError;
 use std::fmt::Write;
 

@@ -6,7 +6,7 @@ ghost use Rattle.wire_core.specs.Lines.{without_line};
 ghost use Rattle.hub_core.specs.Traffics.{IsNextOf, with_more};
 ghost use Rattle.line_core.specs.live.Came.{IsAt, IsStoppedBy, KeepsRow, Took};
 ghost use Rattle.line_core.specs.live.Meaning.{IsFound};
-ghost use Rattle.line_core.specs.declared.answers.form.Form.{Form};
+ghost use Rattle.element_core.specs.declared.form.Form.{Form};
 ghost use Rattle.line_core.specs.declared.live.waiting.Waiting.{Waiting};
 
 use crate::live::fault::LiveFault;

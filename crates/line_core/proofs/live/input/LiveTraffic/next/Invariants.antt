@@ -3,7 +3,7 @@ use Rattle.lane_core.specs.declared.job.Plain.{Plain}
 use Rattle.wire_core.specs.Events.{Event}
 use Rattle.line_core.specs.live.Came.{IsAt}
 use Rattle.line_core.specs.live.Stops.{TellsFaults}
-use Rattle.line_core.specs.declared.answers.form.Form.{Form}
+use Rattle.element_core.specs.declared.form.Form.{Form}
 use Rattle.line_core.proofs.live.input.LiveTraffic.next.Given as goal
 
 abbrev pub invariant-lines : goal.invariant-lines
