@@ -1,6 +1,7 @@
 -- What holds of Code 128 symbols whatever reads them.
 use Rattle.std.specs.Prelude.{◌≡◌, ◌≢◌, ◌↔◌, ℕ, ◌+◌, ◌*◌, ◌<◌, ◌≤◌, List, ◌++◌, length, sum, reverse, slice_index, slice_set, Ok, Err, IsTrue}
 use Rattle.std.specs.List.{list_all}
+use Rattle.code128_code.specs.Characters.{start_c}
 use Rattle.code128_code.specs.declared.code_set.CodeSet.{CodeSet}
 use Rattle.code128_code.specs.declared.code_set.CodeSet.TheVariants.{C}
 use Rattle.code128_code.specs.declared.fault.Code128Fault.{Code128Fault}
@@ -57,7 +58,7 @@ CodedIsSaid = (text : List ℕ) → IsTrue (list_all is_coded_byte text) → tex
 -- so the symbol that is printed for a text is the GS1-128 symbol of that text
 abbrev pub PrintedIsSaid : Type 0
 PrintedIsSaid = (text modules : List ℕ) → IsTrue (list_all is_coded_byte text)
-    → IsCode128Symbol 105 (data_values text) (mod103 105 (data_values text)) modules → IsGs1Symbol modules text
+    → IsCode128Symbol start_c (data_values text) (mod103 start_c (data_values text)) modules → IsGs1Symbol modules text
 
 -- they are at most as many as the bytes of a text that begins with two digits, as each element string does
 abbrev pub CodedIsShort : Type 0

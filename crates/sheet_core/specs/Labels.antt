@@ -5,6 +5,7 @@ use Rattle.ean_code.specs.Spelling.{IsPrintedUpce, IsSpelled}
 use Rattle.ean_code.specs.Symbols.Kind.{Ean13 as KindEan13, Ean8 as KindEan8, Itf14 as KindItf14}
 use Rattle.ean_code.specs.declared.reading.Spelled.TheVariants.{Found}
 use Rattle.element_core.specs.Elements.{Entry, Listing, canonical, gtin_entry}
+use Rattle.code128_code.specs.Characters.{start_c}
 use Rattle.code128_code.specs.Coding.{data_values}
 use Rattle.code128_code.specs.Symbols.{IsCode128Symbol, mod103}
 use Rattle.code128_code.specs.Texts.{IsGs1Symbol}
@@ -82,7 +83,7 @@ carrier_of label = (form_of (kind_of label)).carrier
 -- encoding rule, and the check character
 pub record IsPrintedGs1128 (text modules : List ℕ) : Type 0 where
   pub few : length text ≤ 48
-  pub drawn : IsCode128Symbol 105 (data_values text) (mod103 105 (data_values text)) modules
+  pub drawn : IsCode128Symbol start_c (data_values text) (mod103 start_c (data_values text)) modules
   pub says : IsGs1Symbol modules text
 
 -- the modules are the label's symbol; that of a UPC-A is an EAN-13 whose first digit is 0
