@@ -1,5 +1,5 @@
 -- The characters of EAN and UPC symbols, and the number sets that they are drawn in (ISO/IEC 15420, symbol character encodation).
-use Rattle.std.specs.Prelude.{ℕ, ◌+◌, ◌*◌, ◌<◌, Bool, true, false, List, [], ◌∷◌, map, slice_index_or, if◌then◌else◌}
+use Rattle.std.specs.Prelude.{ℕ, ◌+◌, ◌*◌, ◌<◌, Bool, true, false, List, [], ◌∷◌, map, slice_index_or, if◌then◌else◌, ◌==◌, codes}
 use Rattle.std.specs.List.{flat_map, fold, zip, AllByRecursion}
 use Rattle.ean_code.specs.declared.number_sets.Character.{Character}
 use Rattle.ean_code.specs.declared.number_sets.NumberSet.{NumberSet}
@@ -72,20 +72,15 @@ bit_of B = 1
 abbrev pub packed_sets : List NumberSet → ℕ
 packed_sets sets = fold (λ n s. 2 * n + bit_of s) 0 sets
 
+-- the number sets that letters name: A, or else B
+abbrev pub sets_in : List ℕ → List NumberSet
+sets_in letters = map (λ letter. set_of (letter == 66)) letters
+
 -- the number sets of the left six of an EAN-13, by its first digit, which they alone show
 abbrev pub ean13_rows : List (List NumberSet)
-ean13_rows =
-    (A ∷ A ∷ A ∷ A ∷ A ∷ A ∷ [])
-    ∷ (A ∷ A ∷ B ∷ A ∷ B ∷ B ∷ [])
-    ∷ (A ∷ A ∷ B ∷ B ∷ A ∷ B ∷ [])
-    ∷ (A ∷ A ∷ B ∷ B ∷ B ∷ A ∷ [])
-    ∷ (A ∷ B ∷ A ∷ A ∷ B ∷ B ∷ [])
-    ∷ (A ∷ B ∷ B ∷ A ∷ A ∷ B ∷ [])
-    ∷ (A ∷ B ∷ B ∷ B ∷ A ∷ A ∷ [])
-    ∷ (A ∷ B ∷ A ∷ B ∷ A ∷ B ∷ [])
-    ∷ (A ∷ B ∷ A ∷ B ∷ B ∷ A ∷ [])
-    ∷ (A ∷ B ∷ B ∷ A ∷ B ∷ A ∷ [])
-    ∷ []
+ean13_rows = map sets_in
+    (codes "AAAAAA" ∷ codes "AABABB" ∷ codes "AABBAB" ∷ codes "AABBBA" ∷ codes "ABAABB"
+    ∷ codes "ABBAAB" ∷ codes "ABBBAA" ∷ codes "ABABAB" ∷ codes "ABABBA" ∷ codes "ABBABA" ∷ [])
 
 -- the number sets of the left four of an EAN-8
 abbrev pub ean8_row : List NumberSet
@@ -93,18 +88,9 @@ ean8_row = A ∷ A ∷ A ∷ A ∷ []
 
 -- the number sets of the six of a UPC-E, by its check digit, which they alone show
 abbrev pub upce_rows : List (List NumberSet)
-upce_rows =
-    (B ∷ B ∷ B ∷ A ∷ A ∷ A ∷ [])
-    ∷ (B ∷ B ∷ A ∷ B ∷ A ∷ A ∷ [])
-    ∷ (B ∷ B ∷ A ∷ A ∷ B ∷ A ∷ [])
-    ∷ (B ∷ B ∷ A ∷ A ∷ A ∷ B ∷ [])
-    ∷ (B ∷ A ∷ B ∷ B ∷ A ∷ A ∷ [])
-    ∷ (B ∷ A ∷ A ∷ B ∷ B ∷ A ∷ [])
-    ∷ (B ∷ A ∷ A ∷ A ∷ B ∷ B ∷ [])
-    ∷ (B ∷ A ∷ B ∷ A ∷ B ∷ A ∷ [])
-    ∷ (B ∷ A ∷ B ∷ A ∷ A ∷ B ∷ [])
-    ∷ (B ∷ A ∷ A ∷ B ∷ A ∷ B ∷ [])
-    ∷ []
+upce_rows = map sets_in
+    (codes "BBBAAA" ∷ codes "BBABAA" ∷ codes "BBAABA" ∷ codes "BBAAAB" ∷ codes "BABBAA"
+    ∷ codes "BAABBA" ∷ codes "BAAABB" ∷ codes "BABABA" ∷ codes "BABAAB" ∷ codes "BAABAB" ∷ [])
 
 -- the row of this digit
 abbrev pub row_of : List (List NumberSet) → ℕ → List NumberSet
