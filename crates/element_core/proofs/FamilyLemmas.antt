@@ -1,12 +1,12 @@
 -- The family of an AI is that of its row.
 use Rattle.std.proofs.Common.{◌≡◌, ℕ, zero, suc, ◌+◌, ◌-◌, ◌<◌, ◌≤◌, Bool, true, false, cond, eqb, leb, ltb, ◌&&◌, ◌||◌, List, [], ◌∷◌, ◌++◌, map, length, take, drop, get_or, Option, Some, None, refl, sym, ap, ◌∙◌, arith, inl, inr, add-zero, length-drop, get_or-drop}
 use Rattle.std.specs.Prelude.{find, flat_map, option_map, ◌⊎◌}
-use Rattle.std.specs.List.{list_any}
+use Rattle.std.specs.List.{list_any, range_with_len}
 use Rattle.std.proofs.lemmas.Bool.{cases_Bool, eqb-true, cases_lt, le-leb, lt-leb, lt-ltb, le-ltb, ne_eqb, eq-eqb, and_parts, leb-true}
 use Rattle.std.proofs.lemmas.Bool.Decides.{nat_tests}
 use Rattle.std.proofs.lemmas.List.{length-take-le}
 use Rattle.element_core.specs.declared.family.AiFamily.{AiFamily}
-use Rattle.element_core.specs.Table.{Row, has_few_parts, is_short_ai, from, ais, row_in, rows_of, ai_rows, begins, row_at}
+use Rattle.element_core.specs.Table.{Row, has_few_parts, is_short_ai, ais, row_in, rows_of, ai_rows, begins, row_at}
 use Rattle.element_core.proofs.TableLaws.{each_has_few_parts, each_is_short}
 use Rattle.element_core.proofs.Look.{all_at, row_is}
 use Rattle.element_core.specs.Families.{family_of, is_in_family, row_with, row_by}
@@ -32,7 +32,7 @@ find-map p f (x ∷ xs) =
     ]
 
 -- one after another, from the first on
-from_any : (n a b : ℕ) → list_any (λ d. eqb d b) (from n a) ≡ (leb a b && ltb b (a + n))
+from_any : (n a b : ℕ) → list_any (λ d. eqb d b) (range_with_len a n) ≡ (leb a b && ltb b (a + n))
 from_any zero a b =
     elim (cases_lt b a) [
       | inl lt ↦ rw (lt-leb a b lt) refl
@@ -48,7 +48,7 @@ from_any (suc n) a b =
       ]
     ]
 
-digit_any : (a z b : ℕ) → list_any (λ d. eqb d b) (from (z + 1 - a) a) ≡ (leb a b && leb b z)
+digit_any : (a z b : ℕ) → list_any (λ d. eqb d b) (range_with_len a (z + 1 - a)) ≡ (leb a b && leb b z)
 digit_any a z b = from_any (z + 1 - a) a b ∙ grind (arith, nat_tests)
 
 -- a text whose first byte is d, and goes on with text, begins with what of the AIs
@@ -89,9 +89,9 @@ find-no_text (d ∷ ds) tails = find-append (λ ai. begins ai []) (map (λ ai. d
 pub find-ais : (least greatest text : List ℕ) → find (λ ai. begins ai text) (ais least greatest) ≡ cond (is_in_family least greatest text) (Some (take (length least) text)) None
 find-ais [] greatest text = refl
 find-ais (a ∷ least) [] text = refl
-find-ais (a ∷ least) (z ∷ greatest) [] = find-no_text (from (z + 1 - a) a) (ais least greatest)
+find-ais (a ∷ least) (z ∷ greatest) [] = find-no_text (range_with_len a (z + 1 - a)) (ais least greatest)
 find-ais (a ∷ least) (z ∷ greatest) (b ∷ text) =
-    find-places (from (z + 1 - a) a) (ais least greatest) b text
+    find-places (range_with_len a (z + 1 - a)) (ais least greatest) b text
     ∙ rw (digit_any a z b, find-ais least greatest text) (joined (leb a b && leb b z) (is_in_family least greatest text) (take (length least) text))
   where
     joined : (p q : Bool) (ai : List ℕ) → cond p (option_map (λ x. b ∷ x) (cond q (Some ai) None)) None ≡ cond (p && q) (Some (b ∷ ai)) None

@@ -1,7 +1,7 @@
 -- The Application Identifiers of this profile, with what their values may be
 -- (GS1 General Specifications, section 3.2).
-use Rattle.std.specs.Prelude.{◌≡◌, ℕ, zero, suc, ◌+◌, ◌-◌, ◌*◌, Bool, true, false, ◌&&◌, ◌||◌, not, List, [], ◌∷◌, map, length, Option, Some, None, IsTrue, nat_le, bytes_eq, ◌==◌, if◌then◌else◌, codes, find, flat_map}
-use Rattle.std.specs.List.{filter, list_all, list_any}
+use Rattle.std.specs.Prelude.{◌≡◌, ℕ, ◌+◌, ◌-◌, ◌*◌, Bool, true, false, ◌&&◌, ◌||◌, not, List, [], ◌∷◌, map, length, Option, Some, None, IsTrue, nat_le, bytes_eq, ◌==◌, if◌then◌else◌, codes, find, flat_map}
+use Rattle.std.specs.List.{filter, list_all, list_any, range_with_len}
 use Rattle.element_core.specs.declared.part.Part.{Part}
 use Rattle.element_core.specs.declared.part.PartFormat.{PartFormat}
 use Rattle.element_core.specs.declared.part.PartFormat.TheVariants.{Numeric, Alphanumeric, Date, DateAndTime}
@@ -96,14 +96,9 @@ families =
     ∷ not_predefined (codes "91") (codes "99") (x_to 1 90 ∷ [])
     ∷ []
 
--- so many numbers from first on
-abbrev pub from : ℕ → ℕ → List ℕ
-from zero first = []
-from (suc count) first = first ∷ from count (first + 1)
-
 -- the AIs each of whose digits lies between those of the two
 abbrev pub ais : List ℕ → List ℕ → List (List ℕ)
-ais (a ∷ least) (z ∷ greatest) = flat_map (λ d. map (λ ai. d ∷ ai) (ais least greatest)) (from (z + 1 - a) a)
+ais (a ∷ least) (z ∷ greatest) = flat_map (λ d. map (λ ai. d ∷ ai) (ais least greatest)) (range_with_len a (z + 1 - a))
 ais [] greatest = [] ∷ []
 ais (a ∷ least) [] = []
 
