@@ -1,25 +1,13 @@
 -- How far a reader or a coder has come.
 use Rattle.std.specs.Prelude.{ℕ, ◌-◌, ◌%◌, ◌==◌, ◌&&◌, Bool, true, false, List, [], ◌∷◌, ◌++◌, Result, Err, nat_le, nat_lt, if◌then◌else◌}
 use Rattle.code128_code.specs.declared.code_set.CodeSet.{CodeSet}
-use Rattle.code128_code.specs.declared.code_set.CodeSet.TheVariants.{C}
 use Rattle.code128_code.specs.declared.coding.Coder.{Coder}
 use Rattle.code128_code.specs.declared.fault.Code128Fault.{Code128Fault}
 use Rattle.code128_code.specs.declared.fault.Code128Fault.TheVariants as faults
 use Rattle.code128_code.specs.declared.texts.Reader.{Reader}
-use Rattle.code128_code.specs.declared.meanings.Meaning.{Meaning}
-use Rattle.code128_code.specs.declared.meanings.Meaning.TheVariants.{Byte, Latch, Shift, Function}
-use Rattle.code128_code.specs.Characters.{code_b, code_c, fnc1, shift_value}
+use Rattle.code128_code.specs.Characters.{code_b, code_c, fnc1}
 use Rattle.code128_code.specs.Coding.{digits_ahead, pair}
 use Rattle.code128_code.specs.Texts.{before, shifted_byte, text_from}
-
--- what a value from 96 on means in code sets A and B, where one value changes to the other of the two
-abbrev pub special : ℕ → ℕ → CodeSet → Meaning
-special v change other =
-    if v == shift_value then Shift
-    else if v == code_c then Latch C
-    else if v == change then Latch other
-    else if v == fnc1 then Byte 29
-    else Function
 
 -- the text of the values that are left, after a SHIFT or not
 abbrev pub text_by : CodeSet → Bool → List ℕ → Result (List ℕ) Code128Fault

@@ -1,7 +1,6 @@
 //! What the values of symbol characters mean in the code sets.
 ghost use Rattle.std.specs.Prelude.{◌≡◌, ◌<◌};
-ghost use Rattle.code128_code.specs.Steps.{special};
-ghost use Rattle.code128_code.specs.Texts.{byte_a, meaning};
+ghost use Rattle.code128_code.specs.Texts.{byte_a, meaning, special};
 ghost use Rattle.code128_code.specs.declared.code_set.CodeSet.TheVariants.{C};
 
 use crate::code_set::CodeSet;
