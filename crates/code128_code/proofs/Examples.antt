@@ -5,7 +5,7 @@ use Rattle.std.specs.List.{concat}
 use Rattle.code128_code.specs.declared.fault.Code128Fault.TheVariants as faults
 use Rattle.code128_code.specs.Characters.{patterns, stop}
 use Rattle.code128_code.specs.Coding.{data_values}
-use Rattle.code128_code.specs.Symbols.{mod103, widths_of}
+use Rattle.code128_code.specs.Symbols.{mod103, symbol_widths}
 use Rattle.code128_code.specs.Texts.{symbol_text}
 
 trade_item : (data_values (codes "0109501101530003") ≡ 102 ∷ 1 ∷ 9 ∷ 50 ∷ 11 ∷ 1 ∷ 53 ∷ 0 ∷ 3 ∷ []) × (mod103 105 (data_values (codes "0109501101530003")) ≡ 71)
@@ -22,7 +22,7 @@ odd_run : (data_values (codes "10A12345") ≡ 102 ∷ 10 ∷ 100 ∷ 33 ∷ 17 �
 odd_run = (refl, refl)
 
 country : (mod103 105 (data_values (codes "422528")) ≡ 66)
-    × (widths_of 105 (data_values (codes "422528")) 66 ≡ concat ((2 ∷ 1 ∷ 1 ∷ 2 ∷ 3 ∷ 2 ∷ []) ∷ (4 ∷ 1 ∷ 1 ∷ 1 ∷ 3 ∷ 1 ∷ []) ∷ (1 ∷ 1 ∷ 2 ∷ 1 ∷ 3 ∷ 3 ∷ []) ∷ (3 ∷ 2 ∷ 1 ∷ 1 ∷ 2 ∷ 2 ∷ []) ∷ (3 ∷ 2 ∷ 2 ∷ 1 ∷ 1 ∷ 2 ∷ []) ∷ (1 ∷ 2 ∷ 1 ∷ 4 ∷ 2 ∷ 1 ∷ []) ∷ []) ++ stop)
+    × (symbol_widths 105 (data_values (codes "422528")) 66 ≡ concat ((2 ∷ 1 ∷ 1 ∷ 2 ∷ 3 ∷ 2 ∷ []) ∷ (4 ∷ 1 ∷ 1 ∷ 1 ∷ 3 ∷ 1 ∷ []) ∷ (1 ∷ 1 ∷ 2 ∷ 1 ∷ 3 ∷ 3 ∷ []) ∷ (3 ∷ 2 ∷ 1 ∷ 1 ∷ 2 ∷ 2 ∷ []) ∷ (3 ∷ 2 ∷ 2 ∷ 1 ∷ 1 ∷ 2 ∷ []) ∷ (1 ∷ 2 ∷ 1 ∷ 4 ∷ 2 ∷ 1 ∷ []) ∷ []) ++ stop)
 unfolding patterns
 country = (refl, refl)
 

@@ -3,7 +3,7 @@ use Rattle.std.proofs.Common.{◌≡◌, ℕ, ◌+◌, ◌-◌, ◌*◌, ◌≤�
 use Rattle.std.specs.List.{flat_map}
 use Rattle.std.proofs.lemmas.List.{append_assoc, drop-drop, length-drop, length-take-le, take-append-drop}
 use Rattle.code128_code.specs.Characters.{pattern, stop}
-use Rattle.code128_code.specs.Symbols.{AreValues, IsCode128Symbol, widths_of}
+use Rattle.code128_code.specs.Symbols.{AreValues, IsCode128Symbol, symbol_widths}
 use Rattle.code128_code.proofs.DataFacts.{rest_of}
 use Rattle.code128_code.proofs.SymbolFacts.{check_part, data_part, length-data, length-parts, stop_part, widths-parts}
 
@@ -54,7 +54,7 @@ symbol_of s vs c ws least most low high valid small start values check end =
     }
 
 -- parts drawn one after another are the widths of a symbol
-pub drawn : (s : ℕ) (vs : List ℕ) (c : ℕ) (a b d e : List ℕ) → a ≡ [] ++ pattern s → b ≡ a ++ flat_map pattern vs → d ≡ b ++ pattern c → e ≡ d ++ stop → e ≡ widths_of s vs c
+pub drawn : (s : ℕ) (vs : List ℕ) (c : ℕ) (a b d e : List ℕ) → a ≡ [] ++ pattern s → b ≡ a ++ flat_map pattern vs → d ≡ b ++ pattern c → e ≡ d ++ stop → e ≡ symbol_widths s vs c
 drawn s vs c a b d e p q r t =
     t
     ∙ ap (λ xs. xs ++ stop) (r ∙ ap (λ xs. xs ++ pattern c) (q ∙ ap (λ xs. xs ++ flat_map pattern vs) p))

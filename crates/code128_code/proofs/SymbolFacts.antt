@@ -10,7 +10,7 @@ use Rattle.ean_code.specs.Widths.{AreModules, AreWidths}
 use Rattle.ean_code.proofs.Cells.{all_below, all_below-at, AllByRecursion-append, cell_at, cells, cells-flat_map, length-cells}
 use Rattle.code128_code.specs.Characters.{pattern, patterns, stop}
 use Rattle.code128_code.specs.Laws.{Measures, OneReading, OneWay}
-use Rattle.code128_code.specs.Symbols.{AreValues, IsCode128Symbol, characters_of, widths_of}
+use Rattle.code128_code.specs.Symbols.{AreValues, IsCode128Symbol, characters_of, symbol_widths}
 use Rattle.code128_code.proofs.LookupFacts.{code, length-pattern, pattern_valid, shown}
 
 -- a fact that holds of each value holds at each place
@@ -27,7 +27,7 @@ pub length-data : (vs : List ℕ) → AreValues vs → length (flat_map pattern 
 length-data vs h = length-cells _ 6 pattern shown code vs (characters_valid vs h)
 
 -- the widths of a symbol, part by part
-pub widths-parts : (s : ℕ) (vs : List ℕ) (c : ℕ) → widths_of s vs c ≡ pattern s ++ (flat_map pattern vs ++ (pattern c ++ stop))
+pub widths-parts : (s : ℕ) (vs : List ℕ) (c : ℕ) → symbol_widths s vs c ≡ pattern s ++ (flat_map pattern vs ++ (pattern c ++ stop))
 widths-parts s vs c =
     let middle : flat_map pattern (vs ++ c ∷ []) ≡ flat_map pattern vs ++ pattern c =
     flat_map-append pattern vs (c ∷ []) ∙ ap (λ ws. flat_map pattern vs ++ ws) (append-nil (pattern c)) in

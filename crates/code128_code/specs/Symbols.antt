@@ -8,8 +8,8 @@ abbrev pub characters_of : ℕ → List ℕ → ℕ → List ℕ
 characters_of start values check = start ∷ (values ++ check ∷ [])
 
 -- the widths of a symbol: those of its characters, joined
-abbrev pub widths_of : ℕ → List ℕ → ℕ → List ℕ
-widths_of start values check = flat_map pattern (characters_of start values check) ++ stop
+abbrev pub symbol_widths : ℕ → List ℕ → ℕ → List ℕ
+symbol_widths start values check = flat_map pattern (characters_of start values check) ++ stop
 
 -- each is a value of a data or check character
 abbrev pub AreValues : List ℕ → Type 0
@@ -23,7 +23,7 @@ pub record IsCode128Symbol (start : ℕ) (values : List ℕ) (check : ℕ) (modu
   pub few : length values ≤ 96
   pub valid : AreValues values
   pub check_valid : check ≤ 102
-  pub widths : modules ≡ widths_of start values check
+  pub widths : modules ≡ symbol_widths start values check
 
 -- each value times its place, the first of them at this place
 abbrev pub by_place : ℕ → List ℕ → ℕ

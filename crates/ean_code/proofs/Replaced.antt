@@ -4,7 +4,7 @@ use Rattle.std.specs.Prelude.{if◌then◌else◌}
 use Rattle.std.proofs.lemmas.Bool.{cases_lt}
 use Rattle.std.proofs.lemmas.List.{length-set}
 use Rattle.digits_core.specs.Digits.{AreDigits, IsChecked, padded, weight, weighted}
-use Rattle.ean_code.specs.Laws.{ReplacedIsUnchecked}
+use Rattle.ean_code.specs.Laws.{ReplacedDigitIsUnchecked}
 use Rattle.ean_code.specs.Symbols.Kind.{Ean13, Ean8, UpcE, Itf14}
 use Rattle.ean_code.proofs.Characters.{digit_at}
 use Rattle.ean_code.proofs.Texts.{checked_unpadded}
@@ -81,17 +81,17 @@ module _ (a b c d e f check x : ℕ) (new : x < 10) where
   fifth_noticed false false true old h k = noticed (by_tests false false true a b c d e f check) 10 x (omega arith) old new h k
   fifth_noticed false false false old h k = noticed (by_tests false false false a b c d e f check) 5 x (omega arith) old new h k
 
-pub replaced13 : ReplacedIsUnchecked Ean13
+pub replaced13 : ReplacedDigitIsUnchecked Ean13
 replaced13 ds gtin other k d n v e c place small differs f o =
     let below = place.1 in noticed_padded ds gtin other k d v e c (omega arith) small differs f o
 
-pub replaced8 : ReplacedIsUnchecked Ean8
+pub replaced8 : ReplacedDigitIsUnchecked Ean8
 replaced8 ds gtin other k d n v e c place small differs f o = noticed_padded ds gtin other k d v e c (omega arith) small differs f o
 
-pub replaced14 : ReplacedIsUnchecked Itf14
+pub replaced14 : ReplacedDigitIsUnchecked Itf14
 replaced14 ds gtin other k d n v e c place small differs f o = noticed_padded ds gtin other k d v e c (omega arith) small differs f o
 
-pub replacedE : ReplacedIsUnchecked UpcE
+pub replacedE : ReplacedDigitIsUnchecked UpcE
 replacedE [] gtin other k x n v e c place small differs f o = absurd (omega arith)
 replacedE (a ∷ []) gtin other k x n v e c place small differs f o = absurd (omega arith)
 replacedE (a ∷ b ∷ []) gtin other k x n v e c place small differs f o = absurd (omega arith)

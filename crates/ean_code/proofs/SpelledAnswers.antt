@@ -1,7 +1,7 @@
 -- What a reader answers to modules is one.
 use Rattle.std.proofs.Common.{◌≡◌, ℕ, List, refl, sym, ap, subst, ◌∙◌}
 use Rattle.ean_code.specs.declared.reading.Spelled.TheVariants.{NoPattern, BadCheck, Found}
-use Rattle.ean_code.specs.Laws.{OneAnswer}
+use Rattle.ean_code.specs.Laws.{OneSpelled}
 use Rattle.ean_code.specs.Spelling.{IsGtinOf}
 use Rattle.ean_code.specs.Symbols.{IsNumberSymbol, Kind}
 use Rattle.ean_code.specs.Symbols.Kind.{Ean13, Ean8, UpcE, Itf14}
@@ -16,7 +16,7 @@ same_gtin Ean8 ds gtin other a b = a ∙ sym b
 same_gtin UpcE ds gtin other a b = a ∙ sym b
 same_gtin Itf14 ds gtin other a b = a ∙ sym b
 
-pub one_answer : OneAnswer
+pub one_answer : OneSpelled
 one_answer kind ms NoPattern NoPattern a b = refl
 one_answer kind ms NoPattern BadCheck a b = absurd (a b.0 b.1)
 one_answer kind ms NoPattern (Found gtin) a b = absurd (a b.0 b.1)

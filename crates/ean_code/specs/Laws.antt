@@ -10,29 +10,29 @@ use Rattle.ean_code.specs.TwoOfFive.{AreTwoWidths, itf_start, itf_stop}
 use Rattle.ean_code.specs.Widths.{AreWidths}
 
 -- a symbol shows one list of digits
-abbrev pub OneReading : Type 0
-OneReading = (kind : Kind) (modules ds es : List ℕ) → IsNumberSymbol kind modules ds → IsNumberSymbol kind modules es → ds ≡ es
+abbrev pub OneListOfDigits : Type 0
+OneListOfDigits = (kind : Kind) (modules ds es : List ℕ) → IsNumberSymbol kind modules ds → IsNumberSymbol kind modules es → ds ≡ es
 
 -- modules have one answer of a reader
-abbrev pub OneAnswer : Type 0
-OneAnswer = (kind : Kind) (modules : List ℕ) (a b : Spelled) → IsSpelled kind modules a → IsSpelled kind modules b → a ≡ b
+abbrev pub OneSpelled : Type 0
+OneSpelled = (kind : Kind) (modules : List ℕ) (a b : Spelled) → IsSpelled kind modules a → IsSpelled kind modules b → a ≡ b
 
 -- a symbol of this kind has as many widths, each of 1 to 4 modules, and as many modules together, as its kind
-pub record HasMeasures (kind : Kind) (modules : List ℕ) : Type 0 where
+pub record HasMeasuresOfKind (kind : Kind) (modules : List ℕ) : Type 0 where
   pub valid : AreWidths modules
   pub count : length modules ≡ width_count kind
   pub total : sum modules ≡ module_count kind
 
-abbrev pub Measures : Type 0
-Measures = (kind : Kind) (modules ds : List ℕ) → IsNumberSymbol kind modules ds → HasMeasures kind modules
+abbrev pub MeasuresOfKind : Type 0
+MeasuresOfKind = (kind : Kind) (modules ds : List ℕ) → IsNumberSymbol kind modules ds → HasMeasuresOfKind kind modules
 
 -- no symbol of this kind is one of this kind backwards
-abbrev pub OneWay : Kind → Type 0
-OneWay kind = (modules ds es : List ℕ) → IsNumberSymbol kind modules ds → IsNumberSymbol kind (reverse modules) es → ⊥
+abbrev pub KindIsOneWay : Kind → Type 0
+KindIsOneWay kind = (modules ds es : List ℕ) → IsNumberSymbol kind modules ds → IsNumberSymbol kind (reverse modules) es → ⊥
 
 -- digits that stand for a checked GTIN stand for none with one at a checked place replaced by another
-abbrev pub ReplacedIsUnchecked : Kind → Type 0
-ReplacedIsUnchecked kind =
+abbrev pub ReplacedDigitIsUnchecked : Kind → Type 0
+ReplacedDigitIsUnchecked kind =
     (digits gtin other : List ℕ) (k d : ℕ)
     → length digits ≡ digit_count kind
     → AreDigits digits

@@ -18,13 +18,13 @@ set_b =
     ∷ (1 ∷ 3 ∷ 2 ∷ 1 ∷ []) ∷ (4 ∷ 1 ∷ 1 ∷ 1 ∷ []) ∷ (2 ∷ 1 ∷ 3 ∷ 1 ∷ []) ∷ (3 ∷ 1 ∷ 2 ∷ 1 ∷ []) ∷ (2 ∷ 1 ∷ 1 ∷ 3 ∷ []) ∷ []
 
 -- the widths of the digits 0 to 9 in a number set left of the centre
-abbrev pub widths_in : NumberSet → List (List ℕ)
-widths_in A = set_a
-widths_in B = set_b
+abbrev pub widths_in_set : NumberSet → List (List ℕ)
+widths_in_set A = set_a
+widths_in_set B = set_b
 
 -- the widths of a character left of the centre: those of its digit in its number set
 abbrev pub left_widths : Character → List ℕ
-left_widths c = slice_index_or (widths_in c.set) c.digit []
+left_widths c = slice_index_or (widths_in_set c.set) c.digit []
 
 -- the widths of a digit right of the centre, in number set C
 abbrev pub right_widths : ℕ → List ℕ
@@ -35,12 +35,12 @@ abbrev pub in_set : NumberSet → ℕ → Character
 in_set s d = record { set = s; digit = d }
 
 -- number set B, or else A
-abbrev pub set_of : Bool → NumberSet
-set_of of_b = if of_b then B else A
+abbrev pub set_b_or_a : Bool → NumberSet
+set_b_or_a of_b = if of_b then B else A
 
 -- the character that is of number set B or else of A, and has this digit
 abbrev pub character_of : Bool × ℕ → Character
-character_of (of_b, d) = in_set (set_of of_b) d
+character_of (of_b, d) = in_set (set_b_or_a of_b) d
 
 -- each has a digit 0 to 9
 abbrev pub AreCharacters : List Character → Type 0
@@ -74,7 +74,7 @@ packed_sets sets = fold (λ n s. 2 * n + bit_of s) 0 sets
 
 -- the number sets that letters name: A, or else B
 abbrev pub sets_in : List ℕ → List NumberSet
-sets_in letters = map (λ letter. set_of (letter == 66)) letters
+sets_in letters = map (λ letter. set_b_or_a (letter == 66)) letters
 
 -- the number sets of the left six of an EAN-13, by its first digit, which they alone show
 abbrev pub ean13_rows : List (List NumberSet)

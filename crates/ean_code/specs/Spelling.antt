@@ -15,10 +15,10 @@ IsGtinOf UpcE digits gtin = gtin ≡ padded (upce_expanded (take 6 digits) (slic
 IsGtinOf Itf14 digits gtin = gtin ≡ padded digits
 
 -- a text of ASCII digits spells this: its digits are not checked; or they are, and this is their GTIN
-abbrev pub Spells : List ℕ → Spelled → Type 0
-Spells text NoPattern = ⊥
-Spells text BadCheck = IsChecked (digits_of text) → ⊥
-Spells text (Found gtin) = (gtin ≡ padded (digits_of text)) × IsChecked gtin
+abbrev pub TextSpells : List ℕ → Spelled → Type 0
+TextSpells text NoPattern = ⊥
+TextSpells text BadCheck = IsChecked (digits_of text) → ⊥
+TextSpells text (Found gtin) = (gtin ≡ padded (digits_of text)) × IsChecked gtin
 
 -- no digits have this symbol; or some have and no GTIN stands for them; or they stand for this GTIN
 abbrev pub IsSpelled : Kind → List ℕ → Spelled → Type 0
@@ -29,12 +29,12 @@ IsSpelled kind modules (Found gtin) =
     (digits : List ℕ) × IsNumberSymbol kind modules digits × IsGtinOf kind digits gtin × IsChecked gtin
 
 -- the modules are a symbol of this kind whose digits stand for this GTIN
-abbrev pub IsSymbolOf : Kind → List ℕ → List ℕ → Type 0
-IsSymbolOf kind gtin modules = (digits : List ℕ) × IsNumberSymbol kind modules digits × IsGtinOf kind digits gtin
+abbrev pub IsGtinSymbol : Kind → List ℕ → List ℕ → Type 0
+IsGtinSymbol kind gtin modules = (digits : List ℕ) × IsNumberSymbol kind modules digits × IsGtinOf kind digits gtin
 
 -- no symbol of this kind stands for this GTIN
 abbrev pub HasNoSymbol : Kind → List ℕ → Type 0
-HasNoSymbol kind gtin = (modules : List ℕ) → IsSymbolOf kind gtin modules → ⊥
+HasNoSymbol kind gtin = (modules : List ℕ) → IsGtinSymbol kind gtin modules → ⊥
 
 -- the modules are the UPC-E of this GTIN that is printed: by the first line of the zero-suppression table that has it
 abbrev pub IsPrintedUpce : List ℕ → List ℕ → Type 0

@@ -3,7 +3,7 @@ ghost use Rattle.std.specs.Prelude.{[], ◌≡◌, ◌↔◌, ◌+◌, ◌-◌, 
 ghost use Rattle.arrayvec.specs.ArrayVec.{array_vec_len};
 ghost use Rattle.digits_core.specs.Digits.{AreAsciiDigits, digits_of, padded};
 ghost use Rattle.ean_code.specs.NumberSets.{left_part, left_widths, right_part};
-ghost use Rattle.ean_code.specs.Spelling.{HasNoSymbol, IsPrintedUpce, IsSymbolOf};
+ghost use Rattle.ean_code.specs.Spelling.{HasNoSymbol, IsGtinSymbol, IsPrintedUpce};
 ghost use Rattle.ean_code.specs.Symbols.{two_halves, widths_of};
 ghost use Rattle.ean_code.specs.Symbols.Kind.{Ean13, Ean8, UpcE};
 
@@ -121,7 +121,7 @@ fn upce_widths(six: &[u8; 6], check: u8) -> ArrayVec<u8, 595>
 
 /// The EAN-13 of a GTIN, 59 widths of 95 modules in all: none for a GTIN that needs 14 digits.
 pub fn ean13(gtin: &Gtin) -> Option<Modules>
-    ensures some { IfSome result (IsSymbolOf Ean13 gtin.now) }
+    ensures some { IfSome result (IsGtinSymbol Ean13 gtin.now) }
     ensures none { IfNone result (HasNoSymbol Ean13 gtin.now) }
     ensures fits { IsSome result ↔ (gtin.now ≡ padded (drop 1 gtin.now)) }
 {
@@ -130,7 +130,7 @@ pub fn ean13(gtin: &Gtin) -> Option<Modules>
 
 /// The EAN-8 of a GTIN, 43 widths of 67 modules in all: none for a GTIN that needs more than 8 digits.
 pub fn ean8(gtin: &Gtin) -> Option<Modules>
-    ensures some { IfSome result (IsSymbolOf Ean8 gtin.now) }
+    ensures some { IfSome result (IsGtinSymbol Ean8 gtin.now) }
     ensures none { IfNone result (HasNoSymbol Ean8 gtin.now) }
     ensures fits { IsSome result ↔ (gtin.now ≡ padded (drop 6 gtin.now)) }
 {
@@ -141,7 +141,7 @@ pub fn ean8(gtin: &Gtin) -> Option<Modules>
 /// that has it (GS1 General Specifications, section 5.2.2.4): none where no line has.
 pub fn upce(gtin: &Gtin) -> Option<Modules>
     ensures printed { IfSome result (IsPrintedUpce gtin.now) }
-    ensures some { IfSome result (IsSymbolOf UpcE gtin.now) }
+    ensures some { IfSome result (IsGtinSymbol UpcE gtin.now) }
     ensures none { IfNone result (HasNoSymbol UpcE gtin.now) }
 {
     let spelled = upce_suppress(gtin)?;

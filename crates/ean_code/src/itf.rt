@@ -4,7 +4,7 @@ ghost use Rattle.std.specs.List.{flat_map};
 ghost use Rattle.arrayvec.specs.ArrayVec.{array_vec_len};
 ghost use Rattle.digits_core.specs.Digits.{AreAsciiDigits, digits_of};
 ghost use Rattle.ean_code.specs.Parts.{AreFramedPairs, IsTextOf};
-ghost use Rattle.ean_code.specs.Spelling.{IsSpelled, IsSymbolOf};
+ghost use Rattle.ean_code.specs.Spelling.{IsGtinSymbol, IsSpelled};
 ghost use Rattle.ean_code.specs.Symbols.{IsNumberSymbol, widths_of};
 ghost use Rattle.ean_code.specs.Symbols.Kind.{Itf14};
 ghost use Rattle.ean_code.specs.TwoOfFive.{in_pairs, pair_widths};
@@ -45,7 +45,7 @@ fn itf14_widths(digits: &[u8; 14]) -> ArrayVec<u8, 595>
 
 /// The ITF-14 of a GTIN, 77 widths of 135 modules in all, a wide element being three modules.
 pub fn itf14(gtin: &Gtin) -> Modules
-    ensures { IsSymbolOf Itf14 gtin.now result }
+    ensures { IsGtinSymbol Itf14 gtin.now result }
 {
     Modules::new(itf14_widths(&gtin.digits14()))
 }

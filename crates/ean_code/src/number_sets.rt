@@ -3,7 +3,7 @@
 ghost use Rattle.std.specs.Prelude.{◌≡◌, ◌≢◌, ◌<◌, ◌≤◌, ◌%◌, List, IfNone, IfSome, length};
 ghost use Rattle.std.specs.List.{flat_map};
 ghost use Rattle.ean_code.specs.Widths.{AreWidths};
-ghost use Rattle.ean_code.specs.NumberSets.{AreCharacters, bit_of, is_a, left_widths, set_of};
+ghost use Rattle.ean_code.specs.NumberSets.{AreCharacters, bit_of, is_a, left_widths, set_b_or_a};
 
 use crate::lookup::character;
 use arrayvec::ArrayVec;
@@ -93,7 +93,7 @@ impl Character {
 
 /// Number set B, or else A.
 fn set_of(of_b: bool) -> NumberSet
-    ensures { result ≡ set_of of_b }
+    ensures { result ≡ set_b_or_a of_b }
 {
     if of_b { NumberSet::B } else { NumberSet::A }
 }

@@ -5,7 +5,7 @@ ghost use Rattle.digits_core.specs.Digits.{AreAsciiDigits, ascii_of};
 ghost use Rattle.digits_core.specs.Gtins.{is_gtin_length};
 ghost use Rattle.ean_code.specs.NumberSets.{AreCharacters, character_digits};
 ghost use Rattle.ean_code.specs.Parts.{IsTextOf};
-ghost use Rattle.ean_code.specs.Spelling.{IsSpelled, Spells};
+ghost use Rattle.ean_code.specs.Spelling.{IsSpelled, TextSpells};
 ghost use Rattle.ean_code.specs.Symbols.{IsNumberSymbol};
 ghost use Rattle.ean_code.specs.Symbols.Kind.{Ean13, Ean8, UpcE};
 ghost use Rattle.ean_code.specs.Widths.{AreWidths};
@@ -92,7 +92,7 @@ pub(crate) fn spelled_by<const N: usize>(text: Option<ArrayVec<u8, N>>) -> Spell
     requires digits { IfSome text (λ t. AreAsciiDigits t.items) }
     requires count { IfSome text (λ t. IsTrue (is_gtin_length (length t.items))) }
     ensures none { IfNone text.entry (result ≡ NoPattern) }
-    ensures some { IfSome text.entry (λ t. Spells t.items result) }
+    ensures some { IfSome text.entry (λ t. TextSpells t.items result) }
 {
     let Some(text) = text else {
         return Spelled::NoPattern;

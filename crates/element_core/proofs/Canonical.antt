@@ -5,7 +5,7 @@ use Rattle.std.proofs.lemmas.Bool.{cases_Bool, and_parts, not-true, ne_eqb, leb-
 use Rattle.std.proofs.lemmas.List.{append-nil, nil_from_length}
 use Rattle.element_core.specs.Table.{Row, ai_rows, first_digits_decide, predefined_length, begins_with_digit}
 use Rattle.element_core.specs.Elements.{Entry, IsElement, AreElements, separator_for, canonical, CanonicalReads}
-use Rattle.element_core.specs.Fronts.{Begins, is_closed, after_separator, ReadsFromLeft}
+use Rattle.element_core.specs.Fronts.{Begins, ends_element, after_separator, ReadsFromLeft}
 use Rattle.element_core.proofs.TableLaws.{each_begins_with_digit, first_digits_decide as digits_decide}
 use Rattle.element_core.proofs.Look.{all_at}
 use Rattle.element_core.proofs.PieceLemmas.{from_left, to_pieces}
@@ -50,7 +50,7 @@ canonical_reads year (e ∷ f ∷ es) are =
     let known = is_some-predefined_length year are.0.0 e are.0.1 in
     let kept_c = canonical_kept year f es are.1 in
     let more = canonical_reads year (f ∷ es) are.1 in
-    let made : (p : Bool) → p ≡ are.0.0.predefined → ((are.0.0.predefined || is_closed (cond p [] (29 ∷ []) ++ c)) ≡ true) × (c ≡ after_separator (cond p [] (29 ∷ []) ++ c)) = λ p. elim p as (λ q. q ≡ are.0.0.predefined → ((are.0.0.predefined || is_closed (cond q [] (29 ∷ []) ++ c)) ≡ true) × (c ≡ after_separator (cond q [] (29 ∷ []) ++ c))) [
+    let made : (p : Bool) → p ≡ are.0.0.predefined → ((are.0.0.predefined || ends_element (cond p [] (29 ∷ []) ++ c)) ≡ true) × (c ≡ after_separator (cond p [] (29 ∷ []) ++ c)) = λ p. elim p as (λ q. q ≡ are.0.0.predefined → ((are.0.0.predefined || ends_element (cond q [] (29 ∷ []) ++ c)) ≡ true) × (c ≡ after_separator (cond q [] (29 ∷ []) ++ c))) [
       | true ↦ λ k. (rw (← k) refl, sym kept_c)
       | false ↦ λ k. (or_true are.0.0.predefined, refl)
     ] in
@@ -65,7 +65,7 @@ abbrev gap : Bool → List ℕ
 gap p = cond p [] (29 ∷ [])
 
 -- how much of a text is behind its value
-behind : (after rest : List ℕ) (p : Bool) → (p || is_closed after) ≡ true → rest ≡ after_separator after → 0 < length rest → length (gap p) + length rest ≤ length after
+behind : (after rest : List ℕ) (p : Bool) → (p || ends_element after) ≡ true → rest ≡ after_separator after → 0 < length rest → length (gap p) + length rest ≤ length after
 behind [] rest p closed rest_is some = absurd (omega (arith, ap length rest_is))
 behind (b ∷ after) rest true closed rest_is some =
     elim (cases_Bool (eqb b 29)) [

@@ -1,10 +1,10 @@
 -- The window of years, and day 00.
 use Rattle.std.proofs.Common.{◌≡◌, ℕ, ◌+◌, ◌%◌, ◌<◌, ◌≤◌, arith, inl, inr}
 use Rattle.std.proofs.lemmas.Bool.Decides.{leb_tells}
-use Rattle.element_core.specs.Days.{DayZero, YearWindow, year_of}
+use Rattle.element_core.specs.Days.{DayZero, YearWindow, full_year}
 use Rattle.element_core.proofs.DayLemmas.{day_in_yes}
 
-window : (r d y : ℕ) → 100 ≤ r → d < 100 → (y % 100 ≡ d) × (r ≤ y + 49) × (y ≤ r + 50) → y ≡ year_of r d
+window : (r d y : ℕ) → 100 ≤ r → d < 100 → (y % 100 ≡ d) × (r ≤ y + 49) × (y ≤ r + 50) → y ≡ full_year r d
 window r d y low small (last, back, ahead) =
     elim (leb_tells (r % 100 + 51) d) [
       | inl before ↦ let h = before.1 in rw before.0 (omega arith)
@@ -14,7 +14,7 @@ window r d y low small (last, back, ahead) =
       ]
     ]
 
-within : (r d y : ℕ) → 100 ≤ r → d < 100 → y ≡ year_of r d → (y % 100 ≡ d) × (r ≤ y + 49) × (y ≤ r + 50)
+within : (r d y : ℕ) → 100 ≤ r → d < 100 → y ≡ full_year r d → (y % 100 ≡ d) × (r ≤ y + 49) × (y ≤ r + 50)
 within r d y low small is =
     elim (leb_tells (r % 100 + 51) d) [
       | inl before ↦ let h = before.1 in let e = rw before.0 at is in (omega arith, omega arith, omega arith)

@@ -8,7 +8,7 @@ use Rattle.element_core.specs.declared.part.PartFormat.{PartFormat}
 use Rattle.element_core.specs.declared.part.PartFormat.TheVariants.{Numeric, Alphanumeric, Date, DateAndTime}
 use Rattle.element_core.specs.Table.{Row, least_of, greatest_of}
 use Rattle.element_core.specs.Elements.{belongs, has_characters, each_part, field_of, value_in}
-use Rattle.element_core.specs.Fronts.{is_closed}
+use Rattle.element_core.specs.Fronts.{ends_element}
 
 -- no byte is a separator
 abbrev pub is_plain : List ℕ → Bool
@@ -54,25 +54,25 @@ field_of-append (b ∷ v) after h =
     let no = not-true (eqb b 29) p.0 in
     rw no (ap (λ (w : List ℕ). b ∷ w) (field_of-append v after p.1))
 
-field_of-closed : (after : List ℕ) → is_closed after ≡ true → field_of after ≡ []
+field_of-closed : (after : List ℕ) → ends_element after ≡ true → field_of after ≡ []
 field_of-closed [] h = refl
 field_of-closed (b ∷ after) h = rw h refl
 
 -- the value that a text shows between its AI and what is after it
 pub value_in_field : (row : Row) (v after : List ℕ) → (row.predefined ≡ true → least_of row.parts ≡ greatest_of row.parts)
-    → least_of row.parts ≤ length v → length v ≤ greatest_of row.parts → is_plain v ≡ true → (row.predefined || is_closed after) ≡ true → value_in row (field_of (v ++ after)) ≡ v
+    → least_of row.parts ≤ length v → length v ≤ greatest_of row.parts → is_plain v ≡ true → (row.predefined || ends_element after) ≡ true → value_in row (field_of (v ++ after)) ≡ v
 value_in_field row v after one least greatest plain ends =
     let split = field_of-append v after plain in
-    elim row.predefined as (λ p. (p ≡ true → least_of row.parts ≡ greatest_of row.parts) → (p || is_closed after) ≡ true → cond p (take (greatest_of row.parts) (field_of (v ++ after))) (field_of (v ++ after)) ≡ v) [
+    elim row.predefined as (λ p. (p ≡ true → least_of row.parts ≡ greatest_of row.parts) → (p || ends_element after) ≡ true → cond p (take (greatest_of row.parts) (field_of (v ++ after))) (field_of (v ++ after)) ≡ v) [
       | true ↦ λ one _. rw split (take_at v (field_of after) (greatest_of row.parts) (let e = one refl in omega arith))
       | false ↦ λ _ ends. rw (split, field_of-closed after ends) (append-nil v)
     ] one ends
 
 -- where a field ends a separator stands, or the text ends
-pub field_splits : (text : List ℕ) → (after : List ℕ) × (text ≡ field_of text ++ after) × (is_closed after ≡ true)
+pub field_splits : (text : List ℕ) → (after : List ℕ) × (text ≡ field_of text ++ after) × (ends_element after ≡ true)
 field_splits [] = ([], refl, refl)
 field_splits (b ∷ text) =
-    elim (eqb b 29) as (λ t. eqb b 29 ≡ t → (after : List ℕ) × ((b ∷ text) ≡ cond t [] (b ∷ field_of text) ++ after) × (is_closed after ≡ true)) [
+    elim (eqb b 29) as (λ t. eqb b 29 ≡ t → (after : List ℕ) × ((b ∷ text) ≡ cond t [] (b ∷ field_of text) ++ after) × (ends_element after ≡ true)) [
       | true ↦ λ here. (b ∷ text, refl, here)
       | false ↦ λ _. let more = field_splits text in (more.0, ap (λ (w : List ℕ). b ∷ w) more.1, more.2)
     ] refl

@@ -6,7 +6,7 @@ use Rattle.std.proofs.lemmas.List.{nil_from_length}
 use Rattle.element_core.specs.Table.{Row, ai_rows, least_of, is_long_enough, predefined_length}
 use Rattle.element_core.specs.Elements.{Entry, IsElement, AreElements, IsElements, StopsWith, FirstFault, fault_at, separator_for, canonical}
 use Rattle.element_core.specs.Fronts.{Begins, ReadsFromLeft}
-use Rattle.element_core.specs.Growing.{gap, last_gap}
+use Rattle.element_core.specs.Growing.{last_gap, separator_if}
 use Rattle.element_core.proofs.TableLaws.{each_is_long_enough}
 use Rattle.element_core.proofs.Look.{all_at}
 use Rattle.element_core.specs.declared.fault.ElementFault.{ElementFault}
@@ -58,19 +58,19 @@ pub record IsReadTo (year : ℕ) (text rest out : List ℕ) (separate : Bool) : 
   pub list : List Entry
   pub reads : ReadsFromLeft year text list rest
   pub canonical_text : out ≡ canonical list
-  pub gap_is : last_gap list ≡ gap separate
+  pub gap_is : last_gap list ≡ separator_if separate
 
 -- one element more, while a text is read
 pub record Grows (year : ℕ) (text out : List ℕ) (es : List Entry) (separate : Bool) (e : Entry) (rest : List ℕ) : Type 0 where
   pub reads : ReadsFromLeft year text (es ++ e ∷ []) rest
-  pub canonical_text : out ++ gap separate ++ (e.ai ++ e.value) ≡ canonical (es ++ e ∷ [])
-  pub room : length (out ++ gap separate ++ (e.ai ++ e.value)) ≤ length text
+  pub canonical_text : out ++ separator_if separate ++ (e.ai ++ e.value) ≡ canonical (es ++ e ∷ [])
+  pub room : length (out ++ separator_if separate ++ (e.ai ++ e.value)) ≤ length text
   pub gap_is : last_gap (es ++ e ∷ []) ≡ separator_for e
 
-pub grows : (year : ℕ) (text out : List ℕ) (es : List Entry) (separate : Bool) (e : Entry) (mid rest : List ℕ) → ReadsFromLeft year text es mid → out ≡ canonical es → last_gap es ≡ gap separate → Begins year e mid rest → Grows year text out es separate e rest
+pub grows : (year : ℕ) (text out : List ℕ) (es : List Entry) (separate : Bool) (e : Entry) (mid rest : List ℕ) → ReadsFromLeft year text es mid → out ≡ canonical es → last_gap es ≡ separator_if separate → Begins year e mid rest → Grows year text out es separate e rest
 grows year text out es separate e mid rest reads out_is gap_is begins =
     let more = reads-push year text es e mid rest reads begins in
-    let longer : out ++ gap separate ++ (e.ai ++ e.value) ≡ canonical (es ++ e ∷ []) = rw (out_is, ← gap_is) (sym (canonical-push es e)) in
+    let longer : out ++ separator_if separate ++ (e.ai ++ e.value) ≡ canonical (es ++ e ∷ []) = rw (out_is, ← gap_is) (sym (canonical-push es e)) in
     let short = canonical_shorter year text (es ++ e ∷ []) rest more in
     record {
       reads = more;
@@ -91,9 +91,9 @@ stops year text es rest f some fits reads left fault =
     let s : StopsWith year text f = record { before = es; rest = rest; reads = to_pieces year text es rest reads; some = left; place = length text - length rest; place_is = omega arith; fault = fault } in
     subst (λ (o : Option ElementFault). MatchOption o (StopsWith year text f) (λ g. f ≡ g)) (sym (right_size text some fits)) s
 
-gap-not : (p : Bool) → gap (not p) ≡ cond p [] (29 ∷ [])
+gap-not : (p : Bool) → separator_if (not p) ≡ cond p [] (29 ∷ [])
 gap-not true = refl
 gap-not false = refl
 
-pub separator_for-gap : (e : Entry) (p : Bool) → p ≡ is_some (predefined_length e.ai) → separator_for e ≡ gap (not p)
+pub separator_for-gap : (e : Entry) (p : Bool) → p ≡ is_some (predefined_length e.ai) → separator_for e ≡ separator_if (not p)
 separator_for-gap e p is = rw (← is) (sym (gap-not p))

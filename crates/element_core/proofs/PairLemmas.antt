@@ -6,8 +6,8 @@ use Rattle.element_core.specs.declared.fault.ElementFault.{ElementFault}
 use Rattle.element_core.specs.declared.fault.ElementFault.TheVariants.{UnknownAi, ValueLength, TooLong}
 use Rattle.element_core.specs.declared.pairs.Pair.{Pair}
 use Rattle.element_core.specs.Table.{Row, ai_rows, row_at}
-use Rattle.element_core.specs.Elements.{Entry, IsElement, IsElements, AreElements, Reads, canonical}
-use Rattle.element_core.specs.Growing.{gap, last_gap}
+use Rattle.element_core.specs.Elements.{Entry, IsElement, IsElements, AreElements, ReadsElements, canonical}
+use Rattle.element_core.specs.Growing.{last_gap, separator_if}
 use Rattle.element_core.specs.Pairs.{entry_of, entries_of, entry_fault, entry_fault_by, entries_fault, list_fault, or_else}
 use Rattle.element_core.proofs.Look.{begins-split, row_is}
 use Rattle.element_core.proofs.Shown.{passes, no_fault_fits}
@@ -56,15 +56,15 @@ canonical_grows es (f ∷ fs) =
 
 -- one element more of a list that is known
 pub record Adds (out : List ℕ) (done all : List Entry) (separate : Bool) (e : Entry) : Type 0 where
-  pub canonical_text : out ++ gap separate ++ (e.ai ++ e.value) ≡ canonical (done ++ e ∷ [])
-  pub size : length (out ++ gap separate ++ (e.ai ++ e.value)) ≡ length out + length (gap separate) + length e.ai + length e.value
+  pub canonical_text : out ++ separator_if separate ++ (e.ai ++ e.value) ≡ canonical (done ++ e ∷ [])
+  pub size : length (out ++ separator_if separate ++ (e.ai ++ e.value)) ≡ length out + length (separator_if separate) + length e.ai + length e.value
   pub below : length (canonical (done ++ e ∷ [])) ≤ length (canonical all)
 
-pub adds : (out : List ℕ) (done rest all : List Entry) (separate : Bool) (e : Entry) → all ≡ done ++ e ∷ rest → out ≡ canonical done → last_gap done ≡ gap separate → Adds out done all separate e
+pub adds : (out : List ℕ) (done rest all : List Entry) (separate : Bool) (e : Entry) → all ≡ done ++ e ∷ rest → out ≡ canonical done → last_gap done ≡ separator_if separate → Adds out done all separate e
 adds out done rest all separate e all_is out_is gap_is =
     record {
       canonical_text = rw (out_is, ← gap_is) (sym (canonical-push done e));
-      size = omega (arith, length-append (out ++ gap separate) (e.ai ++ e.value), length-append out (gap separate), length-append e.ai e.value);
+      size = omega (arith, length-append (out ++ separator_if separate) (e.ai ++ e.value), length-append out (separator_if separate), length-append e.ai e.value);
       below = subst (λ (es : List Entry). length (canonical (done ++ e ∷ [])) ≤ length (canonical es)) (append_assoc done (e ∷ []) rest ∙ sym all_is) (canonical_grows (done ++ e ∷ []) rest);
     }
 
@@ -93,4 +93,4 @@ pub finished : (year : ℕ) (out : List ℕ) (es all : List Entry) → AreElemen
 finished year out es all are is out_is some short =
     let these = subst (AreElements year) (sym is) are in
     let few = few_elements year es these in
-    record { some = omega (arith, ap length is, ap length out_is, few); fits = short; reads = subst (λ (t : List ℕ). Reads ai_rows year t es []) (sym out_is) (to_pieces year (canonical es) es [] (canonical_reads year es these)) }
+    record { some = omega (arith, ap length is, ap length out_is, few); fits = short; reads = subst (λ (t : List ℕ). ReadsElements ai_rows year t es []) (sym out_is) (to_pieces year (canonical es) es [] (canonical_reads year es these)) }

@@ -2,8 +2,8 @@
 use Rattle.std.proofs.Common.{◌≡◌, ℕ, Bool, true, false, eqb, not, ◌||◌, List, [], ◌∷◌, ◌++◌, map, refl, sym, ap, subst, ◌∙◌, append_assoc, eqb-true, inl, inr}
 use Rattle.std.proofs.lemmas.Bool.{cases_Bool, not-true}
 use Rattle.element_core.specs.Table.{ai_rows}
-use Rattle.element_core.specs.Elements.{Entry, Piece, separator, joined, is_empty, begins_with_separator, IsPiece, ArePieces, Reads}
-use Rattle.element_core.specs.Fronts.{ReadsFromLeft, ReadsPieces, is_closed, after_separator}
+use Rattle.element_core.specs.Elements.{Entry, Piece, separator, joined, is_empty, begins_with_separator, IsPiece, ArePieces, ReadsElements}
+use Rattle.element_core.specs.Fronts.{ReadsFromLeft, ReadsPieces, ends_element, after_separator}
 
 -- what is after a value is its separator and the rest
 parted : (after : List ℕ) → after ≡ separator (begins_with_separator after) ++ after_separator after
@@ -23,7 +23,7 @@ or_last : (p : Bool) → (p || true) ≡ true
 or_last true = refl
 or_last false = refl
 
-ends_there : (p : Bool) (after : List ℕ) → (p || is_closed after) ≡ true → (p || (begins_with_separator after || is_empty (after_separator after))) ≡ true
+ends_there : (p : Bool) (after : List ℕ) → (p || ends_element after) ≡ true → (p || (begins_with_separator after || is_empty (after_separator after))) ≡ true
 ends_there p [] h = or_last p
 ends_there p (b ∷ after) h = or_more p (eqb b 29) (is_empty (after_separator (b ∷ after))) h
 
@@ -39,7 +39,7 @@ regroup : (ai value sep left rest : List ℕ) → ai ++ value ++ (sep ++ (left +
 regroup ai value sep left rest = simp append_assoc
 
 -- what is read from the left is joined pieces
-pub to_pieces : (year : ℕ) (text : List ℕ) (es : List Entry) (rest : List ℕ) → ReadsFromLeft year text es rest → Reads ai_rows year text es rest
+pub to_pieces : (year : ℕ) (text : List ℕ) (es : List Entry) (rest : List ℕ) → ReadsFromLeft year text es rest → ReadsElements ai_rows year text es rest
 to_pieces year text [] rest r = record { pieces = []; elements = refl; pieces_are = tt; text_is = r }
 to_pieces year text (e ∷ es) rest r =
     let b = r.1 in
@@ -64,13 +64,13 @@ kept : (text : List ℕ) → not (begins_with_separator text) ≡ true → text 
 kept [] h = refl
 kept (b ∷ text) h = let no = not-true (eqb b 29) h in rw no refl
 
-ended : (p : Bool) (left : List ℕ) → (p || is_empty left) ≡ true → (p || is_closed left) ≡ true
+ended : (p : Bool) (left : List ℕ) → (p || is_empty left) ≡ true → (p || ends_element left) ≡ true
 ended true left h = refl
 ended false [] h = refl
 ended false (b ∷ left) h = absurd cc
 
 closed_by : (p separated : Bool) (left : List ℕ) → (p || (separated || is_empty left)) ≡ true → (separated || not (begins_with_separator left)) ≡ true
-    → ((p || is_closed (separator separated ++ left)) ≡ true) × (left ≡ after_separator (separator separated ++ left))
+    → ((p || ends_element (separator separated ++ left)) ≡ true) × (left ≡ after_separator (separator separated ++ left))
 closed_by p true left h own = (or_last p, refl)
 closed_by p false left h own = (ended p left h, kept left own)
 
@@ -83,7 +83,7 @@ from_pieces year (p ∷ pieces) rest are =
     (left, record { row = q.row; element = q.element; after = separator p.separated ++ left; text_is = sym (regroup p.element.ai p.element.value (separator p.separated) (joined pieces) rest); closed = c.0; rest_is = c.1 }, from_pieces year pieces rest are.1)
 
 -- what joined pieces are is read from the left
-pub from_left : (year : ℕ) (text : List ℕ) (es : List Entry) (rest : List ℕ) → Reads ai_rows year text es rest → ReadsFromLeft year text es rest
+pub from_left : (year : ℕ) (text : List ℕ) (es : List Entry) (rest : List ℕ) → ReadsElements ai_rows year text es rest → ReadsFromLeft year text es rest
 from_left year text es rest j =
     subst (λ (t : List ℕ). ReadsFromLeft year t es rest) (sym j.text_is)
     (subst (λ (fs : List Entry). ReadsFromLeft year (joined j.pieces ++ rest) fs rest) (sym j.elements) (from_pieces year j.pieces rest j.pieces_are))

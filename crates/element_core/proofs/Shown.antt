@@ -6,7 +6,7 @@ use Rattle.element_core.specs.declared.fault.ElementFault.{ElementFault}
 use Rattle.element_core.specs.declared.fault.ElementFault.TheVariants.{ValueLength, ValueCharacter, ValueCheckDigit, ValueDate, MissingSeparator}
 use Rattle.element_core.specs.Table.{Row, begins, row_at, least_of, greatest_of}
 use Rattle.element_core.specs.Elements.{Entry, IsValue, each_part, has_characters, has_check_digit, has_date, has_even_length, field_of, value_in, row_fault, fault_by, fault_at}
-use Rattle.element_core.specs.Fronts.{Begins, is_closed, after_separator}
+use Rattle.element_core.specs.Fronts.{Begins, ends_element, after_separator}
 use Rattle.element_core.specs.Shown.{shown_value, shown_rest}
 use Rattle.element_core.proofs.Look.{begins-append, begins-split, row_found, row_is as row_listed, predefined_length_is}
 use Rattle.element_core.proofs.Fields.{value_plain, value_in_field, field_splits}
@@ -70,10 +70,10 @@ shows year e text rest b =
     }
 
 -- a value that is shown stands at the front of what follows the AI
-value_splits : (row : Row) (text : List ℕ) → (after : List ℕ) × (text ≡ value_in row (field_of text) ++ after) × ((row.predefined || is_closed after) ≡ true)
+value_splits : (row : Row) (text : List ℕ) → (after : List ℕ) × (text ≡ value_in row (field_of text) ++ after) × ((row.predefined || ends_element after) ≡ true)
 value_splits row text =
     let f = field_splits text in
-    elim row.predefined as (λ p. (after : List ℕ) × (text ≡ cond p (take (greatest_of row.parts) (field_of text)) (field_of text) ++ after) × ((p || is_closed after) ≡ true)) [
+    elim row.predefined as (λ p. (after : List ℕ) × (text ≡ cond p (take (greatest_of row.parts) (field_of text)) (field_of text) ++ after) × ((p || ends_element after) ≡ true)) [
       | true ↦ (drop (greatest_of row.parts) (field_of text) ++ f.0, f.1 ∙ ap (λ (w : List ℕ). w ++ f.0) (sym (take-append-drop (greatest_of row.parts) (field_of text))) ∙ append_assoc (take (greatest_of row.parts) (field_of text)) (drop (greatest_of row.parts) (field_of text)) f.0, refl)
       | false ↦ (f.0, f.1, f.2)
     ]

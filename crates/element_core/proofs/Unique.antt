@@ -5,7 +5,7 @@ use Rattle.std.proofs.lemmas.Bool.{le-ltb, ne_eqb}
 use Rattle.element_core.specs.declared.fault.ElementFault.{ElementFault}
 use Rattle.element_core.specs.declared.fault.ElementFault.TheVariants.{UnknownAi}
 use Rattle.element_core.specs.Table.{Row}
-use Rattle.element_core.specs.Elements.{Entry, IsElements, StopsWith, FirstFault, size_fault, fault_by, fault_at, OneAnswer, Listing}
+use Rattle.element_core.specs.Elements.{Entry, IsElements, StopsWith, FirstFault, size_fault, fault_by, fault_at, OneListOrFault, Listing}
 use Rattle.element_core.specs.Fronts.{Begins, ReadsFromLeft}
 use Rattle.element_core.proofs.TableLaws.{none_begins_nothing}
 use Rattle.element_core.proofs.PieceLemmas.{from_left}
@@ -84,7 +84,7 @@ not_both year text es f is fault =
     let some = s.some in
     omega (arith, ap length same.1)
 
-pub one_answer : OneAnswer
+pub one_answer : OneListOrFault
 one_answer = λ year text. (
   λ es fs p q. (reads_once year text es fs [] [] (from_left year text es [] p.reads) (from_left year text fs [] q.reads) (stuck_at_end year) (stuck_at_end year)).0,
   λ f g p q. faults_once year text f g (size_fault text) p q,

@@ -18,8 +18,8 @@ abbrev pub last_day : ℕ → ℕ → ℕ
 last_day year month = slice_index (months (is_leap year)) (month - 1)
 
 -- the year of two digits: that of the reference year's century, or of the one before or after
-abbrev pub year_of : ℕ → ℕ → ℕ
-year_of reference digits =
+abbrev pub full_year : ℕ → ℕ → ℕ
+full_year reference digits =
     if nat_le (reference % 100 + 51) digits then (reference - reference % 100) + digits - 100
     else (if nat_le (digits + 50) (reference % 100) then (reference - reference % 100) + digits + 100
     else (reference - reference % 100) + digits)
@@ -35,7 +35,7 @@ day_in year month day = if nat_le 1 month && (nat_le month 12 && nat_le day (las
 
 -- the day that six digits name: year, month and day, two digits each
 abbrev pub day_named : List ℕ → ℕ → Option (ℕ × ℕ × ℕ)
-day_named six reference = day_in (year_of reference (two six 0)) (two six 2) (two six 4)
+day_named six reference = day_in (full_year reference (two six 0)) (two six 2) (two six 4)
 
 -- whether a text is six ASCII digits
 abbrev pub is_six_digits : List ℕ → Bool
@@ -61,7 +61,7 @@ IsDay (Some d) None = ⊥
 -- the year of two digits is the only one with them in the hundred years from 49 before the reference year on
 abbrev pub YearWindow : Type 0
 YearWindow = (reference digits year : ℕ) → 100 ≤ reference → digits < 100
-    → (year ≡ year_of reference digits) ↔ ((year % 100 ≡ digits) × (reference ≤ year + 49) × (year ≤ reference + 50))
+    → (year ≡ full_year reference digits) ↔ ((year % 100 ≡ digits) × (reference ≤ year + 49) × (year ≤ reference + 50))
 
 -- day 00 is the last day of its month
 abbrev pub DayZero : Type 0

@@ -129,7 +129,7 @@ ArePieces table year [] rest = Unit {0}
 ArePieces table year (p ∷ pieces) rest = IsPiece table year p (joined pieces ++ rest) × ArePieces table year pieces rest
 
 -- the text is joined pieces of these elements, and the rest
-pub record Reads (table : List Row) (year : ℕ) (text : List ℕ) (es : List Entry) (rest : List ℕ) : Type 0 where
+pub record ReadsElements (table : List Row) (year : ℕ) (text : List ℕ) (es : List Entry) (rest : List ℕ) : Type 0 where
   pub pieces : List Piece
   pub elements : es ≡ map (λ p. p.element) pieces
   pub pieces_are : ArePieces table year pieces rest
@@ -139,7 +139,7 @@ pub record Reads (table : List Row) (year : ℕ) (text : List ℕ) (es : List En
 pub record IsElementsBy (table : List Row) (year : ℕ) (text : List ℕ) (es : List Entry) : Type 0 where
   pub some : 0 < length text
   pub fits : length text ≤ 192
-  pub reads : Reads table year text es []
+  pub reads : ReadsElements table year text es []
 
 -- the element string of this list
 abbrev pub IsElements : ℕ → List ℕ → List Entry → Type 0
@@ -185,7 +185,7 @@ fault_at year place text = fault_by year place text (row_at text)
 pub record StopsWith (year : ℕ) (text : List ℕ) (f : ElementFault) : Type 0 where
   pub before : List Entry
   pub rest : List ℕ
-  pub reads : Reads ai_rows year text before rest
+  pub reads : ReadsElements ai_rows year text before rest
   pub some : 0 < length rest
   pub place : ℕ
   pub place_is : place + length rest ≡ length text
@@ -271,8 +271,8 @@ is_printable text = list_all is_text_byte text && begins_with_digits text
 -- ---- laws
 
 -- a text is one list of elements, or has one first fault, and not both
-abbrev pub OneAnswer : Type 0
-OneAnswer = (year : ℕ) (text : List ℕ) →
+abbrev pub OneListOrFault : Type 0
+OneListOrFault = (year : ℕ) (text : List ℕ) →
     ((es fs : List Entry) → IsElements year text es → IsElements year text fs → es ≡ fs)
     × ((f g : ElementFault) → FirstFault year text f → FirstFault year text g → f ≡ g)
     × ((es : List Entry) (f : ElementFault) → IsElements year text es → FirstFault year text f → ⊥)

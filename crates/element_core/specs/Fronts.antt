@@ -1,12 +1,12 @@
 -- Element strings read from the left, element by element (GS1 General Specifications, section 7.8).
 use Rattle.std.specs.Prelude.{◌≡◌, ◌↔◌, ℕ, Bool, true, ◌||◌, List, [], ◌∷◌, ◌++◌, IsTrue, ◌==◌, if◌then◌else◌}
 use Rattle.element_core.specs.Table.{Row, ai_rows}
-use Rattle.element_core.specs.Elements.{Entry, IsElement, Reads}
+use Rattle.element_core.specs.Elements.{Entry, IsElement, ReadsElements}
 
 -- a text that is empty or begins with a separator
-abbrev pub is_closed : List ℕ → Bool
-is_closed [] = true
-is_closed (b ∷ text) = b == 29
+abbrev pub ends_element : List ℕ → Bool
+ends_element [] = true
+ends_element (b ∷ text) = b == 29
 
 -- the text without the one separator that may stand first
 abbrev pub after_separator : List ℕ → List ℕ
@@ -19,7 +19,7 @@ pub record Begins (year : ℕ) (e : Entry) (text rest : List ℕ) : Type 0 where
   pub element : IsElement ai_rows year row e
   pub after : List ℕ
   pub text_is : text ≡ e.ai ++ e.value ++ after
-  pub closed : IsTrue (row.predefined || is_closed after)
+  pub closed : IsTrue (row.predefined || ends_element after)
   pub rest_is : rest ≡ after_separator after
 
 -- the text begins with these elements, one after another, and goes on with the rest
@@ -30,4 +30,4 @@ ReadsFromLeft year text (e ∷ es) rest = (mid : List ℕ) × Begins year e text
 -- joined pieces are what is read from the left, element by element
 abbrev pub ReadsPieces : Type 0
 ReadsPieces = (year : ℕ) (text : List ℕ) (es : List Entry) (rest : List ℕ)
-    → Reads ai_rows year text es rest ↔ ReadsFromLeft year text es rest
+    → ReadsElements ai_rows year text es rest ↔ ReadsFromLeft year text es rest

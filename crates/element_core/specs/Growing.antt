@@ -3,8 +3,8 @@ use Rattle.std.specs.Prelude.{ℕ, Bool, List, [], ◌∷◌, if◌then◌else�
 use Rattle.element_core.specs.Elements.{Entry, separator_for}
 
 -- a separator or nothing
-abbrev pub gap : Bool → List ℕ
-gap separate = if separate then 29 ∷ [] else []
+abbrev pub separator_if : Bool → List ℕ
+separator_if separate = if separate then 29 ∷ [] else []
 
 -- what stands between the last element and the next
 abbrev pub last_gap : List Entry → List ℕ

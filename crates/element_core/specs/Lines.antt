@@ -26,12 +26,12 @@ elements_text form.HumanReadable = hri
 elements_text form.Pairs = pairs_text
 
 -- the line of a GTIN
-abbrev pub gtin_text : List ℕ → List ℕ
-gtin_text gtin = codes "gtin " ++ ascii_of gtin
+abbrev pub line_of_gtin : List ℕ → List ℕ
+line_of_gtin gtin = codes "gtin " ++ ascii_of gtin
 
 -- the line of the digits of a GTIN by their fault: the GTIN in 14 digits, or why it is none
 abbrev pub gtin_answer : List ℕ → Option DigitFault → List ℕ
-gtin_answer text None = gtin_text (padded (digits_of text))
+gtin_answer text None = line_of_gtin (padded (digits_of text))
 gtin_answer text (Some fault) = digit_fault_text fault
 
 abbrev pub gtin_line : List ℕ → List ℕ

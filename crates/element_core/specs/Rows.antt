@@ -5,8 +5,8 @@ use Rattle.element_core.specs.Elements.{Entry}
 use Rattle.element_core.specs.Table.{Row}
 
 -- the row as the table has it
-abbrev pub row_of : AiRow → Row
-row_of r = record { ai = r.ai.items; parts = r.parts.items; predefined = r.predefined }
+abbrev pub table_row : AiRow → Row
+table_row r = record { ai = r.ai.items; parts = r.parts.items; predefined = r.predefined }
 
 -- the AI and the value of an element
 abbrev pub entry_in : Element → Entry

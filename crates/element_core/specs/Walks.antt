@@ -8,7 +8,7 @@ use Rattle.element_core.specs.Families.{row_with}
 use Rattle.element_core.specs.Shown.{shown_value, shown_rest, shown_elements}
 
 -- the text begins with the AI of this row, its value and its separator
-pub record IsFront (text : List ℕ) (f : Front) : Type 0 where
+pub record IsFrontOfText (text : List ℕ) (f : Front) : Type 0 where
   pub row : row_at text ≡ Some (row_with f.family text)
   pub ai : f.ai.now ≡ (row_with f.family text).ai
   pub value : f.value.now ≡ shown_value (row_with f.family text) text

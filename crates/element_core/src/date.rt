@@ -5,7 +5,7 @@ ghost use Rattle.std.specs.Int.{IsInRange};
 ghost use Rattle.std.specs.Char.{is_ascii_digit};
 ghost use Rattle.std.specs.List.{list_all};
 ghost use Rattle.jiff.specs.Words.{IsBetween, month_length};
-ghost use Rattle.element_core.specs.Days.{AreSixDigits, IsDay, day_in, day_named, day_of, is_six_digits, two, year_of};
+ghost use Rattle.element_core.specs.Days.{AreSixDigits, IsDay, day_in, day_named, day_of, full_year, is_six_digits, two};
 
 use crate::year::Year;
 use jiff::civil::Date;
@@ -25,7 +25,7 @@ pub(crate) fn two_digits(tens: u8, ones: u8) -> u8
 fn nearest_year(reference: u16, digits: u8) -> u16
     requires reference { IsInRange 1951 2149 reference }
     requires digits { digits < 100 }
-    ensures value { result ≡ year_of reference digits }
+    ensures value { result ≡ full_year reference digits }
     ensures range { IsInRange 1900 2200 result }
 {
     let century = reference - reference % 100;

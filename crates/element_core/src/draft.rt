@@ -1,14 +1,14 @@
 //! A canonical text that grows.
 
 ghost use Rattle.std.specs.Prelude.{◌≡◌, ◌≤◌, ◌++◌, length};
-ghost use Rattle.element_core.specs.Growing.{gap};
+ghost use Rattle.element_core.specs.Growing.{separator_if};
 
 use crate::text::{SEPARATOR, Text};
 
 /// Puts an element at the end of a canonical text, after a separator where one is due.
 pub(crate) fn append(text: &mut Text, separate: bool, ai: &[u8], value: &[u8])
-    requires { length (text.old.items ++ gap separate ++ (ai.now ++ value.now)) ≤ 192 }
-    ensures { text.new.items ≡ text.old.items ++ gap separate ++ (ai.now ++ value.now) }
+    requires { length (text.old.items ++ separator_if separate ++ (ai.now ++ value.now)) ≤ 192 }
+    ensures { text.new.items ≡ text.old.items ++ separator_if separate ++ (ai.now ++ value.now) }
 {
     if separate {
         text.push(SEPARATOR);
@@ -19,7 +19,7 @@ pub(crate) fn append(text: &mut Text, separate: bool, ai: &[u8], value: &[u8])
 
 /// How many bytes a separator takes, where one is due.
 pub(crate) fn gap_length(separate: bool) -> usize
-    ensures { result ≡ length (gap separate) }
+    ensures { result ≡ length (separator_if separate) }
 {
     if separate { 1 } else { 0 }
 }

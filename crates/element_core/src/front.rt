@@ -5,7 +5,7 @@ ghost use Rattle.element_core.specs.Elements.{Entry, field_of, fault_at, value_i
 ghost use Rattle.element_core.specs.Fronts.{Begins, after_separator};
 ghost use Rattle.element_core.specs.Shown.{shown_elements};
 ghost use Rattle.element_core.specs.Table.{predefined_length, row_at};
-ghost use Rattle.element_core.specs.Walks.{IsFront, elements_from};
+ghost use Rattle.element_core.specs.Walks.{IsFrontOfText, elements_from};
 ghost use Rattle.element_core.specs.Families.{family_of, row_with};
 
 use crate::family::{AiFamily, family_at};
@@ -73,7 +73,7 @@ fn value_of<'a>(family: &AiFamily, text: &'a [u8]) -> (&'a [u8], &'a [u8])
 /// The AI, the value and the rest of a text that begins with an AI of the table; the value need not be
 /// one that the AI may have.
 pub(crate) fn front_of(text: &[u8]) -> Option<Front<'_>>
-    ensures front { MatchOption result (row_at text.now ≡ None) (λ f. IsFront text.now f) }
+    ensures front { MatchOption result (row_at text.now ≡ None) (λ f. IsFrontOfText text.now f) }
     ensures elements { shown_elements text.now ≡ elements_from result }
     ensures few { IfSome result (λ f. length f.family.parts.now ≤ 2) }
     ensures within { IfSome result (λ f. length f.ai.now + length f.value.now + length f.rest.now ≤ length text.now) }

@@ -2,7 +2,7 @@
 
 ghost use Rattle.element_core.specs.Days.{DayZero, YearWindow};
 ghost use Rattle.element_core.specs.Table.{CountsFirstRows, NoAiBeginsAnother, FirstDigitsDecide, PartsHaveOneLength};
-ghost use Rattle.element_core.specs.Elements.{CanonicalReads, DatedElements, EachText, GtinReads, OneAnswer, PairsDiffer, ReadAsBefore, TimedElements};
+ghost use Rattle.element_core.specs.Elements.{CanonicalReads, DatedElements, EachText, GtinReads, OneListOrFault, PairsDiffer, ReadAsBefore, TimedElements};
 ghost use Rattle.element_core.specs.Pairs.{FaultlessPairs, PairLengths, PairsAsTexts, UnknownPairs};
 ghost use Rattle.element_core.specs.Fronts.{ReadsPieces};
 
@@ -18,7 +18,7 @@ pub fn first_digits_decide()
 
 /// A text is one list of elements, or has one first fault, and not both.
 pub fn one_answer()
-    ensures { OneAnswer }
+    ensures { OneListOrFault }
 {}
 
 /// The canonical text of a list is an element string of the same list, and no longer.

@@ -2,7 +2,7 @@
 
 ghost use Rattle.std.specs.Prelude.{Some, ◌≡◌, ◌∷◌, ◌++◌};
 ghost use Rattle.digits_core.specs.Refusals.{refusal_text};
-ghost use Rattle.element_core.specs.Lines.{IsDigitLine, IsElementsLine, elements_text, gtin_line, gtin_text, line_text};
+ghost use Rattle.element_core.specs.Lines.{IsDigitLine, IsElementsLine, elements_text, gtin_line, line_of_gtin, line_text};
 
 use crate::elements::Elements;
 use crate::form::Form;
@@ -71,7 +71,7 @@ impl Line {
 
     /// `gtin` and the 14 digits of a GTIN.
     pub fn of_gtin(gtin: &Gtin) -> Line
-        ensures { line_text result ≡ gtin_text gtin.now }
+        ensures { line_text result ≡ line_of_gtin gtin.now }
     {
         let mut text = ArrayString::new();
         push_bytes(&mut text, &gtin.digits14());

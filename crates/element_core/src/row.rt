@@ -2,7 +2,7 @@
 
 ghost use Rattle.std.specs.Prelude.{◌≡◌, option_map};
 ghost use Rattle.element_core.specs.Table.{row_at};
-ghost use Rattle.element_core.specs.Rows.{row_of};
+ghost use Rattle.element_core.specs.Rows.{table_row};
 
 use crate::family::family_at;
 use crate::part::Part;
@@ -22,7 +22,7 @@ pub struct AiRow {
 
 /// The row of the AI that the bytes begin with: none where they begin with no AI of the table.
 pub fn ai_row(bytes: &[u8]) -> Option<AiRow>
-    ensures { option_map row_of result ≡ row_at bytes.now }
+    ensures { option_map table_row result ≡ row_at bytes.now }
 {
     let family = family_at(bytes)?;
     let mut parts = ArrayVec::new();

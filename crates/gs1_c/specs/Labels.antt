@@ -38,20 +38,20 @@ abbrev pub one_cell : ℕ → ℕ → ℕ → Cells
 one_cell module_dots width height = record { dots = module_dots; width = width; height = height; columns = 1; rows = 1 }
 
 -- the bytes are the image of the sheet of this one label, or the line of why it is not printed
-abbrev pub IsPrinted : Label → Cells → List ℕ → Type 0
-IsPrinted l g bytes =
+abbrev pub IsLabelAnswer : Label → Cells → List ℕ → Type 0
+IsLabelAnswer l g bytes =
     ((sheets : List Bitmap) × ArePrinted (l ∷ []) g sheets × (bytes ≡ pbm_of sheets))
     ⊎ ((fault : SheetFault) × IsSheetFault g (l ∷ []) fault × (bytes ≡ sheet_fault_text fault))
 
 -- the same of the GTIN that a text shows, by its fault
 abbrev pub IsGtinPrinted : GtinKind → List ℕ → Option DigitFault → Cells → List ℕ → Type 0
-IsGtinPrinted k text None g bytes = IsPrinted (gtin_label k (padded (digits_of text))) g bytes
+IsGtinPrinted k text None g bytes = IsLabelAnswer (gtin_label k (padded (digits_of text))) g bytes
 IsGtinPrinted k text (Some fault) g bytes = bytes ≡ digit_fault_text fault
 
 -- the same of the elements that a text says
 abbrev pub IsTextPrinted : ℕ → List ℕ → Cells → List ℕ → Type 0
 IsTextPrinted year text g bytes =
-    ((es : Listing) × (es.year ≡ year) × IsElements year text es.list × IsPrinted (label.Gs1128 es) g bytes)
+    ((es : Listing) × (es.year ≡ year) × IsElements year text es.list × IsLabelAnswer (label.Gs1128 es) g bytes)
     ⊎ ((fault : ElementFault) × FirstFault year text fault × (bytes ≡ element_fault_text fault))
 
 -- the same of a text, as a label of this kind

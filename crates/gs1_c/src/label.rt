@@ -1,7 +1,7 @@
 //! Images of single labels.
 ghost use Rattle.std.specs.Prelude.{◌≡◌, List, ℕ};
 ghost use Rattle.digits_core.specs.Buffers.{IsPut};
-ghost use Rattle.gs1_c.specs.Labels.{IsKindPrinted, IsPrinted, kind_numbered};
+ghost use Rattle.gs1_c.specs.Labels.{IsKindPrinted, IsLabelAnswer, kind_numbered};
 
 use crate::buffer::put_refusal;
 use digits_core::Gtin;
@@ -27,7 +27,7 @@ pub fn kind_numbered(number: u32) -> Option<LabelKind>
 fn put_label(label: &Label, grid: Grid, out: &mut [u8]) -> usize
     requires columns { grid.columns ≡ 1 }
     requires rows { grid.rows ≡ 1 }
-    ensures { (bytes : List ℕ) × IsPrinted label.now grid bytes × IsPut bytes out.old out.new result }
+    ensures { (bytes : List ℕ) × IsLabelAnswer label.now grid bytes × IsPut bytes out.old out.new result }
 {
     match label_pbm(label, grid, out) {
         Ok(count) => count,

@@ -3,7 +3,7 @@ use Rattle.std.proofs.Common.{◌≡◌, ◌++◌, Bool, false, true, List, [], 
 use Rattle.clap.specs.Faults.{fault_of}
 use Rattle.clap.specs.Simple.{subcommand_of}
 use Rattle.clap.specs.Walk.{Row, Rule, Text, rows_after}
-use Rattle.line_core.specs.Numbers.{most_columns, most_dots, most_height, most_rows, most_width}
+use Rattle.line_core.specs.Numbers.{most_columns, most_dots, most_grid_rows, most_height, most_width}
 use Rattle.gs1_hub.specs.Arguments.{HasFlag, asks_elements, first_year, last_year, most_lanes, most_workers}
 use Rattle.gs1_hub.specs.commands.Prints.{HasOutput}
 use Rattle.element_core.specs.declared.form.Form.{Form}
@@ -22,7 +22,7 @@ abbrev year : Range
 year = (codes "year", first_year, last_year)
 
 abbrev grid : List Range → List Range
-grid more = (codes "module", 1, most_dots) ∷ (codes "width", 1, most_width) ∷ (codes "height", 1, most_height) ∷ (codes "columns", 1, most_columns) ∷ (codes "rows", 1, most_rows) ∷ more
+grid more = (codes "module", 1, most_dots) ∷ (codes "width", 1, most_width) ∷ (codes "height", 1, most_height) ∷ (codes "columns", 1, most_columns) ∷ (codes "rows", 1, most_grid_rows) ∷ more
 
 abbrev workers : Range
 workers = (codes "workers", 1, most_workers)
@@ -65,7 +65,7 @@ print_asked words p =
     let w = number (codes "width") 1 most_width refl refl (given.1.0 refl) in
     let h = number (codes "height") 1 most_height refl refl (given.1.1.0 refl) in
     let c = number (codes "columns") 1 most_columns refl refl (given.1.1.1.0 refl) in
-    let r = number (codes "rows") 1 most_rows refl refl (given.1.1.1.1.0 refl) in
+    let r = number (codes "rows") 1 most_grid_rows refl refl (given.1.1.1.1.0 refl) in
     let y = number (codes "year") first_year last_year refl refl (given.1.1.1.1.1.0 refl) in
     let t = flag_beside (codes "print") (codes "text") refl (grid (year ∷ [])) words p refl in (
       asked.Print (record { grid = record { module_dots = m.0; width = w.0; height = h.0; columns = c.0; rows = r.0; numbers = (m.1.1, w.1.1, h.1.1, c.1.1, r.1.1) }; year = y.0; output = output_of t.0 }),
@@ -97,7 +97,7 @@ scan_asked words p =
     let w = number (codes "width") 1 most_width refl (given.1.0 refl) in
     let h = number (codes "height") 1 most_height refl (given.1.1.0 refl) in
     let c = number (codes "columns") 1 most_columns refl (given.1.1.1.0 refl) in
-    let r = number (codes "rows") 1 most_rows refl (given.1.1.1.1.0 refl) in
+    let r = number (codes "rows") 1 most_grid_rows refl (given.1.1.1.1.0 refl) in
     let k = number (codes "workers") 1 most_workers refl (given.1.1.1.1.1.0 refl) in
     let y = number (codes "year") first_year last_year refl (given.1.1.1.1.1.1.0 refl) in (
       asked.Scan (record { grid = record { module_dots = m.0; width = w.0; height = h.0; columns = c.0; rows = r.0; numbers = (m.1.1, w.1.1, h.1.1, c.1.1, r.1.1) }; workers = k.0; year = y.0; some_workers = k.1.1 }),

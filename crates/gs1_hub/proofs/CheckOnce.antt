@@ -8,11 +8,11 @@ use Rattle.digits_core.specs.Faults.{digit_fault_text}
 use Rattle.digits_core.specs.Payloads.{payload_fault}
 use Rattle.digits_core.specs.declared.fault.DigitFault.{DigitFault}
 use Rattle.digits_core.specs.declared.fault.DigitFault.TheVariants as digits
-use Rattle.element_core.specs.Elements.{OneAnswer, hri}
+use Rattle.element_core.specs.Elements.{OneListOrFault, hri}
 use Rattle.element_core.specs.Faults.{element_fault_text}
-use Rattle.element_core.specs.Lines.{IsDigitAnswer, IsElementsLine, gtin_text, line_text}
+use Rattle.element_core.specs.Lines.{IsDigitAnswer, IsElementsLine, line_of_gtin, line_text}
 use Rattle.element_core.specs.declared.line.Line.{Line}
-use Rattle.line_core.specs.check.Checks.{IsLineAs, IsLineBy, IsUpceLine, IsUpceRefused, IsUpceText, check_meaning, check_report, kind_named, spelling_fault}
+use Rattle.line_core.specs.check.Checks.{IsLineAs, IsLineBy, IsUpceLine, IsUpceRefused, IsUpceText, check_kind_named, check_meaning, check_report, spelling_fault}
 use Rattle.line_core.specs.input.Records.{AreItems, Fields, records_of}
 use Rattle.line_core.specs.input.Spelling.{spelled_text}
 use Rattle.line_core.specs.declared.check.answer.CheckKind.{CheckKind}
@@ -57,12 +57,12 @@ upce_faults text (digits.NotDigit p) digits.Length h k = cc (h, k)
 upce_faults text (digits.NotDigit p) (digits.NotDigit q) h k = cc (h, k)
 
 upce_line : (text a b : List ℕ) → IsUpceLine text a → IsUpceLine text b → a ≡ b
-upce_line text a b (inl (g, none, is, line)) (inl (o, also, it, other)) = line ∙ (ap gtin_text (is.number ∙ sym it.number) ∙ sym other)
+upce_line text a b (inl (g, none, is, line)) (inl (o, also, it, other)) = line ∙ (ap line_of_gtin (is.number ∙ sym it.number) ∙ sym other)
 upce_line text a b (inl (g, none, is, line)) (inr (f, refused, other)) = absurd (upce_refused text g f none is refused)
 upce_line text a b (inr (f, refused, line)) (inl (g, none, is, other)) = absurd (upce_refused text g f none is refused)
 upce_line text a b (inr (f, refused, line)) (inr (g, also, other)) = line ∙ (ap digit_fault_text (upce_faults text f g refused also) ∙ sym other)
 
-module _ (one : OneAnswer) (year : ℕ) where
+module _ (one : OneListOrFault) (year : ℕ) where
   elements_line : (text a b : List ℕ) → IsElementsLine (codes "hri") hri year text a → IsElementsLine (codes "hri") hri year text b → a ≡ b
   elements_line text a b (inl (es, read, line)) (inl (fs, also, other)) =
       line ∙ (ap (λ l. codes "hri " ++ hri l) ((one year text).0 es fs read also) ∙ sym other)
@@ -84,7 +84,7 @@ module _ (one : OneAnswer) (year : ℕ) where
   line_once : (fields : Fields) (a b : Line) → check_meaning year fields (Ok a) → check_meaning year fields (Ok b) → line_text a ≡ line_text b
   line_once [] a b h k = cc h
   line_once (name ∷ []) a b h k = cc h
-  line_once (name ∷ text ∷ []) a b h k = by_name (kind_named name) text a b h k
+  line_once (name ∷ text ∷ []) a b h k = by_name (check_kind_named name) text a b h k
   line_once (name ∷ text ∷ other ∷ more) a b h k = cc h
 
   lines_once : (rows : List Fields) (x y : List Line) → AreItems (check_meaning year) rows x → AreItems (check_meaning year) rows y
@@ -96,5 +96,5 @@ module _ (one : OneAnswer) (year : ℕ) where
   lines_once (r ∷ rows) (a ∷ x) [] h k = absurd k
   lines_once (r ∷ rows) (a ∷ x) (b ∷ y) h k = ap₂ (λ t rest. t ++ (10 ∷ []) ++ rest) (line_once r a b h.0 k.0) (lines_once rows x y h.1 k.1)
 
-pub one_check : OneAnswer → OneCheck
+pub one_check : OneListOrFault → OneCheck
 one_check one year bytes text other h k = h.2 ∙ lines_once one year (records_of bytes) h.0 k.0 h.1.1 k.1.1 ∙ sym k.2

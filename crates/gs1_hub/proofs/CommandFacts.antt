@@ -6,7 +6,7 @@ use Rattle.digits_core.specs.Bytes.{TookFront}
 use Rattle.std.proofs.lemmas.List.Elements.{All-cons, All-head, All-nil, All-tail}
 use Rattle.sheet_core.specs.Bitmaps.{Bitmap}
 use Rattle.sheet_core.specs.Grids.{IsGrid}
-use Rattle.sheet_core.specs.pbm.Images.{Reads, images_of}
+use Rattle.sheet_core.specs.pbm.Images.{ReadsBytes, images_of}
 use Rattle.line_core.specs.Grids.{cells_of}
 use Rattle.line_core.specs.answers.Reports.{IsReport}
 use Rattle.line_core.specs.input.Records.{Meaning, Takes}
@@ -34,7 +34,7 @@ records_cut means made output refuses text sent left rest before after h shows i
 
 -- images were taken, and a sink took a prefix of the report of the rows of their columns
 pub images_cut : (o : ScanOptions) (left rest before after : Option (List ℕ)) (sheets : List Bitmap) (feeds : List (List (List ℕ))) (text sent : List ℕ)
-    → IsGrid (cells_of o.grid) → Reads images_of left rest (Ok sheets) → IsAtEnd rest → have_size (cells_of o.grid) sheets ≡ true → AreColumns (cells_of o.grid) sheets feeds
+    → IsGrid (cells_of o.grid) → ReadsBytes images_of left rest (Ok sheets) → IsAtEnd rest → have_size (cells_of o.grid) sheets ≡ true → AreColumns (cells_of o.grid) sheets feeds
     → IsReport o.year feeds text → sent ≡ text → TookFront before after sent → Wrote (scan_command o) TookFront left rest before after
 images_cut o left rest before after sheets feeds text sent grid read end size are report is sunk =
     (read.bytes, text, (read.consumed, end), (sheets, (grid, read.tells, size), feeds, are, report), subst (λ t. TookFront before after t) is sunk)
@@ -126,7 +126,7 @@ no_column_rows show (column ∷ columns) (rows ∷ feeds) are =
 
 -- the answers to the rows of the columns are refused
 pub images_unanswered : {V : Type 0} (f : V → List (List ℕ)) (o : ScanOptions) (sheets : List Bitmap) (feeds : List V) (left rest : Option (List ℕ)) (fault : AnswerFault)
-    → IsGrid (cells_of o.grid) → Reads images_of left rest (Ok sheets) → IsAtEnd rest → have_size (cells_of o.grid) sheets ≡ true
+    → IsGrid (cells_of o.grid) → ReadsBytes images_of left rest (Ok sheets) → IsAtEnd rest → have_size (cells_of o.grid) sheets ≡ true
     → AreColumns (cells_of o.grid) sheets (map f feeds) → (fault ≡ answers.NoThread → All (λ v. f v ≡ []) feeds → ⊥) → RefusesScan o left rest (of_answers fault)
 images_unanswered f o sheets feeds left rest answers.NoThread grid read end size are some =
     let g = cells_of o.grid in

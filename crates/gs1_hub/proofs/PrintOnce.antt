@@ -1,6 +1,6 @@
 -- `print` writes one text of bytes at most of the same bytes.
 use Rattle.std.proofs.Common.{◌≡◌, ◌∙◌, List, None, Ok, Option, Some, [], ◌∷◌, ap, subst, sym, ℕ}
-use Rattle.element_core.specs.Elements.{Listing, OneAnswer}
+use Rattle.element_core.specs.Elements.{Listing, OneListOrFault}
 use Rattle.sheet_core.specs.Bitmaps.{Bitmap}
 use Rattle.sheet_core.specs.Grids.{Cells}
 use Rattle.sheet_core.specs.pbm.Images.{pbm_of}
@@ -19,7 +19,7 @@ use Rattle.gs1_hub.specs.declared.commands.print.options.Output.{Output}
 use Rattle.gs1_hub.specs.declared.commands.print.options.Output.TheVariants as output
 use Rattle.gs1_hub.proofs.OnceFacts.{mean_once}
 
-module _ (one : OneAnswer) (year : ℕ) where
+module _ (one : OneListOrFault) (year : ℕ) where
   same_listing : (x y : Listing) → x.year ≡ y.year → x.list ≡ y.list → x ≡ y
   same_listing x y years lists = λ i. record { year = years i; list = lists i }
 
@@ -53,7 +53,7 @@ printed_once one g output.Images labels text other small small_too h k =
     let same = one labels g sheets others h.1 k.1 (subst AreBytes h.2 small) (subst AreBytes k.2 small_too) in
     h.2 ∙ ap pbm_of same ∙ sym k.2
 
-pub one_print : OneAnswer → OnePrinted → OnePrint
+pub one_print : OneListOrFault → OnePrinted → OnePrint
 one_print answers prints o bytes text other small small_too h k =
     let g = cells_of o.grid in
     let same = mean_once (print_meaning o.year) (label_once answers o.year) bytes k.0 h.0 k.1 h.1 in

@@ -5,7 +5,7 @@ use Rattle.std.specs.Str.Parse.{IsNumeral, digits_value, without_leading_plus}
 use Rattle.clap.specs.Words.{App, Row, Rule, Text, new_rule, one_of, with_rule}
 use Rattle.clap.specs.declared.builder.ArgAction.TheVariants.{Set, SetTrue}
 use Rattle.clap.specs.declared.builder.value_parser.ValueParser.TheVariants as vp
-use Rattle.line_core.specs.Numbers.{AreGridNumbers, most_columns, most_dots, most_height, most_rows, most_width}
+use Rattle.line_core.specs.Numbers.{AreGridNumbers, most_columns, most_dots, most_grid_rows, most_height, most_width}
 use Rattle.line_core.specs.declared.grid.GridOptions.{GridOptions}
 use Rattle.element_core.specs.declared.form.Form.{Form}
 use Rattle.element_core.specs.declared.form.Form.TheVariants as form
@@ -70,7 +70,7 @@ with_cell a = with_rule (with_rule (with_rule a (number_rule (codes "module") 1 
 
 -- `--columns C --rows R`
 abbrev pub with_places : App → App
-with_places a = with_rule (with_rule a (number_rule (codes "columns") 1 most_columns)) (number_rule (codes "rows") 1 most_rows)
+with_places a = with_rule (with_rule a (number_rule (codes "columns") 1 most_columns)) (number_rule (codes "rows") 1 most_grid_rows)
 
 -- ---- what the matches have
 

@@ -8,5 +8,5 @@ pub record Waiting (W : Type 0) : Type 0 where
   pub waiting : List ℕ
 
 -- what the sink took and then what waits, where that is known
-abbrev pub taken_in : {W : Type 0} → (W → Option (List ℕ)) → Waiting W → Option (List ℕ)
-taken_in taken s = append_known (taken s.sink) s.waiting
+abbrev pub taken_and_waiting : {W : Type 0} → (W → Option (List ℕ)) → Waiting W → Option (List ℕ)
+taken_and_waiting taken s = append_known (taken s.sink) s.waiting

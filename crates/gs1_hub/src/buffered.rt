@@ -1,7 +1,7 @@
 //! A buffer before a sink.
 ghost use Rattle.std.specs.Prelude.{◌≡◌, ◌≤◌, [], false, length, drop, true, IsErr, IsTrue, OnErr, OnOk};
 ghost use Rattle.std.specs.Io.KnownBytes.{Keeps};
-ghost use Rattle.gs1_hub.specs.Buffers.{taken_in};
+ghost use Rattle.gs1_hub.specs.Buffers.{taken_and_waiting};
 
 use arrayvec::ArrayVec;
 use digits_core::{Failed, Sink};
@@ -46,7 +46,7 @@ impl<W: Sink> Buffered<W> {
 
     /// Writes what waits. What a failed write did not take waits still.
     pub fn flush(&mut self) -> Result<(), Failed>
-        ensures bytes { Keeps (taken_in W.taken self.old) (taken_in W.taken self.new) }
+        ensures bytes { Keeps (taken_and_waiting W.taken self.old) (taken_and_waiting W.taken self.new) }
         ensures empty { OnOk result (self.new.waiting ≡ []) }
         ensures ok { OnOk result (W.failed self.new.sink ≡ W.failed self.old.sink) }
         ensures err { OnErr result (W.failed self.new.sink ≡ true) }
@@ -67,7 +67,7 @@ impl<W: Sink> Buffered<W> {
 }
 
 impl<W: Sink> Sink for Buffered<W> {
-    ghost taken = { taken_in W.taken };
+    ghost taken = { taken_and_waiting W.taken };
 
     ghost failed = { λ s. W.failed s.sink };
 

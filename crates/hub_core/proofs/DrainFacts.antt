@@ -12,7 +12,7 @@ use Rattle.hub_core.specs.declared.worker_seat.WorkerSeat.{WorkerSeat}
 use Rattle.hub_core.specs.DrainedLists.{DrainsInto, Listed}
 use Rattle.hub_core.specs.Lanes.{submitted}
 use Rattle.hub_core.specs.Rule.{trace}
-use Rattle.hub_core.specs.Workers.{hand_of, posted, taken}
+use Rattle.hub_core.specs.Workers.{jobs_in_hand, posted, taken}
 use Rattle.hub_core.proofs.DrainedFacts.{drained_then}
 
 pub trace_is : (a b : ℕ) (c d e f : List Plain) → a ≡ b → c ≡ d → e ≡ f → trace a c e ≡ trace b d f
@@ -81,8 +81,8 @@ rest_all i n [] known got got' all all' xs left end was fifo same same' =
     ap (λ l. l ++ xs) (sym same) ∙ (ap (λ l. got' ++ l) e ∙ (fifo ∙ same'))
 rest_all i n (k ∷ ks) known got got' all all' xs left end was fifo same same' = absurd (omega arith)
 
-pub hands_drained : (t u u' : List Listed) (ss : List WorkerSeat) (s : WorkerSeat) → DrainsInto t u (flat_map hand_of ss) → DrainsInto u u' (option_to_list s.held) → DrainsInto t u' (flat_map hand_of (ss ++ s ∷ []))
-hands_drained t u u' ss s was more = drained_as t u' _ _ (sym (flat_map_more hand_of ss s)) (drained_then t u u' (flat_map hand_of ss) (option_to_list s.held) was more)
+pub hands_drained : (t u u' : List Listed) (ss : List WorkerSeat) (s : WorkerSeat) → DrainsInto t u (flat_map jobs_in_hand ss) → DrainsInto u u' (option_to_list s.held) → DrainsInto t u' (flat_map jobs_in_hand (ss ++ s ∷ []))
+hands_drained t u u' ss s was more = drained_as t u' _ _ (sym (flat_map_more jobs_in_hand ss s)) (drained_then t u u' (flat_map jobs_in_hand ss) (option_to_list s.held) was more)
 
 pub sum_joined : (h : Plain → ℕ) (xs ys zs us vs ws : List Plain) → sum_by h (((((xs ++ ys) ++ zs) ++ us) ++ vs) ++ ws) ≡ sum_by h xs + sum_by h ys + sum_by h zs + sum_by h us + sum_by h vs + sum_by h ws
 sum_joined h xs ys zs us vs ws =

@@ -11,7 +11,7 @@ use Rattle.hub_core.specs.declared.lane_seat.LaneSeat.{LaneSeat}
 use Rattle.hub_core.specs.Fresh.{HasDoneNothing}
 use Rattle.hub_core.specs.Hubs.{year_of}
 use Rattle.hub_core.specs.Lane.{ArePolledFirst, AreSettled, Lane, deliveries, new_lane}
-use Rattle.hub_core.specs.Lanes.{as_lane, lane_of, polled, rows_of, submitted}
+use Rattle.hub_core.specs.Lanes.{as_lane, lane_of, polled, submitted, submitted_rows}
 use Rattle.hub_core.specs.Laws.{AreAnswersOf}
 use Rattle.hub_core.specs.Serving.{numbered_rows}
 use Rattle.lane_core.proofs.ListFacts.{get_back, get_map}
@@ -37,7 +37,7 @@ fresh_lanes (s ∷ ls) all =
 
 -- with what a lane polled, its list is its rows
 abbrev pub GivesRows : Hub → List LaneSeat → List (List Plain) → Type 0
-GivesRows h lanes lists = (i : ℕ) (v : LaneSeat) → slice_get lanes i ≡ Some v → polled v ++ get_or lists (lane_of v) [] ≡ numbered_rows (lane_of v) 0 (year_of h) (rows_of v)
+GivesRows h lanes lists = (i : ℕ) (v : LaneSeat) → slice_get lanes i ≡ Some v → polled v ++ get_or lists (lane_of v) [] ≡ numbered_rows (lane_of v) 0 (year_of h) (submitted_rows v)
 
 pub settled : (h : Hub) (ls : List LaneSeat) (lists : List (List Plain)) → GivesRows h ls lists → AreSettled (year_of h) (map as_lane ls) lists
 unfolding as_lane
@@ -48,7 +48,7 @@ settled h ls lists gives k d less =
 
 -- what each lane polled is the first of what its rows are served
 abbrev pub PolledFirst : Hub → List LaneSeat → Type 0
-PolledFirst h lanes = (i : ℕ) (v : LaneSeat) → slice_get lanes i ≡ Some v → (rest : List Plain) × (polled v ++ rest ≡ numbered_rows (lane_of v) 0 (year_of h) (rows_of v))
+PolledFirst h lanes = (i : ℕ) (v : LaneSeat) → slice_get lanes i ≡ Some v → (rest : List Plain) × (polled v ++ rest ≡ numbered_rows (lane_of v) 0 (year_of h) (submitted_rows v))
 
 pub polled_first : (h : Hub) (ls : List LaneSeat) → PolledFirst h ls → ArePolledFirst (year_of h) (map as_lane ls)
 unfolding as_lane

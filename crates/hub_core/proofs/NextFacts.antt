@@ -7,7 +7,7 @@ use Rattle.std.proofs.lemmas.Bool.{and_parts}
 use Rattle.std.proofs.lemmas.Bool.Decides.{nat_tests}
 use Rattle.std.proofs.lemmas.List.Folds.{list_any-append}
 use Rattle.lane_core.specs.declared.job.Plain.{Plain}
-use Rattle.lane_core.specs.ReorderBuffer.{ReorderBuffer, IsNext, has_next, is_new, lanes_of, next_of, was_taken}
+use Rattle.lane_core.specs.ReorderBuffer.{ReorderBuffer, WaitsAsNext, has_next, is_new, lanes_of, next_of, was_taken}
 use Rattle.lane_core.specs.Settling.{sift, sifted}
 use Rattle.lane_core.specs.Tickets.{is_among, is_ticket_of}
 use Rattle.lane_core.specs.Weights.{once}
@@ -20,7 +20,7 @@ pub is_there : {X : Type 0} (o : Option X) → is_none o ≡ false → is_some o
 is_there None none = absurd (cc)
 is_there (Some x) none = refl
 
-pub with_number : {X : Type 0} (f : X → Plain) (d : ReorderBuffer) (l : ℕ) (o : Option X) (n : ℕ) → n ≡ next_of d l → IfSome o (λ x. IsNext d l (f x)) → IfSome o (λ x. IsNext d l (f x) × ((f x).number ≡ n))
+pub with_number : {X : Type 0} (f : X → Plain) (d : ReorderBuffer) (l : ℕ) (o : Option X) (n : ℕ) → n ≡ next_of d l → IfSome o (λ x. WaitsAsNext d l (f x)) → IfSome o (λ x. WaitsAsNext d l (f x) × ((f x).number ≡ n))
 with_number f d l None n e is = tt
 with_number f d l (Some x) n e is = (is, is.number ∙ sym e)
 

@@ -24,8 +24,7 @@ use Rattle.hub_core.specs.Draining.{Finds}
 use Rattle.hub_core.specs.Rings.{all_sent}
 use Rattle.hub_core.specs.Serving.{sum_all}
 use Rattle.hub_core.specs.Standing.{StandsFor}
-use Rattle.hub_core.specs.Workers.{posted, taken}
-use Rattle.hub_core.specs.Workers as worker
+use Rattle.hub_core.specs.Workers.{job_in_hand, jobs_in_hand, posted, taken}
 use Rattle.hub_core.proofs.UnpolledFacts.{at_least}
 use Rattle.hub_core.proofs.NumberFacts.{by_place, sum_each}
 use Rattle.hub_core.proofs.WeightFacts.{sum_by-map}
@@ -56,11 +55,11 @@ numbered_front l n (x ∷ xs) ys e =
     let t = and_parts (x.number == n) (numbered l (suc n) (xs ++ ys)) s.1 in
     and_from (x.lane == l) _ s.0 (and_from (x.number == n) (numbered l (suc n) xs) t.0 (numbered_front l (suc n) xs ys t.1))
 
-hands_whole : (ws : List WorkerSeat) → OneForOne (flat_map taken ws) (flat_map posted ws) (flat_map worker.hand_of ws)
+hands_whole : (ws : List WorkerSeat) → OneForOne (flat_map taken ws) (flat_map posted ws) (flat_map jobs_in_hand ws)
 hands_whole [] h = refl
 hands_whole (w ∷ ws) h =
     let a = ap (sum_by h) w.none_lost in
-    omega (arith, hands_whole ws h, sum_by-append h (taken w) (flat_map taken ws), sum_by-append h (posted w) (flat_map posted ws), sum_by-append h (worker.hand_of w) (flat_map worker.hand_of ws), sum_by-append h (posted w) (worker.hand_of w))
+    omega (arith, hands_whole ws h, sum_by-append h (taken w) (flat_map taken ws), sum_by-append h (posted w) (flat_map posted ws), sum_by-append h (jobs_in_hand w) (flat_map jobs_in_hand ws), sum_by-append h (posted w) (jobs_in_hand w))
 
 -- what all parts of a hub are, and where all that was submitted is
 pub record Whole (ls : List LaneSeat) (ws : List WorkerSeat) (d : DelivererSeat) (jobs results : List Plain) : Type 0 where
@@ -68,7 +67,7 @@ pub record Whole (ls : List LaneSeat) (ws : List WorkerSeat) (d : DelivererSeat)
   pub low : (i : ℕ) (s : LaneSeat) → slice_get ls i ≡ Some s → lane_of s < lane_count d
   pub long : length (all_sent d.rings.items) ≡ lane_count d
   pub aside : taken_in d ≡ collected d
-  pub sum : (g : Plain → ℕ) → sum_by (λ (s : LaneSeat). sum_by g (submitted s)) ls ≡ ((((sum_by g jobs + sum_by g (flat_map worker.hand_of ws)) + sum_by g results) + sum_by g (buffer_of d).waiting) + sum_by g (hand_of d)) + sum_all g (all_sent d.rings.items)
+  pub sum : (g : Plain → ℕ) → sum_by (λ (s : LaneSeat). sum_by g (submitted s)) ls ≡ ((((sum_by g jobs + sum_by g (flat_map jobs_in_hand ws)) + sum_by g results) + sum_by g (buffer_of d).waiting) + sum_by g (hand_of d)) + sum_all g (all_sent d.rings.items)
   pub sent : (g : Plain → ℕ) → sum_by (λ (s : LaneSeat). sum_by g (handed d (lane_of s))) ls ≡ sum_all g (all_sent d.rings.items)
   pub polled : (i : ℕ) (s : LaneSeat) → slice_get ls i ≡ Some s → (polled s ≡ received s) × (polled_count s ≤ length (handed d (lane_of s)))
   pub handed : (i : ℕ) (s : LaneSeat) → slice_get ls i ≡ Some s → take (length (handed d (lane_of s))) (submitted s) ≡ handed d (lane_of s)
@@ -88,7 +87,7 @@ whole_from h ls ws d jobs results found all_found received_first kept_whole seat
     let low : (i : ℕ) (s : LaneSeat) → slice_get ls i ≡ Some s → lane_of s < n = λ i s e. let less = (all_at (IsLaneOf h) ls i s seats.lanes e).lane in omega arith in
     let giving = d.accounted.giving in
     let one = one_lane n ls each in
-    let found_all = all_found n (map account ls) (flat_map taken ws) (flat_map posted ws) (collected d) jobs (flat_map worker.hand_of ws) results (buffer_of d).waiting (hand_of d) (λ g. sum_all g (all_sent d.rings.items))
+    let found_all = all_found n (map account ls) (flat_map taken ws) (flat_map posted ws) (collected d) jobs (flat_map jobs_in_hand ws) results (buffer_of d).waiting (hand_of d) (λ g. sum_all g (all_sent d.rings.items))
     (λ i a e. let p = get_back account ls i a e in subst (λ (b : Account). numbered b.lane 0 b.submitted ≡ true) p.2 p.0.in_order)
     (λ i a e. let p = get_back account ls i a e in subst (λ (b : Account). b.lane < n) p.2 (low i p.0 p.1))
     (λ l. subst (λ m. m ≤ 1) (sym (sum_by-map (λ (a : Account). once (a.lane == l)) account ls)) (one l))
@@ -96,7 +95,7 @@ whole_from h ls ws d jobs results found all_found received_first kept_whole seat
     (hands_whole ws)
     finds.results
     d.accounted.none_lost in
-    let sum : (g : Plain → ℕ) → sum_by (λ (s : LaneSeat). sum_by g (submitted s)) ls ≡ ((((sum_by g jobs + sum_by g (flat_map worker.hand_of ws)) + sum_by g results) + sum_by g (buffer_of d).waiting) + sum_by g (hand_of d)) + sum_all g (all_sent d.rings.items) = λ g.
+    let sum : (g : Plain → ℕ) → sum_by (λ (s : LaneSeat). sum_by g (submitted s)) ls ≡ ((((sum_by g jobs + sum_by g (flat_map jobs_in_hand ws)) + sum_by g results) + sum_by g (buffer_of d).waiting) + sum_by g (hand_of d)) + sum_all g (all_sent d.rings.items) = λ g.
     sym (sum_by-map (λ (a : Account). sum_by g a.submitted) account ls) ∙ found_all.1 g in
     let sent : (g : Plain → ℕ) → sum_by (λ (s : LaneSeat). sum_by g (handed d (lane_of s))) ls ≡ sum_all g (all_sent d.rings.items) = λ g.
     by_seat n ls each (λ l. sum_by g (handed d l)) ∙ by_place (sum_by g) (all_sent d.rings.items) n [] giving.lanes in
@@ -152,7 +151,7 @@ state_there d (x ∷ xs) l (suc i) v e at one =
 
 -- the state that the parts are
 abbrev pub state_of : Hub → List LaneSeat → List WorkerSeat → DelivererSeat → List Plain → List Plain → State
-state_of h ls ws d jobs results = state (year_of h) (map (state_at d ls) (range_with_len 0 (lane_count d))) jobs (map worker.in_hand ws) results ((buffer_of d).waiting ++ hand_of d)
+state_of h ls ws d jobs results = state (year_of h) (map (state_at d ls) (range_with_len 0 (lane_count d))) jobs (map job_in_hand ws) results ((buffer_of d).waiting ++ hand_of d)
 
 there : (f : ℕ → LaneState) (n l : ℕ) → l < n → slice_get (map f (range_with_len 0 n)) l ≡ Some (f l)
 there f n l low =
@@ -203,7 +202,7 @@ nothing_lost h ls ws d jobs results whole =
           let a = sum_lanes n d ls (λ v. sum_by g v.submitted) whole.each ∙ whole.sum g in
           let b = sum_lanes n d ls (λ v. sum_by g (take v.handed v.submitted)) whole.each
           ∙ (sum_same (λ (s : LaneSeat). sum_by g (take (length (handed d (lane_of s))) (submitted s))) (λ (s : LaneSeat). sum_by g (handed d (lane_of s))) ls (λ i s e. ap (sum_by g) (whole.handed i s e)) ∙ whole.sent g) in
-          let c = sum_by-map (λ o. sum_by g (option_to_list o)) worker.in_hand ws ∙ sym (sum_by-flat_map g worker.hand_of ws) in
+          let c = sum_by-map (λ o. sum_by g (option_to_list o)) job_in_hand ws ∙ sym (sum_by-flat_map g jobs_in_hand ws) in
           let e = sum_by-append g (buffer_of d).waiting (hand_of d) in
           omega arith;
     }

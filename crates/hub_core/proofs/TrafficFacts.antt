@@ -13,10 +13,10 @@ use Rattle.lane_core.specs.Settling.{kept}
 use Rattle.lane_core.specs.declared.job.Plain.{Plain}
 use Rattle.hub_core.specs.Fresh.{HasDoneNothing}
 use Rattle.hub_core.specs.Hubs.{IsLaneOf, shape_of, year_of}
-use Rattle.hub_core.specs.Lanes.{issued_of, lane_of, numbers_of, polled, polled_count, received, rows_of, submitted}
+use Rattle.hub_core.specs.Lanes.{issued_count, lane_of, numbers_of, polled, polled_count, received, submitted, submitted_rows}
 use Rattle.hub_core.specs.Serving.{numbered_feeds, numbered_rows, served}
 use Rattle.hub_core.proofs.LaneViewFacts.{PolledFirst}
-use Rattle.hub_core.specs.Traffics.{AreEven, AreServedFirst, HasRoom, IsEven, IsNextOf, Serves, given_to, polled_by, with_held, with_more}
+use Rattle.hub_core.specs.Traffics.{AreEven, AreServedFirst, HasRoom, IsEven, IsNextOf, Serves, given_to, polled_by_each, with_held, with_more}
 use Rattle.hub_core.specs.declared.hub.Hub.{Hub}
 use Rattle.hub_core.specs.declared.lane_seat.LaneSeat.{LaneSeat}
 use Rattle.hub_core.proofs.ServeFacts.{lanes_counted}
@@ -28,7 +28,7 @@ if_none o P none = subst (λ x. IfSome x P) (sym none) tt
 
 pub step_serves : (h : Hub) (seats : List LaneSeat) (held new : Option (ℕ × List ℕ)) (i : ℕ) (s t : LaneSeat)
     → s ≡ get_or seats i s → lane_of t ≡ lane_of s → IsLaneOf h t → Serves h seats held
-    → IfSome new (λ r. HasRoom r.0 (map rows_of (set seats i t))) → Serves h (set seats i t) new
+    → IfSome new (λ r. HasRoom r.0 (map submitted_rows (set seats i t))) → Serves h (set seats i t) new
 step_serves h seats held new i s t at lane is was room = record {
   lanes = All-set (IsLaneOf h) seats i t is was.lanes;
   numbers = map-set_same lane_of seats i t s (lane ∙ ap lane_of at) ∙ was.numbers;
@@ -44,10 +44,10 @@ step_more : {X : Type 0} (f : LaneSeat → List X) (seats : List LaneSeat) (i : 
 step_more {X} f seats i s t x low at more =
     map-set f seats i t ∙ ap (λ (v : List X). set (map f seats) i v) (more ∙ ap (λ (v : List X). v ++ x ∷ []) (ap f at ∙ sym (get_or-map f seats i s [] low)))
 
-rows_same : (s t : LaneSeat) → submitted t ≡ submitted s → rows_of t ≡ rows_of s
+rows_same : (s t : LaneSeat) → submitted t ≡ submitted s → submitted_rows t ≡ submitted_rows s
 rows_same s t same = ap (λ (xs : List Plain). map (λ (x : Plain). x.widths) xs) same
 
-rows_more : (s t : LaneSeat) (l n y : ℕ) (row : List ℕ) → submitted t ≡ submitted s ++ plain_of l n y row ∷ [] → rows_of t ≡ rows_of s ++ row ∷ []
+rows_more : (s t : LaneSeat) (l n y : ℕ) (row : List ℕ) → submitted t ≡ submitted s ++ plain_of l n y row ∷ [] → submitted_rows t ≡ submitted_rows s ++ row ∷ []
 rows_more s t l n y row more = ap (λ (xs : List Plain). map (λ (x : Plain). x.widths) xs) more ∙ map-append (λ (x : Plain). x.widths) (submitted s) (plain_of l n y row ∷ [])
 
 polled_same : (s t : LaneSeat) → lane_of t ≡ lane_of s → received t ≡ received s → polled t ≡ polled s
@@ -56,41 +56,41 @@ polled_same s t lane same = ap (λ l. kept l 0 (received t)) lane ∙ ap (λ xs.
 -- a row was submitted that was in hand
 pub came_more : (C : List (List (List ℕ)) → List (List Plain) → Type 0) (seats : List LaneSeat) (new : Option (ℕ × List ℕ)) (i lane : ℕ) (s t : LaneSeat) (l n y : ℕ) (row : List ℕ)
     → new ≡ None → i ≡ lane → i < length seats → s ≡ get_or seats i s → lane_of t ≡ lane_of s → submitted t ≡ submitted s ++ plain_of l n y row ∷ [] → received t ≡ received s
-    → C (with_more lane row (map rows_of seats)) (map polled seats) → C (given_to (set seats i t) new) (polled_by (set seats i t))
+    → C (with_more lane row (map submitted_rows seats)) (map polled seats) → C (given_to (set seats i t) new) (polled_by_each (set seats i t))
 came_more C seats new i lane s t l n y row none is low at same more sees was =
-    let rows : with_more lane row (map rows_of seats) ≡ given_to (set seats i t) new =
-    ap (λ k. with_more k row (map rows_of seats)) (sym is) ∙ (sym (step_more rows_of seats i s t row low at (rows_more s t l n y row more)) ∙ ap (λ o. with_held o (map rows_of (set seats i t))) (sym none)) in
-    let polls : map polled seats ≡ polled_by (set seats i t) = sym (step_same polled seats i s t at (polled_same s t same sees)) in
-    subst (λ v. C v (polled_by (set seats i t))) rows (subst (λ v. C (with_more lane row (map rows_of seats)) v) polls was)
+    let rows : with_more lane row (map submitted_rows seats) ≡ given_to (set seats i t) new =
+    ap (λ k. with_more k row (map submitted_rows seats)) (sym is) ∙ (sym (step_more submitted_rows seats i s t row low at (rows_more s t l n y row more)) ∙ ap (λ o. with_held o (map submitted_rows (set seats i t))) (sym none)) in
+    let polls : map polled seats ≡ polled_by_each (set seats i t) = sym (step_same polled seats i s t at (polled_same s t same sees)) in
+    subst (λ v. C v (polled_by_each (set seats i t))) rows (subst (λ v. C (with_more lane row (map submitted_rows seats)) v) polls was)
 
 -- nothing was submitted
 pub came_same : (C : List (List (List ℕ)) → List (List Plain) → Type 0) (seats : List LaneSeat) (new : Option (ℕ × List ℕ)) (i : ℕ) (s t : LaneSeat)
     → s ≡ get_or seats i s → submitted t ≡ submitted s → polled t ≡ polled s
-    → C (with_held new (map rows_of seats)) (map polled seats) → C (given_to (set seats i t) new) (polled_by (set seats i t))
+    → C (with_held new (map submitted_rows seats)) (map polled seats) → C (given_to (set seats i t) new) (polled_by_each (set seats i t))
 came_same C seats new i s t at same sees was =
-    let rows : with_held new (map rows_of seats) ≡ given_to (set seats i t) new = ap (with_held new) (sym (step_same rows_of seats i s t at (rows_same s t same))) in
-    let polls : map polled seats ≡ polled_by (set seats i t) = sym (step_same polled seats i s t at sees) in
-    subst (λ v. C v (polled_by (set seats i t))) rows (subst (λ v. C (with_held new (map rows_of seats)) v) polls was)
+    let rows : with_held new (map submitted_rows seats) ≡ given_to (set seats i t) new = ap (with_held new) (sym (step_same submitted_rows seats i s t at (rows_same s t same))) in
+    let polls : map polled seats ≡ polled_by_each (set seats i t) = sym (step_same polled seats i s t at sees) in
+    subst (λ v. C v (polled_by_each (set seats i t))) rows (subst (λ v. C (with_held new (map submitted_rows seats)) v) polls was)
 
 pub came_full : (C : List (List (List ℕ)) → List (List Plain) → Type 0) (seats : List LaneSeat) (i lane : ℕ) (s t : LaneSeat) (row back : List ℕ)
     → s ≡ get_or seats i s → submitted t ≡ submitted s → lane_of t ≡ lane_of s → received t ≡ received s → back ≡ row
-    → C (with_more lane row (map rows_of seats)) (map polled seats) → C (given_to (set seats i t) (Some (lane, back))) (polled_by (set seats i t))
+    → C (with_more lane row (map submitted_rows seats)) (map polled seats) → C (given_to (set seats i t) (Some (lane, back))) (polled_by_each (set seats i t))
 came_full C seats i lane s t row back at same is sees given was =
-    came_same C seats (Some (lane, back)) i s t at same (polled_same s t is sees) (subst (λ (r : List ℕ). C (with_more lane r (map rows_of seats)) (map polled seats)) (sym given) was)
+    came_same C seats (Some (lane, back)) i s t at same (polled_same s t is sees) (subst (λ (r : List ℕ). C (with_more lane r (map submitted_rows seats)) (map polled seats)) (sym given) was)
 
 -- a delivery was polled and brought
 pub came_brought : (C : List (List (List ℕ)) → List (List Plain) → Type 0) (seats : List LaneSeat) (held : Option (ℕ × List ℕ)) (i lane : ℕ) (s t : LaneSeat) (x : Plain)
     → i ≡ lane → i < length seats → s ≡ get_or seats i s → submitted t ≡ submitted s → polled t ≡ polled s ++ x ∷ []
-    → C (given_to seats held) (with_more lane x (polled_by seats)) → C (given_to (set seats i t) held) (polled_by (set seats i t))
+    → C (given_to seats held) (with_more lane x (polled_by_each seats)) → C (given_to (set seats i t) held) (polled_by_each (set seats i t))
 came_brought C seats held i lane s t x is low at same more was =
-    let rows : given_to seats held ≡ given_to (set seats i t) held = ap (with_held held) (sym (step_same rows_of seats i s t at (rows_same s t same))) in
-    let polls : with_more lane x (polled_by seats) ≡ polled_by (set seats i t) = ap (λ k. with_more k x (polled_by seats)) (sym is) ∙ sym (step_more polled seats i s t x low at more) in
-    subst (λ v. C v (polled_by (set seats i t))) rows (subst (λ v. C (given_to seats held) v) polls was)
+    let rows : given_to seats held ≡ given_to (set seats i t) held = ap (with_held held) (sym (step_same submitted_rows seats i s t at (rows_same s t same))) in
+    let polls : with_more lane x (polled_by_each seats) ≡ polled_by_each (set seats i t) = ap (λ k. with_more k x (polled_by_each seats)) (sym is) ∙ sym (step_more polled seats i s t x low at more) in
+    subst (λ v. C v (polled_by_each (set seats i t))) rows (subst (λ v. C (given_to seats held) v) polls was)
 
 -- a row has room still where the lanes have the same rows
 pub room_same : (seats : List LaneSeat) (new : Option (ℕ × List ℕ)) (i : ℕ) (s t : LaneSeat) → s ≡ get_or seats i s → submitted t ≡ submitted s
-    → IfSome new (λ r. HasRoom r.0 (map rows_of seats)) → IfSome new (λ r. HasRoom r.0 (map rows_of (set seats i t)))
-room_same seats new i s t at same room = subst (λ lists. IfSome new (λ r. HasRoom r.0 lists)) (sym (step_same rows_of seats i s t at (rows_same s t same))) room
+    → IfSome new (λ r. HasRoom r.0 (map submitted_rows seats)) → IfSome new (λ r. HasRoom r.0 (map submitted_rows (set seats i t)))
+room_same seats new i s t at same room = subst (λ lists. IfSome new (λ r. HasRoom r.0 lists)) (sym (step_same submitted_rows seats i s t at (rows_same s t same))) room
 
 -- how many seats there are, and which lane has one
 pub seats_counted : (h : Hub) (seats : List LaneSeat) (held : Option (ℕ × List ℕ)) → Serves h seats held → length seats ≡ (shape_of h).lanes
@@ -105,10 +105,10 @@ lane_at h seats held i s was low at =
     omega (arith, number, there, same)
 
 -- what was polled is the next that its lane is owed
-given_more : (seats : List LaneSeat) (held : Option (ℕ × List ℕ)) (i : ℕ) → length (get_or (map rows_of seats) i []) ≤ length (get_or (given_to seats held) i [])
+given_more : (seats : List LaneSeat) (held : Option (ℕ × List ℕ)) (i : ℕ) → length (get_or (map submitted_rows seats) i []) ≤ length (get_or (given_to seats held) i [])
 given_more seats None i = omega (arith)
 given_more seats (Some r) i =
-    let lists = map rows_of seats in
+    let lists = map submitted_rows seats in
     let v = get_or lists r.0 [] ++ r.1 ∷ [] in
     ⊎_elim
     (λ (e : i ≡ r.0). ⊎_elim
@@ -122,14 +122,14 @@ given_more seats (Some r) i =
 
 pub next_of : (h : Hub) (seats : List LaneSeat) (held : Option (ℕ × List ℕ)) (i : ℕ) (s t : LaneSeat) (x : Plain)
     → Serves h seats held → i < length seats → s ≡ get_or seats i s → submitted t ≡ submitted s
-    → x.lane ≡ lane_of s → x.number ≡ polled_count s → polled t ≡ polled s ++ x ∷ [] → polled_count t ≤ issued_of t
-    → IsNextOf x (given_to seats held) (polled_by seats)
+    → x.lane ≡ lane_of s → x.number ≡ polled_count s → polled t ≡ polled s ++ x ∷ [] → polled_count t ≤ issued_count t
+    → IsNextOf x (given_to seats held) (polled_by_each seats)
 next_of h seats held i s t x was low at same lane number more room =
     let is : i ≡ x.lane = lane_at h seats held i s was low at ∙ sym lane in
-    let mine : get_or (polled_by seats) i [] ≡ polled s = get_or-map polled seats i s [] low ∙ ap polled (sym at) in
-    let rows : get_or (map rows_of seats) i [] ≡ rows_of s = get_or-map rows_of seats i s [] low ∙ ap rows_of (sym at) in
-    let there : length (get_or (polled_by seats) x.lane []) ≡ polled_count s = ap (λ k. length (get_or (polled_by seats) k [])) (sym is) ∙ ap length mine in
-    let count : length (get_or (map rows_of seats) i []) ≡ issued_of s = ap length rows ∙ length-map (submitted s) (λ (x : Plain). x.widths) in
+    let mine : get_or (polled_by_each seats) i [] ≡ polled s = get_or-map polled seats i s [] low ∙ ap polled (sym at) in
+    let rows : get_or (map submitted_rows seats) i [] ≡ submitted_rows s = get_or-map submitted_rows seats i s [] low ∙ ap submitted_rows (sym at) in
+    let there : length (get_or (polled_by_each seats) x.lane []) ≡ polled_count s = ap (λ k. length (get_or (polled_by_each seats) k [])) (sym is) ∙ ap length mine in
+    let count : length (get_or (map submitted_rows seats) i []) ≡ issued_count s = ap length rows ∙ length-map (submitted s) (λ (x : Plain). x.widths) in
     let longer = given_more seats held i in
     let moved : length (get_or (given_to seats held) x.lane []) ≡ length (get_or (given_to seats held) i []) = ap (λ k. length (get_or (given_to seats held) k [])) (sym is) in
     record {
@@ -139,14 +139,14 @@ next_of h seats held i s t x was low at same lane number more room =
     }
 
 -- lanes that have polled all that they issued were brought as many as they were given
-even_lanes : (seats : List LaneSeat) → AreEven seats → IsEven (map rows_of seats) (map polled seats)
+even_lanes : (seats : List LaneSeat) → AreEven seats → IsEven (map submitted_rows seats) (map polled seats)
 even_lanes [] even = refl
 even_lanes (s ∷ seats) even =
-    let here : length (polled s) ≡ length (rows_of s) = even 0 s (omega arith) ∙ sym (length-map (submitted s) (λ (x : Plain). x.widths)) in
+    let here : length (polled s) ≡ length (submitted_rows s) = even 0 s (omega arith) ∙ sym (length-map (submitted s) (λ (x : Plain). x.widths)) in
     let rest = even_lanes seats (λ k d low. even (suc k) d (omega (arith, low))) in
     (λ j. here j ∷ rest j)
 
-pub even_given : (seats : List LaneSeat) → AreEven seats → IsEven (given_to seats None) (polled_by seats)
+pub even_given : (seats : List LaneSeat) → AreEven seats → IsEven (given_to seats None) (polled_by_each seats)
 even_given seats even = even_lanes seats even
 
 -- a seat of the hub, by its place
@@ -155,12 +155,12 @@ seat_at h seats held i s was low at = subst (IsLaneOf h) (sym at) (was.lanes i s
 
 -- ---- before and after
 
-none_done : (seats : List LaneSeat) (n : ℕ) → All HasDoneNothing seats → length seats ≡ n → map rows_of seats ≡ replicate n []
+none_done : (seats : List LaneSeat) (n : ℕ) → All HasDoneNothing seats → length seats ≡ n → map submitted_rows seats ≡ replicate n []
 none_done [] zero none count = refl
 none_done [] (suc n) none count = absurd (omega (arith, count))
 none_done (s ∷ seats) zero none count = absurd (omega (arith, count))
 none_done (s ∷ seats) (suc n) none count =
-    let here : rows_of s ≡ [] = ap (λ (xs : List Plain). map (λ (x : Plain). x.widths) xs) (none 0 s (omega arith)).0 in
+    let here : submitted_rows s ≡ [] = ap (λ (xs : List Plain). map (λ (x : Plain). x.widths) xs) (none 0 s (omega arith)).0 in
     let rest = none_done seats n (λ k d low. none (suc k) d (omega (arith, low))) (omega (arith, count)) in
     (λ j. here j ∷ rest j)
 
@@ -175,9 +175,9 @@ none_polled (s ∷ seats) (suc n) none count =
 
 -- seats that have done nothing were given nothing
 pub came_fresh : (C : List (List (List ℕ)) → List (List Plain) → Type 0) (seats : List LaneSeat) (n : ℕ) → All HasDoneNothing seats → length seats ≡ n
-    → C (replicate n []) (replicate n []) → C (given_to seats None) (polled_by seats)
+    → C (replicate n []) (replicate n []) → C (given_to seats None) (polled_by_each seats)
 came_fresh C seats n none count was =
-    subst (λ v. C v (polled_by seats)) (sym (none_done seats n none count)) (subst (λ v. C (replicate n []) v) (sym (none_polled seats n none count)) was)
+    subst (λ v. C v (polled_by_each seats)) (sym (none_done seats n none count)) (subst (λ v. C (replicate n []) v) (sym (none_polled seats n none count)) was)
 
 pub serves_fresh : (h : Hub) (seats : List LaneSeat) (n : ℕ) → All (IsLaneOf h) seats → numbers_of seats ≡ range_with_len 0 n → (shape_of h).lanes ≡ n → (shape_of h).limit ≡ 4294967295 → Serves h seats None
 serves_fresh h seats n lanes numbers count limit = record {
@@ -194,21 +194,21 @@ none_left xs (y ∷ ys) zs e same = absurd (omega (arith, ap length e, length-ap
 -- each lane's polled list, from a lane on, where all was polled
 done_from : (m year : ℕ) (seats : List LaneSeat) (n : ℕ)
     → map lane_of seats ≡ range_with_len m n
-    → ((i : ℕ) (s : LaneSeat) → slice_get seats i ≡ Some s → (rest : List Plain) × (polled s ++ rest ≡ numbered_rows (lane_of s) 0 year (rows_of s)))
-    → All (λ s. polled_count s ≡ issued_of s) seats
-    → map polled seats ≡ numbered_feeds m year (map rows_of seats)
+    → ((i : ℕ) (s : LaneSeat) → slice_get seats i ≡ Some s → (rest : List Plain) × (polled s ++ rest ≡ numbered_rows (lane_of s) 0 year (submitted_rows s)))
+    → All (λ s. polled_count s ≡ issued_count s) seats
+    → map polled seats ≡ numbered_feeds m year (map submitted_rows seats)
 done_from m year [] n numbers owed even = refl
 done_from m year (s ∷ seats) zero numbers owed even = absurd (omega (arith, ap length numbers, length-map seats lane_of))
 done_from m year (s ∷ seats) (suc n) numbers owed even =
     let lane : lane_of s ≡ m = ap (λ (ns : List ℕ). get_or ns 0 m) numbers in
     let mine = owed 0 s refl in
-    let count : length (polled s) ≡ length (numbered_rows (lane_of s) 0 year (rows_of s)) =
-    even 0 s (omega arith) ∙ (sym (length-map (submitted s) (λ (x : Plain). x.widths)) ∙ sym (rows_long (lane_of s) 0 year (rows_of s))) in
-    let here : polled s ≡ numbered_rows m 0 year (rows_of s) = none_left (polled s) mine.0 _ mine.1 count ∙ ap (λ l. numbered_rows l 0 year (rows_of s)) lane in
-    let rest = done_from (m + 1) year seats n (ap (drop 1) numbers) (λ i v e. owed (suc i) v e) (tail_all (λ (v : LaneSeat). polled_count v ≡ issued_of v) s seats even) in
+    let count : length (polled s) ≡ length (numbered_rows (lane_of s) 0 year (submitted_rows s)) =
+    even 0 s (omega arith) ∙ (sym (length-map (submitted s) (λ (x : Plain). x.widths)) ∙ sym (rows_long (lane_of s) 0 year (submitted_rows s))) in
+    let here : polled s ≡ numbered_rows m 0 year (submitted_rows s) = none_left (polled s) mine.0 _ mine.1 count ∙ ap (λ l. numbered_rows l 0 year (submitted_rows s)) lane in
+    let rest = done_from (m + 1) year seats n (ap (drop 1) numbers) (λ i v e. owed (suc i) v e) (tail_all (λ (v : LaneSeat). polled_count v ≡ issued_count v) s seats even) in
     (λ j. here j ∷ rest j)
 
-pub all_served : (h : Hub) (seats : List LaneSeat) → Serves h seats None → PolledFirst h seats → AreEven seats → polled_by seats ≡ served (year_of h) (given_to seats None)
+pub all_served : (h : Hub) (seats : List LaneSeat) → Serves h seats None → PolledFirst h seats → AreEven seats → polled_by_each seats ≡ served (year_of h) (given_to seats None)
 all_served h seats was first even = done_from 0 (year_of h) seats (shape_of h).lanes was.numbers first even
 
 -- ---- at any end: the first of what the rows are served
@@ -222,24 +222,24 @@ served_at m year [] i low = absurd (omega (arith, low))
 served_at m year (f ∷ fs) zero low = ap (λ n. numbered_rows n 0 year f) (omega arith)
 served_at m year (f ∷ fs) (suc i) low = served_at (m + 1) year fs i (omega (arith, low)) ∙ ap (λ n. numbered_rows n 0 year (get_or fs i [])) (omega arith)
 
-rows_at : (seats : List LaneSeat) (i : ℕ) (s : LaneSeat) → i < length seats → s ≡ get_or seats i s → get_or (map rows_of seats) i [] ≡ rows_of s
-rows_at seats i s low at = get_or-map rows_of seats i s [] low ∙ ap rows_of (sym at)
+rows_at : (seats : List LaneSeat) (i : ℕ) (s : LaneSeat) → i < length seats → s ≡ get_or seats i s → get_or (map submitted_rows seats) i [] ≡ submitted_rows s
+rows_at seats i s low at = get_or-map submitted_rows seats i s [] low ∙ ap submitted_rows (sym at)
 
-given_at : (seats : List LaneSeat) (held : Option (ℕ × List ℕ)) (i : ℕ) (s : LaneSeat) → i < length seats → s ≡ get_or seats i s → (more : List (List ℕ)) × (get_or (given_to seats held) i [] ≡ rows_of s ++ more)
-given_at seats None i s low at = ([], rows_at seats i s low at ∙ sym (append-nil (rows_of s)))
+given_at : (seats : List LaneSeat) (held : Option (ℕ × List ℕ)) (i : ℕ) (s : LaneSeat) → i < length seats → s ≡ get_or seats i s → (more : List (List ℕ)) × (get_or (given_to seats held) i [] ≡ submitted_rows s ++ more)
+given_at seats None i s low at = ([], rows_at seats i s low at ∙ sym (append-nil (submitted_rows s)))
 given_at seats (Some r) i s low at =
-    let lists = map rows_of seats in
+    let lists = map submitted_rows seats in
     let v = get_or lists r.0 [] ++ r.1 ∷ [] in
     ⊎_elim
     (λ (e : i ≡ r.0).
-    let here : get_or lists r.0 [] ≡ rows_of s = ap (λ k. get_or lists k []) (sym e) ∙ rows_at seats i s low at in
-    (r.1 ∷ [], get_or-set_at lists r.0 i v [] e (omega (arith, low, e, length-map seats rows_of)) ∙ ap (λ (w : List (List ℕ)). w ++ r.1 ∷ []) here))
-    (λ (e : i ≢ r.0). ([], get_or-set_other lists r.0 i v [] e ∙ (rows_at seats i s low at ∙ sym (append-nil (rows_of s)))))
+    let here : get_or lists r.0 [] ≡ submitted_rows s = ap (λ k. get_or lists k []) (sym e) ∙ rows_at seats i s low at in
+    (r.1 ∷ [], get_or-set_at lists r.0 i v [] e (omega (arith, low, e, length-map seats submitted_rows)) ∙ ap (λ (w : List (List ℕ)). w ++ r.1 ∷ []) here))
+    (λ (e : i ≢ r.0). ([], get_or-set_other lists r.0 i v [] e ∙ (rows_at seats i s low at ∙ sym (append-nil (submitted_rows s)))))
     (cases_eq i r.0)
 
 given_long : (seats : List LaneSeat) (held : Option (ℕ × List ℕ)) → length (given_to seats held) ≡ length seats
-given_long seats None = length-map seats rows_of
-given_long seats (Some r) = length-set (map rows_of seats) r.0 (get_or (map rows_of seats) r.0 [] ++ r.1 ∷ []) ∙ length-map seats rows_of
+given_long seats None = length-map seats submitted_rows
+given_long seats (Some r) = length-set (map submitted_rows seats) r.0 (get_or (map submitted_rows seats) r.0 [] ++ r.1 ∷ []) ∙ length-map seats submitted_rows
 
 is_there : (seats : List LaneSeat) (i : ℕ) → i < length seats → (s : LaneSeat) × (slice_get seats i ≡ Some s)
 is_there [] i low = absurd (omega (arith, low))
@@ -247,7 +247,7 @@ is_there (s ∷ seats) zero low = (s, refl)
 is_there (s ∷ seats) (suc i) low = is_there seats i (omega (arith, low))
 
 first_at : (h : Hub) (seats : List LaneSeat) (held : Option (ℕ × List ℕ)) (i : ℕ) → Serves h seats held → PolledFirst h seats → i < length seats
-    → (rest : List Plain) × (get_or (polled_by seats) i [] ++ rest ≡ get_or (served (year_of h) (given_to seats held)) i [])
+    → (rest : List Plain) × (get_or (polled_by_each seats) i [] ++ rest ≡ get_or (served (year_of h) (given_to seats held)) i [])
 first_at h seats held i was first low =
     let y = year_of h in
     let there = is_there seats i low in
@@ -255,24 +255,24 @@ first_at h seats held i was first low =
     let at : s ≡ get_or seats i s = sym (get_or_from_slice_get seats i s s there.1) in
     let lane : lane_of s ≡ i = sym (lane_at h seats held i s was low at) in
     let list = (first i s there.1).0 in
-    let owed : polled s ++ list ≡ numbered_rows (lane_of s) 0 y (rows_of s) = (first i s there.1).1 in
+    let owed : polled s ++ list ≡ numbered_rows (lane_of s) 0 y (submitted_rows s) = (first i s there.1).1 in
     let given = given_at seats held i s low at in
-    let extra = numbered_rows i (0 + length (rows_of s)) y given.0 in
-    let mine : get_or (polled_by seats) i [] ≡ polled s = get_or-map polled seats i s [] low ∙ ap polled (sym at) in
+    let extra = numbered_rows i (0 + length (submitted_rows s)) y given.0 in
+    let mine : get_or (polled_by_each seats) i [] ≡ polled s = get_or-map polled seats i s [] low ∙ ap polled (sym at) in
     let long = given_long seats held in
-    let serves : get_or (served y (given_to seats held)) i [] ≡ numbered_rows i 0 y (rows_of s) ++ extra =
+    let serves : get_or (served y (given_to seats held)) i [] ≡ numbered_rows i 0 y (submitted_rows s) ++ extra =
     served_at 0 y (given_to seats held) i (omega (arith, low, long)) ∙ (ap (λ n. numbered_rows n 0 y (get_or (given_to seats held) i [])) (omega arith)
-    ∙ (ap (numbered_rows i 0 y) given.1 ∙ numbered_append i 0 y (rows_of s) given.0)) in (
+    ∙ (ap (numbered_rows i 0 y) given.1 ∙ numbered_append i 0 y (submitted_rows s) given.0)) in (
       list ++ extra,
       ap (λ (v : List Plain). v ++ (list ++ extra)) mine ∙ (sym (append_assoc (polled s) list extra) ∙ (ap (λ (v : List Plain). v ++ extra) owed
-          ∙ (ap (λ l. numbered_rows l 0 y (rows_of s) ++ extra) lane ∙ sym serves))),
+          ∙ (ap (λ l. numbered_rows l 0 y (submitted_rows s) ++ extra) lane ∙ sym serves))),
     )
 
 pub served_first : (h : Hub) (seats : List LaneSeat) (held : Option (ℕ × List ℕ)) → Serves h seats held → PolledFirst h seats
-    → AreServedFirst (year_of h) (given_to seats held) (polled_by seats)
+    → AreServedFirst (year_of h) (given_to seats held) (polled_by_each seats)
 served_first h seats held was first i = ⊎_elim
     (λ (low : i < length seats). first_at h seats held i was first low)
     (λ (past : length seats ≤ i).
     let rest = get_or (served (year_of h) (given_to seats held)) i [] in
-    (rest, ap (λ (v : List Plain). v ++ rest) (get_or_past (polled_by seats) i [] (omega (arith, past, length-map seats polled)))))
+    (rest, ap (λ (v : List Plain). v ++ rest) (get_or_past (polled_by_each seats) i [] (omega (arith, past, length-map seats polled)))))
     (cases_lt i (length seats))

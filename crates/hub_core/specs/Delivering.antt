@@ -48,8 +48,8 @@ abbrev pub SameHanded : DelivererSeat → DelivererSeat → Type 0
 SameHanded s t = (l : ℕ) → handed t l ≡ handed s l
 
 -- x is what was in the hand, or else one more delivery
-abbrev pub Takes : DelivererSeat → Plain → DelivererSeat → Type 0
-Takes s x t = MatchOption (in_hand s) (collected t ≡ collected s ++ x ∷ []) (λ d. (d ≡ x) × (collected t ≡ collected s))
+abbrev pub TakesDelivery : DelivererSeat → Plain → DelivererSeat → Type 0
+TakesDelivery s x t = MatchOption (in_hand s) (collected t ≡ collected s ++ x ∷ []) (λ d. (d ≡ x) × (collected t ≡ collected s))
 
 -- x was taken in; or it is a stranger, and was set aside
 abbrev pub TakesOrSetsAside : ReorderBuffer → Plain → ReorderBuffer → Type 0
@@ -58,8 +58,8 @@ TakesOrSetsAside d x e = TakesIn d x e ⊎ ((is_new d x ≡ false) × (e ≡ d))
 -- how the lists grow with each answer of `collect`
 abbrev pub Collects : DelivererSeat → Collected → DelivererSeat → Type 0
 Collects s collecting.Nothing t = (in_hand s ≡ None) × (in_hand t ≡ None) × (collected t ≡ collected s) × (buffer_of t ≡ buffer_of s) × SameHanded s t
-Collects s collecting.Taken t = (x : Plain) × Takes s x t × TakesOrSetsAside (buffer_of s) x (buffer_of t) × (in_hand t ≡ None) × SameHanded s t
-Collects s collecting.NoMemory t = (x : Plain) × Takes s x t × (in_hand t ≡ Some x) × (buffer_of t ≡ buffer_of s) × SameHanded s t
+Collects s collecting.Taken t = (x : Plain) × TakesDelivery s x t × TakesOrSetsAside (buffer_of s) x (buffer_of t) × (in_hand t ≡ None) × SameHanded s t
+Collects s collecting.NoMemory t = (x : Plain) × TakesDelivery s x t × (in_hand t ≡ Some x) × (buffer_of t ≡ buffer_of s) × SameHanded s t
 
 -- the answer of `collect` without the lane
 abbrev pub collected_as : CollectedByLane → Collected

@@ -6,8 +6,7 @@ use Rattle.lane_core.specs.Weights.{OneForOne}
 use Rattle.hub_core.specs.Delivering.{collected, buffer_of, hand_of}
 use Rattle.hub_core.specs.Lanes.{lane_of, numbers_of, received, submitted}
 use Rattle.hub_core.specs.Rings.{PushEnd, all_sent}
-use Rattle.hub_core.specs.Workers.{posted, taken}
-use Rattle.hub_core.specs.Workers as worker
+use Rattle.hub_core.specs.Workers.{jobs_in_hand, posted, taken}
 use Rattle.hub_core.specs.declared.lane_seat.LaneSeat.{LaneSeat}
 use Rattle.hub_core.specs.declared.worker_seat.WorkerSeat.{WorkerSeat}
 use Rattle.hub_core.specs.declared.deliverer_seat.DelivererSeat.{DelivererSeat}
@@ -28,4 +27,4 @@ pub record Finds (ls : List LaneSeat) (ws : List WorkerSeat) (d : DelivererSeat)
   pub jobs : OneForOne (flat_map submitted ls) (flat_map taken ws) queued_jobs
   pub results : OneForOne (flat_map posted ws) (collected d) queued_results
   pub first : AreFromFirst d.rings.items ls
-  pub whole : (h : Plain → ℕ) → sum_by h found + all_received h ls ≡ ((((sum_by h queued_jobs + sum_by h (flat_map worker.hand_of ws)) + sum_by h queued_results) + sum_by h (buffer_of d).waiting) + sum_by h (hand_of d)) + to_lanes h d.rings.items (numbers_of ls)
+  pub whole : (h : Plain → ℕ) → sum_by h found + all_received h ls ≡ ((((sum_by h queued_jobs + sum_by h (flat_map jobs_in_hand ws)) + sum_by h queued_results) + sum_by h (buffer_of d).waiting) + sum_by h (hand_of d)) + to_lanes h d.rings.items (numbers_of ls)

@@ -5,8 +5,7 @@ use Rattle.lane_core.specs.Machine.{State, lane_state}
 use Rattle.lane_core.specs.Weights.{OneForOne}
 use Rattle.hub_core.specs.Lanes.{lane_of, polled_count, submitted}
 use Rattle.hub_core.specs.Hubs.{shape_of, year_of}
-use Rattle.hub_core.specs.Workers.{posted, taken}
-use Rattle.hub_core.specs.Workers as worker
+use Rattle.hub_core.specs.Workers.{job_in_hand, posted, taken}
 use Rattle.hub_core.specs.Delivering.{collected, buffer_of, hand_of, handed}
 use Rattle.hub_core.specs.declared.hub.Hub.{Hub}
 use Rattle.hub_core.specs.declared.lane_seat.LaneSeat.{LaneSeat}
@@ -19,6 +18,6 @@ pub record StandsFor (s : State) (h : Hub) (ls : List LaneSeat) (ws : List Worke
   pub count : length s.lanes ≡ (shape_of h).lanes
   pub lanes : (i : ℕ) (v : LaneSeat) → slice_get ls i ≡ Some v → slice_get s.lanes (lane_of v) ≡ Some (lane_state (submitted v) true (polled_count v) (length (handed d (lane_of v))))
   pub jobs : OneForOne (flat_map submitted ls) (flat_map taken ws) s.jobs
-  pub workers : s.workers ≡ map worker.in_hand ws
+  pub workers : s.workers ≡ map job_in_hand ws
   pub results : OneForOne (flat_map posted ws) (collected d) s.results
   pub waiting : s.waiting ≡ (buffer_of d).waiting ++ hand_of d

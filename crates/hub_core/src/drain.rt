@@ -11,7 +11,7 @@ ghost use Rattle.hub_core.specs.Lanes.{numbers_of, submitted};
 ghost use Rattle.hub_core.specs.Passes.{shares_of, popped_by, pushed_by};
 ghost use Rattle.hub_core.specs.Draining.{AreFromFirst, Finds, all_received, to_lanes};
 ghost use Rattle.hub_core.specs.Rule.{trace};
-ghost use Rattle.hub_core.specs.Workers.{hand_of, posted, taken};
+ghost use Rattle.hub_core.specs.Workers.{jobs_in_hand, posted, taken};
 
 use crate::closed_lane::ClosedLane;
 use crate::deliverer_seat::DelivererSeat;
@@ -47,7 +47,7 @@ pub(crate) fn place_hands(
     ensures same { IsPassOf hub.now.jobs all_jobs.new × IsPassOf hub.now.results all_results.new }
     ensures jobs { view all_jobs.new ≡ trace (shares_of all_jobs.old + length workers.items) (pushed_by all_jobs.old) (popped_by all_jobs.old ++ flat_map taken workers.items) }
     ensures results { view all_results.new ≡ trace (shares_of all_results.old + length workers.items) (pushed_by all_results.old ++ flat_map posted workers.items) (popped_by all_results.old) }
-    ensures drains { DrainsInto lists.old.items lists.new.items (flat_map hand_of workers.items) }
+    ensures drains { DrainsInto lists.old.items lists.new.items (flat_map jobs_in_hand workers.items) }
 {
     for seat in workers {
         let WorkerSeat { takes, posts, held } = seat;

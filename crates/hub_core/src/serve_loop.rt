@@ -6,7 +6,7 @@ ghost use Rattle.hub_core.specs.Fresh.{HasDoneNothing};
 ghost use Rattle.hub_core.specs.Hubs.{AreAllSeats, Holds, IsDelivererOf, IsWorkerOf, shape_of, year_of};
 ghost use Rattle.hub_core.specs.Lanes.{numbers_of};
 ghost use Rattle.hub_core.specs.Serving.{are_short, is_count, served};
-ghost use Rattle.hub_core.specs.Traffics.{AreEven, AreServedFirst, HasRoom, IsKept, Serves, given_to, polled_by, with_held};
+ghost use Rattle.hub_core.specs.Traffics.{AreEven, AreServedFirst, HasRoom, IsKept, Serves, given_to, polled_by_each, with_held};
 
 use crate::closed_lane::ClosedLane;
 use crate::collected_by_lane::CollectedByLane;
@@ -86,9 +86,9 @@ fn submit_next<R: Wait, T: Traffic>(
     seats: &mut Vec<LaneSeat>,
     held: &mut Option<(u8, Runs)>,
 ) -> Submitted
-    requires { Serves hub.now seats.old.items held.old × ((start : T) × T.Came start traffic.old (given_to seats.old.items held.old) (polled_by seats.old.items)) }
+    requires { Serves hub.now seats.old.items held.old × ((start : T) × T.Came start traffic.old (given_to seats.old.items held.old) (polled_by_each seats.old.items)) }
     ensures serves { Serves hub.now seats.new.items held.new }
-    ensures came { (start : T) → T.Came start traffic.old (given_to seats.old.items held.old) (polled_by seats.old.items) → T.Came start traffic.new (given_to seats.new.items held.new) (polled_by seats.new.items) }
+    ensures came { (start : T) → T.Came start traffic.old (given_to seats.old.items held.old) (polled_by_each seats.old.items) → T.Came start traffic.new (given_to seats.new.items held.new) (polled_by_each seats.new.items) }
     ensures nothing { result ≡ Submitted.Nothing → held.new ≡ None }
 {
     let Some((lane, row)) = next_row(traffic, held) else {
@@ -114,9 +114,9 @@ fn submit_some<R: Wait, T: Traffic>(
     held: &mut Option<(u8, Runs)>,
     pace: &mut Pace<'_>,
 ) -> Submitted
-    requires { Serves hub.now seats.old.items held.old × ((start : T) × T.Came start traffic.old (given_to seats.old.items held.old) (polled_by seats.old.items)) }
+    requires { Serves hub.now seats.old.items held.old × ((start : T) × T.Came start traffic.old (given_to seats.old.items held.old) (polled_by_each seats.old.items)) }
     ensures serves { Serves hub.now seats.new.items held.new }
-    ensures came { (start : T) → T.Came start traffic.old (given_to seats.old.items held.old) (polled_by seats.old.items) → T.Came start traffic.new (given_to seats.new.items held.new) (polled_by seats.new.items) }
+    ensures came { (start : T) → T.Came start traffic.old (given_to seats.old.items held.old) (polled_by_each seats.old.items) → T.Came start traffic.new (given_to seats.new.items held.new) (polled_by_each seats.new.items) }
     ensures nothing { result ≡ Submitted.Nothing → held.new ≡ None }
 {
     let mut submitted = Submitted::Row;
@@ -138,10 +138,10 @@ fn bring_next<T: Traffic>(
     held: &Option<(u8, Runs)>,
     index: usize,
 ) -> Result<(), T::BringFault>
-    requires { Serves hub.now seats.old.items held.now × ((start : T) × T.Came start traffic.old (given_to seats.old.items held.now) (polled_by seats.old.items)) × (index < vec_len seats.old) }
+    requires { Serves hub.now seats.old.items held.now × ((start : T) × T.Came start traffic.old (given_to seats.old.items held.now) (polled_by_each seats.old.items)) × (index < vec_len seats.old) }
     ensures serves { Serves hub.now seats.new.items held.now }
     ensures count { vec_len seats.new ≡ vec_len seats.old }
-    ensures came { IfOk result (λ _. (start : T) → T.Came start traffic.old (given_to seats.old.items held.now) (polled_by seats.old.items) → T.Came start traffic.new (given_to seats.new.items held.now) (polled_by seats.new.items)) }
+    ensures came { IfOk result (λ _. (start : T) → T.Came start traffic.old (given_to seats.old.items held.now) (polled_by_each seats.old.items) → T.Came start traffic.new (given_to seats.new.items held.now) (polled_by_each seats.new.items)) }
 {
     let _ = hub;
     let _ = held;
@@ -160,9 +160,9 @@ fn pass_on<T: Traffic>(
     held: &Option<(u8, Runs)>,
     lane: u8,
 ) -> Result<(), T::BringFault>
-    requires { Serves hub.now seats.old.items held.now × ((start : T) × T.Came start traffic.old (given_to seats.old.items held.now) (polled_by seats.old.items)) × IsDelivererOf hub.now deliverer.old }
+    requires { Serves hub.now seats.old.items held.now × ((start : T) × T.Came start traffic.old (given_to seats.old.items held.now) (polled_by_each seats.old.items)) × IsDelivererOf hub.now deliverer.old }
     ensures serves { Serves hub.now seats.new.items held.now }
-    ensures came { IfOk result (λ _. (start : T) → T.Came start traffic.old (given_to seats.old.items held.now) (polled_by seats.old.items) → T.Came start traffic.new (given_to seats.new.items held.now) (polled_by seats.new.items)) }
+    ensures came { IfOk result (λ _. (start : T) → T.Came start traffic.old (given_to seats.old.items held.now) (polled_by_each seats.old.items) → T.Came start traffic.new (given_to seats.new.items held.now) (polled_by_each seats.new.items)) }
     ensures deliverer { IsDelivererOf hub.now deliverer.new }
 {
     let index = usize::from(lane);
@@ -188,9 +188,9 @@ fn collect_some<R: Wait, T: Traffic>(
     held: &Option<(u8, Runs)>,
     most: u32,
 ) -> Result<CollectedByLane, T::BringFault>
-    requires { Serves hub.now seats.old.items held.now × ((start : T) × T.Came start traffic.old (given_to seats.old.items held.now) (polled_by seats.old.items)) × IsDelivererOf hub.now deliverer.old }
+    requires { Serves hub.now seats.old.items held.now × ((start : T) × T.Came start traffic.old (given_to seats.old.items held.now) (polled_by_each seats.old.items)) × IsDelivererOf hub.now deliverer.old }
     ensures serves { Serves hub.now seats.new.items held.now }
-    ensures came { IfOk result (λ _. (start : T) → T.Came start traffic.old (given_to seats.old.items held.now) (polled_by seats.old.items) → T.Came start traffic.new (given_to seats.new.items held.now) (polled_by seats.new.items)) }
+    ensures came { IfOk result (λ _. (start : T) → T.Came start traffic.old (given_to seats.old.items held.now) (polled_by_each seats.old.items) → T.Came start traffic.new (given_to seats.new.items held.now) (polled_by_each seats.new.items)) }
     ensures deliverer { IsDelivererOf hub.now deliverer.new }
 {
     let mut collected = CollectedByLane::Nothing;
@@ -225,8 +225,8 @@ fn wait_for_more<T: Traffic>(
     traffic: &mut T,
     seats: &Vec<LaneSeat>,
 ) -> Result<bool, T::WaitFault>
-    requires { Serves hub.now seats.now.items None × ((start : T) × T.Came start traffic.old (given_to seats.now.items None) (polled_by seats.now.items)) × AreEven seats.now.items }
-    ensures came { (start : T) → T.Came start traffic.old (given_to seats.now.items None) (polled_by seats.now.items) → T.Came start traffic.new (given_to seats.now.items None) (polled_by seats.now.items) }
+    requires { Serves hub.now seats.now.items None × ((start : T) × T.Came start traffic.old (given_to seats.now.items None) (polled_by_each seats.now.items)) × AreEven seats.now.items }
+    ensures came { (start : T) → T.Came start traffic.old (given_to seats.now.items None) (polled_by_each seats.now.items) → T.Came start traffic.new (given_to seats.now.items None) (polled_by_each seats.now.items) }
     ensures ended { result ≡ Ok false → T.has_ended traffic.new ≡ true }
 {
     let _ = hub;
@@ -244,9 +244,9 @@ fn take_turn<R: Wait, T: Traffic>(
     held: &mut Option<(u8, Runs)>,
     pace: &mut Pace<'_>,
 ) -> Result<Turn, T::BringFault>
-    requires { Serves hub.now seats.old.items held.old × ((start : T) × T.Came start traffic.old (given_to seats.old.items held.old) (polled_by seats.old.items)) × IsDelivererOf hub.now deliverer.old }
+    requires { Serves hub.now seats.old.items held.old × ((start : T) × T.Came start traffic.old (given_to seats.old.items held.old) (polled_by_each seats.old.items)) × IsDelivererOf hub.now deliverer.old }
     ensures serves { Serves hub.now seats.new.items held.new }
-    ensures came { IfOk result (λ _. (start : T) → T.Came start traffic.old (given_to seats.old.items held.old) (polled_by seats.old.items) → T.Came start traffic.new (given_to seats.new.items held.new) (polled_by seats.new.items)) }
+    ensures came { IfOk result (λ _. (start : T) → T.Came start traffic.old (given_to seats.old.items held.old) (polled_by_each seats.old.items) → T.Came start traffic.new (given_to seats.new.items held.new) (polled_by_each seats.new.items)) }
     ensures deliverer { IsDelivererOf hub.now deliverer.new }
     ensures even { result ≡ Ok Turn.Even → AreEven seats.new.items × (held.new ≡ None) }
 {
@@ -285,9 +285,9 @@ fn run<R: Wait, T: Traffic>(
     deliverer: &mut DelivererSeat,
     signals: &Signals,
 ) -> Ended<T::WaitFault, T::BringFault>
-    requires { Serves hub.now seats.old.items None × ((start : T) × T.Came start traffic.old (given_to seats.old.items None) (polled_by seats.old.items)) × IsDelivererOf hub.now deliverer.old }
+    requires { Serves hub.now seats.old.items None × ((start : T) × T.Came start traffic.old (given_to seats.old.items None) (polled_by_each seats.old.items)) × IsDelivererOf hub.now deliverer.old }
     ensures serves { (held : Option (ℕ × List ℕ)) × Serves hub.now seats.new.items held
-        × (IsKept result → (start : T) → T.Came start traffic.old (given_to seats.old.items None) (polled_by seats.old.items) → T.Came start traffic.new (given_to seats.new.items held) (polled_by seats.new.items))
+        × (IsKept result → (start : T) → T.Came start traffic.old (given_to seats.old.items None) (polled_by_each seats.old.items) → T.Came start traffic.new (given_to seats.new.items held) (polled_by_each seats.new.items))
         × (result ≡ Ended.Done → (T.has_ended traffic.new ≡ true) × AreEven seats.new.items × (held ≡ None)) }
     ensures deliverer { IsDelivererOf hub.now deliverer.new }
 {
@@ -328,8 +328,8 @@ fn serve_seats<R: Threads + Wait + Sync, G: Gate + Sync, T: Traffic + Drop>(
     ),
     Unstarted<Box<T>>,
 >
-    requires { Serves hub.now seats.items None × T.Came traffic.value traffic.value (given_to seats.items None) (polled_by seats.items) × All (IsWorkerOf hub.now) workers.items × IsDelivererOf hub.now deliverer }
-    ensures serves { IfOk result (λ v. (held : Option (ℕ × List ℕ)) × Serves hub.now v.1.items held × (IsKept v.4 → T.Came traffic.value v.0.value (given_to v.1.items held) (polled_by v.1.items)) × (v.4 ≡ Ended.Done → (T.has_ended v.0.value ≡ true) × AreEven v.1.items × (held ≡ None))) }
+    requires { Serves hub.now seats.items None × T.Came traffic.value traffic.value (given_to seats.items None) (polled_by_each seats.items) × All (IsWorkerOf hub.now) workers.items × IsDelivererOf hub.now deliverer }
+    ensures serves { IfOk result (λ v. (held : Option (ℕ × List ℕ)) × Serves hub.now v.1.items held × (IsKept v.4 → T.Came traffic.value v.0.value (given_to v.1.items held) (polled_by_each v.1.items)) × (v.4 ≡ Ended.Done → (T.has_ended v.0.value ≡ true) × AreEven v.1.items × (held ≡ None))) }
     ensures workers { IfOk result (λ v. All (IsWorkerOf hub.now) v.2.items × (vec_len v.2 ≡ vec_len workers)) }
     ensures deliverer { IfOk result (λ v. IsDelivererOf hub.now v.3) }
     ensures refused { IfErr result (λ e. e.fault ≢ ServeFault.BadCount) }
@@ -343,8 +343,8 @@ fn serve_seats<R: Threads + Wait + Sync, G: Gate + Sync, T: Traffic + Drop>(
         DelivererSeat,
         Ended<T::WaitFault, T::BringFault>,
     )
-        requires { Serves hub.now seats.items None × T.Came traffic.value traffic.value (given_to seats.items None) (polled_by seats.items) × IsDelivererOf hub.now deliverer }
-        ensures serves { (held : Option (ℕ × List ℕ)) × Serves hub.entry.now result.1.items held × (IsKept result.3 → T.Came traffic.value result.0.value (given_to result.1.items held) (polled_by result.1.items)) × (result.3 ≡ Ended.Done → (T.has_ended result.0.value ≡ true) × AreEven result.1.items × (held ≡ None)) }
+        requires { Serves hub.now seats.items None × T.Came traffic.value traffic.value (given_to seats.items None) (polled_by_each seats.items) × IsDelivererOf hub.now deliverer }
+        ensures serves { (held : Option (ℕ × List ℕ)) × Serves hub.entry.now result.1.items held × (IsKept result.3 → T.Came traffic.value result.0.value (given_to result.1.items held) (polled_by_each result.1.items)) × (result.3 ≡ Ended.Done → (T.has_ended result.0.value ≡ true) × AreEven result.1.items × (held ≡ None)) }
         ensures deliverer { IsDelivererOf hub.entry.now result.2 }
     {
         let mut traffic = traffic;

@@ -13,7 +13,7 @@ use Rattle.lane_core.specs.declared.next_slot.NextSlot.TheVariants.{Missing, Her
 use Rattle.lane_core.specs.declared.job.Plain.{Plain}
 use Rattle.lane_core.specs.declared.ticket.Ticket.{Ticket}
 use Rattle.lane_core.specs.ReorderBuffer.{GivesAny, GivesNext, TakesIn, buffer, is_known, new_buffer, was_taken}
-use Rattle.lane_core.specs.NextSlots.{Advances, AreIndexed, AreKept, IsSlotOf, are_tied, come_tickets, buffer_of, has_come, slot_at, waiting_at, waiting_of}
+use Rattle.lane_core.specs.NextSlots.{Advances, AreIndexed, AreKept, IsSlotOf, are_tied, come_tickets, buffer_by_slots, has_come, slot_at, waiting_at, waiting_of}
 use Rattle.lane_core.specs.Tickets.{is_among, is_ticket_of}
 use Rattle.lane_core.proofs.LookupFacts.{MoreBy, or_assoc}
 use Rattle.lane_core.proofs.SlotFacts.{own_parts, set_sum}
@@ -65,7 +65,7 @@ come_at b (suc j) m k (n ∷ ns) (Out ∷ hs) long at =
     ap (λ c. (c && (n == k)) || is_known m k (come_tickets (suc b) ns hs)) (ne_eqb b m (λ e. absurd (omega arith))) ∙ come_at (suc b) j m k ns hs (omega arith) (omega arith)
 
 pub was_is : (nexts : List ℕ) (hs : List NextSlot) (es : List (Ticket × Plain)) (ks : List Ticket) → length hs ≡ length nexts → (l k : ℕ)
-    → was_taken (buffer_of nexts hs es ks) l k ≡ took_in nexts hs ks l k
+    → was_taken (buffer_by_slots nexts hs es ks) l k ≡ took_in nexts hs ks l k
 was_is nexts hs es ks long l k =
     let more : is_known l k (come_tickets 0 nexts hs ++ ks) ≡ (is_known l k (come_tickets 0 nexts hs) || is_known l k ks) = list_any-append (λ (t : Ticket). (t.lane == l) && (t.number == k)) (come_tickets 0 nexts hs) ks in
     ap (λ b. nat_lt k (get_or nexts l 0) || b) (more ∙ ap (λ b. b || is_known l k ks) (come_at 0 l l k nexts hs long (omega arith)))
@@ -122,12 +122,12 @@ or_none false b e = sym e
 
 -- a delivery came that is its lane's next number
 pub took_next : (nexts : List ℕ) (hs : List NextSlot) (es : List (Ticket × Plain)) (ks : List Ticket) (l : ℕ) (x : Plain)
-    → AreKept nexts hs es ks → l < length nexts → x.lane ≡ l → x.number ≡ get_or nexts l 0 → was_taken (buffer_of nexts hs es ks) x.lane x.number ≡ false
-    → TakesIn (buffer_of nexts hs es ks) x (buffer_of nexts (set hs l (Here x)) es ks)
+    → AreKept nexts hs es ks → l < length nexts → x.lane ≡ l → x.number ≡ get_or nexts l 0 → was_taken (buffer_by_slots nexts hs es ks) x.lane x.number ≡ false
+    → TakesIn (buffer_by_slots nexts hs es ks) x (buffer_by_slots nexts (set hs l (Here x)) es ks)
 took_next nexts hs es ks l x kept low lane number fresh =
     let n = get_or nexts l 0 in
     let there : l < length hs = let c = kept.lanes in omega arith in
-    let none = not_come nexts hs ks l (sym (was_is nexts hs es ks kept.lanes l n) ∙ (sym (λ i. was_taken (buffer_of nexts hs es ks) (lane i) (number i)) ∙ fresh)) in
+    let none = not_come nexts hs ks l (sym (was_is nexts hs es ks kept.lanes l n) ∙ (sym (λ i. was_taken (buffer_by_slots nexts hs es ks) (lane i) (number i)) ∙ fresh)) in
     let long : length (set hs l (Here x)) ≡ length nexts = length-set hs l (Here x) ∙ kept.lanes in
     record {
       new = (λ i. lt-ltb x.lane (length nexts) (let c = lane in omega arith) i && not (fresh i));
@@ -159,8 +159,8 @@ last_in false false false t = refl
 
 -- a delivery came that is a later number
 pub took_later : (nexts : List ℕ) (hs : List NextSlot) (es fs : List (Ticket × Plain)) (ks ts : List Ticket) (x : Plain)
-    → length hs ≡ length nexts → x.lane < length nexts → was_taken (buffer_of nexts hs es ks) x.lane x.number ≡ false → MoreBy es x fs → ((l k : ℕ) → is_known l k ts ≡ (is_known l k ks || is_ticket_of l k x))
-    → TakesIn (buffer_of nexts hs es ks) x (buffer_of nexts hs fs ts)
+    → length hs ≡ length nexts → x.lane < length nexts → was_taken (buffer_by_slots nexts hs es ks) x.lane x.number ≡ false → MoreBy es x fs → ((l k : ℕ) → is_known l k ts ≡ (is_known l k ks || is_ticket_of l k x))
+    → TakesIn (buffer_by_slots nexts hs es ks) x (buffer_by_slots nexts hs fs ts)
 took_later nexts hs es fs ks ts x long low fresh more known = record {
   new = (λ i. lt-ltb x.lane (length nexts) low i && not (fresh i));
   nexts = refl;
@@ -210,7 +210,7 @@ pub gave : (nexts : List ℕ) (hs : List NextSlot) (es fs : List (Ticket × Plai
     → ((h : Plain → ℕ) → sum_by h (values_of es) ≡ sum_by h (waiting_of a) + sum_by h (values_of fs))
     → ((k : ℕ) → (((get_or nexts l 0 + 1 == k) && has_come a) || is_known l k ts) ≡ is_known l k ks)
     → ((m k : ℕ) → m ≢ l → is_known m k ts ≡ is_known m k ks)
-    → GivesNext (buffer_of nexts hs es ks) l x (buffer_of (set nexts l (get_or nexts l 0 + 1)) (set (set hs l Missing) l a) fs ts)
+    → GivesNext (buffer_by_slots nexts hs es ks) l x (buffer_by_slots (set nexts l (get_or nexts l 0 + 1)) (set (set hs l Missing) l a) fs ts)
 gave nexts hs es fs ks ts l x a low lanes here own weight same others =
     let n = get_or nexts l 0 in
     let p = own_parts l n x own in
@@ -287,7 +287,7 @@ others_same l n es fs ks ts a moved m k other = ap (λ b. ((b && (n == k)) && ha
 
 -- a delivery of a later number was taken out of turn
 pub took_out : (nexts : List ℕ) (hs : List NextSlot) (es fs : List (Ticket × Plain)) (ks : List Ticket) (t : Ticket) (x : Plain) → es ≡ (t, x) ∷ fs
-    → GivesAny (buffer_of nexts hs es ks) x (buffer_of nexts hs fs ks)
+    → GivesAny (buffer_by_slots nexts hs es ks) x (buffer_by_slots nexts hs fs ks)
 took_out nexts hs es fs ks t x is = record {
   nexts = refl;
   leaves = record {
@@ -302,7 +302,7 @@ took_out nexts hs es fs ks t x is = record {
 
 -- and one that waited as its lane's next number
 pub took_slot : (nexts : List ℕ) (hs : List NextSlot) (es : List (Ticket × Plain)) (ks : List Ticket) (l : ℕ) (x : Plain) → length hs ≡ length nexts → l < length hs → slot_at hs l ≡ Here x
-    → GivesAny (buffer_of nexts hs es ks) x (buffer_of nexts (set hs l Out) es ks)
+    → GivesAny (buffer_by_slots nexts hs es ks) x (buffer_by_slots nexts (set hs l Out) es ks)
 took_slot nexts hs es ks l x long low here = record {
   nexts = refl;
   leaves = record {
@@ -321,7 +321,7 @@ took_slot nexts hs es ks l x long low here = record {
 }
 
 -- a number that was not taken in is not known as a later one, and so none such waits
-pub not_known : (nexts : List ℕ) (hs : List NextSlot) (es : List (Ticket × Plain)) (ks : List Ticket) (l k : ℕ) → length hs ≡ length nexts → was_taken (buffer_of nexts hs es ks) l k ≡ false → is_known l k ks ≡ false
+pub not_known : (nexts : List ℕ) (hs : List NextSlot) (es : List (Ticket × Plain)) (ks : List Ticket) (l k : ℕ) → length hs ≡ length nexts → was_taken (buffer_by_slots nexts hs es ks) l k ≡ false → is_known l k ks ≡ false
 not_known nexts hs es ks l k long fresh =
     (or_parts (nat_lt k (get_or nexts l 0)) ((get_or nexts l 0 == k) && has_come (slot_at hs l)) (is_known l k ks) (sym (was_is nexts hs es ks long l k) ∙ fresh)).2
 
@@ -337,5 +337,5 @@ none_come_yet l zero = refl
 none_come_yet l (suc n) = none_come_yet (suc l) n
 
 -- a deliverer that took nothing in
-pub new_is : (n : ℕ) → buffer_of (replicate n 0) (replicate n Missing) [] [] ≡ new_buffer n
+pub new_is : (n : ℕ) → buffer_by_slots (replicate n 0) (replicate n Missing) [] [] ≡ new_buffer n
 new_is n = λ i. buffer (replicate n 0) (none_yet n i ++ []) (none_come_yet 0 n i ++ [])

@@ -10,8 +10,8 @@ use Rattle.std.proofs.Math.Bool.{or_comm}
 use Rattle.std.proofs.lemmas.List.{map-set}
 use Rattle.lane_core.specs.declared.event.Event.TheVariants.{Hand}
 use Rattle.lane_core.specs.declared.job.Plain.{Plain}
-use Rattle.lane_core.specs.Contents.{Contents, IsEnabled, LaneContents, Shows, Steps, contents, lane_of, shown_lane}
-use Rattle.lane_core.specs.ReorderBuffer.{ReorderBuffer, GivesNext, IsNext, has_next, next_of}
+use Rattle.lane_core.specs.Contents.{Contents, IsEnabled, LaneContents, ShowsState, Steps, contents, lane_contents, shown_lane}
+use Rattle.lane_core.specs.ReorderBuffer.{ReorderBuffer, GivesNext, WaitsAsNext, has_next, next_of}
 use Rattle.lane_core.specs.Machine.{LaneState, State, hand, handed_of, lane_state, of_lane, state, submitted_by, without}
 use Rattle.lane_core.specs.Tickets.{is_among, is_ticket_of}
 use Rattle.lane_core.specs.Weights.{once}
@@ -27,10 +27,10 @@ use Rattle.lane_core.proofs.LookupFacts.{or_assoc}
 use Rattle.lane_core.proofs.SiftFacts.{inside}
 
 -- the lane's next number is as many as it was handed
-next_is : (c : Contents) (s : State) (l : ℕ) (v : LaneState) → Shows c s → slice_get s.lanes l ≡ Some v → next_of c.buffer l ≡ v.handed
+next_is : (c : Contents) (s : State) (l : ℕ) (v : LaneState) → ShowsState c s → slice_get s.lanes l ≡ Some v → next_of c.buffer l ≡ v.handed
 next_is c s l v shows at = ap (λ (xs : List ℕ). get_or xs l 0) shows.nexts ∙ number_at (λ (u : LaneState). u.handed) s.lanes l v at
 
-none_at : (c : Contents) (s : State) (l : ℕ) (o : Option LaneState) → slice_get s.lanes l ≡ o → Shows c s → has_next c.buffer l ≡ false → hand s l o ≡ None
+none_at : (c : Contents) (s : State) (l : ℕ) (o : Option LaneState) → slice_get s.lanes l ≡ o → ShowsState c s → has_next c.buffer l ≡ false → hand s l o ≡ None
 none_at c s l None at shows none = refl
 none_at c s l (Some v) at shows none =
     let gone : is_among l v.handed c.buffer.waiting ≡ false = ap (λ n. is_among l n c.buffer.waiting) (sym (next_is c s l v shows at)) ∙ none in
@@ -108,7 +108,7 @@ below_handed s l m k v at =
     (cases_eq m l)
 
 pub hand_done : (c : Contents) (l : ℕ) (x : LaneContents) (y : Plain) (e : ReorderBuffer) → slice_get c.lanes l ≡ Some x → GivesNext c.buffer l y e
-    → Steps c (Hand l) true (contents c.year (set c.lanes l (lane_of x.closed x.issued (x.handed ++ y ∷ []) x.polled)) c.jobs c.workers c.results e)
+    → Steps c (Hand l) true (contents c.year (set c.lanes l (lane_contents x.closed x.issued (x.handed ++ y ∷ []) x.polled)) c.jobs c.workers c.results e)
 hand_done c l x y e at gives = λ s r shows.
     let f = found c s l x shows at in
     let v = f.0 in
@@ -127,8 +127,8 @@ hand_done c l x y e at gives = λ s r shows.
     let waits = among_from l v.handed s.waiting (omega arith) in
     let w = lane_state v.submitted v.closed v.polled (v.handed + 1) in
     let t = state s.year (set s.lanes l w) s.jobs s.workers s.results (without l v.handed s.waiting) in
-    let shown : shown_lane w ≡ lane_of x.closed x.issued (x.handed ++ y ∷ []) x.polled =
-    λ i. lane_of (f.2 i).closed (f.2 i).issued ((take_more v.submitted v.handed y row_here ∙ ap (λ (u : LaneContents). u.handed ++ y ∷ []) f.2) i) (f.2 i).polled in
+    let shown : shown_lane w ≡ lane_contents x.closed x.issued (x.handed ++ y ∷ []) x.polled =
+    λ i. lane_contents (f.2 i).closed (f.2 i).issued ((take_more v.submitted v.handed y row_here ∙ ap (λ (u : LaneContents). u.handed ++ y ∷ []) f.2) i) (f.2 i).polled in
     done c _ s t (Hand l) (ap (hand s l) f.1 ∙ (λ i. cond (waits i) (Some t) None))
     record {
       year = shows.year;
@@ -153,7 +153,7 @@ contained l n y (x ∷ xs) lane number zero less is =
 contained l n y (x ∷ xs) lane number (suc k) less is = ap (λ b. is_ticket_of l n x || b) (contained l n y xs lane number k (omega arith) is) ∙ or_comm (is_ticket_of l n x) true
 
 -- where the lane's next number waits, it may be handed
-pub hand_enabled : (c : Contents) (l : ℕ) (x : LaneContents) (y : Plain) → slice_get c.lanes l ≡ Some x → IsNext c.buffer l y → IsEnabled c (Hand l)
+pub hand_enabled : (c : Contents) (l : ℕ) (x : LaneContents) (y : Plain) → slice_get c.lanes l ≡ Some x → WaitsAsNext c.buffer l y → IsEnabled c (Hand l)
 hand_enabled c l x y at next = λ s r shows.
     let f = found c s l x shows at in
     let v = f.0 in

@@ -6,7 +6,7 @@ use Rattle.std.proofs.lemmas.Option.{slice_get_past}
 use Rattle.std.proofs.lemmas.List.{length-take-le, map-set, take-append-le}
 use Rattle.lane_core.specs.declared.event.Event.TheVariants.{Submit, Hand, Poll, Close}
 use Rattle.lane_core.specs.declared.job.Plain.{Plain}
-use Rattle.lane_core.specs.Contents.{Contents, LaneContents, Shows, Steps, contents, lane_of, shown_lane}
+use Rattle.lane_core.specs.Contents.{Contents, LaneContents, ShowsState, Steps, contents, lane_contents, shown_lane}
 use Rattle.lane_core.specs.ReorderBuffer.{was_taken}
 use Rattle.lane_core.specs.Machine.{LaneState, State, close, hand, lane_state, next_job, of_lane, poll, state, submit}
 use Rattle.lane_core.specs.Plain.{plain_of}
@@ -22,10 +22,10 @@ use Rattle.lane_core.proofs.StepFacts.{reached_good}
 abbrev pub Found : State → ℕ → LaneContents → Type 0
 Found s l c = (v : LaneState) × (slice_get s.lanes l ≡ Some v) × (shown_lane v ≡ c)
 
-pub found : (c : Contents) (s : State) (l : ℕ) (x : LaneContents) → Shows c s → slice_get c.lanes l ≡ Some x → Found s l x
+pub found : (c : Contents) (s : State) (l : ℕ) (x : LaneContents) → ShowsState c s → slice_get c.lanes l ≡ Some x → Found s l x
 found c s l x shows at = get_back shown_lane s.lanes l x (ap (λ (xs : List LaneContents). slice_get xs l) (sym shows.lanes) ∙ at)
 
-past : (c : Contents) (s : State) (l : ℕ) → Shows c s → length c.lanes ≤ l → slice_get s.lanes l ≡ None
+past : (c : Contents) (s : State) (l : ℕ) → ShowsState c s → length c.lanes ≤ l → slice_get s.lanes l ≡ None
 past c s l shows e = get_none_back shown_lane s.lanes l (ap (λ (xs : List LaneContents). slice_get xs l) (sym shows.lanes) ∙ slice_get_past c.lanes l e)
 
 -- no such lane
@@ -42,13 +42,13 @@ pub close_past : (c : Contents) (l : ℕ) → length c.lanes ≤ l → Steps c (
 close_past c l e = λ s r shows. idle c s (Close l) (ap (close s l) (past c s l shows e)) shows
 
 -- one lane changed: what was handed stays
-lanes_with : (c : Contents) (s : State) (l : ℕ) (v w : LaneState) (x : LaneContents) → Shows c s → shown_lane w ≡ x → set c.lanes l x ≡ map shown_lane (set s.lanes l w)
+lanes_with : (c : Contents) (s : State) (l : ℕ) (v w : LaneState) (x : LaneContents) → ShowsState c s → shown_lane w ≡ x → set c.lanes l x ≡ map shown_lane (set s.lanes l w)
 lanes_with c s l v w x shows is = (λ i. set (shows.lanes i) l (sym is i)) ∙ sym (map-set shown_lane s.lanes l w)
 
-nexts_kept : (c : Contents) (s : State) (l : ℕ) (v w : LaneState) → Shows c s → slice_get s.lanes l ≡ Some v → w.handed ≡ v.handed → c.buffer.nexts ≡ map (λ u. u.handed) (set s.lanes l w)
+nexts_kept : (c : Contents) (s : State) (l : ℕ) (v w : LaneState) → ShowsState c s → slice_get s.lanes l ≡ Some v → w.handed ≡ v.handed → c.buffer.nexts ≡ map (λ u. u.handed) (set s.lanes l w)
 nexts_kept c s l v w shows at is = shows.nexts ∙ sym (map_keeps (λ (u : LaneState). u.handed) s.lanes l v w at is)
 
-known_kept : (c : Contents) (s : State) (l : ℕ) (v w : LaneState) → Shows c s → slice_get s.lanes l ≡ Some v → w.handed ≡ v.handed
+known_kept : (c : Contents) (s : State) (l : ℕ) (v w : LaneState) → ShowsState c s → slice_get s.lanes l ≡ Some v → w.handed ≡ v.handed
     → (m k : ℕ) → was_taken c.buffer m k ≡ (nat_lt k (of_lane 0 (λ u. u.handed) (slice_get (set s.lanes l w) m)) || is_among m k s.waiting)
 known_kept c s l v w shows at is = λ m k. shows.known m k ∙ ap (λ n. nat_lt k n || is_among m k s.waiting) (sym (lane_kept 0 (λ u. u.handed) s.lanes l m v w at is))
 
@@ -81,7 +81,7 @@ submit_full c l row x at full = λ s r shows.
     idle c s (Submit l row) (ap (submit s l row) f.1 ∙ (λ i. cond (off i) (Some (state s.year (set s.lanes l (lane_state (v.submitted ++ next_job s l v row ∷ []) v.closed v.polled v.handed)) (s.jobs ++ next_job s l v row ∷ []) s.workers s.results s.waiting)) None)) shows
 
 pub submit_done : (c : Contents) (l : ℕ) (row : List ℕ) (x : LaneContents) → slice_get c.lanes l ≡ Some x → x.closed ≡ false → x.issued < 2 ^ 32
-    → Steps c (Submit l row) true (contents c.year (set c.lanes l (lane_of x.closed (x.issued + 1) x.handed x.polled)) (c.jobs ++ plain_of l x.issued c.year row ∷ []) c.workers c.results c.buffer)
+    → Steps c (Submit l row) true (contents c.year (set c.lanes l (lane_contents x.closed (x.issued + 1) x.handed x.polled)) (c.jobs ++ plain_of l x.issued c.year row ∷ []) c.workers c.results c.buffer)
 submit_done c l row x at open_ room = λ s r shows.
     let f = found c s l x shows at in
     let v = f.0 in
@@ -93,8 +93,8 @@ submit_done c l row x at open_ room = λ s r shows.
     let good = reached_good s r in
     let most : v.handed ≤ length v.submitted =
     (let a = handed_issued s l good in let b = lane_was 0 (λ u. u.handed) s.lanes l l v f.1 refl in let d = ap (λ (xs : List Plain). length xs) (lane_was [] (λ u. u.submitted) s.lanes l l v f.1 refl) in omega arith) in
-    let shown : shown_lane w ≡ lane_of x.closed (x.issued + 1) x.handed x.polled =
-    λ i. lane_of (f.2 i).closed ((length-append v.submitted (job ∷ []) ∙ ap (λ n. n + 1) count) i) ((take-append-le v.handed v.submitted (job ∷ []) most ∙ ap (λ (u : LaneContents). u.handed) f.2) i) (f.2 i).polled in
+    let shown : shown_lane w ≡ lane_contents x.closed (x.issued + 1) x.handed x.polled =
+    λ i. lane_contents (f.2 i).closed ((length-append v.submitted (job ∷ []) ∙ ap (λ n. n + 1) count) i) ((take-append-le v.handed v.submitted (job ∷ []) most ∙ ap (λ (u : LaneContents). u.handed) f.2) i) (f.2 i).polled in
     done c _ s t (Submit l row) (ap (submit s l row) f.1 ∙ (λ i. cond (on i) (Some t) None))
     record {
       year = shows.year;
@@ -125,7 +125,7 @@ poll_none c l x at none = λ s r shows.
     idle c s (Poll l) (ap (poll s l) f.1 ∙ (λ i. cond (off i) (Some (state s.year (set s.lanes l (lane_state v.submitted v.closed (v.polled + 1) v.handed)) s.jobs s.workers s.results s.waiting)) None)) shows
 
 pub poll_done : (c : Contents) (l : ℕ) (x : LaneContents) → slice_get c.lanes l ≡ Some x → x.polled < length x.handed
-    → Steps c (Poll l) true (contents c.year (set c.lanes l (lane_of x.closed x.issued x.handed (x.polled + 1))) c.jobs c.workers c.results c.buffer)
+    → Steps c (Poll l) true (contents c.year (set c.lanes l (lane_contents x.closed x.issued x.handed (x.polled + 1))) c.jobs c.workers c.results c.buffer)
 poll_done c l x at more = λ s r shows.
     let f = found c s l x shows at in
     let v = f.0 in
@@ -137,7 +137,7 @@ poll_done c l x at more = λ s r shows.
     done c _ s t (Poll l) (ap (poll s l) f.1 ∙ (λ i. cond (on i) (Some t) None))
     record {
       year = shows.year;
-      lanes = lanes_with c s l v w _ shows (λ i. lane_of (f.2 i).closed (f.2 i).issued (f.2 i).handed ((f.2 i).polled + 1));
+      lanes = lanes_with c s l v w _ shows (λ i. lane_contents (f.2 i).closed (f.2 i).issued (f.2 i).handed ((f.2 i).polled + 1));
       jobs = shows.jobs;
       workers = shows.workers;
       results = shows.results;
@@ -161,7 +161,7 @@ close_none c l x at closed = λ s r shows.
     idle c s (Close l) (ap (close s l) f.1 ∙ (λ i. cond (off i) (Some (state s.year (set s.lanes l (lane_state v.submitted true v.polled v.handed)) s.jobs s.workers s.results s.waiting)) None)) shows
 
 pub close_done : (c : Contents) (l : ℕ) (x : LaneContents) → slice_get c.lanes l ≡ Some x → x.closed ≡ false
-    → Steps c (Close l) true (contents c.year (set c.lanes l (lane_of true x.issued x.handed x.polled)) c.jobs c.workers c.results c.buffer)
+    → Steps c (Close l) true (contents c.year (set c.lanes l (lane_contents true x.issued x.handed x.polled)) c.jobs c.workers c.results c.buffer)
 close_done c l x at open_ = λ s r shows.
     let f = found c s l x shows at in
     let v = f.0 in
@@ -171,7 +171,7 @@ close_done c l x at open_ = λ s r shows.
     done c _ s t (Close l) (ap (close s l) f.1 ∙ (λ i. cond (on i) (Some t) None))
     record {
       year = shows.year;
-      lanes = lanes_with c s l v w _ shows (λ i. lane_of true (f.2 i).issued (f.2 i).handed (f.2 i).polled);
+      lanes = lanes_with c s l v w _ shows (λ i. lane_contents true (f.2 i).issued (f.2 i).handed (f.2 i).polled);
       jobs = shows.jobs;
       workers = shows.workers;
       results = shows.results;

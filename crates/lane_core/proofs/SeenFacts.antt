@@ -5,7 +5,7 @@ use Rattle.std.proofs.lemmas.Bool.Decides.{nat_tests}
 use Rattle.std.proofs.lemmas.List.Sums.{sum_by-cons}
 use Rattle.std.proofs.lemmas.List.{take-take}
 use Rattle.lane_core.specs.declared.job.Plain.{Plain}
-use Rattle.lane_core.specs.Contents.{Contents, LaneContents, Shows}
+use Rattle.lane_core.specs.Contents.{Contents, LaneContents, ShowsState}
 use Rattle.lane_core.specs.Machine.{State, IsReached, handed_of, is_closed, issued_of, polled_by, polled_of}
 use Rattle.lane_core.specs.Tickets.{is_among, is_held_by, is_ticket_of}
 use Rattle.lane_core.proofs.LaneFacts.{lane_was}
@@ -22,7 +22,7 @@ pub record Seen (s : State) (l : ℕ) (x : LaneContents) : Type 0 where
   pub list : take x.polled x.handed ≡ polled_by s l
   pub few : x.polled ≤ length x.handed
 
-pub seen : (c : Contents) (s : State) (l : ℕ) (x : LaneContents) → IsReached s → Shows c s → slice_get c.lanes l ≡ Some x → Seen s l x
+pub seen : (c : Contents) (s : State) (l : ℕ) (x : LaneContents) → IsReached s → ShowsState c s → slice_get c.lanes l ≡ Some x → Seen s l x
 seen c s l x r shows at =
     let f = found c s l x shows at in
     let v = f.0 in
@@ -54,7 +54,7 @@ held_none l k (o ∷ os) e =
     omega (arith, sum_by-cons (λ (p : Option Plain). count_by (is_ticket_of l k) (option_to_list p)) o os)
 
 -- an issued ticket that is in no other place waits
-pub waits : (c : Contents) (s : State) (l k : ℕ) → IsReached s → Shows c s → k < issued_of s l → handed_of s l ≤ k
+pub waits : (c : Contents) (s : State) (l k : ℕ) → IsReached s → ShowsState c s → k < issued_of s l → handed_of s l ≤ k
     → is_among l k c.jobs ≡ false → is_held_by l k c.workers ≡ false → is_among l k c.results ≡ false → is_among l k s.waiting ≡ true
 waits c s l k r shows issued handed jobs workers results =
     let good = reached_good s r in

@@ -10,7 +10,7 @@ use Rattle.std.proofs.lemmas.Bool.{lt-ltb}
 use Rattle.lane_core.specs.declared.event.Event.{Event}
 use Rattle.lane_core.specs.declared.event.Event.TheVariants.{Take, Post, Collect}
 use Rattle.lane_core.specs.declared.job.Plain.{Plain}
-use Rattle.lane_core.specs.Contents.{Contents, IsShown, Shows, Steps, contents, lane_of, shown_lane}
+use Rattle.lane_core.specs.Contents.{Contents, IsShown, ShowsState, Steps, contents, lane_contents, shown_lane}
 use Rattle.lane_core.specs.ReorderBuffer.{ReorderBuffer, TakesIn, is_new, new_buffer, was_taken}
 use Rattle.lane_core.specs.Machine.{LaneState, State, after, collect, handed_of, issued_of, lane_state, of_lane, or_same, post, start, step, take_job}
 use Rattle.lane_core.specs.Tickets.{is_among, is_ticket_of}
@@ -22,11 +22,11 @@ use Rattle.lane_core.proofs.WeightFacts.{is_below, not_among}
 use Rattle.lane_core.proofs.SiftFacts.{ticket_self}
 
 -- an event that is done, and one that is not
-pub done : (c d : Contents) (s t : State) (e : Event) → step s e ≡ Some t → Shows d t → (is_some (step s e) ≡ true) × Shows d (after s e)
-done c d s t e is shows = (ap (λ o. is_some o) is, subst (Shows d) (sym (ap (or_same s) is)) shows)
+pub done : (c d : Contents) (s t : State) (e : Event) → step s e ≡ Some t → ShowsState d t → (is_some (step s e) ≡ true) × ShowsState d (after s e)
+done c d s t e is shows = (ap (λ o. is_some o) is, subst (ShowsState d) (sym (ap (or_same s) is)) shows)
 
-pub idle : (c : Contents) (s : State) (e : Event) → step s e ≡ None → Shows c s → (is_some (step s e) ≡ false) × Shows c (after s e)
-idle c s e is shows = (ap (λ o. is_some o) is, subst (Shows c) (sym (ap (or_same s) is)) shows)
+pub idle : (c : Contents) (s : State) (e : Event) → step s e ≡ None → ShowsState c s → (is_some (step s e) ≡ false) × ShowsState c (after s e)
+idle c s e is shows = (ap (λ o. is_some o) is, subst (ShowsState c) (sym (ap (or_same s) is)) shows)
 
 pub shown_after : (c d : Contents) (e : Event) (b : Bool) → IsShown c → Steps c e b d → IsShown d
 shown_after c d e b shown steps = (after shown.0 e, reached_more shown.0 e shown.1, (steps shown.0 shown.1 shown.2).1)
@@ -132,7 +132,7 @@ zeros (suc n) zero = refl
 zeros (suc n) (suc l) = zeros n l
 
 -- a new world
-pub start_shown : (lanes workers year : ℕ) → Shows (contents year (replicate lanes (lane_of false 0 [] 0)) [] (replicate workers None) [] (new_buffer lanes)) (start lanes workers year)
+pub start_shown : (lanes workers year : ℕ) → ShowsState (contents year (replicate lanes (lane_contents false 0 [] 0)) [] (replicate workers None) [] (new_buffer lanes)) (start lanes workers year)
 start_shown lanes workers year =
     let fresh = lane_state [] false 0 0 in
     record {
@@ -146,5 +146,5 @@ start_shown lanes workers year =
       known = λ l k. ap (λ n. nat_lt k n || false) (zeros lanes l ∙ sym (of_fresh 0 (λ v. v.handed) fresh lanes l refl));
     }
 
-pub start_is_shown : (lanes workers year : ℕ) → IsShown (contents year (replicate lanes (lane_of false 0 [] 0)) [] (replicate workers None) [] (new_buffer lanes))
+pub start_is_shown : (lanes workers year : ℕ) → IsShown (contents year (replicate lanes (lane_contents false 0 [] 0)) [] (replicate workers None) [] (new_buffer lanes))
 start_is_shown lanes workers year = (start lanes workers year, (lanes, workers, year, [], refl), start_shown lanes workers year)

@@ -12,7 +12,7 @@ use Rattle.lane_core.specs.declared.next_slot.NextSlot.TheVariants.{Missing, Her
 use Rattle.lane_core.specs.declared.job.Plain.{Plain}
 use Rattle.lane_core.specs.declared.ticket.Ticket.{Ticket}
 use Rattle.lane_core.specs.ReorderBuffer.{has_next}
-use Rattle.lane_core.specs.NextSlots.{AreKept, IsSlotOf, buffer_of, slot_at, is_here, waiting_at, waiting_of}
+use Rattle.lane_core.specs.NextSlots.{AreKept, IsSlotOf, buffer_by_slots, slot_at, is_here, waiting_at, waiting_of}
 use Rattle.lane_core.specs.Tickets.{is_among, is_ticket_of}
 use Rattle.lane_core.proofs.LookupFacts.{none_past}
 
@@ -92,7 +92,7 @@ or_false false b e = e
 
 -- a lane's next number waits exactly where its slot says so
 pub next_waits : (nexts : List ℕ) (hs : List NextSlot) (es : List (Ticket × Plain)) (ks : List Ticket) (l : ℕ) → AreKept nexts hs es ks → l < length nexts
-    → has_next (buffer_of nexts hs es ks) l ≡ is_here (slot_at hs l)
+    → has_next (buffer_by_slots nexts hs es ks) l ≡ is_here (slot_at hs l)
 next_waits nexts hs es ks l kept low =
     let n = get_or nexts l 0 in
     let more : is_among l n (waiting_at hs ++ values_of es) ≡ (is_among l n (waiting_at hs) || is_among l n (values_of es)) = list_any-append (is_ticket_of l n) (waiting_at hs) (values_of es) in

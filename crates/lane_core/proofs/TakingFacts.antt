@@ -8,19 +8,19 @@ use Rattle.lane_core.specs.declared.next_slot.NextSlot.TheVariants.{Here}
 use Rattle.lane_core.specs.declared.job.Plain.{Plain}
 use Rattle.lane_core.specs.declared.ticket.Ticket.{Ticket}
 use Rattle.lane_core.specs.ReorderBuffer.{TakesIn, is_known, was_taken}
-use Rattle.lane_core.specs.NextSlots.{AreKept, IsSlotOf, are_tied, buffer_of, is_tied}
+use Rattle.lane_core.specs.NextSlots.{AreKept, IsSlotOf, are_tied, buffer_by_slots, is_tied}
 use Rattle.lane_core.specs.Tickets.{is_ticket_of}
 use Rattle.lane_core.proofs.BufferFacts.{kept_later, kept_set, not_known, not_later, took_later, took_next}
 use Rattle.lane_core.proofs.LookupFacts.{MoreBy, cmp_tickets, finds_own, found_among, own_tied, put_gone, put_known, put_more, put_tied}
 
 module _ (nexts : List ℕ) (hs : List NextSlot) (es : List (Ticket × Plain)) (ks : List Ticket) (kept : AreKept nexts hs es ks) (t : Ticket) (x : Plain)
     (lane : t.lane ≡ x.lane) (number : t.number ≡ x.number) (small : t.number < 2 ^ 32) (low : x.lane < length nexts)
-    (fresh : was_taken (buffer_of nexts hs es ks) t.lane t.number ≡ false) where
+    (fresh : was_taken (buffer_by_slots nexts hs es ks) t.lane t.number ≡ false) where
   tied : is_tied (t, x) ≡ true
   tied = own_tied t x lane number small
 
-  new : was_taken (buffer_of nexts hs es ks) x.lane x.number ≡ false
-  new = (λ i. was_taken (buffer_of nexts hs es ks) (sym lane i) (sym number i)) ∙ fresh
+  new : was_taken (buffer_by_slots nexts hs es ks) x.lane x.number ≡ false
+  new = (λ i. was_taken (buffer_by_slots nexts hs es ks) (sym lane i) (sym number i)) ∙ fresh
 
   own : t.number ≡ get_or nexts x.lane 0 → IsSlotOf x.lane (get_or nexts x.lane 0) (Here x)
   own next = subst (λ (u : ℕ × ℕ). is_tied (record { lane = u.0; number = u.1 }, x) ≡ true) (λ i. (lane i, next i)) tied
@@ -29,7 +29,7 @@ module _ (nexts : List ℕ) (hs : List NextSlot) (es : List (Ticket × Plain)) (
   pub head_kept : t.number ≡ get_or nexts x.lane 0 → AreKept nexts (set hs x.lane (Here x)) es ks
   head_kept next = kept_set nexts hs es ks x.lane (Here x) kept low (own next)
 
-  pub head_taken : t.number ≡ get_or nexts x.lane 0 → TakesIn (buffer_of nexts hs es ks) x (buffer_of nexts (set hs x.lane (Here x)) es ks)
+  pub head_taken : t.number ≡ get_or nexts x.lane 0 → TakesIn (buffer_by_slots nexts hs es ks) x (buffer_by_slots nexts (set hs x.lane (Here x)) es ks)
   head_taken next = took_next nexts hs es ks x.lane x kept low refl (sym number ∙ next) new
 
   unknown : is_known t.lane t.number ks ≡ false
@@ -48,7 +48,7 @@ module _ (nexts : List ℕ) (hs : List NextSlot) (es : List (Ticket × Plain)) (
   pub later_kept : t.number ≢ get_or nexts x.lane 0 → AreKept nexts hs (insert_entry cmp_tickets es t x) (insert_key cmp_tickets ks t)
   later_kept later = kept_later nexts hs es (insert_entry cmp_tickets es t x) ks (insert_key cmp_tickets ks t) x kept (λ e. later (number ∙ e)) more still_tied known
 
-  pub later_taken : TakesIn (buffer_of nexts hs es ks) x (buffer_of nexts hs (insert_entry cmp_tickets es t x) (insert_key cmp_tickets ks t))
+  pub later_taken : TakesIn (buffer_by_slots nexts hs es ks) x (buffer_by_slots nexts hs (insert_entry cmp_tickets es t x) (insert_key cmp_tickets ks t))
   later_taken = took_later nexts hs es (insert_entry cmp_tickets es t x) ks (insert_key cmp_tickets ks t) x kept.lanes low new more known
 
   -- its ticket was put in and taken out again

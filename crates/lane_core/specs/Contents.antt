@@ -24,18 +24,18 @@ pub record Contents : Type 0 where
   pub results : List Plain
   pub buffer : ReorderBuffer
 
-abbrev pub lane_of : Bool → ℕ → List Plain → ℕ → LaneContents
-lane_of closed issued handed polled = record { closed = closed; issued = issued; handed = handed; polled = polled }
+abbrev pub lane_contents : Bool → ℕ → List Plain → ℕ → LaneContents
+lane_contents closed issued handed polled = record { closed = closed; issued = issued; handed = handed; polled = polled }
 
 abbrev pub contents : ℕ → List LaneContents → List Plain → List (Option Plain) → List Plain → ReorderBuffer → Contents
 contents year lanes jobs workers results buffer = record { year = year; lanes = lanes; jobs = jobs; workers = workers; results = results; buffer = buffer }
 
 -- a lane keeps what it was handed: the first of what it has submitted
 abbrev pub shown_lane : LaneState → LaneContents
-shown_lane v = lane_of v.closed (length v.submitted) (take v.handed v.submitted) v.polled
+shown_lane v = lane_contents v.closed (length v.submitted) (take v.handed v.submitted) v.polled
 
 -- the world shows this state of the machine; what waits may stand in another order
-pub record Shows (c : Contents) (s : State) : Type 0 where
+pub record ShowsState (c : Contents) (s : State) : Type 0 where
   pub year : c.year ≡ s.year
   pub lanes : c.lanes ≡ map shown_lane s.lanes
   pub jobs : c.jobs ≡ s.jobs
@@ -47,15 +47,15 @@ pub record Shows (c : Contents) (s : State) : Type 0 where
 
 -- it shows a state that some events lead to
 abbrev pub IsShown : Contents → Type 0
-IsShown c = (s : State) × IsReached s × Shows c s
+IsShown c = (s : State) × IsReached s × ShowsState c s
 
 -- the event is done or not, as the machine says, and the world shows the state after it
 abbrev pub Steps : Contents → Event → Bool → Contents → Type 0
-Steps c e done d = (s : State) → IsReached s → Shows c s → (is_some (step s e) ≡ done) × Shows d (after s e)
+Steps c e done d = (s : State) → IsReached s → ShowsState c s → (is_some (step s e) ≡ done) × ShowsState d (after s e)
 
 -- the event is not disabled
 abbrev pub IsEnabled : Contents → Event → Type 0
-IsEnabled c e = (s : State) → IsReached s → Shows c s → is_some (step s e) ≡ true
+IsEnabled c e = (s : State) → IsReached s → ShowsState c s → is_some (step s e) ≡ true
 
 -- whether an event makes a queue, the deliverer or an outbox longer
 abbrev pub takes_memory : Event → Bool
@@ -68,5 +68,5 @@ takes_memory (Poll l) = false
 takes_memory (Close l) = false
 
 -- what is so of each state that the world can show
-abbrev pub Says : Contents → (State → Type 0) → Type 0
-Says c P = (s : State) → IsReached s → Shows c s → P s
+abbrev pub HoldsOfShown : Contents → (State → Type 0) → Type 0
+HoldsOfShown c P = (s : State) → IsReached s → ShowsState c s → P s

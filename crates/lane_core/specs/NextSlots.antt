@@ -56,8 +56,8 @@ come_tickets l (n ∷ nexts) [] = []
 come_tickets l (n ∷ nexts) (h ∷ slots) = come_ticket l n h ++ come_tickets (suc l) nexts slots
 
 -- what a deliverer keeps so is this reorder buffer
-abbrev pub buffer_of : List ℕ → List NextSlot → List (Ticket × Plain) → List Ticket → ReorderBuffer
-buffer_of nexts slots later known = buffer nexts (waiting_at slots ++ values_of later) (come_tickets 0 nexts slots ++ known)
+abbrev pub buffer_by_slots : List ℕ → List NextSlot → List (Ticket × Plain) → List Ticket → ReorderBuffer
+buffer_by_slots nexts slots later known = buffer nexts (waiting_at slots ++ values_of later) (come_tickets 0 nexts slots ++ known)
 
 -- a delivery that waits as lane l's next number k has that ticket
 abbrev pub IsSlotOf : ℕ → ℕ → NextSlot → Type 0

@@ -57,7 +57,7 @@ abbrev pub has_next : ReorderBuffer → ℕ → Bool
 has_next d l = is_among l (next_of d l) d.waiting
 
 -- x waits, as lane l's next number
-pub record IsNext (d : ReorderBuffer) (l : ℕ) (x : Plain) : Type 0 where
+pub record WaitsAsNext (d : ReorderBuffer) (l : ℕ) (x : Plain) : Type 0 where
   pub lane : x.lane ≡ l
   pub number : x.number ≡ next_of d l
   pub waits : Contains d.waiting x

@@ -2,7 +2,7 @@
 ghost use Rattle.std.specs.Prelude.{◌≡◌, ◌≢◌, ◌<◌, ◌≤◌, ◌↔◌, ◌^◌, [], replicate, true, false, IsSome, IfErr, IfOk, IfNone, IfSome, OnErr, OnOk};
 ghost use Rattle.lane_core.specs.declared.next_slot.NextSlot.TheVariants.{Missing};
 ghost use Rattle.lane_core.specs.NextSlots.{Advances, AreIndexed};
-ghost use Rattle.lane_core.specs.ReorderBuffer.{lanes_of, new_buffer, was_taken, has_next, TakesIn, ComesBack, IsNext, GivesNext, GivesAny};
+ghost use Rattle.lane_core.specs.ReorderBuffer.{lanes_of, new_buffer, was_taken, has_next, TakesIn, ComesBack, WaitsAsNext, GivesNext, GivesAny};
 
 use crate::delivery::Delivery;
 use crate::fault::{NoMemory, TakeFault};
@@ -30,11 +30,11 @@ pub struct Deliverer {
 
 impl Model for Deliverer {
     ghost use Rattle.lane_core.specs.ReorderBuffer.{ReorderBuffer};
-    ghost use Rattle.lane_core.specs.NextSlots.{AreKept, buffer_of};
+    ghost use Rattle.lane_core.specs.NextSlots.{AreKept, buffer_by_slots};
 
     ghost Value = { ReorderBuffer };
 
-    ghost view = { λ d. buffer_of d.nexts.items d.slots.items d.later.entries d.known.keys };
+    ghost view = { λ d. buffer_by_slots d.nexts.items d.slots.items d.later.entries d.known.keys };
 
     ghost invariant = { λ d. AreKept d.nexts.items d.slots.items d.later.entries d.known.keys };
 }
@@ -152,7 +152,7 @@ impl Deliverer {
     /// The lane's next number, where it waits.
     pub fn next(&self, lane: u8) -> Option<&Delivery>
         requires { lane < lanes_of self.now }
-        ensures some { IfSome result (λ x. IsNext self.now lane x.now) }
+        ensures some { IfSome result (λ x. WaitsAsNext self.now lane x.now) }
         ensures exactly { IsSome result ↔ (has_next self.now lane ≡ true) }
     {
         match &self.slots[usize::from(lane)] {

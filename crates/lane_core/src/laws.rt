@@ -1,6 +1,6 @@
 //! Laws about the machine and about lists of tickets: each function does nothing, and its contract is the law.
 ghost use Rattle.lane_core.specs.History.{DoneStaysDone, EventsAreDone, ListsGrow, NothingAfterClose, PolledInOrder, QueuesKeep};
-ghost use Rattle.lane_core.specs.Reading.{AnswersAreRead, PolledAreRead};
+ghost use Rattle.lane_core.specs.Reading.{DeliveriesAreRead, PolledAreRead};
 ghost use Rattle.lane_core.specs.Settling.{AllFound, ClaimsSettle, KeptWhole, ReceivedFirst, SameLists};
 ghost use Rattle.lane_core.specs.Whereabouts.{LostIsNone, OnePlace, TicketsOnce};
 
@@ -67,7 +67,7 @@ pub fn all_found()
 
 /// The answers of deliveries of one reference year are those to their rows.
 pub fn answers_are_read()
-    ensures { AnswersAreRead }
+    ensures { DeliveriesAreRead }
 {}
 
 /// The answers of what a lane has polled are those to its rows.

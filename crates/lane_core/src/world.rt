@@ -1,6 +1,6 @@
 //! Lanes, workers and a deliverer on one thread, one step at a time.
 ghost use Rattle.std.specs.Prelude.{None, ◌≡◌, ◌<◌, ◌≤◌, IfOk, false, length, map, replicate, []};
-ghost use Rattle.lane_core.specs.Contents.{IsShown, Says, Shows, lane_of};
+ghost use Rattle.lane_core.specs.Contents.{HoldsOfShown, IsShown, ShowsState, lane_contents};
 ghost use Rattle.lane_core.specs.Holding.{lane_held};
 ghost use Rattle.lane_core.specs.Machine.{is_closed, issued_of, polled_by, start};
 
@@ -44,7 +44,7 @@ impl Model for World {
 
 /// Lanes that have done nothing yet.
 fn open_lanes(alloc: Global, count: u16) -> Result<Vec<Lane>, AllocError>
-    ensures { IfOk result (λ lanes. map lane_held lanes.items ≡ replicate count (lane_of false 0 [] 0)) }
+    ensures { IfOk result (λ lanes. map lane_held lanes.items ≡ replicate count (lane_contents false 0 [] 0)) }
 {
     let mut lanes = Vec::with_capacity(alloc, usize::from(count))?;
     for _i in 0..count {
@@ -74,7 +74,7 @@ impl World {
     /// reference year.
     pub fn new(alloc: Global, lanes: u16, workers: u32, year: Year) -> Result<World, NoMemory>
         requires { lanes ≤ 256 }
-        ensures shows { IfOk result (λ world. Shows world (start lanes workers year)) }
+        ensures shows { IfOk result (λ world. ShowsState world (start lanes workers year)) }
         ensures lanes { IfOk result (λ world. length world.lanes ≡ lanes) }
     {
         let deliverer = Deliverer::new(alloc, lanes)?;
@@ -92,7 +92,7 @@ impl World {
     pub fn polled(&self, lane: u8) -> &[Delivery]
         requires { lane < length self.now.lanes }
         ensures shown { IsShown self.now }
-        ensures polled { Says self.now (λ s. result.now ≡ polled_by s lane) }
+        ensures polled { HoldsOfShown self.now (λ s. result.now ≡ polled_by s lane) }
     {
         let lane = &self.lanes[lane as usize];
         &lane.handed[..lane.polled]
@@ -101,7 +101,7 @@ impl World {
     /// How many tickets the lane has issued: its numbers are those below.
     pub fn issued(&self, lane: u8) -> u64
         requires { lane < length self.now.lanes }
-        ensures { Says self.now (λ s. result ≡ issued_of s lane) }
+        ensures { HoldsOfShown self.now (λ s. result ≡ issued_of s lane) }
     {
         self.lanes[lane as usize].issued
     }
@@ -109,7 +109,7 @@ impl World {
     /// Whether the lane is closed.
     pub fn is_closed(&self, lane: u8) -> bool
         requires { lane < length self.now.lanes }
-        ensures { Says self.now (λ s. result ≡ is_closed s lane) }
+        ensures { HoldsOfShown self.now (λ s. result ≡ is_closed s lane) }
     {
         self.lanes[lane as usize].closed
     }

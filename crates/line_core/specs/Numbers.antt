@@ -15,10 +15,10 @@ most_height = 1024
 abbrev pub most_columns : ℕ
 most_columns = 16
 
-abbrev pub most_rows : ℕ
-most_rows = 64
+abbrev pub most_grid_rows : ℕ
+most_grid_rows = 64
 
 -- each of the five lies within its own range
 abbrev pub AreGridNumbers : ℕ → ℕ → ℕ → ℕ → ℕ → Type 0
 AreGridNumbers dots width height columns rows = IsInRange 1 most_dots dots × IsInRange 1 most_width width × IsInRange 1 most_height height
-    × IsInRange 1 most_columns columns × IsInRange 1 most_rows rows
+    × IsInRange 1 most_columns columns × IsInRange 1 most_grid_rows rows

@@ -1,8 +1,8 @@
 -- A row has at most one answer.
 use Rattle.std.proofs.Common.{◌≡◌, ℕ, true, List, length, Contains, Result, Ok, Err, refl, sym, ap, ap₂, subst, ◌∙◌, inl, inr}
-use Rattle.element_core.specs.Elements.{Listing, OneAnswer}
-use Rattle.ean_code.specs.Laws.{OneReading}
-use Rattle.code128_code.specs.Laws.{OneReading as OneCodeReading}
+use Rattle.element_core.specs.Elements.{Listing, OneListOrFault}
+use Rattle.ean_code.specs.Laws.{OneListOfDigits}
+use Rattle.code128_code.specs.Laws.{OneReading}
 use Rattle.scan_core.specs.declared.carrier.Carrier.{Carrier}
 use Rattle.scan_core.specs.declared.stage.Stage.{Stage}
 use Rattle.scan_core.specs.declared.stage.Stage.TheVariants as stages
@@ -42,7 +42,7 @@ answer_from runs year c (Err fault) read t i =
 
 -- ---- one reading of a content
 
-one_read : OneAnswer → (year : ℕ) (content : Result (List ℕ) RowFault) (r q : Result Listing RowFault)
+one_read : OneListOrFault → (year : ℕ) (content : Result (List ℕ) RowFault) (r q : Result Listing RowFault)
     → IsReadAs year content r → IsReadAs year content q → r ≡ q
 one_read law year (Ok text) (Ok l) (Ok m) a b =
     ap Ok (ap₂ (λ y es. record { year = y; list = es }) (a.0 ∙ sym b.0) ((law year text).0 l.list m.list a.1 b.1))
@@ -76,9 +76,9 @@ reason runs year (Refused (Elements fault)) a = told a.0 (Ok a.1) (Err (Elements
 -- what is known of each symbol and of each text
 pub record ReadingLaws : Type 0 where
   pub symbols : SymbolLaws
-  pub numbers : OneReading
-  pub codes : OneCodeReading
-  pub texts : OneAnswer
+  pub numbers : OneListOfDigits
+  pub codes : OneReading
+  pub texts : OneListOrFault
 
 module _ (laws : ReadingLaws) (runs : List ℕ) (year : ℕ) (row : IsRow runs) where
   -- two readings of the one symbol of the row

@@ -3,7 +3,7 @@ use Rattle.std.proofs.Common.{◌≡◌, ℕ, List, length, Option, Some, None, 
 use Rattle.ean_code.specs.Symbols.{Kind}
 use Rattle.scan_core.specs.declared.symbol.Symbol.{Symbol}
 use Rattle.scan_core.specs.declared.symbol.Symbol.TheVariants.{Number, BadCheckDigit, Characters}
-use Rattle.scan_core.specs.Reading.{IsSymbolAs, ShowsSymbol, content_of}
+use Rattle.scan_core.specs.Reading.{IsSymbolAs, ShowsSymbol, symbol_content}
 use Rattle.scan_core.specs.declared.carrier.Carrier.{Carrier}
 use Rattle.scan_core.specs.declared.stage.Stage.TheVariants as stages
 use Rattle.scan_core.specs.Row.{IsRow, inner}
@@ -22,7 +22,7 @@ symbol_form None ms (Number gtin) a = absurd a
 symbol_form None ms BadCheckDigit a = absurd a
 symbol_form None ms (Characters values) a = (values.start, values.values.items, values.check, a)
 
-symbol_spells : (kind : Option Kind) (ms : List ℕ) (s : Symbol) → IsSymbolAs kind ms s → SpellsAs kind ms (content_of s)
+symbol_spells : (kind : Option Kind) (ms : List ℕ) (s : Symbol) → IsSymbolAs kind ms s → SpellsAs kind ms (symbol_content s)
 symbol_spells (Some kind) ms (Number gtin) a = (gtin, a, refl)
 symbol_spells (Some kind) ms BadCheckDigit a = (a, refl)
 symbol_spells (Some kind) ms (Characters values) a = absurd a
@@ -30,7 +30,7 @@ symbol_spells None ms (Number gtin) a = absurd a
 symbol_spells None ms BadCheckDigit a = absurd a
 symbol_spells None ms (Characters values) a = (values.start, values.values.items, values.check, a, refl)
 
-pub symbol_tells : (runs : List ℕ) (c : Carrier) (s : Symbol) → ShowsSymbol runs c s → Tells runs c (content_of s)
+pub symbol_tells : (runs : List ℕ) (c : Carrier) (s : Symbol) → ShowsSymbol runs c s → Tells runs c (symbol_content s)
 symbol_tells runs c s a = (a.0, a.1, a.2, symbol_spells (kind_of c) a.1 s a.3)
 
 -- runs that are no modules forwards are none any way

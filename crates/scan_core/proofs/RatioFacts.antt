@@ -5,8 +5,8 @@ use Rattle.std.proofs.lemmas.List.{get_or_push, length-append, length-map, take_
 use Rattle.std.proofs.lemmas.List.Sums.{sum_by-cons}
 use Rattle.digits_core.specs.Digits.{AreDigits, IsChecked, ascii_of, padded}
 use Rattle.element_core.specs.Elements.{GtinReads, gtin_entry}
-use Rattle.ean_code.specs.Laws.{Measures, TwoWidths}
-use Rattle.ean_code.specs.Spelling.{IsSymbolOf}
+use Rattle.ean_code.specs.Laws.{MeasuresOfKind, TwoWidths}
+use Rattle.ean_code.specs.Spelling.{IsGtinSymbol}
 use Rattle.ean_code.specs.Symbols.Kind.{Itf14 as KindItf14}
 use Rattle.ean_code.specs.TwoOfFive.{AreTwoWidths}
 use Rattle.scan_core.specs.declared.carrier.Carrier.TheVariants.{Itf14}
@@ -83,8 +83,8 @@ padded_gtin ds gtin long valid e =
     let same : ds ≡ gtin = sym (e ∙ ap (λ k. replicate k 0 ++ ds) none) in
     (subst (λ g. length g ≡ 14) same long, subst AreDigits same valid)
 
-module _ (two : TwoWidths) (measures : Measures) (reads : GtinReads) where
-  pub forwards : (gtin modules : List ℕ) (n w left right year : ℕ) → IsSymbolOf KindItf14 gtin modules → IsChecked gtin → AreInRatio n w left right
+module _ (two : TwoWidths) (measures : MeasuresOfKind) (reads : GtinReads) where
+  pub forwards : (gtin modules : List ℕ) (n w left right year : ℕ) → IsGtinSymbol KindItf14 gtin modules → IsChecked gtin → AreInRatio n w left right
       → sum (drawn_row n w left right modules) ≤ 65535
       → IsRow (drawn_row n w left right modules)
       × IsAnswer (drawn_row n w left right modules) year (Read Itf14 (record { year = year; list = gtin_entry gtin ∷ [] }))

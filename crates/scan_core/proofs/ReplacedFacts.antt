@@ -6,7 +6,7 @@ use Rattle.std.proofs.lemmas.List.{length-set}
 use Rattle.digits_core.specs.Digits.{AreDigits, IsChecked}
 use Rattle.ean_code.specs.Symbols.{Kind, IsCheckedPlace, IsNumberSymbol, digit_count, widths_of}
 use Rattle.ean_code.specs.Spelling.{IsGtinOf, IsSpelled}
-use Rattle.ean_code.specs.Laws.{ReplacedIsUnchecked}
+use Rattle.ean_code.specs.Laws.{ReplacedDigitIsUnchecked}
 use Rattle.ean_code.specs.declared.reading.Spelled.TheVariants.{BadCheck}
 use Rattle.code128_code.specs.Symbols.{mod103}
 use Rattle.code128_code.specs.Texts.{gs1_text, set_of, symbol_text}
@@ -27,7 +27,7 @@ spells_of : (carrier : Carrier) (kind : Kind) (modules : List ℕ) → kind_of c
     → Spells carrier modules (Err SymbolCheckDigit)
 spells_of carrier kind modules is bad = rw is (bad, refl)
 
-pub replaced_spells : (carrier : Carrier) (kind : Kind) → kind_of carrier ≡ Some kind → ReplacedIsUnchecked kind → (digits gtin : List ℕ) (k d : ℕ)
+pub replaced_spells : (carrier : Carrier) (kind : Kind) → kind_of carrier ≡ Some kind → ReplacedDigitIsUnchecked kind → (digits gtin : List ℕ) (k d : ℕ)
     → length digits ≡ digit_count kind → AreDigits digits → IsGtinOf kind digits gtin → IsChecked gtin
     → IsCheckedPlace kind k → d < 10 → d ≢ get_or digits k 0
     → Spells carrier (widths_of kind (set digits k d)) (Err SymbolCheckDigit)

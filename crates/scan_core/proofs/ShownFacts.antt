@@ -3,8 +3,8 @@ use Rattle.std.proofs.Common.{◌≡◌, ℕ, ◌+◌, ◌<◌, List, [], ◌∷
 use Rattle.std.proofs.lemmas.List.{reverse-reverse}
 use Rattle.std.proofs.lemmas.List.Elements.{AllZip-get_or}
 use Rattle.ean_code.specs.Symbols.{Kind}
-use Rattle.ean_code.specs.Laws.{OneWay as OneEanWay}
-use Rattle.code128_code.specs.Laws.{Measures as CodeMeasures, OneWay as OneCodeWay}
+use Rattle.ean_code.specs.Laws.{KindIsOneWay}
+use Rattle.code128_code.specs.Laws.{Measures, OneWay}
 use Rattle.scan_core.specs.declared.carrier.Carrier.{Carrier}
 use Rattle.scan_core.specs.declared.carrier.Carrier.TheVariants.{Ean13, Ean8, UpcE, Itf14, Gs1128}
 use Rattle.scan_core.specs.Row.{IsRow, inner}
@@ -16,16 +16,16 @@ use Rattle.scan_core.proofs.WayFacts.{one_lying, rounds_lying}
 
 -- no symbol of a number is one backwards
 abbrev pub EachOneWay : Type 0
-EachOneWay = (kind : Kind) → OneEanWay kind
+EachOneWay = (kind : Kind) → KindIsOneWay kind
 
 -- what holds of the symbols of each carrier
 pub record SymbolLaws : Type 0 where
   pub ean : EachOneWay
-  pub code : OneCodeWay
-  pub measures : CodeMeasures
+  pub code : OneWay
+  pub measures : Measures
 
 -- a symbol measures what its carrier says
-pub code_measures : CodeMeasures → (ms : List ℕ) → HasForm Gs1128 ms → IsCandidate Gs1128 (length ms) (sum ms)
+pub code_measures : Measures → (ms : List ℕ) → HasForm Gs1128 ms → IsCandidate Gs1128 (length ms) (sum ms)
 code_measures law ms f =
     let m = law f.0 f.2 f.1 ms f.3 in (length f.1 + 2, m.least, m.greatest, m.count, m.total)
 

@@ -2,7 +2,7 @@
 use Rattle.std.specs.Prelude.{◌==◌, ℕ, ◌*◌, ◌≤◌, List, [], ◌∷◌, ◌++◌, map, sum, if◌then◌else◌}
 use Rattle.digits_core.specs.Digits.{IsChecked}
 use Rattle.element_core.specs.Elements.{gtin_entry}
-use Rattle.ean_code.specs.Spelling.{IsSymbolOf}
+use Rattle.ean_code.specs.Spelling.{IsGtinSymbol}
 use Rattle.ean_code.specs.Symbols.Kind.{Itf14 as KindItf14}
 use Rattle.scan_core.specs.declared.carrier.Carrier.TheVariants.{Itf14}
 use Rattle.scan_core.specs.declared.answer.Answer.TheVariants.{Read}
@@ -30,7 +30,7 @@ pub record AreInRatio (n w left right : ℕ) : Type 0 where
 abbrev pub EachRatioIsRead : Type 0
 EachRatioIsRead =
     (gtin modules : List ℕ) (n w left right year : ℕ) (way : Way)
-    → IsSymbolOf KindItf14 gtin modules
+    → IsGtinSymbol KindItf14 gtin modules
     → IsChecked gtin
     → AreInRatio n w left right
     → sum (drawn_row n w left right modules) ≤ 65535

@@ -40,10 +40,10 @@ abbrev pub text_in : Values → Result (List ℕ) RowFault
 text_in values = row_text (symbol_text values.start values.values.items values.check)
 
 -- what a symbol spells, by what it was found to be
-abbrev pub content_of : Symbol → Result (List ℕ) RowFault
-content_of (Number gtin) = number_text gtin
-content_of BadCheckDigit = Err SymbolCheckDigit
-content_of (Characters values) = text_in values
+abbrev pub symbol_content : Symbol → Result (List ℕ) RowFault
+symbol_content (Number gtin) = number_text gtin
+symbol_content BadCheckDigit = Err SymbolCheckDigit
+symbol_content (Characters values) = text_in values
 
 -- the modules, a symbol of this kind or else of Code 128, are found to be this
 abbrev pub IsSymbolAs : Option Kind → List ℕ → Symbol → Type 0

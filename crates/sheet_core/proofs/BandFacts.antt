@@ -7,7 +7,7 @@ use Rattle.std.proofs.lemmas.List.{append_assoc, append-nil, get_or_append_left,
 use Rattle.sheet_core.specs.Drawing.{is_bar_row}
 use Rattle.sheet_core.specs.Grids.{Cells}
 use Rattle.sheet_core.specs.Labels.{Drawn}
-use Rattle.sheet_core.specs.Lines.{IsLine, band, row_labels, rows_of}
+use Rattle.sheet_core.specs.Lines.{IsBarLine, band, repeated_bytes, row_labels}
 
 -- ---- lists by their places
 
@@ -27,29 +27,29 @@ slice_get-take (suc n) (x ∷ xs) (suc i) h = slice_get-take n xs i (omega arith
 times : (a b w : ℕ) → a + 1 ≤ b → a * w + w ≤ b * w
 times a b w h = grind arith
 
-pub rows_more : (n : ℕ) (line : List ℕ) → rows_of (n + 1) line ≡ rows_of n line ++ line
-rows_more n line = ap (λ k. rows_of k line) (let e : n + 1 ≡ suc n = omega arith in e) ∙ turned n
+pub rows_more : (n : ℕ) (line : List ℕ) → repeated_bytes (n + 1) line ≡ repeated_bytes n line ++ line
+rows_more n line = ap (λ k. repeated_bytes k line) (let e : n + 1 ≡ suc n = omega arith in e) ∙ turned n
   where
-    turned : (n : ℕ) → line ++ rows_of n line ≡ rows_of n line ++ line
+    turned : (n : ℕ) → line ++ repeated_bytes n line ≡ repeated_bytes n line ++ line
     turned zero = append_nil_of line
       where
         append_nil_of : (xs : List ℕ) → xs ++ [] ≡ xs
         append_nil_of [] = refl
         append_nil_of (x ∷ xs) = ap (λ ys. x ∷ ys) (append_nil_of xs)
-    turned (suc n) = ap (λ ys. line ++ ys) (turned n) ∙ sym (append_assoc line (rows_of n line) line)
+    turned (suc n) = ap (λ ys. line ++ ys) (turned n) ∙ sym (append_assoc line (repeated_bytes n line) line)
 
-pub length-rows : (n : ℕ) (line : List ℕ) → length (rows_of n line) ≡ n * length line
+pub length-rows : (n : ℕ) (line : List ℕ) → length (repeated_bytes n line) ≡ n * length line
 length-rows zero line = omega arith
-length-rows (suc n) line = length-append line (rows_of n line) ∙ ap (λ k. length line + k) (length-rows n line) ∙ (let e : length line + n * length line ≡ suc n * length line = grind arith in e)
+length-rows (suc n) line = length-append line (repeated_bytes n line) ∙ ap (λ k. length line + k) (length-rows n line) ∙ (let e : length line + n * length line ≡ suc n * length line = grind arith in e)
 
-rows_at : (n k j : ℕ) (line : List ℕ) → k < n → j < length line → get_or (rows_of n line) (k * length line + j) 0 ≡ get_or line j 0
+rows_at : (n k j : ℕ) (line : List ℕ) → k < n → j < length line → get_or (repeated_bytes n line) (k * length line + j) 0 ≡ get_or line j 0
 rows_at zero k j line h low = absurd (omega arith)
 rows_at (suc n) zero j line h low =
-    ap (λ i. get_or (line ++ rows_of n line) i 0) (let e : 0 * length line + j ≡ j = omega arith in e) ∙ get_or_append_left line (rows_of n line) 0 j low
+    ap (λ i. get_or (line ++ repeated_bytes n line) i 0) (let e : 0 * length line + j ≡ j = omega arith in e) ∙ get_or_append_left line (repeated_bytes n line) 0 j low
 rows_at (suc n) (suc k) j line h low =
     let next : suc k * length line + j ≡ length line + (k * length line + j) = grind arith in
-    get_or-append_right line (rows_of n line) (length line) (suc k * length line + j) 0 refl (omega arith)
-    ∙ ap (λ i. get_or (rows_of n line) i 0) (let e : suc k * length line + j - length line ≡ k * length line + j = omega arith in e)
+    get_or-append_right line (repeated_bytes n line) (length line) (suc k * length line + j) 0 refl (omega arith)
+    ∙ ap (λ i. get_or (repeated_bytes n line) i 0) (let e : suc k * length line + j - length line ≡ k * length line + j = omega arith in e)
     ∙ rows_at n k j line (omega arith) low
 
 -- a byte of a list of pieces of one length
@@ -80,10 +80,10 @@ band_long g line fits =
     let light : List ℕ = replicate (length line) 0 in
     let w : ℕ = length line in
     let l : length light ≡ w = length-replicate {A = ℕ} w 0 in
-    let a : length (rows_of g.dots light) ≡ g.dots * w = length-rows g.dots light ∙ ap (λ k. g.dots * k) l in
+    let a : length (repeated_bytes g.dots light) ≡ g.dots * w = length-rows g.dots light ∙ ap (λ k. g.dots * k) l in
     let b = length-rows (g.height - 2 * g.dots) line in
-    let inner = length-append (rows_of (g.height - 2 * g.dots) line) (rows_of g.dots light) in
-    let all = length-append (rows_of g.dots light) (rows_of (g.height - 2 * g.dots) line ++ rows_of g.dots light) in
+    let inner = length-append (repeated_bytes (g.height - 2 * g.dots) line) (repeated_bytes g.dots light) in
+    let all = length-append (repeated_bytes g.dots light) (repeated_bytes (g.height - 2 * g.dots) line ++ repeated_bytes g.dots light) in
     let e : g.dots * w + ((g.height - 2 * g.dots) * w + g.dots * w) ≡ g.height * w = parts g.dots (g.height - 2 * g.dots) g.height w (omega arith) in
     omega arith
   where
@@ -98,31 +98,31 @@ band_at g line k j fits low within =
     let light : List ℕ = replicate w 0 in
     let l : length light ≡ w = length-replicate {A = ℕ} w 0 in
     let middle : ℕ = g.height - 2 * g.dots in
-    let top : length (rows_of g.dots light) ≡ g.dots * w = length-rows g.dots light ∙ ap (λ n. g.dots * n) l in
-    let bars : length (rows_of middle line) ≡ middle * w = length-rows middle line in
-    let dark : (n i : ℕ) → i < n → get_or (rows_of n light) (i * w + j) 0 ≡ 0 =
-    λ n i h. ap (λ v. get_or (rows_of n light) (i * v + j) 0) (sym l) ∙ rows_at n i j light h (omega arith) ∙ get_or-replicate {A = ℕ} w j 0 0 within in
+    let top : length (repeated_bytes g.dots light) ≡ g.dots * w = length-rows g.dots light ∙ ap (λ n. g.dots * n) l in
+    let bars : length (repeated_bytes middle line) ≡ middle * w = length-rows middle line in
+    let dark : (n i : ℕ) → i < n → get_or (repeated_bytes n light) (i * w + j) 0 ≡ 0 =
+    λ n i h. ap (λ v. get_or (repeated_bytes n light) (i * v + j) 0) (sym l) ∙ rows_at n i j light h (omega arith) ∙ get_or-replicate {A = ℕ} w j 0 0 within in
     elim (cases_lt k g.dots) [
       | inl above ↦
           let inside : k * w + j < g.dots * w = below k g.dots w j above within in
-          get_or_append_left (rows_of g.dots light) (rows_of middle line ++ rows_of g.dots light) 0 (k * w + j) (omega arith)
+          get_or_append_left (repeated_bytes g.dots light) (repeated_bytes middle line ++ repeated_bytes g.dots light) 0 (k * w + j) (omega arith)
           ∙ dark g.dots k above
           ∙ sym (ap (λ t. if t && nat_lt (k + g.dots) g.height then get_or line j 0 else 0) (lt-leb g.dots k above))
       | inr from ↦
           let split : k * w + j ≡ g.dots * w + ((k - g.dots) * w + j) = parted k g.dots (k - g.dots) w j (omega arith) in
-          let past : get_or (band g line) (k * w + j) 0 ≡ get_or (rows_of middle line ++ rows_of g.dots light) ((k - g.dots) * w + j) 0 =
-          get_or-append_right (rows_of g.dots light) (rows_of middle line ++ rows_of g.dots light) (g.dots * w) (k * w + j) 0 top (omega arith)
-          ∙ ap (λ i. get_or (rows_of middle line ++ rows_of g.dots light) i 0) (let e : k * w + j - g.dots * w ≡ (k - g.dots) * w + j = omega arith in e) in
+          let past : get_or (band g line) (k * w + j) 0 ≡ get_or (repeated_bytes middle line ++ repeated_bytes g.dots light) ((k - g.dots) * w + j) 0 =
+          get_or-append_right (repeated_bytes g.dots light) (repeated_bytes middle line ++ repeated_bytes g.dots light) (g.dots * w) (k * w + j) 0 top (omega arith)
+          ∙ ap (λ i. get_or (repeated_bytes middle line ++ repeated_bytes g.dots light) i 0) (let e : k * w + j - g.dots * w ≡ (k - g.dots) * w + j = omega arith in e) in
           past ∙ elim (cases_lt (k - g.dots) middle) [
             | inl bar ↦
                 let inside : (k - g.dots) * w + j < middle * w = below (k - g.dots) middle w j bar within in
-                get_or_append_left (rows_of middle line) (rows_of g.dots light) 0 ((k - g.dots) * w + j) (omega arith)
+                get_or_append_left (repeated_bytes middle line) (repeated_bytes g.dots light) 0 ((k - g.dots) * w + j) (omega arith)
                 ∙ rows_at middle (k - g.dots) j line bar within
                 ∙ sym (ap₂ (λ s t. if s && t then get_or line j 0 else 0) (le-leb g.dots k from) (lt-ltb (k + g.dots) g.height (omega arith)))
             | inr under ↦
                 let rest : (k - g.dots) * w + j ≡ middle * w + ((k - g.dots - middle) * w + j) = parted (k - g.dots) middle (k - g.dots - middle) w j (omega arith) in
-                get_or-append_right (rows_of middle line) (rows_of g.dots light) (middle * w) ((k - g.dots) * w + j) 0 bars (omega arith)
-                ∙ ap (λ i. get_or (rows_of g.dots light) i 0) (let e : (k - g.dots) * w + j - middle * w ≡ (k - g.dots - middle) * w + j = omega arith in e)
+                get_or-append_right (repeated_bytes middle line) (repeated_bytes g.dots light) (middle * w) ((k - g.dots) * w + j) 0 bars (omega arith)
+                ∙ ap (λ i. get_or (repeated_bytes g.dots light) i 0) (let e : (k - g.dots) * w + j - middle * w ≡ (k - g.dots - middle) * w + j = omega arith in e)
                 ∙ dark g.dots (k - g.dots - middle) (omega arith)
                 ∙ sym (ap₂ (λ s t. if s && t then get_or line j 0 else 0) (le-leb g.dots k from) (le-ltb (k + g.dots) g.height (omega arith)))
           ]
@@ -138,22 +138,22 @@ band_at g line k j fits low within =
 pub record Banded (g : Cells) (symbols : List Drawn) (n : ℕ) (bytes : List ℕ) : Type 0 where
   pub lines : List (List ℕ)
   pub count : length lines ≡ n
-  pub each : (r : ℕ) → r < n → IsLine g (row_labels g symbols r) (get_or lines r [])
+  pub each : (r : ℕ) → r < n → IsBarLine g (row_labels g symbols r) (get_or lines r [])
   pub joined : bytes ≡ flat_map (band g) lines
 
 pub banded_none : (g : Cells) (symbols : List Drawn) (bytes : List ℕ) → bytes ≡ [] → Banded g symbols 0 bytes
 banded_none g symbols bytes e = record { lines = []; count = refl; each = λ r h. absurd (omega arith); joined = e }
 
-pub banded_more : (g : Cells) (symbols : List Drawn) (n : ℕ) (bytes new line : List ℕ) → Banded g symbols n bytes → IsLine g (row_labels g symbols n) line → new ≡ bytes ++ band g line → Banded g symbols (n + 1) new
+pub banded_more : (g : Cells) (symbols : List Drawn) (n : ℕ) (bytes new line : List ℕ) → Banded g symbols n bytes → IsBarLine g (row_labels g symbols n) line → new ≡ bytes ++ band g line → Banded g symbols (n + 1) new
 banded_more g symbols n bytes new line h drawn e = record {
   lines = h.lines ++ line ∷ [];
   count = length-append h.lines (line ∷ []) ∙ ap (λ k. k + 1) h.count;
   each = λ r low. elim (cases_lt r n) [
-    | inl before ↦ subst (IsLine g (row_labels g symbols r)) (sym (get_or_append_left h.lines (line ∷ []) [] r (let c = h.count in omega arith))) (h.each r before)
+    | inl before ↦ subst (IsBarLine g (row_labels g symbols r)) (sym (get_or_append_left h.lines (line ∷ []) [] r (let c = h.count in omega arith))) (h.each r before)
     | inr last ↦
         let same : r ≡ n = omega arith in
         let at : get_or (h.lines ++ line ∷ []) r [] ≡ line = get_or_push h.lines line [] r (h.count ∙ sym same) in
-        subst (IsLine g (row_labels g symbols r)) (sym at) (subst (λ k. IsLine g (row_labels g symbols k) line) (sym same) drawn)
+        subst (IsBarLine g (row_labels g symbols r)) (sym at) (subst (λ k. IsBarLine g (row_labels g symbols k) line) (sym same) drawn)
   ];
   joined = e ∙ ap (λ bs. bs ++ band g line) h.joined ∙ sym (flat_map_push (band g) h.lines line);
 }

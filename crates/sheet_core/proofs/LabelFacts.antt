@@ -6,7 +6,7 @@ use Rattle.std.proofs.lemmas.Bool.{cases_lt, cases_eq, ne_eqb, le-leb, lt-leb}
 use Rattle.std.proofs.lemmas.List.{drop_at, get_or_push, length-replicate, take_at}
 use Rattle.digits_core.specs.Digits.{padded}
 use Rattle.digits_core.specs.Upce.{IsFirstUpceOf, upce_expanded, upce_line}
-use Rattle.ean_code.specs.Spelling.{IsPrintedUpce, IsSpelled, IsSymbolOf}
+use Rattle.ean_code.specs.Spelling.{IsGtinSymbol, IsPrintedUpce, IsSpelled}
 use Rattle.ean_code.specs.declared.reading.Spelled.TheVariants.{Found}
 use Rattle.ean_code.specs.Symbols.Kind.{Ean13 as KindEan13, Ean8 as KindEan8, UpcE as KindUpcE, Itf14 as KindItf14}
 use Rattle.sheet_core.specs.declared.label.Label.{Label}
@@ -149,7 +149,7 @@ same_drawn label s t h k =
     (subst (λ q. s ≡ record { modules = s.modules; quiet_left = s.quiet_left; quiet_right = q }) r refl))
 
 -- a printed UPC-E is one of the GTIN
-pub symbol_of_upce : (g ms : List ℕ) → IsPrintedUpce g ms → IsSymbolOf KindUpcE g ms
+pub symbol_of_upce : (g ms : List ℕ) → IsPrintedUpce g ms → IsGtinSymbol KindUpcE g ms
 symbol_of_upce g ms h =
     let six : List ℕ = h.0 in let x : ℕ = h.1 in let s = h.2.spelling in
     let front : take 6 (six ++ x ∷ []) ≡ six = take_at six (x ∷ []) 6 (s.six_digits) in

@@ -8,7 +8,7 @@ use Rattle.sheet_core.specs.Bitmaps.{Bitmap}
 use Rattle.sheet_core.specs.Drawing.{ArePrinted, IsSheet, cell_count, sheet_count}
 use Rattle.sheet_core.specs.Grids.{Cells, IsGrid}
 use Rattle.sheet_core.specs.Labels.{Drawn, IsDrawn}
-use Rattle.sheet_core.specs.Lines.{IsLine, band, row_labels}
+use Rattle.sheet_core.specs.Lines.{IsBarLine, band, row_labels}
 use Rattle.sheet_core.specs.pbm.Headers.{header_text}
 use Rattle.sheet_core.specs.pbm.Images.{pbm_of}
 use Rattle.sheet_core.specs.declared.label.Label.{Label}
@@ -31,11 +31,11 @@ abbrev pub image_bytes : Cells → List ℕ → List ℕ
 image_bytes g line = header_text (g.columns * g.width) (g.rows * g.height) ++ band g line
 
 -- they are the image of the sheet of the label
-pub image_of_label : (g : Cells) (label : Label) (p : Printed g (label ∷ [])) (line : List ℕ) → IsGrid g → g.columns ≡ 1 → g.rows ≡ 1 → IsLine g p.symbols line
+pub image_of_label : (g : Cells) (label : Label) (p : Printed g (label ∷ [])) (line : List ℕ) → IsGrid g → g.columns ≡ 1 → g.rows ≡ 1 → IsBarLine g p.symbols line
     → (sheets : List Bitmap) × ArePrinted (label ∷ []) g sheets × (pbm_of sheets ≡ image_bytes g line)
 image_of_label g label p line grid columns rows drawn =
     let long : length p.symbols ≡ 1 = AllZip-long IsDrawn (label ∷ []) p.symbols p.drawn in
-    let here : IsLine g (row_labels g p.symbols 0) line = subst (λ ss. IsLine g ss line) (sym (first_row g p.symbols (omega arith))) drawn in
+    let here : IsBarLine g (row_labels g p.symbols 0) line = subst (λ ss. IsBarLine g ss line) (sym (first_row g p.symbols (omega arith))) drawn in
     let one : Banded g p.symbols 1 (band g line) = banded_more g p.symbols 0 [] (band g line) line (banded_none g p.symbols [] refl) here refl in
     let s : Bitmap = record { width = g.columns * g.width; height = g.rows * g.height; bytes = band g line } in
     let sheet : IsSheet p.symbols g 0 s = sheet_of g p.symbols (band g line) grid (subst (λ n. Banded g p.symbols n (band g line)) (sym rows) one) in (

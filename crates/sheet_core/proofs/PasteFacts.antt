@@ -3,7 +3,7 @@ use Rattle.std.proofs.Common.{◌≡◌, ◌∙◌, ◌+◌, ◌-◌, ◌*◌, �
 use Rattle.digits_core.specs.Buffers.{pasted}
 use Rattle.digits_core.proofs.Pasted.{length-pasted, pasted_more}
 use Rattle.sheet_core.specs.Grids.{Cells, IsGrid}
-use Rattle.sheet_core.specs.Lines.{band, rows_of}
+use Rattle.sheet_core.specs.Lines.{band, repeated_bytes}
 use Rattle.sheet_core.proofs.BandFacts.{band_long, length-rows, rows_more}
 
 -- ---- rows
@@ -12,21 +12,21 @@ times : (a b w : ℕ) → a + 1 ≤ b → a * w + w ≤ b * w
 times a b w h = grind arith
 
 -- there is room for one more row
-pub row_fits : (k n at size : ℕ) (line : List ℕ) → k < n → at + n * length line ≤ size → at + length (rows_of k line) + length line ≤ size
+pub row_fits : (k n at size : ℕ) (line : List ℕ) → k < n → at + n * length line ≤ size → at + length (repeated_bytes k line) + length line ≤ size
 row_fits k n at size line less room =
     let long = length-rows k line in
     let more = times k n (length line) (omega arith) in
     omega arith
 
 -- and it stands behind the others
-pub end_more : (k at : ℕ) (line : List ℕ) → at + length (rows_of k line) + length line ≡ at + length (rows_of (k + 1) line)
+pub end_more : (k at : ℕ) (line : List ℕ) → at + length (repeated_bytes k line) + length line ≡ at + length (repeated_bytes (k + 1) line)
 end_more k at line =
-    let next = ap length (rows_more k line) ∙ length-append (rows_of k line) line in
+    let next = ap length (rows_more k line) ∙ length-append (repeated_bytes k line) line in
     omega arith
 
 pub rows_pasted : (old : List ℕ) (k at : ℕ) (line : List ℕ) → at ≤ length old
-    → pasted (pasted old at (rows_of k line)) (at + length (rows_of k line)) line ≡ pasted old at (rows_of (k + 1) line)
-rows_pasted old k at line room = pasted_more old at (rows_of k line) line room ∙ ap (pasted old at) (sym (rows_more k line))
+    → pasted (pasted old at (repeated_bytes k line)) (at + length (repeated_bytes k line)) line ≡ pasted old at (repeated_bytes (k + 1) line)
+rows_pasted old k at line room = pasted_more old at (repeated_bytes k line) line room ∙ ap (pasted old at) (sym (rows_more k line))
 
 -- ---- one piece after another
 
@@ -51,11 +51,11 @@ put_fits old bytes now end more h room = let long = length-put old bytes now end
 
 -- the dot rows of a cell above and below its bars
 abbrev pub light_rows : Cells → List ℕ → List ℕ
-light_rows g line = rows_of g.dots (replicate (length line) 0)
+light_rows g line = repeated_bytes g.dots (replicate (length line) 0)
 
 -- and those of the bars
 abbrev pub bar_rows : Cells → List ℕ → List ℕ
-bar_rows g line = rows_of (g.height - 2 * g.dots) line
+bar_rows g line = repeated_bytes (g.height - 2 * g.dots) line
 
 -- there is room for a header and all dot rows
 pub image_fits : (g : Cells) (header line out : List ℕ) → IsGrid g → length header + g.height * length line ≤ length out
@@ -69,10 +69,10 @@ image_fits g header line out grid room =
 
 -- a header and the rows above the bars, written as light rows of that length
 pub light_put : (g : Cells) (header line light out above bars : List ℕ) (top end : ℕ) → light ≡ replicate (length line) 0
-    → top ≡ 0 + length header → above ≡ pasted out 0 header → end ≡ top + length (rows_of g.dots light) → bars ≡ pasted above top (rows_of g.dots light)
+    → top ≡ 0 + length header → above ≡ pasted out 0 header → end ≡ top + length (repeated_bytes g.dots light) → bars ≡ pasted above top (repeated_bytes g.dots light)
     → Put out (header ++ light_rows g line) bars end
 light_put g header line light out above bars top end same a b c d =
-    let piece : rows_of g.dots light ≡ light_rows g line = ap (rows_of g.dots) same in
+    let piece : repeated_bytes g.dots light ≡ light_rows g line = ap (repeated_bytes g.dots) same in
     put_next out header above (light_rows g line) bars top end (record { ends = a ∙ omega arith; put = b }) (c ∙ ap (λ r. top + length r) piece) (d ∙ ap (pasted above top) piece)
 
 -- a header and all dot rows, piece by piece

@@ -16,7 +16,7 @@ use Rattle.code128_code.specs.Laws.{ModulesSay}
 use Rattle.code128_code.specs.Symbols.{mod103}
 use Rattle.scan_core.specs.declared.carrier.Carrier.{Carrier}
 use Rattle.scan_core.specs.declared.carrier.Carrier.TheVariants.{Ean13 as CarrierEan13, Ean8 as CarrierEan8, UpcE as CarrierUpcE, Itf14 as CarrierItf14, Gs1128 as CarrierGs1128}
-use Rattle.ean_code.specs.Laws.{Measures as EanMeasures}
+use Rattle.ean_code.specs.Laws.{MeasuresOfKind}
 use Rattle.scan_core.specs.Laws.{DotsDetermine, OneAnswer, SymbolMeasures}
 use Rattle.scan_core.specs.Row.{IsRow, dots_of, inner}
 use Rattle.scan_core.specs.Answers.{IsAnswer, Spells, row_text}
@@ -90,7 +90,7 @@ odd_count CarrierGs1128 n N h = let k : ℕ = h.0 in let e = h.3 in omega arith
 
 -- the laws of how many widths and modules symbols have
 abbrev Measured : Type 0
-Measured = SymbolMeasures × EanMeasures
+Measured = SymbolMeasures × MeasuresOfKind
 
 fit_by : Measured → (c : Carrier) (ms : List ℕ) → HasForm c ms → AreWidths ms → Fit c ms
 fit_by measures c ms form widths = let m = measures.0 c ms form in record { candidate = m; odd = odd_count c (length ms) (sum ms) m; widths = widths; form = form }

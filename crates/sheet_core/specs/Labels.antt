@@ -26,13 +26,13 @@ abbrev pub gtin_text : List ℕ → List ℕ
 gtin_text gtin = codes "01" ++ ascii_of gtin
 
 -- the kind of a label
-abbrev pub kind_of : Label → LabelKind
-kind_of (Ean13 gtin) = Gtin kind.Ean13
-kind_of (UpcA gtin) = Gtin kind.UpcA
-kind_of (Ean8 gtin) = Gtin kind.Ean8
-kind_of (UpcE gtin) = Gtin kind.UpcE
-kind_of (Itf14 gtin) = Gtin kind.Itf14
-kind_of (Gs1128 listing) = KindGs1128
+abbrev pub label_kind : Label → LabelKind
+label_kind (Ean13 gtin) = Gtin kind.Ean13
+label_kind (UpcA gtin) = Gtin kind.UpcA
+label_kind (Ean8 gtin) = Gtin kind.Ean8
+label_kind (UpcE gtin) = Gtin kind.UpcE
+label_kind (Itf14 gtin) = Gtin kind.Itf14
+label_kind (Gs1128 listing) = KindGs1128
 
 -- what a label says: the element of a GTIN, or a list of elements
 pub data Content : Type 0 where
@@ -77,7 +77,7 @@ label_text label = content_text (content_of label)
 
 -- the carrier that its symbol is read as
 abbrev pub carrier_of : Label → Carrier
-carrier_of label = (form_of (kind_of label)).carrier
+carrier_of label = (form_of (label_kind label)).carrier
 
 -- the modules are the GS1-128 symbol that is printed for a text of at most 48 characters: start character C, the values of the text by the
 -- encoding rule, and the check character
@@ -104,8 +104,8 @@ pub record Drawn : Type 0 where
 -- this is what is drawn of the label
 pub record IsDrawn (label : Label) (s : Drawn) : Type 0 where
   pub symbol : IsLabelSymbol label s.modules
-  pub left : s.quiet_left ≡ (form_of (kind_of label)).quiet_left
-  pub right : s.quiet_right ≡ (form_of (kind_of label)).quiet_right
+  pub left : s.quiet_left ≡ (form_of (label_kind label)).quiet_left
+  pub right : s.quiet_right ≡ (form_of (label_kind label)).quiet_right
 
 -- a symbol and its quiet zones in dots are at most as wide as a cell
 abbrev pub FitsCell : Cells → Drawn → Type 0

@@ -97,5 +97,5 @@ abbrev pub FilesAreRefused : Type 0
 FilesAreRefused = (fault : PbmFault) (bytes : List ℕ) → (images_of bytes ≡ (Err fault, [])) ↔ RefusesFile fault bytes
 
 -- a file of at most 4,096 images shows one list of sheets
-abbrev pub OneReading : Type 0
-OneReading = (bytes : List ℕ) (sheets others : List Bitmap) → length sheets ≤ 4096 → length others ≤ 4096 → IsPbm bytes sheets → IsPbm bytes others → sheets ≡ others
+abbrev pub OneListOfSheets : Type 0
+OneListOfSheets = (bytes : List ℕ) (sheets others : List Bitmap) → length sheets ≤ 4096 → length others ≤ 4096 → IsPbm bytes sheets → IsPbm bytes others → sheets ≡ others

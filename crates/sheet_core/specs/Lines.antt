@@ -17,22 +17,22 @@ abbrev pub line_dot : Cells → List Drawn → ℕ → Bool
 line_dot g symbols x = line_dot_of g (slice_get symbols (x / g.width)) (x % g.width)
 
 -- the bytes of a bar row of cells side by side, light past the last of them
-pub record IsLine (g : Cells) (symbols : List Drawn) (line : List ℕ) : Type 0 where
+pub record IsBarLine (g : Cells) (symbols : List Drawn) (line : List ℕ) : Type 0 where
   pub long : length line ≡ stride (g.columns * g.width)
   pub dots : (x : ℕ) → dot_at line x ≡ line_dot g symbols x
 
 -- the same bytes so many times
-abbrev pub rows_of : ℕ → List ℕ → List ℕ
-rows_of count line = concat (replicate count line)
+abbrev pub repeated_bytes : ℕ → List ℕ → List ℕ
+repeated_bytes count line = concat (replicate count line)
 
 -- all the bytes of a row of cells whose bars have this line
 abbrev pub band : Cells → List ℕ → List ℕ
 band g line =
-    let light : List ℕ = rows_of g.dots (replicate (length line) 0) in light ++ (rows_of (g.height - 2 * g.dots) line ++ light)
+    let light : List ℕ = repeated_bytes g.dots (replicate (length line) 0) in light ++ (repeated_bytes (g.height - 2 * g.dots) line ++ light)
 
 -- the bytes are those of a row of cells
 abbrev pub IsBand : Cells → List Drawn → List ℕ → Type 0
-IsBand g symbols bytes = (line : List ℕ) × IsLine g symbols line × (bytes ≡ band g line)
+IsBand g symbols bytes = (line : List ℕ) × IsBarLine g symbols line × (bytes ≡ band g line)
 
 -- the labels of a row of cells
 abbrev pub row_labels : {A : Type 0} → Cells → List A → ℕ → List A

@@ -5,7 +5,7 @@ ghost use Rattle.ean_code.specs.Spelling.{IsSpelled};
 ghost use Rattle.ean_code.specs.Symbols.Kind.{Ean13, Ean8, Itf14};
 ghost use Rattle.ean_code.specs.declared.reading.Spelled.TheVariants.{Found};
 ghost use Rattle.element_core.specs.Elements.{canonical};
-ghost use Rattle.sheet_core.specs.Labels.{Drawn, IsDrawn, IsLabelSymbol, IsPrintedGs1128, carrier_of, content_of, gtin_label, gtin_text, kind_of, label_text, lent};
+ghost use Rattle.sheet_core.specs.Labels.{Drawn, IsDrawn, IsLabelSymbol, IsPrintedGs1128, carrier_of, content_of, gtin_label, gtin_text, label_kind, label_text, lent};
 
 use crate::kind::{GtinKind, LabelKind};
 use crate::symbol::Symbol;
@@ -118,7 +118,7 @@ impl Label {
 
     /// Its kind.
     pub fn kind(&self) -> LabelKind
-        ensures { result ≡ kind_of self.now }
+        ensures { result ≡ label_kind self.now }
     {
         match self {
             Label::Ean13(_) => LabelKind::Gtin(GtinKind::Ean13),

@@ -3,7 +3,7 @@ ghost use Rattle.std.specs.Prelude.{[], ◌≡◌, ◌+◌, ◌*◌, ◌∷◌, 
 ghost use Rattle.digits_core.specs.Buffers.{IsPut, pasted};
 ghost use Rattle.sheet_core.specs.Bitmaps.{Bitmap, stride};
 ghost use Rattle.sheet_core.specs.Drawing.{ArePrinted, IsSheetFault};
-ghost use Rattle.sheet_core.specs.Lines.{band, rows_of};
+ghost use Rattle.sheet_core.specs.Lines.{band, repeated_bytes};
 ghost use Rattle.sheet_core.specs.pbm.Images.{pbm_of};
 
 use crate::fault::SheetFault;
@@ -18,8 +18,8 @@ use std::slice;
 /// Puts a row of dots into `out` so many times from `at` on, and says where the last ends.
 fn put_rows(line: &[u8], count: u16, at: usize, out: &mut [u8]) -> usize
     requires { at + count * length line.now ≤ length out.old }
-    ensures end { result ≡ at + length (rows_of count line.now) }
-    ensures put { out.new ≡ pasted out.old at (rows_of count line.now) }
+    ensures end { result ≡ at + length (repeated_bytes count line.now) }
+    ensures put { out.new ≡ pasted out.old at (repeated_bytes count line.now) }
 {
     let mut end = at;
     for _ in 0..count {

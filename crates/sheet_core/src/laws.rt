@@ -1,5 +1,5 @@
 //! Laws about the definitions, each the contract of a function that does nothing.
-ghost use Rattle.sheet_core.specs.Laws.{BarRowsAnswer, BarRowsShow, DrawnIsRead, EmptyCellsAreBlank, FilesAreRead, FilesAreRefused, HeadersAreRead, HeadersAreRefused, OneDrawn, OneReading, PrintedIsRead, WrittenIsRead};
+ghost use Rattle.sheet_core.specs.Laws.{BarRowsAnswer, BarRowsShow, DrawnIsRead, EmptyCellsAreBlank, FilesAreRead, FilesAreRefused, HeadersAreRead, HeadersAreRefused, OneDrawn, OneListOfSheets, PrintedIsRead, WrittenIsRead};
 ghost use Rattle.sheet_core.specs.PrintLaws.{OneBitmap, OnePrinted};
 
 use code128_code::modules_say;
@@ -80,7 +80,7 @@ pub fn files_are_refused()
 
 /// A file of at most 4,096 images shows one list of sheets.
 pub fn one_reading()
-    ensures { OneReading }
+    ensures { OneListOfSheets }
 {}
 
 /// A bitmap of bytes is fixed by its width, its height and its dots.

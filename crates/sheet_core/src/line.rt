@@ -6,7 +6,7 @@ ghost use Rattle.scan_core.specs.Bits.{dot_at};
 ghost use Rattle.scan_core.specs.Row.{dots_from};
 ghost use Rattle.sheet_core.specs.Bitmaps.{stride};
 ghost use Rattle.sheet_core.specs.Labels.{Drawn, FitsCell, IsDrawn};
-ghost use Rattle.sheet_core.specs.Lines.{IsLine};
+ghost use Rattle.sheet_core.specs.Lines.{IsBarLine};
 
 use crate::grid::Grid;
 use crate::label::Label;
@@ -74,7 +74,7 @@ pub(crate) fn draw_line(line: &mut [u8], grid: &Grid, labels: &[Label])
     requires light { line.old ≡ replicate (stride (grid.now.columns * grid.now.width)) 0 }
     requires few { length labels.now ≤ grid.now.columns }
     requires symbols { (symbols : List Drawn) × AllZip IsDrawn labels.now symbols × AllByRecursion (FitsCell grid.now) symbols }
-    ensures { (symbols : List Drawn) → AllZip IsDrawn labels.now symbols → IsLine grid.now symbols line.new }
+    ensures { (symbols : List Drawn) → AllZip IsDrawn labels.now symbols → IsBarLine grid.now symbols line.new }
 {
     let width = usize::from(grid.cell_width);
     let dots = usize::from(grid.module_dots);

@@ -4,7 +4,7 @@ ghost use Rattle.std.specs.List.{AllByRecursion, AllZip};
 ghost use Rattle.sheet_core.specs.Bitmaps.{stride};
 ghost use Rattle.sheet_core.specs.Drawing.{ArePrinted, IsSheet, IsSheetFault, cell_count};
 ghost use Rattle.sheet_core.specs.Labels.{Drawn, FitsCell, IsDrawn, IsPrintable};
-ghost use Rattle.sheet_core.specs.Lines.{IsLine, band, rows_of};
+ghost use Rattle.sheet_core.specs.Lines.{IsBarLine, band, repeated_bytes};
 
 use crate::fault::SheetFault;
 use crate::grid::Grid;
@@ -41,7 +41,7 @@ pub(crate) fn part(labels: &[Label], from: usize, count: usize) -> &[Label]
 
 /// Appends a line so many times.
 fn push_rows(bytes: &mut Vec<u8>, line: &[u8], count: u16) -> Result<(), AllocError>
-    ensures { OnOk result (bytes.new.items ≡ bytes.old.items ++ rows_of count line.now) }
+    ensures { OnOk result (bytes.new.items ≡ bytes.old.items ++ repeated_bytes count line.now) }
 {
     for _ in 0..count {
         bytes.extend_from_slice(line)?;
@@ -54,7 +54,7 @@ fn push_band(bytes: &mut Vec<u8>, grid: &Grid, labels: &[Label]) -> Result<(), A
     requires few { length labels.now ≤ grid.now.columns }
     requires symbols { (symbols : List Drawn) × AllZip IsDrawn labels.now symbols × AllByRecursion (FitsCell grid.now) symbols }
     ensures { (symbols : List Drawn) → AllZip IsDrawn labels.now symbols → OnOk result
-        ((line : List ℕ) × IsLine grid.now symbols line × (bytes.new.items ≡ bytes.old.items ++ band grid.now line)) }
+        ((line : List ℕ) × IsBarLine grid.now symbols line × (bytes.new.items ≡ bytes.old.items ++ band grid.now line)) }
 {
     let width = grid.columns * grid.cell_width;
     let light = light_line(width);

@@ -2,34 +2,34 @@
 use Rattle.std.proofs.Common.{◌≡◌, ℕ, ◌+◌, ◌-◌, ◌<◌, ◌≤◌, ◌==◌, cond, true, zero, suc, List, [], ◌∷◌, ◌++◌, map, take, Option, None, Some, refl, sym, ap, ◌∙◌, subst, arith}
 use Rattle.std.specs.List.{slice_get}
 use Rattle.std.proofs.lemmas.Bool.Decides.{nat_tests}
-use Rattle.streams_core.specs.Streams.{Entry, Stream, following, put_all, read, trimmed}
-use Rattle.streams_core.specs.Machine.{Event, Submit, Rows_come, Answer, Answers_come, Take, Trim_rows, Trim_answers, Lane, answer_to, empty, happens, run, start, take_first, with_rows, with_answers}
+use Rattle.streams_core.specs.Streams.{Stream, StreamEntry, following, put_all, read, trimmed}
+use Rattle.streams_core.specs.Machine.{Happening, Submit, Rows_come, Answer, Answers_come, Take, Trim_rows, Trim_answers, LaneStreams, answer_to, empty, happens, all_happen, fresh_streams, take_first, with_rows, with_answers}
 use Rattle.streams_core.specs.Laws.{AnsweredOnce, NoneIsLeftOut, first}
 use Rattle.streams_core.proofs.StreamFacts.{answers_of, put_following, read_behind, rest_behind, some_of, stream_of}
 
 -- entries that follow each other, from a place that is not above `low`
-abbrev Follows : (ℕ → ℕ) → ℕ → List Entry → Type 0
+abbrev Follows : (ℕ → ℕ) → ℕ → List StreamEntry → Type 0
 Follows f low es = (n : ℕ) × (count : ℕ) × (n ≤ low) × (es ≡ following f n count)
 
 -- and of which none is above `high`
-abbrev FollowsTo : (ℕ → ℕ) → ℕ → ℕ → List Entry → Type 0
+abbrev FollowsTo : (ℕ → ℕ) → ℕ → ℕ → List StreamEntry → Type 0
 FollowsTo f low high es = (n : ℕ) × (count : ℕ) × (n ≤ low) × (n + count ≤ high) × (es ≡ following f n count)
 
-abbrev AllOf : (List Entry → Type 0) → List (List Entry) → Type 0
-AllOf P xs = (k : ℕ) (es : List Entry) → slice_get xs k ≡ Some es → P es
+abbrev AllOf : (List StreamEntry → Type 0) → List (List StreamEntry) → Type 0
+AllOf P xs = (k : ℕ) (es : List StreamEntry) → slice_get xs k ≡ Some es → P es
 
-one_more_of : (P : List Entry → Type 0) (x : List Entry) (xs : List (List Entry)) → P x → AllOf P xs → AllOf P (x ∷ xs)
+one_more_of : (P : List StreamEntry → Type 0) (x : List StreamEntry) (xs : List (List StreamEntry)) → P x → AllOf P xs → AllOf P (x ∷ xs)
 one_more_of P x xs own rest zero es e = let same : x ≡ es = cc in subst P same own
 one_more_of P x xs own rest (suc k) es e = rest k es e
 
-more_follow : (f : ℕ → ℕ) (low more : ℕ) (xs : List (List Entry)) → low ≤ more → AllOf (Follows f low) xs → AllOf (Follows f more) xs
+more_follow : (f : ℕ → ℕ) (low more : ℕ) (xs : List (List StreamEntry)) → low ≤ more → AllOf (Follows f low) xs → AllOf (Follows f more) xs
 more_follow f low more xs less all k es at = let a = all k es at in (a.0, a.1, (let b = a.2 in omega arith), a.3)
 
-more_follow_to : (f : ℕ → ℕ) (low more high higher : ℕ) (xs : List (List Entry)) → low ≤ more → high ≤ higher → AllOf (FollowsTo f low high) xs → AllOf (FollowsTo f more higher) xs
+more_follow_to : (f : ℕ → ℕ) (low more high higher : ℕ) (xs : List (List StreamEntry)) → low ≤ more → high ≤ higher → AllOf (FollowsTo f low high) xs → AllOf (FollowsTo f more higher) xs
 more_follow_to f low more high higher xs less fewer all k es at =
     let a = all k es at in (a.0, a.1, (let b = a.2 in omega arith), (let b = a.3 in omega arith), a.4)
 
-if_some : (o : Option (List Entry)) (P : Option (List Entry) → Type 0) → P None → ((es : List Entry) → o ≡ Some es → P (Some es)) → P o
+if_some : (o : Option (List StreamEntry)) (P : Option (List StreamEntry) → Type 0) → P None → ((es : List StreamEntry) → o ≡ Some es → P (Some es)) → P o
 if_some None P none some = none
 if_some (Some es) P none some = some es refl
 
@@ -48,7 +48,7 @@ holds_none : (f : ℕ → ℕ) → (h : Holds f empty 0) × (h.count ≡ 0)
 holds_none f = (record { count = 0; gone = 0; left = 0; all = omega arith; is = refl; gone_taken = omega arith }, refl)
 
 -- entries came that follow each other
-holds_more : (f : ℕ → ℕ) (s : Stream) (taken : ℕ) (h : Holds f s taken) (es : List Entry) (n count : ℕ) → n ≤ h.count → es ≡ following f n count
+holds_more : (f : ℕ → ℕ) (s : Stream) (taken : ℕ) (h : Holds f s taken) (es : List StreamEntry) (n count : ℕ) → n ≤ h.count → es ≡ following f n count
     → (g : Holds f (put_all s es) taken) × (h.count ≤ g.count) × ((high : ℕ) → h.count ≤ high → n + count ≤ high → g.count ≤ high)
 holds_more f s taken h es n count low follow =
     let put = put_following f h.gone h.left h.count n count h.all low in (
@@ -92,7 +92,7 @@ module _ (row answer : ℕ → ℕ) where
   abbrev said : ℕ → ℕ
   said n = answer (row n)
 
-  record IsSound (l : Lane) : Type 0 where
+  record IsSound (l : LaneStreams) : Type 0 where
     rows : Holds row l.rows l.taken
     answers : Holds said l.answers l.taken
     no_more : answers.count ≤ rows.count
@@ -101,7 +101,7 @@ module _ (row answer : ℕ → ℕ) where
     got : l.got ≡ first said l.taken
     reached : l.taken ≤ answers.count
 
-  at_start : IsSound start
+  at_start : IsSound fresh_streams
   at_start =
       let rows = holds_none row in
       let answers = holds_none said in
@@ -115,7 +115,7 @@ module _ (row answer : ℕ → ℕ) where
         reached = omega arith;
       }
 
-  submitted : (l : Lane) (back count : ℕ) → IsSound l → IsSound (happens row answer l (Submit back count))
+  submitted : (l : LaneStreams) (back count : ℕ) → IsSound l → IsSound (happens row answer l (Submit back count))
   submitted l back count s =
       let last : l.rows.last ≡ s.rows.count = ap (λ r. r.last) s.rows.is in
       record {
@@ -128,7 +128,7 @@ module _ (row answer : ℕ → ℕ) where
         reached = s.reached;
       }
 
-  rows_came : (l : Lane) (es : List Entry) (s : IsSound l) → Follows row s.rows.count es → IsSound (with_rows l (Some es))
+  rows_came : (l : LaneStreams) (es : List StreamEntry) (s : IsSound l) → Follows row s.rows.count es → IsSound (with_rows l (Some es))
   rows_came l es s follows =
       let rows = holds_more row l.rows l.taken s.rows es follows.0 follows.1 follows.2 follows.3 in
       let less = s.no_more in
@@ -143,7 +143,7 @@ module _ (row answer : ℕ → ℕ) where
         reached = s.reached;
       }
 
-  answered_some : (l : Lane) (back count : ℕ) → IsSound l → IsSound (happens row answer l (Answer back count))
+  answered_some : (l : LaneStreams) (back count : ℕ) → IsSound l → IsSound (happens row answer l (Answer back count))
   answered_some l back count s =
       let n = l.answers.last - back in
       let last : l.answers.last ≡ s.answers.count = ap (λ r. r.last) s.answers.is in
@@ -170,7 +170,7 @@ module _ (row answer : ℕ → ℕ) where
         reached = s.reached;
       }
 
-  answers_came : (l : Lane) (es : List Entry) (s : IsSound l) → FollowsTo said s.answers.count s.rows.count es → IsSound (with_answers l (Some es))
+  answers_came : (l : LaneStreams) (es : List StreamEntry) (s : IsSound l) → FollowsTo said s.answers.count s.rows.count es → IsSound (with_answers l (Some es))
   answers_came l es s follows =
       let answers = holds_more said l.answers l.taken s.answers es follows.0 follows.1 follows.2 follows.4 in
       let grown = answers.1 in
@@ -188,13 +188,13 @@ module _ (row answer : ℕ → ℕ) where
   own : (n : ℕ) → (suc n == suc n) ≡ true
   own n = grind (arith, nat_tests)
 
-  abbrev with_next : Lane → Lane
+  abbrev with_next : LaneStreams → LaneStreams
   with_next l = record l { got = l.got ++ said l.taken ∷ []; taken = suc l.taken }
 
-  is_next : (l : Lane) (rest : ℕ) → take_first l (take 1 (following said l.taken (suc rest))) ≡ with_next l
+  is_next : (l : LaneStreams) (rest : ℕ) → take_first l (take 1 (following said l.taken (suc rest))) ≡ with_next l
   is_next l rest = ap (λ b. cond b (with_next l) l) (own l.taken)
 
-  took : (l : Lane) (rest : ℕ) (s : IsSound l) → l.taken + rest ≡ s.answers.count → IsSound (take_first l (take 1 (following said l.taken rest)))
+  took : (l : LaneStreams) (rest : ℕ) (s : IsSound l) → l.taken + rest ≡ s.answers.count → IsSound (take_first l (take 1 (following said l.taken rest)))
   took l zero s every = s
   took l (suc rest) s every =
       let rows = holds_taken row l.rows l.taken s.rows in
@@ -214,7 +214,7 @@ module _ (row answer : ℕ → ℕ) where
       subst IsSound (sym (is_next l rest)) sound
 
   -- what the till finds
-  left_of : (l : Lane) (s : IsSound l) → (rest : ℕ) × (l.taken + rest ≡ s.answers.count) × (read l.answers l.taken 1 ≡ take 1 (following said l.taken rest))
+  left_of : (l : LaneStreams) (s : IsSound l) → (rest : ℕ) × (l.taken + rest ≡ s.answers.count) × (read l.answers l.taken 1 ≡ take 1 (following said l.taken rest))
   left_of l s =
       let before = s.reached in
       let every = s.answers.all in
@@ -224,7 +224,7 @@ module _ (row answer : ℕ → ℕ) where
         ap (λ r. read r l.taken 1) s.answers.is ∙ ap (λ es. take 1 es) rest.2,
       )
 
-  taken_next : (l : Lane) → IsSound l → l.taken < l.answers.last → (happens row answer l Take).taken ≡ suc l.taken
+  taken_next : (l : LaneStreams) → IsSound l → l.taken < l.answers.last → (happens row answer l Take).taken ≡ suc l.taken
   taken_next l s some =
       let last : l.answers.last ≡ s.answers.count = ap (λ r. r.last) s.answers.is in
       let found = left_of l s in
@@ -234,7 +234,7 @@ module _ (row answer : ℕ → ℕ) where
       by zero more = absurd (omega arith)
       by (suc rest) more = ap (λ m. m.taken) (is_next l rest)
 
-  rows_trimmed : (l : Lane) (back : ℕ) → IsSound l → IsSound (happens row answer l (Trim_rows back))
+  rows_trimmed : (l : LaneStreams) (back : ℕ) → IsSound l → IsSound (happens row answer l (Trim_rows back))
   rows_trimmed l back s =
       let less = s.no_more in
       let reached = s.reached in
@@ -250,7 +250,7 @@ module _ (row answer : ℕ → ℕ) where
         reached = s.reached;
       }
 
-  answers_trimmed : (l : Lane) (back : ℕ) → IsSound l → IsSound (happens row answer l (Trim_answers back))
+  answers_trimmed : (l : LaneStreams) (back : ℕ) → IsSound l → IsSound (happens row answer l (Trim_answers back))
   answers_trimmed l back s =
       let less = s.no_more in
       let reached = s.reached in
@@ -266,7 +266,7 @@ module _ (row answer : ℕ → ℕ) where
         reached = omega arith;
       }
 
-  after_one : (l : Lane) (e : Event) → IsSound l → IsSound (happens row answer l e)
+  after_one : (l : LaneStreams) (e : Happening) → IsSound l → IsSound (happens row answer l e)
   after_one l (Submit back count) s = submitted l back count s
   after_one l (Rows_come which) s = if_some (slice_get l.sent which) (λ o. IsSound (with_rows l o)) s (λ es e. rows_came l es s (s.sent which es e))
   after_one l (Answer back count) s = answered_some l back count s
@@ -277,19 +277,19 @@ module _ (row answer : ℕ → ℕ) where
   after_one l (Trim_rows back) s = rows_trimmed l back s
   after_one l (Trim_answers back) s = answers_trimmed l back s
 
-  after_all : (events : List Event) (l : Lane) → IsSound l → IsSound (run row answer events l)
+  after_all : (events : List Happening) (l : LaneStreams) → IsSound l → IsSound (all_happen row answer events l)
   after_all [] l s = s
   after_all (e ∷ es) l s = after_all es (happens row answer l e) (after_one l e s)
 
 pub answered_once : AnsweredOnce
 answered_once row answer events =
-    let s = after_all row answer events start (at_start row answer) in
-    (s.got, taken_next row answer (run row answer events start) s)
+    let s = after_all row answer events fresh_streams (at_start row answer) in
+    (s.got, taken_next row answer (all_happen row answer events fresh_streams) s)
 
 pub none_is_left_out : NoneIsLeftOut
 none_is_left_out row answer events =
-    let s = after_all row answer events start (at_start row answer) in
-    let l = run row answer events start in
+    let s = after_all row answer events fresh_streams (at_start row answer) in
+    let l = all_happen row answer events fresh_streams in
     let last : l.answers.last ≡ s.answers.count = ap (λ r. r.last) s.answers.is in
     let rows : l.rows.last ≡ s.rows.count = ap (λ r. r.last) s.rows.is in
     let every = s.answers.all in

@@ -1,5 +1,5 @@
 -- The lines that were taken of an input are its pieces between line feeds.
-use Rattle.std.proofs.Common.{◌≡◌, ◌<◌, ◌≤◌, ◌+◌, ◌++◌, ⊎_elim, ◌∙◌, ◌||◌, ◌&&◌, ◌∷◌, All, Bool, List, None, Some, [], ap, append-nil, append_assoc, arith, cond, false, get_or, get_or-take, length, length-append, length-drop, length-take, nat_eq, nat_lt, refl, subst, sym, true, ℕ}
+use Rattle.std.proofs.Common.{All, Bool, List, None, Some, [], ap, append-nil, append_assoc, arith, cond, false, get_or, get_or-take, length, length-append, length-drop, length-take, nat_eq, nat_lt, refl, subst, sym, true, ℕ, ⊎_elim, ◌&&◌, ◌++◌, ◌+◌, ◌<◌, ◌||◌, ◌∙◌, ◌∷◌, ◌≡◌, ◌≤◌}
 use Rattle.std.proofs.Common.{inl, inr}
 use Rattle.std.specs.List.{after_first, before_first, position_or_len}
 use Rattle.std.proofs.lemmas.Bool.{and_parts, cases_Bool, eqb-true, ltb-false, ltb-true, or_cases, or_parts}
@@ -8,7 +8,7 @@ use Rattle.std.proofs.lemmas.List.{take_all}
 use Rattle.std.proofs.lemmas.List.Elements.{All-append, All-head, All-nil, All-push, All-tail}
 use Rattle.std.proofs.lemmas.List.Splits.{slice_split_at, slice_split_none}
 use Rattle.std.proofs.lemmas.List.Sums.{fails_before_first, passes_at_first, split_at_first}
-use Rattle.wire_core.specs.Lines.{AreAllTaken, AreTaken, HasNoFeed, Held, IsLine, LinesArePieces, Takes, are_last, ended_lines, first_line, is_feed, is_too_long, line_of, most_line, pieces_of, with_room, without_line}
+use Rattle.wire_core.specs.Lines.{AreAllTaken, AreTaken, HasNoFeed, Held, IsLine, LinesArePieces, TakesLines, are_last, ended_lines, first_line, held_line, is_feed, is_too_long, most_line, pieces_of, with_room, without_line}
 
 -- the pieces of lines that have ended and of what comes after them
 pieces_after : (lines : List (List ℕ)) (xs : List ℕ) → All HasNoFeed lines → pieces_of (ended_lines lines ++ xs) ≡ lines ++ pieces_of xs
@@ -41,7 +41,7 @@ none_before xs = λ k d low.
     rw (get_or-take (position_or_len is_feed xs) xs k d early) (fails_before_first is_feed xs k d early)
 
 -- where no line is held, no line feed is, and these are not the last bytes
-none_held : (h : Held) → line_of h ≡ None → HasNoFeed h.rest × (are_last h ≡ false)
+none_held : (h : Held) → held_line h ≡ None → HasNoFeed h.rest × (are_last h ≡ false)
 none_held h none =
     let p = nat_lt (position_or_len is_feed h.rest) (length h.rest) in
     let parts = or_parts p (are_last h) (is_none (p || are_last h) (before_first is_feed h.rest) none) in
@@ -56,7 +56,7 @@ empty [] few = refl
 empty (x ∷ xs) few = absurd (omega (arith, few))
 
 -- at the end of the input, where no line is held, nothing is
-nothing_left : (h : Held) → line_of h ≡ None → h.has_ended ≡ true → (h.is_cut ≡ false) × (h.rest ≡ [])
+nothing_left : (h : Held) → held_line h ≡ None → h.has_ended ≡ true → (h.is_cut ≡ false) × (h.rest ≡ [])
 nothing_left h none ended =
     let last = (none_held h none).1 in
     let held : (h.is_cut || nat_lt 0 (length h.rest)) ≡ false = rest_false h.has_ended (h.is_cut || nat_lt 0 (length h.rest)) ended last in
@@ -104,11 +104,11 @@ taken_last bytes lines h t past ended =
     }
 
 -- once all is taken, no line is held
-none_of_all : (bytes : List ℕ) (lines : List (List ℕ)) (h : Held) (found : List ℕ) → AreAllTaken bytes lines h → line_of h ≡ Some found → ⊥
+none_of_all : (bytes : List ℕ) (lines : List (List ℕ)) (h : Held) (found : List ℕ) → AreAllTaken bytes lines h → held_line h ≡ Some found → ⊥
 none_of_all bytes lines h found t is =
     let last : are_last h ≡ false = ap (λ c. h.has_ended && (c || nat_lt 0 (length h.rest))) t.whole
     ∙ ap (λ r. h.has_ended && (false || nat_lt 0 (length r))) t.rest ∙ ap (λ e. e && false) t.ended in
-    let none : line_of h ≡ None = ap (λ r. first_line r (are_last h)) t.rest ∙ ap (first_line []) last in
+    let none : held_line h ≡ None = ap (λ r. first_line r (are_last h)) t.rest ∙ ap (first_line []) last in
     cc (none, is)
 
 -- what is found is the line but for a front that was given up
@@ -123,13 +123,13 @@ either true b not_so is = cc
 either false b not_so is = is
 
 -- a line was taken
-taken : (bytes : List ℕ) (lines : List (List ℕ)) (h : Held) (found : List ℕ) → AreTaken bytes lines h → line_of h ≡ Some found
-    → (line : List ℕ) × IsLine h found line × Takes bytes (lines ++ line ∷ []) (without_line h)
+taken : (bytes : List ℕ) (lines : List (List ℕ)) (h : Held) (found : List ℕ) → AreTaken bytes lines h → held_line h ≡ Some found
+    → (line : List ℕ) × IsLine h found line × TakesLines bytes (lines ++ line ∷ []) (without_line h)
 taken bytes lines h found t is =
     let p = nat_lt (position_or_len is_feed h.rest) (length h.rest) in
     let some = is_some (p || are_last h) (before_first is_feed h.rest) found is in
     let line = t.front ++ before_first is_feed h.rest in
-    let taken : Takes bytes (lines ++ line ∷ []) (without_line h) = ⊎_elim
+    let taken : TakesLines bytes (lines ++ line ∷ []) (without_line h) = ⊎_elim
     (λ (e : p ≡ true). inl (taken_feed bytes lines h t (ltb-true _ _ e)))
     (λ (e : p ≡ false). inr (taken_last bytes lines h t (ltb-false _ _ e) (and_parts h.has_ended (h.is_cut || nat_lt 0 (length h.rest)) (either p (are_last h) e some.0)).0))
     (cases_Bool p) in

@@ -34,8 +34,8 @@ abbrev pub are_last : Held → Bool
 are_last h = h.has_ended && (h.is_cut || nat_lt 0 (length h.rest))
 
 -- the next line, but for a front that was given up
-abbrev pub line_of : Held → Option (List ℕ)
-line_of h = first_line h.rest (are_last h)
+abbrev pub held_line : Held → Option (List ℕ)
+held_line h = first_line h.rest (are_last h)
 
 -- the line was taken, with its line feed
 abbrev pub without_line : Held → Held
@@ -80,8 +80,8 @@ pub record AreAllTaken (bytes : List ℕ) (lines : List (List ℕ)) (h : Held) :
   pub ended : h.has_ended ≡ true
 
 -- of these bytes these lines were taken
-abbrev pub Takes : List ℕ → List (List ℕ) → Held → Type 0
-Takes bytes lines h = AreTaken bytes lines h ⊎ AreAllTaken bytes lines h
+abbrev pub TakesLines : List ℕ → List (List ℕ) → Held → Type 0
+TakesLines bytes lines h = AreTaken bytes lines h ⊎ AreAllTaken bytes lines h
 
 -- a line that was found, its front being known to be too long where it was given up
 abbrev pub IsLine : Held → List ℕ → List ℕ → Type 0
@@ -90,22 +90,22 @@ IsLine h found line = (h.is_cut ≡ false → line ≡ found) × (h.is_cut ≡ t
 -- however an input is cut into pieces, the lines that are taken of it are those between its line feeds
 pub record LinesArePieces : Type 0 where
   -- at first nothing has come
-  pub first : Takes [] [] nothing_held
+  pub first : TakesLines [] [] nothing_held
   -- a line is taken
-  pub taken : (bytes : List ℕ) (lines : List (List ℕ)) (h : Held) (found : List ℕ) → Takes bytes lines h → line_of h ≡ Some found
-      → (line : List ℕ) × IsLine h found line × Takes bytes (lines ++ line ∷ []) (without_line h)
+  pub taken : (bytes : List ℕ) (lines : List (List ℕ)) (h : Held) (found : List ℕ) → TakesLines bytes lines h → held_line h ≡ Some found
+      → (line : List ℕ) × IsLine h found line × TakesLines bytes (lines ++ line ∷ []) (without_line h)
   -- more comes, where no line is held and the input has not ended
-  pub more : (bytes more : List ℕ) (lines : List (List ℕ)) (h : Held) → Takes bytes lines h → line_of h ≡ None → h.has_ended ≡ false
-      → Takes (bytes ++ more) lines (arrived h more)
+  pub more : (bytes more : List ℕ) (lines : List (List ℕ)) (h : Held) → TakesLines bytes lines h → held_line h ≡ None → h.has_ended ≡ false
+      → TakesLines (bytes ++ more) lines (arrived h more)
   -- the front of a line that is too long is given up
-  pub room : (bytes : List ℕ) (lines : List (List ℕ)) (h : Held) → Takes bytes lines h → line_of h ≡ None → h.has_ended ≡ false
-      → Takes bytes lines (with_room h)
+  pub room : (bytes : List ℕ) (lines : List (List ℕ)) (h : Held) → TakesLines bytes lines h → held_line h ≡ None → h.has_ended ≡ false
+      → TakesLines bytes lines (with_room h)
   -- the lines that were taken are the first pieces
-  pub begins : (bytes : List ℕ) (lines : List (List ℕ)) (h : Held) → Takes bytes lines h
+  pub begins : (bytes : List ℕ) (lines : List (List ℕ)) (h : Held) → TakesLines bytes lines h
       → (later : List (List ℕ)) × (pieces_of bytes ≡ lines ++ later)
   -- where no line is held and the input has not ended they are all but the last
-  pub even : (bytes : List ℕ) (lines : List (List ℕ)) (h : Held) → Takes bytes lines h → line_of h ≡ None → h.has_ended ≡ false
+  pub even : (bytes : List ℕ) (lines : List (List ℕ)) (h : Held) → TakesLines bytes lines h → held_line h ≡ None → h.has_ended ≡ false
       → (last : List ℕ) × (pieces_of bytes ≡ lines ++ last ∷ [])
   -- at its end they are all pieces, but for a last one without a byte
-  pub ended : (bytes : List ℕ) (lines : List (List ℕ)) (h : Held) → Takes bytes lines h → line_of h ≡ None → h.has_ended ≡ true
+  pub ended : (bytes : List ℕ) (lines : List (List ℕ)) (h : Held) → TakesLines bytes lines h → held_line h ≡ None → h.has_ended ≡ true
       → (pieces_of bytes ≡ lines) ⊎ (pieces_of bytes ≡ lines ++ [] ∷ [])

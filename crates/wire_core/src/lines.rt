@@ -2,7 +2,7 @@
 ghost use Rattle.std.specs.Prelude.{◌≡◌, ◌≤◌, ◌↔◌, ◌||◌, ◌<◌, nat_lt, drop, if◌then◌else◌, vec_capacity, ◌∷◌, ◌++◌, [], ℕ, List, None, Some, false, true, IfNone, IfOk, IfSome, OnErr, OnOk, IsErr, length};
 ghost use Rattle.wire_core.specs.Events.{Event};
 ghost use Rattle.wire_core.specs.Events.Event.{Read};
-ghost use Rattle.wire_core.specs.Lines.{arrived, first_line, line_of, nothing_held, with_room, without_line};
+ghost use Rattle.wire_core.specs.Lines.{arrived, first_line, held_line, nothing_held, with_room, without_line};
 
 use crate::wire::Wire;
 use digits_core::Failed;
@@ -112,8 +112,8 @@ impl Lines {
     /// The next line without its line feed, and where its front was given up what is left of it; none where more
     /// has to come first, and none at the end of the input.
     pub fn line(&self) -> Option<&[u8]>
-        ensures some { IfSome result (λ line. line_of self.now ≡ Some line.now) }
-        ensures none { IfNone result (line_of self.now ≡ None) }
+        ensures some { IfSome result (λ line. held_line self.now ≡ Some line.now) }
+        ensures none { IfNone result (held_line self.now ≡ None) }
     {
         let rest = &self.bytes.as_slice()[self.start..];
         let are_last = self.has_ended && (self.is_cut || !rest.is_empty());
@@ -136,7 +136,7 @@ impl Lines {
 
     /// Takes the line, which has so many bytes, with its line feed.
     pub fn take_line(&mut self, count: usize)
-        requires { (line : List ℕ) × (line_of self.old ≡ Some line) × (length line ≡ count) }
+        requires { (line : List ℕ) × (held_line self.old ≡ Some line) × (length line ≡ count) }
         ensures { self.new ≡ without_line self.old }
     {
         self.start = self.bytes.len().min(self.start + count + 1);

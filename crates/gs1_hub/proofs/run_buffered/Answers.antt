@@ -1,7 +1,7 @@
 use Rattle.std.proofs.Common.{◌≡◌, Err, [], append-nil, refl, rules, sym}
 use Rattle.std.proofs.KnownBytes.{Keeps-refl}
 use Rattle.digits_core.specs.Bytes.{TookFront}
-use Rattle.gs1_hub.specs.Buffers.{taken_in}
+use Rattle.gs1_hub.specs.Buffers.{taken_and_waiting}
 use Rattle.gs1_hub.specs.declared.fault.CommandFault.TheVariants as command
 use Rattle.gs1_hub.proofs.BufferFacts.{may_fail, refused_as, took_front}
 use Rattle.gs1_hub.proofs.run_buffered.Goals as goal
@@ -20,7 +20,7 @@ returns-in_err-run g c =
             wrote.1,
             wrote.2,
             wrote.3,
-            took_front (taken before.sink) (taken_in taken after) (taken after.sink) before.waiting after.waiting wrote.1 c.requires.fresh c.requires.empty wrote.4 (Keeps-refl (taken_in taken after)),
+            took_front (taken before.sink) (taken_and_waiting taken after) (taken after.sink) before.waiting after.waiting wrote.1 c.requires.fresh c.requires.empty wrote.4 (Keeps-refl (taken_and_waiting taken after)),
           );
       refused = search rules;
       unwritten = search rules;
@@ -39,7 +39,7 @@ returns-in_err-flush g c =
     let result = c.from_residual-in_err-flush.result in
     let write = c.from_residual-in_err-flush.ensures.1 in
     let front : TookFront (taken before.sink) (taken after.sink) wrote.1 =
-    took_front (taken before.sink) (taken_in taken middle) (taken after.sink) before.waiting after.waiting wrote.1 c.requires.fresh c.requires.empty
+    took_front (taken before.sink) (taken_and_waiting taken middle) (taken after.sink) before.waiting after.waiting wrote.1 c.requires.fresh c.requires.empty
     (wrote.1, [], sym (append-nil wrote.1), wrote.4) c.flush.ensures.bytes in
     record {
       ok = search rules;

@@ -4,7 +4,7 @@ use Rattle.clap.specs.Words.{App, Row, new_app, with_rule}
 use Rattle.digits_core.specs.Bytes.{GaveAll}
 use Rattle.sheet_core.specs.Bitmaps.{Bitmap}
 use Rattle.sheet_core.specs.Grids.{IsGrid}
-use Rattle.sheet_core.specs.pbm.Images.{Reads, images_of}
+use Rattle.sheet_core.specs.pbm.Images.{ReadsBytes, images_of}
 use Rattle.sheet_core.specs.declared.fault.PbmFault.TheVariants as pbm
 use Rattle.line_core.specs.Grids.{cells_of}
 use Rattle.line_core.specs.answers.Reports.{IsReport}
@@ -39,14 +39,14 @@ GaveOtherSize o left rest = (bytes : List ℕ) × GaveAll left rest bytes × (sh
 
 -- why `scan` refuses the input in a grid: the first byte that cannot stand in an image, then an image of another size, then a thread that could not be started, and only where there is an image
 abbrev pub RefusesImages : ScanOptions → Option (List ℕ) → Option (List ℕ) → CommandFault → Type 0
-RefusesImages o left rest command.NotP4 = Reads images_of left rest (Err pbm.NotP4)
-RefusesImages o left rest command.PbmHeader = Reads images_of left rest (Err pbm.PbmHeader)
-RefusesImages o left rest command.Truncated = Reads images_of left rest (Err pbm.Truncated)
-RefusesImages o left rest command.PbmSize = Reads images_of left rest (Err pbm.PbmSize) ⊎ GaveOtherSize o left rest
-RefusesImages o left rest command.ReadFault = Reads images_of left rest (Err pbm.ReadFault)
+RefusesImages o left rest command.NotP4 = ReadsBytes images_of left rest (Err pbm.NotP4)
+RefusesImages o left rest command.PbmHeader = ReadsBytes images_of left rest (Err pbm.PbmHeader)
+RefusesImages o left rest command.Truncated = ReadsBytes images_of left rest (Err pbm.Truncated)
+RefusesImages o left rest command.PbmSize = ReadsBytes images_of left rest (Err pbm.PbmSize) ⊎ GaveOtherSize o left rest
+RefusesImages o left rest command.ReadFault = ReadsBytes images_of left rest (Err pbm.ReadFault)
 RefusesImages o left rest command.NoThread = (bytes : List ℕ) × GaveAll left rest bytes × (sheets : List Bitmap) × AreImages o bytes sheets × (sheets ≢ [])
 RefusesImages o left rest command.WriteFault = ⊤
-RefusesImages o left rest command.NoMemory = Reads images_of left rest (Err pbm.NoMemory)
+RefusesImages o left rest command.NoMemory = ReadsBytes images_of left rest (Err pbm.NoMemory)
 RefusesImages o left rest _ = ⊥
 
 -- why `scan` refuses the input: the grid, before a byte is read, then the images

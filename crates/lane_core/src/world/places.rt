@@ -1,6 +1,6 @@
 //! Where a ticket is.
 ghost use Rattle.std.specs.Prelude.{◌≡◌, ◌≤◌, IfNone, IfSome, option_to_list};
-ghost use Rattle.lane_core.specs.Contents.{Says};
+ghost use Rattle.lane_core.specs.Contents.{HoldsOfShown};
 ghost use Rattle.lane_core.specs.Machine.{issued_of};
 ghost use Rattle.lane_core.specs.Tickets.{is_among, is_held_by};
 ghost use Rattle.lane_core.specs.Whereabouts.{IsAt};
@@ -46,8 +46,8 @@ fn is_held(workers: &[Option<Job>], ticket: Ticket) -> bool
 impl World {
     /// Where the ticket is; none where it was not issued.
     pub fn place(&self, ticket: Ticket) -> Option<Place>
-        ensures found { IfSome result (λ place. Says self.now (λ s. IsAt s ticket.lane ticket.number place)) }
-        ensures none { IfNone result (Says self.now (λ s. issued_of s ticket.lane ≤ ticket.number)) }
+        ensures found { IfSome result (λ place. HoldsOfShown self.now (λ s. IsAt s ticket.lane ticket.number place)) }
+        ensures none { IfNone result (HoldsOfShown self.now (λ s. issued_of s ticket.lane ≤ ticket.number)) }
     {
         let at = ticket.lane as usize;
         if at >= self.lanes.len() {

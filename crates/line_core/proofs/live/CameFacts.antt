@@ -11,8 +11,8 @@ use Rattle.lane_core.specs.declared.job.Plain.{Plain}
 use Rattle.hub_core.specs.Traffics.{HasRoom, IsEven, with_more}
 use Rattle.wire_core.specs.Events.{Event}
 use Rattle.wire_core.specs.Lines.{Held, without_line}
-use Rattle.line_core.specs.live.Came.{AreWaiting, HasCome, IsInTurn, IsReady, IsWaiting, Keeps, KeepsRow, Stands}
-use Rattle.line_core.specs.live.Meaning.{IsFound}
+use Rattle.line_core.specs.live.Came.{AreWaiting, HasCome, IsInTurn, IsReady, IsWaiting, KeepsPlaces, KeepsRow, Stands}
+use Rattle.line_core.specs.live.Meaning.{HoldsRecord}
 use Rattle.line_core.specs.live.Replies.{most_rows}
 use Rattle.line_core.specs.live.Turns.{IsEnded, IsOneMore, IsRoomier}
 use Rattle.line_core.specs.declared.live.fault.LiveFault.{LiveFault}
@@ -167,7 +167,7 @@ CameKept f events lane row (Ok false) lanes places h stopped given brought = Has
 CameKept f events lane row (Err refused) lanes places h stopped given brought = HasCome f events lanes places h stopped given brought
 
 module _ (f : Form) (events : List Event) (lanes : List Waiting) (places : List Place) (h : Held) (stopped : Option LiveFault) (given : List (List (List ℕ))) (brought : List (List Plain)) where
-  pub came_blank : (count : ℕ) → IsFound (length lanes) h count read.Blank → HasCome f events lanes places h stopped given brought → HasCome f events lanes places (without_line h) stopped given brought
+  pub came_blank : (count : ℕ) → HoldsRecord (length lanes) h count read.Blank → HasCome f events lanes places h stopped given brought → HasCome f events lanes places (without_line h) stopped given brought
   came_blank count found c = record {
     waiting = c.waiting;
     turn = c.turn;
@@ -176,7 +176,7 @@ module _ (f : Form) (events : List Event) (lanes : List Waiting) (places : List 
     stands = record { prompt = c.stands.prompt; front = c.stands.front; ended = c.stands.ended; answered = c.stands.answered };
   }
 
-  pub came_refused : (count : ℕ) (lane : Option ℕ) (fault : LineFault) → IsFound (length lanes) h count (read.Refused lane fault) → HasCome f events lanes places h stopped given brought
+  pub came_refused : (count : ℕ) (lane : Option ℕ) (fault : LineFault) → HoldsRecord (length lanes) h count (read.Refused lane fault) → HasCome f events lanes places h stopped given brought
       → HasCome f events lanes (places ++ place.Refused lane fault ∷ []) (without_line h) stopped given brought
   came_refused count lane fault found c = record {
     waiting = c.waiting;
@@ -192,11 +192,11 @@ module _ (f : Form) (events : List Event) (lanes : List Waiting) (places : List 
     waiting = roomier given brought lanes lane w v at r c.waiting;
     turn = All-weaker (IsInTurn lanes) (IsInTurn (set lanes lane v)) (still_in_turn lanes lane w v at r.first (omega (arith, r.next))) places c.turn;
     few = omega (arith, c.few, length-set lanes lane v);
-    keeps = λ p. subst (λ n. Keeps n f given brought events places h) (sym (length-set lanes lane v)) (c.keeps p);
+    keeps = λ p. subst (λ n. KeepsPlaces n f given brought events places h) (sym (length-set lanes lane v)) (c.keeps p);
     stands = subst (λ n. Stands n f given brought events h stopped) (sym (length-set lanes lane v)) c.stands;
   }
 
-  came_spent : (count lane : ℕ) (row : List ℕ) (w : Waiting) → slice_get lanes lane ≡ Some w → w.next ≡ most_rows → IsFound (length lanes) h count (read.Row lane row) → HasCome f events lanes places h stopped given brought
+  came_spent : (count lane : ℕ) (row : List ℕ) (w : Waiting) → slice_get lanes lane ≡ Some w → w.next ≡ most_rows → HoldsRecord (length lanes) h count (read.Row lane row) → HasCome f events lanes places h stopped given brought
       → HasCome f events lanes (places ++ place.Refused (Some lane) line_fault.Spent ∷ []) (without_line h) stopped given brought
   came_spent count lane row w at all found c = record {
     waiting = c.waiting;
@@ -206,7 +206,7 @@ module _ (f : Form) (events : List Event) (lanes : List Waiting) (places : List 
     stands = record { prompt = c.stands.prompt; front = c.stands.front; ended = c.stands.ended; answered = c.stands.answered };
   }
 
-  came_row : (count lane number : ℕ) (row : List ℕ) (w v : Waiting) → slice_get lanes lane ≡ Some w → IsOneMore number w v → IsFound (length lanes) h count (read.Row lane row) → HasCome f events lanes places h stopped given brought
+  came_row : (count lane number : ℕ) (row : List ℕ) (w v : Waiting) → slice_get lanes lane ≡ Some w → IsOneMore number w v → HoldsRecord (length lanes) h count (read.Row lane row) → HasCome f events lanes places h stopped given brought
       → HasRoom lane given × HasCome f events (set lanes lane v) (places ++ place.Row lane number ∷ []) (without_line h) stopped (with_more lane row given) brought
   came_row count lane number row w v at o found c =
       let i = c.waiting.each lane w at in
@@ -219,7 +219,7 @@ module _ (f : Form) (events : List Event) (lanes : List Waiting) (places : List 
           waiting = one_more_row given brought lanes lane number w v row at o c.waiting;
           turn = All-push (IsInTurn (set lanes lane v)) places (place.Row lane number) (All-weaker (IsInTurn lanes) (IsInTurn (set lanes lane v)) (still_in_turn lanes lane w v at o.first (omega (arith, o.next))) places c.turn) fits;
           few = omega (arith, c.few, long);
-          keeps = λ p. subst (λ n. Keeps n f (with_more lane row given) brought events (places ++ place.Row lane number ∷ []) (without_line h)) (sym long)
+          keeps = λ p. subst (λ n. KeepsPlaces n f (with_more lane row given) brought events (places ++ place.Row lane number ∷ []) (without_line h)) (sym long)
               (row_taken (length lanes) f given brought events places h count lane number row found there (o.same ∙ i.next) o.left (c.keeps p));
           stands = subst (λ n. Stands n f (with_more lane row given) brought events (without_line h) stopped) (sym long)
               (let s = stands_grow f given (with_more lane row given) brought brought (grows_more given lane row there) (grows_same brought) (length lanes) events h stopped c.stands in
@@ -233,12 +233,12 @@ module _ (f : Form) (events : List Event) (lanes : List Waiting) (places : List 
     waiting = roomier given brought lanes lane w v at r c.waiting;
     turn = All-weaker (IsInTurn lanes) (IsInTurn (set lanes lane v)) (still_in_turn lanes lane w v at r.first (omega (arith, r.next))) (places ++ place.Refused (Some lane) line_fault.Spent ∷ []) c.turn;
     few = omega (arith, c.few, length-set lanes lane v);
-    keeps = λ p. subst (λ n. Keeps n f given brought events (places ++ place.Refused (Some lane) line_fault.Spent ∷ []) (without_line h)) (sym (length-set lanes lane v)) (c.keeps p);
+    keeps = λ p. subst (λ n. KeepsPlaces n f given brought events (places ++ place.Refused (Some lane) line_fault.Spent ∷ []) (without_line h)) (sym (length-set lanes lane v)) (c.keeps p);
     stands = subst (λ n. Stands n f given brought events (without_line h) stopped) (sym (length-set lanes lane v)) c.stands;
   }
 
   -- the place of a row was kept, or memory was refused
-  pub came_kept : (count lane : ℕ) (row : List ℕ) (r : Result Bool AllocError) (new : List Waiting) (more : List Place) → IsFound (length lanes) h count (read.Row lane row) → KeepsRow lane r lanes new places more
+  pub came_kept : (count lane : ℕ) (row : List ℕ) (r : Result Bool AllocError) (new : List Waiting) (more : List Place) → HoldsRecord (length lanes) h count (read.Row lane row) → KeepsRow lane r lanes new places more
       → HasCome f events lanes places h stopped given brought → CameKept f events lane row r new more h stopped given brought
   came_kept count lane row (Ok true) new more found k c =
       let at = k.3 in
@@ -268,7 +268,7 @@ module _ (f : Form) (events : List Event) (lanes : List Waiting) (places : List 
         waiting = brought_more given brought lanes lane w v x at first next ds room owed c.waiting;
         turn = All-weaker (IsInTurn lanes) (IsInTurn (set lanes lane v)) (still_in_turn lanes lane w v at first (omega (arith, next))) places c.turn;
         few = omega (arith, c.few, long);
-        keeps = λ p. subst (λ n. Keeps n f given (with_more lane x brought) events places h) (sym long) (still_kept (length lanes) f given brought events (with_more lane x brought) places h more (c.keeps p));
+        keeps = λ p. subst (λ n. KeepsPlaces n f given (with_more lane x brought) events places h) (sym long) (still_kept (length lanes) f given brought events (with_more lane x brought) places h more (c.keeps p));
         stands = subst (λ n. Stands n f given (with_more lane x brought) events h stopped) (sym long) (stands_grow f given given brought (with_more lane x brought) (grows_same given) more (length lanes) events h stopped c.stands);
       }
 

@@ -15,10 +15,10 @@ use Rattle.hub_core.specs.declared.ended.Ended.{Ended}
 use Rattle.hub_core.specs.declared.ended.Ended.TheVariants.{Done, Lost, NoMemory, Stopped}
 use Rattle.wire_core.specs.Events.{Event, was_read, was_written}
 use Rattle.wire_core.specs.Events.Event.{Read}
-use Rattle.wire_core.specs.Lines.{Held, line_of, nothing_held, pieces_of}
+use Rattle.wire_core.specs.Lines.{Held, held_line, nothing_held, pieces_of}
 use Rattle.wire_core.proofs.PieceFacts.{lines_are_pieces}
 use Rattle.line_core.specs.live.Answering.{AnswersBy, IsFrontBy, IsPromptBy}
-use Rattle.line_core.specs.live.Came.{HasCome, IsInTurn, Keeps, Tells, WasGiven}
+use Rattle.line_core.specs.live.Came.{HasCome, IsInTurn, KeepsPlaces, TellsReply, WasGiven}
 use Rattle.line_core.specs.live.Replies.{Reply, replies_to}
 use Rattle.line_core.specs.live.Replies.Reply.{Row, Line}
 use Rattle.line_core.specs.live.Stops.{TellsFaults}
@@ -76,7 +76,7 @@ come_at_first f n lanes places h stopped count few fresh none held going = recor
   };
   turn = subst (All (IsInTurn lanes)) (sym none) (All-nil (IsInTurn lanes));
   few = omega (arith, count, few);
-  keeps = λ _. subst (λ ps. Keeps (length lanes) f (replicate n []) (replicate n []) [] ps h) (sym none) (subst (Keeps (length lanes) f (replicate n []) (replicate n []) [] []) (sym held) (record {
+  keeps = λ _. subst (λ ps. KeepsPlaces (length lanes) f (replicate n []) (replicate n []) [] ps h) (sym none) (subst (KeepsPlaces (length lanes) f (replicate n []) (replicate n []) [] []) (sym held) (record {
     taken = [];
     done = [];
     turn = [];
@@ -88,8 +88,8 @@ come_at_first f n lanes places h stopped count few fresh none held going = recor
     answers = ([], tt, refl);
   }));
   stands = record {
-    prompt = nothing_prompt (Tells f (replicate n []) (replicate n [])) (replies_to (line_meant (length lanes)));
-    front = nothing_front (Tells f (replicate n []) (replicate n [])) (replies_to (line_meant (length lanes)));
+    prompt = nothing_prompt (TellsReply f (replicate n []) (replicate n [])) (replies_to (line_meant (length lanes)));
+    front = nothing_front (TellsReply f (replicate n []) (replicate n [])) (replies_to (line_meant (length lanes)));
     ended = λ is. (let e = ap (λ g. g.has_ended) held in let never : ⊥ = cc (e, is) in absurd never);
     answered = λ is. (let never : ⊥ = cc (going, is) in absurd never);
   };
@@ -127,7 +127,7 @@ some_one : {X : Type 0} {x y : X} → Some x ≡ Some y → x ≡ y
 some_one is = cc
 
 -- what was brought of a row that was given is the answer to the row
-pub tells_reply : (year : ℕ) (f : Form) (given : List (List (List ℕ))) (brought : List (List Plain)) → ServedByPlace → AreServedFirst year given brought → (r : Reply) (t : List ℕ) → Tells f given brought r t → IsReply year f r t
+pub tells_reply : (year : ℕ) (f : Form) (given : List (List (List ℕ))) (brought : List (List Plain)) → ServedByPlace → AreServedFirst year given brought → (r : Reply) (t : List ℕ) → TellsReply f given brought r t → IsReply year f r t
 tells_reply year f given brought law first (Row lane number widths) t is =
     let rows = get_or given lane [] in
     let list = get_or (served year given) lane [] in
@@ -142,8 +142,8 @@ tells_reply year f given brought law first (Row lane number widths) t is =
 tells_reply year f given brought law first (Line line) t is = is
 
 -- at the end of the input all pieces are answered
-pub all_answered : (lanes : ℕ) (f : Form) (given : List (List (List ℕ))) (brought : List (List Plain)) (events : List Event) (h : Held) → (k : Keeps lanes f given brought events [] h) → line_of h ≡ None → h.has_ended ≡ true
-    → AnswersBy (Tells f given brought) (replies_to (line_meant lanes) (pieces_of (was_read events))) (was_written events)
+pub all_answered : (lanes : ℕ) (f : Form) (given : List (List (List ℕ))) (brought : List (List Plain)) (events : List Event) (h : Held) → (k : KeepsPlaces lanes f given brought events [] h) → held_line h ≡ None → h.has_ended ≡ true
+    → AnswersBy (TellsReply f given brought) (replies_to (line_meant lanes) (pieces_of (was_read events))) (was_written events)
 all_answered lanes f given brought events h k none ended =
     let meant = line_meant lanes in
     let done : replies_to meant k.taken ≡ k.done = all_done lanes f given brought events h k in
@@ -151,7 +151,7 @@ all_answered lanes f given brought events h k none ended =
     (λ (e : pieces_of (was_read events) ≡ k.taken). ap (replies_to meant) e ∙ done)
     (λ (e : pieces_of (was_read events) ≡ k.taken ++ [] ∷ []). ap (replies_to meant) e ∙ no_reply meant k.taken [] refl ∙ done)
     (lines_are_pieces.ended (was_read events) k.taken h k.lines none ended) in
-    subst (λ rs. AnswersBy (Tells f given brought) rs (was_written events)) (sym whole) k.answers
+    subst (λ rs. AnswersBy (TellsReply f given brought) rs (was_written events)) (sym whole) k.answers
 
 none_told : {X : Type 0} (o : Option X) → is_none o ≡ true → o ≡ None
 none_told None is = refl
@@ -162,13 +162,13 @@ no_items [] is = refl
 no_items (x ∷ xs) is = absurd (omega (arith, eqb-true (length (x ∷ xs)) 0 is))
 
 -- what it is to be finished
-pub finished : (h : Held) (places : List Place) (stopped : Option LiveFault) → (h.has_ended && (is_none (line_of h) && (nat_eq (length places) 0 && is_none stopped))) ≡ true
-    → (h.has_ended ≡ true) × (line_of h ≡ None) × (places ≡ []) × (stopped ≡ None)
+pub finished : (h : Held) (places : List Place) (stopped : Option LiveFault) → (h.has_ended && (is_none (held_line h) && (nat_eq (length places) 0 && is_none stopped))) ≡ true
+    → (h.has_ended ≡ true) × (held_line h ≡ None) × (places ≡ []) × (stopped ≡ None)
 finished h places stopped is =
-    let a = and_parts h.has_ended (is_none (line_of h) && (nat_eq (length places) 0 && is_none stopped)) is in
-    let b = and_parts (is_none (line_of h)) (nat_eq (length places) 0 && is_none stopped) a.1 in
+    let a = and_parts h.has_ended (is_none (held_line h) && (nat_eq (length places) 0 && is_none stopped)) is in
+    let b = and_parts (is_none (held_line h)) (nat_eq (length places) 0 && is_none stopped) a.1 in
     let c = and_parts (nat_eq (length places) 0) (is_none stopped) b.1 in
-    (a.0, none_told (line_of h) b.0, no_items places c.0, none_told stopped c.1)
+    (a.0, none_told (held_line h) b.0, no_items places c.0, none_told stopped c.1)
 
 -- ---- how it ended
 

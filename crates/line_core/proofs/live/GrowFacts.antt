@@ -9,7 +9,7 @@ use Rattle.lane_core.specs.declared.job.Plain.{Plain}
 use Rattle.hub_core.specs.Traffics.{with_more}
 use Rattle.wire_core.specs.Events.{Event}
 use Rattle.wire_core.specs.Lines.{Held}
-use Rattle.line_core.specs.live.Came.{Stands, Tells}
+use Rattle.line_core.specs.live.Came.{Stands, TellsReply}
 use Rattle.line_core.specs.live.Replies.{Reply, replies_to}
 use Rattle.line_core.specs.live.Replies.Reply.{Row, Line}
 use Rattle.line_core.specs.live.Text.{line_meant}
@@ -66,7 +66,7 @@ pub got_grown : {X : Type 0} (old new : List (List X)) (l n : ℕ) (x : X) → G
 got_grown old new l n x grows at = let g = grows l in ap (λ xs. slice_get xs n) g.1 ∙ got_more (get_or old l []) g.0 n x at
 
 module _ (f : Form) (given given' : List (List (List ℕ))) (brought brought' : List (List Plain)) (more : Grows given given') (others : Grows brought brought') where
-  pub tells_grow : (r : Reply) (t : List ℕ) → Tells f given brought r t → Tells f given' brought' r t
+  pub tells_grow : (r : Reply) (t : List ℕ) → TellsReply f given brought r t → TellsReply f given' brought' r t
   tells_grow (Row lane number widths) t is =
       let x = is.1 in
       (got_grown given given' lane number widths more is.0, (x.0, x.1, got_grown brought brought' lane number x.0 others x.2, x.3, x.4))
@@ -74,8 +74,8 @@ module _ (f : Form) (given given' : List (List (List ℕ))) (brought brought' : 
 
   pub stands_grow : (lanes : ℕ) (events : List Event) (h : Held) (stopped : Option LiveFault) → Stands lanes f given brought events h stopped → Stands lanes f given' brought' events h stopped
   stands_grow lanes events h stopped s = record {
-    prompt = prompt_weaker (Tells f given brought) (Tells f given' brought') tells_grow (replies_to (line_meant lanes)) events s.prompt;
-    front = front_weaker (Tells f given brought) (Tells f given' brought') tells_grow (replies_to (line_meant lanes)) events s.front;
+    prompt = prompt_weaker (TellsReply f given brought) (TellsReply f given' brought') tells_grow (replies_to (line_meant lanes)) events s.prompt;
+    front = front_weaker (TellsReply f given brought) (TellsReply f given' brought') tells_grow (replies_to (line_meant lanes)) events s.front;
     ended = s.ended;
-    answered = λ is. answers_weaker (Tells f given brought) (Tells f given' brought') tells_grow _ _ (s.answered is);
+    answered = λ is. answers_weaker (TellsReply f given brought) (TellsReply f given' brought') tells_grow _ _ (s.answered is);
   }

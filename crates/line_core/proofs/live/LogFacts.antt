@@ -1,5 +1,5 @@
 -- A log of reads and writes by which each record is answered, as it grows.
-use Rattle.std.proofs.Common.{◌≡◌, ◌++◌, ◌⊎◌, ⊎_elim, ◌∙◌, ◌∷◌, List, [], ap, append-nil, append_assoc, refl, subst, sym, ℕ}
+use Rattle.std.proofs.Common.{List, [], ap, append-nil, append_assoc, refl, subst, sym, ℕ, ⊎_elim, ◌++◌, ◌∙◌, ◌∷◌, ◌≡◌, ◌⊎◌}
 use Rattle.std.proofs.Common.{inl, inr}
 use Rattle.std.specs.List.{AllZip, concat}
 use Rattle.std.proofs.lemmas.Grind.{flat_map-append}

@@ -2,7 +2,7 @@
 use Rattle.std.proofs.Common.{◌≡◌, ◌<◌, ◌≤◌, ◌+◌, ◌==◌, ◌∙◌, ◌∷◌, ⊎_elim, Err, List, None, Some, [], ap, arith, false, length, nat_lt, subst, sym, true, ℕ}
 use Rattle.std.proofs.lemmas.Bool.{cases_Bool, cond-true, cond_both, lt-ltb}
 use Rattle.wire_core.specs.Lines.{Held, IsLine, most_line}
-use Rattle.line_core.specs.live.Meaning.{IsFound, IsRecord}
+use Rattle.line_core.specs.live.Meaning.{HoldsRecord, IsRecord}
 use Rattle.line_core.specs.live.Replies.{refusal_line}
 use Rattle.line_core.specs.live.Text.{line_fault_text, line_meant, without_return}
 use Rattle.line_core.specs.declared.live.record.LineFault.TheVariants as line_fault
@@ -20,7 +20,7 @@ long_meant lanes line long =
     let many : most_line < length t = omega (arith, long, shorter line) in
     byte_meant lanes t (omega (arith, many)) ∙ ap Some (cond-true (nat_lt most_line (length t)) _ _ (lt-ltb most_line (length t) many))
 
-pub record_meant : (lanes : ℕ) (h : Held) (count : ℕ) (r : Record) (line : List ℕ) (f : IsFound lanes h count r) → IsLine h f.0 line → IsRecord lanes r (line_meant lanes line)
+pub record_meant : (lanes : ℕ) (h : Held) (count : ℕ) (r : Record) (line : List ℕ) (f : HoldsRecord lanes h count r) → IsLine h f.0 line → IsRecord lanes r (line_meant lanes line)
 record_meant lanes h count r line f is = ⊎_elim
     (λ (e : h.is_cut ≡ true). subst (λ q. IsRecord lanes q (line_meant lanes line)) (sym (f.4 e)) (long_meant lanes line (is.1 e)))
     (λ (e : h.is_cut ≡ false). subst (λ l. IsRecord lanes r (line_meant lanes l)) (sym (is.0 e)) (f.3 e))

@@ -13,7 +13,7 @@ use Rattle.line_core.specs.input.Faults.{record_fault_text}
 use Rattle.line_core.specs.input.Records.{AreItems}
 use Rattle.line_core.specs.lanes.Feeds.{LaneRow, feed_of, feeds_of, is_lane, lane_row, lanes_meaning, row_or}
 use Rattle.line_core.specs.lanes.Widths.{field_fault, is_number, widths_in}
-use Rattle.line_core.specs.live.Laws.{IsRowLine, LaneLine, LinesAreReport, has_byte, record_lines}
+use Rattle.line_core.specs.live.Laws.{IsLaneRowLine, LaneLine, LinesAreReport, has_byte, record_lines}
 use Rattle.line_core.specs.live.Replies.{Meant, Numbers, most_rows, numbers_after, one_later, refusal_line, replies_from, reply_to}
 use Rattle.line_core.specs.live.Replies.Reply.{Row}
 use Rattle.line_core.specs.live.Text.{IsReply, fields_in, fields_meant, line_fault_text, line_meant, row_or_line, text_meant, without_return}
@@ -109,7 +109,7 @@ record AreOrdered (year : ℕ) (next : Numbers) (rows : List LaneRow) (texts : L
   lines : List LaneLine
   answers : List (ℕ × Answer)
   whole : texts ≡ map (λ line. line.1) lines
-  each : AllZip (IsRowLine year) rows lines
+  each : AllZip (IsLaneRowLine year) rows lines
   reads : (l : ℕ) → Reads (feed_of l rows) year (of_lane l answers)
   numbered : (l : ℕ) → concat (feed_of l lines) ≡ lines_from l (next l) (of_lane l answers)
 

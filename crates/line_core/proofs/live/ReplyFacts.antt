@@ -3,7 +3,7 @@ use Rattle.std.proofs.Common.{◌≡◌, ◌≢◌, ◌++◌, ◌+◌, ◌∙◌
 use Rattle.std.specs.List.{cons_option, filter_map}
 use Rattle.std.proofs.lemmas.Bool.{eq-eqb, ne_eqb}
 use Rattle.std.proofs.lemmas.List.Elements.{filter_map-append}
-use Rattle.line_core.specs.live.Replies.{Meant, Numbers, numbers_after, numbers_from, numbers_of, one_later, replies_from, replies_to, reply_to}
+use Rattle.line_core.specs.live.Replies.{Meant, Numbers, numbers_after, numbers_after_lines, numbers_from, one_later, replies_from, replies_to, reply_to}
 
 replies_append : (next : Numbers) (ms ns : List Meant) → replies_from next (ms ++ ns) ≡ replies_from next ms ++ replies_from (numbers_from next ms) ns
 replies_append next [] ns = refl
@@ -21,22 +21,22 @@ later_other lane l next not_so = ap (λ b. cond b (next l + 1) (next l)) (ne_eqb
 
 module _ (meant : List ℕ → Option Meant) where
   -- more lines
-  pub replies_more : (lines more : List (List ℕ)) → replies_to meant (lines ++ more) ≡ replies_to meant lines ++ replies_from (numbers_of meant lines) (filter_map meant more)
+  pub replies_more : (lines more : List (List ℕ)) → replies_to meant (lines ++ more) ≡ replies_to meant lines ++ replies_from (numbers_after_lines meant lines) (filter_map meant more)
   replies_more lines more = ap (replies_from (λ lane. 0)) (filter_map-append meant lines more) ∙ replies_append (λ lane. 0) (filter_map meant lines) (filter_map meant more)
 
-  numbers_more : (lines more : List (List ℕ)) → numbers_of meant (lines ++ more) ≡ numbers_from (numbers_of meant lines) (filter_map meant more)
+  numbers_more : (lines more : List (List ℕ)) → numbers_after_lines meant (lines ++ more) ≡ numbers_from (numbers_after_lines meant lines) (filter_map meant more)
   numbers_more lines more = ap (numbers_from (λ lane. 0)) (filter_map-append meant lines more) ∙ after_append (λ lane. 0) (filter_map meant lines) (filter_map meant more)
 
   -- a line without a record
   pub no_reply : (lines : List (List ℕ)) (line : List ℕ) → meant line ≡ None → replies_to meant (lines ++ line ∷ []) ≡ replies_to meant lines
-  no_reply lines line none = replies_more lines (line ∷ []) ∙ ap (λ o. replies_to meant lines ++ replies_from (numbers_of meant lines) (cons_option o [])) none ∙ append-nil (replies_to meant lines)
+  no_reply lines line none = replies_more lines (line ∷ []) ∙ ap (λ o. replies_to meant lines ++ replies_from (numbers_after_lines meant lines) (cons_option o [])) none ∙ append-nil (replies_to meant lines)
 
-  pub same_numbers : (lines : List (List ℕ)) (line : List ℕ) → meant line ≡ None → numbers_of meant (lines ++ line ∷ []) ≡ numbers_of meant lines
-  same_numbers lines line none = numbers_more lines (line ∷ []) ∙ ap (λ o. numbers_from (numbers_of meant lines) (cons_option o [])) none
+  pub same_numbers : (lines : List (List ℕ)) (line : List ℕ) → meant line ≡ None → numbers_after_lines meant (lines ++ line ∷ []) ≡ numbers_after_lines meant lines
+  same_numbers lines line none = numbers_more lines (line ∷ []) ∙ ap (λ o. numbers_from (numbers_after_lines meant lines) (cons_option o [])) none
 
   -- a line with a record
-  pub one_reply : (lines : List (List ℕ)) (line : List ℕ) (m : Meant) → meant line ≡ Some m → replies_to meant (lines ++ line ∷ []) ≡ replies_to meant lines ++ reply_to (numbers_of meant lines) m ∷ []
-  one_reply lines line m is = replies_more lines (line ∷ []) ∙ ap (λ o. replies_to meant lines ++ replies_from (numbers_of meant lines) (cons_option o [])) is
+  pub one_reply : (lines : List (List ℕ)) (line : List ℕ) (m : Meant) → meant line ≡ Some m → replies_to meant (lines ++ line ∷ []) ≡ replies_to meant lines ++ reply_to (numbers_after_lines meant lines) m ∷ []
+  one_reply lines line m is = replies_more lines (line ∷ []) ∙ ap (λ o. replies_to meant lines ++ replies_from (numbers_after_lines meant lines) (cons_option o [])) is
 
-  pub next_numbers : (lines : List (List ℕ)) (line : List ℕ) (m : Meant) → meant line ≡ Some m → numbers_of meant (lines ++ line ∷ []) ≡ numbers_after (numbers_of meant lines) (reply_to (numbers_of meant lines) m)
-  next_numbers lines line m is = numbers_more lines (line ∷ []) ∙ ap (λ o. numbers_from (numbers_of meant lines) (cons_option o [])) is
+  pub next_numbers : (lines : List (List ℕ)) (line : List ℕ) (m : Meant) → meant line ≡ Some m → numbers_after_lines meant (lines ++ line ∷ []) ≡ numbers_after (numbers_after_lines meant lines) (reply_to (numbers_after_lines meant lines) m)
+  next_numbers lines line m is = numbers_more lines (line ∷ []) ∙ ap (λ o. numbers_from (numbers_after_lines meant lines) (cons_option o [])) is

@@ -1,5 +1,5 @@
 -- The lanes of a turn, as they change.
-use Rattle.std.proofs.Common.{◌≡◌, ◌≢◌, ◌<◌, ◌≤◌, ◌+◌, ◌∙◌, ◌⊎◌, ⊎_elim, List, Some, ap, arith, get_or, length, refl, set, subst, sym, ℕ}
+use Rattle.std.proofs.Common.{List, Some, ap, arith, get_or, length, refl, set, subst, sym, ℕ, ⊎_elim, ◌+◌, ◌<◌, ◌∙◌, ◌≡◌, ◌≢◌, ◌≤◌, ◌⊎◌}
 use Rattle.std.proofs.Common.{inl, inr}
 use Rattle.std.specs.List.{slice_get}
 use Rattle.std.proofs.lemmas.Bool.{cases_eq, cases_lt}

@@ -1,15 +1,15 @@
 -- How far a live input has come, by the reads and writes of its wire.
 use Rattle.std.proofs.Common.{inl, inr}
-use Rattle.std.proofs.Common.{◌≡◌, ◌++◌, ◌∙◌, ◌∷◌, ⊎_elim, All, Bool, List, None, Option, Some, [], append-nil, arith, false, length, refl, subst, sym, ℕ}
+use Rattle.std.proofs.Common.{All, Bool, List, None, Option, Some, [], append-nil, arith, false, length, refl, subst, sym, ℕ, ⊎_elim, ◌++◌, ◌∙◌, ◌∷◌, ◌≡◌}
 use Rattle.std.specs.List.{AllZip, concat, slice_get}
 use Rattle.std.proofs.lemmas.List.Elements.{All-nil, All-weaker}
 use Rattle.lane_core.specs.declared.job.Plain.{Plain}
 use Rattle.hub_core.specs.Traffics.{IsEven}
 use Rattle.wire_core.specs.Events.{Event, writes_of}
 use Rattle.wire_core.specs.Events.Event.{Read}
-use Rattle.wire_core.specs.Lines.{Held, arrived, line_of, with_room}
-use Rattle.line_core.specs.live.Came.{HasCome, IsAt, IsInTurn, IsReady, IsStoppedBy, Keeps, Says, Stands}
-use Rattle.line_core.specs.live.Stops.{IsOpen, TellsEnd, TellsFaults}
+use Rattle.wire_core.specs.Lines.{Held, arrived, held_line, with_room}
+use Rattle.line_core.specs.live.Came.{HasCome, IsInTurn, IsProgressAt, IsReady, IsStoppedBy, KeepsPlaces, Stands, TellsPlace}
+use Rattle.line_core.specs.live.Stops.{MayStillWrite, TellsEnd, TellsFaults}
 use Rattle.line_core.specs.live.Turns.{IsEnded}
 use Rattle.line_core.specs.declared.live.fault.LiveFault.{LiveFault}
 use Rattle.line_core.specs.declared.live.fault.LiveFault.TheVariants.{NoMemory, ReadFault, WriteFault}
@@ -20,10 +20,10 @@ use Rattle.line_core.specs.declared.live.waiting.Waiting.{Waiting}
 use Rattle.line_core.proofs.live.CameFacts.{ready, turn_ended}
 use Rattle.line_core.proofs.live.KeepFacts.{has_read, has_room, stands_read, stands_stopped, wrote_all, wrote_some}
 
-pub not_write_fault : (stopped : Option LiveFault) → IsOpen stopped → stopped ≡ Some WriteFault → ⊥
+pub not_write_fault : (stopped : Option LiveFault) → MayStillWrite stopped → stopped ≡ Some WriteFault → ⊥
 not_write_fault stopped opened is = ⊎_elim (λ (e : stopped ≡ None). (let never : ⊥ = cc (e, is) in never)) (λ (e : stopped ≡ Some NoMemory). (let never : ⊥ = cc (e, is) in never)) opened
 
-pub not_read_fault : (stopped : Option LiveFault) → IsOpen stopped → stopped ≡ Some ReadFault → ⊥
+pub not_read_fault : (stopped : Option LiveFault) → MayStillWrite stopped → stopped ≡ Some ReadFault → ⊥
 not_read_fault stopped opened is = ⊎_elim (λ (e : stopped ≡ None). (let never : ⊥ = cc (e, is) in never)) (λ (e : stopped ≡ Some NoMemory). (let never : ⊥ = cc (e, is) in never)) opened
 
 module _ (f : Form) (events : List Event) (lanes : List Waiting) (places : List Place) (h : Held) (stopped : Option LiveFault) (given : List (List (List ℕ))) (brought : List (List Plain)) where
@@ -32,7 +32,7 @@ module _ (f : Form) (events : List Event) (lanes : List Waiting) (places : List 
   all_ready c even = All-weaker (IsInTurn lanes) (IsReady lanes) (ready given brought lanes c.waiting even) places c.turn
 
   -- some of the turn's lines were written, and a write failed
-  pub wrote_part : (texts pieces : List (List ℕ)) (rest : List ℕ) → HasCome f events lanes places h stopped given brought → IsOpen stopped → AllZip (Says f lanes) places texts → concat pieces ++ rest ≡ concat texts
+  pub wrote_part : (texts pieces : List (List ℕ)) (rest : List ℕ) → HasCome f events lanes places h stopped given brought → MayStillWrite stopped → AllZip (TellsPlace f lanes) places texts → concat pieces ++ rest ≡ concat texts
       → HasCome f (events ++ writes_of pieces) lanes places h (Some WriteFault) given brought
   wrote_part texts pieces rest c opened says is = record {
     waiting = c.waiting;
@@ -43,7 +43,7 @@ module _ (f : Form) (events : List Event) (lanes : List Waiting) (places : List 
   }
 
   -- all of them were
-  pub wrote_turn : (texts pieces : List (List ℕ)) (new : List Waiting) (none : List Place) → HasCome f events lanes places h stopped given brought → IsOpen stopped → IsEven given brought → AllZip (Says f lanes) places texts → concat pieces ≡ concat texts
+  pub wrote_turn : (texts pieces : List (List ℕ)) (new : List Waiting) (none : List Place) → HasCome f events lanes places h stopped given brought → MayStillWrite stopped → IsEven given brought → AllZip (TellsPlace f lanes) places texts → concat pieces ≡ concat texts
       → none ≡ [] → length new ≡ length lanes → ((k : ℕ) (w : Waiting) → slice_get new k ≡ Some w → (v : Waiting) × (slice_get lanes k ≡ Some v) × IsEnded v w)
       → HasCome f (events ++ writes_of pieces) new none h stopped given brought
   wrote_turn texts pieces new none c opened even says is empty count each =
@@ -52,35 +52,35 @@ module _ (f : Form) (events : List Event) (lanes : List Waiting) (places : List 
         waiting = turn_ended given brought lanes new c.waiting even count each;
         turn = subst (All (IsInTurn new)) (sym empty) (All-nil (IsInTurn new));
         few = omega (arith, c.few, count);
-        keeps = λ p. subst (λ n. Keeps n f given brought (events ++ writes_of pieces) none h) (sym count) (subst (λ ps. Keeps (length lanes) f given brought (events ++ writes_of pieces) ps h) (sym empty)
+        keeps = λ p. subst (λ n. KeepsPlaces n f given brought (events ++ writes_of pieces) none h) (sym count) (subst (λ ps. KeepsPlaces (length lanes) f given brought (events ++ writes_of pieces) ps h) (sym empty)
             (wrote_all (length lanes) f given brought events lanes places h texts pieces c.waiting k says is));
         stands = subst (λ n. Stands n f given brought (events ++ writes_of pieces) h stopped) (sym count)
             (wrote_some (length lanes) f given brought events lanes places h stopped stopped texts pieces [] c.waiting k says (append-nil (concat pieces) ∙ is) (not_read_fault stopped opened) c.stands);
       }
 
   -- a read gave these bytes
-  pub came_read : (bytes : List ℕ) → HasCome f events lanes places h stopped given brought → IsOpen stopped → places ≡ [] → line_of h ≡ None → h.has_ended ≡ false
+  pub came_read : (bytes : List ℕ) → HasCome f events lanes places h stopped given brought → MayStillWrite stopped → places ≡ [] → held_line h ≡ None → h.has_ended ≡ false
       → HasCome f (events ++ Read bytes ∷ []) lanes places (arrived h bytes) stopped given brought
   came_read bytes c opened empty none going =
-      let k = subst (λ ps. Keeps (length lanes) f given brought events ps h) empty (c.keeps (not_write_fault stopped opened)) in
+      let k = subst (λ ps. KeepsPlaces (length lanes) f given brought events ps h) empty (c.keeps (not_write_fault stopped opened)) in
       record {
         waiting = c.waiting;
         turn = c.turn;
         few = c.few;
-        keeps = λ p. subst (λ ps. Keeps (length lanes) f given brought (events ++ Read bytes ∷ []) ps (arrived h bytes)) (sym empty) (has_read (length lanes) f given brought events h bytes k none going);
+        keeps = λ p. subst (λ ps. KeepsPlaces (length lanes) f given brought (events ++ Read bytes ∷ []) ps (arrived h bytes)) (sym empty) (has_read (length lanes) f given brought events h bytes k none going);
         stands = stands_read (length lanes) f given brought events h bytes stopped k none going (not_read_fault stopped opened) c.stands;
       }
 
   -- a read failed
-  pub came_failed : HasCome f events lanes places h stopped given brought → IsOpen stopped → places ≡ [] → line_of h ≡ None → h.has_ended ≡ false
+  pub came_failed : HasCome f events lanes places h stopped given brought → MayStillWrite stopped → places ≡ [] → held_line h ≡ None → h.has_ended ≡ false
       → HasCome f events lanes places (with_room h) (Some ReadFault) given brought
   came_failed c opened empty none going =
-      let k = subst (λ ps. Keeps (length lanes) f given brought events ps h) empty (c.keeps (not_write_fault stopped opened)) in
+      let k = subst (λ ps. KeepsPlaces (length lanes) f given brought events ps h) empty (c.keeps (not_write_fault stopped opened)) in
       record {
         waiting = c.waiting;
         turn = c.turn;
         few = c.few;
-        keeps = λ p. subst (λ ps. Keeps (length lanes) f given brought events ps (with_room h)) (sym empty) (has_room (length lanes) f given brought events h k none going);
+        keeps = λ p. subst (λ ps. KeepsPlaces (length lanes) f given brought events ps (with_room h)) (sym empty) (has_room (length lanes) f given brought events h k none going);
         stands = stands_stopped (length lanes) f given brought events h stopped k none going c.stands;
       }
 
@@ -97,13 +97,13 @@ told_stopped a b c d old new (inr by) t = record {
 
 -- so far a live input has come, which had this wire, this form and so many lanes at first
 abbrev Has : {W : Type 0} → (W → W → List Event → Type 0) → (W → Bool) → (W → Bool) → (W → Type 0) → W → Form → ℕ → W → Form → Progress → List (List (List ℕ)) → List (List Plain) → Type 0
-Has did read_failed write_failed at_end start first count wire f p given brought = (events : List Event) × did start wire events × IsAt f events p given brought × (f ≡ first)
+Has did read_failed write_failed at_end start first count wire f p given brought = (events : List Event) × did start wire events × IsProgressAt f events p given brought × (f ≡ first)
     × (length p.lanes.items ≡ count) × TellsFaults (read_failed start) (read_failed wire) (write_failed start) (write_failed wire) p.stopped × TellsEnd p.lines (at_end wire)
 
 -- further rows were taken of it, and its wire and its form stay
 pub took_on : {W : Type 0} (did : W → W → List Event → Type 0) (read_failed write_failed : W → Bool) (at_end : W → Type 0) (start : W) (first : Form) (count : ℕ) (wire now : W) (f form : Form) (old new : Progress) (given more : List (List (List ℕ))) (brought : List (List Plain))
     → now ≡ wire → form ≡ f → new.lines.has_ended ≡ old.lines.has_ended → Has did read_failed write_failed at_end start first count wire f old given brought
-    → ((events : List Event) → IsAt f events old given brought → IsAt f events new more brought)
+    → ((events : List Event) → IsProgressAt f events old given brought → IsProgressAt f events new more brought)
     → ((a b c d : Bool) → TellsFaults a b c d old.stopped → TellsFaults a b c d new.stopped)
     → Has did read_failed write_failed at_end start first count now form new more brought
 took_on did read_failed write_failed at_end start first count wire now f form old new given more brought same_wire same_form same_end came on told =

@@ -9,7 +9,7 @@ use Rattle.digits_core.specs.Upce.{IsUpceOf}
 use Rattle.digits_core.specs.declared.fault.DigitFault.{DigitFault}
 use Rattle.digits_core.specs.declared.fault.DigitFault.TheVariants as digits
 use Rattle.element_core.specs.Elements.{hri}
-use Rattle.element_core.specs.Lines.{IsDigitLine, IsElementsLine, gtin_line, gtin_text, line_text}
+use Rattle.element_core.specs.Lines.{IsDigitLine, IsElementsLine, gtin_line, line_of_gtin, line_text}
 use Rattle.element_core.specs.declared.line.Line.{Line}
 use Rattle.line_core.specs.input.Records.{Meaning}
 use Rattle.line_core.specs.input.Spelling.{spelled_text}
@@ -19,8 +19,8 @@ use Rattle.line_core.specs.declared.input.fault.RecordFault.{RecordFault}
 use Rattle.line_core.specs.declared.input.fault.RecordFault.TheVariants as fault
 
 -- the kind of this name
-abbrev pub kind_named : List ℕ → Option CheckKind
-kind_named name =
+abbrev pub check_kind_named : List ℕ → Option CheckKind
+check_kind_named name =
     if bytes_eq name (codes "digit") then Some kind.Digit
     else if bytes_eq name (codes "gtin") then Some kind.Gtin
     else if bytes_eq name (codes "upce") then Some kind.Upce
@@ -52,7 +52,7 @@ IsUpceRefused text (digits.NotDigit place) = spelling_fault text ≡ Some (digit
 -- the line of UPC-E digits: the GTIN that they stand for, or why they are refused
 abbrev pub IsUpceLine : List ℕ → List ℕ → Type 0
 IsUpceLine text line =
-    ((gtin : List ℕ) × (spelling_fault text ≡ None) × IsUpceText text gtin × (line ≡ gtin_text gtin))
+    ((gtin : List ℕ) × (spelling_fault text ≡ None) × IsUpceText text gtin × (line ≡ line_of_gtin gtin))
     ⊎ ((f : DigitFault) × IsUpceRefused text f × (line ≡ digit_fault_text f))
 
 -- the line of a text, as one of this kind
@@ -70,7 +70,7 @@ IsLineBy year None text r = r ≡ Err fault.Kind
 
 -- what a record means: the line of its text, or its fault: the number of its fields, then its kind
 abbrev pub check_meaning : ℕ → Meaning Line
-check_meaning year (name ∷ text ∷ []) r = IsLineBy year (kind_named name) text r
+check_meaning year (name ∷ text ∷ []) r = IsLineBy year (check_kind_named name) text r
 check_meaning year _ r = r ≡ Err fault.Csv
 
 -- the lines, each with a line feed at its end

@@ -7,9 +7,9 @@ use Rattle.std.specs.declared.alloc.AllocError.{AllocError}
 use Rattle.lane_core.specs.declared.job.Plain.{Plain}
 use Rattle.hub_core.specs.Traffics.{HasRoom, with_more}
 use Rattle.wire_core.specs.Events.{Event, was_read, was_written}
-use Rattle.wire_core.specs.Lines.{Held, Takes}
+use Rattle.wire_core.specs.Lines.{Held, TakesLines}
 use Rattle.line_core.specs.live.Answering.{AnswersBy, IsFrontBy, IsPromptBy, whole_lines}
-use Rattle.line_core.specs.live.Replies.{Reply, numbers_of, refusal_line, replies_to}
+use Rattle.line_core.specs.live.Replies.{Reply, numbers_after_lines, refusal_line, replies_to}
 use Rattle.line_core.specs.live.Replies.Reply.{Row, Line}
 use Rattle.line_core.specs.answers.Reports.{numbered_line}
 use Rattle.line_core.specs.live.Text.{HasEnded, line_fault_text, line_meant}
@@ -62,10 +62,10 @@ IsPlaceOf (place.Refused lane fault) (Row l n widths) = ⊥
 IsPlaceOf (place.Refused lane fault) (Line line) = line ≡ refusal_line lane (line_fault_text fault)
 
 -- the line of a place, by the deliveries that wait
-abbrev pub Says : Form → List Waiting → Place → List ℕ → Type 0
-Says f lanes (place.Row lane number) text = (w : Waiting) × (x : Plain) × (a : Answer) × (slice_get lanes lane ≡ Some w) × (w.first ≤ number)
+abbrev pub TellsPlace : Form → List Waiting → Place → List ℕ → Type 0
+TellsPlace f lanes (place.Row lane number) text = (w : Waiting) × (x : Plain) × (a : Answer) × (slice_get lanes lane ≡ Some w) × (w.first ≤ number)
     × (slice_get w.deliveries.items (number - w.first) ≡ Some x) × IsAnswer x.widths x.year a × (text ≡ numbered_line f lane number a)
-Says f lanes (place.Refused lane fault) text = text ≡ refusal_line lane (line_fault_text fault)
+TellsPlace f lanes (place.Refused lane fault) text = text ≡ refusal_line lane (line_fault_text fault)
 
 -- a row of a reply was given
 abbrev pub WasGiven : List (List (List ℕ)) → Reply → Type 0
@@ -73,42 +73,42 @@ WasGiven given (Row lane number widths) = slice_get (slice_index_or given lane [
 WasGiven given (Line line) = ⊤
 
 -- the line of a reply, by the deliveries that were brought
-abbrev pub Tells : Form → List (List (List ℕ)) → List (List Plain) → Reply → List ℕ → Type 0
-Tells f given brought (Row lane number widths) text = (slice_get (slice_index_or given lane []) number ≡ Some widths)
+abbrev pub TellsReply : Form → List (List (List ℕ)) → List (List Plain) → Reply → List ℕ → Type 0
+TellsReply f given brought (Row lane number widths) text = (slice_get (slice_index_or given lane []) number ≡ Some widths)
     × ((x : Plain) × (a : Answer) × (slice_get (slice_index_or brought lane []) number ≡ Some x) × IsAnswer x.widths x.year a × (text ≡ numbered_line f lane number a))
-Tells f given brought (Line line) text = text ≡ line
+TellsReply f given brought (Line line) text = text ≡ line
 
 -- ---- reads and writes
 
 -- of the lines that were taken the first were answered, and the others have their places in this turn
-pub record Keeps (lanes : ℕ) (f : Form) (given : List (List (List ℕ))) (brought : List (List Plain)) (events : List Event) (places : List Place) (h : Held) : Type 0 where
+pub record KeepsPlaces (lanes : ℕ) (f : Form) (given : List (List (List ℕ))) (brought : List (List Plain)) (events : List Event) (places : List Place) (h : Held) : Type 0 where
   pub taken : List (List ℕ)
   pub done : List Reply
   pub turn : List Reply
-  pub lines : Takes (was_read events) taken h
+  pub lines : TakesLines (was_read events) taken h
   pub replies : replies_to (line_meant lanes) taken ≡ done ++ turn
-  pub numbers : (l : ℕ) → numbers_of (line_meant lanes) taken l ≡ length (slice_index_or given l [])
+  pub numbers : (l : ℕ) → numbers_after_lines (line_meant lanes) taken l ≡ length (slice_index_or given l [])
   pub kept : AllZip IsPlaceOf places turn
   pub rows : All (WasGiven given) turn
-  pub answers : AnswersBy (Tells f given brought) done (was_written events)
+  pub answers : AnswersBy (TellsReply f given brought) done (was_written events)
 
 -- what stands of reads and writes whatever comes
 pub record Stands (lanes : ℕ) (f : Form) (given : List (List (List ℕ))) (brought : List (List Plain)) (events : List Event) (h : Held) (stopped : Option LiveFault) : Type 0 where
-  pub prompt : IsPromptBy (Tells f given brought) (replies_to (line_meant lanes)) events
-  pub front : IsFrontBy (Tells f given brought) (replies_to (line_meant lanes)) events
+  pub prompt : IsPromptBy (TellsReply f given brought) (replies_to (line_meant lanes)) events
+  pub front : IsFrontBy (TellsReply f given brought) (replies_to (line_meant lanes)) events
   pub ended : h.has_ended ≡ true → HasEnded events
-  pub answered : stopped ≡ Some ReadFault → AnswersBy (Tells f given brought) (replies_to (line_meant lanes) (whole_lines (was_read events))) (was_written events)
+  pub answered : stopped ≡ Some ReadFault → AnswersBy (TellsReply f given brought) (replies_to (line_meant lanes) (whole_lines (was_read events))) (was_written events)
 
 -- after these reads and writes a live input has come this far
 pub record HasCome (f : Form) (events : List Event) (lanes : List Waiting) (places : List Place) (h : Held) (stopped : Option LiveFault) (given : List (List (List ℕ))) (brought : List (List Plain)) : Type 0 where
   pub waiting : AreWaiting given brought lanes
   pub turn : All (IsInTurn lanes) places
   pub few : length lanes < 256
-  pub keeps : (stopped ≡ Some WriteFault → ⊥) → Keeps (length lanes) f given brought events places h
+  pub keeps : (stopped ≡ Some WriteFault → ⊥) → KeepsPlaces (length lanes) f given brought events places h
   pub stands : Stands (length lanes) f given brought events h stopped
 
-abbrev pub IsAt : Form → List Event → Progress → List (List (List ℕ)) → List (List Plain) → Type 0
-IsAt f events p given brought = HasCome f events p.lanes.items p.places.items p.lines p.stopped given brought
+abbrev pub IsProgressAt : Form → List Event → Progress → List (List (List ℕ)) → List (List Plain) → Type 0
+IsProgressAt f events p given brought = HasCome f events p.lanes.items p.places.items p.lines p.stopped given brought
 
 -- what was taken was given
 abbrev pub Took : (List (List (List ℕ)) → List (List Plain) → Type 0) → List (List (List ℕ)) → List (List Plain) → Taken → Type 0

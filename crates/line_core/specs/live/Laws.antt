@@ -44,8 +44,8 @@ abbrev pub LaneLine : Type 0
 LaneLine = ℕ × List ℕ
 
 -- the line of an answer of the row, in its lane and under some number
-abbrev pub IsRowLine : ℕ → LaneRow → LaneLine → Type 0
-IsRowLine year row line = (line.0 ≡ row.0) × (number : ℕ) × (a : Answer) × IsAnswer row.1 year a × (line.1 ≡ line_of row.0 number a)
+abbrev pub IsLaneRowLine : ℕ → LaneRow → LaneLine → Type 0
+IsLaneRowLine year row line = (line.0 ≡ row.0) × (number : ℕ) × (a : Answer) × IsAnswer row.1 year a × (line.1 ≡ line_of row.0 number a)
 
 -- the lines of each lane, lane by lane
 abbrev pub lane_by_lane : ℕ → List LaneLine → List ℕ
@@ -55,7 +55,7 @@ lane_by_lane lanes lines = concat (map concat (feeds_of lanes lines))
 pub record IsReordered (lanes year : ℕ) (rows : List LaneRow) (text : List ℕ) : Type 0 where
   pub lines : List LaneLine
   pub whole : text ≡ concat (map (λ line. line.1) lines)
-  pub each : AllZip (IsRowLine year) rows lines
+  pub each : AllZip (IsLaneRowLine year) rows lines
   pub report : IsReport year (feeds_of lanes rows) (lane_by_lane lanes lines)
 
 -- Where each record of a plain text means a row, no line is too long and no lane has more rows than numbers, the answers of `live` to its lines

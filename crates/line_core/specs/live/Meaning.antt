@@ -1,6 +1,6 @@
 -- Records as they are read of lines.
 use Rattle.std.specs.Prelude.{◌≡◌, ◌<◌, ℕ, List, Option, Some, None, Ok, Err, true, false, length}
-use Rattle.wire_core.specs.Lines.{Held, line_of}
+use Rattle.wire_core.specs.Lines.{Held, held_line}
 use Rattle.line_core.specs.live.Replies.{Meant, refusal_line}
 use Rattle.line_core.specs.live.Text.{line_fault_text, line_meant}
 use Rattle.line_core.specs.declared.live.record.LineFault.TheVariants as line_fault
@@ -14,7 +14,7 @@ IsRecord lanes (read.Row lane row) m = (m ≡ Some (Ok (lane, row))) × (lane < 
 IsRecord lanes (read.Refused lane fault) m = m ≡ Some (Err (refusal_line lane (line_fault_text fault)))
 
 -- a line is held, so many bytes of it, and this is the record that it means, whatever front was given up
-abbrev pub IsFound : ℕ → Held → ℕ → Record → Type 0
-IsFound lanes h count r = (found : List ℕ) × (line_of h ≡ Some found) × (length found ≡ count)
+abbrev pub HoldsRecord : ℕ → Held → ℕ → Record → Type 0
+HoldsRecord lanes h count r = (found : List ℕ) × (held_line h ≡ Some found) × (length found ≡ count)
     × (h.is_cut ≡ false → IsRecord lanes r (line_meant lanes found))
     × (h.is_cut ≡ true → r ≡ read.Refused None line_fault.InputSize)

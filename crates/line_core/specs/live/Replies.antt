@@ -51,5 +51,5 @@ abbrev pub numbers_from : Numbers → List Meant → Numbers
 numbers_from next [] = next
 numbers_from next (m ∷ records) = numbers_from (numbers_after next (reply_to next m)) records
 
-abbrev pub numbers_of : (List ℕ → Option Meant) → List (List ℕ) → Numbers
-numbers_of meant lines = numbers_from (λ lane. 0) (filter_map meant lines)
+abbrev pub numbers_after_lines : (List ℕ → Option Meant) → List (List ℕ) → Numbers
+numbers_after_lines meant lines = numbers_from (λ lane. 0) (filter_map meant lines)

@@ -5,8 +5,8 @@ use Rattle.line_core.specs.declared.live.fault.LiveFault.{LiveFault}
 use Rattle.line_core.specs.declared.live.fault.LiveFault.TheVariants.{NoMemory, NoThread, ReadFault, WriteFault}
 
 -- nothing has stopped, or memory alone was refused
-abbrev pub IsOpen : Option LiveFault → Type 0
-IsOpen stopped = (stopped ≡ None) ⊎ (stopped ≡ Some NoMemory)
+abbrev pub MayStillWrite : Option LiveFault → Type 0
+MayStillWrite stopped = (stopped ≡ None) ⊎ (stopped ≡ Some NoMemory)
 
 -- where no read or write had failed at first, one has failed exactly where this is why it stopped; and it had its threads
 pub record TellsFaults (read_at_first read write_at_first write : Bool) (stopped : Option LiveFault) : Type 0 where

@@ -3,7 +3,7 @@ ghost use Rattle.std.specs.Prelude.{◌≡◌, length, codes, IfNone};
 ghost use Rattle.digits_core.specs.Digits.{AreAsciiDigits};
 ghost use Rattle.element_core.specs.Elements.{hri};
 ghost use Rattle.element_core.specs.Lines.{IsElementsLine, line_text};
-ghost use Rattle.line_core.specs.check.Checks.{IsLineAs, IsUpceLine, kind_named, spelling_fault};
+ghost use Rattle.line_core.specs.check.Checks.{IsLineAs, IsUpceLine, check_kind_named, spelling_fault};
 ghost use Rattle.line_core.specs.input.Spelling.{spelled_text};
 
 use crate::input::element_field::read_elements;
@@ -25,7 +25,7 @@ pub enum CheckKind {
 
 /// The kind of this name.
 pub fn kind_named(name: &[u8]) -> Option<CheckKind>
-    ensures { result ≡ kind_named name.now }
+    ensures { result ≡ check_kind_named name.now }
 {
     match name {
         b"digit" => Some(CheckKind::Digit),

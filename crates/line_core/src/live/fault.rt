@@ -1,6 +1,6 @@
 //! Why a live input is answered no longer.
 ghost use Rattle.std.specs.Prelude.{◌≡◌, true};
-ghost use Rattle.line_core.specs.live.Stops.{IsOpen};
+ghost use Rattle.line_core.specs.live.Stops.{MayStillWrite};
 
 /// Why a live input is answered no longer.
 #[derive(Clone, Copy, Debug, PartialEq, Eq)]
@@ -17,7 +17,7 @@ pub enum LiveFault {
 
 /// Whether the lines of a turn may still be written: nothing has stopped, or memory alone was refused.
 pub fn is_open(stopped: Option<LiveFault>) -> bool
-    ensures { result ≡ true → IsOpen stopped }
+    ensures { result ≡ true → MayStillWrite stopped }
 {
     match stopped {
         None | Some(LiveFault::NoMemory) => true,

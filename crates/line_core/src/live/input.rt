@@ -3,9 +3,9 @@ ghost use Rattle.std.specs.Prelude.{◌≡◌, [], Bool, IfErr, IfOk, List, Ok, 
 ghost use Rattle.lane_core.specs.declared.job.Plain.{Plain};
 ghost use Rattle.hub_core.specs.Traffics.{IsEven};
 ghost use Rattle.wire_core.specs.Events.{Event};
-ghost use Rattle.line_core.specs.live.Came.{IsAt};
+ghost use Rattle.line_core.specs.live.Came.{IsProgressAt};
 ghost use Rattle.line_core.specs.live.Finish.{is_finished};
-ghost use Rattle.line_core.specs.live.Stops.{IsOpen, TellsEnd, TellsFaults};
+ghost use Rattle.line_core.specs.live.Stops.{MayStillWrite, TellsEnd, TellsFaults};
 ghost use Rattle.element_core.specs.declared.form.Form.{Form};
 
 use crate::live::fault::{LiveFault, is_open};
@@ -42,10 +42,10 @@ fn write_turn<W: Wire>(
     form: Form,
     progress: &mut Progress,
 ) -> Result<(), Stopped>
-    requires going { IsOpen progress.old.stopped }
-    requires even { (start : W) × (events : List Event) × (given : List (List (List ℕ))) × (brought : List (List Plain)) × W.Did start wire.old events × IsAt form events progress.old given brought × IsEven given brought }
-    ensures came { (start : W) (events : List Event) (given : List (List (List ℕ))) (brought : List (List Plain)) → W.Did start wire.old events → IsAt form events progress.old given brought → IsEven given brought
-        → (later : List Event) × W.Did start wire.new later × IsAt form later progress.new given brought }
+    requires going { MayStillWrite progress.old.stopped }
+    requires even { (start : W) × (events : List Event) × (given : List (List (List ℕ))) × (brought : List (List Plain)) × W.Did start wire.old events × IsProgressAt form events progress.old given brought × IsEven given brought }
+    ensures came { (start : W) (events : List Event) (given : List (List (List ℕ))) (brought : List (List Plain)) → W.Did start wire.old events → IsProgressAt form events progress.old given brought → IsEven given brought
+        → (later : List Event) × W.Did start wire.new later × IsProgressAt form later progress.new given brought }
     ensures written { OnOk result (progress.new.places.items ≡ []) }
     ensures still { OnOk result (progress.new.stopped ≡ progress.old.stopped) }
     ensures lanes { length progress.new.lanes.items ≡ length progress.old.lanes.items }
@@ -78,9 +78,9 @@ fn write_turn<W: Wire>(
 /// Reads what there is, where all lines that have ended are answered. False at the end of the input.
 fn read_on<W: Wire>(wire: &mut W, progress: &mut Progress) -> Result<bool, Stopped>
     requires answered { progress.old.places.items ≡ [] }
-    requires going { IsOpen progress.old.stopped }
-    ensures came { (start : W) (events : List Event) (form : Form) (given : List (List (List ℕ))) (brought : List (List Plain)) → W.Did start wire.old events → IsAt form events progress.old given brought
-        → (later : List Event) × W.Did start wire.new later × IsAt form later progress.new given brought }
+    requires going { MayStillWrite progress.old.stopped }
+    ensures came { (start : W) (events : List Event) (form : Form) (given : List (List (List ℕ))) (brought : List (List Plain)) → W.Did start wire.old events → IsProgressAt form events progress.old given brought
+        → (later : List Event) × W.Did start wire.new later × IsProgressAt form later progress.new given brought }
     ensures ended { result ≡ Ok false → is_finished progress.new ≡ true }
     ensures lanes { progress.new.lanes ≡ progress.old.lanes }
     ensures end { TellsEnd progress.old.lines (W.at_end wire.old) → TellsEnd progress.new.lines (W.at_end wire.new) }
@@ -138,7 +138,7 @@ impl<W: Wire> Live<W> {
 impl<W: Wire> Traffic for Live<W> {
     ghost use Rattle.std.specs.Prelude.{◌≡◌, List, length};
     ghost use Rattle.wire_core.specs.Events.{Event};
-    ghost use Rattle.line_core.specs.live.Came.{IsAt};
+    ghost use Rattle.line_core.specs.live.Came.{IsProgressAt};
     ghost use Rattle.line_core.specs.live.Finish.{is_finished};
     ghost use Rattle.line_core.specs.live.Stops.{TellsEnd, TellsFaults};
 
@@ -146,7 +146,7 @@ impl<W: Wire> Traffic for Live<W> {
 
     type BringFault = Infallible;
 
-    ghost Came = { λ start s given brought. (events : List Event) × W.Did start.wire s.wire events × IsAt s.form events s.progress given brought × (s.form ≡ start.form)
+    ghost Came = { λ start s given brought. (events : List Event) × W.Did start.wire s.wire events × IsProgressAt s.form events s.progress given brought × (s.form ≡ start.form)
         × (length s.progress.lanes.items ≡ length start.progress.lanes.items) × TellsFaults (W.read_failed start.wire) (W.read_failed s.wire) (W.write_failed start.wire) (W.write_failed s.wire) s.progress.stopped
         × TellsEnd s.progress.lines (W.at_end s.wire) };
 

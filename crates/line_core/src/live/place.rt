@@ -1,7 +1,7 @@
 //! The places of a turn's records, and their lines.
 ghost use Rattle.std.specs.Prelude.{◌≡◌, ◌++◌, [], All, List, ℕ, IfOk, OnOk, string_bytes};
 ghost use Rattle.std.specs.List.{AllZip, concat};
-ghost use Rattle.line_core.specs.live.Came.{IsReady, Says};
+ghost use Rattle.line_core.specs.live.Came.{IsReady, TellsPlace};
 ghost use Rattle.line_core.specs.live.Replies.{refusal_line};
 ghost use Rattle.line_core.specs.live.Text.{line_fault_text};
 
@@ -42,7 +42,7 @@ fn push_place(
     place: Place,
 ) -> Result<(), AllocError>
     requires { IsReady lanes.now place }
-    ensures { OnOk result ((line : List ℕ) × (string_bytes text.new ≡ string_bytes text.old ++ line) × Says form lanes.now place line) }
+    ensures { OnOk result ((line : List ℕ) × (string_bytes text.new ≡ string_bytes text.old ++ line) × TellsPlace form lanes.now place line) }
 {
     match place {
         Place::Row(lane, number) => {
@@ -69,7 +69,7 @@ pub fn push_places(
 ) -> Result<(), AllocError>
     requires empty { string_bytes text.old ≡ [] }
     requires ready { All (IsReady lanes.now) places.now }
-    ensures { OnOk result ((lines : List (List ℕ)) × AllZip (Says form lanes.now) places.now lines × (string_bytes text.new ≡ concat lines)) }
+    ensures { OnOk result ((lines : List (List ℕ)) × AllZip (TellsPlace form lanes.now) places.now lines × (string_bytes text.new ≡ concat lines)) }
 {
     for place in places {
         push_place(text, form, lanes, *place)?;

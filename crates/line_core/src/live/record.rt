@@ -1,8 +1,8 @@
 //! What a line of a live input means.
 ghost use Rattle.std.specs.Prelude.{◌≡◌, ◌≢◌, ◌∷◌, [], IfOk, IfSome, IfNone, None, Some, length};
-ghost use Rattle.line_core.specs.live.Meaning.{IsFound, IsRecord};
+ghost use Rattle.line_core.specs.live.Meaning.{HoldsRecord, IsRecord};
 ghost use Rattle.line_core.specs.live.Text.{fields_in, fields_meant, line_fault_text, line_meant, without_return};
-ghost use Rattle.wire_core.specs.Lines.{line_of};
+ghost use Rattle.wire_core.specs.Lines.{held_line};
 
 use crate::input::fault::{RecordFault, RecordRefusal};
 use crate::lanes::feeds::lane_in;
@@ -113,8 +113,8 @@ pub fn next_record(
     lanes: u8,
     lines: &Lines,
 ) -> Result<Option<(usize, Record)>, AllocError>
-    ensures some { IfOk result (λ found. IfSome found (λ r. IsFound lanes lines.now r.0 r.1)) }
-    ensures none { IfOk result (λ found. IfNone found (line_of lines.now ≡ None)) }
+    ensures some { IfOk result (λ found. IfSome found (λ r. HoldsRecord lanes lines.now r.0 r.1)) }
+    ensures none { IfOk result (λ found. IfNone found (held_line lines.now ≡ None)) }
 {
     let Some(line) = lines.line() else {
         return Ok(None);

@@ -8,7 +8,8 @@ use Rattle.sheet_core.specs.declared.pbm.state.State.{State}
 use Rattle.sheet_core.specs.declared.pbm.state.State.TheVariants.{Start, Magic, Blanks, Number, Comment}
 use Rattle.sheet_core.specs.declared.pbm.state.Step.TheVariants.{Goes}
 use Rattle.sheet_core.specs.pbm.Grammar.{IsBlank, IsNumeral, number_from}
-use Rattle.sheet_core.specs.pbm.Headers.{grown, is_digit, is_line_end, is_size, is_white, step}
+use Rattle.sheet_core.specs.pbm.Headers.{grown, header_step, is_line_end, is_size, is_white}
+use Rattle.element_core.specs.Elements.{is_digit}
 use Rattle.sheet_core.specs.pbm.Refusals.{EndsInNumber, IsBeginning, IsLead}
 use Rattle.sheet_core.proofs.pbm.HeaderPieces.{if_is, refused_goes, done_goes, same_state}
 
@@ -211,7 +212,7 @@ sharp_after n b bytes s e h = record {
 moved : (s t : State) (bytes : List ℕ) → Goes s ≡ Goes t → Comes s bytes → Comes t bytes
 moved s t bytes e h = subst (λ u. Comes u bytes) (same_state s t e) h
 
-pub comes : (s t : State) (b : ℕ) (bytes : List ℕ) → step s b ≡ Goes t → Comes s bytes → Comes t (bytes ++ b ∷ [])
+pub comes : (s t : State) (b : ℕ) (bytes : List ℕ) → header_step s b ≡ Goes t → Comes s bytes → Comes t (bytes ++ b ∷ [])
 comes Start t b bytes e h =
     elim (if_is (b == 80) _ _ (Goes t) e) [
       | inl x ↦ moved Magic t (bytes ++ b ∷ []) x.1 (ap (λ bs. bs ++ b ∷ []) h ∙ ap (λ c. c ∷ []) (eqb-true b 80 x.0))

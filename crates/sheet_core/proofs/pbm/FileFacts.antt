@@ -8,7 +8,7 @@ use Rattle.digits_core.specs.Bytes.{TookFront}
 use Rattle.sheet_core.specs.declared.fault.PbmFault.{PbmFault}
 use Rattle.sheet_core.specs.declared.fault.PbmFault.TheVariants.{NotP4, PbmHeader, Truncated, PbmSize, ReadFault, NoMemory}
 use Rattle.sheet_core.specs.Bitmaps.{Bitmap}
-use Rattle.sheet_core.specs.pbm.Images.{IsOpen, Reads, Tells, image_of, image, images_by, images_of, pbm_of, with_first, with_others}
+use Rattle.sheet_core.specs.pbm.Images.{IsOpen, ReadsBytes, BytesTell, image_of, image, images_by, images_of, pbm_of, with_first, with_others}
 use Rattle.sheet_core.proofs.pbm.ImageFacts.{image_told}
 
 -- sheets before others
@@ -52,21 +52,21 @@ took : (old now mid new : Option (List ℕ)) (k : ℕ) (sheets : List Bitmap) (f
     → Consumes old new (h.before ++ first ∷ bytes)
 took old now mid new k sheets first bytes h c d = Consumes-trans old now new h.before (first ∷ bytes) h.consumed (Consumes-trans now mid new (first ∷ []) bytes c d)
 
-pub ended : (old now later : Option (List ℕ)) (k : ℕ) (sheets : List Bitmap) → Had old now k sheets → Consumes now later [] → Reads images_of old later (Ok sheets)
+pub ended : (old now later : Option (List ℕ)) (k : ℕ) (sheets : List Bitmap) → Had old now k sheets → Consumes now later [] → ReadsBytes images_of old later (Ok sheets)
 ended old now later k sheets h c = record {
   bytes = h.before;
   consumed = subst (Consumes old later) (append-nil h.before) (Consumes-trans old now later h.before [] h.consumed c);
   tells = all_read old now k sheets h;
 }
 
-pub broken : (old now later : Option (List ℕ)) (k : ℕ) (sheets : List Bitmap) → Had old now k sheets → Keeps now later → Reads images_of old later (Err ReadFault)
+pub broken : (old now later : Option (List ℕ)) (k : ℕ) (sheets : List Bitmap) → Had old now k sheets → Keeps now later → ReadsBytes images_of old later (Err ReadFault)
 broken old now later k sheets h c = record {
   bytes = h.before;
   consumed = Consumes-kept old now later h.before h.consumed c;
   tells = inr (sheets, all_read old now k sheets h);
 }
 
-pub too_many : (old now later : Option (List ℕ)) (sheets : List Bitmap) (b : ℕ) → Had old now 4096 sheets → Consumes now later (b ∷ []) → Reads images_of old later (Err PbmSize)
+pub too_many : (old now later : Option (List ℕ)) (sheets : List Bitmap) (b : ℕ) → Had old now 4096 sheets → Consumes now later (b ∷ []) → ReadsBytes images_of old later (Err PbmSize)
 too_many old now later sheets b h c = record {
   bytes = h.before ++ b ∷ [];
   consumed = Consumes-trans old now later h.before (b ∷ []) h.consumed c;
@@ -74,7 +74,7 @@ too_many old now later sheets b h c = record {
 }
 
 -- one more image, whatever follows it
-pub had_more : (old now mid new : Option (List ℕ)) (k : ℕ) (sheets more : List Bitmap) (first : ℕ) (s : Bitmap) → Had old now k sheets → k < 4096 → Consumes now mid (first ∷ []) → Reads (image_told first) mid new (Ok s)
+pub had_more : (old now mid new : Option (List ℕ)) (k : ℕ) (sheets more : List Bitmap) (first : ℕ) (s : Bitmap) → Had old now k sheets → k < 4096 → Consumes now mid (first ∷ []) → ReadsBytes (image_told first) mid new (Ok s)
     → ((bytes rest : List ℕ) → image_of bytes ≡ (Ok s, []) → image_of (bytes ++ rest) ≡ (Ok s, rest)) → more ≡ sheets ++ s ∷ [] → Had old new (k + 1) more
 had_more old now mid new k sheets more first s h low c r wider e = subst (Had old new (k + 1)) (sym e) (record {
   before = h.before ++ first ∷ r.bytes;
@@ -87,8 +87,8 @@ had_more old now mid new k sheets more first s h low c r wider e = subst (Had ol
 })
 
 -- an image that is not read refuses the file
-pub image_refused : (old now mid new : Option (List ℕ)) (k : ℕ) (sheets : List Bitmap) (first : ℕ) (f : PbmFault) → Had old now k sheets → k < 4096 → Consumes now mid (first ∷ []) → Reads (image_told first) mid new (Err f)
-    → Reads images_of old new (Err f)
+pub image_refused : (old now mid new : Option (List ℕ)) (k : ℕ) (sheets : List Bitmap) (first : ℕ) (f : PbmFault) → Had old now k sheets → k < 4096 → Consumes now mid (first ∷ []) → ReadsBytes (image_told first) mid new (Err f)
+    → ReadsBytes images_of old new (Err f)
 image_refused old now mid new k sheets first f h low c r = record {
   bytes = h.before ++ first ∷ r.bytes;
   consumed = took old now mid new k sheets first r.bytes h c r.consumed;
@@ -109,7 +109,7 @@ image_refused old now mid new k sheets first f h low c r = record {
     open_too (inl e) = inl (all (Err Truncated, []) e)
     open_too (inr p) = inr (sheets ++ p.0 ∷ [], all (Ok p.0, []) p.1 ∙ ap (λ x. before_others sheets (with_first p.0 x)) (nothing limit))
 
-    by : (f : PbmFault) → Tells (image_told first r.bytes) new (Err f) → Tells (images_of (h.before ++ first ∷ r.bytes)) new (Err f)
+    by : (f : PbmFault) → BytesTell (image_told first r.bytes) new (Err f) → BytesTell (images_of (h.before ++ first ∷ r.bytes)) new (Err f)
     by NotP4 e = all (Err NotP4, []) e
     by PbmHeader e = all (Err PbmHeader, []) e
     by PbmSize e = all (Err PbmSize, []) e
@@ -118,7 +118,7 @@ image_refused old now mid new k sheets first f h low c r = record {
     by NoMemory e = open_too e
 
 -- want of memory for a sheet that was read
-pub not_kept : (old now : Option (List ℕ)) (k : ℕ) (sheets : List Bitmap) → Had old now k sheets → Reads images_of old now (Err NoMemory)
+pub not_kept : (old now : Option (List ℕ)) (k : ℕ) (sheets : List Bitmap) → Had old now k sheets → ReadsBytes images_of old now (Err NoMemory)
 not_kept old now k sheets h = record { bytes = h.before; consumed = h.consumed; tells = inr (sheets, all_read old now k sheets h) }
 
 -- ---- written

@@ -6,7 +6,7 @@ use Rattle.sheet_core.specs.declared.fault.PbmFault.{PbmFault}
 use Rattle.sheet_core.specs.declared.fault.PbmFault.TheVariants.{PbmSize}
 use Rattle.sheet_core.specs.declared.pbm.state.Size.{Size}
 use Rattle.sheet_core.specs.Bitmaps.{Bitmap, stride}
-use Rattle.sheet_core.specs.Laws.{FilesAreRead, HeadersAreRead, OneReading}
+use Rattle.sheet_core.specs.Laws.{FilesAreRead, HeadersAreRead, OneListOfSheets}
 use Rattle.sheet_core.specs.pbm.Grammar.{IsHeader, IsImage}
 use Rattle.sheet_core.specs.pbm.Headers.{header_of}
 use Rattle.sheet_core.specs.pbm.Images.{bitmap_of, image_of, images_by, with_first, with_others}
@@ -128,6 +128,6 @@ files_are_read bytes sheets = (
   λ h. ap (images_by 4096) h.0.joined ∙ pieces_read 4096 h.0.images sheets h.0.each h.1,
 )
 
-pub one_reading : OneReading
+pub one_reading : OneListOfSheets
 one_reading bytes sheets others few less a b =
     read_sheets sheets others (ap (λ (p : Result (List Bitmap) PbmFault × List ℕ). p.0) (sym ((files_are_read bytes sheets).1 (a, few)) ∙ (files_are_read bytes others).1 (b, less)))

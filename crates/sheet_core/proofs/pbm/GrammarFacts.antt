@@ -9,7 +9,8 @@ use Rattle.sheet_core.specs.declared.pbm.state.Size.{Size}
 use Rattle.sheet_core.specs.declared.pbm.state.State.{State}
 use Rattle.sheet_core.specs.declared.pbm.state.State.TheVariants.{Start, Magic, Blanks, Number, Comment}
 use Rattle.sheet_core.specs.declared.pbm.state.Step.TheVariants.{Goes, Done, Refused}
-use Rattle.sheet_core.specs.pbm.Headers.{is_white, is_line_end, is_digit, is_size, grown, step, after, header_by}
+use Rattle.sheet_core.specs.pbm.Headers.{is_white, is_line_end, is_size, grown, header_step, after_header_step, header_by}
+use Rattle.element_core.specs.Elements.{is_digit}
 use Rattle.sheet_core.specs.pbm.Grammar.{IsComment, IsBlank, AreBlanks, number_from, IsNumeral, IsNumber, IsHeader}
 
 -- these bytes lead from a state to another
@@ -19,8 +20,8 @@ pub record Leads (s t : State) (bytes : List ℕ) : Type 0 where
 pub nothing : (s : State) → Leads s s []
 nothing s = record { at = λ limit more. ap (λ n. header_by n s more) (let e : limit + length {A = ℕ} [] ≡ limit = omega arith in e) }
 
-pub one : (s t : State) (b : ℕ) → step s b ≡ Goes t → Leads s t (b ∷ [])
-one s t b e = record { at = λ limit more. ap (λ n. header_by n s (b ∷ more)) (add-one limit) ∙ ap (λ x. after x (λ t. header_by limit t more) more) e }
+pub one : (s t : State) (b : ℕ) → header_step s b ≡ Goes t → Leads s t (b ∷ [])
+one s t b e = record { at = λ limit more. ap (λ n. header_by n s (b ∷ more)) (add-one limit) ∙ ap (λ x. after_header_step x (λ t. header_by limit t more) more) e }
 
 pub both : (s t u : State) (xs ys : List ℕ) → Leads s t xs → Leads t u ys → Leads s u (xs ++ ys)
 both s t u xs ys h k = record {
@@ -79,7 +80,7 @@ capped_is (b ∷ digits) n =
     let same : grown (min n 65536) b ≡ min (10 * n + (b - 48)) 65536 = omega arith in
     ap (λ m. capped m digits) same ∙ capped_is digits (10 * n + (b - 48))
 
-digit : (w : Option ℕ) (n b : ℕ) → is_digit b ≡ true → step (Number w n) b ≡ Goes (Number w (grown n b))
+digit : (w : Option ℕ) (n b : ℕ) → is_digit b ≡ true → header_step (Number w n) b ≡ Goes (Number w (grown n b))
 digit None n b h =
     ap (λ x. if x then Goes (Number None (grown n b)) else if is_white b then (if is_size n then Goes (Blanks (Some n) true) else Refused PbmSize) else if b == 35 then (if is_size n then Goes (Comment (Some n)) else Refused PbmSize) else Refused PbmHeader) h
 digit (Some w) n b h =
@@ -90,7 +91,7 @@ digits w n [] h = nothing (Number w n)
 digits w n (b ∷ ds) h =
     both (Number w n) (Number w (grown n b)) (Number w (capped (grown n b) ds)) (b ∷ []) ds (one (Number w n) (Number w (grown n b)) b (digit w n b h.0)) (digits w (grown n b) ds h.1)
 
-first : (w : Option ℕ) (b : ℕ) → is_digit b ≡ true → step (Blanks w true) b ≡ Goes (Number w (b - 48))
+first : (w : Option ℕ) (b : ℕ) → is_digit b ≡ true → header_step (Blanks w true) b ≡ Goes (Number w (b - 48))
 first w b h =
     let t = of_digit b h in
     ap (λ x. if x then Goes (Blanks w true) else if b == 35 then Goes (Comment w) else if is_digit b then Goes (Number w (b - 48)) else Refused PbmHeader) t.0
@@ -160,6 +161,6 @@ grammar_read bytes rest size h few =
     ap₂ (λ k bs. header_by k Start bs) (let e : 4096 ≡ left + length (80 ∷ 52 ∷ front) = omega arith in e) whole
     ∙ l0.at left (h.last ∷ rest)
     ∙ ap (λ k. header_by k (Number (Some w) n) (h.last ∷ rest)) (let e : left ≡ suc (left - 1) = omega arith in e)
-    ∙ ap (λ x. after (if x then Goes (Number (Some w) (grown n h.last)) else if is_white h.last then (if is_size n then Done size else Refused PbmSize) else Refused PbmHeader) (λ t. header_by (left - 1) t rest) rest) (of_white h.last h.last_is)
-    ∙ ap (λ x. after (if x then (if is_size n then Done size else Refused PbmSize) else Refused PbmHeader) (λ t. header_by (left - 1) t rest) rest) h.last_is
-    ∙ ap (λ x. after (if x then Done size else Refused PbmSize) (λ t. header_by (left - 1) t rest) rest) hs
+    ∙ ap (λ x. after_header_step (if x then Goes (Number (Some w) (grown n h.last)) else if is_white h.last then (if is_size n then Done size else Refused PbmSize) else Refused PbmHeader) (λ t. header_by (left - 1) t rest) rest) (of_white h.last h.last_is)
+    ∙ ap (λ x. after_header_step (if x then (if is_size n then Done size else Refused PbmSize) else Refused PbmHeader) (λ t. header_by (left - 1) t rest) rest) h.last_is
+    ∙ ap (λ x. after_header_step (if x then Done size else Refused PbmSize) (λ t. header_by (left - 1) t rest) rest) hs

@@ -9,7 +9,7 @@ use Rattle.sheet_core.specs.declared.pbm.state.State.TheVariants.{Start}
 use Rattle.sheet_core.specs.declared.pbm.state.Step.{Step}
 use Rattle.sheet_core.specs.declared.pbm.state.Step.TheVariants.{Goes, Done, Refused}
 use Rattle.sheet_core.specs.pbm.Grammar.{IsHeader}
-use Rattle.sheet_core.specs.pbm.Headers.{after, header_by, step}
+use Rattle.sheet_core.specs.pbm.Headers.{after_header_step, header_by, header_step}
 use Rattle.sheet_core.proofs.pbm.HeaderPieces.{Ends, done, goes}
 
 -- the front of the bytes ends the header, within the limit
@@ -28,8 +28,8 @@ not_read f size e = cc
 read_size : (a b : Size) → (let r : Result Size PbmFault = Ok a in r ≡ Ok b) → a ≡ b
 read_size a b e = cc
 
-one_more : (size : Size) (s : State) (limit b : ℕ) (bytes rest : List ℕ) → ((t : State) → header_by limit t bytes ≡ (Ok size, rest) → Front size t limit bytes rest) → (st : Step) → step s b ≡ st
-    → after st (λ t. header_by limit t bytes) bytes ≡ (Ok size, rest) → Front size s (limit + 1) (b ∷ bytes) rest
+one_more : (size : Size) (s : State) (limit b : ℕ) (bytes rest : List ℕ) → ((t : State) → header_by limit t bytes ≡ (Ok size, rest) → Front size t limit bytes rest) → (st : Step) → header_step s b ≡ st
+    → after_header_step st (λ t. header_by limit t bytes) bytes ≡ (Ok size, rest) → Front size s (limit + 1) (b ∷ bytes) rest
 one_more size s limit b bytes rest hyp (Goes t) step_is e =
     let f = hyp t e in
     let short = f.short in
@@ -44,7 +44,7 @@ front_of : (size : Size) (limit : ℕ) (s : State) (bytes rest : List ℕ) → h
 front_of size limit s [] rest e = absurd (not_read Truncated size (ap (λ (p : Result Size PbmFault × List ℕ). p.0) e))
 front_of size zero s (b ∷ bytes) rest e = absurd (not_read PbmHeader size (ap (λ (p : Result Size PbmFault × List ℕ). p.0) e))
 front_of size (suc limit) s (b ∷ bytes) rest e =
-    subst (λ n. Front size s n (b ∷ bytes) rest) (let n : limit + 1 ≡ suc limit = omega arith in n) (one_more size s limit b bytes rest (λ t h. front_of size limit t bytes rest h) (step s b) refl e)
+    subst (λ n. Front size s n (b ∷ bytes) rest) (let n : limit + 1 ≡ suc limit = omega arith in n) (one_more size s limit b bytes rest (λ t h. front_of size limit t bytes rest h) (header_step s b) refl e)
 
 -- the pieces put together
 header_is : (size : Size) (bytes : List ℕ) → Ends size Start bytes → IsHeader bytes size

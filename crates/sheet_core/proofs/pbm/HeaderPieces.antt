@@ -11,7 +11,8 @@ use Rattle.sheet_core.specs.declared.pbm.state.State.TheVariants.{Start, Magic, 
 use Rattle.sheet_core.specs.declared.pbm.state.Step.{Step}
 use Rattle.sheet_core.specs.declared.pbm.state.Step.TheVariants.{Goes, Done, Refused}
 use Rattle.sheet_core.specs.pbm.Grammar.{IsBlank, IsComment, IsNumber, number_from}
-use Rattle.sheet_core.specs.pbm.Headers.{grown, is_digit, is_line_end, is_size, is_white, number_step, step}
+use Rattle.sheet_core.specs.pbm.Headers.{grown, header_step, is_line_end, is_size, is_white, number_step}
+use Rattle.element_core.specs.Elements.{is_digit}
 
 -- ---- the pieces that are left
 
@@ -182,7 +183,7 @@ moved size s t bytes e h = subst (λ s. Ends size s bytes) (sym (same_state s t 
 
 blanks_goes : (size : Size) (w : Option ℕ) (P : List ℕ → Type 0) (some : Bool) (t : State) (b : ℕ) (bytes : List ℕ)
     → (Ends size (Blanks w true) bytes → BlanksThen true P bytes) → (Ends size (Comment w) bytes → CommentThen (BlanksThen true P) bytes) → (is_digit b ≡ true → Ends size (Number w (b - 48)) bytes → P (b ∷ bytes))
-    → step (Blanks w some) b ≡ Goes t → Ends size t bytes → BlanksThen some P (b ∷ bytes)
+    → header_step (Blanks w some) b ≡ Goes t → Ends size t bytes → BlanksThen some P (b ∷ bytes)
 blanks_goes size w P some t b bytes blanks comment number e h =
     elim (if_is (is_white b) _ _ (Goes t) e) [
       | inl x ↦ white some P b bytes x.0 (blanks (moved size (Blanks w true) t bytes x.1 h))
@@ -230,7 +231,7 @@ height_goes size w n t b bytes e h =
       ]
     ]
 
-same_width : (size : Size) (w : ℕ) (some : Bool) (t : State) (b : ℕ) (bytes : List ℕ) → step (Blanks (Some w) some) b ≡ Goes t → Ends size t bytes → w ≡ size.width
+same_width : (size : Size) (w : ℕ) (some : Bool) (t : State) (b : ℕ) (bytes : List ℕ) → header_step (Blanks (Some w) some) b ≡ Goes t → Ends size t bytes → w ≡ size.width
 same_width size w some t b bytes e h =
     elim (if_is (is_white b) _ _ (Goes t) e) [
       | inl x ↦ (moved size (Blanks (Some w) true) t bytes x.1 h).0
@@ -243,7 +244,7 @@ same_width size w some t b bytes e h =
       ]
     ]
 
-pub goes : (size : Size) (s t : State) (b : ℕ) (bytes : List ℕ) → step s b ≡ Goes t → Ends size t bytes → Ends size s (b ∷ bytes)
+pub goes : (size : Size) (s t : State) (b : ℕ) (bytes : List ℕ) → header_step s b ≡ Goes t → Ends size t bytes → Ends size s (b ∷ bytes)
 goes size Start t b bytes e h =
     elim (if_is (b == 80) _ _ (Goes t) e) [
       | inl x ↦ let k = moved size Magic t bytes x.1 h in (bytes, ap (λ c. c ∷ bytes) (eqb-true _ _ x.0), k.0, k.1, k.2)
@@ -273,7 +274,7 @@ goes size (Number (Some w) n) t b bytes e h = height_goes size w n t b bytes e h
 
 -- ---- the last byte
 
-pub done : (size : Size) (s : State) (b : ℕ) → step s b ≡ Done size → Ends size s (b ∷ [])
+pub done : (size : Size) (s : State) (b : ℕ) → header_step s b ≡ Done size → Ends size s (b ∷ [])
 done size Start b e = elim (if_is (b == 80) _ _ (Done size) e) [ inl x ↦ absurd (goes_done _ size x.1) | inr x ↦ absurd (refused_done _ size x.1) ]
 done size Magic b e = elim (if_is (b == 52) _ _ (Done size) e) [ inl x ↦ absurd (goes_done _ size x.1) | inr x ↦ absurd (refused_done _ size x.1) ]
 done size (Blanks w some) b e =

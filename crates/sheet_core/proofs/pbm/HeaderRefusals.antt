@@ -12,7 +12,8 @@ use Rattle.sheet_core.specs.declared.pbm.state.Step.{Step}
 use Rattle.sheet_core.specs.declared.pbm.state.Step.TheVariants.{Goes, Done, Refused}
 use Rattle.sheet_core.specs.Laws.{HeadersAreRefused}
 use Rattle.sheet_core.specs.pbm.Grammar.{IsHeader}
-use Rattle.sheet_core.specs.pbm.Headers.{after, grown, header_by, header_of, is_digit, is_line_end, is_size, is_white, step}
+use Rattle.sheet_core.specs.pbm.Headers.{after_header_step, grown, header_by, header_of, header_step, is_line_end, is_size, is_white}
+use Rattle.element_core.specs.Elements.{is_digit}
 use Rattle.sheet_core.specs.pbm.Refusals.{EndsWrongNumber, IsBeginning, IsNoMagic, IsStray, IsWrongHeader, RefusesHeader, ends_number}
 use Rattle.sheet_core.proofs.pbm.BeginningFacts.{Comes, ComesToNumber, beginning_of, comes, past_magic}
 use Rattle.sheet_core.proofs.pbm.BeginningsRead.{comes_to, number_leads}
@@ -59,7 +60,7 @@ wrong_number w n b front s e h = record {
   joined = refl;
 }
 
-refused_why : (s : State) (b : ℕ) (front : List ℕ) (f : PbmFault) → step s b ≡ Refused f → Comes s front → Why f front b
+refused_why : (s : State) (b : ℕ) (front : List ℕ) (f : PbmFault) → header_step s b ≡ Refused f → Comes s front → Why f front b
 refused_why Start b front f e h =
     elim (if_is (b == 80) _ _ (Refused f) e) [
       | inl x ↦ absurd (goes_refused _ f x.1)
@@ -118,8 +119,8 @@ reached : (front more : List ℕ) (s : State) → Leads Start s front → length
 reached front more s l few =
     ap (λ n. header_by n Start (front ++ more)) (let e : 4096 ≡ (4096 - length front) + length front = omega arith in e) ∙ l.at (4096 - length front) more
 
-one_step : (limit : ℕ) (s : State) (b : ℕ) (st : Step) → 0 < limit → step s b ≡ st → header_by limit s (b ∷ []) ≡ after st (λ t. header_by (limit - 1) t []) []
-one_step limit s b st some e = ap (λ n. header_by n s (b ∷ [])) (let k : limit ≡ suc (limit - 1) = omega arith in k) ∙ ap (λ x. after x (λ t. header_by (limit - 1) t []) []) e
+one_step : (limit : ℕ) (s : State) (b : ℕ) (st : Step) → 0 < limit → header_step s b ≡ st → header_by limit s (b ∷ []) ≡ after_header_step st (λ t. header_by (limit - 1) t []) []
+one_step limit s b st some e = ap (λ n. header_by n s (b ∷ [])) (let k : limit ≡ suc (limit - 1) = omega arith in k) ∙ ap (λ x. after_header_step x (λ t. header_by (limit - 1) t []) []) e
 
 beginning_refused : (bytes : List ℕ) → IsBeginning bytes → length bytes ≤ 4096 → header_of bytes ≡ (Err Truncated, [])
 beginning_refused bytes h few = let c = comes_to bytes h in ap header_of (sym (append-nil bytes)) ∙ reached bytes [] c.state c.leads few
@@ -128,7 +129,7 @@ wrong_size : (n : ℕ) → (n ≡ 0) ⊎ (65535 < n) → is_size (min n 65536) �
 wrong_size n (inl e) = ap is_size (let k : min n 65536 ≡ 0 = omega arith in k)
 wrong_size n (inr h) = ap is_size (let k : min n 65536 ≡ 65536 = omega arith in k)
 
-size_step : (w : Option ℕ) (n b : ℕ) → is_size n ≡ false → ends_number w b ≡ true → step (Number w n) b ≡ Refused PbmSize
+size_step : (w : Option ℕ) (n b : ℕ) → is_size n ≡ false → ends_number w b ≡ true → header_step (Number w n) b ≡ Refused PbmSize
 size_step None n b s e =
     elim (cases_Bool (is_white b)) [
       | inl white ↦
@@ -137,7 +138,7 @@ size_step None n b s e =
           ∙ ap (λ x. if x then Goes (Blanks (Some n) true) else Refused PbmSize) s
       | inr other ↦
           let sharp : (b == 35) ≡ true = sym (ap (λ t. t || (b == 35)) other) ∙ e in
-          ap (λ c. step (Number None n) c) (eqb-true b 35 sharp) ∙ ap (λ x. if x then Goes (Comment (Some n)) else Refused PbmSize) s
+          ap (λ c. header_step (Number None n) c) (eqb-true b 35 sharp) ∙ ap (λ x. if x then Goes (Comment (Some n)) else Refused PbmSize) s
     ]
 size_step (Some w) n b s e =
     ap (λ x. if x then Goes (Number (Some w) (grown n b)) else if is_white b then (if is_size n then Done (record { width = w; height = n }) else Refused PbmSize) else Refused PbmHeader) (of_white b e)
@@ -172,7 +173,7 @@ stray_why front b Truncated two stray why = absurd why
 stray_why front b ReadFault two stray why = absurd why
 stray_why front b NoMemory two stray why = absurd why
 
-stray_step : (front : List ℕ) (b : ℕ) (s : State) → Leads Start s front → Comes s front → 2 ≤ length front → length front < 4096 → IsStray (front ++ b ∷ []) → (st : Step) → step s b ≡ st → st ≡ Refused PbmHeader
+stray_step : (front : List ℕ) (b : ℕ) (s : State) → Leads Start s front → Comes s front → 2 ≤ length front → length front < 4096 → IsStray (front ++ b ∷ []) → (st : Step) → header_step s b ≡ st → st ≡ Refused PbmHeader
 stray_step front b s l c two few stray (Goes t) e = absurd (stray.no_beginning (beginning_of t (front ++ b ∷ []) (comes s t b front e c)))
 stray_step front b s l c two few stray (Done size) e =
     let read : header_by 4096 Start (front ++ b ∷ []) ≡ (Ok size, []) = reached front (b ∷ []) s l (omega arith) ∙ one_step (4096 - length front) s b (Done size) (omega arith) e in
@@ -191,7 +192,7 @@ header_refused bytes h =
       | inr stray ↦ elim (cases_lt (length h.front) 4096) [
         | inl few ↦
             ap header_of h.joined ∙ reached h.front (h.last ∷ []) c.state c.leads short
-            ∙ one_step (4096 - length h.front) c.state h.last (Refused PbmHeader) (omega arith) (stray_step h.front h.last c.state c.leads c.comes h.magic few stray (step c.state h.last) refl)
+            ∙ one_step (4096 - length h.front) c.state h.last (Refused PbmHeader) (omega arith) (stray_step h.front h.last c.state c.leads c.comes h.magic few stray (header_step c.state h.last) refl)
         | inr all ↦ full (omega arith)
       ]
     ]
@@ -253,7 +254,7 @@ told_by NoMemory front b h few why e = absurd why
 -- the bytes after a front that is read
 one_more : (limit : ℕ) (s : State) (front : List ℕ) (b : ℕ) (bytes : List ℕ) (f : PbmFault) → length front + suc limit ≡ 4096 → Comes s front → header_of (front ++ b ∷ bytes) ≡ (Err f, [])
     → ((t : State) → Comes t (front ++ b ∷ []) → header_by limit t bytes ≡ (Err f, []) → RefusesHeader f ((front ++ b ∷ []) ++ bytes))
-    → (st : Step) → step s b ≡ st → after st (λ t. header_by limit t bytes) bytes ≡ (Err f, []) → RefusesHeader f (front ++ b ∷ bytes)
+    → (st : Step) → header_step s b ≡ st → after_header_step st (λ t. header_by limit t bytes) bytes ≡ (Err f, []) → RefusesHeader f (front ++ b ∷ bytes)
 one_more limit s front b bytes f n c whole hyp (Goes t) step_is e = subst (RefusesHeader f) (append_assoc front (b ∷ []) bytes) (hyp t (comes s t b front step_is c) e)
 one_more limit s front b bytes f n c whole hyp (Done size) step_is e = absurd (size_or_fault size f bytes [] e)
 one_more limit s front b bytes f n c whole hyp (Refused g) step_is e =
@@ -279,7 +280,7 @@ told zero s front (b ∷ bytes) f n c whole e =
     })
 told (suc limit) s front (b ∷ bytes) f n c whole e =
     one_more limit s front b bytes f n c whole
-    (λ t d k. told limit t (front ++ b ∷ []) bytes f (omega (arith, length-append front (b ∷ []))) d (ap header_of (append_assoc front (b ∷ []) bytes) ∙ whole) k) (step s b) refl e
+    (λ t d k. told limit t (front ++ b ∷ []) bytes f (omega (arith, length-append front (b ∷ []))) d (ap header_of (append_assoc front (b ∷ []) bytes) ∙ whole) k) (header_step s b) refl e
 
 pub headers_are_refused : HeadersAreRefused
 headers_are_refused = λ f bytes. (λ e. told 4096 Start [] bytes f refl refl e e, λ h. refuses f bytes h)

@@ -14,8 +14,8 @@ use Rattle.sheet_core.specs.declared.pbm.state.State.TheVariants.{Start}
 use Rattle.sheet_core.specs.declared.pbm.state.Step.{Step}
 use Rattle.sheet_core.specs.declared.pbm.state.Step.TheVariants.{Goes, Done, Refused}
 use Rattle.sheet_core.specs.Bitmaps.{Bitmap, IsBitmap, pad, stride}
-use Rattle.sheet_core.specs.pbm.Headers.{after, header_by, header_of, is_size, step}
-use Rattle.sheet_core.specs.pbm.Images.{IsOpen, Reads, StopsBefore, bitmap_of, image_of, raster, unpadded, unpadded_at}
+use Rattle.sheet_core.specs.pbm.Headers.{after_header_step, header_by, header_of, header_step, is_size}
+use Rattle.sheet_core.specs.pbm.Images.{IsOpen, ReadsBytes, StopsBefore, bitmap_of, image_of, raster, unpadded, unpadded_at}
 use Rattle.sheet_core.proofs.pbm.PadFacts.{cleared_at}
 
 -- ---- bytes after a header
@@ -25,7 +25,7 @@ not_read f size e = cc
 
 -- one step, whatever follows
 step_more : (go wide : State → Result Size PbmFault × List ℕ) (bs rest more : List ℕ) (size : Size) → ((t : State) → go t ≡ (Ok size, rest) → wide t ≡ (Ok size, rest ++ more)) → (s : Step)
-    → after s go bs ≡ (Ok size, rest) → after s wide (bs ++ more) ≡ (Ok size, rest ++ more)
+    → after_header_step s go bs ≡ (Ok size, rest) → after_header_step s wide (bs ++ more) ≡ (Ok size, rest ++ more)
 step_more go wide bs rest more size hyp (Goes t) e = hyp t e
 step_more go wide bs rest more size hyp (Done other) e =
     ap₂ (λ r bs. (r, bs ++ more)) (ap (λ (p : Result Size PbmFault × List ℕ). p.0) e) (ap (λ (p : Result Size PbmFault × List ℕ). p.1) e)
@@ -35,7 +35,7 @@ by_more : (limit : ℕ) (s : State) (bytes rest more : List ℕ) (size : Size) �
 by_more limit s [] rest more size e = absurd (not_read Truncated size (ap (λ (p : Result Size PbmFault × List ℕ). p.0) e))
 by_more zero s (b ∷ bytes) rest more size e = absurd (not_read PbmHeader size (ap (λ (p : Result Size PbmFault × List ℕ). p.0) e))
 by_more (suc limit) s (b ∷ bytes) rest more size e =
-    step_more (λ t. header_by limit t bytes) (λ t. header_by limit t (bytes ++ more)) bytes rest more size (λ t h. by_more limit t bytes rest more size h) (step s b) e
+    step_more (λ t. header_by limit t bytes) (λ t. header_by limit t (bytes ++ more)) bytes rest more size (λ t h. by_more limit t bytes rest more size h) (header_step s b) e
 
 pub header_more : (bytes more : List ℕ) (size : Size) → header_of bytes ≡ (Ok size, []) → header_of (bytes ++ more) ≡ (Ok size, more)
 header_more bytes more size e = by_more 4096 Start bytes [] more size e
@@ -73,16 +73,16 @@ image_told first bytes = image_of (first ∷ bytes)
 abbrev head_told : ℕ → List ℕ → Result Size PbmFault × List ℕ
 head_told first bytes = header_of (first ∷ bytes)
 
-pub image_read : (old mid new : Option (List ℕ)) (first : ℕ) (size : Size) (rows : List ℕ) → Reads (head_told first) old mid (Ok size) → Consumes mid new rows → length rows ≡ stride size.width * size.height
-    → Reads (image_told first) old new (Ok (bitmap_of size rows))
+pub image_read : (old mid new : Option (List ℕ)) (first : ℕ) (size : Size) (rows : List ℕ) → ReadsBytes (head_told first) old mid (Ok size) → Consumes mid new rows → length rows ≡ stride size.width * size.height
+    → ReadsBytes (image_told first) old new (Ok (bitmap_of size rows))
 image_read old mid new first size rows h c long = record {
   bytes = h.bytes ++ rows;
   consumed = Consumes-trans old mid new h.bytes rows h.consumed c;
   tells = ap (λ bs. image_of (first ∷ (h.bytes ++ bs))) (sym (append-nil rows)) ∙ image_by (first ∷ h.bytes) rows [] size h.tells long;
 }
 
-pub image_stopped : (old mid new : Option (List ℕ)) (first : ℕ) (size : Size) (f : PbmFault) → Reads (head_told first) old mid (Ok size) → StopsBefore (stride size.width * size.height) mid new f
-    → Reads (image_told first) old new (Err f)
+pub image_stopped : (old mid new : Option (List ℕ)) (first : ℕ) (size : Size) (f : PbmFault) → ReadsBytes (head_told first) old mid (Ok size) → StopsBefore (stride size.width * size.height) mid new f
+    → ReadsBytes (image_told first) old new (Err f)
 image_stopped old mid new first size Truncated h s = record {
   bytes = h.bytes ++ s.0;
   consumed = Consumes-trans old mid new h.bytes s.0 h.consumed s.1;

@@ -15,7 +15,7 @@ use Rattle.sheet_core.specs.Bitmaps.{Bitmap, stride}
 use Rattle.sheet_core.specs.Drawing.{AreSheets, IsSheet, cell_count, sheet_count}
 use Rattle.sheet_core.specs.Grids.{Cells, IsGrid}
 use Rattle.sheet_core.specs.Labels.{Drawn}
-use Rattle.sheet_core.specs.Lines.{IsBand, IsLine, band, line_dot, line_dot_of, row_labels, rows_of}
+use Rattle.sheet_core.specs.Lines.{IsBand, IsBarLine, band, line_dot, line_dot_of, repeated_bytes, row_labels}
 use Rattle.sheet_core.specs.pbm.Headers.{header_text}
 use Rattle.sheet_core.specs.pbm.Images.{image, pbm_of}
 use Rattle.sheet_core.proofs.BandFacts.{Banded, banded_more, banded_none}
@@ -73,7 +73,7 @@ with_dots f w (suc n) fits =
     subst (λ m. WithDots f m w) (let e : n + 1 ≡ suc n = omega arith in e) (more_dots f w n (f n) (omega arith) refl (with_dots f w n (omega arith)))
 
 -- cells side by side have a line
-pub line_of : (g : Cells) (symbols : List Drawn) → IsGrid g → length symbols ≤ g.columns → (line : List ℕ) × IsLine g symbols line
+pub line_of : (g : Cells) (symbols : List Drawn) → IsGrid g → length symbols ≤ g.columns → (line : List ℕ) × IsBarLine g symbols line
 line_of g symbols grid few =
     let n : ℕ = g.columns * g.width in
     let some = grid.width_least in
@@ -93,12 +93,12 @@ line_of g symbols grid few =
 
 -- ---- rows of cells
 
-pub rows_add : (n k : ℕ) (line : List ℕ) → rows_of (n + k) line ≡ rows_of n line ++ rows_of k line
-rows_add zero k line = ap (λ m. rows_of m line) (let e : 0 + k ≡ k = omega arith in e)
+pub rows_add : (n k : ℕ) (line : List ℕ) → repeated_bytes (n + k) line ≡ repeated_bytes n line ++ repeated_bytes k line
+rows_add zero k line = ap (λ m. repeated_bytes m line) (let e : 0 + k ≡ k = omega arith in e)
 rows_add (suc n) k line =
-    ap (λ m. rows_of m line) (let e : suc n + k ≡ suc (n + k) = omega arith in e)
+    ap (λ m. repeated_bytes m line) (let e : suc n + k ≡ suc (n + k) = omega arith in e)
     ∙ ap (λ bs. line ++ bs) (rows_add n k line)
-    ∙ sym (append_assoc line (rows_of n line) (rows_of k line))
+    ∙ sym (append_assoc line (repeated_bytes n line) (repeated_bytes k line))
 
 -- the bytes of a row of cells of which a front went out
 abbrev pub BandFront : Cells → List Drawn → Option (List ℕ) → Option (List ℕ) → Type 0
@@ -112,59 +112,59 @@ light_of g = replicate (stride (g.columns * g.width)) 0
 abbrev pub bar_rows : Cells → ℕ
 bar_rows g = g.height - 2 * g.dots
 
-band_parts : (g : Cells) (symbols : List Drawn) (line : List ℕ) → IsLine g symbols line → band g line ≡ rows_of g.dots (light_of g) ++ (rows_of (bar_rows g) line ++ rows_of g.dots (light_of g))
-band_parts g symbols line h = ap (λ w. rows_of g.dots (replicate w 0) ++ (rows_of (bar_rows g) line ++ rows_of g.dots (replicate w 0))) h.long
+band_parts : (g : Cells) (symbols : List Drawn) (line : List ℕ) → IsBarLine g symbols line → band g line ≡ repeated_bytes g.dots (light_of g) ++ (repeated_bytes (bar_rows g) line ++ repeated_bytes g.dots (light_of g))
+band_parts g symbols line h = ap (λ w. repeated_bytes g.dots (replicate w 0) ++ (repeated_bytes (bar_rows g) line ++ repeated_bytes g.dots (replicate w 0))) h.long
 
 -- the light rows above the bars are cut
 pub band_above : (g : Cells) (symbols : List Drawn) (a b : Option (List ℕ)) (light : List ℕ) (n : ℕ) → IsGrid g → length symbols ≤ g.columns → light ≡ light_of g → n ≡ g.dots
-    → TookFront a b (rows_of n light) → BandFront g symbols a b
+    → TookFront a b (repeated_bytes n light) → BandFront g symbols a b
 band_above g symbols a b light n grid few is count front =
     let drawn = line_of g symbols grid few in
-    let above : TookFront a b (rows_of g.dots (light_of g)) = subst (λ k. TookFront a b (rows_of k (light_of g))) count (subst (λ l. TookFront a b (rows_of n l)) is front) in (
+    let above : TookFront a b (repeated_bytes g.dots (light_of g)) = subst (λ k. TookFront a b (repeated_bytes k (light_of g))) count (subst (λ l. TookFront a b (repeated_bytes n l)) is front) in (
       band g drawn.0,
       (drawn.0, drawn.1, refl),
-      subst (TookFront a b) (sym (band_parts g symbols drawn.0 drawn.1)) (took_more a b (rows_of g.dots (light_of g)) (rows_of (bar_rows g) drawn.0 ++ rows_of g.dots (light_of g)) above),
+      subst (TookFront a b) (sym (band_parts g symbols drawn.0 drawn.1)) (took_more a b (repeated_bytes g.dots (light_of g)) (repeated_bytes (bar_rows g) drawn.0 ++ repeated_bytes g.dots (light_of g)) above),
     )
 
 -- the light rows above the bars went out
-above_out : (g : Cells) (a b : Option (List ℕ)) (light : List ℕ) (n : ℕ) → light ≡ light_of g → n ≡ g.dots → Appends a b (rows_of n light) → Appends a b (rows_of g.dots (light_of g))
-above_out g a b light n is count out = subst (λ k. Appends a b (rows_of k (light_of g))) count (subst (λ l. Appends a b (rows_of n l)) is out)
+above_out : (g : Cells) (a b : Option (List ℕ)) (light : List ℕ) (n : ℕ) → light ≡ light_of g → n ≡ g.dots → Appends a b (repeated_bytes n light) → Appends a b (repeated_bytes g.dots (light_of g))
+above_out g a b light n is count out = subst (λ k. Appends a b (repeated_bytes k (light_of g))) count (subst (λ l. Appends a b (repeated_bytes n l)) is out)
 
 -- the bars are cut
-pub band_bars : (g : Cells) (symbols : List Drawn) (a b d : Option (List ℕ)) (light line : List ℕ) (n m : ℕ) → IsLine g symbols line → light ≡ light_of g → n ≡ g.dots → m ≡ bar_rows g
-    → Appends a b (rows_of n light) → TookFront b d (rows_of m line) → BandFront g symbols a d
+pub band_bars : (g : Cells) (symbols : List Drawn) (a b d : Option (List ℕ)) (light line : List ℕ) (n m : ℕ) → IsBarLine g symbols line → light ≡ light_of g → n ≡ g.dots → m ≡ bar_rows g
+    → Appends a b (repeated_bytes n light) → TookFront b d (repeated_bytes m line) → BandFront g symbols a d
 band_bars g symbols a b d light line n m drawn is count high out front =
-    let bars : TookFront b d (rows_of (bar_rows g) line) = subst (λ k. TookFront b d (rows_of k line)) high front in (
+    let bars : TookFront b d (repeated_bytes (bar_rows g) line) = subst (λ k. TookFront b d (repeated_bytes k line)) high front in (
       band g line,
       (line, drawn, refl),
       subst (TookFront a d) (sym (band_parts g symbols line drawn))
-          (took_after a b d (rows_of g.dots (light_of g)) (rows_of (bar_rows g) line ++ rows_of g.dots (light_of g)) (above_out g a b light n is count out)
-          (took_more b d (rows_of (bar_rows g) line) (rows_of g.dots (light_of g)) bars)),
+          (took_after a b d (repeated_bytes g.dots (light_of g)) (repeated_bytes (bar_rows g) line ++ repeated_bytes g.dots (light_of g)) (above_out g a b light n is count out)
+          (took_more b d (repeated_bytes (bar_rows g) line) (repeated_bytes g.dots (light_of g)) bars)),
     )
 
 -- the light rows below the bars are cut
-pub band_below : (g : Cells) (symbols : List Drawn) (a b d e : Option (List ℕ)) (light line dark : List ℕ) (n m : ℕ) → IsLine g symbols line → light ≡ light_of g → dark ≡ light_of g → n ≡ g.dots → m ≡ bar_rows g
-    → Appends a b (rows_of n light) → Appends b d (rows_of m line) → TookFront d e (rows_of n dark) → BandFront g symbols a e
+pub band_below : (g : Cells) (symbols : List Drawn) (a b d e : Option (List ℕ)) (light line dark : List ℕ) (n m : ℕ) → IsBarLine g symbols line → light ≡ light_of g → dark ≡ light_of g → n ≡ g.dots → m ≡ bar_rows g
+    → Appends a b (repeated_bytes n light) → Appends b d (repeated_bytes m line) → TookFront d e (repeated_bytes n dark) → BandFront g symbols a e
 band_below g symbols a b d e light line dark n m drawn is also count high out bars front =
-    let below : TookFront d e (rows_of g.dots (light_of g)) = subst (λ k. TookFront d e (rows_of k (light_of g))) count (subst (λ l. TookFront d e (rows_of n l)) also front) in
-    let between : Appends b d (rows_of (bar_rows g) line) = subst (λ k. Appends b d (rows_of k line)) high bars in (
+    let below : TookFront d e (repeated_bytes g.dots (light_of g)) = subst (λ k. TookFront d e (repeated_bytes k (light_of g))) count (subst (λ l. TookFront d e (repeated_bytes n l)) also front) in
+    let between : Appends b d (repeated_bytes (bar_rows g) line) = subst (λ k. Appends b d (repeated_bytes k line)) high bars in (
       band g line,
       (line, drawn, refl),
       subst (TookFront a e) (sym (band_parts g symbols line drawn))
-          (took_after a b e (rows_of g.dots (light_of g)) (rows_of (bar_rows g) line ++ rows_of g.dots (light_of g)) (above_out g a b light n is count out)
-          (took_after b d e (rows_of (bar_rows g) line) (rows_of g.dots (light_of g)) between below)),
+          (took_after a b e (repeated_bytes g.dots (light_of g)) (repeated_bytes (bar_rows g) line ++ repeated_bytes g.dots (light_of g)) (above_out g a b light n is count out)
+          (took_after b d e (repeated_bytes (bar_rows g) line) (repeated_bytes g.dots (light_of g)) between below)),
     )
 
 -- all rows went out
-pub band_out : (g : Cells) (symbols : List Drawn) (a b d e : Option (List ℕ)) (light line dark : List ℕ) (n m : ℕ) → IsLine g symbols line → light ≡ light_of g → dark ≡ light_of g → n ≡ g.dots → m ≡ bar_rows g
-    → Appends a b (rows_of n light) → Appends b d (rows_of m line) → Appends d e (rows_of n dark) → (bytes : List ℕ) × IsBand g symbols bytes × Appends a e bytes
+pub band_out : (g : Cells) (symbols : List Drawn) (a b d e : Option (List ℕ)) (light line dark : List ℕ) (n m : ℕ) → IsBarLine g symbols line → light ≡ light_of g → dark ≡ light_of g → n ≡ g.dots → m ≡ bar_rows g
+    → Appends a b (repeated_bytes n light) → Appends b d (repeated_bytes m line) → Appends d e (repeated_bytes n dark) → (bytes : List ℕ) × IsBand g symbols bytes × Appends a e bytes
 band_out g symbols a b d e light line dark n m drawn is also count high out bars last =
-    let between : Appends b d (rows_of (bar_rows g) line) = subst (λ k. Appends b d (rows_of k line)) high bars in (
+    let between : Appends b d (repeated_bytes (bar_rows g) line) = subst (λ k. Appends b d (repeated_bytes k line)) high bars in (
       band g line,
       (line, drawn, refl),
       subst (Appends a e) (sym (band_parts g symbols line drawn))
-          (Appends-trans a b e (rows_of g.dots (light_of g)) (rows_of (bar_rows g) line ++ rows_of g.dots (light_of g)) (above_out g a b light n is count out)
-          (Appends-trans b d e (rows_of (bar_rows g) line) (rows_of g.dots (light_of g)) between (above_out g d e dark n also count last))),
+          (Appends-trans a b e (repeated_bytes g.dots (light_of g)) (repeated_bytes (bar_rows g) line ++ repeated_bytes g.dots (light_of g)) (above_out g a b light n is count out)
+          (Appends-trans b d e (repeated_bytes (bar_rows g) line) (repeated_bytes g.dots (light_of g)) between (above_out g d e dark n also count last))),
     )
 
 few_in_row : (g : Cells) (symbols : List Drawn) (r : ℕ) → length (row_labels g symbols r) ≤ g.columns

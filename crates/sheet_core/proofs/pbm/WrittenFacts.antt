@@ -18,12 +18,13 @@ use Rattle.sheet_core.specs.declared.pbm.state.State.{State}
 use Rattle.sheet_core.specs.declared.pbm.state.State.TheVariants.{Start, Blanks, Number, Comment}
 use Rattle.sheet_core.specs.declared.pbm.state.Step.{Step}
 use Rattle.sheet_core.specs.declared.pbm.state.Step.TheVariants.{Goes, Done, Refused}
-use Rattle.sheet_core.specs.pbm.Headers.{is_white, is_digit, is_size, grown, step, after, header_by, header_of, header_text}
+use Rattle.sheet_core.specs.pbm.Headers.{is_white, is_size, grown, header_step, after_header_step, header_by, header_of, header_text}
+use Rattle.element_core.specs.Elements.{is_digit}
 
 digit_tests : (d : ℕ) → d < 10 → (is_white (48 + d) ≡ false) × ((48 + d == 35) ≡ false) × (is_digit (48 + d) ≡ true)
 digit_tests d h = (grind (arith, nat_tests), grind (arith, nat_tests), grind (arith, nat_tests))
 
-first_digit : (width : Option ℕ) (d : ℕ) → d < 10 → step (Blanks width true) (48 + d) ≡ Goes (Number width d)
+first_digit : (width : Option ℕ) (d : ℕ) → d < 10 → header_step (Blanks width true) (48 + d) ≡ Goes (Number width d)
 first_digit width d h =
     let t = digit_tests d h in
     ap (λ b. if b then Goes (Blanks width true) else if 48 + d == 35 then Goes (Comment width) else if is_digit (48 + d) then Goes (Number width (48 + d - 48)) else Refused PbmHeader) t.0
@@ -31,7 +32,7 @@ first_digit width d h =
     ∙ ap (λ b. if b then Goes (Number width (48 + d - 48)) else Refused PbmHeader) t.2
     ∙ ap (λ n. Goes (Number width n)) (let e : 48 + d - 48 ≡ d = omega arith in e)
 
-next_digit : (width : Option ℕ) (n d : ℕ) → d < 10 → 10 * n + d < 65536 → step (Number width n) (48 + d) ≡ Goes (Number width (10 * n + d))
+next_digit : (width : Option ℕ) (n d : ℕ) → d < 10 → 10 * n + d < 65536 → header_step (Number width n) (48 + d) ≡ Goes (Number width (10 * n + d))
 next_digit None n d h small =
     let t = (digit_tests d h).2 in
     ap (λ b. if b then Goes (Number None (grown n (48 + d))) else other) t ∙ ap (λ n. Goes (Number None n)) (let e : grown n (48 + d) ≡ 10 * n + d = omega arith in e)
@@ -44,8 +45,8 @@ next_digit (Some w) n d h small =
     ∙ ap (λ n. Goes (Number (Some w) n)) (let e : grown n (48 + d) ≡ 10 * n + d = omega arith in e)
 
 -- a byte that goes on
-go : (limit : ℕ) (s t : State) (b : ℕ) (more : List ℕ) → step s b ≡ Goes t → header_by (limit + 1) s (b ∷ more) ≡ header_by limit t more
-go limit s t b more e = ap (λ n. header_by n s (b ∷ more)) (add-one limit) ∙ ap (λ x. after x (λ t. header_by limit t more) more) e
+go : (limit : ℕ) (s t : State) (b : ℕ) (more : List ℕ) → header_step s b ≡ Goes t → header_by (limit + 1) s (b ∷ more) ≡ header_by limit t more
+go limit s t b more e = ap (λ n. header_by n s (b ∷ more)) (add-one limit) ∙ ap (λ x. after_header_step x (λ t. header_by limit t more) more) e
 
 -- the digits of a number are read as the number
 record Reads (n : ℕ) (ds : List ℕ) : Type 0 where
@@ -89,7 +90,7 @@ header_read width height rest a b c d =
     ∙ ap (λ n. header_by n (Blanks (Some width) true) (decimal height ++ 10 ∷ rest)) (let e : left - 1 ≡ left2 + length (decimal height) = omega arith in e)
     ∙ number_read height d (Some width) left2 (10 ∷ rest)
     ∙ ap (λ n. header_by n (Number (Some width) height) (10 ∷ rest)) (let e : left2 ≡ suc (left2 - 1) = omega arith in e)
-    ∙ ap (λ x. after (if x then Done (record { width = width; height = height }) else Refused PbmSize) (λ t. header_by (left2 - 1) t rest) rest) (sized height c d)
+    ∙ ap (λ x. after_header_step (if x then Done (record { width = width; height = height }) else Refused PbmSize) (λ t. header_by (left2 - 1) t rest) rest) (sized height c d)
 
 -- ---- images
 

@@ -3,7 +3,8 @@ use Rattle.std.specs.Prelude.{◌≡◌, ◌⊎◌, ℕ, ◌+◌, ◌-◌, ◌*�
 use Rattle.std.specs.List.{AllByRecursion, AllZip, concat}
 use Rattle.sheet_core.specs.declared.pbm.state.Size.{Size}
 use Rattle.sheet_core.specs.Bitmaps.{Bitmap, stride}
-use Rattle.sheet_core.specs.pbm.Headers.{is_digit, is_line_end, is_white}
+use Rattle.element_core.specs.Elements.{is_digit}
+use Rattle.sheet_core.specs.pbm.Headers.{is_line_end, is_white}
 use Rattle.sheet_core.specs.pbm.Images.{bitmap_of}
 
 -- what stands between # and the end of its line, and that end

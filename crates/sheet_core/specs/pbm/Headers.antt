@@ -9,6 +9,7 @@ use Rattle.sheet_core.specs.declared.pbm.state.State.{State}
 use Rattle.sheet_core.specs.declared.pbm.state.State.TheVariants.{Start, Magic, Blanks, Comment, Number}
 use Rattle.sheet_core.specs.declared.pbm.state.Step.{Step}
 use Rattle.sheet_core.specs.declared.pbm.state.Step.TheVariants.{Goes, Done, Refused}
+use Rattle.element_core.specs.Elements.{is_digit}
 
 -- space, TAB, LF and CR
 abbrev pub is_white : ℕ → Bool
@@ -17,10 +18,6 @@ is_white b = (b == 32) || ((b == 9) || ((b == 10) || (b == 13)))
 -- LF and CR
 abbrev pub is_line_end : ℕ → Bool
 is_line_end b = (b == 10) || (b == 13)
-
--- an ASCII digit
-abbrev pub is_digit : ℕ → Bool
-is_digit b = nat_le 48 b && nat_le b 57
 
 -- what a width or a height may be
 abbrev pub is_size : ℕ → Bool
@@ -43,29 +40,29 @@ number_step (Some width) n b =
     else Refused PbmHeader
 
 -- what a byte does in a header that has come so far
-abbrev pub step : State → ℕ → Step
-step Start b = if b == 80 then Goes Magic else Refused NotP4
-step Magic b = if b == 52 then Goes (Blanks None false) else Refused NotP4
-step (Blanks width some) b =
+abbrev pub header_step : State → ℕ → Step
+header_step Start b = if b == 80 then Goes Magic else Refused NotP4
+header_step Magic b = if b == 52 then Goes (Blanks None false) else Refused NotP4
+header_step (Blanks width some) b =
     if is_white b then Goes (Blanks width true)
     else if b == 35 then Goes (Comment width)
     else if some && is_digit b then Goes (Number width (b - 48))
     else Refused PbmHeader
-step (Comment width) b = if is_line_end b then Goes (Blanks width true) else Goes (Comment width)
-step (Number width n) b = number_step width n b
+header_step (Comment width) b = if is_line_end b then Goes (Blanks width true) else Goes (Comment width)
+header_step (Number width n) b = number_step width n b
 
 -- a width is known only where it may be one
-abbrev pub is_known : Option ℕ → Bool
-is_known None = true
-is_known (Some width) = is_size width
+abbrev pub may_be_width : Option ℕ → Bool
+may_be_width None = true
+may_be_width (Some width) = is_size width
 
 -- what holds of each state that a header comes to
 abbrev pub is_reached : State → Bool
 is_reached Start = true
 is_reached Magic = true
-is_reached (Blanks width some) = is_known width
-is_reached (Comment width) = is_known width
-is_reached (Number width n) = is_known width && nat_le n 65536
+is_reached (Blanks width some) = may_be_width width
+is_reached (Comment width) = may_be_width width
+is_reached (Number width n) = may_be_width width && nat_le n 65536
 
 -- what a byte does is to go on, to end the header with a size, or to refuse it by what it is
 abbrev pub is_reached_by : Step → Bool
@@ -79,16 +76,16 @@ is_reached_by (Refused ReadFault) = false
 is_reached_by (Refused NoMemory) = false
 
 -- a size or a refusal, and the bytes after the one that decides
-abbrev pub after : Step → (State → Result Size PbmFault × List ℕ) → List ℕ → Result Size PbmFault × List ℕ
-after (Goes s) go rest = go s
-after (Done size) go rest = (Ok size, rest)
-after (Refused fault) go rest = (Err fault, rest)
+abbrev pub after_header_step : Step → (State → Result Size PbmFault × List ℕ) → List ℕ → Result Size PbmFault × List ℕ
+after_header_step (Goes s) go rest = go s
+after_header_step (Done size) go rest = (Ok size, rest)
+after_header_step (Refused fault) go rest = (Err fault, rest)
 
 -- the same of a header that may have so many more bytes
 abbrev pub header_by : ℕ → State → List ℕ → Result Size PbmFault × List ℕ
 header_by limit s [] = (Err Truncated, [])
 header_by zero s (b ∷ bytes) = (Err PbmHeader, bytes)
-header_by (suc limit) s (b ∷ bytes) = after (step s b) (λ t. header_by limit t bytes) bytes
+header_by (suc limit) s (b ∷ bytes) = after_header_step (header_step s b) (λ t. header_by limit t bytes) bytes
 
 -- the same of bytes that begin with a header, of at most 4,096 bytes
 abbrev pub header_of : List ℕ → Result Size PbmFault × List ℕ

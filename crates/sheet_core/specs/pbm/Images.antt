@@ -72,20 +72,20 @@ abbrev pub IsOpen : {A : Type 0} → Result A PbmFault × List ℕ → Type 0
 IsOpen {A} r = (r ≡ (Err Truncated, [])) ⊎ ((x : A) × (r ≡ (Ok x, [])))
 
 -- the bytes are all that was read for this answer: none after the one that decides, and none refused where reading stopped for another cause
-abbrev pub Tells : {A : Type 0} → Result A PbmFault × List ℕ → Option (List ℕ) → Result A PbmFault → Type 0
-Tells r left (Ok x) = r ≡ (Ok x, [])
-Tells r left (Err Truncated) = (r ≡ (Err Truncated, [])) × IsAtEnd left
-Tells r left (Err ReadFault) = IsOpen r
-Tells r left (Err NoMemory) = IsOpen r
-Tells r left (Err NotP4) = r ≡ (Err NotP4, [])
-Tells r left (Err PbmHeader) = r ≡ (Err PbmHeader, [])
-Tells r left (Err PbmSize) = r ≡ (Err PbmSize, [])
+abbrev pub BytesTell : {A : Type 0} → Result A PbmFault × List ℕ → Option (List ℕ) → Result A PbmFault → Type 0
+BytesTell r left (Ok x) = r ≡ (Ok x, [])
+BytesTell r left (Err Truncated) = (r ≡ (Err Truncated, [])) × IsAtEnd left
+BytesTell r left (Err ReadFault) = IsOpen r
+BytesTell r left (Err NoMemory) = IsOpen r
+BytesTell r left (Err NotP4) = r ≡ (Err NotP4, [])
+BytesTell r left (Err PbmHeader) = r ≡ (Err PbmHeader, [])
+BytesTell r left (Err PbmSize) = r ≡ (Err PbmSize, [])
 
 -- a reader gave bytes that tell this answer
-pub record Reads {A : Type 0} (told : List ℕ → Result A PbmFault × List ℕ) (old new : Option (List ℕ)) (answer : Result A PbmFault) : Type 0 where
+pub record ReadsBytes {A : Type 0} (told : List ℕ → Result A PbmFault × List ℕ) (old new : Option (List ℕ)) (answer : Result A PbmFault) : Type 0 where
   pub bytes : List ℕ
   pub consumed : Consumes old new bytes
-  pub tells : Tells (told bytes) new answer
+  pub tells : BytesTell (told bytes) new answer
 
 -- a reader has failed where `ReadFault` says so, and nothing else was a failure
 abbrev pub FailsFor : {A : Type 0} → Bool → Bool → Result A PbmFault → Type 0

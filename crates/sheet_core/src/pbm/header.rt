@@ -1,6 +1,7 @@
 //! The header of a PBM image, byte by byte.
 ghost use Rattle.std.specs.Prelude.{◌≡◌, ◌≤◌, ◌<◌, None, Some, true, false, IfNone, IfSome, IsTrue};
-ghost use Rattle.sheet_core.specs.pbm.Headers.{grown, is_digit, is_line_end, is_reached, is_reached_by, is_known, is_size, is_white, number_step, step};
+ghost use Rattle.sheet_core.specs.pbm.Headers.{grown, is_line_end, is_reached, is_reached_by, may_be_width, is_size, is_white, number_step, header_step};
+ghost use Rattle.element_core.specs.Elements.{is_digit};
 
 use crate::fault::PbmFault;
 use crate::pbm::state::{Size, State, Step};
@@ -87,8 +88,8 @@ fn height_step(width: u16, number: u32, byte: u8) -> Step
 
 /// What a byte does in the blanks before a number.
 fn blank_step(width: Option<u16>, some: bool, byte: u8) -> Step
-    requires { IsTrue (is_known width) }
-    ensures value { result ≡ step (State.Blanks width some) byte }
+    requires { IsTrue (may_be_width width) }
+    ensures value { result ≡ header_step (State.Blanks width some) byte }
     ensures reached { IsTrue (is_reached_by result) }
 {
     if is_white(byte) {
@@ -105,7 +106,7 @@ fn blank_step(width: Option<u16>, some: bool, byte: u8) -> Step
 /// What a byte does in a header that has come so far.
 pub fn step(state: State, byte: u8) -> Step
     requires { IsTrue (is_reached state) }
-    ensures value { result ≡ step state byte }
+    ensures value { result ≡ header_step state byte }
     ensures reached { IsTrue (is_reached_by result) }
 {
     match state {

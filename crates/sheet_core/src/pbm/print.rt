@@ -6,7 +6,7 @@ ghost use Rattle.digits_core.specs.Bytes.{TookFront};
 ghost use Rattle.sheet_core.specs.Bitmaps.{Bitmap, stride};
 ghost use Rattle.sheet_core.specs.Drawing.{ArePrinted, AreSheets, IsPrintFault, IsSheet};
 ghost use Rattle.sheet_core.specs.Labels.{Drawn, FitsCell, IsDrawn};
-ghost use Rattle.sheet_core.specs.Lines.{IsBand, rows_of};
+ghost use Rattle.sheet_core.specs.Lines.{IsBand, repeated_bytes};
 ghost use Rattle.sheet_core.specs.pbm.Images.{image, pbm_of};
 
 use crate::fault::{PrintFault, SheetFault};
@@ -21,8 +21,8 @@ use std::alloc::Global;
 
 /// Writes a row of dots so many times.
 fn write_rows<W: Sink>(line: &[u8], count: u16, sink: &mut W) -> Result<(), Failed>
-    ensures ok { OnOk result (Appends (W.taken sink.old) (W.taken sink.new) (rows_of count line.now)) }
-    ensures err { OnErr result (TookFront (W.taken sink.old) (W.taken sink.new) (rows_of count line.now)) }
+    ensures ok { OnOk result (Appends (W.taken sink.old) (W.taken sink.new) (repeated_bytes count line.now)) }
+    ensures err { OnErr result (TookFront (W.taken sink.old) (W.taken sink.new) (repeated_bytes count line.now)) }
     ensures fault { W.failed sink.old ≡ false → (IsErr result ↔ (W.failed sink.new ≡ true)) }
 {
     for _ in 0..count {

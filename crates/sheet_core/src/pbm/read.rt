@@ -3,7 +3,7 @@ ghost use Rattle.std.specs.Prelude.{[], ◌≡◌, ◌∷◌, ◌≤◌, ◌<◌
 ghost use Rattle.std.specs.Io.KnownBytes.{Consumes, IsAtEnd, Keeps};
 ghost use Rattle.sheet_core.specs.Bitmaps.{stride, pad};
 ghost use Rattle.sheet_core.specs.pbm.Headers.{header_of, is_size};
-ghost use Rattle.sheet_core.specs.pbm.Images.{FailsFor, Reads, StopsBefore, image_of, images_of, unpadded};
+ghost use Rattle.sheet_core.specs.pbm.Images.{FailsFor, ReadsBytes, StopsBefore, image_of, images_of, unpadded};
 
 use crate::fault::PbmFault;
 use crate::pbm::header::step;
@@ -33,7 +33,7 @@ fn next<R: Source>(reader: &mut R) -> Result<Option<u8>, Failed>
 
 /// The size in a header that begins with this byte. No byte after the one that decides is read.
 fn read_header<R: Source>(reader: &mut R, first: u8) -> Result<Size, PbmFault>
-    ensures read { Reads (λ bytes. header_of (first ∷ bytes)) (R.left reader.old) (R.left reader.new) result }
+    ensures read { ReadsBytes (λ bytes. header_of (first ∷ bytes)) (R.left reader.old) (R.left reader.new) result }
     ensures size { IfOk result (λ size. IsTrue (is_size size.width) × IsTrue (is_size size.height)) }
     ensures failed { FailsFor (R.failed reader.old) (R.failed reader.new) result }
 {
@@ -102,7 +102,7 @@ fn clear_pads(bytes: &mut [u8], size: Size)
 
 /// The sheet of an image that begins with this byte. No byte after the one that decides is read.
 fn read_image<R: Source>(alloc: Global, reader: &mut R, first: u8) -> Result<Sheet, PbmFault>
-    ensures read { Reads (λ bytes. image_of (first ∷ bytes)) (R.left reader.old) (R.left reader.new) result }
+    ensures read { ReadsBytes (λ bytes. image_of (first ∷ bytes)) (R.left reader.old) (R.left reader.new) result }
     ensures failed { FailsFor (R.failed reader.old) (R.failed reader.new) result }
 {
     let size = read_header(reader, first)?;
@@ -122,9 +122,9 @@ fn read_image<R: Source>(alloc: Global, reader: &mut R, first: u8) -> Result<She
 /// The first byte that cannot be refuses the whole input, and none after it is read: `NotP4`, `PbmHeader` or
 /// `PbmSize`; an end within an image is `Truncated`. Memory is taken as bytes come.
 pub fn read_pbm<R: Source>(alloc: Global, reader: &mut R) -> Result<Vec<Sheet>, PbmFault>
-    ensures ok { IfOk result (λ sheets. Reads images_of (R.left reader.old) (R.left reader.new) (Ok sheets.items)) }
+    ensures ok { IfOk result (λ sheets. ReadsBytes images_of (R.left reader.old) (R.left reader.new) (Ok sheets.items)) }
     ensures end { OnOk result (IsAtEnd (R.left reader.new)) }
-    ensures err { IfErr result (λ fault. Reads images_of (R.left reader.old) (R.left reader.new) (Err fault)) }
+    ensures err { IfErr result (λ fault. ReadsBytes images_of (R.left reader.old) (R.left reader.new) (Err fault)) }
     ensures fault { R.failed reader.old ≡ false
         → (IsErrOf result PbmFault.ReadFault ↔ (R.failed reader.new ≡ true)) }
 {

@@ -3,7 +3,7 @@ use Rattle.std.specs.List.{flat_map}
 use Rattle.crossbeam_queue.specs.Passes.{view, IsPassOf}
 use Rattle.hub_core.specs.Rule.{trace}
 use Rattle.hub_core.specs.Passes.{shares_of, pushed_by, popped_by}
-use Rattle.hub_core.specs.Workers.{hand_of, posted, taken}
+use Rattle.hub_core.specs.Workers.{jobs_in_hand, posted, taken}
 use Rattle.hub_core.specs.DrainedLists.{DrainsInto}
 use Rattle.hub_core.proofs.drain.place_hands.Given as goal
 
@@ -15,5 +15,5 @@ invariant-loop-seat l = record {
   same_results : IsPassOf l.hub.results l.all_results;
   jobs : view l.all_jobs ≡ trace (shares_of l.initial.all_jobs + length l.yielded) (pushed_by l.initial.all_jobs) (popped_by l.initial.all_jobs ++ flat_map taken l.yielded);
   results : view l.all_results ≡ trace (shares_of l.initial.all_results + length l.yielded) (pushed_by l.initial.all_results ++ flat_map posted l.yielded) (popped_by l.initial.all_results);
-  drained : DrainsInto l.initial.lists.items l.lists.items (flat_map hand_of l.yielded);
+  drained : DrainsInto l.initial.lists.items l.lists.items (flat_map jobs_in_hand l.yielded);
 }

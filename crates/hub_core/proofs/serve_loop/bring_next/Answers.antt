@@ -1,6 +1,6 @@
 use Rattle.std.proofs.Common.{◌<◌, ◌∙◌, arith, length, set, sym}
 use Rattle.std.proofs.lemmas.Result.{IfOk-weaker}
-use Rattle.hub_core.specs.Traffics.{IsNextOf, Serves, given_to, polled_by}
+use Rattle.hub_core.specs.Traffics.{IsNextOf, Serves, given_to, polled_by_each}
 use Rattle.hub_core.proofs.TrafficFacts.{came_brought, came_same, lane_at, next_of, room_same, seat_at, step_serves}
 use Rattle.hub_core.proofs.serve_loop.bring_next.Goals as goal
 use Rattle.hub_core.proofs.serve_loop.bring_next.Goals.{After-poll, In-Some}
@@ -16,7 +16,7 @@ still_serves g c =
     step_serves c.args.hub.now seats c.args.held.now c.args.held.now c.args.index c.index_mut.result.now c.poll.new.self at c.poll.ensures.lane is c.requires.0
     (room_same seats c.args.held.now c.args.index c.index_mut.result.now c.poll.new.self at c.poll.ensures.submitted c.requires.0.room)
 
-is_next : (g : _) (c : In-Some g) → IsNextOf c.in-Some.delivery (given_to c.args.seats.now.items c.args.held.now) (polled_by c.args.seats.now.items)
+is_next : (g : _) (c : In-Some g) → IsNextOf c.in-Some.delivery (given_to c.args.seats.now.items c.args.held.now) (polled_by_each c.args.seats.now.items)
 is_next g c =
     let polls = c.in-Some.ensures.polls in
     let t = c.poll.new.self in
@@ -26,7 +26,7 @@ is_next g c =
 pub bring-requires : goal.bring-requires
 bring-requires g c =
     let seats = c.args.seats.now.items in
-    (c.requires.1.0, given_to seats c.args.held.now, polled_by seats, c.requires.1.1, is_next g (goal.at.bring-requires g c).In-Some)
+    (c.requires.1.0, given_to seats c.args.held.now, polled_by_each seats, c.requires.1.1, is_next g (goal.at.bring-requires g c).In-Some)
 
 pub returns-in-Some-clause-serves : goal.returns-in-Some-clause-serves
 returns-in-Some-clause-serves g c = still_serves g (goal.at.returns-in-Some-clause-serves g c).After-poll
@@ -46,7 +46,7 @@ returns-in-Some-clause-came g c =
     (λ _ bring start was.
     came_brought (g.T.Traffic.Came start c.bring.new.self) seats held c.args.index c.in-Some.delivery.lane c.index_mut.result.now c.poll.new.self c.in-Some.delivery
     (lane ∙ sym polls.0) (low g d) at c.poll.ensures.submitted polls.2
-    (bring start (given_to seats held) (polled_by seats) was (is_next g (goal.at.returns-in-Some-clause-came g c).In-Some)))
+    (bring start (given_to seats held) (polled_by_each seats) was (is_next g (goal.at.returns-in-Some-clause-came g c).In-Some)))
     c.bring.ensures
 
 pub returns-in-None-clause-came : goal.returns-in-None-clause-came

@@ -1,6 +1,6 @@
 use Rattle.std.proofs.Common.{None}
 use Rattle.hub_core.specs.Hubs.{IsDelivererOf}
-use Rattle.hub_core.specs.Traffics.{Serves, given_to, polled_by}
+use Rattle.hub_core.specs.Traffics.{Serves, given_to, polled_by_each}
 use Rattle.hub_core.proofs.serve_loop.run.Given as goal
 
 abbrev pub invariant-loop : goal.invariant-loop
@@ -8,7 +8,7 @@ invariant-loop g l = record {
   can : (goal.iterator-loop g).can_next l.iterator';
   ends : (goal.iterator-loop g).is_finite l.iterator';
   serves : Serves l.hub l.seats.items l.held;
-  some : (start : _) × g.T.Traffic.Came start l.traffic (given_to l.seats.items l.held) (polled_by l.seats.items);
-  came : (start : _) → g.T.Traffic.Came start l.initial.traffic (given_to l.initial.seats.items None) (polled_by l.initial.seats.items) → g.T.Traffic.Came start l.traffic (given_to l.seats.items l.held) (polled_by l.seats.items);
+  some : (start : _) × g.T.Traffic.Came start l.traffic (given_to l.seats.items l.held) (polled_by_each l.seats.items);
+  came : (start : _) → g.T.Traffic.Came start l.initial.traffic (given_to l.initial.seats.items None) (polled_by_each l.initial.seats.items) → g.T.Traffic.Came start l.traffic (given_to l.seats.items l.held) (polled_by_each l.seats.items);
   deliverer : IsDelivererOf l.hub l.deliverer;
 }

@@ -2,7 +2,7 @@ use Rattle.std.proofs.Common.{◌≡◌, ◌∙◌, None, ap, arith, subst, sym}
 use Rattle.hub_core.specs.Hubs.{year_of}
 use Rattle.hub_core.specs.Serving.{served}
 use Rattle.hub_core.proofs.LaneViewFacts.{PolledFirst, first_of}
-use Rattle.hub_core.specs.Traffics.{AreServedFirst, Serves, given_to, polled_by}
+use Rattle.hub_core.specs.Traffics.{AreServedFirst, Serves, given_to, polled_by_each}
 use Rattle.hub_core.proofs.ServeFacts.{lanes_counted}
 use Rattle.hub_core.proofs.TrafficFacts.{all_served, came_fresh, seats_counted, serves_fresh, served_first}
 use Rattle.hub_core.proofs.serve_loop.serve_boxed.Goals as goal
@@ -39,11 +39,11 @@ returns-clause-served g c =
     let first : PolledFirst hub seats = subst (PolledFirst hub) c.close_all-closed.ensures (first_of hub _ c.finish.ensures) in
     let year : year_of hub ≡ c.args.year = c.in-Ok-new_hub.ensures.shape.2 in (
       given_to seats done.0,
-      polled_by seats,
+      polled_by_each seats,
       done.2 kept,
-      subst (λ y. AreServedFirst y (given_to seats done.0) (polled_by seats)) year (served_first hub seats done.0 done.1 first),
+      subst (λ y. AreServedFirst y (given_to seats done.0) (polled_by_each seats)) year (served_first hub seats done.0 done.1 first),
       λ ended.
           let end = done.3 ended in
           let all = all_served hub seats (subst (λ o. Serves hub seats o) end.2 done.1) first end.1 in
-          (end.0, subst (λ o. polled_by seats ≡ served c.args.year (given_to seats o)) (sym end.2) (all ∙ ap (λ y. served y (given_to seats None)) year)),
+          (end.0, subst (λ o. polled_by_each seats ≡ served c.args.year (given_to seats o)) (sym end.2) (all ∙ ap (λ y. served y (given_to seats None)) year)),
     )

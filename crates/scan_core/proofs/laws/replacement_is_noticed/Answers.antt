@@ -1,11 +1,11 @@
 use Rattle.std.proofs.Common.{set}
-use Rattle.ean_code.specs.Laws.{ReplacedIsUnchecked}
+use Rattle.ean_code.specs.Laws.{ReplacedDigitIsUnchecked}
 use Rattle.ean_code.specs.Symbols.{Kind, widths_of}
 use Rattle.ean_code.specs.Symbols.Kind.{Ean13, Ean8, UpcE, Itf14}
 use Rattle.scan_core.proofs.ReplacedFacts.{replaced_spells}
 use Rattle.scan_core.proofs.laws.replacement_is_noticed.Goals as goal
 
-each_kind : (c : goal.After-replaced_is_unchecked) → (kind : Kind) → ReplacedIsUnchecked kind
+each_kind : (c : goal.After-replaced_is_unchecked) → (kind : Kind) → ReplacedDigitIsUnchecked kind
 each_kind c Ean13 = c.replaced_is_unchecked.ensures.ean13
 each_kind c Ean8 = c.replaced_is_unchecked.ensures.ean8
 each_kind c UpcE = c.replaced_is_unchecked.ensures.upce

@@ -1,7 +1,7 @@
 use Rattle.std.proofs.Common.{◌≡◌, ◌≤◌, ◌+◌, ◌-◌, ◌*◌, ◌++◌, ◌∙◌, ℕ, List, ap, arith, length, length-append, replicate, subst, sym}
 use Rattle.sheet_core.specs.Bitmaps.{stride}
 use Rattle.sheet_core.specs.Grids.{Cells}
-use Rattle.sheet_core.specs.Lines.{band, rows_of}
+use Rattle.sheet_core.specs.Lines.{band, repeated_bytes}
 use Rattle.digits_core.specs.Buffers.{pasted}
 use Rattle.sheet_core.proofs.BandFacts.{length-rows}
 use Rattle.sheet_core.proofs.PasteFacts.{Put, bar_rows, image_fits, image_put, light_put, light_rows, put_fits, put_next}
@@ -59,7 +59,7 @@ put_rows-requires c =
     b.bars c.put_rows-below.ensures.end c.put_rows-below.ensures.put in
     let light : List ℕ = c.as_slice-2.result.now in
     let fits = b.fits in
-    let same : length (light_rows g line) ≡ i.module_dots * length light = ap (λ l. length (rows_of i.module_dots l)) (sym (c.as_slice-2.ensures.value ∙ b.zeros)) ∙ length-rows i.module_dots light in
+    let same : length (light_rows g line) ≡ i.module_dots * length light = ap (λ l. length (repeated_bytes i.module_dots l)) (sym (c.as_slice-2.ensures.value ∙ b.zeros)) ∙ length-rows i.module_dots light in
     let front = length-append header (light_rows g line) in
     let middle = length-append (header ++ light_rows g line) (bar_rows g line) in
     put_fits c.args.out.now ((header ++ light_rows g line) ++ bar_rows g line) c.put_rows-below.new.out c.put_rows-below.result (i.module_dots * length light)
@@ -75,7 +75,7 @@ returns c =
     let out : List ℕ = c.args.out.now in
     let below = put_next c.args.out.now (header ++ light_rows g line) c.put_rows-bars.new.out (bar_rows g line) c.put_rows-below.new.out c.put_rows-bars.result c.put_rows-below.result
     b.bars c.put_rows-below.ensures.end c.put_rows-below.ensures.put in
-    let piece : rows_of i.module_dots c.as_slice-2.result.now ≡ light_rows g line = ap (rows_of i.module_dots) (c.as_slice-2.ensures.value ∙ b.zeros) in
+    let piece : repeated_bytes i.module_dots c.as_slice-2.result.now ≡ light_rows g line = ap (repeated_bytes i.module_dots) (c.as_slice-2.ensures.value ∙ b.zeros) in
     let all = put_next out ((header ++ light_rows g line) ++ bar_rows g line) c.put_rows-below.new.out (light_rows g line) c.put_rows.new.out c.put_rows-below.result c.put_rows.result
     below
     (c.put_rows.ensures.end ∙ ap (λ (r : List ℕ). c.put_rows-below.result + length r) piece) (c.put_rows.ensures.put ∙ ap (pasted c.put_rows-below.new.out c.put_rows-below.result) piece) in

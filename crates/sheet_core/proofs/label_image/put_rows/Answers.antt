@@ -1,6 +1,6 @@
 use Rattle.std.proofs.Common.{◌+◌, ◌∙◌, ap, ap₂, arith, length, sym}
 use Rattle.digits_core.specs.Buffers.{pasted}
-use Rattle.sheet_core.specs.Lines.{rows_of}
+use Rattle.sheet_core.specs.Lines.{repeated_bytes}
 use Rattle.digits_core.proofs.Pasted.{length-pasted, pasted_none}
 use Rattle.sheet_core.proofs.PasteFacts.{end_more, row_fits, rows_pasted}
 use Rattle.sheet_core.proofs.label_image.put_rows.Goals as goal
@@ -15,7 +15,7 @@ pub put_at-end-requires : goal.put_at-end-requires
 put_at-end-requires c =
     let line = c.args.line.now in
     let fits = row_fits c.loop.counter c.args.count c.args.at (length c.args.out.now) line (omega arith) c.requires in
-    let long = ap length c.loop.invariant.put ∙ length-pasted c.args.out.now c.args.at (rows_of c.loop.counter line) (omega arith) in
+    let long = ap length c.loop.invariant.put ∙ length-pasted c.args.out.now c.args.at (repeated_bytes c.loop.counter line) (omega arith) in
     let end = c.loop.invariant.end in
     omega arith
 

@@ -3,7 +3,7 @@ use Rattle.std.specs.List.{AllZip}
 use Rattle.sheet_core.specs.Drawing.{IsSheet}
 use Rattle.sheet_core.specs.Grids.{Cells}
 use Rattle.sheet_core.specs.Labels.{FitsCell, IsDrawn}
-use Rattle.sheet_core.specs.Lines.{IsLine, row_labels}
+use Rattle.sheet_core.specs.Lines.{IsBarLine, row_labels}
 use Rattle.sheet_core.proofs.BandFacts.{Banded, banded_more}
 use Rattle.sheet_core.proofs.LabelFacts.{AllZip-drop, AllZip-take}
 use Rattle.sheet_core.proofs.WidthFacts.{AllByRecursion-drop, AllByRecursion-take}
@@ -33,7 +33,7 @@ loop-row-preserved c = λ symbols h.
     let first : k ≡ row * g.columns = ap₂ (λ a b. a * b) c.from-in-loop-row.ensures columns in
     let part : take n (drop k symbols) ≡ row_labels g symbols row = ap₂ (λ n k. take n (drop k symbols)) columns first in
     let drawn = c.in_ok-push_band.ensures (take n (drop k symbols)) here in
-    banded_more g symbols row c.loop-row.bytes.items c.push_band.new.bytes.items drawn.0 (c.loop-row.invariant symbols h) (subst (λ ss. IsLine g ss drawn.0) part drawn.1) drawn.2
+    banded_more g symbols row c.loop-row.bytes.items c.push_band.new.bytes.items drawn.0 (c.loop-row.invariant symbols h) (subst (λ ss. IsBarLine g ss drawn.0) part drawn.1) drawn.2
 
 pub invariant_of-result : goal.invariant_of-result
 invariant_of-result c =

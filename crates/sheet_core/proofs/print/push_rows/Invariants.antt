@@ -1,6 +1,6 @@
 use Rattle.std.proofs.Common.{◌≡◌, ◌++◌}
-use Rattle.sheet_core.specs.Lines.{rows_of}
+use Rattle.sheet_core.specs.Lines.{repeated_bytes}
 use Rattle.sheet_core.proofs.print.push_rows.Given as goal
 
 abbrev pub invariant-loop : goal.invariant-loop
-invariant-loop l = l.bytes.items ≡ l.fn.bytes.items ++ rows_of l.counter l.line
+invariant-loop l = l.bytes.items ≡ l.fn.bytes.items ++ repeated_bytes l.counter l.line

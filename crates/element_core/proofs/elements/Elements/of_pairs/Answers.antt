@@ -4,7 +4,7 @@ use Rattle.std.proofs.lemmas.Grind.{common_steps}
 use Rattle.std.proofs.lemmas.List.{length-map, take_all}
 use Rattle.element_core.specs.Table.{predefined_length, row_at}
 use Rattle.element_core.specs.Elements.{AreElements, Entry, IsElements, canonical}
-use Rattle.element_core.specs.Growing.{gap, last_gap}
+use Rattle.element_core.specs.Growing.{last_gap, separator_if}
 use Rattle.element_core.specs.Pairs.{entry_of, entries_of}
 use Rattle.element_core.proofs.Growth.{separator_for-gap, last_gap-push}
 use Rattle.element_core.proofs.Listed.{listed}
@@ -41,11 +41,11 @@ loop-pair-preserved c =
     let same : record { ai = c.as_slice-ai.result.now; value = c.as_slice-value.result.now } ≡ e = same_element (record { ai = c.as_slice-ai.result.now; value = c.as_slice-value.result.now }) e c.as_slice-ai.ensures.value c.as_slice-value.ensures.value in
     let es = done (goal.at.loop-pair-preserved c).After-gap_length in
     let more : entries_of (take (c.loop-pair.pair-index + 1) c.args.pairs.now) ≡ es ++ e ∷ [] = entries_more c.args.pairs.now c.loop-pair.pair-index c.pair-item.result c.loop-pair-test.true c.pair-item.is in
-    let text : c.append.new.text.items ≡ c.loop-pair.out.items ++ gap c.loop-pair.separate ++ (e.ai ++ e.value) = c.append.ensures ∙ ap (λ (x : Entry). c.loop-pair.out.items ++ gap c.loop-pair.separate ++ (x.ai ++ x.value)) same in
+    let text : c.append.new.text.items ≡ c.loop-pair.out.items ++ separator_if c.loop-pair.separate ++ (e.ai ++ e.value) = c.append.ensures ∙ ap (λ (x : Entry). c.loop-pair.out.items ++ separator_if c.loop-pair.separate ++ (x.ai ++ x.value)) same in
     record {
       canonical_text = text ∙ g.canonical_text ∙ ap canonical (sym more);
       fits = let under = c.if-len-gap_length-gt192.false in omega (arith, ap length text, g.size, c.len.ensures.value, c.gap_length.ensures, ap length c.as_slice-ai.ensures.value, ap length c.as_slice-value.ensures.value);
-      gap_is = ap last_gap more ∙ last_gap-push es e ∙ separator_for-gap e (is_some (predefined_length e.ai)) refl ∙ ap gap (sym (c.needs_separator-separate.ensures ∙ ap (λ (a : List ℕ). not (is_some (predefined_length a))) c.as_slice-ai.ensures.value));
+      gap_is = ap last_gap more ∙ last_gap-push es e ∙ separator_for-gap e (is_some (predefined_length e.ai)) refl ∙ ap separator_if (sym (c.needs_separator-separate.ensures ∙ ap (λ (a : List ℕ). not (is_some (predefined_length a))) c.as_slice-ai.ensures.value));
     }
 
 some : (c : After-loop-pair) → 0 < length (entries_of c.args.pairs.now)

@@ -1,4 +1,4 @@
-use Rattle.std.proofs.Common.{rules, ◌≡◌, ◌<◌, ◌++◌, ◌∷◌, [], List, get_or, length, set, refl, sym, ap, ◌∙◌, subst, arith, option_to_list}
+use Rattle.std.proofs.Common.{List, [], ap, arith, get_or, length, option_to_list, refl, rules, set, subst, sym, ◌++◌, ◌<◌, ◌∙◌, ◌∷◌, ◌≡◌}
 use Rattle.std.proofs.lemmas.List.{length-map, length-set}
 use Rattle.std.specs.List.{slice_get}
 use Rattle.std.proofs.Common.{Some}

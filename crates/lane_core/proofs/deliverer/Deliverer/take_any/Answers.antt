@@ -7,7 +7,7 @@ use Rattle.lane_core.specs.declared.next_slot.NextSlot.TheVariants.{Here, Out}
 use Rattle.lane_core.specs.declared.job.Plain.{Plain}
 use Rattle.lane_core.specs.declared.ticket.Ticket.{Ticket}
 use Rattle.lane_core.specs.ReorderBuffer.{GivesAny}
-use Rattle.lane_core.specs.NextSlots.{AreKept, buffer_of, slot_at}
+use Rattle.lane_core.specs.NextSlots.{AreKept, buffer_by_slots, slot_at}
 use Rattle.lane_core.proofs.BufferFacts.{took_slot, took_out}
 use Rattle.lane_core.proofs.deliverer.Deliverer.take_any.Goals as goal
 
@@ -18,10 +18,10 @@ returns-in-Some-clause-some c =
 
 -- a lane's next number was taken out of turn
 took_some : (nexts : List ℕ) (hs gs : List NextSlot) (es fs : List (Ticket × Plain)) (ks : List Ticket) → AreKept nexts hs es ks → fs ≡ es
-    → (o : Option Plain) → IfSome o (λ x. (i : ℕ) × (i < length hs) × (slot_at hs i ≡ Here x) × (gs ≡ set hs i Out)) → IfSome o (λ x. GivesAny (buffer_of nexts hs es ks) x (buffer_of nexts gs fs ks))
+    → (o : Option Plain) → IfSome o (λ x. (i : ℕ) × (i < length hs) × (slot_at hs i ≡ Here x) × (gs ≡ set hs i Out)) → IfSome o (λ x. GivesAny (buffer_by_slots nexts hs es ks) x (buffer_by_slots nexts gs fs ks))
 took_some nexts hs gs es fs ks kept same None is = tt
 took_some nexts hs gs es fs ks kept same (Some x) is =
-    subst (λ (q : List NextSlot × List (Ticket × Plain)). GivesAny (buffer_of nexts hs es ks) x (buffer_of nexts q.0 q.1 ks)) (λ i. (sym is.3 i, sym same i)) (took_slot nexts hs es ks is.0 x kept.lanes is.1 is.2)
+    subst (λ (q : List NextSlot × List (Ticket × Plain)). GivesAny (buffer_by_slots nexts hs es ks) x (buffer_by_slots nexts q.0 q.1 ks)) (λ i. (sym is.3 i, sym same i)) (took_slot nexts hs es ks is.0 x kept.lanes is.1 is.2)
 
 slots : (c : goal.After-self-1) → (with_items c.self.inside.slots c.take_first.new.slots).items ≡ c.take_first.new.slots
 slots c = with_items_is c.self.inside.slots c.take_first.new.slots (c.take_first.ensures.len ∙ (ap length c.as_mut_slice.ensures.value ∙ sym c.self.inside.slots.ok.0))

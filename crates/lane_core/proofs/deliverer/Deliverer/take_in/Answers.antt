@@ -4,7 +4,7 @@ use Rattle.std.specs.BTreeMap.{is_at}
 use Rattle.std.specs.Set.{remove_key}
 use Rattle.lane_core.specs.declared.next_slot.NextSlot.TheVariants.{Here}
 use Rattle.lane_core.specs.ReorderBuffer.{was_taken}
-use Rattle.lane_core.specs.NextSlots.{buffer_of}
+use Rattle.lane_core.specs.NextSlots.{buffer_by_slots}
 use Rattle.lane_core.proofs.LookupFacts.{cmp_tickets}
 use Rattle.lane_core.proofs.TakingFacts.{head_kept, head_taken, keys_back, later_kept, later_taken}
 use Rattle.lane_core.proofs.deliverer.Deliverer.take_in.Goals as goal
@@ -18,7 +18,7 @@ low c =
 small : (c : After-index) → c.ticket-ticket.result.number < 2 ^ 32
 small c = search rules
 
-fresh : (c : After-index) → was_taken (buffer_of c.self.inside.nexts.items c.self.inside.slots.items c.self.inside.later.entries c.self.inside.known.keys) c.ticket-ticket.result.lane c.ticket-ticket.result.number ≡ false
+fresh : (c : After-index) → was_taken (buffer_by_slots c.self.inside.nexts.items c.self.inside.slots.items c.self.inside.later.entries c.self.inside.known.keys) c.ticket-ticket.result.lane c.ticket-ticket.result.number ≡ false
 fresh c = ap (λ d. was_taken d c.ticket-ticket.result.lane c.ticket-ticket.result.number) c.self.view_is ∙ (sym c.was_taken.ensures ∙ c.if-was_taken.false)
 
 at : (c : After-index) → c.index.result.now ≡ get_or c.self.inside.nexts.items c.args.delivery.lane 0
@@ -68,4 +68,4 @@ invariant_of-self-in-Err c = rw (c.in-Err.ensures.err, same_keys c) c.self.invar
 
 pub returns-clause-unchanged : goal.returns-clause-unchanged
 returns-clause-unchanged c =
-    rw (← c.self.view_is) (λ i. buffer_of c.self.inside.nexts.items c.self.inside.slots.items (c.in-Err.ensures.err i) (same_keys c i))
+    rw (← c.self.view_is) (λ i. buffer_by_slots c.self.inside.nexts.items c.self.inside.slots.items (c.in-Err.ensures.err i) (same_keys c i))

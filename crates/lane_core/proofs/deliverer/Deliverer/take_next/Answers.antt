@@ -1,7 +1,7 @@
 use Rattle.std.proofs.Common.{◌≡◌, ◌<◌, ◌+◌, length, get_or, slice_set, ap, ◌∙◌, subst, arith}
 use Rattle.std.proofs.lemmas.Grind.{common_steps}
 use Rattle.lane_core.specs.declared.next_slot.NextSlot.TheVariants.{Missing, Here}
-use Rattle.lane_core.specs.NextSlots.{Advances, IsSlotOf, buffer_of, slot_at, is_here}
+use Rattle.lane_core.specs.NextSlots.{Advances, IsSlotOf, buffer_by_slots, slot_at, is_here}
 use Rattle.lane_core.proofs.BufferFacts.{gave, kept_next, known_same, others_same}
 use Rattle.lane_core.proofs.SlotFacts.{next_waits, own_parts}
 use Rattle.lane_core.proofs.ListFacts.{placed, set_same}
@@ -18,7 +18,7 @@ returns-in_err-delivery-clause-none c =
     let same : slice_set slots c.from-index.result c.take.new.self ≡ slots =
     (λ i. slice_set slots (c.from-index.ensures i) (c.in_err-delivery.ensures.none.1 i)) ∙ set_same slots c.args.lane c.index_mut.result.now (placed slots c.args.lane c.index_mut.result.now there (grind (arith, common_steps))) in
     rw c.from_residual.ensures
-    (rw (← c.self.view_is) (none, ap (λ hs. buffer_of c.self.inside.nexts.items hs c.self.inside.later.entries c.self.inside.known.keys) same))
+    (rw (← c.self.view_is) (none, ap (λ hs. buffer_by_slots c.self.inside.nexts.items hs c.self.inside.later.entries c.self.inside.known.keys) same))
 
 low_of : (c : After-self-3-1) → c.args.lane < length c.self.inside.nexts.items
 low_of c = rw (← c.self.view_is) at c.requires

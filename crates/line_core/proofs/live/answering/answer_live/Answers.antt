@@ -1,9 +1,9 @@
 use Rattle.std.proofs.Common.{inl}
-use Rattle.std.proofs.Common.{◌≡◌, ◌∙◌, None, ap, length, refl, sym, subst}
+use Rattle.std.proofs.Common.{None, ap, length, refl, subst, sym, ◌∙◌, ◌≡◌}
 use Rattle.hub_core.specs.declared.ended.Ended.TheVariants.{Done}
 use Rattle.wire_core.specs.Events.{was_read, was_written}
 use Rattle.wire_core.specs.Lines.{pieces_of}
-use Rattle.line_core.specs.live.Came.{HasCome, Keeps, Stands, Tells}
+use Rattle.line_core.specs.live.Came.{HasCome, KeepsPlaces, Stands, TellsReply}
 use Rattle.line_core.specs.live.Replies.{replies_to}
 use Rattle.line_core.specs.live.Text.{AnsweredAll, IsReply, line_meant}
 use Rattle.line_core.specs.live.Answering.{AnswersBy}
@@ -30,13 +30,13 @@ returns-in-Ok-serve_traffic-clause-lived g c =
     let st = subst (λ n. Stands n t.form given brought events p.lines p.stopped) count at.stands in
     let ends = c.ending-result.ensures in
     let to = tells_reply t.year t.form given brought c.served_by_place.ensures all.3 in
-    let L = Tells t.form given brought in
+    let L = TellsReply t.form given brought in
     let M = IsReply t.year t.form in
     let same : c.stopped.result ≡ p.stopped = c.stopped.ensures in
     let whole = λ (none : c.stopped.result ≡ None) (done : c.in-Ok-serve_traffic.ended ≡ Done).
     let last = finished p.lines p.places.items p.stopped (all.4 done).0 in
     let keeps = at.keeps (λ is. (let nothing = last.3 in let never : ⊥ = cc (nothing, is) in never)) in
-    let kept = subst (λ ps. Keeps (length p.lanes.items) t.form given brought events ps p.lines) last.2 keeps in
+    let kept = subst (λ ps. KeepsPlaces (length p.lanes.items) t.form given brought events ps p.lines) last.2 keeps in
     let answers = all_answered (length p.lanes.items) t.form given brought events p.lines kept last.1 last.0 in
     let both : AnsweredAll t.lanes t.form t.year events × g.W.Wire.at_end s.wire = ((subst (λ n. AnswersBy M (replies_to (line_meant n) (pieces_of (was_read events))) (was_written events)) count (answers_weaker L M to _ _ answers), st.ended last.0), came.6 last.0) in
     both in

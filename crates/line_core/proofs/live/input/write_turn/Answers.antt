@@ -1,7 +1,7 @@
 use Rattle.std.proofs.Common.{◌++◌, ◌∙◌, All, subst, sym}
 use Rattle.std.specs.List.{AllZip}
 use Rattle.wire_core.specs.Events.{writes_of}
-use Rattle.line_core.specs.live.Came.{IsReady, Says}
+use Rattle.line_core.specs.live.Came.{IsReady, TellsPlace}
 use Rattle.line_core.proofs.live.WireFacts.{all_ready, wrote_part, wrote_turn}
 use Rattle.line_core.proofs.live.input.write_turn.Goals as goal
 
@@ -16,7 +16,7 @@ pub returns-in-Err-clause-came : goal.returns-in-Err-clause-came
 returns-in-Err-clause-came g c = λ start events given brought did at even.
     let p = c.args.progress.now in
     let said = c.in-Ok.ensures in
-    let says = subst (λ ls. AllZip (Says c.args.form ls) p.places.items said.0) c.as_slice.ensures.value (subst (λ ps. AllZip (Says c.args.form c.as_slice.result.now) ps said.0) c.as_slice-2.ensures.value said.1) in
+    let says = subst (λ ls. AllZip (TellsPlace c.args.form ls) p.places.items said.0) c.as_slice.ensures.value (subst (λ ps. AllZip (TellsPlace c.args.form c.as_slice.result.now) ps said.0) c.as_slice-2.ensures.value said.1) in
     let w = c.in-Err.ensures.err start events did in
     (events ++ writes_of w.0, w.2, wrote_part c.args.form events p.lanes.items p.places.items p.lines p.stopped given brought said.0 w.0 w.1 at c.requires.going says (w.3 ∙ c.as_bytes.ensures.value ∙ said.2))
 
@@ -24,7 +24,7 @@ pub returns-in-Ok-write_all-clause-came : goal.returns-in-Ok-write_all-clause-ca
 returns-in-Ok-write_all-clause-came g c = λ start events given brought did at even.
     let p = c.args.progress.now in
     let said = c.in-Ok.ensures in
-    let says = subst (λ ls. AllZip (Says c.args.form ls) p.places.items said.0) c.as_slice.ensures.value (subst (λ ps. AllZip (Says c.args.form c.as_slice.result.now) ps said.0) c.as_slice-2.ensures.value said.1) in
+    let says = subst (λ ls. AllZip (TellsPlace c.args.form ls) p.places.items said.0) c.as_slice.ensures.value (subst (λ ps. AllZip (TellsPlace c.args.form c.as_slice.result.now) ps said.0) c.as_slice-2.ensures.value said.1) in
     let w = c.in-Ok-write_all.ensures.ok start events did in (
       events ++ writes_of w.0,
       w.1,

@@ -1,7 +1,7 @@
 use Rattle.std.proofs.Common.{◌≡◌, ◌≤◌, ◌<◌, ◌+◌, ◌∙◌, Some, ap, arith, get_or, length, refl, subst, sym}
 use Rattle.std.proofs.lemmas.Option.{get_or_from_slice_get, slice_get_read}
 use Rattle.std.proofs.lemmas.Result.{on_ok_weaker}
-use Rattle.line_core.specs.live.Came.{IsReady, Says}
+use Rattle.line_core.specs.live.Came.{IsReady, TellsPlace}
 use Rattle.line_core.specs.answers.Reports.{numbered_line}
 use Rattle.line_core.specs.declared.live.waiting.Waiting.{Waiting}
 use Rattle.line_core.proofs.live.place.push_place.Goals as goal
@@ -26,7 +26,7 @@ returns-in-Row c =
     on_ok_weaker c.push_line.result (λ p. (
       numbered_line c.args.form c.in-Row.lane c.in-Row.number c.answer.result,
       p,
-      subst (λ place. Says c.args.form c.args.lanes.now place (numbered_line c.args.form c.in-Row.lane c.in-Row.number c.answer.result)) (sym c.in-Row.is)
+      subst (λ place. TellsPlace c.args.form c.args.lanes.now place (numbered_line c.args.form c.in-Row.lane c.in-Row.number c.answer.result)) (sym c.in-Row.is)
           (v, x, c.answer.result, r.2 ∙ ap Some (sym same), low.0, slice_get_read v.deliveries.items (length v.deliveries.items) _ x refl (omega (arith, low.0, low.1)) c.index.ensures, c.answer.ensures, refl),
     ))
     c.push_line.ensures

@@ -4,7 +4,7 @@ use Rattle.std.specs.Io.KnownBytes.{Appends}
 use Rattle.std.proofs.lemmas.Slice.Zip.{AllZip-long}
 use Rattle.sheet_core.specs.Grids.{Cells, IsGrid}
 use Rattle.sheet_core.specs.Labels.{IsDrawn}
-use Rattle.sheet_core.specs.Lines.{IsBand, rows_of}
+use Rattle.sheet_core.specs.Lines.{IsBand, repeated_bytes}
 use Rattle.digits_core.specs.Bytes.{TookFront}
 use Rattle.sheet_core.proofs.pbm.FileFacts.{on_err}
 use Rattle.sheet_core.proofs.pbm.ImageFacts.{err_is}
@@ -48,7 +48,7 @@ returns-clause-ok g c = λ symbols h.
     let line = c.draw_line.ensures symbols h in
     let light = c.fill.ensures.after (λ y same. same) ∙ ap (λ n. replicate {A = ℕ} n 0) c.requires.long in
     let dark = c.fill-2.ensures.after (λ y same. same) ∙ ap (λ n. replicate {A = ℕ} n 0) line.long in
-    on_ok c.write_rows-3.result (Appends d e (rows_of c.grid.inside.module_dots c.fill-2.new.self)) ((bytes : List ℕ) × IsBand k symbols bytes × Appends a e bytes)
+    on_ok c.write_rows-3.result (Appends d e (repeated_bytes c.grid.inside.module_dots c.fill-2.new.self)) ((bytes : List ℕ) × IsBand k symbols bytes × Appends a e bytes)
     (λ last. band_out k symbols a b d e c.fill.new.self c.draw_line.new.line c.fill-2.new.self _ _ line light dark (ap (λ (g : Cells). g.dots) c.grid.view_is) (ap bar_rows c.grid.view_is)
     c.in_ok-write_rows.ensures.ok c.in_ok-write_rows-2.ensures.ok last)
     c.write_rows-3.ensures.ok
@@ -63,7 +63,7 @@ returns-clause-err g c = λ symbols h.
     let line = c.draw_line.ensures symbols h in
     let light = c.fill.ensures.after (λ y same. same) ∙ ap (λ n. replicate {A = ℕ} n 0) c.requires.long in
     let dark = c.fill-2.ensures.after (λ y same. same) ∙ ap (λ n. replicate {A = ℕ} n 0) line.long in
-    on_err c.write_rows-3.result (TookFront d e (rows_of c.grid.inside.module_dots c.fill-2.new.self)) (BandFront k symbols a e)
+    on_err c.write_rows-3.result (TookFront d e (repeated_bytes c.grid.inside.module_dots c.fill-2.new.self)) (BandFront k symbols a e)
     (λ front. band_below k symbols a b d e c.fill.new.self c.draw_line.new.line c.fill-2.new.self _ _ line light dark (ap (λ (g : Cells). g.dots) c.grid.view_is) (ap bar_rows c.grid.view_is)
     c.in_ok-write_rows.ensures.ok c.in_ok-write_rows-2.ensures.ok front)
     c.write_rows-3.ensures.err

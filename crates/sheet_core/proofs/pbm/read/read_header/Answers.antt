@@ -1,6 +1,6 @@
 use Rattle.std.proofs.Common.{rules, ◌≡◌, sym, subst, ◌∙◌, arith}
 use Rattle.sheet_core.specs.declared.fault.PbmFault.TheVariants.{ReadFault}
-use Rattle.sheet_core.specs.pbm.Images.{Reads}
+use Rattle.sheet_core.specs.pbm.Images.{ReadsBytes}
 use Rattle.sheet_core.proofs.pbm.ImageFacts.{err_is}
 use Rattle.sheet_core.proofs.pbm.HeaderFacts.{At, at_none, at_some, begins, broken, done, ended, goes, refused, told, too_long}
 use Rattle.sheet_core.proofs.pbm.read.read_header.Goals as goal
@@ -17,7 +17,7 @@ returns-in-Refused-clause-read g c = refused _ _ _ _ _ _ _ c.loop-k.invariant.re
 pub returns-in_err-next-clause-read : goal.returns-in_err-next-clause-read
 returns-in_err-next-clause-read g c =
     let e = c.from_residual.ensures in
-    subst (Reads (told c.args.first) (g.R.Source.left c.args.reader.now) (g.R.Source.left c.next.new.reader)) (sym (err_is c.from_residual.result ReadFault e.0 e.1))
+    subst (ReadsBytes (told c.args.first) (g.R.Source.left c.args.reader.now) (g.R.Source.left c.next.new.reader)) (sym (err_is c.from_residual.result ReadFault e.0 e.1))
     (broken _ _ _ _ _ _ _ _ c.loop-k.invariant.read c.loop-k-test.true (sym c.in-Goes.ensures.value) c.in_err-next.ensures.byte.1)
 
 pub returns-in-None-clause-read : goal.returns-in-None-clause-read

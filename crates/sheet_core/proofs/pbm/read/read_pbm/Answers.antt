@@ -3,7 +3,7 @@ use Rattle.std.specs.Prelude.{IfErr}
 use Rattle.std.specs.Result.{is_ok}
 use Rattle.sheet_core.specs.Bitmaps.{Bitmap}
 use Rattle.sheet_core.specs.declared.fault.PbmFault.TheVariants.{ReadFault}
-use Rattle.sheet_core.specs.pbm.Images.{Reads, images_of}
+use Rattle.sheet_core.specs.pbm.Images.{ReadsBytes, images_of}
 use Rattle.sheet_core.proofs.pbm.FileFacts.{Had, broken, ended, had_more, had_none, image_refused, not_kept, too_many}
 use Rattle.sheet_core.proofs.pbm.HeaderFacts.{at_none, at_some}
 use Rattle.sheet_core.proofs.pbm.ImageFacts.{err_is, image_wider}
@@ -16,7 +16,7 @@ pub returns-in_err-first-clause-err : goal.returns-in_err-first-clause-err
 returns-in_err-first-clause-err g c =
     let e = c.from_residual.ensures in
     let r = broken _ _ _ _ _ c.loop.invariant.had c.in_err-first.ensures.byte.1 in
-    subst (λ r. IfErr r (λ fault. Reads images_of (g.R.Source.left c.args.reader.now) (g.R.Source.left c.next.new.reader) (Err fault))) (sym (err_is c.from_residual.result ReadFault e.0 e.1)) r
+    subst (λ r. IfErr r (λ fault. ReadsBytes images_of (g.R.Source.left c.args.reader.now) (g.R.Source.left c.next.new.reader) (Err fault))) (sym (err_is c.from_residual.result ReadFault e.0 e.1)) r
 
 pub returns-in_default-clause-ok : goal.returns-in_default-clause-ok
 returns-in_default-clause-ok g c =
@@ -29,7 +29,7 @@ returns-in_err-sheet-clause-err g c =
     let first = at_some _ _ _ _ c.in-Some.is c.in_ok-first.ensures.byte.1 in
     let fault = c.in_err-sheet.field-0.0 in
     let r = image_refused _ _ _ _ _ _ _ fault c.loop.invariant.had c.loop-test.true first c.in_err-sheet.ensures.read in
-    subst (λ r. IfErr r (λ fault. Reads images_of (g.R.Source.left c.args.reader.now) (g.R.Source.left c.read_image.new.reader) (Err fault))) (sym (err_is c.from_residual-in_err-sheet.result fault e.0 e.1)) r
+    subst (λ r. IfErr r (λ fault. ReadsBytes images_of (g.R.Source.left c.args.reader.now) (g.R.Source.left c.read_image.new.reader) (Err fault))) (sym (err_is c.from_residual-in_err-sheet.result fault e.0 e.1)) r
 
 pub returns-then-is_err-clause-err : goal.returns-then-is_err-clause-err
 returns-then-is_err-clause-err g c =
@@ -53,7 +53,7 @@ pub returns-in_err-next-clause-err : goal.returns-in_err-next-clause-err
 returns-in_err-next-clause-err g c =
     let e = c.from_residual-in_err-next.ensures in
     let r = broken _ _ _ _ _ c.loop.invariant.had c.in_err-next.ensures.byte.1 in
-    subst (λ r. IfErr r (λ fault. Reads images_of (g.R.Source.left c.args.reader.now) (g.R.Source.left c.next-2.new.reader) (Err fault))) (sym (err_is c.from_residual-in_err-next.result ReadFault e.0 e.1)) r
+    subst (λ r. IfErr r (λ fault. ReadsBytes images_of (g.R.Source.left c.args.reader.now) (g.R.Source.left c.next-2.new.reader) (Err fault))) (sym (err_is c.from_residual-in_err-next.result ReadFault e.0 e.1)) r
 
 pub returns-in-None-clause-ok : goal.returns-in-None-clause-ok
 returns-in-None-clause-ok g c =

@@ -1,14 +1,14 @@
 use Rattle.std.proofs.Common.{◌≡◌, Bool, List, ℕ}
 use Rattle.lane_core.specs.declared.job.Plain.{Plain}
 use Rattle.wire_core.specs.Events.{Event}
-use Rattle.line_core.specs.live.Came.{IsAt}
+use Rattle.line_core.specs.live.Came.{IsProgressAt}
 use Rattle.line_core.specs.live.Stops.{TellsFaults}
 use Rattle.element_core.specs.declared.form.Form.{Form}
 use Rattle.line_core.proofs.live.input.LiveTraffic.next.Given as goal
 
 abbrev pub invariant-lines : goal.invariant-lines
 invariant-lines g l = record {
-  came : (f : Form) (events : List Event) (given : List (List (List ℕ))) (brought : List (List Plain)) → IsAt f events l.fn.self.progress given brought → IsAt f events l.self.progress given brought;
+  came : (f : Form) (events : List Event) (given : List (List (List ℕ))) (brought : List (List Plain)) → IsProgressAt f events l.fn.self.progress given brought → IsProgressAt f events l.self.progress given brought;
   wire : l.self.wire ≡ l.fn.self.wire;
   form : l.self.form ≡ l.fn.self.form;
   ended : l.self.progress.lines.has_ended ≡ l.fn.self.progress.lines.has_ended;
