@@ -7,7 +7,7 @@ use Rattle.code128_code.specs.declared.code_set.CodeSet.{CodeSet}
 use Rattle.code128_code.specs.declared.code_set.CodeSet.TheVariants.{B, C}
 use Rattle.code128_code.specs.declared.meanings.Meaning.TheVariants.{Byte, Digits}
 use Rattle.code128_code.specs.Coding.{digits_ahead, is_coded_byte, pair}
-use Rattle.code128_code.specs.Steps.{coded_on, has_even_run}
+use Rattle.code128_code.specs.inner.Steps.{coded_on, has_even_run}
 use Rattle.code128_code.specs.Texts.{before, meaning, text_from, two_digits}
 use Rattle.code128_code.proofs.SaidFacts.{plain_step}
 

@@ -7,7 +7,7 @@ use Rattle.std.proofs.Math.Bool.{or-true}
 use Rattle.element_core.specs.Elements.{begins_with_digits, between, is_character, is_digit, is_printable, is_text_byte}
 use Rattle.code128_code.specs.Characters.{fnc1}
 use Rattle.code128_code.specs.Coding.{data_values, digits_ahead, is_coded_byte, pair}
-use Rattle.code128_code.specs.Steps.{coded_on, has_even_run}
+use Rattle.code128_code.specs.inner.Steps.{coded_on, has_even_run}
 use Rattle.code128_code.specs.Symbols.{AreValues}
 use Rattle.code128_code.proofs.CodedFacts.{digit_is, on_is_short, run_is, two}
 use Rattle.code128_code.proofs.RunFacts.{coded_is}

@@ -3,7 +3,7 @@ use Rattle.std.proofs.Common.{◌≡◌, ℕ, ◌+◌, ◌-◌, ◌<◌, ◌≤�
 use Rattle.std.proofs.lemmas.Bool.{cases_Bool, and_parts, leb-false, leb-true, le-leb, lt-leb, ne_eqb}
 use Rattle.element_core.specs.Elements.{is_digit}
 use Rattle.code128_code.specs.Coding.{digits_ahead, pair}
-use Rattle.code128_code.specs.Steps.{begins_pair, change, coded_on, has_even_run}
+use Rattle.code128_code.specs.inner.Steps.{begins_pair, change, coded_on, has_even_run}
 use Rattle.code128_code.proofs.CodedFacts.{two}
 
 -- one more value

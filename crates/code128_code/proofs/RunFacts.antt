@@ -8,7 +8,7 @@ use Rattle.code128_code.specs.Characters.{code_b, code_c, fnc1}
 use Rattle.code128_code.specs.Coding.{Run, coded, coded_runs, data_values, digits_ahead, letter, pair, runs_of, with_digit}
 use Rattle.code128_code.specs.Coding.Run.{Digits, Other}
 use Rattle.code128_code.specs.Laws.{CodedIsSaid, CodedIsShort}
-use Rattle.code128_code.specs.Steps.{coded_on, has_even_run}
+use Rattle.code128_code.specs.inner.Steps.{coded_on, has_even_run}
 use Rattle.code128_code.specs.Texts.{text_from}
 use Rattle.code128_code.proofs.CodedFacts.{on_is_said, on_is_short, set_by, two}
 

@@ -8,7 +8,7 @@ use Rattle.code128_code.specs.declared.fault.Code128Fault.TheVariants as faults
 use Rattle.code128_code.specs.declared.meanings.Meaning.{Meaning}
 use Rattle.code128_code.specs.declared.meanings.Meaning.TheVariants.{Byte, Digits, Latch, Shift, Function}
 use Rattle.code128_code.specs.Laws.{SaidIsShort}
-use Rattle.code128_code.specs.Steps.{text_by}
+use Rattle.code128_code.specs.inner.Steps.{text_by}
 use Rattle.code128_code.specs.Texts.{before, meaning, says, shifted_byte, two_digits}
 
 -- bytes before bytes before a text

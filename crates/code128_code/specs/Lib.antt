@@ -4,6 +4,6 @@ pub mod Characters
 pub mod Coding
 pub mod Faults
 pub mod Laws
-pub mod Steps
 pub mod Symbols
 pub mod Texts
+pub mod inner

@@ -3,7 +3,7 @@ ghost use Rattle.std.specs.Prelude.{◌≡◌, ◌↔◌, ◌≤◌, ◌<◌, �
 ghost use Rattle.std.specs.List.{list_all};
 ghost use Rattle.arrayvec.specs.ArrayVec.{array_vec_len};
 ghost use Rattle.code128_code.specs.Coding.{data_values, digits_ahead, is_coded_byte, pair};
-ghost use Rattle.code128_code.specs.Steps.{all_coded, begins_pair, change, has_even_run};
+ghost use Rattle.code128_code.specs.inner.Steps.{all_coded, begins_pair, change, has_even_run};
 
 use crate::meanings::SEPARATOR;
 use crate::special_values::{CODE_B, CODE_C, FNC1};

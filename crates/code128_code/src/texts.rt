@@ -1,7 +1,7 @@
 //! The text of the values of a symbol.
 ghost use Rattle.std.specs.Prelude.{◌≡◌, ◌↔◌, ◌+◌, ◌<◌, ◌≤◌, ◌∷◌, ℕ, List, true, false, IfErr, IfOk, IsTrue, OnOk, Err, Ok, length, slice_get, Some};
 ghost use Rattle.arrayvec.specs.ArrayVec.{array_vec_len};
-ghost use Rattle.code128_code.specs.Steps.{all_said};
+ghost use Rattle.code128_code.specs.inner.Steps.{all_said};
 ghost use Rattle.code128_code.specs.Texts.{set_of, shifted_byte, symbol_text, text_from};
 
 use crate::check::check_character;

@@ -6,7 +6,8 @@ use Rattle.std.proofs.lemmas.Bool.{and_parts, cases_lt, eq-eqb}
 use Rattle.std.proofs.Common.{eqb-true}
 use Rattle.std.specs.Prelude.{if◌then◌else◌, nat_le, slice_index}
 use Rattle.digits_core.specs.Digits.{AreAsciiDigits, IsChecked, digits_of, padded}
-use Rattle.digits_core.specs.Upce.{IsFirstSix, IsFirstUpceOf, IsSix, IsUpceOf, upce_expanded, upce_line}
+use Rattle.digits_core.specs.inner.Upce.{IsFirstSix, IsSix}
+use Rattle.digits_core.specs.Upce.{IsFirstUpceOf, IsUpceOf, upce_expanded, upce_line}
 use Rattle.digits_core.proofs.DigitTexts.{digit_at}
 use Rattle.digits_core.proofs.Lines.{first_line, second_line, third_line, fourth_line, line_of_first, line_of_second, line_of_third, line_of_fourth}
 

@@ -1,16 +1,12 @@
 -- Digits, as numbers below ten, and the GS1 check digit (GS1 General Specifications, section 7.9).
-use Rattle.std.specs.Prelude.{◌≡◌, ℕ, ◌+◌, ◌-◌, ◌*◌, ◌%◌, ◌<◌, ◌≤◌, List, [], ◌∷◌, ◌++◌, length, map, replicate, Bool, nat_lt}
-use Rattle.std.specs.List.{AllByRecursion, list_all}
+use Rattle.std.specs.Prelude.{◌≡◌, ℕ, ◌+◌, ◌-◌, ◌*◌, ◌%◌, ◌<◌, ◌≤◌, List, [], ◌∷◌, ◌++◌, length, map, replicate}
+use Rattle.std.specs.List.{AllByRecursion}
 use Rattle.std.proofs.Common.{refl, ap₂}
 use Rattle.std.proofs.Math.Nat.{sub-add_cancel}
 
 -- each is a digit
 abbrev pub AreDigits : List ℕ → Type 0
 AreDigits ds = AllByRecursion (λ d. d < 10) ds
-
--- the same, as a test
-abbrev pub are_digits : List ℕ → Bool
-are_digits ds = list_all (λ d. nat_lt d 10) ds
 
 -- the text is ASCII digits
 abbrev pub AreAsciiDigits : List ℕ → Type 0

@@ -7,3 +7,4 @@ pub mod Laws
 pub mod Payloads
 pub mod Refusals
 pub mod Upce
+pub mod inner

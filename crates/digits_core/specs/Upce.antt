@@ -28,14 +28,3 @@ pub record IsUpceOf (six : List ℕ) (check : ℕ) (gtin : List ℕ) : Type 0 wh
 pub record IsFirstUpceOf (six : List ℕ) (check : ℕ) (gtin : List ℕ) : Type 0 where
   pub spelling : IsUpceOf six check gtin
   pub first : (others : List ℕ) (last : ℕ) → IsUpceOf others last gtin → upce_line six ≤ upce_line others
-
--- six digits stand for these twelve, the last of which is the check digit
-pub record IsSix (six twelve : List ℕ) : Type 0 where
-  pub six_digits : length six ≡ 6
-  pub valid : AreDigits six
-  pub number : twelve ≡ upce_expanded six (slice_index twelve 11)
-
--- and no six digits that stand for them are by an earlier line
-pub record IsFirstSix (six twelve : List ℕ) : Type 0 where
-  pub spelling : IsSix six twelve
-  pub first : (others : List ℕ) → IsSix others twelve → upce_line six ≤ upce_line others

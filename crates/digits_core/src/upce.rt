@@ -2,7 +2,8 @@
 ghost use Rattle.std.specs.Prelude.{◌≡◌, ◌-◌, ◌<◌, ◌≤◌, ◌++◌, ◌∷◌, ◌==◌, ◌↔◌, true, ℕ, List, [], IfNone, IfSome, IsTrue, length, slice_index, slice_range};
 ghost use Rattle.std.specs.List.{list_all};
 ghost use Rattle.digits_core.specs.Digits.{AreAsciiDigits, IsChecked, digits_of};
-ghost use Rattle.digits_core.specs.Upce.{IsFirstSix, IsFirstUpceOf, IsSix, IsUpceOf, upce_expanded};
+ghost use Rattle.digits_core.specs.inner.Upce.{IsFirstSix, IsSix};
+ghost use Rattle.digits_core.specs.Upce.{IsFirstUpceOf, IsUpceOf, upce_expanded};
 
 use crate::gtin::{Gtin, are_zeros};
 

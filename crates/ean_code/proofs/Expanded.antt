@@ -3,7 +3,7 @@ use Rattle.std.proofs.Common.{◌≡◌, ℕ, ◌-◌, List, [], ◌∷◌, ◌+
 use Rattle.std.proofs.lemmas.List.{length-append, length-map, length-take, take_at}
 use Rattle.digits_core.specs.Digits.{IsChecked, digits_of, padded}
 use Rattle.digits_core.specs.Upce.{IsUpceOf, upce_expanded}
-use Rattle.ean_code.specs.Parts.{IsTextOf}
+use Rattle.ean_code.specs.inner.Parts.{IsTextOf}
 use Rattle.ean_code.specs.Spelling.{IsGtinOf}
 use Rattle.ean_code.specs.Symbols.{IsNumberSymbol, widths_of}
 use Rattle.ean_code.specs.Symbols.Kind.{UpcE}

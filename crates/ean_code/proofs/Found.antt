@@ -5,8 +5,9 @@ use Rattle.std.proofs.lemmas.List.{length-take, length-drop, length-map, length-
 use Rattle.ean_code.specs.declared.number_sets.Character.{Character}
 use Rattle.ean_code.specs.declared.number_sets.NumberSet.{NumberSet}
 use Rattle.ean_code.specs.declared.number_sets.NumberSet.TheVariants.{A}
-use Rattle.ean_code.specs.NumberSets.{character_digits, character_sets, characters_in, ean8_row, ean13_rows, is_a, left_part, left_widths, right_part, row_of, upce_rows}
-use Rattle.ean_code.specs.Parts.{AreHalves, AreSix}
+use Rattle.ean_code.specs.inner.NumberSets.{character_digits, character_sets, is_a}
+use Rattle.ean_code.specs.NumberSets.{characters_in, ean8_row, ean13_rows, left_part, left_widths, right_part, row_of, upce_rows}
+use Rattle.ean_code.specs.inner.Parts.{AreHalves, AreSix}
 use Rattle.ean_code.specs.Symbols.{IsNumberSymbol, two_halves}
 use Rattle.ean_code.specs.Symbols.Kind.{Ean13, Ean8, UpcE}
 use Rattle.ean_code.proofs.Cells.{AllByRecursion-append, AllByRecursion-drop, AllByRecursion-take}

@@ -3,8 +3,9 @@ use Rattle.std.proofs.Common.{◌≡◌, ℕ, ◌*◌, true, List, [], ◌∷◌
 use Rattle.std.specs.List.{flat_map, AllByRecursion, list_all}
 use Rattle.std.proofs.lemmas.List.{length-map, take_at, drop_at}
 use Rattle.ean_code.specs.declared.number_sets.Character.{Character}
-use Rattle.ean_code.specs.NumberSets.{AreCharacters, character_digits, is_a, left_widths, right_widths, right_part}
-use Rattle.ean_code.specs.Parts.{AreFramed, AreFramedSix, AreHalves, AreSix}
+use Rattle.ean_code.specs.inner.NumberSets.{AreCharacters, character_digits, is_a}
+use Rattle.ean_code.specs.NumberSets.{left_widths, right_widths, right_part}
+use Rattle.ean_code.specs.inner.Parts.{AreFramed, AreFramedSix, AreHalves, AreSix}
 use Rattle.ean_code.specs.Symbols.{normal_guard, centre_guard, special_guard, two_halves}
 use Rattle.ean_code.specs.Widths.{AreWidths}
 use Rattle.ean_code.proofs.Cells.{length-cells}

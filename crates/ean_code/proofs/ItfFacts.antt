@@ -6,7 +6,7 @@ use Rattle.std.proofs.lemmas.List.{append-nil, append_assoc, get_or-map, length-
 use Rattle.std.proofs.lemmas.List.Concat.{flat_map-append}
 use Rattle.std.proofs.Math.Seq.{take-add}
 use Rattle.digits_core.specs.Digits.{AreAsciiDigits, digits_of, padded}
-use Rattle.ean_code.specs.Parts.{AreFramedPairs, IsTextOf}
+use Rattle.ean_code.specs.inner.Parts.{AreFramedPairs, IsTextOf}
 use Rattle.ean_code.specs.Symbols.{IsNumberSymbol}
 use Rattle.ean_code.specs.Symbols.Kind.{Itf14}
 use Rattle.ean_code.specs.TwoOfFive.{in_pairs, itf_start, itf_stop, pair_widths}

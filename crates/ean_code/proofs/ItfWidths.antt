@@ -5,7 +5,8 @@ use Rattle.std.proofs.lemmas.Bool.{and_parts, cases_eq, ne_eqb}
 use Rattle.std.proofs.lemmas.List.{length-append}
 use Rattle.digits_core.specs.Digits.{AreDigits}
 use Rattle.ean_code.specs.declared.two_of_five.TheConstants.{BY_WIDTHS}
-use Rattle.ean_code.specs.TwoOfFive.{AreTwoWidths, five_widths, in_pairs, in_turn, itf_start, itf_stop, itf_widths, packed_five, pair_widths}
+use Rattle.ean_code.specs.TwoOfFive.{AreTwoWidths, five_widths, in_pairs, in_turn, itf_start, itf_stop, itf_widths, pair_widths}
+use Rattle.ean_code.specs.inner.TwoOfFive.{packed_five}
 use Rattle.ean_code.specs.Widths.{AreModules, AreWidths}
 use Rattle.ean_code.proofs.Cells.{all_below-at, AllByRecursion-append, IsCode, length-cells}
 use Rattle.ean_code.proofs.PairFacts.{bars, digit_at_widths, length-five, spaces, split_pair}

@@ -10,7 +10,8 @@ use Rattle.digits_core.specs.Digits.{AreDigits}
 use Rattle.ean_code.specs.declared.number_sets.Character.{Character}
 use Rattle.ean_code.specs.declared.number_sets.NumberSet.{NumberSet}
 use Rattle.ean_code.specs.declared.number_sets.NumberSet.TheVariants.{A, B}
-use Rattle.ean_code.specs.NumberSets.{AreCharacters, character_digits, character_sets, characters_in, in_set, is_a, left_widths, right_widths, right_part}
+use Rattle.ean_code.specs.inner.NumberSets.{AreCharacters, character_digits, character_sets, is_a}
+use Rattle.ean_code.specs.NumberSets.{characters_in, in_set, left_widths, right_widths, right_part}
 use Rattle.ean_code.proofs.Cells.{cells, cells-flat_map, length-cells, cell_at}
 use Rattle.ean_code.proofs.Characters.{left_char, left_code}
 

@@ -5,7 +5,8 @@ use Rattle.ean_code.specs.declared.lookup.TheConstants.{CHARACTERS}
 use Rattle.ean_code.specs.declared.number_sets.Character.{Character}
 use Rattle.ean_code.specs.declared.number_sets.NumberSet.{NumberSet}
 use Rattle.ean_code.specs.declared.number_sets.NumberSet.TheVariants.{A, B}
-use Rattle.ean_code.specs.NumberSets.{character_of, in_set, is_a, left_widths}
+use Rattle.ean_code.specs.NumberSets.{character_of, in_set, left_widths}
+use Rattle.ean_code.specs.inner.NumberSets.{is_a}
 use Rattle.ean_code.specs.Widths.{AreWidths, packed_widths}
 use Rattle.ean_code.proofs.Cells.{all_below, all_below-at}
 use Rattle.ean_code.proofs.Characters.{same_set, same_set-true}

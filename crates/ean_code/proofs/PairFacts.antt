@@ -1,7 +1,8 @@
 -- The digits of Interleaved 2 of 5 by their widths, and pairs of them.
 use Rattle.std.proofs.Common.{◌≡◌, ◌≢◌, ℕ, ◌<◌, ◌==◌, List, [], ◌∷◌, length, refl, sym, ap, ◌∙◌, arith, eqb-true, get_or}
 use Rattle.ean_code.specs.declared.two_of_five.TheConstants.{BY_WIDTHS}
-use Rattle.ean_code.specs.TwoOfFive.{five_widths, in_turn, packed_five, pair_widths}
+use Rattle.ean_code.specs.TwoOfFive.{five_widths, in_turn, pair_widths}
+use Rattle.ean_code.specs.inner.TwoOfFive.{packed_five}
 use Rattle.ean_code.proofs.Cells.{all_below-at}
 use Rattle.ean_code.proofs.Tables.{IsTable, entry_found, number_at}
 

@@ -3,7 +3,8 @@ use Rattle.std.proofs.Common.{◌≡◌, ℕ, Bool, ◌&&◌, ◌<◌, ◌==◌,
 use Rattle.std.specs.List.{position_or_len}
 use Rattle.std.proofs.lemmas.Bool.{and_parts}
 use Rattle.ean_code.specs.declared.number_sets.NumberSet.{NumberSet}
-use Rattle.ean_code.specs.NumberSets.{ean13_rows, packed_sets, row_of, upce_rows}
+use Rattle.ean_code.specs.NumberSets.{ean13_rows, row_of, upce_rows}
+use Rattle.ean_code.specs.inner.NumberSets.{packed_sets}
 use Rattle.ean_code.proofs.Cells.{all_below, all_below-at}
 
 abbrev pub row_place : List (List NumberSet) → List NumberSet → ℕ

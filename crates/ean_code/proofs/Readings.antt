@@ -4,7 +4,8 @@ use Rattle.std.specs.List.{flat_map}
 use Rattle.std.proofs.lemmas.Bool.{and_parts}
 use Rattle.std.proofs.lemmas.List.{take-append-drop, length-take, length-drop, drop_more, drop_all}
 use Rattle.digits_core.specs.Digits.{AreDigits}
-use Rattle.ean_code.specs.NumberSets.{character_digits, character_sets, characters_in, left_part, right_part, ean8_row, ean13_rows, upce_rows, row_of}
+use Rattle.ean_code.specs.inner.NumberSets.{character_digits, character_sets}
+use Rattle.ean_code.specs.NumberSets.{characters_in, left_part, right_part, ean8_row, ean13_rows, upce_rows, row_of}
 use Rattle.ean_code.specs.TwoOfFive.{in_pairs, itf_stop, pair_widths}
 use Rattle.ean_code.specs.Symbols.{normal_guard, centre_guard, special_guard, Kind, IsNumberSymbol}
 use Rattle.ean_code.specs.Symbols.Kind.{Ean13, Ean8, UpcE, Itf14}

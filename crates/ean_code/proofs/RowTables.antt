@@ -4,7 +4,8 @@ use Rattle.ean_code.specs.declared.rows.TheConstants.{EAN13_DIGITS, UPCE_DIGITS}
 use Rattle.ean_code.specs.declared.number_sets.Character.{Character}
 use Rattle.ean_code.specs.declared.number_sets.NumberSet.{NumberSet}
 use Rattle.ean_code.specs.declared.number_sets.NumberSet.TheVariants.{A, B}
-use Rattle.ean_code.specs.NumberSets.{bit_of, character_sets, ean13_rows, packed_sets, row_of, upce_rows}
+use Rattle.ean_code.specs.inner.NumberSets.{bit_of, character_sets, packed_sets}
+use Rattle.ean_code.specs.NumberSets.{ean13_rows, row_of, upce_rows}
 use Rattle.ean_code.proofs.Tables.{IsTable, entry_found, none_found}
 
 abbrev pub row_key : List (List NumberSet) → ℕ → ℕ

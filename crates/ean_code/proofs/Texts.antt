@@ -2,7 +2,7 @@
 use Rattle.std.proofs.Common.{◌≡◌, ℕ, zero, suc, ◌+◌, ◌-◌, ◌%◌, List, [], ◌∷◌, ◌++◌, length, drop, replicate, refl, sym, ap, ap₂, subst, ◌∙◌, arith}
 use Rattle.std.proofs.lemmas.List.{append_assoc, drop_at, length-replicate, map-append}
 use Rattle.digits_core.specs.Digits.{AreDigits, AreAsciiDigits, IsChecked, ascii_of, digits_of, padded, weighted}
-use Rattle.ean_code.specs.Parts.{IsTextOf}
+use Rattle.ean_code.specs.inner.Parts.{IsTextOf}
 use Rattle.ean_code.specs.Symbols.{Kind, IsNumberSymbol}
 
 pub ascii_valid : (ds : List ℕ) → AreDigits ds → AreAsciiDigits (ascii_of ds)

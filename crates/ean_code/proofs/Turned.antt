@@ -6,7 +6,8 @@ use Rattle.digits_core.specs.Digits.{AreDigits}
 use Rattle.ean_code.specs.declared.number_sets.Character.{Character}
 use Rattle.ean_code.specs.declared.number_sets.NumberSet.{NumberSet}
 use Rattle.ean_code.specs.declared.number_sets.NumberSet.TheVariants.{A, B}
-use Rattle.ean_code.specs.NumberSets.{AreCharacters, character_sets, in_set, left_widths, right_widths, left_part, right_part, ean8_row, ean13_rows, row_of}
+use Rattle.ean_code.specs.inner.NumberSets.{AreCharacters, character_sets}
+use Rattle.ean_code.specs.NumberSets.{in_set, left_widths, right_widths, left_part, right_part, ean8_row, ean13_rows, row_of}
 use Rattle.ean_code.specs.Symbols.{normal_guard, centre_guard, IsNumberSymbol}
 use Rattle.ean_code.specs.Symbols.Kind.{Ean13, Ean8}
 use Rattle.ean_code.proofs.Cells.{all_below-at, cells, cells-flat_map, AllByRecursion-take, AllByRecursion-drop, AllByRecursion-reverse, reverse-flat_map, flat_map-along, map-along, same, same-true}

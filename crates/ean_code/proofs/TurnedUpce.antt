@@ -8,7 +8,8 @@ use Rattle.digits_core.specs.Digits.{AreDigits}
 use Rattle.ean_code.specs.declared.number_sets.Character.{Character}
 use Rattle.ean_code.specs.declared.number_sets.NumberSet.{NumberSet}
 use Rattle.ean_code.specs.declared.number_sets.NumberSet.TheVariants.{A, B}
-use Rattle.ean_code.specs.NumberSets.{AreCharacters, character_sets, characters_in, in_set, is_a, left_widths, upce_rows, row_of}
+use Rattle.ean_code.specs.inner.NumberSets.{AreCharacters, character_sets, is_a}
+use Rattle.ean_code.specs.NumberSets.{characters_in, in_set, left_widths, upce_rows, row_of}
 use Rattle.ean_code.specs.Symbols.{normal_guard, special_guard, IsNumberSymbol}
 use Rattle.ean_code.specs.Symbols.Kind.{UpcE}
 use Rattle.ean_code.proofs.Cells.{all_below, all_below-at, AllByRecursion-take, AllByRecursion-reverse, reverse-flat_map, same, same-true}

@@ -1,6 +1,6 @@
 -- The characters of EAN and UPC symbols, and the number sets that they are drawn in (ISO/IEC 15420, symbol character encodation).
-use Rattle.std.specs.Prelude.{ℕ, ◌+◌, ◌*◌, ◌<◌, Bool, true, false, List, [], ◌∷◌, map, slice_index_or, if◌then◌else◌, ◌==◌, codes}
-use Rattle.std.specs.List.{flat_map, fold, zip, AllByRecursion}
+use Rattle.std.specs.Prelude.{ℕ, Bool, List, [], ◌∷◌, map, slice_index_or, if◌then◌else◌, ◌==◌, codes}
+use Rattle.std.specs.List.{flat_map, zip}
 use Rattle.ean_code.specs.declared.number_sets.Character.{Character}
 use Rattle.ean_code.specs.declared.number_sets.NumberSet.{NumberSet}
 use Rattle.ean_code.specs.declared.number_sets.NumberSet.TheVariants.{A, B}
@@ -42,35 +42,9 @@ set_b_or_a of_b = if of_b then B else A
 abbrev pub character_of : Bool × ℕ → Character
 character_of (of_b, d) = in_set (set_b_or_a of_b) d
 
--- each has a digit 0 to 9
-abbrev pub AreCharacters : List Character → Type 0
-AreCharacters cs = AllByRecursion (λ (c : Character). c.digit < 10) cs
-
--- the digits of characters
-abbrev pub character_digits : List Character → List ℕ
-character_digits cs = map (λ c. c.digit) cs
-
--- the number sets of characters
-abbrev pub character_sets : List Character → List NumberSet
-character_sets cs = map (λ c. c.set) cs
-
 -- digits as characters, each in the number set at its place
 abbrev pub characters_in : List NumberSet → List ℕ → List Character
 characters_in row ds = map (λ (c : NumberSet × ℕ). in_set c.0 c.1) (zip row ds)
-
--- whether it is number set A
-abbrev pub is_a : NumberSet → Bool
-is_a A = true
-is_a B = false
-
--- a number set as a bit
-abbrev pub bit_of : NumberSet → ℕ
-bit_of A = 0
-bit_of B = 1
-
--- number sets as one number, a bit each, the first highest
-abbrev pub packed_sets : List NumberSet → ℕ
-packed_sets sets = fold (λ n s. 2 * n + bit_of s) 0 sets
 
 -- the number sets that letters name: A, or else B
 abbrev pub sets_in : List ℕ → List NumberSet

@@ -1,6 +1,6 @@
 -- The GTIN of a symbol, and what a reader answers.
 use Rattle.std.specs.Prelude.{◌≡◌, ℕ, List, [], ◌∷◌, ◌++◌, slice_index, take}
-use Rattle.digits_core.specs.Digits.{IsChecked, digits_of, padded}
+use Rattle.digits_core.specs.Digits.{IsChecked, padded}
 use Rattle.digits_core.specs.Upce.{IsFirstUpceOf, upce_expanded}
 use Rattle.ean_code.specs.Symbols.{Kind, IsNumberSymbol}
 use Rattle.ean_code.specs.Symbols.Kind.{Ean13, Ean8, UpcE, Itf14}
@@ -13,12 +13,6 @@ IsGtinOf Ean13 digits gtin = gtin ≡ padded digits
 IsGtinOf Ean8 digits gtin = gtin ≡ padded digits
 IsGtinOf UpcE digits gtin = gtin ≡ padded (upce_expanded (take 6 digits) (slice_index digits 6))
 IsGtinOf Itf14 digits gtin = gtin ≡ padded digits
-
--- a text of ASCII digits spells this: its digits are not checked; or they are, and this is their GTIN
-abbrev pub TextSpells : List ℕ → Spelled → Type 0
-TextSpells text NoPattern = ⊥
-TextSpells text BadCheck = IsChecked (digits_of text) → ⊥
-TextSpells text (Found gtin) = (gtin ≡ padded (digits_of text)) × IsChecked gtin
 
 -- no digits have this symbol; or some have and no GTIN stands for them; or they stand for this GTIN
 abbrev pub IsSpelled : Kind → List ℕ → Spelled → Type 0

@@ -1,7 +1,7 @@
 -- Interleaved 2 of 5, in which ITF-14 is drawn (ISO/IEC 16390, symbol character encodation; GS1 General Specifications, section 5.3). A narrow
 -- element is one module here and a wide one three; of five elements of a digit two are wide.
-use Rattle.std.specs.Prelude.{◌≡◌, ℕ, ◌+◌, ◌*◌, ◌/◌, ◌%◌, ◌⊎◌, List, [], ◌∷◌, ◌++◌, slice_index_or}
-use Rattle.std.specs.List.{flat_map, fold, zip, AllByRecursion}
+use Rattle.std.specs.Prelude.{◌≡◌, ℕ, ◌⊎◌, List, [], ◌∷◌, ◌++◌, slice_index_or}
+use Rattle.std.specs.List.{flat_map, zip, AllByRecursion}
 
 -- the five widths of the digits 0 to 9, in bars as in spaces
 abbrev pub two_of_five : List (List ℕ)
@@ -42,7 +42,3 @@ itf_widths ds = itf_start ++ (flat_map pair_widths (in_pairs ds) ++ itf_stop)
 -- each is narrow or wide
 abbrev pub AreTwoWidths : List ℕ → Type 0
 AreTwoWidths widths = AllByRecursion (λ w. (w ≡ 1) ⊎ (w ≡ 3)) widths
-
--- five widths as one number: a bit each, set where it is wide, the first highest
-abbrev pub packed_five : List ℕ → ℕ
-packed_five widths = fold (λ n w. 2 * n + w / 2 % 2) 0 widths

@@ -3,7 +3,7 @@ ghost use Rattle.std.specs.Prelude.{◌≡◌, ◌+◌, ◌*◌, ◌≤◌, ◌+
 ghost use Rattle.std.specs.List.{flat_map};
 ghost use Rattle.arrayvec.specs.ArrayVec.{array_vec_len};
 ghost use Rattle.digits_core.specs.Digits.{AreAsciiDigits, digits_of};
-ghost use Rattle.ean_code.specs.Parts.{AreFramedPairs, IsTextOf};
+ghost use Rattle.ean_code.specs.inner.Parts.{AreFramedPairs, IsTextOf};
 ghost use Rattle.ean_code.specs.Spelling.{IsGtinSymbol, IsSpelled};
 ghost use Rattle.ean_code.specs.Symbols.{IsNumberSymbol, widths_of};
 ghost use Rattle.ean_code.specs.Symbols.Kind.{Itf14};

@@ -3,7 +3,8 @@
 ghost use Rattle.std.specs.Prelude.{◌≡◌, ◌≢◌, ◌<◌, ◌≤◌, ◌%◌, List, IfNone, IfSome, length};
 ghost use Rattle.std.specs.List.{flat_map};
 ghost use Rattle.ean_code.specs.Widths.{AreWidths};
-ghost use Rattle.ean_code.specs.NumberSets.{AreCharacters, bit_of, is_a, left_widths, set_b_or_a};
+ghost use Rattle.ean_code.specs.inner.NumberSets.{AreCharacters, bit_of, is_a};
+ghost use Rattle.ean_code.specs.NumberSets.{left_widths, set_b_or_a};
 
 use crate::lookup::character;
 use arrayvec::ArrayVec;

@@ -1,8 +1,8 @@
 //! Tells the parts of symbols apart: guard patterns and characters.
 ghost use Rattle.std.specs.Prelude.{◌≡◌, ◌↔◌, ◌≤◌, ℕ, List, IfNone, IfSome, IsTrue, length, replicate};
 ghost use Rattle.std.specs.List.{list_all};
-ghost use Rattle.ean_code.specs.NumberSets.{character_digits, is_a};
-ghost use Rattle.ean_code.specs.Parts.{AreFramed, AreFramedSix, AreHalves, AreSix};
+ghost use Rattle.ean_code.specs.inner.NumberSets.{character_digits, is_a};
+ghost use Rattle.ean_code.specs.inner.Parts.{AreFramed, AreFramedSix, AreHalves, AreSix};
 ghost use Rattle.ean_code.specs.Widths.{AreWidths};
 
 use crate::number_sets::{Character, characters};

@@ -3,9 +3,10 @@ ghost use Rattle.std.specs.Prelude.{◌≡◌, ◌+◌, ◌≤◌, ◌++◌, ℕ
 ghost use Rattle.arrayvec.specs.ArrayVec.{array_vec_len};
 ghost use Rattle.digits_core.specs.Digits.{AreAsciiDigits, ascii_of};
 ghost use Rattle.digits_core.specs.Gtins.{is_gtin_length};
-ghost use Rattle.ean_code.specs.NumberSets.{AreCharacters, character_digits};
-ghost use Rattle.ean_code.specs.Parts.{IsTextOf};
-ghost use Rattle.ean_code.specs.Spelling.{IsSpelled, TextSpells};
+ghost use Rattle.ean_code.specs.inner.NumberSets.{AreCharacters, character_digits};
+ghost use Rattle.ean_code.specs.inner.Parts.{IsTextOf};
+ghost use Rattle.ean_code.specs.Spelling.{IsSpelled};
+ghost use Rattle.ean_code.specs.inner.Spelling.{TextSpells};
 ghost use Rattle.ean_code.specs.Symbols.{IsNumberSymbol};
 ghost use Rattle.ean_code.specs.Symbols.Kind.{Ean13, Ean8, UpcE};
 ghost use Rattle.ean_code.specs.Widths.{AreWidths};

@@ -1,7 +1,8 @@
 //! The rows of number sets that show a digit without a character
 //! (ISO/IEC 15420, symbol character encodation).
 ghost use Rattle.std.specs.Prelude.{◌≡◌, ◌≢◌, ◌<◌, ℕ, IfNone, IfSome, length};
-ghost use Rattle.ean_code.specs.NumberSets.{character_sets, ean13_rows, packed_sets, row_of, upce_rows};
+ghost use Rattle.ean_code.specs.inner.NumberSets.{character_sets, packed_sets};
+ghost use Rattle.ean_code.specs.NumberSets.{ean13_rows, row_of, upce_rows};
 
 use crate::number_sets::NumberSet::{A, B};
 use crate::number_sets::{Character, NumberSet};

@@ -2,7 +2,8 @@
 //! (ISO/IEC 16390, symbol character encodation).
 ghost use Rattle.std.specs.Prelude.{◌≡◌, ◌≢◌, ◌+◌, ◌/◌, ◌%◌, ◌<◌, ◌≤◌, ◌++◌, ℕ, IfNone, IfSome, length};
 ghost use Rattle.arrayvec.specs.ArrayVec.{array_vec_len};
-ghost use Rattle.ean_code.specs.TwoOfFive.{five_widths, packed_five, pair_widths};
+ghost use Rattle.ean_code.specs.TwoOfFive.{five_widths, pair_widths};
+ghost use Rattle.ean_code.specs.inner.TwoOfFive.{packed_five};
 
 use arrayvec::ArrayVec;
 

@@ -3,8 +3,10 @@ use Rattle.std.proofs.Common.{◌≡◌, ℕ, zero, suc, ◌+◌, ◌<◌, ◌�
 use Rattle.std.specs.Prelude.{is_some}
 use Rattle.std.proofs.lemmas.Bool.{cases_Bool, and_parts, not-true, ne_eqb, leb-true}
 use Rattle.std.proofs.lemmas.List.{append-nil, nil_from_length}
-use Rattle.element_core.specs.Table.{Row, ai_rows, first_digits_decide, predefined_length, begins_with_digit}
-use Rattle.element_core.specs.Elements.{Entry, IsElement, AreElements, separator_for, canonical, CanonicalReads}
+use Rattle.element_core.specs.Table.{Row, ai_rows, first_digits_decide, predefined_length}
+use Rattle.element_core.specs.inner.Table.{begins_with_digit}
+use Rattle.element_core.specs.Elements.{Entry, IsElement, separator_for, canonical, CanonicalReads}
+use Rattle.element_core.specs.inner.Elements.{AreElements}
 use Rattle.element_core.specs.Fronts.{Begins, ends_element, after_separator, ReadsFromLeft}
 use Rattle.element_core.proofs.TableLaws.{each_begins_with_digit, first_digits_decide as digits_decide}
 use Rattle.element_core.proofs.Look.{all_at}

@@ -7,8 +7,10 @@ use Rattle.std.proofs.lemmas.List.{take-append-drop, nil_from_length}
 use Rattle.element_core.specs.declared.part.Part.{Part}
 use Rattle.element_core.specs.declared.part.PartFormat.{PartFormat}
 use Rattle.element_core.specs.declared.part.PartFormat.TheVariants.{Numeric, Alphanumeric, Date, DateAndTime}
-use Rattle.element_core.specs.Table.{Row, ai_rows, greatest_of, is_of_digits, predefined_length}
-use Rattle.element_core.specs.Elements.{Entry, IsElement, AreElements, IsElements, belongs, between, is_digit, is_character, is_text_byte, begins_with_digits, is_printable, has_characters, each_part, separator_for, canonical}
+use Rattle.element_core.specs.Table.{Row, ai_rows, greatest_of, predefined_length}
+use Rattle.element_core.specs.inner.Table.{is_of_digits}
+use Rattle.element_core.specs.Elements.{Entry, IsElement, IsElements, belongs, between, is_digit, is_character, is_text_byte, begins_with_digits, is_printable, has_characters, each_part, separator_for, canonical}
+use Rattle.element_core.specs.inner.Elements.{AreElements}
 use Rattle.element_core.proofs.TableLaws.{each_is_of_digits}
 use Rattle.element_core.proofs.Look.{all_at}
 use Rattle.element_core.proofs.PieceLemmas.{from_left}

@@ -4,11 +4,13 @@ use Rattle.std.specs.List.{list_all}
 use Rattle.std.proofs.lemmas.Bool.{and_parts, and_from}
 use Rattle.std.proofs.lemmas.List.{nil_from_length}
 use Rattle.std.proofs.lemmas.List.Elements.{All-from_recursion}
-use Rattle.element_core.specs.Table.{Row, ai_rows, row_at, begins_with_digit}
-use Rattle.element_core.specs.Elements.{Entry, AreElements, IsElements, canonical, is_text_byte}
+use Rattle.element_core.specs.Table.{Row, ai_rows, row_at}
+use Rattle.element_core.specs.inner.Table.{begins_with_digit}
+use Rattle.element_core.specs.Elements.{Entry, IsElements, canonical, is_text_byte}
+use Rattle.element_core.specs.inner.Elements.{AreElements}
 use Rattle.element_core.specs.Fronts.{ReadsFromLeft}
 use Rattle.element_core.specs.Shown.{shown_value, shown_rest, shown_entry, shown_by, shown_in, shown_elements}
-use Rattle.element_core.specs.Walks.{AreAscii}
+use Rattle.element_core.specs.inner.Walks.{AreAscii}
 use Rattle.element_core.proofs.TableLaws.{none_begins_nothing, each_begins_with_digit}
 use Rattle.element_core.proofs.Look.{all_at, begins-split, row_is}
 use Rattle.element_core.proofs.Shown.{IsShown, shows, shown-within}

@@ -6,8 +6,9 @@ use Rattle.element_core.specs.declared.fault.ElementFault.{ElementFault}
 use Rattle.element_core.specs.declared.fault.ElementFault.TheVariants.{UnknownAi, ValueLength, TooLong}
 use Rattle.element_core.specs.declared.pairs.Pair.{Pair}
 use Rattle.element_core.specs.Table.{Row, ai_rows, row_at}
-use Rattle.element_core.specs.Elements.{Entry, IsElement, IsElements, AreElements, ReadsElements, canonical}
-use Rattle.element_core.specs.Growing.{last_gap, separator_if}
+use Rattle.element_core.specs.Elements.{Entry, IsElement, IsElements, ReadsElements, canonical}
+use Rattle.element_core.specs.inner.Elements.{AreElements}
+use Rattle.element_core.specs.inner.Growing.{last_gap, separator_if}
 use Rattle.element_core.specs.Pairs.{entry_of, entries_of, entry_fault, entry_fault_by, entries_fault, list_fault, or_else}
 use Rattle.element_core.proofs.Look.{begins-split, row_is}
 use Rattle.element_core.proofs.Shown.{passes, no_fault_fits}

@@ -3,8 +3,10 @@ use Rattle.std.proofs.Common.{◌≡◌, ℕ, Bool, true, eqb, not, List, [], �
 use Rattle.std.specs.List.{list_all, AllByRecursion}
 use Rattle.std.proofs.lemmas.Bool.{and_parts, eq-eqb, ne_eqb, cases_eq}
 use Rattle.std.proofs.lemmas.List.{append-nil}
-use Rattle.element_core.specs.Table.{Row, ai_rows, is_of_digits}
-use Rattle.element_core.specs.Elements.{Entry, IsElement, AreElements, is_digit, is_character, pair_text, pairs_text, PairsDiffer}
+use Rattle.element_core.specs.Table.{Row, ai_rows}
+use Rattle.element_core.specs.inner.Table.{is_of_digits}
+use Rattle.element_core.specs.Elements.{Entry, IsElement, is_digit, is_character, pair_text, pairs_text, PairsDiffer}
+use Rattle.element_core.specs.inner.Elements.{AreElements}
 use Rattle.element_core.proofs.TableLaws.{each_is_of_digits}
 use Rattle.element_core.proofs.Look.{all_at}
 use Rattle.element_core.proofs.PieceLemmas.{from_left}

@@ -1,7 +1,8 @@
 -- What is computed over the whole table.
 use Rattle.std.proofs.Common.{◌≡◌, true, [], None, refl}
 use Rattle.std.specs.List.{list_all}
-use Rattle.element_core.specs.Table.{families, ai_rows, CountsFirstRows, NoAiBeginsAnother, FirstDigitsDecide, PartsHaveOneLength, begins_with_digit, is_long_enough, has_few_parts, is_short_ai, is_of_digits, is_timed_exactly, row_at}
+use Rattle.element_core.specs.Table.{families, ai_rows, CountsFirstRows, NoAiBeginsAnother, FirstDigitsDecide, PartsHaveOneLength, row_at}
+use Rattle.element_core.specs.inner.Table.{begins_with_digit, has_few_parts, is_long_enough, is_of_digits, is_short_ai, is_timed_exactly}
 
 pub no_ai_begins_another : NoAiBeginsAnother
 unfolding families ai_rows

@@ -1,6 +1,5 @@
 -- The day that six digits name (GS1 General Specifications, sections 3.4 and 7.12).
 use Rattle.std.specs.Prelude.{◌==◌, ◌&&◌, ◌||◌, ◌+◌, ◌-◌, ◌*◌, ◌%◌, ◌<◌, not, ℕ, Bool, List, [], ◌∷◌, length, Option, Some, None, if◌then◌else◌, nat_le, slice_index, ◌≡◌, ◌↔◌, ◌≤◌, ⊤, pos}
-use Rattle.std.specs.Int.{IsInRange}
 use Rattle.std.specs.Char.{is_ascii_digit}
 use Rattle.std.specs.List.{list_all}
 use Rattle.jiff.specs.Types.{Date}
@@ -44,10 +43,6 @@ is_six_digits text = (length text == 6) && list_all is_ascii_digit text
 -- the year, the month and the day that a text names under a reference year, if it names a day
 unfoldable pub day_of : List ℕ → ℕ → Option (ℕ × ℕ × ℕ)
 day_of text reference = if is_six_digits text then day_named text reference else None
-
--- the first six bytes are ASCII digits
-abbrev pub AreSixDigits : List ℕ → Type 0
-AreSixDigits text = (k : ℕ) → k < 6 → IsInRange 48 57 (slice_index text k)
 
 -- the date is that day, and there is none where the day is not
 abbrev pub IsDay : Option Date → Option (ℕ × ℕ × ℕ) → Type 0

@@ -2,7 +2,7 @@
 -- (GS1 General Specifications, section 7.8).
 -- A text says one list of elements or has one first fault. A canonical text reads back as its elements.
 use Rattle.std.specs.Prelude.{◌≡◌, ◌⊎◌, ℕ, ◌+◌, ◌%◌, ◌<◌, ◌≤◌, Bool, true, false, ◌&&◌, ◌||◌, not, List, [], ◌∷◌, ◌++◌, length, take, drop, Option, Some, None, IsTrue, MatchOption, Contains, nat_lt, nat_le, ◌==◌, if◌then◌else◌, is_some, flat_map, map, codes}
-use Rattle.std.specs.List.{list_all, AllByRecursion, join_with_byte}
+use Rattle.std.specs.List.{list_all, join_with_byte}
 use Rattle.element_core.specs.declared.fault.ElementFault.{ElementFault}
 use Rattle.element_core.specs.declared.fault.ElementFault.TheVariants.{Empty, UnknownAi, ValueLength, ValueCharacter, ValueCheckDigit, ValueDate, MissingSeparator, TooLong}
 use Rattle.element_core.specs.declared.part.Part.{Part}
@@ -80,10 +80,6 @@ pub record IsElement (table : List Row) (year : ℕ) (row : Row) (e : Entry) : T
   pub listed : Contains table row
   pub ai : e.ai ≡ row.ai
   pub value : IsValue year row.parts e.value
-
--- each is an element
-abbrev pub AreElements : ℕ → List Entry → Type 0
-AreElements year es = AllByRecursion (λ e. (row : Row) × IsElement ai_rows year row e) es
 
 -- ---- joined pieces
 

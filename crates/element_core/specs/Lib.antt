@@ -1,16 +1,13 @@
 pub use Rattle.digits_core.specs.Digits
 pub mod Days
 pub mod Elements
-pub mod Families
 pub mod Faults
 pub mod Fronts
-pub mod Growing
 pub mod Lines
 pub mod Listings
 pub mod Pairs
-pub mod PartTests
 pub mod Rows
 pub mod Shown
 pub mod Table
 pub mod Times
-pub mod Walks
+pub mod inner

@@ -1,7 +1,7 @@
 //! A canonical text that grows.
 
 ghost use Rattle.std.specs.Prelude.{◌≡◌, ◌≤◌, ◌++◌, length};
-ghost use Rattle.element_core.specs.Growing.{separator_if};
+ghost use Rattle.element_core.specs.inner.Growing.{separator_if};
 
 use crate::text::{SEPARATOR, Text};
 

@@ -37,7 +37,8 @@ impl Model for Elements {
 
     ghost Value = { Listing };
 
-    ghost use Rattle.element_core.specs.Listings.{listing, IsListing};
+    ghost use Rattle.element_core.specs.Listings.{listing};
+    ghost use Rattle.element_core.specs.inner.Listings.{IsListing};
 
     ghost view = { listing };
 

@@ -2,7 +2,7 @@
 
 ghost use Rattle.std.specs.Prelude.{◌≡◌, option_map, length, IfSome, ◌≤◌};
 ghost use Rattle.element_core.specs.Table.{row_at};
-ghost use Rattle.element_core.specs.Families.{is_in_family, row_with, row_by};
+ghost use Rattle.element_core.specs.inner.Families.{is_in_family, row_by, row_with};
 
 use crate::first_digits::families_with;
 use crate::part::Part;

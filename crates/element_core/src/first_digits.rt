@@ -2,7 +2,7 @@
 
 ghost use Rattle.std.specs.Prelude.{◌≡◌, ◌≤◌, map, filter, length};
 ghost use Rattle.element_core.specs.Table.{families};
-ghost use Rattle.element_core.specs.Families.{family_of, has_first_two};
+ghost use Rattle.element_core.specs.inner.Families.{family_of, has_first_two};
 
 use crate::family::AiFamily;
 use crate::table::all_families;

@@ -5,8 +5,8 @@ ghost use Rattle.element_core.specs.Elements.{Entry, field_of, fault_at, value_i
 ghost use Rattle.element_core.specs.Fronts.{Begins, after_separator};
 ghost use Rattle.element_core.specs.Shown.{shown_elements};
 ghost use Rattle.element_core.specs.Table.{predefined_length, row_at};
-ghost use Rattle.element_core.specs.Walks.{IsFrontOfText, elements_from};
-ghost use Rattle.element_core.specs.Families.{family_of, row_with};
+ghost use Rattle.element_core.specs.inner.Walks.{IsFrontOfText, elements_from};
+ghost use Rattle.element_core.specs.inner.Families.{family_of, row_with};
 
 use crate::family::{AiFamily, family_at};
 use crate::fault::ElementFault;

@@ -5,7 +5,7 @@ ghost use Rattle.arrayvec.specs.ArrayString.{array_string_len};
 ghost use Rattle.digits_core.specs.Buffers.{pasted};
 ghost use Rattle.element_core.specs.Elements.{hri};
 ghost use Rattle.element_core.specs.Shown.{shown_elements};
-ghost use Rattle.element_core.specs.Walks.{AreAscii};
+ghost use Rattle.element_core.specs.inner.Walks.{AreAscii};
 
 use crate::front::front_of;
 use arrayvec::ArrayString;

@@ -4,7 +4,7 @@ ghost use Rattle.std.specs.Prelude.{◌≡◌, ◌+◌, ◌<◌, ◌≤◌, ◌�
 ghost use Rattle.arrayvec.specs.ArrayString.{array_string_len};
 ghost use Rattle.element_core.specs.Elements.{pairs_text};
 ghost use Rattle.element_core.specs.Shown.{shown_elements};
-ghost use Rattle.element_core.specs.Walks.{AreAscii};
+ghost use Rattle.element_core.specs.inner.Walks.{AreAscii};
 
 use crate::front::front_of;
 use crate::hri::push_bytes;

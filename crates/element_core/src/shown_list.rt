@@ -2,7 +2,7 @@
 
 ghost use Rattle.std.specs.Prelude.{◌≡◌, ◌+◌, ◌≤◌, length, IfSome, option_map, slice_get};
 ghost use Rattle.element_core.specs.Shown.{shown_elements};
-ghost use Rattle.element_core.specs.Walks.{front_entry};
+ghost use Rattle.element_core.specs.inner.Walks.{front_entry};
 
 use crate::front::{Front, front_of};
 

@@ -2,7 +2,7 @@
 
 ghost use Rattle.std.specs.Prelude.{◌≡◌, map};
 ghost use Rattle.element_core.specs.Table.{families};
-ghost use Rattle.element_core.specs.Families.{family_of};
+ghost use Rattle.element_core.specs.inner.Families.{family_of};
 
 use crate::family::AiFamily;
 use crate::formats::{

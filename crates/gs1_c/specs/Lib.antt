@@ -2,3 +2,4 @@ pub mod Found
 pub mod Labels
 pub mod Lines
 pub mod Scanned
+pub mod inner

@@ -1,5 +1,5 @@
 -- The lines that the calls answer.
-use Rattle.std.specs.Prelude.{◌≡◌, ◌⊎◌, ◌≤◌, ◌*◌, nat_lt, ℕ, List, Option, Some, None, Result, Ok, Err, codes, length, if◌then◌else◌}
+use Rattle.std.specs.Prelude.{◌≡◌, ◌⊎◌, ◌≤◌, ◌*◌, nat_lt, ℕ, List, Option, Some, None, codes, length, if◌then◌else◌}
 use Rattle.element_core.specs.Lines.{IsElementsLine, elements_text}
 use Rattle.element_core.specs.declared.form.Form.{Form}
 use Rattle.scan_core.specs.Answers.{IsAnswer}
@@ -30,11 +30,6 @@ abbrev pub IsTextLine : List ℕ → Form → ℕ → List ℕ → List ℕ → 
 IsTextLine word form year text line = IsInYear year (IsElementsLine word (elements_text form) year text) line
 
 -- ---- rows
-
--- the answer to a row, its elements in a form, or why there is none
-abbrev pub read_text : Form → Result Answer RunFault → List ℕ
-read_text form (Ok a) = said form a
-read_text form (Err fault) = run_fault_text fault
 
 -- the line of widths by their fault, under a reference year: the answer to their row, or why they are none
 abbrev pub IsWidthsLine : Form → ℕ → List ℕ → Option RunFault → List ℕ → Type 0

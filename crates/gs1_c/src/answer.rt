@@ -2,7 +2,8 @@
 ghost use Rattle.std.specs.Prelude.{◌≡◌, None, Some, IfErr, IfOk, length};
 ghost use Rattle.digits_core.specs.Buffers.{IsPut};
 ghost use Rattle.scan_core.specs.Lines.{said};
-ghost use Rattle.gs1_c.specs.Lines.{IsPackedAnswer, packed_fault, read_text};
+ghost use Rattle.gs1_c.specs.Lines.{IsPackedAnswer, packed_fault};
+ghost use Rattle.gs1_c.specs.inner.Lines.{read_text};
 
 use crate::buffer::{put_elements, put_pairs, put_refusal};
 use element_core::{Form, Year};

@@ -1,5 +1,5 @@
 -- What the words ask for.
-use Rattle.std.specs.Prelude.{◌≡◌, ◌≢◌, ◌⊎◌, ⊤, List, [], Option, Some, None}
+use Rattle.std.specs.Prelude.{◌≡◌, ◌⊎◌, ⊤, List, [], Option, Some, None}
 use Rattle.clap.specs.Words.{IsAmong, Row, Text, fault_of, subcommand_of}
 use Rattle.clap.specs.declared.error.kind.ErrorKind.{ErrorKind}
 use Rattle.clap.specs.declared.error.kind.ErrorKind.TheVariants as kind
@@ -34,9 +34,3 @@ abbrev pub Explains : List Text → WordsFault → Type 0
 Explains words fault.Words = AreFaulty words
 Explains words (fault.Help text) = AskForHelp words
 Explains words fault.NoMemory = ⊤
-
--- the same by the kind of the error
-abbrev pub FaultOfKind : ErrorKind → WordsFault → Type 0
-FaultOfKind k fault.Words = (k ≢ kind.OutOfMemory) × (IsRequest k → ⊥)
-FaultOfKind k (fault.Help text) = IsRequest k
-FaultOfKind k fault.NoMemory = (k ≡ kind.OutOfMemory) ⊎ IsRequest k

@@ -5,3 +5,4 @@ pub mod Faults
 pub mod Laws
 pub mod Runs
 pub mod commands
+pub mod inner

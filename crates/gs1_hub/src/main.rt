@@ -3,7 +3,7 @@
 
 ghost use Rattle.std.specs.Prelude.{◌≡◌, [], IfOk, IfSome, IsOk, OnOk, false};
 ghost use Rattle.std.specs.Process.{exit_status};
-ghost use Rattle.gs1_hub.specs.Faults.{TookHelp, status_of, words_status};
+ghost use Rattle.gs1_hub.specs.inner.Faults.{TookHelp, status_of, words_status};
 ghost use Rattle.gs1_hub.specs.Runs.{Ran};
 ghost use Rattle.gs1_hub.specs.commands.{command_of};
 

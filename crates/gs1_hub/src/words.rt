@@ -1,7 +1,8 @@
 //! The words of the command line.
 ghost use Rattle.std.specs.Prelude.{Some, IfOk, IfSome, IfNone, IfErr, map, string_bytes};
 ghost use Rattle.clap.specs.Words.{kind_of, subcommand_rows_of};
-ghost use Rattle.gs1_hub.specs.Asking.{Asks, Explains, FaultOfKind, WordsAsk};
+ghost use Rattle.gs1_hub.specs.Asking.{Asks, Explains, WordsAsk};
+ghost use Rattle.gs1_hub.specs.inner.Asking.{FaultOfKind};
 ghost use Rattle.gs1_hub.specs.Faults.{words_fault_text};
 ghost use Rattle.gs1_hub.specs.declared.commands.Asked.{Asked};
 

@@ -9,9 +9,8 @@ use Rattle.lane_core.specs.ReorderBuffer.{ReorderBuffer, GivesNext, TakesIn, is_
 use Rattle.lane_core.specs.Settling.{sift, sifted}
 use Rattle.lane_core.specs.Tickets.{is_among, is_ticket_of}
 use Rattle.lane_core.specs.Weights.{once}
-use Rattle.hub_core.specs.Accounting.{GivenInOrder}
-use Rattle.hub_core.specs.Serving.{sum_all}
-use Rattle.hub_core.specs.Accounting.{Accounted}
+use Rattle.hub_core.specs.inner.Accounting.{Accounted, GivenInOrder}
+use Rattle.hub_core.specs.inner.Serving.{sum_all}
 use Rattle.hub_core.specs.declared.rule.Trace.{Trace}
 use Rattle.hub_core.specs.Rule.{trace}
 use Rattle.std.proofs.lemmas.Bool.{and_from, and_parts}

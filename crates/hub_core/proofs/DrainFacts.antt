@@ -9,10 +9,11 @@ use Rattle.lane_core.specs.Weights.{OneForOne}
 use Rattle.hub_core.specs.declared.rule.Trace.{Trace}
 use Rattle.hub_core.specs.declared.lane_seat.LaneSeat.{LaneSeat}
 use Rattle.hub_core.specs.declared.worker_seat.WorkerSeat.{WorkerSeat}
-use Rattle.hub_core.specs.DrainedLists.{DrainsInto, Listed}
+use Rattle.hub_core.specs.inner.DrainedLists.{DrainsInto, Listed}
 use Rattle.hub_core.specs.Lanes.{submitted}
 use Rattle.hub_core.specs.Rule.{trace}
-use Rattle.hub_core.specs.Workers.{jobs_in_hand, posted, taken}
+use Rattle.hub_core.specs.inner.Workers.{jobs_in_hand}
+use Rattle.hub_core.specs.Workers.{posted, taken}
 use Rattle.hub_core.proofs.DrainedFacts.{drained_then}
 
 pub trace_is : (a b : ℕ) (c d e f : List Plain) → a ≡ b → c ≡ d → e ≡ f → trace a c e ≡ trace b d f

@@ -13,14 +13,14 @@ use Rattle.lane_core.proofs.WeightFacts.{false_from}
 use Rattle.hub_core.specs.declared.rule.Trace.{Trace}
 use Rattle.hub_core.specs.declared.shape.Shape.{Shape}
 use Rattle.hub_core.specs.declared.lane_seat.LaneSeat.{LaneSeat}
-use Rattle.hub_core.specs.Fresh.{IsPairedIn, IsUnsent}
+use Rattle.hub_core.specs.inner.Fresh.{IsPairedIn, IsUnsent}
 use Rattle.hub_core.specs.Lanes.{lane_of}
 use Rattle.hub_core.specs.Hubs.{HasEach}
 use Rattle.hub_core.specs.Rings.{PushEnd, all_sent}
 use Rattle.hub_core.specs.Rule.{trace}
 use Rattle.hub_core.specs.Serving.{is_count, numbered_rows}
 use Rattle.hub_core.specs.Shapes.{is_allowed}
-use Rattle.hub_core.specs.Accounting.{Accounted}
+use Rattle.hub_core.specs.inner.Accounting.{Accounted}
 use Rattle.hub_core.proofs.InOrderFacts.{fresh_in_order}
 use Rattle.hub_core.proofs.WeightFacts.{empties_at, sum_empties}
 

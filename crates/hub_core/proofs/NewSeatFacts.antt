@@ -6,7 +6,7 @@ use Rattle.std.proofs.lemmas.List.{map-append}
 use Rattle.rtrb.specs.Ring.{IsPair}
 use Rattle.hub_core.specs.declared.lane_seat.LaneSeat.{LaneSeat}
 use Rattle.hub_core.specs.declared.rule.Trace.{Trace}
-use Rattle.hub_core.specs.Fresh.{IsPairedIn}
+use Rattle.hub_core.specs.inner.Fresh.{IsPairedIn}
 use Rattle.hub_core.specs.Lanes.{numbers_of}
 use Rattle.hub_core.specs.Rings.{PushEnd}
 use Rattle.hub_core.specs.Rule.{trace}

@@ -12,7 +12,7 @@ use Rattle.lane_core.specs.Settling.{sift, sifted}
 use Rattle.lane_core.specs.Tickets.{is_among, is_ticket_of}
 use Rattle.lane_core.specs.Weights.{once}
 use Rattle.lane_core.proofs.WeightFacts.{among_from, among_times}
-use Rattle.hub_core.specs.Accounting.{Accounted}
+use Rattle.hub_core.specs.inner.Accounting.{Accounted}
 use Rattle.hub_core.proofs.LaneFacts.{ticket_parts}
 use Rattle.hub_core.proofs.AccountingFacts.{not_taken}
 

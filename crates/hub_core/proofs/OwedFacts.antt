@@ -13,10 +13,10 @@ use Rattle.hub_core.specs.declared.deliverer_seat.DelivererSeat.{DelivererSeat}
 use Rattle.hub_core.specs.declared.lane_seat.LaneSeat.{LaneSeat}
 use Rattle.hub_core.specs.declared.worker_seat.WorkerSeat.{WorkerSeat}
 use Rattle.hub_core.specs.Delivering.{handed, lane_count}
-use Rattle.hub_core.specs.DrainedLists.{AreMade, AreOwn, DrainsInto, Listed, Sorts, items_of}
+use Rattle.hub_core.specs.inner.DrainedLists.{AreMade, AreOwn, DrainsInto, Listed, Sorts, items_of}
 use Rattle.hub_core.specs.Lanes.{lane_of, polled, received, submitted}
-use Rattle.hub_core.specs.Draining.{Finds}
-use Rattle.hub_core.specs.Serving.{sum_all}
+use Rattle.hub_core.specs.inner.Draining.{Finds}
+use Rattle.hub_core.specs.inner.Serving.{sum_all}
 use Rattle.lane_core.proofs.ListFacts.{get_back, get_map}
 use Rattle.hub_core.proofs.NumberFacts.{by_place, sum_ones}
 use Rattle.hub_core.proofs.SeatFacts.{Whole, by_seat, one_lane, sum_same}

@@ -12,11 +12,11 @@ use Rattle.hub_core.specs.declared.deliverer_seat.DelivererSeat.{DelivererSeat}
 use Rattle.hub_core.specs.declared.hub.Hub.{Hub}
 use Rattle.hub_core.specs.declared.lane_seat.LaneSeat.{LaneSeat}
 use Rattle.hub_core.specs.declared.rule.Trace.{Trace}
-use Rattle.hub_core.specs.DrainedLists.{DrainsInto, Listed}
-use Rattle.hub_core.specs.Fresh.{IsPairedIn}
+use Rattle.hub_core.specs.inner.DrainedLists.{DrainsInto, Listed}
+use Rattle.hub_core.specs.inner.Fresh.{IsPairedIn}
 use Rattle.hub_core.specs.Hubs.{ArePushEnds, IsDelivererOf, IsLaneOf, shape_of}
 use Rattle.hub_core.specs.Lanes.{lane_of, numbers_of, received, submitted}
-use Rattle.hub_core.specs.Draining.{AreFromFirst, all_received, to_lanes}
+use Rattle.hub_core.specs.inner.Draining.{AreFromFirst, all_received, to_lanes}
 use Rattle.hub_core.specs.Rings.{PushEnd, all_sent}
 use Rattle.hub_core.specs.Rule.{trace}
 use Rattle.hub_core.proofs.DrainedFacts.{drained_then, same_some}

@@ -20,11 +20,12 @@ use Rattle.hub_core.specs.declared.worker_seat.WorkerSeat.{WorkerSeat}
 use Rattle.hub_core.specs.Delivering.{collected, buffer_of, hand_of, handed, lane_count, taken_in}
 use Rattle.hub_core.specs.Hubs.{AreAllSeats, HasEach, IsLaneOf, shape_of, year_of}
 use Rattle.hub_core.specs.Lanes.{lane_of, numbers_of, polled, polled_count, received, submitted}
-use Rattle.hub_core.specs.Draining.{Finds}
+use Rattle.hub_core.specs.inner.Draining.{Finds}
 use Rattle.hub_core.specs.Rings.{all_sent}
-use Rattle.hub_core.specs.Serving.{sum_all}
+use Rattle.hub_core.specs.inner.Serving.{sum_all}
 use Rattle.hub_core.specs.Standing.{StandsFor}
-use Rattle.hub_core.specs.Workers.{job_in_hand, jobs_in_hand, posted, taken}
+use Rattle.hub_core.specs.Workers.{job_in_hand, posted, taken}
+use Rattle.hub_core.specs.inner.Workers.{jobs_in_hand}
 use Rattle.hub_core.proofs.UnpolledFacts.{at_least}
 use Rattle.hub_core.proofs.NumberFacts.{by_place, sum_each}
 use Rattle.hub_core.proofs.WeightFacts.{sum_by-map}

@@ -16,7 +16,8 @@ use Rattle.hub_core.specs.Hubs.{IsLaneOf, shape_of, year_of}
 use Rattle.hub_core.specs.Lanes.{issued_count, lane_of, numbers_of, polled, polled_count, received, submitted, submitted_rows}
 use Rattle.hub_core.specs.Serving.{numbered_feeds, numbered_rows, served}
 use Rattle.hub_core.proofs.LaneViewFacts.{PolledFirst}
-use Rattle.hub_core.specs.Traffics.{AreEven, AreServedFirst, HasRoom, IsEven, IsNextOf, Serves, given_to, polled_by_each, with_held, with_more}
+use Rattle.hub_core.specs.inner.Traffics.{AreEven, Serves, given_to, polled_by_each, with_held}
+use Rattle.hub_core.specs.Traffics.{AreServedFirst, HasRoom, IsEven, IsNextOf, with_more}
 use Rattle.hub_core.specs.declared.hub.Hub.{Hub}
 use Rattle.hub_core.specs.declared.lane_seat.LaneSeat.{LaneSeat}
 use Rattle.hub_core.proofs.ServeFacts.{lanes_counted}

@@ -10,8 +10,6 @@ use Rattle.hub_core.specs.Rings.{PushEnd, all_sent}
 use Rattle.hub_core.specs.declared.deliverer_seat.DelivererSeat.{DelivererSeat}
 use Rattle.hub_core.specs.declared.deliverer_seat.Collected.{Collected}
 use Rattle.hub_core.specs.declared.deliverer_seat.Collected.TheVariants as collecting
-use Rattle.hub_core.specs.declared.collected_by_lane.CollectedByLane.{CollectedByLane}
-use Rattle.hub_core.specs.declared.collected_by_lane.CollectedByLane.TheVariants as by_lane
 use Rattle.hub_core.specs.declared.deliverer_seat.Handed.{Handed}
 use Rattle.hub_core.specs.declared.deliverer_seat.Handed.TheVariants as handing
 
@@ -60,12 +58,6 @@ abbrev pub Collects : DelivererSeat → Collected → DelivererSeat → Type 0
 Collects s collecting.Nothing t = (in_hand s ≡ None) × (in_hand t ≡ None) × (collected t ≡ collected s) × (buffer_of t ≡ buffer_of s) × SameHanded s t
 Collects s collecting.Taken t = (x : Plain) × TakesDelivery s x t × TakesOrSetsAside (buffer_of s) x (buffer_of t) × (in_hand t ≡ None) × SameHanded s t
 Collects s collecting.NoMemory t = (x : Plain) × TakesDelivery s x t × (in_hand t ≡ Some x) × (buffer_of t ≡ buffer_of s) × SameHanded s t
-
--- the answer of `collect` without the lane
-abbrev pub collected_as : CollectedByLane → Collected
-collected_as by_lane.Nothing = collecting.Nothing
-collected_as (by_lane.Taken _) = collecting.Taken
-collected_as by_lane.NoMemory = collecting.NoMemory
 
 -- lane l's ring was seen with no free place
 abbrev pub RingIsFull : DelivererSeat → ℕ → Type 0

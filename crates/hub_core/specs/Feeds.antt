@@ -1,5 +1,5 @@
 -- Rows that are left of each lane, and those that were given.
-use Rattle.std.specs.Prelude.{◌≡◌, ◌<◌, ◌≤◌, ◌==◌, ◌++◌, ℕ, Bool, true, List, [], ◌∷◌, length, map, replicate, slice_index_or, slice_set}
+use Rattle.std.specs.Prelude.{◌≡◌, ◌<◌, ◌==◌, ◌++◌, ℕ, Bool, true, List, [], ◌∷◌, length, map, replicate, slice_index_or, slice_set}
 use Rattle.std.specs.List.{list_all}
 use Rattle.std.specs.Vec.Iter.{into_iter_items}
 use Rattle.hub_core.specs.Serving.{are_short}
@@ -12,10 +12,6 @@ rests_of f = map (λ rest. into_iter_items rest) f.rests.items
 -- whether no row is left
 abbrev pub are_given : List (List (List ℕ)) → Bool
 are_given rests = list_all (λ rest. length rest == 0) rests
-
--- of the lanes from one on, as far as another, no row is left
-abbrev pub NoneIsLeft : ℕ → ℕ → List (List (List ℕ)) → Type 0
-NoneIsLeft first last rests = (l : ℕ) → first ≤ l → l < last → l < length rests → slice_index_or rests l [] ≡ []
 
 -- this row was the first of those that were left of this lane
 abbrev pub IsTaken : List (List (List ℕ)) → ℕ → List ℕ → List (List (List ℕ)) → Type 0

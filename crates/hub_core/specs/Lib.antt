@@ -1,8 +1,5 @@
 pub use Rattle.scan_core.specs.Answers
-pub mod Accounting
 pub mod Delivering
-pub mod DrainedLists
-pub mod Draining
 pub mod Faults
 pub mod Feeds
 pub mod Fresh
@@ -19,3 +16,4 @@ pub mod Standing
 pub mod Submitting
 pub mod Traffics
 pub mod Workers
+pub mod inner

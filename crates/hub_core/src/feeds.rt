@@ -28,7 +28,8 @@ fn are_empty(rests: &[IntoIter<Runs>]) -> bool
 
 impl Feeds {
     ghost use Rattle.std.specs.Prelude.{◌≡◌, ◌<◌, ◌≤◌, [], ℕ, IfOk, IfSome, List, None, length, map, slice_index_or, true};
-    ghost use Rattle.hub_core.specs.Feeds.{AreGiven, IsTaken, NoneIsLeft, are_given, rests_of};
+    ghost use Rattle.hub_core.specs.Feeds.{AreGiven, IsTaken, are_given, rests_of};
+    ghost use Rattle.hub_core.specs.inner.Feeds.{NoneIsLeft};
     ghost use Rattle.hub_core.specs.Traffics.{HasRoom, with_more};
 
     /// These rows of each lane.

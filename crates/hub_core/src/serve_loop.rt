@@ -6,7 +6,8 @@ ghost use Rattle.hub_core.specs.Fresh.{HasDoneNothing};
 ghost use Rattle.hub_core.specs.Hubs.{AreAllSeats, Holds, IsDelivererOf, IsWorkerOf, shape_of, year_of};
 ghost use Rattle.hub_core.specs.Lanes.{numbers_of};
 ghost use Rattle.hub_core.specs.Serving.{are_short, is_count, served};
-ghost use Rattle.hub_core.specs.Traffics.{AreEven, AreServedFirst, HasRoom, IsKept, Serves, given_to, polled_by_each, with_held};
+ghost use Rattle.hub_core.specs.inner.Traffics.{AreEven, Serves, given_to, polled_by_each, with_held};
+ghost use Rattle.hub_core.specs.Traffics.{AreServedFirst, HasRoom, IsKept};
 
 use crate::closed_lane::ClosedLane;
 use crate::collected_by_lane::CollectedByLane;

@@ -4,7 +4,7 @@ ghost use Rattle.std.specs.Prelude.{◌≡◌, All, length, map};
 ghost use Rattle.lane_core.specs.Machine.{State};
 ghost use Rattle.lane_core.specs.Whereabouts.{EachOnce};
 ghost use Rattle.hub_core.specs.Delivering.{collected, taken_in};
-ghost use Rattle.hub_core.specs.DrainedLists.{AreMade, items_of};
+ghost use Rattle.hub_core.specs.inner.DrainedLists.{AreMade, items_of};
 ghost use Rattle.hub_core.specs.Hubs.{AreAllSeats, shape_of, year_of};
 ghost use Rattle.hub_core.specs.Lane.{AreSettled};
 ghost use Rattle.hub_core.specs.Lanes.{as_lane, polled, received};

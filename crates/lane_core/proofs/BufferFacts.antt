@@ -13,7 +13,8 @@ use Rattle.lane_core.specs.declared.next_slot.NextSlot.TheVariants.{Missing, Her
 use Rattle.lane_core.specs.declared.job.Plain.{Plain}
 use Rattle.lane_core.specs.declared.ticket.Ticket.{Ticket}
 use Rattle.lane_core.specs.ReorderBuffer.{GivesAny, GivesNext, TakesIn, buffer, is_known, new_buffer, was_taken}
-use Rattle.lane_core.specs.NextSlots.{Advances, AreIndexed, AreKept, IsSlotOf, are_tied, come_tickets, buffer_by_slots, has_come, slot_at, waiting_at, waiting_of}
+use Rattle.lane_core.specs.inner.NextSlots.{Advances, AreIndexed, AreKept, IsSlotOf, are_tied, has_come, slot_at}
+use Rattle.lane_core.specs.NextSlots.{come_tickets, buffer_by_slots, waiting_at, waiting_of}
 use Rattle.lane_core.specs.Tickets.{is_among, is_ticket_of}
 use Rattle.lane_core.proofs.LookupFacts.{MoreBy, or_assoc}
 use Rattle.lane_core.proofs.SlotFacts.{own_parts, set_sum}

@@ -17,7 +17,7 @@ use Rattle.lane_core.specs.declared.job.Plain.{Plain}
 use Rattle.lane_core.specs.declared.ticket.Ticket.{Ticket}
 use Rattle.lane_core.specs.Tickets.{is_ticket_of, is_among}
 use Rattle.lane_core.specs.ReorderBuffer.{is_known}
-use Rattle.lane_core.specs.NextSlots.{are_tied, is_tied}
+use Rattle.lane_core.specs.inner.NextSlots.{are_tied, is_tied}
 
 -- the test finds lane l's number k alone
 abbrev pub Finds : (Ticket → Bool) → ℕ → ℕ → Type 0

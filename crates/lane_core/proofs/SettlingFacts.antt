@@ -3,7 +3,8 @@ use Rattle.std.proofs.Common.{◌≡◌, ℕ, ◌+◌, ◌<◌, ◌≤◌, ◌==
 use Rattle.std.specs.List.{slice_get, sum_by, count_by}
 use Rattle.std.proofs.lemmas.List.Sums.{sum_by-cons}
 use Rattle.lane_core.specs.declared.job.Plain.{Plain}
-use Rattle.lane_core.specs.Settling.{Account, AreNumbered, EachLaneOnce, is_elsewhere, sifted}
+use Rattle.lane_core.specs.Settling.{Account, AreNumbered, EachLaneOnce, sifted}
+use Rattle.lane_core.specs.inner.Settling.{is_elsewhere}
 use Rattle.lane_core.specs.Tickets.{is_ticket_of}
 use Rattle.lane_core.specs.Weights.{OneForOne, once}
 use Rattle.lane_core.proofs.SiftFacts.{all_here, none_aside, ticket_once}

@@ -12,7 +12,8 @@ use Rattle.lane_core.specs.declared.next_slot.NextSlot.TheVariants.{Missing, Her
 use Rattle.lane_core.specs.declared.job.Plain.{Plain}
 use Rattle.lane_core.specs.declared.ticket.Ticket.{Ticket}
 use Rattle.lane_core.specs.ReorderBuffer.{has_next}
-use Rattle.lane_core.specs.NextSlots.{AreKept, IsSlotOf, buffer_by_slots, slot_at, is_here, waiting_at, waiting_of}
+use Rattle.lane_core.specs.inner.NextSlots.{AreKept, IsSlotOf, is_here, slot_at}
+use Rattle.lane_core.specs.NextSlots.{buffer_by_slots, waiting_at, waiting_of}
 use Rattle.lane_core.specs.Tickets.{is_among, is_ticket_of}
 use Rattle.lane_core.proofs.LookupFacts.{none_past}
 

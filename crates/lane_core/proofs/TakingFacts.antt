@@ -8,7 +8,8 @@ use Rattle.lane_core.specs.declared.next_slot.NextSlot.TheVariants.{Here}
 use Rattle.lane_core.specs.declared.job.Plain.{Plain}
 use Rattle.lane_core.specs.declared.ticket.Ticket.{Ticket}
 use Rattle.lane_core.specs.ReorderBuffer.{TakesIn, is_known, was_taken}
-use Rattle.lane_core.specs.NextSlots.{AreKept, IsSlotOf, are_tied, buffer_by_slots, is_tied}
+use Rattle.lane_core.specs.inner.NextSlots.{AreKept, IsSlotOf, are_tied, is_tied}
+use Rattle.lane_core.specs.NextSlots.{buffer_by_slots}
 use Rattle.lane_core.specs.Tickets.{is_ticket_of}
 use Rattle.lane_core.proofs.BufferFacts.{kept_later, kept_set, not_known, not_later, took_later, took_next}
 use Rattle.lane_core.proofs.LookupFacts.{MoreBy, cmp_tickets, finds_own, found_among, own_tied, put_gone, put_known, put_more, put_tied}

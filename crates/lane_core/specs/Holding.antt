@@ -2,13 +2,10 @@
 use Rattle.std.specs.Prelude.{map}
 use Rattle.lane_core.specs.declared.lane.Lane.{Lane}
 use Rattle.lane_core.specs.declared.world.World.TheInside.{Inside}
-use Rattle.lane_core.specs.Contents.{Contents, IsShown, LaneContents, contents, lane_contents}
+use Rattle.lane_core.specs.Contents.{Contents, LaneContents, contents, lane_contents}
 
 abbrev pub lane_held : Lane → LaneContents
 lane_held l = lane_contents l.closed l.issued l.handed.items l.polled
 
 abbrev pub held : Inside → Contents
 held w = contents w.year (map lane_held w.lanes.items) w.jobs.items w.workers.items w.results.items w.deliverer
-
-abbrev pub HoldsShown : Inside → Type 0
-HoldsShown w = IsShown (held w)

@@ -1,33 +1,12 @@
 -- What a reorder buffer is kept as: a slot for each lane's next number, and later numbers in a map.
-use Rattle.std.specs.Prelude.{◌≡◌, ◌&&◌, ◌||◌, ◌==◌, ◌^◌, ◌<◌, ◌+◌, ℕ, suc, Bool, true, false, nat_lt, List, [], ◌∷◌, ◌++◌, length, slice_index, slice_index_or, ⊤}
-use Rattle.std.specs.List.{flat_map, list_all, sum_by}
+use Rattle.std.specs.Prelude.{ℕ, suc, List, [], ◌∷◌, ◌++◌}
+use Rattle.std.specs.List.{flat_map}
 use Rattle.std.specs.Map.{values_of}
 use Rattle.lane_core.specs.declared.next_slot.NextSlot.{NextSlot}
 use Rattle.lane_core.specs.declared.next_slot.NextSlot.TheVariants.{Missing, Here, Out}
 use Rattle.lane_core.specs.declared.job.Plain.{Plain}
 use Rattle.lane_core.specs.declared.ticket.Ticket.{Ticket}
-use Rattle.lane_core.specs.ReorderBuffer.{ReorderBuffer, buffer, is_known}
-use Rattle.lane_core.specs.Tickets.{is_among, is_ticket_of}
-
--- the delivery is the ticket's, a number of 32 bits
-abbrev pub is_tied : Ticket × Plain → Bool
-is_tied e = is_ticket_of e.0.lane e.0.number e.1 && nat_lt e.0.number (2 ^ 32)
-
--- each delivery stands under its own ticket
-abbrev pub are_tied : List (Ticket × Plain) → Bool
-are_tied entries = list_all is_tied entries
-
--- whether the number waits
-abbrev pub is_here : NextSlot → Bool
-is_here Missing = false
-is_here (Here x) = true
-is_here Out = false
-
--- whether the number was taken in
-abbrev pub has_come : NextSlot → Bool
-has_come Missing = false
-has_come (Here x) = true
-has_come Out = true
+use Rattle.lane_core.specs.ReorderBuffer.{ReorderBuffer, buffer}
 
 -- the delivery that waits
 abbrev pub waiting_of : NextSlot → List Plain
@@ -38,10 +17,6 @@ waiting_of Out = []
 -- those that wait as their lanes' next numbers
 abbrev pub waiting_at : List NextSlot → List Plain
 waiting_at slots = flat_map waiting_of slots
-
--- what there is of lane l's next number
-abbrev pub slot_at : List NextSlot → ℕ → NextSlot
-slot_at slots l = slice_index_or slots l Missing
 
 -- lane l's number k, where it was taken in
 abbrev pub come_ticket : ℕ → ℕ → NextSlot → List Ticket
@@ -58,29 +33,3 @@ come_tickets l (n ∷ nexts) (h ∷ slots) = come_ticket l n h ++ come_tickets (
 -- what a deliverer keeps so is this reorder buffer
 abbrev pub buffer_by_slots : List ℕ → List NextSlot → List (Ticket × Plain) → List Ticket → ReorderBuffer
 buffer_by_slots nexts slots later known = buffer nexts (waiting_at slots ++ values_of later) (come_tickets 0 nexts slots ++ known)
-
--- a delivery that waits as lane l's next number k has that ticket
-abbrev pub IsSlotOf : ℕ → ℕ → NextSlot → Type 0
-IsSlotOf l k Missing = ⊤
-IsSlotOf l k (Here x) = is_tied (record { lane = l; number = k }, x) ≡ true
-IsSlotOf l k Out = ⊤
-
--- deliveries of later numbers stand under their own tickets, all of them known
-pub record AreIndexed (later : List (Ticket × Plain)) (known : List Ticket) : Type 0 where
-  pub tied : are_tied later ≡ true
-  pub among : (l k : ℕ) → is_among l k (values_of later) ≡ true → is_known l k known ≡ true
-
--- each lane has a slot, of its next number, which is not known as a later one
-pub record AreKept (nexts : List ℕ) (slots : List NextSlot) (later : List (Ticket × Plain)) (known : List Ticket) : Type 0 where
-  pub lanes : length slots ≡ length nexts
-  pub own : (l : ℕ) → l < length nexts → IsSlotOf l (slice_index nexts l) (slot_at slots l)
-  pub indexed : AreIndexed later known
-  pub apart : (l : ℕ) → l < length nexts → slice_index nexts l < 2 ^ 32 → is_known l (slice_index nexts l) known ≡ false
-
--- lane l's number k is its next from now on: it leaves the later numbers if it was one, and nothing else changes of what waits and what is known
-pub record Advances (l k : ℕ) (later : List (Ticket × Plain)) (known : List Ticket) (later' : List (Ticket × Plain)) (known' : List Ticket) (slot : NextSlot) : Type 0 where
-  pub own : IsSlotOf l k slot
-  pub indexed : AreIndexed later' known'
-  pub waiting : (h : Plain → ℕ) → sum_by h (values_of later) ≡ sum_by h (waiting_of slot) + sum_by h (values_of later')
-  pub same : (m n : ℕ) → ((((l == m) && (k == n)) && has_come slot) || is_known m n known') ≡ is_known m n known
-  pub gone : k < 2 ^ 32 → is_known l k known' ≡ false

@@ -5,10 +5,6 @@ use Rattle.lane_core.specs.declared.job.Plain.{Plain}
 use Rattle.lane_core.specs.Tickets.{is_among, numbered}
 use Rattle.lane_core.specs.Weights.{OneForOne}
 
--- whether its lane is none of the first n
-abbrev pub is_elsewhere : ℕ → Plain → Bool
-is_elsewhere n x = not (nat_lt x.lane n)
-
 -- one more delivery for a deliverer of n lanes: it is set aside where its lane is not there or its ticket has come before
 abbrev pub sift : ℕ → List Plain → Plain → List Plain
 sift n taken x = cond (nat_lt x.lane n && not (is_among x.lane x.number taken)) (taken ++ x ∷ []) taken

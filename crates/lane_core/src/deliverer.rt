@@ -1,7 +1,7 @@
 //! Hands each lane its deliveries by number, whatever order they come in.
 ghost use Rattle.std.specs.Prelude.{◌≡◌, ◌≢◌, ◌<◌, ◌≤◌, ◌↔◌, ◌^◌, [], replicate, true, false, IsSome, IfErr, IfOk, IfNone, IfSome, OnErr, OnOk};
 ghost use Rattle.lane_core.specs.declared.next_slot.NextSlot.TheVariants.{Missing};
-ghost use Rattle.lane_core.specs.NextSlots.{Advances, AreIndexed};
+ghost use Rattle.lane_core.specs.inner.NextSlots.{Advances, AreIndexed};
 ghost use Rattle.lane_core.specs.ReorderBuffer.{lanes_of, new_buffer, was_taken, has_next, TakesIn, ComesBack, WaitsAsNext, GivesNext, GivesAny};
 
 use crate::delivery::Delivery;
@@ -30,7 +30,8 @@ pub struct Deliverer {
 
 impl Model for Deliverer {
     ghost use Rattle.lane_core.specs.ReorderBuffer.{ReorderBuffer};
-    ghost use Rattle.lane_core.specs.NextSlots.{AreKept, buffer_by_slots};
+    ghost use Rattle.lane_core.specs.inner.NextSlots.{AreKept};
+    ghost use Rattle.lane_core.specs.NextSlots.{buffer_by_slots};
 
     ghost Value = { ReorderBuffer };
 

@@ -1,6 +1,7 @@
 //! A lane's next number.
 ghost use Rattle.std.specs.Prelude.{◌≡◌, ◌<◌, ℕ, [], false, length, slice_set, IfNone, IfSome};
-ghost use Rattle.lane_core.specs.NextSlots.{has_come, slot_at, is_here, waiting_at};
+ghost use Rattle.lane_core.specs.inner.NextSlots.{has_come, is_here, slot_at};
+ghost use Rattle.lane_core.specs.NextSlots.{waiting_at};
 ghost use Rattle.lane_core.specs.declared.next_slot.NextSlot.TheVariants.{Here, Out};
 
 use crate::delivery::Delivery;

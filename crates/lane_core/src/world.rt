@@ -35,7 +35,8 @@ impl Model for World {
 
     ghost Value = { Contents };
 
-    ghost use Rattle.lane_core.specs.Holding.{HoldsShown, held};
+    ghost use Rattle.lane_core.specs.inner.Holding.{HoldsShown};
+    ghost use Rattle.lane_core.specs.Holding.{held};
 
     ghost view = { held };
 

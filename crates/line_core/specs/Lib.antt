@@ -2,6 +2,7 @@ pub mod Grids
 pub mod Numbers
 pub mod answers
 pub mod check
+pub mod inner
 pub mod input
 pub mod lanes
 pub mod live

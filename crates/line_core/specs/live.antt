@@ -1,10 +1,5 @@
 pub mod Answering
-pub mod Came
-pub mod Finish
 pub mod Laws
 pub mod Lived
-pub mod Meaning
 pub mod Replies
-pub mod Stops
 pub mod Text
-pub mod Turns

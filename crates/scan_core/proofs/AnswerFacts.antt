@@ -13,7 +13,8 @@ use Rattle.scan_core.specs.declared.answer.Answer.TheVariants.{Read, Refused}
 use Rattle.scan_core.specs.Row.{IsRow, dots_of, inner}
 use Rattle.scan_core.specs.Showing.{IsCandidate, kind_of}
 use Rattle.scan_core.specs.Answers.{FailsAt, IsAnswer, IsRefused, Spells, Tells}
-use Rattle.scan_core.specs.Reading.{IsReadAs, stage_fault}
+use Rattle.scan_core.specs.inner.Reading.{IsReadAs}
+use Rattle.scan_core.specs.Reading.{stage_fault}
 use Rattle.scan_core.proofs.CandidateFacts.{candidate_dark}
 use Rattle.scan_core.proofs.ContentFacts.{one_content, spelled_fault}
 use Rattle.scan_core.proofs.ShownFacts.{SymbolLaws, one_symbol}

@@ -12,7 +12,7 @@ use Rattle.code128_code.specs.Characters.{pattern, patterns, stop}
 use Rattle.code128_code.specs.Symbols.{characters_of}
 use Rattle.scan_core.specs.Showing.{IsRun, IsSymbol, Way, along}
 use Rattle.scan_core.specs.Showing.Way.{Forwards, Backwards}
-use Rattle.scan_core.specs.Searches.{MayEnd}
+use Rattle.scan_core.specs.inner.Searches.{MayEnd}
 
 -- the widths that a symbol begins with
 pub record BeginsNarrow (ms : List ℕ) : Type 0 where

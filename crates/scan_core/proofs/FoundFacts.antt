@@ -3,7 +3,8 @@ use Rattle.std.proofs.Common.{◌≡◌, ℕ, List, length, Option, Some, None, 
 use Rattle.ean_code.specs.Symbols.{Kind}
 use Rattle.scan_core.specs.declared.symbol.Symbol.{Symbol}
 use Rattle.scan_core.specs.declared.symbol.Symbol.TheVariants.{Number, BadCheckDigit, Characters}
-use Rattle.scan_core.specs.Reading.{IsSymbolAs, ShowsSymbol, symbol_content}
+use Rattle.scan_core.specs.Reading.{IsSymbolAs, ShowsSymbol}
+use Rattle.scan_core.specs.inner.Reading.{symbol_content}
 use Rattle.scan_core.specs.declared.carrier.Carrier.{Carrier}
 use Rattle.scan_core.specs.declared.stage.Stage.TheVariants as stages
 use Rattle.scan_core.specs.Row.{IsRow, inner}

@@ -8,7 +8,8 @@ use Rattle.scan_core.specs.declared.stage.Stage.TheVariants.{QuietZone, Modules,
 use Rattle.scan_core.specs.Row.{inner}
 use Rattle.scan_core.specs.Showing.{IsCandidate, Shows, Way}
 use Rattle.scan_core.specs.Answers.{Fails, FailsAt, IsRefused, number_of}
-use Rattle.scan_core.specs.Reading.{later, stage_fault}
+use Rattle.scan_core.specs.inner.Reading.{later}
+use Rattle.scan_core.specs.Reading.{stage_fault}
 use Rattle.scan_core.proofs.CandidateFacts.{one_fixed, one_gs1128, which}
 
 -- ---- a row fails at one stage

@@ -10,7 +10,7 @@ use Rattle.scan_core.specs.declared.carrier.Carrier.{Carrier}
 use Rattle.scan_core.specs.declared.window.Window.{Window}
 use Rattle.scan_core.specs.Row.{IsRow, inner}
 use Rattle.scan_core.specs.Showing.{IsCandidate, IsRun, Shows, Way, along, kind_of}
-use Rattle.scan_core.specs.Searches.{HasRun, MayEnd}
+use Rattle.scan_core.specs.inner.Searches.{HasRun, MayEnd}
 use Rattle.scan_core.specs.Windows.{IsSymbolOf, runs_in}
 use Rattle.scan_core.proofs.CandidateFacts.{candidate_dots, few_runs}
 use Rattle.scan_core.proofs.EndFacts.{lying_narrow, may_end}

@@ -9,7 +9,6 @@ pub mod Answers
 pub mod BeforeItf14
 pub mod Bits
 pub mod Faults
-pub mod FirstRuns
 pub mod Laws
 pub mod Lines
 pub mod Ratios
@@ -18,3 +17,4 @@ pub mod Row
 pub mod Searches
 pub mod Showing
 pub mod Windows
+pub mod inner

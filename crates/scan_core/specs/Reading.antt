@@ -1,49 +1,26 @@
 -- What the reader of a row comes by on its way to the answer.
-use Rattle.std.specs.Prelude.{⊤, ◌≡◌, ℕ, List, ◌++◌, Option, Some, None, Result, Ok, Err, codes, nat_lt, if◌then◌else◌}
+use Rattle.std.specs.Prelude.{⊤, ℕ, List, Option, Some, None}
 use Rattle.ean_code.specs.Spelling.{IsSpelled}
 use Rattle.ean_code.specs.Symbols.{Kind}
 use Rattle.ean_code.specs.declared.reading.Spelled.TheVariants as spelled
 use Rattle.code128_code.specs.Symbols.{IsCode128Symbol}
 use Rattle.scan_core.specs.declared.carrier.Carrier.{Carrier}
 use Rattle.scan_core.specs.Showing.{Shows, Way, kind_of}
-use Rattle.digits_core.specs.Digits.{ascii_of}
-use Rattle.element_core.specs.Elements.{IsElements, FirstFault, Listing}
-use Rattle.element_core.specs.declared.fault.ElementFault.{ElementFault}
-use Rattle.code128_code.specs.Texts.{symbol_text}
 use Rattle.scan_core.specs.declared.fault.RowFault.{RowFault}
-use Rattle.scan_core.specs.declared.fault.RowFault.TheVariants.{QuietZone, Modules, Pattern, SymbolCheckDigit, Code128, Elements}
+use Rattle.scan_core.specs.declared.fault.RowFault.TheVariants.{QuietZone, Modules, Pattern, Code128, Elements}
 use Rattle.scan_core.specs.declared.stage.Stage.{Stage}
 use Rattle.scan_core.specs.declared.stage.Stage.TheVariants as stages
 use Rattle.scan_core.specs.declared.symbol.Symbol.{Symbol}
 use Rattle.scan_core.specs.declared.symbol.Symbol.TheVariants.{Number, BadCheckDigit, Characters}
-use Rattle.code128_code.specs.declared.symbol_values.Values.{Values}
 use Rattle.scan_core.specs.declared.found.Found.{Found}
 use Rattle.scan_core.specs.declared.found.Found.TheVariants as found
-use Rattle.scan_core.specs.Answers.{IsRefused, number_of, row_text}
+use Rattle.scan_core.specs.Answers.{IsRefused}
 
 -- the fault of a row that fails at this stage
 abbrev pub stage_fault : Stage → RowFault
 stage_fault stages.QuietZone = QuietZone
 stage_fault stages.Modules = Modules
 stage_fault stages.Pattern = Pattern
-
--- the later one of two stages
-abbrev pub later : Stage → Stage → Stage
-later first second = if nat_lt (number_of first) (number_of second) then second else first
-
--- the text of a number: AI 01 and its fourteen digits
-abbrev pub number_text : List ℕ → Result (List ℕ) RowFault
-number_text gtin = Ok (codes "01" ++ ascii_of gtin)
-
--- the text that the values of a Code 128 symbol say, or their fault
-abbrev pub text_in : Values → Result (List ℕ) RowFault
-text_in values = row_text (symbol_text values.start values.values.items values.check)
-
--- what a symbol spells, by what it was found to be
-abbrev pub symbol_content : Symbol → Result (List ℕ) RowFault
-symbol_content (Number gtin) = number_text gtin
-symbol_content BadCheckDigit = Err SymbolCheckDigit
-symbol_content (Characters values) = text_in values
 
 -- the modules, a symbol of this kind or else of Code 128, are found to be this
 abbrev pub IsSymbolAs : Option Kind → List ℕ → Symbol → Type 0
@@ -57,12 +34,6 @@ IsSymbolAs None modules (Characters values) = IsCode128Symbol values.start value
 -- the row shows this symbol of the carrier, one way or the other
 abbrev pub ShowsSymbol : List ℕ → Carrier → Symbol → Type 0
 ShowsSymbol runs carrier symbol = (way : Way) × (modules : List ℕ) × Shows runs carrier way modules × IsSymbolAs (kind_of carrier) modules symbol
-
--- under this reference year these are the elements of what is spelled, or this is the fault
-abbrev pub IsReadAs : ℕ → Result (List ℕ) RowFault → Result Listing RowFault → Type 0
-IsReadAs year (Ok text) (Ok listing) = (listing.year ≡ year) × IsElements year text listing.list
-IsReadAs year (Ok text) (Err fault) = (first : ElementFault) × FirstFault year text first × (fault ≡ Elements first)
-IsReadAs year (Err fault) read = read ≡ Err fault
 
 -- the fault is one of the row or of a check digit, and not of the text that the values of a symbol say
 abbrev pub IsBeforeText : RowFault → Type 0

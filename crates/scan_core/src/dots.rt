@@ -2,7 +2,7 @@
 ghost use Rattle.std.specs.Prelude.{◌≡◌, ◌<◌, ◌≤◌, ◌*◌, ◌++◌, ◌∷◌, [], List, ℕ, length, MatchOption};
 ghost use Rattle.scan_core.specs.Answers.{IsAnswer};
 ghost use Rattle.scan_core.specs.Bits.{dots_at};
-ghost use Rattle.scan_core.specs.FirstRuns.{AreFirst, IsLongRow};
+ghost use Rattle.scan_core.specs.inner.FirstRuns.{AreFirst, IsLongRow};
 ghost use Rattle.scan_core.specs.Row.{IsRow, dots_of};
 
 use crate::answer::{Answer, answer_in};

@@ -1,7 +1,8 @@
 //! What is found in a row before its elements are made.
 ghost use Rattle.std.specs.Prelude.{List, ℕ};
 ghost use Rattle.scan_core.specs.Answers.{IsAnswer};
-ghost use Rattle.scan_core.specs.Reading.{IsFound, IsReadAs, text_in};
+ghost use Rattle.scan_core.specs.Reading.{IsFound};
+ghost use Rattle.scan_core.specs.inner.Reading.{IsReadAs, text_in};
 
 use crate::answer::Answer;
 use crate::carrier::Carrier;

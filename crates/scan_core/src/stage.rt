@@ -1,6 +1,6 @@
 //! The tests of a row as a symbol of a carrier.
 ghost use Rattle.std.specs.Prelude.{◌≡◌};
-ghost use Rattle.scan_core.specs.Reading.{later};
+ghost use Rattle.scan_core.specs.inner.Reading.{later};
 
 /// A test that a row has to pass as a symbol of a carrier, in the order in which they are made.
 #[derive(Clone, Copy, PartialEq, Eq, PartialOrd, Ord)]

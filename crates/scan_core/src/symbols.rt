@@ -2,7 +2,7 @@
 ghost use Rattle.std.specs.Prelude.{None, ◌≡◌, ◌⊎◌, ◌<◌, ◌+◌, ◌%◌, ◌≤◌, ◌↔◌, IfErr, IfNone, IfOk, IfSome, IsTrue, OnOk, ℕ, false, length, slice_index};
 ghost use Rattle.scan_core.specs.Row.{IsRow, runs_fault};
 ghost use Rattle.scan_core.specs.Showing.{IsCandidate};
-ghost use Rattle.scan_core.specs.Searches.{AreNoneShorter, HasRun, IsNextPlace, MayEnd};
+ghost use Rattle.scan_core.specs.inner.Searches.{AreNoneShorter, HasRun, IsNextPlace, MayEnd};
 ghost use Rattle.scan_core.specs.Windows.{IsNext, IsOver, IsSymbolOf, search_after, search_of};
 
 use crate::answer::{Answer, answer_in};
@@ -39,7 +39,8 @@ impl<'a> Model for Symbols<'a> {
 
     ghost Value = { Search };
 
-    ghost use Rattle.scan_core.specs.Searches.{search_in, IsSearch};
+    ghost use Rattle.scan_core.specs.Searches.{search_in};
+    ghost use Rattle.scan_core.specs.inner.Searches.{IsSearch};
 
     ghost view = { search_in };
 

@@ -7,7 +7,7 @@ use Rattle.std.proofs.lemmas.List.{append_assoc, append-nil, get_or_append_left,
 use Rattle.sheet_core.specs.Drawing.{is_bar_row}
 use Rattle.sheet_core.specs.Grids.{Cells}
 use Rattle.sheet_core.specs.Labels.{Drawn}
-use Rattle.sheet_core.specs.Lines.{IsBarLine, band, repeated_bytes, row_labels}
+use Rattle.sheet_core.specs.inner.Lines.{IsBarLine, band, repeated_bytes, row_labels}
 
 -- ---- lists by their places
 

@@ -8,7 +8,7 @@ use Rattle.sheet_core.specs.Bitmaps.{Bitmap}
 use Rattle.sheet_core.specs.Drawing.{ArePrinted, IsSheet, cell_count, sheet_count}
 use Rattle.sheet_core.specs.Grids.{Cells, IsGrid}
 use Rattle.sheet_core.specs.Labels.{Drawn, IsDrawn}
-use Rattle.sheet_core.specs.Lines.{IsBarLine, band, row_labels}
+use Rattle.sheet_core.specs.inner.Lines.{IsBarLine, band, row_labels}
 use Rattle.sheet_core.specs.pbm.Headers.{header_text}
 use Rattle.sheet_core.specs.pbm.Images.{pbm_of}
 use Rattle.sheet_core.specs.declared.label.Label.{Label}

@@ -3,7 +3,7 @@ use Rattle.std.proofs.Common.{◌≡◌, ◌∙◌, ◌+◌, ◌-◌, ◌*◌, �
 use Rattle.digits_core.specs.Buffers.{pasted}
 use Rattle.digits_core.proofs.Pasted.{length-pasted, pasted_more}
 use Rattle.sheet_core.specs.Grids.{Cells, IsGrid}
-use Rattle.sheet_core.specs.Lines.{band, repeated_bytes}
+use Rattle.sheet_core.specs.inner.Lines.{band, repeated_bytes}
 use Rattle.sheet_core.proofs.BandFacts.{band_long, length-rows, rows_more}
 
 -- ---- rows

@@ -13,7 +13,7 @@ use Rattle.sheet_core.specs.Bitmaps.{Bitmap, IsBitmap, pad, stride}
 use Rattle.sheet_core.specs.Drawing.{IsSheet, cell_count, cell_dot, cell_over, is_bar_row}
 use Rattle.sheet_core.specs.Grids.{Cells, IsGrid}
 use Rattle.sheet_core.specs.Labels.{Drawn}
-use Rattle.sheet_core.specs.Lines.{band, line_dot, line_dot_of, row_labels}
+use Rattle.sheet_core.specs.inner.Lines.{band, line_dot, line_dot_of, row_labels}
 use Rattle.sheet_core.proofs.BandFacts.{Banded, band_at, band_long, flat_at, flat_long, slice_get-drop, slice_get-take}
 
 mod_low : (n d : ℕ) → 0 < d → n % d < d

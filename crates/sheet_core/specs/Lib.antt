@@ -8,6 +8,6 @@ pub mod Grids
 pub mod Kinds
 pub mod Labels
 pub mod Laws
-pub mod Lines
+pub mod inner
 pub mod pbm
 pub mod PrintLaws

@@ -3,7 +3,7 @@ ghost use Rattle.std.specs.Prelude.{[], ◌≡◌, ◌+◌, ◌*◌, ◌∷◌, 
 ghost use Rattle.digits_core.specs.Buffers.{IsPut, pasted};
 ghost use Rattle.sheet_core.specs.Bitmaps.{Bitmap, stride};
 ghost use Rattle.sheet_core.specs.Drawing.{ArePrinted, IsSheetFault};
-ghost use Rattle.sheet_core.specs.Lines.{band, repeated_bytes};
+ghost use Rattle.sheet_core.specs.inner.Lines.{band, repeated_bytes};
 ghost use Rattle.sheet_core.specs.pbm.Images.{pbm_of};
 
 use crate::fault::SheetFault;

@@ -6,7 +6,7 @@ ghost use Rattle.scan_core.specs.Bits.{dot_at};
 ghost use Rattle.scan_core.specs.Row.{dots_from};
 ghost use Rattle.sheet_core.specs.Bitmaps.{stride};
 ghost use Rattle.sheet_core.specs.Labels.{Drawn, FitsCell, IsDrawn};
-ghost use Rattle.sheet_core.specs.Lines.{IsBarLine};
+ghost use Rattle.sheet_core.specs.inner.Lines.{IsBarLine};
 
 use crate::grid::Grid;
 use crate::label::Label;

@@ -4,7 +4,7 @@ ghost use Rattle.std.specs.List.{AllByRecursion, AllZip};
 ghost use Rattle.sheet_core.specs.Bitmaps.{stride};
 ghost use Rattle.sheet_core.specs.Drawing.{ArePrinted, IsSheet, IsSheetFault, cell_count};
 ghost use Rattle.sheet_core.specs.Labels.{Drawn, FitsCell, IsDrawn, IsPrintable};
-ghost use Rattle.sheet_core.specs.Lines.{IsBarLine, band, repeated_bytes};
+ghost use Rattle.sheet_core.specs.inner.Lines.{IsBarLine, band, repeated_bytes};
 
 use crate::fault::SheetFault;
 use crate::grid::Grid;

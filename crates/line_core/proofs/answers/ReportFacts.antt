@@ -10,7 +10,8 @@ use Rattle.scan_core.specs.declared.answer.Answer.{Answer}
 use Rattle.lane_core.specs.declared.job.Plain.{Plain}
 use Rattle.hub_core.specs.Laws.{AreAnswersOf}
 use Rattle.hub_core.specs.Traffics.{with_more}
-use Rattle.line_core.specs.answers.Reports.{AreLinesOf, IsReport, lane_lines, lanes_from, line_of, lines_from}
+use Rattle.line_core.specs.inner.Reports.{AreLinesOf, lane_lines}
+use Rattle.line_core.specs.answers.Reports.{IsReport, lanes_from, line_of, lines_from}
 use Rattle.line_core.proofs.Beside.{zip_more}
 
 -- one more line

@@ -9,9 +9,10 @@ use Rattle.lane_core.specs.declared.job.Plain.{Plain}
 use Rattle.hub_core.specs.Laws.{AnswersAreRead, AreAnswersOf}
 use Rattle.hub_core.specs.Serving.{served}
 use Rattle.hub_core.specs.Traffics.{HasRoom, with_more}
-use Rattle.line_core.specs.answers.Reports.{AreLinesOf, IsReport}
-use Rattle.line_core.specs.answers.Rows.{HasGiven, StandsAfter, is_ended}
-use Rattle.line_core.specs.input.Reading.{HasRead}
+use Rattle.line_core.specs.inner.Reports.{AreLinesOf}
+use Rattle.line_core.specs.answers.Reports.{IsReport}
+use Rattle.line_core.specs.inner.Rows.{HasGiven, StandsAfter, is_ended}
+use Rattle.line_core.specs.inner.Reading.{HasRead}
 use Rattle.line_core.specs.input.Records.{AreItems, Fields, records_of}
 use Rattle.line_core.specs.lanes.Feeds.{LaneRow, feed_of, feeds_of, lanes_meaning}
 use Rattle.line_core.specs.declared.answers.rows.Course.{Course}

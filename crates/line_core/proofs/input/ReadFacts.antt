@@ -2,7 +2,7 @@
 use Rattle.std.proofs.Common.{List, arith, length, ◌+◌, ◌++◌, ◌≡◌, ◌≤◌, ℕ}
 use Rattle.csv.specs.Reading.{default_config, strip_bom}
 use Rattle.csv.specs.declared.parser.State.TheVariants as st
-use Rattle.line_core.specs.input.Reading.{HasRead}
+use Rattle.line_core.specs.inner.Reading.{HasRead}
 use Rattle.line_core.specs.input.Records.{Fields, records_of}
 use Rattle.line_core.specs.declared.input.records.Records.{Records}
 use Rattle.line_core.proofs.input.Reaching.{are_front, reached_few, stripped_short}

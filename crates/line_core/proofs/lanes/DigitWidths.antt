@@ -6,7 +6,7 @@ use Rattle.std.specs.Option.{IfNone, IfSome}
 use Rattle.std.proofs.Math.Dec.{leb}
 use Rattle.std.proofs.lemmas.Bool.{and_parts, cases_eq, le-leb, leb-true}
 use Rattle.std.proofs.lemmas.List.{append-nil, append_assoc, drop-drop, get_or-drop, get_or-set_other, get_or-set_same, length-drop, length-take-le, take_all, take_more}
-use Rattle.line_core.specs.lanes.Widths.{BeginsWithDigits, IsDigitAt}
+use Rattle.line_core.specs.inner.Widths.{BeginsWithDigits, IsDigitAt}
 use Rattle.line_core.proofs.Decimals.{digit_range}
 use Rattle.line_core.proofs.lanes.FieldWords.{AreRead, one_digit}
 

@@ -8,7 +8,8 @@ use Rattle.std.proofs.lemmas.List.{length-drop, map-append, take-append-drop, ta
 use Rattle.std.proofs.lemmas.Bool.Decides.{nat_tests}
 use Rattle.std.proofs.lemmas.List.Splits.{length-slice_split}
 use Rattle.std.proofs.lemmas.List.Folds.{list_all-append, list_all_more, list_any-append}
-use Rattle.line_core.specs.lanes.Widths.{IsFirstWidth, are_widths, field_fault, is_number, words_of}
+use Rattle.line_core.specs.inner.Widths.{IsFirstWidth}
+use Rattle.line_core.specs.lanes.Widths.{are_widths, field_fault, is_number, words_of}
 use Rattle.line_core.specs.declared.input.fault.RecordFault.TheVariants as fault
 use Rattle.line_core.proofs.Decimals.{digit_range}
 use Rattle.line_core.proofs.lanes.FirstWidth.{and_false, more_digits, more_value, next_width, word_before_space}

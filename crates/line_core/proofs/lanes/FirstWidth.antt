@@ -11,7 +11,8 @@ use Rattle.std.proofs.lemmas.List.{length-drop, length-take-le, take-append-drop
 use Rattle.std.proofs.lemmas.List.Elements.{All-from_get_or}
 use Rattle.std.proofs.lemmas.List.Folds.{list_all-append, list_all_more}
 use Rattle.std.proofs.lemmas.List.Splits.{slice_split-cons_no, slice_split_at, slice_split_none}
-use Rattle.line_core.specs.lanes.Widths.{IsFirstWidth, are_widths, is_number, words_of}
+use Rattle.line_core.specs.inner.Widths.{IsFirstWidth}
+use Rattle.line_core.specs.lanes.Widths.{are_widths, is_number, words_of}
 use Rattle.line_core.proofs.Decimals.{digit_range, digit_shows, few_digits, test_at}
 
 -- a digit is no space

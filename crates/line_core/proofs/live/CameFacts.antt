@@ -11,10 +11,10 @@ use Rattle.lane_core.specs.declared.job.Plain.{Plain}
 use Rattle.hub_core.specs.Traffics.{HasRoom, IsEven, with_more}
 use Rattle.wire_core.specs.Events.{Event}
 use Rattle.wire_core.specs.Lines.{Held, without_line}
-use Rattle.line_core.specs.live.Came.{AreWaiting, HasCome, IsInTurn, IsReady, IsWaiting, KeepsPlaces, KeepsRow, Stands}
-use Rattle.line_core.specs.live.Meaning.{HoldsRecord}
+use Rattle.line_core.specs.inner.Came.{AreWaiting, HasCome, IsInTurn, IsReady, IsWaiting, KeepsPlaces, KeepsRow, Stands}
+use Rattle.line_core.specs.inner.Meaning.{HoldsRecord}
 use Rattle.line_core.specs.live.Replies.{most_rows}
-use Rattle.line_core.specs.live.Turns.{IsEnded, IsOneMore, IsRoomier}
+use Rattle.line_core.specs.inner.Turns.{IsEnded, IsOneMore, IsRoomier}
 use Rattle.line_core.specs.declared.live.fault.LiveFault.{LiveFault}
 use Rattle.line_core.specs.declared.live.fault.LiveFault.TheVariants.{NoMemory}
 use Rattle.element_core.specs.declared.form.Form.{Form}

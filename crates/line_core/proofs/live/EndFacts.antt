@@ -18,13 +18,14 @@ use Rattle.wire_core.specs.Events.Event.{Read}
 use Rattle.wire_core.specs.Lines.{Held, held_line, nothing_held, pieces_of}
 use Rattle.wire_core.proofs.PieceFacts.{lines_are_pieces}
 use Rattle.line_core.specs.live.Answering.{AnswersBy, IsFrontBy, IsPromptBy}
-use Rattle.line_core.specs.live.Came.{HasCome, IsInTurn, KeepsPlaces, TellsReply, WasGiven}
+use Rattle.line_core.specs.inner.Came.{HasCome, IsInTurn, KeepsPlaces, TellsReply, WasGiven}
 use Rattle.line_core.specs.live.Replies.{Reply, replies_to}
 use Rattle.line_core.specs.live.Replies.Reply.{Row, Line}
-use Rattle.line_core.specs.live.Stops.{TellsFaults}
+use Rattle.line_core.specs.inner.Stops.{TellsFaults}
 use Rattle.line_core.specs.live.Text.{AnsweredAll, IsReply, line_meant}
-use Rattle.line_core.specs.live.Turns.{IsFresh}
-use Rattle.line_core.specs.live.Lived.{EndsAs, Lived}
+use Rattle.line_core.specs.inner.Turns.{IsFresh}
+use Rattle.line_core.specs.inner.Lived.{EndsAs}
+use Rattle.line_core.specs.live.Lived.{Lived}
 use Rattle.line_core.specs.declared.live.answering.LiveTerms.{LiveTerms}
 use Rattle.line_core.specs.declared.live.fault.LiveFault.{LiveFault}
 use Rattle.line_core.specs.declared.live.fault.LiveFault.TheVariants as fault

@@ -9,7 +9,7 @@ use Rattle.lane_core.specs.declared.job.Plain.{Plain}
 use Rattle.hub_core.specs.Traffics.{with_more}
 use Rattle.wire_core.specs.Events.{Event}
 use Rattle.wire_core.specs.Lines.{Held}
-use Rattle.line_core.specs.live.Came.{Stands, TellsReply}
+use Rattle.line_core.specs.inner.Came.{Stands, TellsReply}
 use Rattle.line_core.specs.live.Replies.{Reply, replies_to}
 use Rattle.line_core.specs.live.Replies.Reply.{Row, Line}
 use Rattle.line_core.specs.live.Text.{line_meant}

@@ -12,9 +12,10 @@ use Rattle.wire_core.specs.Events.Event.{Read}
 use Rattle.wire_core.specs.Lines.{Held, TakesLines, arrived, held_line, pieces_of, with_room, without_line}
 use Rattle.wire_core.proofs.PieceFacts.{lines_are_pieces}
 use Rattle.line_core.specs.live.Answering.{AnswersBy, BeginsBy, whole_lines}
-use Rattle.line_core.specs.live.Came.{IsPlaceOf, AreWaiting, KeepsPlaces, TellsPlace, Stands, TellsReply, WasGiven}
-use Rattle.line_core.specs.live.Meaning.{HoldsRecord}
-use Rattle.line_core.specs.live.Replies.{Reply, numbers_after, numbers_after_lines, most_rows, refusal_line, replies_from, replies_to, reply_to}
+use Rattle.line_core.specs.inner.Came.{AreWaiting, IsPlaceOf, KeepsPlaces, Stands, TellsPlace, TellsReply, WasGiven}
+use Rattle.line_core.specs.inner.Meaning.{HoldsRecord}
+use Rattle.line_core.specs.live.Replies.{Reply, numbers_after, most_rows, refusal_line, replies_from, replies_to, reply_to}
+use Rattle.line_core.specs.inner.Replies.{numbers_after_lines}
 use Rattle.line_core.specs.live.Replies.Reply.{Row, Line}
 use Rattle.line_core.specs.answers.Reports.{numbered_line}
 use Rattle.line_core.specs.live.Text.{HasEnded, line_fault_text, line_meant}

@@ -2,7 +2,7 @@
 use Rattle.std.proofs.Common.{◌≡◌, ◌<◌, ◌≤◌, ◌+◌, ◌==◌, ◌∙◌, ◌∷◌, ⊎_elim, Err, List, None, Some, [], ap, arith, false, length, nat_lt, subst, sym, true, ℕ}
 use Rattle.std.proofs.lemmas.Bool.{cases_Bool, cond-true, cond_both, lt-ltb}
 use Rattle.wire_core.specs.Lines.{Held, IsLine, most_line}
-use Rattle.line_core.specs.live.Meaning.{HoldsRecord, IsRecord}
+use Rattle.line_core.specs.inner.Meaning.{HoldsRecord, IsRecord}
 use Rattle.line_core.specs.live.Replies.{refusal_line}
 use Rattle.line_core.specs.live.Text.{line_fault_text, line_meant, without_return}
 use Rattle.line_core.specs.declared.live.record.LineFault.TheVariants as line_fault

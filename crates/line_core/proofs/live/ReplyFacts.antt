@@ -3,7 +3,8 @@ use Rattle.std.proofs.Common.{◌≡◌, ◌≢◌, ◌++◌, ◌+◌, ◌∙◌
 use Rattle.std.specs.List.{cons_option, filter_map}
 use Rattle.std.proofs.lemmas.Bool.{eq-eqb, ne_eqb}
 use Rattle.std.proofs.lemmas.List.Elements.{filter_map-append}
-use Rattle.line_core.specs.live.Replies.{Meant, Numbers, numbers_after, numbers_after_lines, numbers_from, one_later, replies_from, replies_to, reply_to}
+use Rattle.line_core.specs.live.Replies.{Meant, Numbers, numbers_after, one_later, replies_from, replies_to, reply_to}
+use Rattle.line_core.specs.inner.Replies.{numbers_after_lines, numbers_from}
 
 replies_append : (next : Numbers) (ms ns : List Meant) → replies_from next (ms ++ ns) ≡ replies_from next ms ++ replies_from (numbers_from next ms) ns
 replies_append next [] ns = refl

@@ -6,7 +6,7 @@ use Rattle.std.proofs.lemmas.Bool.{cases_eq, cases_lt}
 use Rattle.std.proofs.lemmas.List.{get_or-set_other, length-set}
 use Rattle.std.proofs.lemmas.Grind.{get_or-set_at}
 use Rattle.std.proofs.lemmas.Option.{get_or_from_slice_get, slice_get-get_or, slice_get_past, slice_get_read, slice_get_within}
-use Rattle.line_core.specs.live.Turns.{IsEnded}
+use Rattle.line_core.specs.inner.Turns.{IsEnded}
 use Rattle.line_core.specs.declared.live.waiting.Waiting.{Waiting}
 
 -- what stands in a list where another item was put

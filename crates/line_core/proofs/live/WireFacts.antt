@@ -8,9 +8,9 @@ use Rattle.hub_core.specs.Traffics.{IsEven}
 use Rattle.wire_core.specs.Events.{Event, writes_of}
 use Rattle.wire_core.specs.Events.Event.{Read}
 use Rattle.wire_core.specs.Lines.{Held, arrived, held_line, with_room}
-use Rattle.line_core.specs.live.Came.{HasCome, IsInTurn, IsProgressAt, IsReady, IsStoppedBy, KeepsPlaces, Stands, TellsPlace}
-use Rattle.line_core.specs.live.Stops.{MayStillWrite, TellsEnd, TellsFaults}
-use Rattle.line_core.specs.live.Turns.{IsEnded}
+use Rattle.line_core.specs.inner.Came.{HasCome, IsInTurn, IsProgressAt, IsReady, IsStoppedBy, KeepsPlaces, Stands, TellsPlace}
+use Rattle.line_core.specs.inner.Stops.{MayStillWrite, TellsEnd, TellsFaults}
+use Rattle.line_core.specs.inner.Turns.{IsEnded}
 use Rattle.line_core.specs.declared.live.fault.LiveFault.{LiveFault}
 use Rattle.line_core.specs.declared.live.fault.LiveFault.TheVariants.{NoMemory, ReadFault, WriteFault}
 use Rattle.element_core.specs.declared.form.Form.{Form}

@@ -5,8 +5,6 @@ use Rattle.std.specs.List.{AllZip}
 use Rattle.scan_core.specs.Answers.{Reads}
 use Rattle.scan_core.specs.Lines.{said}
 use Rattle.scan_core.specs.declared.answer.Answer.{Answer}
-use Rattle.lane_core.specs.declared.job.Plain.{Plain}
-use Rattle.hub_core.specs.Laws.{AreAnswersOf}
 use Rattle.element_core.specs.declared.form.Form.{Form}
 use Rattle.element_core.specs.declared.form.Form.TheVariants as form
 
@@ -31,15 +29,6 @@ lanes_from lane (answers ∷ rest) = lines_from lane 0 answers ++ lanes_from (la
 -- the lines of all lanes, lane by lane
 abbrev pub report : List (List Answer) → List ℕ
 report = lanes_from 0
-
--- the lines of each lane, from one on
-abbrev pub lane_lines : ℕ → List (List Answer) → List (List ℕ)
-lane_lines lane [] = []
-lane_lines lane (answers ∷ rest) = lines_from lane 0 answers ∷ lane_lines (lane + 1) rest
-
--- the texts are the lines of what each lane was brought
-abbrev pub AreLinesOf : List (List Plain) → List (List ℕ) → Type 0
-AreLinesOf brought texts = (answers : List (List Answer)) × AllZip AreAnswersOf brought answers × (texts ≡ lane_lines 0 answers)
 
 -- the text is the report of the answers to these rows under the reference year
 abbrev pub IsReport : ℕ → List (List (List ℕ)) → List ℕ → Type 0

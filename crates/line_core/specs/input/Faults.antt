@@ -8,8 +8,6 @@ use Rattle.scan_core.specs.Faults.{run_fault_text}
 use Rattle.scan_core.specs.declared.fault.RunFault.TheVariants as runs
 use Rattle.line_core.specs.declared.input.fault.RecordFault.{RecordFault}
 use Rattle.line_core.specs.declared.input.fault.RecordFault.TheVariants as fault
-use Rattle.line_core.specs.declared.input.fault.RecordRefusal.{RecordRefusal}
-use Rattle.line_core.specs.declared.input.fault.RecordRefusal.TheVariants as refusal
 use Rattle.line_core.specs.declared.input.fault.RecordsFault.{RecordsFault}
 use Rattle.line_core.specs.declared.input.fault.RecordsFault.TheVariants as records
 
@@ -28,16 +26,3 @@ abbrev pub of_input : InputFault → RecordsFault
 of_input input.ReadFault = records.ReadFault
 of_input input.InputSize = records.InputSize
 of_input input.NoMemory = records.NoMemory
-
--- a record's fault, as its refusal
-abbrev pub of_record : RecordFault → RecordRefusal
-of_record f = refusal.Record f
-
--- a refused growth, as a record's refusal
-abbrev pub no_room : RecordRefusal
-no_room = refusal.NoMemory
-
--- a refusal of the record at this index, as that of the records
-abbrev pub refusal_at : ℕ → RecordRefusal → RecordsFault
-refusal_at index (refusal.Record f) = records.Record index f
-refusal_at index refusal.NoMemory = records.NoMemory

@@ -31,12 +31,6 @@ pub record IsFirstFault {Item : Type 0} (means : Meaning Item) (rows : List Fiel
   pub before : AreItems means (take i rows) items
   pub faulty : means fields (Err f)
 
--- the refusal names the first faulty record, or memory
-abbrev pub NamesFirst : {Item : Type 0} → Meaning Item → List Fields → RecordsFault → Type 0
-NamesFirst means rows (refused.Record i f) = IsFirstFault means rows i f
-NamesFirst means rows refused.NoMemory = ⊤
-NamesFirst means rows _ = ⊥
-
 -- how many bytes a command reads
 abbrev pub most_bytes : ℕ
 most_bytes = 16777216

@@ -1,5 +1,5 @@
 -- Rows as they are spelled in a field: widths in dots, with one space between them.
-use Rattle.std.specs.Prelude.{◌≡◌, ◌≢◌, ◌==◌, ◌&&◌, ◌<◌, ◌+◌, ◌-◌, ◌*◌, get_or, nat_le, ℕ, Bool, List, [], ◌∷◌, Option, true, Some, None, length, map, if◌then◌else◌}
+use Rattle.std.specs.Prelude.{◌==◌, ◌&&◌, nat_le, ℕ, Bool, List, Option, Some, None, length, map, if◌then◌else◌}
 use Rattle.std.specs.Char.{is_ascii_digit}
 use Rattle.std.specs.List.{list_all, slice_split}
 use Rattle.std.specs.Str.Parse.{digits_value}
@@ -13,10 +13,6 @@ use Rattle.line_core.specs.declared.input.fault.RecordFault.TheVariants as fault
 abbrev pub is_number : ℕ → List ℕ → Bool
 is_number most text = nat_le 1 (length text) && (nat_le (length text) most && list_all is_ascii_digit text)
 
--- the number that a text of one to `most` digits shows
-abbrev pub number_in : ℕ → List ℕ → Option ℕ
-number_in most text = if is_number most text then Some (digits_value 10 text) else None
-
 -- the texts between the spaces of a field
 abbrev pub words_of : List ℕ → List (List ℕ)
 words_of field = slice_split (λ b. b == 32) field
@@ -28,23 +24,6 @@ are_widths words = list_all (is_number 5) words
 -- the widths that a field shows
 abbrev pub widths_in : List ℕ → List ℕ
 widths_in field = map (digits_value 10) (words_of field)
-
--- this width begins the text, a word of one to five digits, and the words after it, if there are any, are those of the rest
-pub record IsFirstWidth (text : List ℕ) (width : ℕ) (rest : List ℕ) : Type 0 where
-  pub word : List ℕ
-  pub others : List (List ℕ)
-  pub words : words_of text ≡ word ∷ others
-  pub number : is_number 5 word ≡ true
-  pub value : width ≡ digits_value 10 word
-  pub after : others ≢ [] → others ≡ words_of rest
-
--- this width is a digit before a space, where `i` such words stand before it
-abbrev pub IsDigitAt : List ℕ → ℕ → ℕ → Type 0
-IsDigitAt text i width = (is_ascii_digit (get_or text (2 * i) 0) ≡ true) × (get_or text (2 * i + 1) 0 ≡ 32) × (width ≡ get_or text (2 * i) 0 - 48)
-
--- the text begins with these widths, each a digit before a space
-abbrev pub BeginsWithDigits : List ℕ → List ℕ → Type 0
-BeginsWithDigits text widths = (i : ℕ) → i < length widths → IsDigitAt text i (get_or widths i 0)
 
 -- a fault of the widths, as the record's
 abbrev pub of_runs : Option RunFault → Option RecordFault

@@ -1,12 +1,10 @@
 -- What a live input leaves of its wire.
-use Rattle.std.specs.Prelude.{◌≡◌, ◌↔◌, Bool, true, false, List, Option, Some, None, Result, Ok, Err, IsErrOf, OnOk}
-use Rattle.hub_core.specs.declared.ended.Ended.{Ended}
-use Rattle.hub_core.specs.declared.ended.Ended.TheVariants.{Done}
+use Rattle.std.specs.Prelude.{◌≡◌, ◌↔◌, Bool, true, false, List, Result, IsErrOf, OnOk}
 use Rattle.wire_core.specs.Events.{Event}
 use Rattle.line_core.specs.live.Text.{AnsweredAll, AnsweredWhole, IsFront, IsPrompt}
 use Rattle.line_core.specs.declared.live.answering.LiveTerms.{LiveTerms}
 use Rattle.line_core.specs.declared.live.fault.LiveFault.{LiveFault}
-use Rattle.line_core.specs.declared.live.fault.LiveFault.TheVariants.{NoMemory, ReadFault, WriteFault}
+use Rattle.line_core.specs.declared.live.fault.LiveFault.TheVariants.{ReadFault, WriteFault}
 
 -- The wire did these reads and writes. At each read all records that had ended were answered, and at each moment what was written was the first of
 -- the lines that answer what was read; at a regular end that is all of them and nothing more comes, and after a failed read those of all records that had ended. Where
@@ -20,9 +18,3 @@ pub record Lived {W : Type 0} (t : LiveTerms) (did : W → W → List Event → 
   pub cut : IsErrOf result ReadFault → AnsweredWhole t.lanes t.form t.year events
   pub read : read_failed wire ≡ false → (IsErrOf result ReadFault ↔ (read_failed after ≡ true))
   pub write : write_failed wire ≡ false → (IsErrOf result WriteFault ↔ (write_failed after ≡ true))
-
--- how it ended: for what the live input tells, else by the end of its input, else for want of memory
-abbrev pub EndsAs : {S B : Type 0} → Option LiveFault → Ended S B → Result (Unit {0}) LiveFault → Type 0
-EndsAs (Some fault) ended result = result ≡ Err fault
-EndsAs None Done result = result ≡ Ok tt
-EndsAs None _ result = result ≡ Err NoMemory

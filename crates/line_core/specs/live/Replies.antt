@@ -45,11 +45,3 @@ replies_from next (m ∷ records) = reply_to next m ∷ replies_from (numbers_af
 -- what is written for lines, of which some mean no record
 abbrev pub replies_to : (List ℕ → Option Meant) → List (List ℕ) → List Reply
 replies_to meant lines = replies_from (λ lane. 0) (filter_map meant lines)
-
--- the numbers after these records
-abbrev pub numbers_from : Numbers → List Meant → Numbers
-numbers_from next [] = next
-numbers_from next (m ∷ records) = numbers_from (numbers_after next (reply_to next m)) records
-
-abbrev pub numbers_after_lines : (List ℕ → Option Meant) → List (List ℕ) → Numbers
-numbers_after_lines meant lines = numbers_from (λ lane. 0) (filter_map meant lines)

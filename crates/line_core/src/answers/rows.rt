@@ -3,7 +3,8 @@ ghost use Rattle.std.specs.Prelude.{[], ◌≡◌, ◌≤◌, ◌∷◌, ◌↔�
 ghost use Rattle.std.specs.List.{concat};
 ghost use Rattle.hub_core.specs.Serving.{is_count};
 ghost use Rattle.line_core.specs.answers.Reports.{IsReport};
-ghost use Rattle.line_core.specs.answers.Rows.{RefusesBytes, RefusesRows};
+ghost use Rattle.line_core.specs.inner.Rows.{RefusesBytes};
+ghost use Rattle.line_core.specs.answers.Rows.{RefusesRows};
 ghost use Rattle.line_core.specs.input.Records.{AreItems, Fields, Takes, records_of};
 ghost use Rattle.line_core.specs.lanes.Feeds.{LaneRow, feeds_of, lanes_meaning};
 
@@ -57,7 +58,7 @@ struct Reading<'a> {
 }
 
 impl<'a> Traffic for Reading<'a> {
-    ghost use Rattle.line_core.specs.answers.Rows.{HasGiven, is_ended};
+    ghost use Rattle.line_core.specs.inner.Rows.{HasGiven, is_ended};
 
     type WaitFault = Refused;
 

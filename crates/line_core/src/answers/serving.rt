@@ -9,7 +9,8 @@ ghost use Rattle.hub_core.specs.Feeds.{AreGiven, are_given, rests_of};
 ghost use Rattle.hub_core.specs.Serving.{are_counts};
 ghost use Rattle.hub_core.specs.declared.fault.ServeFault.{ServeFault};
 ghost use Rattle.line_core.specs.declared.answers.serving.AnswerFault.TheVariants.{NoMemory};
-ghost use Rattle.line_core.specs.answers.Reports.{AreLinesOf, IsReport, lane_lines};
+ghost use Rattle.line_core.specs.inner.Reports.{AreLinesOf, lane_lines};
+ghost use Rattle.line_core.specs.answers.Reports.{IsReport};
 
 use crate::answers::report::{joined, push_line};
 use element_core::{Form, Year};
@@ -70,7 +71,7 @@ struct Answering {
 impl Traffic for Answering {
     ghost use Rattle.std.specs.Prelude.{map, string_bytes};
     ghost use Rattle.hub_core.specs.Feeds.{AreGiven, are_given, rests_of};
-    ghost use Rattle.line_core.specs.answers.Reports.{AreLinesOf};
+    ghost use Rattle.line_core.specs.inner.Reports.{AreLinesOf};
 
     type WaitFault = Infallible;
 

@@ -1,6 +1,7 @@
 //! Why records are not taken.
 ghost use Rattle.std.specs.Prelude.{Some, ◌≡◌};
-ghost use Rattle.line_core.specs.input.Faults.{no_room, of_input, of_record, record_fault_text, refusal_at};
+ghost use Rattle.line_core.specs.inner.Faults.{no_room, of_record, refusal_at};
+ghost use Rattle.line_core.specs.input.Faults.{of_input, record_fault_text};
 
 use digits_core::{DigitFault, InputFault};
 use element_core::ElementFault;

@@ -1,7 +1,8 @@
 //! The records of an input, which a command takes one after another.
 ghost use Rattle.std.specs.Prelude.{None, Some, [], ◌≡◌, ◌≢◌, ◌∷◌, ◌++◌, ◌↔◌, ◌≤◌, List, Option, length, true, false, IfErr, IfNone, IfSome, IsErrOf, OnOk};
 ghost use Rattle.csv.specs.Records.{fields_of};
-ghost use Rattle.line_core.specs.input.Records.{AreItems, Meaning, NamesFirst, Refuses, Takes, records_of};
+ghost use Rattle.line_core.specs.input.Records.{AreItems, Meaning, Refuses, Takes, records_of};
+ghost use Rattle.line_core.specs.inner.Records.{NamesFirst};
 ghost use Rattle.line_core.specs.declared.input.fault.RecordFault.{RecordFault};
 
 use crate::input::fault::{RecordRefusal, RecordsFault};
@@ -56,7 +57,7 @@ pub struct Records<'a> {
 impl<'a> Records<'a> {
     ghost use Rattle.std.specs.Prelude.{[], ◌≡◌, ◌∷◌, ◌++◌, List, Ok, ℕ, false, true, IfErr};
     ghost use Rattle.csv.specs.Records.{fields_of};
-    ghost use Rattle.line_core.specs.input.Reading.{HasRead};
+    ghost use Rattle.line_core.specs.inner.Reading.{HasRead};
     ghost use Rattle.line_core.specs.input.Records.{Fields, records_of};
     ghost use Rattle.line_core.specs.declared.input.fault.RecordRefusal.{RecordRefusal};
 

@@ -2,9 +2,10 @@
 ghost use Rattle.std.specs.Prelude.{None, Some, Ok, [], ◌≡◌, ◌<◌, ◌≤◌, ◌∷◌, ◌++◌, List, ℕ, false, length, IfErr, IfNone, IfOk, IfSome, OnOk};
 ghost use Rattle.csv.specs.Records.{fields_of};
 ghost use Rattle.line_core.specs.lanes.Feeds.{LaneRow, is_lane, lanes_meaning};
-ghost use Rattle.line_core.specs.input.Reading.{HasRead};
-ghost use Rattle.line_core.specs.input.Records.{AreItems, Fields, NamesFirst, records_of};
-ghost use Rattle.line_core.specs.lanes.Widths.{number_in};
+ghost use Rattle.line_core.specs.inner.Reading.{HasRead};
+ghost use Rattle.line_core.specs.input.Records.{AreItems, Fields, records_of};
+ghost use Rattle.line_core.specs.inner.Records.{NamesFirst};
+ghost use Rattle.line_core.specs.inner.Widths.{number_in};
 ghost use Rattle.line_core.specs.declared.input.fault.RecordFault.{RecordFault};
 
 use crate::input::fault::{RecordFault, RecordRefusal, RecordsFault};

@@ -3,7 +3,8 @@ ghost use Rattle.std.specs.Prelude.{None, Some, ◌==◌, ◌≡◌, ◌≤◌, 
 ghost use Rattle.std.specs.List.{count_by, list_all, list_any};
 ghost use Rattle.std.specs.Char.{is_ascii_digit};
 ghost use Rattle.std.specs.Str.Parse.{digits_value};
-ghost use Rattle.line_core.specs.lanes.Widths.{BeginsWithDigits, IsFirstWidth, are_widths, field_fault, number_in, widths_in, words_of};
+ghost use Rattle.line_core.specs.inner.Widths.{BeginsWithDigits, IsFirstWidth, number_in};
+ghost use Rattle.line_core.specs.lanes.Widths.{are_widths, field_fault, widths_in, words_of};
 ghost use Rattle.line_core.specs.declared.input.fault.RecordFault.{RecordFault};
 
 use crate::input::fault::{RecordFault, RecordRefusal};

@@ -2,7 +2,8 @@
 ghost use Rattle.std.specs.Prelude.{◌≡◌, ◌⊎◌, [], IsErrOf, true};
 ghost use Rattle.hub_core.specs.Serving.{is_count};
 ghost use Rattle.hub_core.specs.declared.fault.ServeFault.{ServeFault};
-ghost use Rattle.line_core.specs.live.Lived.{EndsAs, Lived};
+ghost use Rattle.line_core.specs.inner.Lived.{EndsAs};
+ghost use Rattle.line_core.specs.live.Lived.{Lived};
 
 use crate::live::fault::LiveFault;
 use crate::live::input::{Live, Stopped};

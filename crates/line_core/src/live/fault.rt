@@ -1,6 +1,6 @@
 //! Why a live input is answered no longer.
 ghost use Rattle.std.specs.Prelude.{◌≡◌, true};
-ghost use Rattle.line_core.specs.live.Stops.{MayStillWrite};
+ghost use Rattle.line_core.specs.inner.Stops.{MayStillWrite};
 
 /// Why a live input is answered no longer.
 #[derive(Clone, Copy, Debug, PartialEq, Eq)]

@@ -3,9 +3,9 @@ ghost use Rattle.std.specs.Prelude.{◌≡◌, [], Bool, IfErr, IfOk, List, Ok, 
 ghost use Rattle.lane_core.specs.declared.job.Plain.{Plain};
 ghost use Rattle.hub_core.specs.Traffics.{IsEven};
 ghost use Rattle.wire_core.specs.Events.{Event};
-ghost use Rattle.line_core.specs.live.Came.{IsProgressAt};
-ghost use Rattle.line_core.specs.live.Finish.{is_finished};
-ghost use Rattle.line_core.specs.live.Stops.{MayStillWrite, TellsEnd, TellsFaults};
+ghost use Rattle.line_core.specs.inner.Came.{IsProgressAt};
+ghost use Rattle.line_core.specs.inner.Finish.{is_finished};
+ghost use Rattle.line_core.specs.inner.Stops.{MayStillWrite, TellsEnd, TellsFaults};
 ghost use Rattle.element_core.specs.declared.form.Form.{Form};
 
 use crate::live::fault::{LiveFault, is_open};
@@ -138,9 +138,9 @@ impl<W: Wire> Live<W> {
 impl<W: Wire> Traffic for Live<W> {
     ghost use Rattle.std.specs.Prelude.{◌≡◌, List, length};
     ghost use Rattle.wire_core.specs.Events.{Event};
-    ghost use Rattle.line_core.specs.live.Came.{IsProgressAt};
-    ghost use Rattle.line_core.specs.live.Finish.{is_finished};
-    ghost use Rattle.line_core.specs.live.Stops.{TellsEnd, TellsFaults};
+    ghost use Rattle.line_core.specs.inner.Came.{IsProgressAt};
+    ghost use Rattle.line_core.specs.inner.Finish.{is_finished};
+    ghost use Rattle.line_core.specs.inner.Stops.{TellsEnd, TellsFaults};
 
     type WaitFault = Stopped;
 

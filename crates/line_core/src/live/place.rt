@@ -1,7 +1,7 @@
 //! The places of a turn's records, and their lines.
 ghost use Rattle.std.specs.Prelude.{◌≡◌, ◌++◌, [], All, List, ℕ, IfOk, OnOk, string_bytes};
 ghost use Rattle.std.specs.List.{AllZip, concat};
-ghost use Rattle.line_core.specs.live.Came.{IsReady, TellsPlace};
+ghost use Rattle.line_core.specs.inner.Came.{IsReady, TellsPlace};
 ghost use Rattle.line_core.specs.live.Replies.{refusal_line};
 ghost use Rattle.line_core.specs.live.Text.{line_fault_text};
 

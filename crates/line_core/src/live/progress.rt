@@ -4,8 +4,8 @@ ghost use Rattle.lane_core.specs.declared.job.Plain.{Plain};
 ghost use Rattle.wire_core.specs.Events.{Event};
 ghost use Rattle.wire_core.specs.Lines.{without_line};
 ghost use Rattle.hub_core.specs.Traffics.{IsNextOf, with_more};
-ghost use Rattle.line_core.specs.live.Came.{IsProgressAt, IsStoppedBy, KeepsRow, Took};
-ghost use Rattle.line_core.specs.live.Meaning.{HoldsRecord};
+ghost use Rattle.line_core.specs.inner.Came.{IsProgressAt, IsStoppedBy, KeepsRow, Took};
+ghost use Rattle.line_core.specs.inner.Meaning.{HoldsRecord};
 ghost use Rattle.element_core.specs.declared.form.Form.{Form};
 ghost use Rattle.line_core.specs.declared.live.waiting.Waiting.{Waiting};
 

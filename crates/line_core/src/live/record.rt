@@ -1,6 +1,6 @@
 //! What a line of a live input means.
 ghost use Rattle.std.specs.Prelude.{◌≡◌, ◌≢◌, ◌∷◌, [], IfOk, IfSome, IfNone, None, Some, length};
-ghost use Rattle.line_core.specs.live.Meaning.{HoldsRecord, IsRecord};
+ghost use Rattle.line_core.specs.inner.Meaning.{HoldsRecord, IsRecord};
 ghost use Rattle.line_core.specs.live.Text.{fields_in, fields_meant, line_fault_text, line_meant, without_return};
 ghost use Rattle.wire_core.specs.Lines.{held_line};
 

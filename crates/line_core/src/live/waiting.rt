@@ -1,6 +1,6 @@
 //! The rows of the lanes in a turn, and the deliveries that wait for their places.
 ghost use Rattle.std.specs.Prelude.{◌≡◌, ◌≤◌, ◌<◌, ◌+◌, All, IfOk, ℕ, Some, length, slice_get, vec_len};
-ghost use Rattle.line_core.specs.live.Turns.{IsEnded, IsFresh, TakesNumber, TakesNumberOf};
+ghost use Rattle.line_core.specs.inner.Turns.{IsEnded, IsFresh, TakesNumber, TakesNumberOf};
 ghost use Rattle.line_core.specs.declared.live.waiting.Waiting.{Waiting};
 
 use lane_core::Delivery;

@@ -11,7 +11,8 @@ use Rattle.sheet_core.specs.declared.pbm.state.State.{State}
 use Rattle.sheet_core.specs.declared.pbm.state.State.TheVariants.{Start}
 use Rattle.sheet_core.specs.declared.pbm.state.Step.{Step}
 use Rattle.sheet_core.specs.declared.pbm.state.Step.TheVariants.{Goes, Done, Refused}
-use Rattle.sheet_core.specs.pbm.Headers.{after_header_step, header_by, header_of, header_step, is_reached_by}
+use Rattle.sheet_core.specs.pbm.Headers.{after_header_step, header_by, header_of, header_step}
+use Rattle.sheet_core.specs.inner.Headers.{is_reached_by}
 use Rattle.sheet_core.specs.pbm.Images.{BytesTell, ReadsBytes}
 
 -- where a reader is: the bytes before this one were read, and the header goes on from here

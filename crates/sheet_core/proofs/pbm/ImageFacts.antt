@@ -15,7 +15,8 @@ use Rattle.sheet_core.specs.declared.pbm.state.Step.{Step}
 use Rattle.sheet_core.specs.declared.pbm.state.Step.TheVariants.{Goes, Done, Refused}
 use Rattle.sheet_core.specs.Bitmaps.{Bitmap, IsBitmap, pad, stride}
 use Rattle.sheet_core.specs.pbm.Headers.{after_header_step, header_by, header_of, header_step, is_size}
-use Rattle.sheet_core.specs.pbm.Images.{IsOpen, ReadsBytes, StopsBefore, bitmap_of, image_of, raster, unpadded, unpadded_at}
+use Rattle.sheet_core.specs.pbm.Images.{IsOpen, ReadsBytes, bitmap_of, image_of, raster, unpadded, unpadded_at}
+use Rattle.sheet_core.specs.inner.Images.{StopsBefore}
 use Rattle.sheet_core.proofs.pbm.PadFacts.{cleared_at}
 
 -- ---- bytes after a header

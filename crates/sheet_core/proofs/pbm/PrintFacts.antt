@@ -15,7 +15,7 @@ use Rattle.sheet_core.specs.Bitmaps.{Bitmap, stride}
 use Rattle.sheet_core.specs.Drawing.{AreSheets, IsSheet, cell_count, sheet_count}
 use Rattle.sheet_core.specs.Grids.{Cells, IsGrid}
 use Rattle.sheet_core.specs.Labels.{Drawn}
-use Rattle.sheet_core.specs.Lines.{IsBand, IsBarLine, band, line_dot, line_dot_of, repeated_bytes, row_labels}
+use Rattle.sheet_core.specs.inner.Lines.{IsBand, IsBarLine, band, line_dot, line_dot_of, repeated_bytes, row_labels}
 use Rattle.sheet_core.specs.pbm.Headers.{header_text}
 use Rattle.sheet_core.specs.pbm.Images.{image, pbm_of}
 use Rattle.sheet_core.proofs.BandFacts.{Banded, banded_more, banded_none}

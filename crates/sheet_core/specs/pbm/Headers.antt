@@ -3,7 +3,7 @@
 use Rattle.std.specs.Prelude.{ℕ, zero, suc, ◌+◌, ◌-◌, ◌*◌, ◌==◌, ◌&&◌, ◌||◌, nat_le, min, Bool, true, false, List, [], ◌∷◌, ◌++◌, Option, Some, None, Result, Ok, Err, if◌then◌else◌}
 use Rattle.std.specs.Fmt.{decimal}
 use Rattle.sheet_core.specs.declared.fault.PbmFault.{PbmFault}
-use Rattle.sheet_core.specs.declared.fault.PbmFault.TheVariants.{NotP4, PbmHeader, Truncated, PbmSize, ReadFault, NoMemory}
+use Rattle.sheet_core.specs.declared.fault.PbmFault.TheVariants.{NotP4, PbmHeader, Truncated, PbmSize}
 use Rattle.sheet_core.specs.declared.pbm.state.Size.{Size}
 use Rattle.sheet_core.specs.declared.pbm.state.State.{State}
 use Rattle.sheet_core.specs.declared.pbm.state.State.TheVariants.{Start, Magic, Blanks, Comment, Number}
@@ -50,30 +50,6 @@ header_step (Blanks width some) b =
     else Refused PbmHeader
 header_step (Comment width) b = if is_line_end b then Goes (Blanks width true) else Goes (Comment width)
 header_step (Number width n) b = number_step width n b
-
--- a width is known only where it may be one
-abbrev pub may_be_width : Option ℕ → Bool
-may_be_width None = true
-may_be_width (Some width) = is_size width
-
--- what holds of each state that a header comes to
-abbrev pub is_reached : State → Bool
-is_reached Start = true
-is_reached Magic = true
-is_reached (Blanks width some) = may_be_width width
-is_reached (Comment width) = may_be_width width
-is_reached (Number width n) = may_be_width width && nat_le n 65536
-
--- what a byte does is to go on, to end the header with a size, or to refuse it by what it is
-abbrev pub is_reached_by : Step → Bool
-is_reached_by (Goes s) = is_reached s
-is_reached_by (Done size) = is_size size.width && is_size size.height
-is_reached_by (Refused NotP4) = true
-is_reached_by (Refused PbmHeader) = true
-is_reached_by (Refused PbmSize) = true
-is_reached_by (Refused Truncated) = false
-is_reached_by (Refused ReadFault) = false
-is_reached_by (Refused NoMemory) = false
 
 -- a size or a refusal, and the bytes after the one that decides
 abbrev pub after_header_step : Step → (State → Result Size PbmFault × List ℕ) → List ℕ → Result Size PbmFault × List ℕ

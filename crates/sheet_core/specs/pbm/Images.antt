@@ -1,6 +1,6 @@
 -- PBM files: the one form in which they are written, and what bytes are, image by image (netpbm, pbm(5)).
 -- Sheets that are written are read as the same sheets, and what is read is exactly what has the pieces of images.
-use Rattle.std.specs.Prelude.{◌≡◌, ◌⊎◌, ℕ, zero, suc, ◌+◌, ◌-◌, ◌*◌, ◌%◌, ◌^◌, ◌<◌, ◌≤◌, ◌==◌, nat_lt, Bool, true, List, [], ◌∷◌, ◌++◌, Option, length, map, take, drop, slice_index, Result, Ok, Err, if◌then◌else◌}
+use Rattle.std.specs.Prelude.{◌≡◌, ◌⊎◌, ℕ, zero, suc, ◌+◌, ◌-◌, ◌*◌, ◌%◌, ◌^◌, ◌==◌, nat_lt, List, [], ◌∷◌, ◌++◌, Option, length, map, take, drop, slice_index, Result, Ok, Err, if◌then◌else◌}
 use Rattle.std.specs.List.{flat_map, range_with_len}
 use Rattle.std.specs.Io.KnownBytes.{Consumes, IsAtEnd}
 use Rattle.sheet_core.specs.declared.fault.PbmFault.{PbmFault}
@@ -86,22 +86,3 @@ pub record ReadsBytes {A : Type 0} (told : List ℕ → Result A PbmFault × Lis
   pub bytes : List ℕ
   pub consumed : Consumes old new bytes
   pub tells : BytesTell (told bytes) new answer
-
--- a reader has failed where `ReadFault` says so, and nothing else was a failure
-abbrev pub FailsFor : {A : Type 0} → Bool → Bool → Result A PbmFault → Type 0
-FailsFor old new (Err ReadFault) = new ≡ true
-FailsFor old new (Ok x) = new ≡ old
-FailsFor old new (Err NotP4) = new ≡ old
-FailsFor old new (Err PbmHeader) = new ≡ old
-FailsFor old new (Err Truncated) = new ≡ old
-FailsFor old new (Err PbmSize) = new ≡ old
-FailsFor old new (Err NoMemory) = new ≡ old
-
--- so many bytes did not come: the input ended, or reading them stopped for another cause
-abbrev pub StopsBefore : ℕ → Option (List ℕ) → Option (List ℕ) → PbmFault → Type 0
-StopsBefore count old new Truncated = (bytes : List ℕ) × Consumes old new bytes × (length bytes < count) × IsAtEnd new
-StopsBefore count old new ReadFault = (bytes : List ℕ) × Consumes old new bytes × (length bytes ≤ count)
-StopsBefore count old new NoMemory = (bytes : List ℕ) × Consumes old new bytes × (length bytes ≤ count)
-StopsBefore count old new NotP4 = ⊥
-StopsBefore count old new PbmHeader = ⊥
-StopsBefore count old new PbmSize = ⊥

@@ -1,6 +1,7 @@
 //! The header of a PBM image, byte by byte.
 ghost use Rattle.std.specs.Prelude.{◌≡◌, ◌≤◌, ◌<◌, None, Some, true, false, IfNone, IfSome, IsTrue};
-ghost use Rattle.sheet_core.specs.pbm.Headers.{grown, is_line_end, is_reached, is_reached_by, may_be_width, is_size, is_white, number_step, header_step};
+ghost use Rattle.sheet_core.specs.pbm.Headers.{grown, is_line_end, is_size, is_white, number_step, header_step};
+ghost use Rattle.sheet_core.specs.inner.Headers.{is_reached, is_reached_by, may_be_width};
 ghost use Rattle.element_core.specs.Elements.{is_digit};
 
 use crate::fault::PbmFault;

@@ -6,7 +6,7 @@ ghost use Rattle.digits_core.specs.Bytes.{TookFront};
 ghost use Rattle.sheet_core.specs.Bitmaps.{Bitmap, stride};
 ghost use Rattle.sheet_core.specs.Drawing.{ArePrinted, AreSheets, IsPrintFault, IsSheet};
 ghost use Rattle.sheet_core.specs.Labels.{Drawn, FitsCell, IsDrawn};
-ghost use Rattle.sheet_core.specs.Lines.{IsBand, repeated_bytes};
+ghost use Rattle.sheet_core.specs.inner.Lines.{IsBand, repeated_bytes};
 ghost use Rattle.sheet_core.specs.pbm.Images.{image, pbm_of};
 
 use crate::fault::{PrintFault, SheetFault};

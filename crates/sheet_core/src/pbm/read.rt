@@ -3,7 +3,8 @@ ghost use Rattle.std.specs.Prelude.{[], ◌≡◌, ◌∷◌, ◌≤◌, ◌<◌
 ghost use Rattle.std.specs.Io.KnownBytes.{Consumes, IsAtEnd, Keeps};
 ghost use Rattle.sheet_core.specs.Bitmaps.{stride, pad};
 ghost use Rattle.sheet_core.specs.pbm.Headers.{header_of, is_size};
-ghost use Rattle.sheet_core.specs.pbm.Images.{FailsFor, ReadsBytes, StopsBefore, image_of, images_of, unpadded};
+ghost use Rattle.sheet_core.specs.inner.Images.{FailsFor, StopsBefore};
+ghost use Rattle.sheet_core.specs.pbm.Images.{ReadsBytes, image_of, images_of, unpadded};
 
 use crate::fault::PbmFault;
 use crate::pbm::header::step;

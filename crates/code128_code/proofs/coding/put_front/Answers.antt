@@ -1,5 +1,5 @@
 use Rattle.std.proofs.Common.{drop}
-use Rattle.code128_code.specs.Steps.{change, coded_on}
+use Rattle.code128_code.specs.inner.Steps.{change, coded_on}
 use Rattle.code128_code.proofs.FrontFacts.{changed_more, letter_front, one_more, pair_front, separator_coded}
 use Rattle.code128_code.proofs.coding.put_front.Goals as goal
 

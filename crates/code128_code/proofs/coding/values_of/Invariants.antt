@@ -3,7 +3,7 @@ use Rattle.std.specs.Prelude.{IsTrue}
 use Rattle.std.specs.List.{list_all}
 use Rattle.code128_code.specs.Characters.{fnc1}
 use Rattle.code128_code.specs.Coding.{is_coded_byte}
-use Rattle.code128_code.specs.Steps.{all_coded, coded_on}
+use Rattle.code128_code.specs.inner.Steps.{all_coded, coded_on}
 use Rattle.code128_code.proofs.coding.values_of.Given as goal
 
 abbrev pub decreases-loop-rest : goal.decreases-loop-rest

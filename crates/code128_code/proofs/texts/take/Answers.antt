@@ -1,5 +1,5 @@
 use Rattle.std.proofs.Common.{◌+◌, ◌/◌, ◌%◌, ◌++◌, ◌∷◌, [], ◌∙◌, ap, sym, append_assoc}
-use Rattle.code128_code.specs.Steps.{text_by}
+use Rattle.code128_code.specs.inner.Steps.{text_by}
 use Rattle.code128_code.specs.Texts.{before, two_digits}
 use Rattle.code128_code.specs.declared.meanings.Meaning.TheVariants.{Byte, Digits, Latch, Shift}
 use Rattle.code128_code.proofs.SaidFacts.{plain_step, pushed}

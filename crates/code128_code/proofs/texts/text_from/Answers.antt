@@ -1,6 +1,6 @@
 use Rattle.std.proofs.Common.{ℕ, suc, List, ◌∙◌, ap, drop, drop-cons, sym}
 use Rattle.std.proofs.lemmas.Result.{err_from_is_err_and}
-use Rattle.code128_code.specs.Steps.{all_said}
+use Rattle.code128_code.specs.inner.Steps.{all_said}
 use Rattle.code128_code.proofs.texts.text_from.Goals as goal
 
 pub returns-in_err-take-clause-err : goal.returns-in_err-take-clause-err

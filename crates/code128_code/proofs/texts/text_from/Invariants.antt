@@ -1,6 +1,6 @@
 use Rattle.std.proofs.Common.{◌≡◌, ◌≤◌, ◌*◌, drop}
 use Rattle.arrayvec.specs.ArrayVec.{array_vec_len}
-use Rattle.code128_code.specs.Steps.{all_said}
+use Rattle.code128_code.specs.inner.Steps.{all_said}
 use Rattle.code128_code.specs.Texts.{text_from}
 use Rattle.code128_code.proofs.texts.text_from.Given as goal
 

@@ -1,5 +1,5 @@
 use Rattle.std.proofs.Common.{subst, sym, arith, [], ◌∷◌}
-use Rattle.ean_code.specs.NumberSets.{AreCharacters}
+use Rattle.ean_code.specs.inner.NumberSets.{AreCharacters}
 use Rattle.ean_code.proofs.Cells.{AllByRecursion-append}
 use Rattle.ean_code.proofs.Joined.{no_gap, one_more}
 use Rattle.ean_code.proofs.number_sets.characters.Goals as goal

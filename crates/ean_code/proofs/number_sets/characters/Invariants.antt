@@ -1,6 +1,7 @@
 use Rattle.std.proofs.Common.{◌≡◌, ◌*◌, length, take}
 use Rattle.std.specs.List.{flat_map}
-use Rattle.ean_code.specs.NumberSets.{AreCharacters, left_widths}
+use Rattle.ean_code.specs.inner.NumberSets.{AreCharacters}
+use Rattle.ean_code.specs.NumberSets.{left_widths}
 use Rattle.ean_code.proofs.number_sets.characters.Given as goal
 
 abbrev pub invariant-loop-i : goal.invariant-loop-i

@@ -1,7 +1,7 @@
 use Rattle.std.proofs.Common.{◌≡◌, true, sym, ap, ◌∙◌}
 use Rattle.std.specs.List.{list_all}
 use Rattle.ean_code.specs.declared.number_sets.Character.{Character}
-use Rattle.ean_code.specs.NumberSets.{is_a}
+use Rattle.ean_code.specs.inner.NumberSets.{is_a}
 use Rattle.ean_code.proofs.Halves.{framed_of, framed_valid, found_halves, same_framed}
 use Rattle.ean_code.proofs.Joined.{AreCharacters-as_a, all_of_a, as_a, rights-as_a, same_characters}
 use Rattle.ean_code.proofs.parts.halves.Goals as goal

@@ -1,6 +1,6 @@
 use Rattle.std.proofs.Common.{◌≡◌, ℕ, ◌+◌, List, [], ◌∷◌, ◌++◌, ◌∙◌, sym, ap, ap₂, subst, get_or, arith}
 use Rattle.digits_core.specs.Digits.{ascii_of}
-use Rattle.ean_code.specs.NumberSets.{AreCharacters, character_digits, character_sets}
+use Rattle.ean_code.specs.inner.NumberSets.{AreCharacters, character_digits, character_sets}
 use Rattle.ean_code.specs.Symbols.Kind.{Ean13}
 use Rattle.ean_code.proofs.Found.{first_small, found13, halves13, row13}
 use Rattle.ean_code.proofs.Halves.{same_left}

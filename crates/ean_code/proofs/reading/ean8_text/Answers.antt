@@ -2,7 +2,7 @@ use Rattle.std.proofs.Common.{◌≡◌, ℕ, true, List, [], ◌++◌, ◌∙�
 use Rattle.std.specs.List.{list_all}
 use Rattle.digits_core.specs.Digits.{ascii_of}
 use Rattle.ean_code.specs.declared.number_sets.Character.{Character}
-use Rattle.ean_code.specs.NumberSets.{AreCharacters, character_digits, is_a}
+use Rattle.ean_code.specs.inner.NumberSets.{AreCharacters, character_digits, is_a}
 use Rattle.ean_code.specs.Symbols.Kind.{Ean8}
 use Rattle.ean_code.proofs.Found.{found8, halves8}
 use Rattle.ean_code.proofs.Halves.{same_left}

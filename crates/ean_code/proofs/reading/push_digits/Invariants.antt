@@ -1,6 +1,6 @@
 use Rattle.std.proofs.Common.{◌≡◌, ◌+◌, ◌++◌, length, take}
 use Rattle.digits_core.specs.Digits.{ascii_of}
-use Rattle.ean_code.specs.NumberSets.{character_digits}
+use Rattle.ean_code.specs.inner.NumberSets.{character_digits}
 use Rattle.ean_code.proofs.reading.push_digits.Given as goal
 
 abbrev pub invariant-loop-i : goal.invariant-loop-i

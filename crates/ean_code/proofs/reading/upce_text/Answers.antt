@@ -1,5 +1,5 @@
 use Rattle.std.proofs.Common.{ℕ, List, ◌∙◌, ap, get_or}
-use Rattle.ean_code.specs.NumberSets.{character_sets}
+use Rattle.ean_code.specs.inner.NumberSets.{character_sets}
 use Rattle.ean_code.proofs.Found.{last_small, rowE, sixE}
 use Rattle.ean_code.proofs.Halves.{same_six}
 use Rattle.ean_code.proofs.reading.upce_text.Goals as goal

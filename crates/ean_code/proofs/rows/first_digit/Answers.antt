@@ -1,7 +1,8 @@
 use Rattle.std.proofs.Common.{◌∙◌}
 use Rattle.std.proofs.lemmas.List.{length-map}
 use Rattle.ean_code.specs.declared.rows.TheConstants.{EAN13_DIGITS}
-use Rattle.ean_code.specs.NumberSets.{character_sets, ean13_rows}
+use Rattle.ean_code.specs.inner.NumberSets.{character_sets}
+use Rattle.ean_code.specs.NumberSets.{ean13_rows}
 use Rattle.ean_code.proofs.ParityRows.{length-row}
 use Rattle.ean_code.proofs.RowTables.{ean13_table, row_found, row_none}
 use Rattle.ean_code.proofs.rows.first_digit.Goals as goal

@@ -1,7 +1,8 @@
 use Rattle.std.proofs.Common.{◌∙◌}
 use Rattle.std.proofs.lemmas.List.{length-map}
 use Rattle.ean_code.specs.declared.rows.TheConstants.{UPCE_DIGITS}
-use Rattle.ean_code.specs.NumberSets.{character_sets, upce_rows}
+use Rattle.ean_code.specs.inner.NumberSets.{character_sets}
+use Rattle.ean_code.specs.NumberSets.{upce_rows}
 use Rattle.ean_code.proofs.ParityRows.{length-upce_row}
 use Rattle.ean_code.proofs.RowTables.{upce_table, row_found, row_none}
 use Rattle.ean_code.proofs.rows.last_digit.Goals as goal

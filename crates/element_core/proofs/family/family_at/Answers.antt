@@ -2,7 +2,7 @@ use Rattle.std.proofs.Common.{◌≡◌, ◌≤◌, ◌∙◌, ℕ, List, Option
 use Rattle.std.specs.Prelude.{option_map, IfSome}
 use Rattle.element_core.specs.declared.family.AiFamily.{AiFamily}
 use Rattle.element_core.specs.Table.{row_at}
-use Rattle.element_core.specs.Families.{row_with}
+use Rattle.element_core.specs.inner.Families.{row_with}
 use Rattle.element_core.proofs.FamilyLemmas.{family_few, family_short}
 use Rattle.element_core.proofs.FirstDigits.{row_by_first_two, too_short}
 use Rattle.element_core.proofs.family.family_at.Goals as goal

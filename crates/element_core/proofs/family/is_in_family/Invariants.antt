@@ -1,5 +1,5 @@
 use Rattle.std.proofs.Common.{◌≡◌, drop}
-use Rattle.element_core.specs.Families.{is_in_family}
+use Rattle.element_core.specs.inner.Families.{is_in_family}
 use Rattle.element_core.proofs.family.is_in_family.Given as goal
 
 abbrev pub invariant-loop-i : goal.invariant-loop-i

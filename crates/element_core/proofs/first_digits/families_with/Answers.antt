@@ -1,7 +1,7 @@
 use Rattle.std.proofs.Common.{◌-◌, ◌≤◌, length, take, drop, sym, ap, ◌∙◌, arith, rules, inl, inr}
 use Rattle.std.proofs.lemmas.List.{length-map, take-map, drop-map}
 use Rattle.element_core.specs.Table.{families}
-use Rattle.element_core.specs.Families.{family_of, has_first_two}
+use Rattle.element_core.specs.inner.Families.{family_of, has_first_two}
 use Rattle.element_core.proofs.FirstDigits.{AreThere, places_as, no_digits}
 use Rattle.element_core.proofs.first_digits.families_with.Goals as goal
 use Rattle.element_core.proofs.first_digits.families_with.Goals.{then-not-is_ascii_digit-via-then-not-is_ascii_digit, then-not-is_ascii_digit-via-else-not-is_ascii_digit+then-not-is_ascii_digit-2, After-from-2}

@@ -1,6 +1,6 @@
 use Rattle.std.proofs.Common.{sym, ap, ◌∙◌, List, ℕ, arith}
 use Rattle.std.specs.Prelude.{is_some}
-use Rattle.element_core.specs.Families.{row_with}
+use Rattle.element_core.specs.inner.Families.{row_with}
 use Rattle.element_core.specs.Table.{predefined_length}
 use Rattle.element_core.proofs.Look.{row_is, predefined_is}
 use Rattle.element_core.proofs.Shown.{stands_as}

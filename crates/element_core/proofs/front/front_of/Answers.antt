@@ -1,5 +1,5 @@
 use Rattle.std.proofs.Common.{◌∙◌, length, sym, ap, refl}
-use Rattle.element_core.specs.Families.{row_with}
+use Rattle.element_core.specs.inner.Families.{row_with}
 use Rattle.element_core.specs.Fronts.{after_separator}
 use Rattle.element_core.proofs.Shown.{IsShown, shown_as}
 use Rattle.element_core.proofs.Listed.{shown_none, shown_first, first_within}

@@ -1,5 +1,5 @@
 use Rattle.std.proofs.Common.{ap, ◌∙◌, arith, ℕ, [], take}
-use Rattle.element_core.specs.Families.{row_with}
+use Rattle.element_core.specs.inner.Families.{row_with}
 use Rattle.element_core.proofs.Shown.{take-shown, shown-within}
 use Rattle.element_core.proofs.front.value_of.Goals as goal
 

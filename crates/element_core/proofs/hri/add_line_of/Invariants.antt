@@ -1,7 +1,7 @@
 use Rattle.std.proofs.Common.{◌≡◌, ◌+◌, ◌≤◌, ◌++◌, length, string_bytes, string_capacity, string_len}
 use Rattle.element_core.specs.Elements.{hri}
 use Rattle.element_core.specs.Shown.{shown_elements}
-use Rattle.element_core.specs.Walks.{AreAscii}
+use Rattle.element_core.specs.inner.Walks.{AreAscii}
 use Rattle.element_core.proofs.hri.add_line_of.Given as goal
 
 abbrev pub invariant-loop-front : goal.invariant-loop-front

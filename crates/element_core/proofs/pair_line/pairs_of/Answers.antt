@@ -1,7 +1,7 @@
 use Rattle.std.proofs.Common.{◌∙◌, ◌∷◌, ◌++◌, List, ℕ, ap, subst, sym}
 use Rattle.element_core.specs.Elements.{pairs_text}
 use Rattle.element_core.specs.Shown.{shown_elements}
-use Rattle.element_core.specs.Walks.{AreAscii, front_entry}
+use Rattle.element_core.specs.inner.Walks.{AreAscii, front_entry}
 use Rattle.element_core.proofs.PairLines.{more_pairs, pairs_text-cons}
 use Rattle.element_core.proofs.pair_line.pairs_of.Goals as goal
 

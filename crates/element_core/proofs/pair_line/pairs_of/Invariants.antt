@@ -1,7 +1,7 @@
 use Rattle.std.proofs.Common.{◌≡◌, ◌++◌, length}
 use Rattle.element_core.specs.Elements.{pairs_text}
 use Rattle.element_core.specs.Shown.{shown_elements}
-use Rattle.element_core.specs.Walks.{AreAscii}
+use Rattle.element_core.specs.inner.Walks.{AreAscii}
 use Rattle.element_core.proofs.PairLines.{more_pairs}
 use Rattle.element_core.proofs.pair_line.pairs_of.Given as goal
 

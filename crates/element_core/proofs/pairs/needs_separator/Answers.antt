@@ -1,6 +1,6 @@
 use Rattle.std.proofs.Common.{ap, sym}
 use Rattle.std.specs.Prelude.{not}
-use Rattle.element_core.specs.Families.{row_with}
+use Rattle.element_core.specs.inner.Families.{row_with}
 use Rattle.element_core.proofs.PairFaults.{predefined_ahead}
 use Rattle.element_core.proofs.pairs.needs_separator.Goals as goal
 

@@ -5,7 +5,7 @@ use Rattle.std.proofs.lemmas.Option.{slice_get_past}
 use Rattle.element_core.specs.declared.front.Front.{Front}
 use Rattle.element_core.specs.Elements.{Entry}
 use Rattle.element_core.specs.Shown.{shown_elements}
-use Rattle.element_core.specs.Walks.{front_entry, elements_from}
+use Rattle.element_core.specs.inner.Walks.{elements_from, front_entry}
 use Rattle.element_core.proofs.shown_list.element_of.Goals as goal
 
 past : (es : List Entry) (k i : ℕ) → [] ≡ drop k es → k ≤ i → slice_get es i ≡ None

@@ -1,6 +1,6 @@
 use Rattle.std.proofs.Common.{◌≡◌, drop}
 use Rattle.element_core.specs.Elements.{each_part}
-use Rattle.element_core.specs.PartTests.{passes}
+use Rattle.element_core.specs.inner.PartTests.{passes}
 use Rattle.element_core.proofs.value.each_part.Given as goal
 
 abbrev pub invariant-loop-part : goal.invariant-loop-part

@@ -2,7 +2,8 @@ use Rattle.std.proofs.Common.{◌≡◌, [], inl, inr, ap, refl, subst, sym, Lis
 use Rattle.clap.specs.Words.{App, HasKind, HasMatchesOf, Text, app_of, fault_of, is_simple_and_free, kind_of, subcommand_rows_of}
 use Rattle.clap.specs.declared.error.Error.{Error}
 use Rattle.clap.specs.declared.parser.matches.ArgMatches.{ArgMatches}
-use Rattle.gs1_hub.specs.Asking.{Asks, Explains, FaultOfKind, WordsAsk}
+use Rattle.gs1_hub.specs.Asking.{Asks, Explains, WordsAsk}
+use Rattle.gs1_hub.specs.inner.Asking.{FaultOfKind}
 use Rattle.gs1_hub.specs.commands.{hub_app}
 use Rattle.gs1_hub.specs.declared.commands.Asked.{Asked}
 use Rattle.gs1_hub.specs.declared.words.WordsFault.{WordsFault}

@@ -4,7 +4,7 @@ use Rattle.std.proofs.lemmas.List.{length-map}
 use Rattle.crossbeam_queue.specs.Passes.{view}
 use Rattle.hub_core.specs.Hubs.{shape_of}
 use Rattle.hub_core.specs.Lanes.{lane_of, numbers_of}
-use Rattle.hub_core.specs.Workers.{jobs_in_hand}
+use Rattle.hub_core.specs.inner.Workers.{jobs_in_hand}
 use Rattle.hub_core.specs.declared.lane_seat.LaneSeat.{LaneSeat}
 use Rattle.hub_core.specs.declared.rule.Trace.{Trace}
 use Rattle.hub_core.proofs.DrainedFacts.{drained_then}

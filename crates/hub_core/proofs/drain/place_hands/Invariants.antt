@@ -3,8 +3,9 @@ use Rattle.std.specs.List.{flat_map}
 use Rattle.crossbeam_queue.specs.Passes.{view, IsPassOf}
 use Rattle.hub_core.specs.Rule.{trace}
 use Rattle.hub_core.specs.Passes.{shares_of, pushed_by, popped_by}
-use Rattle.hub_core.specs.Workers.{jobs_in_hand, posted, taken}
-use Rattle.hub_core.specs.DrainedLists.{DrainsInto}
+use Rattle.hub_core.specs.inner.Workers.{jobs_in_hand}
+use Rattle.hub_core.specs.Workers.{posted, taken}
+use Rattle.hub_core.specs.inner.DrainedLists.{DrainsInto}
 use Rattle.hub_core.proofs.drain.place_hands.Given as goal
 
 abbrev pub invariant-loop-seat : goal.invariant-loop-seat

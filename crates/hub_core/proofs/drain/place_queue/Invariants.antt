@@ -3,7 +3,7 @@ use Rattle.std.specs.List.{sum_by}
 use Rattle.crossbeam_queue.specs.Passes.{IsPassOf}
 use Rattle.lane_core.specs.declared.job.Plain.{Plain}
 use Rattle.hub_core.specs.Passes.{shares_of, pushed_by, popped_by}
-use Rattle.hub_core.specs.DrainedLists.{DrainsInto}
+use Rattle.hub_core.specs.inner.DrainedLists.{DrainsInto}
 use Rattle.hub_core.proofs.drain.place_queue.Given as goal
 
 abbrev pub invariant-loop : goal.invariant-loop

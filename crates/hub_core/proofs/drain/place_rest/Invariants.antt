@@ -1,7 +1,7 @@
 use Rattle.std.proofs.Common.{◌≡◌, ◌+◌, ◌++◌, List, length}
 use Rattle.lane_core.specs.declared.job.Plain.{Plain}
 use Rattle.rtrb.specs.Ring.{known_items}
-use Rattle.hub_core.specs.DrainedLists.{DrainsInto}
+use Rattle.hub_core.specs.inner.DrainedLists.{DrainsInto}
 use Rattle.hub_core.proofs.drain.place_rest.Given as goal
 
 abbrev pub invariant-loop-i : goal.invariant-loop-i

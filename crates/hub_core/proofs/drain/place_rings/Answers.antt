@@ -4,9 +4,9 @@ use Rattle.std.specs.Vec.Iter.{into_iter_items}
 use Rattle.crossbeam_queue.specs.Passes.{view}
 use Rattle.hub_core.specs.declared.lane_seat.LaneSeat.{LaneSeat}
 use Rattle.hub_core.specs.declared.rule.Trace.{Trace}
-use Rattle.hub_core.specs.Fresh.{IsPairedIn}
+use Rattle.hub_core.specs.inner.Fresh.{IsPairedIn}
 use Rattle.hub_core.specs.Lanes.{lane_of}
-use Rattle.hub_core.specs.Draining.{AreFromFirst}
+use Rattle.hub_core.specs.inner.Draining.{AreFromFirst}
 use Rattle.hub_core.proofs.DrainedFacts.{drained_none}
 use Rattle.hub_core.proofs.PairFacts.{HasJobs, RingDrained, ends_more, ends_same, from_first, lane_jobs, none_left, pair_now, ring_drained, sent_now}
 use Rattle.hub_core.proofs.RingFacts.{sent_same}

@@ -3,11 +3,11 @@ use Rattle.std.specs.List.{All, flat_map, sum_by}
 use Rattle.std.specs.Vec.Iter.{into_iter_items}
 use Rattle.crossbeam_queue.specs.Passes.{view, IsPassOf}
 use Rattle.lane_core.specs.declared.job.Plain.{Plain}
-use Rattle.hub_core.specs.DrainedLists.{DrainsInto}
-use Rattle.hub_core.specs.Fresh.{IsPairedIn}
+use Rattle.hub_core.specs.inner.DrainedLists.{DrainsInto}
+use Rattle.hub_core.specs.inner.Fresh.{IsPairedIn}
 use Rattle.hub_core.specs.Lanes.{numbers_of, submitted}
 use Rattle.hub_core.specs.Passes.{shares_of, pushed_by, popped_by}
-use Rattle.hub_core.specs.Draining.{AreFromFirst, all_received, to_lanes}
+use Rattle.hub_core.specs.inner.Draining.{AreFromFirst, all_received, to_lanes}
 use Rattle.hub_core.specs.Rings.{all_sent}
 use Rattle.hub_core.specs.Rule.{trace}
 use Rattle.hub_core.proofs.PairFacts.{AreSameEnds}

@@ -1,7 +1,7 @@
 use Rattle.std.proofs.Common.{◌≡◌, ◌+◌, ℕ, List}
 use Rattle.std.specs.List.{sum_by}
 use Rattle.lane_core.specs.declared.job.Plain.{Plain}
-use Rattle.hub_core.specs.DrainedLists.{DrainsInto}
+use Rattle.hub_core.specs.inner.DrainedLists.{DrainsInto}
 use Rattle.hub_core.proofs.drain.place_waiting.Given as goal
 
 abbrev pub decreases-loop-delivery : goal.decreases-loop-delivery

@@ -5,7 +5,8 @@ use Rattle.crossbeam_queue.specs.Passes.{view, IsPassOf}
 use Rattle.rtrb.specs.Ring.{IsPair}
 use Rattle.hub_core.specs.declared.rule.Trace.{Trace}
 use Rattle.hub_core.specs.declared.lane_seat.LaneSeat.{LaneSeat}
-use Rattle.hub_core.specs.Fresh.{HasDoneNothing, IsPairedIn, IsUnsent}
+use Rattle.hub_core.specs.Fresh.{HasDoneNothing}
+use Rattle.hub_core.specs.inner.Fresh.{IsPairedIn, IsUnsent}
 use Rattle.hub_core.specs.Rings.{PopEnd, PushEnd}
 use Rattle.hub_core.proofs.RuleFacts.{forks}
 use Rattle.hub_core.proofs.NewSeatFacts.{cut_more, lanes_more, paired_more}

@@ -1,7 +1,8 @@
 use Rattle.std.proofs.Common.{◌≡◌, ◌-◌, All, length, vec_len}
 use Rattle.std.specs.List.{range_with_len}
 use Rattle.crossbeam_queue.specs.Passes.{view, IsPassOf}
-use Rattle.hub_core.specs.Fresh.{HasDoneNothing, IsPairedIn, IsUnsent}
+use Rattle.hub_core.specs.Fresh.{HasDoneNothing}
+use Rattle.hub_core.specs.inner.Fresh.{IsPairedIn, IsUnsent}
 use Rattle.hub_core.specs.Lanes.{numbers_of}
 use Rattle.hub_core.specs.Passes.{shares_of}
 use Rattle.hub_core.specs.Rule.{trace}

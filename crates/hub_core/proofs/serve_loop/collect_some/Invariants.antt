@@ -1,5 +1,5 @@
 use Rattle.hub_core.specs.Hubs.{IsDelivererOf}
-use Rattle.hub_core.specs.Traffics.{Serves, given_to, polled_by_each}
+use Rattle.hub_core.specs.inner.Traffics.{Serves, given_to, polled_by_each}
 use Rattle.hub_core.proofs.serve_loop.collect_some.Given as goal
 
 abbrev pub invariant-loop-i : goal.invariant-loop-i

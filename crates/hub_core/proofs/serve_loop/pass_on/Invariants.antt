@@ -1,6 +1,6 @@
 use Rattle.std.proofs.Common.{◌<◌, vec_len}
 use Rattle.hub_core.specs.Hubs.{IsDelivererOf}
-use Rattle.hub_core.specs.Traffics.{Serves, given_to, polled_by_each}
+use Rattle.hub_core.specs.inner.Traffics.{Serves, given_to, polled_by_each}
 use Rattle.hub_core.proofs.serve_loop.pass_on.Given as goal
 
 abbrev pub invariant-loop-i : goal.invariant-loop-i

@@ -1,6 +1,6 @@
 use Rattle.std.proofs.Common.{None}
 use Rattle.hub_core.specs.Hubs.{IsDelivererOf}
-use Rattle.hub_core.specs.Traffics.{Serves, given_to, polled_by_each}
+use Rattle.hub_core.specs.inner.Traffics.{Serves, given_to, polled_by_each}
 use Rattle.hub_core.proofs.serve_loop.run.Given as goal
 
 abbrev pub invariant-loop : goal.invariant-loop

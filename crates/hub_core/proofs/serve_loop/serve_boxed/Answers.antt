@@ -2,7 +2,8 @@ use Rattle.std.proofs.Common.{◌≡◌, ◌∙◌, None, ap, arith, subst, sym}
 use Rattle.hub_core.specs.Hubs.{year_of}
 use Rattle.hub_core.specs.Serving.{served}
 use Rattle.hub_core.proofs.LaneViewFacts.{PolledFirst, first_of}
-use Rattle.hub_core.specs.Traffics.{AreServedFirst, Serves, given_to, polled_by_each}
+use Rattle.hub_core.specs.Traffics.{AreServedFirst}
+use Rattle.hub_core.specs.inner.Traffics.{Serves, given_to, polled_by_each}
 use Rattle.hub_core.proofs.ServeFacts.{lanes_counted}
 use Rattle.hub_core.proofs.TrafficFacts.{all_served, came_fresh, seats_counted, serves_fresh, served_first}
 use Rattle.hub_core.proofs.serve_loop.serve_boxed.Goals as goal

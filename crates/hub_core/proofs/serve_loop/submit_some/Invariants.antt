@@ -1,5 +1,5 @@
 use Rattle.std.proofs.Common.{◌≡◌, None}
-use Rattle.hub_core.specs.Traffics.{Serves, given_to, polled_by_each}
+use Rattle.hub_core.specs.inner.Traffics.{Serves, given_to, polled_by_each}
 use Rattle.hub_core.specs.declared.serve_loop.Submitted.TheVariants.{Nothing}
 use Rattle.hub_core.proofs.serve_loop.submit_some.Given as goal
 

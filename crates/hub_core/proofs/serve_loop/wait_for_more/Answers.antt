@@ -1,5 +1,5 @@
 use Rattle.std.proofs.Common.{None}
-use Rattle.hub_core.specs.Traffics.{given_to, polled_by_each}
+use Rattle.hub_core.specs.inner.Traffics.{given_to, polled_by_each}
 use Rattle.hub_core.proofs.TrafficFacts.{even_given}
 use Rattle.hub_core.proofs.serve_loop.wait_for_more.Goals as goal
 

@@ -1,5 +1,5 @@
 use Rattle.std.proofs.Common.{◌∙◌}
-use Rattle.hub_core.specs.DrainedLists.{items_of}
+use Rattle.hub_core.specs.inner.DrainedLists.{items_of}
 use Rattle.hub_core.specs.Hubs.{IsLaneOf}
 use Rattle.hub_core.proofs.LaneViewFacts.{GivesRows, settled}
 use Rattle.hub_core.proofs.OwedFacts.{owed}

@@ -1,6 +1,6 @@
 use Rattle.std.proofs.Common.{◌≡◌, ◌≤◌, ℕ, Bool, true, false, not, List, [], ◌∷◌, ◌++◌, refl, subst, arith}
 use Rattle.scan_core.specs.Bits.{dots_at}
-use Rattle.scan_core.specs.FirstRuns.{AreFirst, IsLongRow}
+use Rattle.scan_core.specs.inner.FirstRuns.{AreFirst, IsLongRow}
 use Rattle.scan_core.specs.Row.{IsRow, dots_of}
 use Rattle.scan_core.specs.declared.dots.FirstRuns.{FirstRuns}
 use Rattle.scan_core.proofs.CutFacts.{Cut, IsRowOf, first_run, goes_on, next_run, end_light, end_dark}

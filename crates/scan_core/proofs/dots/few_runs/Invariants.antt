@@ -1,6 +1,6 @@
 use Rattle.std.proofs.Common.{◌≡◌, ◌+◌, ◌-◌, ◌<◌, ◌≤◌, ℕ, List, not}
 use Rattle.scan_core.specs.Bits.{dot_at, dots_at}
-use Rattle.scan_core.specs.FirstRuns.{AreFirst}
+use Rattle.scan_core.specs.inner.FirstRuns.{AreFirst}
 use Rattle.scan_core.proofs.CutFacts.{Cut}
 use Rattle.scan_core.proofs.dots.few_runs.Given as goal
 

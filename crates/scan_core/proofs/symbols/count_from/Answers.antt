@@ -1,6 +1,6 @@
 use Rattle.std.proofs.Common.{◌≡◌, ℕ, ◌+◌, ◌*◌, ◌-◌, ap, arith, get_or, inl, inr}
 use Rattle.std.proofs.lemmas.Bool.{cases_lt}
-use Rattle.scan_core.specs.Searches.{HasRun}
+use Rattle.scan_core.specs.inner.Searches.{HasRun}
 use Rattle.scan_core.proofs.WindowFacts.{run_more, window_counts, window_ends, window_narrow}
 use Rattle.scan_core.proofs.symbols.count_from.Goals as goal
 use Rattle.scan_core.proofs.symbols.count_from.Goals.{then-not-may_end-via-then-not-may_end, then-not-may_end-via-else-not-may_end+then-widths-first}

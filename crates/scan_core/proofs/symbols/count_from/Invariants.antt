@@ -1,5 +1,5 @@
 use Rattle.std.proofs.Common.{◌≡◌, ◌⊎◌, ◌+◌, ◌*◌, ℕ}
-use Rattle.scan_core.specs.Searches.{AreNoneShorter, HasRun}
+use Rattle.scan_core.specs.inner.Searches.{AreNoneShorter, HasRun}
 use Rattle.scan_core.proofs.symbols.count_from.Given as goal
 
 abbrev pub invariant-pairs : goal.invariant-pairs

@@ -6,7 +6,7 @@ use Rattle.sheet_core.specs.Bitmaps.{Bitmap, stride}
 use Rattle.sheet_core.specs.Drawing.{ArePrinted}
 use Rattle.sheet_core.specs.Grids.{Cells, IsGrid}
 use Rattle.sheet_core.specs.Labels.{IsDrawn, IsPrintable}
-use Rattle.sheet_core.specs.Lines.{band}
+use Rattle.sheet_core.specs.inner.Lines.{band}
 use Rattle.sheet_core.specs.pbm.Headers.{header_text}
 use Rattle.sheet_core.specs.pbm.Images.{pbm_of}
 use Rattle.sheet_core.proofs.LabelFacts.{all_printed}

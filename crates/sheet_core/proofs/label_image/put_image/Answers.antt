@@ -1,7 +1,7 @@
 use Rattle.std.proofs.Common.{◌≡◌, ◌≤◌, ◌+◌, ◌-◌, ◌*◌, ◌++◌, ◌∙◌, ℕ, List, ap, arith, length, length-append, replicate, subst, sym}
 use Rattle.sheet_core.specs.Bitmaps.{stride}
 use Rattle.sheet_core.specs.Grids.{Cells}
-use Rattle.sheet_core.specs.Lines.{band, repeated_bytes}
+use Rattle.sheet_core.specs.inner.Lines.{band, repeated_bytes}
 use Rattle.digits_core.specs.Buffers.{pasted}
 use Rattle.sheet_core.proofs.BandFacts.{length-rows}
 use Rattle.sheet_core.proofs.PasteFacts.{Put, bar_rows, image_fits, image_put, light_put, light_rows, put_fits, put_next}

@@ -1,6 +1,6 @@
 use Rattle.std.proofs.Common.{◌+◌, ◌∙◌, ap, ap₂, arith, length, sym}
 use Rattle.digits_core.specs.Buffers.{pasted}
-use Rattle.sheet_core.specs.Lines.{repeated_bytes}
+use Rattle.sheet_core.specs.inner.Lines.{repeated_bytes}
 use Rattle.digits_core.proofs.Pasted.{length-pasted, pasted_none}
 use Rattle.sheet_core.proofs.PasteFacts.{end_more, row_fits, rows_pasted}
 use Rattle.sheet_core.proofs.label_image.put_rows.Goals as goal

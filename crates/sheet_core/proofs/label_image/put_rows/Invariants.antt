@@ -1,6 +1,6 @@
 use Rattle.std.proofs.Common.{◌≡◌, ◌+◌, length}
 use Rattle.digits_core.specs.Buffers.{pasted}
-use Rattle.sheet_core.specs.Lines.{repeated_bytes}
+use Rattle.sheet_core.specs.inner.Lines.{repeated_bytes}
 use Rattle.sheet_core.proofs.label_image.put_rows.Given as goal
 
 abbrev pub invariant-loop : goal.invariant-loop

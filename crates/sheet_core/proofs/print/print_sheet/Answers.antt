@@ -3,7 +3,7 @@ use Rattle.std.specs.List.{AllZip}
 use Rattle.sheet_core.specs.Drawing.{IsSheet}
 use Rattle.sheet_core.specs.Grids.{Cells}
 use Rattle.sheet_core.specs.Labels.{FitsCell, IsDrawn}
-use Rattle.sheet_core.specs.Lines.{IsBarLine, row_labels}
+use Rattle.sheet_core.specs.inner.Lines.{IsBarLine, row_labels}
 use Rattle.sheet_core.proofs.BandFacts.{Banded, banded_more}
 use Rattle.sheet_core.proofs.LabelFacts.{AllZip-drop, AllZip-take}
 use Rattle.sheet_core.proofs.WidthFacts.{AllByRecursion-drop, AllByRecursion-take}

@@ -1,5 +1,5 @@
 use Rattle.std.proofs.Common.{◌++◌, ◌∙◌, sym, ap, append_assoc}
-use Rattle.sheet_core.specs.Lines.{repeated_bytes}
+use Rattle.sheet_core.specs.inner.Lines.{repeated_bytes}
 use Rattle.sheet_core.proofs.BandFacts.{rows_more}
 use Rattle.sheet_core.proofs.print.push_rows.Goals as goal
 

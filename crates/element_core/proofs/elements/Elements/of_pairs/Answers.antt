@@ -3,8 +3,9 @@ use Rattle.std.specs.Prelude.{IsSome, is_some}
 use Rattle.std.proofs.lemmas.Grind.{common_steps}
 use Rattle.std.proofs.lemmas.List.{length-map, take_all}
 use Rattle.element_core.specs.Table.{predefined_length, row_at}
-use Rattle.element_core.specs.Elements.{AreElements, Entry, IsElements, canonical}
-use Rattle.element_core.specs.Growing.{last_gap, separator_if}
+use Rattle.element_core.specs.inner.Elements.{AreElements}
+use Rattle.element_core.specs.Elements.{Entry, IsElements, canonical}
+use Rattle.element_core.specs.inner.Growing.{last_gap, separator_if}
 use Rattle.element_core.specs.Pairs.{entry_of, entries_of}
 use Rattle.element_core.proofs.Growth.{separator_for-gap, last_gap-push}
 use Rattle.element_core.proofs.Listed.{listed}

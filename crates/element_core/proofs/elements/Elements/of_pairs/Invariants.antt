@@ -1,6 +1,6 @@
 use Rattle.std.proofs.Common.{◌≡◌, ◌≤◌, length, take}
 use Rattle.element_core.specs.Elements.{canonical}
-use Rattle.element_core.specs.Growing.{last_gap, separator_if}
+use Rattle.element_core.specs.inner.Growing.{last_gap, separator_if}
 use Rattle.element_core.specs.Pairs.{entries_of}
 use Rattle.element_core.proofs.elements.Elements.of_pairs.Given as goal
 

@@ -1,7 +1,7 @@
 use Rattle.std.proofs.Common.{List, [], ℕ, length, sym, subst, ap, arith}
 use Rattle.element_core.specs.Elements.{hri}
 use Rattle.element_core.specs.Shown.{shown_elements}
-use Rattle.element_core.specs.Walks.{AreAscii}
+use Rattle.element_core.specs.inner.Walks.{AreAscii}
 use Rattle.element_core.proofs.Canonical.{elements_are}
 use Rattle.element_core.proofs.Listed.{elements_ascii}
 use Rattle.element_core.proofs.Lines.{hri_room}

@@ -6,7 +6,7 @@ use Rattle.rtrb.specs.Ring.{known_free, sent}
 use Rattle.lane_core.specs.declared.job.Plain.{Plain}
 use Rattle.hub_core.specs.Passes.{popped_by}
 use Rattle.hub_core.specs.Rings.{PushEnd, all_sent}
-use Rattle.hub_core.specs.Accounting.{Accounted}
+use Rattle.hub_core.specs.inner.Accounting.{Accounted}
 use Rattle.hub_core.proofs.NextFacts.{is_there}
 use Rattle.hub_core.proofs.RingFacts.{ends_set, got_set, same_ring, sent_more, sent_same}
 use Rattle.hub_core.proofs.AccountingFacts.{given_else, given_now, handed_one}

@@ -1,5 +1,6 @@
 use Rattle.std.proofs.Common.{◌≡◌}
-use Rattle.hub_core.specs.Feeds.{NoneIsLeft, rests_of}
+use Rattle.hub_core.specs.inner.Feeds.{NoneIsLeft}
+use Rattle.hub_core.specs.Feeds.{rests_of}
 use Rattle.hub_core.proofs.feeds.Feeds.take_from.Given as goal
 
 abbrev pub invariant-loop-lane : goal.invariant-loop-lane

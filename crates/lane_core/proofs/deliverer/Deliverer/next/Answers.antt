@@ -4,7 +4,7 @@ use Rattle.std.specs.Map.{values_of}
 use Rattle.lane_core.specs.declared.next_slot.NextSlot.{NextSlot}
 use Rattle.lane_core.specs.declared.next_slot.NextSlot.TheVariants.{Missing, Here, Out}
 use Rattle.lane_core.specs.declared.job.Plain.{Plain}
-use Rattle.lane_core.specs.NextSlots.{IsSlotOf, slot_at, is_here}
+use Rattle.lane_core.specs.inner.NextSlots.{IsSlotOf, is_here, slot_at}
 use Rattle.lane_core.proofs.SlotFacts.{contained, next_waits, own_parts}
 use Rattle.lane_core.proofs.deliverer.Deliverer.next.Goals as goal
 

@@ -7,7 +7,8 @@ use Rattle.lane_core.specs.declared.next_slot.NextSlot.TheVariants.{Here, Out}
 use Rattle.lane_core.specs.declared.job.Plain.{Plain}
 use Rattle.lane_core.specs.declared.ticket.Ticket.{Ticket}
 use Rattle.lane_core.specs.ReorderBuffer.{GivesAny}
-use Rattle.lane_core.specs.NextSlots.{AreKept, buffer_by_slots, slot_at}
+use Rattle.lane_core.specs.inner.NextSlots.{AreKept, slot_at}
+use Rattle.lane_core.specs.NextSlots.{buffer_by_slots}
 use Rattle.lane_core.proofs.BufferFacts.{took_slot, took_out}
 use Rattle.lane_core.proofs.deliverer.Deliverer.take_any.Goals as goal
 

@@ -1,7 +1,8 @@
 use Rattle.std.proofs.Common.{◌≡◌, ◌<◌, ◌+◌, length, get_or, slice_set, ap, ◌∙◌, subst, arith}
 use Rattle.std.proofs.lemmas.Grind.{common_steps}
 use Rattle.lane_core.specs.declared.next_slot.NextSlot.TheVariants.{Missing, Here}
-use Rattle.lane_core.specs.NextSlots.{Advances, IsSlotOf, buffer_by_slots, slot_at, is_here}
+use Rattle.lane_core.specs.inner.NextSlots.{Advances, IsSlotOf, is_here, slot_at}
+use Rattle.lane_core.specs.NextSlots.{buffer_by_slots}
 use Rattle.lane_core.proofs.BufferFacts.{gave, kept_next, known_same, others_same}
 use Rattle.lane_core.proofs.SlotFacts.{next_waits, own_parts}
 use Rattle.lane_core.proofs.ListFacts.{placed, set_same}

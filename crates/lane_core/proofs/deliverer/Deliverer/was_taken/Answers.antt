@@ -1,7 +1,7 @@
 use Rattle.std.proofs.Common.{◌≡◌, ◌==◌, ◌&&◌, ◌||◌, nat_lt, Bool, true, false, sym, ap, ◌∙◌, get_or, arith}
 use Rattle.std.proofs.lemmas.Grind.{common_steps}
 use Rattle.lane_core.specs.ReorderBuffer.{is_known, was_taken}
-use Rattle.lane_core.specs.NextSlots.{has_come, slot_at}
+use Rattle.lane_core.specs.inner.NextSlots.{has_come, slot_at}
 use Rattle.lane_core.proofs.BufferFacts.{was_is}
 use Rattle.lane_core.proofs.LookupFacts.{any_finds, finds_own}
 use Rattle.lane_core.proofs.deliverer.Deliverer.was_taken.Goals as goal

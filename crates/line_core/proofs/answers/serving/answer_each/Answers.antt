@@ -6,7 +6,7 @@ use Rattle.hub_core.specs.Feeds.{AreGiven, rests_of}
 use Rattle.hub_core.specs.Laws.{AreAnswersOf}
 use Rattle.hub_core.specs.Serving.{are_short, is_count, served}
 use Rattle.hub_core.specs.Traffics.{IsKept}
-use Rattle.line_core.specs.answers.Reports.{AreLinesOf}
+use Rattle.line_core.specs.inner.Reports.{AreLinesOf}
 use Rattle.line_core.proofs.answers.ReportFacts.{no_lines}
 use Rattle.line_core.proofs.answers.serving.answer_each.Goals as goal
 

@@ -1,7 +1,8 @@
 use Rattle.std.proofs.Common.{Err, List, Ok, ap, arith, length-append, refl, ◌++◌, ◌∷◌, ◌≡◌, [], ℕ}
 use Rattle.csv.specs.Records.{fields_of}
-use Rattle.line_core.specs.input.Faults.{refusal_at}
-use Rattle.line_core.specs.input.Records.{IsFirstFault, Meaning, NamesFirst, records_of}
+use Rattle.line_core.specs.inner.Faults.{refusal_at}
+use Rattle.line_core.specs.input.Records.{IsFirstFault, Meaning, records_of}
+use Rattle.line_core.specs.inner.Records.{NamesFirst}
 use Rattle.line_core.specs.declared.input.fault.RecordFault.{RecordFault}
 use Rattle.line_core.specs.declared.input.fault.RecordRefusal.{RecordRefusal}
 use Rattle.line_core.specs.declared.input.fault.RecordRefusal.TheVariants as refusal

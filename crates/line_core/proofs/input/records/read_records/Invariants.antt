@@ -1,5 +1,5 @@
 use Rattle.std.proofs.Common.{◌≡◌, List, length}
-use Rattle.line_core.specs.input.Reading.{HasRead}
+use Rattle.line_core.specs.inner.Reading.{HasRead}
 use Rattle.line_core.specs.input.Records.{AreItems, Fields}
 use Rattle.line_core.proofs.input.records.read_records.Given as goal
 

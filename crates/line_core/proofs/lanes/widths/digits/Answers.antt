@@ -1,7 +1,7 @@
 use Rattle.std.proofs.Common.{◌*◌, ◌≡◌, ◌≤◌, ◌∙◌, List, arith, length, subst, sym, ℕ}
 use Rattle.std.specs.Option.{IfNone, IfSome}
 use Rattle.std.proofs.lemmas.List.{length-replicate, length-set}
-use Rattle.line_core.specs.lanes.Widths.{BeginsWithDigits}
+use Rattle.line_core.specs.inner.Widths.{BeginsWithDigits}
 use Rattle.line_core.proofs.lanes.DigitWidths.{given, none_more, not_given, one_more}
 use Rattle.line_core.proofs.lanes.widths.digits.Goals as goal
 

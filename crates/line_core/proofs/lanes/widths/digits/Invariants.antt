@@ -1,5 +1,5 @@
 use Rattle.std.proofs.Common.{◌<◌, ◌≡◌, List, false, get_or, length, true, ℕ}
-use Rattle.line_core.specs.lanes.Widths.{BeginsWithDigits, IsDigitAt}
+use Rattle.line_core.specs.inner.Widths.{BeginsWithDigits, IsDigitAt}
 use Rattle.line_core.proofs.lanes.widths.digits.Given as goal
 
 abbrev pub invariant-widths : goal.invariant-widths

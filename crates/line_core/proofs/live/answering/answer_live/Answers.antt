@@ -3,7 +3,7 @@ use Rattle.std.proofs.Common.{None, ap, length, refl, subst, sym, ◌∙◌, ◌
 use Rattle.hub_core.specs.declared.ended.Ended.TheVariants.{Done}
 use Rattle.wire_core.specs.Events.{was_read, was_written}
 use Rattle.wire_core.specs.Lines.{pieces_of}
-use Rattle.line_core.specs.live.Came.{HasCome, KeepsPlaces, Stands, TellsReply}
+use Rattle.line_core.specs.inner.Came.{HasCome, KeepsPlaces, Stands, TellsReply}
 use Rattle.line_core.specs.live.Replies.{replies_to}
 use Rattle.line_core.specs.live.Text.{AnsweredAll, IsReply, line_meant}
 use Rattle.line_core.specs.live.Answering.{AnswersBy}

@@ -1,6 +1,6 @@
 use Rattle.std.proofs.Common.{◌≡◌, ◌++◌, ◌∙◌, ◌∷◌, IfNone, None, Option, Some, [], false, is_some, subst, sym}
 use Rattle.wire_core.specs.Events.Event.{Read}
-use Rattle.line_core.specs.live.Came.{HasCome}
+use Rattle.line_core.specs.inner.Came.{HasCome}
 use Rattle.line_core.specs.declared.live.fault.LiveFault.TheVariants.{ReadFault}
 use Rattle.line_core.proofs.live.WireFacts.{came_failed, came_read}
 use Rattle.line_core.proofs.live.input.read_on.Goals as goal

@@ -1,7 +1,7 @@
 use Rattle.std.proofs.Common.{◌++◌, ◌∙◌, All, subst, sym}
 use Rattle.std.specs.List.{AllZip}
 use Rattle.wire_core.specs.Events.{writes_of}
-use Rattle.line_core.specs.live.Came.{IsReady, TellsPlace}
+use Rattle.line_core.specs.inner.Came.{IsReady, TellsPlace}
 use Rattle.line_core.proofs.live.WireFacts.{all_ready, wrote_part, wrote_turn}
 use Rattle.line_core.proofs.live.input.write_turn.Goals as goal
 

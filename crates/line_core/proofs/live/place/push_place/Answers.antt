@@ -1,7 +1,7 @@
 use Rattle.std.proofs.Common.{◌≡◌, ◌≤◌, ◌<◌, ◌+◌, ◌∙◌, Some, ap, arith, get_or, length, refl, subst, sym}
 use Rattle.std.proofs.lemmas.Option.{get_or_from_slice_get, slice_get_read}
 use Rattle.std.proofs.lemmas.Result.{on_ok_weaker}
-use Rattle.line_core.specs.live.Came.{IsReady, TellsPlace}
+use Rattle.line_core.specs.inner.Came.{IsReady, TellsPlace}
 use Rattle.line_core.specs.answers.Reports.{numbered_line}
 use Rattle.line_core.specs.declared.live.waiting.Waiting.{Waiting}
 use Rattle.line_core.proofs.live.place.push_place.Goals as goal

@@ -2,7 +2,7 @@ use Rattle.std.proofs.Common.{◌++◌, ◌∙◌, ◌∷◌, [], append-nil, ap
 use Rattle.std.specs.List.{AllZip, concat}
 use Rattle.std.proofs.lemmas.List.{take_more}
 use Rattle.std.proofs.lemmas.List.Folds.{concat-append}
-use Rattle.line_core.specs.live.Came.{TellsPlace}
+use Rattle.line_core.specs.inner.Came.{TellsPlace}
 use Rattle.line_core.proofs.Beside.{zip_more}
 use Rattle.line_core.proofs.live.place.push_places.Goals as goal
 

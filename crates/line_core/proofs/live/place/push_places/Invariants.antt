@@ -1,6 +1,6 @@
 use Rattle.std.proofs.Common.{◌≡◌, List, string_bytes, take, ℕ}
 use Rattle.std.specs.List.{AllZip, concat}
-use Rattle.line_core.specs.live.Came.{TellsPlace}
+use Rattle.line_core.specs.inner.Came.{TellsPlace}
 use Rattle.line_core.proofs.live.place.push_places.Given as goal
 
 abbrev pub invariant-loop-place : goal.invariant-loop-place

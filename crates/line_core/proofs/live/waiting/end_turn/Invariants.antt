@@ -1,6 +1,6 @@
 use Rattle.std.proofs.Common.{◌≡◌, ◌<◌, ◌≤◌, Some, length, ℕ}
 use Rattle.std.specs.List.{slice_get}
-use Rattle.line_core.specs.live.Turns.{IsEnded}
+use Rattle.line_core.specs.inner.Turns.{IsEnded}
 use Rattle.line_core.specs.declared.live.waiting.Waiting.{Waiting}
 use Rattle.line_core.proofs.live.waiting.end_turn.Given as goal
 

@@ -1,5 +1,5 @@
 use Rattle.std.proofs.Common.{◌≡◌, All, length}
-use Rattle.line_core.specs.live.Turns.{IsFresh}
+use Rattle.line_core.specs.inner.Turns.{IsFresh}
 use Rattle.line_core.proofs.live.waiting.make_lanes.Given as goal
 
 abbrev pub invariant-loop-lane : goal.invariant-loop-lane

@@ -1,5 +1,5 @@
 use Rattle.std.proofs.Common.{Ok, Err, subst}
-use Rattle.scan_core.specs.Reading.{number_text, text_in}
+use Rattle.scan_core.specs.inner.Reading.{number_text, text_in}
 use Rattle.element_core.specs.Elements.{IsElements, canonical}
 use Rattle.scan_core.specs.declared.symbol.Symbol.TheVariants.{Characters, Number}
 use Rattle.scan_core.proofs.AnswerFacts.{answer_from}

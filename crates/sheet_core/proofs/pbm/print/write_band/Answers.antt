@@ -4,7 +4,7 @@ use Rattle.std.specs.Io.KnownBytes.{Appends}
 use Rattle.std.proofs.lemmas.Slice.Zip.{AllZip-long}
 use Rattle.sheet_core.specs.Grids.{Cells, IsGrid}
 use Rattle.sheet_core.specs.Labels.{IsDrawn}
-use Rattle.sheet_core.specs.Lines.{IsBand, repeated_bytes}
+use Rattle.sheet_core.specs.inner.Lines.{IsBand, repeated_bytes}
 use Rattle.digits_core.specs.Bytes.{TookFront}
 use Rattle.sheet_core.proofs.pbm.FileFacts.{on_err}
 use Rattle.sheet_core.proofs.pbm.ImageFacts.{err_is}

@@ -4,7 +4,7 @@ use Rattle.std.specs.Io.KnownBytes.{Appends}
 use Rattle.std.proofs.lemmas.Bool.{false≢true}
 use Rattle.std.proofs.KnownBytes.{Appends-trans}
 use Rattle.digits_core.specs.Bytes.{TookFront}
-use Rattle.sheet_core.specs.Lines.{repeated_bytes}
+use Rattle.sheet_core.specs.inner.Lines.{repeated_bytes}
 use Rattle.sheet_core.proofs.BandFacts.{rows_more}
 use Rattle.sheet_core.proofs.pbm.FileFacts.{still, took_after, took_more}
 use Rattle.sheet_core.proofs.pbm.ImageFacts.{err_is}

@@ -1,6 +1,6 @@
 use Rattle.std.proofs.Common.{◌≡◌, false}
 use Rattle.std.specs.Io.KnownBytes.{Appends}
-use Rattle.sheet_core.specs.Lines.{repeated_bytes}
+use Rattle.sheet_core.specs.inner.Lines.{repeated_bytes}
 use Rattle.sheet_core.proofs.pbm.print.write_rows.Given as goal
 
 abbrev pub invariant-loop : goal.invariant-loop

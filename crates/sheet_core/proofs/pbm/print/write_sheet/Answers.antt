@@ -5,7 +5,7 @@ use Rattle.std.proofs.lemmas.Bool.{false≢true}
 use Rattle.std.proofs.KnownBytes.{Appends-nil, Appends-trans}
 use Rattle.sheet_core.specs.Grids.{Cells, IsGrid}
 use Rattle.sheet_core.specs.Labels.{FitsCell, IsDrawn}
-use Rattle.sheet_core.specs.Lines.{IsBand, row_labels}
+use Rattle.sheet_core.specs.inner.Lines.{IsBand, row_labels}
 use Rattle.sheet_core.proofs.BandFacts.{Banded, banded_none}
 use Rattle.sheet_core.proofs.LabelFacts.{AllZip-drop, AllZip-take}
 use Rattle.sheet_core.proofs.WidthFacts.{AllByRecursion-drop, AllByRecursion-take}

@@ -1,5 +1,5 @@
 use Rattle.std.proofs.Common.{◌≡◌, IsTrue}
-use Rattle.sheet_core.specs.pbm.Headers.{is_reached}
+use Rattle.sheet_core.specs.inner.Headers.{is_reached}
 use Rattle.sheet_core.proofs.pbm.HeaderFacts.{At}
 use Rattle.sheet_core.proofs.pbm.read.read_header.Given as goal
 

@@ -1,7 +1,8 @@
 use Rattle.std.proofs.Common.{◌≡◌, ◌*◌, Ok, length, drop, sym, ap, ap₂, subst, ◌∙◌}
 use Rattle.std.proofs.lemmas.List.{take_at}
 use Rattle.sheet_core.specs.Bitmaps.{IsBitmap, stride}
-use Rattle.sheet_core.specs.pbm.Images.{ReadsBytes, StopsBefore, unpadded}
+use Rattle.sheet_core.specs.pbm.Images.{ReadsBytes, unpadded}
+use Rattle.sheet_core.specs.inner.Images.{StopsBefore}
 use Rattle.sheet_core.proofs.pbm.ImageFacts.{bitmap_of_rows, err_is, image_read, image_stopped, image_told}
 use Rattle.sheet_core.proofs.pbm.read.read_image.Goals as goal
 

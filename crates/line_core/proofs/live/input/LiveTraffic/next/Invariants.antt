@@ -1,8 +1,8 @@
 use Rattle.std.proofs.Common.{◌≡◌, Bool, List, ℕ}
 use Rattle.lane_core.specs.declared.job.Plain.{Plain}
 use Rattle.wire_core.specs.Events.{Event}
-use Rattle.line_core.specs.live.Came.{IsProgressAt}
-use Rattle.line_core.specs.live.Stops.{TellsFaults}
+use Rattle.line_core.specs.inner.Came.{IsProgressAt}
+use Rattle.line_core.specs.inner.Stops.{TellsFaults}
 use Rattle.element_core.specs.declared.form.Form.{Form}
 use Rattle.line_core.proofs.live.input.LiveTraffic.next.Given as goal
 

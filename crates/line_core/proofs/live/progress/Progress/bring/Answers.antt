@@ -2,7 +2,7 @@ use Rattle.std.proofs.Common.{◌≡◌, ◌≤◌, ◌∙◌, Some, ap, arith, 
 use Rattle.std.specs.List.{slice_get}
 use Rattle.std.proofs.lemmas.Option.{slice_get_read}
 use Rattle.hub_core.specs.Traffics.{with_more}
-use Rattle.line_core.specs.live.Came.{HasCome}
+use Rattle.line_core.specs.inner.Came.{HasCome}
 use Rattle.line_core.proofs.live.CameFacts.{came_brought}
 use Rattle.line_core.proofs.live.progress.Progress.bring.Goals as goal
 

@@ -1,6 +1,6 @@
 use Rattle.std.proofs.Common.{Err, Ok, length, sym, subst, true, false}
-use Rattle.line_core.specs.live.Came.{HasCome, KeepsRow}
-use Rattle.line_core.specs.live.Meaning.{HoldsRecord}
+use Rattle.line_core.specs.inner.Came.{HasCome, KeepsRow}
+use Rattle.line_core.specs.inner.Meaning.{HoldsRecord}
 use Rattle.hub_core.specs.Traffics.{with_more}
 use Rattle.wire_core.specs.Lines.{without_line}
 use Rattle.line_core.proofs.live.CameFacts.{came_blank, came_kept, came_refused}

@@ -1,5 +1,5 @@
 use Rattle.std.proofs.Common.{◌++◌, ◌∙◌, ◌∷◌, Ok, Some, [], ap, subst}
-use Rattle.line_core.specs.live.Turns.{TakesNumberOf}
+use Rattle.line_core.specs.inner.Turns.{TakesNumberOf}
 use Rattle.line_core.specs.declared.live.place.Place.TheVariants as place
 use Rattle.line_core.specs.declared.live.record.LineFault.TheVariants as line_fault
 use Rattle.line_core.proofs.live.progress.Progress.keep_row.Goals as goal

@@ -1,6 +1,6 @@
 use Rattle.std.proofs.Common.{◌≡◌, ◌∙◌, IfSome, length, subst, sym}
-use Rattle.line_core.specs.live.Came.{HasCome, Took}
-use Rattle.line_core.specs.live.Meaning.{HoldsRecord}
+use Rattle.line_core.specs.inner.Came.{HasCome, Took}
+use Rattle.line_core.specs.inner.Meaning.{HoldsRecord}
 use Rattle.line_core.proofs.live.progress.Progress.take_line.Goals as goal
 
 pub returns-in-Ok-clause-came : goal.returns-in-Ok-clause-came

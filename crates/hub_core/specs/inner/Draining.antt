@@ -6,7 +6,8 @@ use Rattle.lane_core.specs.Weights.{OneForOne}
 use Rattle.hub_core.specs.Delivering.{collected, buffer_of, hand_of}
 use Rattle.hub_core.specs.Lanes.{lane_of, numbers_of, received, submitted}
 use Rattle.hub_core.specs.Rings.{PushEnd, all_sent}
-use Rattle.hub_core.specs.Workers.{jobs_in_hand, posted, taken}
+use Rattle.hub_core.specs.inner.Workers.{jobs_in_hand}
+use Rattle.hub_core.specs.Workers.{posted, taken}
 use Rattle.hub_core.specs.declared.lane_seat.LaneSeat.{LaneSeat}
 use Rattle.hub_core.specs.declared.worker_seat.WorkerSeat.{WorkerSeat}
 use Rattle.hub_core.specs.declared.deliverer_seat.DelivererSeat.{DelivererSeat}

@@ -4,7 +4,7 @@ use Rattle.std.specs.List.{AllByRecursion}
 use Rattle.element_core.specs.declared.front.Front.{Front}
 use Rattle.element_core.specs.Table.{row_at}
 use Rattle.element_core.specs.Elements.{Entry}
-use Rattle.element_core.specs.Families.{row_with}
+use Rattle.element_core.specs.inner.Families.{row_with}
 use Rattle.element_core.specs.Shown.{shown_value, shown_rest, shown_elements}
 
 -- the text begins with the AI of this row, its value and its separator

@@ -9,7 +9,8 @@ use Rattle.hub_core.specs.Traffics.{HasRoom, with_more}
 use Rattle.wire_core.specs.Events.{Event, was_read, was_written}
 use Rattle.wire_core.specs.Lines.{Held, TakesLines}
 use Rattle.line_core.specs.live.Answering.{AnswersBy, IsFrontBy, IsPromptBy, whole_lines}
-use Rattle.line_core.specs.live.Replies.{Reply, numbers_after_lines, refusal_line, replies_to}
+use Rattle.line_core.specs.live.Replies.{Reply, refusal_line, replies_to}
+use Rattle.line_core.specs.inner.Replies.{numbers_after_lines}
 use Rattle.line_core.specs.live.Replies.Reply.{Row, Line}
 use Rattle.line_core.specs.answers.Reports.{numbered_line}
 use Rattle.line_core.specs.live.Text.{HasEnded, line_fault_text, line_meant}
@@ -23,7 +24,7 @@ use Rattle.line_core.specs.declared.live.progress.Taken.{Taken}
 use Rattle.line_core.specs.declared.live.progress.Taken.TheVariants as take
 use Rattle.line_core.specs.declared.live.record.LineFault.TheVariants as line_fault
 use Rattle.line_core.specs.declared.live.waiting.Waiting.{Waiting}
-use Rattle.line_core.specs.live.Turns.{IsOneMore, IsRoomier}
+use Rattle.line_core.specs.inner.Turns.{IsOneMore, IsRoomier}
 
 -- ---- the lanes
 

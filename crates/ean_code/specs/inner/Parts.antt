@@ -3,7 +3,8 @@ use Rattle.std.specs.Prelude.{◌≡◌, ℕ, List, ◌++◌, length}
 use Rattle.std.specs.List.{flat_map}
 use Rattle.digits_core.specs.Digits.{AreAsciiDigits, AreDigits, digits_of}
 use Rattle.ean_code.specs.declared.number_sets.Character.{Character}
-use Rattle.ean_code.specs.NumberSets.{AreCharacters, left_widths, right_part}
+use Rattle.ean_code.specs.inner.NumberSets.{AreCharacters}
+use Rattle.ean_code.specs.NumberSets.{left_widths, right_part}
 use Rattle.ean_code.specs.Symbols.{Kind, IsNumberSymbol, normal_guard, special_guard, two_halves}
 use Rattle.ean_code.specs.TwoOfFive.{itf_start, itf_stop}
 

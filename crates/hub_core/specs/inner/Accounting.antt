@@ -5,7 +5,7 @@ use Rattle.lane_core.specs.declared.job.Plain.{Plain}
 use Rattle.lane_core.specs.ReorderBuffer.{ReorderBuffer, is_new, lanes_of, was_taken, next_of}
 use Rattle.lane_core.specs.Settling.{sifted}
 use Rattle.lane_core.specs.Tickets.{is_among, is_ticket_of, numbered}
-use Rattle.hub_core.specs.Serving.{sum_all}
+use Rattle.hub_core.specs.inner.Serving.{sum_all}
 use Rattle.lane_core.specs.Weights.{once}
 
 -- whether each list has its lane's numbers 0, 1, 2, .., the lanes being those from one on

@@ -1,0 +1,5 @@
+-- Definitions for the inside of the crate: types, private contracts and proofs name them, and no public contract reaches them.
+pub mod NumberSets
+pub mod Parts
+pub mod Spelling
+pub mod TwoOfFive

@@ -1,0 +1,11 @@
+-- Definitions for the inside of the crate: types, private contracts and proofs name them, and no public contract reaches them.
+pub mod Accounting
+pub mod Delivering
+pub mod DrainedLists
+pub mod Draining
+pub mod Feeds
+pub mod Fresh
+pub mod Rule
+pub mod Serving
+pub mod Traffics
+pub mod Workers

@@ -1,0 +1,11 @@
+-- What types, private contracts and proofs name beside `Delivering`.
+use Rattle.hub_core.specs.declared.deliverer_seat.Collected.{Collected}
+use Rattle.hub_core.specs.declared.deliverer_seat.Collected.TheVariants as collecting
+use Rattle.hub_core.specs.declared.collected_by_lane.CollectedByLane.{CollectedByLane}
+use Rattle.hub_core.specs.declared.collected_by_lane.CollectedByLane.TheVariants as by_lane
+
+-- the answer of `collect` without the lane
+abbrev pub collected_as : CollectedByLane → Collected
+collected_as by_lane.Nothing = collecting.Nothing
+collected_as (by_lane.Taken _) = collecting.Taken
+collected_as by_lane.NoMemory = collecting.NoMemory

@@ -1,0 +1,6 @@
+-- What types, private contracts and proofs name beside `Feeds`.
+use Rattle.std.specs.Prelude.{◌≡◌, ◌<◌, ◌≤◌, ℕ, List, [], length, slice_index_or}
+
+-- of the lanes from one on, as far as another, no row is left
+abbrev pub NoneIsLeft : ℕ → ℕ → List (List (List ℕ)) → Type 0
+NoneIsLeft first last rests = (l : ℕ) → first ≤ l → l < last → l < length rests → slice_index_or rests l [] ≡ []

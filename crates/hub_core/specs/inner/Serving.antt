@@ -1,0 +1,7 @@
+-- What types, private contracts and proofs name beside `Serving`.
+use Rattle.std.specs.Prelude.{ℕ, List}
+use Rattle.std.specs.List.{sum_by}
+
+-- the sum over the items of all lists
+abbrev pub sum_all : {X : Type 0} → (X → ℕ) → List (List X) → ℕ
+sum_all h lists = sum_by (λ xs. sum_by h xs) lists

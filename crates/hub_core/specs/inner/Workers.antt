@@ -1,0 +1,8 @@
+-- What types, private contracts and proofs name beside `Workers`.
+use Rattle.std.specs.Prelude.{List, option_to_list}
+use Rattle.lane_core.specs.declared.job.Plain.{Plain}
+use Rattle.hub_core.specs.declared.worker_seat.WorkerSeat.{WorkerSeat}
+
+-- the job in hand, as a list
+abbrev pub jobs_in_hand : WorkerSeat → List Plain
+jobs_in_hand s = option_to_list s.held

@@ -1,0 +1,8 @@
+-- What types, private contracts and proofs name beside `Holding`.
+use Rattle.lane_core.specs.declared.world.World.TheInside.{Inside}
+use Rattle.lane_core.specs.Contents.{IsShown}
+use Rattle.lane_core.specs.Holding.{held}
+
+-- the fields hold a state that some events lead to
+abbrev pub HoldsShown : Inside → Type 0
+HoldsShown w = IsShown (held w)
