@@ -16,7 +16,8 @@ mod two_of_five;
 pub use drawing::{ean8, ean13, upce};
 pub use itf::{itf14, read_itf14};
 pub use laws::{
-    measures, one_answer, one_reading, one_way, printed_symbols, replaced_is_unchecked, two_widths,
+    kind_is_one_way, measures_of_kind, one_list_of_digits, one_spelled, printed_symbols,
+    replaced_digit_is_unchecked, two_widths,
 };
 pub use lookup::character;
 pub use modules::Modules;

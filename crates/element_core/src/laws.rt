@@ -17,7 +17,7 @@ pub fn first_digits_decide()
 {}
 
 /// A text is one list of elements, or has one first fault, and not both.
-pub fn one_answer()
+pub fn one_list_or_fault()
     ensures { OneListOrFault }
 {}
 

@@ -31,8 +31,8 @@ pub use fault::ElementFault;
 pub use form::Form;
 pub use laws::{
     canonical_reads, dated_elements, day_zero, each_text, faultless_pairs, first_digits_decide,
-    gtin_reads, no_ai_begins_another, one_answer, pair_faults, pairs_differ, parts_have_one_length,
-    read_as_before, reads_pieces, timed_elements, year_window,
+    gtin_reads, no_ai_begins_another, one_list_or_fault, pair_faults, pairs_differ,
+    parts_have_one_length, read_as_before, reads_pieces, timed_elements, year_window,
 };
 pub use line::{Line, digit_line, elements_line, gtin_line};
 pub use pairs::Pair;

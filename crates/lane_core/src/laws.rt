@@ -66,7 +66,7 @@ pub fn all_found()
 {}
 
 /// The answers of deliveries of one reference year are those to their rows.
-pub fn answers_are_read()
+pub fn deliveries_are_read()
     ensures { DeliveriesAreRead }
 {}
 

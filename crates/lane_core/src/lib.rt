@@ -21,7 +21,7 @@ pub use event::Event;
 pub use fault::{NoMemory, TakeFault};
 pub use job::{Job, Plain};
 pub use laws::{
-    all_found, answers_are_read, claims_settle, done_stays_done, events_are_done, kept_whole,
+    all_found, claims_settle, deliveries_are_read, done_stays_done, events_are_done, kept_whole,
     lists_grow, lost_is_none, nothing_after_close, one_place, polled_are_read, polled_in_order,
     queues_keep, received_first, same_lists, tickets_once,
 };

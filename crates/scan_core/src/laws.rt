@@ -8,7 +8,7 @@ ghost use Rattle.scan_core.specs.Windows.{SymbolsAreTold, TurnedSymbols, WholeRo
 pub fn one_symbol()
     ensures { OneSymbol }
 {
-    ean_code::one_way();
+    ean_code::kind_is_one_way();
     code128_code::one_way();
     code128_code::measures();
 }
@@ -17,12 +17,12 @@ pub fn one_symbol()
 pub fn one_answer()
     ensures { OneAnswer }
 {
-    ean_code::one_reading();
-    ean_code::one_way();
+    ean_code::one_list_of_digits();
+    ean_code::kind_is_one_way();
     code128_code::one_reading();
     code128_code::one_way();
     code128_code::measures();
-    element_core::one_answer();
+    element_core::one_list_or_fault();
 }
 
 /// A row turned end for end has the same answer.
@@ -35,7 +35,7 @@ pub fn turned_row()
 pub fn replacement_is_noticed()
     ensures { ReplacementIsNoticed }
 {
-    ean_code::replaced_is_unchecked();
+    ean_code::replaced_digit_is_unchecked();
 }
 
 /// One start, data or check character of a Code 128 symbol replaced by another is noticed by the
@@ -57,7 +57,7 @@ pub fn never_too_long()
 pub fn symbol_measures()
     ensures { SymbolMeasures }
 {
-    ean_code::measures();
+    ean_code::measures_of_kind();
     code128_code::measures();
 }
 
@@ -92,7 +92,7 @@ pub fn each_ratio_is_read()
     ensures { EachRatioIsRead }
 {
     ean_code::two_widths();
-    ean_code::measures();
+    ean_code::measures_of_kind();
     element_core::gtin_reads();
 }
 

@@ -15,7 +15,7 @@ pub fn bar_rows_show()
     ensures { BarRowsShow }
 {
     dots_determine();
-    ean_code::measures();
+    ean_code::measures_of_kind();
     symbol_measures();
 }
 
@@ -25,7 +25,7 @@ pub fn bar_rows_answer()
     ensures { BarRowsAnswer }
 {
     dots_determine();
-    ean_code::measures();
+    ean_code::measures_of_kind();
     symbol_measures();
     modules_say();
     one_answer();
@@ -37,7 +37,7 @@ pub fn drawn_is_read()
     ensures { DrawnIsRead }
 {
     dots_determine();
-    ean_code::measures();
+    ean_code::measures_of_kind();
     symbol_measures();
     modules_say();
     one_answer();
@@ -79,7 +79,7 @@ pub fn files_are_refused()
 {}
 
 /// A file of at most 4,096 images shows one list of sheets.
-pub fn one_reading()
+pub fn one_list_of_sheets()
     ensures { OneListOfSheets }
 {}
 

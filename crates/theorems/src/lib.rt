@@ -19,7 +19,7 @@ pub fn each_text_has_one_meaning()
     ensures { (year : ℕ) (text : List ℕ) → ExactlyOne (Means year text) }
 {
     element_core::each_text();
-    element_core::one_answer();
+    element_core::one_list_or_fault();
 }
 
 /// A row has exactly one answer, and turned end for end it has the same.

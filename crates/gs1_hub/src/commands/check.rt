@@ -9,7 +9,7 @@ use crate::arguments::{command, year};
 use crate::fault::CommandFault;
 use clap::Command;
 use digits_core::{Sink, Source, write_all};
-use element_core::{Year, one_answer};
+use element_core::{Year, one_list_or_fault};
 use line_core::check_lines;
 use std::alloc::{AllocError, Global};
 
@@ -63,5 +63,5 @@ pub fn run_check<S: Source, W: Sink>(
 pub fn one_check()
     ensures { OneCheck }
 {
-    one_answer();
+    one_list_or_fault();
 }

@@ -17,7 +17,7 @@ use crate::commands::print::options::{Output, PrintOptions};
 use crate::fault::CommandFault;
 use clap::{ArgMatches, Command};
 use digits_core::{Sink, Source, write_all};
-use element_core::one_answer;
+use element_core::one_list_or_fault;
 use line_core::{label_lines, read_labels};
 use sheet_core::{Grid, Label, check_labels, one_printed, print_pbm};
 use std::alloc::{AllocError, Global};
@@ -128,6 +128,6 @@ pub fn run_print<S: Source, W: Sink>(
 pub fn one_print()
     ensures { OnePrint }
 {
-    one_answer();
+    one_list_or_fault();
     one_printed();
 }

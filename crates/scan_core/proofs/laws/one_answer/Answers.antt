@@ -3,17 +3,17 @@ use Rattle.scan_core.proofs.AnswerFacts.{one_answer as law}
 use Rattle.scan_core.proofs.ShownFacts.{EachOneWay}
 use Rattle.scan_core.proofs.laws.one_answer.Goals as goal
 
-each_way : (c : goal.After-one_answer) → EachOneWay
-each_way c Ean13 = c.one_way.ensures.ean13
-each_way c Ean8 = c.one_way.ensures.ean8
-each_way c UpcE = c.one_way.ensures.upce
-each_way c Itf14 = c.one_way.ensures.itf14
+each_way : (c : goal.After-one_list_or_fault) → EachOneWay
+each_way c Ean13 = c.kind_is_one_way.ensures.ean13
+each_way c Ean8 = c.kind_is_one_way.ensures.ean8
+each_way c UpcE = c.kind_is_one_way.ensures.upce
+each_way c Itf14 = c.kind_is_one_way.ensures.itf14
 
 pub returns : goal.returns
 returns c =
     law (record {
-      symbols = record { ean = each_way c; code = c.one_way-2.ensures; measures = c.measures.ensures };
-      numbers = c.one_reading.ensures;
-      codes = c.one_reading-2.ensures;
-      texts = c.one_answer.ensures;
+      symbols = record { ean = each_way c; code = c.one_way.ensures; measures = c.measures.ensures };
+      numbers = c.one_list_of_digits.ensures;
+      codes = c.one_reading.ensures;
+      texts = c.one_list_or_fault.ensures;
     })

@@ -11,4 +11,4 @@ law ean code (Some kind) ms form = let m = ean kind ms form.0 form.1 in (m.count
 law ean code None ms form = code_measures code ms form
 
 pub returns : goal.returns
-returns c = λ carrier. law c.measures.ensures c.measures-2.ensures (kind_of carrier)
+returns c = λ carrier. law c.measures_of_kind.ensures c.measures.ensures (kind_of carrier)

@@ -4,7 +4,7 @@ use Rattle.ean_code.specs.Symbols.Kind.{Ean13, Ean8, UpcE, Itf14}
 use Rattle.ean_code.specs.Widths.{AreWidths}
 use Rattle.ean_code.proofs.Drawn.{symbol_valid}
 use Rattle.ean_code.proofs.CountFacts.{ean13_measures, ean8_measures, itf14_measures, upce_measures}
-use Rattle.ean_code.proofs.laws.measures.Goals as goal
+use Rattle.ean_code.proofs.laws.measures_of_kind.Goals as goal
 
 measured : (kind : Kind) (modules ds : List ℕ) → IsNumberSymbol kind modules ds → (length modules ≡ width_count kind) × (sum modules ≡ module_count kind)
 measured Ean13 modules ds symbol = ean13_measures modules ds symbol

@@ -1,5 +1,5 @@
 use Rattle.ean_code.proofs.SpelledAnswers.{one_answer as law}
-use Rattle.ean_code.proofs.laws.one_answer.Goals as goal
+use Rattle.ean_code.proofs.laws.one_spelled.Goals as goal
 
 pub returns : goal.returns
 returns c = law
