@@ -15,10 +15,12 @@ abbrev pub set_by : Bool → CodeSet
 set_by true = C
 set_by false = B
 
-say : (s : CodeSet) (v : ℕ) (values : List ℕ) (b : ℕ) (text : List ℕ) → meaning s v ≡ Byte b → text_from s values ≡ Ok text → text_from s (v ∷ values) ≡ Ok (b ∷ text)
+say : (s : CodeSet) (v : ℕ) (values : List ℕ) (b : ℕ) (text : List ℕ) → meaning s v ≡ Byte b → text_from s values ≡ Ok text → text_from s (v ∷ values)
+    ≡ Ok (b ∷ text)
 say s v values b text e more = plain_step s false v values _ refl e ∙ ap (before (b ∷ [])) more
 
-say_pair : (s : CodeSet) (v : ℕ) (values : List ℕ) (d : ℕ) (text : List ℕ) → meaning s v ≡ Digits d → text_from s values ≡ Ok text → text_from s (v ∷ values) ≡ Ok (two_digits d ++ text)
+say_pair : (s : CodeSet) (v : ℕ) (values : List ℕ) (d : ℕ) (text : List ℕ) → meaning s v ≡ Digits d → text_from s values ≡ Ok text → text_from s (v ∷ values)
+    ≡ Ok (two_digits d ++ text)
 say_pair s v values d text e more = plain_step s false v values _ refl e ∙ ap (before (two_digits d)) more
 
 -- a byte in set B
@@ -46,7 +48,8 @@ pair_says a b h k =
     let second : 48 + pair a b % 10 ≡ b = omega arith in
     (rw (lt-ltb (pair a b) 100 (omega arith)) refl, rw (first, second) refl)
 
-say_digits : (a b : ℕ) (values text : List ℕ) → is_digit a ≡ true → is_digit b ≡ true → text_from C values ≡ Ok text → text_from C (pair a b ∷ values) ≡ Ok (a ∷ b ∷ text)
+say_digits : (a b : ℕ) (values text : List ℕ) → is_digit a ≡ true → is_digit b ≡ true → text_from C values ≡ Ok text → text_from C (pair a b ∷ values)
+    ≡ Ok (a ∷ b ∷ text)
 say_digits a b values text h k more =
     let p = pair_says a b h k in
     say_pair C (pair a b) values (pair a b) text p.0 more ∙ ap (λ (ds : List ℕ). Ok (ds ++ text)) p.1
@@ -136,15 +139,35 @@ is_short (a ∷ b ∷ text) =
     let rest = is_short text in
     let one_c = one.from_c in let one_b = one.from_b in let rest_c = rest.from_c in let rest_pair = rest.from_pair in
     elim (cases_Bool (eqb a 29)) [
-      | inl here ↦ record { from_c = rw here (omega arith); from_b = rw here (omega arith); from_pair = λ h. absurd (let d = digit_is a (two a b text h).0 in let low = d.0 in let e = eqb-true a 29 here in omega arith) }
+      | inl here ↦ record {
+        from_c = rw here (omega arith);
+        from_b = rw here (omega arith);
+        from_pair =
+            λ h. absurd (let d = digit_is a (two a b text h).0 in let low = d.0 in let e = eqb-true a 29 here in omega arith);
+      }
       | inr here ↦ elim (cases_Bool (has_even_run (a ∷ b ∷ text))) [
         | inl run ↦
             let four = run_is a b text run in
             let more : length (coded_on true text) ≤ length text = rest_pair (digits-tail a b text 2 (omega arith)) in
-            record { from_c = rw (here, le-leb 2 (digits_ahead (a ∷ b ∷ text)) (omega arith)) (omega arith); from_b = rw (here, run) (omega arith); from_pair = λ h. rw (here, le-leb 2 (digits_ahead (a ∷ b ∷ text)) h) (omega arith) }
+            record {
+              from_c = rw (here, le-leb 2 (digits_ahead (a ∷ b ∷ text)) (omega arith)) (omega arith);
+              from_b = rw (here, run) (omega arith);
+              from_pair =
+                  λ h. rw (here, le-leb 2 (digits_ahead (a ∷ b ∷ text)) h) (omega arith);
+            }
         | inr none ↦ elim (cases_Bool (leb 2 (digits_ahead (a ∷ b ∷ text)))) [
-          | inl enough ↦ record { from_c = rw (here, enough) (omega arith); from_b = rw (here, none) (omega arith); from_pair = λ h. rw (here, enough) (omega arith) }
-          | inr few ↦ record { from_c = rw (here, few) (omega arith); from_b = rw (here, none) (omega arith); from_pair = λ h. absurd (let lt = leb-false 2 (digits_ahead (a ∷ b ∷ text)) few in omega arith) }
+          | inl enough ↦ record {
+            from_c = rw (here, enough) (omega arith);
+            from_b = rw (here, none) (omega arith);
+            from_pair =
+                λ h. rw (here, enough) (omega arith);
+          }
+          | inr few ↦ record {
+            from_c = rw (here, few) (omega arith);
+            from_b = rw (here, none) (omega arith);
+            from_pair =
+                λ h. absurd (let lt = leb-false 2 (digits_ahead (a ∷ b ∷ text)) few in omega arith);
+          }
         ]
       ]
     ]

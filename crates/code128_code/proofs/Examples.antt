@@ -22,7 +22,9 @@ odd_run : (data_values (codes "10A12345") ≡ 102 ∷ 10 ∷ 100 ∷ 33 ∷ 17 �
 odd_run = (refl, refl)
 
 country : (mod103 105 (data_values (codes "422528")) ≡ 66)
-    × (symbol_widths 105 (data_values (codes "422528")) 66 ≡ concat ((2 ∷ 1 ∷ 1 ∷ 2 ∷ 3 ∷ 2 ∷ []) ∷ (4 ∷ 1 ∷ 1 ∷ 1 ∷ 3 ∷ 1 ∷ []) ∷ (1 ∷ 1 ∷ 2 ∷ 1 ∷ 3 ∷ 3 ∷ []) ∷ (3 ∷ 2 ∷ 1 ∷ 1 ∷ 2 ∷ 2 ∷ []) ∷ (3 ∷ 2 ∷ 2 ∷ 1 ∷ 1 ∷ 2 ∷ []) ∷ (1 ∷ 2 ∷ 1 ∷ 4 ∷ 2 ∷ 1 ∷ []) ∷ []) ++ stop)
+    × (symbol_widths 105 (data_values (codes "422528")) 66 ≡ concat
+    ((2 ∷ 1 ∷ 1 ∷ 2 ∷ 3 ∷ 2 ∷ []) ∷ (4 ∷ 1 ∷ 1 ∷ 1 ∷ 3 ∷ 1 ∷ []) ∷ (1 ∷ 1 ∷ 2 ∷ 1 ∷ 3 ∷ 3 ∷ []) ∷ (3 ∷ 2 ∷ 1 ∷ 1 ∷ 2 ∷ 2 ∷ []) ∷
+    (3 ∷ 2 ∷ 2 ∷ 1 ∷ 1 ∷ 2 ∷ []) ∷ (1 ∷ 2 ∷ 1 ∷ 4 ∷ 2 ∷ 1 ∷ []) ∷ []) ++ stop)
 unfolding patterns
 country = (refl, refl)
 

@@ -68,6 +68,7 @@ packed_by a b c d e f = omega arith
 
 -- six widths, as the code packs them
 pub packed_six : (ws : List ℕ) → length ws ≡ 6
-    → (((get_or ws 0 0 - 1) * 4 + (get_or ws 1 0 - 1)) * 16 + ((get_or ws 2 0 - 1) * 4 + (get_or ws 3 0 - 1))) * 16 + ((get_or ws 4 0 - 1) * 4 + (get_or ws 5 0 - 1)) ≡ packed_widths ws
+    → (((get_or ws 0 0 - 1) * 4 + (get_or ws 1 0 - 1)) * 16 + ((get_or ws 2 0 - 1) * 4 + (get_or ws 3 0 - 1))) * 16 +
+    ((get_or ws 4 0 - 1) * 4 + (get_or ws 5 0 - 1)) ≡ packed_widths ws
 packed_six (a ∷ b ∷ c ∷ d ∷ e ∷ f ∷ []) h = packed_by (a - 1) (b - 1) (c - 1) (d - 1) (e - 1) (f - 1)
 packed_six ws h = absurd (omega arith)

@@ -54,7 +54,8 @@ symbol_of s vs c ws least most low high valid small start values check end =
     }
 
 -- parts drawn one after another are the widths of a symbol
-pub drawn : (s : ℕ) (vs : List ℕ) (c : ℕ) (a b d e : List ℕ) → a ≡ [] ++ pattern s → b ≡ a ++ flat_map pattern vs → d ≡ b ++ pattern c → e ≡ d ++ stop → e ≡ symbol_widths s vs c
+pub drawn : (s : ℕ) (vs : List ℕ) (c : ℕ) (a b d e : List ℕ) → a ≡ [] ++ pattern s → b ≡ a ++ flat_map pattern vs → d ≡ b ++ pattern c → e ≡ d ++ stop → e
+    ≡ symbol_widths s vs c
 drawn s vs c a b d e p q r t =
     t
     ∙ ap (λ xs. xs ++ stop) (r ∙ ap (λ xs. xs ++ pattern c) (q ∙ ap (λ xs. xs ++ flat_map pattern vs) p))

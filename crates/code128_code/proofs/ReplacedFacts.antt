@@ -14,7 +14,8 @@ prime_tested = refl
 
 no_product : (a d : ℕ) → a < 102 → d < 102 → (suc a * suc d) % 103 ≡ 0 → ⊥
 no_product a d h k e =
-    let ok = all_below-at (λ d. not ((suc a * suc d) % 103 == 0)) 102 (all_below-at (λ a. all_below (λ d. not ((suc a * suc d) % 103 == 0)) 102) 102 prime_tested a h) d k in
+    let ok = all_below-at (λ d. not ((suc a * suc d) % 103 == 0)) 102
+    (all_below-at (λ a. all_below (λ d. not ((suc a * suc d) % 103 == 0)) 102) 102 prime_tested a h) d k in
     let hit : ((suc a * suc d) % 103 == 0) ≡ true = ap (λ n. n == 0) e in let miss = ap not hit in cc
 
 -- one value more
@@ -45,7 +46,8 @@ noticed s m n a x g r e pos le some high =
     let p : suc (a - 1) ≡ a = omega arith in let q : suc (g - 1) ≡ g = omega arith in
     no_product (a - 1) (g - 1) (omega arith) (omega arith) (ap₂ (λ m n. (m * n) % 103) p q ∙ gap)
 
-value_noticed : (s : ℕ) (vs : List ℕ) (k v : ℕ) → k < length vs → length vs ≤ 96 → get_or vs k 0 ≤ 102 → v ≤ 102 → v ≢ get_or vs k 0 → mod103 s (set vs k v) ≢ mod103 s vs
+value_noticed : (s : ℕ) (vs : List ℕ) (k v : ℕ) → k < length vs → length vs ≤ 96 → get_or vs k 0 ≤ 102 → v ≤ 102 → v ≢ get_or vs k 0
+    → mod103 s (set vs k v) ≢ mod103 s vs
 value_noticed s vs k v h few old new ne e =
     let r = replaced 1 vs k v h in
     let m = by_place 1 (set vs k v) in
@@ -54,10 +56,12 @@ value_noticed s vs k v h few old new ne e =
     elim (cases_lt v o) [
       | inl less ↦
           let same : v + (o - v) ≡ o = omega arith in
-          noticed s m n (1 + k) v (o - v) (subst (λ z. m + (1 + k) * z ≡ n + (1 + k) * v) (sym same) r) e (omega arith) (omega arith) (omega arith) (omega arith)
+          noticed s m n (1 + k) v (o - v) (subst (λ z. m + (1 + k) * z ≡ n + (1 + k) * v) (sym same) r) e (omega arith) (omega arith) (omega arith)
+          (omega arith)
       | inr rest ↦
           let same : o + (v - o) ≡ v = omega arith in
-          noticed s n m (1 + k) o (v - o) (subst (λ z. n + (1 + k) * z ≡ m + (1 + k) * o) (sym same) (sym r)) (sym e) (omega arith) (omega arith) (omega arith) (omega arith)
+          noticed s n m (1 + k) o (v - o) (subst (λ z. n + (1 + k) * z ≡ m + (1 + k) * o) (sym same) (sym r)) (sym e) (omega arith) (omega arith) (omega arith)
+          (omega arith)
     ]
 
 start_noticed : (s t : ℕ) (vs : List ℕ) → 103 ≤ s → s ≤ 105 → 103 ≤ t → t ≤ 105 → t ≢ s → mod103 s vs ≢ mod103 t vs

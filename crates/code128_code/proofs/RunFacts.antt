@@ -137,7 +137,8 @@ on_runs (a ∷ b ∷ text) false =
             let even = eqb-true (digits_ahead (a ∷ b ∷ text) % 2) 0 parts.1 in
             let d = two a b text (omega arith) in
             let runs = digits_first a b text d.0 d.1 in
-            let count : run_length (with_digit a (with_digit b (runs_of text))) ≡ digits_ahead (a ∷ b ∷ text) = ap run_length (sym runs) ∙ ahead (a ∷ b ∷ text) in
+            let count : run_length (with_digit a (with_digit b (runs_of text))) ≡ digits_ahead (a ∷ b ∷ text) =
+            ap run_length (sym runs) ∙ ahead (a ∷ b ∷ text) in
             let on : coded_on false (a ∷ b ∷ text) ≡ code_c ∷ pair a b ∷ coded_on true text = rw (apart, run) refl in
             on
             ∙ ap (λ vs. code_c ∷ pair a b ∷ vs) (on_runs text true)
@@ -146,12 +147,14 @@ on_runs (a ∷ b ∷ text) false =
             ∙ ap (coded_runs B) (sym runs)
         | inr none ↦
             let on : coded_on false (a ∷ b ∷ text) ≡ letter a ∷ coded_on false (b ∷ text) = rw (apart, none) refl in
-            let more : letter a ∷ coded_on false (b ∷ text) ≡ letter a ∷ coded_runs B (runs_of (b ∷ text)) = ap (λ vs. letter a ∷ vs) (on_runs (b ∷ text) false) in
+            let more : letter a ∷ coded_on false (b ∷ text) ≡ letter a ∷ coded_runs B (runs_of (b ∷ text)) =
+            ap (λ vs. letter a ∷ vs) (on_runs (b ∷ text) false) in
             elim (cases_Bool (is_digit a)) [
               | inl x ↦
                   let one : digits_ahead (a ∷ b ∷ text) ≡ 1 + run_length (runs_of (b ∷ text)) = rw x (ap (λ n. 1 + n) (sym (ahead (b ∷ text)))) in
                   let other : 4 ≤ 1 + run_length (runs_of (b ∷ text)) → (1 + run_length (runs_of (b ∷ text))) % 2 ≡ 0 → ⊥ =
-                  λ many even. let run : has_even_run (a ∷ b ∷ text) ≡ true = rw (one, le-leb 4 (1 + run_length (runs_of (b ∷ text))) many, eq-eqb ((1 + run_length (runs_of (b ∷ text))) % 2) 0 even) refl in cc in
+                  λ many even. let run : has_even_run (a ∷ b ∷ text) ≡ true =
+                  rw (one, le-leb 4 (1 + run_length (runs_of (b ∷ text))) many, eq-eqb ((1 + run_length (runs_of (b ∷ text))) % 2) 0 even) refl in cc in
                   on ∙ more ∙ sym (other_run a (runs_of (b ∷ text)) other) ∙ ap (coded_runs B) (sym (digit_first a (b ∷ text) x))
               | inr x ↦ on ∙ more ∙ sym (other_in_b a (runs_of (b ∷ text)) apart) ∙ ap (coded_runs B) (sym (other_first a (b ∷ text) x))
             ]
@@ -168,7 +171,8 @@ pub coded_is_short : CodedIsShort
 coded_is_short = λ text h. subst (λ vs. length vs ≤ length text) (sym (coded_is text)) (on_is_short text h)
 
 -- nothing is left to be coded
-pub coded_whole : (values rest text : List ℕ) (in_c : Bool) → length rest ≡ 0 → values ++ coded_on in_c rest ≡ fnc1 ∷ coded_on true text → values ≡ data_values text
+pub coded_whole : (values rest text : List ℕ) (in_c : Bool) → length rest ≡ 0 → values ++ coded_on in_c rest ≡ fnc1 ∷ coded_on true text → values
+    ≡ data_values text
 coded_whole values [] text true none e = sym (append-nil values) ∙ e ∙ ap (λ vs. fnc1 ∷ vs) (sym (coded_is text))
 coded_whole values [] text false none e = sym (append-nil values) ∙ e ∙ ap (λ vs. fnc1 ∷ vs) (sym (coded_is text))
 coded_whole values (b ∷ rest) text in_c none e = absurd (omega arith)

@@ -16,7 +16,8 @@ pub before-before : (xs ys : List ℕ) (r : Result (List ℕ) Code128Fault) → 
 before-before xs ys (Ok text) = ap Ok (append_assoc xs ys text)
 before-before xs ys (Err f) = refl
 
-pub before-ok : (bytes : List ℕ) (r : Result (List ℕ) Code128Fault) (text : List ℕ) → before bytes r ≡ Ok text → (rest : List ℕ) × (r ≡ Ok rest) × (text ≡ bytes ++ rest)
+pub before-ok : (bytes : List ℕ) (r : Result (List ℕ) Code128Fault) (text : List ℕ) → before bytes r ≡ Ok text → (rest : List ℕ) × (r ≡ Ok rest)
+    × (text ≡ bytes ++ rest)
 before-ok bytes (Ok rest) text e = (rest, refl, (let h : bytes ++ rest ≡ text = cc in sym h))
 before-ok bytes (Err f) text e = cc
 
@@ -25,17 +26,20 @@ pub pushed : (text bytes new : List ℕ) (r : Result (List ℕ) Code128Fault) �
 pushed text bytes new r e = ap (λ t. before t r) e ∙ before-before text bytes r
 
 -- a value after a SHIFT
-pub shifted_step : (set : CodeSet) (shift : Bool) (v : ℕ) (rest : List ℕ) → shift ≡ true → v < 96 → text_by set shift (v ∷ rest) ≡ before (shifted_byte set v ∷ []) (text_by set false rest)
+pub shifted_step : (set : CodeSet) (shift : Bool) (v : ℕ) (rest : List ℕ) → shift ≡ true → v < 96 → text_by set shift (v ∷ rest)
+    ≡ before (shifted_byte set v ∷ []) (text_by set false rest)
 shifted_step set true v rest e h = rw (lt-ltb v 96 h) refl
 shifted_step set false v rest e h = cc
 
 -- a value before those after it
-pub step_is : (set : CodeSet) (v : ℕ) (rest : List ℕ) → text_by set false (v ∷ rest) ≡ says (meaning set v) set (λ next. text_by next false rest) (text_by set true rest)
+pub step_is : (set : CodeSet) (v : ℕ) (rest : List ℕ) → text_by set false (v ∷ rest)
+    ≡ says (meaning set v) set (λ next. text_by next false rest) (text_by set true rest)
 step_is set v [] = refl
 step_is set v (w ∷ values) = refl
 
 -- a value that no SHIFT stands before
-pub plain_step : (set : CodeSet) (shift : Bool) (v : ℕ) (rest : List ℕ) (m : Meaning) → shift ≡ false → meaning set v ≡ m → text_by set shift (v ∷ rest) ≡ says m set (λ next. text_by next false rest) (text_by set true rest)
+pub plain_step : (set : CodeSet) (shift : Bool) (v : ℕ) (rest : List ℕ) (m : Meaning) → shift ≡ false → meaning set v ≡ m → text_by set shift (v ∷ rest)
+    ≡ says m set (λ next. text_by next false rest) (text_by set true rest)
 plain_step set false v rest m e h = step_is set v rest ∙ ap (λ n. says n set (λ next. text_by next false rest) (text_by set true rest)) h
 plain_step set true v rest m e h = cc
 

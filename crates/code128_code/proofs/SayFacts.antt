@@ -20,7 +20,8 @@ gs1_symbol s c (v ∷ vs) ms text e right h =
             symbol = subst (λ xs. IsCode128Symbol s xs (mod103 s xs) ms) all (subst (λ n. IsCode128Symbol s (v ∷ vs) n ms) right e);
             says = sym test ∙ h;
           }
-      | inr other ↦ absurd (let none : gs1_text (set_of s) (v ∷ vs) ≡ Err faults.NotGs1 = rw (ne_eqb v 102 other) refl in let both : Err faults.NotGs1 ≡ Ok text = sym none ∙ h in cc)
+      | inr other ↦ absurd (let none : gs1_text (set_of s) (v ∷ vs) ≡ Err faults.NotGs1 =
+          rw (ne_eqb v 102 other) refl in let both : Err faults.NotGs1 ≡ Ok text = sym none ∙ h in cc)
     ]
 
 said : (s c : ℕ) (vs ms text : List ℕ) → IsCode128Symbol s vs c ms → symbol_text s vs c ≡ Ok text → IsGs1Symbol ms text
@@ -29,7 +30,8 @@ said s c vs ms text e h =
       | inl right ↦
           let test : symbol_text s vs c ≡ gs1_text (set_of s) vs = rw (eq-eqb c (mod103 s vs) right) refl in
           gs1_symbol s c vs ms text e right (sym test ∙ h)
-      | inr wrong ↦ absurd (let none : symbol_text s vs c ≡ Err faults.CheckCharacter = rw (ne_eqb c (mod103 s vs) wrong) refl in let both : Err faults.CheckCharacter ≡ Ok text = sym none ∙ h in cc)
+      | inr wrong ↦ absurd (let none : symbol_text s vs c ≡ Err faults.CheckCharacter =
+          rw (ne_eqb c (mod103 s vs) wrong) refl in let both : Err faults.CheckCharacter ≡ Ok text = sym none ∙ h in cc)
     ]
 
 told : (s c : ℕ) (vs ms text : List ℕ) → IsCode128Symbol s vs c ms → IsGs1Symbol ms text → symbol_text s vs c ≡ Ok text

@@ -37,13 +37,17 @@ widths-parts s vs c =
 
 module _ (s : ℕ) (vs : List ℕ) (c : ℕ) (ms : List ℕ) (e : IsCode128Symbol s vs c ms) where
   all_valid : AllByRecursion (λ v. v < 106) (characters_of s vs c)
-  all_valid =
-      ((let h = e.start_greatest in omega arith), AllByRecursion-append _ vs (c ∷ []) (characters_valid vs e.valid) ((let h = e.check_valid in omega arith), tt))
+  all_valid = (
+    (let h = e.start_greatest in omega arith),
+    AllByRecursion-append _ vs (c ∷ []) (characters_valid vs e.valid)
+        ((let h = e.check_valid in omega arith), tt),
+  )
 
   -- each character has six widths, and the stop seven
   pub length-symbol : length ms ≡ length (characters_of s vs c) * 6 + 7
   length-symbol =
-      ap length e.widths ∙ length-append (flat_map pattern (characters_of s vs c)) stop ∙ ap (λ n. n + 7) (length-cells _ 6 pattern shown code (characters_of s vs c) all_valid)
+      ap length e.widths ∙ length-append (flat_map pattern (characters_of s vs c)) stop
+      ∙ ap (λ n. n + 7) (length-cells _ 6 pattern shown code (characters_of s vs c) all_valid)
 
   pub length-parts : length ms ≡ length vs * 6 + 19
   length-parts = let a = length-symbol in let b = length-append vs (c ∷ []) in omega arith
@@ -155,7 +159,8 @@ measures s c vs ms e =
     let count = length-parts s vs c ms e in
     let at : 103 + (s - 103) ≡ s = omega arith in
     let bar : get_or (pattern s) 0 0 ≡ 2 =
-    subst (λ n. get_or (pattern n) 0 0 ≡ 2) at (eqb-true _ _ (all_below-at (λ i. get_or (pattern (103 + i)) 0 0 == 2) 3 starts_tested (s - 103) (omega arith))) in
+    subst (λ n. get_or (pattern n) 0 0 ≡ 2) at (eqb-true _ _ (all_below-at (λ i. get_or (pattern (103 + i)) 0 0 == 2) 3 starts_tested (s - 103) (omega arith)))
+    in
     let characters : length (characters_of s vs c) ≡ length vs + 2 = (let n = length-append vs (c ∷ []) in omega arith) in
     let total : sum ms ≡ 11 * (length vs + 2) + 13 =
     ap sum e.widths ∙ sum-append (flat_map pattern (characters_of s vs c)) stop
@@ -194,7 +199,8 @@ modules_valid s vs c ms e =
     let few = e.few in let count = length-parts s vs c ms e in (
       omega arith,
       omega arith,
-      subst AreWidths (sym e.widths) (AllByRecursion-append _ (flat_map pattern (characters_of s vs c)) stop (AreWidths-all (characters_of s vs c) (all_valid s vs c ms e)) stop_valid),
+      subst AreWidths (sym e.widths) (AllByRecursion-append _ (flat_map pattern (characters_of s vs c)) stop
+          (AreWidths-all (characters_of s vs c) (all_valid s vs c ms e)) stop_valid),
     )
 
 -- ---- data values, character by character
@@ -206,14 +212,16 @@ part-taken : (ws : List ℕ) (i : ℕ) → part_of ws i ≡ take 6 (drop (6 * i)
 part-taken ws i = let six : (6 * i + 6) - 6 * i ≡ 6 = omega arith in ap (λ n. take n (drop (6 * i) ws)) six
 
 -- widths that are characters are a character at each sixth
-pub no_gap : (ws : List ℕ) (i : ℕ) → i < length ws / 6 → ((v : ℕ) → v ≤ 102 → pattern v ≢ part_of ws i) → (vs : List ℕ) → AreValues vs → flat_map pattern vs ≢ ws
+pub no_gap : (ws : List ℕ) (i : ℕ) → i < length ws / 6 → ((v : ℕ) → v ≤ 102 → pattern v ≢ part_of ws i) → (vs : List ℕ) → AreValues vs
+    → flat_map pattern vs ≢ ws
 no_gap ws i lt none vs h e =
     let count : length ws ≡ length vs * 6 = sym (ap length e) ∙ length-data vs h in
     let low : i < length vs = omega arith in
     let cell = cell_at (λ v. v < 106) 6 pattern length-pattern vs i 0 (characters_valid vs h) low in
     none (get_or vs i 0) (valid_at vs i h low) (sym cell ∙ ap (λ m. take 6 (drop (6 * i) m)) e ∙ sym (part-taken ws i))
 
-pub one_more : (ws : List ℕ) (i : ℕ) (found : List ℕ) (v : ℕ) → flat_map pattern found ≡ take (6 * i) ws → pattern v ≡ part_of ws i → flat_map pattern (found ++ v ∷ []) ≡ take (6 * (i + 1)) ws
+pub one_more : (ws : List ℕ) (i : ℕ) (found : List ℕ) (v : ℕ) → flat_map pattern found ≡ take (6 * i) ws → pattern v ≡ part_of ws i
+    → flat_map pattern (found ++ v ∷ []) ≡ take (6 * (i + 1)) ws
 one_more ws i found v e f =
     let next : 6 * (i + 1) ≡ 6 * i + 6 = omega arith in
     flat_map-append pattern found (v ∷ [])

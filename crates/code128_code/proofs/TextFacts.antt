@@ -46,11 +46,13 @@ told (w ∷ values) set true text e = λ u m.
           let q = told values set false p.0 p.1 in
           (q.0, subst (λ t. Says set (u ∷ w ∷ values) t q.0) (sym p.2) (shift set q.0 u w values p.0 m (ltb-true w 96 low) q.1))
       | inr high ↦
-          let none : text_by set true (w ∷ values) ≡ Err faults.CodeSet = rw high refl in absurd (let impossible : Err faults.CodeSet ≡ Ok text = sym none ∙ e in cc)
+          let none : text_by set true (w ∷ values) ≡ Err faults.CodeSet =
+          rw high refl in absurd (let impossible : Err faults.CodeSet ≡ Ok text = sym none ∙ e in cc)
     ]
 
 -- what is said of some values stands before what is said of the rest
-joined : (set to : CodeSet) (front said : List ℕ) → Says set front said to → (rest : List ℕ) → text_by set false (front ++ rest) ≡ before said (text_by to false rest)
+joined : (set to : CodeSet) (front said : List ℕ) → Says set front said to → (rest : List ℕ) → text_by set false (front ++ rest)
+    ≡ before said (text_by to false rest)
 joined set to front said (nothing s) rest = sym (before-nothing (text_by s false rest))
   where
     before-nothing : (r : Result (List ℕ) Code128Fault) → before [] r ≡ r
@@ -59,7 +61,8 @@ joined set to front said (nothing s) rest = sym (before-nothing (text_by s false
 joined set to front said (byte s t v b values text e more) rest =
     plain_step s false v (values ++ rest) (Byte b) refl e ∙ ap (before (b ∷ [])) (joined s t values text more rest) ∙ sym (before-before (b ∷ []) text _)
 joined set to front said (digits s t v d values text e more) rest =
-    plain_step s false v (values ++ rest) (Digits d) refl e ∙ ap (before (two_digits d)) (joined s t values text more rest) ∙ sym (before-before (two_digits d) text _)
+    plain_step s false v (values ++ rest) (Digits d) refl e ∙ ap (before (two_digits d)) (joined s t values text more rest)
+    ∙ sym (before-before (two_digits d) text _)
 joined set to front said (latch s other t v values text e more) rest =
     plain_step s false v (values ++ rest) (Latch other) refl e ∙ joined other t values text more rest
 joined set to front said (shift s t v w values text e low more) rest =

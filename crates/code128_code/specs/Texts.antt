@@ -102,9 +102,11 @@ pub record IsGs1Symbol (modules text : List ℕ) : Type 0 where
 pub data Says : CodeSet → List ℕ → List ℕ → CodeSet → Type 0 where
   nothing : (set : CodeSet) → Says set [] [] set
   byte : (set to : CodeSet) (v b : ℕ) (values text : List ℕ) → meaning set v ≡ Byte b → Says set values text to → Says set (v ∷ values) (b ∷ text) to
-  digits : (set to : CodeSet) (v d : ℕ) (values text : List ℕ) → meaning set v ≡ Digits d → Says set values text to → Says set (v ∷ values) (two_digits d ++ text) to
+  digits : (set to : CodeSet) (v d : ℕ) (values text : List ℕ) → meaning set v ≡ Digits d → Says set values text to
+      → Says set (v ∷ values) (two_digits d ++ text) to
   latch : (set other to : CodeSet) (v : ℕ) (values text : List ℕ) → meaning set v ≡ Latch other → Says other values text to → Says set (v ∷ values) text to
-  shift : (set to : CodeSet) (v w : ℕ) (values text : List ℕ) → meaning set v ≡ Shift → w < 96 → Says set values text to → Says set (v ∷ w ∷ values) (shifted_byte set w ∷ text) to
+  shift : (set to : CodeSet) (v w : ℕ) (values text : List ℕ) → meaning set v ≡ Shift → w < 96 → Says set values text to
+      → Says set (v ∷ w ∷ values) (shifted_byte set w ∷ text) to
 
 -- the first of these values has this fault in the code set: it is FNC2, FNC3 or FNC4, or a SHIFT without a value 0 to 95 after it
 abbrev pub HasFault : CodeSet → List ℕ → Code128Fault → Type 0

@@ -17,7 +17,8 @@ first_byte false b n m e h = absurd (let none : suc n ≤ 0 = h in omega arith)
 
 digits_up_to : (text : List ℕ) → length text ≤ position_or_len (λ b. not (is_ascii_digit b)) text → AreAsciiDigits text
 digits_up_to [] h = tt
-digits_up_to (b ∷ text) h = let f = first_byte (is_ascii_digit b) b (length text) (position_or_len (λ b. not (is_ascii_digit b)) text) refl h in ((f.0, f.1), digits_up_to text f.2)
+digits_up_to (b ∷ text) h = let f = first_byte (is_ascii_digit b) b (length text) (position_or_len (λ b. not (is_ascii_digit b)) text) refl h in
+    ((f.0, f.1), digits_up_to text f.2)
 
 none_below : (n m : ℕ) → cond (nat_lt n m) (Some n) None ≡ None → m ≤ n
 none_below n m e = elim (cases_lt n m) [

@@ -5,7 +5,8 @@ use Rattle.digits_core.specs.Digits.{digits_of}
 use Rattle.digits_core.specs.Upce.{upce_expanded, upce_line}
 
 pub six_digits : (text : List ℕ) → length text ≡ 6
-    → digits_of text ≡ (get_or text 0 0 - 48) ∷ (get_or text 1 0 - 48) ∷ (get_or text 2 0 - 48) ∷ (get_or text 3 0 - 48) ∷ (get_or text 4 0 - 48) ∷ (get_or text 5 0 - 48) ∷ []
+    → digits_of text ≡ (get_or text 0 0 - 48) ∷ (get_or text 1 0 - 48) ∷ (get_or text 2 0 - 48) ∷ (get_or text 3 0 - 48) ∷ (get_or text 4 0 - 48) ∷
+    (get_or text 5 0 - 48) ∷ []
 six_digits [] e = absurd (omega arith)
 six_digits (a ∷ []) e = absurd (omega arith)
 six_digits (a ∷ b ∷ []) e = absurd (omega arith)

@@ -7,7 +7,14 @@ use Rattle.digits_core.specs.Buffers.{pasted}
 pub length-pasted : (old : List ℕ) (at : ℕ) (bytes : List ℕ) → at + length bytes ≤ length old → length (pasted old at bytes) ≡ length old
 length-pasted old at bytes room =
     let rest : List ℕ = drop (at + length bytes) old in
-    omega (arith, length-append (take at old) (bytes ++ rest), length-append bytes rest, length-take-le at old (omega arith), length-drop (at + length bytes) old)
+    omega (
+      arith,
+      length-append (take at old) (bytes ++ rest),
+      length-append bytes rest,
+      length-take-le at old (omega arith),
+      length-drop (at + length bytes)
+          old,
+    )
 
 -- nothing is put
 pub pasted_none : (old : List ℕ) (at : ℕ) → pasted old at [] ≡ old
@@ -24,7 +31,8 @@ pasted_more old at bytes more room =
     let now : pasted old at bytes ≡ front ++ rest = sym (append_assoc (take at old) bytes rest) in
     let before : take next (pasted old at bytes) ≡ front = ap (take next) now ∙ take_at front rest next long in
     let behind : drop (next + length more) (pasted old at bytes) ≡ drop (next + length more) old =
-    sym (drop-drop (length more) next (pasted old at bytes)) ∙ ap (drop (length more)) (ap (drop next) now ∙ drop_at front rest next long) ∙ drop-drop (length more) next old in
+    sym (drop-drop (length more) next (pasted old at bytes)) ∙ ap (drop (length more)) (ap (drop next) now ∙ drop_at front rest next long)
+    ∙ drop-drop (length more) next old in
     let end : next + length more ≡ at + length (bytes ++ more) = omega (arith, length-append bytes more) in
     ap₂ (λ a b. a ++ (more ++ b)) before (behind ∙ ap (λ k. drop k old) end)
     ∙ append_assoc (take at old) bytes (more ++ drop (at + length (bytes ++ more)) old)

@@ -44,7 +44,8 @@ one_first_spelling = λ six others check last gtin a b.
     let line : upce_line six ≡ upce_line others = omega arith in
     let p = expanded_shape six check in
     let q = expanded_shape others last in
-    let twelve : upce_expanded six check ≡ upce_expanded others last = padded_twelve (upce_expanded six check) (upce_expanded others last) p.count q.count (sym a.spelling.number ∙ b.spelling.number) in (
+    let twelve : upce_expanded six check ≡ upce_expanded others last =
+    padded_twelve (upce_expanded six check) (upce_expanded others last) p.count q.count (sym a.spelling.number ∙ b.spelling.number) in (
       sym (given six check a.spelling.six_digits) ∙ ap₂ six_by line twelve ∙ given others last b.spelling.six_digits,
       sym p.last ∙ ap (λ ds. get_or ds 11 0) twelve ∙ q.last,
     )

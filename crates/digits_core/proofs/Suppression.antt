@@ -21,7 +21,8 @@ zeros_made zero zero text valid few f = refl
 zeros_made zero (suc n) [] valid few f = absurd (omega arith)
 zeros_made zero (suc n) (b ∷ text) valid few f =
     let here : (b == 48) ≡ true = eq-eqb b 48 (f 0 (omega arith)) in
-    rw here (zeros_made zero n text valid.1 (omega arith) (λ k h. let e : zero + suc k ≡ suc k = omega arith in let g : zero + k ≡ k = omega arith in rw g (rw e at (f (suc k) (omega arith)))))
+    rw here (zeros_made zero n text valid.1 (omega arith) (λ k h. let e : zero + suc k ≡ suc k = omega arith in let g : zero + k ≡ k =
+    omega arith in rw g (rw e at (f (suc k) (omega arith)))))
 zeros_made (suc i) n [] valid few f = absurd (omega arith)
 zeros_made (suc i) n (b ∷ text) valid few f =
     zeros_made i n text valid.1 (omega arith) (λ k h. let e : suc i + k ≡ suc (i + k) = omega arith in rw e at (f k h))
@@ -38,7 +39,8 @@ zeros_read (suc i) n [] few z k h = absurd (omega arith)
 zeros_read (suc i) n (b ∷ text) few z k h = let e : suc i + k ≡ suc (i + k) = omega arith in rw e (zeros_read i n text (omega arith) z k h)
 
 pub twelve : (ds : List ℕ) → length ds ≡ 12
-    → ds ≡ get_or ds 0 0 ∷ get_or ds 1 0 ∷ get_or ds 2 0 ∷ get_or ds 3 0 ∷ get_or ds 4 0 ∷ get_or ds 5 0 ∷ get_or ds 6 0 ∷ get_or ds 7 0 ∷ get_or ds 8 0 ∷ get_or ds 9 0 ∷ get_or ds 10 0 ∷ get_or ds 11 0 ∷ []
+    → ds ≡ get_or ds 0 0 ∷ get_or ds 1 0 ∷ get_or ds 2 0 ∷ get_or ds 3 0 ∷ get_or ds 4 0 ∷ get_or ds 5 0 ∷ get_or ds 6 0 ∷ get_or ds 7 0 ∷ get_or ds 8 0 ∷
+    get_or ds 9 0 ∷ get_or ds 10 0 ∷ get_or ds 11 0 ∷ []
 twelve (a ∷ b ∷ c ∷ d ∷ e ∷ f ∷ g ∷ h ∷ i ∷ j ∷ k ∷ l ∷ []) is = refl
 twelve (a ∷ b ∷ c ∷ d ∷ e ∷ f ∷ g ∷ h ∷ i ∷ j ∷ k ∷ l ∷ m ∷ ds) is = absurd (omega arith)
 twelve _ is = absurd (omega arith)
@@ -66,7 +68,8 @@ module _ (text : List ℕ) (long : length text ≡ 12) (valid : AreAsciiDigits t
   zero_byte ds e i h z = byte_of_zero text i valid (omega arith) (ap (λ xs. get_or xs i 0) e ∙ z)
 
   -- by the digits that it stands for
-  four_zeros : (ds : List ℕ) → digits_of text ≡ ds → (i : ℕ) → i + 4 ≤ 12 → get_or ds i 0 ≡ 0 → get_or ds (i + 1) 0 ≡ 0 → get_or ds (i + 2) 0 ≡ 0 → get_or ds (i + 3) 0 ≡ 0 → HasZeros i 4 text
+  four_zeros : (ds : List ℕ) → digits_of text ≡ ds → (i : ℕ) → i + 4 ≤ 12 → get_or ds i 0 ≡ 0 → get_or ds (i + 1) 0 ≡ 0 → get_or ds (i + 2) 0 ≡ 0
+      → get_or ds (i + 3) 0 ≡ 0 → HasZeros i 4 text
   four_zeros ds e i few a b c d = zeros_made i 4 text valid (omega arith) at
     where
       at : (k : ℕ) → k < 4 → get_or text (i + k) 0 ≡ 48
@@ -76,7 +79,8 @@ module _ (text : List ℕ) (long : length text ≡ 12) (valid : AreAsciiDigits t
       at (suc (suc (suc zero))) h = zero_byte ds e (i + 3) (omega arith) d
       at (suc (suc (suc (suc k)))) h = absurd (omega arith)
 
-  five_zeros : (ds : List ℕ) → digits_of text ≡ ds → (i : ℕ) → i + 5 ≤ 12 → get_or ds i 0 ≡ 0 → get_or ds (i + 1) 0 ≡ 0 → get_or ds (i + 2) 0 ≡ 0 → get_or ds (i + 3) 0 ≡ 0 → get_or ds (i + 4) 0 ≡ 0 → HasZeros i 5 text
+  five_zeros : (ds : List ℕ) → digits_of text ≡ ds → (i : ℕ) → i + 5 ≤ 12 → get_or ds i 0 ≡ 0 → get_or ds (i + 1) 0 ≡ 0 → get_or ds (i + 2) 0 ≡ 0
+      → get_or ds (i + 3) 0 ≡ 0 → get_or ds (i + 4) 0 ≡ 0 → HasZeros i 5 text
   five_zeros ds e i few a b c d f = zeros_made i 5 text valid (omega arith) at
     where
       at : (k : ℕ) → k < 5 → get_or text (i + k) 0 ≡ 48
@@ -145,14 +149,17 @@ module _ (text : List ℕ) (long : length text ≡ 12) (valid : AreAsciiDigits t
       let byte = zeros_read i n text (omega arith) z k h in
       let digit = shown (i + k) in omega arith
 
-  written : digits_of text ≡ (get_or text 0 0 - 48) ∷ (get_or text 1 0 - 48) ∷ (get_or text 2 0 - 48) ∷ (get_or text 3 0 - 48) ∷ (get_or text 4 0 - 48) ∷ (get_or text 5 0 - 48) ∷ (get_or text 6 0 - 48) ∷ (get_or text 7 0 - 48) ∷ (get_or text 8 0 - 48) ∷ (get_or text 9 0 - 48) ∷ (get_or text 10 0 - 48) ∷ (get_or text 11 0 - 48) ∷ []
+  written : digits_of text ≡ (get_or text 0 0 - 48) ∷ (get_or text 1 0 - 48) ∷ (get_or text 2 0 - 48) ∷ (get_or text 3 0 - 48) ∷ (get_or text 4 0 - 48) ∷
+      (get_or text 5 0 - 48) ∷ (get_or text 6 0 - 48) ∷ (get_or text 7 0 - 48) ∷ (get_or text 8 0 - 48) ∷ (get_or text 9 0 - 48) ∷ (get_or text 10 0 - 48) ∷
+      (get_or text 11 0 - 48) ∷ []
   written = ap digits_of (twelve text long)
 
   digit_low : (i : ℕ) → i < 12 → get_or text i 0 - 48 < 10
   digit_low i h = let digit = digit_at text i valid (omega arith) in omega arith
 
   pub six_first : get_or text 0 0 ≡ 48 → get_or text 3 0 ≤ 50 → HasZeros 4 4 text
-      → IsSix ((get_or text 1 0 - 48) ∷ (get_or text 2 0 - 48) ∷ (get_or text 8 0 - 48) ∷ (get_or text 9 0 - 48) ∷ (get_or text 10 0 - 48) ∷ (get_or text 3 0 - 48) ∷ []) (digits_of text)
+      → IsSix ((get_or text 1 0 - 48) ∷ (get_or text 2 0 - 48) ∷ (get_or text 8 0 - 48) ∷ (get_or text 9 0 - 48) ∷ (get_or text 10 0 - 48) ∷
+      (get_or text 3 0 - 48) ∷ []) (digits_of text)
   six_first system low zeros =
       let zero_first : get_or text 0 0 - 48 ≡ 0 = omega arith in
       let zero_0 : get_or text 4 0 - 48 ≡ 0 = let byte = zeros_read 4 4 text (omega arith) zeros 0 (omega arith) in omega arith in
@@ -160,12 +167,21 @@ module _ (text : List ℕ) (long : length text ≡ 12) (valid : AreAsciiDigits t
       let zero_2 : get_or text 6 0 - 48 ≡ 0 = let byte = zeros_read 4 4 text (omega arith) zeros 2 (omega arith) in omega arith in
       let zero_3 : get_or text 7 0 - 48 ≡ 0 = let byte = zeros_read 4 4 text (omega arith) zeros 3 (omega arith) in omega arith in
       let last = shown 11 in
-      let line = first_line (get_or text 1 0 - 48) (get_or text 2 0 - 48) (get_or text 8 0 - 48) (get_or text 9 0 - 48) (get_or text 10 0 - 48) (get_or text 3 0 - 48) (get_or (digits_of text) 11 0) (omega arith) in
+      let line = first_line (get_or text 1 0 - 48) (get_or text 2 0 - 48) (get_or text 8 0 - 48) (get_or text 9 0 - 48) (get_or text 10 0 - 48)
+      (get_or text 3 0 - 48) (get_or (digits_of text) 11 0) (omega arith) in
       let whole = written in
-      record { six_digits = refl; valid = (digit_low 1 (omega arith), (digit_low 2 (omega arith), (digit_low 8 (omega arith), (digit_low 9 (omega arith), (digit_low 10 (omega arith), (digit_low 3 (omega arith), tt)))))); number = cc }
+      record {
+        six_digits = refl;
+        valid = (
+          digit_low 1 (omega arith),
+          (digit_low 2 (omega arith), (digit_low 8 (omega arith), (digit_low 9 (omega arith), (digit_low 10 (omega arith), (digit_low 3 (omega arith), tt))))),
+        );
+        number = cc;
+      }
 
   pub six_second : get_or text 0 0 ≡ 48 → HasZeros 4 5 text
-      → IsSix ((get_or text 1 0 - 48) ∷ (get_or text 2 0 - 48) ∷ (get_or text 3 0 - 48) ∷ (get_or text 9 0 - 48) ∷ (get_or text 10 0 - 48) ∷ 3 ∷ []) (digits_of text)
+      → IsSix ((get_or text 1 0 - 48) ∷ (get_or text 2 0 - 48) ∷ (get_or text 3 0 - 48) ∷ (get_or text 9 0 - 48) ∷ (get_or text 10 0 - 48) ∷ 3 ∷ [])
+      (digits_of text)
   six_second system zeros =
       let zero_first : get_or text 0 0 - 48 ≡ 0 = omega arith in
       let zero_0 : get_or text 4 0 - 48 ≡ 0 = let byte = zeros_read 4 5 text (omega arith) zeros 0 (omega arith) in omega arith in
@@ -174,12 +190,21 @@ module _ (text : List ℕ) (long : length text ≡ 12) (valid : AreAsciiDigits t
       let zero_3 : get_or text 7 0 - 48 ≡ 0 = let byte = zeros_read 4 5 text (omega arith) zeros 3 (omega arith) in omega arith in
       let zero_4 : get_or text 8 0 - 48 ≡ 0 = let byte = zeros_read 4 5 text (omega arith) zeros 4 (omega arith) in omega arith in
       let last = shown 11 in
-      let line = second_line (get_or text 1 0 - 48) (get_or text 2 0 - 48) (get_or text 3 0 - 48) (get_or text 9 0 - 48) (get_or text 10 0 - 48) 3 (get_or (digits_of text) 11 0) refl in
+      let line = second_line (get_or text 1 0 - 48) (get_or text 2 0 - 48) (get_or text 3 0 - 48) (get_or text 9 0 - 48) (get_or text 10 0 - 48) 3
+      (get_or (digits_of text) 11 0) refl in
       let whole = written in
-      record { six_digits = refl; valid = (digit_low 1 (omega arith), (digit_low 2 (omega arith), (digit_low 3 (omega arith), (digit_low 9 (omega arith), (digit_low 10 (omega arith), (lit< tt, tt)))))); number = cc }
+      record {
+        six_digits = refl;
+        valid = (
+          digit_low 1 (omega arith),
+          (digit_low 2 (omega arith), (digit_low 3 (omega arith), (digit_low 9 (omega arith), (digit_low 10 (omega arith), (lit< tt, tt))))),
+        );
+        number = cc;
+      }
 
   pub six_third : get_or text 0 0 ≡ 48 → HasZeros 5 5 text
-      → IsSix ((get_or text 1 0 - 48) ∷ (get_or text 2 0 - 48) ∷ (get_or text 3 0 - 48) ∷ (get_or text 4 0 - 48) ∷ (get_or text 10 0 - 48) ∷ 4 ∷ []) (digits_of text)
+      → IsSix ((get_or text 1 0 - 48) ∷ (get_or text 2 0 - 48) ∷ (get_or text 3 0 - 48) ∷ (get_or text 4 0 - 48) ∷ (get_or text 10 0 - 48) ∷ 4 ∷ [])
+      (digits_of text)
   six_third system zeros =
       let zero_first : get_or text 0 0 - 48 ≡ 0 = omega arith in
       let zero_0 : get_or text 5 0 - 48 ≡ 0 = let byte = zeros_read 5 5 text (omega arith) zeros 0 (omega arith) in omega arith in
@@ -188,12 +213,21 @@ module _ (text : List ℕ) (long : length text ≡ 12) (valid : AreAsciiDigits t
       let zero_3 : get_or text 8 0 - 48 ≡ 0 = let byte = zeros_read 5 5 text (omega arith) zeros 3 (omega arith) in omega arith in
       let zero_4 : get_or text 9 0 - 48 ≡ 0 = let byte = zeros_read 5 5 text (omega arith) zeros 4 (omega arith) in omega arith in
       let last = shown 11 in
-      let line = third_line (get_or text 1 0 - 48) (get_or text 2 0 - 48) (get_or text 3 0 - 48) (get_or text 4 0 - 48) (get_or text 10 0 - 48) 4 (get_or (digits_of text) 11 0) refl in
+      let line = third_line (get_or text 1 0 - 48) (get_or text 2 0 - 48) (get_or text 3 0 - 48) (get_or text 4 0 - 48) (get_or text 10 0 - 48) 4
+      (get_or (digits_of text) 11 0) refl in
       let whole = written in
-      record { six_digits = refl; valid = (digit_low 1 (omega arith), (digit_low 2 (omega arith), (digit_low 3 (omega arith), (digit_low 4 (omega arith), (digit_low 10 (omega arith), (lit< tt, tt)))))); number = cc }
+      record {
+        six_digits = refl;
+        valid = (
+          digit_low 1 (omega arith),
+          (digit_low 2 (omega arith), (digit_low 3 (omega arith), (digit_low 4 (omega arith), (digit_low 10 (omega arith), (lit< tt, tt))))),
+        );
+        number = cc;
+      }
 
   pub six_fourth : get_or text 0 0 ≡ 48 → 53 ≤ get_or text 10 0 → HasZeros 6 4 text
-      → IsSix ((get_or text 1 0 - 48) ∷ (get_or text 2 0 - 48) ∷ (get_or text 3 0 - 48) ∷ (get_or text 4 0 - 48) ∷ (get_or text 5 0 - 48) ∷ (get_or text 10 0 - 48) ∷ []) (digits_of text)
+      → IsSix ((get_or text 1 0 - 48) ∷ (get_or text 2 0 - 48) ∷ (get_or text 3 0 - 48) ∷ (get_or text 4 0 - 48) ∷ (get_or text 5 0 - 48) ∷
+      (get_or text 10 0 - 48) ∷ []) (digits_of text)
   six_fourth system high zeros =
       let zero_first : get_or text 0 0 - 48 ≡ 0 = omega arith in
       let zero_0 : get_or text 6 0 - 48 ≡ 0 = let byte = zeros_read 6 4 text (omega arith) zeros 0 (omega arith) in omega arith in
@@ -201,9 +235,17 @@ module _ (text : List ℕ) (long : length text ≡ 12) (valid : AreAsciiDigits t
       let zero_2 : get_or text 8 0 - 48 ≡ 0 = let byte = zeros_read 6 4 text (omega arith) zeros 2 (omega arith) in omega arith in
       let zero_3 : get_or text 9 0 - 48 ≡ 0 = let byte = zeros_read 6 4 text (omega arith) zeros 3 (omega arith) in omega arith in
       let last = shown 11 in
-      let line = fourth_line (get_or text 1 0 - 48) (get_or text 2 0 - 48) (get_or text 3 0 - 48) (get_or text 4 0 - 48) (get_or text 5 0 - 48) (get_or text 10 0 - 48) (get_or (digits_of text) 11 0) (omega arith) in
+      let line = fourth_line (get_or text 1 0 - 48) (get_or text 2 0 - 48) (get_or text 3 0 - 48) (get_or text 4 0 - 48) (get_or text 5 0 - 48)
+      (get_or text 10 0 - 48) (get_or (digits_of text) 11 0) (omega arith) in
       let whole = written in
-      record { six_digits = refl; valid = (digit_low 1 (omega arith), (digit_low 2 (omega arith), (digit_low 3 (omega arith), (digit_low 4 (omega arith), (digit_low 5 (omega arith), (digit_low 10 (omega arith), tt)))))); number = cc }
+      record {
+        six_digits = refl;
+        valid = (
+          digit_low 1 (omega arith),
+          (digit_low 2 (omega arith), (digit_low 3 (omega arith), (digit_low 4 (omega arith), (digit_low 5 (omega arith), (digit_low 10 (omega arith), tt))))),
+        );
+        number = cc;
+      }
 
   -- where the tests of the earlier lines fail, no six digits are by one of these
   pub by_second : (six : List ℕ) → IsSix six (digits_of text) → (get_or text 3 0 ≤ 50 → HasZeros 4 4 text → ⊥) → 1 ≤ upce_line six
@@ -222,7 +264,8 @@ module _ (text : List ℕ) (long : length text ≡ 12) (valid : AreAsciiDigits t
     | inr (inr (inr t)) ↦ let line = t.0 in omega arith
   ]
 
-  pub by_fourth : (six : List ℕ) → IsSix six (digits_of text) → (get_or text 3 0 ≤ 50 → HasZeros 4 4 text → ⊥) → (HasZeros 4 5 text → ⊥) → (HasZeros 5 5 text → ⊥) → 3 ≤ upce_line six
+  pub by_fourth : (six : List ℕ) → IsSix six (digits_of text) → (get_or text 3 0 ≤ 50 → HasZeros 4 4 text → ⊥) → (HasZeros 4 5 text → ⊥)
+      → (HasZeros 5 5 text → ⊥) → 3 ≤ upce_line six
   by_fourth six s first second third = elim (tests_of six s).lines [
     | inl t ↦ absurd (first t.1 t.2)
     | inr (inl t) ↦ absurd (second t.1)
@@ -240,11 +283,15 @@ module _ (text : List ℕ) (long : length text ≡ 12) (valid : AreAsciiDigits t
   ]
 
   -- the lines of the first and of the last
-  pub first_line_is : get_or text 3 0 ≤ 50 → upce_line ((get_or text 1 0 - 48) ∷ (get_or text 2 0 - 48) ∷ (get_or text 8 0 - 48) ∷ (get_or text 9 0 - 48) ∷ (get_or text 10 0 - 48) ∷ (get_or text 3 0 - 48) ∷ []) ≡ 0
-  first_line_is low = line_of_first (get_or text 1 0 - 48) (get_or text 2 0 - 48) (get_or text 8 0 - 48) (get_or text 9 0 - 48) (get_or text 10 0 - 48) (get_or text 3 0 - 48) 0 (omega arith)
+  pub first_line_is : get_or text 3 0 ≤ 50 → upce_line ((get_or text 1 0 - 48) ∷ (get_or text 2 0 - 48) ∷ (get_or text 8 0 - 48) ∷ (get_or text 9 0 - 48) ∷
+      (get_or text 10 0 - 48) ∷ (get_or text 3 0 - 48) ∷ []) ≡ 0
+  first_line_is low = line_of_first (get_or text 1 0 - 48) (get_or text 2 0 - 48) (get_or text 8 0 - 48) (get_or text 9 0 - 48) (get_or text 10 0 - 48)
+      (get_or text 3 0 - 48) 0 (omega arith)
 
-  pub last_line_is : 53 ≤ get_or text 10 0 → upce_line ((get_or text 1 0 - 48) ∷ (get_or text 2 0 - 48) ∷ (get_or text 3 0 - 48) ∷ (get_or text 4 0 - 48) ∷ (get_or text 5 0 - 48) ∷ (get_or text 10 0 - 48) ∷ []) ≡ 3
-  last_line_is high = line_of_fourth (get_or text 1 0 - 48) (get_or text 2 0 - 48) (get_or text 3 0 - 48) (get_or text 4 0 - 48) (get_or text 5 0 - 48) (get_or text 10 0 - 48) 0 (omega arith)
+  pub last_line_is : 53 ≤ get_or text 10 0 → upce_line ((get_or text 1 0 - 48) ∷ (get_or text 2 0 - 48) ∷ (get_or text 3 0 - 48) ∷ (get_or text 4 0 - 48) ∷
+      (get_or text 5 0 - 48) ∷ (get_or text 10 0 - 48) ∷ []) ≡ 3
+  last_line_is high = line_of_fourth (get_or text 1 0 - 48) (get_or text 2 0 - 48) (get_or text 3 0 - 48) (get_or text 4 0 - 48) (get_or text 5 0 - 48)
+      (get_or text 10 0 - 48) 0 (omega arith)
 
 -- twelve digits, the last of them a check digit
 pub record Twelve (check : ℕ) (ds : List ℕ) : Type 0 where

@@ -22,7 +22,8 @@ zeros_are (suc n) (b ∷ text) h e =
     let first : b - 48 ≡ 0 = let is = eqb-true b 48 parts.0 in omega arith in
     ap₂ (λ d ds. d ∷ ds) first (zeros_are n text (omega arith) parts.1)
 
-are_zeros : (n : ℕ) (text ds : List ℕ) → AreAsciiDigits text → n ≤ length text → digits_of text ≡ replicate n 0 ++ ds → list_all (λ b. b == 48) (take n text) ≡ true
+are_zeros : (n : ℕ) (text ds : List ℕ) → AreAsciiDigits text → n ≤ length text → digits_of text ≡ replicate n 0 ++ ds → list_all (λ b. b == 48) (take n text)
+    ≡ true
 are_zeros zero text ds valid h e = refl
 are_zeros (suc n) [] ds valid h e = absurd (omega arith)
 are_zeros (suc n) (b ∷ text) ds valid h e =

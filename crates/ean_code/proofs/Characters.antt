@@ -116,7 +116,8 @@ module _ (n : ℕ) (row : List NumberSet) (ds rest : List ℕ) (rows : length ro
       (cells-flat_map _ 4 left_widths left_char left_code (characters_in row ds) rest (characters_valid row ds valid))
 
   pub drop-left_part : (k : ℕ) → n * 4 ≡ k → drop k (left_part row ds ++ rest) ≡ rest
-  drop-left_part k e = drop-cells _ 4 left_widths left_char left_code (characters_in row ds) rest k (characters_valid row ds valid) (ap (λ i. i * 4) (length-characters row ds n rows digits) ∙ e)
+  drop-left_part k e = drop-cells _ 4 left_widths left_char left_code (characters_in row ds) rest k (characters_valid row ds valid)
+      (ap (λ i. i * 4) (length-characters row ds n rows digits) ∙ e)
 
 pub rights-drawn : (n : ℕ) (ds rest : List ℕ) → length ds ≡ n → AreDigits ds → cells 4 right_digit n (right_part ds ++ rest) ≡ ds
 rights-drawn n ds rest e valid =

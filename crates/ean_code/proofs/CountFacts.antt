@@ -33,10 +33,34 @@ abbrev IsSeven : List ℕ → Type 0
 IsSeven widths = Measures widths 4 7
 
 sevens_a : AllByRecursion IsSeven set_a
-sevens_a = ((refl, refl), ((refl, refl), ((refl, refl), ((refl, refl), ((refl, refl), ((refl, refl), ((refl, refl), ((refl, refl), ((refl, refl), ((refl, refl), tt))))))))))
+sevens_a = (
+  (refl, refl),
+  (
+    (refl, refl),
+    (
+      (refl, refl),
+      (
+        (refl, refl),
+        ((refl, refl), ((refl, refl), ((refl, refl), ((refl, refl), ((refl, refl), ((refl, refl), tt)))))),
+      ),
+    ),
+  ),
+)
 
 sevens_b : AllByRecursion IsSeven set_b
-sevens_b = ((refl, refl), ((refl, refl), ((refl, refl), ((refl, refl), ((refl, refl), ((refl, refl), ((refl, refl), ((refl, refl), ((refl, refl), ((refl, refl), tt))))))))))
+sevens_b = (
+  (refl, refl),
+  (
+    (refl, refl),
+    (
+      (refl, refl),
+      (
+        (refl, refl),
+        ((refl, refl), ((refl, refl), ((refl, refl), ((refl, refl), ((refl, refl), ((refl, refl), tt)))))),
+      ),
+    ),
+  ),
+)
 
 right_cell : (d : ℕ) → d < 10 → Measures (right_widths d) 4 7
 right_cell d low = each-at IsSeven set_a d [] sevens_a low
@@ -87,7 +111,8 @@ ean13_measures ms ds e =
     let six = take 6 (drop 1 ds) in
     let six_count : length six ≡ 6 = omega (arith, length-take {A = ℕ}, length-drop {A = ℕ}) in
     let row : length (row_of ean13_rows (get_or ds 0 0)) ≡ 6 = each-at IsSix ean13_rows (get_or ds 0 0) [] sixes_13 first in
-    let left = left_measures (row_of ean13_rows (get_or ds 0 0)) six (row ∙ sym six_count) (AllByRecursion-take _ 6 (drop 1 ds) (AllByRecursion-drop _ 1 ds e.valid)) in
+    let left = left_measures (row_of ean13_rows (get_or ds 0 0)) six (row ∙ sym six_count)
+    (AllByRecursion-take _ 6 (drop 1 ds) (AllByRecursion-drop _ 1 ds e.valid)) in
     let right_count : length (drop 7 ds) ≡ 6 = omega (arith, length-drop {A = ℕ}) in
     let right = right_measures (drop 7 ds) (AllByRecursion-drop _ 7 ds e.valid) in
     let all = halves_measure (left_part (row_of ean13_rows (get_or ds 0 0)) six) (right_part (drop 7 ds)) 24 42
@@ -123,7 +148,8 @@ IsNine widths = Measures widths 5 9
 
 nine : (d : ℕ) → d < 10 → IsNine (five_widths d)
 nine d h =
-    let parts = and_parts _ _ (all_below-at (λ d. (length (five_widths d) == 5) && (sum (five_widths d) == 9)) 10 refl d h) in (eqb-true _ _ parts.0, eqb-true _ _ parts.1)
+    let parts = and_parts _ _ (all_below-at (λ d. (length (five_widths d) == 5) && (sum (five_widths d) == 9)) 10 refl d h) in
+    (eqb-true _ _ parts.0, eqb-true _ _ parts.1)
 
 first_sum : (x : ℕ) (xs : List ℕ) → sum (x ∷ xs) ≡ x + sum xs
 first_sum x xs = let alone : 0 + x ≡ x = omega arith in sum_by-append (λ x. x) (x ∷ []) xs ∙ ap (λ n. n + sum xs) alone

@@ -63,7 +63,8 @@ left_valid c h = AreWidths-from (left_widths c) (all_below-at (λ d. are_widths 
 right_valid : (d : ℕ) → d < 10 → AreWidths (right_widths d)
 right_valid d h = left_valid (in_set A d) h
 
-AreWidths-flat_map : {X : Type 0} (P : X → Type 0) (f : X → List ℕ) → ((x : X) → P x → AreWidths (f x)) → (xs : List X) → AllByRecursion P xs → AreWidths (flat_map f xs)
+AreWidths-flat_map : {X : Type 0} (P : X → Type 0) (f : X → List ℕ) → ((x : X) → P x → AreWidths (f x)) → (xs : List X) → AllByRecursion P xs
+    → AreWidths (flat_map f xs)
 AreWidths-flat_map P f each [] h = tt
 AreWidths-flat_map P f each (x ∷ xs) h = AllByRecursion-append _ (f x) (flat_map f xs) (each x h.0) (AreWidths-flat_map P f each xs h.1)
 
@@ -87,7 +88,8 @@ guard_valid : (n : ℕ) → AreWidths (replicate n 1)
 guard_valid zero = tt
 guard_valid (suc n) = (one_valid, guard_valid n)
 
-halves_valid : (n : ℕ) (left right : List ℕ) → n ≤ 6 → length left ≡ n * 4 → length right ≡ n * 4 → AreWidths left → AreWidths right → AreModules (two_halves left right)
+halves_valid : (n : ℕ) (left right : List ℕ) → n ≤ 6 → length left ≡ n * 4 → length right ≡ n * 4 → AreWidths left → AreWidths right
+    → AreModules (two_halves left right)
 halves_valid n left right few ll rl lv rv =
     let whole : length (two_halves left right) ≡ 8 * n + 11 =
     (let a = length-append left (centre_guard ++ (right ++ normal_guard)) in let b = length-append right normal_guard in omega arith) in (
@@ -122,7 +124,8 @@ symbol_valid Ean8 ds e v =
     let rv : AreDigits (drop 4 ds) = AllByRecursion-drop _ 4 ds v in
     let ll : length (take 4 ds) ≡ 4 = length-take 4 ds ∙ (omega arith) in
     let rl : length (drop 4 ds) ≡ 4 = length-drop 4 ds ∙ (omega arith) in
-    halves_valid 4 _ _ (omega arith) (length-left_part 4 ean8_row _ lv refl ll) (length-right_part 4 _ rv rl) (left_part_valid ean8_row _ lv) (right_part_valid _ rv)
+    halves_valid 4 _ _ (omega arith) (length-left_part 4 ean8_row _ lv refl ll) (length-right_part 4 _ rv rl) (left_part_valid ean8_row _ lv)
+    (right_part_valid _ rv)
 symbol_valid UpcE ds e v =
     let small = digit_at 6 ds v (omega arith) in
     let row : List NumberSet = row_of upce_rows (get_or ds 6 0) in
@@ -133,10 +136,12 @@ symbol_valid UpcE ds e v =
 symbol_valid Itf14 ds e v = itf_valid ds e v
 
 -- what is drawn of a text of digits is its symbol
-pub symbol_drawn : (kind : Kind) (text ms : List ℕ) → length text ≡ digit_count kind → AreAsciiDigits text → ms ≡ widths_of kind (digits_of text) → IsNumberSymbol kind ms (digits_of text)
+pub symbol_drawn : (kind : Kind) (text ms : List ℕ) → length text ≡ digit_count kind → AreAsciiDigits text → ms ≡ widths_of kind (digits_of text)
+    → IsNumberSymbol kind ms (digits_of text)
 symbol_drawn kind text ms n v e = record { count = length-map text _ ∙ n; valid = AreDigits-shown text v; widths = e }
 
-pub modules_drawn : (kind : Kind) (text ms : List ℕ) → length text ≡ digit_count kind → AreAsciiDigits text → ms ≡ widths_of kind (digits_of text) → AreModules ms
+pub modules_drawn : (kind : Kind) (text ms : List ℕ) → length text ≡ digit_count kind → AreAsciiDigits text → ms ≡ widths_of kind (digits_of text)
+    → AreModules ms
 modules_drawn kind text ms n v e = subst AreModules (sym e) (symbol_valid kind (digits_of text) (length-map text _ ∙ n) (AreDigits-shown text v))
 
 -- the same where the text shows the last digits of a GTIN and all before them are zeros

@@ -27,10 +27,12 @@ upce_of_text ws text gtin six t e g h =
     let long : length text ≡ 7 = sym (length-map text _) ∙ t.1.count in
     let same : take 6 (digits_of text) ≡ digits_of six = sym (part_shown 6 0 text) ∙ ap digits_of (sym e) in
     let check : get_or (digits_of text) 6 0 ≡ get_or text 6 0 - 48 = digit_shown 6 text (omega arith) in
-    subst (λ c. IsUpceOf (digits_of six) c gtin) check (subst (λ ds. IsUpceOf ds (get_or (digits_of text) 6 0) gtin) same (upce_of ws (digits_of text) gtin t.1 g h))
+    subst (λ c. IsUpceOf (digits_of six) c gtin) check (subst (λ ds. IsUpceOf ds (get_or (digits_of text) 6 0) gtin) same
+    (upce_of ws (digits_of text) gtin t.1 g h))
 
 -- a spelling is drawn as a symbol of its GTIN
-pub upce_drawn : (six : List ℕ) (check : ℕ) (gtin ms : List ℕ) → IsUpceOf six check gtin → ms ≡ widths_of UpcE (six ++ check ∷ []) → IsNumberSymbol UpcE ms (six ++ check ∷ [])
+pub upce_drawn : (six : List ℕ) (check : ℕ) (gtin ms : List ℕ) → IsUpceOf six check gtin → ms ≡ widths_of UpcE (six ++ check ∷ [])
+    → IsNumberSymbol UpcE ms (six ++ check ∷ [])
 upce_drawn six check gtin ms u e = record {
   count = (let n = u.six_digits in length-append six (check ∷ []) ∙ (omega arith));
   valid = AllByRecursion-append _ six (check ∷ []) u.valid (u.check_valid, tt);

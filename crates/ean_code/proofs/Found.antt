@@ -23,7 +23,8 @@ pub last_of : (xs : List ℕ) (c : ℕ) (n : ℕ) → length xs ≡ n → get_or
 last_of [] c n e = ap (λ k. get_or (c ∷ []) k 0) (sym e)
 last_of (x ∷ xs) c n e = ap (λ k. get_or (x ∷ (xs ++ c ∷ [])) k 0) (sym e) ∙ last_of xs c (length xs) refl
 
-pub found13 : (ws : List ℕ) (d : ℕ) (cs : List Character) (rs : List ℕ) → AreHalves 6 ws cs rs → d < 10 → character_sets cs ≡ row_of ean13_rows d → IsNumberSymbol Ean13 ws (d ∷ (character_digits cs ++ rs))
+pub found13 : (ws : List ℕ) (d : ℕ) (cs : List Character) (rs : List ℕ) → AreHalves 6 ws cs rs → d < 10 → character_sets cs ≡ row_of ean13_rows d
+    → IsNumberSymbol Ean13 ws (d ∷ (character_digits cs ++ rs))
 found13 ws d cs rs h small row =
     let six : length (character_digits cs) ≡ 6 = length-map cs _ ∙ h.left_count in
     let left : left_part (row_of ean13_rows d) (take 6 (character_digits cs ++ rs)) ≡ flat_map left_widths cs =
@@ -35,11 +36,13 @@ found13 ws d cs rs h small row =
       widths = h.shown ∙ ap₂ two_halves (sym left) (sym right);
     }
 
-pub found8 : (ws : List ℕ) (cs : List Character) (rs : List ℕ) → AreHalves 4 ws cs rs → list_all (λ c. is_a c.set) cs ≡ true → IsNumberSymbol Ean8 ws (character_digits cs ++ rs)
+pub found8 : (ws : List ℕ) (cs : List Character) (rs : List ℕ) → AreHalves 4 ws cs rs → list_all (λ c. is_a c.set) cs ≡ true
+    → IsNumberSymbol Ean8 ws (character_digits cs ++ rs)
 found8 ws cs rs h a =
     let four : length (character_digits cs) ≡ 4 = length-map cs _ ∙ h.left_count in
     let row : character_sets cs ≡ ean8_row = row-of_a cs a ∙ ap (λ n. replicate n A) h.left_count in
-    let left : left_part ean8_row (take 4 (character_digits cs ++ rs)) ≡ flat_map left_widths cs = ap (left_part ean8_row) (take_at (character_digits cs) rs 4 four) ∙ drawn_as _ cs row in
+    let left : left_part ean8_row (take 4 (character_digits cs ++ rs)) ≡ flat_map left_widths cs =
+    ap (left_part ean8_row) (take_at (character_digits cs) rs 4 four) ∙ drawn_as _ cs row in
     let right : right_part (drop 4 (character_digits cs ++ rs)) ≡ right_part rs = ap right_part (drop_at (character_digits cs) rs 4 four) in
     record {
       count = length-append (character_digits cs) rs ∙ ap₂ (λ m n. m + n) four h.right_count;

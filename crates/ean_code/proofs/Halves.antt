@@ -35,7 +35,8 @@ pub length-lefts : (cs : List Character) (n : ℕ) → AreCharacters cs → leng
 length-lefts cs n v e = length-cells _ 4 left_widths left_char left_code cs v ∙ (omega arith)
 
 -- the widths of so many characters on either side
-pub framed_of : (n : ℕ) (ws : List ℕ) (ls : List Character) (rs : List ℕ) → AreHalves n ws ls rs → AreFramed (4 * n) ws (flat_map left_widths ls) (right_part rs)
+pub framed_of : (n : ℕ) (ws : List ℕ) (ls : List Character) (rs : List ℕ) → AreHalves n ws ls rs
+    → AreFramed (4 * n) ws (flat_map left_widths ls) (right_part rs)
 framed_of n ws ls rs h = record {
   left_count = length-lefts ls n h.left_valid h.left_count;
   right_count = length-cells _ 4 right_widths right_digit right_code rs h.right_valid ∙ ap (λ k. k * 4) h.right_count ∙ (omega arith);
@@ -44,10 +45,12 @@ framed_of n ws ls rs h = record {
 
 pub same_framed : (half : ℕ) (ws l r m q : List ℕ) → AreFramed half ws l r → AreFramed half ws m q → (l ≡ m) × (r ≡ q)
 same_framed half ws l r m q h k =
-    let one = append_parts l (centre_guard ++ (r ++ normal_guard)) m (centre_guard ++ (q ++ normal_guard)) (h.left_count ∙ sym k.left_count) (ap (drop 3) (sym h.shown ∙ k.shown)) in
+    let one = append_parts l (centre_guard ++ (r ++ normal_guard)) m (centre_guard ++ (q ++ normal_guard)) (h.left_count ∙ sym k.left_count)
+    (ap (drop 3) (sym h.shown ∙ k.shown)) in
     let two = append_parts r normal_guard q normal_guard (h.right_count ∙ sym k.right_count) (ap (drop 5) one.1) in (one.0, two.0)
 
-pub found_halves : (n : ℕ) (ws l r : List ℕ) (ls rs : List Character) → AreFramed (4 * n) ws l r → AreCharacters ls → flat_map left_widths ls ≡ l → AreCharacters rs → flat_map left_widths rs ≡ r
+pub found_halves : (n : ℕ) (ws l r : List ℕ) (ls rs : List Character) → AreFramed (4 * n) ws l r → AreCharacters ls → flat_map left_widths ls ≡ l
+    → AreCharacters rs → flat_map left_widths rs ≡ r
     → list_all (λ c. is_a c.set) rs ≡ true → AreHalves n ws ls (character_digits rs)
 found_halves n ws l r ls rs h lv le rv re a =
     let lc = length-cells _ 4 left_widths left_char left_code ls lv in

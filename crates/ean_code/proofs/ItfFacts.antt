@@ -30,7 +30,8 @@ pair_more text i n h =
     let pairs = length-pairs ds (ap (λ k. k % 2) long) in
     flat_map-take pair_widths (in_pairs ds) i (0, 0) (omega arith)
     ∙ ap (λ p. flat_map pair_widths (take i (in_pairs ds)) ++ pair_widths p)
-    (pair_at ds i (omega arith) ∙ ap₂ (λ a b. (a, b)) (get_or-map (λ b. b - 48) text (2 * i) 0 0 (omega arith)) (get_or-map (λ b. b - 48) text (2 * i + 1) 0 0 (omega arith)))
+    (pair_at ds i (omega arith) ∙ ap₂ (λ a b. (a, b)) (get_or-map (λ b. b - 48) text (2 * i) 0 0 (omega arith))
+    (get_or-map (λ b. b - 48) text (2 * i + 1) 0 0 (omega arith)))
 
 pub all_pairs : (text : List ℕ) (i : ℕ) → length text ≡ 14 → 7 ≤ i → take i (in_pairs (digits_of text)) ≡ in_pairs (digits_of text)
 all_pairs text i n h =
@@ -51,7 +52,8 @@ framed_pairs_of ws ds e =
 
 -- a symbol has a pair of digits at each ten of its widths
 pub pair_shown : (ws tens ds : List ℕ) (i : ℕ) → AreFramedPairs ws tens → IsNumberSymbol Itf14 ws ds → i < 7
-    → IsPair (get_or ds (2 * i) 0, get_or ds (2 * i + 1) 0) × (pair_widths (get_or ds (2 * i) 0, get_or ds (2 * i + 1) 0) ≡ slice_range tens (10 * i) (10 * i + 10))
+    → IsPair (get_or ds (2 * i) 0, get_or ds (2 * i + 1) 0) ×
+    (pair_widths (get_or ds (2 * i) 0, get_or ds (2 * i + 1) 0) ≡ slice_range tens (10 * i) (10 * i + 10))
 pair_shown ws tens ds i h e low =
     let n = e.count in
     let ps : List (ℕ × ℕ) = in_pairs ds in
@@ -94,7 +96,8 @@ text_more tens text more i a b n read found e =
     let two : (48 + b) - 48 ≡ b = omega arith in
     let long : length (digits_of text) ≡ 2 * i = length-map text (λ b. b - 48) ∙ n in
     ap (λ t. flat_map pair_widths (in_pairs (digits_of t))) e
-    ∙ ap (λ ds. flat_map pair_widths (in_pairs ds)) (map-append (λ b. b - 48) text ((48 + a) ∷ (48 + b) ∷ []) ∙ ap₂ (λ x y. digits_of text ++ x ∷ y ∷ []) one two)
+    ∙ ap (λ ds. flat_map pair_widths (in_pairs ds)) (map-append (λ b. b - 48) text ((48 + a) ∷ (48 + b) ∷ [])
+    ∙ ap₂ (λ x y. digits_of text ++ x ∷ y ∷ []) one two)
     ∙ ten_more tens i (digits_of text) a b (omega arith) read found
 
 pub ascii_more : (text : List ℕ) (a b : ℕ) → AreAsciiDigits text → a < 10 → b < 10 → AreAsciiDigits (text ++ (48 + a) ∷ (48 + b) ∷ [])

@@ -102,7 +102,8 @@ two_turn (x ∷ xs) (y ∷ ys) h k = (h.0, (k.0, two_turn xs ys h.1 k.1))
 two_pairs : (ps : List (ℕ × ℕ)) → AllByRecursion IsPair ps → AreTwoWidths (flat_map pair_widths ps)
 two_pairs [] v = tt
 two_pairs (p ∷ ps) v =
-    AllByRecursion-append _ (pair_widths p) (flat_map pair_widths ps) (two_turn (five_widths p.0) (five_widths p.1) (two_five p.0 v.0.0) (two_five p.1 v.0.1)) (two_pairs ps v.1)
+    AllByRecursion-append _ (pair_widths p) (flat_map pair_widths ps) (two_turn (five_widths p.0) (five_widths p.1) (two_five p.0 v.0.0) (two_five p.1 v.0.1))
+    (two_pairs ps v.1)
 
 -- each width is narrow or wide
 pub two_itf : (ds : List ℕ) → AreDigits ds → AreTwoWidths (itf_widths ds)

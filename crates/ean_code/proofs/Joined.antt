@@ -31,7 +31,8 @@ no_gap ws i lt none cs h e =
     let part : slice_range ws (4 * i) (4 * i + 4) ≡ take 4 (drop (4 * i) ws) = ap (λ n. take n (drop (4 * i) ws)) four in
     none (get_or cs i (in_set A 0)) (character_at cs i h low) (sym cell ∙ ap (λ m. take 4 (drop (4 * i) m)) e ∙ sym part)
 
-pub one_more : (ws : List ℕ) (i : ℕ) (found : List Character) (c : Character) → flat_map left_widths found ≡ take (4 * i) ws → left_widths c ≡ slice_range ws (4 * i) (4 * i + 4)
+pub one_more : (ws : List ℕ) (i : ℕ) (found : List Character) (c : Character) → flat_map left_widths found ≡ take (4 * i) ws → left_widths c
+    ≡ slice_range ws (4 * i) (4 * i + 4)
     → flat_map left_widths (found ++ c ∷ []) ≡ take (4 * (i + 1)) ws
 one_more ws i found c e f =
     let four : (4 * i + 4) - 4 * i ≡ 4 = omega arith in
@@ -100,7 +101,8 @@ pub same_characters : (cs ds : List Character) → AllByRecursion (λ (c : Chara
     → flat_map left_widths cs ≡ flat_map left_widths ds → cs ≡ ds
 same_characters cs ds h k e =
     let count : length cs ≡ length ds =
-    (let a = length-cells _ 4 left_widths left_char left_code cs h in let b = length-cells _ 4 left_widths left_char left_code ds k in let l = ap length e in omega arith) in
+    (let a = length-cells _ 4 left_widths left_char left_code cs h in let b = length-cells _ 4 left_widths left_char left_code ds k in let l =
+    ap length e in omega arith) in
     sym (cells-flat_map _ 4 left_widths left_char left_code cs [] h)
     ∙ ap (λ ms. cells 4 left_char (length cs) (ms ++ [])) e
     ∙ ap (λ n. cells 4 left_char n (flat_map left_widths ds ++ [])) count

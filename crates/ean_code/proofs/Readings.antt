@@ -30,7 +30,8 @@ drawn13 d ls rs small lv rv ll rl =
     let six : length row ≡ 6 = eqb-true _ _ tested.1 in
     let left = lefts-drawn 6 row ls rest six ll lv in
     let right = ap (λ ms. cells 4 right_digit 6 (drop 5 ms)) (drop-left_part 6 row ls rest six ll lv 24 refl) ∙ rights-drawn 6 rs normal_guard rl rv in
-    let first : row_place ean13_rows (character_sets (characters_in row ls)) ≡ d = ap (row_place ean13_rows) (sets-characters row ls (ll ∙ sym six)) ∙ eqb-true _ _ tested.0 in
+    let first : row_place ean13_rows (character_sets (characters_in row ls)) ≡ d =
+    ap (row_place ean13_rows) (sets-characters row ls (ll ∙ sym six)) ∙ eqb-true _ _ tested.0 in
     let others : character_digits (characters_in row ls) ≡ ls = digits-characters row ls (ll ∙ sym six) in
     ap₂ (λ a b. a ∷ b) (ap (λ cs. row_place ean13_rows (character_sets cs)) left ∙ first) (ap₂ (λ a b. a ++ b) (ap character_digits left ∙ others) right)
 
@@ -66,8 +67,10 @@ drawnE ls c lv small ll =
     let tested = and_parts _ _ (all_below-at (row_ok upce_rows) 10 rows_tested.1 c small) in
     let six : length row ≡ 6 = eqb-true _ _ tested.1 in
     let left = lefts-drawn 6 row ls (special_guard) six ll lv in
-    let check : row_place upce_rows (character_sets (characters_in row ls)) ≡ c = ap (row_place upce_rows) (sets-characters row ls (ll ∙ sym six)) ∙ eqb-true _ _ tested.0 in
-    ap₂ (λ a b. a ++ b ∷ []) (ap character_digits left ∙ digits-characters row ls (ll ∙ sym six)) (ap (λ cs. row_place upce_rows (character_sets cs)) left ∙ check)
+    let check : row_place upce_rows (character_sets (characters_in row ls)) ≡ c =
+    ap (row_place upce_rows) (sets-characters row ls (ll ∙ sym six)) ∙ eqb-true _ _ tested.0 in
+    ap₂ (λ a b. a ++ b ∷ []) (ap character_digits left ∙ digits-characters row ls (ll ∙ sym six))
+    (ap (λ cs. row_place upce_rows (character_sets cs)) left ∙ check)
 
 pub shownE : (ms ds : List ℕ) → IsNumberSymbol UpcE ms ds → shown UpcE ms ≡ ds
 shownE ms ds e =

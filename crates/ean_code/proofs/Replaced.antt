@@ -31,7 +31,8 @@ ten_apart m n w x d r e h p q a b =
 -- a digit replaced by another leaves a wrong sum
 noticed : (ds : List ℕ) (k d : ℕ) → k < length ds → get_or ds k 0 < 10 → d < 10 → IsChecked ds → IsChecked (set ds k d) → d ≡ get_or ds k 0
 noticed ds k d h old new c e =
-    sym (ten_apart (weighted (set ds k d)) (weighted ds) (1 + 2 * ((length ds + 1 + k) % 2)) (get_or ds k 0) d (length ds + 1 + k) refl (replaced ds k d h) e c old new)
+    sym (ten_apart (weighted (set ds k d)) (weighted ds) (1 + 2 * ((length ds + 1 + k) % 2)) (get_or ds k 0) d (length ds + 1 + k) refl (replaced ds k d h) e c
+    old new)
 
 -- of a number with zeros before it
 unpadded : (ds gtin : List ℕ) → gtin ≡ padded ds → IsChecked gtin → IsChecked ds

@@ -31,7 +31,8 @@ entry_value bound key i e h ne =
           let parts = and_parts _ _ rest in (ltb-true e bound parts.0, eqb-true _ _ parts.1)
     ]
 
-entries_ok-at : (bound : ℕ) (key : ℕ → ℕ) (i : ℕ) (es : List ℕ) → entries_ok bound key i es ≡ true → (k d : ℕ) → k < length es → entry_ok bound key (i + k) (get_or es k d) ≡ true
+entries_ok-at : (bound : ℕ) (key : ℕ → ℕ) (i : ℕ) (es : List ℕ) → entries_ok bound key i es ≡ true → (k d : ℕ) → k < length es
+    → entry_ok bound key (i + k) (get_or es k d) ≡ true
 entries_ok-at bound key i [] h k d lt = absurd (omega arith)
 entries_ok-at bound key i (e ∷ es) h zero d lt = rw add-zero (and_parts (entry_ok bound key i e) _ h).0
 entries_ok-at bound key i (e ∷ es) h (suc k) d lt =

@@ -31,7 +31,8 @@ pub lefts-backward : (n : ℕ) (g l c ds : List ℕ) → length ds ≡ n → Are
     → lefts n (reverse (g ++ (l ++ (c ++ (right_part ds ++ normal_guard))))) ≡ map (in_set B) (reverse ds)
 lefts-backward n g l c ds e valid =
     let cs : List Character = map (in_set B) (reverse ds) in
-    let ok : AreCharacters cs = map-along (λ d. d < 10) (λ (c : Character). c.digit < 10) (in_set B) (λ d h. h) (reverse ds) (AllByRecursion-reverse _ ds valid) in
+    let ok : AreCharacters cs = map-along (λ d. d < 10) (λ (c : Character). c.digit < 10) (in_set B) (λ d h. h) (reverse ds) (AllByRecursion-reverse _ ds valid)
+    in
     let count : length cs ≡ n = length-map (reverse ds) _ ∙ length-reverse ds ∙ e in
     let rest = reverse c ++ (reverse l ++ reverse g) in
     ap (lefts n) (turned g l c (right_part ds) normal_guard ∙ ap (λ r. normal_guard ++ (r ++ rest)) (rights-backward ds valid))
@@ -65,7 +66,8 @@ backward13 ms [] e = absurd (let none = e.count in omega arith)
 backward13 ms (d ∷ ds) e =
     let twelve : length ds ≡ 12 = let all = e.count in omega arith in
     ap (λ m. first_set 6 (reverse m)) e.widths
-    ∙ ap (λ cs. get_or (character_sets cs) 0 B) (lefts-backward 6 normal_guard (left_part (row_of ean13_rows d) (take 6 ds)) centre_guard (drop 6 ds) (length-drop 6 ds ∙ (omega arith)) (AllByRecursion-drop _ 6 ds e.valid.1))
+    ∙ ap (λ cs. get_or (character_sets cs) 0 B) (lefts-backward 6 normal_guard (left_part (row_of ean13_rows d) (take 6 ds)) centre_guard (drop 6 ds)
+    (length-drop 6 ds ∙ (omega arith)) (AllByRecursion-drop _ 6 ds e.valid.1))
     ∙ first-backward (reverse (drop 6 ds))
 
 pub one_way13 : (ms ds es : List ℕ) → IsNumberSymbol Ean13 ms ds → IsNumberSymbol Ean13 (reverse ms) es → ⊥
@@ -83,7 +85,8 @@ pub backward8 : (ms ds : List ℕ) → IsNumberSymbol Ean8 ms ds → first_set 4
 backward8 ms ds e =
     let all = e.count in
     ap (λ m. first_set 4 (reverse m)) e.widths
-    ∙ ap (λ cs. get_or (character_sets cs) 0 B) (lefts-backward 4 normal_guard (left_part ean8_row (take 4 ds)) centre_guard (drop 4 ds) (length-drop 4 ds ∙ (omega arith)) (AllByRecursion-drop _ 4 ds e.valid))
+    ∙ ap (λ cs. get_or (character_sets cs) 0 B) (lefts-backward 4 normal_guard (left_part ean8_row (take 4 ds)) centre_guard (drop 4 ds)
+    (length-drop 4 ds ∙ (omega arith)) (AllByRecursion-drop _ 4 ds e.valid))
     ∙ first-backward (reverse (drop 4 ds))
 
 pub one_way8 : (ms ds es : List ℕ) → IsNumberSymbol Ean8 ms ds → IsNumberSymbol Ean8 (reverse ms) es → ⊥

@@ -18,12 +18,14 @@ use Rattle.ean_code.proofs.Joined.{set-of_a}
 use Rattle.ean_code.proofs.ParityRows.{length-upce_row}
 
 -- a character that begins 1 1 1 is the digit 6 of set A
-pub ones_are_six : (s : NumberSet) → all_below (λ d. if same (take 3 (left_widths (in_set s d))) normal_guard then same (left_widths (in_set s d)) (1 ∷ 1 ∷ 1 ∷ 4 ∷ []) && is_a s else true) 10 ≡ true
+pub ones_are_six : (s : NumberSet) → all_below (λ d. if same (take 3 (left_widths (in_set s d))) normal_guard then same (left_widths (in_set s d))
+    (1 ∷ 1 ∷ 1 ∷ 4 ∷ []) && is_a s else true) 10 ≡ true
 ones_are_six A = refl
 ones_are_six B = refl
 
 -- a character that ends in 4, too
-pub fours_are_six : (s : NumberSet) → all_below (λ d. if get_or (left_widths (in_set s d)) 3 0 == 4 then same (left_widths (in_set s d)) (1 ∷ 1 ∷ 1 ∷ 4 ∷ []) else true) 10 ≡ true
+pub fours_are_six : (s : NumberSet) → all_below (λ d. if get_or (left_widths (in_set s d)) 3 0 == 4 then same (left_widths (in_set s d)) (1 ∷ 1 ∷ 1 ∷ 4 ∷ [])
+    else true) 10 ≡ true
 fours_are_six A = refl
 fours_are_six B = refl
 
@@ -35,14 +37,16 @@ pub six_a : (s : NumberSet) (d : ℕ) → d < 10 → take 3 (left_widths (in_set
 six_a s d h e =
     let w = left_widths (in_set s d) in
     let ok = implied (same (take 3 w) normal_guard) (same w (1 ∷ 1 ∷ 1 ∷ 4 ∷ []) && is_a s)
-    (all_below-at (λ d. if same (take 3 (left_widths (in_set s d))) normal_guard then same (left_widths (in_set s d)) (1 ∷ 1 ∷ 1 ∷ 4 ∷ []) && is_a s else true) 10 (ones_are_six s) d h)
+    (all_below-at (λ d. if same (take 3 (left_widths (in_set s d))) normal_guard then same (left_widths (in_set s d)) (1 ∷ 1 ∷ 1 ∷ 4 ∷ []) && is_a s else true)
+    10 (ones_are_six s) d h)
     (ap (λ v. same v normal_guard) e) in
     let parts = and_parts _ _ ok in (same-true _ _ parts.0, set-of_a s parts.1)
 
 pub six_from_four : (s : NumberSet) (d : ℕ) → d < 10 → get_or (left_widths (in_set s d)) 3 0 ≡ 4 → left_widths (in_set s d) ≡ 1 ∷ 1 ∷ 1 ∷ 4 ∷ []
 six_from_four s d h e =
     same-true _ _ (implied (get_or (left_widths (in_set s d)) 3 0 == 4) _
-    (all_below-at (λ d. if get_or (left_widths (in_set s d)) 3 0 == 4 then same (left_widths (in_set s d)) (1 ∷ 1 ∷ 1 ∷ 4 ∷ []) else true) 10 (fours_are_six s) d h)
+    (all_below-at (λ d. if get_or (left_widths (in_set s d)) 3 0 == 4 then same (left_widths (in_set s d)) (1 ∷ 1 ∷ 1 ∷ 4 ∷ []) else true) 10 (fours_are_six s)
+    d h)
     (ap (λ n. n == 4) e))
 
 -- the widths of characters, over variables
@@ -62,7 +66,14 @@ as_four (a ∷ b ∷ c ∷ d ∷ e ∷ ws) h = absurd (omega arith)
 pub all_sixes : (cs ds : List Character) → AreCharacters cs → AreCharacters ds
     → flat_map left_widths cs ++ normal_guard ≡ normal_guard ++ flat_map (λ x. reverse (left_widths x)) ds → AllByRecursion (λ (c : Character). c.set ≡ A) cs
 all_sixes [] ds v u e = tt
-all_sixes (c ∷ cs) [] v u e = absurd (omega (arith, ap length e, length-append (left_widths c ++ flat_map left_widths cs) normal_guard, length-append (left_widths c) (flat_map left_widths cs), length-left c.set c.digit v.0))
+all_sixes (c ∷ cs) [] v u e = absurd (omega (
+  arith,
+  ap length e,
+  length-append (left_widths c ++ flat_map left_widths cs) normal_guard,
+  length-append
+      (left_widths c) (flat_map left_widths cs),
+  length-left c.set c.digit v.0,
+))
 all_sixes (c ∷ cs) (d ∷ ds) v u e =
     let rest = flat_map (λ (c : Character). reverse (left_widths c)) ds in
     let here = as_four (left_widths c) (length-left c.set c.digit v.0) in
@@ -96,11 +107,13 @@ one_wayE ms ds es e f =
     sym e.widths ∙ sym (reverse-reverse ms) ∙ ap reverse f.widths ∙ turned_short normal_guard ys (special_guard) in
     let inside : xs ++ (special_guard) ≡ normal_guard ++ (reverse ys ++ normal_guard) = append_cancel_left normal_guard _ _ around in
     let ends : xs ++ normal_guard ≡ normal_guard ++ reverse ys =
-    append_cancel_right (xs ++ normal_guard) (normal_guard ++ reverse ys) normal_guard (append_assoc xs normal_guard normal_guard ∙ inside ∙ sym (append_assoc normal_guard (reverse ys) normal_guard)) in
+    append_cancel_right (xs ++ normal_guard) (normal_guard ++ reverse ys) normal_guard
+    (append_assoc xs normal_guard normal_guard ∙ inside ∙ sym (append_assoc normal_guard (reverse ys) normal_guard)) in
     let turned_cells = ends ∙ ap (λ zs. normal_guard ++ zs) (reverse-flat_map left_widths bs) in
     let valid : AreDigits (take 6 ds) = AllByRecursion-take _ 6 ds e.valid in
     let other : AreDigits (take 6 es) = AllByRecursion-take _ 6 es f.valid in
-    let sixes = all_sixes cs (reverse bs) (characters_valid row (take 6 ds) valid) (AllByRecursion-reverse _ bs (characters_valid _ (take 6 es) other)) turned_cells in
+    let sixes = all_sixes cs (reverse bs) (characters_valid row (take 6 ds) valid) (AllByRecursion-reverse _ bs (characters_valid _ (take 6 es) other))
+    turned_cells in
     let count : length ds ≡ 7 = e.count in
     let check : get_or ds 6 0 < 10 = digit_at 6 ds e.valid (omega arith) in
     let long : length (take 6 ds) ≡ 6 = length-take 6 ds ∙ (omega arith) in

@@ -7,7 +7,8 @@ use Rattle.element_core.specs.Elements.{Piece, IsElement, IsPiece, ArePieces, Re
 
 -- each of its rows stands in the table
 listed_now : (row : Row) → Contains first_rows row → Contains ai_rows row
-listed_now row listed = All-contains (Contains ai_rows) first_rows row (All-filter (λ r. not (is_7003_or_8008 r.ai)) (Contains ai_rows) ai_rows (All-contains_itself ai_rows)) listed
+listed_now row listed = All-contains (Contains ai_rows) first_rows row
+    (All-filter (λ r. not (is_7003_or_8008 r.ai)) (Contains ai_rows) ai_rows (All-contains_itself ai_rows)) listed
 
 piece_now : (year : ℕ) (p : Piece) (left : List ℕ) → IsPiece first_rows year p left → IsPiece ai_rows year p left
 piece_now year p left is =
@@ -22,4 +23,14 @@ pieces_now year (p ∷ pieces) rest are = (piece_now year p (joined pieces ++ re
 pub read_as_before : ReadAsBefore
 read_as_before = λ year text es is.
     let r = is.reads in
-    record { some = is.some; fits = is.fits; reads = record { pieces = r.pieces; elements = r.elements; pieces_are = pieces_now year r.pieces [] r.pieces_are; text_is = r.text_is } }
+    record {
+      some = is.some;
+      fits = is.fits;
+      reads = record {
+        pieces = r.pieces;
+        elements = r.elements;
+        pieces_are =
+            pieces_now year r.pieces [] r.pieces_are;
+        text_is = r.text_is;
+      };
+    }

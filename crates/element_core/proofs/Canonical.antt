@@ -28,7 +28,8 @@ canonical_kept year e [] are =
 canonical_kept year e (f ∷ es) are =
     let digit = ap begins_with_digit are.0.1.ai ∙ all_at (λ row. begins_with_digit row.ai) ai_rows are.0.0 are.0.1.listed each_begins_with_digit in
     let c = canonical (f ∷ es) in
-    let parts : canonical (e ∷ f ∷ es) ≡ e.ai ++ (e.value ++ (separator_for e ++ c)) = append_assoc (e.ai ++ e.value) (separator_for e) c ∙ append_assoc e.ai e.value (separator_for e ++ c) in
+    let parts : canonical (e ∷ f ∷ es) ≡ e.ai ++ (e.value ++ (separator_for e ++ c)) =
+    append_assoc (e.ai ++ e.value) (separator_for e) c ∙ append_assoc e.ai e.value (separator_for e ++ c) in
     ap after_separator parts ∙ kept e.ai (e.value ++ (separator_for e ++ c)) digit ∙ sym parts
 
 decided : (r : Row) (all : Option ℕ) → first_digits_decide r all ≡ true → is_some all ≡ r.predefined
@@ -37,7 +38,8 @@ decided r (Some all) h = sym (and_parts _ _ (and_parts _ _ h).0).0
 
 -- the first two digits say whether an element is predefined
 pub is_some-predefined_length : (year : ℕ) (row : Row) (e : Entry) → IsElement ai_rows year row e → is_some (predefined_length e.ai) ≡ row.predefined
-is_some-predefined_length year row e is = ap (λ (a : List ℕ). is_some (predefined_length a)) is.ai ∙ decided row (predefined_length row.ai) (all_at (λ r. first_digits_decide r (predefined_length r.ai)) ai_rows row is.listed digits_decide)
+is_some-predefined_length year row e is = ap (λ (a : List ℕ). is_some (predefined_length a)) is.ai
+    ∙ decided row (predefined_length row.ai) (all_at (λ r. first_digits_decide r (predefined_length r.ai)) ai_rows row is.listed digits_decide)
 
 pub or_true : (b : Bool) → (b || true) ≡ true
 or_true true = refl
@@ -45,19 +47,44 @@ or_true false = refl
 
 pub canonical_reads : (year : ℕ) (es : List Entry) → AreElements year es → ReadsFromLeft year (canonical es) es []
 canonical_reads year [] are = refl
-canonical_reads year (e ∷ []) are =
-    ([], record { row = are.0.0; element = are.0.1; after = []; text_is = sym (append-nil (e.ai ++ e.value)); closed = or_true are.0.0.predefined; rest_is = refl }, refl)
+canonical_reads year (e ∷ []) are = (
+  [],
+  record {
+    row = are.0.0;
+    element = are.0.1;
+    after = [];
+    text_is = sym (append-nil (e.ai ++ e.value));
+    closed = or_true are.0.0.predefined;
+    rest_is =
+        refl;
+  },
+  refl,
+)
 canonical_reads year (e ∷ f ∷ es) are =
     let c = canonical (f ∷ es) in
     let known = is_some-predefined_length year are.0.0 e are.0.1 in
     let kept_c = canonical_kept year f es are.1 in
     let more = canonical_reads year (f ∷ es) are.1 in
-    let made : (p : Bool) → p ≡ are.0.0.predefined → ((are.0.0.predefined || ends_element (cond p [] (29 ∷ []) ++ c)) ≡ true) × (c ≡ after_separator (cond p [] (29 ∷ []) ++ c)) = λ p. elim p as (λ q. q ≡ are.0.0.predefined → ((are.0.0.predefined || ends_element (cond q [] (29 ∷ []) ++ c)) ≡ true) × (c ≡ after_separator (cond q [] (29 ∷ []) ++ c))) [
+    let made : (p : Bool) → p ≡ are.0.0.predefined → ((are.0.0.predefined || ends_element (cond p [] (29 ∷ []) ++ c)) ≡ true)
+    × (c ≡ after_separator (cond p [] (29 ∷ []) ++ c)) =
+    λ p. elim p as (λ q. q ≡ are.0.0.predefined → ((are.0.0.predefined || ends_element (cond q [] (29 ∷ []) ++ c)) ≡ true)
+    × (c ≡ after_separator (cond q [] (29 ∷ []) ++ c))) [
       | true ↦ λ k. (rw (← k) refl, sym kept_c)
       | false ↦ λ k. (or_true are.0.0.predefined, refl)
     ] in
-    let m = made (is_some (predefined_length e.ai)) known in
-    (c, record { row = are.0.0; element = are.0.1; after = separator_for e ++ c; text_is = append_assoc (e.ai ++ e.value) (separator_for e) c; closed = m.0; rest_is = m.1 }, more)
+    let m = made (is_some (predefined_length e.ai)) known in (
+      c,
+      record {
+        row = are.0.0;
+        element = are.0.1;
+        after = separator_for e ++ c;
+        text_is = append_assoc (e.ai ++ e.value) (separator_for e) c;
+        closed =
+            m.0;
+        rest_is = m.1;
+      },
+      more,
+    )
 
 pub elements_are : (year : ℕ) (text : List ℕ) (es : List Entry) (rest : List ℕ) → ReadsFromLeft year text es rest → AreElements year es
 elements_are year text [] rest r = tt
@@ -67,7 +94,8 @@ abbrev gap : Bool → List ℕ
 gap p = cond p [] (29 ∷ [])
 
 -- how much of a text is behind its value
-behind : (after rest : List ℕ) (p : Bool) → (p || ends_element after) ≡ true → rest ≡ after_separator after → 0 < length rest → length (gap p) + length rest ≤ length after
+behind : (after rest : List ℕ) (p : Bool) → (p || ends_element after) ≡ true → rest ≡ after_separator after → 0 < length rest
+    → length (gap p) + length rest ≤ length after
 behind [] rest p closed rest_is some = absurd (omega (arith, ap length rest_is))
 behind (b ∷ after) rest true closed rest_is some =
     elim (cases_Bool (eqb b 29)) [
@@ -97,16 +125,19 @@ some_digit [] h = absurd cc
 some_digit (a ∷ ai) h = omega arith
 
 -- an element takes some of the text
-pub begins_shorter : (year : ℕ) (e : Entry) (text rest : List ℕ) → Begins year e text rest → length e.ai + length e.value + length rest ≤ length text × (0 < length e.ai)
+pub begins_shorter : (year : ℕ) (e : Entry) (text rest : List ℕ) → Begins year e text rest → length e.ai + length e.value + length rest ≤ length text
+    × (0 < length e.ai)
 begins_shorter year e text rest b =
-    let some = some_digit e.ai (ap begins_with_digit b.element.ai ∙ all_at (λ row. begins_with_digit row.ai) ai_rows b.row b.element.listed each_begins_with_digit) in
+    let some = some_digit e.ai (ap begins_with_digit b.element.ai
+    ∙ all_at (λ row. begins_with_digit row.ai) ai_rows b.row b.element.listed each_begins_with_digit) in
     (omega (arith, ap length b.text_is, length-append (e.ai ++ e.value) b.after, length-append e.ai e.value, rest_shorter b.after rest b.rest_is), some)
 
 -- a text that is read on is not empty
 some_left : (year : ℕ) (text : List ℕ) (e : Entry) (es : List Entry) (rest : List ℕ) → ReadsFromLeft year text (e ∷ es) rest → 0 < length text
 some_left year text e es rest r = let s = begins_shorter year e text r.0 r.1 in let t = s.0 in let u = s.1 in omega arith
 
-pub canonical_shorter : (year : ℕ) (text : List ℕ) (es : List Entry) (rest : List ℕ) → ReadsFromLeft year text es rest → length (canonical es) + length rest ≤ length text
+pub canonical_shorter : (year : ℕ) (text : List ℕ) (es : List Entry) (rest : List ℕ) → ReadsFromLeft year text es rest
+    → length (canonical es) + length rest ≤ length text
 canonical_shorter year text [] rest r = omega (arith, ap length r)
 canonical_shorter year text (e ∷ []) rest r =
     let s = begins_shorter year e text r.0 r.1 in let t = s.0 in
@@ -117,7 +148,16 @@ canonical_shorter year text (e ∷ f ∷ es) rest r =
     let some : 0 < length r.0 = some_left year r.0 f es rest r.2 in
     let k = behind b.after r.0 b.row.predefined b.closed b.rest_is some in
     let sep : length (separator_for e) ≡ length (gap b.row.predefined) = ap (λ (p : Bool). length (gap p)) (is_some-predefined_length year b.row e b.element) in
-    omega (arith, ap length b.text_is, length-append (e.ai ++ e.value) b.after, length-append (e.ai ++ e.value ++ separator_for e) (canonical (f ∷ es)), length-append (e.ai ++ e.value) (separator_for e), sep, k, more)
+    omega (
+      arith,
+      ap length b.text_is,
+      length-append (e.ai ++ e.value) b.after,
+      length-append (e.ai ++ e.value ++ separator_for e) (canonical (f ∷ es)),
+      length-append (e.ai ++ e.value) (separator_for e),
+      sep,
+      k,
+      more,
+    )
 
 -- the canonical text of a list of elements is not empty
 canonical_some : (year : ℕ) (text : List ℕ) (es : List Entry) → 0 < length text → ReadsFromLeft year text es [] → 0 < length (canonical es)

@@ -54,7 +54,8 @@ one_part year p DateAndTime v is h =
     let both = and_parts (is_some (exact_day_of (take 6 v) year)) (is_some (time_of (drop 6 v))) h in
     record { day = rw (← is) both.0; time = rw (← is) both.1 }
 
-named : (year : ℕ) (parts : List Part) (v : List ℕ) → have_one_length parts ≡ true → length v ≤ greatest_of parts → each_part (has_date year) parts v ≡ true → Named year parts v
+named : (year : ℕ) (parts : List Part) (v : List ℕ) → have_one_length parts ≡ true → length v ≤ greatest_of parts → each_part (has_date year) parts v ≡ true
+    → Named year parts v
 named year [] v one short h = absurd (let o = one in cc)
 named year (p ∷ []) v one short h =
     let whole : take p.greatest v ≡ v = take_all p.greatest v (omega arith) in

@@ -44,7 +44,8 @@ from_any (suc n) a b =
     elim (cases_lt b a) [
       | inl lt ↦ rw (ne_eqb a b (omega arith), more, lt-leb a b lt, lt-leb (a + 1) b (omega arith)) refl
       | inr le ↦ elim (cases_lt a b) [
-        | inl lt ↦ rw (ne_eqb a b (omega arith), more, le-leb a b le, le-leb (a + 1) b (omega arith)) (ap (λ (m : ℕ). ltb b m) (let e : a + 1 + n ≡ a + suc n = omega arith in e))
+        | inl lt ↦ rw (ne_eqb a b (omega arith), more, le-leb a b le, le-leb (a + 1) b (omega arith))
+            (ap (λ (m : ℕ). ltb b m) (let e : a + 1 + n ≡ a + suc n = omega arith in e))
         | inr ge ↦ rw (eq-eqb a b (omega arith), le-leb a b le, lt-ltb b (a + suc n) (omega arith)) refl
       ]
     ]
@@ -53,7 +54,8 @@ digit_any : (a z b : ℕ) → list_any (λ d. eqb d b) (range_with_len a (z + 1 
 digit_any a z b = from_any (z + 1 - a) a b ∙ grind (arith, nat_tests)
 
 -- a text whose first byte is d, and goes on with text, begins with what of the AIs
-find-cons : (d : ℕ) (tails : List (List ℕ)) (b : ℕ) (text : List ℕ) → find (λ ai. begins ai (b ∷ text)) (map (λ ai. d ∷ ai) tails) ≡ cond (eqb d b) (option_map (λ ai. b ∷ ai) (find (λ ai. begins ai text) tails)) None
+find-cons : (d : ℕ) (tails : List (List ℕ)) (b : ℕ) (text : List ℕ) → find (λ ai. begins ai (b ∷ text)) (map (λ ai. d ∷ ai) tails)
+    ≡ cond (eqb d b) (option_map (λ ai. b ∷ ai) (find (λ ai. begins ai text) tails)) None
 find-cons d tails b text =
     find-map (λ ai. begins ai (b ∷ text)) (λ ai. d ∷ ai) tails ∙ elim (cases_Bool (eqb d b)) [
       | inl here ↦ rw (here, eqb-true d b here) refl
@@ -64,7 +66,8 @@ find-cons d tails b text =
     find_none [] = refl
     find_none (a ∷ tails) = find_none tails
 
-find-places : (ds : List ℕ) (tails : List (List ℕ)) (b : ℕ) (text : List ℕ) → find (λ ai. begins ai (b ∷ text)) (flat_map (λ d. map (λ ai. d ∷ ai) tails) ds) ≡ cond (list_any (λ d. eqb d b) ds) (option_map (λ ai. b ∷ ai) (find (λ ai. begins ai text) tails)) None
+find-places : (ds : List ℕ) (tails : List (List ℕ)) (b : ℕ) (text : List ℕ) → find (λ ai. begins ai (b ∷ text)) (flat_map (λ d. map (λ ai. d ∷ ai) tails) ds)
+    ≡ cond (list_any (λ d. eqb d b) ds) (option_map (λ ai. b ∷ ai) (find (λ ai. begins ai text) tails)) None
 find-places [] tails b text = refl
 find-places (d ∷ ds) tails b text =
     let first = find-cons d tails b text in
@@ -81,13 +84,15 @@ find-places (d ∷ ds) tails b text =
 
 find-no_text : (ds : List ℕ) (tails : List (List ℕ)) → find (λ ai. begins ai []) (flat_map (λ d. map (λ ai. d ∷ ai) tails) ds) ≡ None
 find-no_text [] tails = refl
-find-no_text (d ∷ ds) tails = find-append (λ ai. begins ai []) (map (λ ai. d ∷ ai) tails) (flat_map (λ e. map (λ ai. e ∷ ai) tails) ds) ∙ rw (none tails) (find-no_text ds tails)
+find-no_text (d ∷ ds) tails = find-append (λ ai. begins ai []) (map (λ ai. d ∷ ai) tails) (flat_map (λ e. map (λ ai. e ∷ ai) tails) ds)
+    ∙ rw (none tails) (find-no_text ds tails)
   where
     none : (tails : List (List ℕ)) → find (λ ai. begins ai []) (map (λ ai. d ∷ ai) tails) ≡ None
     none [] = refl
     none (a ∷ tails) = none tails
 
-pub find-ais : (least greatest text : List ℕ) → find (λ ai. begins ai text) (ais least greatest) ≡ cond (is_in_family least greatest text) (Some (take (length least) text)) None
+pub find-ais : (least greatest text : List ℕ) → find (λ ai. begins ai text) (ais least greatest)
+    ≡ cond (is_in_family least greatest text) (Some (take (length least) text)) None
 find-ais [] greatest text = refl
 find-ais (a ∷ least) [] text = refl
 find-ais (a ∷ least) (z ∷ greatest) [] = find-no_text (range_with_len a (z + 1 - a)) (ais least greatest)
@@ -100,9 +105,11 @@ find-ais (a ∷ least) (z ∷ greatest) (b ∷ text) =
     joined true false ai = refl
     joined false q ai = refl
 
-find-rows_of : (f : AiFamily) (text : List ℕ) → find (λ row. begins row.ai text) (rows_of (family_of f)) ≡ cond (is_in_family f.least.now f.greatest.now text) (Some (row_with f text)) None
+find-rows_of : (f : AiFamily) (text : List ℕ) → find (λ row. begins row.ai text) (rows_of (family_of f))
+    ≡ cond (is_in_family f.least.now f.greatest.now text) (Some (row_with f text)) None
 find-rows_of f text =
-    find-map (λ row. begins row.ai text) (row_in (family_of f)) (ais f.least.now f.greatest.now) ∙ rw (find-ais f.least.now f.greatest.now text) (mapped (is_in_family f.least.now f.greatest.now text))
+    find-map (λ row. begins row.ai text) (row_in (family_of f)) (ais f.least.now f.greatest.now)
+    ∙ rw (find-ais f.least.now f.greatest.now text) (mapped (is_in_family f.least.now f.greatest.now text))
   where
     mapped : (p : Bool) → option_map (row_in (family_of f)) (cond p (Some (take (length f.least.now) text)) None) ≡ cond p (Some (row_with f text)) None
     mapped true = refl
@@ -120,7 +127,8 @@ row_by_is (f ∷ fs) text =
 
 -- ---- a text that is not in a family
 
-pub not_in_family : (l g t : List ℕ) → 0 < length l → (length g ≡ 0) ⊎ ((length t ≡ 0) ⊎ ((get_or t 0 0 < get_or l 0 0) ⊎ (get_or g 0 0 < get_or t 0 0))) → is_in_family l g t ≡ false
+pub not_in_family : (l g t : List ℕ) → 0 < length l → (length g ≡ 0) ⊎ ((length t ≡ 0) ⊎ ((get_or t 0 0 < get_or l 0 0) ⊎ (get_or g 0 0 < get_or t 0 0)))
+    → is_in_family l g t ≡ false
 not_in_family [] g t some why = absurd (omega arith)
 not_in_family (a ∷ l) [] t some why = refl
 not_in_family (a ∷ l) (z ∷ g) [] some why = refl
@@ -133,7 +141,8 @@ not_in_family (a ∷ l) (z ∷ g) (b ∷ t) some (inr (inr (inr lt))) = rw (lt-l
     no_more true = refl
     no_more false = refl
 
-pub not_in_at : (l g t : List ℕ) (i : ℕ) → i < length l → (length g ≤ i) ⊎ ((length t ≤ i) ⊎ ((get_or t i 0 < get_or l i 0) ⊎ (get_or g i 0 < get_or t i 0))) → is_in_family (drop i l) (drop i g) (drop i t) ≡ false
+pub not_in_at : (l g t : List ℕ) (i : ℕ) → i < length l → (length g ≤ i) ⊎ ((length t ≤ i) ⊎ ((get_or t i 0 < get_or l i 0) ⊎ (get_or g i 0 < get_or t i 0)))
+    → is_in_family (drop i l) (drop i g) (drop i t) ≡ false
 not_in_at l g t i lt why =
     not_in_family (drop i l) (drop i g) (drop i t) (omega (arith, length-drop i l)) (elim why [
       | inl e ↦ inl (omega (arith, length-drop i g))

@@ -44,7 +44,8 @@ value_plain [] v le h = rw (nil_from_length v (omega arith)) refl
 value_plain (p ∷ parts) v le h =
     let q = and_parts (has_characters p (take p.greatest v)) (each_part has_characters parts (drop p.greatest v)) h in
     let short : length (drop p.greatest v) ≤ greatest_of parts = omega (arith, length-drop p.greatest v) in
-    let both = is_plain-append (take p.greatest v) (drop p.greatest v) (all_plain p.format (take p.greatest v) q.0) (value_plain parts (drop p.greatest v) short q.1) in
+    let both = is_plain-append (take p.greatest v) (drop p.greatest v) (all_plain p.format (take p.greatest v) q.0)
+    (value_plain parts (drop p.greatest v) short q.1) in
     subst (λ (w : List ℕ). is_plain w ≡ true) (take-append-drop p.greatest v) both
 
 field_of-append : (v after : List ℕ) → is_plain v ≡ true → field_of (v ++ after) ≡ v ++ field_of after
@@ -60,10 +61,12 @@ field_of-closed (b ∷ after) h = rw h refl
 
 -- the value that a text shows between its AI and what is after it
 pub value_in_field : (row : Row) (v after : List ℕ) → (row.predefined ≡ true → least_of row.parts ≡ greatest_of row.parts)
-    → least_of row.parts ≤ length v → length v ≤ greatest_of row.parts → is_plain v ≡ true → (row.predefined || ends_element after) ≡ true → value_in row (field_of (v ++ after)) ≡ v
+    → least_of row.parts ≤ length v → length v ≤ greatest_of row.parts → is_plain v ≡ true → (row.predefined || ends_element after) ≡ true
+    → value_in row (field_of (v ++ after)) ≡ v
 value_in_field row v after one least greatest plain ends =
     let split = field_of-append v after plain in
-    elim row.predefined as (λ p. (p ≡ true → least_of row.parts ≡ greatest_of row.parts) → (p || ends_element after) ≡ true → cond p (take (greatest_of row.parts) (field_of (v ++ after))) (field_of (v ++ after)) ≡ v) [
+    elim row.predefined as (λ p. (p ≡ true → least_of row.parts ≡ greatest_of row.parts) → (p || ends_element after) ≡ true
+    → cond p (take (greatest_of row.parts) (field_of (v ++ after))) (field_of (v ++ after)) ≡ v) [
       | true ↦ λ one _. rw split (take_at v (field_of after) (greatest_of row.parts) (let e = one refl in omega arith))
       | false ↦ λ _ ends. rw (split, field_of-closed after ends) (append-nil v)
     ] one ends

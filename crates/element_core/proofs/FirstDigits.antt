@@ -35,7 +35,8 @@ no_row f t a b h =
     ∙ rw (find-ais f.least f.greatest (a ∷ b ∷ t), other_digits f.least f.greatest t a b h) refl
 
 -- so those of these first digits are enough
-rows_kept : (fs : List Family) (t : List ℕ) (a b : ℕ) → find (λ row. begins row.ai (a ∷ b ∷ t)) (flat_map rows_of (filter (has_first_two a b) fs)) ≡ find (λ row. begins row.ai (a ∷ b ∷ t)) (flat_map rows_of fs)
+rows_kept : (fs : List Family) (t : List ℕ) (a b : ℕ) → find (λ row. begins row.ai (a ∷ b ∷ t)) (flat_map rows_of (filter (has_first_two a b) fs))
+    ≡ find (λ row. begins row.ai (a ∷ b ∷ t)) (flat_map rows_of fs)
 rows_kept [] t a b = refl
 rows_kept (f ∷ fs) t a b =
     let p : Row → Bool = λ row. begins row.ai (a ∷ b ∷ t) in
@@ -47,14 +48,16 @@ rows_kept (f ∷ fs) t a b =
     ]
 
 -- the row of a text among the families of its first two digits
-row_by_digits : (fs : List AiFamily) (t : List ℕ) (a b : ℕ) → map family_of fs ≡ filter (has_first_two a b) families → row_by (a ∷ b ∷ t) fs ≡ row_at (a ∷ b ∷ t)
+row_by_digits : (fs : List AiFamily) (t : List ℕ) (a b : ℕ) → map family_of fs ≡ filter (has_first_two a b) families → row_by (a ∷ b ∷ t) fs
+    ≡ row_at (a ∷ b ∷ t)
 unfolding ai_rows
 row_by_digits fs t a b e =
     row_by_is fs (a ∷ b ∷ t)
     ∙ ap (λ (gs : List Family). find (λ row. begins row.ai (a ∷ b ∷ t)) (flat_map rows_of gs)) e
     ∙ rows_kept families t a b
 
-pub row_by_first_two : (fs : List AiFamily) (text : List ℕ) → 2 ≤ length text → map family_of fs ≡ filter (has_first_two (get_or text 0 0) (get_or text 1 0)) families → row_by text fs ≡ row_at text
+pub row_by_first_two : (fs : List AiFamily) (text : List ℕ) → 2 ≤ length text → map family_of fs
+    ≡ filter (has_first_two (get_or text 0 0) (get_or text 1 0)) families → row_by text fs ≡ row_at text
 row_by_first_two fs [] two e = absurd (omega arith)
 row_by_first_two fs (a ∷ []) two e = absurd (omega arith)
 row_by_first_two fs (a ∷ b ∷ t) two e = row_by_digits fs t a b e
@@ -145,10 +148,12 @@ unfolding families
 places_tested = refl
 
 places : (a b : ℕ) → a < 10 → b < 10 → AreThere (has_first_two (a + 48) (b + 48)) (get_or STARTS (10 * a + b) 0) (get_or ENDS (10 * a + b) 0) families
-places a b la lb = are_there (has_first_two (a + 48) (b + 48)) (get_or STARTS (10 * a + b) 0) (get_or ENDS (10 * a + b) 0) families (all_below-at (place_test a) 10 b (all_below-at (λ x. all_below (place_test x) 10) 10 a places_tested la) lb)
+places a b la lb = are_there (has_first_two (a + 48) (b + 48)) (get_or STARTS (10 * a + b) 0) (get_or ENDS (10 * a + b) 0) families
+    (all_below-at (place_test a) 10 b (all_below-at (λ x. all_below (place_test x) 10) 10 a places_tested la) lb)
 
 -- the same, as the code finds them
-pub places_as : (first second number s e a b : ℕ) → a < 10 → b < 10 → a + 48 ≡ first → b + 48 ≡ second → 10 * a + b ≡ number → get_or STARTS number 0 ≡ s → get_or ENDS number 0 ≡ e → AreThere (has_first_two first second) s e families
+pub places_as : (first second number s e a b : ℕ) → a < 10 → b < 10 → a + 48 ≡ first → b + 48 ≡ second → 10 * a + b ≡ number → get_or STARTS number 0 ≡ s
+    → get_or ENDS number 0 ≡ e → AreThere (has_first_two first second) s e families
 places_as first second number s e a b la lb first_is second_is number_is s_is e_is =
     subst (λ (x : ℕ). AreThere (has_first_two x second) s e families) first_is
     (subst (λ (x : ℕ). AreThere (has_first_two (a + 48) x) s e families) second_is
@@ -191,7 +196,8 @@ each_of_digits : list_all (λ f. digits_alone (take 2 f.least) (take 2 f.greates
 unfolding families
 each_of_digits = refl
 
-none_of : (a b : ℕ) → (((48 ≤ a × (a ≤ 57)) × (48 ≤ b × (b ≤ 57))) → ⊥) → (fs : List Family) → list_all (λ f. digits_alone (take 2 f.least) (take 2 f.greatest)) fs ≡ true → filter (has_first_two a b) fs ≡ []
+none_of : (a b : ℕ) → (((48 ≤ a × (a ≤ 57)) × (48 ≤ b × (b ≤ 57))) → ⊥) → (fs : List Family)
+    → list_all (λ f. digits_alone (take 2 f.least) (take 2 f.greatest)) fs ≡ true → filter (has_first_two a b) fs ≡ []
 none_of a b other [] h = refl
 none_of a b other (f ∷ fs) h =
     let q = and_parts (digits_alone (take 2 f.least) (take 2 f.greatest)) (list_all (λ g. digits_alone (take 2 g.least) (take 2 g.greatest)) fs) h in

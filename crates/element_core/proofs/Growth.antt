@@ -16,7 +16,8 @@ use Rattle.element_core.proofs.Unique.{right_size}
 use Rattle.element_core.proofs.PieceLemmas.{to_pieces}
 use Rattle.element_core.proofs.Canonical.{is_some-predefined_length, canonical_shorter, canonical_law}
 
-pub reads-push : (year : ℕ) (text : List ℕ) (es : List Entry) (e : Entry) (mid rest : List ℕ) → ReadsFromLeft year text es mid → Begins year e mid rest → ReadsFromLeft year text (es ++ e ∷ []) rest
+pub reads-push : (year : ℕ) (text : List ℕ) (es : List Entry) (e : Entry) (mid rest : List ℕ) → ReadsFromLeft year text es mid → Begins year e mid rest
+    → ReadsFromLeft year text (es ++ e ∷ []) rest
 reads-push year text [] e mid rest r b = (rest, subst (λ (t : List ℕ). Begins year e t rest) (sym r) b, refl)
 reads-push year text (f ∷ es) e mid rest r b = (r.0, r.1, reads-push year r.0 es e mid rest r.2 b)
 
@@ -35,7 +36,8 @@ canonical-push (f ∷ g ∷ es) e =
 
 -- ---- how many elements there may be
 
-long_enough : (year : ℕ) (e : Entry) → (row : Row) × IsElement ai_rows year row e → 4 ≤ length e.ai + length e.value + length (separator_for e) × (3 ≤ length e.ai + length e.value)
+long_enough : (year : ℕ) (e : Entry) → (row : Row) × IsElement ai_rows year row e → 4 ≤ length e.ai + length e.value + length (separator_for e)
+    × (3 ≤ length e.ai + length e.value)
 long_enough year e (row, is) =
     let k = leb-true (cond row.predefined 4 3) (length row.ai + least_of row.parts) (all_at is_long_enough ai_rows row is.listed each_is_long_enough) in
     let p = is_some-predefined_length year row e is in
@@ -53,7 +55,14 @@ few_elements year (e ∷ []) are = let l = long_enough year e are.0 in let m = l
 few_elements year (e ∷ f ∷ es) are =
     let l = long_enough year e are.0 in
     let m = l.0 in
-    omega (arith, few_elements year (f ∷ es) are.1, length-append (e.ai ++ e.value ++ separator_for e) (canonical (f ∷ es)), length-append (e.ai ++ e.value) (separator_for e), length-append e.ai e.value)
+    omega (
+      arith,
+      few_elements year (f ∷ es) are.1,
+      length-append (e.ai ++ e.value ++ separator_for e) (canonical (f ∷ es)),
+      length-append (e.ai ++ e.value)
+          (separator_for e),
+      length-append e.ai e.value,
+    )
 
 -- how far a text is read: to the rest, and these elements stand in the canonical text
 pub record IsReadTo (year : ℕ) (text rest out : List ℕ) (separate : Bool) : Type 0 where
@@ -69,7 +78,8 @@ pub record Grows (year : ℕ) (text out : List ℕ) (es : List Entry) (separate 
   pub room : length (out ++ separator_if separate ++ (e.ai ++ e.value)) ≤ length text
   pub gap_is : last_gap (es ++ e ∷ []) ≡ separator_for e
 
-pub grows : (year : ℕ) (text out : List ℕ) (es : List Entry) (separate : Bool) (e : Entry) (mid rest : List ℕ) → ReadsFromLeft year text es mid → out ≡ canonical es → last_gap es ≡ separator_if separate → Begins year e mid rest → Grows year text out es separate e rest
+pub grows : (year : ℕ) (text out : List ℕ) (es : List Entry) (separate : Bool) (e : Entry) (mid rest : List ℕ) → ReadsFromLeft year text es mid → out
+    ≡ canonical es → last_gap es ≡ separator_if separate → Begins year e mid rest → Grows year text out es separate e rest
 grows year text out es separate e mid rest reads out_is gap_is begins =
     let more = reads-push year text es e mid rest reads begins in
     let longer : out ++ separator_if separate ++ (e.ai ++ e.value) ≡ canonical (es ++ e ∷ []) = rw (out_is, ← gap_is) (sym (canonical-push es e)) in
@@ -82,15 +92,31 @@ grows year text out es separate e mid rest reads out_is gap_is begins =
     }
 
 -- nothing is left
-pub whole : (year : ℕ) (text out : List ℕ) (es : List Entry) (rest : List ℕ) → 0 < length text → length text ≤ 192 → length rest ≡ 0 → ReadsFromLeft year text es rest → out ≡ canonical es → IsElements year text es × IsElements year out es
+pub whole : (year : ℕ) (text out : List ℕ) (es : List Entry) (rest : List ℕ) → 0 < length text → length text ≤ 192 → length rest ≡ 0
+    → ReadsFromLeft year text es rest → out ≡ canonical es → IsElements year text es × IsElements year out es
 whole year text out es rest some fits empty reads out_is =
-    let is : IsElements year text es = record { some = some; fits = fits; reads = to_pieces year text es [] (subst (λ (r : List ℕ). ReadsFromLeft year text es r) (nil_from_length rest empty) reads) } in
+    let is : IsElements year text es = record {
+      some = some;
+      fits = fits;
+      reads =
+          to_pieces year text es [] (subst (λ (r : List ℕ). ReadsFromLeft year text es r) (nil_from_length rest empty) reads);
+    } in
     (is, subst (λ (t : List ℕ). IsElements year t es) (sym out_is) (canonical_law year text es is).0)
 
-pub stops : (year : ℕ) (text : List ℕ) (es : List Entry) (rest : List ℕ) (f : ElementFault) → 0 < length text → length text ≤ 192 → ReadsFromLeft year text es rest → 0 < length rest → fault_at year (length text - length rest) rest ≡ Some f → FirstFault year text f
+pub stops : (year : ℕ) (text : List ℕ) (es : List Entry) (rest : List ℕ) (f : ElementFault) → 0 < length text → length text ≤ 192
+    → ReadsFromLeft year text es rest → 0 < length rest → fault_at year (length text - length rest) rest ≡ Some f → FirstFault year text f
 stops year text es rest f some fits reads left fault =
     let short = canonical_shorter year text es rest reads in
-    let s : StopsWith year text f = record { before = es; rest = rest; reads = to_pieces year text es rest reads; some = left; place = length text - length rest; place_is = omega arith; fault = fault } in
+    let s : StopsWith year text f = record {
+      before = es;
+      rest = rest;
+      reads = to_pieces year text es rest reads;
+      some = left;
+      place =
+          length text - length rest;
+      place_is = omega arith;
+      fault = fault;
+    } in
     subst (λ (o : Option ElementFault). MatchOption o (StopsWith year text f) (λ g. f ≡ g)) (sym (right_size text some fits)) s
 
 gap-not : (p : Bool) → separator_if (not p) ≡ cond p [] (29 ∷ [])

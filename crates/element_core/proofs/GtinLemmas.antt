@@ -25,7 +25,8 @@ all_digits : (g : List ℕ) → AreDigits g → list_all is_digit (ascii_of g) �
 all_digits [] h = refl
 all_digits (d ∷ g) h =
     let lt = h.0 in
-    and_from (is_digit (d + 48)) (list_all is_digit (ascii_of g)) (and_from (leb 48 (d + 48)) (leb (d + 48) 57) (le-leb 48 (d + 48) (omega arith)) (le-leb (d + 48) 57 (omega arith))) (all_digits g h.1)
+    and_from (is_digit (d + 48)) (list_all is_digit (ascii_of g))
+    (and_from (leb 48 (d + 48)) (leb (d + 48) 57) (le-leb 48 (d + 48) (omega arith)) (le-leb (d + 48) 57 (omega arith))) (all_digits g h.1)
 
 gtin_value : (year : ℕ) (g : List ℕ) → AreDigits g → IsChecked g → length (ascii_of g) ≡ 14 → IsValue year (n_check 14 ∷ []) (ascii_of g)
 gtin_value year g digits checked long =
@@ -35,7 +36,9 @@ gtin_value year g digits checked long =
       greatest = omega arith;
       even = refl;
       characters = and_from (list_all is_digit (take 14 (ascii_of g))) true (ap (list_all is_digit) whole ∙ all_digits g digits) refl;
-      check_digits = and_from (eqb (weighted (digits_of (take 14 (ascii_of g))) % 10) 0) true (eq-eqb (weighted (digits_of (take 14 (ascii_of g))) % 10) 0 (ap (λ (v : List ℕ). weighted (digits_of v) % 10) whole ∙ ap (λ (v : List ℕ). weighted v % 10) (shown_again g) ∙ checked)) refl;
+      check_digits = and_from (eqb (weighted (digits_of (take 14 (ascii_of g))) % 10) 0) true
+          (eq-eqb (weighted (digits_of (take 14 (ascii_of g))) % 10) 0
+          (ap (λ (v : List ℕ). weighted (digits_of v) % 10) whole ∙ ap (λ (v : List ℕ). weighted v % 10) (shown_again g) ∙ checked)) refl;
       dates = refl;
     }
 
@@ -43,13 +46,15 @@ gtin_element : (year : ℕ) (g : List ℕ) → AreDigits g → IsChecked g → l
 unfolding gtin_row
 gtin_element year g digits checked long = record { listed = gtin_listed; ai = refl; value = gtin_value year g digits checked long }
 
-pub gtin_elements : (year : ℕ) (g text : List ℕ) (es : List Entry) → AreDigits g → IsChecked g → length (ascii_of g) ≡ 14 → es ≡ gtin_entry g ∷ [] → text ≡ canonical es → IsElements year text es
+pub gtin_elements : (year : ℕ) (g text : List ℕ) (es : List Entry) → AreDigits g → IsChecked g → length (ascii_of g) ≡ 14 → es ≡ gtin_entry g ∷ [] → text
+    ≡ canonical es → IsElements year text es
 gtin_elements year g text es digits checked long es_is text_is =
     let is = gtin_element year g digits checked long in
     let one : List Entry = gtin_entry g ∷ [] in
     let same : text ≡ canonical one = text_is ∙ ap canonical es_is in
     let size : length (canonical one) ≡ 16 = omega (arith, long) in
-    subst (IsElements year text) (sym es_is) (subst (λ (t : List ℕ). IsElements year t one) (sym same) (record { some = omega arith; fits = omega arith; reads = to_pieces year (canonical one) one [] (canonical_reads year one ((gtin_row, is), tt)) }))
+    subst (IsElements year text) (sym es_is) (subst (λ (t : List ℕ). IsElements year t one) (sym same)
+    (record { some = omega arith; fits = omega arith; reads = to_pieces year (canonical one) one [] (canonical_reads year one ((gtin_row, is), tt)) }))
 
 pub gtin_reads : GtinReads
 gtin_reads gtin year long digits checked =

@@ -50,7 +50,9 @@ value_letters [] v le h = rw (nil_from_length v (omega arith)) refl
 value_letters (p ∷ parts) v le h =
     let q = and_parts (has_characters p (take p.greatest v)) (each_part has_characters parts (drop p.greatest v)) h in
     let short : length (drop p.greatest v) ≤ greatest_of parts = omega (arith, length-drop p.greatest v) in
-    let both = all-append is_character (take p.greatest v) (drop p.greatest v) (all_weaker (belongs p.format) is_character (belongs_is_character p.format) (take p.greatest v) q.0) (value_letters parts (drop p.greatest v) short q.1) in
+    let both = all-append is_character (take p.greatest v) (drop p.greatest v)
+    (all_weaker (belongs p.format) is_character (belongs_is_character p.format) (take p.greatest v) q.0) (value_letters parts (drop p.greatest v) short q.1)
+    in
     subst (λ (w : List ℕ). list_all is_character w ≡ true) (take-append-drop p.greatest v) both
 
 text_byte : (b : ℕ) → is_character b ≡ true → is_text_byte b ≡ true
@@ -59,15 +61,18 @@ text_byte b h = or_right (eqb b 29) (is_character b) h
 pub element_letters : (year : ℕ) (e : Entry) → (row : Row) × IsElement ai_rows year row e → list_all is_text_byte (e.ai ++ e.value) ≡ true
 element_letters year e (row, is) =
     let digits = (and_parts (leb 2 (length row.ai)) (list_all is_digit row.ai) (all_at is_of_digits ai_rows row is.listed each_is_of_digits)).1 in
-    let ai = subst (λ (a : List ℕ). list_all is_text_byte a ≡ true) (sym is.ai) (all_weaker is_digit is_text_byte (λ b h. text_byte b (digit_is_character b h)) row.ai digits) in
+    let ai = subst (λ (a : List ℕ). list_all is_text_byte a ≡ true) (sym is.ai)
+    (all_weaker is_digit is_text_byte (λ b h. text_byte b (digit_is_character b h)) row.ai digits) in
     let fits = is.value in
-    all-append is_text_byte e.ai e.value ai (all_weaker is_character is_text_byte text_byte e.value (value_letters row.parts e.value fits.greatest fits.characters))
+    all-append is_text_byte e.ai e.value ai (all_weaker is_character is_text_byte text_byte e.value
+    (value_letters row.parts e.value fits.greatest fits.characters))
 
 pub canonical_letters : (year : ℕ) (es : List Entry) → AreElements year es → list_all is_text_byte (canonical es) ≡ true
 canonical_letters year [] are = refl
 canonical_letters year (e ∷ []) are = element_letters year e are.0
 canonical_letters year (e ∷ f ∷ es) are =
-    all-append is_text_byte (e.ai ++ e.value ++ separator_for e) (canonical (f ∷ es)) (all-append is_text_byte (e.ai ++ e.value) (separator_for e) (element_letters year e are.0) (gap_letters e)) (canonical_letters year (f ∷ es) are.1)
+    all-append is_text_byte (e.ai ++ e.value ++ separator_for e) (canonical (f ∷ es))
+    (all-append is_text_byte (e.ai ++ e.value) (separator_for e) (element_letters year e are.0) (gap_letters e)) (canonical_letters year (f ∷ es) are.1)
   where
     gap_letters : (e : Entry) → list_all is_text_byte (separator_for e) ≡ true
     gap_letters e = elim (is_some (predefined_length e.ai)) as (λ p. list_all is_text_byte (cond p [] (29 ∷ [])) ≡ true) [ true ↦ refl | false ↦ refl ]
@@ -89,18 +94,33 @@ pub canonical_printable : (year : ℕ) (e : Entry) (es : List Entry) → AreElem
 canonical_printable year e [] are = and_from _ _ (canonical_letters year (e ∷ []) are) (front_digits year e e.value are.0)
 canonical_printable year e (f ∷ es) are =
     let c = canonical (f ∷ es) in
-    let parts : canonical (e ∷ f ∷ es) ≡ e.ai ++ (e.value ++ (separator_for e ++ c)) = append_assoc (e.ai ++ e.value) (separator_for e) c ∙ append_assoc e.ai e.value (separator_for e ++ c) in
+    let parts : canonical (e ∷ f ∷ es) ≡ e.ai ++ (e.value ++ (separator_for e ++ c)) =
+    append_assoc (e.ai ++ e.value) (separator_for e) c ∙ append_assoc e.ai e.value (separator_for e ++ c) in
     and_from _ _ (canonical_letters year (e ∷ f ∷ es) are) (ap begins_with_digits parts ∙ front_digits year e (e.value ++ (separator_for e ++ c)) are.0)
 
 pub listing_printable : (year : ℕ) (text : List ℕ) (es : List Entry) → IsElements year text es → text ≡ canonical es → is_printable text ≡ true
 listing_printable year text [] is text_is = absurd (let some = is.some in omega (arith, ap length text_is))
-listing_printable year text (e ∷ es) is text_is = ap is_printable text_is ∙ canonical_printable year e es (elements_are year text (e ∷ es) [] (from_left year text (e ∷ es) [] is.reads))
+listing_printable year text (e ∷ es) is text_is = ap is_printable text_is
+    ∙ canonical_printable year e es (elements_are year text (e ∷ es) [] (from_left year text (e ∷ es) [] is.reads))
 
 below_128 : (b : ℕ) → is_text_byte b ≡ true → b < 128
 below_128 b h =
     elim (cases_lt b 128) [
       | inl lt ↦ lt
-      | inr le ↦ absurd (let k = rw (ne_eqb b 29 (omega arith), ne_eqb b 95 (omega arith), lt-leb b 34 (omega arith), lt-leb b 63 (omega arith), lt-leb b 90 (omega arith), lt-leb b 122 (omega arith), le-leb 33 b (omega arith), le-leb 37 b (omega arith), le-leb 65 b (omega arith), le-leb 97 b (omega arith)) at h in cc)
+      | inr le ↦ absurd (let k = rw (
+        ne_eqb b 29 (omega arith),
+        ne_eqb b 95 (omega arith),
+        lt-leb b 34 (omega arith),
+        lt-leb b 63 (omega arith),
+        lt-leb b 90
+            (omega arith),
+        lt-leb b 122 (omega arith),
+        le-leb 33 b (omega arith),
+        le-leb 37 b (omega arith),
+        le-leb 65 b (omega arith),
+        le-leb 97 b (omega arith),
+      )
+          at h in cc)
     ]
 
 pub ascii_by : (text : List ℕ) → list_all is_text_byte text ≡ true → AllByRecursion (λ b. b < 128) text

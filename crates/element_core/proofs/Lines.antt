@@ -10,7 +10,16 @@ hri_length : (es : List Entry) → length (hri es) ≤ length (canonical es) + 2
 hri_length [] = omega arith
 hri_length (e ∷ []) = omega (arith, length-append ((40 ∷ e.ai) ++ (41 ∷ e.value)) [], length-append (40 ∷ e.ai) (41 ∷ e.value), length-append e.ai e.value)
 hri_length (e ∷ f ∷ es) =
-    omega (arith, hri_length (f ∷ es), length-append ((40 ∷ e.ai) ++ (41 ∷ e.value)) (hri (f ∷ es)), length-append (40 ∷ e.ai) (41 ∷ e.value), length-append e.ai e.value, length-append (e.ai ++ e.value) (separator_for e), length-append (e.ai ++ e.value ++ separator_for e) (canonical (f ∷ es)))
+    omega (
+      arith,
+      hri_length (f ∷ es),
+      length-append ((40 ∷ e.ai) ++ (41 ∷ e.value)) (hri (f ∷ es)),
+      length-append (40 ∷ e.ai) (41 ∷ e.value),
+      length-append
+          e.ai e.value,
+      length-append (e.ai ++ e.value) (separator_for e),
+      length-append (e.ai ++ e.value ++ separator_for e) (canonical (f ∷ es)),
+    )
 
 pub hri_fits : (year : ℕ) (text : List ℕ) (es : List Entry) → IsElements year text es → text ≡ canonical es → length (hri es) ≤ 288
 hri_fits year text es is text_is =
@@ -18,6 +27,7 @@ hri_fits year text es is text_is =
     omega (arith, hri_length es, few_elements year es (elements_are year text es [] (from_left year text es [] is.reads)), ap length text_is)
 
 -- an element has four bytes with its separator, so the parentheses take half of the text at most
-pub hri_room : (year : ℕ) (text : List ℕ) (es : List Entry) → IsElements year text es → text ≡ canonical es → length (hri es) ≤ length text + (length text + 1) / 4 * 2
+pub hri_room : (year : ℕ) (text : List ℕ) (es : List Entry) → IsElements year text es → text ≡ canonical es
+    → length (hri es) ≤ length text + (length text + 1) / 4 * 2
 hri_room year text es is text_is =
     omega (arith, hri_length es, few_elements year es (elements_are year text es [] (from_left year text es [] is.reads)), ap length text_is)

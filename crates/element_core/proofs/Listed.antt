@@ -21,7 +21,8 @@ use Rattle.element_core.proofs.Letters.{ascii_by, element_letters}
 use Rattle.element_core.proofs.PairLemmas.{seen}
 
 -- what a text shows is no longer than it
-pub shown_shorter : (row : Row) (text : List ℕ) → row_at text ≡ Some row → (length row.ai + length (shown_value row text) + length (shown_rest row text) ≤ length text) × (0 < length row.ai)
+pub shown_shorter : (row : Row) (text : List ℕ) → row_at text ≡ Some row
+    → (length row.ai + length (shown_value row text) + length (shown_rest row text) ≤ length text) × (0 < length row.ai)
 shown_shorter row text found =
     let r = row_is row text found in
     let tail = drop (length row.ai) text in
@@ -75,13 +76,15 @@ shown_some text row found =
     ∙ ap (λ (es : List Entry). shown_entry row text ∷ es) (in_more n (length (shown_rest row text)) (shown_rest row text) (omega arith) (omega arith))
 
 -- the same, of what is shown under other names
-pub shown_first : (text : List ℕ) (row : Row) (e : Entry) (rest : List ℕ) → row_at text ≡ Some row → IsShown row text e.ai e.value rest → shown_elements text ≡ e ∷ shown_elements rest
+pub shown_first : (text : List ℕ) (row : Row) (e : Entry) (rest : List ℕ) → row_at text ≡ Some row → IsShown row text e.ai e.value rest → shown_elements text
+    ≡ e ∷ shown_elements rest
 shown_first text row e rest found is =
     let first : shown_entry row text ≡ e = same_element (shown_entry row text) e (sym is.ai_is) (sym is.value_is) in
     let more : shown_elements (shown_rest row text) ≡ shown_elements rest = ap shown_elements (sym is.rest_is) in
     shown_some text row found ∙ cc
 
-pub first_within : (text : List ℕ) (row : Row) (ai value rest : List ℕ) → row_at text ≡ Some row → IsShown row text ai value rest → (length ai + length value + length rest ≤ length text) × (0 < length ai)
+pub first_within : (text : List ℕ) (row : Row) (ai value rest : List ℕ) → row_at text ≡ Some row → IsShown row text ai value rest
+    → (length ai + length value + length rest ≤ length text) × (0 < length ai)
 first_within text row ai value rest found is =
     let s = shown_shorter row text found in
     let t = s.0 in
@@ -119,7 +122,8 @@ pub record IsListed (year : ℕ) (text out : List ℕ) : Type 0 where
   pub canonical_text : out ≡ canonical (shown_elements out)
   pub elements : IsElements year out (shown_elements out)
 
-pub listed_as : (year : ℕ) (text out : List ℕ) (es : List Entry) → IsElements year text es → out ≡ canonical es → IsElements year out es → IsListed year text out
+pub listed_as : (year : ℕ) (text out : List ℕ) (es : List Entry) → IsElements year text es → out ≡ canonical es → IsElements year out es
+    → IsListed year text out
 listed_as year text out es reads out_is elements =
     let same : es ≡ shown_elements out = sym (listed year out es elements) in
     record {
@@ -139,5 +143,8 @@ all_parts q (x ∷ a) b h =
 pub elements_ascii : (year : ℕ) (es : List Entry) → AreElements year es → AreAscii es
 elements_ascii year [] are = tt
 elements_ascii year (e ∷ es) are =
-    let p = all_parts is_text_byte e.ai e.value (element_letters year e are.0) in
-    ((All-from_recursion (λ b. b < 128) e.ai (ascii_by e.ai p.0), All-from_recursion (λ b. b < 128) e.value (ascii_by e.value p.1)), elements_ascii year es are.1)
+    let p = all_parts is_text_byte e.ai e.value (element_letters year e are.0) in (
+      (All-from_recursion (λ b. b < 128) e.ai (ascii_by e.ai p.0), All-from_recursion (λ b. b < 128) e.value (ascii_by e.value p.1)),
+      elements_ascii year es
+          are.1,
+    )

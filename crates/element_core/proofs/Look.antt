@@ -39,7 +39,8 @@ all_at p [] x (k, lt, e) h = absurd (omega arith)
 all_at p (y ∷ xs) x (zero, lt, e) h = ap p (sym e) ∙ (and_parts (p y) (list_all p xs) h).0
 all_at p (y ∷ xs) x (suc k, lt, e) h = all_at p xs x (k, omega arith, e) (and_parts (p y) (list_all p xs) h).1
 
-found : (rows : List Row) (r : Row) (t : List ℕ) → none_begins_another rows ≡ true → Contains rows r → begins r.ai t ≡ true → find (λ s. begins s.ai t) rows ≡ Some r
+found : (rows : List Row) (r : Row) (t : List ℕ) → none_begins_another rows ≡ true → Contains rows r → begins r.ai t ≡ true → find (λ s. begins s.ai t) rows
+    ≡ Some r
 found [] r t apart (k, lt, e) h = absurd (omega arith)
 found (s ∷ rows) r t apart (zero, lt, e) h =
     let here : begins s.ai t ≡ true = ap (λ (q : Row). begins q.ai t) e ∙ h in
@@ -82,7 +83,8 @@ one_length r (Some all) h p =
     omega (arith, eqb-true (least_of r.parts + length r.ai) all b.1, eqb-true (greatest_of r.parts + length r.ai) all a.1)
 
 pub predefined_length_is : (r : Row) → Contains ai_rows r → r.predefined ≡ true → least_of r.parts ≡ greatest_of r.parts
-predefined_length_is r listed p = one_length r (predefined_length r.ai) (all_at (λ row. first_digits_decide row (predefined_length row.ai)) ai_rows r listed digits_decide) p
+predefined_length_is r listed p = one_length r (predefined_length r.ai)
+    (all_at (λ row. first_digits_decide row (predefined_length row.ai)) ai_rows r listed digits_decide) p
 
 decided_by : (r : Row) (all : Option ℕ) → first_digits_decide r all ≡ true → r.predefined ≡ is_some all
 decided_by r None h = not-true r.predefined h
@@ -90,4 +92,5 @@ decided_by r (Some all) h = (and_parts _ _ (and_parts _ _ h).0).0
 
 -- the first two digits decide of each row
 pub predefined_is : (r : Row) → Contains ai_rows r → r.predefined ≡ is_some (predefined_length r.ai)
-predefined_is r listed = decided_by r (predefined_length r.ai) (all_at (λ row. first_digits_decide row (predefined_length row.ai)) ai_rows r listed digits_decide)
+predefined_is r listed = decided_by r (predefined_length r.ai)
+    (all_at (λ row. first_digits_decide row (predefined_length row.ai)) ai_rows r listed digits_decide)

@@ -54,7 +54,8 @@ abbrev fault_within : ℕ → ℕ → List Part → List ℕ → Option ElementF
 fault_within year place parts v = cond (not (each_part has_even_length parts v)) (Some (ValueLength place)) (value_fault year place parts v)
 
 -- there it is as whether its length is even, its characters, check digits and dates are
-right_length : (year place : ℕ) (long : ElementFault) (row : Row) (v : List ℕ) → least_of row.parts ≤ length v → length v ≤ greatest_of row.parts → row_fault year place long row.parts v ≡ fault_within year place row.parts v
+right_length : (year place : ℕ) (long : ElementFault) (row : Row) (v : List ℕ) → least_of row.parts ≤ length v → length v ≤ greatest_of row.parts
+    → row_fault year place long row.parts v ≡ fault_within year place row.parts v
 right_length year place long row v least greatest = rw (le-ltb (length v) (least_of row.parts) least, le-ltb (greatest_of row.parts) (length v) greatest) refl
 
 pub pairs_as_texts : PairsAsTexts
@@ -64,7 +65,8 @@ pairs_as_texts = λ year i row e has least greatest plain.
     ap (λ (t : List ℕ). value_in row (field_of t)) (rest ∙ sym (append-nil e.value))
     ∙ value_in_field row e.value [] (predefined_length_is row has.listed) least greatest plain (or_true row.predefined) in
     by_row year i row e has ∙ right_length year i (ValueLength i) row e.value least greatest
-    ∙ sym (ap (fault_by year i (e.ai ++ e.value)) (found_before e row e.value has) ∙ ap (row_fault year i (MissingSeparator i) row.parts) value ∙ right_length year i (MissingSeparator i) row e.value least greatest)
+    ∙ sym (ap (fault_by year i (e.ai ++ e.value)) (found_before e row e.value has) ∙ ap (row_fault year i (MissingSeparator i) row.parts) value
+    ∙ right_length year i (MissingSeparator i) row e.value least greatest)
 
 pub unknown_pairs : UnknownPairs
 unknown_pairs = λ year i e no_row.
@@ -76,7 +78,8 @@ unknown_pairs = λ year i e no_row.
           let split = begins-split row.ai e.ai r.1 in
           let ne : length e.ai ≡ length row.ai → ⊥ = λ same. no_row row (record {
             listed = r.0;
-            ai = split ∙ ap (λ (t : List ℕ). row.ai ++ t) (nil_from_length (drop (length row.ai) e.ai) (omega (arith, length-drop (length row.ai) e.ai))) ∙ append-nil row.ai;
+            ai = split ∙ ap (λ (t : List ℕ). row.ai ++ t) (nil_from_length (drop (length row.ai) e.ai) (omega (arith, length-drop (length row.ai) e.ai)))
+                ∙ append-nil row.ai;
           }) in
           ap (entry_fault_by year i e) found.1 ∙ rw (ne_eqb (length e.ai) (length row.ai) ne) refl
     ]
@@ -113,7 +116,12 @@ faultless_pairs = λ year es. (
   λ none.
       let f = faultless year es none in
       let are = entries_valid year 0 es f.entries in
-      record { some = omega (arith, f.some, few_elements year es are); fits = f.short; reads = to_pieces year (canonical es) es [] (canonical_reads year es are) },
+      record {
+        some = omega (arith, f.some, few_elements year es are);
+        fits = f.short;
+        reads =
+            to_pieces year (canonical es) es [] (canonical_reads year es are);
+      },
   λ is. fits year es (some_of year es is) (no_faults year 0 es (elements_are year (canonical es) es [] (from_left year (canonical es) es [] is.reads))) is.fits,
 )
 

@@ -32,8 +32,15 @@ entry_valid year i e none =
           let p = passes (not (eqb (length e.ai) (length row.ai))) (UnknownAi i) _ k in
           let same = eqb-true (length e.ai) (length row.ai) (not-false _ p.0) in
           let ai = begins-split row.ai e.ai r.1 in
-          let nothing : drop (length row.ai) e.ai ≡ [] = nil_from_length (drop (length row.ai) e.ai) (omega (arith, length-drop (length row.ai) e.ai)) in
-          (row, record { listed = r.0; ai = ai ∙ ap (λ (t : List ℕ). row.ai ++ t) nothing ∙ append-nil row.ai; value = no_fault_fits year i (ValueLength i) row e.value p.1 })
+          let nothing : drop (length row.ai) e.ai ≡ [] = nil_from_length (drop (length row.ai) e.ai) (omega (arith, length-drop (length row.ai) e.ai)) in (
+            row,
+            record {
+              listed = r.0;
+              ai = ai ∙ ap (λ (t : List ℕ). row.ai ++ t) nothing ∙ append-nil row.ai;
+              value =
+                  no_fault_fits year i (ValueLength i) row e.value p.1;
+            },
+          )
     ]
 
 pub or_else-none : (a b : Option ElementFault) → or_else a b ≡ None → (a ≡ None) × (b ≡ None)
@@ -53,7 +60,15 @@ canonical_grows es (f ∷ fs) =
     let more = canonical_grows (es ++ f ∷ []) fs in
     let regrouped : es ++ f ∷ [] ++ fs ≡ es ++ f ∷ fs = append_assoc es (f ∷ []) fs in
     let push = canonical-push es f in
-    omega (arith, ap length push, ap (λ (gs : List Entry). length (canonical gs)) regrouped, more, length-append (canonical es ++ last_gap es) (f.ai ++ f.value), length-append (canonical es) (last_gap es))
+    omega (
+      arith,
+      ap length push,
+      ap (λ (gs : List Entry). length (canonical gs)) regrouped,
+      more,
+      length-append (canonical es ++ last_gap es)
+          (f.ai ++ f.value),
+      length-append (canonical es) (last_gap es),
+    )
 
 -- one element more of a list that is known
 pub record Adds (out : List ℕ) (done all : List Entry) (separate : Bool) (e : Entry) : Type 0 where
@@ -61,15 +76,24 @@ pub record Adds (out : List ℕ) (done all : List Entry) (separate : Bool) (e : 
   pub size : length (out ++ separator_if separate ++ (e.ai ++ e.value)) ≡ length out + length (separator_if separate) + length e.ai + length e.value
   pub below : length (canonical (done ++ e ∷ [])) ≤ length (canonical all)
 
-pub adds : (out : List ℕ) (done rest all : List Entry) (separate : Bool) (e : Entry) → all ≡ done ++ e ∷ rest → out ≡ canonical done → last_gap done ≡ separator_if separate → Adds out done all separate e
+pub adds : (out : List ℕ) (done rest all : List Entry) (separate : Bool) (e : Entry) → all ≡ done ++ e ∷ rest → out ≡ canonical done → last_gap done
+    ≡ separator_if separate → Adds out done all separate e
 adds out done rest all separate e all_is out_is gap_is =
     record {
       canonical_text = rw (out_is, ← gap_is) (sym (canonical-push done e));
-      size = omega (arith, length-append (out ++ separator_if separate) (e.ai ++ e.value), length-append out (separator_if separate), length-append e.ai e.value);
-      below = subst (λ (es : List Entry). length (canonical (done ++ e ∷ [])) ≤ length (canonical es)) (append_assoc done (e ∷ []) rest ∙ sym all_is) (canonical_grows (done ++ e ∷ []) rest);
+      size = omega (
+        arith,
+        length-append (out ++ separator_if separate) (e.ai ++ e.value),
+        length-append out (separator_if separate),
+        length-append e.ai
+            e.value,
+      );
+      below = subst (λ (es : List Entry). length (canonical (done ++ e ∷ [])) ≤ length (canonical es)) (append_assoc done (e ∷ []) rest ∙ sym all_is)
+          (canonical_grows (done ++ e ∷ []) rest);
     }
 
-pub too_long : (year : ℕ) (all : List Entry) → 0 < length all → entries_fault year 0 all ≡ None → 192 < length (canonical all) → list_fault year all ≡ Some TooLong
+pub too_long : (year : ℕ) (all : List Entry) → 0 < length all → entries_fault year 0 all ≡ None → 192 < length (canonical all) → list_fault year all
+    ≡ Some TooLong
 too_long year all some none long =
     let ne : length all ≡ 0 → ⊥ = λ e. omega arith in
     rw (ne_eqb (length all) 0 ne, none, lt-ltb 192 (length (canonical all)) long) refl
@@ -80,18 +104,28 @@ fits year all some none short =
     rw (ne_eqb (length all) 0 ne, none, le-ltb 192 (length (canonical all)) short) refl
 
 -- the entry at an index, between those before and after it
-pub entries_split : (pairs : List Pair) (i : ℕ) (pair : Pair) → i < length pairs → pair ≡ get_or pairs i pair → entries_of pairs ≡ entries_of (take i pairs) ++ entry_of pair ∷ entries_of (drop (i + 1) pairs)
+pub entries_split : (pairs : List Pair) (i : ℕ) (pair : Pair) → i < length pairs → pair ≡ get_or pairs i pair → entries_of pairs ≡ entries_of (take i pairs)
+    ++ entry_of pair ∷ entries_of (drop (i + 1) pairs)
 entries_split pairs i pair lt is =
-    let parts : pairs ≡ take i pairs ++ pair ∷ drop (i + 1) pairs = sym (take-append-drop i pairs) ∙ ap (λ (ps : List Pair). take i pairs ++ ps) (drop_more pairs i pair lt ∙ ap (λ (p : Pair). p ∷ drop (i + 1) pairs) (sym is)) in
+    let parts : pairs ≡ take i pairs ++ pair ∷ drop (i + 1) pairs =
+    sym (take-append-drop i pairs) ∙ ap (λ (ps : List Pair). take i pairs ++ ps)
+    (drop_more pairs i pair lt ∙ ap (λ (p : Pair). p ∷ drop (i + 1) pairs) (sym is)) in
     ap entries_of parts ∙ map-append entry_of (take i pairs) (pair ∷ drop (i + 1) pairs)
 
-pub entries_more : (pairs : List Pair) (i : ℕ) (pair : Pair) → i < length pairs → pair ≡ get_or pairs i pair → entries_of (take (i + 1) pairs) ≡ entries_of (take i pairs) ++ entry_of pair ∷ []
+pub entries_more : (pairs : List Pair) (i : ℕ) (pair : Pair) → i < length pairs → pair ≡ get_or pairs i pair → entries_of (take (i + 1) pairs)
+    ≡ entries_of (take i pairs) ++ entry_of pair ∷ []
 entries_more pairs i pair lt is =
     ap entries_of (take_more pairs i pair lt ∙ ap (λ (p : Pair). take i pairs ++ p ∷ []) (sym is)) ∙ map-append entry_of (take i pairs) (pair ∷ [])
 
 -- the canonical text of elements is their element string
-pub finished : (year : ℕ) (out : List ℕ) (es all : List Entry) → AreElements year all → es ≡ all → out ≡ canonical es → 0 < length all → length out ≤ 192 → IsElements year out es
+pub finished : (year : ℕ) (out : List ℕ) (es all : List Entry) → AreElements year all → es ≡ all → out ≡ canonical es → 0 < length all → length out ≤ 192
+    → IsElements year out es
 finished year out es all are is out_is some short =
     let these = subst (AreElements year) (sym is) are in
     let few = few_elements year es these in
-    record { some = omega (arith, ap length is, ap length out_is, few); fits = short; reads = subst (λ (t : List ℕ). ReadsElements ai_rows year t es []) (sym out_is) (to_pieces year (canonical es) es [] (canonical_reads year es these)) }
+    record {
+      some = omega (arith, ap length is, ap length out_is, few);
+      fits = short;
+      reads =
+          subst (λ (t : List ℕ). ReadsElements ai_rows year t es []) (sym out_is) (to_pieces year (canonical es) es [] (canonical_reads year es these));
+    }

@@ -19,10 +19,24 @@ pairs_text-cons e (f ∷ es) = ap (λ (t : List ℕ). pair_text e ++ (9 ∷ t)) 
 pairs_length : (e : Entry) (es : List Entry) → length (pairs_text (e ∷ es)) + 1 ≤ length (canonical (e ∷ es)) + 2 * length (e ∷ es)
 pairs_length e [] = omega (arith, length-append e.ai (61 ∷ e.value), length-append e.ai e.value)
 pairs_length e (f ∷ es) =
-    omega (arith, pairs_length f es, length-append (pair_text e) (9 ∷ pairs_text (f ∷ es)), length-append e.ai (61 ∷ e.value), length-append e.ai e.value, length-append (e.ai ++ e.value) (separator_for e), length-append (e.ai ++ e.value ++ separator_for e) (canonical (f ∷ es)))
+    omega (
+      arith,
+      pairs_length f es,
+      length-append (pair_text e) (9 ∷ pairs_text (f ∷ es)),
+      length-append e.ai (61 ∷ e.value),
+      length-append e.ai e.value,
+      length-append (e.ai ++ e.value) (separator_for e),
+      length-append (e.ai ++ e.value ++ separator_for e) (canonical (f ∷ es)),
+    )
 
 pub pairs_fit : (year : ℕ) (text : List ℕ) (es : List Entry) → IsElements year text es → text ≡ canonical es → length (pairs_text es) ≤ 288
 pairs_fit year text [] is text_is = omega arith
 pairs_fit year text (e ∷ es) is text_is =
     let fits = is.fits in
-    omega (arith, pairs_length e es, few_elements year (e ∷ es) (elements_are year text (e ∷ es) [] (from_left year text (e ∷ es) [] is.reads)), ap length text_is)
+    omega (
+      arith,
+      pairs_length e es,
+      few_elements year (e ∷ es) (elements_are year text (e ∷ es) [] (from_left year text (e ∷ es) [] is.reads)),
+      ap length
+          text_is,
+    )

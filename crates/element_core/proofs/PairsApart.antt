@@ -85,11 +85,24 @@ same_ends v w (d ∷ es) (f ∷ fs) p q e =
 
 same_lists : (es fs : List Entry) → AllByRecursion IsApart es → AllByRecursion IsApart fs → pairs_text es ≡ pairs_text fs → es ≡ fs
 same_lists [] [] p q e = refl
-same_lists [] (f ∷ fs) p q e = absurd (omega (arith, ap length (e ∙ pairs_text-cons f fs), length-append (pair_text f) (more_pairs fs), length-append f.ai (61 ∷ f.value)))
-same_lists (d ∷ es) [] p q e = absurd (omega (arith, ap length (sym e ∙ pairs_text-cons d es), length-append (pair_text d) (more_pairs es), length-append d.ai (61 ∷ d.value)))
+same_lists [] (f ∷ fs) p q e = absurd (omega (
+  arith,
+  ap length (e ∙ pairs_text-cons f fs),
+  length-append (pair_text f) (more_pairs fs),
+  length-append f.ai
+      (61 ∷ f.value),
+))
+same_lists (d ∷ es) [] p q e = absurd (omega (
+  arith,
+  ap length (sym e ∙ pairs_text-cons d es),
+  length-append (pair_text d) (more_pairs es),
+  length-append d.ai
+      (61 ∷ d.value),
+))
 same_lists (d ∷ es) (f ∷ fs) p q e =
     let left : d.ai ++ (61 ∷ (d.value ++ more_pairs es)) ≡ f.ai ++ (61 ∷ (f.value ++ more_pairs fs)) =
-    sym (append_assoc d.ai (61 ∷ d.value) (more_pairs es)) ∙ sym (pairs_text-cons d es) ∙ e ∙ pairs_text-cons f fs ∙ append_assoc f.ai (61 ∷ f.value) (more_pairs fs) in
+    sym (append_assoc d.ai (61 ∷ d.value) (more_pairs es)) ∙ sym (pairs_text-cons d es) ∙ e ∙ pairs_text-cons f fs
+    ∙ append_assoc f.ai (61 ∷ f.value) (more_pairs fs) in
     let ais = split_once 61 d.ai (d.value ++ more_pairs es) f.ai (f.value ++ more_pairs fs) p.0.ai q.0.ai left in
     let ends = same_ends d.value f.value es fs p.0.value q.0.value ais.1 in
     let first = same_element d f ais.0 ends.0 in

@@ -46,18 +46,21 @@ to_pieces year text (e ∷ es) rest r =
     let more = to_pieces year r.0 es rest r.2 in
     let p : Piece = record { element = e; separated = begins_with_separator b.after } in
     let left : after_separator b.after ≡ joined more.pieces ++ rest = sym b.rest_is ∙ more.text_is in
-    let after : b.after ≡ separator (begins_with_separator b.after) ++ (joined more.pieces ++ rest) = parted b.after ∙ ap (λ (t : List ℕ). separator (begins_with_separator b.after) ++ t) left in
+    let after : b.after ≡ separator (begins_with_separator b.after) ++ (joined more.pieces ++ rest) =
+    parted b.after ∙ ap (λ (t : List ℕ). separator (begins_with_separator b.after) ++ t) left in
     let first : IsPiece ai_rows year p (joined more.pieces ++ rest) = record {
       row = b.row;
       element = b.element;
-      ends = subst (λ (t : List ℕ). (b.row.predefined || (begins_with_separator b.after || is_empty t)) ≡ true) left (ends_there b.row.predefined b.after b.closed);
+      ends = subst (λ (t : List ℕ). (b.row.predefined || (begins_with_separator b.after || is_empty t)) ≡ true) left
+          (ends_there b.row.predefined b.after b.closed);
       own = subst (λ (t : List ℕ). (begins_with_separator b.after || not (begins_with_separator t)) ≡ true) left (own_there b.after);
     } in
     record {
       pieces = p ∷ more.pieces;
       elements = ap (λ (fs : List Entry). e ∷ fs) more.elements;
       pieces_are = (first, more.pieces_are);
-      text_is = b.text_is ∙ ap (λ (t : List ℕ). e.ai ++ e.value ++ t) after ∙ regroup e.ai e.value (separator (begins_with_separator b.after)) (joined more.pieces) rest;
+      text_is = b.text_is ∙ ap (λ (t : List ℕ). e.ai ++ e.value ++ t) after
+          ∙ regroup e.ai e.value (separator (begins_with_separator b.after)) (joined more.pieces) rest;
     }
 
 kept : (text : List ℕ) → not (begins_with_separator text) ≡ true → text ≡ after_separator text
@@ -74,13 +77,26 @@ closed_by : (p separated : Bool) (left : List ℕ) → (p || (separated || is_em
 closed_by p true left h own = (or_last p, refl)
 closed_by p false left h own = (ended p left h, kept left own)
 
-from_pieces : (year : ℕ) (pieces : List Piece) (rest : List ℕ) → ArePieces ai_rows year pieces rest → ReadsFromLeft year (joined pieces ++ rest) (map (λ p. p.element) pieces) rest
+from_pieces : (year : ℕ) (pieces : List Piece) (rest : List ℕ) → ArePieces ai_rows year pieces rest
+    → ReadsFromLeft year (joined pieces ++ rest) (map (λ p. p.element) pieces) rest
 from_pieces year [] rest are = refl
 from_pieces year (p ∷ pieces) rest are =
     let left = joined pieces ++ rest in
     let q = are.0 in
-    let c = closed_by q.row.predefined p.separated left q.ends q.own in
-    (left, record { row = q.row; element = q.element; after = separator p.separated ++ left; text_is = sym (regroup p.element.ai p.element.value (separator p.separated) (joined pieces) rest); closed = c.0; rest_is = c.1 }, from_pieces year pieces rest are.1)
+    let c = closed_by q.row.predefined p.separated left q.ends q.own in (
+      left,
+      record {
+        row = q.row;
+        element = q.element;
+        after = separator p.separated ++ left;
+        text_is =
+            sym (regroup p.element.ai p.element.value (separator p.separated) (joined pieces) rest);
+        closed = c.0;
+        rest_is = c.1;
+      },
+      from_pieces year pieces rest
+          are.1,
+    )
 
 -- what joined pieces are is read from the left
 pub from_left : (year : ℕ) (text : List ℕ) (es : List Entry) (rest : List ℕ) → ReadsElements ai_rows year text es rest → ReadsFromLeft year text es rest

@@ -54,38 +54,53 @@ pub shows : (year : ℕ) (e : Entry) (text rest : List ℕ) → Begins year e te
 shows year e text rest b =
     let row = b.row in
     let ends = b.closed in
-    let parts : text ≡ row.ai ++ (e.value ++ b.after) = b.text_is ∙ append_assoc e.ai e.value b.after ∙ ap (λ (a : List ℕ). a ++ (e.value ++ b.after)) b.element.ai in
+    let parts : text ≡ row.ai ++ (e.value ++ b.after) = b.text_is ∙ append_assoc e.ai e.value b.after
+    ∙ ap (λ (a : List ℕ). a ++ (e.value ++ b.after)) b.element.ai in
     let left : drop (length row.ai) text ≡ e.value ++ b.after = ap (drop (length row.ai)) parts ∙ drop_at row.ai (e.value ++ b.after) (length row.ai) refl in
     let row_is : row_at text ≡ Some row = row_found row text b.element.listed (ap (begins row.ai) parts ∙ begins-append row.ai (e.value ++ b.after)) in
     let fits = b.element.value in
-    let value_is : shown_value row text ≡ e.value = ap (λ (t : List ℕ). value_in row (field_of t)) left ∙ value_in_field row e.value b.after (predefined_length_is row b.element.listed) fits.least fits.greatest (value_plain row.parts e.value fits.greatest fits.characters) ends in
-    let after_is : drop (length (shown_value row text)) (drop (length row.ai) text) ≡ b.after = ap (λ (v : List ℕ). drop (length v) (drop (length row.ai) text)) value_is ∙ ap (drop (length e.value)) left ∙ drop_at e.value b.after (length e.value) refl in
+    let value_is : shown_value row text ≡ e.value = ap (λ (t : List ℕ). value_in row (field_of t)) left
+    ∙ value_in_field row e.value b.after (predefined_length_is row b.element.listed) fits.least fits.greatest
+    (value_plain row.parts e.value fits.greatest fits.characters) ends in
+    let after_is : drop (length (shown_value row text)) (drop (length row.ai) text) ≡ b.after =
+    ap (λ (v : List ℕ). drop (length v) (drop (length row.ai) text)) value_is ∙ ap (drop (length e.value)) left
+    ∙ drop_at e.value b.after (length e.value) refl in
     record {
       row = row;
       row_is = row_is;
       ai_is = b.element.ai;
       value_is = sym value_is;
       rest_is = b.rest_is ∙ ap after_separator (sym after_is);
-      no_fault = λ place. ap (fault_by year place text) row_is ∙ ap (row_fault year place (MissingSeparator place) row.parts) value_is ∙ fits_no_fault year place (MissingSeparator place) row e.value fits;
+      no_fault = λ place. ap (fault_by year place text) row_is ∙ ap (row_fault year place (MissingSeparator place) row.parts) value_is
+          ∙ fits_no_fault year place (MissingSeparator place) row e.value fits;
     }
 
 -- a value that is shown stands at the front of what follows the AI
 value_splits : (row : Row) (text : List ℕ) → (after : List ℕ) × (text ≡ value_in row (field_of text) ++ after) × ((row.predefined || ends_element after) ≡ true)
 value_splits row text =
     let f = field_splits text in
-    elim row.predefined as (λ p. (after : List ℕ) × (text ≡ cond p (take (greatest_of row.parts) (field_of text)) (field_of text) ++ after) × ((p || ends_element after) ≡ true)) [
-      | true ↦ (drop (greatest_of row.parts) (field_of text) ++ f.0, f.1 ∙ ap (λ (w : List ℕ). w ++ f.0) (sym (take-append-drop (greatest_of row.parts) (field_of text))) ∙ append_assoc (take (greatest_of row.parts) (field_of text)) (drop (greatest_of row.parts) (field_of text)) f.0, refl)
+    elim row.predefined as (λ p. (after : List ℕ) × (text ≡ cond p (take (greatest_of row.parts) (field_of text)) (field_of text) ++ after)
+    × ((p || ends_element after) ≡ true)) [
+      | true ↦ (
+        drop (greatest_of row.parts) (field_of text) ++ f.0,
+        f.1
+            ∙ ap (λ (w : List ℕ). w ++ f.0) (sym (take-append-drop (greatest_of row.parts) (field_of text)))
+            ∙ append_assoc (take (greatest_of row.parts) (field_of text)) (drop (greatest_of row.parts) (field_of text)) f.0,
+        refl,
+      )
       | false ↦ (f.0, f.1, f.2)
     ]
 
 -- a text without a fault at its front begins with what it shows
-pub stands : (year place : ℕ) (row : Row) (text : List ℕ) → row_at text ≡ Some row → fault_at year place text ≡ None → Begins year (record { ai = row.ai; value = shown_value row text }) text (shown_rest row text)
+pub stands : (year place : ℕ) (row : Row) (text : List ℕ) → row_at text ≡ Some row → fault_at year place text ≡ None
+    → Begins year (record { ai = row.ai; value = shown_value row text }) text (shown_rest row text)
 stands year place row text found none =
     let r = row_listed row text found in
     let tail = drop (length row.ai) text in
     let s = value_splits row tail in
     let fits = no_fault_fits year place (MissingSeparator place) row (shown_value row text) (sym (ap (fault_by year place text) found) ∙ none) in
-    let after_is : drop (length (shown_value row text)) tail ≡ s.0 = ap (drop (length (shown_value row text))) s.1 ∙ drop_at (shown_value row text) s.0 (length (shown_value row text)) refl in
+    let after_is : drop (length (shown_value row text)) tail ≡ s.0 =
+    ap (drop (length (shown_value row text))) s.1 ∙ drop_at (shown_value row text) s.0 (length (shown_value row text)) refl in
     record {
       row = row;
       element = record { listed = r.0; ai = refl; value = fits };
@@ -120,17 +135,22 @@ shown_as n row text ai tail value rest within row_ai ai_is tail_is value_is rest
     record {
       ai_is = ai_is ∙ sym row_ai;
       value_is = shown;
-      rest_is = rest_is ∙ ap (λ (v : List ℕ). after_separator (drop (length v) tail)) shown ∙ ap (λ (t : List ℕ). after_separator (drop (length (shown_value row text)) t)) left;
+      rest_is = rest_is ∙ ap (λ (v : List ℕ). after_separator (drop (length v) tail)) shown
+          ∙ ap (λ (t : List ℕ). after_separator (drop (length (shown_value row text)) t)) left;
     }
 
-moved : (year : ℕ) (text a b v w r t : List ℕ) → a ≡ b → v ≡ w → r ≡ t → Begins year (record { ai = a; value = v }) text r → Begins year (record { ai = b; value = w }) text t
+moved : (year : ℕ) (text a b v w r t : List ℕ) → a ≡ b → v ≡ w → r ≡ t → Begins year (record { ai = a; value = v }) text r
+    → Begins year (record { ai = b; value = w }) text t
 moved year text a b v w r t p q e x =
     subst (λ (z : List ℕ). Begins year (record { ai = b; value = w }) text z) e
     (subst (λ (z : List ℕ). Begins year (record { ai = b; value = z }) text r) q
     (subst (λ (z : List ℕ). Begins year (record { ai = z; value = v }) text r) p x))
 
 -- what it shows begins it, where the value has no fault
-pub stands_as : (year place : ℕ) (row : Row) (text ai value rest : List ℕ) → row_at text ≡ Some row → IsShown row text ai value rest → row_fault year place (MissingSeparator place) row.parts value ≡ None → Begins year (record { ai = ai; value = value }) text rest
+pub stands_as : (year place : ℕ) (row : Row) (text ai value rest : List ℕ) → row_at text ≡ Some row → IsShown row text ai value rest
+    → row_fault year place (MissingSeparator place) row.parts value ≡ None → Begins year (record { ai = ai; value = value }) text rest
 stands_as year place row text ai value rest found is none =
-    let no_fault : fault_at year place text ≡ None = ap (fault_by year place text) found ∙ ap (row_fault year place (MissingSeparator place) row.parts) (sym is.value_is) ∙ none in
-    moved year text row.ai ai (shown_value row text) value (shown_rest row text) rest (sym is.ai_is) (sym is.value_is) (sym is.rest_is) (stands year place row text found no_fault)
+    let no_fault : fault_at year place text ≡ None = ap (fault_by year place text) found
+    ∙ ap (row_fault year place (MissingSeparator place) row.parts) (sym is.value_is) ∙ none in
+    moved year text row.ai ai (shown_value row text) value (shown_rest row text) rest (sym is.ai_is) (sym is.value_is) (sym is.rest_is)
+    (stands year place row text found no_fault)

@@ -15,7 +15,8 @@ exact_day-other text reference other =
       | inr not_zero ↦ rw (not_zero, day_of-other text reference other) refl
     ]
 
-pub exact_day-six : (text : List ℕ) (reference : ℕ) → is_six_digits text ≡ true → eqb (two text 4) 0 ≡ false → exact_day_of text reference ≡ day_named text reference
+pub exact_day-six : (text : List ℕ) (reference : ℕ) → is_six_digits text ≡ true → eqb (two text 4) 0 ≡ false → exact_day_of text reference
+    ≡ day_named text reference
 exact_day-six text reference six not_zero = ap (λ (b : Bool). cond b None (day_of text reference)) not_zero ∙ day_of-six text reference six
 
 pub time_of-text : (text : List ℕ) → is_time_text text ≡ true → time_of text ≡ time_in (two_or_zero text 0) (two_or_zero text 2) (two_or_zero text 4)

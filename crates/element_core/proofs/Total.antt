@@ -45,17 +45,40 @@ reads_to (suc n) year whole text lt =
       ]
     ]
 
-at_size : (year : ℕ) (text : List ℕ) (f : ElementFault) (o : Option ElementFault) → size_fault text ≡ o → MatchOption o (StopsWith year text f) (λ g. f ≡ g) → FirstFault year text f
+at_size : (year : ℕ) (text : List ℕ) (f : ElementFault) (o : Option ElementFault) → size_fault text ≡ o → MatchOption o (StopsWith year text f) (λ g. f ≡ g)
+    → FirstFault year text f
 at_size year text f o e h = subst (λ (p : Option ElementFault). MatchOption p (StopsWith year text f) (λ g. f ≡ g)) (sym e) h
 
-answer : (year : ℕ) (text : List ℕ) → 0 < length text → length text ≤ 192 → ReadsTo year (length text) text → ((es : List Entry) × IsElements year text es) ⊎ ((f : ElementFault) × FirstFault year text f)
+answer : (year : ℕ) (text : List ℕ) → 0 < length text → length text ≤ 192 → ReadsTo year (length text) text → ((es : List Entry) × IsElements year text es)
+    ⊎ ((f : ElementFault) × FirstFault year text f)
 answer year text some fits r =
     elim r.ends [
-      | inl none ↦ inl (r.es, record { some = some; fits = fits; reads = to_pieces year text r.es [] (subst (λ (t : List ℕ). ReadsFromLeft year text r.es t) (nil_from_length r.rest none) r.reads) })
+      | inl none ↦ inl (
+        r.es,
+        record {
+          some = some;
+          fits = fits;
+          reads =
+              to_pieces year text r.es [] (subst (λ (t : List ℕ). ReadsFromLeft year text r.es t) (nil_from_length r.rest none) r.reads);
+        },
+      )
       | inr f ↦
           let short = canonical_shorter year text r.es r.rest r.reads in
           let place_is : length text - length r.rest + length r.rest ≡ length text = omega arith in
-          inr (f.1.0, at_size year text f.1.0 None (right_size text some fits) (record { before = r.es; rest = r.rest; reads = to_pieces year text r.es r.rest r.reads; some = f.0; place = length text - length r.rest; place_is = place_is; fault = f.1.1 }))
+          inr (
+            f.1.0,
+            at_size year text f.1.0 None (right_size text some fits)
+                (record {
+                  before = r.es;
+                  rest = r.rest;
+                  reads = to_pieces year text r.es r.rest r.reads;
+                  some = f.0;
+                  place =
+                      length text - length r.rest;
+                  place_is = place_is;
+                  fault = f.1.1;
+                }),
+          )
     ]
 
 pub each_text : EachText

@@ -42,7 +42,8 @@ pub not_stuck : (year : ℕ) (e : Entry) (text rest : List ℕ) → Begins year 
 not_stuck year e text rest b s = let n = (shows year e text rest b).no_fault s.place in let f = s.fault in cc
 
 -- two readings up to where nothing begins are one
-pub reads_once : (year : ℕ) (text : List ℕ) (es fs : List Entry) (rest more : List ℕ) → ReadsFromLeft year text es rest → ReadsFromLeft year text fs more → IsStuck year rest → IsStuck year more → (es ≡ fs) × (rest ≡ more)
+pub reads_once : (year : ℕ) (text : List ℕ) (es fs : List Entry) (rest more : List ℕ) → ReadsFromLeft year text es rest → ReadsFromLeft year text fs more
+    → IsStuck year rest → IsStuck year more → (es ≡ fs) × (rest ≡ more)
 reads_once year text [] [] rest more p q s t = (refl, sym p ∙ q)
 reads_once year text [] (f ∷ fs) rest more p q s t = absurd (not_stuck year f text q.0 q.1 (subst (IsStuck year) (sym p) s))
 reads_once year text (e ∷ es) [] rest more p q s t = absurd (not_stuck year e text p.0 p.1 (subst (IsStuck year) (sym q) t))
@@ -62,13 +63,15 @@ same_fault f g e = cc
 
 stops_once : (year : ℕ) (text : List ℕ) (f g : ElementFault) → StopsWith year text f → StopsWith year text g → f ≡ g
 stops_once year text f g s t =
-    let same = reads_once year text s.before t.before s.rest t.rest (from_left year text s.before s.rest s.reads) (from_left year text t.before t.rest t.reads) (stuck year text f s) (stuck year text g t) in
+    let same = reads_once year text s.before t.before s.rest t.rest (from_left year text s.before s.rest s.reads) (from_left year text t.before t.rest t.reads)
+    (stuck year text f s) (stuck year text g t) in
     let sp = s.place_is in
     let tp = t.place_is in
     let places : s.place ≡ t.place = omega (arith, ap length same.1) in
     same_fault f g (sym s.fault ∙ ap (λ (p : ℕ). fault_at year p s.rest) places ∙ ap (fault_at year t.place) same.1 ∙ t.fault)
 
-faults_once : (year : ℕ) (text : List ℕ) (f g : ElementFault) (size : Option ElementFault) → MatchOption size (StopsWith year text f) (λ h. f ≡ h) → MatchOption size (StopsWith year text g) (λ h. g ≡ h) → f ≡ g
+faults_once : (year : ℕ) (text : List ℕ) (f g : ElementFault) (size : Option ElementFault) → MatchOption size (StopsWith year text f) (λ h. f ≡ h)
+    → MatchOption size (StopsWith year text g) (λ h. g ≡ h) → f ≡ g
 faults_once year text f g None s t = stops_once year text f g s t
 faults_once year text f g (Some h) s t = s ∙ sym t
 
@@ -80,22 +83,26 @@ right_size text some fits =
 not_both : (year : ℕ) (text : List ℕ) (es : List Entry) (f : ElementFault) → IsElements year text es → FirstFault year text f → ⊥
 not_both year text es f is fault =
     let s = subst (λ (o : Option ElementFault). MatchOption o (StopsWith year text f) (λ g. f ≡ g)) (right_size text is.some is.fits) fault in
-    let same = reads_once year text es s.before [] s.rest (from_left year text es [] is.reads) (from_left year text s.before s.rest s.reads) (stuck_at_end year) (stuck year text f s) in
+    let same = reads_once year text es s.before [] s.rest (from_left year text es [] is.reads) (from_left year text s.before s.rest s.reads) (stuck_at_end year)
+    (stuck year text f s) in
     let some = s.some in
     omega (arith, ap length same.1)
 
 pub one_answer : OneListOrFault
 one_answer = λ year text. (
-  λ es fs p q. (reads_once year text es fs [] [] (from_left year text es [] p.reads) (from_left year text fs [] q.reads) (stuck_at_end year) (stuck_at_end year)).0,
+  λ es fs p q. (reads_once year text es fs [] [] (from_left year text es [] p.reads) (from_left year text fs [] q.reads) (stuck_at_end year)
+      (stuck_at_end year)).0,
   λ f g p q. faults_once year text f g (size_fault text) p q,
   λ es f p q. not_both year text es f p q,
 )
 
 -- what a reader gave is the one answer
-pub only_list : (year : ℕ) (text : List ℕ) (r : Result Listing ElementFault) → IfOk r (λ es. (es.year ≡ year) × IsElements year text es.list) → IfErr r (λ f. FirstFault year text f) → (list : List Entry) → IsElements year text list → IfOk r (λ es. es.list ≡ list) × IsOk r
+pub only_list : (year : ℕ) (text : List ℕ) (r : Result Listing ElementFault) → IfOk r (λ es. (es.year ≡ year) × IsElements year text es.list)
+    → IfErr r (λ f. FirstFault year text f) → (list : List Entry) → IsElements year text list → IfOk r (λ es. es.list ≡ list) × IsOk r
 only_list year text (Ok es) ok err list is = ((one_answer year text).0 es.list list ok.1 is, refl)
 only_list year text (Err f) ok err list is = absurd ((one_answer year text).2 list f is err)
 
-pub only_fault : (year : ℕ) (text : List ℕ) (r : Result Listing ElementFault) → IfOk r (λ es. (es.year ≡ year) × IsElements year text es.list) → IfErr r (λ f. FirstFault year text f) → (f : ElementFault) → FirstFault year text f → r ≡ Err f
+pub only_fault : (year : ℕ) (text : List ℕ) (r : Result Listing ElementFault) → IfOk r (λ es. (es.year ≡ year) × IsElements year text es.list)
+    → IfErr r (λ f. FirstFault year text f) → (f : ElementFault) → FirstFault year text f → r ≡ Err f
 only_fault year text (Ok es) ok err f fault = absurd ((one_answer year text).2 es.list f ok.1 fault)
 only_fault year text (Err g) ok err f fault = ap (λ (h : ElementFault). Err h) ((one_answer year text).1 g f err fault)

@@ -52,7 +52,8 @@ fitting-all room (line ∷ lines) fits =
     rw (le-leb (length line) room (omega arith)) (ap (λ (t : List ℕ). line ++ t) (fitting-all (room - length line) lines (omega arith)))
 
 -- a line for which there is no room behind the others changes nothing
-fitting-over : (room : ℕ) (lines : List (List ℕ)) (line : List ℕ) → room < length (all_of lines) + length line → fitting room (lines ++ line ∷ []) ≡ fitting room lines
+fitting-over : (room : ℕ) (lines : List (List ℕ)) (line : List ℕ) → room < length (all_of lines) + length line → fitting room (lines ++ line ∷ [])
+    ≡ fitting room lines
 fitting-over room [] line over = rw (lt-leb (length line) room (omega arith)) refl
 fitting-over room (first ∷ lines) line over =
     let long = length-append first (all_of lines) in
@@ -73,7 +74,8 @@ one_line old now next lines line before long put unchanged =
       | inr room ↦
           let all : fitting (length old) lines ≡ all_of lines = fitting-all (length old) lines (omega arith) in
           let more : fitting (length old) (lines ++ line ∷ []) ≡ all_of lines ++ line =
-          fitting-all (length old) (lines ++ line ∷ []) (omega (arith, ap length (all_of-push lines line), length-append (all_of lines) line)) ∙ all_of-push lines line in
+          fitting-all (length old) (lines ++ line ∷ []) (omega (arith, ap length (all_of-push lines line), length-append (all_of lines) line))
+          ∙ all_of-push lines line in
           let here : now ≡ pasted old 0 (all_of lines) = before ∙ ap (pasted old 0) all in
           put (omega arith) ∙ ap (λ (t : List ℕ). pasted t (length (all_of lines)) line) here
           ∙ ap (λ k. pasted (pasted old 0 (all_of lines)) k line) (let e : length (all_of lines) ≡ 0 + length (all_of lines) = omega arith in e)

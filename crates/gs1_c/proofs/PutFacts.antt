@@ -24,7 +24,17 @@ two_words first second out room =
     let long : length front ≡ a = omega (arith, length-append first (32 ∷ [])) in
     let count : a + length second - a ≡ length second = omega arith in
     let whole : length (first ++ 32 ∷ second) ≡ a + length second = omega (arith, length-append first (32 ∷ second)) in
-    rw (spaced first out (omega arith), count, whole, take_at front rest a long, drop_at front rest a long, drop-drop (length second) a out, append_assoc first (32 ∷ []) (second ++ drop (a + length second) out), append_assoc first (32 ∷ second) (drop (a + length second) out)) refl
+    rw (
+      spaced first out (omega arith),
+      count,
+      whole,
+      take_at front rest a long,
+      drop_at front rest a long,
+      drop-drop (length second) a out,
+      append_assoc first
+          (32 ∷ []) (second ++ drop (a + length second) out),
+      append_assoc first (32 ∷ second) (drop (a + length second) out),
+    ) refl
 
 -- a word and a space before what is put behind them
 pub word_before : (first second out : List ℕ) → length first + 1 + length second ≤ length out

@@ -22,7 +22,8 @@ abbrev year : Range
 year = (codes "year", first_year, last_year)
 
 abbrev grid : List Range → List Range
-grid more = (codes "module", 1, most_dots) ∷ (codes "width", 1, most_width) ∷ (codes "height", 1, most_height) ∷ (codes "columns", 1, most_columns) ∷ (codes "rows", 1, most_grid_rows) ∷ more
+grid more = (codes "module", 1, most_dots) ∷ (codes "width", 1, most_width) ∷ (codes "height", 1, most_height) ∷ (codes "columns", 1, most_columns) ∷
+    (codes "rows", 1, most_grid_rows) ∷ more
 
 abbrev workers : Range
 workers = (codes "workers", 1, most_workers)
@@ -68,7 +69,19 @@ print_asked words p =
     let r = number (codes "rows") 1 most_grid_rows refl refl (given.1.1.1.1.0 refl) in
     let y = number (codes "year") first_year last_year refl refl (given.1.1.1.1.1.0 refl) in
     let t = flag_beside (codes "print") (codes "text") refl (grid (year ∷ [])) words p refl in (
-      asked.Print (record { grid = record { module_dots = m.0; width = w.0; height = h.0; columns = c.0; rows = r.0; numbers = (m.1.1, w.1.1, h.1.1, c.1.1, r.1.1) }; year = y.0; output = output_of t.0 }),
+      asked.Print (record {
+        grid = record {
+          module_dots = m.0;
+          width = w.0;
+          height = h.0;
+          columns = c.0;
+          rows = r.0;
+          numbers =
+              (m.1.1, w.1.1, h.1.1, c.1.1, r.1.1);
+        };
+        year = y.0;
+        output = output_of t.0;
+      }),
       (refl, ((m.1.0, w.1.0, h.1.0, c.1.0, r.1.0, (m.1.1, w.1.1, h.1.1, c.1.1, r.1.1)), y.1, output_given (rows_after print_rules [] words) t.0 t.1)),
     )
 
@@ -100,7 +113,20 @@ scan_asked words p =
     let r = number (codes "rows") 1 most_grid_rows refl (given.1.1.1.1.0 refl) in
     let k = number (codes "workers") 1 most_workers refl (given.1.1.1.1.1.0 refl) in
     let y = number (codes "year") first_year last_year refl (given.1.1.1.1.1.1.0 refl) in (
-      asked.Scan (record { grid = record { module_dots = m.0; width = w.0; height = h.0; columns = c.0; rows = r.0; numbers = (m.1.1, w.1.1, h.1.1, c.1.1, r.1.1) }; workers = k.0; year = y.0; some_workers = k.1.1 }),
+      asked.Scan (record {
+        grid = record {
+          module_dots = m.0;
+          width = w.0;
+          height = h.0;
+          columns = c.0;
+          rows = r.0;
+          numbers =
+              (m.1.1, w.1.1, h.1.1, c.1.1, r.1.1);
+        };
+        workers = k.0;
+        year = y.0;
+        some_workers = k.1.1;
+      }),
       (refl, ((m.1.0, w.1.0, h.1.0, c.1.0, r.1.0, (m.1.1, w.1.1, h.1.1, c.1.1, r.1.1)), k.1, y.1)),
     )
 

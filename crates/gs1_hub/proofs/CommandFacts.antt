@@ -34,7 +34,8 @@ records_cut means made output refuses text sent left rest before after h shows i
 
 -- images were taken, and a sink took a prefix of the report of the rows of their columns
 pub images_cut : (o : ScanOptions) (left rest before after : Option (List ℕ)) (sheets : List Bitmap) (feeds : List (List (List ℕ))) (text sent : List ℕ)
-    → IsGrid (cells_of o.grid) → ReadsBytes images_of left rest (Ok sheets) → IsAtEnd rest → have_size (cells_of o.grid) sheets ≡ true → AreColumns (cells_of o.grid) sheets feeds
+    → IsGrid (cells_of o.grid) → ReadsBytes images_of left rest (Ok sheets) → IsAtEnd rest → have_size (cells_of o.grid) sheets ≡ true
+    → AreColumns (cells_of o.grid) sheets feeds
     → IsReport o.year feeds text → sent ≡ text → TookFront before after sent → Wrote (scan_command o) TookFront left rest before after
 images_cut o left rest before after sheets feeds text sent grid read end size are report is sunk =
     (read.bytes, text, (read.consumed, end), (sheets, (grid, read.tells, size), feeds, are, report), subst (λ t. TookFront before after t) is sunk)
@@ -50,7 +51,8 @@ no_write : (f : AnswerFault) → of_answers f ≡ command.WriteFault → ⊥
 no_write answers.NoThread same = cc
 no_write answers.NoMemory same = cc
 
-told_by : {A : Type 0} (r : Result A CommandFault) (f : AnswerFault) (other : CommandFault) → IsErrAnd r (λ e. e ≡ of_answers f) → r ≡ Err other → of_answers f ≡ other
+told_by : {A : Type 0} (r : Result A CommandFault) (f : AnswerFault) (other : CommandFault) → IsErrAnd r (λ e. e ≡ of_answers f) → r ≡ Err other → of_answers f
+    ≡ other
 told_by (Ok x) f other told same = absurd told
 told_by (Err e) f other told same = let here : e ≡ other = cc in sym told ∙ here
 
@@ -73,7 +75,8 @@ rowless {V} f (v ∷ vs) all =
 
 -- ---- the rows of records that were not answered
 
-pub rows_unanswered : (lanes : ℕ) (left rest : Option (List ℕ)) (fault : RowsFault) → RefusesRows lanes left rest fault → RefusesLanes lanes left rest (of_rows fault)
+pub rows_unanswered : (lanes : ℕ) (left rest : Option (List ℕ)) (fault : RowsFault) → RefusesRows lanes left rest fault
+    → RefusesLanes lanes left rest (of_rows fault)
 rows_unanswered lanes left rest (rows.Records records.ReadFault) why = why
 rows_unanswered lanes left rest (rows.Records records.InputSize) why = why
 rows_unanswered lanes left rest (rows.Records (records.Record i f)) why = why
@@ -94,7 +97,8 @@ rows_read (rows.Records (records.Record i f)) same = cc
 rows_read (rows.Records records.NoMemory) same = cc
 rows_read rows.NoThread same = cc
 
-rows_told : {A : Type 0} (r : Result A CommandFault) (f : RowsFault) (other : CommandFault) → IsErrAnd r (λ e. e ≡ of_rows f) → r ≡ Err other → of_rows f ≡ other
+rows_told : {A : Type 0} (r : Result A CommandFault) (f : RowsFault) (other : CommandFault) → IsErrAnd r (λ e. e ≡ of_rows f) → r ≡ Err other → of_rows f
+    ≡ other
 rows_told (Ok x) f other told same = absurd told
 rows_told (Err e) f other told same = let here : e ≡ other = cc in sym told ∙ here
 
@@ -103,10 +107,12 @@ pub rows_not_cut : {A : Type 0} (r : Result A CommandFault) (f : RowsFault) → 
 rows_not_cut r f told same = rows_no_write f (rows_told r f command.WriteFault told same)
 
 -- and a read only where that is told
-pub rows_not_read : {A : Type 0} (r : Result A CommandFault) (f : RowsFault) → IsErrAnd r (λ e. e ≡ of_rows f) → r ≡ Err command.ReadFault → f ≡ rows.Records records.ReadFault
+pub rows_not_read : {A : Type 0} (r : Result A CommandFault) (f : RowsFault) → IsErrAnd r (λ e. e ≡ of_rows f) → r ≡ Err command.ReadFault → f
+    ≡ rows.Records records.ReadFault
 rows_not_read r f told same = rows_read f (rows_told r f command.ReadFault told same)
 
-pub read_told : {A : Type 0} (r : Result A CommandFault) (f : RowsFault) → IsErrAnd r (λ e. e ≡ of_rows f) → f ≡ rows.Records records.ReadFault → r ≡ Err command.ReadFault
+pub read_told : {A : Type 0} (r : Result A CommandFault) (f : RowsFault) → IsErrAnd r (λ e. e ≡ of_rows f) → f ≡ rows.Records records.ReadFault → r
+    ≡ Err command.ReadFault
 read_told (Ok x) f told is = absurd told
 read_told (Err e) f told is = ap (λ x. Err x) (told ∙ ap of_rows is)
 
@@ -115,7 +121,8 @@ no_dots : (rows : List (List ℕ)) → HaveDots rows [] → rows ≡ []
 no_dots [] are = refl
 no_dots (row ∷ rows) are = absurd are
 
-no_column_rows : (show : ℕ → Bitmap → List (List Bool)) (columns : List ℕ) (feeds : List (List (List ℕ))) → AllZip (λ rows column. HaveDots rows (flat_map (show column) [])) feeds columns
+no_column_rows : (show : ℕ → Bitmap → List (List Bool)) (columns : List ℕ) (feeds : List (List (List ℕ)))
+    → AllZip (λ rows column. HaveDots rows (flat_map (show column) [])) feeds columns
     → All (λ feed. feed ≡ []) feeds
 no_column_rows show [] [] are = let P : List (List ℕ) → Type 0 = λ feed. feed ≡ [] in All-nil P
 no_column_rows show (column ∷ columns) [] are = absurd are
@@ -125,12 +132,15 @@ no_column_rows show (column ∷ columns) (rows ∷ feeds) are =
     All-cons P rows feeds (no_dots rows are.0) (no_column_rows show columns feeds are.1)
 
 -- the answers to the rows of the columns are refused
-pub images_unanswered : {V : Type 0} (f : V → List (List ℕ)) (o : ScanOptions) (sheets : List Bitmap) (feeds : List V) (left rest : Option (List ℕ)) (fault : AnswerFault)
+pub images_unanswered : {V : Type 0} (f : V → List (List ℕ)) (o : ScanOptions) (sheets : List Bitmap) (feeds : List V) (left rest : Option (List ℕ))
+    (fault : AnswerFault)
     → IsGrid (cells_of o.grid) → ReadsBytes images_of left rest (Ok sheets) → IsAtEnd rest → have_size (cells_of o.grid) sheets ≡ true
-    → AreColumns (cells_of o.grid) sheets (map f feeds) → (fault ≡ answers.NoThread → All (λ v. f v ≡ []) feeds → ⊥) → RefusesScan o left rest (of_answers fault)
+    → AreColumns (cells_of o.grid) sheets (map f feeds) → (fault ≡ answers.NoThread → All (λ v. f v ≡ []) feeds → ⊥)
+    → RefusesScan o left rest (of_answers fault)
 images_unanswered f o sheets feeds left rest answers.NoThread grid read end size are some =
     let g = cells_of o.grid in
-    let rowless_all = λ (none : sheets ≡ []). rowless f feeds (no_column_rows (column_dots g) (range_with_len 0 g.columns) (map f feeds) (subst (λ s. AreColumns g s (map f feeds)) none are)) in
+    let rowless_all = λ (none : sheets ≡ []). rowless f feeds
+    (no_column_rows (column_dots g) (range_with_len 0 g.columns) (map f feeds) (subst (λ s. AreColumns g s (map f feeds)) none are)) in
     (grid, (read.bytes, (read.consumed, end), sheets, (grid, read.tells, size), λ none. some refl (rowless_all none)))
 images_unanswered f o sheets feeds left rest answers.NoMemory grid read end size are some =
     (grid, record { bytes = read.bytes; consumed = read.consumed; tells = inr (sheets, read.tells) })

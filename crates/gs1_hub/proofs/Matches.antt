@@ -37,7 +37,8 @@ in_none None P p = p
 in_none (Some x) P p = tt
 
 -- and where there is nothing else either
-pub none_after : {T U : Type 0} (found : Option T) (result : Option U) (P Q : Type 0) → is_some result ≡ is_some found → IfNone found P → (P → Q) → IfNone result Q
+pub none_after : {T U : Type 0} (found : Option T) (result : Option U) (P Q : Type 0) → is_some result ≡ is_some found → IfNone found P → (P → Q)
+    → IfNone result Q
 none_after None None P Q same p so = so p
 none_after None (Some x) P Q same p so = tt
 none_after (Some y) None P Q same p so = cc same

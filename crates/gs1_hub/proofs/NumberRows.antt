@@ -37,7 +37,8 @@ at_end id change missing (r ∷ rs) e = go (bytes_eq r.id id) e (λ f. at_end id
     go true f later = cc f
     go false f later = ap (λ l. r ∷ l) (later f)
 
-added : (id : Text) (change : Row → List Row) (new : Row) (rows : List Row) → has_row id rows ≡ false → at_row id change (new ∷ []) (without id rows) ≡ rows ++ new ∷ []
+added : (id : Text) (change : Row → List Row) (new : Row) (rows : List Row) → has_row id rows ≡ false → at_row id change (new ∷ []) (without id rows) ≡ rows
+    ++ new ∷ []
 added id change new rows none =
     let same : without id rows ≡ rows = at_end id (λ _. []) [] rows none ∙ append-nil rows in
     ap (at_row id change (new ∷ [])) same ∙ at_end id change (new ∷ []) rows none
@@ -51,7 +52,8 @@ find_last p [] new r e = go (p new) refl e
     go false t f = cc f
 find_last p (x ∷ xs) new r e = go (p x) e (λ f. find_last p xs new r f)
   where
-    go : (b : Bool) → cond b (Some x) (find p (xs ++ new ∷ [])) ≡ Some r → (find p (xs ++ new ∷ []) ≡ Some r → (find p xs ≡ Some r) ⊎ ((p new ≡ true) × (new ≡ r)))
+    go : (b : Bool) → cond b (Some x) (find p (xs ++ new ∷ [])) ≡ Some r
+        → (find p (xs ++ new ∷ []) ≡ Some r → (find p xs ≡ Some r) ⊎ ((p new ≡ true) × (new ≡ r)))
         → (cond b (Some x) (find p xs) ≡ Some r) ⊎ ((p new ≡ true) × (new ≡ r))
     go true f later = inl f
     go false f later = later f
@@ -65,7 +67,8 @@ Holds id Good rows = (r : Row) → find (λ r. bytes_eq r.id id) rows ≡ Some r
 abbrev used_row : Rule → List Text → Row
 used_row a values = record { id = a.id; values = values; count = None; source = Some CommandLine; reading = reading_by a }
 
-pub one_more : (id : Text) (Good : Row → Type 0) (rows : List Row) (new : Row) → (bytes_eq new.id id ≡ true → Good new) → Holds id Good rows → Holds id Good (rows ++ new ∷ [])
+pub one_more : (id : Text) (Good : Row → Type 0) (rows : List Row) (new : Row) → (bytes_eq new.id id ≡ true → Good new) → Holds id Good rows
+    → Holds id Good (rows ++ new ∷ [])
 one_more id Good rows new good h r e = elim (find_last (λ r. bytes_eq r.id id) rows new r e) [
   | inl before ↦ h r before
   | inr here ↦ subst Good here.1 (good here.0)
@@ -81,8 +84,10 @@ not_twice id rows e = go (has_row id rows) refl e
 -- an argument with one value, or a flag: a use adds a row, whose values pass
 set_keeps : (a : Rule) (id : Text) (Good : Row → Type 0)
     → ((values : List Text) (rows : List Row) → action_fault (action_of a) false a values rows ≡ set_fault false a values rows)
-    → ((values : List Text) (rows : List Row) → used_as (action_of a) a.id (reading_by a) values rows ≡ with_values a.id (reading_by a) CommandLine values (without a.id rows))
-    → ((values : List Text) → bytes_eq a.id id ≡ true → range_kinds (unwrap_or_range a.range).start_inclusive (most_values a) (length values) ≡ [] → values_fault a (values_or_missing a values) ≡ [] → Good (used_row a (values_or_missing a values)))
+    → ((values : List Text) (rows : List Row) → used_as (action_of a) a.id (reading_by a) values rows
+    ≡ with_values a.id (reading_by a) CommandLine values (without a.id rows))
+    → ((values : List Text) → bytes_eq a.id id ≡ true → range_kinds (unwrap_or_range a.range).start_inclusive (most_values a) (length values) ≡ []
+    → values_fault a (values_or_missing a values) ≡ [] → Good (used_row a (values_or_missing a values)))
     → Keeps false (Holds id Good) a
 set_keeps a id Good faults uses good values rows e h =
     let given : List Text = values_or_missing a values in
@@ -170,11 +175,13 @@ accepted false e = cc e
 
 -- a use of an option gives a number of its range
 option_row : (name : Text) (least most : ℕ) (values : List Text) → 1 ≤ least → range_kinds 1 1 (length values) ≡ []
-    → values_fault (number name least most) (values_or_missing (number name least most) values) ≡ [] → GivesNumber least most (used_row (number name least most) (values_or_missing (number name least most) values))
+    → values_fault (number name least most) (values_or_missing (number name least most) values) ≡ []
+    → GivesNumber least most (used_row (number name least most) (values_or_missing (number name least most) values))
 option_row name least most values some range passed =
     let one = one_value values (one_count (length values) range) in
     let a : Rule = number name least most in
-    subst (λ (vs : List Text). values_fault a (values_or_missing a vs) ≡ [] → GivesNumber least most (used_row a (values_or_missing a vs))) (sym one.1) (gives one.0) passed
+    subst (λ (vs : List Text). values_fault a (values_or_missing a vs) ≡ [] → GivesNumber least most (used_row a (values_or_missing a vs))) (sym one.1)
+    (gives one.0) passed
   where
     gives : (v : Text) → values_fault (number name least most) (v ∷ []) ≡ [] → GivesNumber least most (used_row (number name least most) (v ∷ []))
     gives v e =
@@ -195,19 +202,22 @@ option_keeps_number other from to name least most some same =
 
 pub option_keeps_flag : (other : Text) (from to : ℕ) (name : Text) → bytes_eq other name ≡ false → Keeps false (Holds name GivesFlag) (number other from to)
 option_keeps_flag other from to name differs =
-    set_keeps (number other from to) name GivesFlag (λ values rows. refl) (λ values rows. refl) (λ values own range passed. absurd (let bad : false ≡ true = sym differs ∙ own in cc bad))
+    set_keeps (number other from to) name GivesFlag (λ values rows. refl) (λ values rows. refl)
+    (λ values own range passed. absurd (let bad : false ≡ true = sym differs ∙ own in cc bad))
 
 -- a flag
 pub flag_keeps_number : (other name : Text) (least most : ℕ) → bytes_eq other name ≡ false → Keeps false (Holds name (GivesNumber least most)) (flag other)
 flag_keeps_number other name least most differs =
-    set_keeps (flag other) name (GivesNumber least most) (λ values rows. refl) (λ values rows. refl) (λ values own range passed. absurd (let bad : false ≡ true = sym differs ∙ own in cc bad))
+    set_keeps (flag other) name (GivesNumber least most) (λ values rows. refl) (λ values rows. refl)
+    (λ values own range passed. absurd (let bad : false ≡ true = sym differs ∙ own in cc bad))
 
 flag_row : (name : Text) (values : List Text) → range_kinds 0 0 (length values) ≡ [] → GivesFlag (used_row (flag name) (values_or_missing (flag name) values))
 flag_row name [] range = (true, refl)
 flag_row name (v ∷ values) range = let none = no_count (length (v ∷ values)) range in absurd (omega (arith, none))
 
 pub flag_keeps_flag : (other name : Text) → Keeps false (Holds name GivesFlag) (flag other)
-flag_keeps_flag other name = set_keeps (flag other) name GivesFlag (λ values rows. refl) (λ values rows. refl) (λ values own range passed. flag_row other values range)
+flag_keeps_flag other name = set_keeps (flag other) name GivesFlag (λ values rows. refl) (λ values rows. refl)
+    (λ values own range passed. flag_row other values range)
 
 -- help is no use
 pub help_keeps : (P : List Row → Type 0) → Keeps false P help
@@ -230,25 +240,34 @@ passed_of s words e =
     let checks : Kinds = check_fault s (finished s.rules end) false in
     let after = second_none walks (or_else settles (or_else defaults checks)) e in
     let last = second_none settles (or_else defaults checks) after in
-    record { walked = first_none walks (or_else settles (or_else defaults checks)) e; settles = first_none settles (or_else defaults checks) after; checked = second_none defaults checks last }
+    record {
+      walked = first_none walks (or_else settles (or_else defaults checks)) e;
+      settles = first_none settles (or_else defaults checks) after;
+      checked =
+          second_none defaults checks last;
+    }
 
 -- the rows before defaults
 abbrev pub held_rows : Shape → List Text → List Row
 held_rows s words = (settled s.rules (walk s.rules [] nothing_held words).held).rows
 
-pub rows_hold : (s : Shape) (words : List Text) (P : List Row → Type 0) → AllByRecursion (Keeps s.args_override_self P) s.rules → P [] → Passed s words → P (held_rows s words)
+pub rows_hold : (s : Shape) (words : List Text) (P : List Row → Type 0) → AllByRecursion (Keeps s.args_override_self P) s.rules → P [] → Passed s words
+    → P (held_rows s words)
 rows_hold s words P each none passed =
-    settle_keeps s.rules s.args_override_self P each (walk s.rules [] nothing_held words).held passed.settles (walk_keeps s [] P each words (walk_from nothing_held) passed.walked none)
+    settle_keeps s.rules s.args_override_self P each (walk s.rules [] nothing_held words).held passed.settles
+    (walk_keeps s [] P each words (walk_from nothing_held) passed.walked none)
 
 -- a number of the range stands under the name
 abbrev pub HasNumberIn : Text → ℕ → ℕ → List Row → ℕ → Type 0
 HasNumberIn name least most rows n = HasNumber name rows n × IsInRange least most n
 
 -- the rows of a number and of a flag, with what is required
-pub given_number : (name : Text) (least most : ℕ) (rows : List Row) → Holds name (GivesNumber least most) rows → is_given name rows ≡ true → (n : ℕ) × HasNumberIn name least most rows n
+pub given_number : (name : Text) (least most : ℕ) (rows : List Row) → Holds name (GivesNumber least most) rows → is_given name rows ≡ true → (n : ℕ)
+    × HasNumberIn name least most rows n
 given_number name least most rows h given = go (find (λ r. bytes_eq r.id name) rows) refl given
   where
-    go : (o : Option Row) → find (λ r. bytes_eq r.id name) rows ≡ o → option_map_or (λ r. explicit_source r.source) o false ≡ true → (n : ℕ) × HasNumberIn name least most rows n
+    go : (o : Option Row) → find (λ r. bytes_eq r.id name) rows ≡ o → option_map_or (λ r. explicit_source r.source) o false ≡ true → (n : ℕ)
+        × HasNumberIn name least most rows n
     go None e f = cc f
     go (Some r) e f =
         let good = h r e in

@@ -33,7 +33,8 @@ same_where R P one (x ∷ xs) (y ∷ ys) (z ∷ zs) p h k = ap₂ (λ w ws. w �
 -- ---- lanes
 
 -- a field without a fault shows widths without one
-no_fault : (ws : List ℕ) (b c d : Bool) → are_widths (words_of ws) ≡ b → ((length (widths_in ws) % 2 == 1) && list_all (λ w. nat_le 1 w) (inner (widths_in ws))) ≡ c
+no_fault : (ws : List ℕ) (b c d : Bool) → are_widths (words_of ws) ≡ b → ((length (widths_in ws) % 2 == 1) && list_all (λ w. nat_le 1 w) (inner (widths_in ws)))
+    ≡ c
     → nat_le (sum (widths_in ws)) 65535 ≡ d → field_fault ws ≡ None → runs_fault (widths_in ws) ≡ None
 no_fault ws true true true words spaced small h = rw (spaced, small) refl
 no_fault ws true true false words spaced small h = cc (rw (words, spaced, small) at h)
@@ -60,7 +61,8 @@ module _ (row : RowOrFault) where
   item_row lanes (lane ∷ widths ∷ []) x h = row_by (is_lane lanes lane) (field_fault widths) widths (digits_value 10 lane) x refl h
   item_row lanes (a ∷ b ∷ c ∷ more) x h = cc h
 
-  item_rows : (lanes : ℕ) (rows : List Fields) (items : List LaneRow) → AreItems (lanes_meaning lanes) rows items → AllByRecursion (λ (x : LaneRow). IsRow x.1) items
+  item_rows : (lanes : ℕ) (rows : List Fields) (items : List LaneRow) → AreItems (lanes_meaning lanes) rows items
+      → AllByRecursion (λ (x : LaneRow). IsRow x.1) items
   item_rows lanes [] [] h = tt
   item_rows lanes [] (x ∷ items) h = absurd h
   item_rows lanes (r ∷ rows) [] h = absurd h
@@ -81,7 +83,8 @@ all_map P f each (k ∷ ks) = (each k, all_map P f each ks)
 
 -- rows have one list of answers
 reads_once : OneAnswer → (year : ℕ) (rows : List (List ℕ)) (x y : List Answer) → AllByRecursion IsRow rows → Reads rows year x → Reads rows year y → x ≡ y
-reads_once one year rows x y are h k = same_where (λ runs answer. IsAnswer runs year answer) IsRow (λ runs a b is p q. one runs year a b is p q) rows x y are h k
+reads_once one year rows x y are h k = same_where (λ runs answer. IsAnswer runs year answer) IsRow (λ runs a b is p q. one runs year a b is p q) rows x y are h
+    k
 
 pub one_lanes : RowOrFault → OneAnswer → OneLanes
 one_lanes row one o bytes text other h k =
@@ -91,4 +94,5 @@ one_lanes row one o bytes text other h k =
     let rows = item_rows row o.lanes (records_of bytes) h.0 h.1.1 in
     let are = all_map (λ feed. AllByRecursion IsRow feed) (λ lane. feed_of lane h.0) (λ lane. feed_rows lane h.0 rows) (range_with_len 0 o.lanes) in
     let answered = subst (λ items. AllZip R (feeds_of o.lanes items) k.2.0) same k.2.1 in
-    h.2.2 ∙ ap report (same_where R (λ feed. AllByRecursion IsRow feed) (λ feed x y is p q. reads_once one o.year feed x y is p q) feeds h.2.0 k.2.0 are h.2.1 answered) ∙ sym k.2.2
+    h.2.2 ∙ ap report (same_where R (λ feed. AllByRecursion IsRow feed) (λ feed x y is p q. reads_once one o.year feed x y is p q) feeds h.2.0 k.2.0 are h.2.1
+    answered) ∙ sym k.2.2

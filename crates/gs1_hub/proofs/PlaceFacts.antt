@@ -63,9 +63,11 @@ module _ {X A : Type 0} (f : X → List A) (k : ℕ) (each : (x : X) → length 
       ap (slice_get (flat_map f (y ∷ ys))) past ∙ get_second (f y) (flat_map f ys) (i * k + j) ∙ piece_at ys i j x at low
 
 -- what is made of the cells of a column, by its row
-cell_at : {A : Type 0} (f : ℕ → A) (g : Cells) (column row : ℕ) → row < g.rows → slice_get (map f (column_cells g column)) row ≡ Some (f (row * g.columns + column))
+cell_at : {A : Type 0} (f : ℕ → A) (g : Cells) (column row : ℕ) → row < g.rows → slice_get (map f (column_cells g column)) row
+    ≡ Some (f (row * g.columns + column))
 cell_at f g column row low =
-    slice_get-map f (column_cells g column) row ∙ rw (slice_get-map (λ r. r * g.columns + column) (range_with_len 0 g.rows) row, get_counting g.rows row low) refl
+    slice_get-map f (column_cells g column) row ∙ rw (slice_get-map (λ r. r * g.columns + column) (range_with_len 0 g.rows) row, get_counting g.rows row low)
+    refl
 
 cells_long : {A : Type 0} (f : ℕ → A) (g : Cells) (column : ℕ) → length (map f (column_cells g column)) ≡ g.rows
 cells_long f g column = length-map (column_cells g column) f ∙ length-map-range_with_len (λ row. row * g.columns + column) 0 g.rows
@@ -92,12 +94,14 @@ column_by_place g sheets column rows have =
     let shown = flat_map (column_dots g column) sheets in (
       sym (AllZip-long _ rows shown have) ∙ pieces_long (column_dots g column) g.rows each sheets,
       λ sheet row s at in_rows.
-          let placed = piece_at (column_dots g column) g.rows each sheets sheet row s at in_rows ∙ cell_at (λ cell. cell_dots g s cell (g.height / 2)) g column row in_rows in
+          let placed = piece_at (column_dots g column) g.rows each sheets sheet row s at in_rows
+          ∙ cell_at (λ cell. cell_dots g s cell (g.height / 2)) g column row in_rows in
           zip_at _ rows shown (sheet * g.rows + row) (cell_dots g s (row * g.columns + column) (g.height / 2)) have placed,
     )
 
 pub rows_by_place : RowsByPlace
 rows_by_place g sheets feeds column are in_columns =
-    let here = zip_at (λ rows c. HaveDots rows (flat_map (column_dots g c) sheets)) feeds (range_with_len 0 g.columns) column column are (get_counting g.columns column in_columns) in
+    let here = zip_at (λ rows c. HaveDots rows (flat_map (column_dots g c) sheets)) feeds (range_with_len 0 g.columns) column column are
+    (get_counting g.columns column in_columns) in
     let placed = column_by_place g sheets column here.0 here.2 in
     (here.0, here.1, placed.0, placed.1)

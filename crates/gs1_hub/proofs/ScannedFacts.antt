@@ -35,7 +35,8 @@ pub sizes : (labels : List Label) (g : Cells) (sheets : List Bitmap) → ArePrin
 sizes labels g sheets printed = list_all-from_AllPass (has_size g) sheets (λ i d within.
     let s = get_or sheets i d in
     let shown = printed.shown.each i s (slice_get-get_or sheets i d within) in
-    and_from (s.width == g.columns * g.width) (s.height == g.rows * g.height) (eq-eqb s.width (g.columns * g.width) shown.width) (eq-eqb s.height (g.rows * g.height) shown.height))
+    and_from (s.width == g.columns * g.width) (s.height == g.rows * g.height) (eq-eqb s.width (g.columns * g.width) shown.width)
+    (eq-eqb s.height (g.rows * g.height) shown.height))
 
 -- bytes are read as one list of images
 one_list : (bytes : List ℕ) (sheets others : List Bitmap) → images_of bytes ≡ (Ok sheets, []) → images_of bytes ≡ (Ok others, []) → others ≡ sheets
@@ -51,14 +52,17 @@ counted labels g sheets printed = printed.shown.count ∙ ap (sheet_count g) (Al
 -- what is printed is taken, and its columns have the labels' answers
 scanned_so : LabelsSay → PrintedIsRead → PrintedAnswer
     → (scan : ScanOptions) (print : PrintOptions) (rows : List Fields) (labels : List Label) (bytes : List ℕ) → IsPrintFor scan print rows labels bytes
-    → (sheets : List Bitmap) × AreImages scan bytes sheets × AreScanned (cells_of scan.grid) sheets scan.year (labels_answers (cells_of scan.grid) scan.year labels)
+    → (sheets : List Bitmap) × AreImages scan bytes sheets × AreScanned (cells_of scan.grid) sheets scan.year
+    (labels_answers (cells_of scan.grid) scan.year labels)
 scanned_so say read answer scan print rows labels bytes p =
     let g = cells_of scan.grid in
-    let in_print_grid : IsPrinted (cells_of print.grid) output.Images labels bytes = subst (λ b. IsPrinted (cells_of print.grid) b labels bytes) p.images p.printed.1 in
+    let in_print_grid : IsPrinted (cells_of print.grid) output.Images labels bytes =
+    subst (λ b. IsPrinted (cells_of print.grid) b labels bytes) p.images p.printed.1 in
     let written : IsPrinted g output.Images labels bytes = subst (λ h. IsPrinted h output.Images labels bytes) (sym p.same_grid) in_print_grid in
     let sheets : List Bitmap = written.0 in
     let are = written.1 in
-    let says : AllByRecursion (SaysElements scan.year) labels = subst (λ y. AllByRecursion (SaysElements y) labels) (sym p.same_year) (say print.year rows labels p.mean) in
+    let says : AllByRecursion (SaysElements scan.year) labels =
+    subst (λ y. AllByRecursion (SaysElements y) labels) (sym p.same_year) (say print.year rows labels p.mean) in
     let count = counted labels g sheets are in
     let fits : length sheets ≤ 4096 = rw count p.few in
     let images : AreImages scan bytes sheets = (are.grid, ap images_of written.2 ∙ read labels g sheets are fits, sizes labels g sheets are) in

@@ -22,7 +22,8 @@ met s rows true asks wants e = refl
 met s rows false asks wants e = absurd (no_kind kind.MissingSubcommand (rw (asks, wants) at e))
 
 module _ (R : Text → List Row → Type 0) where
-  in_subs : (subs : List Shape) (top : Shape) (o : Option (Text × List Text)) → AllByRecursion (λ s. (words : List Text) → Passed s words → R s.name (rows_after s.rules [] words)) subs
+  in_subs : (subs : List Shape) (top : Shape) (o : Option (Text × List Text))
+      → AllByRecursion (λ s. (words : List Text) → Passed s words → R s.name (rows_after s.rules [] words)) subs
       → entered_fault (record { top = top; subs = subs }) o ≡ [] → is_some (entered (record { top = top; subs = subs }) o) ≡ true
       → (p : Text × List Row) × (entered (record { top = top; subs = subs }) o ≡ Some p) × R p.0 p.1
   in_subs subs top None each fault has = cc has
@@ -33,8 +34,12 @@ module _ (R : Text → List Row → Type 0) where
           → is_some (option_map (λ s. rows_at s q.1) o) ≡ true
           → (p : Text × List Row) × (option_map (λ s. rows_at s q.1) o ≡ Some p) × R p.0 p.1
       go None f e h = cc h
-      go (Some s) f e h =
-          (rows_at s q.1, refl, found_has (λ s. (words : List Text) → Passed s words → R s.name (rows_after s.rules [] words)) (λ s. answers_to q.0 (label_of s)) subs s each f q.1 (passed_of s q.1 e))
+      go (Some s) f e h = (
+        rows_at s q.1,
+        refl,
+        found_has (λ s. (words : List Text) → Passed s words → R s.name (rows_after s.rules [] words))
+            (λ s. answers_to q.0 (label_of s)) subs s each f q.1 (passed_of s q.1 e),
+      )
 
   pub named : (words : List Text) → AllByRecursion (λ s. (words : List Text) → Passed s words → R s.name (rows_after s.rules [] words)) (built hub_app).subs
       → fault_of hub_app words ≡ [] → (p : Text × List Row) × (subcommand_of hub_app words ≡ Some p) × R p.0 p.1
@@ -71,7 +76,8 @@ all_append : {X : Type 0} (Q : X → Type 0) (xs ys : List X) → AllByRecursion
 all_append Q [] ys h k = k
 all_append Q (x ∷ xs) ys h k = (h.0, all_append Q xs ys h.1 k)
 
-numbers_keep : (name : Text) (least most : ℕ) (qs : List Range) → fits name least most qs ≡ true → AllByRecursion (Keeps false (Holds name (GivesNumber least most))) (numbers qs)
+numbers_keep : (name : Text) (least most : ℕ) (qs : List Range) → fits name least most qs ≡ true
+    → AllByRecursion (Keeps false (Holds name (GivesNumber least most))) (numbers qs)
 numbers_keep name least most [] e = tt
 numbers_keep name least most (q ∷ qs) e =
     let here = and_parts (nat_le 1 q.1 && (not (bytes_eq q.0 name) || (q.1 == least && q.2 == most))) (fits name least most qs) e in
@@ -82,7 +88,8 @@ numbers_keep name least most (q ∷ qs) e =
     same true h is = let both = and_parts (q.1 == least) (q.2 == most) h in (eqb-true q.1 least both.0, eqb-true q.2 most both.1)
     same false h is = cc is
 
-numbers_keep_flag : (name : Text) (qs : List Range) → list_all (λ q. not (bytes_eq q.0 name)) qs ≡ true → AllByRecursion (Keeps false (Holds name GivesFlag)) (numbers qs)
+numbers_keep_flag : (name : Text) (qs : List Range) → list_all (λ q. not (bytes_eq q.0 name)) qs ≡ true
+    → AllByRecursion (Keeps false (Holds name GivesFlag)) (numbers qs)
 numbers_keep_flag name [] e = tt
 numbers_keep_flag name (q ∷ qs) e =
     let here = and_parts (not (bytes_eq q.0 name)) (list_all (λ q. not (bytes_eq q.0 name)) qs) e in
@@ -93,7 +100,8 @@ numbers_keep_flag name (q ∷ qs) e =
     is_false false e = refl
 
 -- what is required is given
-all_given : (rows : List Row) (c : List Rule) → list_any (λ a. a.required && not (is_given a.id rows)) c ≡ false → AllByRecursion (λ a. a.required ≡ true → is_given a.id rows ≡ true) c
+all_given : (rows : List Row) (c : List Rule) → list_any (λ a. a.required && not (is_given a.id rows)) c ≡ false
+    → AllByRecursion (λ a. a.required ≡ true → is_given a.id rows ≡ true) c
 all_given rows [] e = tt
 all_given rows (a ∷ c) e = (by a.required (is_given a.id rows) _ e, all_given rows c (rest a.required (is_given a.id rows) _ e))
   where
@@ -119,7 +127,8 @@ plain_default rows a none = go (has_row a.id rows) a.defaults none
 
 after_numbers : (qs : List Range) (tail : List Rule) (rows : List Row) → fold with_default rows (numbers qs ++ tail) ≡ fold with_default rows tail
 after_numbers [] tail rows = refl
-after_numbers (q ∷ qs) tail rows = ap (λ r. fold with_default r (numbers qs ++ tail)) (plain_default rows (number q.0 q.1 q.2) refl) ∙ after_numbers qs tail rows
+after_numbers (q ∷ qs) tail rows = ap (λ r. fold with_default r (numbers qs ++ tail)) (plain_default rows (number q.0 q.1 q.2) refl)
+    ∙ after_numbers qs tail rows
 
 -- ---- the commands
 
@@ -127,7 +136,8 @@ after_numbers (q ∷ qs) tail rows = ap (λ r. fold with_default r (numbers qs +
 abbrev pub shape : Text → List Rule → Shape
 shape name rules = record (built_leaf (inherited (with_leaf_noted (marked_built hub_app.top)) (new_app name).top)) { rules = rules }
 
-pub required : (name : Text) (rules : List Rule) (rows : List Row) → check_fault (shape name rules) rows false ≡ [] → AllByRecursion (λ a. a.required ≡ true → is_given a.id rows ≡ true) rules
+pub required : (name : Text) (rules : List Rule) (rows : List Row) → check_fault (shape name rules) rows false ≡ []
+    → AllByRecursion (λ a. a.required ≡ true → is_given a.id rows ≡ true) rules
 required name rules rows e = all_given rows rules (go (list_any (λ a. a.required && not (is_given a.id rows)) rules) e)
   where
     go : (b : Bool) → check_kinds false false b ≡ [] → b ≡ false
@@ -143,7 +153,8 @@ number_of command qs words passed name least most one given =
     let P : List Row → Type 0 = Holds name (GivesNumber least most) in
     let each = all_append (Keeps false P) (numbers qs) (help ∷ []) (numbers_keep name least most qs one) (help_keeps P, tt) in
     let held : P (held_rows s words) = rows_hold s words P each (λ r e. cc e) passed in
-    let same : rows_after (numbers qs ++ help ∷ []) [] words ≡ held_rows s words = after_numbers qs (help ∷ []) (held_rows s words) ∙ plain_default (held_rows s words) help refl in
+    let same : rows_after (numbers qs ++ help ∷ []) [] words ≡ held_rows s words =
+    after_numbers qs (help ∷ []) (held_rows s words) ∙ plain_default (held_rows s words) help refl in
     given_number name least most (rows_after (numbers qs ++ help ∷ []) [] words) (subst P (sym same) held) given
 
 -- ---- print, which has a flag too
@@ -151,7 +162,8 @@ number_of command qs words passed name least most one given =
 abbrev default_row : Text → Row
 default_row name = record { id = name; values = codes "false" ∷ []; count = None; source = Some DefaultValue; reading = reading_by (flag name) }
 
-flag_default : (name : Text) (P : List Row → Type 0) (rows : List Row) → P rows → (has_row name rows ≡ false → P (rows ++ default_row name ∷ [])) → P (with_default rows (flag name))
+flag_default : (name : Text) (P : List Row → Type 0) (rows : List Row) → P rows → (has_row name rows ≡ false → P (rows ++ default_row name ∷ []))
+    → P (with_default rows (flag name))
 flag_default name P rows h new = go (has_row name rows) refl
   where
     go : (b : Bool) → has_row name rows ≡ b → P (cond b rows (default_rows name (reading_by (flag name)) (codes "false" ∷ []) rows))
@@ -173,31 +185,39 @@ flag_there name rows own = go (has_row name rows) refl
     go : (b : Bool) → has_row name rows ≡ b → has_row name (cond b rows (default_rows name (reading_by (flag name)) (codes "false" ∷ []) rows)) ≡ true
     go true t = t
     go false t =
-        ap (has_row name) (at_end name (more_values DefaultValue (codes "false" ∷ [])) (default_row name ∷ []) rows t) ∙ has_last name rows (default_row name) own
+        ap (has_row name) (at_end name (more_values DefaultValue (codes "false" ∷ [])) (default_row name ∷ []) rows t)
+        ∙ has_last name rows (default_row name) own
 
-module _ (command text : Text) (own : bytes_eq text text ≡ true) (qs : List Range) (words : List Text) (passed : Passed (shape command (numbers qs ++ flag text ∷ help ∷ [])) words) where
-  with_text : rows_after (numbers qs ++ flag text ∷ help ∷ []) [] words ≡ with_default (held_rows (shape command (numbers qs ++ flag text ∷ help ∷ [])) words) (flag text)
+module _ (command text : Text) (own : bytes_eq text text ≡ true) (qs : List Range) (words : List Text)
+    (passed : Passed (shape command (numbers qs ++ flag text ∷ help ∷ [])) words) where
+  with_text : rows_after (numbers qs ++ flag text ∷ help ∷ []) [] words
+      ≡ with_default (held_rows (shape command (numbers qs ++ flag text ∷ help ∷ [])) words) (flag text)
   with_text =
       let held : List Row = held_rows (shape command (numbers qs ++ flag text ∷ help ∷ [])) words in
       after_numbers qs (flag text ∷ help ∷ []) held ∙ plain_default (with_default held (flag text)) help refl
 
   pub number_beside : (name : Text) (least most : ℕ) → fits name least most qs ≡ true → bytes_eq text name ≡ false
-      → is_given name (rows_after (numbers qs ++ flag text ∷ help ∷ []) [] words) ≡ true → (n : ℕ) × HasNumberIn name least most (rows_after (numbers qs ++ flag text ∷ help ∷ []) [] words) n
+      → is_given name (rows_after (numbers qs ++ flag text ∷ help ∷ []) [] words) ≡ true → (n : ℕ)
+      × HasNumberIn name least most (rows_after (numbers qs ++ flag text ∷ help ∷ []) [] words) n
   number_beside name least most one other given =
       let s : Shape = shape command (numbers qs ++ flag text ∷ help ∷ []) in
       let P : List Row → Type 0 = Holds name (GivesNumber least most) in
-      let each = all_append (Keeps false P) (numbers qs) (flag text ∷ help ∷ []) (numbers_keep name least most qs one) (flag_keeps_number text name least most other, (help_keeps P, tt)) in
+      let each = all_append (Keeps false P) (numbers qs) (flag text ∷ help ∷ []) (numbers_keep name least most qs one)
+      (flag_keeps_number text name least most other, (help_keeps P, tt)) in
       let held : P (held_rows s words) = rows_hold s words P each (λ r e. cc e) passed in
       let last : P (with_default (held_rows s words) (flag text)) =
-      flag_default text P (held_rows s words) held (λ none. one_more name (GivesNumber least most) (held_rows s words) (default_row text) (λ is. absurd (let bad : false ≡ true = sym other ∙ is in cc bad)) held) in
+      flag_default text P (held_rows s words) held (λ none. one_more name (GivesNumber least most) (held_rows s words) (default_row text)
+      (λ is. absurd (let bad : false ≡ true = sym other ∙ is in cc bad)) held) in
       given_number name least most (rows_after (numbers qs ++ flag text ∷ help ∷ []) [] words) (subst P (sym with_text) last) given
 
   pub flag_beside : list_all (λ q. not (bytes_eq q.0 text)) qs ≡ true → (b : Bool) × HasFlag text (rows_after (numbers qs ++ flag text ∷ help ∷ []) [] words) b
   flag_beside others =
       let s : Shape = shape command (numbers qs ++ flag text ∷ help ∷ []) in
       let P : List Row → Type 0 = Holds text GivesFlag in
-      let each = all_append (Keeps false P) (numbers qs) (flag text ∷ help ∷ []) (numbers_keep_flag text qs others) (flag_keeps_flag text text, (help_keeps P, tt)) in
+      let each = all_append (Keeps false P) (numbers qs) (flag text ∷ help ∷ []) (numbers_keep_flag text qs others)
+      (flag_keeps_flag text text, (help_keeps P, tt)) in
       let held : P (held_rows s words) = rows_hold s words P each (λ r e. cc e) passed in
       let last : P (with_default (held_rows s words) (flag text)) =
       flag_default text P (held_rows s words) held (λ none. one_more text GivesFlag (held_rows s words) (default_row text) (λ is. (false, refl)) held) in
-      given_flag text (rows_after (numbers qs ++ flag text ∷ help ∷ []) [] words) (subst P (sym with_text) last) (ap (has_row text) with_text ∙ flag_there text (held_rows s words) own)
+      given_flag text (rows_after (numbers qs ++ flag text ∷ help ∷ []) [] words) (subst P (sym with_text) last)
+      (ap (has_row text) with_text ∙ flag_there text (held_rows s words) own)

@@ -77,16 +77,19 @@ module _ (c : List Rule) (again : Bool) (P : List Row → Type 0) (each : AllByR
       go true e = option_keeps a (has a refl) (attached_value rest) h e p
       go false e = more (reacted c a [] h) (second_none _ _ e) (react_keeps a (has a refl) [] h (first_none _ _ e) p)
 
-  bundle_step_keeps : (o : Option ℕ) (flags : Text) (skip : ℕ) (so_far : Outcome) (h : Held) (fault : Text → ℕ → Held → Kinds) (met : Text → ℕ → Outcome → Held → Held × Outcome)
+  bundle_step_keeps : (o : Option ℕ) (flags : Text) (skip : ℕ) (so_far : Outcome) (h : Held) (fault : Text → ℕ → Held → Kinds)
+      (met : Text → ℕ → Outcome → Held → Held × Outcome)
       → ((flags : Text) (skip : ℕ) (so_far : Outcome) (h : Held) → fault flags skip h ≡ [] → P h.rows → P (met flags skip so_far h).0.rows)
       → bundle_step_fault c again o flags skip h fault ≡ [] → P h.rows → P (bundle_step c o flags skip so_far h met).0.rows
   bundle_step_keeps None flags skip so_far h fault met more e p = p
   bundle_step_keeps (Some x) flags zero so_far h fault met more e p =
       let rest : Text = drop (length (encode_utf8 x)) flags in
-      short_keeps (arg_by_short c x) (λ a f. found_has (Keeps again P) _ c a each f) rest h (fault rest 0) (met rest 0 done) (λ h f q. more rest 0 done h f q) e p
+      short_keeps (arg_by_short c x) (λ a f. found_has (Keeps again P) _ c a each f) rest h (fault rest 0) (met rest 0 done) (λ h f q. more rest 0 done h f q) e
+      p
   bundle_step_keeps (Some x) flags (suc skip) so_far h fault met more e p = more (drop (length (encode_utf8 x)) flags) skip so_far h e p
 
-  bundle_keeps : (k : ℕ) (flags : Text) (skip : ℕ) (so_far : Outcome) (h : Held) → flags_fault c again k flags skip h ≡ [] → P h.rows → P (bundle_met c k flags skip so_far h).0.rows
+  bundle_keeps : (k : ℕ) (flags : Text) (skip : ℕ) (so_far : Outcome) (h : Held) → flags_fault c again k flags skip h ≡ [] → P h.rows
+      → P (bundle_met c k flags skip so_far h).0.rows
   unfolding flags_fault bundle_met
   bundle_keeps zero flags skip so_far h e p = p
   bundle_keeps (suc k) flags skip so_far h e p =
@@ -139,7 +142,8 @@ module _ (s : Shape) (names : Names) (P : List Row → Type 0) (each : AllByRecu
   word_keeps false w position word h e p = other_keeps (subcommand_met names w word) w position word h e p
 
   positional_keeps : (o : Option Rule) (word : Text) (w : Walk) (h : Held)
-      → option_map_or (λ a. positional_fault s.rules s.args_override_self a h) o (stray_fault s) ≡ [] → P h.rows → P (to_positional s.rules o word w h).held.rows
+      → option_map_or (λ a. positional_fault s.rules s.args_override_self a h) o (stray_fault s) ≡ [] → P h.rows
+      → P (to_positional s.rules o word w h).held.rows
   positional_keeps None word w h e p = p
   positional_keeps (Some a) word w h e p = go (is_pending a h.pending && takes_several a) e
     where
@@ -159,7 +163,8 @@ module _ (s : Shape) (names : Names) (P : List Row → Type 0) (each : AllByRecu
     where
       go : (o : Option (Text × List Text))
           → cond (is_some o) [] (or_else (word_fault s names w.is_trailing w.waiting word w.held)
-          (step_fault s w.position (word_met s.rules names w.is_trailing w.waiting w.position word w.held).0 (word_met s.rules names w.is_trailing w.waiting w.position word w.held).1)) ≡ []
+          (step_fault s w.position (word_met s.rules names w.is_trailing w.waiting w.position word w.held).0
+          (word_met s.rules names w.is_trailing w.waiting w.position word w.held).1)) ≡ []
           → P (walked_from s.rules names o w word).held.rows
       go (Some q) e = p
       go None e =

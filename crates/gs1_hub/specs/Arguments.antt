@@ -66,7 +66,8 @@ with_lanes a = with_rule (with_rule (with_rule a (number_rule (codes "lanes") 1 
 
 -- `--module M --width W --height H`, in dots
 abbrev pub with_cell : App → App
-with_cell a = with_rule (with_rule (with_rule a (number_rule (codes "module") 1 most_dots)) (number_rule (codes "width") 1 most_width)) (number_rule (codes "height") 1 most_height)
+with_cell a = with_rule (with_rule (with_rule a (number_rule (codes "module") 1 most_dots)) (number_rule (codes "width") 1 most_width))
+    (number_rule (codes "height") 1 most_height)
 
 -- `--columns C --rows R`
 abbrev pub with_places : App → App

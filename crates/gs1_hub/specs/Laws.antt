@@ -56,7 +56,8 @@ AnswersByPlace =
     → slice_get (column_answers g year labels column) (sheet * g.rows + row)
     ≡ Some (cell_answer year (slice_get labels (sheet * cell_count g + (row * g.columns + column)))))
 
--- the rows of a column by place: there is one for each row of cells of each sheet, and that of row r of sheet i has the dots of the middle row of the cell there
+-- the rows of a column by place: there is one for each row of cells of each sheet, and that of row r of sheet i has the dots of the middle row of the cell
+-- there
 abbrev pub RowsByPlace : Type 0
 RowsByPlace =
     (g : Cells) (sheets : List Bitmap) (feeds : List (List (List ℕ))) (column : ℕ)

@@ -13,10 +13,12 @@ pub record Command : Type 1 where
   pub refuses : Option (List ℕ) → Option (List ℕ) → CommandFault → Type 0
 
 -- a source gave all its bytes, and of the text that a command writes of them a sink took this
-abbrev pub Wrote : Command → (Option (List ℕ) → Option (List ℕ) → List ℕ → Type 0) → Option (List ℕ) → Option (List ℕ) → Option (List ℕ) → Option (List ℕ) → Type 0
+abbrev pub Wrote : Command → (Option (List ℕ) → Option (List ℕ) → List ℕ → Type 0) → Option (List ℕ) → Option (List ℕ) → Option (List ℕ) → Option (List ℕ)
+    → Type 0
 Wrote c took left rest before after = (bytes text : List ℕ) × GaveAll left rest bytes × c.writes bytes text × took before after text
 
--- what a run of a command leaves of a source and of a sink: the sink took the whole text; or a prefix of it, where a write failed; or nothing, and the refusal names its cause. Where they had not failed before, a read or write fault comes exactly where one fails
+-- what a run of a command leaves of a source and of a sink: the sink took the whole text; or a prefix of it, where a write failed; or nothing, and the refusal
+-- names its cause. Where they had not failed before, a read or write fault comes exactly where one fails
 pub record Ran {S W : Type 0} (c : Command) (left : S → Option (List ℕ)) (source_failed : S → Bool) (taken : W → Option (List ℕ)) (sink_failed : W → Bool)
     (source rest : S) (sink after : W) (result : Result (Unit {0}) CommandFault) : Type 0 where
   pub ok : OnOk result (Wrote c Appends (left source) (left rest) (taken sink) (taken after))

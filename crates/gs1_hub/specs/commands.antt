@@ -21,7 +21,8 @@ use Rattle.gs1_hub.specs.declared.commands.live.options.LiveOptions.{LiveOptions
 
 -- a command is wanted, there is no command `help`, and there is a version
 abbrev pub hub_top : App
-hub_top = let fresh = new_app (codes "gs1_hub") in record fresh { top = record fresh.top { has_version = true; disable_help_subcommand = true; subcommand_required = true } }
+hub_top = let fresh = new_app (codes "gs1_hub") in record fresh
+    { top = record fresh.top { has_version = true; disable_help_subcommand = true; subcommand_required = true } }
 
 -- the program with the commands that take texts
 abbrev pub text_app : App

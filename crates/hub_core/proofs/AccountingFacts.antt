@@ -38,7 +38,8 @@ same_test d c x known = ap (λ b. nat_lt x.lane (lanes_of d) && not b) (sym (kno
 
 sifted_more : (d : ReorderBuffer) (c : List Plain) (x : Plain) → ((l k : ℕ) → (was_taken d l k || false) ≡ is_among l k (sifted (lanes_of d) c))
     → sifted (lanes_of d) (c ++ x ∷ []) ≡ cond (is_new d x) (sifted (lanes_of d) c ++ x ∷ []) (sifted (lanes_of d) c)
-sifted_more d c x known = fold_push (sift (lanes_of d)) [] c x ∙ ap (λ b. cond b (sifted (lanes_of d) c ++ x ∷ []) (sifted (lanes_of d) c)) (same_test d c x known)
+sifted_more d c x known = fold_push (sift (lanes_of d)) [] c x
+    ∙ ap (λ b. cond b (sifted (lanes_of d) c ++ x ∷ []) (sifted (lanes_of d) c)) (same_test d c x known)
 
 sum_cond : (b : Bool) (h : Plain → ℕ) (xs : List Plain) (x : Plain) → sum_by h (cond b (xs ++ x ∷ []) xs) ≡ sum_by h xs + cond b (h x) 0
 sum_cond true h xs x = omega (arith, sum_by-append h xs (x ∷ []))
@@ -50,11 +51,13 @@ among_cond false l k xs x = sym (or_false (is_among l k xs))
 
 pub popped : (d : ReorderBuffer) (c c' : List Plain) (x : Plain) (given : List (List Plain)) → Accounted d c [] given → c' ≡ c ++ x ∷ [] → Pending d c' x given
 popped d c c' x given was is =
-    let more : sifted (lanes_of d) c' ≡ cond (is_new d x) (sifted (lanes_of d) c ++ x ∷ []) (sifted (lanes_of d) c) = ap (sifted (lanes_of d)) is ∙ sifted_more d c x was.known in
+    let more : sifted (lanes_of d) c' ≡ cond (is_new d x) (sifted (lanes_of d) c ++ x ∷ []) (sifted (lanes_of d) c) =
+    ap (sifted (lanes_of d)) is ∙ sifted_more d c x was.known in
     record {
       giving = was.giving;
       none_lost = λ h. ap (sum_by h) more ∙ (sum_cond (is_new d x) h (sifted (lanes_of d) c) x ∙ omega (arith, was.none_lost h));
-      known = λ l k. ap (λ b. b || (is_new d x && is_ticket_of l k x)) (sym (or_false (was_taken d l k)) ∙ was.known l k) ∙ sym (ap (is_among l k) more ∙ among_cond (is_new d x) l k (sifted (lanes_of d) c) x);
+      known = λ l k. ap (λ b. b || (is_new d x && is_ticket_of l k x)) (sym (or_false (was_taken d l k)) ∙ was.known l k)
+          ∙ sym (ap (is_among l k) more ∙ among_cond (is_new d x) l k (sifted (lanes_of d) c) x);
     }
 
 pub again : (d : ReorderBuffer) (c : List Plain) (x : Plain) (given : List (List Plain)) → Accounted d c (x ∷ []) given → Pending d c x given
@@ -63,7 +66,8 @@ again d c x given was =
     record {
       giving = was.giving;
       none_lost = λ h. let e = ap (λ b. cond b (h x) 0) new in omega (arith, was.none_lost h, e);
-      known = λ l k. ap (λ b. was_taken d l k || (b && is_ticket_of l k x)) new ∙ (ap (λ b. was_taken d l k || b) (sym (or_false (is_ticket_of l k x))) ∙ was.known l k);
+      known = λ l k. ap (λ b. was_taken d l k || (b && is_ticket_of l k x)) new
+          ∙ (ap (λ b. was_taken d l k || b) (sym (or_false (is_ticket_of l k x))) ∙ was.known l k);
     }
 
 new_apart : (a t : Bool) → (t ≡ true → a ≡ false) → once (a || t) ≡ once a + once t
@@ -78,7 +82,8 @@ not_taken true true e = absurd (cc)
 not_taken false b e = absurd (cc)
 
 at_ticket : (d : ReorderBuffer) (l k : ℕ) (x : Plain) → is_new d x ≡ true → is_ticket_of l k x ≡ true → was_taken d l k ≡ false
-at_ticket d l k x new is = let p = ticket_parts l k x is in subst (λ (m : ℕ × ℕ). was_taken d m.0 m.1 ≡ false) (λ i. (p.0 i, p.1 i)) (not_taken (nat_lt x.lane (lanes_of d)) (was_taken d x.lane x.number) new)
+at_ticket d l k x new is = let p = ticket_parts l k x is in subst (λ (m : ℕ × ℕ). was_taken d m.0 m.1 ≡ false) (λ i. (p.0 i, p.1 i))
+    (not_taken (nat_lt x.lane (lanes_of d)) (was_taken d x.lane x.number) new)
 
 pub takes_in_order : (d e : ReorderBuffer) (x : Plain) (given : List (List Plain)) → TakesIn d x e → GivenInOrder d given → GivenInOrder e given
 takes_in_order d e x given t giving = record {
@@ -99,11 +104,13 @@ took d e c x given was t =
     record {
       giving = takes_in_order d e x given t was.giving;
       none_lost = λ h. ap (sum_by h) same ∙ (let n = ap (λ b. cond b (h x) 0) t.new in omega (arith, was.none_lost h, n, t.waiting h));
-      known = λ l k. or_false (was_taken e l k) ∙ (t.known l k ∙ (ap (λ b. was_taken d l k || (b && is_ticket_of l k x)) (sym t.new) ∙ (was.known l k ∙ ap (is_among l k) (sym same))));
+      known = λ l k. or_false (was_taken e l k) ∙ (t.known l k
+          ∙ (ap (λ b. was_taken d l k || (b && is_ticket_of l k x)) (sym t.new) ∙ (was.known l k ∙ ap (is_among l k) (sym same))));
       fresh = refl;
     }
 
-pub passed_over : (d e : ReorderBuffer) (c : List Plain) (x : Plain) (given : List (List Plain)) → Pending d c x given → is_new d x ≡ false → e ≡ d → Accounted e c [] given
+pub passed_over : (d e : ReorderBuffer) (c : List Plain) (x : Plain) (given : List (List Plain)) → Pending d c x given → is_new d x ≡ false → e ≡ d
+    → Accounted e c [] given
 passed_over d e c x given was not_new is =
     subst (λ (e : ReorderBuffer). Accounted e c [] given) (sym is) record {
       giving = was.giving;
@@ -112,12 +119,14 @@ passed_over d e c x given was not_new is =
       fresh = refl;
     }
 
-pub held_back : (d e : ReorderBuffer) (c : List Plain) (x y : Plain) (given : List (List Plain)) → Pending d c x given → is_new d x ≡ true → y ≡ x → e ≡ d → Accounted e c (y ∷ []) given
+pub held_back : (d e : ReorderBuffer) (c : List Plain) (x y : Plain) (given : List (List Plain)) → Pending d c x given → is_new d x ≡ true → y ≡ x → e ≡ d
+    → Accounted e c (y ∷ []) given
 held_back d e c x y given was new same is =
     subst (λ (p : ReorderBuffer × Plain). Accounted p.0 c (p.1 ∷ []) given) (λ i. (sym is i, sym same i)) record {
       giving = was.giving;
       none_lost = λ h. let n = ap (λ b. cond b (h x) 0) new in omega (arith, was.none_lost h, n);
-      known = λ l k. ap (λ b. was_taken d l k || b) (or_false (is_ticket_of l k x)) ∙ (ap (λ b. was_taken d l k || (b && is_ticket_of l k x)) (sym new) ∙ was.known l k);
+      known = λ l k. ap (λ b. was_taken d l k || b) (or_false (is_ticket_of l k x))
+          ∙ (ap (λ b. was_taken d l k || (b && is_ticket_of l k x)) (sym new) ∙ was.known l k);
       fresh = and_true (is_new d x) ∙ new;
     }
 
@@ -127,7 +136,8 @@ pub record Stands (v : Trace) (d : ReorderBuffer) (x : Plain) (given : List (Lis
   pub share : 0 < v.shares
   pub pending : Pending d v.popped x given
 
-pub stands_again : (v w : Trace) (d : ReorderBuffer) (held : Option Plain) (x y : Plain) (given : List (List Plain)) → v.pushed ≡ [] → 0 < v.shares → Accounted d v.popped (option_to_list held) given
+pub stands_again : (v w : Trace) (d : ReorderBuffer) (held : Option Plain) (x y : Plain) (given : List (List Plain)) → v.pushed ≡ [] → 0 < v.shares
+    → Accounted d v.popped (option_to_list held) given
     → held ≡ Some x → w ≡ v → y ≡ x → Stands w d y given
 stands_again v w d held x y given none share was is same what =
     subst (λ (p : Trace × Plain). Stands p.0 d p.1 given) (λ i. (sym same i, sym what i)) record {
@@ -136,7 +146,8 @@ stands_again v w d held x y given none share was is same what =
       pending = again d v.popped x given (subst (λ (o : Option Plain). Accounted d v.popped (option_to_list o) given) is was);
     }
 
-pub stands_popped : (v w : Trace) (d : ReorderBuffer) (held : Option Plain) (x y : Plain) (given : List (List Plain)) → v.pushed ≡ [] → 0 < v.shares → Accounted d v.popped (option_to_list held) given
+pub stands_popped : (v w : Trace) (d : ReorderBuffer) (held : Option Plain) (x y : Plain) (given : List (List Plain)) → v.pushed ≡ [] → 0 < v.shares
+    → Accounted d v.popped (option_to_list held) given
     → held ≡ None → w ≡ trace v.shares v.pushed (v.popped ++ x ∷ []) → y ≡ x → Stands w d y given
 stands_popped v w d held x y given none share was is same what =
     subst (λ (p : Trace × Plain). Stands p.0 d p.1 given) (λ i. (sym same i, sym what i)) record {
@@ -146,10 +157,12 @@ stands_popped v w d held x y given none share was is same what =
     }
 
 -- the same for a hand that is known to be empty
-pub accounted_at : (d : ReorderBuffer) (c : List Plain) (o p : Option Plain) (given : List (List Plain)) → o ≡ p → Accounted d c (option_to_list p) given → Accounted d c (option_to_list o) given
+pub accounted_at : (d : ReorderBuffer) (c : List Plain) (o p : Option Plain) (given : List (List Plain)) → o ≡ p → Accounted d c (option_to_list p) given
+    → Accounted d c (option_to_list o) given
 accounted_at d c o p given is was = subst (λ (q : Option Plain). Accounted d c (option_to_list q) given) (sym is) was
 
-fresh_same : (d e : ReorderBuffer) (ys : List Plain) → lanes_of e ≡ lanes_of d → ((l k : ℕ) → was_taken e l k ≡ was_taken d l k) → list_all (is_new d) ys ≡ true → list_all (is_new e) ys ≡ true
+fresh_same : (d e : ReorderBuffer) (ys : List Plain) → lanes_of e ≡ lanes_of d → ((l k : ℕ) → was_taken e l k ≡ was_taken d l k) → list_all (is_new d) ys ≡ true
+    → list_all (is_new e) ys ≡ true
 fresh_same d e [] long same all = refl
 fresh_same d e (y ∷ ys) long same all =
     let s = and_parts (is_new d y) (list_all (is_new d) ys) all in
@@ -157,7 +170,8 @@ fresh_same d e (y ∷ ys) long same all =
     and_from (is_new e y) (list_all (is_new e) ys) (here ∙ s.0) (fresh_same d e ys long same s.1)
 
 -- a lane was given its next number
-pub handed_one : (d e : ReorderBuffer) (l : ℕ) (x : Plain) (c hand : List Plain) (gs gs' : List (List Plain)) → l < lanes_of d → GivesNext d l x e → gs' ≡ set gs l (get_or gs l [] ++ x ∷ [])
+pub handed_one : (d e : ReorderBuffer) (l : ℕ) (x : Plain) (c hand : List Plain) (gs gs' : List (List Plain)) → l < lanes_of d → GivesNext d l x e → gs'
+    ≡ set gs l (get_or gs l [] ++ x ∷ [])
     → Accounted d c hand gs → Accounted e c hand gs'
 handed_one d e l x c hand gs gs' low g is was =
     let new = get_or gs l [] ++ x ∷ [] in
@@ -175,7 +189,8 @@ handed_one d e l x c hand gs gs' low g is was =
       fresh = fresh_same d e hand long g.leaves.known was.fresh;
     }
 
-pub given_now : (gs gs' : List (List Plain)) (l : ℕ) (x : Plain) → l < length gs → gs' ≡ set gs l (get_or gs l [] ++ x ∷ []) → get_or gs' l [] ≡ get_or gs l [] ++ x ∷ []
+pub given_now : (gs gs' : List (List Plain)) (l : ℕ) (x : Plain) → l < length gs → gs' ≡ set gs l (get_or gs l [] ++ x ∷ []) → get_or gs' l [] ≡ get_or gs l []
+    ++ x ∷ []
 given_now gs gs' l x low is = ap (λ zs. get_or zs l []) is ∙ get_or-set_same gs l (get_or gs l [] ++ x ∷ []) [] low
 
 pub given_else : (gs gs' : List (List Plain)) (l m : ℕ) (x : Plain) → m ≢ l → gs' ≡ set gs l (get_or gs l [] ++ x ∷ []) → get_or gs' m [] ≡ get_or gs m []

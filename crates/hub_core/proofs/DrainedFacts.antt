@@ -21,7 +21,8 @@ get_set [] l k x t e = absurd (cc)
 get_set (y ∷ ys) zero zero x t e = inl (refl, cc)
 get_set (y ∷ ys) zero (suc k) x t e = inr ((λ h. omega arith), e)
 get_set (y ∷ ys) (suc l) zero x t e = inr ((λ h. omega arith), e)
-get_set (y ∷ ys) (suc l) (suc k) x t e = ⊎_elim (λ (h : (k ≡ l) × (x ≡ t)). inl (ap suc h.0, h.1)) (λ (h : (k ≢ l) × (slice_get ys k ≡ Some t)). let n = h.0 in inr ((λ g. n (omega arith)), h.1)) (get_set ys l k x t e)
+get_set (y ∷ ys) (suc l) (suc k) x t e = ⊎_elim (λ (h : (k ≡ l) × (x ≡ t)). inl (ap suc h.0, h.1))
+    (λ (h : (k ≢ l) × (slice_get ys k ≡ Some t)). let n = h.0 in inr ((λ g. n (omega arith)), h.1)) (get_set ys l k x t e)
 
 pub set_there : {X : Type 0} (xs : List X) (l : ℕ) (x d : X) → l < length xs → x ≡ get_or xs l d → set xs l x ≡ xs
 set_there [] l x d low e = absurd (omega arith)
@@ -32,10 +33,14 @@ not_of : (l : ℕ) (x : Plain) → x.lane ≢ l → count_by (λ (y : Plain). y.
 not_of l x apart = let e = ap once (ne_eqb x.lane l apart) in omega arith
 
 -- it was dropped: no list has changed
-pub dropped : (old new : List Listed) (x : Plain) → new ≡ old → ((w : Listed) → slice_get old x.lane ≡ Some w → vec_capacity w ≤ vec_len w) → DrainsInto old new (x ∷ [])
+pub dropped : (old new : List Listed) (x : Plain) → new ≡ old → ((w : Listed) → slice_get old x.lane ≡ Some w → vec_capacity w ≤ vec_len w)
+    → DrainsInto old new (x ∷ [])
 dropped old new x is no_room = subst (λ (zs : List Listed). DrainsInto old zs (x ∷ [])) (sym is) record {
   counted = refl;
-  room = λ l v w e f. let s = same_some v w old l e f in (ap (λ (u : Listed). vec_capacity u) (sym s), (let n = ap (λ (u : Listed). vec_len u) s in omega arith));
+  room = λ l v w e f. let s = same_some v w old l e f in (
+    ap (λ (u : Listed). vec_capacity u) (sym s),
+    (let n = ap (λ (u : Listed). vec_len u) s in omega arith),
+  );
   own = λ own. own;
   dropped = x ∷ [];
   whole = λ h. refl;
@@ -45,7 +50,8 @@ dropped old new x is no_room = subst (λ (zs : List Listed). DrainsInto old zs (
       (cases_eq x.lane l);
 }
 
-own_more : (l : ℕ) (xs : List Plain) (x : Plain) → x.lane ≡ l → list_all (λ (y : Plain). y.lane == l) xs ≡ true → list_all (λ (y : Plain). y.lane == l) (xs ++ x ∷ []) ≡ true
+own_more : (l : ℕ) (xs : List Plain) (x : Plain) → x.lane ≡ l → list_all (λ (y : Plain). y.lane == l) xs ≡ true
+    → list_all (λ (y : Plain). y.lane == l) (xs ++ x ∷ []) ≡ true
 own_more l [] x is all = and_from (x.lane == l) true (eq-eqb x.lane l is) refl
 own_more l (y ∷ ys) x is all =
     let s = and_parts (y.lane == l) (list_all (λ (z : Plain). z.lane == l) ys) all in
@@ -66,12 +72,14 @@ put old new l v w x low at is lane more same longer =
           let m = ap (λ (u : Listed). vec_len u) g.1 in
           let n = ap (λ (u : Listed). vec_len u) s in
           (omega arith, omega arith))
-          (λ (g : (k ≢ l) × (slice_get old k ≡ Some b)). let s = same_some a b old k e g.1 in (ap (λ (u : Listed). vec_capacity u) (sym s), (let n = ap (λ (u : Listed). vec_len u) s in omega arith)))
+          (λ (g : (k ≢ l) × (slice_get old k ≡ Some b)). let s =
+          same_some a b old k e g.1 in (ap (λ (u : Listed). vec_capacity u) (sym s), (let n = ap (λ (u : Listed). vec_len u) s in omega arith)))
           (get_set old l k w b f);
       own = λ own k b f. ⊎_elim
           (λ (g : (k ≡ l) × (w ≡ b)).
           let mine = own_more l v.items x lane (own l v there) in
-          subst (λ (p : ℕ × Listed). list_all (λ (y : Plain). y.lane == p.0) p.1.items ≡ true) (λ i. (sym g.0 i, g.1 i)) (ap (list_all (λ (y : Plain). y.lane == l)) more ∙ mine))
+          subst (λ (p : ℕ × Listed). list_all (λ (y : Plain). y.lane == p.0) p.1.items ≡ true) (λ i. (sym g.0 i, g.1 i))
+          (ap (list_all (λ (y : Plain). y.lane == l)) more ∙ mine))
           (λ (g : (k ≢ l) × (slice_get old k ≡ Some b)). own k b g.1)
           (get_set old l k w b f);
       dropped = [];
@@ -115,7 +123,8 @@ drained_then t u v xs ys f g = record {
 pub beyond : (old : List Listed) (l : ℕ) (w : Listed) → slice_get old l ≡ Some w → length old ≤ l → ⊥
 beyond old l w e past = let k = slice_get_within old l w e in omega arith
 
-pub full_there : (old : List Listed) (l m : ℕ) (v : Listed) → l < length old → v ≡ get_or old l v → l ≡ m → vec_capacity v ≤ vec_len v → (w : Listed) → slice_get old m ≡ Some w → vec_capacity w ≤ vec_len w
+pub full_there : (old : List Listed) (l m : ℕ) (v : Listed) → l < length old → v ≡ get_or old l v → l ≡ m → vec_capacity v ≤ vec_len v → (w : Listed)
+    → slice_get old m ≡ Some w → vec_capacity w ≤ vec_len w
 full_there old l m v low at is full w e =
     let there : slice_get old l ≡ Some v = slice_get-get_or old l v low ∙ ap Some (sym at) in
     let s = same_some v w old l there (ap (slice_get old) is ∙ e) in

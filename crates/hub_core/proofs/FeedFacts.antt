@@ -8,7 +8,8 @@ use Rattle.hub_core.specs.Feeds.{AreGiven, IsTaken, appended, are_given}
 use Rattle.hub_core.specs.Serving.{are_short}
 use Rattle.hub_core.specs.Traffics.{HasRoom, with_more}
 
-appended_more : {X : Type 0} (given old : List (List X)) (i : ℕ) (row : X) (rest : List X) → i < length old → length given ≡ length old → get_or old i [] ≡ row ∷ rest
+appended_more : {X : Type 0} (given old : List (List X)) (i : ℕ) (row : X) (rest : List X) → i < length old → length given ≡ length old → get_or old i []
+    ≡ row ∷ rest
     → appended (set given i (get_or given i [] ++ row ∷ [])) (set old i rest) ≡ appended given old
 appended_more [] [] i row rest low count first = absurd (omega (arith, low))
 appended_more [] (ys ∷ old) i row rest low count first = absurd (omega (arith, count))
@@ -18,7 +19,8 @@ appended_more (xs ∷ given) (ys ∷ old) zero row rest low count first =
 appended_more (xs ∷ given) (ys ∷ old) (suc i) row rest low count first =
     ap (λ v. (xs ++ ys) ∷ v) (appended_more given old i row rest (omega (arith, low)) (omega (arith, count)) first)
 
-short_room : (given old : List (List (List ℕ))) (i : ℕ) (row : List ℕ) (rest : List (List ℕ)) → i < length old → length given ≡ length old → get_or old i [] ≡ row ∷ rest
+short_room : (given old : List (List (List ℕ))) (i : ℕ) (row : List ℕ) (rest : List (List ℕ)) → i < length old → length given ≡ length old → get_or old i []
+    ≡ row ∷ rest
     → are_short (appended given old) ≡ true → length (get_or given i []) < 4294967295
 short_room [] [] i row rest low count first short = absurd (omega (arith, low))
 short_room [] (ys ∷ old) i row rest low count first short = absurd (omega (arith, count))
@@ -31,7 +33,8 @@ short_room (xs ∷ given) (ys ∷ old) (suc i) row rest low count first short =
     short_room given old i row rest (omega (arith, low)) (omega (arith, count)) first s.1
 
 -- the row that was taken was the first of those that were left
-pub taken : {V : Type 0} (f : V → List (List ℕ)) (vs : List V) (i lane : ℕ) (v w : V) (o : Option (List ℕ)) → i ≡ lane → i < length vs → v ≡ get_or vs i v → f v ≡ option_to_list o ++ f w
+pub taken : {V : Type 0} (f : V → List (List ℕ)) (vs : List V) (i lane : ℕ) (v w : V) (o : Option (List ℕ)) → i ≡ lane → i < length vs → v ≡ get_or vs i v → f v
+    ≡ option_to_list o ++ f w
     → IfSome o (λ row. IsTaken (map f vs) lane row (map f (set vs i w)))
 taken f vs i lane v w None is low at next = tt
 taken f vs i lane v w (Some row) is low at next = (
@@ -60,8 +63,10 @@ one_given feeds given old new lane row taken was =
     let low = taken.1 in
     let first = taken.2 in
     let is : new ≡ set old lane rest = taken.3 in
-    let all : appended (with_more lane row given) new ≡ feeds = ap (appended (with_more lane row given)) is ∙ (appended_more given old lane row rest low was.count first ∙ was.all) in
-    let count : length (with_more lane row given) ≡ length new = length-set given lane (get_or given lane [] ++ row ∷ []) ∙ (was.count ∙ (sym (length-set old lane rest) ∙ ap length (sym is))) in (
+    let all : appended (with_more lane row given) new ≡ feeds =
+    ap (appended (with_more lane row given)) is ∙ (appended_more given old lane row rest low was.count first ∙ was.all) in
+    let count : length (with_more lane row given) ≡ length new =
+    length-set given lane (get_or given lane [] ++ row ∷ []) ∙ (was.count ∙ (sym (length-set old lane rest) ∙ ap length (sym is))) in (
       (omega (arith, low, was.count), short_room given old lane row rest low was.count first (ap are_short was.all ∙ was.short)),
       record { count = count; all = all; short = was.short },
     )
@@ -73,20 +78,26 @@ none_appended (ys ∷ rests) zero count = absurd (omega (arith, count))
 none_appended (ys ∷ rests) (suc n) count = ap (λ v. ys ∷ v) (none_appended rests n (omega (arith, count)))
 
 -- the list of this lane has one more
-pub list_more : {V X : Type 0} (f : V → List X) (vs : List V) (i lane : ℕ) (v w : V) (x : X) (brought : List (List X)) → i ≡ lane → lane < length brought → v ≡ get_or vs i v → f w ≡ f v ++ x ∷ []
+pub list_more : {V X : Type 0} (f : V → List X) (vs : List V) (i lane : ℕ) (v w : V) (x : X) (brought : List (List X)) → i ≡ lane → lane < length brought → v
+    ≡ get_or vs i v → f w ≡ f v ++ x ∷ []
     → map f vs ≡ brought → map f (set vs i w) ≡ with_more lane x brought
 list_more {V} {X} f vs i lane v w x brought is low at more all =
     let long : length brought ≡ length vs = ap length (sym all) ∙ length-map vs f in
-    let here : get_or brought lane [] ≡ f v = ap (λ xss. get_or xss lane []) (sym all) ∙ (ap (λ k. get_or (map f vs) k []) (sym is) ∙ (get_or-map f vs i v [] (omega (arith, low, is, long)) ∙ ap f (sym at))) in
-    map-set f vs i w ∙ (ap (λ xss. set xss i (f w)) all ∙ (ap (λ k. set brought k (f w)) is ∙ ap (set brought lane) (more ∙ ap (λ (xs : List X). xs ++ x ∷ []) (sym here))))
+    let here : get_or brought lane [] ≡ f v = ap (λ xss. get_or xss lane []) (sym all)
+    ∙ (ap (λ k. get_or (map f vs) k []) (sym is) ∙ (get_or-map f vs i v [] (omega (arith, low, is, long)) ∙ ap f (sym at))) in
+    map-set f vs i w ∙ (ap (λ xss. set xss i (f w)) all ∙ (ap (λ k. set brought k (f w)) is
+    ∙ ap (set brought lane) (more ∙ ap (λ (xs : List X). xs ++ x ∷ []) (sym here))))
 
 -- one more empty list
-pub empty_more : {V X : Type 0} (f : V → List X) (old new : List V) (v : V) (n k : ℕ) → new ≡ old ++ v ∷ [] → f v ≡ [] → map f old ≡ replicate n [] → k ≡ suc n → map f new ≡ replicate k []
+pub empty_more : {V X : Type 0} (f : V → List X) (old new : List V) (v : V) (n k : ℕ) → new ≡ old ++ v ∷ [] → f v ≡ [] → map f old ≡ replicate n [] → k ≡ suc n
+    → map f new ≡ replicate k []
 empty_more {V} {X} f old new v n k is none all more =
-    ap (map f) is ∙ (map-append f old (v ∷ []) ∙ (ap (λ (xs : List X). map f old ++ xs ∷ []) none ∙ (ap (λ (xss : List (List X)). xss ++ [] ∷ []) all ∙ (replicate-append-replicate n 1 [] ∙ ap (λ m. replicate m []) (omega (arith, more))))))
+    ap (map f) is ∙ (map-append f old (v ∷ []) ∙ (ap (λ (xs : List X). map f old ++ xs ∷ []) none
+    ∙ (ap (λ (xss : List (List X)). xss ++ [] ∷ []) all ∙ (replicate-append-replicate n 1 [] ∙ ap (λ m. replicate m []) (omega (arith, more))))))
 
 -- nothing was given
-pub none_given : (feeds rests : List (List (List ℕ))) (n : ℕ) → rests ≡ feeds → length feeds ≡ n → are_short feeds ≡ true → AreGiven feeds (replicate n []) rests
+pub none_given : (feeds rests : List (List (List ℕ))) (n : ℕ) → rests ≡ feeds → length feeds ≡ n → are_short feeds ≡ true
+    → AreGiven feeds (replicate n []) rests
 none_given feeds rests n is count short = record {
   count = length-replicate n [] ∙ (sym count ∙ ap length (sym is));
   all = none_appended rests n (ap length is ∙ count) ∙ is;
@@ -112,4 +123,5 @@ all_given feeds given rests was are = sym (all_appended given rests was.count ar
 -- where none is left of any lane, all were given
 pub all_left : (rests : List (List (List ℕ))) → ((l : ℕ) → l < length rests → get_or rests l [] ≡ []) → are_given rests ≡ true
 all_left [] none = refl
-all_left (xs ∷ rests) none = ap (λ b. b && are_given rests) (ap (λ ys. length ys == 0) (none 0 (omega arith))) ∙ all_left rests (λ l low. none (suc l) (omega (arith, low)))
+all_left (xs ∷ rests) none = ap (λ b. b && are_given rests) (ap (λ ys. length ys == 0) (none 0 (omega arith)))
+    ∙ all_left rests (λ l low. none (suc l) (omega (arith, low)))

@@ -23,18 +23,21 @@ lane_more v w x lane issued is share none count order at number =
       ap (numbered lane 0) put ∙ numbered_more lane 0 v.pushed x order at (omega arith),
     )
 
-rows_more : (l n year : ℕ) (rows : List (List ℕ)) (row : List ℕ) → numbered_rows l n year (rows ++ row ∷ []) ≡ numbered_rows l n year rows ++ plain_of l (n + length rows) year row ∷ []
+rows_more : (l n year : ℕ) (rows : List (List ℕ)) (row : List ℕ) → numbered_rows l n year (rows ++ row ∷ []) ≡ numbered_rows l n year rows
+    ++ plain_of l (n + length rows) year row ∷ []
 rows_more l n year [] row = let e : n ≡ n + 0 = omega arith in ap (λ m. plain_of l m year row ∷ []) e
 rows_more l n year (r ∷ rows) row =
     let e : n + 1 + length rows ≡ n + suc (length rows) = omega arith in
     ap (λ xs. plain_of l n year r ∷ xs) (rows_more l (n + 1) year rows row ∙ ap (λ m. numbered_rows l (n + 1) year rows ++ plain_of l m year row ∷ []) e)
 
 -- what was submitted are the rows, numbered, one more
-pub rows_and_one : (l year issued : ℕ) (xs ys : List Plain) (row : List ℕ) → xs ≡ numbered_rows l 0 year (map (λ x. x.widths) xs) → issued ≡ length xs → ys ≡ xs ++ plain_of l issued year row ∷ []
+pub rows_and_one : (l year issued : ℕ) (xs ys : List Plain) (row : List ℕ) → xs ≡ numbered_rows l 0 year (map (λ x. x.widths) xs) → issued ≡ length xs → ys ≡ xs
+    ++ plain_of l issued year row ∷ []
     → ys ≡ numbered_rows l 0 year (map (λ x. x.widths) ys)
 rows_and_one l year issued xs ys row was count is =
     let rows = map (λ (x : Plain). x.widths) xs in
-    let more : map (λ (x : Plain). x.widths) ys ≡ rows ++ row ∷ [] = ap (map (λ (x : Plain). x.widths)) is ∙ map-append (λ (x : Plain). x.widths) xs (plain_of l issued year row ∷ []) in
+    let more : map (λ (x : Plain). x.widths) ys ≡ rows ++ row ∷ [] =
+    ap (map (λ (x : Plain). x.widths)) is ∙ map-append (λ (x : Plain). x.widths) xs (plain_of l issued year row ∷ []) in
     let long : length rows ≡ length xs = length_rows xs in
     let at : 0 + length rows ≡ issued = omega arith in
     is ∙ (ap (λ zs. zs ++ plain_of l issued year row ∷ []) was ∙ (ap (λ m. numbered_rows l 0 year rows ++ plain_of l m year row ∷ []) (sym at)
@@ -49,13 +52,16 @@ put_in true p xs ys = refl
 put_in false p xs ys = refl
 
 at_last : (b : Bool) (lane n : ℕ) (p : Plain) (ps : List Plain) (x : Plain)
-    → kept lane (suc n) (ps ++ x ∷ []) ≡ cond ((x.lane == lane) && (x.number == suc n + length (kept lane (suc n) ps))) (kept lane (suc n) ps ++ x ∷ []) (kept lane (suc n) ps)
+    → kept lane (suc n) (ps ++ x ∷ []) ≡ cond ((x.lane == lane) && (x.number == suc n + length (kept lane (suc n) ps))) (kept lane (suc n) ps ++ x ∷ [])
+    (kept lane (suc n) ps)
     → kept lane n (ps ++ x ∷ []) ≡ cond ((x.lane == lane) && (x.number == n + length (kept lane n ps))) (kept lane n ps ++ x ∷ []) (kept lane n ps)
     → cond b (p ∷ kept lane (suc n) (ps ++ x ∷ [])) (kept lane n (ps ++ x ∷ []))
-    ≡ cond ((x.lane == lane) && (x.number == n + length (cond b (p ∷ kept lane (suc n) ps) (kept lane n ps)))) (cond b (p ∷ kept lane (suc n) ps) (kept lane n ps) ++ x ∷ []) (cond b (p ∷ kept lane (suc n) ps) (kept lane n ps))
+    ≡ cond ((x.lane == lane) && (x.number == n + length (cond b (p ∷ kept lane (suc n) ps) (kept lane n ps))))
+    (cond b (p ∷ kept lane (suc n) ps) (kept lane n ps) ++ x ∷ []) (cond b (p ∷ kept lane (suc n) ps) (kept lane n ps))
 at_last true lane n p ps x is _ =
     let e : suc n + length (kept lane (suc n) ps) ≡ n + suc (length (kept lane (suc n) ps)) = omega arith in
-    ap (λ l. p ∷ l) is ∙ (put_in ((x.lane == lane) && (x.number == suc n + length (kept lane (suc n) ps))) p (kept lane (suc n) ps ++ x ∷ []) (kept lane (suc n) ps)
+    ap (λ l. p ∷ l) is ∙ (put_in ((x.lane == lane) && (x.number == suc n + length (kept lane (suc n) ps))) p (kept lane (suc n) ps ++ x ∷ [])
+    (kept lane (suc n) ps)
     ∙ ap (λ m. cond ((x.lane == lane) && (x.number == m)) (p ∷ (kept lane (suc n) ps ++ x ∷ [])) (p ∷ kept lane (suc n) ps)) e)
 at_last false lane n p ps x _ is = is
 
@@ -69,7 +75,8 @@ pub polled_more : (lane k : ℕ) (old new : List Plain) (x : Plain) (b : Bool) �
     → kept lane 0 new ≡ cond b (kept lane 0 old ++ x ∷ []) (kept lane 0 old)
 polled_more lane k old new x b is count test =
     let e : 0 + length (kept lane 0 old) ≡ k = omega arith in
-    ap (kept lane 0) is ∙ (kept_more lane 0 old x ∙ (ap (λ m. cond ((x.lane == lane) && (x.number == m)) (kept lane 0 old ++ x ∷ []) (kept lane 0 old)) e ∙ ap (λ c. cond c (kept lane 0 old ++ x ∷ []) (kept lane 0 old)) test))
+    ap (kept lane 0) is ∙ (kept_more lane 0 old x ∙ (ap (λ m. cond ((x.lane == lane) && (x.number == m)) (kept lane 0 old ++ x ∷ []) (kept lane 0 old)) e
+    ∙ ap (λ c. cond c (kept lane 0 old ++ x ∷ []) (kept lane 0 old)) test))
 
 pub test_of : (tl tn xl xn lane k : ℕ) (r b : Bool) → r ≡ ((tl == lane) && (tn == k)) → tl ≡ xl → tn ≡ xn → r ≡ b → ((xl == lane) && (xn == k)) ≡ b
 test_of tl tn xl xn lane k r b is l n at = (λ i. (sym l i == lane) && (sym n i == k)) ∙ (sym is ∙ at)
@@ -78,9 +85,14 @@ pub ticket_parts : (lane k : ℕ) (x : Plain) → is_ticket_of lane k x ≡ true
 ticket_parts lane k x e = let s = and_parts (x.lane == lane) (x.number == k) e in (eqb-true x.lane lane s.0, eqb-true x.number k s.1)
 
 -- what a lane's seat keeps of what it has polled, after it polled x
-pub polls_more : (lane k : ℕ) (old new : List Plain) (x : Plain) → new ≡ old ++ x ∷ [] → k ≡ length (kept lane 0 old) → numbered lane 0 (kept lane 0 old) ≡ true → is_ticket_of lane k x ≡ true
+pub polls_more : (lane k : ℕ) (old new : List Plain) (x : Plain) → new ≡ old ++ x ∷ [] → k ≡ length (kept lane 0 old) → numbered lane 0 (kept lane 0 old) ≡ true
+    → is_ticket_of lane k x ≡ true
     → (kept lane 0 new ≡ kept lane 0 old ++ x ∷ []) × (k + 1 ≡ length (kept lane 0 new)) × (numbered lane 0 (kept lane 0 new) ≡ true)
 polls_more lane k old new x is count order test =
     let e = polled_more lane k old new x true is count test in
-    let p = ticket_parts lane k x test in
-    (e, omega (arith, ap length e, length-append (kept lane 0 old) (x ∷ [])), ap (numbered lane 0) e ∙ numbered_more lane 0 (kept lane 0 old) x order p.0 (omega (arith, p.1)))
+    let p = ticket_parts lane k x test in (
+      e,
+      omega (arith, ap length e, length-append (kept lane 0 old) (x ∷ [])),
+      ap (numbered lane 0) e
+          ∙ numbered_more lane 0 (kept lane 0 old) x order p.0 (omega (arith, p.1)),
+    )

@@ -31,13 +31,15 @@ unfolding as_lane
 fresh_lanes [] all = refl
 fresh_lanes (s ∷ ls) all =
     let here = all 0 s (omega arith) in
-    let first = same_lane (lane_of s) (map (λ (x : Plain). x.widths) (submitted s)) [] (polled s) [] (ap (map (λ (x : Plain). x.widths)) here.0) (ap (kept (lane_of s) 0) here.1) in
+    let first = same_lane (lane_of s) (map (λ (x : Plain). x.widths) (submitted s)) [] (polled s) [] (ap (map (λ (x : Plain). x.widths)) here.0)
+    (ap (kept (lane_of s) 0) here.1) in
     let others = fresh_lanes ls (λ k d less. all (suc k) d (omega arith)) in
     λ i. first i ∷ others i
 
 -- with what a lane polled, its list is its rows
 abbrev pub GivesRows : Hub → List LaneSeat → List (List Plain) → Type 0
-GivesRows h lanes lists = (i : ℕ) (v : LaneSeat) → slice_get lanes i ≡ Some v → polled v ++ get_or lists (lane_of v) [] ≡ numbered_rows (lane_of v) 0 (year_of h) (submitted_rows v)
+GivesRows h lanes lists = (i : ℕ) (v : LaneSeat) → slice_get lanes i ≡ Some v → polled v ++ get_or lists (lane_of v) []
+    ≡ numbered_rows (lane_of v) 0 (year_of h) (submitted_rows v)
 
 pub settled : (h : Hub) (ls : List LaneSeat) (lists : List (List Plain)) → GivesRows h ls lists → AreSettled (year_of h) (map as_lane ls) lists
 unfolding as_lane
@@ -48,7 +50,8 @@ settled h ls lists gives k d less =
 
 -- what each lane polled is the first of what its rows are served
 abbrev pub PolledFirst : Hub → List LaneSeat → Type 0
-PolledFirst h lanes = (i : ℕ) (v : LaneSeat) → slice_get lanes i ≡ Some v → (rest : List Plain) × (polled v ++ rest ≡ numbered_rows (lane_of v) 0 (year_of h) (submitted_rows v))
+PolledFirst h lanes = (i : ℕ) (v : LaneSeat) → slice_get lanes i ≡ Some v → (rest : List Plain)
+    × (polled v ++ rest ≡ numbered_rows (lane_of v) 0 (year_of h) (submitted_rows v))
 
 pub polled_first : (h : Hub) (ls : List LaneSeat) → PolledFirst h ls → ArePolledFirst (year_of h) (map as_lane ls)
 unfolding as_lane
@@ -61,10 +64,12 @@ polled_first h ls first k d less =
 pub first_of : (h : Hub) (ls : List LaneSeat) → ArePolledFirst (year_of h) (map as_lane ls) → PolledFirst h ls
 unfolding as_lane
 first_of h ls first i v at =
-    all_at (λ (lane : Lane). (rest : List Plain) × (lane.polled ++ rest ≡ deliveries lane.number (year_of h) lane.rows)) (map as_lane ls) i (as_lane v) first (get_map as_lane ls i v at)
+    all_at (λ (lane : Lane). (rest : List Plain) × (lane.polled ++ rest ≡ deliveries lane.number (year_of h) lane.rows)) (map as_lane ls) i (as_lane v) first
+    (get_map as_lane ls i v at)
 
 pub headline : (year : ℕ) (lanes : List Lane) (lists : List (List Plain)) (i : ℕ) (lane : Lane) (answers : List Answer)
-    → AreSettled year lanes lists → slice_get lanes i ≡ Some lane → AreAnswersOf (lane.polled ++ get_or lists lane.number []) answers → Reads lane.rows year answers
+    → AreSettled year lanes lists → slice_get lanes i ≡ Some lane → AreAnswersOf (lane.polled ++ get_or lists lane.number []) answers
+    → Reads lane.rows year answers
 headline year lanes lists i lane answers settled at all =
     let is = all_at (λ (l : Lane). l.polled ++ get_or lists l.number [] ≡ deliveries l.number year l.rows) lanes i lane settled at in
     rows_read lane.number 0 year lane.rows answers (subst (λ (xs : List Plain). AreAnswersOf xs answers) is all)

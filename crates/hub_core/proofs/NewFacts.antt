@@ -37,7 +37,8 @@ small s e =
     (count_small s.lanes a.0, count_small s.workers b.0)
 
 -- the shares of the queue of jobs that are left
-pub left_of_jobs : (a b c : Trace) (n w : ℕ) → n ≤ 16 → w ≤ 16 → a ≡ trace 1024 [] [] → b ≡ trace (a.shares - n) a.pushed a.popped → c ≡ trace (b.shares - w) b.pushed b.popped
+pub left_of_jobs : (a b c : Trace) (n w : ℕ) → n ≤ 16 → w ≤ 16 → a ≡ trace 1024 [] [] → b ≡ trace (a.shares - n) a.pushed a.popped → c
+    ≡ trace (b.shares - w) b.pushed b.popped
     → (c.pushed ≡ []) × (c.popped ≡ []) × (0 < c.shares) × (c.shares + n + w ≡ 1024)
 left_of_jobs a b c n w few fewer first cut cut' =
     let p = ap (λ (t : Trace). t.shares) first in
@@ -75,7 +76,8 @@ or_none : (a b : Bool) → a ≡ b → (a || false) ≡ b
 or_none true b e = e
 or_none false b e = e
 
-pub fresh_accounted : (n capacity : ℕ) (rings : List PushEnd) (d : ReorderBuffer) (collected : List Plain) → d ≡ new_buffer n → length rings ≡ n → All (IsUnsent capacity) rings → collected ≡ []
+pub fresh_accounted : (n capacity : ℕ) (rings : List PushEnd) (d : ReorderBuffer) (collected : List Plain) → d ≡ new_buffer n → length rings ≡ n
+    → All (IsUnsent capacity) rings → collected ≡ []
     → Accounted d collected [] (all_sent rings)
 fresh_accounted n capacity rings d collected is long unsent none =
     let given = unsent_all capacity rings unsent in
@@ -114,17 +116,20 @@ has_each n numbers is l =
 pub given_none : (capacity : ℕ) (rings : List PushEnd) (l : ℕ) → All (IsUnsent capacity) rings → get_or (all_sent rings) l [] ≡ []
 given_none capacity rings l unsent = ap (λ gs. get_or gs l []) (unsent_all capacity rings unsent) ∙ empties_at rings l
 
-pub ring_of : (made rings : List PushEnd) (s : LaneSeat) → made ≡ rings → IsPairedIn rings s → (r : PushEnd) → slice_get made (lane_of s) ≡ Some r → IsPair r s.ring
+pub ring_of : (made rings : List PushEnd) (s : LaneSeat) → made ≡ rings → IsPairedIn rings s → (r : PushEnd) → slice_get made (lane_of s) ≡ Some r
+    → IsPair r s.ring
 ring_of made rings s is paired r at = paired.1 r (ap (λ rs. slice_get rs (lane_of s)) (sym is) ∙ at)
 
 first_is : {X : Type 0} (x y : X) (o : Option X) → o ≡ Some x → o ≡ Some y → x ≡ y
 first_is x y None e f = absurd (cc)
 first_is x y (Some z) e f = cc
 
-pub same_ends : (made rings : List PushEnd) → made ≡ rings → (length rings ≡ length made) × ((l : ℕ) (r t : PushEnd) → slice_get made l ≡ Some r → slice_get rings l ≡ Some t → SameProducer r t)
+pub same_ends : (made rings : List PushEnd) → made ≡ rings → (length rings ≡ length made)
+    × ((l : ℕ) (r t : PushEnd) → slice_get made l ≡ Some r → slice_get rings l ≡ Some t → SameProducer r t)
 same_ends made rings is = (
   ap length (sym is),
-  λ l r t e f. subst (λ (u : PushEnd). SameProducer r u) (first_is r t (slice_get rings l) (ap (λ rs. slice_get rs l) (sym is) ∙ e) f) ((refl, refl, refl, refl), refl),
+  λ l r t e f. subst (λ (u : PushEnd). SameProducer r u) (first_is r t (slice_get rings l) (ap (λ rs. slice_get rs l) (sym is) ∙ e) f)
+      ((refl, refl, refl, refl), refl),
 )
 
 pub no_rows : (l year : ℕ) (xs : List Plain) → xs ≡ [] → xs ≡ numbered_rows l 0 year (map (λ x. x.widths) xs)

@@ -30,13 +30,19 @@ paired_more rings ss r s paired at pair =
     (omega arith, λ t e. subst (λ (u : PushEnd). IsPair u s.ring) (get_last rings r t (ap (slice_get (rings ++ r ∷ [])) (sym at) ∙ e)) pair)
 
 -- one share less
-pub cut_more : (b v : Trace) (i : ℕ) → v ≡ trace (b.shares - i) b.pushed b.popped → trace (v.shares - 1) v.pushed v.popped ≡ trace (b.shares - (i + 1)) b.pushed b.popped
-cut_more b v i is = trace_is _ _ _ _ _ _ (let e = ap (λ (h : Trace). h.shares) is in omega arith) (ap (λ (h : Trace). h.pushed) is) (ap (λ (h : Trace). h.popped) is)
+pub cut_more : (b v : Trace) (i : ℕ) → v ≡ trace (b.shares - i) b.pushed b.popped → trace (v.shares - 1) v.pushed v.popped
+    ≡ trace (b.shares - (i + 1)) b.pushed b.popped
+cut_more b v i is = trace_is _ _ _ _ _ _ (let e = ap (λ (h : Trace). h.shares) is in omega arith) (ap (λ (h : Trace). h.pushed) is)
+    (ap (λ (h : Trace). h.popped) is)
 
 range_snoc : (a n : ℕ) → range_with_len a (suc n) ≡ range_with_len a n ++ (a + n) ∷ []
 range_snoc a zero = let e : a ≡ a + 0 = omega arith in λ j. e j ∷ []
-range_snoc a (suc n) = let r = range_snoc (a + 1) n in let e : a + 1 + n ≡ a + suc n = omega arith in ap (λ l. a ∷ l) (r ∙ ap (λ k. range_with_len (a + 1) n ++ k ∷ []) e)
+range_snoc a (suc n) = let r = range_snoc (a + 1) n in let e : a + 1 + n ≡ a + suc n =
+    omega arith in ap (λ l. a ∷ l) (r ∙ ap (λ k. range_with_len (a + 1) n ++ k ∷ []) e)
 
-pub lanes_more : (ss ts : List LaneSeat) (s : LaneSeat) (i : ℕ) → numbers_of ss ≡ range_with_len 0 i → ts ≡ ss ++ s ∷ [] → s.lane ≡ i → numbers_of ts ≡ range_with_len 0 (i + 1)
+pub lanes_more : (ss ts : List LaneSeat) (s : LaneSeat) (i : ℕ) → numbers_of ss ≡ range_with_len 0 i → ts ≡ ss ++ s ∷ [] → s.lane ≡ i → numbers_of ts
+    ≡ range_with_len 0 (i + 1)
 lanes_more ss ts s i was is at =
-    ap numbers_of is ∙ (map-append (λ (u : LaneSeat). u.lane) ss (s ∷ []) ∙ ((λ j. was j ++ at j ∷ []) ∙ (let e : i ≡ 0 + i = omega arith in let f : suc i ≡ i + 1 = omega arith in ap (λ k. range_with_len 0 i ++ k ∷ []) e ∙ (sym (range_snoc 0 i) ∙ ap (range_with_len 0) f))))
+    ap numbers_of is ∙ (map-append (λ (u : LaneSeat). u.lane) ss (s ∷ [])
+    ∙ ((λ j. was j ++ at j ∷ []) ∙ (let e : i ≡ 0 + i = omega arith in let f : suc i ≡ i + 1 =
+    omega arith in ap (λ k. range_with_len 0 i ++ k ∷ []) e ∙ (sym (range_snoc 0 i) ∙ ap (range_with_len 0) f))))

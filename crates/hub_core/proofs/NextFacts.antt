@@ -20,19 +20,23 @@ pub is_there : {X : Type 0} (o : Option X) → is_none o ≡ false → is_some o
 is_there None none = absurd (cc)
 is_there (Some x) none = refl
 
-pub with_number : {X : Type 0} (f : X → Plain) (d : ReorderBuffer) (l : ℕ) (o : Option X) (n : ℕ) → n ≡ next_of d l → IfSome o (λ x. WaitsAsNext d l (f x)) → IfSome o (λ x. WaitsAsNext d l (f x) × ((f x).number ≡ n))
+pub with_number : {X : Type 0} (f : X → Plain) (d : ReorderBuffer) (l : ℕ) (o : Option X) (n : ℕ) → n ≡ next_of d l → IfSome o (λ x. WaitsAsNext d l (f x))
+    → IfSome o (λ x. WaitsAsNext d l (f x) × ((f x).number ≡ n))
 with_number f d l None n e is = tt
 with_number f d l (Some x) n e is = (is, is.number ∙ sym e)
 
 -- what is among those that are not set aside
 sift_by : (b : Bool) (n l k : ℕ) (seen : List Plain) (x : Plain) → (nat_lt x.lane n && not (is_among x.lane x.number seen)) ≡ b → l < n
     → is_among l k (cond b (seen ++ x ∷ []) seen) ≡ (is_among l k seen || is_ticket_of l k x)
-sift_by true n l k seen x e low = list_any-append (λ (p : Plain). is_ticket_of l k p) seen (x ∷ []) ∙ ap (λ b. is_among l k seen || b) (or_none (is_ticket_of l k x))
+sift_by true n l k seen x e low = list_any-append (λ (p : Plain). is_ticket_of l k p) seen (x ∷ [])
+    ∙ ap (λ b. is_among l k seen || b) (or_none (is_ticket_of l k x))
   where
     or_none : (b : Bool) → (b || false) ≡ b
     or_none true = refl
     or_none false = refl
-sift_by false n l k seen x e low = passed (is_ticket_of l k x) (is_among l k seen) (λ h. let p = ticket_parts l k x h in there (nat_lt x.lane n) (is_among x.lane x.number seen) e (λ i. is_among (p.0 i) (p.1 i) seen) (lt_true x.lane n (omega (arith, p.0))))
+sift_by false n l k seen x e low = passed (is_ticket_of l k x) (is_among l k seen)
+    (λ h. let p = ticket_parts l k x h in there (nat_lt x.lane n) (is_among x.lane x.number seen) e (λ i. is_among (p.0 i) (p.1 i) seen)
+    (lt_true x.lane n (omega (arith, p.0))))
   where
     lt_true : (a b : ℕ) → a < b → nat_lt a b ≡ true
     lt_true a b h = grind (arith, nat_tests)
@@ -83,7 +87,8 @@ fresh_apart d l k [] all e = absurd (cc)
 fresh_apart d l k (y ∷ ys) all e =
     let s = and_parts (is_new d y) (list_all (is_new d) ys) all in
     or_else (is_ticket_of l k y) (is_among l k ys) (was_taken d l k) e
-    (λ h. let p = ticket_parts l k y h in subst (λ (m : ℕ × ℕ). was_taken d m.0 m.1 ≡ false) (λ i. (p.0 i, p.1 i)) (not_taken (nat_lt y.lane (lanes_of d)) (was_taken d y.lane y.number) s.0))
+    (λ h. let p = ticket_parts l k y h in subst (λ (m : ℕ × ℕ). was_taken d m.0 m.1 ≡ false) (λ i. (p.0 i, p.1 i))
+    (not_taken (nat_lt y.lane (lanes_of d)) (was_taken d y.lane y.number) s.0))
     (λ h. fresh_apart d l k ys s.1 h)
   where
     or_else : (a b t : Bool) → (a || b) ≡ true → (a ≡ true → t ≡ false) → (b ≡ true → t ≡ false) → t ≡ false

@@ -23,7 +23,15 @@ split_by F m k = ⊎_elim
 
 split : (F : ℕ → ℕ) (m : ℕ) (ks : List ℕ) → sum_by F ks ≡ sum_by (λ k. cond (k == m) (F m) 0) ks + sum_by (λ k. cond (k == m) 0 (F k)) ks
 split F m [] = refl
-split F m (k ∷ ks) = omega (arith, sum_by-cons F k ks, sum_by-cons (λ j. cond (j == m) (F m) 0) k ks, sum_by-cons (λ j. cond (j == m) 0 (F j)) k ks, split_by F m k, split F m ks)
+split F m (k ∷ ks) = omega (
+  arith,
+  sum_by-cons F k ks,
+  sum_by-cons (λ j. cond (j == m) (F m) 0) k ks,
+  sum_by-cons (λ j. cond (j == m) 0 (F j)) k ks,
+  split_by F
+      m k,
+  split F m ks,
+)
 
 one_by : (b : Bool) (c n m : ℕ) → once b + n ≡ 1 → (n ≡ 0 → m ≡ 0) → (n ≡ 1 → m ≡ c) → cond b c 0 + m ≡ c
 one_by true c n m e f g = let z = f (omega arith) in omega arith
@@ -33,20 +41,36 @@ picked_none : (c m : ℕ) (ks : List ℕ) → count_by (λ k. k == m) ks ≡ 0 �
 picked_none c m [] e = refl
 picked_none c m (k ∷ ks) e =
     let count = sum_by-cons (λ j. once (j == m)) k ks in
-    omega (arith, sum_by-cons (λ j. cond (j == m) c 0) k ks, none_by (k == m) c (count_by (λ j. j == m) ks) (sum_by (λ j. cond (j == m) c 0) ks) (omega arith) (λ f. picked_none c m ks f))
+    omega (
+      arith,
+      sum_by-cons (λ j. cond (j == m) c 0) k ks,
+      none_by (k == m) c (count_by (λ j. j == m) ks) (sum_by (λ j. cond (j == m) c 0) ks) (omega arith)
+          (λ f. picked_none c m ks f),
+    )
 
 picked_one : (c m : ℕ) (ks : List ℕ) → count_by (λ k. k == m) ks ≡ 1 → sum_by (λ k. cond (k == m) c 0) ks ≡ c
 picked_one c m [] e = absurd (omega arith)
 picked_one c m (k ∷ ks) e =
     let count = sum_by-cons (λ j. once (j == m)) k ks in
-    omega (arith, sum_by-cons (λ j. cond (j == m) c 0) k ks, one_by (k == m) c (count_by (λ j. j == m) ks) (sum_by (λ j. cond (j == m) c 0) ks) (omega arith) (λ f. picked_none c m ks f) (λ f. picked_one c m ks f))
+    omega (
+      arith,
+      sum_by-cons (λ j. cond (j == m) c 0) k ks,
+      one_by (k == m) c (count_by (λ j. j == m) ks) (sum_by (λ j. cond (j == m) c 0) ks) (omega arith)
+          (λ f. picked_none c m ks f) (λ f. picked_one c m ks f),
+    )
 
 -- numbers past m are not m
 range_above : (F : ℕ → ℕ) (m a n : ℕ) → m < a → sum_by (λ k. cond (k == m) 0 (F k)) (range_with_len a n) ≡ sum_by F (range_with_len a n)
 range_above F m a zero less = refl
 range_above F m a (suc n) less =
     let b : cond (a == m) 0 (F a) ≡ F a = ap (λ b. cond b 0 (F a)) (ne_eqb a m (λ e. omega arith)) in
-    omega (arith, sum_by-cons F a (range_with_len (a + 1) n), sum_by-cons (λ k. cond (k == m) 0 (F k)) a (range_with_len (a + 1) n), range_above F m (a + 1) n (omega arith))
+    omega (
+      arith,
+      sum_by-cons F a (range_with_len (a + 1) n),
+      sum_by-cons (λ k. cond (k == m) 0 (F k)) a (range_with_len (a + 1) n),
+      range_above F m (a + 1) n
+          (omega arith),
+    )
 
 past_by : (F : ℕ → ℕ) (m k : ℕ) → (k < m → F k ≡ 0) → (m ≤ k → ⊥) → F k ≡ 0
 past_by F m k low high = ⊎_elim (λ (e : k < m). low e) (λ (e : m ≤ k). absurd (high e)) (cases_lt k m)
@@ -55,14 +79,16 @@ past_by F m k low high = ⊎_elim (λ (e : k < m). low e) (λ (e : m ≤ k). abs
 none_past : (F : ℕ → ℕ) (m : ℕ) (ks : List ℕ) → ((l : ℕ) → m ≤ l → count_by (λ k. k == l) ks ≡ 0) → ((l : ℕ) → l < m → F l ≡ 0) → sum_by F ks ≡ 0
 none_past F m [] none low = refl
 none_past F m (k ∷ ks) none low =
-    let here = past_by F m k (low k) (λ e. let a = none k e in let b : once (k == k) ≡ 1 = ap once (eq-eqb k k refl) in omega (arith, sum_by-cons (λ j. once (j == k)) k ks)) in
+    let here = past_by F m k (low k) (λ e. let a = none k e in let b : once (k == k) ≡ 1 =
+    ap once (eq-eqb k k refl) in omega (arith, sum_by-cons (λ j. once (j == k)) k ks)) in
     omega (arith, sum_by-cons F k ks, none_past F m ks (λ l e. let a = none l e in omega (arith, sum_by-cons (λ j. once (j == l)) k ks)) low)
 
 zero_both : (b : Bool) → ◌≡◌ {A = ℕ} (cond b 0 0) 0
 zero_both true = refl
 zero_both false = refl
 
-from_each : (F : ℕ → ℕ) (m n : ℕ) (ks : List ℕ) → ((l : ℕ) → m ≤ l → count_by (λ k. k == l) ks ≡ once (nat_lt l (m + n))) → ((l : ℕ) → l < m → F l ≡ 0) → sum_by F ks ≡ sum_by F (range_with_len m n)
+from_each : (F : ℕ → ℕ) (m n : ℕ) (ks : List ℕ) → ((l : ℕ) → m ≤ l → count_by (λ k. k == l) ks ≡ once (nat_lt l (m + n))) → ((l : ℕ) → l < m → F l ≡ 0)
+    → sum_by F ks ≡ sum_by F (range_with_len m n)
 from_each F m zero ks counts low = none_past F m ks (λ l e. counts l e ∙ ap once (le-ltb l (m + 0) (omega arith))) low
 from_each F m (suc n) ks counts low =
     let G : ℕ → ℕ = λ k. cond (k == m) 0 (F k) in

@@ -35,21 +35,28 @@ no_items (x ∷ xs) e = absurd (omega arith)
 empty_at : (lists : List Listed) (l : ℕ) (v : Listed) → sum_all (λ (_ : Plain). 1) (items_of lists) ≡ 0 → slice_get lists l ≡ Some v → v.items ≡ []
 empty_at [] l v none e = absurd (cc)
 empty_at (x ∷ xs) zero v none e =
-    let a = ap (λ (u : Listed). length u.items) (same_Some x v e) in no_items v.items (omega (arith, sum_by-cons (λ (ys : List Plain). sum_by (λ _. 1) ys) x.items (items_of xs), sum_ones x.items))
+    let a = ap (λ (u : Listed). length u.items) (same_Some x v e) in
+    no_items v.items (omega (arith, sum_by-cons (λ (ys : List Plain). sum_by (λ _. 1) ys) x.items (items_of xs), sum_ones x.items))
 empty_at (x ∷ xs) (suc l) v none e = empty_at xs l v (omega (arith, sum_by-cons (λ (ys : List Plain). sum_by (λ _. 1) ys) x.items (items_of xs))) e
 
 own_empty : (lists : List Listed) → sum_all (λ (_ : Plain). 1) (items_of lists) ≡ 0 → AreOwn lists
 own_empty lists none l v e = ap (list_all (λ (x : Plain). x.lane == l)) (empty_at lists l v none e)
 
 -- sorted lists have the same sum
-sum_sorted : (h : Plain → ℕ) (old new : List Listed) → length new ≡ length old → ((l : ℕ) (v w : Listed) → slice_get old l ≡ Some v → slice_get new l ≡ Some w → IsPermutation v.items w.items)
+sum_sorted : (h : Plain → ℕ) (old new : List Listed) → length new ≡ length old
+    → ((l : ℕ) (v w : Listed) → slice_get old l ≡ Some v → slice_get new l ≡ Some w → IsPermutation v.items w.items)
     → sum_all h (items_of new) ≡ sum_all h (items_of old)
 sum_sorted h [] [] long same = refl
 sum_sorted h [] (w ∷ ws) long same = absurd (omega arith)
 sum_sorted h (v ∷ vs) [] long same = absurd (omega arith)
 sum_sorted h (v ∷ vs) (w ∷ ws) long same =
     let here = sum_by-IsPermutation h v.items w.items (same 0 v w refl refl) in
-    omega (arith, sum_by-cons (λ (ys : List Plain). sum_by h ys) v.items (items_of vs), sum_by-cons (λ (ys : List Plain). sum_by h ys) w.items (items_of ws), sum_sorted h vs ws (omega arith) (λ l a b e f. same (suc l) a b e f))
+    omega (
+      arith,
+      sum_by-cons (λ (ys : List Plain). sum_by h ys) v.items (items_of vs),
+      sum_by-cons (λ (ys : List Plain). sum_by h ys) w.items (items_of ws),
+      sum_sorted h vs ws (omega arith) (λ l a b e f. same (suc l) a b e f),
+    )
 
 -- lane l's list at the end
 abbrev list_at : List Listed → ℕ → List Plain
@@ -82,7 +89,8 @@ abbrev pub Owes : List LaneSeat → List (List Plain) → Type 0
 Owes lanes lists = (i : ℕ) (v : LaneSeat) → slice_get lanes i ≡ Some v → polled v ++ get_or lists (lane_of v) [] ≡ submitted v
 
 pub owed : (ls : List LaneSeat) (ws : List WorkerSeat) (d : DelivererSeat) (jobs results found : List Plain) (n : ℕ) (made drained sorted : List Listed)
-    → ClaimsSettle → Finds ls ws d jobs results found → Whole ls ws d jobs results → lane_count d ≡ n → AreMade ls n made → DrainsInto made drained found → Sorts drained sorted → Owes ls (items_of sorted)
+    → ClaimsSettle → Finds ls ws d jobs results found → Whole ls ws d jobs results → lane_count d ≡ n → AreMade ls n made → DrainsInto made drained found
+    → Sorts drained sorted → Owes ls (items_of sorted)
 owed ls ws d jobs results found n made drained sorted claims_settle finds whole count are_made drains sorts =
     let m = lane_count d in
     let one = one_lane m ls whole.each in
@@ -106,7 +114,8 @@ owed ls ws d jobs results found n made drained sorted claims_settle finds whole 
       record {
         submitted = s.in_order;
         polled = s.polled_in_order;
-        own = ap (list_all (λ (x : Plain). x.lane == l)) (sym {A = List Plain} list) ∙ all_same (λ (x : Plain). x.lane == l) at.end.items at.list.items same.0 (own l at.end at.at_end);
+        own = ap (list_all (λ (x : Plain). x.lane == l)) (sym {A = List Plain} list)
+            ∙ all_same (λ (x : Plain). x.lane == l) at.end.items at.list.items same.0 (own l at.end at.at_end);
         rising = ap rises (sym {A = List Plain} list) ∙ same.1;
       },
       λ less.
@@ -120,7 +129,8 @@ owed ls ws d jobs results found n made drained sorted claims_settle finds whole 
     (λ l. subst (λ k. k ≤ 1) (sym (sum_by-map (λ (c : Claim). once (c.lane == l)) (claim_of sorted) ls)) (one l))
     (λ g.
     let a = sum_by-map (λ (c : Claim). sum_by g c.submitted) (claim_of sorted) ls ∙ whole.sum g in
-    let b = sum_by-map (λ (c : Claim). sum_by g c.polled) (claim_of sorted) ls ∙ sum_same (λ (s : LaneSeat). sum_by g (polled s)) (λ (s : LaneSeat). sum_by g (received s)) ls (λ i s e. ap (sum_by g) (whole.polled i s e).0) in
+    let b = sum_by-map (λ (c : Claim). sum_by g c.polled) (claim_of sorted) ls
+    ∙ sum_same (λ (s : LaneSeat). sum_by g (polled s)) (λ (s : LaneSeat). sum_by g (received s)) ls (λ i s e. ap (sum_by g) (whole.polled i s e).0) in
     let e = sum_by-map (λ l. sum_by g (handed d l)) (λ (s : LaneSeat). lane_of s) ls ∙ whole.sent g in
     let f = finds.whole g in
     omega arith)

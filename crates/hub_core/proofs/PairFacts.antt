@@ -36,7 +36,8 @@ pub ends_same : (rings : List PushEnd) → AreSameEnds rings rings
 ends_same rings = record { long = refl; each = λ l r t e f. subst (λ (u : PushEnd). SameProducer r u) (same_some r t rings l e f) (same_self r) }
 
 -- one of the rings was drained
-pub ends_more : (old now : List PushEnd) (l : ℕ) (r t : PushEnd) → AreSameEnds old now → r ≡ get_or now l r → l < length now → SameProducer r t → AreSameEnds old (set now l t)
+pub ends_more : (old now : List PushEnd) (l : ℕ) (r t : PushEnd) → AreSameEnds old now → r ≡ get_or now l r → l < length now → SameProducer r t
+    → AreSameEnds old (set now l t)
 ends_more old now l r t ends at less same = record {
   long = length-set now l t ∙ ends.long;
   each = λ k b u eb eu. ⊎_elim
@@ -67,11 +68,13 @@ pub lane_jobs : (b v w : Trace) (ss : List LaneSeat) (s : LaneSeat)
 lane_jobs b v w ss s was is =
     is ∙ trace_is _ _ _ _ _ _
     (let e = ap (λ (h : Trace). h.shares) was in let f = s.share in omega (arith, length-append ss (s ∷ [])))
-    (ap (λ (h : Trace). h.pushed ++ submitted s) was ∙ (append_assoc b.pushed (flat_map submitted ss) (submitted s) ∙ ap (λ l. b.pushed ++ l) (sym (flat_map_more submitted ss s))))
+    (ap (λ (h : Trace). h.pushed ++ submitted s) was ∙ (append_assoc b.pushed (flat_map submitted ss) (submitted s)
+    ∙ ap (λ l. b.pushed ++ l) (sym (flat_map_more submitted ss s))))
     (ap (λ l. v.popped ++ l) s.pushes_only ∙ (append-nil v.popped ∙ ap (λ (h : Trace). h.popped) was))
 
 -- what the lane's ring was sent
-pub sent_now : (old now : List PushEnd) (s : LaneSeat) (t : PushEnd) → all_sent now ≡ all_sent old → t ≡ get_or now (lane_of s) t → lane_of s < length now → sent t ≡ get_or (all_sent old) (lane_of s) []
+pub sent_now : (old now : List PushEnd) (s : LaneSeat) (t : PushEnd) → all_sent now ≡ all_sent old → t ≡ get_or now (lane_of s) t → lane_of s < length now
+    → sent t ≡ get_or (all_sent old) (lane_of s) []
 sent_now old now s t same at low =
     sym (get_or-map (λ (r : PushEnd). sent r) now (lane_of s) t [] low ∙ ap (λ (r : PushEnd). sent r) (sym at)) ∙ ap (λ xs. get_or xs (lane_of s) []) same
 
@@ -79,7 +82,8 @@ sent_now old now s t same at low =
 abbrev pub RingDrained : List Listed → List Listed → List PushEnd → List LaneSeat → Type 0
 RingDrained t u rings ss = (xs : List Plain) × DrainsInto t u xs × ((h : Plain → ℕ) → sum_by h xs + all_received h ss ≡ to_lanes h rings (numbers_of ss))
 
-pub ring_drained : (t u u' : List Listed) (rings : List PushEnd) (ss : List LaneSeat) (s : LaneSeat) (xs ys : List Plain) → DrainsInto t u xs → DrainsInto u u' ys
+pub ring_drained : (t u u' : List Listed) (rings : List PushEnd) (ss : List LaneSeat) (s : LaneSeat) (xs ys : List Plain) → DrainsInto t u xs
+    → DrainsInto u u' ys
     → ((h : Plain → ℕ) → sum_by h xs + all_received h ss ≡ to_lanes h rings (numbers_of ss)) → received s ++ ys ≡ get_or (all_sent rings) (lane_of s) []
     → RingDrained t u' rings (ss ++ s ∷ [])
 ring_drained t u u' rings ss s xs ys drained more was left = (
@@ -97,11 +101,14 @@ ring_drained t u u' rings ss s xs ys drained more was left = (
 )
 
 -- what came out of its ring is the first of what it was sent
-pub from_first : (rings : List PushEnd) (ss : List LaneSeat) (s : LaneSeat) (ys : List Plain) → AreFromFirst rings ss → received s ++ ys ≡ get_or (all_sent rings) (lane_of s) [] → AreFromFirst rings (ss ++ s ∷ [])
-from_first rings ss s ys was left = All-push (λ (v : LaneSeat). (zs : List Plain) × (received v ++ zs ≡ get_or (all_sent rings) (lane_of v) [])) ss s was (ys, left)
+pub from_first : (rings : List PushEnd) (ss : List LaneSeat) (s : LaneSeat) (ys : List Plain) → AreFromFirst rings ss → received s ++ ys
+    ≡ get_or (all_sent rings) (lane_of s) [] → AreFromFirst rings (ss ++ s ∷ [])
+from_first rings ss s ys was left = All-push (λ (v : LaneSeat). (zs : List Plain) × (received v ++ zs ≡ get_or (all_sent rings) (lane_of v) [])) ss s was
+    (ys, left)
 
 -- each lane's ring is that of its number
-pub all_paired : (h : Hub) (rings : List PushEnd) (ss : List LaneSeat) → ArePushEnds h rings → length rings ≡ (shape_of h).lanes → All (IsLaneOf h) ss → All (IsPairedIn rings) ss
+pub all_paired : (h : Hub) (rings : List PushEnd) (ss : List LaneSeat) → ArePushEnds h rings → length rings ≡ (shape_of h).lanes → All (IsLaneOf h) ss
+    → All (IsPairedIn rings) ss
 all_paired h rings ss ends long each = All-weaker (IsLaneOf h) (IsPairedIn rings) (λ s of_hub. (
   let low = of_hub.lane in omega arith,
   λ t e.

@@ -27,7 +27,8 @@ pub same_ring : (a b c : PushEnd) → SameProducer a b → SameProducer b c → 
 same_ring a b c x y = ((y.0.0 ∙ x.0.0, y.0.1 ∙ x.0.1, y.0.2 ∙ x.0.2, y.0.3 ∙ x.0.3), y.1 ∙ x.1)
 
 -- the ends are still those of the hub
-pub ends_set : (h : Hub) (now : List PushEnd) (l : ℕ) (r t : PushEnd) → ArePushEnds h now → r ≡ get_or now l r → l < length now → SameProducer r t → ArePushEnds h (set now l t)
+pub ends_set : (h : Hub) (now : List PushEnd) (l : ℕ) (r t : PushEnd) → ArePushEnds h now → r ≡ get_or now l r → l < length now → SameProducer r t
+    → ArePushEnds h (set now l t)
 ends_set h now l r t ends at less same = (
   length-set now l t ∙ ends.0,
   λ k b u eb eu. ⊎_elim
@@ -37,7 +38,8 @@ ends_set h now l r t ends at less same = (
 )
 
 -- nothing more was sent
-pub sent_same : (rings : List PushEnd) (l : ℕ) (r t : PushEnd) → r ≡ get_or rings l r → l < length rings → sent t ≡ sent r → all_sent (set rings l t) ≡ all_sent rings
+pub sent_same : (rings : List PushEnd) (l : ℕ) (r t : PushEnd) → r ≡ get_or rings l r → l < length rings → sent t ≡ sent r → all_sent (set rings l t)
+    ≡ all_sent rings
 sent_same [] l r t at low same = absurd (omega arith)
 sent_same (s ∷ rings) zero r t at low same = ap (λ xs. xs ∷ all_sent rings) (same ∙ ap sent at)
 sent_same (s ∷ rings) (suc l) r t at low same = ap (λ xss. sent s ∷ xss) (sent_same rings l r t at (omega arith) same)

@@ -46,7 +46,8 @@ pub one_lane : (n : ℕ) (ls : List LaneSeat) → HasEach n (numbers_of ls) → 
 one_lane n ls each l = subst (λ m. m ≤ 1) (sym (each l) ∙ sum_by-map (λ k. once (k == l)) (λ (s : LaneSeat). lane_of s) ls) (once_le (nat_lt l n))
 
 -- all lanes of a hub, by number or by seat
-pub by_seat : (n : ℕ) (ls : List LaneSeat) → HasEach n (numbers_of ls) → (F : ℕ → ℕ) → sum_by (λ (s : LaneSeat). F (lane_of s)) ls ≡ sum_by F (range_with_len 0 n)
+pub by_seat : (n : ℕ) (ls : List LaneSeat) → HasEach n (numbers_of ls) → (F : ℕ → ℕ) → sum_by (λ (s : LaneSeat). F (lane_of s)) ls
+    ≡ sum_by F (range_with_len 0 n)
 by_seat n ls each F = sym (sum_by-map F (λ (s : LaneSeat). lane_of s) ls) ∙ sum_each n (numbers_of ls) each F
 
 numbered_front : (l n : ℕ) (xs ys : List Plain) → numbered l n (xs ++ ys) ≡ true → numbered l n xs ≡ true
@@ -60,7 +61,15 @@ hands_whole : (ws : List WorkerSeat) → OneForOne (flat_map taken ws) (flat_map
 hands_whole [] h = refl
 hands_whole (w ∷ ws) h =
     let a = ap (sum_by h) w.none_lost in
-    omega (arith, hands_whole ws h, sum_by-append h (taken w) (flat_map taken ws), sum_by-append h (posted w) (flat_map posted ws), sum_by-append h (jobs_in_hand w) (flat_map jobs_in_hand ws), sum_by-append h (posted w) (jobs_in_hand w))
+    omega (
+      arith,
+      hands_whole ws h,
+      sum_by-append h (taken w) (flat_map taken ws),
+      sum_by-append h (posted w) (flat_map posted ws),
+      sum_by-append h
+          (jobs_in_hand w) (flat_map jobs_in_hand ws),
+      sum_by-append h (posted w) (jobs_in_hand w),
+    )
 
 -- what all parts of a hub are, and where all that was submitted is
 pub record Whole (ls : List LaneSeat) (ws : List WorkerSeat) (d : DelivererSeat) (jobs results : List Plain) : Type 0 where
@@ -68,7 +77,9 @@ pub record Whole (ls : List LaneSeat) (ws : List WorkerSeat) (d : DelivererSeat)
   pub low : (i : ℕ) (s : LaneSeat) → slice_get ls i ≡ Some s → lane_of s < lane_count d
   pub long : length (all_sent d.rings.items) ≡ lane_count d
   pub aside : taken_in d ≡ collected d
-  pub sum : (g : Plain → ℕ) → sum_by (λ (s : LaneSeat). sum_by g (submitted s)) ls ≡ ((((sum_by g jobs + sum_by g (flat_map jobs_in_hand ws)) + sum_by g results) + sum_by g (buffer_of d).waiting) + sum_by g (hand_of d)) + sum_all g (all_sent d.rings.items)
+  pub sum : (g : Plain → ℕ) → sum_by (λ (s : LaneSeat). sum_by g (submitted s)) ls
+      ≡ ((((sum_by g jobs + sum_by g (flat_map jobs_in_hand ws)) + sum_by g results) + sum_by g (buffer_of d).waiting) + sum_by g (hand_of d)) + sum_all g
+      (all_sent d.rings.items)
   pub sent : (g : Plain → ℕ) → sum_by (λ (s : LaneSeat). sum_by g (handed d (lane_of s))) ls ≡ sum_all g (all_sent d.rings.items)
   pub polled : (i : ℕ) (s : LaneSeat) → slice_get ls i ≡ Some s → (polled s ≡ received s) × (polled_count s ≤ length (handed d (lane_of s)))
   pub handed : (i : ℕ) (s : LaneSeat) → slice_get ls i ≡ Some s → take (length (handed d (lane_of s))) (submitted s) ≡ handed d (lane_of s)
@@ -85,10 +96,12 @@ whole_from h ls ws d jobs results found all_found received_first kept_whole seat
     let n = lane_count d in
     let count : (shape_of h).lanes ≡ n = sym seats.deliverer.lanes in
     let each : HasEach n (numbers_of ls) = subst (λ m. HasEach m (numbers_of ls)) count seats.each_lane in
-    let low : (i : ℕ) (s : LaneSeat) → slice_get ls i ≡ Some s → lane_of s < n = λ i s e. let less = (all_at (IsLaneOf h) ls i s seats.lanes e).lane in omega arith in
+    let low : (i : ℕ) (s : LaneSeat) → slice_get ls i ≡ Some s → lane_of s < n = λ i s e. let less =
+    (all_at (IsLaneOf h) ls i s seats.lanes e).lane in omega arith in
     let giving = d.accounted.giving in
     let one = one_lane n ls each in
-    let found_all = all_found n (map account ls) (flat_map taken ws) (flat_map posted ws) (collected d) jobs (flat_map jobs_in_hand ws) results (buffer_of d).waiting (hand_of d) (λ g. sum_all g (all_sent d.rings.items))
+    let found_all = all_found n (map account ls) (flat_map taken ws) (flat_map posted ws) (collected d) jobs (flat_map jobs_in_hand ws) results
+    (buffer_of d).waiting (hand_of d) (λ g. sum_all g (all_sent d.rings.items))
     (λ i a e. let p = get_back account ls i a e in subst (λ (b : Account). numbered b.lane 0 b.submitted ≡ true) p.2 p.0.in_order)
     (λ i a e. let p = get_back account ls i a e in subst (λ (b : Account). b.lane < n) p.2 (low i p.0 p.1))
     (λ l. subst (λ m. m ≤ 1) (sym (sum_by-map (λ (a : Account). once (a.lane == l)) account ls)) (one l))
@@ -96,7 +109,9 @@ whole_from h ls ws d jobs results found all_found received_first kept_whole seat
     (hands_whole ws)
     finds.results
     d.accounted.none_lost in
-    let sum : (g : Plain → ℕ) → sum_by (λ (s : LaneSeat). sum_by g (submitted s)) ls ≡ ((((sum_by g jobs + sum_by g (flat_map jobs_in_hand ws)) + sum_by g results) + sum_by g (buffer_of d).waiting) + sum_by g (hand_of d)) + sum_all g (all_sent d.rings.items) = λ g.
+    let sum : (g : Plain → ℕ) → sum_by (λ (s : LaneSeat). sum_by g (submitted s)) ls
+    ≡ ((((sum_by g jobs + sum_by g (flat_map jobs_in_hand ws)) + sum_by g results) + sum_by g (buffer_of d).waiting) + sum_by g (hand_of d)) + sum_all g
+    (all_sent d.rings.items) = λ g.
     sym (sum_by-map (λ (a : Account). sum_by g a.submitted) account ls) ∙ found_all.1 g in
     let sent : (g : Plain → ℕ) → sum_by (λ (s : LaneSeat). sum_by g (handed d (lane_of s))) ls ≡ sum_all g (all_sent d.rings.items) = λ g.
     by_seat n ls each (λ l. sum_by g (handed d l)) ∙ by_place (sum_by g) (all_sent d.rings.items) n [] giving.lanes in
@@ -116,7 +131,8 @@ whole_from h ls ws d jobs results found all_found received_first kept_whole seat
       sum = sum;
       sent = sent;
       polled = λ i s e.
-          let front = all_at (λ (v : LaneSeat). (left : List Plain) × (received v ++ left ≡ get_or (all_sent d.rings.items) (lane_of v) [])) ls i s finds.first e in
+          let front = all_at (λ (v : LaneSeat). (left : List Plain) × (received v ++ left ≡ get_or (all_sent d.rings.items) (lane_of v) [])) ls i s finds.first
+          e in
           let order = numbered_front (lane_of s) 0 (received s) front.0 (ap (numbered (lane_of s) 0) front.1 ∙ giving.in_order (lane_of s)) in
           let same = kept_whole (lane_of s) 0 (received s) order in
           (same, (let a = ap length same in let b = ap length front.1 in let c = length-append (received s) front.0 in omega arith));
@@ -132,14 +148,17 @@ state_at d [] l = lane_state [] true 0 0
 state_at d (v ∷ vs) l = cond (lane_of v == l) (lane_shown d v) (state_at d vs l)
 
 -- what is so of each seat of a lane is so of its state
-state_is : (d : DelivererSeat) (P : LaneState → Type 0) (ls : List LaneSeat) (l : ℕ) → P (lane_state [] true 0 0) → ((i : ℕ) (v : LaneSeat) → slice_get ls i ≡ Some v → lane_of v ≡ l → P (lane_shown d v)) → P (state_at d ls l)
+state_is : (d : DelivererSeat) (P : LaneState → Type 0) (ls : List LaneSeat) (l : ℕ) → P (lane_state [] true 0 0)
+    → ((i : ℕ) (v : LaneSeat) → slice_get ls i ≡ Some v → lane_of v ≡ l → P (lane_shown d v)) → P (state_at d ls l)
 state_is d P [] l none each = none
 state_is d P (v ∷ vs) l none each = ⊎_elim
     (λ (e : lane_of v ≡ l). subst P (sym (ap (λ b. cond b (lane_shown d v) (state_at d vs l)) (eq-eqb (lane_of v) l e))) (each 0 v refl e))
-    (λ (e : lane_of v ≢ l). subst P (sym (ap (λ b. cond b (lane_shown d v) (state_at d vs l)) (ne_eqb (lane_of v) l e))) (state_is d P vs l none (λ i u f. each (suc i) u f)))
+    (λ (e : lane_of v ≢ l). subst P (sym (ap (λ b. cond b (lane_shown d v) (state_at d vs l)) (ne_eqb (lane_of v) l e)))
+    (state_is d P vs l none (λ i u f. each (suc i) u f)))
     (cases_eq (lane_of v) l)
 
-state_there : (d : DelivererSeat) (ls : List LaneSeat) (l i : ℕ) (v : LaneSeat) → slice_get ls i ≡ Some v → lane_of v ≡ l → count_by (λ (s : LaneSeat). lane_of s == l) ls ≤ 1 → state_at d ls l ≡ lane_shown d v
+state_there : (d : DelivererSeat) (ls : List LaneSeat) (l i : ℕ) (v : LaneSeat) → slice_get ls i ≡ Some v → lane_of v ≡ l
+    → count_by (λ (s : LaneSeat). lane_of s == l) ls ≤ 1 → state_at d ls l ≡ lane_shown d v
 state_there d [] l i v e at one = absurd (cc)
 state_there d (x ∷ xs) l zero v e at one =
     let same = same_Some x v e in
@@ -147,16 +166,19 @@ state_there d (x ∷ xs) l zero v e at one =
 state_there d (x ∷ xs) l (suc i) v e at one =
     let count = sum_by-cons (λ (s : LaneSeat). once (lane_of s == l)) x xs in
     let there = at_least (λ (s : LaneSeat). lane_of s) xs l i v e at in
-    ap (λ b. cond b (lane_shown d x) (state_at d xs l)) (ne_eqb (lane_of x) l (λ f. let a : once (lane_of x == l) ≡ 1 = ap once (eq-eqb (lane_of x) l f) in omega arith))
+    ap (λ b. cond b (lane_shown d x) (state_at d xs l)) (ne_eqb (lane_of x) l
+    (λ f. let a : once (lane_of x == l) ≡ 1 = ap once (eq-eqb (lane_of x) l f) in omega arith))
     ∙ state_there d xs l i v e at (omega arith)
 
 -- the state that the parts are
 abbrev pub state_of : Hub → List LaneSeat → List WorkerSeat → DelivererSeat → List Plain → List Plain → State
-state_of h ls ws d jobs results = state (year_of h) (map (state_at d ls) (range_with_len 0 (lane_count d))) jobs (map job_in_hand ws) results ((buffer_of d).waiting ++ hand_of d)
+state_of h ls ws d jobs results = state (year_of h) (map (state_at d ls) (range_with_len 0 (lane_count d))) jobs (map job_in_hand ws) results
+    ((buffer_of d).waiting ++ hand_of d)
 
 there : (f : ℕ → LaneState) (n l : ℕ) → l < n → slice_get (map f (range_with_len 0 n)) l ≡ Some (f l)
 there f n l low =
-    slice_get-get_or (map f (range_with_len 0 n)) l (f l) (let e = length-map-range_with_len f 0 n in omega arith) ∙ ap Some (get_or-map-range_with_len f 0 n l l (f l) low (omega arith))
+    slice_get-get_or (map f (range_with_len 0 n)) l (f l) (let e = length-map-range_with_len f 0 n in omega arith)
+    ∙ ap Some (get_or-map-range_with_len f 0 n l l (f l) low (omega arith))
 
 by_lane : (f : ℕ → LaneState) (n l : ℕ) (P : Option LaneState → Type 0) → P None → P (Some (f l)) → P (slice_get (map f (range_with_len 0 n)) l)
 by_lane f n l P none some = ⊎_elim
@@ -169,7 +191,8 @@ pub stands_for : (h : Hub) (ls : List LaneSeat) (ws : List WorkerSeat) (d : Deli
 stands_for h ls ws d jobs results found seats finds whole = record {
   year = refl;
   count = length-map-range_with_len (state_at d ls) 0 (lane_count d) ∙ seats.deliverer.lanes;
-  lanes = λ i v e. there (state_at d ls) (lane_count d) (lane_of v) (whole.low i v e) ∙ ap Some (state_there d ls (lane_of v) i v e refl (one_lane (lane_count d) ls whole.each (lane_of v)));
+  lanes = λ i v e. there (state_at d ls) (lane_count d) (lane_of v) (whole.low i v e)
+      ∙ ap Some (state_there d ls (lane_of v) i v e refl (one_lane (lane_count d) ls whole.each (lane_of v)));
   jobs = finds.jobs;
   workers = refl;
   results = finds.results;
@@ -177,10 +200,12 @@ stands_for h ls ws d jobs results found seats finds whole = record {
 }
 
 -- all lanes of the state, by seat
-sum_lanes : (n : ℕ) (d : DelivererSeat) (ls : List LaneSeat) (G : LaneState → ℕ) → HasEach n (numbers_of ls) → sum_by G (map (state_at d ls) (range_with_len 0 n)) ≡ sum_by (λ (s : LaneSeat). G (lane_shown d s)) ls
+sum_lanes : (n : ℕ) (d : DelivererSeat) (ls : List LaneSeat) (G : LaneState → ℕ) → HasEach n (numbers_of ls)
+    → sum_by G (map (state_at d ls) (range_with_len 0 n)) ≡ sum_by (λ (s : LaneSeat). G (lane_shown d s)) ls
 sum_lanes n d ls G each =
     sum_by-map G (state_at d ls) (range_with_len 0 n) ∙ (sym (by_seat n ls each (λ l. G (state_at d ls l)))
-    ∙ sum_same (λ (s : LaneSeat). G (state_at d ls (lane_of s))) (λ (s : LaneSeat). G (lane_shown d s)) ls (λ i s e. ap G (state_there d ls (lane_of s) i s e refl (one_lane n ls each (lane_of s)))))
+    ∙ sum_same (λ (s : LaneSeat). G (state_at d ls (lane_of s))) (λ (s : LaneSeat). G (lane_shown d s)) ls
+    (λ i s e. ap G (state_there d ls (lane_of s) i s e refl (one_lane n ls each (lane_of s)))))
 
 shorter : (k : ℕ) (xs ys : List Plain) → take k xs ≡ ys → length ys ≤ length xs
 shorter zero xs ys e = let a = ap length e in omega arith
@@ -188,7 +213,8 @@ shorter (suc k) [] ys e = let a = ap length e in omega arith
 shorter (suc k) (x ∷ xs) [] e = omega arith
 shorter (suc k) (x ∷ xs) (y ∷ ys) e = let r = shorter k xs (take k xs) refl in let a = ap length e in omega arith
 
-pub nothing_lost : (h : Hub) (ls : List LaneSeat) (ws : List WorkerSeat) (d : DelivererSeat) (jobs results : List Plain) → Whole ls ws d jobs results → NothingLost (state_of h ls ws d jobs results)
+pub nothing_lost : (h : Hub) (ls : List LaneSeat) (ws : List WorkerSeat) (d : DelivererSeat) (jobs results : List Plain) → Whole ls ws d jobs results
+    → NothingLost (state_of h ls ws d jobs results)
 nothing_lost h ls ws d jobs results whole =
     let n = lane_count d in
     let f = state_at d ls in
@@ -198,16 +224,19 @@ nothing_lost h ls ws d jobs results whole =
       polled = λ l. by_lane f n l (λ o. of_lane 0 (λ v. v.polled) o ≤ of_lane 0 (λ v. v.handed) o) (omega arith)
           (state_is d (λ v. v.polled ≤ v.handed) ls l (omega arith) (λ i v e at. (whole.polled i v e).1));
       handed = λ l. by_lane f n l (λ o. of_lane 0 (λ v. v.handed) o ≤ length (of_lane [] (λ v. v.submitted) o)) (omega arith)
-          (state_is d (λ v. v.handed ≤ length v.submitted) ls l (omega arith) (λ i v e at. shorter _ (submitted v) (handed d (lane_of v)) (whole.handed i v e)));
+          (state_is d (λ v. v.handed ≤ length v.submitted) ls l (omega arith)
+          (λ i v e at. shorter _ (submitted v) (handed d (lane_of v)) (whole.handed i v e)));
       whole = λ g.
           let a = sum_lanes n d ls (λ v. sum_by g v.submitted) whole.each ∙ whole.sum g in
           let b = sum_lanes n d ls (λ v. sum_by g (take v.handed v.submitted)) whole.each
-          ∙ (sum_same (λ (s : LaneSeat). sum_by g (take (length (handed d (lane_of s))) (submitted s))) (λ (s : LaneSeat). sum_by g (handed d (lane_of s))) ls (λ i s e. ap (sum_by g) (whole.handed i s e)) ∙ whole.sent g) in
+          ∙ (sum_same (λ (s : LaneSeat). sum_by g (take (length (handed d (lane_of s))) (submitted s))) (λ (s : LaneSeat). sum_by g (handed d (lane_of s))) ls
+          (λ i s e. ap (sum_by g) (whole.handed i s e)) ∙ whole.sent g) in
           let c = sum_by-map (λ o. sum_by g (option_to_list o)) job_in_hand ws ∙ sym (sum_by-flat_map g jobs_in_hand ws) in
           let e = sum_by-append g (buffer_of d).waiting (hand_of d) in
           omega arith;
     }
 
 -- no lane has dropped a delivery
-pub all_polled : (ls : List LaneSeat) (ws : List WorkerSeat) (d : DelivererSeat) (jobs results : List Plain) → Whole ls ws d jobs results → All (λ (s : LaneSeat). polled s ≡ received s) ls
+pub all_polled : (ls : List LaneSeat) (ws : List WorkerSeat) (d : DelivererSeat) (jobs results : List Plain) → Whole ls ws d jobs results
+    → All (λ (s : LaneSeat). polled s ≡ received s) ls
 all_polled ls ws d jobs results whole i s low = (whole.polled i (get_or ls i s) (slice_get-get_or ls i s low)).0

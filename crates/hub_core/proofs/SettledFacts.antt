@@ -19,7 +19,8 @@ row_between (y ∷ xs) x ys = row_between xs x ys
 
 pub ticket_kept : (year : ℕ) (before lane : Lane) (row : List ℕ) (later : List (List ℕ)) (lanes : List Lane) (lists : List (List Plain)) (i : ℕ)
     → lane.number ≡ before.number → lane.rows ≡ (with_row before row).rows ++ later → AreSettled year lanes lists → slice_get lanes i ≡ Some lane
-    → slice_get (lane.polled ++ get_or lists lane.number []) (next_ticket before).number ≡ Some (plain_of (next_ticket before).lane (next_ticket before).number year row)
+    → slice_get (lane.polled ++ get_or lists lane.number []) (next_ticket before).number
+    ≡ Some (plain_of (next_ticket before).lane (next_ticket before).number year row)
 ticket_kept year before lane row later lanes lists i number rows settled at =
     let is = all_at (λ (l : Lane). l.polled ++ get_or lists l.number [] ≡ deliveries l.number year l.rows) lanes i lane settled at in
     let k : ℕ = length before.rows in

@@ -37,10 +37,12 @@ step_serves h seats held new i s t at lane is was room = record {
   room = room;
 }
 
-step_same : {X : Type 0} (f : LaneSeat → X) (seats : List LaneSeat) (i : ℕ) (s t : LaneSeat) → s ≡ get_or seats i s → f t ≡ f s → map f (set seats i t) ≡ map f seats
+step_same : {X : Type 0} (f : LaneSeat → X) (seats : List LaneSeat) (i : ℕ) (s t : LaneSeat) → s ≡ get_or seats i s → f t ≡ f s → map f (set seats i t)
+    ≡ map f seats
 step_same f seats i s t at same = map-set_same f seats i t s (same ∙ ap f at)
 
-step_more : {X : Type 0} (f : LaneSeat → List X) (seats : List LaneSeat) (i : ℕ) (s t : LaneSeat) (x : X) → i < length seats → s ≡ get_or seats i s → f t ≡ f s ++ x ∷ []
+step_more : {X : Type 0} (f : LaneSeat → List X) (seats : List LaneSeat) (i : ℕ) (s t : LaneSeat) (x : X) → i < length seats → s ≡ get_or seats i s → f t ≡ f s
+    ++ x ∷ []
     → map f (set seats i t) ≡ with_more i x (map f seats)
 step_more {X} f seats i s t x low at more =
     map-set f seats i t ∙ ap (λ (v : List X). set (map f seats) i v) (more ∙ ap (λ (v : List X). v ++ x ∷ []) (ap f at ∙ sym (get_or-map f seats i s [] low)))
@@ -49,18 +51,23 @@ rows_same : (s t : LaneSeat) → submitted t ≡ submitted s → submitted_rows 
 rows_same s t same = ap (λ (xs : List Plain). map (λ (x : Plain). x.widths) xs) same
 
 rows_more : (s t : LaneSeat) (l n y : ℕ) (row : List ℕ) → submitted t ≡ submitted s ++ plain_of l n y row ∷ [] → submitted_rows t ≡ submitted_rows s ++ row ∷ []
-rows_more s t l n y row more = ap (λ (xs : List Plain). map (λ (x : Plain). x.widths) xs) more ∙ map-append (λ (x : Plain). x.widths) (submitted s) (plain_of l n y row ∷ [])
+rows_more s t l n y row more = ap (λ (xs : List Plain). map (λ (x : Plain). x.widths) xs) more
+    ∙ map-append (λ (x : Plain). x.widths) (submitted s) (plain_of l n y row ∷ [])
 
 polled_same : (s t : LaneSeat) → lane_of t ≡ lane_of s → received t ≡ received s → polled t ≡ polled s
 polled_same s t lane same = ap (λ l. kept l 0 (received t)) lane ∙ ap (λ xs. kept (lane_of s) 0 xs) same
 
 -- a row was submitted that was in hand
-pub came_more : (C : List (List (List ℕ)) → List (List Plain) → Type 0) (seats : List LaneSeat) (new : Option (ℕ × List ℕ)) (i lane : ℕ) (s t : LaneSeat) (l n y : ℕ) (row : List ℕ)
-    → new ≡ None → i ≡ lane → i < length seats → s ≡ get_or seats i s → lane_of t ≡ lane_of s → submitted t ≡ submitted s ++ plain_of l n y row ∷ [] → received t ≡ received s
+pub came_more : (C : List (List (List ℕ)) → List (List Plain) → Type 0) (seats : List LaneSeat) (new : Option (ℕ × List ℕ)) (i lane : ℕ) (s t : LaneSeat)
+    (l n y : ℕ) (row : List ℕ)
+    → new ≡ None → i ≡ lane → i < length seats → s ≡ get_or seats i s → lane_of t ≡ lane_of s → submitted t ≡ submitted s ++ plain_of l n y row ∷ []
+    → received t ≡ received s
     → C (with_more lane row (map submitted_rows seats)) (map polled seats) → C (given_to (set seats i t) new) (polled_by_each (set seats i t))
 came_more C seats new i lane s t l n y row none is low at same more sees was =
     let rows : with_more lane row (map submitted_rows seats) ≡ given_to (set seats i t) new =
-    ap (λ k. with_more k row (map submitted_rows seats)) (sym is) ∙ (sym (step_more submitted_rows seats i s t row low at (rows_more s t l n y row more)) ∙ ap (λ o. with_held o (map submitted_rows (set seats i t))) (sym none)) in
+    ap (λ k. with_more k row (map submitted_rows seats)) (sym is)
+    ∙ (sym (step_more submitted_rows seats i s t row low at (rows_more s t l n y row more))
+    ∙ ap (λ o. with_held o (map submitted_rows (set seats i t))) (sym none)) in
     let polls : map polled seats ≡ polled_by_each (set seats i t) = sym (step_same polled seats i s t at (polled_same s t same sees)) in
     subst (λ v. C v (polled_by_each (set seats i t))) rows (subst (λ v. C (with_more lane row (map submitted_rows seats)) v) polls was)
 
@@ -69,7 +76,8 @@ pub came_same : (C : List (List (List ℕ)) → List (List Plain) → Type 0) (s
     → s ≡ get_or seats i s → submitted t ≡ submitted s → polled t ≡ polled s
     → C (with_held new (map submitted_rows seats)) (map polled seats) → C (given_to (set seats i t) new) (polled_by_each (set seats i t))
 came_same C seats new i s t at same sees was =
-    let rows : with_held new (map submitted_rows seats) ≡ given_to (set seats i t) new = ap (with_held new) (sym (step_same submitted_rows seats i s t at (rows_same s t same))) in
+    let rows : with_held new (map submitted_rows seats) ≡ given_to (set seats i t) new =
+    ap (with_held new) (sym (step_same submitted_rows seats i s t at (rows_same s t same))) in
     let polls : map polled seats ≡ polled_by_each (set seats i t) = sym (step_same polled seats i s t at sees) in
     subst (λ v. C v (polled_by_each (set seats i t))) rows (subst (λ v. C (with_held new (map submitted_rows seats)) v) polls was)
 
@@ -77,27 +85,32 @@ pub came_full : (C : List (List (List ℕ)) → List (List Plain) → Type 0) (s
     → s ≡ get_or seats i s → submitted t ≡ submitted s → lane_of t ≡ lane_of s → received t ≡ received s → back ≡ row
     → C (with_more lane row (map submitted_rows seats)) (map polled seats) → C (given_to (set seats i t) (Some (lane, back))) (polled_by_each (set seats i t))
 came_full C seats i lane s t row back at same is sees given was =
-    came_same C seats (Some (lane, back)) i s t at same (polled_same s t is sees) (subst (λ (r : List ℕ). C (with_more lane r (map submitted_rows seats)) (map polled seats)) (sym given) was)
+    came_same C seats (Some (lane, back)) i s t at same (polled_same s t is sees)
+    (subst (λ (r : List ℕ). C (with_more lane r (map submitted_rows seats)) (map polled seats)) (sym given) was)
 
 -- a delivery was polled and brought
-pub came_brought : (C : List (List (List ℕ)) → List (List Plain) → Type 0) (seats : List LaneSeat) (held : Option (ℕ × List ℕ)) (i lane : ℕ) (s t : LaneSeat) (x : Plain)
+pub came_brought : (C : List (List (List ℕ)) → List (List Plain) → Type 0) (seats : List LaneSeat) (held : Option (ℕ × List ℕ)) (i lane : ℕ) (s t : LaneSeat)
+    (x : Plain)
     → i ≡ lane → i < length seats → s ≡ get_or seats i s → submitted t ≡ submitted s → polled t ≡ polled s ++ x ∷ []
     → C (given_to seats held) (with_more lane x (polled_by_each seats)) → C (given_to (set seats i t) held) (polled_by_each (set seats i t))
 came_brought C seats held i lane s t x is low at same more was =
     let rows : given_to seats held ≡ given_to (set seats i t) held = ap (with_held held) (sym (step_same submitted_rows seats i s t at (rows_same s t same))) in
-    let polls : with_more lane x (polled_by_each seats) ≡ polled_by_each (set seats i t) = ap (λ k. with_more k x (polled_by_each seats)) (sym is) ∙ sym (step_more polled seats i s t x low at more) in
+    let polls : with_more lane x (polled_by_each seats) ≡ polled_by_each (set seats i t) =
+    ap (λ k. with_more k x (polled_by_each seats)) (sym is) ∙ sym (step_more polled seats i s t x low at more) in
     subst (λ v. C v (polled_by_each (set seats i t))) rows (subst (λ v. C (given_to seats held) v) polls was)
 
 -- a row has room still where the lanes have the same rows
 pub room_same : (seats : List LaneSeat) (new : Option (ℕ × List ℕ)) (i : ℕ) (s t : LaneSeat) → s ≡ get_or seats i s → submitted t ≡ submitted s
     → IfSome new (λ r. HasRoom r.0 (map submitted_rows seats)) → IfSome new (λ r. HasRoom r.0 (map submitted_rows (set seats i t)))
-room_same seats new i s t at same room = subst (λ lists. IfSome new (λ r. HasRoom r.0 lists)) (sym (step_same submitted_rows seats i s t at (rows_same s t same))) room
+room_same seats new i s t at same room = subst (λ lists. IfSome new (λ r. HasRoom r.0 lists))
+    (sym (step_same submitted_rows seats i s t at (rows_same s t same))) room
 
 -- how many seats there are, and which lane has one
 pub seats_counted : (h : Hub) (seats : List LaneSeat) (held : Option (ℕ × List ℕ)) → Serves h seats held → length seats ≡ (shape_of h).lanes
 seats_counted h seats held was = lanes_counted seats _ was.numbers
 
-pub lane_at : (h : Hub) (seats : List LaneSeat) (held : Option (ℕ × List ℕ)) (i : ℕ) (s : LaneSeat) → Serves h seats held → i < length seats → s ≡ get_or seats i s → i ≡ lane_of s
+pub lane_at : (h : Hub) (seats : List LaneSeat) (held : Option (ℕ × List ℕ)) (i : ℕ) (s : LaneSeat) → Serves h seats held → i < length seats → s
+    ≡ get_or seats i s → i ≡ lane_of s
 lane_at h seats held i s was low at =
     let count = seats_counted h seats held was in
     let number : get_or (range_with_len 0 (shape_of h).lanes) i 0 ≡ 0 + i = get_or-range_with_len 0 (shape_of h).lanes i 0 (omega (arith, low, count)) in
@@ -106,7 +119,8 @@ lane_at h seats held i s was low at =
     omega (arith, number, there, same)
 
 -- what was polled is the next that its lane is owed
-given_more : (seats : List LaneSeat) (held : Option (ℕ × List ℕ)) (i : ℕ) → length (get_or (map submitted_rows seats) i []) ≤ length (get_or (given_to seats held) i [])
+given_more : (seats : List LaneSeat) (held : Option (ℕ × List ℕ)) (i : ℕ)
+    → length (get_or (map submitted_rows seats) i []) ≤ length (get_or (given_to seats held) i [])
 given_more seats None i = omega (arith)
 given_more seats (Some r) i =
     let lists = map submitted_rows seats in
@@ -129,10 +143,12 @@ next_of h seats held i s t x was low at same lane number more room =
     let is : i ≡ x.lane = lane_at h seats held i s was low at ∙ sym lane in
     let mine : get_or (polled_by_each seats) i [] ≡ polled s = get_or-map polled seats i s [] low ∙ ap polled (sym at) in
     let rows : get_or (map submitted_rows seats) i [] ≡ submitted_rows s = get_or-map submitted_rows seats i s [] low ∙ ap submitted_rows (sym at) in
-    let there : length (get_or (polled_by_each seats) x.lane []) ≡ polled_count s = ap (λ k. length (get_or (polled_by_each seats) k [])) (sym is) ∙ ap length mine in
+    let there : length (get_or (polled_by_each seats) x.lane []) ≡ polled_count s =
+    ap (λ k. length (get_or (polled_by_each seats) k [])) (sym is) ∙ ap length mine in
     let count : length (get_or (map submitted_rows seats) i []) ≡ issued_count s = ap length rows ∙ length-map (submitted s) (λ (x : Plain). x.widths) in
     let longer = given_more seats held i in
-    let moved : length (get_or (given_to seats held) x.lane []) ≡ length (get_or (given_to seats held) i []) = ap (λ k. length (get_or (given_to seats held) k [])) (sym is) in
+    let moved : length (get_or (given_to seats held) x.lane []) ≡ length (get_or (given_to seats held) i []) =
+    ap (λ k. length (get_or (given_to seats held) k [])) (sym is) in
     record {
       lane = omega (arith, low, is, length-map seats polled);
       owed = omega (arith, there, count, longer, moved, room, ap length more, length-append (polled s) (x ∷ []), ap length same);
@@ -151,7 +167,8 @@ pub even_given : (seats : List LaneSeat) → AreEven seats → IsEven (given_to 
 even_given seats even = even_lanes seats even
 
 -- a seat of the hub, by its place
-pub seat_at : (h : Hub) (seats : List LaneSeat) (held : Option (ℕ × List ℕ)) (i : ℕ) (s : LaneSeat) → Serves h seats held → i < length seats → s ≡ get_or seats i s → IsLaneOf h s
+pub seat_at : (h : Hub) (seats : List LaneSeat) (held : Option (ℕ × List ℕ)) (i : ℕ) (s : LaneSeat) → Serves h seats held → i < length seats → s
+    ≡ get_or seats i s → IsLaneOf h s
 seat_at h seats held i s was low at = subst (IsLaneOf h) (sym at) (was.lanes i s low)
 
 -- ---- before and after
@@ -180,7 +197,8 @@ pub came_fresh : (C : List (List (List ℕ)) → List (List Plain) → Type 0) (
 came_fresh C seats n none count was =
     subst (λ v. C v (polled_by_each seats)) (sym (none_done seats n none count)) (subst (λ v. C (replicate n []) v) (sym (none_polled seats n none count)) was)
 
-pub serves_fresh : (h : Hub) (seats : List LaneSeat) (n : ℕ) → All (IsLaneOf h) seats → numbers_of seats ≡ range_with_len 0 n → (shape_of h).lanes ≡ n → (shape_of h).limit ≡ 4294967295 → Serves h seats None
+pub serves_fresh : (h : Hub) (seats : List LaneSeat) (n : ℕ) → All (IsLaneOf h) seats → numbers_of seats ≡ range_with_len 0 n → (shape_of h).lanes ≡ n
+    → (shape_of h).limit ≡ 4294967295 → Serves h seats None
 serves_fresh h seats n lanes numbers count limit = record {
   lanes = lanes;
   numbers = numbers ∙ ap (range_with_len 0) (sym count);
@@ -205,20 +223,25 @@ done_from m year (s ∷ seats) (suc n) numbers owed even =
     let mine = owed 0 s refl in
     let count : length (polled s) ≡ length (numbered_rows (lane_of s) 0 year (submitted_rows s)) =
     even 0 s (omega arith) ∙ (sym (length-map (submitted s) (λ (x : Plain). x.widths)) ∙ sym (rows_long (lane_of s) 0 year (submitted_rows s))) in
-    let here : polled s ≡ numbered_rows m 0 year (submitted_rows s) = none_left (polled s) mine.0 _ mine.1 count ∙ ap (λ l. numbered_rows l 0 year (submitted_rows s)) lane in
-    let rest = done_from (m + 1) year seats n (ap (drop 1) numbers) (λ i v e. owed (suc i) v e) (tail_all (λ (v : LaneSeat). polled_count v ≡ issued_count v) s seats even) in
+    let here : polled s ≡ numbered_rows m 0 year (submitted_rows s) =
+    none_left (polled s) mine.0 _ mine.1 count ∙ ap (λ l. numbered_rows l 0 year (submitted_rows s)) lane in
+    let rest = done_from (m + 1) year seats n (ap (drop 1) numbers) (λ i v e. owed (suc i) v e)
+    (tail_all (λ (v : LaneSeat). polled_count v ≡ issued_count v) s seats even) in
     (λ j. here j ∷ rest j)
 
-pub all_served : (h : Hub) (seats : List LaneSeat) → Serves h seats None → PolledFirst h seats → AreEven seats → polled_by_each seats ≡ served (year_of h) (given_to seats None)
+pub all_served : (h : Hub) (seats : List LaneSeat) → Serves h seats None → PolledFirst h seats → AreEven seats → polled_by_each seats
+    ≡ served (year_of h) (given_to seats None)
 all_served h seats was first even = done_from 0 (year_of h) seats (shape_of h).lanes was.numbers first even
 
 -- ---- at any end: the first of what the rows are served
 
 numbered_append : (l k y : ℕ) (xs ys : List (List ℕ)) → numbered_rows l k y (xs ++ ys) ≡ numbered_rows l k y xs ++ numbered_rows l (k + length xs) y ys
 numbered_append l k y [] ys = ap (λ n. numbered_rows l n y ys) (omega arith)
-numbered_append l k y (x ∷ xs) ys = ap (λ v. plain_of l k y x ∷ v) (numbered_append l (k + 1) y xs ys ∙ ap (λ n. numbered_rows l (k + 1) y xs ++ numbered_rows l n y ys) (omega arith))
+numbered_append l k y (x ∷ xs) ys = ap (λ v. plain_of l k y x ∷ v)
+    (numbered_append l (k + 1) y xs ys ∙ ap (λ n. numbered_rows l (k + 1) y xs ++ numbered_rows l n y ys) (omega arith))
 
-served_at : (m year : ℕ) (feeds : List (List (List ℕ))) (i : ℕ) → i < length feeds → get_or (numbered_feeds m year feeds) i [] ≡ numbered_rows (m + i) 0 year (get_or feeds i [])
+served_at : (m year : ℕ) (feeds : List (List (List ℕ))) (i : ℕ) → i < length feeds → get_or (numbered_feeds m year feeds) i []
+    ≡ numbered_rows (m + i) 0 year (get_or feeds i [])
 served_at m year [] i low = absurd (omega (arith, low))
 served_at m year (f ∷ fs) zero low = ap (λ n. numbered_rows n 0 year f) (omega arith)
 served_at m year (f ∷ fs) (suc i) low = served_at (m + 1) year fs i (omega (arith, low)) ∙ ap (λ n. numbered_rows n 0 year (get_or fs i [])) (omega arith)
@@ -226,7 +249,8 @@ served_at m year (f ∷ fs) (suc i) low = served_at (m + 1) year fs i (omega (ar
 rows_at : (seats : List LaneSeat) (i : ℕ) (s : LaneSeat) → i < length seats → s ≡ get_or seats i s → get_or (map submitted_rows seats) i [] ≡ submitted_rows s
 rows_at seats i s low at = get_or-map submitted_rows seats i s [] low ∙ ap submitted_rows (sym at)
 
-given_at : (seats : List LaneSeat) (held : Option (ℕ × List ℕ)) (i : ℕ) (s : LaneSeat) → i < length seats → s ≡ get_or seats i s → (more : List (List ℕ)) × (get_or (given_to seats held) i [] ≡ submitted_rows s ++ more)
+given_at : (seats : List LaneSeat) (held : Option (ℕ × List ℕ)) (i : ℕ) (s : LaneSeat) → i < length seats → s ≡ get_or seats i s → (more : List (List ℕ))
+    × (get_or (given_to seats held) i [] ≡ submitted_rows s ++ more)
 given_at seats None i s low at = ([], rows_at seats i s low at ∙ sym (append-nil (submitted_rows s)))
 given_at seats (Some r) i s low at =
     let lists = map submitted_rows seats in

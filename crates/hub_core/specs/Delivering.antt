@@ -66,7 +66,8 @@ RingIsFull s l = (r : PushEnd) → slice_get s.rings.items l ≡ Some r → know
 -- how the lists grow with each answer of `hand`
 abbrev pub Hands : DelivererSeat → ℕ → Handed → DelivererSeat → Type 0
 Hands s l handing.Nothing t = (has_next (buffer_of s) l ≡ false) × (t ≡ s)
-Hands s l handing.RingFull t = (has_next (buffer_of s) l ≡ true) × (buffer_of t ≡ buffer_of s) × (collected t ≡ collected s) × (in_hand t ≡ in_hand s) × SameHanded s t × RingIsFull t l
+Hands s l handing.RingFull t = (has_next (buffer_of s) l ≡ true) × (buffer_of t ≡ buffer_of s) × (collected t ≡ collected s) × (in_hand t ≡ in_hand s)
+    × SameHanded s t × RingIsFull t l
 Hands s l handing.Given t =
     (x : Plain)
     × GivesNext (buffer_of s) l x (buffer_of t)

@@ -16,7 +16,8 @@ use Rattle.hub_core.specs.declared.deliverer_seat.DelivererSeat.{DelivererSeat}
 pub record StandsFor (s : State) (h : Hub) (ls : List LaneSeat) (ws : List WorkerSeat) (d : DelivererSeat) : Type 0 where
   pub year : s.year ≡ year_of h
   pub count : length s.lanes ≡ (shape_of h).lanes
-  pub lanes : (i : ℕ) (v : LaneSeat) → slice_get ls i ≡ Some v → slice_get s.lanes (lane_of v) ≡ Some (lane_state (submitted v) true (polled_count v) (length (handed d (lane_of v))))
+  pub lanes : (i : ℕ) (v : LaneSeat) → slice_get ls i ≡ Some v → slice_get s.lanes (lane_of v)
+      ≡ Some (lane_state (submitted v) true (polled_count v) (length (handed d (lane_of v))))
   pub jobs : OneForOne (flat_map submitted ls) (flat_map taken ws) s.jobs
   pub workers : s.workers ≡ map job_in_hand ws
   pub results : OneForOne (flat_map posted ws) (collected d) s.results

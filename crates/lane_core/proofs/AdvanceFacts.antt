@@ -36,7 +36,8 @@ module _ (test : Ticket → Bool) (l k : ℕ) (finds : Finds test l k) (es : Lis
   known_as : (m n : ℕ) → ((((l == m) && (k == n)) && true) || is_known m n (remove_key test ks)) ≡ is_known m n ks
   known_as m n = come_there l k m n ks (remove_key test ks) was (λ not_it. gone_known test l k finds m n not_it ks) ((l == m) && (k == n)) refl
 
-  still_known : (fs : List (Ticket × Plain)) → ((m n : ℕ) → is_among m n (values_of fs) ≡ true → is_among m n (values_of es) ≡ true) → is_among l k (values_of fs) ≡ false
+  still_known : (fs : List (Ticket × Plain)) → ((m n : ℕ) → is_among m n (values_of fs) ≡ true → is_among m n (values_of es) ≡ true)
+      → is_among l k (values_of fs) ≡ false
       → (m n : ℕ) → is_among m n (values_of fs) ≡ true → is_known m n (remove_key test ks) ≡ true
   still_known fs less none m n is = by ((l == m) && (k == n)) refl
     where
@@ -50,7 +51,10 @@ module _ (test : Ticket → Bool) (l k : ℕ) (finds : Finds test l k) (es : Lis
   pub was_out : lookup test es ≡ None → Advances l k es ks es (remove_key test ks) Out
   was_out none = record {
     own = tt;
-    indexed = record { tied = indexed.tied; among = still_known es (λ m n is. is) (sym (found_among test l k finds es indexed.tied) ∙ ap (λ o. is_some o) none) };
+    indexed = record {
+      tied = indexed.tied;
+      among = still_known es (λ m n is. is) (sym (found_among test l k finds es indexed.tied) ∙ ap (λ o. is_some o) none);
+    };
     waiting = λ h. omega arith;
     same = known_as;
     gone = λ small. is_gone;
@@ -61,14 +65,16 @@ module _ (test : Ticket → Bool) (l k : ℕ) (finds : Finds test l k) (es : Lis
   or_first false b e = absurd (cc)
 
   -- it waits
-  pub was_here : (x : Plain) → lookup test es ≡ Some x → lookup test (remove_entry test es) ≡ None → k < 2 ^ 32 → Advances l k es ks (remove_entry test es) (remove_key test ks) (Here x)
+  pub was_here : (x : Plain) → lookup test es ≡ Some x → lookup test (remove_entry test es) ≡ None → k < 2 ^ 32
+      → Advances l k es ks (remove_entry test es) (remove_key test ks) (Here x)
   was_here x at none small =
       let more = gone_more test es x at in
       record {
         own = own x at;
         indexed = record {
           tied = gone_tied test es indexed.tied;
-          among = still_known (remove_entry test es) (λ m n is. more.among m n ∙ or_first (is_among m n (values_of (remove_entry test es))) (is_ticket_of m n x) is)
+          among = still_known (remove_entry test es) (λ m n is. more.among m n
+              ∙ or_first (is_among m n (values_of (remove_entry test es))) (is_ticket_of m n x) is)
               (sym (found_among test l k finds (remove_entry test es) (gone_tied test es indexed.tied)) ∙ ap (λ o. is_some o) none);
         };
         waiting = λ h. let w = more.weight h in omega arith;

@@ -57,22 +57,28 @@ come_at b j m k [] [] long at = sym (and_false (0 == k))
 come_at b j m k [] (h ∷ hs) long at = absurd (omega arith)
 come_at b j m k (n ∷ ns) [] long at = absurd (omega arith)
 come_at b zero m k (n ∷ ns) (Missing ∷ hs) long at = none_below (suc b) ns hs m k (omega arith) ∙ sym (and_false (n == k))
-come_at b zero m k (n ∷ ns) (Here x ∷ hs) long at = this_lane b m (n == k) (is_known m k (come_tickets (suc b) ns hs)) (omega arith) (none_below (suc b) ns hs m k (omega arith))
-come_at b zero m k (n ∷ ns) (Out ∷ hs) long at = this_lane b m (n == k) (is_known m k (come_tickets (suc b) ns hs)) (omega arith) (none_below (suc b) ns hs m k (omega arith))
+come_at b zero m k (n ∷ ns) (Here x ∷ hs) long at = this_lane b m (n == k) (is_known m k (come_tickets (suc b) ns hs)) (omega arith)
+    (none_below (suc b) ns hs m k (omega arith))
+come_at b zero m k (n ∷ ns) (Out ∷ hs) long at = this_lane b m (n == k) (is_known m k (come_tickets (suc b) ns hs)) (omega arith)
+    (none_below (suc b) ns hs m k (omega arith))
 come_at b (suc j) m k (n ∷ ns) (Missing ∷ hs) long at = come_at (suc b) j m k ns hs (omega arith) (omega arith)
 come_at b (suc j) m k (n ∷ ns) (Here x ∷ hs) long at =
-    ap (λ c. (c && (n == k)) || is_known m k (come_tickets (suc b) ns hs)) (ne_eqb b m (λ e. absurd (omega arith))) ∙ come_at (suc b) j m k ns hs (omega arith) (omega arith)
+    ap (λ c. (c && (n == k)) || is_known m k (come_tickets (suc b) ns hs)) (ne_eqb b m (λ e. absurd (omega arith)))
+    ∙ come_at (suc b) j m k ns hs (omega arith) (omega arith)
 come_at b (suc j) m k (n ∷ ns) (Out ∷ hs) long at =
-    ap (λ c. (c && (n == k)) || is_known m k (come_tickets (suc b) ns hs)) (ne_eqb b m (λ e. absurd (omega arith))) ∙ come_at (suc b) j m k ns hs (omega arith) (omega arith)
+    ap (λ c. (c && (n == k)) || is_known m k (come_tickets (suc b) ns hs)) (ne_eqb b m (λ e. absurd (omega arith)))
+    ∙ come_at (suc b) j m k ns hs (omega arith) (omega arith)
 
 pub was_is : (nexts : List ℕ) (hs : List NextSlot) (es : List (Ticket × Plain)) (ks : List Ticket) → length hs ≡ length nexts → (l k : ℕ)
     → was_taken (buffer_by_slots nexts hs es ks) l k ≡ took_in nexts hs ks l k
 was_is nexts hs es ks long l k =
-    let more : is_known l k (come_tickets 0 nexts hs ++ ks) ≡ (is_known l k (come_tickets 0 nexts hs) || is_known l k ks) = list_any-append (λ (t : Ticket). (t.lane == l) && (t.number == k)) (come_tickets 0 nexts hs) ks in
+    let more : is_known l k (come_tickets 0 nexts hs ++ ks) ≡ (is_known l k (come_tickets 0 nexts hs) || is_known l k ks) =
+    list_any-append (λ (t : Ticket). (t.lane == l) && (t.number == k)) (come_tickets 0 nexts hs) ks in
     ap (λ b. nat_lt k (get_or nexts l 0) || b) (more ∙ ap (λ b. b || is_known l k ks) (come_at 0 l l k nexts hs long (omega arith)))
     ∙ or_assoc (nat_lt k (get_or nexts l 0)) ((get_or nexts l 0 == k) && has_come (slot_at hs l)) (is_known l k ks)
 
-sum_both : (h : Plain → ℕ) (hs : List NextSlot) (es : List (Ticket × Plain)) → sum_by h (waiting_at hs ++ values_of es) ≡ sum_by h (waiting_at hs) + sum_by h (values_of es)
+sum_both : (h : Plain → ℕ) (hs : List NextSlot) (es : List (Ticket × Plain)) → sum_by h (waiting_at hs ++ values_of es)
+    ≡ sum_by h (waiting_at hs) + sum_by h (values_of es)
 sum_both h hs es = sum_by-append h (waiting_at hs) (values_of es)
 
 slot_set : (hs : List NextSlot) (l : ℕ) (a : NextSlot) → l < length hs → slot_at (set hs l a) l ≡ a
@@ -87,7 +93,8 @@ pub kept_set : (nexts : List ℕ) (hs : List NextSlot) (es : List (Ticket × Pla
 kept_set nexts hs es ks l a kept low own = record {
   lanes = length-set hs l a ∙ kept.lanes;
   own = λ m less. ⊎_elim
-      (λ (e : m ≡ l). subst (λ j. IsSlotOf j (get_or nexts j 0) (slot_at (set hs l a) j)) (sym e) (subst (IsSlotOf l (get_or nexts l 0)) (sym (slot_set hs l a (let n = kept.lanes in omega arith))) own))
+      (λ (e : m ≡ l). subst (λ j. IsSlotOf j (get_or nexts j 0) (slot_at (set hs l a) j)) (sym e)
+      (subst (IsSlotOf l (get_or nexts l 0)) (sym (slot_set hs l a (let n = kept.lanes in omega arith))) own))
       (λ (other : m ≢ l). subst (IsSlotOf m (get_or nexts m 0)) (sym (slot_other hs l m a other)) (kept.own m less))
       (cases_eq m l);
   indexed = kept.indexed;
@@ -128,7 +135,8 @@ pub took_next : (nexts : List ℕ) (hs : List NextSlot) (es : List (Ticket × Pl
 took_next nexts hs es ks l x kept low lane number fresh =
     let n = get_or nexts l 0 in
     let there : l < length hs = let c = kept.lanes in omega arith in
-    let none = not_come nexts hs ks l (sym (was_is nexts hs es ks kept.lanes l n) ∙ (sym (λ i. was_taken (buffer_by_slots nexts hs es ks) (lane i) (number i)) ∙ fresh)) in
+    let none = not_come nexts hs ks l (sym (was_is nexts hs es ks kept.lanes l n)
+    ∙ (sym (λ i. was_taken (buffer_by_slots nexts hs es ks) (lane i) (number i)) ∙ fresh)) in
     let long : length (set hs l (Here x)) ≡ length nexts = length-set hs l (Here x) ∙ kept.lanes in
     record {
       new = (λ i. lt-ltb x.lane (length nexts) (let c = lane in omega arith) i && not (fresh i));
@@ -142,9 +150,12 @@ took_next nexts hs es ks l x kept low lane number fresh =
       known = λ m k. was_is nexts (set hs l (Here x)) es ks long m k ∙ (⊎_elim
           (λ (e : m ≡ l).
           let same : is_ticket_of m k x ≡ (get_or nexts m 0 == k) =
-          (λ i. (lane i == m) && (number i == k)) ∙ (ap (λ j. (l == j) && (n == k)) e ∙ (ap (λ b. b && (n == k)) (eq_self l) ∙ ap (λ j. get_or nexts j 0 == k) (sym e))) in
-          ap (λ b. nat_lt k (get_or nexts m 0) || ((get_or nexts m 0 == k) && b) || is_known m k ks) (ap (λ j. has_come (slot_at (set hs l (Here x)) j)) e ∙ ap has_come (slot_set hs l (Here x) there))
-          ∙ come_in (nat_lt k (get_or nexts m 0)) (get_or nexts m 0 == k) (is_known m k ks) (is_ticket_of m k x) (has_come (slot_at hs m)) (ap (λ j. has_come (slot_at hs j)) e ∙ none) same)
+          (λ i. (lane i == m) && (number i == k)) ∙ (ap (λ j. (l == j) && (n == k)) e
+          ∙ (ap (λ b. b && (n == k)) (eq_self l) ∙ ap (λ j. get_or nexts j 0 == k) (sym e))) in
+          ap (λ b. nat_lt k (get_or nexts m 0) || ((get_or nexts m 0 == k) && b) || is_known m k ks)
+          (ap (λ j. has_come (slot_at (set hs l (Here x)) j)) e ∙ ap has_come (slot_set hs l (Here x) there))
+          ∙ come_in (nat_lt k (get_or nexts m 0)) (get_or nexts m 0 == k) (is_known m k ks) (is_ticket_of m k x) (has_come (slot_at hs m))
+          (ap (λ j. has_come (slot_at hs j)) e ∙ none) same)
           (λ (other : m ≢ l).
           ap (λ (a : NextSlot). nat_lt k (get_or nexts m 0) || ((get_or nexts m 0 == k) && has_come a) || is_known m k ks) (slot_other hs l m (Here x) other)
           ∙ or_none (took_in nexts hs ks m k) (is_ticket_of m k x) (ap (λ b. b && (x.number == k)) (ne_eqb x.lane m (λ e. other (sym e ∙ lane)))))
@@ -160,7 +171,8 @@ last_in false false false t = refl
 
 -- a delivery came that is a later number
 pub took_later : (nexts : List ℕ) (hs : List NextSlot) (es fs : List (Ticket × Plain)) (ks ts : List Ticket) (x : Plain)
-    → length hs ≡ length nexts → x.lane < length nexts → was_taken (buffer_by_slots nexts hs es ks) x.lane x.number ≡ false → MoreBy es x fs → ((l k : ℕ) → is_known l k ts ≡ (is_known l k ks || is_ticket_of l k x))
+    → length hs ≡ length nexts → x.lane < length nexts → was_taken (buffer_by_slots nexts hs es ks) x.lane x.number ≡ false → MoreBy es x fs
+    → ((l k : ℕ) → is_known l k ts ≡ (is_known l k ks || is_ticket_of l k x))
     → TakesIn (buffer_by_slots nexts hs es ks) x (buffer_by_slots nexts hs fs ts)
 took_later nexts hs es fs ks ts x long low fresh more known = record {
   new = (λ i. lt-ltb x.lane (length nexts) low i && not (fresh i));
@@ -180,7 +192,8 @@ took_later nexts hs es fs ks ts x long low fresh more known = record {
 }
 
 pub kept_later : (nexts : List ℕ) (hs : List NextSlot) (es fs : List (Ticket × Plain)) (ks ts : List Ticket) (x : Plain)
-    → AreKept nexts hs es ks → x.number ≢ get_or nexts x.lane 0 → MoreBy es x fs → are_tied fs ≡ true → ((l k : ℕ) → is_known l k ts ≡ (is_known l k ks || is_ticket_of l k x))
+    → AreKept nexts hs es ks → x.number ≢ get_or nexts x.lane 0 → MoreBy es x fs → are_tied fs ≡ true
+    → ((l k : ℕ) → is_known l k ts ≡ (is_known l k ks || is_ticket_of l k x))
     → AreKept nexts hs fs ts
 kept_later nexts hs es fs ks ts x kept later more tied known = record {
   lanes = kept.lanes;
@@ -217,7 +230,8 @@ gave nexts hs es fs ks ts l x a low lanes here own weight same others =
     let p = own_parts l n x own in
     let there : l < length hs = omega arith in
     let there' : l < length (set hs l Missing) = let c = length-set hs l Missing in omega arith in
-    let long : length (set (set hs l Missing) l a) ≡ length (set nexts l (n + 1)) = length-set (set hs l Missing) l a ∙ (length-set hs l Missing ∙ (lanes ∙ sym (length-set nexts l (n + 1)))) in
+    let long : length (set (set hs l Missing) l a) ≡ length (set nexts l (n + 1)) =
+    length-set (set hs l Missing) l a ∙ (length-set hs l Missing ∙ (lanes ∙ sym (length-set nexts l (n + 1)))) in
     record {
       lane = p.0;
       number = p.1;
@@ -234,13 +248,16 @@ gave nexts hs es fs ks ts l x a low lanes here own weight same others =
             omega arith;
         known = λ m k. was_is (set nexts l (n + 1)) (set (set hs l Missing) l a) fs ts long m k ∙ (⊎_elim
             (λ (e : m ≡ l). subst (λ j. took_in (set nexts l (n + 1)) (set (set hs l Missing) l a) ts j k ≡ took_in nexts hs ks j k) (sym e)
-            ((λ i. nat_lt k (get_or-set_at nexts l l (n + 1) 0 refl low i) || ((get_or-set_at nexts l l (n + 1) 0 refl low i == k) && has_come (slot_set (set hs l Missing) l a there' i)) || is_known l k ts)
+            ((λ i. nat_lt k (get_or-set_at nexts l l (n + 1) 0 refl low i) ||
+            ((get_or-set_at nexts l l (n + 1) 0 refl low i == k) && has_come (slot_set (set hs l Missing) l a there' i)) || is_known l k ts)
             ∙ (sym (or_assoc (nat_lt k (n + 1)) ((n + 1 == k) && has_come a) (is_known l k ts)) ∙ ap (λ b. nat_lt k (n + 1) || b) (same k)
             ∙ (ap (λ b. b || is_known l k ks) (one_more n k)
             ∙ (next_in (nat_lt k n) (n == k) (is_known l k ks)
             ∙ ap (λ (b : NextSlot). nat_lt k n || ((n == k) && has_come b) || is_known l k ks) (sym here))))))
             (λ (other : m ≢ l).
-            (λ i. nat_lt k (get_or-set_other nexts l m (n + 1) 0 other i) || ((get_or-set_other nexts l m (n + 1) 0 other i == k) && has_come ((slot_other (set hs l Missing) l m a other ∙ slot_other hs l m Missing other) i)) || others m k other i))
+            (λ i. nat_lt k (get_or-set_other nexts l m (n + 1) 0 other i) ||
+            ((get_or-set_other nexts l m (n + 1) 0 other i == k) && has_come
+            ((slot_other (set hs l Missing) l m a other ∙ slot_other hs l m Missing other) i)) || others m k other i))
             (cases_eq m l)
             ∙ sym (was_is nexts hs es ks lanes m k));
       };
@@ -261,7 +278,8 @@ kept_next nexts hs es fs ks ts l a kept low own indexed gone others =
       lanes = length-set (set hs l Missing) l a ∙ (length-set hs l Missing ∙ (kept.lanes ∙ sym long));
       own = λ m less. ⊎_elim
           (λ (e : m ≡ l). subst (λ j. IsSlotOf j (get_or (set nexts l (n + 1)) j 0) (slot_at (set (set hs l Missing) l a) j)) (sym e)
-          (subst (λ (q : ℕ × NextSlot). IsSlotOf l q.0 q.1) (λ i. (sym (get_or-set_at nexts l l (n + 1) 0 refl low) i, sym (slot_set (set hs l Missing) l a there') i)) own))
+          (subst (λ (q : ℕ × NextSlot). IsSlotOf l q.0 q.1) (λ i.
+          (sym (get_or-set_at nexts l l (n + 1) 0 refl low) i, sym (slot_set (set hs l Missing) l a there') i)) own))
           (λ (other : m ≢ l). subst (λ (q : ℕ × NextSlot). IsSlotOf m q.0 q.1)
           (λ i. (sym (get_or-set_other nexts l m (n + 1) 0 other) i, sym (slot_other (set hs l Missing) l m a other ∙ slot_other hs l m Missing other) i))
           (kept.own m (omega arith)))
@@ -284,7 +302,8 @@ known_same l n es fs ks ts a moved k = ap (λ b. ((b && (n == k)) && has_come a)
 
 pub others_same : (l n : ℕ) (es fs : List (Ticket × Plain)) (ks ts : List Ticket) (a : NextSlot) → Advances l n es ks fs ts a
     → (m k : ℕ) → m ≢ l → is_known m k ts ≡ is_known m k ks
-others_same l n es fs ks ts a moved m k other = ap (λ b. ((b && (n == k)) && has_come a) || is_known m k ts) (sym (ne_eqb l m (λ e. other (sym e)))) ∙ moved.same m k
+others_same l n es fs ks ts a moved m k other = ap (λ b. ((b && (n == k)) && has_come a) || is_known m k ts) (sym (ne_eqb l m (λ e. other (sym e))))
+    ∙ moved.same m k
 
 -- a delivery of a later number was taken out of turn
 pub took_out : (nexts : List ℕ) (hs : List NextSlot) (es fs : List (Ticket × Plain)) (ks : List Ticket) (t : Ticket) (x : Plain) → es ≡ (t, x) ∷ fs
@@ -302,7 +321,8 @@ took_out nexts hs es fs ks t x is = record {
 }
 
 -- and one that waited as its lane's next number
-pub took_slot : (nexts : List ℕ) (hs : List NextSlot) (es : List (Ticket × Plain)) (ks : List Ticket) (l : ℕ) (x : Plain) → length hs ≡ length nexts → l < length hs → slot_at hs l ≡ Here x
+pub took_slot : (nexts : List ℕ) (hs : List NextSlot) (es : List (Ticket × Plain)) (ks : List Ticket) (l : ℕ) (x : Plain) → length hs ≡ length nexts
+    → l < length hs → slot_at hs l ≡ Here x
     → GivesAny (buffer_by_slots nexts hs es ks) x (buffer_by_slots nexts (set hs l Out) es ks)
 took_slot nexts hs es ks l x long low here = record {
   nexts = refl;
@@ -313,8 +333,10 @@ took_slot nexts hs es ks l x long low here = record {
         let put = set_sum h hs l Out low in
         let was = ap (λ (b : NextSlot). sum_by h (waiting_of b)) here in
         omega arith;
-    known = λ m k. was_is nexts (set hs l Out) es ks (length-set hs l Out ∙ long) m k ∙ (ap (λ b. nat_lt k (get_or nexts m 0) || ((get_or nexts m 0 == k) && b) || is_known m k ks) (⊎_elim
-        (λ (e : m ≡ l). ap (λ j. has_come (slot_at (set hs l Out) j)) e ∙ (ap has_come (slot_set hs l Out low) ∙ (sym (ap has_come here) ∙ ap (λ j. has_come (slot_at hs j)) (sym e))))
+    known = λ m k. was_is nexts (set hs l Out) es ks (length-set hs l Out ∙ long) m k
+        ∙ (ap (λ b. nat_lt k (get_or nexts m 0) || ((get_or nexts m 0 == k) && b) || is_known m k ks) (⊎_elim
+        (λ (e : m ≡ l). ap (λ j. has_come (slot_at (set hs l Out) j)) e
+        ∙ (ap has_come (slot_set hs l Out low) ∙ (sym (ap has_come here) ∙ ap (λ j. has_come (slot_at hs j)) (sym e))))
         (λ (other : m ≢ l). ap has_come (slot_other hs l m Out other))
         (cases_eq m l))
         ∙ sym (was_is nexts hs es ks long m k));
@@ -322,9 +344,11 @@ took_slot nexts hs es ks l x long low here = record {
 }
 
 -- a number that was not taken in is not known as a later one, and so none such waits
-pub not_known : (nexts : List ℕ) (hs : List NextSlot) (es : List (Ticket × Plain)) (ks : List Ticket) (l k : ℕ) → length hs ≡ length nexts → was_taken (buffer_by_slots nexts hs es ks) l k ≡ false → is_known l k ks ≡ false
+pub not_known : (nexts : List ℕ) (hs : List NextSlot) (es : List (Ticket × Plain)) (ks : List Ticket) (l k : ℕ) → length hs ≡ length nexts
+    → was_taken (buffer_by_slots nexts hs es ks) l k ≡ false → is_known l k ks ≡ false
 not_known nexts hs es ks l k long fresh =
-    (or_parts (nat_lt k (get_or nexts l 0)) ((get_or nexts l 0 == k) && has_come (slot_at hs l)) (is_known l k ks) (sym (was_is nexts hs es ks long l k) ∙ fresh)).2
+    (or_parts (nat_lt k (get_or nexts l 0)) ((get_or nexts l 0 == k) && has_come (slot_at hs l)) (is_known l k ks)
+    (sym (was_is nexts hs es ks long l k) ∙ fresh)).2
 
 pub not_later : (es : List (Ticket × Plain)) (ks : List Ticket) (l k : ℕ) → AreIndexed es ks → is_known l k ks ≡ false → is_among l k (values_of es) ≡ false
 not_later es ks l k indexed none = false_from_ne_true (is_among l k (values_of es)) (λ is. let c : true ≡ false = sym (indexed.among l k is) ∙ none in cc)

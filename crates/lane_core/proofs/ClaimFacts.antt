@@ -67,7 +67,8 @@ rising_whole l n (x ∷ xs) (y ∷ ys) a up same =
     λ i. first i ∷ rest i
 
 -- two lists of a lane's numbers begin alike, where the first of the one is in the other
-begin_alike : (l n : ℕ) (x p : Plain) (xs ps : List Plain) → numbered l n (x ∷ xs) ≡ true → numbered l n (p ∷ ps) ≡ true → 1 ≤ count_by (λ z. is_same p z) (x ∷ xs)
+begin_alike : (l n : ℕ) (x p : Plain) (xs ps : List Plain) → numbered l n (x ∷ xs) ≡ true → numbered l n (p ∷ ps) ≡ true
+    → 1 ≤ count_by (λ z. is_same p z) (x ∷ xs)
     → (p ≡ x) × (numbered l (suc n) xs ≡ true) × (numbered l (suc n) ps ≡ true)
 begin_alike l n x p xs ps a b there =
     let count = sum_by-cons (λ z. once (is_same p z)) x xs in
@@ -80,7 +81,8 @@ begin_alike l n x p xs ps a b there =
     (same_from p x (true_from (is_same p x) (omega arith)), t.1, v.1)
 
 -- a lane's numbers that were polled, and the rest of them
-front_and_rest : (l n : ℕ) (xs ps ys : List Plain) → numbered l n xs ≡ true → numbered l n ps ≡ true → rises ys ≡ true → ((h : Plain → ℕ) → sum_by h xs ≡ sum_by h (ps ++ ys)) → ps ++ ys ≡ xs
+front_and_rest : (l n : ℕ) (xs ps ys : List Plain) → numbered l n xs ≡ true → numbered l n ps ≡ true → rises ys ≡ true
+    → ((h : Plain → ℕ) → sum_by h xs ≡ sum_by h (ps ++ ys)) → ps ++ ys ≡ xs
 front_and_rest l n xs [] ys a b up same = rising_whole l n xs ys a up same
 front_and_rest l n [] (p ∷ ps) ys a b up same = absurd (let e = same (λ _. 1) in omega (arith, sum_by-cons (λ _. 1) p (ps ++ ys)))
 front_and_rest l n (x ∷ xs) (p ∷ ps) ys a b up same =
@@ -94,7 +96,8 @@ less_left : (h : Plain → ℕ) (x y : Plain) (xs ys : List Plain) → x ≡ y �
 less_left h x y xs ys e less = let f = ap h e in omega (arith, sum_by-cons h x xs, sum_by-cons h y ys)
 
 -- a lane's numbers among its numbers are the first of them
-first_of : (l n : ℕ) (xs ps : List Plain) → numbered l n xs ≡ true → numbered l n ps ≡ true → ((h : Plain → ℕ) → sum_by h ps ≤ sum_by h xs) → take (length ps) xs ≡ ps
+first_of : (l n : ℕ) (xs ps : List Plain) → numbered l n xs ≡ true → numbered l n ps ≡ true → ((h : Plain → ℕ) → sum_by h ps ≤ sum_by h xs)
+    → take (length ps) xs ≡ ps
 first_of l n xs [] a b less = refl
 first_of l n [] (p ∷ ps) a b less = absurd (let e = less (λ _. 1) in omega (arith, sum_by-cons (λ _. 1) p ps))
 first_of l n (x ∷ xs) (p ∷ ps) a b less =
@@ -104,18 +107,22 @@ first_of l n (x ∷ xs) (p ∷ ps) a b less =
     let rest = first_of l (suc n) xs ps h.1 h.2 (λ g. less_left g p x ps xs h.0 (less g)) in
     λ i. sym h.0 i ∷ rest i
 
-pub received_first : (accounts : List Account) → AreNumbered accounts → ((i : ℕ) (a : Account) → slice_get accounts i ≡ Some a → numbered a.lane 0 a.received ≡ true) → EachLaneOnce accounts
+pub received_first : (accounts : List Account) → AreNumbered accounts
+    → ((i : ℕ) (a : Account) → slice_get accounts i ≡ Some a → numbered a.lane 0 a.received ≡ true) → EachLaneOnce accounts
     → ((h : Plain → ℕ) → sum_by (λ a. sum_by h a.received) accounts ≤ sum_by (λ a. sum_by h a.submitted) accounts)
     → (i : ℕ) (a : Account) → slice_get accounts i ≡ Some a → take (length a.received) a.submitted ≡ a.received
 received_first accounts out back one less i a e =
     first_of a.lane 0 a.submitted a.received (out i a e) (back i a e) (λ h.
     let cut : Plain → ℕ = λ x. cond (x.lane == a.lane) (h x) 0 in
-    let p = only (λ (u : Account). sum_by cut u.submitted) (λ (u : Account). u.lane == a.lane) accounts i a e (λ j u e' no. other_lane a.lane u.lane 0 h u.submitted (out j u e') no) (one a.lane) (eq_self a.lane) in
-    let q = only (λ (u : Account). sum_by cut u.received) (λ (u : Account). u.lane == a.lane) accounts i a e (λ j u e' no. other_lane a.lane u.lane 0 h u.received (back j u e') no) (one a.lane) (eq_self a.lane) in
+    let p = only (λ (u : Account). sum_by cut u.submitted) (λ (u : Account). u.lane == a.lane) accounts i a e
+    (λ j u e' no. other_lane a.lane u.lane 0 h u.submitted (out j u e') no) (one a.lane) (eq_self a.lane) in
+    let q = only (λ (u : Account). sum_by cut u.received) (λ (u : Account). u.lane == a.lane) accounts i a e
+    (λ j u e' no. other_lane a.lane u.lane 0 h u.received (back j u e') no) (one a.lane) (eq_self a.lane) in
     omega (arith, p, q, own_lane a.lane 0 h a.submitted (out i a e), own_lane a.lane 0 h a.received (back i a e), less cut))
 
 -- what is one lane's has no sum for the test of another
-other_given : (l m : ℕ) (h : Plain → ℕ) (xs : List Plain) → list_all (λ (x : Plain). x.lane == m) xs ≡ true → (m == l) ≡ false → sum_by (λ x. cond (x.lane == l) (h x) 0) xs ≡ 0
+other_given : (l m : ℕ) (h : Plain → ℕ) (xs : List Plain) → list_all (λ (x : Plain). x.lane == m) xs ≡ true → (m == l) ≡ false
+    → sum_by (λ x. cond (x.lane == l) (h x) 0) xs ≡ 0
 other_given l m h [] e f = refl
 other_given l m h (x ∷ xs) e f =
     let s = and_parts (x.lane == m) (list_all (λ (y : Plain). y.lane == m) xs) e in
@@ -123,12 +130,14 @@ other_given l m h (x ∷ xs) e f =
     let rest = other_given l m h xs s.1 f in
     let here : cond (x.lane == l) (h x) 0 ≡ 0 = ap (λ b. cond b (h x) 0) is in omega (arith, sum_by-cons (λ (y : Plain). cond (y.lane == l) (h y) 0) x xs)
 
-own_given : (l : ℕ) (h : Plain → ℕ) (xs : List Plain) → list_all (λ (x : Plain). x.lane == l) xs ≡ true → sum_by (λ x. cond (x.lane == l) (h x) 0) xs ≡ sum_by h xs
+own_given : (l : ℕ) (h : Plain → ℕ) (xs : List Plain) → list_all (λ (x : Plain). x.lane == l) xs ≡ true → sum_by (λ x. cond (x.lane == l) (h x) 0) xs
+    ≡ sum_by h xs
 own_given l h [] e = refl
 own_given l h (x ∷ xs) e =
     let s = and_parts (x.lane == l) (list_all (λ (y : Plain). y.lane == l) xs) e in
     let rest = own_given l h xs s.1 in
-    let here : cond (x.lane == l) (h x) 0 ≡ h x = ap (λ b. cond b (h x) 0) s.0 in omega (arith, sum_by-cons (λ (y : Plain). cond (y.lane == l) (h y) 0) x xs, sum_by-cons h x xs)
+    let here : cond (x.lane == l) (h x) 0 ≡ h x = ap (λ b. cond b (h x) 0) s.0 in
+    omega (arith, sum_by-cons (λ (y : Plain). cond (y.lane == l) (h y) 0) x xs, sum_by-cons h x xs)
 
 pub none_by : (b : Bool) (c n m : ℕ) → once b + n ≡ 0 → (n ≡ 0 → m ≡ 0) → cond b c 0 + m ≡ 0
 none_by true c n m e f = absurd (omega arith)
@@ -139,7 +148,8 @@ none_counted : (l : ℕ) (h : Plain → ℕ) (xs : List Plain) → count_by (λ 
 none_counted l h [] e = refl
 none_counted l h (x ∷ xs) e =
     let count = sum_by-cons (λ (y : Plain). once (y.lane == l)) x xs in
-    let here = none_by (x.lane == l) (h x) (count_by (λ (y : Plain). y.lane == l) xs) (sum_by (λ (y : Plain). cond (y.lane == l) (h y) 0) xs) (omega arith) (λ f. none_counted l h xs f) in
+    let here = none_by (x.lane == l) (h x) (count_by (λ (y : Plain). y.lane == l) xs) (sum_by (λ (y : Plain). cond (y.lane == l) (h y) 0) xs) (omega arith)
+    (λ f. none_counted l h xs f) in
     omega (arith, sum_by-cons (λ (y : Plain). cond (y.lane == l) (h y) 0) x xs)
 
 sum_ones : (xs : List Plain) → sum_by (λ _. 1) xs ≡ length xs
@@ -160,10 +170,23 @@ claims_settle claims found dropped each one all_found all_given i c at =
     let mine = each i c at in
     let sum : (h : Plain → ℕ) → sum_by h c.submitted ≡ (sum_by h c.polled + sum_by h c.given) + sum_by (λ x. cond (x.lane == c.lane) (h x) 0) dropped = λ h.
     let cut : Plain → ℕ = λ x. cond (x.lane == c.lane) (h x) 0 in
-    let p = only (λ (u : Claim). sum_by cut u.submitted) (λ (u : Claim). u.lane == c.lane) claims i c at (λ j u e no. other_lane c.lane u.lane 0 h u.submitted (each j u e).0.submitted no) (one c.lane) (eq_self c.lane) in
-    let q = only (λ (u : Claim). sum_by cut u.polled) (λ (u : Claim). u.lane == c.lane) claims i c at (λ j u e no. other_lane c.lane u.lane 0 h u.polled (each j u e).0.polled no) (one c.lane) (eq_self c.lane) in
-    let r = only (λ (u : Claim). sum_by cut u.given) (λ (u : Claim). u.lane == c.lane) claims i c at (λ j u e no. other_given c.lane u.lane h u.given (each j u e).0.own no) (one c.lane) (eq_self c.lane) in
-    omega (arith, p, q, r, own_lane c.lane 0 h c.submitted mine.0.submitted, own_lane c.lane 0 h c.polled mine.0.polled, own_given c.lane h c.given mine.0.own, all_found cut, all_given cut) in
+    let p = only (λ (u : Claim). sum_by cut u.submitted) (λ (u : Claim). u.lane == c.lane) claims i c at
+    (λ j u e no. other_lane c.lane u.lane 0 h u.submitted (each j u e).0.submitted no) (one c.lane) (eq_self c.lane) in
+    let q = only (λ (u : Claim). sum_by cut u.polled) (λ (u : Claim). u.lane == c.lane) claims i c at
+    (λ j u e no. other_lane c.lane u.lane 0 h u.polled (each j u e).0.polled no) (one c.lane) (eq_self c.lane) in
+    let r = only (λ (u : Claim). sum_by cut u.given) (λ (u : Claim). u.lane == c.lane) claims i c at
+    (λ j u e no. other_given c.lane u.lane h u.given (each j u e).0.own no) (one c.lane) (eq_self c.lane) in
+    omega (
+      arith,
+      p,
+      q,
+      r,
+      own_lane c.lane 0 h c.submitted mine.0.submitted,
+      own_lane c.lane 0 h c.polled mine.0.polled,
+      own_given c.lane h c.given mine.0.own,
+      all_found cut,
+      all_given cut,
+    ) in
     let lost = count_by (λ (x : Plain). x.lane == c.lane) dropped in
     let counts = sum (λ _. 1) in
     let none : lost ≡ 0 = ⊎_elim (λ (e : lost ≡ 0). e)

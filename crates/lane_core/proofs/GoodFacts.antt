@@ -44,10 +44,12 @@ moved s jobs workers results waiting same good = record {
 }
 
 -- where nothing is submitted and nothing handed
-pub settled : (s : State) (l : ℕ) (v w : LaneState) → slice_get s.lanes l ≡ Some v → w.submitted ≡ v.submitted → w.handed ≡ v.handed → w.polled ≤ w.handed → Good s
+pub settled : (s : State) (l : ℕ) (v w : LaneState) → slice_get s.lanes l ≡ Some v → w.submitted ≡ v.submitted → w.handed ≡ v.handed → w.polled ≤ w.handed
+    → Good s
     → Good (state s.year (set s.lanes l w) s.jobs s.workers s.results s.waiting)
 settled s l v w at submitted handed few good =
-    let sub : (m : ℕ) → of_lane [] (λ u. u.submitted) (slice_get (set s.lanes l w) m) ≡ submitted_by s m = λ m. lane_kept [] (λ u. u.submitted) s.lanes l m v w at submitted in
+    let sub : (m : ℕ) → of_lane [] (λ u. u.submitted) (slice_get (set s.lanes l w) m) ≡ submitted_by s m =
+    λ m. lane_kept [] (λ u. u.submitted) s.lanes l m v w at submitted in
     let h : (m : ℕ) → of_lane 0 (λ u. u.handed) (slice_get (set s.lanes l w) m) ≡ handed_of s m = λ m. lane_kept 0 (λ u. u.handed) s.lanes l m v w at handed in
     record {
       one = λ m k. ap (λ n. times_under_way s m k + once (nat_lt k n)) (h m) ∙ (good.one m k ∙ ap (λ xs. once (nat_lt k (length xs))) (sym (sub m)));
@@ -70,7 +72,8 @@ pub given : (s : State) (l : ℕ) (v : LaneState) → slice_get s.lanes l ≡ So
     → Good (state s.year (set s.lanes l (lane_state v.submitted v.closed v.polled (v.handed + 1))) s.jobs s.workers s.results (without l v.handed s.waiting))
 given s l v at waits good =
     let w = lane_state v.submitted v.closed v.polled (v.handed + 1) in
-    let sub : (m : ℕ) → of_lane [] (λ u. u.submitted) (slice_get (set s.lanes l w) m) ≡ submitted_by s m = λ m. lane_kept [] (λ u. u.submitted) s.lanes l m v w at refl in
+    let sub : (m : ℕ) → of_lane [] (λ u. u.submitted) (slice_get (set s.lanes l w) m) ≡ submitted_by s m =
+    λ m. lane_kept [] (λ u. u.submitted) s.lanes l m v w at refl in
     let p : (m : ℕ) → of_lane 0 (λ u. u.polled) (slice_get (set s.lanes l w) m) ≡ polled_of s m = λ m. lane_kept 0 (λ u. u.polled) s.lanes l m v w at refl in
     record {
       one = λ m k.
@@ -81,7 +84,8 @@ given s l v at waits good =
           (λ (e : m ≡ l).
           let a = ap (λ j. once (nat_lt k j)) (lane_here 0 (λ u. u.handed) s.lanes l m v w at e) in
           let b = ap (λ j. once (nat_lt k j)) (lane_was 0 (λ u. u.handed) s.lanes l m v at e) in
-          let own : once ((l == m) && (v.handed == k)) ≡ once (v.handed == k) = ap (λ j. once ((l == j) && (v.handed == k))) e ∙ ap (λ c. once (c && (v.handed == k))) (eq_self l) in
+          let own : once ((l == m) && (v.handed == k)) ≡ once (v.handed == k) =
+          ap (λ j. once ((l == j) && (v.handed == k))) e ∙ ap (λ c. once (c && (v.handed == k))) (eq_self l) in
           omega (arith, one_more k v.handed))
           (λ (e : m ≢ l).
           let a = ap (λ j. once (nat_lt k j)) (lane_else 0 (λ u. u.handed) s.lanes l m w e) in
@@ -97,11 +101,14 @@ given s l v at waits good =
       same_year = λ m. ap (list_all (λ (x : Plain). x.year == s.year)) (sub m) ∙ good.same_year m;
       own =
           let fewer = sum_without l v.handed (λ x. once (not (is_own s x))) s.waiting in
-          let none : sum_under_way (λ x. once (not (is_own s x))) (state s.year s.lanes s.jobs s.workers s.results (without l v.handed s.waiting)) ≡ 0 = omega (arith, good.own) in
-          (λ i. sum_under_way (λ x. once (not (is_item x (slice_get (sub x.lane i) x.number)))) (state s.year s.lanes s.jobs s.workers s.results (without l v.handed s.waiting))) ∙ none;
+          let none : sum_under_way (λ x. once (not (is_own s x))) (state s.year s.lanes s.jobs s.workers s.results (without l v.handed s.waiting)) ≡ 0 =
+          omega (arith, good.own) in
+          (λ i. sum_under_way (λ x. once (not (is_item x (slice_get (sub x.lane i) x.number))))
+          (state s.year s.lanes s.jobs s.workers s.results (without l v.handed s.waiting))) ∙ none;
     }
 
-pub numbered_more : (lane n : ℕ) (xs : List Plain) (x : Plain) → numbered lane n xs ≡ true → x.lane ≡ lane → x.number ≡ n + length xs → numbered lane n (xs ++ x ∷ []) ≡ true
+pub numbered_more : (lane n : ℕ) (xs : List Plain) (x : Plain) → numbered lane n xs ≡ true → x.lane ≡ lane → x.number ≡ n + length xs
+    → numbered lane n (xs ++ x ∷ []) ≡ true
 numbered_more lane n [] x h e f = grind (arith, common_steps)
 numbered_more lane n (y ∷ xs) x h e f = let rest = numbered_more lane (suc n) xs x in grind (arith, common_steps, rest)
 
@@ -125,7 +132,8 @@ zero_of : (n m : ℕ) → n ≤ m → m ≡ 0 → n ≡ 0
 zero_of n m a b = omega arith
 
 -- where a lane submitted x
-pub added : (s : State) (l : ℕ) (v : LaneState) (x : Plain) → slice_get s.lanes l ≡ Some v → x.lane ≡ l → x.number ≡ length v.submitted → x.year ≡ s.year → Good s
+pub added : (s : State) (l : ℕ) (v : LaneState) (x : Plain) → slice_get s.lanes l ≡ Some v → x.lane ≡ l → x.number ≡ length v.submitted → x.year ≡ s.year
+    → Good s
     → Good (state s.year (set s.lanes l (lane_state (v.submitted ++ x ∷ []) v.closed v.polled v.handed)) (s.jobs ++ x ∷ []) s.workers s.results s.waiting)
 added s l v x at lane number year good =
     let w = lane_state (v.submitted ++ x ∷ []) v.closed v.polled v.handed in
@@ -152,7 +160,8 @@ added s l v x at lane number year good =
           (λ (e : m ≡ l).
           let n = ap (λ (xs : List Plain). once (nat_lt k (length xs))) (here m e).0 ∙ ap (λ j. once (nat_lt k j)) (length-append v.submitted (x ∷ [])) in
           let b = ap (λ (xs : List Plain). once (nat_lt k (length xs))) (here m e).1 in
-          let own : once (is_ticket_of m k x) ≡ once (length v.submitted == k) = ap (λ j. once (is_ticket_of j k x)) e ∙ own_ticket l (length v.submitted) k x lane number in
+          let own : once (is_ticket_of m k x) ≡ once (length v.submitted == k) =
+          ap (λ j. once (is_ticket_of j k x)) e ∙ own_ticket l (length v.submitted) k x lane number in
           omega (arith, one_more k (length v.submitted)))
           (λ (e : m ≢ l).
           let n = ap (λ (xs : List Plain). once (nat_lt k (length xs))) (else_ m e) in
@@ -161,7 +170,8 @@ added s l v x at lane number year good =
           (cases_eq m l);
       few = λ m. let a = good.few m in let b = h m in let c = p m in omega arith;
       in_order = λ m. ⊎_elim
-          (λ (e : m ≡ l). ap (numbered m 0) (here m e).0 ∙ numbered_more m 0 v.submitted x (ap (numbered m 0) (sym (here m e).1) ∙ good.in_order m) (lane ∙ sym e) (omega arith))
+          (λ (e : m ≡ l). ap (numbered m 0) (here m e).0 ∙ numbered_more m 0 v.submitted x (ap (numbered m 0) (sym (here m e).1) ∙ good.in_order m)
+          (lane ∙ sym e) (omega arith))
           (λ (e : m ≢ l). ap (numbered m 0) (else_ m e) ∙ good.in_order m)
           (cases_eq m l);
       same_year = λ m. ⊎_elim
@@ -178,7 +188,8 @@ added s l v x at lane number year good =
           let more = under_way_more s (set s.lanes l w) x f in
           let last : f x ≡ 0 = ap (λ b. once (not b)) new in
           let jobs = sum_by-le-sum_by f g s.jobs still in
-          let workers = sum_by-le-sum_by (λ (o : Option Plain). sum_by f (option_to_list o)) (λ (o : Option Plain). sum_by g (option_to_list o)) s.workers (λ o. sum_by-le-sum_by f g (option_to_list o) still) in
+          let workers = sum_by-le-sum_by (λ (o : Option Plain). sum_by f (option_to_list o)) (λ (o : Option Plain). sum_by g (option_to_list o)) s.workers
+          (λ o. sum_by-le-sum_by f g (option_to_list o) still) in
           let results = sum_by-le-sum_by f g s.results still in
           let waiting = sum_by-le-sum_by f g s.waiting still in
           zero_of (sum_under_way f t) (sum_under_way g s) (omega arith) good.own;

@@ -34,8 +34,10 @@ none_at : (c : Contents) (s : State) (l : ℕ) (o : Option LaneState) → slice_
 none_at c s l None at shows none = refl
 none_at c s l (Some v) at shows none =
     let gone : is_among l v.handed c.buffer.waiting ≡ false = ap (λ n. is_among l n c.buffer.waiting) (sym (next_is c s l v shows at)) ∙ none in
-    let off = not_among l v.handed s.waiting (sum_by-IsPermutation (λ y. once (is_ticket_of l v.handed y)) c.buffer.waiting s.waiting shows.waiting ∙ not_among_times l v.handed c.buffer.waiting gone) in
-    λ i. cond (off i) (Some (state s.year (set s.lanes l (lane_state v.submitted v.closed v.polled (v.handed + 1))) s.jobs s.workers s.results (without l v.handed s.waiting))) None
+    let off = not_among l v.handed s.waiting (sum_by-IsPermutation (λ y. once (is_ticket_of l v.handed y)) c.buffer.waiting s.waiting shows.waiting
+    ∙ not_among_times l v.handed c.buffer.waiting gone) in
+    λ i. cond (off i) (Some (state s.year (set s.lanes l (lane_state v.submitted v.closed v.polled (v.handed + 1))) s.jobs s.workers s.results
+    (without l v.handed s.waiting))) None
 
 pub hand_none : (c : Contents) (l : ℕ) → has_next c.buffer l ≡ false → Steps c (Hand l) false c
 hand_none c l none = λ s r shows. idle c s (Hand l) (none_at c s l (slice_get s.lanes l) refl shows none) shows
@@ -50,7 +52,8 @@ own_from : (s : State) (x : Plain) (l n : ℕ) → once (not (is_own s x)) ≡ 0
 own_from s x l n own lane number =
     (λ i. slice_get (submitted_by s (sym lane i)) (sym number i)) ∙ item_from x (slice_get (submitted_by s x.lane) x.number) (inside (is_own s x) own)
 
-first_by : (b : Bool) (s : State) (l n : ℕ) (x y : Plain) (xs : List Plain) (h : Plain → ℕ) → slice_get (submitted_by s l) n ≡ Some x → once (not (is_own s y)) ≡ 0 → is_ticket_of l n y ≡ b → (b || is_among l n xs) ≡ true
+first_by : (b : Bool) (s : State) (l n : ℕ) (x y : Plain) (xs : List Plain) (h : Plain → ℕ) → slice_get (submitted_by s l) n ≡ Some x → once (not (is_own s y))
+    ≡ 0 → is_ticket_of l n y ≡ b → (b || is_among l n xs) ≡ true
     → (is_among l n xs ≡ true → sum_by h (without l n xs) + h x ≡ sum_by h xs)
     → sum_by h (cond b xs (y ∷ without l n xs)) + h x ≡ h y + sum_by h xs
 first_by true s l n x y xs h at own is any rest =
@@ -62,7 +65,8 @@ first_by true s l n x y xs h at own is any rest =
 first_by false s l n x y xs h at own is any rest = let e = rest any in omega (arith, sum_by-cons h y (without l n xs))
 
 -- what waits without the lane's next number
-without_own : (s : State) (l n : ℕ) (x : Plain) (xs : List Plain) (h : Plain → ℕ) → slice_get (submitted_by s l) n ≡ Some x → count_by (λ y. not (is_own s y)) xs ≡ 0 → is_among l n xs ≡ true
+without_own : (s : State) (l n : ℕ) (x : Plain) (xs : List Plain) (h : Plain → ℕ) → slice_get (submitted_by s l) n ≡ Some x
+    → count_by (λ y. not (is_own s y)) xs ≡ 0 → is_among l n xs ≡ true
     → sum_by h (without l n xs) + h x ≡ sum_by h xs
 without_own s l n x [] h at own any = absurd (cc)
 without_own s l n x (y ∷ xs) h at own any =
@@ -80,7 +84,8 @@ among_by : (b : Bool) (l n m k : ℕ) (y : Plain) (xs : List Plain) → is_ticke
     → (is_among l n xs ≡ true → is_among m k xs ≡ (is_among m k (without l n xs) || ((l == m) && (n == k))))
     → (is_ticket_of m k y || is_among m k xs) ≡ (is_among m k (cond b xs (y ∷ without l n xs)) || ((l == m) && (n == k)))
 among_by true l n m k y xs is any rest = ap (λ b. b || is_among m k xs) (ticket_is l n m k y is) ∙ or_comm ((l == m) && (n == k)) (is_among m k xs)
-among_by false l n m k y xs is any rest = ap (λ b. is_ticket_of m k y || b) (rest any) ∙ or_assoc (is_ticket_of m k y) (is_among m k (without l n xs)) ((l == m) && (n == k))
+among_by false l n m k y xs is any rest = ap (λ b. is_ticket_of m k y || b) (rest any)
+    ∙ or_assoc (is_ticket_of m k y) (is_among m k (without l n xs)) ((l == m) && (n == k))
 
 among_without : (l n m k : ℕ) (xs : List Plain) → is_among l n xs ≡ true → is_among m k xs ≡ (is_among m k (without l n xs) || ((l == m) && (n == k)))
 among_without l n m k [] any = absurd (cc)
@@ -100,10 +105,12 @@ no_more : (m l k n p : ℕ) → m ≢ l → nat_lt k p ≡ (nat_lt k p || ((l ==
 no_more m l k n p e = grind (arith, nat_tests)
 
 below_handed : (s : State) (l m k : ℕ) (v : LaneState) → slice_get s.lanes l ≡ Some v
-    → nat_lt k (of_lane 0 (λ u. u.handed) (slice_get (set s.lanes l (lane_state v.submitted v.closed v.polled (v.handed + 1))) m)) ≡ (nat_lt k (handed_of s m) || ((l == m) && (v.handed == k)))
+    → nat_lt k (of_lane 0 (λ u. u.handed) (slice_get (set s.lanes l (lane_state v.submitted v.closed v.polled (v.handed + 1))) m))
+    ≡ (nat_lt k (handed_of s m) || ((l == m) && (v.handed == k)))
 below_handed s l m k v at =
     let w = lane_state v.submitted v.closed v.polled (v.handed + 1) in ⊎_elim
-    (λ (e : m ≡ l). ap (λ n. nat_lt k n) (lane_here 0 (λ u. u.handed) s.lanes l m v w at e) ∙ (one_more m l k v.handed e ∙ ap (λ n. nat_lt k n || ((l == m) && (v.handed == k))) (sym (lane_was 0 (λ u. u.handed) s.lanes l m v at e))))
+    (λ (e : m ≡ l). ap (λ n. nat_lt k n) (lane_here 0 (λ u. u.handed) s.lanes l m v w at e)
+    ∙ (one_more m l k v.handed e ∙ ap (λ n. nat_lt k n || ((l == m) && (v.handed == k))) (sym (lane_was 0 (λ u. u.handed) s.lanes l m v at e))))
     (λ (e : m ≢ l). ap (λ n. nat_lt k n) (lane_else 0 (λ u. u.handed) s.lanes l m w e) ∙ no_more m l k v.handed (handed_of s m) e)
     (cases_eq m l)
 
@@ -120,15 +127,18 @@ hand_done c l x y e at gives = λ s r shows.
     let none : count_by (λ z. not (is_own s z)) s.waiting ≡ 0 = omega arith in
     let own : once (not (is_own s y)) ≡ 0 = omega arith in
     let row = own_from s y l v.handed own gives.lane number in
-    let row_here : slice_get v.submitted v.handed ≡ Some y = ap (λ (xs : List Plain). slice_get xs v.handed) (sym (lane_was [] (λ u. u.submitted) s.lanes l l v f.1 refl)) ∙ row in
-    let ticket : once (is_ticket_of l v.handed y) ≡ 1 = (λ i. once ((gives.lane i == l) && (number i == v.handed))) ∙ (λ i. once (eq_self l i && eq_self v.handed i)) in
+    let row_here : slice_get v.submitted v.handed ≡ Some y =
+    ap (λ (xs : List Plain). slice_get xs v.handed) (sym (lane_was [] (λ u. u.submitted) s.lanes l l v f.1 refl)) ∙ row in
+    let ticket : once (is_ticket_of l v.handed y) ≡ 1 = (λ i. once ((gives.lane i == l) && (number i == v.handed)))
+    ∙ (λ i. once (eq_self l i && eq_self v.handed i)) in
     let times_there = sum_by-IsPermutation (λ z. once (is_ticket_of l v.handed z)) c.buffer.waiting s.waiting shows.waiting in
     let times_less = gives.leaves.waiting (λ z. once (is_ticket_of l v.handed z)) in
     let waits = among_from l v.handed s.waiting (omega arith) in
     let w = lane_state v.submitted v.closed v.polled (v.handed + 1) in
     let t = state s.year (set s.lanes l w) s.jobs s.workers s.results (without l v.handed s.waiting) in
     let shown : shown_lane w ≡ lane_contents x.closed x.issued (x.handed ++ y ∷ []) x.polled =
-    λ i. lane_contents (f.2 i).closed (f.2 i).issued ((take_more v.submitted v.handed y row_here ∙ ap (λ (u : LaneContents). u.handed ++ y ∷ []) f.2) i) (f.2 i).polled in
+    λ i. lane_contents (f.2 i).closed (f.2 i).issued ((take_more v.submitted v.handed y row_here ∙ ap (λ (u : LaneContents). u.handed ++ y ∷ []) f.2) i)
+    (f.2 i).polled in
     done c _ s t (Hand l) (ap (hand s l) f.1 ∙ (λ i. cond (waits i) (Some t) None))
     record {
       year = shows.year;
@@ -137,7 +147,9 @@ hand_done c l x y e at gives = λ s r shows.
       workers = shows.workers;
       results = shows.results;
       nexts = gives.nexts ∙ ((λ i. set (shows.nexts i) l (next_is c s l v shows f.1 i + 1)) ∙ sym (map-set (λ (u : LaneState). u.handed) s.lanes l w));
-      waiting = permutation_from e.waiting (without l v.handed s.waiting) (λ h. let a = gives.leaves.waiting h in let b = sum_by-IsPermutation h c.buffer.waiting s.waiting shows.waiting in let d = without_own s l v.handed y s.waiting h row none waits in omega arith);
+      waiting = permutation_from e.waiting (without l v.handed s.waiting)
+          (λ h. let a = gives.leaves.waiting h in let b = sum_by-IsPermutation h c.buffer.waiting s.waiting shows.waiting in let d =
+          without_own s l v.handed y s.waiting h row none waits in omega arith);
       known = λ m k.
           gives.leaves.known m k
           ∙ (shows.known m k
@@ -149,8 +161,10 @@ hand_done c l x y e at gives = λ s r shows.
 contained : (l n : ℕ) (y : Plain) (xs : List Plain) → y.lane ≡ l → y.number ≡ n → (k : ℕ) → k < length xs → get_or xs k y ≡ y → is_among l n xs ≡ true
 contained l n y [] lane number k less is = absurd (omega arith)
 contained l n y (x ∷ xs) lane number zero less is =
-    ap (λ b. b || is_among l n xs) ((λ i. ((is i).lane == l) && ((is i).number == n)) ∙ ((λ i. (lane i == l) && (number i == n)) ∙ (λ i. eq_self l i && eq_self n i)))
-contained l n y (x ∷ xs) lane number (suc k) less is = ap (λ b. is_ticket_of l n x || b) (contained l n y xs lane number k (omega arith) is) ∙ or_comm (is_ticket_of l n x) true
+    ap (λ b. b || is_among l n xs) ((λ i. ((is i).lane == l) && ((is i).number == n))
+    ∙ ((λ i. (lane i == l) && (number i == n)) ∙ (λ i. eq_self l i && eq_self n i)))
+contained l n y (x ∷ xs) lane number (suc k) less is = ap (λ b. is_ticket_of l n x || b) (contained l n y xs lane number k (omega arith) is)
+    ∙ or_comm (is_ticket_of l n x) true
 
 -- where the lane's next number waits, it may be handed
 pub hand_enabled : (c : Contents) (l : ℕ) (x : LaneContents) (y : Plain) → slice_get c.lanes l ≡ Some x → WaitsAsNext c.buffer l y → IsEnabled c (Hand l)
@@ -161,7 +175,9 @@ hand_enabled c l x y at next = λ s r shows.
     let there = sum_by-IsPermutation (λ z. once (is_ticket_of l v.handed z)) c.buffer.waiting s.waiting shows.waiting in
     let least = among_times l v.handed c.buffer.waiting here in
     let waits = among_from l v.handed s.waiting (omega arith) in
-    ap (λ o. is_some o) (ap (hand s l) f.1 ∙ (λ i. cond (waits i) (Some (state s.year (set s.lanes l (lane_state v.submitted v.closed v.polled (v.handed + 1))) s.jobs s.workers s.results (without l v.handed s.waiting))) None))
+    ap (λ o. is_some o) (ap (hand s l) f.1 ∙ (λ i. cond (waits i)
+    (Some (state s.year (set s.lanes l (lane_state v.submitted v.closed v.polled (v.handed + 1))) s.jobs s.workers s.results
+    (without l v.handed s.waiting))) None))
 
 -- of a result that is none, and of one that is there
 pub if_some : {X : Type 0} (o : Option X) (P : X → Type 0) → is_some o ≡ true → IfSome o P → (x : X) × P x

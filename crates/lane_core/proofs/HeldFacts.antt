@@ -18,7 +18,8 @@ pub count_held : (lanes : List Lane) → length (map lane_held lanes) ≡ length
 count_held lanes = length_map lane_held lanes
 
 -- a lane that holds the same
-pub lane_same : (lanes : List Lane) (i : ℕ) (x y : Lane) → i < length lanes → x ≡ get_or lanes i x → lane_held y ≡ lane_held x → map lane_held (set lanes i y) ≡ map lane_held lanes
+pub lane_same : (lanes : List Lane) (i : ℕ) (x y : Lane) → i < length lanes → x ≡ get_or lanes i x → lane_held y ≡ lane_held x → map lane_held (set lanes i y)
+    ≡ map lane_held lanes
 lane_same lanes i x y less is same =
     map-set lane_held lanes i y ∙ (ap (set (map lane_held lanes) i) same ∙ set_same (map lane_held lanes) i (lane_held x) (lane_at lanes i x less is))
 

@@ -38,9 +38,11 @@ changed : (s : State) (i l : ℕ) (v w : LaneState) (jobs results waiting more :
 changed s i l v w jobs results waiting more at submitted polled closed = ⊎_elim
     (λ (e : l ≡ i). record {
       more = more;
-      submitted = lane_here [] (λ u. u.submitted) s.lanes i l v w at e ∙ (submitted ∙ ap (λ xs. xs ++ more) (sym (lane_was [] (λ u. u.submitted) s.lanes i l v at e)));
+      submitted = lane_here [] (λ u. u.submitted) s.lanes i l v w at e
+          ∙ (submitted ∙ ap (λ xs. xs ++ more) (sym (lane_was [] (λ u. u.submitted) s.lanes i l v at e)));
       polled = let a = lane_here 0 (λ u. u.polled) s.lanes i l v w at e in let b = lane_was 0 (λ u. u.polled) s.lanes i l v at e in omega arith;
-      closed = λ c. let x = closed (sym (lane_was false (λ u. u.closed) s.lanes i l v at e) ∙ c) in (x.0, lane_here false (λ u. u.closed) s.lanes i l v w at e ∙ x.1);
+      closed = λ c. let x = closed (sym (lane_was false (λ u. u.closed) s.lanes i l v at e) ∙ c) in
+          (x.0, lane_here false (λ u. u.closed) s.lanes i l v w at e ∙ x.1);
     })
     (λ (e : l ≢ i). record {
       more = [];
@@ -53,7 +55,8 @@ changed s i l v w jobs results waiting more at submitted polled closed = ⊎_eli
 submit_grows : (l : ℕ) (s : State) (i : ℕ) (row : List ℕ) (o : Option LaneState) → slice_get s.lanes i ≡ o → Grows s (or_same s (submit s i row o)) l
 submit_grows l s i row None at = stays s l
 submit_grows l s i row (Some v) at = by_test l s _ (not v.closed && nat_lt (length v.submitted) (2 ^ 32))
-    (λ e. changed s i l v _ _ _ _ (next_job s i v row ∷ []) at refl (omega arith) (λ f. absurd (not_both v.closed (open_first v.closed (nat_lt (length v.submitted) (2 ^ 32)) e) f)))
+    (λ e. changed s i l v _ _ _ _ (next_job s i v row ∷ []) at refl (omega arith)
+    (λ f. absurd (not_both v.closed (open_first v.closed (nat_lt (length v.submitted) (2 ^ 32)) e) f)))
 
 take_grows : (l : ℕ) (s : State) (w : ℕ) (o : Option (Option Plain)) (jobs : List Plain) → Grows s (or_same s (take_job s w o jobs)) l
 take_grows l s w None jobs = stays s l
@@ -72,15 +75,18 @@ collect_grows l s (x ∷ xs) = record { more = []; submitted = sym (append-nil (
 
 hand_grows : (l : ℕ) (s : State) (i : ℕ) (o : Option LaneState) → slice_get s.lanes i ≡ o → Grows s (or_same s (hand s i o)) l
 hand_grows l s i None at = stays s l
-hand_grows l s i (Some v) at = by_test l s _ (is_among i v.handed s.waiting) (λ _. changed s i l v _ _ _ _ [] at (sym (append-nil v.submitted)) (omega arith) (λ f. (refl, f)))
+hand_grows l s i (Some v) at = by_test l s _ (is_among i v.handed s.waiting)
+    (λ _. changed s i l v _ _ _ _ [] at (sym (append-nil v.submitted)) (omega arith) (λ f. (refl, f)))
 
 poll_grows : (l : ℕ) (s : State) (i : ℕ) (o : Option LaneState) → slice_get s.lanes i ≡ o → Grows s (or_same s (poll s i o)) l
 poll_grows l s i None at = stays s l
-poll_grows l s i (Some v) at = by_test l s _ (nat_lt v.polled v.handed) (λ _. changed s i l v _ _ _ _ [] at (sym (append-nil v.submitted)) (omega arith) (λ f. (refl, f)))
+poll_grows l s i (Some v) at = by_test l s _ (nat_lt v.polled v.handed)
+    (λ _. changed s i l v _ _ _ _ [] at (sym (append-nil v.submitted)) (omega arith) (λ f. (refl, f)))
 
 close_grows : (l : ℕ) (s : State) (i : ℕ) (o : Option LaneState) → slice_get s.lanes i ≡ o → Grows s (or_same s (close s i o)) l
 close_grows l s i None at = stays s l
-close_grows l s i (Some v) at = by_test l s _ (not v.closed) (λ _. changed s i l v _ _ _ _ [] at (sym (append-nil v.submitted)) (omega arith) (λ f. (refl, refl)))
+close_grows l s i (Some v) at = by_test l s _ (not v.closed)
+    (λ _. changed s i l v _ _ _ _ [] at (sym (append-nil v.submitted)) (omega arith) (λ f. (refl, refl)))
 
 step_grows : (l : ℕ) (s : State) (e : Event) → Grows s (after s e) l
 step_grows l s (Submit i row) = submit_grows l s i row (slice_get s.lanes i) refl
@@ -103,7 +109,8 @@ pub run_grows : (l : ℕ) (s : State) (es : List Event) → Grows s (run s es) l
 run_grows l s [] = stays s l
 run_grows l s (e ∷ es) = grows_both s (after s e) (run (after s e) es) l (step_grows l s e) (run_grows l (after s e) es)
 
-pub close_holds : (s : State) (es : List Event) (l : ℕ) → is_closed s l ≡ true → (submitted_by (run s es) l ≡ submitted_by s l) × (is_closed (run s es) l ≡ true)
+pub close_holds : (s : State) (es : List Event) (l : ℕ) → is_closed s l ≡ true → (submitted_by (run s es) l ≡ submitted_by s l)
+    × (is_closed (run s es) l ≡ true)
 close_holds s es l closed =
     let g = run_grows l s es in
     let x = g.closed closed in

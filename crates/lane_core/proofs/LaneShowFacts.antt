@@ -42,15 +42,18 @@ pub close_past : (c : Contents) (l : ℕ) → length c.lanes ≤ l → Steps c (
 close_past c l e = λ s r shows. idle c s (Close l) (ap (close s l) (past c s l shows e)) shows
 
 -- one lane changed: what was handed stays
-lanes_with : (c : Contents) (s : State) (l : ℕ) (v w : LaneState) (x : LaneContents) → ShowsState c s → shown_lane w ≡ x → set c.lanes l x ≡ map shown_lane (set s.lanes l w)
+lanes_with : (c : Contents) (s : State) (l : ℕ) (v w : LaneState) (x : LaneContents) → ShowsState c s → shown_lane w ≡ x → set c.lanes l x
+    ≡ map shown_lane (set s.lanes l w)
 lanes_with c s l v w x shows is = (λ i. set (shows.lanes i) l (sym is i)) ∙ sym (map-set shown_lane s.lanes l w)
 
-nexts_kept : (c : Contents) (s : State) (l : ℕ) (v w : LaneState) → ShowsState c s → slice_get s.lanes l ≡ Some v → w.handed ≡ v.handed → c.buffer.nexts ≡ map (λ u. u.handed) (set s.lanes l w)
+nexts_kept : (c : Contents) (s : State) (l : ℕ) (v w : LaneState) → ShowsState c s → slice_get s.lanes l ≡ Some v → w.handed ≡ v.handed → c.buffer.nexts
+    ≡ map (λ u. u.handed) (set s.lanes l w)
 nexts_kept c s l v w shows at is = shows.nexts ∙ sym (map_keeps (λ (u : LaneState). u.handed) s.lanes l v w at is)
 
 known_kept : (c : Contents) (s : State) (l : ℕ) (v w : LaneState) → ShowsState c s → slice_get s.lanes l ≡ Some v → w.handed ≡ v.handed
     → (m k : ℕ) → was_taken c.buffer m k ≡ (nat_lt k (of_lane 0 (λ u. u.handed) (slice_get (set s.lanes l w) m)) || is_among m k s.waiting)
-known_kept c s l v w shows at is = λ m k. shows.known m k ∙ ap (λ n. nat_lt k n || is_among m k s.waiting) (sym (lane_kept 0 (λ u. u.handed) s.lanes l m v w at is))
+known_kept c s l v w shows at is = λ m k. shows.known m k ∙ ap (λ n. nat_lt k n || is_among m k s.waiting)
+    (sym (lane_kept 0 (λ u. u.handed) s.lanes l m v w at is))
 
 -- submitting
 closed_off : (a b : Bool) → a ≡ true → (not a && b) ≡ false
@@ -70,7 +73,9 @@ submit_closed c l row x at closed = λ s r shows.
     let f = found c s l x shows at in
     let v = f.0 in
     let off = closed_off v.closed (nat_lt (length v.submitted) (2 ^ 32)) (ap (λ (u : LaneContents). u.closed) f.2 ∙ closed) in
-    idle c s (Submit l row) (ap (submit s l row) f.1 ∙ (λ i. cond (off i) (Some (state s.year (set s.lanes l (lane_state (v.submitted ++ next_job s l v row ∷ []) v.closed v.polled v.handed)) (s.jobs ++ next_job s l v row ∷ []) s.workers s.results s.waiting)) None)) shows
+    idle c s (Submit l row) (ap (submit s l row) f.1 ∙ (λ i.
+    cond (off i) (Some (state s.year (set s.lanes l (lane_state (v.submitted ++ next_job s l v row ∷ []) v.closed v.polled v.handed))
+    (s.jobs ++ next_job s l v row ∷ []) s.workers s.results s.waiting)) None)) shows
 
 pub submit_full : (c : Contents) (l : ℕ) (row : List ℕ) (x : LaneContents) → slice_get c.lanes l ≡ Some x → 2 ^ 32 ≤ x.issued → Steps c (Submit l row) false c
 submit_full c l row x at full = λ s r shows.
@@ -78,23 +83,29 @@ submit_full c l row x at full = λ s r shows.
     let v = f.0 in
     let count = ap (λ (u : LaneContents). u.issued) f.2 in
     let off = full_off v.closed (nat_lt (length v.submitted) (2 ^ 32)) (le-ltb (length v.submitted) (2 ^ 32) (subst (λ n. 2 ^ 32 ≤ n) (sym count) full)) in
-    idle c s (Submit l row) (ap (submit s l row) f.1 ∙ (λ i. cond (off i) (Some (state s.year (set s.lanes l (lane_state (v.submitted ++ next_job s l v row ∷ []) v.closed v.polled v.handed)) (s.jobs ++ next_job s l v row ∷ []) s.workers s.results s.waiting)) None)) shows
+    idle c s (Submit l row) (ap (submit s l row) f.1 ∙ (λ i.
+    cond (off i) (Some (state s.year (set s.lanes l (lane_state (v.submitted ++ next_job s l v row ∷ []) v.closed v.polled v.handed))
+    (s.jobs ++ next_job s l v row ∷ []) s.workers s.results s.waiting)) None)) shows
 
 pub submit_done : (c : Contents) (l : ℕ) (row : List ℕ) (x : LaneContents) → slice_get c.lanes l ≡ Some x → x.closed ≡ false → x.issued < 2 ^ 32
-    → Steps c (Submit l row) true (contents c.year (set c.lanes l (lane_contents x.closed (x.issued + 1) x.handed x.polled)) (c.jobs ++ plain_of l x.issued c.year row ∷ []) c.workers c.results c.buffer)
+    → Steps c (Submit l row) true (contents c.year (set c.lanes l (lane_contents x.closed (x.issued + 1) x.handed x.polled))
+    (c.jobs ++ plain_of l x.issued c.year row ∷ []) c.workers c.results c.buffer)
 submit_done c l row x at open_ room = λ s r shows.
     let f = found c s l x shows at in
     let v = f.0 in
     let job = next_job s l v row in
     let w = lane_state (v.submitted ++ job ∷ []) v.closed v.polled v.handed in
     let count = ap (λ (u : LaneContents). u.issued) f.2 in
-    let on = open_on v.closed (nat_lt (length v.submitted) (2 ^ 32)) (ap (λ (u : LaneContents). u.closed) f.2 ∙ open_) (lt-ltb (length v.submitted) (2 ^ 32) (subst (λ n. n < 2 ^ 32) (sym count) room)) in
+    let on = open_on v.closed (nat_lt (length v.submitted) (2 ^ 32)) (ap (λ (u : LaneContents). u.closed) f.2 ∙ open_)
+    (lt-ltb (length v.submitted) (2 ^ 32) (subst (λ n. n < 2 ^ 32) (sym count) room)) in
     let t = state s.year (set s.lanes l w) (s.jobs ++ job ∷ []) s.workers s.results s.waiting in
     let good = reached_good s r in
     let most : v.handed ≤ length v.submitted =
-    (let a = handed_issued s l good in let b = lane_was 0 (λ u. u.handed) s.lanes l l v f.1 refl in let d = ap (λ (xs : List Plain). length xs) (lane_was [] (λ u. u.submitted) s.lanes l l v f.1 refl) in omega arith) in
+    (let a = handed_issued s l good in let b = lane_was 0 (λ u. u.handed) s.lanes l l v f.1 refl in let d =
+    ap (λ (xs : List Plain). length xs) (lane_was [] (λ u. u.submitted) s.lanes l l v f.1 refl) in omega arith) in
     let shown : shown_lane w ≡ lane_contents x.closed (x.issued + 1) x.handed x.polled =
-    λ i. lane_contents (f.2 i).closed ((length-append v.submitted (job ∷ []) ∙ ap (λ n. n + 1) count) i) ((take-append-le v.handed v.submitted (job ∷ []) most ∙ ap (λ (u : LaneContents). u.handed) f.2) i) (f.2 i).polled in
+    λ i. lane_contents (f.2 i).closed ((length-append v.submitted (job ∷ []) ∙ ap (λ n. n + 1) count) i)
+    ((take-append-le v.handed v.submitted (job ∷ []) most ∙ ap (λ (u : LaneContents). u.handed) f.2) i) (f.2 i).polled in
     done c _ s t (Submit l row) (ap (submit s l row) f.1 ∙ (λ i. cond (on i) (Some t) None))
     record {
       year = shows.year;
@@ -112,7 +123,8 @@ pub handed_count : (c : Contents) (s : State) (l : ℕ) (x : LaneContents) (good
 handed_count c s l x good f =
     let v = f.0 in
     let most : v.handed ≤ length v.submitted =
-    (let a = handed_issued s l good in let b = lane_was 0 (λ u. u.handed) s.lanes l l v f.1 refl in let d = ap (λ (xs : List Plain). length xs) (lane_was [] (λ u. u.submitted) s.lanes l l v f.1 refl) in omega arith) in
+    (let a = handed_issued s l good in let b = lane_was 0 (λ u. u.handed) s.lanes l l v f.1 refl in let d =
+    ap (λ (xs : List Plain). length xs) (lane_was [] (λ u. u.submitted) s.lanes l l v f.1 refl) in omega arith) in
     ap (λ (u : LaneContents). length u.handed) (sym f.2) ∙ length-take-le v.handed v.submitted most
 
 pub poll_none : (c : Contents) (l : ℕ) (x : LaneContents) → slice_get c.lanes l ≡ Some x → length x.handed ≤ x.polled → Steps c (Poll l) false c
@@ -122,7 +134,8 @@ poll_none c l x at none = λ s r shows.
     let count = handed_count c s l x (reached_good s r) f in
     let polled = ap (λ (u : LaneContents). u.polled) f.2 in
     let off = le-ltb v.polled v.handed (omega arith) in
-    idle c s (Poll l) (ap (poll s l) f.1 ∙ (λ i. cond (off i) (Some (state s.year (set s.lanes l (lane_state v.submitted v.closed (v.polled + 1) v.handed)) s.jobs s.workers s.results s.waiting)) None)) shows
+    idle c s (Poll l) (ap (poll s l) f.1 ∙ (λ i. cond (off i)
+    (Some (state s.year (set s.lanes l (lane_state v.submitted v.closed (v.polled + 1) v.handed)) s.jobs s.workers s.results s.waiting)) None)) shows
 
 pub poll_done : (c : Contents) (l : ℕ) (x : LaneContents) → slice_get c.lanes l ≡ Some x → x.polled < length x.handed
     → Steps c (Poll l) true (contents c.year (set c.lanes l (lane_contents x.closed x.issued x.handed (x.polled + 1))) c.jobs c.workers c.results c.buffer)
@@ -158,7 +171,8 @@ close_none c l x at closed = λ s r shows.
     let f = found c s l x shows at in
     let v = f.0 in
     let off = not_true v.closed (ap (λ (u : LaneContents). u.closed) f.2 ∙ closed) in
-    idle c s (Close l) (ap (close s l) f.1 ∙ (λ i. cond (off i) (Some (state s.year (set s.lanes l (lane_state v.submitted true v.polled v.handed)) s.jobs s.workers s.results s.waiting)) None)) shows
+    idle c s (Close l) (ap (close s l) f.1 ∙ (λ i. cond (off i)
+    (Some (state s.year (set s.lanes l (lane_state v.submitted true v.polled v.handed)) s.jobs s.workers s.results s.waiting)) None)) shows
 
 pub close_done : (c : Contents) (l : ℕ) (x : LaneContents) → slice_get c.lanes l ≡ Some x → x.closed ≡ false
     → Steps c (Close l) true (contents c.year (set c.lanes l (lane_contents true x.issued x.handed x.polled)) c.jobs c.workers c.results c.buffer)

@@ -60,7 +60,8 @@ found_or true v o = refl
 found_or false v o = refl
 
 -- a look-up finds what is among the values
-pub found_among : (test : Ticket → Bool) (l k : ℕ) → Finds test l k → (es : List (Ticket × Plain)) → are_tied es ≡ true → is_some (lookup test es) ≡ is_among l k (values_of es)
+pub found_among : (test : Ticket → Bool) (l k : ℕ) → Finds test l k → (es : List (Ticket × Plain)) → are_tied es ≡ true → is_some (lookup test es)
+    ≡ is_among l k (values_of es)
 found_among test l k finds [] tied = refl
 found_among test l k finds (e ∷ es) tied =
     let s = and_parts (is_tied e) (are_tied es) tied in
@@ -86,12 +87,15 @@ none_past l k (e ∷ es) tied past =
     and_none false b e = e
 
 -- what a look-up finds has the ticket
-found_here : (test : Ticket → Bool) (l k : ℕ) → Finds test l k → (e : Ticket × Plain) (es : List (Ticket × Plain)) (v : Plain) → is_tied e ≡ true → (lookup test es ≡ Some v → is_ticket_of l k v ≡ true)
+found_here : (test : Ticket → Bool) (l k : ℕ) → Finds test l k → (e : Ticket × Plain) (es : List (Ticket × Plain)) (v : Plain) → is_tied e ≡ true
+    → (lookup test es ≡ Some v → is_ticket_of l k v ≡ true)
     → (b : Bool) → b ≡ test e.0 → cond b (Some e.1) (lookup test es) ≡ Some v → is_ticket_of l k v ≡ true
-found_here test l k finds e es v tied later true at is = let same : e.1 ≡ v = cc in ap (is_ticket_of l k) (sym same) ∙ (tied_test test l k finds e tied ∙ sym at)
+found_here test l k finds e es v tied later true at is = let same : e.1 ≡ v =
+    cc in ap (is_ticket_of l k) (sym same) ∙ (tied_test test l k finds e tied ∙ sym at)
 found_here test l k finds e es v tied later false at is = later is
 
-pub found_ticket : (test : Ticket → Bool) (l k : ℕ) → Finds test l k → (es : List (Ticket × Plain)) (v : Plain) → are_tied es ≡ true → lookup test es ≡ Some v → is_ticket_of l k v ≡ true
+pub found_ticket : (test : Ticket → Bool) (l k : ℕ) → Finds test l k → (es : List (Ticket × Plain)) (v : Plain) → are_tied es ≡ true → lookup test es ≡ Some v
+    → is_ticket_of l k v ≡ true
 found_ticket test l k finds [] v tied is = absurd (cc)
 found_ticket test l k finds (e ∷ es) v tied is =
     let s = and_parts (is_tied e) (are_tied es) tied in
@@ -165,7 +169,8 @@ pub gone_more : (test : Ticket → Bool) (es : List (Ticket × Plain)) (v : Plai
 gone_more test [] v is = absurd (cc)
 gone_more test (e ∷ es) v is = gone_here test e es v (gone_more test es v) (test e.0) is
 
-kept_here : (test : Ticket → Bool) (e : Ticket × Plain) (es : List (Ticket × Plain)) → is_tied e ≡ true → are_tied es ≡ true → are_tied (remove_entry test es) ≡ true
+kept_here : (test : Ticket → Bool) (e : Ticket × Plain) (es : List (Ticket × Plain)) → is_tied e ≡ true → are_tied es ≡ true → are_tied (remove_entry test es)
+    ≡ true
     → (b : Bool) → are_tied (cond b es (e ∷ remove_entry test es)) ≡ true
 kept_here test e es first rest later true = rest
 kept_here test e es first rest later false = tied_first e (remove_entry test es) first later
@@ -185,7 +190,8 @@ pub any_finds : (test : Ticket → Bool) (l k : ℕ) → Finds test l k → (ts 
 any_finds test l k finds [] = refl
 any_finds test l k finds (t ∷ ts) = (λ i. finds t i || any_finds test l k finds ts i)
 
-same_ticket : (a t : Ticket) → is_eq (ordering_then (nat_cmp a.lane t.lane) (nat_cmp a.number t.number)) ≡ true → (l k : ℕ) → ((t.lane == l) && (t.number == k)) ≡ ((a.lane == l) && (a.number == k))
+same_ticket : (a t : Ticket) → is_eq (ordering_then (nat_cmp a.lane t.lane) (nat_cmp a.number t.number)) ≡ true → (l k : ℕ) → ((t.lane == l) && (t.number == k))
+    ≡ ((a.lane == l) && (a.number == k))
 same_ticket a t is l k =
     let s = and_parts (t.lane == a.lane) (t.number == a.number) (sym (finds_own a t) ∙ is) in
     (λ i. (eqb-true t.lane a.lane s.0 i == l) && (eqb-true t.number a.number s.1 i == k))
@@ -211,16 +217,20 @@ put_at : (t u : Ticket) (l k : ℕ) (ts : List Ticket) → is_known l k (insert_
     → (o : Ordering) → cmp_tickets t u ≡ o
     → is_known l k (match_ordering o (t ∷ u ∷ ts) (u ∷ ts) (u ∷ insert_key cmp_tickets ts t)) ≡ (is_known l k (u ∷ ts) || ((t.lane == l) && (t.number == k)))
 put_at t u l k ts later Less e = or_comm ((t.lane == l) && (t.number == k)) (is_known l k (u ∷ ts))
-put_at t u l k ts later Equal e = twice ((u.lane == l) && (u.number == k)) (is_known l k ts) ((t.lane == l) && (t.number == k)) (same_ticket t u (ap is_eq e) l k)
-put_at t u l k ts later Greater e = ap (λ b. ((u.lane == l) && (u.number == k)) || b) later ∙ or_assoc ((u.lane == l) && (u.number == k)) (is_known l k ts) ((t.lane == l) && (t.number == k))
+put_at t u l k ts later Equal e = twice ((u.lane == l) && (u.number == k)) (is_known l k ts) ((t.lane == l) && (t.number == k))
+    (same_ticket t u (ap is_eq e) l k)
+put_at t u l k ts later Greater e = ap (λ b. ((u.lane == l) && (u.number == k)) || b) later
+    ∙ or_assoc ((u.lane == l) && (u.number == k)) (is_known l k ts) ((t.lane == l) && (t.number == k))
 
 -- one more ticket is known
 pub put_known : (t : Ticket) (l k : ℕ) (ts : List Ticket) → is_known l k (insert_key cmp_tickets ts t) ≡ (is_known l k ts || ((t.lane == l) && (t.number == k)))
 put_known t l k [] = or_comm ((t.lane == l) && (t.number == k)) false
 put_known t l k (u ∷ ts) = put_at t u l k ts (put_known t l k ts) (cmp_tickets t u) refl
 
-out_at : (t u : Ticket) (ts : List Ticket) → remove_key (is_at (cmp_tickets t)) (insert_key cmp_tickets ts t) ≡ ts → ((u.lane == t.lane) && (u.number == t.number)) ≡ false
-    → (o : Ordering) → cmp_tickets t u ≡ o → remove_key (is_at (cmp_tickets t)) (match_ordering o (t ∷ u ∷ ts) (u ∷ ts) (u ∷ insert_key cmp_tickets ts t)) ≡ u ∷ ts
+out_at : (t u : Ticket) (ts : List Ticket) → remove_key (is_at (cmp_tickets t)) (insert_key cmp_tickets ts t) ≡ ts
+    → ((u.lane == t.lane) && (u.number == t.number)) ≡ false
+    → (o : Ordering) → cmp_tickets t u ≡ o → remove_key (is_at (cmp_tickets t)) (match_ordering o (t ∷ u ∷ ts) (u ∷ ts) (u ∷ insert_key cmp_tickets ts t))
+    ≡ u ∷ ts
 out_at t u ts later other Less e = ap (λ b. cond b (u ∷ ts) (t ∷ remove_key (is_at (cmp_tickets t)) (u ∷ ts))) (finds_own t t ∙ own_is t)
 out_at t u ts later other Equal e = absurd (let c : true ≡ false = sym (ap is_eq e) ∙ (finds_own t u ∙ other) in cc)
 out_at t u ts later other Greater e =
@@ -233,7 +243,8 @@ put_gone t (u ∷ ts) absent =
     let p = or_none ((u.lane == t.lane) && (u.number == t.number)) (is_known t.lane t.number ts) absent in
     out_at t u ts (put_gone t ts p.1) p.0 (cmp_tickets t u) refl
 
-gone_at : (test : Ticket → Bool) (l k m n : ℕ) → Finds test l k → ((l == m) && (k == n)) ≡ false → (t : Ticket) (ts : List Ticket) → is_known m n (remove_key test ts) ≡ is_known m n ts
+gone_at : (test : Ticket → Bool) (l k m n : ℕ) → Finds test l k → ((l == m) && (k == n)) ≡ false → (t : Ticket) (ts : List Ticket)
+    → is_known m n (remove_key test ts) ≡ is_known m n ts
     → (b : Bool) → test t ≡ b → is_known m n (cond b ts (t ∷ remove_key test ts)) ≡ is_known m n (t ∷ ts)
 gone_at test l k m n finds other t ts later true e =
     let s = and_parts (t.lane == l) (t.number == k) (sym (finds t) ∙ e) in
@@ -242,6 +253,7 @@ gone_at test l k m n finds other t ts later true e =
 gone_at test l k m n finds other t ts later false e = ap (λ b. ((t.lane == m) && (t.number == n)) || b) later
 
 -- the other tickets are known as before
-pub gone_known : (test : Ticket → Bool) (l k : ℕ) → Finds test l k → (m n : ℕ) → ((l == m) && (k == n)) ≡ false → (ts : List Ticket) → is_known m n (remove_key test ts) ≡ is_known m n ts
+pub gone_known : (test : Ticket → Bool) (l k : ℕ) → Finds test l k → (m n : ℕ) → ((l == m) && (k == n)) ≡ false → (ts : List Ticket)
+    → is_known m n (remove_key test ts) ≡ is_known m n ts
 gone_known test l k finds m n other [] = refl
 gone_known test l k finds m n other (t ∷ ts) = gone_at test l k m n finds other t ts (gone_known test l k finds m n other ts) (test t) refl

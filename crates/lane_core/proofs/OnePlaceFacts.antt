@@ -47,10 +47,12 @@ held_here : (b c : Bool) (n m : ℕ) → (b ≡ true → 1 ≤ n) → (c ≡ tru
 held_here true c n m f g e = let a = f refl in omega arith
 held_here false c n m f g e = let a = g e in omega arith
 
-held_times : (l k : ℕ) (workers : List (Option Plain)) → is_held_by l k workers ≡ true → 1 ≤ sum_by (λ o. count_by (is_ticket_of l k) (option_to_list o)) workers
+held_times : (l k : ℕ) (workers : List (Option Plain)) → is_held_by l k workers ≡ true
+    → 1 ≤ sum_by (λ o. count_by (is_ticket_of l k) (option_to_list o)) workers
 held_times l k [] e = absurd (cc)
 held_times l k (o ∷ os) e =
-    let here = held_here (is_among l k (option_to_list o)) (is_held_by l k os) (count_by (is_ticket_of l k) (option_to_list o)) (sum_by (λ p. count_by (is_ticket_of l k) (option_to_list p)) os) (λ f. among_times l k (option_to_list o) f) (λ f. held_times l k os f) e in
+    let here = held_here (is_among l k (option_to_list o)) (is_held_by l k os) (count_by (is_ticket_of l k) (option_to_list o))
+    (sum_by (λ p. count_by (is_ticket_of l k) (option_to_list p)) os) (λ f. among_times l k (option_to_list o) f) (λ f. held_times l k os f) e in
     omega (arith, sum_by-cons (λ (p : Option Plain). count_by (is_ticket_of l k) (option_to_list p)) o os)
 
 there : (s : State) (l k : ℕ) (p : Place) → IsAt s l k p → 1 ≤ get_or (counts s l k) (rank p) 0

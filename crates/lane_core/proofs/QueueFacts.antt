@@ -20,12 +20,14 @@ lane_results : (s : State) (b : Bool) (t : State) → t.results ≡ s.results �
 lane_results s true t e = append-nil s.results ∙ sym e
 lane_results s false t e = append-nil s.results
 
-submit_by : (s : State) (x : Plain) (b : Bool) (t : State) → t.jobs ≡ s.jobs ++ x ∷ [] → s.jobs ++ cond (is_some (cond b (Some t) None)) (x ∷ []) [] ≡ [] ++ (or_same s (cond b (Some t) None)).jobs
+submit_by : (s : State) (x : Plain) (b : Bool) (t : State) → t.jobs ≡ s.jobs ++ x ∷ [] → s.jobs ++ cond (is_some (cond b (Some t) None)) (x ∷ []) [] ≡ []
+    ++ (or_same s (cond b (Some t) None)).jobs
 submit_by s x true t e = sym e
 submit_by s x false t e = append-nil s.jobs
 
 submit_jobs : (s : State) (l : ℕ) (row : List ℕ) (o : Option LaneState)
-    → s.jobs ++ cond (is_some (submit s l row o)) (plain_of l (length (of_lane [] (λ v. v.submitted) o)) s.year row ∷ []) [] ≡ [] ++ (or_same s (submit s l row o)).jobs
+    → s.jobs ++ cond (is_some (submit s l row o)) (plain_of l (length (of_lane [] (λ v. v.submitted) o)) s.year row ∷ []) [] ≡ []
+    ++ (or_same s (submit s l row o)).jobs
 submit_jobs s l row None = append-nil s.jobs
 submit_jobs s l row (Some v) = submit_by s (plain_of l (length v.submitted) s.year row) (not v.closed && nat_lt (length v.submitted) (2 ^ 32)) _ refl
 
@@ -51,7 +53,8 @@ post_jobs s w None = append-nil s.jobs
 post_jobs s w (Some None) = append-nil s.jobs
 post_jobs s w (Some (Some x)) = append-nil s.jobs
 
-post_results : (s : State) (w : ℕ) (o : Option (Option Plain)) → s.results ++ cond (is_some (post s w o)) (held_by o) [] ≡ [] ++ (or_same s (post s w o)).results
+post_results : (s : State) (w : ℕ) (o : Option (Option Plain)) → s.results ++ cond (is_some (post s w o)) (held_by o) [] ≡ []
+    ++ (or_same s (post s w o)).results
 post_results s w None = append-nil s.results
 post_results s w (Some None) = append-nil s.results
 post_results s w (Some (Some x)) = refl
@@ -60,19 +63,23 @@ collect_jobs : (s : State) (results : List Plain) → s.jobs ++ [] ≡ [] ++ (or
 collect_jobs s [] = append-nil s.jobs
 collect_jobs s (x ∷ xs) = append-nil s.jobs
 
-collect_results : (s : State) (results : List Plain) → s.results ≡ results → s.results ++ [] ≡ cond (is_some (collect s results)) (take 1 results) [] ++ (or_same s (collect s results)).results
+collect_results : (s : State) (results : List Plain) → s.results ≡ results → s.results ++ [] ≡ cond (is_some (collect s results)) (take 1 results) []
+    ++ (or_same s (collect s results)).results
 collect_results s [] e = append-nil s.results
 collect_results s (x ∷ xs) e = append-nil s.results ∙ e
 
-hand_both : (s : State) (l : ℕ) (o : Option LaneState) → (s.jobs ++ [] ≡ [] ++ (or_same s (hand s l o)).jobs) × (s.results ++ [] ≡ [] ++ (or_same s (hand s l o)).results)
+hand_both : (s : State) (l : ℕ) (o : Option LaneState) → (s.jobs ++ [] ≡ [] ++ (or_same s (hand s l o)).jobs)
+    × (s.results ++ [] ≡ [] ++ (or_same s (hand s l o)).results)
 hand_both s l None = (append-nil s.jobs, append-nil s.results)
 hand_both s l (Some v) = (lane_jobs s (is_among l v.handed s.waiting) _ refl, lane_results s (is_among l v.handed s.waiting) _ refl)
 
-poll_both : (s : State) (l : ℕ) (o : Option LaneState) → (s.jobs ++ [] ≡ [] ++ (or_same s (poll s l o)).jobs) × (s.results ++ [] ≡ [] ++ (or_same s (poll s l o)).results)
+poll_both : (s : State) (l : ℕ) (o : Option LaneState) → (s.jobs ++ [] ≡ [] ++ (or_same s (poll s l o)).jobs)
+    × (s.results ++ [] ≡ [] ++ (or_same s (poll s l o)).results)
 poll_both s l None = (append-nil s.jobs, append-nil s.results)
 poll_both s l (Some v) = (lane_jobs s (nat_lt v.polled v.handed) _ refl, lane_results s (nat_lt v.polled v.handed) _ refl)
 
-close_both : (s : State) (l : ℕ) (o : Option LaneState) → (s.jobs ++ [] ≡ [] ++ (or_same s (close s l o)).jobs) × (s.results ++ [] ≡ [] ++ (or_same s (close s l o)).results)
+close_both : (s : State) (l : ℕ) (o : Option LaneState) → (s.jobs ++ [] ≡ [] ++ (or_same s (close s l o)).jobs)
+    × (s.results ++ [] ≡ [] ++ (or_same s (close s l o)).results)
 close_both s l None = (append-nil s.jobs, append-nil s.results)
 close_both s l (Some v) = (lane_jobs s (not v.closed) _ refl, lane_results s (not v.closed) _ refl)
 
@@ -112,9 +119,11 @@ keeps_from pushed popped held e = (e, λ h. ap (sum_by h) e ∙ sum_by-append h 
 
 pub queues_keep : (lanes workers year : ℕ) (es : List Event) →
     Keeps (all_of job_pushed (start lanes workers year) es) (all_of job_popped (start lanes workers year) es) (run (start lanes workers year) es).jobs
-    × Keeps (all_of result_pushed (start lanes workers year) es) (all_of result_popped (start lanes workers year) es) (run (start lanes workers year) es).results
+    × Keeps (all_of result_pushed (start lanes workers year) es) (all_of result_popped (start lanes workers year) es)
+    (run (start lanes workers year) es).results
 queues_keep lanes workers year es =
     let s = start lanes workers year in (
       keeps_from (all_of job_pushed s es) (all_of job_popped s es) (run s es).jobs (run_queue (λ t. t.jobs) job_pushed job_popped step_jobs s es),
-      keeps_from (all_of result_pushed s es) (all_of result_popped s es) (run s es).results (run_queue (λ t. t.results) result_pushed result_popped step_results s es),
+      keeps_from (all_of result_pushed s es) (all_of result_popped s es) (run s es).results
+          (run_queue (λ t. t.results) result_pushed result_popped step_results s es),
     )

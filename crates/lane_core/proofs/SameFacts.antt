@@ -35,7 +35,8 @@ same_widths_from (x ∷ xs) (y ∷ ys) e =
 
 pub same_self : (x : Plain) → is_same x x ≡ true
 same_self x = ap (λ b. b && ((x.lane == x.lane) && ((x.year == x.year) && same_widths x.widths x.widths))) (eq_self x.number)
-    ∙ (ap (λ b. b && ((x.year == x.year) && same_widths x.widths x.widths)) (eq_self x.lane) ∙ (ap (λ b. b && same_widths x.widths x.widths) (eq_self x.year) ∙ same_widths_self x.widths))
+    ∙ (ap (λ b. b && ((x.year == x.year) && same_widths x.widths x.widths)) (eq_self x.lane)
+    ∙ (ap (λ b. b && same_widths x.widths x.widths) (eq_self x.year) ∙ same_widths_self x.widths))
 
 pub same_from : (x y : Plain) → is_same x y ≡ true → x ≡ y
 same_from x y e =
@@ -72,4 +73,5 @@ permutation_from (x ∷ xs) ys same =
     let split = ap (sum_by h) at.2 in
     omega (arith, sum_by-cons h x xs, sum_by-append h at.0 (x ∷ at.1), sum_by-append h at.0 at.1, sum_by-cons h x at.1)) in
     subst (λ (zs : List Plain). IsPermutation (x ∷ xs) zs) (sym at.2)
-    (IsPermutation-trans (x ∷ xs) (x ∷ rest) (at.0 ++ x ∷ at.1) (IsPermutation-cons x xs rest tail) (IsPermutation-sym (at.0 ++ x ∷ at.1) (x ∷ rest) (IsPermutation-middle at.0 x at.1)))
+    (IsPermutation-trans (x ∷ xs) (x ∷ rest) (at.0 ++ x ∷ at.1) (IsPermutation-cons x xs rest tail)
+    (IsPermutation-sym (at.0 ++ x ∷ at.1) (x ∷ rest) (IsPermutation-middle at.0 x at.1)))

@@ -37,7 +37,8 @@ seen c s l x r shows at =
       issued = ap (λ (u : LaneContents). u.issued) (sym f.2) ∙ ap (λ (xs : List Plain). length xs) (sym sub);
       polled = sym polled ∙ sym polls;
       handed = count ∙ sym (lane_was 0 (λ u. u.handed) s.lanes l l v f.1 refl);
-      list = ap (λ (u : LaneContents). take u.polled u.handed) (sym f.2) ∙ (take-take v.polled v.handed v.submitted few ∙ (λ i. take (sym polls i) (sym sub i)));
+      list = ap (λ (u : LaneContents). take u.polled u.handed) (sym f.2)
+          ∙ (take-take v.polled v.handed v.submitted few ∙ (λ i. take (sym polls i) (sym sub i)));
       few = omega arith;
     }
 
@@ -46,10 +47,12 @@ not_held true c n m f g e = absurd (cc)
 not_held false c n m f g e = let a = f refl in let b = g e in omega arith
 
 -- what no worker holds is held no time
-held_none : (l k : ℕ) (workers : List (Option Plain)) → is_held_by l k workers ≡ false → sum_by (λ o. count_by (is_ticket_of l k) (option_to_list o)) workers ≡ 0
+held_none : (l k : ℕ) (workers : List (Option Plain)) → is_held_by l k workers ≡ false → sum_by (λ o. count_by (is_ticket_of l k) (option_to_list o)) workers
+    ≡ 0
 held_none l k [] e = refl
 held_none l k (o ∷ os) e =
-    let here = not_held (is_among l k (option_to_list o)) (is_held_by l k os) (count_by (is_ticket_of l k) (option_to_list o)) (sum_by (λ o. count_by (is_ticket_of l k) (option_to_list o)) os)
+    let here = not_held (is_among l k (option_to_list o)) (is_held_by l k os) (count_by (is_ticket_of l k) (option_to_list o))
+    (sum_by (λ o. count_by (is_ticket_of l k) (option_to_list o)) os)
     (λ f. not_among_times l k (option_to_list o) f) (λ f. held_none l k os f) e in
     omega (arith, sum_by-cons (λ (p : Option Plain). count_by (is_ticket_of l k) (option_to_list p)) o os)
 

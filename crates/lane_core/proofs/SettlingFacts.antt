@@ -40,16 +40,19 @@ only f t (x ∷ xs) (suc i) s e zero_else one is =
 
 sum_le : {S : Type 0} (f g : S → ℕ) (ss : List S) → ((j : ℕ) (u : S) → slice_get ss j ≡ Some u → f u ≤ g u) → sum_by f ss ≤ sum_by g ss
 sum_le f g [] each = omega arith
-sum_le f g (x ∷ xs) each = let here = each 0 x refl in let rest = sum_le f g xs (λ j u e. each (suc j) u e) in omega (arith, sum_by-cons f x xs, sum_by-cons g x xs)
+sum_le f g (x ∷ xs) each = let here = each 0 x refl in let rest =
+    sum_le f g xs (λ j u e. each (suc j) u e) in omega (arith, sum_by-cons f x xs, sum_by-cons g x xs)
 
 sum_none : {S : Type 0} (f : S → ℕ) (ss : List S) → ((j : ℕ) (u : S) → slice_get ss j ≡ Some u → f u ≡ 0) → sum_by f ss ≡ 0
 sum_none f [] each = refl
 sum_none f (x ∷ xs) each = let here = each 0 x refl in let rest = sum_none f xs (λ j u e. each (suc j) u e) in omega (arith, sum_by-cons f x xs)
 
 -- the tickets of all lanes, each once at most
-pub submitted_once : (accounts : List Account) → AreNumbered accounts → EachLaneOnce accounts → (l k : ℕ) → sum_by (λ a. count_by (is_ticket_of l k) a.submitted) accounts ≤ 1
+pub submitted_once : (accounts : List Account) → AreNumbered accounts → EachLaneOnce accounts → (l k : ℕ)
+    → sum_by (λ a. count_by (is_ticket_of l k) a.submitted) accounts ≤ 1
 submitted_once accounts each one l k =
-    let a = sum_le (λ (u : Account). count_by (is_ticket_of l k) u.submitted) (λ (u : Account). once (u.lane == l)) accounts (λ j u e. ticket_once l k u.lane 0 u.submitted (each j u e)) in
+    let a = sum_le (λ (u : Account). count_by (is_ticket_of l k) u.submitted) (λ (u : Account). once (u.lane == l)) accounts
+    (λ j u e. ticket_once l k u.lane 0 u.submitted (each j u e)) in
     let b = one l in omega arith
 
 -- every submitted row is in one of these places
@@ -62,12 +65,20 @@ pub all_found : (n : ℕ) (accounts : List Account) (taken posted collected jobs
     → OneForOne posted collected results
     → ((h : Plain → ℕ) → sum_by h (sifted n collected) ≡ (sum_by h waiting + sum_by h hand) + sent h)
     → (sifted n collected ≡ collected)
-    × ((h : Plain → ℕ) → sum_by (λ a. sum_by h a.submitted) accounts ≡ ((((sum_by h jobs + sum_by h hands) + sum_by h results) + sum_by h waiting) + sum_by h hand) + sent h)
+    × ((h : Plain → ℕ) → sum_by (λ a. sum_by h a.submitted) accounts
+    ≡ ((((sum_by h jobs + sum_by h hands) + sum_by h results) + sum_by h waiting) + sum_by h hand) + sent h)
 all_found n accounts taken posted collected jobs hands results waiting hand sent each there one of_jobs of_workers of_results of_deliverer =
     let few : (l k : ℕ) → count_by (is_ticket_of l k) collected ≤ 1 = λ l k.
     let t : Plain → ℕ = λ x. once (is_ticket_of l k x) in
     omega (arith, submitted_once accounts each one l k, of_jobs t, of_workers t, of_results t) in
     let out : Plain → ℕ = λ x. once (is_elsewhere n x) in
-    let here : sum_by out collected ≡ 0 = omega (arith, sum_none (λ (u : Account). sum_by out u.submitted) accounts (λ j u e. all_here n u.lane 0 u.submitted (each j u e) (there j u e)), of_jobs out, of_workers out, of_results out) in
+    let here : sum_by out collected ≡ 0 = omega (
+      arith,
+      sum_none (λ (u : Account). sum_by out u.submitted) accounts
+          (λ j u e. all_here n u.lane 0 u.submitted (each j u e) (there j u e)),
+      of_jobs out,
+      of_workers out,
+      of_results out,
+    ) in
     let none = none_aside n collected few here in
     (none, λ h. omega (arith, of_jobs h, of_workers h, of_results h, of_deliverer h, ap (sum_by h) none))

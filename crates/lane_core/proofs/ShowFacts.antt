@@ -80,7 +80,9 @@ collect_done c x results e is taken = λ s r shows. done c _ s _ Collect (ap (co
       workers = shows.workers;
       results = refl;
       nexts = taken.nexts ∙ shows.nexts;
-      waiting = permutation_from e.waiting (s.waiting ++ x ∷ []) (λ h. let a = taken.waiting h in let b = sum_by-IsPermutation h c.buffer.waiting s.waiting shows.waiting in let d = sum_by-append h s.waiting (x ∷ []) in omega arith);
+      waiting = permutation_from e.waiting (s.waiting ++ x ∷ [])
+          (λ h. let a = taken.waiting h in let b = sum_by-IsPermutation h c.buffer.waiting s.waiting shows.waiting in let d =
+          sum_by-append h s.waiting (x ∷ []) in omega arith);
       known = λ l k. taken.known l k
           ∙ (ap (λ b. b || is_ticket_of l k x) (shows.known l k)
           ∙ (or_last (nat_lt k (handed_of s l)) (is_among l k s.waiting) (is_ticket_of l k x)
@@ -132,7 +134,8 @@ zeros (suc n) zero = refl
 zeros (suc n) (suc l) = zeros n l
 
 -- a new world
-pub start_shown : (lanes workers year : ℕ) → ShowsState (contents year (replicate lanes (lane_contents false 0 [] 0)) [] (replicate workers None) [] (new_buffer lanes)) (start lanes workers year)
+pub start_shown : (lanes workers year : ℕ) → ShowsState (contents year (replicate lanes (lane_contents false 0 [] 0)) [] (replicate workers None) []
+    (new_buffer lanes)) (start lanes workers year)
 start_shown lanes workers year =
     let fresh = lane_state [] false 0 0 in
     record {
@@ -146,5 +149,6 @@ start_shown lanes workers year =
       known = λ l k. ap (λ n. nat_lt k n || false) (zeros lanes l ∙ sym (of_fresh 0 (λ v. v.handed) fresh lanes l refl));
     }
 
-pub start_is_shown : (lanes workers year : ℕ) → IsShown (contents year (replicate lanes (lane_contents false 0 [] 0)) [] (replicate workers None) [] (new_buffer lanes))
+pub start_is_shown : (lanes workers year : ℕ) → IsShown (contents year (replicate lanes (lane_contents false 0 [] 0)) [] (replicate workers None) []
+    (new_buffer lanes))
 start_is_shown lanes workers year = (start lanes workers year, (lanes, workers, year, [], refl), start_shown lanes workers year)

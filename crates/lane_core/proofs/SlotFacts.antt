@@ -51,28 +51,37 @@ other_lane l m k x at other = grind (arith, nat_tests)
 none_of : (lane next : ℕ → ℕ) (hs : List NextSlot) (l k : ℕ) → ((j : ℕ) → j < length hs → IsSlotOf (lane j) (next j) (slot_at hs j)) → ((j : ℕ) → lane j ≢ l)
     → is_among l k (waiting_at hs) ≡ false
 none_of lane next [] l k own other = refl
-none_of lane next (Missing ∷ hs) l k own other = none_of (λ j. lane (suc j)) (λ j. next (suc j)) hs l k (λ j low. own (suc j) (omega arith)) (λ j. other (suc j))
+none_of lane next (Missing ∷ hs) l k own other = none_of (λ j. lane (suc j)) (λ j. next (suc j)) hs l k (λ j low. own (suc j) (omega arith))
+    (λ j. other (suc j))
 none_of lane next (Here x ∷ hs) l k own other =
     ap (λ b. b || is_among l k (waiting_at hs)) (other_lane (lane 0) l k x (own_parts (lane 0) (next 0) x (own 0 (omega arith))).0 (other 0))
     ∙ none_of (λ j. lane (suc j)) (λ j. next (suc j)) hs l k (λ j low. own (suc j) (omega arith)) (λ j. other (suc j))
 none_of lane next (Out ∷ hs) l k own other = none_of (λ j. lane (suc j)) (λ j. next (suc j)) hs l k (λ j low. own (suc j) (omega arith)) (λ j. other (suc j))
 
 -- a lane's next number waits where its slot says so
-here_of : (lane next : ℕ → ℕ) (hs : List NextSlot) (l : ℕ) → ((j : ℕ) → j < length hs → IsSlotOf (lane j) (next j) (slot_at hs j)) → ((i j : ℕ) → lane i ≡ lane j → i ≡ j)
+here_of : (lane next : ℕ → ℕ) (hs : List NextSlot) (l : ℕ) → ((j : ℕ) → j < length hs → IsSlotOf (lane j) (next j) (slot_at hs j))
+    → ((i j : ℕ) → lane i ≡ lane j → i ≡ j)
     → l < length hs → is_among (lane l) (next l) (waiting_at hs) ≡ is_here (slot_at hs l)
 here_of lane next [] l own apart low = absurd (omega arith)
 here_of lane next (Missing ∷ hs) zero own apart low =
-    none_of (λ j. lane (suc j)) (λ j. next (suc j)) hs (lane 0) (next 0) (λ j less. own (suc j) (omega arith)) (λ j e. let c = apart (suc j) 0 e in absurd (omega arith))
+    none_of (λ j. lane (suc j)) (λ j. next (suc j)) hs (lane 0) (next 0) (λ j less. own (suc j) (omega arith))
+    (λ j e. let c = apart (suc j) 0 e in absurd (omega arith))
 here_of lane next (Out ∷ hs) zero own apart low =
-    none_of (λ j. lane (suc j)) (λ j. next (suc j)) hs (lane 0) (next 0) (λ j less. own (suc j) (omega arith)) (λ j e. let c = apart (suc j) 0 e in absurd (omega arith))
+    none_of (λ j. lane (suc j)) (λ j. next (suc j)) hs (lane 0) (next 0) (λ j less. own (suc j) (omega arith))
+    (λ j e. let c = apart (suc j) 0 e in absurd (omega arith))
 here_of lane next (Here x ∷ hs) zero own apart low = ap (λ b. b || is_among (lane 0) (next 0) (waiting_at hs)) (ticket_at (lane 0) (next 0) x (own 0 low))
 here_of lane next (Missing ∷ hs) (suc l) own apart low =
-    here_of (λ j. lane (suc j)) (λ j. next (suc j)) hs l (λ j less. own (suc j) (omega arith)) (λ i j e. let c = apart (suc i) (suc j) e in omega arith) (omega arith)
+    here_of (λ j. lane (suc j)) (λ j. next (suc j)) hs l (λ j less. own (suc j) (omega arith)) (λ i j e. let c = apart (suc i) (suc j) e in omega arith)
+    (omega arith)
 here_of lane next (Out ∷ hs) (suc l) own apart low =
-    here_of (λ j. lane (suc j)) (λ j. next (suc j)) hs l (λ j less. own (suc j) (omega arith)) (λ i j e. let c = apart (suc i) (suc j) e in omega arith) (omega arith)
+    here_of (λ j. lane (suc j)) (λ j. next (suc j)) hs l (λ j less. own (suc j) (omega arith)) (λ i j e. let c = apart (suc i) (suc j) e in omega arith)
+    (omega arith)
 here_of lane next (Here x ∷ hs) (suc l) own apart low =
-    ap (λ b. b || is_among (lane (suc l)) (next (suc l)) (waiting_at hs)) (other_lane (lane 0) (lane (suc l)) (next (suc l)) x (own_parts (lane 0) (next 0) x (own 0 (omega arith))).0 (λ e. let c = apart 0 (suc l) e in absurd (omega arith)))
-    ∙ here_of (λ j. lane (suc j)) (λ j. next (suc j)) hs l (λ j less. own (suc j) (omega arith)) (λ i j e. let c = apart (suc i) (suc j) e in omega arith) (omega arith)
+    ap (λ b. b || is_among (lane (suc l)) (next (suc l)) (waiting_at hs))
+    (other_lane (lane 0) (lane (suc l)) (next (suc l)) x (own_parts (lane 0) (next 0) x (own 0 (omega arith))).0
+    (λ e. let c = apart 0 (suc l) e in absurd (omega arith)))
+    ∙ here_of (λ j. lane (suc j)) (λ j. next (suc j)) hs l (λ j less. own (suc j) (omega arith)) (λ i j e. let c = apart (suc i) (suc j) e in omega arith)
+    (omega arith)
 
 -- one that waits as its lane's next number is among all that wait
 pub contained : (hs : List NextSlot) (l : ℕ) (x : Plain) (rest : List Plain) → l < length hs → slot_at hs l ≡ Here x → Contains (waiting_at hs ++ rest) x
@@ -96,9 +105,11 @@ pub next_waits : (nexts : List ℕ) (hs : List NextSlot) (es : List (Ticket × P
     → has_next (buffer_by_slots nexts hs es ks) l ≡ is_here (slot_at hs l)
 next_waits nexts hs es ks l kept low =
     let n = get_or nexts l 0 in
-    let more : is_among l n (waiting_at hs ++ values_of es) ≡ (is_among l n (waiting_at hs) || is_among l n (values_of es)) = list_any-append (is_ticket_of l n) (waiting_at hs) (values_of es) in
+    let more : is_among l n (waiting_at hs ++ values_of es) ≡ (is_among l n (waiting_at hs) || is_among l n (values_of es)) =
+    list_any-append (is_ticket_of l n) (waiting_at hs) (values_of es) in
     let none : is_among l n (values_of es) ≡ false = ⊎_elim
-    (λ (small : n < 2 ^ 32). false_from_ne_true (is_among l n (values_of es)) (λ is. let c : true ≡ false = sym (kept.indexed.among l n is) ∙ kept.apart l low small in cc))
+    (λ (small : n < 2 ^ 32). false_from_ne_true (is_among l n (values_of es))
+    (λ is. let c : true ≡ false = sym (kept.indexed.among l n is) ∙ kept.apart l low small in cc))
     (λ (great : 2 ^ 32 ≤ n). none_past l n es kept.indexed.tied great)
     (cases_lt n (2 ^ 32)) in
     more ∙ (or_false (is_among l n (waiting_at hs)) (is_among l n (values_of es)) none

@@ -19,9 +19,11 @@ by_test s t false a f = a
 
 submit_keeps : (s : State) (l : ℕ) (row : List ℕ) (o : Option LaneState) → slice_get s.lanes l ≡ o → Good s → Good (or_same s (submit s l row o))
 submit_keeps s l row None at good = good
-submit_keeps s l row (Some v) at good = by_test s _ (not v.closed && nat_lt (length v.submitted) (2 ^ 32)) good (λ _. added s l v (next_job s l v row) at refl refl refl good)
+submit_keeps s l row (Some v) at good = by_test s _ (not v.closed && nat_lt (length v.submitted) (2 ^ 32)) good
+    (λ _. added s l v (next_job s l v row) at refl refl refl good)
 
-take_keeps : (s : State) (w : ℕ) (o : Option (Option Plain)) (jobs : List Plain) → slice_get s.workers w ≡ o → s.jobs ≡ jobs → Good s → Good (or_same s (take_job s w o jobs))
+take_keeps : (s : State) (w : ℕ) (o : Option (Option Plain)) (jobs : List Plain) → slice_get s.workers w ≡ o → s.jobs ≡ jobs → Good s
+    → Good (or_same s (take_job s w o jobs))
 take_keeps s w None jobs at is good = good
 take_keeps s w (Some (Some y)) jobs at is good = good
 take_keeps s w (Some None) [] at is good = good
@@ -54,7 +56,8 @@ few_of s l v at good =
 
 close_keeps : (s : State) (l : ℕ) (o : Option LaneState) → slice_get s.lanes l ≡ o → Good s → Good (or_same s (close s l o))
 close_keeps s l None at good = good
-close_keeps s l (Some v) at good = by_test s _ (not v.closed) good (λ _. settled s l v (lane_state v.submitted true v.polled v.handed) at refl refl (few_of s l v at good) good)
+close_keeps s l (Some v) at good = by_test s _ (not v.closed) good
+    (λ _. settled s l v (lane_state v.submitted true v.polled v.handed) at refl refl (few_of s l v at good) good)
 
 pub step_keeps : (s : State) (e : Event) → Good s → Good (after s e)
 step_keeps s (Submit l row) good = submit_keeps s l row (slice_get s.lanes l) refl good

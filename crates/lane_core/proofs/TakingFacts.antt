@@ -37,17 +37,20 @@ module _ (nexts : List ℕ) (hs : List NextSlot) (es : List (Ticket × Plain)) (
   unknown = not_known nexts hs es ks t.lane t.number kept.lanes fresh
 
   more : MoreBy es x (insert_entry cmp_tickets es t x)
-  more = put_more cmp_tickets t x es (found_among (is_at (cmp_tickets t)) t.lane t.number (finds_own t) es kept.indexed.tied ∙ not_later es ks t.lane t.number kept.indexed unknown)
+  more = put_more cmp_tickets t x es (found_among (is_at (cmp_tickets t)) t.lane t.number (finds_own t) es kept.indexed.tied
+      ∙ not_later es ks t.lane t.number kept.indexed unknown)
 
   still_tied : are_tied (insert_entry cmp_tickets es t x) ≡ true
-  still_tied = put_tied cmp_tickets t x es tied kept.indexed.tied (found_among (is_at (cmp_tickets t)) t.lane t.number (finds_own t) es kept.indexed.tied ∙ not_later es ks t.lane t.number kept.indexed unknown)
+  still_tied = put_tied cmp_tickets t x es tied kept.indexed.tied
+      (found_among (is_at (cmp_tickets t)) t.lane t.number (finds_own t) es kept.indexed.tied ∙ not_later es ks t.lane t.number kept.indexed unknown)
 
   known : (l k : ℕ) → is_known l k (insert_key cmp_tickets ks t) ≡ (is_known l k ks || is_ticket_of l k x)
   known l k = put_known t l k ks ∙ (λ i. is_known l k ks || ((lane i == l) && (number i == k)))
 
   -- as a later number
   pub later_kept : t.number ≢ get_or nexts x.lane 0 → AreKept nexts hs (insert_entry cmp_tickets es t x) (insert_key cmp_tickets ks t)
-  later_kept later = kept_later nexts hs es (insert_entry cmp_tickets es t x) ks (insert_key cmp_tickets ks t) x kept (λ e. later (number ∙ e)) more still_tied known
+  later_kept later = kept_later nexts hs es (insert_entry cmp_tickets es t x) ks (insert_key cmp_tickets ks t) x kept (λ e. later (number ∙ e)) more still_tied
+      known
 
   pub later_taken : TakesIn (buffer_by_slots nexts hs es ks) x (buffer_by_slots nexts hs (insert_entry cmp_tickets es t x) (insert_key cmp_tickets ks t))
   later_taken = took_later nexts hs es (insert_entry cmp_tickets es t x) ks (insert_key cmp_tickets ks t) x kept.lanes low new more known

@@ -47,14 +47,17 @@ out_by : (b : Bool) (l n m k : ℕ) (x : Plain) (xs : List Plain) → is_ticket_
     → (is_among l n xs ≡ true → count_by (is_ticket_of m k) (without l n xs) + once ((l == m) && (n == k)) ≡ count_by (is_ticket_of m k) xs)
     → count_by (is_ticket_of m k) (cond b xs (x ∷ without l n xs)) + once ((l == m) && (n == k)) ≡ count_by (is_ticket_of m k) (x ∷ xs)
 out_by true l n m k x xs is any rest = let e = ticket_same l n m k x is in omega (arith, sum_by-cons (λ y. once (is_ticket_of m k y)) x xs)
-out_by false l n m k x xs is any rest = let e = rest any in omega (arith, sum_by-cons (λ y. once (is_ticket_of m k y)) x xs, sum_by-cons (λ y. once (is_ticket_of m k y)) x (without l n xs))
+out_by false l n m k x xs is any rest = let e = rest any in omega
+    (arith, sum_by-cons (λ y. once (is_ticket_of m k y)) x xs, sum_by-cons (λ y. once (is_ticket_of m k y)) x (without l n xs))
 
 -- what waits without a ticket
-pub times_without : (l n m k : ℕ) (xs : List Plain) → is_among l n xs ≡ true → count_by (is_ticket_of m k) (without l n xs) + once ((l == m) && (n == k)) ≡ count_by (is_ticket_of m k) xs
+pub times_without : (l n m k : ℕ) (xs : List Plain) → is_among l n xs ≡ true → count_by (is_ticket_of m k) (without l n xs) + once ((l == m) && (n == k))
+    ≡ count_by (is_ticket_of m k) xs
 times_without l n m k [] e = absurd (cc)
 times_without l n m k (x ∷ xs) e = out_by (is_ticket_of l n x) l n m k x xs refl e (λ f. times_without l n m k xs f)
 
-less_by : (b : Bool) (l n : ℕ) (h : Plain → ℕ) (x : Plain) (xs : List Plain) → sum_by h (without l n xs) ≤ sum_by h xs → sum_by h (cond b xs (x ∷ without l n xs)) ≤ h x + sum_by h xs
+less_by : (b : Bool) (l n : ℕ) (h : Plain → ℕ) (x : Plain) (xs : List Plain) → sum_by h (without l n xs) ≤ sum_by h xs
+    → sum_by h (cond b xs (x ∷ without l n xs)) ≤ h x + sum_by h xs
 less_by true l n h x xs rest = omega arith
 less_by false l n h x xs rest = omega (arith, sum_by-cons h x (without l n xs))
 

@@ -69,7 +69,8 @@ Keeps pushed popped held = (pushed ≡ popped ++ held) × OneForOne pushed poppe
 abbrev pub QueuesKeep : Type 0
 QueuesKeep = (lanes workers year : ℕ) (es : List Event) →
     Keeps (all_of job_pushed (start lanes workers year) es) (all_of job_popped (start lanes workers year) es) (run (start lanes workers year) es).jobs
-    × Keeps (all_of result_pushed (start lanes workers year) es) (all_of result_popped (start lanes workers year) es) (run (start lanes workers year) es).results
+    × Keeps (all_of result_pushed (start lanes workers year) es) (all_of result_popped (start lanes workers year) es)
+    (run (start lanes workers year) es).results
 
 -- each event is done exactly where its condition holds
 abbrev pub EventsAreDone : Type 0
@@ -98,7 +99,8 @@ ListsGrow = (s : State) (es : List Event) (l : ℕ) → IsReached s →
 
 -- a closed lane stays closed and submits nothing more
 abbrev pub NothingAfterClose : Type 0
-NothingAfterClose = (s : State) (es : List Event) (l : ℕ) → is_closed s l ≡ true → (submitted_by (run s es) l ≡ submitted_by s l) × (is_closed (run s es) l ≡ true)
+NothingAfterClose = (s : State) (es : List Event) (l : ℕ) → is_closed s l ≡ true → (submitted_by (run s es) l ≡ submitted_by s l)
+    × (is_closed (run s es) l ≡ true)
 
 -- a closed lane that has polled as much as it has submitted has polled all of it, and polls nothing more
 abbrev pub DoneStaysDone : Type 0

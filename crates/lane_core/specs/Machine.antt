@@ -45,7 +45,8 @@ next_job s l v row = plain_of l (length v.submitted) s.year row
 abbrev pub submit : State → ℕ → List ℕ → Option LaneState → Option State
 submit s l row None = None
 submit s l row (Some v) = cond (not v.closed && nat_lt (length v.submitted) (2 ^ 32))
-    (Some (state s.year (slice_set s.lanes l (lane_state (v.submitted ++ next_job s l v row ∷ []) v.closed v.polled v.handed)) (s.jobs ++ next_job s l v row ∷ []) s.workers s.results s.waiting))
+    (Some (state s.year (slice_set s.lanes l (lane_state (v.submitted ++ next_job s l v row ∷ []) v.closed v.polled v.handed))
+    (s.jobs ++ next_job s l v row ∷ []) s.workers s.results s.waiting))
     None
 
 abbrev pub take_job : State → ℕ → Option (Option Plain) → List Plain → Option State
@@ -66,7 +67,8 @@ collect s (x ∷ results) = Some (state s.year s.lanes s.jobs s.workers results 
 abbrev pub hand : State → ℕ → Option LaneState → Option State
 hand s l None = None
 hand s l (Some v) = cond (is_among l v.handed s.waiting)
-    (Some (state s.year (slice_set s.lanes l (lane_state v.submitted v.closed v.polled (v.handed + 1))) s.jobs s.workers s.results (without l v.handed s.waiting)))
+    (Some (state s.year (slice_set s.lanes l (lane_state v.submitted v.closed v.polled (v.handed + 1))) s.jobs s.workers s.results
+    (without l v.handed s.waiting)))
     None
 
 abbrev pub poll : State → ℕ → Option LaneState → Option State

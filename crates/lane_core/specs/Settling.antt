@@ -62,7 +62,8 @@ AllFound =
     → OneForOne posted collected results
     → ((h : Plain → ℕ) → sum_by h (sifted n collected) ≡ (sum_by h waiting + sum_by h hand) + sent h)
     → (sifted n collected ≡ collected)
-    × ((h : Plain → ℕ) → sum_by (λ a. sum_by h a.submitted) accounts ≡ ((((sum_by h jobs + sum_by h hands) + sum_by h results) + sum_by h waiting) + sum_by h hand) + sent h)
+    × ((h : Plain → ℕ) → sum_by (λ a. sum_by h a.submitted) accounts
+    ≡ ((((sum_by h jobs + sum_by h hands) + sum_by h results) + sum_by h waiting) + sum_by h hand) + sent h)
 
 -- whether each number is no less than the one before it
 abbrev pub rises : List Plain → Bool

@@ -64,7 +64,8 @@ beside-flat_map R f g [] k each = tt
 beside-flat_map R f g (x ∷ xs) k each =
     let here : k + 0 ≡ k = omega arith in
     let first : AllZip R (f x) (g k) = subst (λ n. AllZip R (f x) (g n)) here (each 0 x refl) in
-    let rest = beside-flat_map R f g xs (k + 1) (λ i y at. let on : k + suc i ≡ k + 1 + i = omega arith in subst (λ n. AllZip R (f y) (g n)) on (each (suc i) y at)) in
+    let rest = beside-flat_map R f g xs (k + 1) (λ i y at. let on : k + suc i ≡ k + 1 + i =
+    omega arith in subst (λ n. AllZip R (f y) (g n)) on (each (suc i) y at)) in
     beside-append R (f x) (flat_map f xs) (g k) (flat_map g (range_with_len (k + 1) (length xs))) first rest
 
 -- numbers from one on lie below an end

@@ -18,7 +18,8 @@ abbrev is_count : ℕ → ℕ → Bool → ℕ → Bool
 is_count byte skipped dark n =
     all_below (λ k. is_at byte (skipped + k) dark) n && (if nat_lt n (8 - skipped) then is_at byte (skipped + n) (not dark) else true)
 
-tested : all_below (λ byte. all_below (λ skipped. is_count byte skipped true (count byte skipped true) && is_count byte skipped false (count byte skipped false)) 8) 256 ≡ true
+tested : all_below (λ byte. all_below (λ skipped. is_count byte skipped true (count byte skipped true) && is_count byte skipped false
+    (count byte skipped false)) 8) 256 ≡ true
 unfolding count_leading_zeros
 tested = refl
 
@@ -31,8 +32,10 @@ same false false e = refl
 both_tested : (byte skipped : ℕ) → byte < 256 → skipped < 8
     → (is_count byte skipped true (count byte skipped true) ≡ true) × (is_count byte skipped false (count byte skipped false) ≡ true)
 both_tested byte skipped h k =
-    let row = all_below-at (λ byte. all_below (λ skipped. is_count byte skipped true (count byte skipped true) && is_count byte skipped false (count byte skipped false)) 8) 256 tested byte h in
-    let both = all_below-at (λ skipped. is_count byte skipped true (count byte skipped true) && is_count byte skipped false (count byte skipped false)) 8 row skipped k in
+    let row = all_below-at (λ byte. all_below (λ skipped. is_count byte skipped true (count byte skipped true) && is_count byte skipped false
+    (count byte skipped false)) 8) 256 tested byte h in
+    let both = all_below-at (λ skipped. is_count byte skipped true (count byte skipped true) && is_count byte skipped false (count byte skipped false)) 8 row
+    skipped k in
     and_parts (is_count byte skipped true (count byte skipped true)) (is_count byte skipped false (count byte skipped false)) both
 
 each_tested : (byte skipped : ℕ) (dark : Bool) → byte < 256 → skipped < 8 → is_count byte skipped dark (count byte skipped dark) ≡ true

@@ -79,7 +79,8 @@ next_run bits from n end widths all run dark h same lt alike =
     let count = length-append widths (run ∷ []) in
     let whole : n + (end - n) ≡ end = omega arith in
     let dots : dots_at bits from end ≡ dots_at bits from n ++ replicate (end - n) (not dark) =
-    subst (λ e. dots_at bits from e ≡ dots_at bits from n ++ replicate (end - n) (not dark)) whole (dots_more bits from n (end - n) (not dark) (λ k some less. alike k some (omega arith))) in
+    subst (λ e. dots_at bits from e ≡ dots_at bits from n ++ replicate (end - n) (not dark)) whole
+    (dots_more bits from n (end - n) (not dark) (λ k some less. alike k some (omega arith))) in
     rw same (record {
       joined = ap (λ ds. ds ++ replicate (end - n) (not dark)) (finished widths run dark n (dots_at bits from n) h) ∙ sym dots;
       dark_is = ap not h.dark_is ∙ sym (colour_more false (length widths)) ∙ ap (colour false) (sym count);

@@ -47,7 +47,8 @@ halves_end left right =
 number : (kind : Kind) (ms ds : List ℕ) → IsNumberSymbol kind ms ds → BeginsNarrow ms × BeginsNarrow (reverse ms)
 number Ean13 ms ds e = (
   subst BeginsNarrow (sym e.widths) (record { bar = omega arith; space = omega arith }),
-  subst (λ ws. BeginsNarrow (reverse ws)) (sym e.widths) (halves_end (left_part (row_of ean13_rows (get_or ds 0 0)) (take 6 (drop 1 ds))) (right_part (drop 7 ds))),
+  subst (λ ws. BeginsNarrow (reverse ws)) (sym e.widths) (halves_end (left_part (row_of ean13_rows (get_or ds 0 0)) (take 6 (drop 1 ds)))
+      (right_part (drop 7 ds))),
 )
 number Ean8 ms ds e = (
   subst BeginsNarrow (sym e.widths) (record { bar = omega arith; space = omega arith }),

@@ -85,7 +85,8 @@ content_fits law None ms text a =
 -- ---- faults of a text that fits
 
 not_long : (a b o c d e : Bool) (p : ℕ)
-    → (if a then Some (ValueLength p) else if b then Some (MissingSeparator p) else if not o then Some (ValueLength p) else if not c then Some (ValueCharacter p)
+    → (if a then Some (ValueLength p) else if b then Some (MissingSeparator p) else if not o then Some (ValueLength p) else if not c then Some
+    (ValueCharacter p)
     else if not d then Some (ValueCheckDigit p) else if not e then Some (ValueDate p) else None) ≡ Some TooLong → ⊥
 not_long true b o c d e p h = cc
 not_long false true o c d e p h = cc
@@ -99,7 +100,8 @@ fault_not_long : (year p : ℕ) (text : List ℕ) (row : Option Row) → fault_b
 fault_not_long year p text None h = cc
 fault_not_long year p text (Some row) h =
     let value = value_in row (field_of (drop (length row.ai) text)) in
-    not_long (nat_lt (length value) (least_of row.parts)) (nat_lt (greatest_of row.parts) (length value)) (each_part has_even_length row.parts value) (each_part has_characters row.parts value)
+    not_long (nat_lt (length value) (least_of row.parts)) (nat_lt (greatest_of row.parts) (length value)) (each_part has_even_length row.parts value)
+    (each_part has_characters row.parts value)
     (each_part has_check_digit row.parts value) (each_part (has_date year) row.parts value) p h
 
 sized : (a b : Bool) (P : Type 0) → a ≡ false → (P → ⊥)

@@ -57,8 +57,10 @@ module _ (n w : ℕ) where
     run : (m : ℕ) → (m ≡ 1) ⊎ (m ≡ 3) → IsRun 135 (48 * n + 29 * w) (element_dots n w m) m
     run m h =
         elim h [
-          | inl one ↦ subst (λ k. IsRun 135 (48 * n + 29 * w) (element_dots n w k) k) (sym one) (record { least = omega arith; most = omega arith; near = omega arith })
-          | inr three ↦ subst (λ k. IsRun 135 (48 * n + 29 * w) (element_dots n w k) k) (sym three) (record { least = omega arith; most = omega arith; near = omega arith })
+          | inl one ↦ subst (λ k. IsRun 135 (48 * n + 29 * w) (element_dots n w k) k) (sym one)
+              (record { least = omega arith; most = omega arith; near = omega arith })
+          | inr three ↦ subst (λ k. IsRun 135 (48 * n + 29 * w) (element_dots n w k) k) (sym three)
+              (record { least = omega arith; most = omega arith; near = omega arith })
         ]
 
     rounds_each : (ms : List ℕ) → AreTwoWidths ms → AllZip (IsRun 135 (48 * n + 29 * w)) (map (element_dots n w) ms) ms
@@ -118,7 +120,8 @@ module _ (two : TwoWidths) (measures : MeasuresOfKind) (reads : GtinReads) where
       let inner_dots : sum (inner row) ≡ 48 * n + 29 * w = ap sum inside ∙ dots in
       let quiet : IsQuiet row 135 = record { left = omega arith; right = rw last (omega arith) } in
       let runs : Rounds (inner row) 135 ms =
-      subst (λ xs. AllZip (IsRun 135 (sum xs)) xs ms) (sym inside) (subst (λ k. AllZip (IsRun 135 k) bars ms) (sym dots) (rounds_each n w least most some ms widths)) in
+      subst (λ xs. AllZip (IsRun 135 (sum xs)) xs ms) (sym inside)
+      (subst (λ k. AllZip (IsRun 135 k) bars ms) (sym dots) (rounds_each n w least most some ms widths)) in
       let shows : Shows row Itf14 Forwards ms = record {
         N = 135;
         candidate = (ap length inside ∙ many ∙ count, refl);
@@ -139,5 +142,8 @@ module _ (two : TwoWidths) (measures : MeasuresOfKind) (reads : GtinReads) where
   pub each_ratio_is_read : EachRatioIsRead
   each_ratio_is_read gtin ms n w left right year Forwards symbol checked ratio narrow = forwards gtin ms n w left right year symbol checked ratio narrow
   each_ratio_is_read gtin ms n w left right year Backwards symbol checked ratio narrow =
-      let f = forwards gtin ms n w left right year symbol checked ratio narrow in
-      (IsRow-reverse (drawn_row n w left right ms) f.0, turned_row (drawn_row n w left right ms) f.0 year (Read Itf14 (record { year = year; list = gtin_entry gtin ∷ [] })) f.1)
+      let f = forwards gtin ms n w left right year symbol checked ratio narrow in (
+        IsRow-reverse (drawn_row n w left right ms) f.0,
+        turned_row (drawn_row n w left right ms) f.0 year
+            (Read Itf14 (record { year = year; list = gtin_entry gtin ∷ [] })) f.1,
+      )

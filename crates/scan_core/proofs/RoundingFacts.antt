@@ -23,7 +23,8 @@ more_modules : (m k W : ℕ) → m < k → m * W + W ≤ k * W
 more_modules m k W lt = let more : (m + 1) * W ≤ k * W = grind arith in omega arith
 
 -- a run that is not the modules nearest to it, to within a third of one, is none
-pub not_near : (N W w k m : ℕ) → 1 ≤ k → (1 < k → 3 * (k * W) ≤ 3 * (w * N) + W) → (k < 4 → 3 * (w * N) < 3 * (k * W) + 2 * W) → W < gap (3 * (w * N)) (3 * (k * W)) → IsRun N W w m → ⊥
+pub not_near : (N W w k m : ℕ) → 1 ≤ k → (1 < k → 3 * (k * W) ≤ 3 * (w * N) + W) → (k < 4 → 3 * (w * N) < 3 * (k * W) + 2 * W)
+    → W < gap (3 * (w * N)) (3 * (k * W)) → IsRun N W w m → ⊥
 not_near N W w k m one reached passed far run =
     let near = run.near in
     let least = run.least in
@@ -32,7 +33,8 @@ not_near N W w k m one reached passed far run =
       | inl less ↦ let more = more_modules m k W less in let low = reached (omega arith) in omega arith
       | inr rest ↦ elim (cases_lt k m) [
         | inl more ↦ let beyond = more_modules k m W more in let high = passed (omega arith) in omega arith
-        | inr other ↦ let same : m ≡ k = omega arith in let here : 3 * gap (w * N) (k * W) ≤ W = subst (λ i. 3 * gap (w * N) (i * W) ≤ W) same near in omega arith
+        | inr other ↦ let same : m ≡ k = omega arith in let here : 3 * gap (w * N) (k * W) ≤ W =
+            subst (λ i. 3 * gap (w * N) (i * W) ≤ W) same near in omega arith
       ]
     ]
 

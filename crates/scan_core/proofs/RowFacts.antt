@@ -24,7 +24,8 @@ tested : (ws : List ℕ) → AllByRecursion (λ w. 1 ≤ w) ws → list_all (λ 
 tested [] each = refl
 tested (w ∷ ws) each = both_true (le-leb 1 w each.0) (tested ws each.1)
 
-passed : (odd dots fit : Bool) → None ≡ (if odd && dots then (if fit then None else Some TooWide) else Some BadRuns) → (odd ≡ true) × (dots ≡ true) × (fit ≡ true)
+passed : (odd dots fit : Bool) → None ≡ (if odd && dots then (if fit then None else Some TooWide) else Some BadRuns) → (odd ≡ true) × (dots ≡ true)
+    × (fit ≡ true)
 passed true true true h = (refl, refl, refl)
 passed true true false h = absurd cc
 passed true false fit h = absurd cc

@@ -77,7 +77,8 @@ module _ (once : OneAnswer) (runs : List ℕ) (year : ℕ) (row : IsRow runs) wh
   same_window v w s t p q =
       let here : runs_in runs v.first v.count ≡ runs_in runs w.first w.count = ap₂ (runs_in runs) p q in
       let moved = subst (λ ws. IsAnswer ws year (Read v.carrier v.elements)) here s.read in
-      let read = once (runs_in runs w.first w.count) year (Read v.carrier v.elements) (Read w.carrier w.elements) (IsRow-runs_in runs w.first w.count row t.within t.ends_light) moved t.read in
+      let read = once (runs_in runs w.first w.count) year (Read v.carrier v.elements) (Read w.carrier w.elements)
+      (IsRow-runs_in runs w.first w.count row t.within t.ends_light) moved t.read in
       let parts = carrier_of v.carrier w.carrier v.elements w.elements read in
       same_fields v w p q parts.0 parts.1
 
@@ -132,7 +133,8 @@ module _ (once : OneAnswer) (runs : List ℕ) (year : ℕ) (row : IsRow runs) wh
     order_told ws w.first (w.count + 1) told.1,
   )
 
-  all_told : (ws : List Window) (first least : ℕ) → AreTold (from first least) ws → (v : Window) → IsSymbolOf runs year v → IsLeft (from first least) v → Contains ws v
+  all_told : (ws : List Window) (first least : ℕ) → AreTold (from first least) ws → (v : Window) → IsSymbolOf runs year v → IsLeft (from first least) v
+      → Contains ws v
   all_told [] first least told v s left = absurd (told v s left)
   all_told (w ∷ ws) first least told v s left =
       elim (which_first v w s told.0.symbol) [
@@ -166,16 +168,19 @@ whole_row = λ runs year carrier elements row a. record {
 
 -- ---- a turned row
 
-runs_in-reverse : (runs : List ℕ) (first count : ℕ) → first + count ≤ length runs → runs_in (reverse runs) (length runs - (first + count)) count ≡ reverse (runs_in runs first count)
+runs_in-reverse : (runs : List ℕ) (first count : ℕ) → first + count ≤ length runs → runs_in (reverse runs) (length runs - (first + count)) count
+    ≡ reverse (runs_in runs first count)
 runs_in-reverse runs first count within =
     let n = length-reverse runs in
     let there = length-runs_in runs first count within in
-    let here : length (runs_in (reverse runs) (length runs - (first + count)) count) ≡ count = length-runs_in (reverse runs) (length runs - (first + count)) count (omega arith) in
+    let here : length (runs_in (reverse runs) (length runs - (first + count)) count) ≡ count =
+    length-runs_in (reverse runs) (length runs - (first + count)) count (omega arith) in
     let long = length-reverse (runs_in runs first count) in
     ext_get_or 0 (runs_in (reverse runs) (length runs - (first + count)) count) (reverse (runs_in runs first count)) (omega arith) (λ i low.
     runs_in-at (reverse runs) (length runs - (first + count)) count i (omega arith)
     ∙ get_or-reverse runs (length runs - (first + count) + i) 0 (omega arith)
-    ∙ ap (λ k. get_or runs k 0) (let e : length runs - 1 - (length runs - (first + count) + i) ≡ first + (length (runs_in runs first count) - 1 - i) = omega arith in e)
+    ∙ ap (λ k. get_or runs k 0) (let e : length runs - 1 - (length runs - (first + count) + i) ≡ first + (length (runs_in runs first count) - 1 - i) =
+    omega arith in e)
     ∙ sym (runs_in-at runs first count (length (runs_in runs first count) - 1 - i) (omega arith))
     ∙ sym (get_or-reverse (runs_in runs first count) i 0 (omega arith)))
 
@@ -212,7 +217,8 @@ module _ (runs : List ℕ) (year : ℕ) (row : IsRow runs) where
       ]
   other_way_round v w a b out (inr same) = let p = same.0 in let q = same.1 in inl (omega arith)
 
-  turned_order : (ws : List Window) → AllByRecursion (IsSymbolOf runs year) ws → AreInOrder ws → ((v w : Window) → Contains ws v → Contains ws w → IsInside v w → ⊥)
+  turned_order : (ws : List Window) → AllByRecursion (IsSymbolOf runs year) ws → AreInOrder ws
+      → ((v w : Window) → Contains ws v → Contains ws w → IsInside v w → ⊥)
       → AreInOrder (reverse (map (turned (length runs)) ws))
   turned_order [] each order out = tt
   turned_order (w ∷ ws) each order out =
@@ -221,7 +227,8 @@ module _ (runs : List ℕ) (year : ℕ) (row : IsRow runs) where
       subst AreInOrder (sym (reverse-cons (t w) (map t ws)))
       (order-push (reverse (map t ws)) (t w) (turned_order ws each.1 order.1 (λ v x has also. out v x (has-later w ws v has) (has-later w ws x also))) before)
     where
-      pairs : (vs : List Window) → AllByRecursion (IsSymbolOf runs year) vs → AllByRecursion (ComesBefore w) vs → ((v : Window) → Contains vs v → IsInside v w → ⊥)
+      pairs : (vs : List Window) → AllByRecursion (IsSymbolOf runs year) vs → AllByRecursion (ComesBefore w) vs
+          → ((v : Window) → Contains vs v → IsInside v w → ⊥)
           → AllByRecursion (λ x. ComesBefore x (turned (length runs) w)) (reverse (map (turned (length runs)) vs))
       pairs [] each before out = tt
       pairs (v ∷ vs) those before out =
@@ -242,7 +249,8 @@ turned_symbols = record {
             let within = s.within in
             let fits : v.first + v.count ≤ length runs = omega arith in
             let back = turned_symbol (reverse runs) year (IsRow-reverse runs row) v s in
-            let there : IsSymbolOf runs year (t v) = subst (λ (m : ℕ). IsSymbolOf runs year (turned m v)) n (subst (λ ws. IsSymbolOf ws year (turned (length (reverse runs)) v)) (reverse-reverse runs) back) in
+            let there : IsSymbolOf runs year (t v) = subst (λ (m : ℕ). IsSymbolOf runs year (turned m v)) n
+            (subst (λ ws. IsSymbolOf ws year (turned (length (reverse runs)) v)) (reverse-reverse runs) back) in
             subst (Contains (reverse (map t ws))) (turned_twice runs year row v fits) (has-turned t ws (t v) (are.every_one (t v) there));
         in_order = turned_order runs year row ws are.each are.in_order out;
       };

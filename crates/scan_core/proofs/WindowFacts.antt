@@ -49,7 +49,8 @@ IsRow-runs_in runs first count row within odd =
       each_inner = each_by (λ w. 1 ≤ w) (inner window) (λ i low.
           let n = length-inner window in
           let m = length-inner runs in
-          let here : get_or (inner window) i 0 ≡ get_or runs (first + (1 + i)) 0 = inner-at window i (omega arith) ∙ runs_in-at runs first count (1 + i) (omega arith) in
+          let here : get_or (inner window) i 0 ≡ get_or runs (first + (1 + i)) 0 =
+          inner-at window i (omega arith) ∙ runs_in-at runs first count (1 + i) (omega arith) in
           let there : get_or (inner runs) (first + i) 0 ≡ get_or runs (1 + (first + i)) 0 = inner-at runs (first + i) (omega arith) in
           let same : first + (1 + i) ≡ 1 + (first + i) = omega arith in
           let dots : 1 ≤ get_or (inner runs) (first + i) 0 = each_at (λ w. 1 ≤ w) (inner runs) row.each_inner (first + i) (omega arith) in
@@ -115,7 +116,8 @@ ends_of ws c way ms row s =
     let quiet = s.quiet in (
       may_end s.N W (get_or ws 0 0) (get_or ws 1 0) (get_or ws 2 0) (get_or ks 0 0) (get_or ks 1 0) some quiet.left
           (run 0 (omega arith)) (run 1 (omega arith)) left.bar left.space,
-      may_end s.N W (get_or ws (length ws - 1) 0) (get_or ws (length ws - 2) 0) (get_or ws (length ws - 3) 0) (get_or (reverse ks) 0 0) (get_or (reverse ks) 1 0)
+      may_end s.N W (get_or ws (length ws - 1) 0) (get_or ws (length ws - 2) 0) (get_or ws (length ws - 3) 0) (get_or (reverse ks) 0 0)
+          (get_or (reverse ks) 1 0)
           some quiet.right (subst (λ i. IsRun s.N W (get_or ws i 0) (get_or (reverse ks) 0 0)) second (from_end 0 (omega arith)))
           (subst (λ i. IsRun s.N W (get_or ws i 0) (get_or (reverse ks) 1 0)) third (from_end 1 (omega arith))) right.bar right.space,
     )
@@ -131,7 +133,8 @@ module _ (runs : List ℕ) (year : ℕ) (row : IsRow runs) (w : Window) (s : IsS
 
   pub window_candidate : IsCandidate w.carrier (w.count - 2) shown.N
   window_candidate =
-      subst (λ n. IsCandidate w.carrier n shown.N) (length-inner (runs_in runs w.first w.count) ∙ ap (λ n. n - 2) (length-runs_in runs w.first w.count s.within)) shown.candidate
+      subst (λ n. IsCandidate w.carrier n shown.N) (length-inner (runs_in runs w.first w.count)
+      ∙ ap (λ n. n - 2) (length-runs_in runs w.first w.count s.within)) shown.candidate
 
   pub window_counts : (27 ≤ w.count) × (w.count ≤ 597)
   window_counts = let few = few_runs w.carrier (w.count - 2) shown.N window_candidate in let many = few.0 in let most = few.1 in (omega arith, omega arith)
@@ -176,7 +179,8 @@ module _ (runs : List ℕ) (year : ℕ) (row : IsRow runs) (w : Window) (s : IsS
       let left : get_or window 0 0 ≡ get_or runs w.first 0 =
       runs_in-at runs w.first w.count 0 (omega arith) ∙ ap (λ k. get_or runs k 0) (let e : w.first + 0 ≡ w.first = omega arith in e) in
       let right : get_or window (length window - 1) 0 ≡ get_or runs (w.first + w.count - 1) 0 =
-      runs_in-at runs w.first w.count (length window - 1) (omega arith) ∙ ap (λ k. get_or runs k 0) (let e : w.first + (length window - 1) ≡ w.first + w.count - 1 = omega arith in e) in
+      runs_in-at runs w.first w.count (length window - 1) (omega arith)
+      ∙ ap (λ k. get_or runs k 0) (let e : w.first + (length window - 1) ≡ w.first + w.count - 1 = omega arith in e) in
       let one = both.0 in
       let two = both.1 in
       (omega arith, omega arith)

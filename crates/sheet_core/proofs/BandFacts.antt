@@ -40,12 +40,14 @@ rows_more n line = ap (λ k. repeated_bytes k line) (let e : n + 1 ≡ suc n = o
 
 pub length-rows : (n : ℕ) (line : List ℕ) → length (repeated_bytes n line) ≡ n * length line
 length-rows zero line = omega arith
-length-rows (suc n) line = length-append line (repeated_bytes n line) ∙ ap (λ k. length line + k) (length-rows n line) ∙ (let e : length line + n * length line ≡ suc n * length line = grind arith in e)
+length-rows (suc n) line = length-append line (repeated_bytes n line) ∙ ap (λ k. length line + k) (length-rows n line)
+    ∙ (let e : length line + n * length line ≡ suc n * length line = grind arith in e)
 
 rows_at : (n k j : ℕ) (line : List ℕ) → k < n → j < length line → get_or (repeated_bytes n line) (k * length line + j) 0 ≡ get_or line j 0
 rows_at zero k j line h low = absurd (omega arith)
 rows_at (suc n) zero j line h low =
-    ap (λ i. get_or (line ++ repeated_bytes n line) i 0) (let e : 0 * length line + j ≡ j = omega arith in e) ∙ get_or_append_left line (repeated_bytes n line) 0 j low
+    ap (λ i. get_or (line ++ repeated_bytes n line) i 0) (let e : 0 * length line + j ≡ j = omega arith in e)
+    ∙ get_or_append_left line (repeated_bytes n line) 0 j low
 rows_at (suc n) (suc k) j line h low =
     let next : suc k * length line + j ≡ length line + (k * length line + j) = grind arith in
     get_or-append_right line (repeated_bytes n line) (length line) (suc k * length line + j) 0 refl (omega arith)
@@ -66,7 +68,8 @@ flat_at f w (x ∷ xs) (suc i) j long h low =
     ∙ ap (λ k. get_or (flat_map f xs) k 0) (let e : suc i * w + j - w ≡ i * w + j = omega arith in e)
     ∙ flat_at f w xs i j (λ r k. long (suc r) (omega arith)) (omega arith) low
 
-pub flat_long : (f : List ℕ → List ℕ) (w : ℕ) (xs : List (List ℕ)) → ((r : ℕ) → r < length xs → length (f (get_or xs r [])) ≡ w) → length (flat_map f xs) ≡ length xs * w
+pub flat_long : (f : List ℕ → List ℕ) (w : ℕ) (xs : List (List ℕ)) → ((r : ℕ) → r < length xs → length (f (get_or xs r [])) ≡ w) → length (flat_map f xs)
+    ≡ length xs * w
 flat_long f w [] long = omega arith
 flat_long f w (x ∷ xs) long =
     let one : length (f x) ≡ w = long 0 (omega arith) in
@@ -111,8 +114,10 @@ band_at g line k j fits low within =
       | inr from ↦
           let split : k * w + j ≡ g.dots * w + ((k - g.dots) * w + j) = parted k g.dots (k - g.dots) w j (omega arith) in
           let past : get_or (band g line) (k * w + j) 0 ≡ get_or (repeated_bytes middle line ++ repeated_bytes g.dots light) ((k - g.dots) * w + j) 0 =
-          get_or-append_right (repeated_bytes g.dots light) (repeated_bytes middle line ++ repeated_bytes g.dots light) (g.dots * w) (k * w + j) 0 top (omega arith)
-          ∙ ap (λ i. get_or (repeated_bytes middle line ++ repeated_bytes g.dots light) i 0) (let e : k * w + j - g.dots * w ≡ (k - g.dots) * w + j = omega arith in e) in
+          get_or-append_right (repeated_bytes g.dots light) (repeated_bytes middle line ++ repeated_bytes g.dots light) (g.dots * w) (k * w + j) 0 top
+          (omega arith)
+          ∙ ap (λ i. get_or (repeated_bytes middle line ++ repeated_bytes g.dots light) i 0)
+          (let e : k * w + j - g.dots * w ≡ (k - g.dots) * w + j = omega arith in e) in
           past ∙ elim (cases_lt (k - g.dots) middle) [
             | inl bar ↦
                 let inside : (k - g.dots) * w + j < middle * w = below (k - g.dots) middle w j bar within in
@@ -120,9 +125,11 @@ band_at g line k j fits low within =
                 ∙ rows_at middle (k - g.dots) j line bar within
                 ∙ sym (ap₂ (λ s t. if s && t then get_or line j 0 else 0) (le-leb g.dots k from) (lt-ltb (k + g.dots) g.height (omega arith)))
             | inr under ↦
-                let rest : (k - g.dots) * w + j ≡ middle * w + ((k - g.dots - middle) * w + j) = parted (k - g.dots) middle (k - g.dots - middle) w j (omega arith) in
+                let rest : (k - g.dots) * w + j ≡ middle * w + ((k - g.dots - middle) * w + j) =
+                parted (k - g.dots) middle (k - g.dots - middle) w j (omega arith) in
                 get_or-append_right (repeated_bytes middle line) (repeated_bytes g.dots light) (middle * w) ((k - g.dots) * w + j) 0 bars (omega arith)
-                ∙ ap (λ i. get_or (repeated_bytes g.dots light) i 0) (let e : (k - g.dots) * w + j - middle * w ≡ (k - g.dots - middle) * w + j = omega arith in e)
+                ∙ ap (λ i. get_or (repeated_bytes g.dots light) i 0)
+                (let e : (k - g.dots) * w + j - middle * w ≡ (k - g.dots - middle) * w + j = omega arith in e)
                 ∙ dark g.dots (k - g.dots - middle) (omega arith)
                 ∙ sym (ap₂ (λ s t. if s && t then get_or line j 0 else 0) (le-leb g.dots k from) (le-ltb (k + g.dots) g.height (omega arith)))
           ]
@@ -144,12 +151,14 @@ pub record Banded (g : Cells) (symbols : List Drawn) (n : ℕ) (bytes : List ℕ
 pub banded_none : (g : Cells) (symbols : List Drawn) (bytes : List ℕ) → bytes ≡ [] → Banded g symbols 0 bytes
 banded_none g symbols bytes e = record { lines = []; count = refl; each = λ r h. absurd (omega arith); joined = e }
 
-pub banded_more : (g : Cells) (symbols : List Drawn) (n : ℕ) (bytes new line : List ℕ) → Banded g symbols n bytes → IsBarLine g (row_labels g symbols n) line → new ≡ bytes ++ band g line → Banded g symbols (n + 1) new
+pub banded_more : (g : Cells) (symbols : List Drawn) (n : ℕ) (bytes new line : List ℕ) → Banded g symbols n bytes → IsBarLine g (row_labels g symbols n) line
+    → new ≡ bytes ++ band g line → Banded g symbols (n + 1) new
 banded_more g symbols n bytes new line h drawn e = record {
   lines = h.lines ++ line ∷ [];
   count = length-append h.lines (line ∷ []) ∙ ap (λ k. k + 1) h.count;
   each = λ r low. elim (cases_lt r n) [
-    | inl before ↦ subst (IsBarLine g (row_labels g symbols r)) (sym (get_or_append_left h.lines (line ∷ []) [] r (let c = h.count in omega arith))) (h.each r before)
+    | inl before ↦ subst (IsBarLine g (row_labels g symbols r)) (sym (get_or_append_left h.lines (line ∷ []) [] r (let c = h.count in omega arith)))
+        (h.each r before)
     | inr last ↦
         let same : r ≡ n = omega arith in
         let at : get_or (h.lines ++ line ∷ []) r [] ≡ line = get_or_push h.lines line [] r (h.count ∙ sym same) in

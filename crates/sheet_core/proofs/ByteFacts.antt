@@ -28,7 +28,8 @@ same_is false false e = refl
 -- where the dots are in order, the bits fit a byte, and are those of the dots
 abbrev is_span : ℕ → ℕ → Bool
 is_span a b =
-    nat_lt b a || (nat_le (255 / 2 ^ b) (255 / 2 ^ a) && (nat_lt (span a b) 256 && all_below (λ k. same (bit_at (span a b) (7 - k) == 1) (nat_le a k && nat_lt k b)) 8))
+    nat_lt b a || (nat_le (255 / 2 ^ b) (255 / 2 ^ a) && (nat_lt (span a b) 256 && all_below
+    (λ k. same (bit_at (span a b) (7 - k) == 1) (nat_le a k && nat_lt k b)) 8))
 
 spans_tested : all_below (λ a. all_below (λ b. is_span a b) 9) 9 ≡ true
 spans_tested = refl
@@ -41,9 +42,12 @@ pub record Span (a b : ℕ) : Type 0 where
 pub span_of : (a b : ℕ) → a ≤ b → b ≤ 8 → Span a b
 span_of a b order within =
     let all = all_below-at (λ b. is_span a b) 9 (all_below-at (λ a. all_below (λ b. is_span a b) 9) 9 spans_tested a (omega arith)) b (omega arith) in
-    let rest : (nat_le (255 / 2 ^ b) (255 / 2 ^ a) && (nat_lt (span a b) 256 && all_below (λ k. same (bit_at (span a b) (7 - k) == 1) (nat_le a k && nat_lt k b)) 8)) ≡ true =
-    sym (ap (λ t. t || (nat_le (255 / 2 ^ b) (255 / 2 ^ a) && (nat_lt (span a b) 256 && all_below (λ k. same (bit_at (span a b) (7 - k) == 1) (nat_le a k && nat_lt k b)) 8))) (le-ltb b a order)) ∙ all in
-    let parts = and_parts (nat_le (255 / 2 ^ b) (255 / 2 ^ a)) (nat_lt (span a b) 256 && all_below (λ k. same (bit_at (span a b) (7 - k) == 1) (nat_le a k && nat_lt k b)) 8) rest in
+    let rest : (nat_le (255 / 2 ^ b) (255 / 2 ^ a) && (nat_lt (span a b) 256 && all_below
+    (λ k. same (bit_at (span a b) (7 - k) == 1) (nat_le a k && nat_lt k b)) 8)) ≡ true =
+    sym (ap (λ t. t || (nat_le (255 / 2 ^ b) (255 / 2 ^ a) &&
+    (nat_lt (span a b) 256 && all_below (λ k. same (bit_at (span a b) (7 - k) == 1) (nat_le a k && nat_lt k b)) 8))) (le-ltb b a order)) ∙ all in
+    let parts = and_parts (nat_le (255 / 2 ^ b) (255 / 2 ^ a))
+    (nat_lt (span a b) 256 && all_below (λ k. same (bit_at (span a b) (7 - k) == 1) (nat_le a k && nat_lt k b)) 8) rest in
     let more = and_parts (nat_lt (span a b) 256) (all_below (λ k. same (bit_at (span a b) (7 - k) == 1) (nat_le a k && nat_lt k b)) 8) parts.1 in
     record {
       order = leb-true (255 / 2 ^ b) (255 / 2 ^ a) parts.0;
@@ -63,7 +67,8 @@ either_bit (suc zero) (suc (suc b)) h k = absurd (omega arith)
 either_bit (suc (suc a)) b h k = absurd (omega arith)
 
 -- the dots of a byte with more bits
-pub byte_dark : (line : List ℕ) (i v : ℕ) → i < length line → (k : ℕ) → dot_at (set line i (bit_or (get_or line i 0) v)) k ≡ (((k / 8 == i) && (bit_at v (7 - k % 8) == 1)) || dot_at line k)
+pub byte_dark : (line : List ℕ) (i v : ℕ) → i < length line → (k : ℕ) → dot_at (set line i (bit_or (get_or line i 0) v)) k
+    ≡ (((k / 8 == i) && (bit_at v (7 - k % 8) == 1)) || dot_at line k)
 byte_dark line i v low k =
     let value : ℕ = bit_or (get_or line i 0) v in
     elim (cases_eq (k / 8) i) [
@@ -89,7 +94,8 @@ pub none_dark : (from end k : ℕ) (b : Bool) → b ≡ (is_dark from end (from 
 none_dark from end k b = grind (arith, nat_tests)
 
 pub one_byte_more : (from end i k : ℕ) (b : Bool) → from < 8 * i + 8 → 8 * i < end
-    → (((k / 8 == i) && (nat_le (max from (8 * i) - 8 * i) (k % 8) && nat_lt (k % 8) (min end (8 * i + 8) - 8 * i))) || (is_dark from end i k || b)) ≡ (is_dark from end (i + 1) k || b)
+    → (((k / 8 == i) && (nat_le (max from (8 * i) - 8 * i) (k % 8) && nat_lt (k % 8) (min end (8 * i + 8) - 8 * i))) || (is_dark from end i k || b))
+    ≡ (is_dark from end (i + 1) k || b)
 one_byte_more from end i k b low high =
     elim (cases_eq (k / 8) i) [
       | inl same ↦ grind (arith, nat_tests)

@@ -23,10 +23,12 @@ sum-cons w ws = sum_by-cons (λ x. x) w ws
 pub length-dots_from : (dark : Bool) (ws : List ℕ) → length (dots_from dark ws) ≡ sum ws
 length-dots_from dark [] = refl
 length-dots_from dark (w ∷ ws) =
-    length-append (replicate w dark) (dots_from (not dark) ws) ∙ ap₂ (λ a b. a + b) (length-replicate w dark) (length-dots_from (not dark) ws) ∙ sym (sum-cons w ws)
+    length-append (replicate w dark) (dots_from (not dark) ws) ∙ ap₂ (λ a b. a + b) (length-replicate w dark) (length-dots_from (not dark) ws)
+    ∙ sym (sum-cons w ws)
 
 -- each run k times as wide
-pub wider : (k : ℕ) → 0 < k → (dark : Bool) (ms : List ℕ) (j : ℕ) → get_or (dots_from dark (map (λ m. k * m) ms)) j false ≡ get_or (dots_from dark ms) (j / k) false
+pub wider : (k : ℕ) → 0 < k → (dark : Bool) (ms : List ℕ) (j : ℕ) → get_or (dots_from dark (map (λ m. k * m) ms)) j false
+    ≡ get_or (dots_from dark ms) (j / k) false
 wider k pos dark [] j = refl
 wider k pos dark (m ∷ ms) j =
     let wide = length-replicate (k * m) dark in
@@ -57,7 +59,11 @@ sum-wider k (m ∷ ms) =
 -- light dots at the end are as none
 pub light_end : (xs : List Bool) (n j : ℕ) → get_or (xs ++ replicate n false) j false ≡ get_or xs j false
 light_end [] n j =
-    elim (cases_lt j n) [ inl low ↦ get_or-replicate n j false false low | inr high ↦ get_or_past (replicate n false) j false (let l = length-replicate n false in omega arith) ]
+    elim (cases_lt j n) [
+      | inl low ↦ get_or-replicate n j false false low
+      | inr high ↦ get_or_past (replicate n false) j false
+          (let l = length-replicate n false in omega arith)
+    ]
 light_end (x ∷ xs) n zero = refl
 light_end (x ∷ xs) n (suc j) = light_end xs n j
 
@@ -67,7 +73,8 @@ odd_dark (suc zero) e = refl
 odd_dark (suc (suc n)) e = odd_dark n (omega arith)
 
 -- how far a symbol reaches into its cell
-pub reach : (g : Cells) (s : Drawn) → FitsCell g s → (s.quiet_left * g.dots + (g.dots * sum s.modules + (g.width - (s.quiet_left + sum s.modules) * g.dots)) ≡ g.width)
+pub reach : (g : Cells) (s : Drawn) → FitsCell g s → (s.quiet_left * g.dots + (g.dots * sum s.modules + (g.width - (s.quiet_left + sum s.modules) * g.dots))
+    ≡ g.width)
     × (s.quiet_right * g.dots ≤ g.width - (s.quiet_left + sum s.modules) * g.dots)
 reach g s fits =
     let N = sum s.modules in
@@ -92,7 +99,8 @@ printed_runs g s pos odd fits =
     let count : length (dots_of (cell_runs g s)) ≡ g.width = length-dots_from false (cell_runs g s) ∙ sum-cell_runs g s fits in
     let other : length (bar_dots g s) ≡ g.width = length-map-range_with_len (bar_dot g s) 0 g.width in
     let tail : dots_from true (bars ++ end ∷ []) ≡ dots_from true bars ++ replicate end false =
-    dots_from-push true bars end ∙ ap (λ d. dots_from true bars ++ replicate end d) (ap (colour true) (length-map s.modules (λ m. g.dots * m)) ∙ odd_dark (length s.modules) odd) in
+    dots_from-push true bars end ∙ ap (λ d. dots_from true bars ++ replicate end d)
+    (ap (colour true) (length-map s.modules (λ m. g.dots * m)) ∙ odd_dark (length s.modules) odd) in
     ext_get_or false (dots_of (cell_runs g s)) (bar_dots g s) (count ∙ sym other) (λ x h.
     let inside : x < g.width = omega arith in
     let drawn : get_or (bar_dots g s) x false ≡ bar_dot g s x = get_or-map-range_with_len (bar_dot g s) 0 g.width x x false inside (omega arith) in

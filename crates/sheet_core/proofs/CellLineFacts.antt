@@ -26,7 +26,8 @@ pub record Lined (g : Cells) (symbols : List Drawn) (i : ℕ) (line : List ℕ) 
 abbrev pub added : Cells → Drawn → ℕ → ℕ → Bool
 added g s at x = nat_le (at + s.quiet_left * g.dots) x && get_or (dots_from true (map (λ m. g.dots * m) s.modules)) (x - (at + s.quiet_left * g.dots)) false
 
-pub next : (g : Cells) (symbols : List Drawn) (i : ℕ) (s : Drawn) (line new : List ℕ) → 0 < g.dots → 0 < g.width → FitsCell g s → slice_get symbols i ≡ Some s → Lined g symbols i line
+pub next : (g : Cells) (symbols : List Drawn) (i : ℕ) (s : Drawn) (line new : List ℕ) → 0 < g.dots → 0 < g.width → FitsCell g s → slice_get symbols i ≡ Some s
+    → Lined g symbols i line
     → ((x : ℕ) → dot_at new x ≡ (added g s (i * g.width) x || dot_at line x)) → Lined g symbols (i + 1) new
 next g symbols i s line new pos wide fits label h more = record {
   at = λ x.
@@ -37,7 +38,8 @@ next g symbols i s line new pos wide fits label h more = record {
       let r = (reach g s fits).0 in
       more x ∙ elim (cases_lt x (i * g.width)) [
         | inl before ↦
-            ap₂ (λ a b. (a && get_or bars (x - start) false) || b) (lt-leb start x (omega arith)) (h.at x ∙ ap (λ b. b && line_dot g symbols x) (lt-ltb x (i * g.width) before))
+            ap₂ (λ a b. (a && get_or bars (x - start) false) || b) (lt-leb start x (omega arith))
+            (h.at x ∙ ap (λ b. b && line_dot g symbols x) (lt-ltb x (i * g.width) before))
             ∙ sym (ap (λ b. b && line_dot g symbols x) (lt-ltb x ((i + 1) * g.width) (omega arith)))
         | inr from ↦
             let light : dot_at line x ≡ false = h.at x ∙ ap (λ b. b && line_dot g symbols x) (le-ltb x (i * g.width) from) in
@@ -49,9 +51,11 @@ next g symbols i s line new pos wide fits label h more = record {
                   let low : j < g.width = omega arith in
                   let quotient : x / g.width ≡ i = ap (λ n. n / g.width) (sym is) ∙ div-mul-add i g.width j low in
                   let rest : x % g.width ≡ j = ap (λ n. n % g.width) (sym is) ∙ mod-mul-add i g.width j low in
-                  let dot : line_dot g symbols x ≡ bar_dot g s j = ap₂ (λ q r. line_dot_of g (slice_get symbols q) r) quotient rest ∙ ap (λ o. line_dot_of g o j) label in
+                  let dot : line_dot g symbols x ≡ bar_dot g s j =
+                  ap₂ (λ q r. line_dot_of g (slice_get symbols q) r) quotient rest ∙ ap (λ o. line_dot_of g o j) label in
                   ap₂ (λ a b. a && b) (leb_shift (i * g.width) (s.quiet_left * g.dots) x j is)
-                  (ap (λ n. get_or bars n false) (let e : x - start ≡ j - s.quiet_left * g.dots = omega arith in e) ∙ wider g.dots pos true s.modules (j - s.quiet_left * g.dots))
+                  (ap (λ n. get_or bars n false) (let e : x - start ≡ j - s.quiet_left * g.dots = omega arith in e)
+                  ∙ wider g.dots pos true s.modules (j - s.quiet_left * g.dots))
                   ∙ sym (ap₂ (λ a b. a && b) (lt-ltb x ((i + 1) * g.width) inside) dot)
               | inr past ↦
                   ap₂ (λ a b. a && b) (le-leb start x (omega arith)) (get_or_past bars (x - start) false (omega arith))
@@ -76,7 +80,8 @@ pub light_line : (g : Cells) (symbols : List Drawn) (line : List ℕ) → ((x : 
 light_line g symbols line h = record { at = λ x. h x ∙ sym (ap (λ b. b && line_dot g symbols x) (le-ltb x (0 * g.width) (omega arith))) }
 
 -- behind the last symbol nothing is dark
-pub all_lined : (g : Cells) (symbols : List Drawn) (line : List ℕ) → 0 < g.width → Lined g symbols (length symbols) line → (x : ℕ) → dot_at line x ≡ line_dot g symbols x
+pub all_lined : (g : Cells) (symbols : List Drawn) (line : List ℕ) → 0 < g.width → Lined g symbols (length symbols) line → (x : ℕ) → dot_at line x
+    ≡ line_dot g symbols x
 all_lined g symbols line pos h x =
     h.at x ∙ elim (cases_lt x (length symbols * g.width)) [
       | inl low ↦ ap (λ b. b && line_dot g symbols x) (lt-ltb x (length symbols * g.width) low)
@@ -108,8 +113,10 @@ room g s i n fits grid low few =
     times a b w h = grind arith
 
 -- a symbol's place, by the numbers of the code
-pub place : (g : Cells) (s : Drawn) (i n at fw q k len : ℕ) (ws : List ℕ) → IsGrid g → FitsCell g s → i < n → n ≤ g.columns → at ≡ i * fw → fw ≡ g.width → q ≡ s.quiet_left → k ≡ g.dots → ws ≡ s.modules
-    → len ≡ stride (g.columns * g.width) → (at + q * k + k * sum ws ≤ 8 * len) × (at + q * k + k * sum ws ≤ 16384) × (at + fw ≤ 16384) × (at + q * k ≡ i * g.width + s.quiet_left * g.dots)
+pub place : (g : Cells) (s : Drawn) (i n at fw q k len : ℕ) (ws : List ℕ) → IsGrid g → FitsCell g s → i < n → n ≤ g.columns → at ≡ i * fw → fw ≡ g.width → q
+    ≡ s.quiet_left → k ≡ g.dots → ws ≡ s.modules
+    → len ≡ stride (g.columns * g.width) → (at + q * k + k * sum ws ≤ 8 * len) × (at + q * k + k * sum ws ≤ 16384) × (at + fw ≤ 16384)
+    × (at + q * k ≡ i * g.width + s.quiet_left * g.dots)
 place g s i n at fw q k len ws grid fits low few a f qe ke we l =
     let r = room g s i n fits grid low few in
     let most = grid.wide_most in
@@ -125,21 +132,27 @@ pub added_by : (g : Cells) (s : Drawn) (i start k : ℕ) (ws line new : List ℕ
 added_by g s i start k ws line new a b c h x =
     h x
     ∙ ap (λ n. (nat_le n x && get_or (dots_from true (map (λ m. k * m) ws)) (x - n) false) || dot_at line x) a
-    ∙ ap₂ (λ (n : ℕ) (ms : List ℕ). (nat_le (i * g.width + s.quiet_left * g.dots) x && get_or (dots_from true (map (λ m. n * m) ms)) (x - (i * g.width + s.quiet_left * g.dots)) false) || dot_at line x) b c
+    ∙ ap₂ (λ (n : ℕ) (ms : List ℕ). (nat_le (i * g.width + s.quiet_left * g.dots) x && get_or (dots_from true (map (λ m. n * m) ms))
+    (x - (i * g.width + s.quiet_left * g.dots)) false) || dot_at line x) b c
 
 -- bytes that are 0 are light dots
 pub light_dots : (n x : ℕ) → dot_at (replicate n 0) x ≡ false
 light_dots n x = ap (λ (b : ℕ). bit_at b (7 - x % 8) == 1) (zero_at n (x / 8)) ∙ ap (λ (b : ℕ). b == 1) (bit_at-zero (7 - x % 8))
   where
     zero_at : (n i : ℕ) → get_or {A = ℕ} (replicate n 0) i 0 ≡ 0
-    zero_at n i = elim (cases_lt i n) [ inl low ↦ get_or-replicate {A = ℕ} n i 0 0 low | inr high ↦ get_or_past (replicate {A = ℕ} n 0) i 0 (let l = length-replicate {A = ℕ} n 0 in omega arith) ]
+    zero_at n i = elim (cases_lt i n) [
+      | inl low ↦ get_or-replicate {A = ℕ} n i 0 0 low
+      | inr high ↦ get_or_past (replicate {A = ℕ} n 0) i 0
+          (let l = length-replicate {A = ℕ} n 0 in omega arith)
+    ]
 
 -- what is drawn in a turn of the loop
 pub record Turn (g : Cells) (symbols : List Drawn) (i : ℕ) (s : Drawn) : Type 0 where
   pub here : slice_get symbols i ≡ Some s
   pub fits : FitsCell g s
 
-pub turn : (g : Cells) (labels : List Label) (symbols others : List Drawn) (i : ℕ) (label : Label) (s : Drawn) → AllZip IsDrawn labels symbols → AllByRecursion (FitsCell g) symbols → AllZip IsDrawn labels others
+pub turn : (g : Cells) (labels : List Label) (symbols others : List Drawn) (i : ℕ) (label : Label) (s : Drawn) → AllZip IsDrawn labels symbols
+    → AllByRecursion (FitsCell g) symbols → AllZip IsDrawn labels others
     → i < length labels → label ≡ get_or labels i label → IsDrawn label s → Turn g others i s
 turn g labels symbols others i label s all fit rest low is drawn =
     let one = drawn_at labels symbols i label all low is in

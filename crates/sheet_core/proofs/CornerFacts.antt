@@ -38,7 +38,8 @@ label_row labels g i s cell y d sheet some within inside bar label =
     let row : ℕ = line * g.height + y in
     get_or-map-range_with_len (dot_at s.bytes) from g.width j (8 * (stride s.width * row) + x) false low (omega arith)
     ∙ sheet.dots x row (omega arith) (omega arith)
-    ∙ ap₂ (λ q r. cell_dot g (slice_get labels (i * (g.columns * g.rows) + (q * g.columns + r))) (x % g.width) (row % g.height)) (div-mul-add line g.height y inside) (div-mul-add column g.width j low)
+    ∙ ap₂ (λ q r. cell_dot g (slice_get labels (i * (g.columns * g.rows) + (q * g.columns + r))) (x % g.width) (row % g.height))
+    (div-mul-add line g.height y inside) (div-mul-add column g.width j low)
     ∙ ap (λ c. cell_dot g (slice_get labels (i * (g.columns * g.rows) + c)) (x % g.width) (row % g.height)) split
     ∙ ap (λ o. cell_dot g o (x % g.width) (row % g.height)) label
     ∙ ap₂ (λ a b. is_bar_row g b && bar_dot g d a) (mod_of column g.width j low) (mod_of line g.height y inside)
@@ -67,12 +68,14 @@ empty_row symbols g i s cell y sheet some within inside none =
     let row : ℕ = line * g.height + y in
     get_or-map-range_with_len (dot_at s.bytes) from g.width j (8 * (stride s.width * row) + x) false low (omega arith)
     ∙ sheet.dots x row (omega arith) (omega arith)
-    ∙ ap₂ (λ q r. cell_dot g (slice_get symbols (i * (g.columns * g.rows) + (q * g.columns + r))) (x % g.width) (row % g.height)) (div-mul-add line g.height y inside) (div-mul-add column g.width j low)
+    ∙ ap₂ (λ q r. cell_dot g (slice_get symbols (i * (g.columns * g.rows) + (q * g.columns + r))) (x % g.width) (row % g.height))
+    (div-mul-add line g.height y inside) (div-mul-add column g.width j low)
     ∙ ap (λ c. cell_dot g (slice_get symbols (i * (g.columns * g.rows) + c)) (x % g.width) (row % g.height)) split
     ∙ ap (λ o. cell_dot g o (x % g.width) (row % g.height)) none
     ∙ sym (get_or-replicate g.width j false false low))
 
-pub corner_fits : (columns rows width height cell : ℕ) → 0 < columns → cell < columns * rows → (cell % columns * width + width ≤ columns * width) × (cell / columns * height + height ≤ rows * height)
+pub corner_fits : (columns rows width height cell : ℕ) → 0 < columns → cell < columns * rows → (cell % columns * width + width ≤ columns * width)
+    × (cell / columns * height + height ≤ rows * height)
 corner_fits columns rows width height cell some h =
     let low : cell % columns < columns = omega arith in
     let line : cell / columns < rows = div_below cell columns rows some (let e : columns * rows ≡ rows * columns = grind arith in omega arith) in

@@ -11,7 +11,8 @@ use Rattle.sheet_core.specs.pbm.Images.{images_of}
 
 -- 9501101530003 at one dot a module in a cell of 113 dots
 printed : dots_at (0x00 ∷ 0x15 ∷ 0x8A ∷ 0x76 ∷ 0x66 ∷ 0x53 ∷ 0x99 ∷ 0x54 ∷ 0xE8 ∷ 0x5C ∷ 0xB9 ∷ 0x72 ∷ 0x85 ∷ 0x40 ∷ 0x00 ∷ []) 0 113
-    ≡ bar_dots (record { dots = 1; width = 113; height = 3; columns = 1; rows = 1 }) (record { modules = widths_of Ean13 (9 ∷ 5 ∷ 0 ∷ 1 ∷ 1 ∷ 0 ∷ 1 ∷ 5 ∷ 3 ∷ 0 ∷ 0 ∷ 0 ∷ 3 ∷ []); quiet_left = 11; quiet_right = 7 })
+    ≡ bar_dots (record { dots = 1; width = 113; height = 3; columns = 1; rows = 1 })
+    (record { modules = widths_of Ean13 (9 ∷ 5 ∷ 0 ∷ 1 ∷ 1 ∷ 0 ∷ 1 ∷ 5 ∷ 3 ∷ 0 ∷ 0 ∷ 0 ∷ 3 ∷ []); quiet_left = 11; quiet_right = 7 })
 printed = refl
 
 abbrev sheet : Bitmap

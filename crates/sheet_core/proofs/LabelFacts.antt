@@ -36,8 +36,10 @@ same_itf14 g ms ns h k =
 -- the line of the table by the sixth digit, and what its six digits stand for
 line_of : (a b c d e f x : ℕ)
     → ((upce_line (a ∷ b ∷ c ∷ d ∷ e ∷ f ∷ []) ≡ 0) × (upce_expanded (a ∷ b ∷ c ∷ d ∷ e ∷ f ∷ []) x ≡ 0 ∷ a ∷ b ∷ f ∷ 0 ∷ 0 ∷ 0 ∷ 0 ∷ c ∷ d ∷ e ∷ x ∷ []))
-    ⊎ (((upce_line (a ∷ b ∷ c ∷ d ∷ e ∷ f ∷ []) ≡ 1) × (f ≡ 3) × (upce_expanded (a ∷ b ∷ c ∷ d ∷ e ∷ f ∷ []) x ≡ 0 ∷ a ∷ b ∷ c ∷ 0 ∷ 0 ∷ 0 ∷ 0 ∷ 0 ∷ d ∷ e ∷ x ∷ []))
-    ⊎ (((upce_line (a ∷ b ∷ c ∷ d ∷ e ∷ f ∷ []) ≡ 2) × (f ≡ 4) × (upce_expanded (a ∷ b ∷ c ∷ d ∷ e ∷ f ∷ []) x ≡ 0 ∷ a ∷ b ∷ c ∷ d ∷ 0 ∷ 0 ∷ 0 ∷ 0 ∷ 0 ∷ e ∷ x ∷ []))
+    ⊎ (((upce_line (a ∷ b ∷ c ∷ d ∷ e ∷ f ∷ []) ≡ 1) × (f ≡ 3)
+    × (upce_expanded (a ∷ b ∷ c ∷ d ∷ e ∷ f ∷ []) x ≡ 0 ∷ a ∷ b ∷ c ∷ 0 ∷ 0 ∷ 0 ∷ 0 ∷ 0 ∷ d ∷ e ∷ x ∷ []))
+    ⊎ (((upce_line (a ∷ b ∷ c ∷ d ∷ e ∷ f ∷ []) ≡ 2) × (f ≡ 4)
+    × (upce_expanded (a ∷ b ∷ c ∷ d ∷ e ∷ f ∷ []) x ≡ 0 ∷ a ∷ b ∷ c ∷ d ∷ 0 ∷ 0 ∷ 0 ∷ 0 ∷ 0 ∷ e ∷ x ∷ []))
     ⊎ ((upce_line (a ∷ b ∷ c ∷ d ∷ e ∷ f ∷ []) ≡ 3) × (upce_expanded (a ∷ b ∷ c ∷ d ∷ e ∷ f ∷ []) x ≡ 0 ∷ a ∷ b ∷ c ∷ d ∷ e ∷ 0 ∷ 0 ∷ 0 ∷ 0 ∷ f ∷ x ∷ []))))
 line_of a b c d e f x =
     elim (cases_lt f 3) [
@@ -119,7 +121,8 @@ same_first g six others x y h k =
     let below = k.first six x a in
     let line : upce_line six ≡ upce_line others = omega arith in
     let number : upce_expanded six x ≡ upce_expanded others y =
-    same_padded 12 g (upce_expanded six x) (upce_expanded others y) (length-expanded six x a.six_digits) (length-expanded others y b.six_digits) a.number b.number in
+    same_padded 12 g (upce_expanded six x) (upce_expanded others y) (length-expanded six x a.six_digits) (length-expanded others y b.six_digits) a.number
+    b.number in
     let s = of_six six a.six_digits in
     let t = of_six others b.six_digits in
     ap (λ xs. xs ++ x ∷ []) s.all
@@ -164,11 +167,13 @@ pub record DrawnAt (label : Label) (symbols : List Drawn) (i : ℕ) : Type 0 whe
   pub here : slice_get symbols i ≡ Some s
   pub drawn : IsDrawn label s
 
-pub drawn_at : (labels : List Label) (symbols : List Drawn) (i : ℕ) (label : Label) → AllZip IsDrawn labels symbols → i < length labels → label ≡ get_or labels i label → DrawnAt label symbols i
+pub drawn_at : (labels : List Label) (symbols : List Drawn) (i : ℕ) (label : Label) → AllZip IsDrawn labels symbols → i < length labels → label
+    ≡ get_or labels i label → DrawnAt label symbols i
 drawn_at [] symbols i label h low e = absurd (omega arith)
 drawn_at (l ∷ labels) [] i label h low e = absurd h
 drawn_at (l ∷ labels) (s ∷ symbols) zero label h low e = record { s = s; here = refl; drawn = subst (λ k. IsDrawn k s) (sym e) h.0 }
-drawn_at (l ∷ labels) (s ∷ symbols) (suc i) label h low e = let d = drawn_at labels symbols i label h.1 (omega arith) e in record { s = d.s; here = d.here; drawn = d.drawn }
+drawn_at (l ∷ labels) (s ∷ symbols) (suc i) label h low e = let d =
+    drawn_at labels symbols i label h.1 (omega arith) e in record { s = d.s; here = d.here; drawn = d.drawn }
 
 pub same_all : (labels : List Label) (ss ts : List Drawn) → AllZip IsDrawn labels ss → AllZip IsDrawn labels ts → ss ≡ ts
 same_all [] [] [] h k = refl
@@ -212,7 +217,8 @@ all_printed g [] h = record { symbols = []; drawn = tt; fit = tt }
 all_printed g (l ∷ labels) h = let p = all_printed g labels h.1 in record { symbols = h.0.0 ∷ p.symbols; drawn = (h.0.1, p.drawn); fit = (h.0.2, p.fit) }
 
 -- an element of a list with one more at its end
-pub last_or_before : {X : Type 0} (xs : List X) (y : X) (i : ℕ) (x : X) → slice_get (xs ++ y ∷ []) i ≡ Some x → (slice_get xs i ≡ Some x) ⊎ ((i ≡ length xs) × (x ≡ y))
+pub last_or_before : {X : Type 0} (xs : List X) (y : X) (i : ℕ) (x : X) → slice_get (xs ++ y ∷ []) i ≡ Some x → (slice_get xs i ≡ Some x)
+    ⊎ ((i ≡ length xs) × (x ≡ y))
 last_or_before [] y zero x e = inr (refl, (let same : y ≡ x = cc in sym same))
 last_or_before [] y (suc i) x e = absurd cc
 last_or_before (z ∷ xs) y zero x e = inl e

@@ -31,7 +31,8 @@ abbrev pub image_bytes : Cells → List ℕ → List ℕ
 image_bytes g line = header_text (g.columns * g.width) (g.rows * g.height) ++ band g line
 
 -- they are the image of the sheet of the label
-pub image_of_label : (g : Cells) (label : Label) (p : Printed g (label ∷ [])) (line : List ℕ) → IsGrid g → g.columns ≡ 1 → g.rows ≡ 1 → IsBarLine g p.symbols line
+pub image_of_label : (g : Cells) (label : Label) (p : Printed g (label ∷ [])) (line : List ℕ) → IsGrid g → g.columns ≡ 1 → g.rows ≡ 1
+    → IsBarLine g p.symbols line
     → (sheets : List Bitmap) × ArePrinted (label ∷ []) g sheets × (pbm_of sheets ≡ image_bytes g line)
 image_of_label g label p line grid columns rows drawn =
     let long : length p.symbols ≡ 1 = AllZip-long IsDrawn (label ∷ []) p.symbols p.drawn in
@@ -53,7 +54,8 @@ image_of_label g label p line grid columns rows drawn =
       append-nil (image_bytes g line),
     )
   where
-    only : (g : Cells) (symbols : List Drawn) (s : Bitmap) → IsSheet symbols g 0 s → (i : ℕ) (t : Bitmap) → slice_get (s ∷ []) i ≡ Some t → IsSheet symbols g i t
+    only : (g : Cells) (symbols : List Drawn) (s : Bitmap) → IsSheet symbols g 0 s → (i : ℕ) (t : Bitmap) → slice_get (s ∷ []) i ≡ Some t
+        → IsSheet symbols g i t
     only g symbols s sheet zero t at = subst (IsSheet symbols g 0) (let e : s ≡ t = cc in e) sheet
     only g symbols s sheet (suc i) t at = absurd cc
 
@@ -63,7 +65,8 @@ pub image_long : (g : Cells) (header line : List ℕ) (count : ℕ) → IsGrid g
 image_long g header line count grid rows head e =
     let fits : 2 * g.dots ≤ g.height = let f = grid.height_least in omega arith in
     let high : g.rows * g.height ≡ g.height = ap (λ n. n * g.height) rows ∙ omega arith in
-    e ∙ ap₂ (λ h n. length h + n * length line) head high ∙ ap (λ n. length (header_text (g.columns * g.width) (g.rows * g.height)) + n) (sym (band_long g line fits))
+    e ∙ ap₂ (λ h n. length h + n * length line) head high ∙ ap (λ n. length (header_text (g.columns * g.width) (g.rows * g.height)) + n)
+    (sym (band_long g line fits))
     ∙ sym (length-append (header_text (g.columns * g.width) (g.rows * g.height)) (band g line))
 
 -- bytes at the front of a buffer that has room for them

@@ -26,7 +26,8 @@ bit_of_or a i j =
           ap (λ n. n == 1) all ∙ sym (ap (λ b. b || (bit_at a i == 1)) (ne_eqb i j other))
     ]
 
-pub dot_set : (line : List ℕ) (x : ℕ) → x < 8 * length line → (k : ℕ) → dot_at (set line (x / 8) (bit_or (get_or line (x / 8) 0) (1 * 2 ^ (7 - x % 8) % 256))) k ≡ ((k == x) || dot_at line k)
+pub dot_set : (line : List ℕ) (x : ℕ) → x < 8 * length line → (k : ℕ) → dot_at (set line (x / 8) (bit_or (get_or line (x / 8) 0) (1 * 2 ^ (7 - x % 8) % 256))) k
+    ≡ ((k == x) || dot_at line k)
 dot_set line x h k =
     let value : ℕ = bit_or (get_or line (x / 8) 0) (1 * 2 ^ (7 - x % 8) % 256) in
     let power : 1 * 2 ^ (7 - x % 8) % 256 ≡ 2 ^ (7 - x % 8) = one_shl (7 - x % 8) 8 (omega arith) in
@@ -47,7 +48,8 @@ dot_set line x h k =
 dark_end : (xs : List Bool) (n j : ℕ) → get_or (xs ++ replicate n true) j false ≡ ((nat_le (length xs) j && nat_lt j (length xs + n)) || get_or xs j false)
 dark_end xs n j =
     elim (cases_lt j (length xs)) [
-      | inl low ↦ get_or_append_left xs (replicate n true) false j low ∙ sym (ap (λ b. (b && nat_lt j (length xs + n)) || get_or xs j false) (lt-leb (length xs) j low))
+      | inl low ↦ get_or_append_left xs (replicate n true) false j low
+          ∙ sym (ap (λ b. (b && nat_lt j (length xs + n)) || get_or xs j false) (lt-leb (length xs) j low))
       | inr high ↦
           let past = get_or_past xs j false high in
           get_or-append_right xs (replicate n true) (length xs) j false refl high
@@ -72,21 +74,25 @@ has_none line from dots = record { at = λ k. bool_none (nat_le from k) (dot_at 
     bool_none true b = refl
     bool_none false b = refl
 
-pushed : (dots : ℕ) (ms : List ℕ) (m : ℕ) → dots_from true (map (λ m. dots * m) (ms ++ m ∷ [])) ≡ dots_from true (map (λ m. dots * m) ms) ++ replicate (dots * m) (colour true (length ms))
+pushed : (dots : ℕ) (ms : List ℕ) (m : ℕ) → dots_from true (map (λ m. dots * m) (ms ++ m ∷ [])) ≡ dots_from true (map (λ m. dots * m) ms)
+    ++ replicate (dots * m) (colour true (length ms))
 pushed dots ms m =
     ap (dots_from true) (map-append (λ m. dots * m) ms (m ∷ []))
     ∙ dots_from-push true (map (λ m. dots * m) ms) (dots * m)
     ∙ ap (λ n. dots_from true (map (λ m. dots * m) ms) ++ replicate (dots * m) (colour true n)) (length-map ms (λ m. dots * m))
 
-pub has_light : (line old : List ℕ) (from dots : ℕ) (ms : List ℕ) (m : ℕ) → Has line old from dots ms → colour true (length ms) ≡ false → Has line old from dots (ms ++ m ∷ [])
+pub has_light : (line old : List ℕ) (from dots : ℕ) (ms : List ℕ) (m : ℕ) → Has line old from dots ms → colour true (length ms) ≡ false
+    → Has line old from dots (ms ++ m ∷ [])
 has_light line old from dots ms m h light = record {
   at = λ k.
       let all : dots_from true (map (λ m. dots * m) (ms ++ m ∷ [])) ≡ dots_from true (map (λ m. dots * m) ms) ++ replicate (dots * m) false =
       pushed dots ms m ∙ ap (λ d. dots_from true (map (λ m. dots * m) ms) ++ replicate (dots * m) d) light in
-      h.at k ∙ ap (λ b. (nat_le from k && b) || dot_at old k) (sym (ap (λ ds. get_or ds (k - from) false) all ∙ light_end (dots_from true (map (λ m. dots * m) ms)) (dots * m) (k - from)));
+      h.at k ∙ ap (λ b. (nat_le from k && b) || dot_at old k)
+      (sym (ap (λ ds. get_or ds (k - from) false) all ∙ light_end (dots_from true (map (λ m. dots * m) ms)) (dots * m) (k - from)));
 }
 
-tests : (from at L n k : ℕ) (g b : Bool) → at ≡ from + L → ((nat_le at k && nat_lt k (at + n)) || ((nat_le from k && g) || b)) ≡ ((nat_le from k && ((nat_le L (k - from) && nat_lt (k - from) (L + n)) || g)) || b)
+tests : (from at L n k : ℕ) (g b : Bool) → at ≡ from + L → ((nat_le at k && nat_lt k (at + n)) || ((nat_le from k && g) || b))
+    ≡ ((nat_le from k && ((nat_le L (k - from) && nat_lt (k - from) (L + n)) || g)) || b)
 tests from at L n k g b e = grind (arith, nat_tests)
 
 pub has_dark : (line new old : List ℕ) (from dots at : ℕ) (ms : List ℕ) (m : ℕ) → Has line old from dots ms → colour true (length ms) ≡ true
@@ -96,7 +102,8 @@ has_dark line new old from dots at ms m h dark place more = record {
       let before : List Bool = dots_from true (map (λ m. dots * m) ms) in
       let long : length before ≡ dots * sum ms = length-dots_from true (map (λ m. dots * m) ms) ∙ sum-wider dots ms in
       let wide : m * dots ≡ dots * m = grind arith in
-      let all : dots_from true (map (λ m. dots * m) (ms ++ m ∷ [])) ≡ before ++ replicate (dots * m) true = pushed dots ms m ∙ ap (λ d. before ++ replicate (dots * m) d) dark in
+      let all : dots_from true (map (λ m. dots * m) (ms ++ m ∷ [])) ≡ before ++ replicate (dots * m) true =
+      pushed dots ms m ∙ ap (λ d. before ++ replicate (dots * m) d) dark in
       let end = ap (λ ds. get_or ds (k - from) false) all ∙ dark_end before (dots * m) (k - from) in
       more k
       ∙ ap (λ b. (nat_le at k && nat_lt k (at + m * dots)) || b) (h.at k)
@@ -112,7 +119,8 @@ place_more from at dots ms i m low is place =
     let next = sum_by_more (λ x. x) ms i 0 low in
     let most = sum_by_more_le (λ x. x) ms i 0 low in
     let whole : dots * sum (take (i + 1) ms) ≡ dots * sum (take i ms) + m * dots =
-    ap (λ n. dots * n) (next ∙ ap (λ n. sum (take i ms) + n) (sym is)) ∙ (let e : dots * (sum (take i ms) + m) ≡ dots * sum (take i ms) + m * dots = grind arith in e) in
+    ap (λ n. dots * n) (next ∙ ap (λ n. sum (take i ms) + n) (sym is))
+    ∙ (let e : dots * (sum (take i ms) + m) ≡ dots * sum (take i ms) + m * dots = grind arith in e) in
     let below : sum (take (i + 1) ms) ≤ sum ms = omega arith in
     let fits : dots * sum (take (i + 1) ms) ≤ dots * sum ms = mul_le dots (sum (take (i + 1) ms)) (sum ms) below in
     (omega arith, omega arith)

@@ -35,7 +35,8 @@ pub record Put (old bytes now : List ℕ) (end : ℕ) : Type 0 where
   pub ends : end ≡ length bytes
   pub put : now ≡ pasted old 0 bytes
 
-pub put_next : (old bytes now piece next : List ℕ) (end stop : ℕ) → Put old bytes now end → stop ≡ end + length piece → next ≡ pasted now end piece → Put old (bytes ++ piece) next stop
+pub put_next : (old bytes now piece next : List ℕ) (end stop : ℕ) → Put old bytes now end → stop ≡ end + length piece → next ≡ pasted now end piece
+    → Put old (bytes ++ piece) next stop
 put_next old bytes now piece next end stop before size e = record {
   ends = size ∙ ap (λ n. n + length piece) before.ends ∙ sym (length-append bytes piece);
   put = e ∙ ap₂ (λ b n. pasted b n piece) before.put (before.ends ∙ omega arith) ∙ pasted_more old 0 bytes piece (omega arith);
@@ -69,14 +70,17 @@ image_fits g header line out grid room =
 
 -- a header and the rows above the bars, written as light rows of that length
 pub light_put : (g : Cells) (header line light out above bars : List ℕ) (top end : ℕ) → light ≡ replicate (length line) 0
-    → top ≡ 0 + length header → above ≡ pasted out 0 header → end ≡ top + length (repeated_bytes g.dots light) → bars ≡ pasted above top (repeated_bytes g.dots light)
+    → top ≡ 0 + length header → above ≡ pasted out 0 header → end ≡ top + length (repeated_bytes g.dots light) → bars
+    ≡ pasted above top (repeated_bytes g.dots light)
     → Put out (header ++ light_rows g line) bars end
 light_put g header line light out above bars top end same a b c d =
     let piece : repeated_bytes g.dots light ≡ light_rows g line = ap (repeated_bytes g.dots) same in
-    put_next out header above (light_rows g line) bars top end (record { ends = a ∙ omega arith; put = b }) (c ∙ ap (λ r. top + length r) piece) (d ∙ ap (pasted above top) piece)
+    put_next out header above (light_rows g line) bars top end (record { ends = a ∙ omega arith; put = b }) (c ∙ ap (λ r. top + length r) piece)
+    (d ∙ ap (pasted above top) piece)
 
 -- a header and all dot rows, piece by piece
-pub image_put : (g : Cells) (header line out now : List ℕ) (end : ℕ) → Put out (((header ++ light_rows g line) ++ bar_rows g line) ++ light_rows g line) now end → now ≡ pasted out 0 (header ++ band g line)
+pub image_put : (g : Cells) (header line out now : List ℕ) (end : ℕ) → Put out (((header ++ light_rows g line) ++ bar_rows g line) ++ light_rows g line) now end
+    → now ≡ pasted out 0 (header ++ band g line)
 image_put g header line out now end h =
     h.put ∙ ap (pasted out 0) (
     append_assoc (header ++ light_rows g line) (bar_rows g line) (light_rows g line)

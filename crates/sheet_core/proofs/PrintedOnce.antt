@@ -116,11 +116,13 @@ sheet_bytes : (sheets : List Bitmap) (i : ℕ) (s : Bitmap) → AreBytes (pbm_of
 sheet_bytes [] i s h at = cc at
 sheet_bytes (x ∷ sheets) zero s h at =
     let same : x ≡ s = cc at in
-    subst (λ (b : Bitmap). AreBytes b.bytes) same (second_part (λ n. n < 256) (header_text x.width x.height) x.bytes (first_part (λ n. n < 256) (image x) (pbm_of sheets) h))
+    subst (λ (b : Bitmap). AreBytes b.bytes) same (second_part (λ n. n < 256) (header_text x.width x.height) x.bytes
+    (first_part (λ n. n < 256) (image x) (pbm_of sheets) h))
 sheet_bytes (x ∷ sheets) (suc i) s h at = sheet_bytes sheets i s (second_part (λ n. n < 256) (image x) (pbm_of sheets) h) at
 
 -- a sheet has one bitmap
-one_sheet : (symbols : List Drawn) (g : Cells) (i : ℕ) (s t : Bitmap) → IsSheet symbols g i s → IsSheet symbols g i t → AreBytes s.bytes → AreBytes t.bytes → s ≡ t
+one_sheet : (symbols : List Drawn) (g : Cells) (i : ℕ) (s t : Bitmap) → IsSheet symbols g i s → IsSheet symbols g i t → AreBytes s.bytes → AreBytes t.bytes → s
+    ≡ t
 one_sheet symbols g i s t is also small small_too =
     let wide = is.width ∙ sym also.width in
     let high = is.height ∙ sym also.height in

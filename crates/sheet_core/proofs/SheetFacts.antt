@@ -27,7 +27,8 @@ abbrev wide : Cells → ℕ
 wide g = stride (g.columns * g.width)
 
 -- byte j of dot row k of row of cells r
-byte_at : (g : Cells) (symbols : List Drawn) (n : ℕ) (bytes : List ℕ) → IsGrid g → (h : Banded g symbols n bytes) → (r k j : ℕ) → r < n → k < g.height → j < wide g
+byte_at : (g : Cells) (symbols : List Drawn) (n : ℕ) (bytes : List ℕ) → IsGrid g → (h : Banded g symbols n bytes) → (r k j : ℕ) → r < n → k < g.height
+    → j < wide g
     → get_or bytes (wide g * (r * g.height + k) + j) 0 ≡ (if is_bar_row g k then get_or (get_or h.lines r []) j 0 else 0)
 byte_at g symbols n bytes grid h r k j row low within =
     let line : List ℕ = get_or h.lines r [] in
@@ -46,7 +47,8 @@ byte_at g symbols n bytes grid h r k j row low within =
     ∙ band_at g line k j fits low (omega arith)
 
 -- dot x of it, pad bits too
-dot_of_row : (g : Cells) (symbols : List Drawn) (n : ℕ) (bytes : List ℕ) → IsGrid g → (h : Banded g symbols n bytes) → (r k x : ℕ) → r < n → k < g.height → x < 8 * wide g
+dot_of_row : (g : Cells) (symbols : List Drawn) (n : ℕ) (bytes : List ℕ) → IsGrid g → (h : Banded g symbols n bytes) → (r k x : ℕ) → r < n → k < g.height
+    → x < 8 * wide g
     → dot_at bytes (8 * (wide g * (r * g.height + k)) + x) ≡ (is_bar_row g k && line_dot g (row_labels g symbols r) x)
 dot_of_row g symbols n bytes grid h r k x row low within =
     let a : ℕ = wide g * (r * g.height + k) in
@@ -170,18 +172,21 @@ sheet_of g symbols bytes grid h = record {
       let k : ℕ = y % g.height in
       let split : r * g.height + k ≡ y = div-add-mod' y g.height in
       let row : r < g.rows = div_below y g.height g.rows (omega arith) (let e : g.height * g.rows ≡ g.rows * g.height = grind arith in omega arith) in
-      let column : x / g.width < g.columns = div_below x g.width g.columns (omega arith) (let e : g.width * g.columns ≡ g.columns * g.width = grind arith in omega arith) in
+      let column : x / g.width < g.columns = div_below x g.width g.columns (omega arith)
+      (let e : g.width * g.columns ≡ g.columns * g.width = grind arith in omega arith) in
       let k_low : k < g.height = mod_low y g.height (omega arith) in
       let cell : slice_get (row_labels g symbols r) (x / g.width) ≡ slice_get symbols (r * g.columns + x / g.width) =
       slice_get-take g.columns (drop (r * g.columns) symbols) (x / g.width) column ∙ slice_get-drop (r * g.columns) symbols (x / g.width) in
       ap (λ n. dot_at bytes (8 * (wide g * n) + x)) (sym split)
       ∙ dot_of_row g symbols g.rows bytes grid h r k x row k_low (omega arith)
       ∙ cell_by_line g (slice_get (row_labels g symbols r) (x / g.width)) (x % g.width) k
-      ∙ ap (λ o. cell_dot g o (x % g.width) k) (cell ∙ ap (slice_get symbols) (let e : r * g.columns + x / g.width ≡ 0 * cell_count g + cell_over g x y = omega arith in e));
+      ∙ ap (λ o. cell_dot g o (x % g.width) k) (cell ∙ ap (slice_get symbols)
+      (let e : r * g.columns + x / g.width ≡ 0 * cell_count g + cell_over g x y = omega arith in e));
 }
 
 -- a sheet's labels are a part of all labels
-pub sheet_at : (g : Cells) (symbols : List Drawn) (i : ℕ) (s : Bitmap) → IsGrid g → IsSheet (take (cell_count g) (drop (i * cell_count g) symbols)) g 0 s → IsSheet symbols g i s
+pub sheet_at : (g : Cells) (symbols : List Drawn) (i : ℕ) (s : Bitmap) → IsGrid g → IsSheet (take (cell_count g) (drop (i * cell_count g) symbols)) g 0 s
+    → IsSheet symbols g i s
 sheet_at g symbols i s grid h = record {
   width = h.width;
   height = h.height;
@@ -192,14 +197,18 @@ sheet_at g symbols i s grid h = record {
       let inside : c < n = over g x y s grid h.width h.height right low in
       h.dots x y right low
       ∙ ap (λ o. cell_dot g o (x % g.width) (y % g.height))
-      (ap (slice_get (take n (drop (i * n) symbols))) (let e : 0 * n + c ≡ c = omega arith in e) ∙ slice_get-take n (drop (i * n) symbols) c inside ∙ slice_get-drop (i * n) symbols c);
+      (ap (slice_get (take n (drop (i * n) symbols))) (let e : 0 * n + c ≡ c = omega arith in e) ∙ slice_get-take n (drop (i * n) symbols) c inside
+      ∙ slice_get-drop (i * n) symbols c);
 }
   where
-    over : (g : Cells) (x y : ℕ) (s : Bitmap) → IsGrid g → s.width ≡ g.columns * g.width → s.height ≡ g.rows * g.height → x < s.width → y < s.height → cell_over g x y < cell_count g
+    over : (g : Cells) (x y : ℕ) (s : Bitmap) → IsGrid g → s.width ≡ g.columns * g.width → s.height ≡ g.rows * g.height → x < s.width → y < s.height
+        → cell_over g x y < cell_count g
     over g x y s grid w h right low =
         let some = grid.height_least in let wide_some = grid.width_least in
-        let row : y / g.height < g.rows = div_below y g.height g.rows (omega arith) (let e : g.height * g.rows ≡ g.rows * g.height = grind arith in omega arith) in
-        let column : x / g.width < g.columns = div_below x g.width g.columns (omega arith) (let e : g.width * g.columns ≡ g.columns * g.width = grind arith in omega arith) in
+        let row : y / g.height < g.rows = div_below y g.height g.rows (omega arith) (let e : g.height * g.rows ≡ g.rows * g.height = grind arith in omega arith)
+        in
+        let column : x / g.width < g.columns = div_below x g.width g.columns (omega arith)
+        (let e : g.width * g.columns ≡ g.columns * g.width = grind arith in omega arith) in
         let t = times (y / g.height) g.rows g.columns (omega arith) in
         let e : g.rows * g.columns ≡ g.columns * g.rows = grind arith in
         omega arith

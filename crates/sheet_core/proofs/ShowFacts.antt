@@ -68,7 +68,8 @@ quiet g s left right fits =
     let r : 5 * k ≤ end = let e = (reach g s fits).1 in let m : 5 * k ≤ s.quiet_right * k = grind arith in omega arith in
     let rn = times (5 * k) end N r in
     let n = length-append bars (end ∷ []) in
-    let last : get_or (cell_runs g s) (length (cell_runs g s) - 1) 0 ≡ end = get_or_push (s.quiet_left * k ∷ bars) end 0 (length (cell_runs g s) - 1) (omega arith) in
+    let last : get_or (cell_runs g s) (length (cell_runs g s) - 1) 0 ≡ end =
+    get_or_push (s.quiet_left * k ∷ bars) end 0 (length (cell_runs g s) - 1) (omega arith) in
     record {
       left = rw total (let e : 5 * (k * N) ≡ 5 * k * N = grind arith in omega arith);
       right = rw (total, last) (let e : 5 * (k * N) ≡ 5 * k * N = grind arith in omega arith);
@@ -93,7 +94,8 @@ abbrev Measured : Type 0
 Measured = SymbolMeasures × MeasuresOfKind
 
 fit_by : Measured → (c : Carrier) (ms : List ℕ) → HasForm c ms → AreWidths ms → Fit c ms
-fit_by measures c ms form widths = let m = measures.0 c ms form in record { candidate = m; odd = odd_count c (length ms) (sum ms) m; widths = widths; form = form }
+fit_by measures c ms form widths = let m = measures.0 c ms form in
+    record { candidate = m; odd = odd_count c (length ms) (sum ms) m; widths = widths; form = form }
 
 fit : Measured → (label : Label) (ms : List ℕ) → IsLabelSymbol label ms → Fit (carrier_of label) ms
 fit measures (Ean13 g) ms h = fit_by measures CarrierEan13 ms (h.0, h.1) (measures.1 KindEan13 ms h.0 h.1).valid
@@ -167,7 +169,8 @@ record FoundOf (g : Cells) (label : Label) (row : List ℕ) : Type 0 where
   fits : FitsCell g s
   dots : dots_of row ≡ bar_dots g s
 
-found_of : (labels : List Label) (g : Cells) (sheets : List Bitmap) (label : Label) (row : List ℕ) → ArePrinted labels g sheets → IsBarRow labels g sheets label row
+found_of : (labels : List Label) (g : Cells) (sheets : List Bitmap) (label : Label) (row : List ℕ) → ArePrinted labels g sheets
+    → IsBarRow labels g sheets label row
     → FoundOf g label row
 found_of labels g sheets label row printed bar =
     let grid = printed.grid in
@@ -176,7 +179,8 @@ found_of labels g sheets label row printed bar =
     let d = drawn_at labels printed.symbols place label printed.drawn found (sym (get_or_from_slice_get labels place label label bar.label_is)) in
     let columns = grid.columns_least in
     let top = below_top g bar.y bar.through_bars in
-    let cells = label_row printed.symbols g bar.sheet bar.bitmap bar.cell bar.y d.s (printed.shown.each bar.sheet bar.bitmap bar.sheet_is) (omega arith) bar.cell_is top bar.through_bars d.here in
+    let cells = label_row printed.symbols g bar.sheet bar.bitmap bar.cell bar.y d.s (printed.shown.each bar.sheet bar.bitmap bar.sheet_is) (omega arith)
+    bar.cell_is top bar.through_bars d.here in
     record { s = d.s; drawn = d.drawn; fits = all_at (FitsCell g) printed.symbols place d.s printed.fit d.here; dots = bar.dots ∙ cells }
 
 pub bar_rows_show : DotsDetermine → Measured → BarRowsShow
@@ -199,7 +203,8 @@ spelled say (Gs1128 l) ms h =
 pub drawn_is_read : DotsDetermine → Measured → ModulesSay → OneAnswer → DrawnIsRead
 drawn_is_read one_row measures say one g label s row year list said grid drawn fits is dots elements =
     let shown = printed_shows one_row measures g label s row grid drawn fits is dots in
-    let read : IsAnswer row year (label_answer label year list) = (label_text label, (Forwards, s.modules, shown, spelled say label s.modules drawn.symbol), refl, elements) in
+    let read : IsAnswer row year (label_answer label year list) =
+    (label_text label, (Forwards, s.modules, shown, spelled say label s.modules drawn.symbol), refl, elements) in
     (λ h. one row year said (label_answer label year list) is h read, λ e. subst (IsAnswer row year) (sym e) read)
 
 pub bar_rows_answer : DotsDetermine → Measured → ModulesSay → OneAnswer → BarRowsAnswer
@@ -215,5 +220,6 @@ empty_cells_are_blank labels g sheets i cell y sheet runs year printed at within
     let none = slice_get_past printed.symbols (i * cell_count g + cell) (omega arith) in
     let light = dots ∙ empty_row printed.symbols g i sheet cell y (printed.shown.each i sheet at) (omega arith) within low none in
     let found : Contains (replicate g.width false) true = subst (λ ds. Contains ds true) light dark in
-    let wrong : true ≡ false = All-contains (λ (d : Bool). d ≡ false) (replicate g.width false) true (All-replicate (λ (d : Bool). d ≡ false) g.width false refl) found in
+    let wrong : true ≡ false = All-contains (λ (d : Bool). d ≡ false) (replicate g.width false) true
+    (All-replicate (λ (d : Bool). d ≡ false) g.width false refl) found in
     absurd cc

@@ -9,7 +9,8 @@ use Rattle.code128_code.specs.Characters.{pattern, patterns, stop}
 use Rattle.code128_code.specs.Symbols.{IsCode128Symbol, characters_of}
 
 -- cells of widths, joined
-each : {X : Type 0} (P : X → Type 0) (cell : X → List ℕ) → ((x : X) → P x → AreWidths (cell x)) → (xs : List X) → AllByRecursion P xs → AreWidths (flat_map cell xs)
+each : {X : Type 0} (P : X → Type 0) (cell : X → List ℕ) → ((x : X) → P x → AreWidths (cell x)) → (xs : List X) → AllByRecursion P xs
+    → AreWidths (flat_map cell xs)
 each P cell one [] h = tt
 each P cell one (x ∷ xs) h = AllByRecursion-append _ (cell x) (flat_map cell xs) (one x h.0) (each P cell one xs h.1)
 
@@ -35,7 +36,8 @@ code128_widths start check values ms e =
     let last = e.check_valid in
     let valid : AllByRecursion (λ v. v < 106) (characters_of start values check) =
     ((omega arith), AllByRecursion-append _ values (check ∷ []) (values_below values e.valid) ((omega arith), tt)) in
-    subst AreWidths (sym e.widths) (joined (flat_map pattern (characters_of start values check)) stop (each (λ v. v < 106) pattern pattern_one (characters_of start values check) valid) (AreWidths-from stop refl))
+    subst AreWidths (sym e.widths) (joined (flat_map pattern (characters_of start values check)) stop
+    (each (λ v. v < 106) pattern pattern_one (characters_of start values check) valid) (AreWidths-from stop refl))
 
 -- widths are at most four modules each
 pub sum_most : (ms : List ℕ) → AreWidths ms → sum ms ≤ 4 * length ms

@@ -98,4 +98,5 @@ FilesAreRefused = (fault : PbmFault) (bytes : List ℕ) → (images_of bytes ≡
 
 -- a file of at most 4,096 images shows one list of sheets
 abbrev pub OneListOfSheets : Type 0
-OneListOfSheets = (bytes : List ℕ) (sheets others : List Bitmap) → length sheets ≤ 4096 → length others ≤ 4096 → IsPbm bytes sheets → IsPbm bytes others → sheets ≡ others
+OneListOfSheets = (bytes : List ℕ) (sheets others : List Bitmap) → length sheets ≤ 4096 → length others ≤ 4096 → IsPbm bytes sheets → IsPbm bytes others
+    → sheets ≡ others

@@ -46,7 +46,8 @@ seats_turned h ls ws d all = record {
 
 -- the same lanes and as many workers, after a turn of all
 pub seats_kept : (h : Hub) (ls ls' : List LaneSeat) (ws ws' : List WorkerSeat) (d d' : DelivererSeat)
-    → numbers_of ls' ≡ numbers_of ls → All (IsLaneOf h) ls' → All (IsWorkerOf h) ws' → length ws' ≡ length ws → IsDelivererOf h d' → AreAllSeats h ls ws d → AreAllSeats h ls' ws' d'
+    → numbers_of ls' ≡ numbers_of ls → All (IsLaneOf h) ls' → All (IsWorkerOf h) ws' → length ws' ≡ length ws → IsDelivererOf h d' → AreAllSeats h ls ws d
+    → AreAllSeats h ls' ws' d'
 seats_kept h ls ls' ws ws' d d' numbers lanes workers count deliverer all = record {
   lanes = lanes;
   workers = workers;
@@ -55,5 +56,7 @@ seats_kept h ls ls' ws ws' d d' numbers lanes workers count deliverer all = reco
   each_worker = count ∙ all.each_worker;
 }
 
-pub count_kept : (h : Hub) (ls ls' : List LaneSeat) (d d' : DelivererSeat) → numbers_of ls' ≡ numbers_of ls → IsDelivererOf h d → IsDelivererOf h d' → length ls ≡ lane_count d → length ls' ≡ lane_count d'
-count_kept h ls ls' d d' numbers before after count = sym (length-map ls' lane_of) ∙ (ap length numbers ∙ (length-map ls lane_of ∙ (count ∙ (before.lanes ∙ sym after.lanes))))
+pub count_kept : (h : Hub) (ls ls' : List LaneSeat) (d d' : DelivererSeat) → numbers_of ls' ≡ numbers_of ls → IsDelivererOf h d → IsDelivererOf h d' → length ls
+    ≡ lane_count d → length ls' ≡ lane_count d'
+count_kept h ls ls' d d' numbers before after count = sym (length-map ls' lane_of)
+    ∙ (ap length numbers ∙ (length-map ls lane_of ∙ (count ∙ (before.lanes ∙ sym after.lanes))))

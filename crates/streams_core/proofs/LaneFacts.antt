@@ -25,7 +25,8 @@ one_more_of P x xs own rest (suc k) es e = rest k es e
 more_follow : (f : ℕ → ℕ) (low more : ℕ) (xs : List (List StreamEntry)) → low ≤ more → AllOf (Follows f low) xs → AllOf (Follows f more) xs
 more_follow f low more xs less all k es at = let a = all k es at in (a.0, a.1, (let b = a.2 in omega arith), a.3)
 
-more_follow_to : (f : ℕ → ℕ) (low more high higher : ℕ) (xs : List (List StreamEntry)) → low ≤ more → high ≤ higher → AllOf (FollowsTo f low high) xs → AllOf (FollowsTo f more higher) xs
+more_follow_to : (f : ℕ → ℕ) (low more high higher : ℕ) (xs : List (List StreamEntry)) → low ≤ more → high ≤ higher → AllOf (FollowsTo f low high) xs
+    → AllOf (FollowsTo f more higher) xs
 more_follow_to f low more high higher xs less fewer all k es at =
     let a = all k es at in (a.0, a.1, (let b = a.2 in omega arith), (let b = a.3 in omega arith), a.4)
 
@@ -65,7 +66,8 @@ holds_more f s taken h es n count low follow =
     )
 
 -- what was taken is taken out
-holds_trimmed : (f : ℕ → ℕ) (s : Stream) (taken n : ℕ) (h : Holds f s taken) → n ≤ taken → taken ≤ h.count → (g : Holds f (trimmed s n) taken) × (g.count ≡ h.count)
+holds_trimmed : (f : ℕ → ℕ) (s : Stream) (taken n : ℕ) (h : Holds f s taken) → n ≤ taken → taken ≤ h.count → (g : Holds f (trimmed s n) taken)
+    × (g.count ≡ h.count)
 holds_trimmed f s taken n h low reached =
     let every = h.all in
     let rest = read_behind f n h.gone h.left (omega arith) in (
@@ -214,7 +216,8 @@ module _ (row answer : ℕ → ℕ) where
       subst IsSound (sym (is_next l rest)) sound
 
   -- what the till finds
-  left_of : (l : LaneStreams) (s : IsSound l) → (rest : ℕ) × (l.taken + rest ≡ s.answers.count) × (read l.answers l.taken 1 ≡ take 1 (following said l.taken rest))
+  left_of : (l : LaneStreams) (s : IsSound l) → (rest : ℕ) × (l.taken + rest ≡ s.answers.count)
+      × (read l.answers l.taken 1 ≡ take 1 (following said l.taken rest))
   left_of l s =
       let before = s.reached in
       let every = s.answers.all in

@@ -32,7 +32,8 @@ all_behind f m n (suc count) e =
     ∙ ap (λ es. stream_entry (suc n) (f n) ∷ es) (all_behind f m (suc n) count (omega arith))
 
 -- what is behind an ID that is among them follows it
-pub rest_behind : (f : ℕ → ℕ) (m n count : ℕ) → n ≤ m → m ≤ n + count → (rest : ℕ) × (m + rest ≡ n + count) × (behind m (following f n count) ≡ following f m rest)
+pub rest_behind : (f : ℕ → ℕ) (m n count : ℕ) → n ≤ m → m ≤ n + count → (rest : ℕ) × (m + rest ≡ n + count)
+    × (behind m (following f n count) ≡ following f m rest)
 rest_behind f m n zero low high = (zero, omega arith, refl)
 rest_behind f m n (suc count) low high = by (rest_behind f m (suc n) count) (nat_lt m (suc n)) refl
   where
@@ -70,10 +71,12 @@ answers_of answer f n zero = refl
 answers_of answer f n (suc count) = ap (λ es. stream_entry (suc n) (answer (f n)) ∷ es) (answers_of answer f (suc n) count)
 
 -- what is read behind any ID that is not above the last
-pub read_behind : (f : ℕ → ℕ) (m gone left : ℕ) → m ≤ gone + left → (n rest : ℕ) × (n + rest ≡ gone + left) × ((most : ℕ) → m ≤ most → gone ≤ most → n ≤ most) × (behind m (following f gone left) ≡ following f n rest)
+pub read_behind : (f : ℕ → ℕ) (m gone left : ℕ) → m ≤ gone + left → (n rest : ℕ) × (n + rest ≡ gone + left) × ((most : ℕ) → m ≤ most → gone ≤ most → n ≤ most)
+    × (behind m (following f gone left) ≡ following f n rest)
 read_behind f m gone left high = by (nat_lt m gone) refl
   where
-    by : (b : Bool) → nat_lt m gone ≡ b → (n rest : ℕ) × (n + rest ≡ gone + left) × ((most : ℕ) → m ≤ most → gone ≤ most → n ≤ most) × (behind m (following f gone left) ≡ following f n rest)
+    by : (b : Bool) → nat_lt m gone ≡ b → (n rest : ℕ) × (n + rest ≡ gone + left) × ((most : ℕ) → m ≤ most → gone ≤ most → n ≤ most)
+        × (behind m (following f gone left) ≡ following f n rest)
     by true t =
         let l = is_below m gone t in
         (gone, left, refl, (λ most _ low. low), all_behind f m gone left (omega arith))

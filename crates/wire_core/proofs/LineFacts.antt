@@ -16,4 +16,5 @@ feed_at xs k found = let high = found.0.high in
 
 -- there is none
 pub no_feed : (xs : List ℕ) → IsFirstByte (is_byte 10) xs None → position_or_len is_feed xs ≡ length xs
-no_feed xs none = position_or_len_is is_feed xs (length xs) 0 (omega arith) (λ j low. is_false _ (none j (omega arith) low)) (λ low. absurd (omega (arith, low)))
+no_feed xs none = position_or_len_is is_feed xs (length xs) 0 (omega arith) (λ j low. is_false _ (none j (omega arith) low))
+    (λ low. absurd (omega (arith, low)))

@@ -64,7 +64,8 @@ nothing_left h none ended =
     (parts.0, empty h.rest (ltb-false 0 (length h.rest) parts.1))
 
 -- the pieces, where no line feed is held
-pieces_held : (bytes : List ℕ) (lines : List (List ℕ)) (h : Held) → (t : AreTaken bytes lines h) → HasNoFeed h.rest → pieces_of bytes ≡ lines ++ (t.front ++ h.rest) ∷ []
+pieces_held : (bytes : List ℕ) (lines : List (List ℕ)) (h : Held) → (t : AreTaken bytes lines h) → HasNoFeed h.rest → pieces_of bytes ≡ lines
+    ++ (t.front ++ h.rest) ∷ []
 pieces_held bytes lines h t none =
     ap pieces_of t.whole ∙ pieces_after lines (t.front ++ h.rest) t.each
     ∙ ap (λ ls. lines ++ ls) (slice_split_none is_feed (t.front ++ h.rest) (All-append (λ b. is_feed b ≡ false) t.front h.rest t.none none))
@@ -92,7 +93,8 @@ taken_feed bytes lines h t low =
     }
 
 -- the last line was taken, which no line feed ends
-taken_last : (bytes : List ℕ) (lines : List (List ℕ)) (h : Held) → (t : AreTaken bytes lines h) → length h.rest ≤ position_or_len is_feed h.rest → h.has_ended ≡ true
+taken_last : (bytes : List ℕ) (lines : List (List ℕ)) (h : Held) → (t : AreTaken bytes lines h) → length h.rest ≤ position_or_len is_feed h.rest → h.has_ended
+    ≡ true
     → AreAllTaken bytes (lines ++ (t.front ++ before_first is_feed h.rest) ∷ []) (without_line h)
 taken_last bytes lines h t past ended =
     let all : before_first is_feed h.rest ≡ h.rest = take_all (position_or_len is_feed h.rest) h.rest past in
@@ -131,7 +133,8 @@ taken bytes lines h found t is =
     let line = t.front ++ before_first is_feed h.rest in
     let taken : TakesLines bytes (lines ++ line ∷ []) (without_line h) = ⊎_elim
     (λ (e : p ≡ true). inl (taken_feed bytes lines h t (ltb-true _ _ e)))
-    (λ (e : p ≡ false). inr (taken_last bytes lines h t (ltb-false _ _ e) (and_parts h.has_ended (h.is_cut || nat_lt 0 (length h.rest)) (either p (are_last h) e some.0)).0))
+    (λ (e : p ≡ false). inr (taken_last bytes lines h t (ltb-false _ _ e)
+    (and_parts h.has_ended (h.is_cut || nat_lt 0 (length h.rest)) (either p (are_last h) e some.0)).0))
     (cases_Bool p) in
     (line, subst (λ f. IsLine h f line) (sym some.1) (is_line bytes lines h (before_first is_feed h.rest) t), taken)
 
@@ -175,7 +178,8 @@ lines_are_pieces = record {
       was;
   room = λ bytes lines h was none going. ⊎_elim
       (λ (t : AreTaken bytes lines h). inl (subst (λ bs. AreTaken bs lines (with_room h)) (append-nil bytes)
-      (subst (λ r. AreTaken (bytes ++ []) lines (record { rest = r; is_cut = is_too_long h; has_ended = h.has_ended })) (append-nil (with_room h).rest) (kept bytes [] lines h h.has_ended t (none_held h none).0))))
+      (subst (λ r. AreTaken (bytes ++ []) lines (record { rest = r; is_cut = is_too_long h; has_ended = h.has_ended })) (append-nil (with_room h).rest)
+      (kept bytes [] lines h h.has_ended t (none_held h none).0))))
       (λ (t : AreAllTaken bytes lines h). absurd (let e = t.ended in cc (going, e)))
       was;
   begins = λ bytes lines h was. ⊎_elim
@@ -187,7 +191,8 @@ lines_are_pieces = record {
       (λ (t : AreAllTaken bytes lines h). absurd (let e = t.ended in cc (going, e)))
       was;
   ended = λ bytes lines h was none ended. ⊎_elim
-      (λ (t : AreTaken bytes lines h). let left = nothing_left h none ended in inr (pieces_held bytes lines h t (none_held h none).0 ∙ ap (λ r. lines ++ r ∷ []) (ap (λ f. f ++ h.rest) (t.all left.0) ∙ left.1)))
+      (λ (t : AreTaken bytes lines h). let left = nothing_left h none ended in
+      inr (pieces_held bytes lines h t (none_held h none).0 ∙ ap (λ r. lines ++ r ∷ []) (ap (λ f. f ++ h.rest) (t.all left.0) ∙ left.1)))
       (λ (t : AreAllTaken bytes lines h). inl t.pieces)
       was;
 }

@@ -20,7 +20,8 @@ returns-in_err-run g c =
             wrote.1,
             wrote.2,
             wrote.3,
-            took_front (taken before.sink) (taken_and_waiting taken after) (taken after.sink) before.waiting after.waiting wrote.1 c.requires.fresh c.requires.empty wrote.4 (Keeps-refl (taken_and_waiting taken after)),
+            took_front (taken before.sink) (taken_and_waiting taken after) (taken after.sink) before.waiting after.waiting wrote.1 c.requires.fresh
+                c.requires.empty wrote.4 (Keeps-refl (taken_and_waiting taken after)),
           );
       refused = search rules;
       unwritten = search rules;
@@ -45,7 +46,8 @@ returns-in_err-flush g c =
       ok = search rules;
       cut = λ same. (wrote.0, wrote.1, wrote.2, wrote.3, front);
       refused = refused_as result command.WriteFault _ write
-          (may_fail c.args.batch TookFront (left c.args.source.now) (left c.run.new.source) (taken before.sink) (taken after.sink) (wrote.0, wrote.1, wrote.2, wrote.3, front));
+          (may_fail c.args.batch TookFront (left c.args.source.now) (left c.run.new.source) (taken before.sink) (taken after.sink)
+          (wrote.0, wrote.1, wrote.2, wrote.3, front));
       unwritten = refused_as result command.WriteFault _ write (λ other. absurd (other refl));
       read = search rules;
       write = search rules;

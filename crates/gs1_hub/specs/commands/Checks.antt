@@ -11,7 +11,11 @@ check_app = with_rule (new_app (codes "check")) year_rule
 
 -- a line for each record, under the reference year
 abbrev pub check_command : ℕ → Command
-check_command year = record { writes = WritesRecords (check_meaning year) (λ answers text. text ≡ check_report answers); refuses = RefusesRecords (check_meaning year) }
+check_command year = record {
+  writes = WritesRecords (check_meaning year) (λ answers text. text ≡ check_report answers);
+  refuses =
+      RefusesRecords (check_meaning year);
+}
 
 -- of the same bytes it writes one text at most
 abbrev pub OneCheck : Type 0

@@ -25,7 +25,11 @@ RefusesLanes lanes left rest f = RefusesRecords (lanes_meaning lanes) left rest 
 
 -- the report of the answers to the rows that records give each lane
 abbrev pub lanes_command : LaneOptions → Command
-lanes_command o = record { writes = WritesRecords (lanes_meaning o.lanes) (λ rows text. IsReport o.year (feeds_of o.lanes rows) text); refuses = RefusesLanes o.lanes }
+lanes_command o = record {
+  writes = WritesRecords (lanes_meaning o.lanes) (λ rows text. IsReport o.year (feeds_of o.lanes rows) text);
+  refuses =
+      RefusesLanes o.lanes;
+}
 
 -- of the same bytes it writes one text at most
 abbrev pub OneLanes : Type 0

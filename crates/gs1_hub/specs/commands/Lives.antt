@@ -29,5 +29,7 @@ command_end (Ok u) = Ok u
 command_end (Err fault) = Err (of_live fault)
 
 -- what a run of `live` leaves of its wire: what a live input leaves of it, with the same end
-abbrev pub IsLive : {W : Type 0} → LiveOptions → (W → W → List Event → Type 0) → (W → Bool) → (W → Bool) → (W → Type 0) → W → W → Result (Unit {0}) CommandFault → Type 0
-IsLive o did read_failed write_failed at_end wire after result = (stopped : Result (Unit {0}) LiveFault) × Lived (live_terms o) did read_failed write_failed at_end wire after stopped × (result ≡ command_end stopped)
+abbrev pub IsLive : {W : Type 0} → LiveOptions → (W → W → List Event → Type 0) → (W → Bool) → (W → Bool) → (W → Type 0) → W → W → Result (Unit {0}) CommandFault
+    → Type 0
+IsLive o did read_failed write_failed at_end wire after result =
+    (stopped : Result (Unit {0}) LiveFault) × Lived (live_terms o) did read_failed write_failed at_end wire after stopped × (result ≡ command_end stopped)

@@ -37,7 +37,8 @@ abbrev pub GaveOtherSize : ScanOptions → Option (List ℕ) → Option (List �
 GaveOtherSize o left rest = (bytes : List ℕ) × GaveAll left rest bytes × (sheets : List Bitmap) × (images_of bytes ≡ (Ok sheets, []))
     × (have_size (cells_of o.grid) sheets ≡ false)
 
--- why `scan` refuses the input in a grid: the first byte that cannot stand in an image, then an image of another size, then a thread that could not be started, and only where there is an image
+-- why `scan` refuses the input in a grid: the first byte that cannot stand in an image, then an image of another size, then a thread that could not be started,
+-- and only where there is an image
 abbrev pub RefusesImages : ScanOptions → Option (List ℕ) → Option (List ℕ) → CommandFault → Type 0
 RefusesImages o left rest command.NotP4 = ReadsBytes images_of left rest (Err pbm.NotP4)
 RefusesImages o left rest command.PbmHeader = ReadsBytes images_of left rest (Err pbm.PbmHeader)

@@ -28,4 +28,6 @@ pub record Finds (ls : List LaneSeat) (ws : List WorkerSeat) (d : DelivererSeat)
   pub jobs : OneForOne (flat_map submitted ls) (flat_map taken ws) queued_jobs
   pub results : OneForOne (flat_map posted ws) (collected d) queued_results
   pub first : AreFromFirst d.rings.items ls
-  pub whole : (h : Plain → ℕ) → sum_by h found + all_received h ls ≡ ((((sum_by h queued_jobs + sum_by h (flat_map jobs_in_hand ws)) + sum_by h queued_results) + sum_by h (buffer_of d).waiting) + sum_by h (hand_of d)) + to_lanes h d.rings.items (numbers_of ls)
+  pub whole : (h : Plain → ℕ) → sum_by h found + all_received h ls
+      ≡ ((((sum_by h queued_jobs + sum_by h (flat_map jobs_in_hand ws)) + sum_by h queued_results) + sum_by h (buffer_of d).waiting) + sum_by h (hand_of d)) +
+      to_lanes h d.rings.items (numbers_of ls)

@@ -53,7 +53,8 @@ pub record AreKept (nexts : List ℕ) (slots : List NextSlot) (later : List (Tic
   pub apart : (l : ℕ) → l < length nexts → slice_index nexts l < 2 ^ 32 → is_known l (slice_index nexts l) known ≡ false
 
 -- lane l's number k is its next from now on: it leaves the later numbers if it was one, and nothing else changes of what waits and what is known
-pub record Advances (l k : ℕ) (later : List (Ticket × Plain)) (known : List Ticket) (later' : List (Ticket × Plain)) (known' : List Ticket) (slot : NextSlot) : Type 0 where
+pub record Advances (l k : ℕ) (later : List (Ticket × Plain)) (known : List Ticket) (later' : List (Ticket × Plain)) (known' : List Ticket) (slot : NextSlot) :
+    Type 0 where
   pub own : IsSlotOf l k slot
   pub indexed : AreIndexed later' known'
   pub waiting : (h : Plain → ℕ) → sum_by h (values_of later) ≡ sum_by h (waiting_of slot) + sum_by h (values_of later')

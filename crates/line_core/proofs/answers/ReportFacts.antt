@@ -20,7 +20,8 @@ one_more_line : (lane number : ℕ) (answers : List Answer) (a : Answer)
 one_more_line lane number [] a =
     append-nil (line_of lane number a) ∙ ap (λ k. line_of lane k a) (omega arith)
 one_more_line lane number (b ∷ answers) a =
-    ap (λ t. line_of lane number b ++ t) (one_more_line lane (number + 1) answers a ∙ ap (λ k. lines_from lane (number + 1) answers ++ line_of lane k a) (omega arith))
+    ap (λ t. line_of lane number b ++ t) (one_more_line lane (number + 1) answers a
+    ∙ ap (λ k. lines_from lane (number + 1) answers ++ line_of lane k a) (omega arith))
     ∙ sym (append_assoc (line_of lane number b) (lines_from lane (number + 1) answers) (line_of lane (number + length (b ∷ answers)) a))
 
 line_at : (first : ℕ) (answers : List (List Answer)) (i : ℕ) (a : Answer) → i < length answers
@@ -39,14 +40,16 @@ line_at first (x ∷ rest) (suc i) a low =
 abbrev A : Plain → Answer → Type 0
 A = λ x answer. IsAnswer x.widths x.year answer
 
-answered_more : (brought : List (List Plain)) (answers : List (List Answer)) (i : ℕ) (x : Plain) (a : Answer) → i < length brought → IsAnswer x.widths x.year a → AllZip AreAnswersOf brought answers
+answered_more : (brought : List (List Plain)) (answers : List (List Answer)) (i : ℕ) (x : Plain) (a : Answer) → i < length brought → IsAnswer x.widths x.year a
+    → AllZip AreAnswersOf brought answers
     → AllZip AreAnswersOf (set brought i (get_or brought i [] ++ x ∷ [])) (set answers i (get_or answers i [] ++ a ∷ []))
 answered_more [] answers i x a low is was = absurd (omega (arith, low))
 answered_more (xs ∷ brought) [] i x a low is was = absurd was
 answered_more (xs ∷ brought) (ys ∷ answers) zero x a low is was = (zip_more A xs ys x a was.0 is, was.1)
 answered_more (xs ∷ brought) (ys ∷ answers) (suc i) x a low is was = (was.0, answered_more brought answers i x a (omega (arith, low)) is was.1)
 
-as_many : (brought : List (List Plain)) (answers : List (List Answer)) (i : ℕ) → AllZip AreAnswersOf brought answers → length (get_or brought i []) ≡ length (get_or answers i [])
+as_many : (brought : List (List Plain)) (answers : List (List Answer)) (i : ℕ) → AllZip AreAnswersOf brought answers → length (get_or brought i [])
+    ≡ length (get_or answers i [])
 as_many [] [] i was = refl
 as_many [] (ys ∷ answers) i was = absurd was
 as_many (xs ∷ brought) [] i was = absurd was
@@ -78,15 +81,19 @@ pub texts_long : {V : Type 0} (f : V → List ℕ) (vs : List V) (brought : List
 texts_long f vs brought was = omega (arith, ap length was.2, lanes_long 0 was.0, AllZip-long AreAnswersOf brought was.0 was.1, length-map vs f)
 
 -- a delivery was brought, and its line was pushed
-pub lines_brought : {V E : Type 0} (f : V → List ℕ) (vs : List V) (i : ℕ) (v w : V) (r : Result (Unit {0}) E) (x : Plain) (l n : ℕ) (a : Answer) → i ≡ x.lane → l ≡ x.lane → n ≡ x.number → v ≡ get_or vs i v → IsAnswer x.widths x.year a
+pub lines_brought : {V E : Type 0} (f : V → List ℕ) (vs : List V) (i : ℕ) (v w : V) (r : Result (Unit {0}) E) (x : Plain) (l n : ℕ) (a : Answer) → i ≡ x.lane
+    → l ≡ x.lane → n ≡ x.number → v ≡ get_or vs i v → IsAnswer x.widths x.year a
     → OnOk r (f w ≡ f v ++ line_of l n a)
-    → IfOk r (λ _. (brought : List (List Plain)) → x.lane < length brought → x.number ≡ length (get_or brought x.lane []) → AreLinesOf brought (map f vs) → AreLinesOf (with_more x.lane x brought) (map f (set vs i w)))
+    → IfOk r (λ _. (brought : List (List Plain)) → x.lane < length brought → x.number ≡ length (get_or brought x.lane []) → AreLinesOf brought (map f vs)
+    → AreLinesOf (with_more x.lane x brought) (map f (set vs i w)))
 lines_brought f vs i v w (Err e) x l n a is lane same at answers pushed = tt
 lines_brought f vs i v w (Ok u) x l n a is lane same at answers pushed = λ brought low number was.
     let long = AllZip-long AreAnswersOf brought was.0 was.1 in
     let there : length (map f vs) ≡ length was.0 = ap length was.2 ∙ lanes_long 0 was.0 in
-    let here : get_or (map f vs) x.lane [] ≡ f v = ap (λ k. get_or (map f vs) k []) (sym is) ∙ (get_or-map f vs i v [] (omega (arith, low, is, long, there, length-map vs f)) ∙ ap f (sym at)) in
-    let line : f w ≡ get_or (map f vs) x.lane [] ++ line_of x.lane x.number a = pushed ∙ (ap (λ k. f v ++ line_of k n a) lane ∙ (ap (λ m. f v ++ line_of x.lane m a) same ∙ ap (λ t. t ++ line_of x.lane x.number a) (sym here))) in
+    let here : get_or (map f vs) x.lane [] ≡ f v = ap (λ k. get_or (map f vs) k []) (sym is)
+    ∙ (get_or-map f vs i v [] (omega (arith, low, is, long, there, length-map vs f)) ∙ ap f (sym at)) in
+    let line : f w ≡ get_or (map f vs) x.lane [] ++ line_of x.lane x.number a =
+    pushed ∙ (ap (λ k. f v ++ line_of k n a) lane ∙ (ap (λ m. f v ++ line_of x.lane m a) same ∙ ap (λ t. t ++ line_of x.lane x.number a) (sym here))) in
     subst (AreLinesOf (with_more x.lane x brought)) (sym (map-set f vs i w ∙ ap (λ k. set (map f vs) k (f w)) is))
     (lines_more brought (map f vs) (f w) x.lane x a low number answers line was)
 

@@ -45,7 +45,8 @@ no_report year lanes text is =
 -- the row of the next record is given
 pub row_given : (start old new : Reading) (given : List (List (List ℕ))) (brought : List (List Plain)) (row : LaneRow)
     → old.course ≡ course.Open → new.course ≡ course.Open → new.lanes ≡ old.lanes → new.texts ≡ old.texts → row.0 < old.lanes
-    → ((bytes : List ℕ) (rows : List Fields) → HasRead bytes old.records rows → (fields : Fields) × HasRead bytes new.records (rows ++ fields ∷ []) × lanes_meaning old.lanes fields (Ok row))
+    → ((bytes : List ℕ) (rows : List Fields) → HasRead bytes old.records rows → (fields : Fields) × HasRead bytes new.records (rows ++ fields ∷ [])
+    × lanes_meaning old.lanes fields (Ok row))
     → HasGiven start old given brought → HasRoom row.0 given × HasGiven start new (with_more row.0 row.1 given) brought
 row_given start old new given brought row is stays lanes texts low more was =
     let read : HasRead start.bytes.now old.records was.rows = subst (λ k. StandsAfter k start.bytes.now old.records was.rows) is was.stands in
@@ -65,13 +66,15 @@ row_given start old new given brought row is stays lanes texts low more was =
         stands = subst (λ k. StandsAfter k start.bytes.now new.records (was.rows ++ next.0 ∷ [])) (sym stays) next.1;
         items = was.items ++ row ∷ [];
         means = zip_more _ was.rows was.items next.0 row was.means (subst (λ n. lanes_meaning n next.0 (Ok row)) was.lanes next.2);
-        fed = ap (λ feed. set given row.0 (feed ++ row.1 ∷ [])) at ∙ ap (λ g. set g row.0 (feed_of row.0 was.items ++ row.1 ∷ [])) was.fed ∙ feeds_more start.lanes was.items row small;
+        fed = ap (λ feed. set given row.0 (feed ++ row.1 ∷ [])) at ∙ ap (λ g. set g row.0 (feed_of row.0 was.items ++ row.1 ∷ [])) was.fed
+            ∙ feeds_more start.lanes was.items row small;
         lines = subst (λ t. AreLinesOf brought (map string_bytes t.items)) (sym texts) was.lines;
       },
     )
 
 -- where no row was read nothing was given
-pub none_given : (start old new : Reading) (given : List (List (List ℕ))) (brought : List (List Plain)) → old.course ≡ course.Open → new.lanes ≡ old.lanes → new.texts ≡ old.texts
+pub none_given : (start old new : Reading) (given : List (List (List ℕ))) (brought : List (List Plain)) → old.course ≡ course.Open → new.lanes ≡ old.lanes
+    → new.texts ≡ old.texts
     → ((rows : List Fields) → HasRead start.bytes.now old.records rows → StandsAfter new.course start.bytes.now new.records rows)
     → HasGiven start old given brought → HasGiven start new given brought
 none_given start old new given brought is lanes texts stands was = record {
@@ -91,8 +94,10 @@ all_read course.Open bytes r rows is stands = cc is
 all_read course.Refused bytes r rows is stands = cc is
 
 -- once all were read and brought, the texts are the report
-pub reported : (year : ℕ) (start s : Reading) (given : List (List (List ℕ))) (brought : List (List Plain)) → AnswersAreRead → HasGiven start s given brought → is_ended s.course ≡ true → brought ≡ served year given
-    → (items : List LaneRow) × AreItems (lanes_meaning start.lanes) (records_of start.bytes.now) items × IsReport year (feeds_of start.lanes items) (concat (map string_bytes s.texts.items))
+pub reported : (year : ℕ) (start s : Reading) (given : List (List (List ℕ))) (brought : List (List Plain)) → AnswersAreRead → HasGiven start s given brought
+    → is_ended s.course ≡ true → brought ≡ served year given
+    → (items : List LaneRow) × AreItems (lanes_meaning start.lanes) (records_of start.bytes.now) items
+    × IsReport year (feeds_of start.lanes items) (concat (map string_bytes s.texts.items))
 reported year start s given brought law was is all =
     let lines = was.lines in
     let read = law year given lines.0 (subst (λ lists. AllZip AreAnswersOf lists lines.0) all lines.1) in
@@ -103,6 +108,7 @@ reported year start s given brought law was is all =
     )
 
 -- records of which there is one mean an item
-pub some_item : (means : _) (rows : List Fields) (items : List LaneRow) (first : Fields) (more : List Fields) → AreItems means rows items → rows ≡ first ∷ more → items ≢ []
+pub some_item : (means : _) (rows : List Fields) (items : List LaneRow) (first : Fields) (more : List Fields) → AreItems means rows items → rows ≡ first ∷ more
+    → items ≢ []
 some_item means rows items first more are is none =
     omega (arith, AllZip-long _ rows items are, ap length is, ap length none)

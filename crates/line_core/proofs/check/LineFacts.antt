@@ -18,7 +18,8 @@ lines_more (b ∷ answers) a =
     ap (λ t. ended b ++ t) (lines_more answers a) ∙ sym (append_assoc (ended b) (flat_map ended answers) (ended a))
 
 -- a line by the kind is what the record means
-pub line_by_kind : (year : ℕ) (fields : Fields) (name text : List ℕ) (kind : CheckKind) (a : Line) → fields ≡ name ∷ text ∷ [] → Some kind ≡ check_kind_named name
+pub line_by_kind : (year : ℕ) (fields : Fields) (name text : List ℕ) (kind : CheckKind) (a : Line) → fields ≡ name ∷ text ∷ [] → Some kind
+    ≡ check_kind_named name
     → IsLineAs year kind text (line_text a) → check_meaning year fields (Ok a)
 line_by_kind year fields name text kind a are is answers = rw (are, ← is) answers
 

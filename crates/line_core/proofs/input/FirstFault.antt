@@ -11,7 +11,8 @@ seam [] r more = refl
 seam (x ∷ rows) r more = seam rows r more
 
 -- one more record with a fault is the first
-pub first_at : {Item : Type 0} (means : Meaning Item) (rows : List Fields) (items : List Item) (r : Fields) (more all : List Fields) (index : ℕ) (f : RecordFault) → all ≡ rows ++ r ∷ [] ++ more
+pub first_at : {Item : Type 0} (means : Meaning Item) (rows : List Fields) (items : List Item) (r : Fields) (more all : List Fields) (index : ℕ)
+    (f : RecordFault) → all ≡ rows ++ r ∷ [] ++ more
     → index ≡ length rows → AreItems means rows items → means r (Err f) → IsFirstFault means all index f
 first_at means rows items r more all index f are here none bad =
     let is : all ≡ rows ++ r ∷ more = are ∙ append_assoc rows (r ∷ []) more in

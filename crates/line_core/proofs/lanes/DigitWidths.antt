@@ -23,7 +23,8 @@ one_more text widths i width each low found here all k less =
     ]
 
 -- where one is no digit before a space, the text begins with no such widths
-pub none_more : (text : List ℕ) (i count width : ℕ) (each : Bool) → i < count → (each ≡ false → (ws : List ℕ) → length ws ≡ count → BeginsWithDigits text ws → ⊥)
+pub none_more : (text : List ℕ) (i count width : ℕ) (each : Bool) → i < count
+    → (each ≡ false → (ws : List ℕ) → length ws ≡ count → BeginsWithDigits text ws → ⊥)
     → (is_ascii_digit (get_or text (2 * i) 0) ≡ true → get_or text (2 * i + 1) 0 ≡ 32 → width ≡ get_or text (2 * i) 0 - 48)
     → each && leb width 9 ≡ false → (ws : List ℕ) → length ws ≡ count → BeginsWithDigits text ws → ⊥
 none_more text i count width false low before here all ws long begins = before refl ws long begins
@@ -45,33 +46,44 @@ not_given true widths Q here = tt
 not_given false widths Q here = here refl
 
 -- the first of them are read
-first_read : (words : List (List ℕ)) (n : ℕ) (text found widths : List ℕ) (is_wide : Bool) → BeginsWithDigits text widths → 2 * length widths ≤ length text → n ≤ length widths
-    → length found < length words → AreRead words text found is_wide → (length found + n < length words) × AreRead words (drop (2 * n) text) (found ++ take n widths) is_wide
-first_read words zero text found widths is_wide begins long few low read = (omega (arith, low), subst (λ t. AreRead words text t is_wide) (sym (append-nil found)) read)
+first_read : (words : List (List ℕ)) (n : ℕ) (text found widths : List ℕ) (is_wide : Bool) → BeginsWithDigits text widths → 2 * length widths ≤ length text
+    → n ≤ length widths
+    → length found < length words → AreRead words text found is_wide → (length found + n < length words)
+    × AreRead words (drop (2 * n) text) (found ++ take n widths) is_wide
+first_read words zero text found widths is_wide begins long few low read =
+    (omega (arith, low), subst (λ t. AreRead words text t is_wide) (sym (append-nil found)) read)
 first_read words (suc n) text found widths is_wide begins long few low read =
     let before = first_read words n text found widths is_wide begins long (omega (arith, few)) low read in
     let rest = drop (2 * n) text in
     let here = begins n (omega (arith, few)) in
-    let count : length (found ++ take n widths) ≡ length found + n = length-append found (take n widths) ∙ ap (λ k. length found + k) (length-take-le n widths (omega (arith, few))) in
+    let count : length (found ++ take n widths) ≡ length found + n =
+    length-append found (take n widths) ∙ ap (λ k. length found + k) (length-take-le n widths (omega (arith, few))) in
     let left : length rest ≡ length text - 2 * n = length-drop (2 * n) text in
     let digit : get_or rest 0 0 ≡ get_or text (2 * n) 0 = get_or-drop (2 * n) text 0 0 ∙ ap (λ k. get_or text k 0) (omega arith) in
     let space : get_or rest 1 0 ≡ get_or text (2 * n + 1) 0 = get_or-drop (2 * n) text 1 0 in
     let after : take (length rest - 2) (drop 2 rest) ≡ drop (2 * suc n) text =
     take_all (length rest - 2) (drop 2 rest) (omega (arith, length-drop 2 rest)) ∙ drop-drop 2 (2 * n) text ∙ ap (λ k. drop k text) (omega arith) in
     let one =
-    one_digit words (get_or widths n 0) rest (drop (2 * suc n) text) (found ++ take n widths) is_wide (omega (arith, before.0, count)) before.1 (omega (arith, left, long, few))
+    one_digit words (get_or widths n 0) rest (drop (2 * suc n) text) (found ++ take n widths) is_wide (omega (arith, before.0, count)) before.1
+    (omega (arith, left, long, few))
     (ap is_ascii_digit digit ∙ here.0) (space ∙ here.1) (here.2 ∙ ap (λ b. b - 48) (sym digit)) (sym after) in
     let next : n + 1 ≡ suc n = omega arith in
     let more : (found ++ take n widths) ++ get_or widths n 0 ∷ [] ≡ found ++ take (suc n) widths =
-    append_assoc found (take n widths) (get_or widths n 0 ∷ []) ∙ ap (λ t. found ++ t) (sym (take_more widths n 0 (omega (arith, few))) ∙ ap (λ k. take k widths) next) in
+    append_assoc found (take n widths) (get_or widths n 0 ∷ [])
+    ∙ ap (λ t. found ++ t) (sym (take_more widths n 0 (omega (arith, few))) ∙ ap (λ k. take k widths) next) in
     (omega (arith, one.0, count), subst (λ t. AreRead words (drop (2 * suc n) text) t is_wide) more one.1)
 
 -- all of them are read
-pub digits_read : (words : List (List ℕ)) (n : ℕ) (text found widths : List ℕ) (is_wide : Bool) → BeginsWithDigits text widths → length widths ≡ n → 2 * n ≤ length text
+pub digits_read : (words : List (List ℕ)) (n : ℕ) (text found widths : List ℕ) (is_wide : Bool) → BeginsWithDigits text widths → length widths ≡ n
+    → 2 * n ≤ length text
     → length found < length words → AreRead words text found is_wide
     → (length found + n < length words) × AreRead words (take (length text - 2 * n) (drop (2 * n) text)) (found ++ widths) is_wide
 digits_read words n text found widths is_wide begins count long low read =
     let first = first_read words n text found widths is_wide begins (omega (arith, count, long)) (omega (arith, count)) low read in
-    let rest : take (length text - 2 * n) (drop (2 * n) text) ≡ drop (2 * n) text = take_all (length text - 2 * n) (drop (2 * n) text) (omega (arith, length-drop (2 * n) text)) in
-    let whole : take n widths ≡ widths = take_all n widths (omega (arith, count)) in
-    (first.0, subst (λ t. AreRead words t (found ++ widths) is_wide) (sym rest) (subst (λ t. AreRead words (drop (2 * n) text) (found ++ t) is_wide) whole first.1))
+    let rest : take (length text - 2 * n) (drop (2 * n) text) ≡ drop (2 * n) text =
+    take_all (length text - 2 * n) (drop (2 * n) text) (omega (arith, length-drop (2 * n) text)) in
+    let whole : take n widths ≡ widths = take_all n widths (omega (arith, count)) in (
+      first.0,
+      subst (λ t. AreRead words t (found ++ widths) is_wide) (sym rest)
+          (subst (λ t. AreRead words (drop (2 * n) text) (found ++ t) is_wide) whole first.1),
+    )

@@ -27,7 +27,8 @@ next_word words others word i low is =
     ap (λ k. get_or words i [] ∷ drop k words) (sym next) ∙ sym (drop-cons words i [] low) ∙ is in
     (cc both, cc both)
 
-module _ (words : List (List ℕ)) (i width : ℕ) (text rest : List ℕ) (low : i < length words) (left : drop i words ≡ words_of text) (first : IsFirstWidth text width rest) where
+module _ (words : List (List ℕ)) (i width : ℕ) (text rest : List ℕ) (low : i < length words) (left : drop i words ≡ words_of text)
+    (first : IsFirstWidth text width rest) where
   next : (get_or words i [] ≡ first.word) × (drop (i + 1) words ≡ first.others)
   next = next_word words first.others first.word i low (left ∙ first.words)
 
@@ -49,10 +50,12 @@ module _ (words : List (List ℕ)) (i width : ℕ) (text rest : List ℕ) (low :
   values = ap (map (digits_value 10)) one_more ∙ map-append (digits_value 10) (take i words) (first.word ∷ [])
       ∙ ap (λ n. map (digits_value 10) (take i words) ++ n ∷ []) (sym first.value)
 
-  pub more_widths : map (min 65535) (map (digits_value 10) (take (i + 1) words)) ≡ map (min 65535) (map (digits_value 10) (take i words)) ++ min 65535 width ∷ []
+  pub more_widths : map (min 65535) (map (digits_value 10) (take (i + 1) words)) ≡ map (min 65535) (map (digits_value 10) (take i words))
+      ++ min 65535 width ∷ []
   more_widths = ap (map (min 65535)) values ∙ map-append (min 65535) (map (digits_value 10) (take i words)) (width ∷ [])
 
-  pub more_wide : list_any (nat_lt 65535) (map (digits_value 10) (take (i + 1) words)) ≡ list_any (nat_lt 65535) (map (digits_value 10) (take i words)) || nat_lt 65535 width
+  pub more_wide : list_any (nat_lt 65535) (map (digits_value 10) (take (i + 1) words))
+      ≡ list_any (nat_lt 65535) (map (digits_value 10) (take i words)) || nat_lt 65535 width
   more_wide = ap (list_any (nat_lt 65535)) values ∙ list_any-append (nat_lt 65535) (map (digits_value 10) (take i words)) (width ∷ [])
       ∙ ap (λ b. list_any (nat_lt 65535) (map (digits_value 10) (take i words)) || b) (or_false (nat_lt 65535 width))
 
@@ -64,7 +67,8 @@ pub record AreRead (words : List (List ℕ)) (text found : List ℕ) (is_wide : 
   pub wide : is_wide ≡ list_any (nat_lt 65535) (map (digits_value 10) (take (length found) words))
 
 -- one word more is read
-pub one_read : (words : List (List ℕ)) (n : ℕ) (text rest found : List ℕ) (is_wide : Bool) → length found < length words → AreRead words text found is_wide → IsFirstWidth text n rest
+pub one_read : (words : List (List ℕ)) (n : ℕ) (text rest found : List ℕ) (is_wide : Bool) → length found < length words → AreRead words text found is_wide
+    → IsFirstWidth text n rest
     → AreRead words rest (found ++ min 65535 n ∷ []) (is_wide || nat_lt 65535 n)
 one_read words n text rest found is_wide low read first =
     let k = length found in

@@ -33,7 +33,8 @@ parts_at text i low =
     sym (take-append-drop i text) ∙ ap (λ t. take i text ++ t) (drop-cons text i 0 low ∙ ap (λ k. get_or text i 0 ∷ drop k text) next)
 
 -- a width that ends the text
-pub last_width : (text rest : List ℕ) (n : ℕ) → list_all is_ascii_digit text ≡ true → 0 < length text → length text ≤ 5 → n ≡ digits_value 10 text → IsFirstWidth text n rest
+pub last_width : (text rest : List ℕ) (n : ℕ) → list_all is_ascii_digit text ≡ true → 0 < length text → length text ≤ 5 → n ≡ digits_value 10 text
+    → IsFirstWidth text n rest
 last_width text rest n all some few is = record {
   word = text;
   others = [];
@@ -51,7 +52,8 @@ word_before_space text i low all space =
     ∙ slice_split_at (λ b. b == 32) (take i text) 32 (drop (i + 1) text) (no_spaces (take i text) all) refl
 
 -- a width before a space
-pub next_width : (text rest : List ℕ) (i n : ℕ) → rest ≡ take (length text - (i + 1)) (drop (i + 1) text) → i < length text → 0 < i → i ≤ 5 → list_all is_ascii_digit (take i text) ≡ true → get_or text i 0 ≡ 32 → n ≡ digits_value 10 (take i text)
+pub next_width : (text rest : List ℕ) (i n : ℕ) → rest ≡ take (length text - (i + 1)) (drop (i + 1) text) → i < length text → 0 < i → i ≤ 5
+    → list_all is_ascii_digit (take i text) ≡ true → get_or text i 0 ≡ 32 → n ≡ digits_value 10 (take i text)
     → IsFirstWidth text n rest
 next_width text rest i n after low some few all space is =
     let long = length-take-le i text (omega arith) in
@@ -65,7 +67,8 @@ next_width text rest i n after low some few all space is =
     }
 
 -- digits before a word are of this word
-front_word : (ds ys word : List ℕ) (words : List (List ℕ)) → list_all is_ascii_digit ds ≡ true → words_of ys ≡ word ∷ words → words_of (ds ++ ys) ≡ (ds ++ word) ∷ words
+front_word : (ds ys word : List ℕ) (words : List (List ℕ)) → list_all is_ascii_digit ds ≡ true → words_of ys ≡ word ∷ words → words_of (ds ++ ys)
+    ≡ (ds ++ word) ∷ words
 front_word [] ys word words all is = is
 front_word (d ∷ ds) ys word words all is =
     let parts = and_parts (is_ascii_digit d) (list_all is_ascii_digit ds) all in
@@ -98,7 +101,8 @@ and_false false = refl
 -- no number has another byte than digits
 no_digit : (ds : List ℕ) (b : ℕ) (word : List ℕ) → is_ascii_digit b ≡ false → is_number 5 (ds ++ b ∷ word) ≡ false
 no_digit ds b word other =
-    rw (list_all-append is_ascii_digit ds (b ∷ word), other) (last_false (nat_le 1 (length (ds ++ b ∷ word))) (nat_le (length (ds ++ b ∷ word)) 5) (list_all is_ascii_digit ds))
+    rw (list_all-append is_ascii_digit ds (b ∷ word), other)
+    (last_false (nat_le 1 (length (ds ++ b ∷ word))) (nat_le (length (ds ++ b ∷ word)) 5) (list_all is_ascii_digit ds))
 
 -- nor a sixth one
 no_sixth : (ds : List ℕ) (b : ℕ) (word : List ℕ) → length ds ≡ 5 → is_number 5 (ds ++ b ∷ word) ≡ false
@@ -115,7 +119,8 @@ no_width text i low all unended why =
     elim (cases_eq b 32) [
       | inl space ↦
           let start : i ≡ 0 = omega (arith, unended space) in
-          ap (λ t. are_widths (words_of t)) (parts_at text i low ∙ ap (λ c. take i text ++ c ∷ drop (i + 1) text) space ∙ ap (λ k. take k text ++ 32 ∷ drop (k + 1) text) start)
+          ap (λ t. are_widths (words_of t)) (parts_at text i low ∙ ap (λ c. take i text ++ c ∷ drop (i + 1) text) space
+          ∙ ap (λ k. take k text ++ 32 ∷ drop (k + 1) text) start)
       | inr other ↦
           ap (λ t. are_widths (words_of t)) (parts_at text i low)
           ∙ bad_word (take i text) b (drop (i + 1) text) all other (λ word. elim why [
@@ -125,7 +130,8 @@ no_width text i low all unended why =
     ]
 
 -- the number of at most five digits at the front of a text
-pub front_small : (text : List ℕ) (i n : ℕ) → list_all is_ascii_digit (take i text) ≡ true → i ≤ 5 → i ≤ length text → n ≡ digits_value 10 (take i text) → n < 100000
+pub front_small : (text : List ℕ) (i n : ℕ) → list_all is_ascii_digit (take i text) ≡ true → i ≤ 5 → i ≤ length text → n ≡ digits_value 10 (take i text)
+    → n < 100000
 front_small text i n all few low is =
     let less = few_digits (take i text) all (omega (arith, length-take-le i text low)) in
     omega (arith, less, is)

@@ -60,7 +60,8 @@ nothing_front L records before after is =
     let none = empty_before before after is in
     ([], records (pieces_of (was_read before)), [], [], refl, tt, sym (append-nil (was_written before) ∙ ap was_written none))
 
-pub come_at_first : (f : Form) (n : ℕ) (lanes : List Waiting) (places : List Place) (h : Held) (stopped : Option LiveFault) → length lanes ≡ n → n < 256 → All IsFresh lanes → places ≡ [] → h ≡ nothing_held → stopped ≡ None
+pub come_at_first : (f : Form) (n : ℕ) (lanes : List Waiting) (places : List Place) (h : Held) (stopped : Option LiveFault) → length lanes ≡ n → n < 256
+    → All IsFresh lanes → places ≡ [] → h ≡ nothing_held → stopped ≡ None
     → HasCome f [] lanes places h stopped (replicate n []) (replicate n [])
 come_at_first f n lanes places h stopped count few fresh none held going = record {
   waiting = record {
@@ -77,17 +78,18 @@ come_at_first f n lanes places h stopped count few fresh none held going = recor
   };
   turn = subst (All (IsInTurn lanes)) (sym none) (All-nil (IsInTurn lanes));
   few = omega (arith, count, few);
-  keeps = λ _. subst (λ ps. KeepsPlaces (length lanes) f (replicate n []) (replicate n []) [] ps h) (sym none) (subst (KeepsPlaces (length lanes) f (replicate n []) (replicate n []) [] []) (sym held) (record {
-    taken = [];
-    done = [];
-    turn = [];
-    lines = lines_are_pieces.first;
-    replies = refl;
-    numbers = λ l. sym (ap length (none_at n l));
-    kept = tt;
-    rows = All-nil (WasGiven (replicate n []));
-    answers = ([], tt, refl);
-  }));
+  keeps = λ _. subst (λ ps. KeepsPlaces (length lanes) f (replicate n []) (replicate n []) [] ps h) (sym none)
+      (subst (KeepsPlaces (length lanes) f (replicate n []) (replicate n []) [] []) (sym held) (record {
+        taken = [];
+        done = [];
+        turn = [];
+        lines = lines_are_pieces.first;
+        replies = refl;
+        numbers = λ l. sym (ap length (none_at n l));
+        kept = tt;
+        rows = All-nil (WasGiven (replicate n []));
+        answers = ([], tt, refl);
+      }));
   stands = record {
     prompt = nothing_prompt (TellsReply f (replicate n []) (replicate n [])) (replies_to (line_meant (length lanes)));
     front = nothing_front (TellsReply f (replicate n []) (replicate n [])) (replies_to (line_meant (length lanes)));
@@ -106,11 +108,16 @@ told_at_first a b stopped none = record {
 }
 
 -- what a live input leaves of its wire where it has not begun
-pub lived_nothing : {W : Type 0} (t : LiveTerms) (did : W → W → List Event → Type 0) (read_failed write_failed : W → Bool) (at_end : W → Type 0) (wire after : W) (result : Result (Unit {0}) LiveFault) (f : LiveFault) → did wire wire [] → after ≡ wire
+pub lived_nothing : {W : Type 0} (t : LiveTerms) (did : W → W → List Event → Type 0) (read_failed write_failed : W → Bool) (at_end : W → Type 0)
+    (wire after : W) (result : Result (Unit {0}) LiveFault) (f : LiveFault) → did wire wire [] → after ≡ wire
     → result ≡ Err f → (f ≡ fault.NoMemory) ⊎ (f ≡ fault.NoThread) → Lived t did read_failed write_failed at_end wire after result
 lived_nothing t did read_failed write_failed at_end wire after result f fresh same is why =
-    let no_read : IsErrOf result fault.ReadFault → ⊥ = λ err. ⊎_elim (λ (e : f ≡ fault.NoMemory). (let never : ⊥ = cc (is, err, e) in never)) (λ (e : f ≡ fault.NoThread). (let never : ⊥ = cc (is, err, e) in never)) why in
-    let no_write : IsErrOf result fault.WriteFault → ⊥ = λ err. ⊎_elim (λ (e : f ≡ fault.NoMemory). (let never : ⊥ = cc (is, err, e) in never)) (λ (e : f ≡ fault.NoThread). (let never : ⊥ = cc (is, err, e) in never)) why in
+    let no_read : IsErrOf result fault.ReadFault → ⊥ = λ err.
+    ⊎_elim (λ (e : f ≡ fault.NoMemory). (let never : ⊥ = cc (is, err, e) in never)) (λ (e : f ≡ fault.NoThread). (let never : ⊥ = cc (is, err, e) in never))
+    why in
+    let no_write : IsErrOf result fault.WriteFault → ⊥ = λ err.
+    ⊎_elim (λ (e : f ≡ fault.NoMemory). (let never : ⊥ = cc (is, err, e) in never)) (λ (e : f ≡ fault.NoThread). (let never : ⊥ = cc (is, err, e) in never))
+    why in
     record {
       events = [];
       were_done = subst (λ w. did wire w []) (sym same) fresh;
@@ -128,7 +135,8 @@ some_one : {X : Type 0} {x y : X} → Some x ≡ Some y → x ≡ y
 some_one is = cc
 
 -- what was brought of a row that was given is the answer to the row
-pub tells_reply : (year : ℕ) (f : Form) (given : List (List (List ℕ))) (brought : List (List Plain)) → ServedByPlace → AreServedFirst year given brought → (r : Reply) (t : List ℕ) → TellsReply f given brought r t → IsReply year f r t
+pub tells_reply : (year : ℕ) (f : Form) (given : List (List (List ℕ))) (brought : List (List Plain)) → ServedByPlace → AreServedFirst year given brought
+    → (r : Reply) (t : List ℕ) → TellsReply f given brought r t → IsReply year f r t
 tells_reply year f given brought law first (Row lane number widths) t is =
     let rows = get_or given lane [] in
     let list = get_or (served year given) lane [] in
@@ -143,7 +151,8 @@ tells_reply year f given brought law first (Row lane number widths) t is =
 tells_reply year f given brought law first (Line line) t is = is
 
 -- at the end of the input all pieces are answered
-pub all_answered : (lanes : ℕ) (f : Form) (given : List (List (List ℕ))) (brought : List (List Plain)) (events : List Event) (h : Held) → (k : KeepsPlaces lanes f given brought events [] h) → held_line h ≡ None → h.has_ended ≡ true
+pub all_answered : (lanes : ℕ) (f : Form) (given : List (List (List ℕ))) (brought : List (List Plain)) (events : List Event) (h : Held)
+    → (k : KeepsPlaces lanes f given brought events [] h) → held_line h ≡ None → h.has_ended ≡ true
     → AnswersBy (TellsReply f given brought) (replies_to (line_meant lanes) (pieces_of (was_read events))) (was_written events)
 all_answered lanes f given brought events h k none ended =
     let meant = line_meant lanes in
@@ -163,7 +172,8 @@ no_items [] is = refl
 no_items (x ∷ xs) is = absurd (omega (arith, eqb-true (length (x ∷ xs)) 0 is))
 
 -- what it is to be finished
-pub finished : (h : Held) (places : List Place) (stopped : Option LiveFault) → (h.has_ended && (is_none (held_line h) && (nat_eq (length places) 0 && is_none stopped))) ≡ true
+pub finished : (h : Held) (places : List Place) (stopped : Option LiveFault)
+    → (h.has_ended && (is_none (held_line h) && (nat_eq (length places) 0 && is_none stopped))) ≡ true
     → (h.has_ended ≡ true) × (held_line h ≡ None) × (places ≡ []) × (stopped ≡ None)
 finished h places stopped is =
     let a = and_parts h.has_ended (is_none (held_line h) && (nat_eq (length places) 0 && is_none stopped)) is in
@@ -180,20 +190,23 @@ none_lost never NoMemory = tt
 none_lost never (Stopped f) = tt
 none_lost never (Lost f) = absurd (never f)
 
-pub at_a_regular_end : {S B : Type 0} (stopped : Option LiveFault) (e : Ended S B) (r : Result (Unit {0}) LiveFault) (P : Type 0) → EndsAs stopped e r → (stopped ≡ None → e ≡ Done → P) → OnOk r P
+pub at_a_regular_end : {S B : Type 0} (stopped : Option LiveFault) (e : Ended S B) (r : Result (Unit {0}) LiveFault) (P : Type 0) → EndsAs stopped e r
+    → (stopped ≡ None → e ≡ Done → P) → OnOk r P
 at_a_regular_end (Some f) e r P is so = subst (λ q. OnOk q P) (sym is) tt
 at_a_regular_end None Done r P is so = subst (λ q. OnOk q P) (sym is) (so refl refl)
 at_a_regular_end None NoMemory r P is so = subst (λ q. OnOk q P) (sym is) tt
 at_a_regular_end None (Stopped f) r P is so = subst (λ q. OnOk q P) (sym is) tt
 at_a_regular_end None (Lost f) r P is so = subst (λ q. OnOk q P) (sym is) tt
 
-pub why_it_ended : {S B : Type 0} (stopped : Option LiveFault) (e : Ended S B) (r : Result (Unit {0}) LiveFault) (f : LiveFault) → EndsAs stopped e r → (f ≡ fault.NoMemory → ⊥) → IsErrOf r f → stopped ≡ Some f
+pub why_it_ended : {S B : Type 0} (stopped : Option LiveFault) (e : Ended S B) (r : Result (Unit {0}) LiveFault) (f : LiveFault) → EndsAs stopped e r
+    → (f ≡ fault.NoMemory → ⊥) → IsErrOf r f → stopped ≡ Some f
 why_it_ended (Some g) e r f is other err = let same : g ≡ f = cc (is, err) in ap Some same
 why_it_ended None Done r f is other err = (let never : ⊥ = cc (is, err) in absurd never)
 why_it_ended None NoMemory r f is other err = let same : f ≡ fault.NoMemory = cc (is, err) in absurd (other same)
 why_it_ended None (Stopped g) r f is other err = let same : f ≡ fault.NoMemory = cc (is, err) in absurd (other same)
 why_it_ended None (Lost g) r f is other err = let same : f ≡ fault.NoMemory = cc (is, err) in absurd (other same)
 
-pub it_is_told : {S B : Type 0} (stopped : Option LiveFault) (e : Ended S B) (r : Result (Unit {0}) LiveFault) (f : LiveFault) → EndsAs stopped e r → stopped ≡ Some f → IsErrOf r f
+pub it_is_told : {S B : Type 0} (stopped : Option LiveFault) (e : Ended S B) (r : Result (Unit {0}) LiveFault) (f : LiveFault) → EndsAs stopped e r → stopped
+    ≡ Some f → IsErrOf r f
 it_is_told (Some g) e r f is told = let same : g ≡ f = cc told in is ∙ ap Err same
 it_is_told None e r f is told = (let never : ⊥ = cc told in absurd never)

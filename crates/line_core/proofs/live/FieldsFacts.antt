@@ -20,7 +20,8 @@ comma_at xs k found = let high = found.0.high in
 
 no_comma : (xs : List ℕ) → IsFirstByte (is_byte 44) xs None → All (λ b. is_comma b ≡ false) xs
 no_comma xs none =
-    let past : position_or_len is_comma xs ≡ length xs = position_or_len_is is_comma xs (length xs) 0 (omega arith) (λ j low. false_from_ne_true _ (none j (omega arith) low)) (λ low. absurd (omega (arith, low))) in
+    let past : position_or_len is_comma xs ≡ length xs = position_or_len_is is_comma xs (length xs) 0 (omega arith)
+    (λ j low. false_from_ne_true _ (none j (omega arith) low)) (λ low. absurd (omega (arith, low))) in
     λ k d low. fails_before_first is_comma xs k d (omega (arith, low, past))
 
 -- a comma is found at k
@@ -50,7 +51,8 @@ return_cut (a ∷ c ∷ front) b = ap (λ t. a ∷ t) (return_cut (c ∷ front) 
 
 -- what a line with a byte means
 pub byte_meant : (lanes : ℕ) (t : List ℕ) → 0 < length t
-    → text_meant lanes t ≡ Some (if nat_lt most_line (length t) then Err (refusal_line None (line_fault_text line_fault.InputSize)) else fields_meant lanes (fields_in t))
+    → text_meant lanes t ≡ Some (if nat_lt most_line (length t) then Err (refusal_line None (line_fault_text line_fault.InputSize)) else fields_meant lanes
+    (fields_in t))
 byte_meant lanes [] some = absurd (omega (arith, some))
 byte_meant lanes (b ∷ t) some = refl
 

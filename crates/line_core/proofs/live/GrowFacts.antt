@@ -24,7 +24,8 @@ Grows {X} old new = (l : ℕ) → (more : List X) × (get_or new l [] ≡ get_or
 pub grows_same : {X : Type 0} (lists : List (List X)) → Grows lists lists
 grows_same lists l = ([], sym (append-nil (get_or lists l [])))
 
-pub more_here : {X : Type 0} (lists : List (List X)) (i l : ℕ) (x : X) → i < length lists → l ≡ i → get_or (with_more i x lists) l [] ≡ get_or lists l [] ++ x ∷ []
+pub more_here : {X : Type 0} (lists : List (List X)) (i l : ℕ) (x : X) → i < length lists → l ≡ i → get_or (with_more i x lists) l [] ≡ get_or lists l []
+    ++ x ∷ []
 more_here lists i l x low is = get_or-set_at lists i l (get_or lists i [] ++ x ∷ []) [] is low ∙ ap (λ k. get_or lists k [] ++ x ∷ []) (sym is)
 
 pub more_other : {X : Type 0} (lists : List (List X)) (i l : ℕ) (x : X) → l ≢ i → get_or (with_more i x lists) l [] ≡ get_or lists l []
@@ -60,22 +61,26 @@ last_get : {X : Type 0} (xs : List X) (x d : X) → get_or (xs ++ x ∷ []) (len
 last_get xs x d = grind (arith, common_steps)
 
 pub got_last : {X : Type 0} (xs : List X) (x : X) (n : ℕ) → n ≡ length xs → slice_get (xs ++ x ∷ []) n ≡ Some x
-got_last xs x n is = slice_get-get_or (xs ++ x ∷ []) n x (omega (arith, is, length-append xs (x ∷ []))) ∙ ap Some (ap (λ k. get_or (xs ++ x ∷ []) k x) is ∙ last_get xs x x)
+got_last xs x n is = slice_get-get_or (xs ++ x ∷ []) n x (omega (arith, is, length-append xs (x ∷ [])))
+    ∙ ap Some (ap (λ k. get_or (xs ++ x ∷ []) k x) is ∙ last_get xs x x)
 
-pub got_grown : {X : Type 0} (old new : List (List X)) (l n : ℕ) (x : X) → Grows old new → slice_get (get_or old l []) n ≡ Some x → slice_get (get_or new l []) n ≡ Some x
+pub got_grown : {X : Type 0} (old new : List (List X)) (l n : ℕ) (x : X) → Grows old new → slice_get (get_or old l []) n ≡ Some x
+    → slice_get (get_or new l []) n ≡ Some x
 got_grown old new l n x grows at = let g = grows l in ap (λ xs. slice_get xs n) g.1 ∙ got_more (get_or old l []) g.0 n x at
 
-module _ (f : Form) (given given' : List (List (List ℕ))) (brought brought' : List (List Plain)) (more : Grows given given') (others : Grows brought brought') where
-  pub tells_grow : (r : Reply) (t : List ℕ) → TellsReply f given brought r t → TellsReply f given' brought' r t
-  tells_grow (Row lane number widths) t is =
-      let x = is.1 in
-      (got_grown given given' lane number widths more is.0, (x.0, x.1, got_grown brought brought' lane number x.0 others x.2, x.3, x.4))
-  tells_grow (Line line) t is = is
+module _ (f : Form) (given given' : List (List (List ℕ))) (brought brought' : List (List Plain)) (more : Grows given given') (others : Grows brought brought')
+  where
+    pub tells_grow : (r : Reply) (t : List ℕ) → TellsReply f given brought r t → TellsReply f given' brought' r t
+    tells_grow (Row lane number widths) t is =
+        let x = is.1 in
+        (got_grown given given' lane number widths more is.0, (x.0, x.1, got_grown brought brought' lane number x.0 others x.2, x.3, x.4))
+    tells_grow (Line line) t is = is
 
-  pub stands_grow : (lanes : ℕ) (events : List Event) (h : Held) (stopped : Option LiveFault) → Stands lanes f given brought events h stopped → Stands lanes f given' brought' events h stopped
-  stands_grow lanes events h stopped s = record {
-    prompt = prompt_weaker (TellsReply f given brought) (TellsReply f given' brought') tells_grow (replies_to (line_meant lanes)) events s.prompt;
-    front = front_weaker (TellsReply f given brought) (TellsReply f given' brought') tells_grow (replies_to (line_meant lanes)) events s.front;
-    ended = s.ended;
-    answered = λ is. answers_weaker (TellsReply f given brought) (TellsReply f given' brought') tells_grow _ _ (s.answered is);
-  }
+    pub stands_grow : (lanes : ℕ) (events : List Event) (h : Held) (stopped : Option LiveFault) → Stands lanes f given brought events h stopped
+        → Stands lanes f given' brought' events h stopped
+    stands_grow lanes events h stopped s = record {
+      prompt = prompt_weaker (TellsReply f given brought) (TellsReply f given' brought') tells_grow (replies_to (line_meant lanes)) events s.prompt;
+      front = front_weaker (TellsReply f given brought) (TellsReply f given' brought') tells_grow (replies_to (line_meant lanes)) events s.front;
+      ended = s.ended;
+      answered = λ is. answers_weaker (TellsReply f given brought) (TellsReply f given' brought') tells_grow _ _ (s.answered is);
+    }

@@ -16,7 +16,8 @@ empty_cut : {X : Type 0} (before after : List X) → [] ≡ before ++ after → 
 empty_cut [] after is = (refl, sym is)
 empty_cut (b ∷ before) after is = cc
 
-cut_more : {X : Type 0} (xs : List X) (x : X) (before after : List X) → xs ++ x ∷ [] ≡ before ++ after → ((after ≡ []) × (before ≡ xs ++ x ∷ [])) ⊎ CutLater xs x before after
+cut_more : {X : Type 0} (xs : List X) (x : X) (before after : List X) → xs ++ x ∷ [] ≡ before ++ after → ((after ≡ []) × (before ≡ xs ++ x ∷ []))
+    ⊎ CutLater xs x before after
 cut_more xs x [] after is = inr (xs, sym is, refl)
 cut_more [] x (b ∷ before) after is =
     let none = empty_cut before after (let e : [] ≡ before ++ after = cc is in e) in
@@ -43,7 +44,8 @@ written_more events bytes = flat_map-append bytes_written events (Wrote bytes �
 read_same : (events : List Event) (bytes : List ℕ) → was_read (events ++ Wrote bytes ∷ []) ≡ was_read events
 read_same events bytes = flat_map-append bytes_read events (Wrote bytes ∷ []) ∙ append-nil (was_read events)
 
-step_over : (events : List Event) (piece : List ℕ) (pieces : List (List ℕ)) → events ++ writes_of (piece ∷ pieces) ≡ (events ++ Wrote piece ∷ []) ++ writes_of pieces
+step_over : (events : List Event) (piece : List ℕ) (pieces : List (List ℕ)) → events ++ writes_of (piece ∷ pieces) ≡ (events ++ Wrote piece ∷ [])
+    ++ writes_of pieces
 step_over events piece pieces = sym (append_assoc events (Wrote piece ∷ []) (writes_of pieces))
 
 pub written_all : (events : List Event) (pieces : List (List ℕ)) → was_written (events ++ writes_of pieces) ≡ was_written events ++ concat pieces
@@ -79,14 +81,16 @@ module _ {X : Type 0} (L : X → List ℕ → Type 0) where
         was before sooner more (cut ∙ ap (λ x. before ++ x ∷ sooner) head)
 
     -- a read, before which all lines that had ended were answered
-    pub prompt_read : (events : List Event) (bytes : List ℕ) → IsPromptBy L records events → AnswersBy L (records (whole_lines (was_read events))) (was_written events)
+    pub prompt_read : (events : List Event) (bytes : List ℕ) → IsPromptBy L records events
+        → AnswersBy L (records (whole_lines (was_read events))) (was_written events)
         → IsPromptBy L records (events ++ Read bytes ∷ [])
     prompt_read events bytes was answers = λ before after more is. ⊎_elim
         (λ (h : (Read more ∷ after ≡ []) × (before ≡ events ++ Read bytes ∷ [])). let e = h.0 in absurd (let c : ⊥ = cc e in c))
         (λ (h : CutLater events (Read bytes) before (Read more ∷ after)). at_read events bytes was answers before after more h.0 h.1 h.2)
         (cut_more events (Read bytes) before (Read more ∷ after) is)
 
-    at_write : (events : List Event) (bytes : List ℕ) → IsPromptBy L records events → (before after : List Event) (more : List ℕ) (sooner : List Event) → Read more ∷ after ≡ sooner ++ Wrote bytes ∷ [] → events ≡ before ++ sooner
+    at_write : (events : List Event) (bytes : List ℕ) → IsPromptBy L records events → (before after : List Event) (more : List ℕ) (sooner : List Event)
+        → Read more ∷ after ≡ sooner ++ Wrote bytes ∷ [] → events ≡ before ++ sooner
         → AnswersBy L (records (whole_lines (was_read before))) (was_written before)
     at_write events bytes was before after more [] is cut = absurd (let c : ⊥ = cc is in c)
     at_write events bytes was before after more (e ∷ sooner) is cut =
@@ -121,7 +125,9 @@ module _ {X : Type 0} (L : X → List ℕ → Type 0) where
         ap (λ t. was_written events ++ t) (append_assoc piece (concat pieces) rest) ∙ sym (append_assoc (was_written events) piece (concat pieces ++ rest))
         ∙ ap (λ t. t ++ (concat pieces ++ rest)) (sym (written_more events piece)) in
         let then : BeginsBy L (records (pieces_of (was_read now))) (was_written now ++ (concat pieces ++ rest)) =
-        subst (λ t. BeginsBy L (records (pieces_of (was_read now))) t) text (subst (λ bs. BeginsBy L (records (pieces_of bs)) (was_written events ++ ((piece ++ concat pieces) ++ rest))) (sym (read_same events piece)) begun) in
+        subst (λ t. BeginsBy L (records (pieces_of (was_read now))) t) text
+        (subst (λ bs. BeginsBy L (records (pieces_of bs)) (was_written events ++ ((piece ++ concat pieces) ++ rest))) (sym (read_same events piece)) begun)
+        in
         subst (IsFrontBy L records) (sym (step_over events piece pieces))
         (front_writes now pieces rest (front_more events (Wrote piece) was (begins_shorter _ (was_written now) (concat pieces ++ rest) then)) then)
 

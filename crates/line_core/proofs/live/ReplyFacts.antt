@@ -22,22 +22,31 @@ later_other lane l next not_so = ap (λ b. cond b (next l + 1) (next l)) (ne_eqb
 
 module _ (meant : List ℕ → Option Meant) where
   -- more lines
-  pub replies_more : (lines more : List (List ℕ)) → replies_to meant (lines ++ more) ≡ replies_to meant lines ++ replies_from (numbers_after_lines meant lines) (filter_map meant more)
-  replies_more lines more = ap (replies_from (λ lane. 0)) (filter_map-append meant lines more) ∙ replies_append (λ lane. 0) (filter_map meant lines) (filter_map meant more)
+  pub replies_more : (lines more : List (List ℕ)) → replies_to meant (lines ++ more) ≡ replies_to meant lines
+      ++ replies_from (numbers_after_lines meant lines) (filter_map meant more)
+  replies_more lines more = ap (replies_from (λ lane. 0)) (filter_map-append meant lines more)
+      ∙ replies_append (λ lane. 0) (filter_map meant lines) (filter_map meant more)
 
-  numbers_more : (lines more : List (List ℕ)) → numbers_after_lines meant (lines ++ more) ≡ numbers_from (numbers_after_lines meant lines) (filter_map meant more)
-  numbers_more lines more = ap (numbers_from (λ lane. 0)) (filter_map-append meant lines more) ∙ after_append (λ lane. 0) (filter_map meant lines) (filter_map meant more)
+  numbers_more : (lines more : List (List ℕ)) → numbers_after_lines meant (lines ++ more)
+      ≡ numbers_from (numbers_after_lines meant lines) (filter_map meant more)
+  numbers_more lines more = ap (numbers_from (λ lane. 0)) (filter_map-append meant lines more)
+      ∙ after_append (λ lane. 0) (filter_map meant lines) (filter_map meant more)
 
   -- a line without a record
   pub no_reply : (lines : List (List ℕ)) (line : List ℕ) → meant line ≡ None → replies_to meant (lines ++ line ∷ []) ≡ replies_to meant lines
-  no_reply lines line none = replies_more lines (line ∷ []) ∙ ap (λ o. replies_to meant lines ++ replies_from (numbers_after_lines meant lines) (cons_option o [])) none ∙ append-nil (replies_to meant lines)
+  no_reply lines line none = replies_more lines (line ∷ []) ∙ ap
+      (λ o. replies_to meant lines ++ replies_from (numbers_after_lines meant lines) (cons_option o [])) none ∙ append-nil (replies_to meant lines)
 
-  pub same_numbers : (lines : List (List ℕ)) (line : List ℕ) → meant line ≡ None → numbers_after_lines meant (lines ++ line ∷ []) ≡ numbers_after_lines meant lines
+  pub same_numbers : (lines : List (List ℕ)) (line : List ℕ) → meant line ≡ None → numbers_after_lines meant (lines ++ line ∷ [])
+      ≡ numbers_after_lines meant lines
   same_numbers lines line none = numbers_more lines (line ∷ []) ∙ ap (λ o. numbers_from (numbers_after_lines meant lines) (cons_option o [])) none
 
   -- a line with a record
-  pub one_reply : (lines : List (List ℕ)) (line : List ℕ) (m : Meant) → meant line ≡ Some m → replies_to meant (lines ++ line ∷ []) ≡ replies_to meant lines ++ reply_to (numbers_after_lines meant lines) m ∷ []
-  one_reply lines line m is = replies_more lines (line ∷ []) ∙ ap (λ o. replies_to meant lines ++ replies_from (numbers_after_lines meant lines) (cons_option o [])) is
+  pub one_reply : (lines : List (List ℕ)) (line : List ℕ) (m : Meant) → meant line ≡ Some m → replies_to meant (lines ++ line ∷ []) ≡ replies_to meant lines
+      ++ reply_to (numbers_after_lines meant lines) m ∷ []
+  one_reply lines line m is = replies_more lines (line ∷ [])
+      ∙ ap (λ o. replies_to meant lines ++ replies_from (numbers_after_lines meant lines) (cons_option o [])) is
 
-  pub next_numbers : (lines : List (List ℕ)) (line : List ℕ) (m : Meant) → meant line ≡ Some m → numbers_after_lines meant (lines ++ line ∷ []) ≡ numbers_after (numbers_after_lines meant lines) (reply_to (numbers_after_lines meant lines) m)
+  pub next_numbers : (lines : List (List ℕ)) (line : List ℕ) (m : Meant) → meant line ≡ Some m → numbers_after_lines meant (lines ++ line ∷ [])
+      ≡ numbers_after (numbers_after_lines meant lines) (reply_to (numbers_after_lines meant lines) m)
   next_numbers lines line m is = numbers_more lines (line ∷ []) ∙ ap (λ o. numbers_from (numbers_after_lines meant lines) (cons_option o [])) is

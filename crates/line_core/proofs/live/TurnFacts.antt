@@ -21,7 +21,8 @@ item_set xs i k v w at =
 
 pub item_kept : {X : Type 0} (xs : List X) (i k : ℕ) (v : X) → k ≢ i → slice_get (set xs i v) k ≡ slice_get xs k
 item_kept xs i k v other = ⊎_elim
-    (λ (low : k < length xs). slice_get-get_or (set xs i v) k v (omega (arith, low, length-set xs i v)) ∙ ap Some (get_or-set_other xs i k v v other) ∙ sym (slice_get-get_or xs k v low))
+    (λ (low : k < length xs). slice_get-get_or (set xs i v) k v (omega (arith, low, length-set xs i v)) ∙ ap Some (get_or-set_other xs i k v v other)
+    ∙ sym (slice_get-get_or xs k v low))
     (λ (past : length xs ≤ k). slice_get_past (set xs i v) k (omega (arith, past, length-set xs i v)) ∙ sym (slice_get_past xs k past))
     (cases_lt k (length xs))
 
@@ -31,7 +32,12 @@ pub one_more_ended : (now old : List Waiting) (i : ℕ) (v w' : Waiting) → i <
     → ((k : ℕ) → i ≤ k → slice_get now k ≡ slice_get old k)
     → (k : ℕ) (w : Waiting) → slice_get (set now i w') k ≡ Some w → k < i + 1 → (x : Waiting) × (slice_get old k ≡ Some x) × IsEnded x w
 one_more_ended now old i v w' low at is each others k w got below = ⊎_elim
-    (λ (e : (k ≡ i) × (w ≡ w')). (v, ap (λ n. slice_get old n) e.0 ∙ sym (others i (omega arith)) ∙ slice_get_read now (length now) i v refl low at, subst (IsEnded v) (sym e.1) is))
+    (λ (e : (k ≡ i) × (w ≡ w')). (
+      v,
+      ap (λ n. slice_get old n) e.0 ∙ sym (others i (omega arith))
+          ∙ slice_get_read now (length now) i v refl low at,
+      subst (IsEnded v) (sym e.1) is,
+    ))
     (λ (e : (k ≢ i) × (slice_get now k ≡ Some w)). let other = e.0 in each k w e.1 (omega (arith, below, other)))
     (item_set now i k w' w got)
 

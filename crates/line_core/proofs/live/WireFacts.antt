@@ -21,29 +21,35 @@ use Rattle.line_core.proofs.live.CameFacts.{ready, turn_ended}
 use Rattle.line_core.proofs.live.KeepFacts.{has_read, has_room, stands_read, stands_stopped, wrote_all, wrote_some}
 
 pub not_write_fault : (stopped : Option LiveFault) → MayStillWrite stopped → stopped ≡ Some WriteFault → ⊥
-not_write_fault stopped opened is = ⊎_elim (λ (e : stopped ≡ None). (let never : ⊥ = cc (e, is) in never)) (λ (e : stopped ≡ Some NoMemory). (let never : ⊥ = cc (e, is) in never)) opened
+not_write_fault stopped opened is = ⊎_elim (λ (e : stopped ≡ None). (let never : ⊥ = cc (e, is) in never))
+    (λ (e : stopped ≡ Some NoMemory). (let never : ⊥ = cc (e, is) in never)) opened
 
 pub not_read_fault : (stopped : Option LiveFault) → MayStillWrite stopped → stopped ≡ Some ReadFault → ⊥
-not_read_fault stopped opened is = ⊎_elim (λ (e : stopped ≡ None). (let never : ⊥ = cc (e, is) in never)) (λ (e : stopped ≡ Some NoMemory). (let never : ⊥ = cc (e, is) in never)) opened
+not_read_fault stopped opened is = ⊎_elim (λ (e : stopped ≡ None). (let never : ⊥ = cc (e, is) in never))
+    (λ (e : stopped ≡ Some NoMemory). (let never : ⊥ = cc (e, is) in never)) opened
 
-module _ (f : Form) (events : List Event) (lanes : List Waiting) (places : List Place) (h : Held) (stopped : Option LiveFault) (given : List (List (List ℕ))) (brought : List (List Plain)) where
+module _ (f : Form) (events : List Event) (lanes : List Waiting) (places : List Place) (h : Held) (stopped : Option LiveFault) (given : List (List (List ℕ)))
+    (brought : List (List Plain)) where
   -- all rows of the turn have come back
   pub all_ready : HasCome f events lanes places h stopped given brought → IsEven given brought → All (IsReady lanes) places
   all_ready c even = All-weaker (IsInTurn lanes) (IsReady lanes) (ready given brought lanes c.waiting even) places c.turn
 
   -- some of the turn's lines were written, and a write failed
-  pub wrote_part : (texts pieces : List (List ℕ)) (rest : List ℕ) → HasCome f events lanes places h stopped given brought → MayStillWrite stopped → AllZip (TellsPlace f lanes) places texts → concat pieces ++ rest ≡ concat texts
+  pub wrote_part : (texts pieces : List (List ℕ)) (rest : List ℕ) → HasCome f events lanes places h stopped given brought → MayStillWrite stopped
+      → AllZip (TellsPlace f lanes) places texts → concat pieces ++ rest ≡ concat texts
       → HasCome f (events ++ writes_of pieces) lanes places h (Some WriteFault) given brought
   wrote_part texts pieces rest c opened says is = record {
     waiting = c.waiting;
     turn = c.turn;
     few = c.few;
     keeps = λ p. absurd (p refl);
-    stands = wrote_some (length lanes) f given brought events lanes places h stopped (Some WriteFault) texts pieces rest c.waiting (c.keeps (not_write_fault stopped opened)) says is (λ e. (let never : ⊥ = cc e in never)) c.stands;
+    stands = wrote_some (length lanes) f given brought events lanes places h stopped (Some WriteFault) texts pieces rest c.waiting
+        (c.keeps (not_write_fault stopped opened)) says is (λ e. (let never : ⊥ = cc e in never)) c.stands;
   }
 
   -- all of them were
-  pub wrote_turn : (texts pieces : List (List ℕ)) (new : List Waiting) (none : List Place) → HasCome f events lanes places h stopped given brought → MayStillWrite stopped → IsEven given brought → AllZip (TellsPlace f lanes) places texts → concat pieces ≡ concat texts
+  pub wrote_turn : (texts pieces : List (List ℕ)) (new : List Waiting) (none : List Place) → HasCome f events lanes places h stopped given brought
+      → MayStillWrite stopped → IsEven given brought → AllZip (TellsPlace f lanes) places texts → concat pieces ≡ concat texts
       → none ≡ [] → length new ≡ length lanes → ((k : ℕ) (w : Waiting) → slice_get new k ≡ Some w → (v : Waiting) × (slice_get lanes k ≡ Some v) × IsEnded v w)
       → HasCome f (events ++ writes_of pieces) new none h stopped given brought
   wrote_turn texts pieces new none c opened even says is empty count each =
@@ -52,14 +58,17 @@ module _ (f : Form) (events : List Event) (lanes : List Waiting) (places : List 
         waiting = turn_ended given brought lanes new c.waiting even count each;
         turn = subst (All (IsInTurn new)) (sym empty) (All-nil (IsInTurn new));
         few = omega (arith, c.few, count);
-        keeps = λ p. subst (λ n. KeepsPlaces n f given brought (events ++ writes_of pieces) none h) (sym count) (subst (λ ps. KeepsPlaces (length lanes) f given brought (events ++ writes_of pieces) ps h) (sym empty)
+        keeps = λ p. subst (λ n. KeepsPlaces n f given brought (events ++ writes_of pieces) none h) (sym count)
+            (subst (λ ps. KeepsPlaces (length lanes) f given brought (events ++ writes_of pieces) ps h) (sym empty)
             (wrote_all (length lanes) f given brought events lanes places h texts pieces c.waiting k says is));
         stands = subst (λ n. Stands n f given brought (events ++ writes_of pieces) h stopped) (sym count)
-            (wrote_some (length lanes) f given brought events lanes places h stopped stopped texts pieces [] c.waiting k says (append-nil (concat pieces) ∙ is) (not_read_fault stopped opened) c.stands);
+            (wrote_some (length lanes) f given brought events lanes places h stopped stopped texts pieces [] c.waiting k says (append-nil (concat pieces) ∙ is)
+            (not_read_fault stopped opened) c.stands);
       }
 
   -- a read gave these bytes
-  pub came_read : (bytes : List ℕ) → HasCome f events lanes places h stopped given brought → MayStillWrite stopped → places ≡ [] → held_line h ≡ None → h.has_ended ≡ false
+  pub came_read : (bytes : List ℕ) → HasCome f events lanes places h stopped given brought → MayStillWrite stopped → places ≡ [] → held_line h ≡ None
+      → h.has_ended ≡ false
       → HasCome f (events ++ Read bytes ∷ []) lanes places (arrived h bytes) stopped given brought
   came_read bytes c opened empty none going =
       let k = subst (λ ps. KeepsPlaces (length lanes) f given brought events ps h) empty (c.keeps (not_write_fault stopped opened)) in
@@ -67,7 +76,8 @@ module _ (f : Form) (events : List Event) (lanes : List Waiting) (places : List 
         waiting = c.waiting;
         turn = c.turn;
         few = c.few;
-        keeps = λ p. subst (λ ps. KeepsPlaces (length lanes) f given brought (events ++ Read bytes ∷ []) ps (arrived h bytes)) (sym empty) (has_read (length lanes) f given brought events h bytes k none going);
+        keeps = λ p. subst (λ ps. KeepsPlaces (length lanes) f given brought (events ++ Read bytes ∷ []) ps (arrived h bytes)) (sym empty)
+            (has_read (length lanes) f given brought events h bytes k none going);
         stands = stands_read (length lanes) f given brought events h bytes stopped k none going (not_read_fault stopped opened) c.stands;
       }
 
@@ -80,7 +90,8 @@ module _ (f : Form) (events : List Event) (lanes : List Waiting) (places : List 
         waiting = c.waiting;
         turn = c.turn;
         few = c.few;
-        keeps = λ p. subst (λ ps. KeepsPlaces (length lanes) f given brought events ps (with_room h)) (sym empty) (has_room (length lanes) f given brought events h k none going);
+        keeps = λ p. subst (λ ps. KeepsPlaces (length lanes) f given brought events ps (with_room h)) (sym empty)
+            (has_room (length lanes) f given brought events h k none going);
         stands = stands_stopped (length lanes) f given brought events h stopped k none going c.stands;
       }
 
@@ -96,17 +107,31 @@ told_stopped a b c d old new (inr by) t = record {
 }
 
 -- so far a live input has come, which had this wire, this form and so many lanes at first
-abbrev Has : {W : Type 0} → (W → W → List Event → Type 0) → (W → Bool) → (W → Bool) → (W → Type 0) → W → Form → ℕ → W → Form → Progress → List (List (List ℕ)) → List (List Plain) → Type 0
-Has did read_failed write_failed at_end start first count wire f p given brought = (events : List Event) × did start wire events × IsProgressAt f events p given brought × (f ≡ first)
-    × (length p.lanes.items ≡ count) × TellsFaults (read_failed start) (read_failed wire) (write_failed start) (write_failed wire) p.stopped × TellsEnd p.lines (at_end wire)
+abbrev Has : {W : Type 0} → (W → W → List Event → Type 0) → (W → Bool) → (W → Bool) → (W → Type 0) → W → Form → ℕ → W → Form → Progress → List (List (List ℕ))
+    → List (List Plain) → Type 0
+Has did read_failed write_failed at_end start first count wire f p given brought =
+    (events : List Event) × did start wire events × IsProgressAt f events p given brought × (f ≡ first)
+    × (length p.lanes.items ≡ count) × TellsFaults (read_failed start) (read_failed wire) (write_failed start) (write_failed wire) p.stopped
+    × TellsEnd p.lines (at_end wire)
 
 -- further rows were taken of it, and its wire and its form stay
-pub took_on : {W : Type 0} (did : W → W → List Event → Type 0) (read_failed write_failed : W → Bool) (at_end : W → Type 0) (start : W) (first : Form) (count : ℕ) (wire now : W) (f form : Form) (old new : Progress) (given more : List (List (List ℕ))) (brought : List (List Plain))
+pub took_on : {W : Type 0} (did : W → W → List Event → Type 0) (read_failed write_failed : W → Bool) (at_end : W → Type 0) (start : W) (first : Form)
+    (count : ℕ) (wire now : W) (f form : Form) (old new : Progress) (given more : List (List (List ℕ))) (brought : List (List Plain))
     → now ≡ wire → form ≡ f → new.lines.has_ended ≡ old.lines.has_ended → Has did read_failed write_failed at_end start first count wire f old given brought
     → ((events : List Event) → IsProgressAt f events old given brought → IsProgressAt f events new more brought)
     → ((a b c d : Bool) → TellsFaults a b c d old.stopped → TellsFaults a b c d new.stopped)
     → Has did read_failed write_failed at_end start first count now form new more brought
 took_on did read_failed write_failed at_end start first count wire now f form old new given more brought same_wire same_form same_end came on told =
     let at = on came.0 came.2 in
-    let kept : Has did read_failed write_failed at_end start first count wire f new more brought = (came.0, came.1, at, came.3, sym at.waiting.deliveries ∙ came.2.waiting.deliveries ∙ came.4, told _ _ _ _ came.5, λ ended. came.6 (sym same_end ∙ ended)) in
-    subst (λ w. Has did read_failed write_failed at_end start first count w form new more brought) (sym same_wire) (subst (λ g. Has did read_failed write_failed at_end start first count wire g new more brought) (sym same_form) kept)
+    let kept : Has did read_failed write_failed at_end start first count wire f new more brought = (
+      came.0,
+      came.1,
+      at,
+      came.3,
+      sym at.waiting.deliveries ∙ came.2.waiting.deliveries
+          ∙ came.4,
+      told _ _ _ _ came.5,
+      λ ended. came.6 (sym same_end ∙ ended),
+    ) in
+    subst (λ w. Has did read_failed write_failed at_end start first count w form new more brought) (sym same_wire)
+    (subst (λ g. Has did read_failed write_failed at_end start first count wire g new more brought) (sym same_form) kept)

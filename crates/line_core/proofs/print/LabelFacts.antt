@@ -9,5 +9,6 @@ pub one_more_label : (cells i : ℕ) (labels : List Label) (l : Label)
     → label_lines_from cells i (labels ++ l ∷ []) ≡ label_lines_from cells i labels ++ label_line cells (i + length labels) l
 one_more_label cells i [] l = append-nil (label_line cells i l) ∙ ap (λ k. label_line cells k l) (omega arith)
 one_more_label cells i (b ∷ labels) l =
-    ap (λ t. label_line cells i b ++ t) (one_more_label cells (i + 1) labels l ∙ ap (λ k. label_lines_from cells (i + 1) labels ++ label_line cells k l) (omega arith))
+    ap (λ t. label_line cells i b ++ t) (one_more_label cells (i + 1) labels l
+    ∙ ap (λ k. label_lines_from cells (i + 1) labels ++ label_line cells k l) (omega arith))
     ∙ sym (append_assoc (label_line cells i b) (label_lines_from cells (i + 1) labels) (label_line cells (i + length (b ∷ labels)) l))

@@ -19,7 +19,8 @@ one_more_cell dots cell rows n runs have is shown =
 
 -- the rows of one more sheet
 pub one_more_sheet : {S : Type 0} (dots : S → List (List Bool)) (sheets : List S) (i : ℕ) (s : S) (rows more : List (List ℕ)) → i < length sheets
-    → s ≡ get_or sheets i s → HaveDots rows (flat_map dots (take i sheets)) → HaveDots more (dots s) → HaveDots (rows ++ more) (flat_map dots (take (i + 1) sheets))
+    → s ≡ get_or sheets i s → HaveDots rows (flat_map dots (take i sheets)) → HaveDots more (dots s)
+    → HaveDots (rows ++ more) (flat_map dots (take (i + 1) sheets))
 one_more_sheet dots sheets i s rows more low is have added =
     let longer : flat_map dots (take (i + 1) sheets) ≡ flat_map dots (take i sheets) ++ dots s =
     ap (flat_map dots) (take_more sheets i s low ∙ ap (λ x. take i sheets ++ x ∷ []) (sym is))

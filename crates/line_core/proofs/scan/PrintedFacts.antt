@@ -25,7 +25,8 @@ use Rattle.line_core.proofs.Beside.{apart, below, beside, beside-flat_map, besid
 
 -- the middle row of a cell goes through its bars
 middle_row : (g : Cells) → 2 * g.dots < g.height → is_bar_row g (g.height / 2) ≡ true
-middle_row g high = and_from (nat_le g.dots (g.height / 2)) (nat_lt (g.height / 2 + g.dots) g.height) (le-leb g.dots (g.height / 2) (omega arith)) (lt-ltb (g.height / 2 + g.dots) g.height (omega arith))
+middle_row g high = and_from (nat_le g.dots (g.height / 2)) (nat_lt (g.height / 2 + g.dots) g.height) (le-leb g.dots (g.height / 2) (omega arith))
+    (lt-ltb (g.height / 2 + g.dots) g.height (omega arith))
 
 -- a row with these dots has this answer
 Answered : ℕ → List Bool → Answer → Type 0
@@ -73,10 +74,12 @@ module _ (rows : DotsDetermine) (one : OneAnswer) (year : ℕ) where
       let columns : List ℕ = range_with_len 0 g.columns in
       let all : (feeds : List (List (List ℕ))) (said : List (List Answer)) → AreColumns g sheets feeds → AllZip (λ rows read. Reads rows year read) feeds said
       → AllZip (Column g sheets year) columns said =
-      λ feeds said h k. beside (λ rows column. HaveDots rows (flat_map (column_dots g column) sheets)) (λ rows said. Reads rows year said) feeds columns said h k in
+      λ feeds said h k. beside (λ rows column. HaveDots rows (flat_map (column_dots g column) sheets)) (λ rows said. Reads rows year said) feeds columns said h
+      k in
       same_beside (Column g sheets year) (column_once g sheets) columns x y (all feeds x shown read) (all others y shown_too read_too)
 
-module _ (bars : BarRowsAnswer) (blank : EmptyCellsAreBlank) (make : DotsMakeRow) (labels : List Label) (g : Cells) (sheets : List Bitmap) (year : ℕ) (printed : ArePrinted labels g sheets)
+module _ (bars : BarRowsAnswer) (blank : EmptyCellsAreBlank) (make : DotsMakeRow) (labels : List Label) (g : Cells) (sheets : List Bitmap) (year : ℕ)
+    (printed : ArePrinted labels g sheets)
     (say : AllByRecursion (SaysElements year) labels) where
   -- the middle row of a cell answers for its label
   cell_says : (i cell : ℕ) (sheet : Bitmap) (runs : List ℕ) → slice_get sheets i ≡ Some sheet → cell < cell_count g
@@ -120,7 +123,8 @@ module _ (bars : BarRowsAnswer) (blank : EmptyCellsAreBlank) (make : DotsMakeRow
       let shown : ℕ → List Bool = λ cell. cell_dots g sheet cell (g.height / 2) in
       let said : ℕ → Answer = λ cell. cell_answer year (slice_get labels (i * cell_count g + cell)) in
       beside-map (Answered year) shown (column_cells g column) (sheet_answers g year labels column i)
-      (map_beside (λ cell answer. Answered year (shown cell) answer) (λ cell. cell < cell_count g) said (λ cell within. cell_answered i cell sheet at within) (column_cells g column) (cells_within g column 0 g.rows k (omega arith)))
+      (map_beside (λ cell answer. Answered year (shown cell) answer) (λ cell. cell < cell_count g) said (λ cell within. cell_answered i cell sheet at within)
+      (column_cells g column) (cells_within g column 0 g.rows k (omega arith)))
 
   counted : length sheets ≡ sheet_count g (length labels)
   counted = printed.shown.count ∙ ap (sheet_count g) (AllZip-long IsDrawn labels printed.symbols printed.drawn)
@@ -132,7 +136,8 @@ module _ (bars : BarRowsAnswer) (blank : EmptyCellsAreBlank) (make : DotsMakeRow
       let dots : List (List Bool) = flat_map (column_dots g column) sheets in
       let all : AllZip (Answered year) dots (flat_map (sheet_answers g year labels column) (range_with_len 0 (length sheets))) =
       beside-flat_map (Answered year) (column_dots g column) (sheet_answers g year labels column) sheets 0
-      (λ i sheet at. let same : i ≡ 0 + i = omega arith in subst (λ n. AllZip (Answered year) (column_dots g column sheet) (sheet_answers g year labels column n)) same (sheet_answered column k i sheet at)) in
+      (λ i sheet at. let same : i ≡ 0 + i = omega arith in subst
+      (λ n. AllZip (Answered year) (column_dots g column sheet) (sheet_answers g year labels column n)) same (sheet_answered column k i sheet at)) in
       let said : AllZip (Answered year) dots (column_answers g year labels column) =
       subst (λ n. AllZip (Answered year) dots (flat_map (sheet_answers g year labels column) (range_with_len 0 n))) counted all in
       apart (λ runs shown. IsRow runs × (dots_of runs ≡ shown)) (λ runs answer. IsAnswer runs year answer) dots (column_answers g year labels column) said
@@ -142,8 +147,10 @@ module _ (bars : BarRowsAnswer) (blank : EmptyCellsAreBlank) (make : DotsMakeRow
   columns_answered =
       let columns : List ℕ = range_with_len 0 g.columns in
       let all : AllZip (Column g sheets year) columns (map (column_answers g year labels) columns) =
-      map_beside (Column g sheets year) (λ column. column < g.columns) (column_answers g year labels) column_answered columns (below 0 g.columns g.columns (omega arith)) in
-      apart (λ rows column. HaveDots rows (flat_map (column_dots g column) sheets)) (λ rows said. Reads rows year said) columns (map (column_answers g year labels) columns) all
+      map_beside (Column g sheets year) (λ column. column < g.columns) (column_answers g year labels) column_answered columns
+      (below 0 g.columns g.columns (omega arith)) in
+      apart (λ rows column. HaveDots rows (flat_map (column_dots g column) sheets)) (λ rows said. Reads rows year said) columns
+      (map (column_answers g year labels) columns) all
 
 -- printed sheets have the answers of their labels
 pub printed_answer : BarRowsAnswer → EmptyCellsAreBlank → DotsMakeRow → PrintedAnswer

@@ -50,7 +50,8 @@ IsInTurn lanes (place.Refused lane fault) = ⊤
 
 -- the row of a place has been brought
 abbrev pub IsReady : List Waiting → Place → Type 0
-IsReady lanes (place.Row lane number) = (w : Waiting) × (lane < length lanes) × (slice_get lanes lane ≡ Some w) × (w.first ≤ number) × (number < w.first + length w.deliveries.items)
+IsReady lanes (place.Row lane number) = (w : Waiting) × (lane < length lanes) × (slice_get lanes lane ≡ Some w) × (w.first ≤ number)
+    × (number < w.first + length w.deliveries.items)
 IsReady lanes (place.Refused lane fault) = ⊤
 
 -- ---- places and their lines
@@ -76,13 +77,15 @@ WasGiven given (Line line) = ⊤
 -- the line of a reply, by the deliveries that were brought
 abbrev pub TellsReply : Form → List (List (List ℕ)) → List (List Plain) → Reply → List ℕ → Type 0
 TellsReply f given brought (Row lane number widths) text = (slice_get (slice_index_or given lane []) number ≡ Some widths)
-    × ((x : Plain) × (a : Answer) × (slice_get (slice_index_or brought lane []) number ≡ Some x) × IsAnswer x.widths x.year a × (text ≡ numbered_line f lane number a))
+    × ((x : Plain) × (a : Answer) × (slice_get (slice_index_or brought lane []) number ≡ Some x) × IsAnswer x.widths x.year a
+    × (text ≡ numbered_line f lane number a))
 TellsReply f given brought (Line line) text = text ≡ line
 
 -- ---- reads and writes
 
 -- of the lines that were taken the first were answered, and the others have their places in this turn
-pub record KeepsPlaces (lanes : ℕ) (f : Form) (given : List (List (List ℕ))) (brought : List (List Plain)) (events : List Event) (places : List Place) (h : Held) : Type 0 where
+pub record KeepsPlaces (lanes : ℕ) (f : Form) (given : List (List (List ℕ))) (brought : List (List Plain)) (events : List Event) (places : List Place)
+    (h : Held) : Type 0 where
   pub taken : List (List ℕ)
   pub done : List Reply
   pub turn : List Reply
@@ -94,14 +97,17 @@ pub record KeepsPlaces (lanes : ℕ) (f : Form) (given : List (List (List ℕ)))
   pub answers : AnswersBy (TellsReply f given brought) done (was_written events)
 
 -- what stands of reads and writes whatever comes
-pub record Stands (lanes : ℕ) (f : Form) (given : List (List (List ℕ))) (brought : List (List Plain)) (events : List Event) (h : Held) (stopped : Option LiveFault) : Type 0 where
+pub record Stands (lanes : ℕ) (f : Form) (given : List (List (List ℕ))) (brought : List (List Plain)) (events : List Event) (h : Held)
+    (stopped : Option LiveFault) : Type 0 where
   pub prompt : IsPromptBy (TellsReply f given brought) (replies_to (line_meant lanes)) events
   pub front : IsFrontBy (TellsReply f given brought) (replies_to (line_meant lanes)) events
   pub ended : h.has_ended ≡ true → HasEnded events
-  pub answered : stopped ≡ Some ReadFault → AnswersBy (TellsReply f given brought) (replies_to (line_meant lanes) (whole_lines (was_read events))) (was_written events)
+  pub answered : stopped ≡ Some ReadFault → AnswersBy (TellsReply f given brought) (replies_to (line_meant lanes) (whole_lines (was_read events)))
+      (was_written events)
 
 -- after these reads and writes a live input has come this far
-pub record HasCome (f : Form) (events : List Event) (lanes : List Waiting) (places : List Place) (h : Held) (stopped : Option LiveFault) (given : List (List (List ℕ))) (brought : List (List Plain)) : Type 0 where
+pub record HasCome (f : Form) (events : List Event) (lanes : List Waiting) (places : List Place) (h : Held) (stopped : Option LiveFault)
+    (given : List (List (List ℕ))) (brought : List (List Plain)) : Type 0 where
   pub waiting : AreWaiting given brought lanes
   pub turn : All (IsInTurn lanes) places
   pub few : length lanes < 256
@@ -119,9 +125,12 @@ Took C given brought take.Nothing = C given brought
 
 -- a row's place was kept, or that of its refusal where the lane has had all its numbers
 abbrev pub KeepsRow : ℕ → Result Bool AllocError → List Waiting → List Waiting → List Place → List Place → Type 0
-KeepsRow lane (Ok true) old new places more = (number : ℕ) × (w : Waiting) × (v : Waiting) × (slice_get old lane ≡ Some w) × (new ≡ slice_set old lane v) × IsOneMore number w v × (more ≡ places ++ place.Row lane number ∷ [])
-KeepsRow lane (Ok false) old new places more = (w : Waiting) × (v : Waiting) × (slice_get old lane ≡ Some w) × (new ≡ slice_set old lane v) × IsRoomier w v × (w.next ≡ 4294967295) × (more ≡ places ++ place.Refused (Some lane) line_fault.Spent ∷ [])
-KeepsRow lane (Err refused) old new places more = ((new ≡ old) ⊎ ((w : Waiting) × (v : Waiting) × (slice_get old lane ≡ Some w) × (new ≡ slice_set old lane v) × IsRoomier w v)) × (more ≡ places)
+KeepsRow lane (Ok true) old new places more = (number : ℕ) × (w : Waiting) × (v : Waiting) × (slice_get old lane ≡ Some w) × (new ≡ slice_set old lane v)
+    × IsOneMore number w v × (more ≡ places ++ place.Row lane number ∷ [])
+KeepsRow lane (Ok false) old new places more = (w : Waiting) × (v : Waiting) × (slice_get old lane ≡ Some w) × (new ≡ slice_set old lane v) × IsRoomier w v
+    × (w.next ≡ 4294967295) × (more ≡ places ++ place.Refused (Some lane) line_fault.Spent ∷ [])
+KeepsRow lane (Err refused) old new places more = ((new ≡ old)
+    ⊎ ((w : Waiting) × (v : Waiting) × (slice_get old lane ≡ Some w) × (new ≡ slice_set old lane v) × IsRoomier w v)) × (more ≡ places)
 
 -- nothing has stopped it, but memory may have been refused now
 abbrev pub IsStoppedBy : Option LiveFault → Option LiveFault → Type 0

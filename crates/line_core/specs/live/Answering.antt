@@ -15,11 +15,13 @@ AnswersBy L records text = (texts : List (List ℕ)) × AllZip L records texts �
 
 -- the text is the first of the lines of the first records
 abbrev pub BeginsBy : {X : Type 0} → (X → List ℕ → Type 0) → List X → List ℕ → Type 0
-BeginsBy {X} L records text = (first : List X) × (later : List X) × (texts : List (List ℕ)) × (rest : List ℕ) × (records ≡ first ++ later) × AllZip L first texts × (concat texts ≡ text ++ rest)
+BeginsBy {X} L records text = (first : List X) × (later : List X) × (texts : List (List ℕ)) × (rest : List ℕ) × (records ≡ first ++ later)
+    × AllZip L first texts × (concat texts ≡ text ++ rest)
 
 -- at each read the lines of all records that had ended were written, and nothing else
 abbrev pub IsPromptBy : {X : Type 0} → (X → List ℕ → Type 0) → (List (List ℕ) → List X) → List Event → Type 0
-IsPromptBy L records events = (before after : List Event) (bytes : List ℕ) → events ≡ before ++ Read bytes ∷ after → AnswersBy L (records (whole_lines (was_read before))) (was_written before)
+IsPromptBy L records events = (before after : List Event) (bytes : List ℕ) → events ≡ before ++ Read bytes ∷ after
+    → AnswersBy L (records (whole_lines (was_read before))) (was_written before)
 
 -- at each moment what was written is the first of the lines of what was read
 abbrev pub IsFrontBy : {X : Type 0} → (X → List ℕ → Type 0) → (List (List ℕ) → List X) → List Event → Type 0

@@ -7,9 +7,11 @@ use Rattle.line_core.specs.declared.live.fault.LiveFault.{LiveFault}
 use Rattle.line_core.specs.declared.live.fault.LiveFault.TheVariants.{ReadFault, WriteFault}
 
 -- The wire did these reads and writes. At each read all records that had ended were answered, and at each moment what was written was the first of
--- the lines that answer what was read; at a regular end that is all of them and nothing more comes, and after a failed read those of all records that had ended. Where
+-- the lines that answer what was read; at a regular end that is all of them and nothing more comes, and after a failed read those of all records that had
+-- ended. Where
 -- none had failed before, a read or write fault comes exactly where one fails.
-pub record Lived {W : Type 0} (t : LiveTerms) (did : W → W → List Event → Type 0) (read_failed write_failed : W → Bool) (at_end : W → Type 0) (wire after : W) (result : Result (Unit {0}) LiveFault) : Type 0 where
+pub record Lived {W : Type 0} (t : LiveTerms) (did : W → W → List Event → Type 0) (read_failed write_failed : W → Bool) (at_end : W → Type 0) (wire after : W)
+    (result : Result (Unit {0}) LiveFault) : Type 0 where
   pub events : List Event
   pub were_done : did wire after events
   pub prompt : IsPrompt t.lanes t.form t.year events

@@ -41,7 +41,8 @@ row_or_line lane (Some f) widths = Err (refusal_line (Some lane) (record_fault_t
 
 -- what the fields of a line mean: two, a lane and the widths of a row
 abbrev pub fields_meant : ℕ → List (List ℕ) → Meant
-fields_meant lanes (lane ∷ widths ∷ []) = if is_lane lanes lane then row_or_line (digits_value 10 lane) (field_fault widths) (widths_in widths) else Err (refusal_line None (record_fault_text fault.BadLane))
+fields_meant lanes (lane ∷ widths ∷ []) = if is_lane lanes lane then row_or_line (digits_value 10 lane) (field_fault widths) (widths_in widths) else Err
+    (refusal_line None (record_fault_text fault.BadLane))
 fields_meant lanes _ = Err (refusal_line None (record_fault_text fault.Csv))
 
 -- the fields of a line
@@ -51,7 +52,8 @@ fields_in line = slice_split (λ b. b == 44) line
 -- what a line means: nothing where it has no byte
 abbrev pub text_meant : ℕ → List ℕ → Option Meant
 text_meant lanes [] = None
-text_meant lanes (b ∷ line) = Some (if nat_lt most_line (length (b ∷ line)) then Err (refusal_line None (line_fault_text line_fault.InputSize)) else fields_meant lanes (fields_in (b ∷ line)))
+text_meant lanes (b ∷ line) = Some (if nat_lt most_line (length (b ∷ line)) then Err (refusal_line None (line_fault_text line_fault.InputSize)) else
+    fields_meant lanes (fields_in (b ∷ line)))
 
 abbrev pub line_meant : ℕ → List ℕ → Option Meant
 line_meant lanes line = text_meant lanes (without_return line)

@@ -62,7 +62,8 @@ label_hri l = hri (label_list l)
 
 -- a line: the sheet, the cell in it, the kind, the human-readable line and a line feed
 abbrev pub label_line : ℕ → ℕ → Label → List ℕ
-label_line cells i l = decimal (i / cells) ++ (32 ∷ []) ++ decimal (i % cells) ++ (32 ∷ []) ++ (form_of (label_kind l)).name ++ (32 ∷ []) ++ label_hri l ++ (10 ∷ [])
+label_line cells i l = decimal (i / cells) ++ (32 ∷ []) ++ decimal (i % cells) ++ (32 ∷ []) ++ (form_of (label_kind l)).name ++ (32 ∷ []) ++ label_hri l
+    ++ (10 ∷ [])
 
 -- the lines of labels, from an index on, where a sheet has so many cells
 abbrev pub label_lines_from : ℕ → ℕ → List Label → List ℕ

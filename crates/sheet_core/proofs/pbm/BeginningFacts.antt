@@ -50,9 +50,33 @@ pub beginning_of : (s : State) (bytes : List ℕ) → Comes s bytes → IsBeginn
 beginning_of Start bytes h = inl h
 beginning_of Magic bytes h = inr (inl h)
 beginning_of (Blanks w some) bytes h =
-    inr (inr (inl (w, record { lead = h.lead; blanks = h.blanks; comment = []; lead_is = h.lead_is; each = h.each; comment_is = tt; joined = h.joined ∙ ap (λ bs. h.lead ++ bs) (sym (append-nil (concat h.blanks))) })))
+    inr (inr (inl (
+      w,
+      record {
+        lead = h.lead;
+        blanks = h.blanks;
+        comment = [];
+        lead_is = h.lead_is;
+        each = h.each;
+        comment_is = tt;
+        joined =
+            h.joined ∙ ap (λ bs. h.lead ++ bs) (sym (append-nil (concat h.blanks)));
+      },
+    )))
 beginning_of (Comment w) bytes h =
-    inr (inr (inl (w, record { lead = h.lead; blanks = h.blanks; comment = 35 ∷ h.text; lead_is = h.lead_is; each = h.each; comment_is = (refl, h.inside); joined = h.joined })))
+    inr (inr (inl (
+      w,
+      record {
+        lead = h.lead;
+        blanks = h.blanks;
+        comment = 35 ∷ h.text;
+        lead_is = h.lead_is;
+        each = h.each;
+        comment_is =
+            (refl, h.inside);
+        joined = h.joined;
+      },
+    )))
 beginning_of (Number w n) bytes h = inr (inr (inr (w, h.number, h.is)))
 
 -- after `P4` there are two bytes at least
@@ -69,7 +93,8 @@ pub past_magic : (s : State) (bytes : List ℕ) → Comes s bytes → IsPastMagi
 past_magic Start bytes h p = absurd p
 past_magic Magic bytes h p = absurd p
 past_magic (Blanks w some) bytes h p = let two = lead_length w h.lead h.lead_is in omega (arith, ap length h.joined, length-append h.lead (concat h.blanks))
-past_magic (Comment w) bytes h p = let two = lead_length w h.lead h.lead_is in omega (arith, ap length h.joined, length-append h.lead (concat h.blanks ++ 35 ∷ h.text))
+past_magic (Comment w) bytes h p = let two = lead_length w h.lead h.lead_is in
+    omega (arith, ap length h.joined, length-append h.lead (concat h.blanks ++ 35 ∷ h.text))
 past_magic (Number w n) bytes h p =
     let two = lead_length w h.is.lead h.is.lead_is in omega (arith, ap length h.is.joined, length-append h.is.lead (concat h.is.blanks ++ h.is.digits))
 
@@ -150,7 +175,8 @@ in_comment w b bytes e h = record {
   lead_is = h.lead_is;
   each = h.each;
   inside = all_push (λ c. is_line_end c ≡ false) h.text b h.inside e;
-  joined = regroup bytes h.lead (concat h.blanks ++ 35 ∷ h.text) (b ∷ []) h.joined ∙ ap (λ bs. h.lead ++ bs) (append_assoc (concat h.blanks) (35 ∷ h.text) (b ∷ []));
+  joined = regroup bytes h.lead (concat h.blanks ++ 35 ∷ h.text) (b ∷ []) h.joined
+      ∙ ap (λ bs. h.lead ++ bs) (append_assoc (concat h.blanks) (35 ∷ h.text) (b ∷ []));
 }
 
 digit : (w : Option ℕ) (n b : ℕ) (bytes : List ℕ) → is_digit b ≡ true → ComesToNumber w n bytes → ComesToNumber w (grown n b) (bytes ++ b ∷ [])
@@ -170,7 +196,8 @@ digit w n b bytes d h =
           each = all_push (λ c. IsTrue (is_digit c)) is.digits b is.digits_are.each d;
           value = ap (λ k. 10 * k + (b - 48)) is.digits_are.value ∙ sym (number_from_push 0 is.digits b);
         };
-        joined = regroup bytes is.lead (concat is.blanks ++ is.digits) (b ∷ []) is.joined ∙ ap (λ bs. is.lead ++ bs) (append_assoc (concat is.blanks) is.digits (b ∷ []));
+        joined = regroup bytes is.lead (concat is.blanks ++ is.digits) (b ∷ []) is.joined
+            ∙ ap (λ bs. is.lead ++ bs) (append_assoc (concat is.blanks) is.digits (b ∷ []));
       };
       counted = omega arith;
     }
@@ -183,8 +210,14 @@ width_known n bytes s h =
     let high = leb-true n 65535 p.1 in
     let counted = h.counted in
     let same : h.number ≡ n = omega arith in
-    let is = h.is in
-    (is.blanks, is.digits, is.blanks_are, record { numeral = subst (IsNumeral is.digits) same is.digits_are; least = low; most = high }, is.joined ∙ ap (λ l. l ++ (concat is.blanks ++ is.digits)) is.lead_is)
+    let is = h.is in (
+      is.blanks,
+      is.digits,
+      is.blanks_are,
+      record { numeral = subst (IsNumeral is.digits) same is.digits_are; least = low; most = high },
+      is.joined
+          ∙ ap (λ l. l ++ (concat is.blanks ++ is.digits)) is.lead_is,
+    )
 
 white_after : (n b : ℕ) (bytes : List ℕ) → is_size n ≡ true → is_white b ≡ true → ComesToNumber None n bytes → ComesToBlanks (Some n) true (bytes ++ b ∷ [])
 white_after n b bytes s e h = record {

@@ -31,7 +31,8 @@ lead_leads (Some n) lead (blanks, digits, are, is, e) =
 size_of : (n : ℕ) (lead : List ℕ) → IsLead (Some n) lead → is_size n ≡ true
 size_of n lead h = let is = h.3 in sized n is.least is.most
 
-blanks_lead : (w : Option ℕ) (lead : List ℕ) → IsLead w lead → (blanks : List (List ℕ)) → AreBlanks blanks → Leads (lead_state w) (Blanks w true) (concat blanks)
+blanks_lead : (w : Option ℕ) (lead : List ℕ) → IsLead w lead → (blanks : List (List ℕ)) → AreBlanks blanks
+    → Leads (lead_state w) (Blanks w true) (concat blanks)
 blanks_lead None lead h blanks are = blanks_first None blanks are
 blanks_lead (Some n) lead h blanks are = blanks_after n (size_of n lead h) blanks are
 
@@ -50,7 +51,8 @@ as_joined : (bytes others : List ℕ) (s : State) → bytes ≡ others → Leads
 as_joined bytes others s e l = subst (Leads Start s) (sym e) l
 
 -- in the blanks, without a comment at the end
-in_blanks : (w : Option ℕ) (bytes lead : List ℕ) (blanks : List (List ℕ)) → IsLead w lead → AllByRecursion IsBlank blanks → bytes ≡ lead ++ concat blanks → ComesTo bytes
+in_blanks : (w : Option ℕ) (bytes lead : List ℕ) (blanks : List (List ℕ)) → IsLead w lead → AllByRecursion IsBlank blanks → bytes ≡ lead ++ concat blanks
+    → ComesTo bytes
 in_blanks None bytes lead [] is each e = record {
   state = Blanks None false;
   leads = as_joined bytes lead (Blanks None false) (e ∙ append-nil lead) (lead_leads None lead is);
@@ -63,7 +65,16 @@ in_blanks (Some n) bytes lead [] (before, digits, are, is, same) each e =
       leads = as_joined bytes lead (Number None n) (e ∙ append-nil lead) (lead_leads (Some n) lead (before, digits, are, is, same));
       comes = record {
         number = n;
-        is = record { lead = 80 ∷ 52 ∷ []; blanks = before; digits = digits; lead_is = refl; blanks_are = are; digits_are = is.numeral; joined = e ∙ append-nil lead ∙ same };
+        is = record {
+          lead = 80 ∷ 52 ∷ [];
+          blanks = before;
+          digits = digits;
+          lead_is = refl;
+          blanks_are = are;
+          digits_are = is.numeral;
+          joined =
+              e ∙ append-nil lead ∙ same;
+        };
         counted = omega arith;
       };
     }
@@ -71,19 +82,23 @@ in_blanks w bytes lead (x ∷ blanks) is each e =
     let are : AreBlanks (x ∷ blanks) = record { some = omega arith; each = each } in
     record {
       state = Blanks w true;
-      leads = as_joined bytes (lead ++ concat (x ∷ blanks)) (Blanks w true) e (both Start (lead_state w) (Blanks w true) lead (concat (x ∷ blanks)) (lead_leads w lead is) (blanks_lead w lead is (x ∷ blanks) are));
+      leads = as_joined bytes (lead ++ concat (x ∷ blanks)) (Blanks w true) e
+          (both Start (lead_state w) (Blanks w true) lead (concat (x ∷ blanks)) (lead_leads w lead is) (blanks_lead w lead is (x ∷ blanks) are));
       comes = record { lead = lead; blanks = x ∷ blanks; lead_is = is; each = each; enough = λ _. omega arith; joined = e };
     }
 
 -- what a comment comes after
-before_comment : (w : Option ℕ) (lead : List ℕ) (blanks : List (List ℕ)) → IsLead w lead → AllByRecursion IsBlank blanks → Leads Start (Comment w) (lead ++ (concat blanks ++ 35 ∷ []))
+before_comment : (w : Option ℕ) (lead : List ℕ) (blanks : List (List ℕ)) → IsLead w lead → AllByRecursion IsBlank blanks
+    → Leads Start (Comment w) (lead ++ (concat blanks ++ 35 ∷ []))
 before_comment w lead [] is each = both Start (lead_state w) (Comment w) lead (35 ∷ []) (lead_leads w lead is) (sharp_leads w lead is)
 before_comment w lead (x ∷ blanks) is each =
     let are : AreBlanks (x ∷ blanks) = record { some = omega arith; each = each } in
     both Start (lead_state w) (Comment w) lead (concat (x ∷ blanks) ++ 35 ∷ []) (lead_leads w lead is)
-    (both (lead_state w) (Blanks w true) (Comment w) (concat (x ∷ blanks)) (35 ∷ []) (blanks_lead w lead is (x ∷ blanks) are) (one (Blanks w true) (Comment w) 35 refl))
+    (both (lead_state w) (Blanks w true) (Comment w) (concat (x ∷ blanks)) (35 ∷ []) (blanks_lead w lead is (x ∷ blanks) are)
+    (one (Blanks w true) (Comment w) 35 refl))
 
-in_comment : (w : Option ℕ) (bytes lead text : List ℕ) (blanks : List (List ℕ)) → IsLead w lead → AllByRecursion IsBlank blanks → AllByRecursion (λ c. is_line_end c ≡ false) text
+in_comment : (w : Option ℕ) (bytes lead text : List ℕ) (blanks : List (List ℕ)) → IsLead w lead → AllByRecursion IsBlank blanks
+    → AllByRecursion (λ c. is_line_end c ≡ false) text
     → bytes ≡ lead ++ (concat blanks ++ 35 ∷ text) → ComesTo bytes
 in_comment w bytes lead text blanks is each inside e =
     let regrouped : lead ++ (concat blanks ++ 35 ∷ text) ≡ (lead ++ (concat blanks ++ 35 ∷ [])) ++ text =
@@ -95,7 +110,8 @@ in_comment w bytes lead text blanks is each inside e =
       comes = record { lead = lead; blanks = blanks; text = text; lead_is = is; each = each; inside = inside; joined = e };
     }
 
-by_comment : (w : Option ℕ) (bytes lead comment : List ℕ) (blanks : List (List ℕ)) → IsLead w lead → AllByRecursion IsBlank blanks → IsOpenComment comment → bytes ≡ lead ++ (concat blanks ++ comment) → ComesTo bytes
+by_comment : (w : Option ℕ) (bytes lead comment : List ℕ) (blanks : List (List ℕ)) → IsLead w lead → AllByRecursion IsBlank blanks → IsOpenComment comment
+    → bytes ≡ lead ++ (concat blanks ++ comment) → ComesTo bytes
 by_comment w bytes lead [] blanks is each c e = in_blanks w bytes lead blanks is each (e ∙ ap (λ bs. lead ++ bs) (append-nil (concat blanks)))
 by_comment w bytes lead (b ∷ text) blanks is each c e = in_comment w bytes lead text blanks is each c.1 (e ∙ ap (λ d. lead ++ (concat blanks ++ d ∷ text)) c.0)
 
@@ -103,10 +119,16 @@ pub number_leads : (w : Option ℕ) (n : ℕ) (bytes : List ℕ) → EndsInNumbe
 number_leads w n bytes h =
     as_joined bytes (h.lead ++ (concat h.blanks ++ h.digits)) (Number w (min n 65536)) h.joined
     (both Start (lead_state w) (Number w (min n 65536)) h.lead (concat h.blanks ++ h.digits) (lead_leads w h.lead h.lead_is)
-    (both (lead_state w) (Blanks w true) (Number w (min n 65536)) (concat h.blanks) h.digits (blanks_lead w h.lead h.lead_is h.blanks h.blanks_are) (numeral w n h.digits h.digits_are)))
+    (both (lead_state w) (Blanks w true) (Number w (min n 65536)) (concat h.blanks) h.digits (blanks_lead w h.lead h.lead_is h.blanks h.blanks_are)
+    (numeral w n h.digits h.digits_are)))
 
 pub comes_to : (bytes : List ℕ) → IsBeginning bytes → ComesTo bytes
 comes_to bytes (inl e) = record { state = Start; leads = as_joined bytes [] Start e (nothing Start); comes = e }
 comes_to bytes (inr (inl e)) = record { state = Magic; leads = as_joined bytes (80 ∷ []) Magic e (one Start Magic 80 refl); comes = e }
 comes_to bytes (inr (inr (inl (w, h)))) = by_comment w bytes h.lead h.comment h.blanks h.lead_is h.each h.comment_is h.joined
-comes_to bytes (inr (inr (inr (w, n, h)))) = record { state = Number w (min n 65536); leads = number_leads w n bytes h; comes = record { number = n; is = h; counted = refl } }
+comes_to bytes (inr (inr (inr (w, n, h)))) = record {
+  state = Number w (min n 65536);
+  leads = number_leads w n bytes h;
+  comes =
+      record { number = n; is = h; counted = refl };
+}

@@ -16,7 +16,8 @@ abbrev pub before_others : List Bitmap → Result (List Bitmap) PbmFault × List
 before_others sheets (Ok others, rest) = (Ok (sheets ++ others), rest)
 before_others sheets (Err f, rest) = (Err f, rest)
 
-pub before_first : (sheets : List Bitmap) (s : Bitmap) (r : Result (List Bitmap) PbmFault × List ℕ) → before_others sheets (with_first s r) ≡ before_others (sheets ++ s ∷ []) r
+pub before_first : (sheets : List Bitmap) (s : Bitmap) (r : Result (List Bitmap) PbmFault × List ℕ) → before_others sheets (with_first s r)
+    ≡ before_others (sheets ++ s ∷ []) r
 before_first sheets s (Ok others, rest) = ap (λ xs. (Ok xs, rest)) (sym (append_assoc sheets (s ∷ []) others))
 before_first sheets s (Err f, rest) = refl
 
@@ -48,25 +49,30 @@ within : (old now mid new : Option (List ℕ)) (k : ℕ) (sheets : List Bitmap) 
 within old now mid new k sheets first bytes h low =
     h.same (first ∷ bytes) ∙ ap (λ n. before_others sheets (images_by n (first ∷ bytes))) (let e : 4096 - k ≡ suc (4096 - (k + 1)) = omega arith in e)
 
-took : (old now mid new : Option (List ℕ)) (k : ℕ) (sheets : List Bitmap) (first : ℕ) (bytes : List ℕ) (h : Had old now k sheets) → Consumes now mid (first ∷ []) → Consumes mid new bytes
+took : (old now mid new : Option (List ℕ)) (k : ℕ) (sheets : List Bitmap) (first : ℕ) (bytes : List ℕ) (h : Had old now k sheets)
+    → Consumes now mid (first ∷ []) → Consumes mid new bytes
     → Consumes old new (h.before ++ first ∷ bytes)
-took old now mid new k sheets first bytes h c d = Consumes-trans old now new h.before (first ∷ bytes) h.consumed (Consumes-trans now mid new (first ∷ []) bytes c d)
+took old now mid new k sheets first bytes h c d = Consumes-trans old now new h.before (first ∷ bytes) h.consumed
+    (Consumes-trans now mid new (first ∷ []) bytes c d)
 
-pub ended : (old now later : Option (List ℕ)) (k : ℕ) (sheets : List Bitmap) → Had old now k sheets → Consumes now later [] → ReadsBytes images_of old later (Ok sheets)
+pub ended : (old now later : Option (List ℕ)) (k : ℕ) (sheets : List Bitmap) → Had old now k sheets → Consumes now later []
+    → ReadsBytes images_of old later (Ok sheets)
 ended old now later k sheets h c = record {
   bytes = h.before;
   consumed = subst (Consumes old later) (append-nil h.before) (Consumes-trans old now later h.before [] h.consumed c);
   tells = all_read old now k sheets h;
 }
 
-pub broken : (old now later : Option (List ℕ)) (k : ℕ) (sheets : List Bitmap) → Had old now k sheets → Keeps now later → ReadsBytes images_of old later (Err ReadFault)
+pub broken : (old now later : Option (List ℕ)) (k : ℕ) (sheets : List Bitmap) → Had old now k sheets → Keeps now later
+    → ReadsBytes images_of old later (Err ReadFault)
 broken old now later k sheets h c = record {
   bytes = h.before;
   consumed = Consumes-kept old now later h.before h.consumed c;
   tells = inr (sheets, all_read old now k sheets h);
 }
 
-pub too_many : (old now later : Option (List ℕ)) (sheets : List Bitmap) (b : ℕ) → Had old now 4096 sheets → Consumes now later (b ∷ []) → ReadsBytes images_of old later (Err PbmSize)
+pub too_many : (old now later : Option (List ℕ)) (sheets : List Bitmap) (b : ℕ) → Had old now 4096 sheets → Consumes now later (b ∷ [])
+    → ReadsBytes images_of old later (Err PbmSize)
 too_many old now later sheets b h c = record {
   bytes = h.before ++ b ∷ [];
   consumed = Consumes-trans old now later h.before (b ∷ []) h.consumed c;
@@ -74,7 +80,8 @@ too_many old now later sheets b h c = record {
 }
 
 -- one more image, whatever follows it
-pub had_more : (old now mid new : Option (List ℕ)) (k : ℕ) (sheets more : List Bitmap) (first : ℕ) (s : Bitmap) → Had old now k sheets → k < 4096 → Consumes now mid (first ∷ []) → ReadsBytes (image_told first) mid new (Ok s)
+pub had_more : (old now mid new : Option (List ℕ)) (k : ℕ) (sheets more : List Bitmap) (first : ℕ) (s : Bitmap) → Had old now k sheets → k < 4096
+    → Consumes now mid (first ∷ []) → ReadsBytes (image_told first) mid new (Ok s)
     → ((bytes rest : List ℕ) → image_of bytes ≡ (Ok s, []) → image_of (bytes ++ rest) ≡ (Ok s, rest)) → more ≡ sheets ++ s ∷ [] → Had old new (k + 1) more
 had_more old now mid new k sheets more first s h low c r wider e = subst (Had old new (k + 1)) (sym e) (record {
   before = h.before ++ first ∷ r.bytes;
@@ -87,7 +94,8 @@ had_more old now mid new k sheets more first s h low c r wider e = subst (Had ol
 })
 
 -- an image that is not read refuses the file
-pub image_refused : (old now mid new : Option (List ℕ)) (k : ℕ) (sheets : List Bitmap) (first : ℕ) (f : PbmFault) → Had old now k sheets → k < 4096 → Consumes now mid (first ∷ []) → ReadsBytes (image_told first) mid new (Err f)
+pub image_refused : (old now mid new : Option (List ℕ)) (k : ℕ) (sheets : List Bitmap) (first : ℕ) (f : PbmFault) → Had old now k sheets → k < 4096
+    → Consumes now mid (first ∷ []) → ReadsBytes (image_told first) mid new (Err f)
     → ReadsBytes images_of old new (Err f)
 image_refused old now mid new k sheets first f h low c r = record {
   bytes = h.before ++ first ∷ r.bytes;
@@ -98,7 +106,8 @@ image_refused old now mid new k sheets first f h low c r = record {
     limit : ℕ
     limit = 4096 - (k + 1)
 
-    all : (x : Result Bitmap PbmFault × List ℕ) → image_of (first ∷ r.bytes) ≡ x → images_of (h.before ++ first ∷ r.bytes) ≡ before_others sheets (with_others (images_by limit) x)
+    all : (x : Result Bitmap PbmFault × List ℕ) → image_of (first ∷ r.bytes) ≡ x → images_of (h.before ++ first ∷ r.bytes)
+        ≡ before_others sheets (with_others (images_by limit) x)
     all x e = within old now mid new k sheets first r.bytes h low ∙ ap (λ x. before_others sheets (with_others (images_by limit) x)) e
 
     nothing : (limit : ℕ) → images_by limit [] ≡ (Ok [], [])
@@ -138,7 +147,8 @@ on_err (Ok x) P Q f h = tt
 on_err (Err e) P Q f h = f h
 
 -- one more sheet of those that are written
-pub image_more : (sheets : List Bitmap) (i : ℕ) (s : Bitmap) → i < length sheets → s ≡ get_or sheets i s → (rest : List ℕ) × (pbm_of sheets ≡ pbm_of (take i sheets) ++ (image s ++ rest))
+pub image_more : (sheets : List Bitmap) (i : ℕ) (s : Bitmap) → i < length sheets → s ≡ get_or sheets i s → (rest : List ℕ)
+    × (pbm_of sheets ≡ pbm_of (take i sheets) ++ (image s ++ rest))
 image_more [] i s low e = absurd (omega arith)
 image_more (t ∷ sheets) zero s low e = (pbm_of sheets, ap (λ x. image x ++ pbm_of sheets) (sym e))
 image_more (t ∷ sheets) (suc i) s low e =

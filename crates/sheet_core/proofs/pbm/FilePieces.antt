@@ -66,7 +66,8 @@ record Images (bytes : List ℕ) (limit : ℕ) (sheets : List Bitmap) : Type 0 w
   few : length sheets ≤ limit
 
 with_rest : (limit : ℕ) (bytes rest : List ℕ) (s : Bitmap) (sheets : List Bitmap) (others : Result (List Bitmap) PbmFault × List ℕ)
-    → OneImage bytes rest s → ((ss : List Bitmap) → others ≡ (Ok ss, []) → Images rest limit ss) → with_first s others ≡ (Ok sheets, []) → Images bytes (limit + 1) sheets
+    → OneImage bytes rest s → ((ss : List Bitmap) → others ≡ (Ok ss, []) → Images rest limit ss) → with_first s others ≡ (Ok sheets, [])
+    → Images bytes (limit + 1) sheets
 with_rest limit bytes rest s sheets (Err f, tail) one hyp e = absurd (no_sheets f sheets (ap (λ (p : Result (List Bitmap) PbmFault × List ℕ). p.0) e))
 with_rest limit bytes rest s sheets (Ok ss, tail) one hyp e =
     let same : s ∷ ss ≡ sheets = read_sheets (s ∷ ss) sheets (ap (λ (p : Result (List Bitmap) PbmFault × List ℕ). p.0) e) in
@@ -80,7 +81,8 @@ with_rest limit bytes rest s sheets (Ok ss, tail) one hyp e =
     })
 
 with_image : (limit : ℕ) (bytes : List ℕ) (sheets : List Bitmap) (first : Result Bitmap PbmFault × List ℕ)
-    → ((rest : List ℕ) (s : Bitmap) → first ≡ (Ok s, rest) → OneImage bytes rest s) → ((rest : List ℕ) (ss : List Bitmap) → images_by limit rest ≡ (Ok ss, []) → Images rest limit ss)
+    → ((rest : List ℕ) (s : Bitmap) → first ≡ (Ok s, rest) → OneImage bytes rest s)
+    → ((rest : List ℕ) (ss : List Bitmap) → images_by limit rest ≡ (Ok ss, []) → Images rest limit ss)
     → with_others (images_by limit) first ≡ (Ok sheets, []) → Images bytes (limit + 1) sheets
 with_image limit bytes sheets (Err f, rest) one hyp e = absurd (no_sheets f sheets (ap (λ (p : Result (List Bitmap) PbmFault × List ℕ). p.0) e))
 with_image limit bytes sheets (Ok s, rest) one hyp e = with_rest limit bytes rest s sheets (images_by limit rest) (one rest s refl) (λ ss h. hyp rest ss h) e
@@ -114,13 +116,15 @@ image_first limit i others s m =
     tail_of h rest = (52 ∷ (concat h.before ++ (h.width ++ (concat h.between ++ (h.height ++ h.last ∷ []))))) ++ rest
 
 -- a file by its pieces is read
-pieces_read : (limit : ℕ) (images : List (List ℕ)) (sheets : List Bitmap) → AllZip IsImage images sheets → length sheets ≤ limit → images_by limit (concat images) ≡ (Ok sheets, [])
+pieces_read : (limit : ℕ) (images : List (List ℕ)) (sheets : List Bitmap) → AllZip IsImage images sheets → length sheets ≤ limit
+    → images_by limit (concat images) ≡ (Ok sheets, [])
 pieces_read zero [] [] h few = refl
 pieces_read (suc limit) [] [] h few = refl
 pieces_read limit [] (s ∷ sheets) h few = absurd h
 pieces_read limit (i ∷ images) [] h few = absurd h
 pieces_read zero (i ∷ images) (s ∷ sheets) h few = absurd (omega arith)
-pieces_read (suc limit) (i ∷ images) (s ∷ sheets) h few = image_first limit i (concat images) s h.0 ∙ ap (with_first s) (pieces_read limit images sheets h.1 (omega arith))
+pieces_read (suc limit) (i ∷ images) (s ∷ sheets) h few = image_first limit i (concat images) s h.0
+    ∙ ap (with_first s) (pieces_read limit images sheets h.1 (omega arith))
 
 pub files_are_read : FilesAreRead
 files_are_read bytes sheets = (
@@ -130,4 +134,5 @@ files_are_read bytes sheets = (
 
 pub one_reading : OneListOfSheets
 one_reading bytes sheets others few less a b =
-    read_sheets sheets others (ap (λ (p : Result (List Bitmap) PbmFault × List ℕ). p.0) (sym ((files_are_read bytes sheets).1 (a, few)) ∙ (files_are_read bytes others).1 (b, less)))
+    read_sheets sheets others (ap (λ (p : Result (List Bitmap) PbmFault × List ℕ). p.0)
+    (sym ((files_are_read bytes sheets).1 (a, few)) ∙ (files_are_read bytes others).1 (b, less)))

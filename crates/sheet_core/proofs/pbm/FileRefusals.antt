@@ -49,11 +49,14 @@ image_told f bytes (Ok size, rest) is e =
     let n : ℕ = stride size.width * size.height in
     elim (cases_lt (length rest) n) [
       | inl few ↦
-          let p = same_sheet_fault Truncated f [] [] (sym (ap (λ t. if t then (Err Truncated, []) else (Ok (bitmap_of size (take n rest)), drop n rest)) (lt-ltb (length rest) n few)) ∙ e) in
+          let p = same_sheet_fault Truncated f [] [] (sym (ap (λ t. if t then (Err Truncated, []) else (Ok (bitmap_of size (take n rest)), drop n rest))
+          (lt-ltb (length rest) n few)) ∙ e) in
           let front = header_front size bytes rest is in
-          subst (λ x. RefusesImage x bytes) p.0 (inr (record { size = size; header = front.header; rows = rest; header_is = front.is; short = front.short; few = few; joined = front.joined }))
+          subst (λ x. RefusesImage x bytes) p.0 (inr (record
+          { size = size; header = front.header; rows = rest; header_is = front.is; short = front.short; few = few; joined = front.joined }))
       | inr enough ↦
-          absurd (sheet_or_fault (bitmap_of size (take n rest)) f (drop n rest) [] (sym (ap (λ t. if t then (Err Truncated, []) else (Ok (bitmap_of size (take n rest)), drop n rest)) (le-ltb (length rest) n enough)) ∙ e))
+          absurd (sheet_or_fault (bitmap_of size (take n rest)) f (drop n rest) []
+          (sym (ap (λ t. if t then (Err Truncated, []) else (Ok (bitmap_of size (take n rest)), drop n rest)) (le-ltb (length rest) n enough)) ∙ e))
     ]
 
 rows_refused : (bytes : List ℕ) → EndsInRows bytes → image_of bytes ≡ (Err Truncated, [])
@@ -98,7 +101,8 @@ of_others : (s : Bitmap) (r : Result (List Bitmap) PbmFault × List ℕ) (f : Pb
 of_others s (Ok ss, rest) f e = absurd (sheets_or_fault (s ∷ ss) f rest [] e)
 of_others s (Err g, rest) f e = e
 
-after_first : (limit : ℕ) (f : PbmFault) (bytes rest : List ℕ) (s : Bitmap) → OneImage bytes rest s → RefusesWithin limit f rest → RefusesWithin (suc limit) f bytes
+after_first : (limit : ℕ) (f : PbmFault) (bytes rest : List ℕ) (s : Bitmap) → OneImage bytes rest s → RefusesWithin limit f rest
+    → RefusesWithin (suc limit) f bytes
 after_first limit f bytes rest s one h = record {
   images = one.image ∷ h.images;
   sheets = s ∷ h.sheets;
@@ -113,7 +117,8 @@ after_first limit f bytes rest s one h = record {
 }
 
 with_image : (limit b : ℕ) (bytes : List ℕ) (f : PbmFault) (r : Result Bitmap PbmFault × List ℕ) → image_of (b ∷ bytes) ≡ r
-    → ((rest : List ℕ) → images_by limit rest ≡ (Err f, []) → RefusesWithin limit f rest) → with_others (images_by limit) r ≡ (Err f, []) → RefusesWithin (suc limit) f (b ∷ bytes)
+    → ((rest : List ℕ) → images_by limit rest ≡ (Err f, []) → RefusesWithin limit f rest) → with_others (images_by limit) r ≡ (Err f, [])
+    → RefusesWithin (suc limit) f (b ∷ bytes)
 with_image limit b bytes f (Err g, rest) is hyp e =
     let p = same_fault g f rest [] e in
     record {
@@ -125,16 +130,27 @@ with_image limit b bytes f (Err g, rest) is hyp e =
       refused = inl (omega arith, image_told f (b ∷ bytes) (header_of (b ∷ bytes)) refl (is ∙ ap (λ x. (Err x, rest)) p.0 ∙ ap (λ bs. (Err f, bs)) p.1));
       joined = refl;
     }
-with_image limit b bytes f (Ok s, rest) is hyp e = after_first limit f (b ∷ bytes) rest s (one_image (b ∷ bytes) rest s is) (hyp rest (of_others s (images_by limit rest) f e))
+with_image limit b bytes f (Ok s, rest) is hyp e = after_first limit f (b ∷ bytes) rest s (one_image (b ∷ bytes) rest s is)
+    (hyp rest (of_others s (images_by limit rest) f e))
 
 told : (limit : ℕ) (f : PbmFault) (bytes : List ℕ) → images_by limit bytes ≡ (Err f, []) → RefusesWithin limit f bytes
 told limit f [] e = absurd (sheets_or_fault [] f [] [] e)
 told zero f (b ∷ bytes) e =
     let p = same_fault PbmSize f bytes [] e in
-    record { images = []; sheets = []; last = b ∷ bytes; images_are = tt; some = omega arith; refused = inr (refl, sym p.0, ap (λ (bs : List ℕ). length (b ∷ bs)) p.1); joined = refl }
+    record {
+      images = [];
+      sheets = [];
+      last = b ∷ bytes;
+      images_are = tt;
+      some = omega arith;
+      refused =
+          inr (refl, sym p.0, ap (λ (bs : List ℕ). length (b ∷ bs)) p.1);
+      joined = refl;
+    }
 told (suc limit) f (b ∷ bytes) e = with_image limit b bytes f (image_of (b ∷ bytes)) refl (λ rest k. told limit f rest k) e
 
-last_refused : (limit : ℕ) (f : PbmFault) (last : List ℕ) → 0 < length last → (((length {A = Bitmap} []) < limit) × RefusesImage f last) ⊎ (((length {A = Bitmap} []) ≡ limit) × (f ≡ PbmSize) × (length last ≡ 1))
+last_refused : (limit : ℕ) (f : PbmFault) (last : List ℕ) → 0 < length last → (((length {A = Bitmap} []) < limit) × RefusesImage f last)
+    ⊎ (((length {A = Bitmap} []) ≡ limit) × (f ≡ PbmSize) × (length last ≡ 1))
     → images_by limit last ≡ (Err f, [])
 last_refused limit f [] some h = absurd (omega arith)
 last_refused zero f (b ∷ []) some (inr h) = ap (λ x. (Err x, [])) (sym h.1)
@@ -144,7 +160,8 @@ last_refused (suc limit) f (b ∷ bytes) some (inl h) = ap (with_others (images_
 last_refused (suc limit) f (b ∷ bytes) some (inr h) = absurd (let k = h.0 in omega arith)
 
 refused : (limit : ℕ) (f : PbmFault) (images : List (List ℕ)) (sheets : List Bitmap) (last : List ℕ) → AllZip IsImage images sheets → 0 < length last
-    → ((length sheets < limit) × RefusesImage f last) ⊎ ((length sheets ≡ limit) × (f ≡ PbmSize) × (length last ≡ 1)) → images_by limit (concat images ++ last) ≡ (Err f, [])
+    → ((length sheets < limit) × RefusesImage f last) ⊎ ((length sheets ≡ limit) × (f ≡ PbmSize) × (length last ≡ 1)) → images_by limit (concat images ++ last)
+    ≡ (Err f, [])
 refused limit f [] [] last are some h = last_refused limit f last some h
 refused limit f [] (s ∷ sheets) last are some h = absurd are
 refused limit f (i ∷ images) [] last are some h = absurd are
@@ -160,6 +177,15 @@ refused (suc limit) f (i ∷ images) (s ∷ sheets) last are some h =
 
 pub files_are_refused : FilesAreRefused
 files_are_refused = λ f bytes. (
-  λ e. let h = told 4096 f bytes e in record { images = h.images; sheets = h.sheets; last = h.last; images_are = h.images_are; some = h.some; refused = h.refused; joined = h.joined },
+  λ e. let h = told 4096 f bytes e in record {
+    images = h.images;
+    sheets = h.sheets;
+    last = h.last;
+    images_are = h.images_are;
+    some = h.some;
+    refused =
+        h.refused;
+    joined = h.joined;
+  },
   λ h. ap (images_by 4096) h.joined ∙ refused 4096 f h.images h.sheets h.last h.images_are h.some h.refused,
 )

@@ -28,7 +28,8 @@ not_read f size e = cc
 read_size : (a b : Size) → (let r : Result Size PbmFault = Ok a in r ≡ Ok b) → a ≡ b
 read_size a b e = cc
 
-one_more : (size : Size) (s : State) (limit b : ℕ) (bytes rest : List ℕ) → ((t : State) → header_by limit t bytes ≡ (Ok size, rest) → Front size t limit bytes rest) → (st : Step) → header_step s b ≡ st
+one_more : (size : Size) (s : State) (limit b : ℕ) (bytes rest : List ℕ)
+    → ((t : State) → header_by limit t bytes ≡ (Ok size, rest) → Front size t limit bytes rest) → (st : Step) → header_step s b ≡ st
     → after_header_step st (λ t. header_by limit t bytes) bytes ≡ (Ok size, rest) → Front size s (limit + 1) (b ∷ bytes) rest
 one_more size s limit b bytes rest hyp (Goes t) step_is e =
     let f = hyp t e in
@@ -44,7 +45,8 @@ front_of : (size : Size) (limit : ℕ) (s : State) (bytes rest : List ℕ) → h
 front_of size limit s [] rest e = absurd (not_read Truncated size (ap (λ (p : Result Size PbmFault × List ℕ). p.0) e))
 front_of size zero s (b ∷ bytes) rest e = absurd (not_read PbmHeader size (ap (λ (p : Result Size PbmFault × List ℕ). p.0) e))
 front_of size (suc limit) s (b ∷ bytes) rest e =
-    subst (λ n. Front size s n (b ∷ bytes) rest) (let n : limit + 1 ≡ suc limit = omega arith in n) (one_more size s limit b bytes rest (λ t h. front_of size limit t bytes rest h) (header_step s b) refl e)
+    subst (λ n. Front size s n (b ∷ bytes) rest) (let n : limit + 1 ≡ suc limit = omega arith in n)
+    (one_more size s limit b bytes rest (λ t h. front_of size limit t bytes rest h) (header_step s b) refl e)
 
 -- the pieces put together
 header_is : (size : Size) (bytes : List ℕ) → Ends size Start bytes → IsHeader bytes size
@@ -81,4 +83,5 @@ pub record HeaderFront (size : Size) (bytes rest : List ℕ) : Type 0 where
   pub is : IsHeader header size
 
 pub header_front : (size : Size) (bytes rest : List ℕ) → header_by 4096 Start bytes ≡ (Ok size, rest) → HeaderFront size bytes rest
-header_front size bytes rest e = let f = front_of size 4096 Start bytes rest e in record { header = f.front; joined = f.joined; short = f.short; is = header_is size f.front f.ends }
+header_front size bytes rest e = let f = front_of size 4096 Start bytes rest e in
+    record { header = f.front; joined = f.joined; short = f.short; is = header_is size f.front f.ends }

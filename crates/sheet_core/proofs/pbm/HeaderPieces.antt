@@ -96,7 +96,14 @@ sharp some P b bytes s h = record {
 }
 
 line_end : (P : List ℕ → Type 0) (b : ℕ) (bytes : List ℕ) → is_line_end b ≡ true → P bytes → CommentThen P (b ∷ bytes)
-line_end P b bytes e h = record { comment = b ∷ []; rest = bytes; is = record { text = []; end = b; joined = refl; inside = tt; ends = e }; joined = refl; behind = h }
+line_end P b bytes e h = record {
+  comment = b ∷ [];
+  rest = bytes;
+  is = record { text = []; end = b; joined = refl; inside = tt; ends = e };
+  joined =
+      refl;
+  behind = h;
+}
 
 in_comment : (P : List ℕ → Type 0) (b : ℕ) (bytes : List ℕ) → is_line_end b ≡ false → CommentThen P bytes → CommentThen P (b ∷ bytes)
 in_comment P b bytes e h = record {
@@ -182,7 +189,8 @@ moved : (size : Size) (s t : State) (bytes : List ℕ) → Goes s ≡ Goes t →
 moved size s t bytes e h = subst (λ s. Ends size s bytes) (sym (same_state s t e)) h
 
 blanks_goes : (size : Size) (w : Option ℕ) (P : List ℕ → Type 0) (some : Bool) (t : State) (b : ℕ) (bytes : List ℕ)
-    → (Ends size (Blanks w true) bytes → BlanksThen true P bytes) → (Ends size (Comment w) bytes → CommentThen (BlanksThen true P) bytes) → (is_digit b ≡ true → Ends size (Number w (b - 48)) bytes → P (b ∷ bytes))
+    → (Ends size (Blanks w true) bytes → BlanksThen true P bytes) → (Ends size (Comment w) bytes → CommentThen (BlanksThen true P) bytes)
+    → (is_digit b ≡ true → Ends size (Number w (b - 48)) bytes → P (b ∷ bytes))
     → header_step (Blanks w some) b ≡ Goes t → Ends size t bytes → BlanksThen some P (b ∷ bytes)
 blanks_goes size w P some t b bytes blanks comment number e h =
     elim (if_is (is_white b) _ _ (Goes t) e) [
@@ -198,7 +206,8 @@ blanks_goes size w P some t b bytes blanks comment number e h =
       ]
     ]
 
-width_goes : (size : Size) (n : ℕ) (t : State) (b : ℕ) (bytes : List ℕ) → number_step None n b ≡ Goes t → Ends size t bytes → DigitsThen n size.width (BlanksThen false (Height size)) (b ∷ bytes)
+width_goes : (size : Size) (n : ℕ) (t : State) (b : ℕ) (bytes : List ℕ) → number_step None n b ≡ Goes t → Ends size t bytes
+    → DigitsThen n size.width (BlanksThen false (Height size)) (b ∷ bytes)
 width_goes size n t b bytes e h =
     elim (if_is (is_digit b) _ _ (Goes t) e) [
       | inl x ↦ digit n size.width b (BlanksThen false (Height size)) bytes x.0 (moved size (Number None (grown n b)) t bytes x.1 h)
@@ -221,7 +230,8 @@ width_goes size n t b bytes e h =
       ]
     ]
 
-height_goes : (size : Size) (w n : ℕ) (t : State) (b : ℕ) (bytes : List ℕ) → number_step (Some w) n b ≡ Goes t → Ends size t bytes → (w ≡ size.width) × DigitsThen n size.height Last (b ∷ bytes)
+height_goes : (size : Size) (w n : ℕ) (t : State) (b : ℕ) (bytes : List ℕ) → number_step (Some w) n b ≡ Goes t → Ends size t bytes → (w ≡ size.width)
+    × DigitsThen n size.height Last (b ∷ bytes)
 height_goes size w n t b bytes e h =
     elim (if_is (is_digit b) _ _ (Goes t) e) [
       | inl x ↦ let k = moved size (Number (Some w) (grown n b)) t bytes x.1 h in (k.0, digit n size.height b Last bytes x.0 k.1)
@@ -231,7 +241,8 @@ height_goes size w n t b bytes e h =
       ]
     ]
 
-same_width : (size : Size) (w : ℕ) (some : Bool) (t : State) (b : ℕ) (bytes : List ℕ) → header_step (Blanks (Some w) some) b ≡ Goes t → Ends size t bytes → w ≡ size.width
+same_width : (size : Size) (w : ℕ) (some : Bool) (t : State) (b : ℕ) (bytes : List ℕ) → header_step (Blanks (Some w) some) b ≡ Goes t → Ends size t bytes → w
+    ≡ size.width
 same_width size w some t b bytes e h =
     elim (if_is (is_white b) _ _ (Goes t) e) [
       | inl x ↦ (moved size (Blanks (Some w) true) t bytes x.1 h).0
@@ -257,8 +268,11 @@ goes size Magic t b bytes e h =
     ]
 goes size (Blanks None some) t b bytes e h =
     blanks_goes size None (Width size) some t b bytes (λ k. k) (λ k. k) (λ d k. first_digit size.width b (BlanksThen false (Height size)) bytes d k) e h
-goes size (Blanks (Some w) some) t b bytes e h =
-    (same_width size w some t b bytes e h, blanks_goes size (Some w) (Height size) some t b bytes (λ k. k.1) (λ k. k.1) (λ d k. first_digit size.height b Last bytes d k.1) e h)
+goes size (Blanks (Some w) some) t b bytes e h = (
+  same_width size w some t b bytes e h,
+  blanks_goes size (Some w) (Height size) some t b bytes (λ k. k.1) (λ k. k.1)
+      (λ d k. first_digit size.height b Last bytes d k.1) e h,
+)
 goes size (Comment None) t b bytes e h =
     elim (if_is (is_line_end b) _ _ (Goes t) e) [
       | inl x ↦ line_end (BlanksThen true (Width size)) b bytes x.0 (moved size (Blanks None true) t bytes x.1 h)

@@ -42,7 +42,8 @@ same_fault f g e = cc
 because : (f g : PbmFault) (front : List ℕ) (b : ℕ) → Refused f ≡ Refused g → Why f front b → Why g front b
 because f g front b e h = subst (λ x. Why x front b) (same_fault f g e) h
 
-wrong_number : (w : Option ℕ) (n b : ℕ) (front : List ℕ) → is_size n ≡ false → ends_number w b ≡ true → ComesToNumber w n front → EndsWrongNumber (front ++ b ∷ [])
+wrong_number : (w : Option ℕ) (n b : ℕ) (front : List ℕ) → is_size n ≡ false → ends_number w b ≡ true → ComesToNumber w n front
+    → EndsWrongNumber (front ++ b ∷ [])
 wrong_number w n b front s e h = record {
   width = w;
   n = h.number;
@@ -119,8 +120,10 @@ reached : (front more : List ℕ) (s : State) → Leads Start s front → length
 reached front more s l few =
     ap (λ n. header_by n Start (front ++ more)) (let e : 4096 ≡ (4096 - length front) + length front = omega arith in e) ∙ l.at (4096 - length front) more
 
-one_step : (limit : ℕ) (s : State) (b : ℕ) (st : Step) → 0 < limit → header_step s b ≡ st → header_by limit s (b ∷ []) ≡ after_header_step st (λ t. header_by (limit - 1) t []) []
-one_step limit s b st some e = ap (λ n. header_by n s (b ∷ [])) (let k : limit ≡ suc (limit - 1) = omega arith in k) ∙ ap (λ x. after_header_step x (λ t. header_by (limit - 1) t []) []) e
+one_step : (limit : ℕ) (s : State) (b : ℕ) (st : Step) → 0 < limit → header_step s b ≡ st → header_by limit s (b ∷ [])
+    ≡ after_header_step st (λ t. header_by (limit - 1) t []) []
+one_step limit s b st some e = ap (λ n. header_by n s (b ∷ [])) (let k : limit ≡ suc (limit - 1) = omega arith in k)
+    ∙ ap (λ x. after_header_step x (λ t. header_by (limit - 1) t []) []) e
 
 beginning_refused : (bytes : List ℕ) → IsBeginning bytes → length bytes ≤ 4096 → header_of bytes ≡ (Err Truncated, [])
 beginning_refused bytes h few = let c = comes_to bytes h in ap header_of (sym (append-nil bytes)) ∙ reached bytes [] c.state c.leads few
@@ -133,15 +136,18 @@ size_step : (w : Option ℕ) (n b : ℕ) → is_size n ≡ false → ends_number
 size_step None n b s e =
     elim (cases_Bool (is_white b)) [
       | inl white ↦
-          ap (λ x. if x then Goes (Number None (grown n b)) else if is_white b then (if is_size n then Goes (Blanks (Some n) true) else Refused PbmSize) else if b == 35 then (if is_size n then Goes (Comment (Some n)) else Refused PbmSize) else Refused PbmHeader) (of_white b white)
-          ∙ ap (λ x. if x then (if is_size n then Goes (Blanks (Some n) true) else Refused PbmSize) else if b == 35 then (if is_size n then Goes (Comment (Some n)) else Refused PbmSize) else Refused PbmHeader) white
+          ap (λ x. if x then Goes (Number None (grown n b)) else if is_white b then (if is_size n then Goes (Blanks (Some n) true) else Refused PbmSize) else if
+          b == 35 then (if is_size n then Goes (Comment (Some n)) else Refused PbmSize) else Refused PbmHeader) (of_white b white)
+          ∙ ap (λ x. if x then (if is_size n then Goes (Blanks (Some n) true) else Refused PbmSize) else if b == 35 then
+          (if is_size n then Goes (Comment (Some n)) else Refused PbmSize) else Refused PbmHeader) white
           ∙ ap (λ x. if x then Goes (Blanks (Some n) true) else Refused PbmSize) s
       | inr other ↦
           let sharp : (b == 35) ≡ true = sym (ap (λ t. t || (b == 35)) other) ∙ e in
           ap (λ c. header_step (Number None n) c) (eqb-true b 35 sharp) ∙ ap (λ x. if x then Goes (Comment (Some n)) else Refused PbmSize) s
     ]
 size_step (Some w) n b s e =
-    ap (λ x. if x then Goes (Number (Some w) (grown n b)) else if is_white b then (if is_size n then Done (record { width = w; height = n }) else Refused PbmSize) else Refused PbmHeader) (of_white b e)
+    ap (λ x. if x then Goes (Number (Some w) (grown n b)) else if is_white b then
+    (if is_size n then Done (record { width = w; height = n }) else Refused PbmSize) else Refused PbmHeader) (of_white b e)
     ∙ ap (λ x. if x then (if is_size n then Done (record { width = w; height = n }) else Refused PbmSize) else Refused PbmHeader) e
     ∙ ap (λ x. if x then Done (record { width = w; height = n }) else Refused PbmSize) s
 
@@ -173,10 +179,12 @@ stray_why front b Truncated two stray why = absurd why
 stray_why front b ReadFault two stray why = absurd why
 stray_why front b NoMemory two stray why = absurd why
 
-stray_step : (front : List ℕ) (b : ℕ) (s : State) → Leads Start s front → Comes s front → 2 ≤ length front → length front < 4096 → IsStray (front ++ b ∷ []) → (st : Step) → header_step s b ≡ st → st ≡ Refused PbmHeader
+stray_step : (front : List ℕ) (b : ℕ) (s : State) → Leads Start s front → Comes s front → 2 ≤ length front → length front < 4096 → IsStray (front ++ b ∷ [])
+    → (st : Step) → header_step s b ≡ st → st ≡ Refused PbmHeader
 stray_step front b s l c two few stray (Goes t) e = absurd (stray.no_beginning (beginning_of t (front ++ b ∷ []) (comes s t b front e c)))
 stray_step front b s l c two few stray (Done size) e =
-    let read : header_by 4096 Start (front ++ b ∷ []) ≡ (Ok size, []) = reached front (b ∷ []) s l (omega arith) ∙ one_step (4096 - length front) s b (Done size) (omega arith) e in
+    let read : header_by 4096 Start (front ++ b ∷ []) ≡ (Ok size, []) =
+    reached front (b ∷ []) s l (omega arith) ∙ one_step (4096 - length front) s b (Done size) (omega arith) e in
     let f = header_front size (front ++ b ∷ []) [] read in
     absurd (stray.no_header size (subst (λ bs. IsHeader bs size) (sym (f.joined ∙ append-nil f.header)) f.is))
 stray_step front b s l c two few stray (Refused g) e = ap (λ x. Refused x) (stray_why front b g two stray (refused_why s b front g e c))
@@ -186,13 +194,15 @@ header_refused bytes h =
     let c = comes_to h.front h.beginning in
     let short = h.short in
     let full : length h.front ≡ 4096 → header_of bytes ≡ (Err PbmHeader, []) = λ e.
-    ap header_of h.joined ∙ reached h.front (h.last ∷ []) c.state c.leads short ∙ ap (λ n. header_by n c.state (h.last ∷ [])) (let z : 4096 - length h.front ≡ 0 = omega arith in z) in
+    ap header_of h.joined ∙ reached h.front (h.last ∷ []) c.state c.leads short
+    ∙ ap (λ n. header_by n c.state (h.last ∷ [])) (let z : 4096 - length h.front ≡ 0 = omega arith in z) in
     elim h.wrong [
       | inl e ↦ full e
       | inr stray ↦ elim (cases_lt (length h.front) 4096) [
         | inl few ↦
             ap header_of h.joined ∙ reached h.front (h.last ∷ []) c.state c.leads short
-            ∙ one_step (4096 - length h.front) c.state h.last (Refused PbmHeader) (omega arith) (stray_step h.front h.last c.state c.leads c.comes h.magic few stray (header_step c.state h.last) refl)
+            ∙ one_step (4096 - length h.front) c.state h.last (Refused PbmHeader) (omega arith)
+            (stray_step h.front h.last c.state c.leads c.comes h.magic few stray (header_step c.state h.last) refl)
         | inr all ↦ full (omega arith)
       ]
     ]
@@ -235,7 +245,8 @@ is_stray bytes few e = record {
   no_number = λ h. no_other PbmSize PbmHeader bytes size_or_header (size_refused bytes h few) e;
 }
 
-told_by : (f : PbmFault) (front : List ℕ) (b : ℕ) → IsBeginning front → length front < 4096 → Why f front b → header_of (front ++ b ∷ []) ≡ (Err f, []) → RefusesHeader f (front ++ b ∷ [])
+told_by : (f : PbmFault) (front : List ℕ) (b : ℕ) → IsBeginning front → length front < 4096 → Why f front b → header_of (front ++ b ∷ []) ≡ (Err f, [])
+    → RefusesHeader f (front ++ b ∷ [])
 told_by NotP4 front b h few why e = why
 told_by PbmHeader front b h few why e = record {
   front = front;
@@ -252,18 +263,22 @@ told_by ReadFault front b h few why e = absurd why
 told_by NoMemory front b h few why e = absurd why
 
 -- the bytes after a front that is read
-one_more : (limit : ℕ) (s : State) (front : List ℕ) (b : ℕ) (bytes : List ℕ) (f : PbmFault) → length front + suc limit ≡ 4096 → Comes s front → header_of (front ++ b ∷ bytes) ≡ (Err f, [])
+one_more : (limit : ℕ) (s : State) (front : List ℕ) (b : ℕ) (bytes : List ℕ) (f : PbmFault) → length front + suc limit ≡ 4096 → Comes s front
+    → header_of (front ++ b ∷ bytes) ≡ (Err f, [])
     → ((t : State) → Comes t (front ++ b ∷ []) → header_by limit t bytes ≡ (Err f, []) → RefusesHeader f ((front ++ b ∷ []) ++ bytes))
     → (st : Step) → header_step s b ≡ st → after_header_step st (λ t. header_by limit t bytes) bytes ≡ (Err f, []) → RefusesHeader f (front ++ b ∷ bytes)
-one_more limit s front b bytes f n c whole hyp (Goes t) step_is e = subst (RefusesHeader f) (append_assoc front (b ∷ []) bytes) (hyp t (comes s t b front step_is c) e)
+one_more limit s front b bytes f n c whole hyp (Goes t) step_is e =
+    subst (RefusesHeader f) (append_assoc front (b ∷ []) bytes) (hyp t (comes s t b front step_is c) e)
 one_more limit s front b bytes f n c whole hyp (Done size) step_is e = absurd (size_or_fault size f bytes [] e)
 one_more limit s front b bytes f n c whole hyp (Refused g) step_is e =
     let p = fault_of g f bytes [] e in
     let last : front ++ b ∷ bytes ≡ front ++ b ∷ [] = ap (λ bs. front ++ b ∷ bs) p.1 in
     subst (RefusesHeader f) (sym last)
-    (told_by f front b (beginning_of s front c) (omega arith) (subst (λ x. Why x front b) p.0 (refused_why s b front g step_is c)) (ap header_of (sym last) ∙ whole))
+    (told_by f front b (beginning_of s front c) (omega arith) (subst (λ x. Why x front b) p.0 (refused_why s b front g step_is c))
+    (ap header_of (sym last) ∙ whole))
 
-told : (limit : ℕ) (s : State) (front bytes : List ℕ) (f : PbmFault) → length front + limit ≡ 4096 → Comes s front → header_of (front ++ bytes) ≡ (Err f, []) → header_by limit s bytes ≡ (Err f, []) → RefusesHeader f (front ++ bytes)
+told : (limit : ℕ) (s : State) (front bytes : List ℕ) (f : PbmFault) → length front + limit ≡ 4096 → Comes s front → header_of (front ++ bytes) ≡ (Err f, [])
+    → header_by limit s bytes ≡ (Err f, []) → RefusesHeader f (front ++ bytes)
 told limit s front [] f n c whole e =
     let p = fault_of Truncated f [] [] e in
     subst (λ x. RefusesHeader x (front ++ [])) p.0 (subst IsBeginning (sym (append-nil front)) (beginning_of s front c), omega (arith, length-append front []))
@@ -280,7 +295,8 @@ told zero s front (b ∷ bytes) f n c whole e =
     })
 told (suc limit) s front (b ∷ bytes) f n c whole e =
     one_more limit s front b bytes f n c whole
-    (λ t d k. told limit t (front ++ b ∷ []) bytes f (omega (arith, length-append front (b ∷ []))) d (ap header_of (append_assoc front (b ∷ []) bytes) ∙ whole) k) (header_step s b) refl e
+    (λ t d k. told limit t (front ++ b ∷ []) bytes f (omega (arith, length-append front (b ∷ []))) d (ap header_of (append_assoc front (b ∷ []) bytes) ∙ whole)
+    k) (header_step s b) refl e
 
 pub headers_are_refused : HeadersAreRefused
 headers_are_refused = λ f bytes. (λ e. told 4096 Start [] bytes f refl refl e e, λ h. refuses f bytes h)

@@ -25,18 +25,21 @@ not_read : (f : PbmFault) (size : Size) → (let r : Result Size PbmFault = Err 
 not_read f size e = cc
 
 -- one step, whatever follows
-step_more : (go wide : State → Result Size PbmFault × List ℕ) (bs rest more : List ℕ) (size : Size) → ((t : State) → go t ≡ (Ok size, rest) → wide t ≡ (Ok size, rest ++ more)) → (s : Step)
+step_more : (go wide : State → Result Size PbmFault × List ℕ) (bs rest more : List ℕ) (size : Size)
+    → ((t : State) → go t ≡ (Ok size, rest) → wide t ≡ (Ok size, rest ++ more)) → (s : Step)
     → after_header_step s go bs ≡ (Ok size, rest) → after_header_step s wide (bs ++ more) ≡ (Ok size, rest ++ more)
 step_more go wide bs rest more size hyp (Goes t) e = hyp t e
 step_more go wide bs rest more size hyp (Done other) e =
     ap₂ (λ r bs. (r, bs ++ more)) (ap (λ (p : Result Size PbmFault × List ℕ). p.0) e) (ap (λ (p : Result Size PbmFault × List ℕ). p.1) e)
 step_more go wide bs rest more size hyp (Refused f) e = absurd (not_read f size (ap (λ (p : Result Size PbmFault × List ℕ). p.0) e))
 
-by_more : (limit : ℕ) (s : State) (bytes rest more : List ℕ) (size : Size) → header_by limit s bytes ≡ (Ok size, rest) → header_by limit s (bytes ++ more) ≡ (Ok size, rest ++ more)
+by_more : (limit : ℕ) (s : State) (bytes rest more : List ℕ) (size : Size) → header_by limit s bytes ≡ (Ok size, rest) → header_by limit s (bytes ++ more)
+    ≡ (Ok size, rest ++ more)
 by_more limit s [] rest more size e = absurd (not_read Truncated size (ap (λ (p : Result Size PbmFault × List ℕ). p.0) e))
 by_more zero s (b ∷ bytes) rest more size e = absurd (not_read PbmHeader size (ap (λ (p : Result Size PbmFault × List ℕ). p.0) e))
 by_more (suc limit) s (b ∷ bytes) rest more size e =
-    step_more (λ t. header_by limit t bytes) (λ t. header_by limit t (bytes ++ more)) bytes rest more size (λ t h. by_more limit t bytes rest more size h) (header_step s b) e
+    step_more (λ t. header_by limit t bytes) (λ t. header_by limit t (bytes ++ more)) bytes rest more size (λ t h. by_more limit t bytes rest more size h)
+    (header_step s b) e
 
 pub header_more : (bytes more : List ℕ) (size : Size) → header_of bytes ≡ (Ok size, []) → header_of (bytes ++ more) ≡ (Ok size, more)
 header_more bytes more size e = by_more 4096 Start bytes [] more size e
@@ -46,19 +49,23 @@ header_more bytes more size e = by_more 4096 Start bytes [] more size e
 abbrev count : Size → ℕ
 count size = stride size.width * size.height
 
-pub image_by : (head rows more : List ℕ) (size : Size) → header_of head ≡ (Ok size, []) → length rows ≡ stride size.width * size.height → image_of (head ++ (rows ++ more)) ≡ (Ok (bitmap_of size rows), more)
+pub image_by : (head rows more : List ℕ) (size : Size) → header_of head ≡ (Ok size, []) → length rows ≡ stride size.width * size.height
+    → image_of (head ++ (rows ++ more)) ≡ (Ok (bitmap_of size rows), more)
 image_by head rows more size h long =
     ap raster (header_more head (rows ++ more) size h)
     ∙ ap (λ t. if t then (Err Truncated, []) else (Ok (bitmap_of size (take (count size) (rows ++ more))), drop (count size) (rows ++ more)))
     (le-ltb (length (rows ++ more)) (count size) (let l = length-append rows more in omega arith))
     ∙ ap₂ (λ t d. (Ok (bitmap_of size t), d)) (take_at rows more (count size) long) (drop_at rows more (count size) long)
 
-pub image_short : (head rows : List ℕ) (size : Size) → header_of head ≡ (Ok size, []) → length rows < stride size.width * size.height → image_of (head ++ rows) ≡ (Err Truncated, [])
+pub image_short : (head rows : List ℕ) (size : Size) → header_of head ≡ (Ok size, []) → length rows < stride size.width * size.height → image_of (head ++ rows)
+    ≡ (Err Truncated, [])
 image_short head rows size h few =
     ap raster (header_more head rows size h)
-    ∙ ap (λ t. if t then (Err Truncated, []) else (Ok (bitmap_of size (take (count size) rows)), drop (count size) rows)) (lt-ltb (length rows) (count size) few)
+    ∙ ap (λ t. if t then (Err Truncated, []) else (Ok (bitmap_of size (take (count size) rows)), drop (count size) rows))
+    (lt-ltb (length rows) (count size) few)
 
-image_open : (head rows : List ℕ) (size : Size) → header_of head ≡ (Ok size, []) → length rows ≤ stride size.width * size.height → IsOpen (image_of (head ++ rows))
+image_open : (head rows : List ℕ) (size : Size) → header_of head ≡ (Ok size, []) → length rows ≤ stride size.width * size.height
+    → IsOpen (image_of (head ++ rows))
 image_open head rows size h few =
     elim (cases_lt (length rows) (count size)) [
       | inl short ↦ inl (image_short head rows size h short)
@@ -74,7 +81,8 @@ image_told first bytes = image_of (first ∷ bytes)
 abbrev head_told : ℕ → List ℕ → Result Size PbmFault × List ℕ
 head_told first bytes = header_of (first ∷ bytes)
 
-pub image_read : (old mid new : Option (List ℕ)) (first : ℕ) (size : Size) (rows : List ℕ) → ReadsBytes (head_told first) old mid (Ok size) → Consumes mid new rows → length rows ≡ stride size.width * size.height
+pub image_read : (old mid new : Option (List ℕ)) (first : ℕ) (size : Size) (rows : List ℕ) → ReadsBytes (head_told first) old mid (Ok size)
+    → Consumes mid new rows → length rows ≡ stride size.width * size.height
     → ReadsBytes (image_told first) old new (Ok (bitmap_of size rows))
 image_read old mid new first size rows h c long = record {
   bytes = h.bytes ++ rows;
@@ -82,7 +90,8 @@ image_read old mid new first size rows h c long = record {
   tells = ap (λ bs. image_of (first ∷ (h.bytes ++ bs))) (sym (append-nil rows)) ∙ image_by (first ∷ h.bytes) rows [] size h.tells long;
 }
 
-pub image_stopped : (old mid new : Option (List ℕ)) (first : ℕ) (size : Size) (f : PbmFault) → ReadsBytes (head_told first) old mid (Ok size) → StopsBefore (stride size.width * size.height) mid new f
+pub image_stopped : (old mid new : Option (List ℕ)) (first : ℕ) (size : Size) (f : PbmFault) → ReadsBytes (head_told first) old mid (Ok size)
+    → StopsBefore (stride size.width * size.height) mid new f
     → ReadsBytes (image_told first) old new (Err f)
 image_stopped old mid new first size Truncated h s = record {
   bytes = h.bytes ++ s.0;
@@ -118,7 +127,8 @@ bitmap_of_rows size rows w h long =
       count = n ∙ long;
       padded = λ i low last.
           let below : i < length rows = omega arith in
-          ap (λ v. v % 2 ^ pad size.width) (get_or-map-range_with_len (unpadded_at size.width rows) 0 (length rows) i i 0 below (omega arith)) ∙ cleared_at size.width rows i below last;
+          ap (λ v. v % 2 ^ pad size.width) (get_or-map-range_with_len (unpadded_at size.width rows) 0 (length rows) i i 0 below (omega arith))
+          ∙ cleared_at size.width rows i below last;
     }
 
 -- what `?` hands on
@@ -129,7 +139,8 @@ err_is (Err y) f h k = ap (λ e. Err e) k
 -- ---- bytes after an image
 
 pub raster_more : (h : Result Size PbmFault × List ℕ) (s : Bitmap) (rest more : List ℕ) → raster h ≡ (Ok s, rest)
-    → (size : Size) × (bytes : List ℕ) × (h ≡ (Ok size, bytes)) × (stride size.width * size.height ≤ length bytes) × (s ≡ bitmap_of size (take (stride size.width * size.height) bytes)) × (rest ≡ drop (stride size.width * size.height) bytes)
+    → (size : Size) × (bytes : List ℕ) × (h ≡ (Ok size, bytes)) × (stride size.width * size.height ≤ length bytes)
+    × (s ≡ bitmap_of size (take (stride size.width * size.height) bytes)) × (rest ≡ drop (stride size.width * size.height) bytes)
 raster_more (Err f, bytes) s rest more e = absurd (no_bitmap f s (ap (λ (p : Result Bitmap PbmFault × List ℕ). p.0) e))
   where
     no_bitmap : (f : PbmFault) (s : Bitmap) → (let r : Result Bitmap PbmFault = Err f in r ≡ Ok s) → ⊥
@@ -137,10 +148,13 @@ raster_more (Err f, bytes) s rest more e = absurd (no_bitmap f s (ap (λ (p : Re
 raster_more (Ok size, bytes) s rest more e =
     elim (cases_lt (length bytes) (count size)) [
       | inl short ↦
-          absurd (no_bitmap s (ap (λ (p : Result Bitmap PbmFault × List ℕ). p.0) (sym (ap (λ t. if t then (Err Truncated, []) else (Ok (bitmap_of size (take (count size) bytes)), drop (count size) bytes)) (lt-ltb (length bytes) (count size) short)) ∙ e)))
+          absurd (no_bitmap s (ap (λ (p : Result Bitmap PbmFault × List ℕ). p.0)
+          (sym (ap (λ t. if t then (Err Truncated, []) else (Ok (bitmap_of size (take (count size) bytes)), drop (count size) bytes))
+          (lt-ltb (length bytes) (count size) short)) ∙ e)))
       | inr enough ↦
           let all : (let r : Result Bitmap PbmFault × List ℕ = (Ok (bitmap_of size (take (count size) bytes)), drop (count size) bytes) in r ≡ (Ok s, rest)) =
-          sym (ap (λ t. if t then (Err Truncated, []) else (Ok (bitmap_of size (take (count size) bytes)), drop (count size) bytes)) (le-ltb (length bytes) (count size) enough)) ∙ e in
+          sym (ap (λ t. if t then (Err Truncated, []) else (Ok (bitmap_of size (take (count size) bytes)), drop (count size) bytes))
+          (le-ltb (length bytes) (count size) enough)) ∙ e in
           let one = ap (λ (p : Result Bitmap PbmFault × List ℕ). p.0) all in
           (size, bytes, refl, enough, sym (same_ok _ _ one), sym (ap (λ (p : Result Bitmap PbmFault × List ℕ). p.1) all))
     ]

@@ -31,7 +31,8 @@ ends w row i some e =
     let at : (row + 1) * w + 0 ≡ i + 1 = let c : (row + 1) * w ≡ w * row + w = grind arith in omega arith in
     ap (λ n. n % w) (sym at) ∙ mod-mul-add (row + 1) w 0 some
 
-pub cleared_more : (width : ℕ) (old : List ℕ) (row : ℕ) (bytes : List ℕ) (last v : ℕ) → 0 < stride width → last ≡ stride width * row + (stride width - 1) → last < length bytes
+pub cleared_more : (width : ℕ) (old : List ℕ) (row : ℕ) (bytes : List ℕ) (last v : ℕ) → 0 < stride width → last ≡ stride width * row + (stride width - 1)
+    → last < length bytes
     → v ≡ get_or bytes last 0 - get_or bytes last 0 % 2 ^ pad width → Cleared width old row bytes → Cleared width old (row + 1) (set bytes last v)
 cleared_more width old row bytes last v some place within is h =
     let w : ℕ = stride width in
@@ -62,7 +63,8 @@ cleared_all width height old bytes long h = fill_by_all (unpadded_at width old) 
 -- cleared bits are 0
 pub cleared_at : (width : ℕ) (bytes : List ℕ) (i : ℕ) → i < length bytes → (i + 1) % stride width ≡ 0 → unpadded_at width bytes i % 2 ^ pad width ≡ 0
 cleared_at width bytes i low last =
-    ap (λ t. (if t then get_or bytes i 0 - get_or bytes i 0 % 2 ^ pad width else get_or bytes i 0) % 2 ^ pad width) (eq-eqb ((i + 1) % stride width) 0 last) ∙ multiple (get_or bytes i 0) (2 ^ pad width) (pow_pos (pad width))
+    ap (λ t. (if t then get_or bytes i 0 - get_or bytes i 0 % 2 ^ pad width else get_or bytes i 0) % 2 ^ pad width) (eq-eqb ((i + 1) % stride width) 0 last)
+    ∙ multiple (get_or bytes i 0) (2 ^ pad width) (pow_pos (pad width))
   where
     multiple : (b m : ℕ) → 0 < m → (b - b % m) % m ≡ 0
     multiple b m some =

@@ -112,58 +112,72 @@ light_of g = replicate (stride (g.columns * g.width)) 0
 abbrev pub bar_rows : Cells → ℕ
 bar_rows g = g.height - 2 * g.dots
 
-band_parts : (g : Cells) (symbols : List Drawn) (line : List ℕ) → IsBarLine g symbols line → band g line ≡ repeated_bytes g.dots (light_of g) ++ (repeated_bytes (bar_rows g) line ++ repeated_bytes g.dots (light_of g))
-band_parts g symbols line h = ap (λ w. repeated_bytes g.dots (replicate w 0) ++ (repeated_bytes (bar_rows g) line ++ repeated_bytes g.dots (replicate w 0))) h.long
+band_parts : (g : Cells) (symbols : List Drawn) (line : List ℕ) → IsBarLine g symbols line → band g line ≡ repeated_bytes g.dots (light_of g)
+    ++ (repeated_bytes (bar_rows g) line ++ repeated_bytes g.dots (light_of g))
+band_parts g symbols line h = ap (λ w. repeated_bytes g.dots (replicate w 0) ++ (repeated_bytes (bar_rows g) line ++ repeated_bytes g.dots (replicate w 0)))
+    h.long
 
 -- the light rows above the bars are cut
-pub band_above : (g : Cells) (symbols : List Drawn) (a b : Option (List ℕ)) (light : List ℕ) (n : ℕ) → IsGrid g → length symbols ≤ g.columns → light ≡ light_of g → n ≡ g.dots
+pub band_above : (g : Cells) (symbols : List Drawn) (a b : Option (List ℕ)) (light : List ℕ) (n : ℕ) → IsGrid g → length symbols ≤ g.columns → light
+    ≡ light_of g → n ≡ g.dots
     → TookFront a b (repeated_bytes n light) → BandFront g symbols a b
 band_above g symbols a b light n grid few is count front =
     let drawn = line_of g symbols grid few in
-    let above : TookFront a b (repeated_bytes g.dots (light_of g)) = subst (λ k. TookFront a b (repeated_bytes k (light_of g))) count (subst (λ l. TookFront a b (repeated_bytes n l)) is front) in (
+    let above : TookFront a b (repeated_bytes g.dots (light_of g)) =
+    subst (λ k. TookFront a b (repeated_bytes k (light_of g))) count (subst (λ l. TookFront a b (repeated_bytes n l)) is front) in (
       band g drawn.0,
       (drawn.0, drawn.1, refl),
-      subst (TookFront a b) (sym (band_parts g symbols drawn.0 drawn.1)) (took_more a b (repeated_bytes g.dots (light_of g)) (repeated_bytes (bar_rows g) drawn.0 ++ repeated_bytes g.dots (light_of g)) above),
+      subst (TookFront a b) (sym (band_parts g symbols drawn.0 drawn.1))
+          (took_more a b (repeated_bytes g.dots (light_of g)) (repeated_bytes (bar_rows g) drawn.0 ++ repeated_bytes g.dots (light_of g)) above),
     )
 
 -- the light rows above the bars went out
-above_out : (g : Cells) (a b : Option (List ℕ)) (light : List ℕ) (n : ℕ) → light ≡ light_of g → n ≡ g.dots → Appends a b (repeated_bytes n light) → Appends a b (repeated_bytes g.dots (light_of g))
+above_out : (g : Cells) (a b : Option (List ℕ)) (light : List ℕ) (n : ℕ) → light ≡ light_of g → n ≡ g.dots → Appends a b (repeated_bytes n light)
+    → Appends a b (repeated_bytes g.dots (light_of g))
 above_out g a b light n is count out = subst (λ k. Appends a b (repeated_bytes k (light_of g))) count (subst (λ l. Appends a b (repeated_bytes n l)) is out)
 
 -- the bars are cut
-pub band_bars : (g : Cells) (symbols : List Drawn) (a b d : Option (List ℕ)) (light line : List ℕ) (n m : ℕ) → IsBarLine g symbols line → light ≡ light_of g → n ≡ g.dots → m ≡ bar_rows g
+pub band_bars : (g : Cells) (symbols : List Drawn) (a b d : Option (List ℕ)) (light line : List ℕ) (n m : ℕ) → IsBarLine g symbols line → light ≡ light_of g → n
+    ≡ g.dots → m ≡ bar_rows g
     → Appends a b (repeated_bytes n light) → TookFront b d (repeated_bytes m line) → BandFront g symbols a d
 band_bars g symbols a b d light line n m drawn is count high out front =
     let bars : TookFront b d (repeated_bytes (bar_rows g) line) = subst (λ k. TookFront b d (repeated_bytes k line)) high front in (
       band g line,
       (line, drawn, refl),
       subst (TookFront a d) (sym (band_parts g symbols line drawn))
-          (took_after a b d (repeated_bytes g.dots (light_of g)) (repeated_bytes (bar_rows g) line ++ repeated_bytes g.dots (light_of g)) (above_out g a b light n is count out)
+          (took_after a b d (repeated_bytes g.dots (light_of g)) (repeated_bytes (bar_rows g) line ++ repeated_bytes g.dots (light_of g))
+          (above_out g a b light n is count out)
           (took_more b d (repeated_bytes (bar_rows g) line) (repeated_bytes g.dots (light_of g)) bars)),
     )
 
 -- the light rows below the bars are cut
-pub band_below : (g : Cells) (symbols : List Drawn) (a b d e : Option (List ℕ)) (light line dark : List ℕ) (n m : ℕ) → IsBarLine g symbols line → light ≡ light_of g → dark ≡ light_of g → n ≡ g.dots → m ≡ bar_rows g
+pub band_below : (g : Cells) (symbols : List Drawn) (a b d e : Option (List ℕ)) (light line dark : List ℕ) (n m : ℕ) → IsBarLine g symbols line → light
+    ≡ light_of g → dark ≡ light_of g → n ≡ g.dots → m ≡ bar_rows g
     → Appends a b (repeated_bytes n light) → Appends b d (repeated_bytes m line) → TookFront d e (repeated_bytes n dark) → BandFront g symbols a e
 band_below g symbols a b d e light line dark n m drawn is also count high out bars front =
-    let below : TookFront d e (repeated_bytes g.dots (light_of g)) = subst (λ k. TookFront d e (repeated_bytes k (light_of g))) count (subst (λ l. TookFront d e (repeated_bytes n l)) also front) in
+    let below : TookFront d e (repeated_bytes g.dots (light_of g)) =
+    subst (λ k. TookFront d e (repeated_bytes k (light_of g))) count (subst (λ l. TookFront d e (repeated_bytes n l)) also front) in
     let between : Appends b d (repeated_bytes (bar_rows g) line) = subst (λ k. Appends b d (repeated_bytes k line)) high bars in (
       band g line,
       (line, drawn, refl),
       subst (TookFront a e) (sym (band_parts g symbols line drawn))
-          (took_after a b e (repeated_bytes g.dots (light_of g)) (repeated_bytes (bar_rows g) line ++ repeated_bytes g.dots (light_of g)) (above_out g a b light n is count out)
+          (took_after a b e (repeated_bytes g.dots (light_of g)) (repeated_bytes (bar_rows g) line ++ repeated_bytes g.dots (light_of g))
+          (above_out g a b light n is count out)
           (took_after b d e (repeated_bytes (bar_rows g) line) (repeated_bytes g.dots (light_of g)) between below)),
     )
 
 -- all rows went out
-pub band_out : (g : Cells) (symbols : List Drawn) (a b d e : Option (List ℕ)) (light line dark : List ℕ) (n m : ℕ) → IsBarLine g symbols line → light ≡ light_of g → dark ≡ light_of g → n ≡ g.dots → m ≡ bar_rows g
-    → Appends a b (repeated_bytes n light) → Appends b d (repeated_bytes m line) → Appends d e (repeated_bytes n dark) → (bytes : List ℕ) × IsBand g symbols bytes × Appends a e bytes
+pub band_out : (g : Cells) (symbols : List Drawn) (a b d e : Option (List ℕ)) (light line dark : List ℕ) (n m : ℕ) → IsBarLine g symbols line → light
+    ≡ light_of g → dark ≡ light_of g → n ≡ g.dots → m ≡ bar_rows g
+    → Appends a b (repeated_bytes n light) → Appends b d (repeated_bytes m line) → Appends d e (repeated_bytes n dark) → (bytes : List ℕ)
+    × IsBand g symbols bytes × Appends a e bytes
 band_out g symbols a b d e light line dark n m drawn is also count high out bars last =
     let between : Appends b d (repeated_bytes (bar_rows g) line) = subst (λ k. Appends b d (repeated_bytes k line)) high bars in (
       band g line,
       (line, drawn, refl),
       subst (Appends a e) (sym (band_parts g symbols line drawn))
-          (Appends-trans a b e (repeated_bytes g.dots (light_of g)) (repeated_bytes (bar_rows g) line ++ repeated_bytes g.dots (light_of g)) (above_out g a b light n is count out)
+          (Appends-trans a b e (repeated_bytes g.dots (light_of g)) (repeated_bytes (bar_rows g) line ++ repeated_bytes g.dots (light_of g))
+          (above_out g a b light n is count out)
           (Appends-trans b d e (repeated_bytes (bar_rows g) line) (repeated_bytes g.dots (light_of g)) between (above_out g d e dark n also count last))),
     )
 
@@ -196,7 +210,8 @@ banded_all g symbols n bytes grid low h =
     subst (λ m. Rest g symbols m bytes) (let e : n + (g.rows - n) ≡ g.rows = omega arith in e) (banded_rest g symbols n (g.rows - n) bytes grid h)
 
 -- one row of cells more
-pub band_more : (g : Cells) (symbols : List Drawn) (n : ℕ) (bytes more : List ℕ) → Banded g symbols n bytes → IsBand g (row_labels g symbols n) more → Banded g symbols (n + 1) (bytes ++ more)
+pub band_more : (g : Cells) (symbols : List Drawn) (n : ℕ) (bytes more : List ℕ) → Banded g symbols n bytes → IsBand g (row_labels g symbols n) more
+    → Banded g symbols (n + 1) (bytes ++ more)
 band_more g symbols n bytes more h b = banded_more g symbols n bytes (bytes ++ more) b.0 h b.1 (ap (λ bs. bytes ++ bs) b.2)
 
 -- the bytes of a sheet of which a front went out
@@ -212,7 +227,8 @@ abbrev pub head_of : Cells → List ℕ
 head_of g = header_text (g.columns * g.width) (g.rows * g.height)
 
 -- the header is cut
-pub sheet_head : (g : Cells) (symbols : List Drawn) (a b : Option (List ℕ)) (head : List ℕ) → IsGrid g → head ≡ head_of g → TookFront a b head → SheetFront g symbols a b
+pub sheet_head : (g : Cells) (symbols : List Drawn) (a b : Option (List ℕ)) (head : List ℕ) → IsGrid g → head ≡ head_of g → TookFront a b head
+    → SheetFront g symbols a b
 sheet_head g symbols a b head grid is front =
     let all = banded_all g symbols 0 [] grid (omega arith) (banded_none g symbols [] refl) in (
       sheet_bytes g ([] ++ all.rest),
@@ -221,7 +237,8 @@ sheet_head g symbols a b head grid is front =
     )
 
 -- a row of cells is cut
-pub sheet_band : (g : Cells) (symbols : List Drawn) (n : ℕ) (a b d e : Option (List ℕ)) (head bytes : List ℕ) → IsGrid g → n < g.rows → head ≡ head_of g → Appends a b head → Banded g symbols n bytes
+pub sheet_band : (g : Cells) (symbols : List Drawn) (n : ℕ) (a b d e : Option (List ℕ)) (head bytes : List ℕ) → IsGrid g → n < g.rows → head ≡ head_of g
+    → Appends a b head → Banded g symbols n bytes
     → Appends b d bytes → BandFront g (row_labels g symbols n) d e → SheetFront g symbols a e
 sheet_band g symbols n a b d e head bytes grid low is first h out front =
     let more : List ℕ = front.0 in
@@ -236,7 +253,8 @@ sheet_band g symbols n a b d e head bytes grid low is first h out front =
     )
 
 -- the sheet went out
-pub sheet_out : (g : Cells) (symbols : List Drawn) (a b d : Option (List ℕ)) (head bytes : List ℕ) → IsGrid g → head ≡ head_of g → Appends a b head → Banded g symbols g.rows bytes → Appends b d bytes
+pub sheet_out : (g : Cells) (symbols : List Drawn) (a b d : Option (List ℕ)) (head bytes : List ℕ) → IsGrid g → head ≡ head_of g → Appends a b head
+    → Banded g symbols g.rows bytes → Appends b d bytes
     → (sheet : Bitmap) × IsSheet symbols g 0 sheet × Appends a d (image sheet)
 sheet_out g symbols a b d head bytes grid is first h out = (
   sheet_bytes g bytes,
@@ -262,7 +280,8 @@ pub record Sheeted (g : Cells) (symbols : List Drawn) (n : ℕ) (sheets : List B
 pub sheeted_none : (g : Cells) (symbols : List Drawn) → Sheeted g symbols 0 []
 sheeted_none g symbols = record { count = refl; each = λ i s at. cc at }
 
-pub sheeted_more : (g : Cells) (symbols : List Drawn) (n : ℕ) (sheets : List Bitmap) (s : Bitmap) → Sheeted g symbols n sheets → IsSheet symbols g n s → Sheeted g symbols (n + 1) (sheets ++ s ∷ [])
+pub sheeted_more : (g : Cells) (symbols : List Drawn) (n : ℕ) (sheets : List Bitmap) (s : Bitmap) → Sheeted g symbols n sheets → IsSheet symbols g n s
+    → Sheeted g symbols (n + 1) (sheets ++ s ∷ [])
 sheeted_more g symbols n sheets s h drawn = record {
   count = length-append sheets (s ∷ []) ∙ ap (λ k. k + 1) h.count;
   each = λ i t at. elim (last_or_before sheets s i t at) [
@@ -292,20 +311,24 @@ sheeted_rest g symbols n (suc k) sheets grid h =
     }
 
 -- all sheets after those that are there
-pub sheeted_all : (g : Cells) (symbols : List Drawn) (n m : ℕ) (sheets : List Bitmap) → IsGrid g → n ≤ m → Sheeted g symbols n sheets → Others g symbols m sheets
+pub sheeted_all : (g : Cells) (symbols : List Drawn) (n m : ℕ) (sheets : List Bitmap) → IsGrid g → n ≤ m → Sheeted g symbols n sheets
+    → Others g symbols m sheets
 sheeted_all g symbols n m sheets grid low h =
     subst (λ k. Others g symbols k sheets) (let e : n + (m - n) ≡ m = omega arith in e) (sheeted_rest g symbols n (m - n) sheets grid h)
 
 -- ---- what was written
 
 -- one sheet more
-pub wrote_sheet : (a b c : Option (List ℕ)) (sheets : List Bitmap) (s : Bitmap) → Appends a b (pbm_of sheets) → Appends b c (image s) → Appends a c (pbm_of (sheets ++ s ∷ []))
+pub wrote_sheet : (a b c : Option (List ℕ)) (sheets : List Bitmap) (s : Bitmap) → Appends a b (pbm_of sheets) → Appends b c (image s)
+    → Appends a c (pbm_of (sheets ++ s ∷ []))
 wrote_sheet a b c sheets s h k =
-    let joined : pbm_of (sheets ++ s ∷ []) ≡ pbm_of sheets ++ image s = flat_map-append image sheets (s ∷ []) ∙ ap (λ bs. pbm_of sheets ++ bs) (append-nil (image s)) in
+    let joined : pbm_of (sheets ++ s ∷ []) ≡ pbm_of sheets ++ image s =
+    flat_map-append image sheets (s ∷ []) ∙ ap (λ bs. pbm_of sheets ++ bs) (append-nil (image s)) in
     subst (Appends a c) (sym joined) (Appends-trans a b c (pbm_of sheets) (image s) h k)
 
 -- a front of one sheet more, before others
-pub took_sheet : (a b c : Option (List ℕ)) (sheets others : List Bitmap) (s : Bitmap) → Appends a b (pbm_of sheets) → TookFront b c (image s) → TookFront a c (pbm_of ((sheets ++ s ∷ []) ++ others))
+pub took_sheet : (a b c : Option (List ℕ)) (sheets others : List Bitmap) (s : Bitmap) → Appends a b (pbm_of sheets) → TookFront b c (image s)
+    → TookFront a c (pbm_of ((sheets ++ s ∷ []) ++ others))
 took_sheet a b c sheets others s h k =
     let joined : pbm_of ((sheets ++ s ∷ []) ++ others) ≡ pbm_of sheets ++ (image s ++ pbm_of others) =
     ap pbm_of (append_assoc sheets (s ∷ []) others) ∙ flat_map-append image sheets (s ∷ others) in
@@ -315,7 +338,8 @@ took_sheet a b c sheets others s h k =
 abbrev pub SheetsFront : Cells → List Drawn → Option (List ℕ) → Option (List ℕ) → Type 0
 SheetsFront g symbols a b = (sheets : List Bitmap) × AreSheets symbols g sheets × TookFront a b (pbm_of sheets)
 
-are_sheets : (g : Cells) (symbols : List Drawn) (n : ℕ) (sheets : List Bitmap) → n ≡ sheet_count g (length symbols) → Sheeted g symbols n sheets → AreSheets symbols g sheets
+are_sheets : (g : Cells) (symbols : List Drawn) (n : ℕ) (sheets : List Bitmap) → n ≡ sheet_count g (length symbols) → Sheeted g symbols n sheets
+    → AreSheets symbols g sheets
 are_sheets g symbols n sheets e h = record { count = h.count ∙ e; each = h.each }
 
 -- the labels of sheet i
@@ -323,7 +347,8 @@ abbrev pub sheet_labels : {A : Type 0} → Cells → List A → ℕ → List A
 sheet_labels g labels i = take (cell_count g) (drop (i * cell_count g) labels)
 
 -- a sheet is cut
-pub sheets_cut : (g : Cells) (symbols : List Drawn) (n count : ℕ) (a b d : Option (List ℕ)) (sheets : List Bitmap) → IsGrid g → n < count → count ≡ sheet_count g (length symbols) → Sheeted g symbols n sheets
+pub sheets_cut : (g : Cells) (symbols : List Drawn) (n count : ℕ) (a b d : Option (List ℕ)) (sheets : List Bitmap) → IsGrid g → n < count → count
+    ≡ sheet_count g (length symbols) → Sheeted g symbols n sheets
     → Appends a b (pbm_of sheets) → SheetFront g (sheet_labels g symbols n) b d → SheetsFront g symbols a d
 sheets_cut g symbols n count a b d sheets grid low e h out front =
     let s : Bitmap = front.0 in
@@ -335,12 +360,15 @@ sheets_cut g symbols n count a b d sheets grid low e h out front =
     )
 
 -- one sheet more went out
-pub sheets_more : (g : Cells) (symbols : List Drawn) (n : ℕ) (a b d : Option (List ℕ)) (sheets : List Bitmap) (s : Bitmap) → IsGrid g → Sheeted g symbols n sheets → IsSheet (sheet_labels g symbols n) g 0 s
+pub sheets_more : (g : Cells) (symbols : List Drawn) (n : ℕ) (a b d : Option (List ℕ)) (sheets : List Bitmap) (s : Bitmap) → IsGrid g
+    → Sheeted g symbols n sheets → IsSheet (sheet_labels g symbols n) g 0 s
     → Appends a b (pbm_of sheets) → Appends b d (image s) → Sheeted g symbols (n + 1) (sheets ++ s ∷ []) × Appends a d (pbm_of (sheets ++ s ∷ []))
-sheets_more g symbols n a b d sheets s grid h drawn out more = (sheeted_more g symbols n sheets s h (sheet_at g symbols n s grid drawn), wrote_sheet a b d sheets s out more)
+sheets_more g symbols n a b d sheets s grid h drawn out more =
+    (sheeted_more g symbols n sheets s h (sheet_at g symbols n s grid drawn), wrote_sheet a b d sheets s out more)
 
 -- the sheets went out
-pub sheets_out : (g : Cells) (symbols : List Drawn) (n : ℕ) (a b : Option (List ℕ)) (sheets : List Bitmap) → n ≡ sheet_count g (length symbols) → Sheeted g symbols n sheets → Appends a b (pbm_of sheets)
+pub sheets_out : (g : Cells) (symbols : List Drawn) (n : ℕ) (a b : Option (List ℕ)) (sheets : List Bitmap) → n ≡ sheet_count g (length symbols)
+    → Sheeted g symbols n sheets → Appends a b (pbm_of sheets)
     → (sheets : List Bitmap) × AreSheets symbols g sheets × Appends a b (pbm_of sheets)
 sheets_out g symbols n a b sheets e h out = (sheets, are_sheets g symbols n sheets e h, out)
 

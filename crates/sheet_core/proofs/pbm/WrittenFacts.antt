@@ -27,7 +27,8 @@ digit_tests d h = (grind (arith, nat_tests), grind (arith, nat_tests), grind (ar
 first_digit : (width : Option ℕ) (d : ℕ) → d < 10 → header_step (Blanks width true) (48 + d) ≡ Goes (Number width d)
 first_digit width d h =
     let t = digit_tests d h in
-    ap (λ b. if b then Goes (Blanks width true) else if 48 + d == 35 then Goes (Comment width) else if is_digit (48 + d) then Goes (Number width (48 + d - 48)) else Refused PbmHeader) t.0
+    ap (λ b. if b then Goes (Blanks width true) else if 48 + d == 35 then Goes (Comment width) else if is_digit (48 + d) then Goes (Number width (48 + d - 48))
+    else Refused PbmHeader) t.0
     ∙ ap (λ b. if b then Goes (Comment width) else if is_digit (48 + d) then Goes (Number width (48 + d - 48)) else Refused PbmHeader) t.1
     ∙ ap (λ b. if b then Goes (Number width (48 + d - 48)) else Refused PbmHeader) t.2
     ∙ ap (λ n. Goes (Number width n)) (let e : 48 + d - 48 ≡ d = omega arith in e)
@@ -35,13 +36,16 @@ first_digit width d h =
 next_digit : (width : Option ℕ) (n d : ℕ) → d < 10 → 10 * n + d < 65536 → header_step (Number width n) (48 + d) ≡ Goes (Number width (10 * n + d))
 next_digit None n d h small =
     let t = (digit_tests d h).2 in
-    ap (λ b. if b then Goes (Number None (grown n (48 + d))) else other) t ∙ ap (λ n. Goes (Number None n)) (let e : grown n (48 + d) ≡ 10 * n + d = omega arith in e)
+    ap (λ b. if b then Goes (Number None (grown n (48 + d))) else other) t
+    ∙ ap (λ n. Goes (Number None n)) (let e : grown n (48 + d) ≡ 10 * n + d = omega arith in e)
   where
     other : Step
-    other = if is_white (48 + d) then (if is_size n then Goes (Blanks (Some n) true) else Refused PbmSize) else if 48 + d == 35 then (if is_size n then Goes (Comment (Some n)) else Refused PbmSize) else Refused PbmHeader
+    other = if is_white (48 + d) then (if is_size n then Goes (Blanks (Some n) true) else Refused PbmSize) else if 48 + d == 35 then
+        (if is_size n then Goes (Comment (Some n)) else Refused PbmSize) else Refused PbmHeader
 next_digit (Some w) n d h small =
     let t = (digit_tests d h).2 in
-    ap (λ b. if b then Goes (Number (Some w) (grown n (48 + d))) else if is_white (48 + d) then (if is_size n then Done (record { width = w; height = n }) else Refused PbmSize) else Refused PbmHeader) t
+    ap (λ b. if b then Goes (Number (Some w) (grown n (48 + d))) else if is_white (48 + d) then
+    (if is_size n then Done (record { width = w; height = n }) else Refused PbmSize) else Refused PbmHeader) t
     ∙ ap (λ n. Goes (Number (Some w) n)) (let e : grown n (48 + d) ≡ 10 * n + d = omega arith in e)
 
 -- a byte that goes on
@@ -50,7 +54,8 @@ go limit s t b more e = ap (λ n. header_by n s (b ∷ more)) (add-one limit) �
 
 -- the digits of a number are read as the number
 record Reads (n : ℕ) (ds : List ℕ) : Type 0 where
-  read : n < 65536 → (width : Option ℕ) (limit : ℕ) (more : List ℕ) → header_by (limit + length ds) (Blanks width true) (ds ++ more) ≡ header_by limit (Number width n) more
+  read : n < 65536 → (width : Option ℕ) (limit : ℕ) (more : List ℕ) → header_by (limit + length ds) (Blanks width true) (ds ++ more)
+      ≡ header_by limit (Number width n) more
 
 one : (n : ℕ) → n < 10 → Reads n ((48 + n) ∷ [])
 one n h = record { read = λ small width limit more. go limit (Blanks width true) (Number width n) (48 + n) more (first_digit width n h) }
@@ -66,7 +71,8 @@ more_digits n ds h r = record {
       ∙ ap (λ k. header_by limit (Number width k) more) (let e : 10 * (n / 10) + n % 10 ≡ n = omega arith in e);
 }
 
-number_read : (n : ℕ) → n < 65536 → (width : Option ℕ) (limit : ℕ) (more : List ℕ) → header_by (limit + length (decimal n)) (Blanks width true) (decimal n ++ more) ≡ header_by limit (Number width n) more
+number_read : (n : ℕ) → n < 65536 → (width : Option ℕ) (limit : ℕ) (more : List ℕ)
+    → header_by (limit + length (decimal n)) (Blanks width true) (decimal n ++ more) ≡ header_by limit (Number width n) more
 number_read n small = (decimal_by_steps Reads one more_digits n (omega arith)).read small
 
 sized : (n : ℕ) → 1 ≤ n → n < 65536 → is_size n ≡ true
@@ -86,11 +92,13 @@ header_read width height rest a b c d =
     ∙ ap (λ n. header_by n (Blanks None true) (decimal width ++ tail)) (let e : 4093 ≡ left + length (decimal width) = omega arith in e)
     ∙ number_read width b None left tail
     ∙ ap (λ n. header_by n (Number None width) tail) (let e : left ≡ (left - 1) + 1 = omega arith in e)
-    ∙ go (left - 1) (Number None width) (Blanks (Some width) true) 32 (decimal height ++ 10 ∷ rest) (ap (λ x. if x then Goes (Blanks (Some width) true) else Refused PbmSize) (sized width a b))
+    ∙ go (left - 1) (Number None width) (Blanks (Some width) true) 32 (decimal height ++ 10 ∷ rest)
+    (ap (λ x. if x then Goes (Blanks (Some width) true) else Refused PbmSize) (sized width a b))
     ∙ ap (λ n. header_by n (Blanks (Some width) true) (decimal height ++ 10 ∷ rest)) (let e : left - 1 ≡ left2 + length (decimal height) = omega arith in e)
     ∙ number_read height d (Some width) left2 (10 ∷ rest)
     ∙ ap (λ n. header_by n (Number (Some width) height) (10 ∷ rest)) (let e : left2 ≡ suc (left2 - 1) = omega arith in e)
-    ∙ ap (λ x. after_header_step (if x then Done (record { width = width; height = height }) else Refused PbmSize) (λ t. header_by (left2 - 1) t rest) rest) (sized height c d)
+    ∙ ap (λ x. after_header_step (if x then Done (record { width = width; height = height }) else Refused PbmSize) (λ t. header_by (left2 - 1) t rest) rest)
+    (sized height c d)
 
 -- ---- images
 
@@ -111,7 +119,8 @@ same_bytes s h =
     let low : i < length s.bytes = omega arith in
     get_or-map-range_with_len (unpadded_at s.width s.bytes) 0 (length s.bytes) i i 0 low (omega arith) ∙ same_at s h i low)
 
-pub images_read : (limit : ℕ) (sheets : List Bitmap) → AllByRecursion IsBitmap sheets → length sheets ≤ limit → images_by limit (pbm_of sheets) ≡ (Ok sheets, [])
+pub images_read : (limit : ℕ) (sheets : List Bitmap) → AllByRecursion IsBitmap sheets → length sheets ≤ limit → images_by limit (pbm_of sheets)
+    ≡ (Ok sheets, [])
 images_read zero [] h few = refl
 images_read (suc limit) [] h few = refl
 images_read zero (s ∷ sheets) h few = absurd (omega arith)
@@ -122,7 +131,8 @@ images_read (suc limit) (s ∷ sheets) h few =
     let head : List ℕ = header_text s.width s.height in
     let known : header_of head ≡ (Ok size, []) =
     ap header_of (sym (append-nil head)) ∙ header_read s.width s.height [] (omega arith) (omega arith) (omega arith) (omega arith) in
-    let first : image_of (head ++ (s.bytes ++ pbm_of sheets)) ≡ (Ok (bitmap_of size s.bytes), pbm_of sheets) = image_by head s.bytes (pbm_of sheets) size known b.count in
+    let first : image_of (head ++ (s.bytes ++ pbm_of sheets)) ≡ (Ok (bitmap_of size s.bytes), pbm_of sheets) =
+    image_by head s.bytes (pbm_of sheets) size known b.count in
     let same : bitmap_of size s.bytes ≡ s = ap (λ (bytes : List ℕ). made s.width s.height bytes) (same_bytes s b) in
     ap (images_by (suc limit)) (append_assoc head s.bytes (pbm_of sheets))
     ∙ ap (with_others (images_by limit)) first

@@ -7,4 +7,5 @@ returns c =
     let labels = c.args.labels.now in
     let g = c.args.grid in
     IfOk-weaker c.print_sheets.result (λ sheets. ArePrinted labels g sheets.items) _
-    (λ sheets printed label row year list said bar says. c.bar_rows_answer.ensures labels g sheets.items label row year list said printed bar says) c.print_sheets.ensures.ok
+    (λ sheets printed label row year list said bar says. c.bar_rows_answer.ensures labels g sheets.items label row year list said printed bar says)
+    c.print_sheets.ensures.ok

@@ -11,6 +11,7 @@ returns-then-not-is_ascii_digit c =
 
 pub returns : goal.returns
 returns c = (
-  λ t. ahead_pair c.args.text.now c.if-text-lt2.false (sym c.is_ascii_digit.ensures.value ∙ c.if-not-is_ascii_digit.false) (sym c.is_ascii_digit-2.ensures.value ∙ t),
+  λ t. ahead_pair c.args.text.now c.if-text-lt2.false (sym c.is_ascii_digit.ensures.value ∙ c.if-not-is_ascii_digit.false)
+      (sym c.is_ascii_digit-2.ensures.value ∙ t),
   λ h. c.is_ascii_digit-2.ensures.value ∙ (pair_ahead c.args.text.now h).2,
 )

@@ -20,7 +20,8 @@ loop-rest-preserved c =
     let left = rest_of rest c.put_front-taken.result in
     record {
       whole = ap (all_coded c.put_front-taken.new.coder) left ∙ c.put_front-taken.ensures.whole ∙ c.loop-rest.invariant.whole;
-      valid = subst (λ (text : List ℕ). IsTrue (list_all is_coded_byte text)) (sym left) (list_all-drop is_coded_byte c.put_front-taken.result rest c.loop-rest.invariant.valid);
+      valid = subst (λ (text : List ℕ). IsTrue (list_all is_coded_byte text)) (sym left)
+          (list_all-drop is_coded_byte c.put_front-taken.result rest c.loop-rest.invariant.valid);
     }
 
 pub returns-clause-few : goal.returns-clause-few

@@ -10,7 +10,8 @@ use Rattle.code128_code.proofs.drawing.encode.Goals as goal
 
 pub values_of-values-requires-clause-valid : goal.values_of-values-requires-clause-valid
 values_of-values-requires-clause-valid c =
-    subst (λ (text : List ℕ). IsTrue (list_all is_coded_byte text)) (sym c.as_slice.ensures.value) (printable_coded c.text-text.result.items c.text-text.ensures.printable)
+    subst (λ (text : List ℕ). IsTrue (list_all is_coded_byte text)) (sym c.as_slice.ensures.value)
+    (printable_coded c.text-text.result.items c.text-text.ensures.printable)
 
 pub symbol-requires-clause-valid : goal.symbol-requires-clause-valid
 symbol-requires-clause-valid c =

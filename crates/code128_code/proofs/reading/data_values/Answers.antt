@@ -12,5 +12,6 @@ loop-i-preserved c = record {
   count = omega (arith, c.push.ensures.len);
   valid = subst AreValues (sym c.push.ensures.items)
       (AllByRecursion-append _ c.loop-i.values.items (c.in_ok-value.value ∷ []) c.loop-i.invariant.valid (c.in_ok-value.ensures.found.0, tt));
-  read = rw c.push.ensures.items (one_more c.args.widths.now c.loop-i.i c.loop-i.values.items c.in_ok-value.value c.loop-i.invariant.read c.in_ok-value.ensures.found.1);
+  read = rw c.push.ensures.items (one_more c.args.widths.now c.loop-i.i c.loop-i.values.items c.in_ok-value.value c.loop-i.invariant.read
+      c.in_ok-value.ensures.found.1);
 }

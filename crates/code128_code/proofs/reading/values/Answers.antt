@@ -22,7 +22,8 @@ returns-then-not-is_stop-clause-none c = λ s vs k e.
 
 pub returns-in_err-start-clause-none : goal.returns-in_err-start-clause-none
 returns-in_err-start-clause-none c = rw c.from_residual.ensures (λ s vs k e.
-    c.in_err-start.ensures.none s e.start_least e.start_greatest (sym (start_part s vs k _ (along s vs k _ c.widths-widths.result.now c.widths-widths.ensures.value e))))
+    c.in_err-start.ensures.none s e.start_least e.start_greatest
+    (sym (start_part s vs k _ (along s vs k _ c.widths-widths.result.now c.widths-widths.ensures.value e))))
 
 pub returns-in_err-values-clause-none : goal.returns-in_err-values-clause-none
 returns-in_err-values-clause-none c = rw c.from_residual-in_err-values.ensures (λ s vs k e.

@@ -21,5 +21,6 @@ returns c =
     let digit = digit_at text n c.requires.digits (omega arith) in
     let low : last < 10 = omega arith in (
       λ same. subst IsChecked (ap (λ d. front ++ d ∷ []) (sym (eqb-true last c.check_digit.result same)) ∙ sym split) c.check_digit.ensures.checked,
-      λ checked. eq-eqb last c.check_digit.result (same_check front last c.check_digit.result low c.check_digit.ensures.digit (subst IsChecked split checked) c.check_digit.ensures.checked),
+      λ checked. eq-eqb last c.check_digit.result (same_check front last c.check_digit.result low c.check_digit.ensures.digit (subst IsChecked split checked)
+          c.check_digit.ensures.checked),
     )

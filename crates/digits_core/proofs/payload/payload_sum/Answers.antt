@@ -18,7 +18,8 @@ digit-payload text last i h =
 pub returns : goal.returns
 returns c = λ last.
     let text = c.args.payload.now in
-    let rest : weighted (drop c.loop-byte.byte-index (digits_of text ++ 0 ∷ [])) ≡ 0 = ap weighted (drop_at (digits_of text) (0 ∷ []) c.loop-byte.byte-index (let long = length-map text (λ b. b - 48) in omega arith)) in
+    let rest : weighted (drop c.loop-byte.byte-index (digits_of text ++ 0 ∷ [])) ≡ 0 =
+    ap weighted (drop_at (digits_of text) (0 ∷ []) c.loop-byte.byte-index (let long = length-map text (λ b. b - 48) in omega arith)) in
     let whole = c.loop-byte.invariant.sum_is in
     weighted-last (digits_of text) last ∙ (omega arith)
 

@@ -14,7 +14,8 @@ pub returns-then-are_zeros-clause-some : goal.returns-then-are_zeros-clause-some
 returns-then-are_zeros-clause-some c =
     let text = c.args.digits in
     let long : length text ≡ 12 = search rules in
-    let first : get_or text 3 0 ≤ 50 → HasZeros 4 4 text → ⊥ = λ low zeros. let is = c.is_by_first_line.ensures.1 (low, zeros) in let failed = c.if-is_by_first_line.false in cc in
+    let first : get_or text 3 0 ≤ 50 → HasZeros 4 4 text → ⊥ = λ low zeros. let is = c.is_by_first_line.ensures.1 (low, zeros) in let failed =
+    c.if-is_by_first_line.false in cc in
     let zeros : HasZeros 4 5 text = sym c.are_zeros.ensures ∙ c.if-are_zeros.true in
     record { spelling = six_second text long c.requires c.if-system-ne48.false zeros; first = λ others s. by_second text long c.requires others s first }
 
@@ -22,7 +23,8 @@ pub returns-then-are_zeros-2-clause-some : goal.returns-then-are_zeros-2-clause-
 returns-then-are_zeros-2-clause-some c =
     let text = c.args.digits in
     let long : length text ≡ 12 = search rules in
-    let first : get_or text 3 0 ≤ 50 → HasZeros 4 4 text → ⊥ = λ low zeros. let is = c.is_by_first_line.ensures.1 (low, zeros) in let failed = c.if-is_by_first_line.false in cc in
+    let first : get_or text 3 0 ≤ 50 → HasZeros 4 4 text → ⊥ = λ low zeros. let is = c.is_by_first_line.ensures.1 (low, zeros) in let failed =
+    c.if-is_by_first_line.false in cc in
     let second : HasZeros 4 5 text → ⊥ = λ zeros. let is = c.are_zeros.ensures in let failed = c.if-are_zeros.false in cc in
     let zeros : HasZeros 5 5 text = sym c.are_zeros-2.ensures ∙ c.if-are_zeros-2.true in
     record { spelling = six_third text long c.requires c.if-system-ne48.false zeros; first = λ others s. by_third text long c.requires others s first second }
@@ -31,19 +33,26 @@ pub returns-then-is_by_last_line-clause-some : goal.returns-then-is_by_last_line
 returns-then-is_by_last_line-clause-some c =
     let text = c.args.digits in
     let long : length text ≡ 12 = search rules in
-    let first : get_or text 3 0 ≤ 50 → HasZeros 4 4 text → ⊥ = λ low zeros. let is = c.is_by_first_line.ensures.1 (low, zeros) in let failed = c.if-is_by_first_line.false in cc in
+    let first : get_or text 3 0 ≤ 50 → HasZeros 4 4 text → ⊥ = λ low zeros. let is = c.is_by_first_line.ensures.1 (low, zeros) in let failed =
+    c.if-is_by_first_line.false in cc in
     let second : HasZeros 4 5 text → ⊥ = λ zeros. let is = c.are_zeros.ensures in let failed = c.if-are_zeros.false in cc in
     let third : HasZeros 5 5 text → ⊥ = λ zeros. let is = c.are_zeros-2.ensures in let failed = c.if-are_zeros-2.false in cc in
     let test = c.is_by_last_line.ensures.0 c.if-is_by_last_line.true in
     let line = last_line_is text long c.requires test.0 in
-    record { spelling = six_fourth text long c.requires c.if-system-ne48.false test.0 test.1; first = λ others s. rw line (by_fourth text long c.requires others s first second third) }
+    record {
+      spelling = six_fourth text long c.requires c.if-system-ne48.false test.0 test.1;
+      first =
+          λ others s. rw line (by_fourth text long c.requires others s first second third);
+    }
 
 pub returns-clause-none : goal.returns-clause-none
 returns-clause-none c = λ six s.
     let text = c.args.digits in
     let long : length text ≡ 12 = search rules in
-    let first : get_or text 3 0 ≤ 50 → HasZeros 4 4 text → ⊥ = λ low zeros. let is = c.is_by_first_line.ensures.1 (low, zeros) in let failed = c.if-is_by_first_line.false in cc in
+    let first : get_or text 3 0 ≤ 50 → HasZeros 4 4 text → ⊥ = λ low zeros. let is = c.is_by_first_line.ensures.1 (low, zeros) in let failed =
+    c.if-is_by_first_line.false in cc in
     let second : HasZeros 4 5 text → ⊥ = λ zeros. let is = c.are_zeros.ensures in let failed = c.if-are_zeros.false in cc in
     let third : HasZeros 5 5 text → ⊥ = λ zeros. let is = c.are_zeros-2.ensures in let failed = c.if-are_zeros-2.false in cc in
-    let fourth : 53 ≤ get_or text 10 0 → HasZeros 6 4 text → ⊥ = λ high zeros. let is = c.is_by_last_line.ensures.1 (high, zeros) in let failed = c.if-is_by_last_line.false in cc in
+    let fourth : 53 ≤ get_or text 10 0 → HasZeros 6 4 text → ⊥ = λ high zeros. let is = c.is_by_last_line.ensures.1 (high, zeros) in let failed =
+    c.if-is_by_last_line.false in cc in
     by_none text long c.requires six s first second third fourth

@@ -36,7 +36,8 @@ returns-clause-some c =
 pub returns-clause-none : goal.returns-clause-none
 returns-clause-none c =
     let taken = λ (gtin : List ℕ) (h : IsUpceOf (digits_of c.args.six) (c.args.check - 48) gtin).
-    let digits : IsChecked (digits_of c.expanded.result) = subst IsChecked (sym c.expanded.ensures.value) (checked_unpadded (upce_expanded (digits_of c.args.six) (c.args.check - 48)) (subst IsChecked h.number h.checked)) in
+    let digits : IsChecked (digits_of c.expanded.result) = subst IsChecked (sym c.expanded.ensures.value)
+    (checked_unpadded (upce_expanded (digits_of c.args.six) (c.args.check - 48)) (subst IsChecked h.number h.checked)) in
     let twelve : length c.expanded.result ≡ 12 = search rules in
     let long : is_gtin_length (length c.expanded.result) ≡ true = ap is_gtin_length twelve in
     (c.read.ensures.decided long c.expanded.ensures.digits).1 digits in

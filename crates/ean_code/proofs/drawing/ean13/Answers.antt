@@ -9,4 +9,5 @@ new-requires c = modules_drawn Ean13 c.in_ok-as13.field-0 c.ean13_widths.result.
 pub returns-clause-some : goal.returns-clause-some
 returns-clause-some c =
     let said = c.in_ok-as13.ensures in
-    padded_drawn Ean13 1 c.in_ok-as13.field-0 c.args.gtin.now c.new.result (omega arith) said.digits (c.new.ensures ∙ c.ean13_widths.ensures) said.value (said.some.0 refl)
+    padded_drawn Ean13 1 c.in_ok-as13.field-0 c.args.gtin.now c.new.result (omega arith) said.digits (c.new.ensures ∙ c.ean13_widths.ensures) said.value
+    (said.some.0 refl)

@@ -9,4 +9,5 @@ new-requires c = modules_drawn Ean8 c.in_ok-as8.field-0 c.ean8_widths.result.ite
 pub returns-clause-some : goal.returns-clause-some
 returns-clause-some c =
     let said = c.in_ok-as8.ensures in
-    padded_drawn Ean8 6 c.in_ok-as8.field-0 c.args.gtin.now c.new.result (omega arith) said.digits (c.new.ensures ∙ c.ean8_widths.ensures) said.value (said.some.0 refl)
+    padded_drawn Ean8 6 c.in_ok-as8.field-0 c.args.gtin.now c.new.result (omega arith) said.digits (c.new.ensures ∙ c.ean8_widths.ensures) said.value
+    (said.some.0 refl)

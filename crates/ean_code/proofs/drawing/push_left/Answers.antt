@@ -24,4 +24,8 @@ returns-clause-items c =
     let ds = digits_of c.args.digits.now in
     c.loop-i.invariant.drawn
     ∙ ap (λ xs. c.args.widths.now.items ++ flat_map left_widths xs)
-    (take_all c.loop-i.i (characters_in row ds) (omega (arith, length-characters row ds (length row) refl (length-map c.args.digits.now _ ∙ sym c.requires.row))))
+    (take_all c.loop-i.i (characters_in row ds) (omega (
+      arith,
+      length-characters row ds (length row) refl
+          (length-map c.args.digits.now _ ∙ sym c.requires.row),
+    )))

@@ -17,12 +17,17 @@ new-requires c =
     let six : List ℕ = digits_of c.in_ok-spelled.spelled.0 in
     let check : ℕ = c.in_ok-spelled.spelled.1 - 48 in
     let drawn = c.upce_widths.ensures in
-    let symbol : IsNumberSymbol UpcE c.upce_widths.result.items (six ++ check ∷ []) = upce_drawn six check c.args.gtin.now c.upce_widths.result.items c.in_ok-spelled.ensures.some.spelling drawn in
+    let symbol : IsNumberSymbol UpcE c.upce_widths.result.items (six ++ check ∷ []) =
+    upce_drawn six check c.args.gtin.now c.upce_widths.result.items c.in_ok-spelled.ensures.some.spelling drawn in
     subst AreModules (sym drawn) (symbol_valid UpcE (six ++ check ∷ []) symbol.count symbol.valid)
 
 pub returns-clause-some : goal.returns-clause-some
 returns-clause-some c =
     let six : List ℕ = digits_of c.in_ok-spelled.spelled.0 in
     let check : ℕ = c.in_ok-spelled.spelled.1 - 48 in
-    let spelling = c.in_ok-spelled.ensures.some.spelling in
-    (six ++ check ∷ [], upce_drawn six check c.args.gtin.now c.new.result spelling (c.new.ensures ∙ c.upce_widths.ensures), upce_stands six check c.args.gtin.now spelling)
+    let spelling = c.in_ok-spelled.ensures.some.spelling in (
+      six ++ check ∷ [],
+      upce_drawn six check c.args.gtin.now c.new.result spelling (c.new.ensures ∙ c.upce_widths.ensures),
+      upce_stands six check
+          c.args.gtin.now spelling,
+    )

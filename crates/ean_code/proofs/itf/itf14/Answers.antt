@@ -21,5 +21,9 @@ returns c =
     let text : List ℕ = c.digits14.result in
     let ascii : AreAsciiDigits text = subst AreAsciiDigits (sym c.digits14.ensures.value) (ascii_valid c.args.gtin.now c.digits14.ensures.digits) in
     let shown : digits_of text ≡ c.args.gtin.now = ap digits_of c.digits14.ensures.value ∙ shown_back c.args.gtin.now in
-    let long : length (digits_of text) ≡ 14 = length-map text _ ∙ (omega arith) in
-    (digits_of text, symbol_drawn Itf14 text c.new.result (omega arith) ascii (c.new.ensures ∙ c.itf14_widths.ensures), sym shown ∙ sym (padded_whole (digits_of text) long))
+    let long : length (digits_of text) ≡ 14 = length-map text _ ∙ (omega arith) in (
+      digits_of text,
+      symbol_drawn Itf14 text c.new.result (omega arith) ascii (c.new.ensures ∙ c.itf14_widths.ensures),
+      sym shown
+          ∙ sym (padded_whole (digits_of text) long),
+    )

@@ -17,13 +17,16 @@ loop-i-preserved c =
     let found = c.in_ok-first.ensures.found in
     let a = c.in_ok-first.first in
     let b = c.in_ok-first.second in
-    let more = c.push-in-loop-i.ensures.items ∙ ap (λ t. t ++ (48 + b) ∷ []) c.push.ensures.items ∙ append_assoc c.loop-i.text.items ((48 + a) ∷ []) ((48 + b) ∷ []) in
+    let more = c.push-in-loop-i.ensures.items ∙ ap (λ t. t ++ (48 + b) ∷ []) c.push.ensures.items
+    ∙ append_assoc c.loop-i.text.items ((48 + a) ∷ []) ((48 + b) ∷ []) in
     record {
       count = omega (arith, c.push.ensures.len, c.push-in-loop-i.ensures.len);
       valid = subst AreAsciiDigits (sym more) (ascii_more c.loop-i.text.items a b c.loop-i.invariant.valid found.0 found.1);
-      read = text_more c.in_ok-pairs.pairs.now c.loop-i.text.items c.push-in-loop-i.new.self.items c.loop-i.i a b c.loop-i.invariant.count c.loop-i.invariant.read found.2 more;
+      read = text_more c.in_ok-pairs.pairs.now c.loop-i.text.items c.push-in-loop-i.new.self.items c.loop-i.i a b c.loop-i.invariant.count
+          c.loop-i.invariant.read found.2 more;
     }
 
 pub returns-clause-found : goal.returns-clause-found
 returns-clause-found c =
-    found_itf14 c.args.widths.now c.in_ok-pairs.pairs.now c.loop-i.text.items c.loop-i.i c.in_ok-pairs.ensures.found (omega (arith, c.loop-i.invariant.count)) (omega (arith, c.loop-i-test.false)) c.loop-i.invariant.valid c.loop-i.invariant.read
+    found_itf14 c.args.widths.now c.in_ok-pairs.pairs.now c.loop-i.text.items c.loop-i.i c.in_ok-pairs.ensures.found (omega (arith, c.loop-i.invariant.count))
+    (omega (arith, c.loop-i-test.false)) c.loop-i.invariant.valid c.loop-i.invariant.read

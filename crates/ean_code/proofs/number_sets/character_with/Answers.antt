@@ -8,7 +8,8 @@ use Rattle.ean_code.proofs.number_sets.character_with.Goals as goal
 
 pub returns-in_err-of_b-clause-none : goal.returns-in_err-of_b-clause-none
 returns-in_err-of_b-clause-none c = rw c.from_residual.ensures (λ x h e.
-    c.in_err-of_b.ensures.none (pair_of x) h (ap (λ y. packed_widths (left_widths y)) (of_pair x.set x.digit) ∙ ap packed_widths e ∙ sym (packed_four c.args.widths.now c.requires.four)))
+    c.in_err-of_b.ensures.none (pair_of x) h (ap (λ y. packed_widths (left_widths y)) (of_pair x.set x.digit) ∙ ap packed_widths e
+    ∙ sym (packed_four c.args.widths.now c.requires.four)))
 
 pub returns-clause-found : goal.returns-clause-found
 returns-clause-found c =

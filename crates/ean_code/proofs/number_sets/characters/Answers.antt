@@ -12,5 +12,6 @@ loop-i-preserved c = record {
   count = omega (arith, c.push.ensures.len);
   valid = subst AreCharacters (sym c.push.ensures.items)
       (AllByRecursion-append _ c.loop-i.found.items (c.in_ok-next.next ∷ []) c.loop-i.invariant.valid (c.in_ok-next.ensures.found.0, tt));
-  read = rw c.push.ensures.items (one_more c.args.widths.now c.loop-i.i c.loop-i.found.items c.in_ok-next.next c.loop-i.invariant.read c.in_ok-next.ensures.found.1);
+  read = rw c.push.ensures.items (one_more c.args.widths.now c.loop-i.i c.loop-i.found.items c.in_ok-next.next c.loop-i.invariant.read
+      c.in_ok-next.ensures.found.1);
 }

@@ -29,8 +29,10 @@ pub returns-then-not-are_of_a-clause-none : goal.returns-then-not-are_of_a-claus
 returns-then-not-are_of_a-clause-none c = λ ls rs h.
     let same = same_framed _ c.args.widths.now _ _ _ _ (framed_of c.args.count c.args.widths.now ls rs h) c.in_ok-left.ensures.found in
     let found = c.in_ok-right.ensures.found in
-    let right : c.in_ok-right.right.items ≡ as_a rs = same_characters _ _ found.0 (AreCharacters-as_a rs h.right_valid) (found.1 ∙ sym same.1 ∙ rights-as_a rs) in
-    let all : list_all (λ (c : Character). is_a c.set) c.as_slice.result.now ≡ true = ap (list_all (λ (c : Character). is_a c.set)) (c.as_slice.ensures.value ∙ right) ∙ all_of_a rs in
+    let right : c.in_ok-right.right.items ≡ as_a rs = same_characters _ _ found.0 (AreCharacters-as_a rs h.right_valid) (found.1 ∙ sym same.1 ∙ rights-as_a rs)
+    in
+    let all : list_all (λ (c : Character). is_a c.set) c.as_slice.result.now ≡ true =
+    ap (list_all (λ (c : Character). is_a c.set)) (c.as_slice.ensures.value ∙ right) ∙ all_of_a rs in
     let said = c.are_of_a.ensures in let failed = c.if-not-are_of_a.true in cc
 
 pub returns-clause-found : goal.returns-clause-found

@@ -14,7 +14,8 @@ pub returns-then-not-are_of_a-clause-none : goal.returns-then-not-are_of_a-claus
 returns-then-not-are_of_a-clause-none c = λ ds e.
     let ws : List ℕ = c.args.widths.now in
     let same = same_left 4 ws _ _ _ _ c.in_ok-left.ensures.found (halves8 ws ds e) in
-    let all : list_all (λ (c : Character). is_a c.set) c.as_slice.result.now ≡ true = ap (list_all (λ (c : Character). is_a c.set)) (c.as_slice.ensures.value ∙ same) ∙ of_a-row 4 (take 4 ds) in
+    let all : list_all (λ (c : Character). is_a c.set) c.as_slice.result.now ≡ true =
+    ap (list_all (λ (c : Character). is_a c.set)) (c.as_slice.ensures.value ∙ same) ∙ of_a-row 4 (take 4 ds) in
     let said = c.are_of_a.ensures in let failed = c.if-not-are_of_a.true in cc
 
 pub push_digits-requires-2-clause-valid : goal.push_digits-requires-2-clause-valid

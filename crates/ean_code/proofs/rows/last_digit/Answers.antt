@@ -13,5 +13,6 @@ returns-then-digit-clause-none c =
 
 pub returns-else-digit-clause-found : goal.returns-else-digit-clause-found
 returns-else-digit-clause-found c =
-    row_found upce_rows UPCE_DIGITS upce_table length-upce_row (character_sets c.args.left.now) c.packed_row.result 0 (length-map c.args.left.now _ ∙ c.requires)
+    row_found upce_rows UPCE_DIGITS upce_table length-upce_row (character_sets c.args.left.now) c.packed_row.result 0
+    (length-map c.args.left.now _ ∙ c.requires)
     c.packed_row.ensures.value c.packed_row.ensures.low c.if-digit.false

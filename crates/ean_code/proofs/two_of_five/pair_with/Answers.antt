@@ -7,7 +7,8 @@ pub returns-in_err-first-clause-none : goal.returns-in_err-first-clause-none
 returns-in_err-first-clause-none c = rw c.from_residual.ensures (λ p h k e. c.in_err-first.ensures.none p.0 h (sym (split_pair p h k).0 ∙ ap bars e))
 
 pub returns-in_err-second-clause-none : goal.returns-in_err-second-clause-none
-returns-in_err-second-clause-none c = rw c.from_residual-in_err-second.ensures (λ p h k e. c.in_err-second.ensures.none p.1 k (sym (split_pair p h k).1 ∙ ap spaces e))
+returns-in_err-second-clause-none c = rw c.from_residual-in_err-second.ensures
+    (λ p h k e. c.in_err-second.ensures.none p.1 k (sym (split_pair p h k).1 ∙ ap spaces e))
 
 pub returns-clause-found : goal.returns-clause-found
 returns-clause-found c =

@@ -4,7 +4,9 @@ use Rattle.element_core.proofs.date.named_day.Goals as goal
 
 pub returns : goal.returns
 returns c =
-    let year : c.nearest_year-year.result ≡ full_year c.args.reference (two c.args.six.now 0) = c.nearest_year-year.ensures.value ∙ ap (full_year c.number.result) c.two_digits.ensures.value ∙ ap (λ (r : ℕ). full_year r (two c.args.six.now 0)) c.number.ensures.value in
+    let year : c.nearest_year-year.result ≡ full_year c.args.reference (two c.args.six.now 0) =
+    c.nearest_year-year.ensures.value ∙ ap (full_year c.number.result) c.two_digits.ensures.value
+    ∙ ap (λ (r : ℕ). full_year r (two c.args.six.now 0)) c.number.ensures.value in
     let month : c.two_digits-2.result ≡ two c.args.six.now 2 = c.two_digits-2.ensures.value in
     let day : c.two_digits-3.result ≡ two c.args.six.now 4 = c.two_digits-3.ensures.value in
     subst (λ d. IsDay c.day_in_month.result (day_in (full_year c.args.reference (two c.args.six.now 0)) (two c.args.six.now 2) d)) day

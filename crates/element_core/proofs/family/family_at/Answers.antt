@@ -11,9 +11,11 @@ pub returns-in_default-clause-row : goal.returns-in_default-clause-row
 returns-in_default-clause-row c = sym (too_short c.args.text.now c.in_default.len_below)
 
 pub returns-in-len2-up-clause-row : goal.returns-in-len2-up-clause-row
-returns-in-len2-up-clause-row c = c.first_with.ensures.row ∙ row_by_first_two c.families_with.result.now c.args.text.now c.in-len2-up.len_at_least c.families_with.ensures
+returns-in-len2-up-clause-row c = c.first_with.ensures.row ∙ row_by_first_two c.families_with.result.now c.args.text.now c.in-len2-up.len_at_least
+    c.families_with.ensures
 
-short : (r : Option AiFamily) (text : List ℕ) → option_map (λ f. row_with f text) r ≡ row_at text → IfSome r (λ f. length f.least.now ≤ length text) → IfSome r (λ f. length f.least.now ≤ 4)
+short : (r : Option AiFamily) (text : List ℕ) → option_map (λ f. row_with f text) r ≡ row_at text → IfSome r (λ f. length f.least.now ≤ length text)
+    → IfSome r (λ f. length f.least.now ≤ 4)
 short None text e w = tt
 short (Some f) text e w = family_short f text e w
 

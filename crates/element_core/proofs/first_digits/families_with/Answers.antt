@@ -10,14 +10,16 @@ pub returns-then-not-is_ascii_digit : goal.returns-then-not-is_ascii_digit
 returns-then-not-is_ascii_digit c =
     sym (no_digits c.args.first c.args.second (λ d. elim c.then-not-is_ascii_digit.branch [
       | then-not-is_ascii_digit-via-then-not-is_ascii_digit w ↦ elim w.if-not-is_ascii_digit.ensures.cases [ inl h ↦ omega arith | inr h ↦ omega arith ]
-      | then-not-is_ascii_digit-via-else-not-is_ascii_digit+then-not-is_ascii_digit-2 w ↦ elim w.if-not-is_ascii_digit-2.ensures.cases [ inl h ↦ omega arith | inr h ↦ omega arith ]
+      | then-not-is_ascii_digit-via-else-not-is_ascii_digit+then-not-is_ascii_digit-2 w ↦ elim w.if-not-is_ascii_digit-2.ensures.cases
+          [ inl h ↦ omega arith | inr h ↦ omega arith ]
     ]))
 
 there : (c : After-from-2) → AreThere (has_first_two c.args.first c.args.second) c.from.result c.from-2.result families
 there c =
     let first_is = c.if-not-is_ascii_digit.ensures.cases in
     let second_is = c.if-not-is_ascii_digit-2.ensures.cases in
-    places_as c.args.first c.args.second c.from-number.result c.from.result c.from-2.result (c.args.first - 48) (c.args.second - 48) (omega arith) (omega arith) (omega arith) (omega arith)
+    places_as c.args.first c.args.second c.from-number.result c.from.result c.from-2.result (c.args.first - 48) (c.args.second - 48) (omega arith) (omega arith)
+    (omega arith) (omega arith)
     (sym c.from-number.ensures) (sym c.from.ensures) (sym c.from-2.ensures)
 
 pub returns : goal.returns
@@ -38,7 +40,9 @@ within c =
     omega (arith, ap length c.all_families.ensures, length-map c.all_families.result.now family_of)
 
 pub slice_bounds-result-start : goal.slice_bounds-result-start
-slice_bounds-result-start c = let t = (there (goal.at.slice_bounds-result-start c).After-from-2).rising in let w = within (goal.at.slice_bounds-result-start c).After-from-2 in search rules
+slice_bounds-result-start c = let t = (there (goal.at.slice_bounds-result-start c).After-from-2).rising in let w =
+    within (goal.at.slice_bounds-result-start c).After-from-2 in search rules
 
 pub slice_bounds-result-end-2 : goal.slice_bounds-result-end-2
-slice_bounds-result-end-2 c = let t = (there (goal.at.slice_bounds-result-end-2 c).After-from-2).rising in let w = within (goal.at.slice_bounds-result-end-2 c).After-from-2 in search rules
+slice_bounds-result-end-2 c = let t = (there (goal.at.slice_bounds-result-end-2 c).After-from-2).rising in let w =
+    within (goal.at.slice_bounds-result-end-2 c).After-from-2 in search rules

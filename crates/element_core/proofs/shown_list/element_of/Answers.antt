@@ -28,7 +28,8 @@ front_first (Some f) = refl
 pub returns-in_err-rest-clause-entry : goal.returns-in_err-rest-clause-entry
 returns-in_err-rest-clause-entry c =
     let below = c.loop-passed-test.true in
-    rw c.from_residual.ensures (sym (past (shown_elements c.args.text.now) c.loop-passed._passed c.args.i (sym c.in_err-rest.ensures.elements ∙ c.loop-passed.invariant.left) (omega arith)))
+    rw c.from_residual.ensures (sym (past (shown_elements c.args.text.now) c.loop-passed._passed c.args.i
+    (sym c.in_err-rest.ensures.elements ∙ c.loop-passed.invariant.left) (omega arith)))
 
 pub loop-passed-preserved : goal.loop-passed-preserved
 loop-passed-preserved c =
@@ -36,7 +37,8 @@ loop-passed-preserved c =
     let shorter = c.loop-passed.invariant.shorter in
     let within = c.in_ok-rest.ensures.within in
     record {
-      left = next (shown_elements c.args.text.now) (shown_elements f.rest.now) (front_entry f) c.loop-passed._passed (sym c.in_ok-rest.ensures.elements ∙ c.loop-passed.invariant.left);
+      left = next (shown_elements c.args.text.now) (shown_elements f.rest.now) (front_entry f) c.loop-passed._passed
+          (sym c.in_ok-rest.ensures.elements ∙ c.loop-passed.invariant.left);
       shorter = omega arith;
     }
 

@@ -26,4 +26,5 @@ pub returns-clause-day : goal.returns-clause-day
 returns-clause-day c = rw (named (goal.at.returns-clause-day c).After-named_day) c.named_day.ensures
 
 pub returns-clause-some : goal.returns-clause-some
-returns-clause-some c = rw (named (goal.at.returns-clause-some c).After-named_day) (some_day c.named_day.result (day_named c.args.text.now c.args.reference) c.named_day.ensures)
+returns-clause-some c = rw (named (goal.at.returns-clause-some c).After-named_day)
+    (some_day c.named_day.result (day_named c.args.text.now c.args.reference) c.named_day.ensures)

@@ -6,4 +6,9 @@ pub returns-in-Ok : goal.returns-in-Ok
 returns-in-Ok c =
     let e = c.in-Ok.ensures in
     let p = c.put_told.ensures in
-    rw e.taken (p.0, c.symbols_are_told.ensures c.args.widths.now c.args.year p.0 ((c.row_or_fault.ensures c.args.widths.now).1 e.taken) (subst (λ (s : Search). AreTold s p.0) e.ok p.1), p.2)
+    rw e.taken (
+      p.0,
+      c.symbols_are_told.ensures c.args.widths.now c.args.year p.0 ((c.row_or_fault.ensures c.args.widths.now).1 e.taken)
+          (subst (λ (s : Search). AreTold s p.0) e.ok p.1),
+      p.2,
+    )

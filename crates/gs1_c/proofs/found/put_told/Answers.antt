@@ -42,7 +42,8 @@ symbols-preserved c =
     record {
       told = (
         t.0 ++ w ∷ [],
-        λ rest told. subst (AreTold c.args.search) (sym (append_assoc t.0 (w ∷ []) rest)) (t.1 (w ∷ rest) (e.next, subst (λ (r : Search). AreTold r rest) e.after told)),
+        λ rest told. subst (AreTold c.args.search) (sym (append_assoc t.0 (w ∷ []) rest))
+            (t.1 (w ∷ rest) (e.next, subst (λ (r : Search). AreTold r rest) e.after told)),
         omega (arith, p.end, t.2, ap (λ ls. length (all_of ls)) more, ap length (all_of-push lines line), length-append (all_of lines) line),
         one_line old c.symbols.out c.put_symbol-end.new.out lines line t.3 long
             (λ fits. p.put (omega (arith, t.2)) ∙ ap (λ k. pasted c.symbols.out k line) t.2)

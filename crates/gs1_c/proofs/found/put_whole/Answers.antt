@@ -33,14 +33,27 @@ returns-clause-put c =
     let put3 : c.put_at-space.new.out ≡ pasted c.put_number-carrier.new.out c.put_number-carrier.result i =
     third.put ∙ ap (pasted c.put_number-carrier.new.out c.put_number-carrier.result) same in
     let put5 : c.put_hri.new.out ≡ pasted c.put_at-said.new.out c.put_at-said.result h =
-    fifth.put (omega (arith, first.few, second.few, third.end, fourth.end, fifth.few, c.put_number-count.auto.out, c.put_number-carrier.auto.out, c.put_at-space.auto.out, c.put_at-said.auto.out)) in
-    let two = pasted_next out c.put_number-count.new.out c.put_number-carrier.new.out at c.put_number-count.result f n (omega arith) first.end first.put second.put in
+    fifth.put (omega (
+      arith,
+      first.few,
+      second.few,
+      third.end,
+      fourth.end,
+      fifth.few,
+      c.put_number-count.auto.out,
+      c.put_number-carrier.auto.out,
+      c.put_at-space.auto.out,
+      c.put_at-said.auto.out,
+    )) in
+    let two = pasted_next out c.put_number-count.new.out c.put_number-carrier.new.out at c.put_number-count.result f n (omega arith) first.end first.put
+    second.put in
     let three = pasted_next out c.put_number-carrier.new.out c.put_at-space.new.out at c.put_number-carrier.result (f ++ n) i (omega arith)
     (omega (arith, second.end, first.end)) two put3 in
     let four = pasted_next out c.put_at-space.new.out c.put_at-said.new.out at c.put_at-space.result ((f ++ n) ++ i) (32 ∷ []) (omega arith)
     (omega (arith, third.end, second.end, first.end)) three fourth.put in
     let five = pasted_next out c.put_at-said.new.out c.put_hri.new.out at c.put_at-said.result (((f ++ n) ++ i) ++ 32 ∷ []) h (omega arith)
     (omega (arith, fourth.end, third.end, second.end, first.end)) four put5 in
-    let six = pasted_next out c.put_hri.new.out c.put_at.new.out at (c.put_at-said.result + c.put_hri.result) ((((f ++ n) ++ i) ++ 32 ∷ []) ++ h) (10 ∷ []) (omega arith)
+    let six = pasted_next out c.put_hri.new.out c.put_at.new.out at (c.put_at-said.result + c.put_hri.result) ((((f ++ n) ++ i) ++ 32 ∷ []) ++ h) (10 ∷ [])
+    (omega arith)
     (omega (arith, fifth.count, fourth.end, third.end, second.end, first.end)) five last.put in
     six ∙ ap (pasted out at) (line_parts (decimal w.first) (decimal w.count) i h)

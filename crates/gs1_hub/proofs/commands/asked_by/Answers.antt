@@ -72,13 +72,17 @@ no_live name rows is none a h = go a h (sym (ap second is) ∙ goes_on name rows
     go (asked.Live o) h e = none o h.1
 
 pub returns-in-check-clause-none : goal.returns-in-check-clause-none
-returns-in-check-clause-none c = none_after c.year_named.result c.map.result _ _ c.map.ensures.variant c.year_named.ensures.none (no_check c.args.name.now (rows_of (found_of c.args.matches.now)) c.in-check.is)
+returns-in-check-clause-none c = none_after c.year_named.result c.map.result _ _ c.map.ensures.variant c.year_named.ensures.none
+    (no_check c.args.name.now (rows_of (found_of c.args.matches.now)) c.in-check.is)
 
 pub returns-in-lanes-clause-none : goal.returns-in-lanes-clause-none
-returns-in-lanes-clause-none c = none_after c.options_named-in-lanes.result c.map-in-lanes.result _ _ c.map-in-lanes.ensures.variant c.options_named-in-lanes.ensures.none (no_lanes c.args.name.now (rows_of (found_of c.args.matches.now)) c.in-lanes.is)
+returns-in-lanes-clause-none c = none_after c.options_named-in-lanes.result c.map-in-lanes.result _ _ c.map-in-lanes.ensures.variant
+    c.options_named-in-lanes.ensures.none (no_lanes c.args.name.now (rows_of (found_of c.args.matches.now)) c.in-lanes.is)
 
 pub returns-in-scan-clause-none : goal.returns-in-scan-clause-none
-returns-in-scan-clause-none c = none_after c.options_named-in-scan.result c.map-in-scan.result _ _ c.map-in-scan.ensures.variant c.options_named-in-scan.ensures.none (no_scan c.args.name.now (rows_of (found_of c.args.matches.now)) c.in-scan.is)
+returns-in-scan-clause-none c = none_after c.options_named-in-scan.result c.map-in-scan.result _ _ c.map-in-scan.ensures.variant
+    c.options_named-in-scan.ensures.none (no_scan c.args.name.now (rows_of (found_of c.args.matches.now)) c.in-scan.is)
 
 pub returns-in-live-clause-none : goal.returns-in-live-clause-none
-returns-in-live-clause-none c = none_after c.options_named-in-live.result c.map-in-live.result _ _ c.map-in-live.ensures.variant c.options_named-in-live.ensures.none (no_live c.args.name.now (rows_of (found_of c.args.matches.now)) c.in-live.is)
+returns-in-live-clause-none c = none_after c.options_named-in-live.result c.map-in-live.result _ _ c.map-in-live.ensures.variant
+    c.options_named-in-live.ensures.none (no_live c.args.name.now (rows_of (found_of c.args.matches.now)) c.in-live.is)

@@ -23,7 +23,8 @@ explained words e (fault.Help text) (inr h) k = (kind_of e, h, k)
 explained words e fault.NoMemory h k = tt
 
 -- by the command that was built
-explained_of : (a : App) (words : List Text) (e : Error) (f : WordsFault) → a ≡ hub_app → HasKind (fault_of a words) e → FaultOfKind (kind_of e) f → Explains words f
+explained_of : (a : App) (words : List Text) (e : Error) (f : WordsFault) → a ≡ hub_app → HasKind (fault_of a words) e → FaultOfKind (kind_of e) f
+    → Explains words f
 explained_of a words e f is h k = explained words e f (subst (λ x. HasKind (fault_of x words) e) is h) k
 
 pub returns-in-Err-clause-refused : goal.returns-in-Err-clause-refused
@@ -40,7 +41,8 @@ asked_by_hub a words m x is matches none asks =
     (subst (λ b. fault_of b words ≡ []) is none, subst (λ t. Asks t x) (same refl).1 asks)
 
 -- words that `clap` takes ask for a command with its numbers
-never : (a : App) (words : List Text) (m : ArgMatches) → a ≡ hub_app → HasMatchesOf a words m → fault_of a words ≡ [] → ((x : Asked) → Asks (subcommand_rows_of m) x → ⊥) → ⊥
+never : (a : App) (words : List Text) (m : ArgMatches) → a ≡ hub_app → HasMatchesOf a words m → fault_of a words ≡ []
+    → ((x : Asked) → Asks (subcommand_rows_of m) x → ⊥) → ⊥
 never a words m is matches none nothing =
     let same = subst (λ b. HasMatchesOf b words m) is matches in
     let found = asked_for words (subst (λ b. fault_of b words ≡ []) is none) in
@@ -50,7 +52,8 @@ pub unreachable-requires : goal.unreachable-requires
 unreachable-requires c =
     let is : app_of c.in-Ok.hub ≡ hub_app = c.in-Ok.ensures in
     let taken = c.in-Ok-try_get_matches_from.ensures in
-    never (app_of c.in-Ok.hub) (map string_bytes c.args.words.now) c.in-Ok-try_get_matches_from.matches is taken.matches (taken.kinds (ap is_simple_and_free is)) c.in-None.ensures.none
+    never (app_of c.in-Ok.hub) (map string_bytes c.args.words.now) c.in-Ok-try_get_matches_from.matches is taken.matches
+    (taken.kinds (ap is_simple_and_free is)) c.in-None.ensures.none
 
 pub returns-clause-asked : goal.returns-clause-asked
 returns-clause-asked c =

@@ -15,7 +15,8 @@ use Rattle.hub_core.proofs.drain.drain_all.Goals as goal
 
 pub place_rings-requires-clause-rings : goal.place_rings-requires-clause-rings
 place_rings-requires-clause-rings g c =
-    all_paired c.args.hub.now c.args.deliverer.rings.items c.args.lanes.items c.requires.deliverer.rings (all_rings c.args.hub.now c.args.deliverer c.requires.deliverer) c.requires.lanes
+    all_paired c.args.hub.now c.args.deliverer.rings.items c.args.lanes.items c.requires.deliverer.rings
+    (all_rings c.args.hub.now c.args.deliverer c.requires.deliverer) c.requires.lanes
 
 pub place_queue-requires-2 : goal.place_queue-requires-2
 place_queue-requires-2 g c =
@@ -39,10 +40,13 @@ returns g c =
       results.0,
       found,
       record {
-        jobs = jobs_whole (view c.args.deliverer.jobs) (view c.place_rings.new.all_jobs) (view c.place_hands.new.all_jobs) _ _ c.args.lanes.items c.args.workers.items jobs.0 idle.0 idle.1 c.place_rings.ensures.jobs c.place_hands.ensures.jobs jobs.2;
-        results = results_whole (view c.args.deliverer.collects) (view c.place_hands.new.all_results) _ c.args.workers.items results.0 c.args.deliverer.collects_only c.place_hands.ensures.results results.2;
+        jobs = jobs_whole (view c.args.deliverer.jobs) (view c.place_rings.new.all_jobs) (view c.place_hands.new.all_jobs) _ _ c.args.lanes.items
+            c.args.workers.items jobs.0 idle.0 idle.1 c.place_rings.ensures.jobs c.place_hands.ensures.jobs jobs.2;
+        results = results_whole (view c.args.deliverer.collects) (view c.place_hands.new.all_results) _ c.args.workers.items results.0
+            c.args.deliverer.collects_only c.place_hands.ensures.results results.2;
         first = c.place_rings.ensures.received;
         whole = λ h. let e = sum_joined h rings.0 waiting.0 held hands results.0 jobs.0 in let r = rings.2 h in let w = waiting.2 h in omega arith;
       },
-      drained_then _ _ _ _ _ (drained_then _ _ _ _ _ (drained_then _ _ _ _ _ (drained_then _ _ _ _ _ (drained_then _ _ _ _ _ rings.1 waiting.1) c.place_any.ensures) c.place_hands.ensures.drains) results.1) jobs.1,
+      drained_then _ _ _ _ _ (drained_then _ _ _ _ _ (drained_then _ _ _ _ _
+          (drained_then _ _ _ _ _ (drained_then _ _ _ _ _ rings.1 waiting.1) c.place_any.ensures) c.place_hands.ensures.drains) results.1) jobs.1,
     )

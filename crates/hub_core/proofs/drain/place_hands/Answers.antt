@@ -18,7 +18,10 @@ loop-seat-preserved c = record {
   ends = search rules;
   same_jobs = search rules;
   same_results = search rules;
-  jobs = worker_jobs (view c.args.all_jobs.now) (view c.loop-seat.all_jobs) (view c.absorb.new.pass) c.loop-seat.yielded c.in-Some.seat c.loop-seat.invariant.jobs c.absorb.ensures.rule;
-  results = worker_results (view c.args.all_results.now) (view c.loop-seat.all_results) (view c.absorb-in-loop-seat.new.pass) c.loop-seat.yielded c.in-Some.seat c.loop-seat.invariant.results c.absorb-in-loop-seat.ensures.rule;
-  drained = hands_drained c.args.lists.now.items c.loop-seat.lists.items c.place_any.new.lists.items c.loop-seat.yielded c.in-Some.seat c.loop-seat.invariant.drained c.place_any.ensures;
+  jobs = worker_jobs (view c.args.all_jobs.now) (view c.loop-seat.all_jobs) (view c.absorb.new.pass) c.loop-seat.yielded c.in-Some.seat
+      c.loop-seat.invariant.jobs c.absorb.ensures.rule;
+  results = worker_results (view c.args.all_results.now) (view c.loop-seat.all_results) (view c.absorb-in-loop-seat.new.pass) c.loop-seat.yielded c.in-Some.seat
+      c.loop-seat.invariant.results c.absorb-in-loop-seat.ensures.rule;
+  drained = hands_drained c.args.lists.now.items c.loop-seat.lists.items c.place_any.new.lists.items c.loop-seat.yielded c.in-Some.seat
+      c.loop-seat.invariant.drained c.place_any.ensures;
 }

@@ -14,7 +14,9 @@ invariant-loop-seat l = record {
   ends : (goal.iterator-loop-seat).is_finite l.seat-iterator;
   same_jobs : IsPassOf l.hub.jobs l.all_jobs;
   same_results : IsPassOf l.hub.results l.all_results;
-  jobs : view l.all_jobs ≡ trace (shares_of l.initial.all_jobs + length l.yielded) (pushed_by l.initial.all_jobs) (popped_by l.initial.all_jobs ++ flat_map taken l.yielded);
-  results : view l.all_results ≡ trace (shares_of l.initial.all_results + length l.yielded) (pushed_by l.initial.all_results ++ flat_map posted l.yielded) (popped_by l.initial.all_results);
+  jobs : view l.all_jobs ≡ trace (shares_of l.initial.all_jobs + length l.yielded) (pushed_by l.initial.all_jobs)
+      (popped_by l.initial.all_jobs ++ flat_map taken l.yielded);
+  results : view l.all_results ≡ trace (shares_of l.initial.all_results + length l.yielded) (pushed_by l.initial.all_results ++ flat_map posted l.yielded)
+      (popped_by l.initial.all_results);
   drained : DrainsInto l.initial.lists.items l.lists.items (flat_map jobs_in_hand l.yielded);
 }

@@ -13,5 +13,6 @@ invariant-loop g l = record {
   same : IsPassOf l.queue l.all;
   whole : shares_of l.all ≡ 1024;
   put : pushed_by l.all ≡ pushed_by l.initial.all;
-  drained : (xs : List Plain) × DrainsInto l.initial.lists.items l.lists.items xs × ((h : Plain → ℕ) → sum_by h (popped_by l.all) ≡ sum_by h (popped_by l.initial.all) + sum_by h xs);
+  drained : (xs : List Plain) × DrainsInto l.initial.lists.items l.lists.items xs
+      × ((h : Plain → ℕ) → sum_by h (popped_by l.all) ≡ sum_by h (popped_by l.initial.all) + sum_by h xs);
 }

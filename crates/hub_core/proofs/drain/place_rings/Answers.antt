@@ -32,8 +32,12 @@ absorb-requires-clause-rule c = merges _ _ _ _ _ (let e = ap (λ (v : Trace). v.
 
 pub place_rest-requires : goal.place_rest-requires
 place_rest-requires c =
-    let paired : IsPairedIn c.args.rings.now.items c.closed.inside.seat = subst (λ (s : LaneSeat). IsPairedIn c.args.rings.now.items s) (sym c.closed.view_is) (All-head (IsPairedIn c.args.rings.now.items) c.in-Some.closed c.next.new.self.rest.items (All-same (IsPairedIn c.args.rings.now.items) _ _ (sym c.in-Some.ensures.steps.0) c.loop-closed.invariant.left)) in
-    pair_now c.args.rings.now.items c.loop-closed.rings.items c.closed.inside.seat c.index_mut.result.now paired c.loop-closed.invariant.rings c.index_mut.ensures.value
+    let paired : IsPairedIn c.args.rings.now.items c.closed.inside.seat =
+    subst (λ (s : LaneSeat). IsPairedIn c.args.rings.now.items s) (sym c.closed.view_is)
+    (All-head (IsPairedIn c.args.rings.now.items) c.in-Some.closed c.next.new.self.rest.items
+    (All-same (IsPairedIn c.args.rings.now.items) _ _ (sym c.in-Some.ensures.steps.0) c.loop-closed.invariant.left)) in
+    pair_now c.args.rings.now.items c.loop-closed.rings.items c.closed.inside.seat c.index_mut.result.now paired c.loop-closed.invariant.rings
+    c.index_mut.ensures.value
 
 pub loop-closed-preserved : goal.loop-closed-preserved
 loop-closed-preserved c =
@@ -52,11 +56,16 @@ loop-closed-preserved c =
       same = search rules;
       all = append_assoc c.loop-closed.yielded (c.in-Some.closed ∷ []) _ ∙ (ap (λ l. c.loop-closed.yielded ++ l) (sym c.in-Some.ensures.steps.0) ∙ inv.all);
       left = All-rest (IsPairedIn rings) c.in-Some.closed c.next.new.self.rest.items _ c.in-Some.ensures.steps.0 inv.left;
-      jobs = subst (λ (s : LaneSeat). HasJobs (view c.args.all_jobs.now) (view c.absorb.new.pass) (c.loop-closed.yielded ++ s ∷ [])) is (lane_jobs (view c.args.all_jobs.now) (view c.loop-closed.all_jobs) (view c.absorb.new.pass) c.loop-closed.yielded seat inv.jobs c.absorb.ensures.rule);
+      jobs = subst (λ (s : LaneSeat). HasJobs (view c.args.all_jobs.now) (view c.absorb.new.pass) (c.loop-closed.yielded ++ s ∷ [])) is
+          (lane_jobs (view c.args.all_jobs.now) (view c.loop-closed.all_jobs) (view c.absorb.new.pass) c.loop-closed.yielded seat inv.jobs
+          c.absorb.ensures.rule);
       rings = ends_more rings now (lane_of seat) ring c.place_rest.new.producer inv.rings c.index_mut.ensures.value low rest.same.0;
       sent = sent_same now (lane_of seat) ring c.place_rest.new.producer c.index_mut.ensures.value low rest.same.1 ∙ inv.sent;
-      drained = subst (λ (s : LaneSeat). RingDrained c.args.lists.now.items c.place_rest.new.lists.items rings (c.loop-closed.yielded ++ s ∷ [])) is (ring_drained c.args.lists.now.items c.loop-closed.lists.items c.place_rest.new.lists.items rings c.loop-closed.yielded seat inv.drained.0 rest.drains.0 inv.drained.1 rest.drains.1 inv.drained.2 left);
-      received = subst (λ (s : LaneSeat). AreFromFirst rings (c.loop-closed.yielded ++ s ∷ [])) is (from_first rings c.loop-closed.yielded seat rest.drains.0 inv.received left);
+      drained = subst (λ (s : LaneSeat). RingDrained c.args.lists.now.items c.place_rest.new.lists.items rings (c.loop-closed.yielded ++ s ∷ [])) is
+          (ring_drained c.args.lists.now.items c.loop-closed.lists.items c.place_rest.new.lists.items rings c.loop-closed.yielded seat inv.drained.0
+          rest.drains.0 inv.drained.1 rest.drains.1 inv.drained.2 left);
+      received = subst (λ (s : LaneSeat). AreFromFirst rings (c.loop-closed.yielded ++ s ∷ [])) is
+          (from_first rings c.loop-closed.yielded seat rest.drains.0 inv.received left);
     }
 
 pub returns-clause-received : goal.returns-clause-received

@@ -20,9 +20,11 @@ invariant-loop-closed l = record {
   same : IsPassOf l.hub.jobs l.all_jobs;
   all : l.yielded ++ into_iter_items l.closed-iterator ≡ into_iter_items l.initial.closed-iterator;
   left : All (IsPairedIn l.initial.rings.items) (into_iter_items l.closed-iterator);
-  jobs : view l.all_jobs ≡ trace (shares_of l.initial.all_jobs + length l.yielded) (pushed_by l.initial.all_jobs ++ flat_map submitted l.yielded) (popped_by l.initial.all_jobs);
+  jobs : view l.all_jobs ≡ trace (shares_of l.initial.all_jobs + length l.yielded) (pushed_by l.initial.all_jobs ++ flat_map submitted l.yielded)
+      (popped_by l.initial.all_jobs);
   rings : AreSameEnds l.initial.rings.items l.rings.items;
   sent : all_sent l.rings.items ≡ all_sent l.initial.rings.items;
-  drained : (xs : List Plain) × DrainsInto l.initial.lists.items l.lists.items xs × ((h : Plain → ℕ) → sum_by h xs + all_received h l.yielded ≡ to_lanes h l.initial.rings.items (numbers_of l.yielded));
+  drained : (xs : List Plain) × DrainsInto l.initial.lists.items l.lists.items xs
+      × ((h : Plain → ℕ) → sum_by h xs + all_received h l.yielded ≡ to_lanes h l.initial.rings.items (numbers_of l.yielded));
   received : AreFromFirst l.initial.rings.items l.yielded;
 }

@@ -8,4 +8,5 @@ abbrev pub decreases-loop-delivery : goal.decreases-loop-delivery
 decreases-loop-delivery l = sum_by (λ _. 1) l.deliverer.waiting
 
 abbrev pub invariant-loop-delivery : goal.invariant-loop-delivery
-invariant-loop-delivery l = (xs : List Plain) × DrainsInto l.initial.lists.items l.lists.items xs × ((h : Plain → ℕ) → sum_by h l.initial.deliverer.waiting ≡ sum_by h l.deliverer.waiting + sum_by h xs)
+invariant-loop-delivery l = (xs : List Plain) × DrainsInto l.initial.lists.items l.lists.items xs
+    × ((h : Plain → ℕ) → sum_by h l.initial.deliverer.waiting ≡ sum_by h l.deliverer.waiting + sum_by h xs)

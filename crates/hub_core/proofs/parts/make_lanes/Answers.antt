@@ -32,6 +32,8 @@ loop-lane-preserved c =
           (All-push (λ (s : LaneSeat). IsPassOf c.args.jobs.now s.pass × HasDoneNothing s) c.loop-lane.seats.items seat inv.seats (search rules));
       count = ap length c.push_reserved-in-loop-lane.ensures.items ∙ omega (arith, length-append c.loop-lane.rings.items (c.in_ok-producer.producer ∷ []));
       drained = search rules;
-      unsent = subst (λ (l : List PushEnd). All (IsUnsent c.args.capacity) l) (sym c.push_reserved-in-loop-lane.ensures.items) (All-push (IsUnsent c.args.capacity) c.loop-lane.rings.items c.in_ok-producer.producer inv.unsent (new.producer.0, new.producer.2));
-      paired = subst (λ (x : List PushEnd × List LaneSeat). All (IsPairedIn x.0) x.1) (λ i. (sym c.push_reserved-in-loop-lane.ensures.items i, sym c.push_reserved.ensures.items i)) p;
+      unsent = subst (λ (l : List PushEnd). All (IsUnsent c.args.capacity) l) (sym c.push_reserved-in-loop-lane.ensures.items)
+          (All-push (IsUnsent c.args.capacity) c.loop-lane.rings.items c.in_ok-producer.producer inv.unsent (new.producer.0, new.producer.2));
+      paired = subst (λ (x : List PushEnd × List LaneSeat). All (IsPairedIn x.0) x.1)
+          (λ i. (sym c.push_reserved-in-loop-lane.ensures.items i, sym c.push_reserved.ensures.items i)) p;
     }

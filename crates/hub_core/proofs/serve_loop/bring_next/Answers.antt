@@ -13,7 +13,8 @@ still_serves : (g : _) (c : After-poll g) → Serves c.args.hub.now (set c.args.
 still_serves g c =
     let seats = c.args.seats.now.items in
     let at = c.index_mut.ensures.value in
-    let is = c.poll.ensures.of_hub c.args.hub.now (seat_at c.args.hub.now seats c.args.held.now c.args.index c.index_mut.result.now c.requires.0 (low g c) at) in
+    let is = c.poll.ensures.of_hub c.args.hub.now (seat_at c.args.hub.now seats c.args.held.now c.args.index c.index_mut.result.now c.requires.0 (low g c) at)
+    in
     step_serves c.args.hub.now seats c.args.held.now c.args.held.now c.args.index c.index_mut.result.now c.poll.new.self at c.poll.ensures.lane is c.requires.0
     (room_same seats c.args.held.now c.args.index c.index_mut.result.now c.poll.new.self at c.poll.ensures.submitted c.requires.0.room)
 
@@ -22,7 +23,8 @@ is_next g c =
     let polls = c.in-Some.ensures.polls in
     let t = c.poll.new.self in
     next_of c.args.hub.now c.args.seats.now.items c.args.held.now c.args.index c.index_mut.result.now t c.in-Some.delivery c.requires.0
-    (omega (arith, c.requires.2, c.args.seats.now.ok.0)) c.index_mut.ensures.value c.poll.ensures.submitted polls.0 polls.1 polls.2 (omega (arith, t.polled_issued, t.counted, t.polls_counted))
+    (omega (arith, c.requires.2, c.args.seats.now.ok.0)) c.index_mut.ensures.value c.poll.ensures.submitted polls.0 polls.1 polls.2
+    (omega (arith, t.polled_issued, t.counted, t.polls_counted))
 
 pub bring-requires : goal.bring-requires
 bring-requires g c =
@@ -45,7 +47,8 @@ returns-in-Some-clause-came g c =
     let polls = c.in-Some.ensures.polls in
     IfOk-weaker c.bring.result _ _
     (λ _ bring start was.
-    came_brought (g.T.Traffic.Came start c.bring.new.self) seats held c.args.index c.in-Some.delivery.lane c.index_mut.result.now c.poll.new.self c.in-Some.delivery
+    came_brought (g.T.Traffic.Came start c.bring.new.self) seats held c.args.index c.in-Some.delivery.lane c.index_mut.result.now c.poll.new.self
+    c.in-Some.delivery
     (lane ∙ sym polls.0) (low g d) at c.poll.ensures.submitted polls.2
     (bring start (given_to seats held) (polled_by_each seats) was (is_next g (goal.at.returns-in-Some-clause-came g c).In-Some)))
     c.bring.ensures

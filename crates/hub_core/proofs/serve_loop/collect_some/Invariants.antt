@@ -6,6 +6,7 @@ abbrev pub invariant-loop-i : goal.invariant-loop-i
 invariant-loop-i g l = record {
   serves : Serves l.hub l.seats.items l.held;
   some : (start : _) × g.T.Traffic.Came start l.traffic (given_to l.seats.items l.held) (polled_by_each l.seats.items);
-  came : (start : _) → g.T.Traffic.Came start l.initial.traffic (given_to l.initial.seats.items l.held) (polled_by_each l.initial.seats.items) → g.T.Traffic.Came start l.traffic (given_to l.seats.items l.held) (polled_by_each l.seats.items);
+  came : (start : _) → g.T.Traffic.Came start l.initial.traffic (given_to l.initial.seats.items l.held) (polled_by_each l.initial.seats.items)
+      → g.T.Traffic.Came start l.traffic (given_to l.seats.items l.held) (polled_by_each l.seats.items);
   deliverer : IsDelivererOf l.hub l.deliverer;
 }

@@ -9,6 +9,7 @@ invariant-loop g l = record {
   ends : (goal.iterator-loop g).is_finite l.iterator';
   serves : Serves l.hub l.seats.items l.held;
   some : (start : _) × g.T.Traffic.Came start l.traffic (given_to l.seats.items l.held) (polled_by_each l.seats.items);
-  came : (start : _) → g.T.Traffic.Came start l.initial.traffic (given_to l.initial.seats.items None) (polled_by_each l.initial.seats.items) → g.T.Traffic.Came start l.traffic (given_to l.seats.items l.held) (polled_by_each l.seats.items);
+  came : (start : _) → g.T.Traffic.Came start l.initial.traffic (given_to l.initial.seats.items None) (polled_by_each l.initial.seats.items)
+      → g.T.Traffic.Came start l.traffic (given_to l.seats.items l.held) (polled_by_each l.seats.items);
   deliverer : IsDelivererOf l.hub l.deliverer;
 }

@@ -25,7 +25,8 @@ spawn_with-started-requires-send-F g c κs within =
     ∷ seats.the_row
     ∷ (shr_ref_field record { mir = named 8; lft = κs.1.1.1.1.1.1.1.1.0 } (param 1 g.row.G) tt).row
     ∷ (shr_ref_field record { mir = named 9; lft = κs.1.1.1.1.1.1.1.1.1.0 } signals.the_row tt).row ∷ [] in
-    let sent : IsSend (TupleAt (codes "hub_core::worker_threads::fn::start_all::spawn_with+Self") Ts) = declared_send (type_at (codes "hub_core::worker_threads::fn::start_all::spawn_with+Self") Ts) (
+    let sent : IsSend (TupleAt (codes "hub_core::worker_threads::fn::start_all::spawn_with+Self") Ts) =
+    declared_send (type_at (codes "hub_core::worker_threads::fn::start_all::spawn_with+Self") Ts) (
       search (sendable, crosses, c.type_bounds.sync-R) depth 40,
       (
         search (sendable, crosses, hub_sync) depth 40,
@@ -47,5 +48,6 @@ loop-seat-preserved g c = record {
   ends = tt;
   room = search (rules, arith);
   count = search (rules, arith);
-  of_hub = rw (c.push_reserved.ensures.items) (All-push (λ h. h.promise.0.now ≡ c.args.hub.now) c.loop-seat.handles.items c.in-Ok.handle c.loop-seat.invariant.of_hub (ap (λ p. p.0.now) c.in-Ok.ensures.ok));
+  of_hub = rw (c.push_reserved.ensures.items) (All-push (λ h. h.promise.0.now ≡ c.args.hub.now) c.loop-seat.handles.items c.in-Ok.handle
+      c.loop-seat.invariant.of_hub (ap (λ p. p.0.now) c.in-Ok.ensures.ok));
 }

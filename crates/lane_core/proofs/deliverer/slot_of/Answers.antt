@@ -31,10 +31,12 @@ returns-in-Some c =
     let d = (goal.at.returns-in-Some c).After-remove-2 in
     let none = ap (lookup (test d)) (sym c.remove-2.ensures.entries) ∙ c.remove-2.ensures.updates.1 in
     rw (c.remove-2.ensures.entries, c.remove.ensures.keys)
-    (was_here (test d) c.args.lane c.args.next (finds d) c.args.later.now.entries c.args.known.now.keys c.requires (there d) (gone d) c.in-Some.delivery (sym c.in-Some.ensures.value) none (small d))
+    (was_here (test d) c.args.lane c.args.next (finds d) c.args.later.now.entries c.args.known.now.keys c.requires (there d) (gone d) c.in-Some.delivery
+    (sym c.in-Some.ensures.value) none (small d))
 
 pub returns-in-None : goal.returns-in-None
 returns-in-None c =
     let d = (goal.at.returns-in-None c).After-remove-2 in
     rw (c.in-None.ensures.unchanged, c.remove.ensures.keys)
-    (was_out (test d) c.args.lane c.args.next (finds d) c.args.later.now.entries c.args.known.now.keys c.requires (there d) (gone d) (sym c.in-None.ensures.value))
+    (was_out (test d) c.args.lane c.args.next (finds d) c.args.later.now.entries c.args.known.now.keys c.requires (there d) (gone d)
+    (sym c.in-None.ensures.value))

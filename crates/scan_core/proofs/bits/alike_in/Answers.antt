@@ -6,8 +6,10 @@ use Rattle.scan_core.proofs.bits.alike_in.Goals.{then-dark, else-dark}
 
 counted : (c : goal.After-min) → c.min.result ≡ count c.args.byte c.args.skipped c.args.dark
 counted c = elim c.if-dark.branch [
-  | then-dark w ↦ rw w.if-dark.true (c.min.ensures ∙ ap (λ others. min (count_leading_zeros 8 (others * 2 ^ c.args.skipped % 256)) (8 - c.args.skipped)) w.others-is)
-  | else-dark w ↦ rw w.if-dark.false (c.min.ensures ∙ ap (λ others. min (count_leading_zeros 8 (others * 2 ^ c.args.skipped % 256)) (8 - c.args.skipped)) w.others-is)
+  | then-dark w ↦ rw w.if-dark.true (c.min.ensures ∙ ap (λ others. min (count_leading_zeros 8 (others * 2 ^ c.args.skipped % 256)) (8 - c.args.skipped))
+      w.others-is)
+  | else-dark w ↦ rw w.if-dark.false (c.min.ensures ∙ ap (λ others. min (count_leading_zeros 8 (others * 2 ^ c.args.skipped % 256)) (8 - c.args.skipped))
+      w.others-is)
 ]
 
 pub returns-clause-alike : goal.returns-clause-alike

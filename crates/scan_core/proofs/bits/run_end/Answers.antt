@@ -21,7 +21,8 @@ alike_on bits from start end count dark before few here k some lt = elim (cases_
 pub returns-then-count-skipped-clause-alike : goal.returns-then-count-skipped-clause-alike
 returns-then-count-skipped-clause-alike c k some lt =
     let e = c.alike_in-count.ensures in
-    alike_on c.args.bits.now c.args.from c.args.start c.bytes.end c.alike_in-count.result c.args.dark c.bytes.invariant.alike e.within e.alike k some (omega (arith, c.min.ensures))
+    alike_on c.args.bits.now c.args.from c.args.start c.bytes.end c.alike_in-count.result c.args.dark c.bytes.invariant.alike e.within e.alike k some
+    (omega (arith, c.min.ensures))
 
 pub bytes-preserved : goal.bytes-preserved
 bytes-preserved c =

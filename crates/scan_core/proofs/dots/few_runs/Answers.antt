@@ -20,11 +20,13 @@ pub runs-preserved : goal.runs-preserved
 runs-preserved c =
     let inv = c.runs.invariant in
     let e = c.run_end-end-in-runs.ensures in
-    let longer = goes_on c.args.bits.now 0 c.runs.end c.run_end-end-in-runs.result c.from-count.result (not c.runs.dark) c.runs-test.true e.behind inv.next e.ends in
+    let longer = goes_on c.args.bits.now 0 c.runs.end c.run_end-end-in-runs.result c.from-count.result (not c.runs.dark) c.runs-test.true e.behind inv.next
+    e.ends in
     record {
       cut = (
         inv.cut.0 ++ c.runs.run ∷ [],
-        next_run c.args.bits.now 0 c.runs.end c.run_end-end-in-runs.result inv.cut.0 (inv.cut.0 ++ c.runs.run ∷ []) c.runs.run c.runs.dark inv.cut.1 refl longer e.alike,
+        next_run c.args.bits.now 0 c.runs.end c.run_end-end-in-runs.result inv.cut.0 (inv.cut.0 ++ c.runs.run ∷ []) c.runs.run c.runs.dark inv.cut.1 refl longer
+            e.alike,
         c.push.ensures inv.cut.0 inv.cut.2,
       );
       in_row = e.in_row;

@@ -10,6 +10,7 @@ runs-preserved c =
     let low = c.runs-test.true in
     record {
       places = length-set c.runs.modules c.runs.i c.modules_of-found.result.0 ∙ inv.places;
-      found = one_more c.args.count c.args.total runs c.runs.modules c.runs.i c.modules_of-found.result.0 c.runs.each c.modules_of-found.result.1 low inv.places inv.found c.modules_of-found.ensures.found;
+      found = one_more c.args.count c.args.total runs c.runs.modules c.runs.i c.modules_of-found.result.0 c.runs.each c.modules_of-found.result.1 low inv.places
+          inv.found c.modules_of-found.ensures.found;
       none = none_more c.args.count c.args.total runs c.runs.i c.runs.each c.modules_of-found.result.1 low inv.none c.modules_of-found.ensures.none;
     }

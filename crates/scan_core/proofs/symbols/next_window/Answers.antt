@@ -87,8 +87,10 @@ not_read c v s first count =
     let row = IsRow-runs_in runs place.first place.count c.requires.row next.within next.ends_light in
     let read : IsAnswer (runs_in runs place.first place.count) c.args.year (Read v.carrier v.elements) =
     subst (λ ws. IsAnswer ws c.args.year (Read v.carrier v.elements)) (ap₂ (runs_in runs) first count) s.read in
-    let refused = subst (λ ws. IsAnswer ws c.args.year (Refused c.in_default-answer_in.field-0)) (sliced place.first place.count runs) c.in_default-answer_in.ensures in
-    let same = c.one_answer.ensures (runs_in runs place.first place.count) c.args.year (Read v.carrier v.elements) (Refused c.in_default-answer_in.field-0) row read refused in
+    let refused = subst (λ ws. IsAnswer ws c.args.year (Refused c.in_default-answer_in.field-0)) (sliced place.first place.count runs)
+    c.in_default-answer_in.ensures in
+    let same = c.one_answer.ensures (runs_in runs place.first place.count) c.args.year (Read v.carrier v.elements) (Refused c.in_default-answer_in.field-0) row
+    read refused in
     cc
 
 pub places-preserved : goal.places-preserved

@@ -40,14 +40,16 @@ known c =
     let light : List ℕ = c.light_line-line.result.items in
     let drawn = c.draw_line.ensures p.symbols (subst (λ ls. AllZip IsDrawn ls p.symbols) (sym labels) p.drawn) in
     let wide = ap (λ (g : Cells). stride (g.columns * g.width)) c.grid.view_is in
-    let long : length line ≡ length light = drawn.long ∙ sym wide ∙ sym (length-replicate {A = ℕ} (stride (c.grid.inside.columns * c.grid.inside.cell_width)) 0) ∙ sym (ap length c.light_line-line.ensures) in
+    let long : length line ≡ length light = drawn.long ∙ sym wide ∙ sym (length-replicate {A = ℕ} (stride (c.grid.inside.columns * c.grid.inside.cell_width)) 0)
+    ∙ sym (ap length c.light_line-line.ensures) in
     let same = take_at line (drop (length line) light) (length light) long in
     let head : c.header-header.result.items ≡ header_text (g.columns * g.width) (g.rows * g.height) =
     c.header-header.ensures ∙ ap (λ (g : Cells). header_text (g.columns * g.width) (g.rows * g.height)) c.grid.view_is in
     let high : c.from.result ≡ g.rows * g.height = c.from.ensures ∙ ap (λ (g : Cells). g.rows * g.height) c.grid.view_is in
     let bytes : c.len-2.result ≡ length line = c.len-2.ensures.value ∙ ap length same in
     let count : ℕ = c.len.result + c.from.result * c.len-2.result in
-    let parts : count ≡ length c.header-header.result.items + g.rows * g.height * length line = ap₂ (λ h b. h + b) c.len.ensures.value (ap₂ (λ h b. h * b) high bytes) in
+    let parts : count ≡ length c.header-header.result.items + g.rows * g.height * length line =
+    ap₂ (λ h b. h + b) c.len.ensures.value (ap₂ (λ h b. h * b) high bytes) in
     record {
       whole = same;
       head = head;
@@ -63,12 +65,20 @@ returns-then-count-out-clause-ok c =
     let out : List ℕ = c.args.out.now in
     let count : ℕ = c.len.result + c.from.result * c.len-2.result in
     let put : c.put_image.new.out ≡ pasted out 0 (image_bytes g line) =
-    c.put_image.ensures ∙ ap₂ (λ h l. pasted out 0 (h ++ band g l)) (c.as_slice.ensures.value ∙ k.head) (c.as_slice-then-count-out.ensures.value ∙ k.whole) in
-    (k.image.0, k.image.1, subst (λ bs. IsPut bs out c.put_image.new.out count) (sym k.image.2) (put_whole (image_bytes g line) out c.put_image.new.out count k.size c.if-count-out.true put))
+    c.put_image.ensures ∙ ap₂ (λ h l. pasted out 0 (h ++ band g l)) (c.as_slice.ensures.value ∙ k.head) (c.as_slice-then-count-out.ensures.value ∙ k.whole) in (
+      k.image.0,
+      k.image.1,
+      subst (λ bs. IsPut bs out c.put_image.new.out count) (sym k.image.2)
+          (put_whole (image_bytes g line) out c.put_image.new.out count k.size c.if-count-out.true put),
+    )
 
 pub returns-else-count-out-clause-ok : goal.returns-else-count-out-clause-ok
 returns-else-count-out-clause-ok c =
     let k = known (goal.at.returns-else-count-out-clause-ok c).After-len-2 in
     let out : List ℕ = c.args.out.now in
-    let count : ℕ = c.len.result + c.from.result * c.len-2.result in
-    (k.image.0, k.image.1, subst (λ bs. IsPut bs out out count) (sym k.image.2) (put_none (image_bytes c.args.grid c.draw_line.new.line) out count k.size c.if-count-out.false))
+    let count : ℕ = c.len.result + c.from.result * c.len-2.result in (
+      k.image.0,
+      k.image.1,
+      subst (λ bs. IsPut bs out out count) (sym k.image.2)
+          (put_none (image_bytes c.args.grid c.draw_line.new.line) out count k.size c.if-count-out.false),
+    )

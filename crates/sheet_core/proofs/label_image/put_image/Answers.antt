@@ -15,7 +15,8 @@ cells c =
 
 -- what is known once the rows above the bars are put
 record Begun (c : After-put_rows-bars) : Type 0 where
-  fits : length c.args.header.now + (length (light_rows (cells c) c.args.line.now) + (length (bar_rows (cells c) c.args.line.now) + length (light_rows (cells c) c.args.line.now))) ≤ length c.args.out.now
+  fits : length c.args.header.now + (length (light_rows (cells c) c.args.line.now) +
+      (length (bar_rows (cells c) c.args.line.now) + length (light_rows (cells c) c.args.line.now))) ≤ length c.args.out.now
   zeros : c.light_line-light.result.items ≡ replicate (length c.args.line.now) 0
   bars : Put c.args.out.now (c.args.header.now ++ light_rows (cells c) c.args.line.now) c.put_rows-bars.new.out c.put_rows-bars.result
 
@@ -32,7 +33,8 @@ begun c =
     record {
       fits = image_fits g header line out c.grid.invariant (subst (λ h. length header + h * length line ≤ length out) (sym high) c.requires.room);
       zeros = zeros;
-      bars = light_put g header line c.as_slice.result.now out c.put_at-above.new.out c.put_rows-bars.new.out c.put_at-above.result c.put_rows-bars.result (c.as_slice.ensures.value ∙ zeros)
+      bars = light_put g header line c.as_slice.result.now out c.put_at-above.new.out c.put_rows-bars.new.out c.put_at-above.result c.put_rows-bars.result
+          (c.as_slice.ensures.value ∙ zeros)
           c.put_at-above.ensures.end c.put_at-above.ensures.put c.put_rows-bars.ensures.end c.put_rows-bars.ensures.put;
     }
 
@@ -46,7 +48,8 @@ put_rows-below-requires c =
     let fits = b.fits in
     let long = length-rows (i.cell_height - 2 * i.module_dots) line in
     let front = length-append header (light_rows g line) in
-    put_fits c.args.out.now (header ++ light_rows g line) c.put_rows-bars.new.out c.put_rows-bars.result ((i.cell_height - 2 * i.module_dots) * length line) b.bars (omega (arith, long, front, fits))
+    put_fits c.args.out.now (header ++ light_rows g line) c.put_rows-bars.new.out c.put_rows-bars.result ((i.cell_height - 2 * i.module_dots) * length line)
+    b.bars (omega (arith, long, front, fits))
 
 pub put_rows-requires : goal.put_rows-requires
 put_rows-requires c =
@@ -55,11 +58,13 @@ put_rows-requires c =
     let g : Cells = cells (goal.at.put_rows-requires c).After-put_rows-bars in
     let header : List ℕ = c.args.header.now in
     let line : List ℕ = c.args.line.now in
-    let below = put_next c.args.out.now (header ++ light_rows g line) c.put_rows-bars.new.out (bar_rows g line) c.put_rows-below.new.out c.put_rows-bars.result c.put_rows-below.result
+    let below = put_next c.args.out.now (header ++ light_rows g line) c.put_rows-bars.new.out (bar_rows g line) c.put_rows-below.new.out c.put_rows-bars.result
+    c.put_rows-below.result
     b.bars c.put_rows-below.ensures.end c.put_rows-below.ensures.put in
     let light : List ℕ = c.as_slice-2.result.now in
     let fits = b.fits in
-    let same : length (light_rows g line) ≡ i.module_dots * length light = ap (λ l. length (repeated_bytes i.module_dots l)) (sym (c.as_slice-2.ensures.value ∙ b.zeros)) ∙ length-rows i.module_dots light in
+    let same : length (light_rows g line) ≡ i.module_dots * length light =
+    ap (λ l. length (repeated_bytes i.module_dots l)) (sym (c.as_slice-2.ensures.value ∙ b.zeros)) ∙ length-rows i.module_dots light in
     let front = length-append header (light_rows g line) in
     let middle = length-append (header ++ light_rows g line) (bar_rows g line) in
     put_fits c.args.out.now ((header ++ light_rows g line) ++ bar_rows g line) c.put_rows-below.new.out c.put_rows-below.result (i.module_dots * length light)
@@ -73,10 +78,15 @@ returns c =
     let header : List ℕ = c.args.header.now in
     let line : List ℕ = c.args.line.now in
     let out : List ℕ = c.args.out.now in
-    let below = put_next c.args.out.now (header ++ light_rows g line) c.put_rows-bars.new.out (bar_rows g line) c.put_rows-below.new.out c.put_rows-bars.result c.put_rows-below.result
+    let below = put_next c.args.out.now (header ++ light_rows g line) c.put_rows-bars.new.out (bar_rows g line) c.put_rows-below.new.out c.put_rows-bars.result
+    c.put_rows-below.result
     b.bars c.put_rows-below.ensures.end c.put_rows-below.ensures.put in
-    let piece : repeated_bytes i.module_dots c.as_slice-2.result.now ≡ light_rows g line = ap (repeated_bytes i.module_dots) (c.as_slice-2.ensures.value ∙ b.zeros) in
-    let all = put_next out ((header ++ light_rows g line) ++ bar_rows g line) c.put_rows-below.new.out (light_rows g line) c.put_rows.new.out c.put_rows-below.result c.put_rows.result
+    let piece : repeated_bytes i.module_dots c.as_slice-2.result.now ≡ light_rows g line =
+    ap (repeated_bytes i.module_dots) (c.as_slice-2.ensures.value ∙ b.zeros) in
+    let all = put_next out ((header ++ light_rows g line) ++ bar_rows g line) c.put_rows-below.new.out (light_rows g line) c.put_rows.new.out
+    c.put_rows-below.result c.put_rows.result
     below
-    (c.put_rows.ensures.end ∙ ap (λ (r : List ℕ). c.put_rows-below.result + length r) piece) (c.put_rows.ensures.put ∙ ap (pasted c.put_rows-below.new.out c.put_rows-below.result) piece) in
-    subst (λ (k : Cells). c.put_rows.new.out ≡ pasted out 0 (header ++ band k line)) c.grid.view_is (image_put g header line out c.put_rows.new.out c.put_rows.result all)
+    (c.put_rows.ensures.end ∙ ap (λ (r : List ℕ). c.put_rows-below.result + length r) piece)
+    (c.put_rows.ensures.put ∙ ap (pasted c.put_rows-below.new.out c.put_rows-below.result) piece) in
+    subst (λ (k : Cells). c.put_rows.new.out ≡ pasted out 0 (header ++ band k line)) c.grid.view_is
+    (image_put g header line out c.put_rows.new.out c.put_rows.result all)

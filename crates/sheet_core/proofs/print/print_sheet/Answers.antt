@@ -33,7 +33,8 @@ loop-row-preserved c = λ symbols h.
     let first : k ≡ row * g.columns = ap₂ (λ a b. a * b) c.from-in-loop-row.ensures columns in
     let part : take n (drop k symbols) ≡ row_labels g symbols row = ap₂ (λ n k. take n (drop k symbols)) columns first in
     let drawn = c.in_ok-push_band.ensures (take n (drop k symbols)) here in
-    banded_more g symbols row c.loop-row.bytes.items c.push_band.new.bytes.items drawn.0 (c.loop-row.invariant symbols h) (subst (λ ss. IsBarLine g ss drawn.0) part drawn.1) drawn.2
+    banded_more g symbols row c.loop-row.bytes.items c.push_band.new.bytes.items drawn.0 (c.loop-row.invariant symbols h)
+    (subst (λ ss. IsBarLine g ss drawn.0) part drawn.1) drawn.2
 
 pub invariant_of-result : goal.invariant_of-result
 invariant_of-result c =
@@ -42,7 +43,8 @@ invariant_of-result c =
     let r = c.requires.symbols in
     let end : c.loop-row.row ≡ i.rows = omega arith in
     let all : Banded g r.0 g.rows c.loop-row.bytes.items =
-    subst (λ n. Banded g r.0 n c.loop-row.bytes.items) end (subst (λ (g : Cells). Banded g r.0 c.loop-row.row c.loop-row.bytes.items) (sym c.grid.view_is) (c.loop-row.invariant r.0 r.1)) in
+    subst (λ n. Banded g r.0 n c.loop-row.bytes.items) end (subst (λ (g : Cells). Banded g r.0 c.loop-row.row c.loop-row.bytes.items) (sym c.grid.view_is)
+    (c.loop-row.invariant r.0 r.1)) in
     bitmap_of_bands g r.0 c.loop-row.bytes.items c.grid.invariant all
 
 pub returns : goal.returns
@@ -51,5 +53,7 @@ returns c = λ symbols h.
     let g : Cells = record { dots = i.module_dots; width = i.cell_width; height = i.cell_height; columns = i.columns; rows = i.rows } in
     let end : c.loop-row.row ≡ i.rows = omega arith in
     let all : Banded g symbols g.rows c.loop-row.bytes.items =
-    subst (λ n. Banded g symbols n c.loop-row.bytes.items) end (subst (λ (g : Cells). Banded g symbols c.loop-row.row c.loop-row.bytes.items) (sym c.grid.view_is) (c.loop-row.invariant symbols h)) in
-    subst (λ (k : Cells). IsSheet symbols k 0 (record { width = g.columns * g.width; height = g.rows * g.height; bytes = c.loop-row.bytes.items })) c.grid.view_is (sheet_of g symbols c.loop-row.bytes.items c.grid.invariant all)
+    subst (λ n. Banded g symbols n c.loop-row.bytes.items) end
+    (subst (λ (g : Cells). Banded g symbols c.loop-row.row c.loop-row.bytes.items) (sym c.grid.view_is) (c.loop-row.invariant symbols h)) in
+    subst (λ (k : Cells). IsSheet symbols k 0 (record { width = g.columns * g.width; height = g.rows * g.height; bytes = c.loop-row.bytes.items }))
+    c.grid.view_is (sheet_of g symbols c.loop-row.bytes.items c.grid.invariant all)

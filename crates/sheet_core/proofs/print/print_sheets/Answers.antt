@@ -31,7 +31,8 @@ loop-i-preserved c =
     let items = rw pushed at c.push.ensures.items in
     let count = c.loop-i.invariant.count in
     let grid : IsGrid g = subst IsGrid c.grid.view_is c.grid.invariant in
-    let cells : n ≡ cell_count g = ap₂ (λ a b. a * b) (c.from.ensures ∙ ap (λ (g : Cells). g.columns) c.grid.view_is) (c.from-2.ensures ∙ ap (λ (g : Cells). g.rows) c.grid.view_is) in
+    let cells : n ≡ cell_count g = ap₂ (λ a b. a * b) (c.from.ensures ∙ ap (λ (g : Cells). g.columns) c.grid.view_is)
+    (c.from-2.ensures ∙ ap (λ (g : Cells). g.rows) c.grid.view_is) in
     record {
       count = ap length items ∙ length-append c.loop-i.sheets.items (c.in-Ok.sheet ∷ []) ∙ ap (λ k. k + 1) count;
       drawn = λ symbols h i s at.
@@ -45,7 +46,8 @@ loop-i-preserved c =
             | inl before ↦ c.loop-i.invariant.drawn symbols h i s before
             | inr last ↦
                 let place : i ≡ c.loop-i.i = last.0 ∙ count in
-                subst (λ i. IsSheet symbols g i s) (sym place) (subst (IsSheet symbols g c.loop-i.i) (sym last.1) (sheet_at g symbols c.loop-i.i c.in-Ok.sheet grid same))
+                subst (λ i. IsSheet symbols g i s) (sym place)
+                (subst (IsSheet symbols g c.loop-i.i) (sym last.1) (sheet_at g symbols c.loop-i.i c.in-Ok.sheet grid same))
           ];
     }
 
@@ -54,7 +56,8 @@ returns-clause-ok c =
     let g : Cells = c.args.grid in
     let p = all_printed g c.args.labels.now c.in_ok-check_labels.ensures.ok in
     let n : ℕ = c.from.result * c.from-2.result in
-    let cells : n ≡ cell_count g = ap₂ (λ a b. a * b) (c.from.ensures ∙ ap (λ (g : Cells). g.columns) c.grid.view_is) (c.from-2.ensures ∙ ap (λ (g : Cells). g.rows) c.grid.view_is) in
+    let cells : n ≡ cell_count g = ap₂ (λ a b. a * b) (c.from.ensures ∙ ap (λ (g : Cells). g.columns) c.grid.view_is)
+    (c.from-2.ensures ∙ ap (λ (g : Cells). g.rows) c.grid.view_is) in
     let long = AllZip-long IsDrawn c.args.labels.now p.symbols p.drawn in
     let end : c.loop-i.i ≡ (length c.args.labels.now + (n - 1)) / n = omega arith in
     record {

@@ -9,8 +9,12 @@ writes-preserved g c = record {
       let old = c.writes.invariant.did start events was in
       let piece = take c.in_ok-count.count c.writes.rest.now in
       let more = one_more_piece old.0 piece in
-      let whole = old.2 in
-      (old.0 ++ piece ∷ [], subst (g.W.Wire.Did start _) (one_more_write events old.0 piece) (c.in_ok-count.ensures.did start _ old.1), grind (arith, common_steps, more, whole));
+      let whole = old.2 in (
+        old.0 ++ piece ∷ [],
+        subst (g.W.Wire.Did start _) (one_more_write events old.0 piece) (c.in_ok-count.ensures.did start _ old.1),
+        grind
+            (arith, common_steps, more, whole),
+      );
   same = c.in_ok-count.ensures.ok ∙ c.writes.invariant.same;
   read = c.in_ok-count.ensures.other ∙ c.writes.invariant.read;
   end = λ was. c.in_ok-count.ensures.end (c.writes.invariant.end was);

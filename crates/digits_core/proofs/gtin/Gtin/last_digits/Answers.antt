@@ -13,11 +13,13 @@ zeros_told n text zeros ds told long valid is front all =
 
 pub returns-then-not-are_zeros-clause-some : goal.returns-then-not-are_zeros-clause-some
 returns-then-not-are_zeros-clause-some g c =
-    zeros_told g.row.N c.self.inside.digits c.in_ok-zeros.zeros.now c.args.self.now _ c.self.told c.self.invariant.0 c.self.view_is c.in_ok-zeros.ensures.cases.0 (sym c.if-not-are_zeros.true ∙ c.are_zeros.ensures)
+    zeros_told g.row.N c.self.inside.digits c.in_ok-zeros.zeros.now c.args.self.now _ c.self.told c.self.invariant.0 c.self.view_is
+    c.in_ok-zeros.ensures.cases.0 (sym c.if-not-are_zeros.true ∙ c.are_zeros.ensures)
 
 pub returns-clause-some : goal.returns-clause-some
 returns-clause-some g c =
-    zeros_told g.row.N c.self.inside.digits c.in_ok-zeros.zeros.now c.args.self.now _ c.self.told c.self.invariant.0 c.self.view_is c.in_ok-zeros.ensures.cases.0 (sym c.if-not-are_zeros.false ∙ c.are_zeros.ensures)
+    zeros_told g.row.N c.self.inside.digits c.in_ok-zeros.zeros.now c.args.self.now _ c.self.told c.self.invariant.0 c.self.view_is
+    c.in_ok-zeros.ensures.cases.0 (sym c.if-not-are_zeros.false ∙ c.are_zeros.ensures)
 
 pub returns-clause-value : goal.returns-clause-value
 returns-clause-value g c =

@@ -13,7 +13,8 @@ line_of-requires-clause-ascii c =
     let i = c.self.invariant in
     let es = shown_elements c.self.inside.text.items in
     subst (λ (t : List ℕ). AreAscii (shown_elements t)) (sym c.as_slice.ensures.value)
-    (elements_ascii c.self.inside.year es (elements_are c.self.inside.year c.self.inside.text.items es [] (from_left c.self.inside.year c.self.inside.text.items es [] i.elements.reads)))
+    (elements_ascii c.self.inside.year es (elements_are c.self.inside.year c.self.inside.text.items es []
+    (from_left c.self.inside.year c.self.inside.text.items es [] i.elements.reads)))
 
 pub line_of-requires-clause-room : goal.line_of-requires-clause-room
 line_of-requires-clause-room c =

@@ -12,4 +12,10 @@ returns-clause-few c =
     let es = shown_elements text in
     let is = c.self.invariant.elements in
     let fits = is.fits in
-    omega (arith, few_elements year es (elements_are year text es [] (from_left year text es [] is.reads)), ap length c.self.invariant.canonical_text, c.count_of.ensures, ap (λ (t : List ℕ). length (shown_elements t)) c.as_slice.ensures.value)
+    omega (
+      arith,
+      few_elements year es (elements_are year text es [] (from_left year text es [] is.reads)),
+      ap length c.self.invariant.canonical_text,
+      c.count_of.ensures,
+      ap (λ (t : List ℕ). length (shown_elements t)) c.as_slice.ensures.value,
+    )

@@ -13,7 +13,8 @@ text_is c = search rules
 made : (c : After-append) → IsElements c.args.year c.append.new.text.items (gtin_entry c.args.gtin.now ∷ [])
 made c =
     let long : length (ascii_of c.args.gtin.now) ≡ 14 = omega (arith, ap length c.digits14.ensures.value) in
-    gtin_elements c.args.year c.args.gtin.now c.append.new.text.items (gtin_entry c.args.gtin.now ∷ []) c.digits14.ensures.digits c.digits14.ensures.checked long refl (text_is c)
+    gtin_elements c.args.year c.args.gtin.now c.append.new.text.items (gtin_entry c.args.gtin.now ∷ []) c.digits14.ensures.digits c.digits14.ensures.checked
+    long refl (text_is c)
 
 pub returns-clause-list : goal.returns-clause-list
 returns-clause-list c = listed c.args.year c.append.new.text.items (gtin_entry c.args.gtin.now ∷ []) (made c)

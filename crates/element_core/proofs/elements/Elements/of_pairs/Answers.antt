@@ -21,7 +21,8 @@ done c = entries_of (take c.loop-pair.pair-index c.args.pairs.now)
 step : (c : After-gap_length) → Adds c.loop-pair.out.items (done c) (entries_of c.args.pairs.now) c.loop-pair.separate (entry_of c.pair-item.result)
 step c =
     let i = c.loop-pair.invariant in
-    adds c.loop-pair.out.items (done c) (entries_of (drop (c.loop-pair.pair-index + 1) c.args.pairs.now)) (entries_of c.args.pairs.now) c.loop-pair.separate (entry_of c.pair-item.result)
+    adds c.loop-pair.out.items (done c) (entries_of (drop (c.loop-pair.pair-index + 1) c.args.pairs.now)) (entries_of c.args.pairs.now) c.loop-pair.separate
+    (entry_of c.pair-item.result)
     (entries_split c.args.pairs.now c.loop-pair.pair-index c.pair-item.result c.loop-pair-test.true c.pair-item.is)
     i.canonical_text i.gap_is
 
@@ -32,21 +33,44 @@ returns-then-len-gap_length-gt192-clause-err c =
     let below = g.below in
     let over = c.if-len-gap_length-gt192.true in
     too_long c.args.year (entries_of c.args.pairs.now) (omega (arith, length-map c.args.pairs.now entry_of)) (sym c.first_fault.ensures ∙ c.in_default.is)
-    (omega (arith, g.size, ap length g.canonical_text, c.len.ensures.value, c.gap_length.ensures, ap length c.as_slice-ai.ensures.value, ap length c.as_slice-value.ensures.value))
+    (omega (
+      arith,
+      g.size,
+      ap length g.canonical_text,
+      c.len.ensures.value,
+      c.gap_length.ensures,
+      ap length c.as_slice-ai.ensures.value,
+      ap length
+          c.as_slice-value.ensures.value,
+    ))
 
 pub loop-pair-preserved : goal.loop-pair-preserved
 loop-pair-preserved c =
     let g = step (goal.at.loop-pair-preserved c).After-gap_length in
     let i = c.loop-pair.invariant in
     let e = entry_of c.pair-item.result in
-    let same : record { ai = c.as_slice-ai.result.now; value = c.as_slice-value.result.now } ≡ e = same_element (record { ai = c.as_slice-ai.result.now; value = c.as_slice-value.result.now }) e c.as_slice-ai.ensures.value c.as_slice-value.ensures.value in
+    let same : record { ai = c.as_slice-ai.result.now; value = c.as_slice-value.result.now } ≡ e =
+    same_element (record { ai = c.as_slice-ai.result.now; value = c.as_slice-value.result.now }) e c.as_slice-ai.ensures.value
+    c.as_slice-value.ensures.value in
     let es = done (goal.at.loop-pair-preserved c).After-gap_length in
-    let more : entries_of (take (c.loop-pair.pair-index + 1) c.args.pairs.now) ≡ es ++ e ∷ [] = entries_more c.args.pairs.now c.loop-pair.pair-index c.pair-item.result c.loop-pair-test.true c.pair-item.is in
-    let text : c.append.new.text.items ≡ c.loop-pair.out.items ++ separator_if c.loop-pair.separate ++ (e.ai ++ e.value) = c.append.ensures ∙ ap (λ (x : Entry). c.loop-pair.out.items ++ separator_if c.loop-pair.separate ++ (x.ai ++ x.value)) same in
+    let more : entries_of (take (c.loop-pair.pair-index + 1) c.args.pairs.now) ≡ es ++ e ∷ [] =
+    entries_more c.args.pairs.now c.loop-pair.pair-index c.pair-item.result c.loop-pair-test.true c.pair-item.is in
+    let text : c.append.new.text.items ≡ c.loop-pair.out.items ++ separator_if c.loop-pair.separate ++ (e.ai ++ e.value) =
+    c.append.ensures ∙ ap (λ (x : Entry). c.loop-pair.out.items ++ separator_if c.loop-pair.separate ++ (x.ai ++ x.value)) same in
     record {
       canonical_text = text ∙ g.canonical_text ∙ ap canonical (sym more);
-      fits = let under = c.if-len-gap_length-gt192.false in omega (arith, ap length text, g.size, c.len.ensures.value, c.gap_length.ensures, ap length c.as_slice-ai.ensures.value, ap length c.as_slice-value.ensures.value);
-      gap_is = ap last_gap more ∙ last_gap-push es e ∙ separator_for-gap e (is_some (predefined_length e.ai)) refl ∙ ap separator_if (sym (c.needs_separator-separate.ensures ∙ ap (λ (a : List ℕ). not (is_some (predefined_length a))) c.as_slice-ai.ensures.value));
+      fits = let under = c.if-len-gap_length-gt192.false in omega (
+        arith,
+        ap length text,
+        g.size,
+        c.len.ensures.value,
+        c.gap_length.ensures,
+        ap length c.as_slice-ai.ensures.value,
+        ap length
+            c.as_slice-value.ensures.value,
+      );
+      gap_is = ap last_gap more ∙ last_gap-push es e ∙ separator_for-gap e (is_some (predefined_length e.ai)) refl
+          ∙ ap separator_if (sym (c.needs_separator-separate.ensures ∙ ap (λ (a : List ℕ). not (is_some (predefined_length a))) c.as_slice-ai.ensures.value));
     }
 
 some : (c : After-loop-pair) → 0 < length (entries_of c.args.pairs.now)
@@ -60,10 +84,15 @@ all_done c past = c.loop-pair.invariant.canonical_text ∙ ap (λ ps. canonical 
 made : (c : After-loop-pair) → length c.args.pairs.now ≤ c.loop-pair.pair-index → IsElements c.args.year c.loop-pair.out.items (entries_of c.args.pairs.now)
 made c past =
     finished c.args.year c.loop-pair.out.items (entries_of c.args.pairs.now) (entries_of c.args.pairs.now)
-    (entries_valid c.args.year 0 (entries_of c.args.pairs.now) (sym c.first_fault.ensures ∙ c.in_default.is)) refl (all_done c past) (some c) c.loop-pair.invariant.fits
+    (entries_valid c.args.year 0 (entries_of c.args.pairs.now) (sym c.first_fault.ensures ∙ c.in_default.is)) refl (all_done c past) (some c)
+    c.loop-pair.invariant.fits
 
 pub returns-clause-ok : goal.returns-clause-ok
-returns-clause-ok c = (refl, listed c.args.year c.loop-pair.out.items (entries_of c.args.pairs.now) (made (goal.at.returns-clause-ok c).After-loop-pair c.loop-pair-test.false))
+returns-clause-ok c = (
+  refl,
+  listed c.args.year c.loop-pair.out.items (entries_of c.args.pairs.now)
+      (made (goal.at.returns-clause-ok c).After-loop-pair c.loop-pair-test.false),
+)
 
 pub invariant_of-result : goal.invariant_of-result
 invariant_of-result c =
@@ -78,7 +107,8 @@ pub returns-clause-only : goal.returns-clause-only
 returns-clause-only c =
     let short = c.loop-pair.invariant.fits in
     let done = all_done (goal.at.returns-clause-only c).After-loop-pair c.loop-pair-test.false in
-    fits c.args.year (entries_of c.args.pairs.now) (some (goal.at.returns-clause-only c).After-loop-pair) (sym c.first_fault.ensures ∙ c.in_default.is) (omega (arith, ap length done))
+    fits c.args.year (entries_of c.args.pairs.now) (some (goal.at.returns-clause-only c).After-loop-pair) (sym c.first_fault.ensures ∙ c.in_default.is)
+    (omega (arith, ap length done))
 
 pub needs_separator-separate-requires : goal.needs_separator-separate-requires
 needs_separator-separate-requires c =

@@ -17,12 +17,16 @@ returns-in_err-front-clause-err c =
     let some : 0 < length c.args.text.now = grind (arith, common_steps) in
     let fits : length c.args.text.now ≤ 192 = omega arith in
     let left : 0 < length c.loop-rest.rest.now = grind (arith, common_steps) in
-    rw (p.1, p.2) (stops c.args.year c.args.text.now c.loop-rest.invariant.list c.loop-rest.rest.now c.in_err-front.field-0.0 some fits c.loop-rest.invariant.reads left c.in_err-front.ensures.fault)
+    rw (p.1, p.2) (stops c.args.year c.args.text.now c.loop-rest.invariant.list c.loop-rest.rest.now c.in_err-front.field-0.0 some fits
+    c.loop-rest.invariant.reads left c.in_err-front.ensures.fault)
 
-step : (c : In_ok-front) → Grows c.args.year c.args.text.now c.loop-rest.out.items c.loop-rest.invariant.list c.loop-rest.separate (record { ai = c.in_ok-front.front.ai.now; value = c.in_ok-front.front.value.now }) c.in_ok-front.front.rest.now
+step : (c : In_ok-front) → Grows c.args.year c.args.text.now c.loop-rest.out.items c.loop-rest.invariant.list c.loop-rest.separate
+    (record { ai = c.in_ok-front.front.ai.now; value = c.in_ok-front.front.value.now }) c.in_ok-front.front.rest.now
 step c =
     let i = c.loop-rest.invariant in
-    grows c.args.year c.args.text.now c.loop-rest.out.items i.list c.loop-rest.separate (record { ai = c.in_ok-front.front.ai.now; value = c.in_ok-front.front.value.now }) c.loop-rest.rest.now c.in_ok-front.front.rest.now i.reads i.canonical_text i.gap_is c.in_ok-front.ensures.found
+    grows c.args.year c.args.text.now c.loop-rest.out.items i.list c.loop-rest.separate
+    (record { ai = c.in_ok-front.front.ai.now; value = c.in_ok-front.front.value.now }) c.loop-rest.rest.now c.in_ok-front.front.rest.now i.reads
+    i.canonical_text i.gap_is c.in_ok-front.ensures.found
 
 pub append-requires : goal.append-requires
 append-requires c = let g = (step (goal.at.append-requires c).In_ok-front).room in omega arith

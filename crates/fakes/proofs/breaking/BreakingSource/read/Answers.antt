@@ -8,5 +8,8 @@ put_first [] x some = absurd (omega arith)
 put_first (b ∷ bs) x some = refl
 
 pub returns-in-Some-clause-bytes : goal.returns-in-Some-clause-bytes
-returns-in-Some-clause-bytes c =
-    (c.in-Some.ensures.cases.0 ∙ sym (ap (λ (xs : List ℕ). xs ++ c.in-Some.left.now) (put_first c.args.buf.now c.in-Some.first.now (search arith))), λ none. absurd (omega (arith, none)))
+returns-in-Some-clause-bytes c = (
+  c.in-Some.ensures.cases.0 ∙ sym (ap (λ (xs : List ℕ). xs ++ c.in-Some.left.now) (put_first c.args.buf.now c.in-Some.first.now (search arith))),
+  λ none.
+      absurd (omega (arith, none)),
+)

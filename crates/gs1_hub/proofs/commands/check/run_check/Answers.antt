@@ -10,7 +10,8 @@ returns-in_err-write_all g c =
     let lines = string_bytes c.in_ok-lines.lines in
     record {
       ok = search rules;
-      cut = λ same. records_cut (check_meaning year) (λ answers. lines ≡ check_report answers) (λ answers text. text ≡ check_report answers) (check_command year).refuses lines c.as_bytes.result.now
+      cut = λ same. records_cut (check_meaning year) (λ answers. lines ≡ check_report answers) (λ answers text. text ≡ check_report answers)
+          (check_command year).refuses lines c.as_bytes.result.now
           (g.S.Source.left c.args.source.now) (g.S.Source.left c.check_lines.new.source) (g.W.Sink.taken c.args.sink.now) (g.W.Sink.taken c.write_all.new.sink)
           c.in_ok-lines.ensures.ok (λ answers it. it) (c.as_bytes.ensures.value ∙ c.as_str.ensures.value) c.in_err-write_all.ensures.err;
       refused = search rules;

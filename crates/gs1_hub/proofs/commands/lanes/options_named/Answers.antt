@@ -6,7 +6,9 @@ pub returns-in_err-byte_named-clause-none : goal.returns-in_err-byte_named-claus
 returns-in_err-byte_named-clause-none c = in_none c.from_residual.result _ (λ o h. c.in_err-byte_named.ensures.none o.lanes (omega (arith, o.some_lanes.1)) h.0)
 
 pub returns-in_err-byte_named-2-clause-none : goal.returns-in_err-byte_named-2-clause-none
-returns-in_err-byte_named-2-clause-none c = in_none c.from_residual-in_err-byte_named-2.result _ (λ o h. c.in_err-byte_named-2.ensures.none o.workers (omega (arith, o.some_workers.1)) h.2.0)
+returns-in_err-byte_named-2-clause-none c = in_none c.from_residual-in_err-byte_named-2.result _
+    (λ o h. c.in_err-byte_named-2.ensures.none o.workers (omega (arith, o.some_workers.1)) h.2.0)
 
 pub returns-in_err-number_named-clause-none : goal.returns-in_err-number_named-clause-none
-returns-in_err-number_named-clause-none c = in_none c.from_residual-in_err-number_named.result _ (λ o h. c.in_err-number_named.ensures.none o.year (omega (arith, h.3.1.1)) h.3.0)
+returns-in_err-number_named-clause-none c = in_none c.from_residual-in_err-number_named.result _
+    (λ o h. c.in_err-number_named.ensures.none o.year (omega (arith, h.3.1.1)) h.3.0)

@@ -23,7 +23,8 @@ returns-in_err-lines g c =
     record {
       ok = search rules;
       cut = λ same. absurd (rows_not_cut r fault told same);
-      refused = refused_as r (of_rows fault) ((lanes_command o).refuses left rest) told (rows_unanswered o.lanes left rest fault c.in_err-lines.ensures.refused);
+      refused = refused_as r (of_rows fault) ((lanes_command o).refuses left rest) told
+          (rows_unanswered o.lanes left rest fault c.in_err-lines.ensures.refused);
       unwritten = search rules;
       read = λ sound. let same = c.in_err-lines.ensures.fault sound in
           (λ is. same.0 (ap (λ f. Err f) (rows_not_read r fault told is)), λ failed. read_told r fault told (let is : fault ≡ _ = cc (same.1 failed) in is));
@@ -36,9 +37,11 @@ returns-in_err-write_all g c =
     let lines = string_bytes c.in_ok-lines.lines in
     record {
       ok = search rules;
-      cut = λ same. records_cut (lanes_meaning o.lanes) (λ rows. IsReport o.year (feeds_of o.lanes rows) lines) (λ rows text. IsReport o.year (feeds_of o.lanes rows) text)
+      cut = λ same. records_cut (lanes_meaning o.lanes) (λ rows. IsReport o.year (feeds_of o.lanes rows) lines)
+          (λ rows text. IsReport o.year (feeds_of o.lanes rows) text)
           (lanes_command o).refuses lines c.as_bytes.result.now
-          (g.S.Source.left c.args.source.now) (g.S.Source.left c.answer_records.new.source) (g.W.Sink.taken c.args.sink.now) (g.W.Sink.taken c.write_all.new.sink)
+          (g.S.Source.left c.args.source.now) (g.S.Source.left c.answer_records.new.source) (g.W.Sink.taken c.args.sink.now)
+          (g.W.Sink.taken c.write_all.new.sink)
           c.in_ok-lines.ensures.report (λ rows it. it) (c.as_bytes.ensures.value ∙ c.as_str.ensures.value) c.in_err-write_all.ensures.err;
       refused = search rules;
       unwritten = search rules;

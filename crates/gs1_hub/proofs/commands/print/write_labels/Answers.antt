@@ -54,7 +54,8 @@ only_write (print.Sheet sheet.NoMemory) e = cc
 only_write print.WriteFault e = refl
 
 -- a result that is such a fault, as the command's, and a failed write
-its_write : {A : Type 0} (r : Result A CommandFault) (f : PrintFault) → IsErr r → IsErrAnd r (λ e. e ≡ of_prints f) → r ≡ Err command.WriteFault → f ≡ print.WriteFault
+its_write : {A : Type 0} (r : Result A CommandFault) (f : PrintFault) → IsErr r → IsErrAnd r (λ e. e ≡ of_prints f) → r ≡ Err command.WriteFault → f
+    ≡ print.WriteFault
 its_write (Ok x) f h k e = absurd (false≢true h)
 its_write (Err x) f h k e = let same : x ≡ command.WriteFault = cc in only_write f (sym k ∙ same)
 

@@ -19,7 +19,8 @@ column_feeds-requires-clause-few g c =
 pub answer_lines-requires-after_bounds : goal.answer_lines-requires-after_bounds
 answer_lines-requires-after_bounds g c κs within =
     let o = c.args.options in
-    counts_hold (λ feed. feed.items) c.in_ok-feeds.feeds.items o.grid.columns o.workers c.in_ok-feeds.ensures.count o.grid.numbers.3 o.some_workers c.in_ok-feeds.ensures.short
+    counts_hold (λ feed. feed.items) c.in_ok-feeds.feeds.items o.grid.columns o.workers c.in_ok-feeds.ensures.count o.grid.numbers.3 o.some_workers
+    c.in_ok-feeds.ensures.short
 
 pub returns-in_err-lines : goal.returns-in_err-lines
 returns-in_err-lines g c =
@@ -31,7 +32,8 @@ returns-in_err-lines g c =
     let rest = g.S.Source.left c.read_pbm.new.reader in
     let are = subst (λ s. AreColumns (cells_of o.grid) s (map (λ feed. feed.items) feeds)) c.as_slice-2.ensures.value c.in_ok-feeds.ensures.feeds in
     let size : have_size (cells_of o.grid) sheets ≡ true = search rules in
-    let why = images_unanswered (λ feed. feed.items) o sheets feeds left rest fault (c.in_ok-grid.ensures.exact.0 refl) c.in_ok-sheets.ensures.ok c.in_ok-sheets.ensures.end size are
+    let why = images_unanswered (λ feed. feed.items) o sheets feeds left rest fault (c.in_ok-grid.ensures.exact.0 refl) c.in_ok-sheets.ensures.ok
+    c.in_ok-sheets.ensures.end size are
     (λ same. c.in_err-lines.ensures.threads (ap Err same)) in
     let r = c.from_residual-in_err-lines.result in
     let told = c.from_residual-in_err-lines.ensures.1 in
@@ -40,7 +42,11 @@ returns-in_err-lines g c =
       cut = λ same. absurd (unanswered_not_cut r fault told same);
       refused = refused_as r (of_answers fault) ((scan_command o).refuses left rest) told why;
       unwritten = search rules;
-      read = λ sound. (λ same. absurd (unanswered_not_read r fault told same), λ failed. absurd (never_refused c.in_ok-sheets.sheets ReadFault ((c.in_ok-sheets.ensures.fault sound).1 failed)));
+      read = λ sound. (
+        λ same. absurd (unanswered_not_read r fault told same),
+        λ failed.
+            absurd (never_refused c.in_ok-sheets.sheets ReadFault ((c.in_ok-sheets.ensures.fault sound).1 failed)),
+      );
       write = search rules;
     }
 
@@ -54,8 +60,10 @@ returns-in_err-write_all g c =
     let size : have_size (cells_of o.grid) sheets ≡ true = search rules in
     record {
       ok = search rules;
-      cut = λ same. images_cut o (g.S.Source.left c.args.source.now) (g.S.Source.left c.read_pbm.new.reader) (g.W.Sink.taken c.args.sink.now) (g.W.Sink.taken c.write_all.new.sink)
-          sheets feeds lines c.as_bytes.result.now (c.in_ok-grid.ensures.exact.0 refl) c.in_ok-sheets.ensures.ok c.in_ok-sheets.ensures.end size are c.in_ok-lines.ensures.report
+      cut = λ same. images_cut o (g.S.Source.left c.args.source.now) (g.S.Source.left c.read_pbm.new.reader) (g.W.Sink.taken c.args.sink.now)
+          (g.W.Sink.taken c.write_all.new.sink)
+          sheets feeds lines c.as_bytes.result.now (c.in_ok-grid.ensures.exact.0 refl) c.in_ok-sheets.ensures.ok c.in_ok-sheets.ensures.end size are
+          c.in_ok-lines.ensures.report
           (c.as_bytes.ensures.value ∙ c.as_str.ensures.value) c.in_err-write_all.ensures.err;
       refused = search rules;
       unwritten = search rules;

@@ -15,8 +15,16 @@ use Rattle.hub_core.proofs.deliverer_seat.DelivererSeat.hand.Goals as goal
 pub invariant_of-self-then-is_full : goal.invariant_of-self-then-is_full
 invariant_of-self-then-is_full c =
     let s = c.args.self.now in
-    let less : c.from.result < length s.rings.items = omega (arith, c.from.ensures, c.requires, s.accounted.giving.lanes, length-map s.rings.items (λ (r : PushEnd). sent r)) in
-    let same = sent_same s.rings.items c.from.result c.index_mut-ring.result.now c.is_full.new.self c.index_mut-ring.ensures.value less c.is_full.ensures.looked.1 in
+    let less : c.from.result < length s.rings.items = omega (
+      arith,
+      c.from.ensures,
+      c.requires,
+      s.accounted.giving.lanes,
+      length-map s.rings.items
+          (λ (r : PushEnd). sent r),
+    ) in
+    let same = sent_same s.rings.items c.from.result c.index_mut-ring.result.now c.is_full.new.self c.index_mut-ring.ensures.value less
+    c.is_full.ensures.looked.1 in
     record {
       idle_at_jobs = s.idle_at_jobs;
       shares = s.shares;
@@ -27,24 +35,43 @@ invariant_of-self-then-is_full c =
 pub returns-then-is_full-clause-hands : goal.returns-then-is_full-clause-hands
 returns-then-is_full-clause-hands c =
     let s = c.args.self.now in
-    let less : c.from.result < length s.rings.items = omega (arith, c.from.ensures, c.requires, s.accounted.giving.lanes, length-map s.rings.items (λ (r : PushEnd). sent r)) in
-    let same = sent_same s.rings.items c.from.result c.index_mut-ring.result.now c.is_full.new.self c.index_mut-ring.ensures.value less c.is_full.ensures.looked.1 in (
+    let less : c.from.result < length s.rings.items = omega (
+      arith,
+      c.from.ensures,
+      c.requires,
+      s.accounted.giving.lanes,
+      length-map s.rings.items
+          (λ (r : PushEnd). sent r),
+    ) in
+    let same = sent_same s.rings.items c.from.result c.index_mut-ring.result.now c.is_full.new.self c.index_mut-ring.ensures.value less
+    c.is_full.ensures.looked.1 in (
       c.next.ensures.exactly.0 (is_there c.next.result (search rules)),
       refl,
       refl,
       refl,
       (λ l. ap (λ gs. get_or gs l []) same),
-      λ (r : PushEnd) at. subst (λ (u : PushEnd). known_free u ≡ 0) (got_set s.rings.items c.from.result c.is_full.new.self r (subst (λ k. slice_get (set s.rings.items c.from.result c.is_full.new.self) k ≡ Some r) (sym c.from.ensures) at)) (c.is_full.ensures.value.0 (search rules)),
+      λ (r : PushEnd) at. subst (λ (u : PushEnd). known_free u ≡ 0)
+          (got_set s.rings.items c.from.result c.is_full.new.self r
+          (subst (λ k. slice_get (set s.rings.items c.from.result c.is_full.new.self) k ≡ Some r) (sym c.from.ensures) at))
+          (c.is_full.ensures.value.0 (search rules)),
     )
 
 pub returns-then-is_full-clause-of_hub : goal.returns-then-is_full-clause-of_hub
 returns-then-is_full-clause-of_hub c =
     let s = c.args.self.now in
-    let less : c.from.result < length s.rings.items = omega (arith, c.from.ensures, c.requires, s.accounted.giving.lanes, length-map s.rings.items (λ (r : PushEnd). sent r)) in
+    let less : c.from.result < length s.rings.items = omega (
+      arith,
+      c.from.ensures,
+      c.requires,
+      s.accounted.giving.lanes,
+      length-map s.rings.items
+          (λ (r : PushEnd). sent r),
+    ) in
     λ h is. record {
       jobs = is.jobs;
       results = is.results;
-      rings = ends_set h s.rings.items c.from.result c.index_mut-ring.result.now c.is_full.new.self is.rings c.index_mut-ring.ensures.value less c.is_full.ensures.looked.0;
+      rings = ends_set h s.rings.items c.from.result c.index_mut-ring.result.now c.is_full.new.self is.rings c.index_mut-ring.ensures.value less
+          c.is_full.ensures.looked.0;
       lanes = is.lanes;
       shares_of_jobs = is.shares_of_jobs;
       shares_of_results = is.shares_of_results;
@@ -53,23 +80,42 @@ returns-then-is_full-clause-of_hub c =
 pub invariant_of-self-in-Some : goal.invariant_of-self-in-Some
 invariant_of-self-in-Some c =
     let s = c.args.self.now in
-    let less : c.from.result < length s.rings.items = omega (arith, c.from.ensures, c.requires, s.accounted.giving.lanes, length-map s.rings.items (λ (r : PushEnd). sent r)) in
-    let is : sent c.push_reserved.new.self ≡ sent c.index_mut-ring.result.now ++ c.in-Some.delivery ∷ [] = c.push_reserved.ensures.sent.0 ∙ ap (λ l. l ++ c.in-Some.delivery ∷ []) c.is_full.ensures.looked.1 in
-    let more = sent_more s.rings.items c.from.result c.index_mut-ring.result.now c.push_reserved.new.self c.in-Some.delivery c.index_mut-ring.ensures.value less is in
+    let less : c.from.result < length s.rings.items = omega (
+      arith,
+      c.from.ensures,
+      c.requires,
+      s.accounted.giving.lanes,
+      length-map s.rings.items
+          (λ (r : PushEnd). sent r),
+    ) in
+    let is : sent c.push_reserved.new.self ≡ sent c.index_mut-ring.result.now ++ c.in-Some.delivery ∷ [] =
+    c.push_reserved.ensures.sent.0 ∙ ap (λ l. l ++ c.in-Some.delivery ∷ []) c.is_full.ensures.looked.1 in
+    let more = sent_more s.rings.items c.from.result c.index_mut-ring.result.now c.push_reserved.new.self c.in-Some.delivery c.index_mut-ring.ensures.value less
+    is in
     let put = more ∙ ap (λ k. set (all_sent s.rings.items) k (get_or (all_sent s.rings.items) k [] ++ c.in-Some.delivery ∷ [])) c.from.ensures in
     record {
       idle_at_jobs = s.idle_at_jobs;
       shares = s.shares;
       collects_only = s.collects_only;
-      accounted = handed_one s.deliverer c.take_next.new.self c.args.lane c.in-Some.delivery (popped_by s.collects) (option_to_list s.held) (all_sent s.rings.items) _ c.requires c.in-Some.ensures.some put s.accounted;
+      accounted = handed_one s.deliverer c.take_next.new.self c.args.lane c.in-Some.delivery (popped_by s.collects) (option_to_list s.held)
+          (all_sent s.rings.items) _ c.requires c.in-Some.ensures.some put s.accounted;
     }
 
 pub returns-clause-hands : goal.returns-clause-hands
 returns-clause-hands c =
     let s = c.args.self.now in
-    let less : c.from.result < length s.rings.items = omega (arith, c.from.ensures, c.requires, s.accounted.giving.lanes, length-map s.rings.items (λ (r : PushEnd). sent r)) in
-    let is : sent c.push_reserved.new.self ≡ sent c.index_mut-ring.result.now ++ c.in-Some.delivery ∷ [] = c.push_reserved.ensures.sent.0 ∙ ap (λ l. l ++ c.in-Some.delivery ∷ []) c.is_full.ensures.looked.1 in
-    let more = sent_more s.rings.items c.from.result c.index_mut-ring.result.now c.push_reserved.new.self c.in-Some.delivery c.index_mut-ring.ensures.value less is in
+    let less : c.from.result < length s.rings.items = omega (
+      arith,
+      c.from.ensures,
+      c.requires,
+      s.accounted.giving.lanes,
+      length-map s.rings.items
+          (λ (r : PushEnd). sent r),
+    ) in
+    let is : sent c.push_reserved.new.self ≡ sent c.index_mut-ring.result.now ++ c.in-Some.delivery ∷ [] =
+    c.push_reserved.ensures.sent.0 ∙ ap (λ l. l ++ c.in-Some.delivery ∷ []) c.is_full.ensures.looked.1 in
+    let more = sent_more s.rings.items c.from.result c.index_mut-ring.result.now c.push_reserved.new.self c.in-Some.delivery c.index_mut-ring.ensures.value less
+    is in
     let put = more ∙ ap (λ k. set (all_sent s.rings.items) k (get_or (all_sent s.rings.items) k [] ++ c.in-Some.delivery ∷ [])) c.from.ensures in
     let low : c.args.lane < length (all_sent s.rings.items) = omega (arith, c.requires, s.accounted.giving.lanes) in
     let g = c.in-Some.ensures.some in (
@@ -85,14 +131,22 @@ returns-clause-hands c =
 pub returns-clause-of_hub : goal.returns-clause-of_hub
 returns-clause-of_hub c =
     let s = c.args.self.now in
-    let less : c.from.result < length s.rings.items = omega (arith, c.from.ensures, c.requires, s.accounted.giving.lanes, length-map s.rings.items (λ (r : PushEnd). sent r)) in
+    let less : c.from.result < length s.rings.items = omega (
+      arith,
+      c.from.ensures,
+      c.requires,
+      s.accounted.giving.lanes,
+      length-map s.rings.items
+          (λ (r : PushEnd). sent r),
+    ) in
     let g = c.in-Some.ensures.some in
     let looked = c.is_full.ensures.looked.0 in
     let pushed = c.push_reserved.ensures.ring in
     λ h is. record {
       jobs = is.jobs;
       results = is.results;
-      rings = ends_set h s.rings.items c.from.result c.index_mut-ring.result.now c.push_reserved.new.self is.rings c.index_mut-ring.ensures.value less (same_ring c.index_mut-ring.result.now c.is_full.new.self c.push_reserved.new.self looked pushed);
+      rings = ends_set h s.rings.items c.from.result c.index_mut-ring.result.now c.push_reserved.new.self is.rings c.index_mut-ring.ensures.value less
+          (same_ring c.index_mut-ring.result.now c.is_full.new.self c.push_reserved.new.self looked pushed);
       lanes = ap length g.nexts ∙ (length-set s.deliverer.nexts c.args.lane _ ∙ is.lanes);
       shares_of_jobs = is.shares_of_jobs;
       shares_of_results = is.shares_of_results;

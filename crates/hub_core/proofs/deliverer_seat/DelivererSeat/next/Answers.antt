@@ -12,5 +12,6 @@ returns-clause-some c =
 pub returns-clause-exactly : goal.returns-clause-exactly
 returns-clause-exactly c =
     let s = c.args.self.now in
-    let is = next_is s.deliverer (popped_by s.collects) (option_to_list s.held) (all_sent s.rings.items) c.args.lane _ s.accounted c.requires (s.accounted.giving.counted c.args.lane) in
+    let is = next_is s.deliverer (popped_by s.collects) (option_to_list s.held) (all_sent s.rings.items) c.args.lane _ s.accounted c.requires
+    (s.accounted.giving.counted c.args.lane) in
     ((λ e. is ∙ c.next.ensures.exactly.0 e), (λ e. c.next.ensures.exactly.1 (sym is ∙ e)))

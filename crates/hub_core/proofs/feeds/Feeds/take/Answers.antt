@@ -7,4 +7,5 @@ pub returns-in-None-clause-left : goal.returns-in-None-clause-left
 returns-in-None-clause-left c = λ none few.
     let same : rests_of c.take_from.new.self ≡ rests_of c.args.self.now = c.take_from.ensures.none c.in-None.is in
     let long = ap length same in
-    all_left (rests_of c.args.self.now) (λ l low. subst (λ rests. get_or rests l [] ≡ []) same (c.take_from-in-None.ensures.left none l (omega arith) (omega (arith, few, low)) (omega (arith, low, long))))
+    all_left (rests_of c.args.self.now) (λ l low. subst (λ rests. get_or rests l [] ≡ []) same
+    (c.take_from-in-None.ensures.left none l (omega arith) (omega (arith, few, low)) (omega (arith, low, long))))

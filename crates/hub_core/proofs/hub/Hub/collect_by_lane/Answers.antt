@@ -9,12 +9,15 @@ use Rattle.hub_core.proofs.hub.Hub.collect_by_lane.Goals.{After-take_in, in-Some
 pub pop_as-requires-clause-rule : goal.pop_as-requires-clause-rule
 pop_as-requires-clause-rule g c = (takes _ _ _ c.args.seat.now.shares.1, learns _ _ _)
 
-stands_at : (g : _) (c : After-take_in g) → Stands (view c.match-take_held.seat.1.1.0) c.args.seat.now.deliverer c.match-take_held.delivery (all_sent c.args.seat.now.rings.items)
+stands_at : (g : _) (c : After-take_in g) → Stands (view c.match-take_held.seat.1.1.0) c.args.seat.now.deliverer c.match-take_held.delivery
+    (all_sent c.args.seat.now.rings.items)
 stands_at g c =
     let s = c.args.seat.now in
     elim c.match-take_held.branch [
-      | in-Some w ↦ stands_again _ _ _ _ _ _ _ s.collects_only s.shares.1 s.accounted (sym c.take_held.ensures.value ∙ w.in-Some.is) (ap (λ s. view s.1.1.0) w.seat-is) w.delivery-is
-      | in-None+in-Some-pop_as w ↦ stands_popped _ _ _ _ _ _ _ s.collects_only s.shares.1 s.accounted (sym c.take_held.ensures.value ∙ w.in-None.is) (ap (λ s. view s.1.1.0) w.seat-is ∙ w.in-Some-pop_as.ensures.rule) w.delivery-is
+      | in-Some w ↦ stands_again _ _ _ _ _ _ _ s.collects_only s.shares.1 s.accounted (sym c.take_held.ensures.value ∙ w.in-Some.is)
+          (ap (λ s. view s.1.1.0) w.seat-is) w.delivery-is
+      | in-None+in-Some-pop_as w ↦ stands_popped _ _ _ _ _ _ _ s.collects_only s.shares.1 s.accounted (sym c.take_held.ensures.value ∙ w.in-None.is)
+          (ap (λ s. view s.1.1.0) w.seat-is ∙ w.in-Some-pop_as.ensures.rule) w.delivery-is
     ]
 
 pub invariant_of-seat-in-Ok : goal.invariant_of-seat-in-Ok

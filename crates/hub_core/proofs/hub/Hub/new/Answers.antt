@@ -9,19 +9,22 @@ use Rattle.hub_core.proofs.hub.Hub.new.Goals as goal
 pub invariant_of-deliverer : goal.invariant_of-deliverer
 invariant_of-deliverer g c =
     let few = small c.args.shape (search rules) in
-    let j = left_of_jobs _ _ _ c.args.shape.lanes c.args.shape.workers few.0 few.1 c.in_ok-jobs.ensures.3 c.in_ok-lanes.ensures.left.1 c.in_ok-workers.ensures.jobs.1 in
+    let j = left_of_jobs _ _ _ c.args.shape.lanes c.args.shape.workers few.0 few.1 c.in_ok-jobs.ensures.3 c.in_ok-lanes.ensures.left.1
+    c.in_ok-workers.ensures.jobs.1 in
     let r = left_of_results _ _ c.args.shape.workers few.1 c.in_ok-results.ensures.3 c.in_ok-workers.ensures.results.1 in
     record {
       idle_at_jobs = (j.0, j.1);
       shares = (j.2, r.2);
       collects_only = r.0;
-      accounted = fresh_accounted c.from.result c.from-capacity.result c.in_ok-lanes.rings.items c.in_ok-deliverer.deliverer _ c.in_ok-deliverer.ensures (c.in_ok-lanes.ensures.rings.0 ∙ sym c.from.ensures) c.in_ok-lanes.ensures.rings.1 r.1;
+      accounted = fresh_accounted c.from.result c.from-capacity.result c.in_ok-lanes.rings.items c.in_ok-deliverer.deliverer _ c.in_ok-deliverer.ensures
+          (c.in_ok-lanes.ensures.rings.0 ∙ sym c.from.ensures) c.in_ok-lanes.ensures.rings.1 r.1;
     }
 
 pub returns-clause-seats : goal.returns-clause-seats
 returns-clause-seats g c =
     let few = small c.args.shape (search rules) in
-    let j = left_of_jobs _ _ _ c.args.shape.lanes c.args.shape.workers few.0 few.1 c.in_ok-jobs.ensures.3 c.in_ok-lanes.ensures.left.1 c.in_ok-workers.ensures.jobs.1 in
+    let j = left_of_jobs _ _ _ c.args.shape.lanes c.args.shape.workers few.0 few.1 c.in_ok-jobs.ensures.3 c.in_ok-lanes.ensures.left.1
+    c.in_ok-workers.ensures.jobs.1 in
     let r = left_of_results _ _ c.args.shape.workers few.1 c.in_ok-results.ensures.3 c.in_ok-workers.ensures.results.1 in
     let rings = c.in_ok-lanes.ensures.rings in
     let made = ap (λ v. v.items) c.of.ensures in
@@ -62,4 +65,5 @@ returns-clause-unused g c =
     }
 
 pub returns-clause-seen : goal.returns-clause-seen
-returns-clause-seen g c = fresh_lanes c.in_ok-lanes.lanes.items (λ k d less. (c.in_ok-lanes.ensures.seats k d less).1) ∙ ap (map new_lane) c.in_ok-lanes.ensures.lanes
+returns-clause-seen g c = fresh_lanes c.in_ok-lanes.lanes.items (λ k d less. (c.in_ok-lanes.ensures.seats k d less).1)
+    ∙ ap (map new_lane) c.in_ok-lanes.ensures.lanes

@@ -18,7 +18,16 @@ pub invariant_of-seat : goal.invariant_of-seat
 invariant_of-seat g c =
     let s = c.args.seat.now in
     let r = lane_more _ _ _ _ _ c.in-Ok.ensures.rule s.share s.pushes_only s.counted s.in_order refl refl in
-    record { share = r.0; pushes_only = r.1; counted = r.2; in_order = r.3; polls_counted = s.polls_counted; polled_in_order = s.polled_in_order; polled_issued = (let p = s.polled_issued in omega arith) }
+    record {
+      share = r.0;
+      pushes_only = r.1;
+      counted = r.2;
+      in_order = r.3;
+      polls_counted = s.polls_counted;
+      polled_in_order =
+          s.polled_in_order;
+      polled_issued = (let p = s.polled_issued in omega arith);
+    }
 
 pub returns-in-Ok-clause-of_hub : goal.returns-in-Ok-clause-of_hub
 returns-in-Ok-clause-of_hub g c =
@@ -30,7 +39,8 @@ returns-in-Ok-clause-of_hub g c =
       pass = (q.0 ∙ r.pass.0, q.2 ∙ r.pass.1);
       ring = r.ring;
       lane = r.lane;
-      limit = (let n = ap length put in let m = length-append (view s.pass).pushed (plain_of s.lane s.issued c.args.self.now.year c.args.row ∷ []) in let k = s.counted in let j = c.if-seat-self.false in omega arith);
+      limit = (let n = ap length put in let m = length-append (view s.pass).pushed (plain_of s.lane s.issued c.args.self.now.year c.args.row ∷ []) in let k =
+          s.counted in let j = c.if-seat-self.false in omega arith);
       rows = rows_and_one s.lane c.args.self.now.year s.issued (view s.pass).pushed _ c.args.row r.rows s.counted put;
     }
 
@@ -39,7 +49,8 @@ unfolding as_lane
 returns-in-Ok-clause-seen g c =
     let s = c.args.seat.now in
     let put = ap (λ (t : Trace). t.pushed) c.in-Ok.ensures.rule in
-    ap (λ rows. a_lane s.lane rows (polled s)) (ap (map (λ (x : Plain). x.widths)) put ∙ map-append (λ (x : Plain). x.widths) (view s.pass).pushed (plain_of s.lane s.issued c.args.self.now.year c.args.row ∷ []))
+    ap (λ rows. a_lane s.lane rows (polled s)) (ap (map (λ (x : Plain). x.widths)) put
+    ∙ map-append (λ (x : Plain). x.widths) (view s.pass).pushed (plain_of s.lane s.issued c.args.self.now.year c.args.row ∷ []))
 
 pub returns-in-Ok-clause-ticket : goal.returns-in-Ok-clause-ticket
 unfolding as_lane

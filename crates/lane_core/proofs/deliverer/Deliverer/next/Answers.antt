@@ -23,12 +23,14 @@ returns-in-Here-clause-some c =
     rw (← c.self.view_is) record {
       lane = p.0;
       number = p.1;
-      waits = contained slots c.args.lane c.in-Here.delivery (values_of c.self.inside.later.entries) (let n = c.self.invariant.lanes in let l = low c in omega arith) (here c);
+      waits = contained slots c.args.lane c.in-Here.delivery (values_of c.self.inside.later.entries)
+          (let n = c.self.invariant.lanes in let l = low c in omega arith) (here c);
     }
 
 pub returns-in-Here-clause-exactly : goal.returns-in-Here-clause-exactly
 returns-in-Here-clause-exactly c =
-    let waits = next_waits c.self.inside.nexts.items c.self.inside.slots.items c.self.inside.later.entries c.self.inside.known.keys c.args.lane c.self.invariant (low c) in
+    let waits = next_waits c.self.inside.nexts.items c.self.inside.slots.items c.self.inside.later.entries c.self.inside.known.keys c.args.lane c.self.invariant
+    (low c) in
     rw (← c.self.view_is) ((λ e. waits ∙ ap is_here (here c)), (λ e. refl))
 
 none_here : (h : NextSlot) → ((x : Plain) → h ≡ Here x → ⊥) → is_here h ≡ false
@@ -39,7 +41,8 @@ none_here Out none = refl
 pub returns-in_default : goal.returns-in_default
 returns-in_default c =
     let low : c.args.lane < length c.self.inside.nexts.items = rw (← c.self.view_is) at c.requires in
-    let waits = next_waits c.self.inside.nexts.items c.self.inside.slots.items c.self.inside.later.entries c.self.inside.known.keys c.args.lane c.self.invariant low in
+    let waits = next_waits c.self.inside.nexts.items c.self.inside.slots.items c.self.inside.later.entries c.self.inside.known.keys c.args.lane c.self.invariant
+    low in
     let at : slot_at c.self.inside.slots.items c.args.lane ≡ c.index.result.now = grind (arith, common_steps) in
     let none = waits ∙ (ap is_here at ∙ none_here c.index.result.now c.in_default.not-Here) in
     rw (← c.self.view_is) record { some = tt; exactly = ((λ e. absurd (cc)), (λ e. sym none ∙ e)) }

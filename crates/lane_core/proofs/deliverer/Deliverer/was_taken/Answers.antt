@@ -19,7 +19,8 @@ returns c =
     let given : nat_lt c.from-number.result c.index.result.now ≡ nat_lt number (get_or nexts lane 0) = grind (arith, common_steps) in
     let is_next : (c.from-number.result == c.index-2.result.now) ≡ (get_or nexts lane 0 == number) = grind (arith, common_steps) in
     let come : c.has_come.result ≡ has_come (slot_at slots lane) = grind (arith, common_steps) in
-    let later : c.contains.result ≡ is_known lane number c.self.inside.known.keys = c.contains.ensures ∙ any_finds _ lane number (finds_own c.args.ticket) c.self.inside.known.keys in
+    let later : c.contains.result ≡ is_known lane number c.self.inside.known.keys =
+    c.contains.ensures ∙ any_finds _ lane number (finds_own c.args.ticket) c.self.inside.known.keys in
     either_of _ _ _ _ _ _ given (λ i. is_next i && come i) later
     ∙ (sym (was_is nexts slots c.self.inside.later.entries c.self.inside.known.keys c.self.invariant.lanes lane number)
     ∙ ap (λ d. was_taken d lane number) c.self.view_is)

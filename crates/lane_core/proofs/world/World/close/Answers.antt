@@ -18,7 +18,8 @@ returns-then-at-len-clause-steps c =
 pub returns-then-index-clause-steps : goal.returns-then-index-clause-steps
 returns-then-index-clause-steps c =
     let less : c.args.lane < length c.self.inside.lanes.items = omega arith in
-    rw (← c.self.view_is) (close_none (held c.self.inside) c.args.lane (lane_held c.index.result.now) (lane_at c.self.inside.lanes.items c.args.lane c.index.result.now less c.index.ensures) c.if-index.true)
+    rw (← c.self.view_is) (close_none (held c.self.inside) c.args.lane (lane_held c.index.result.now)
+    (lane_at c.self.inside.lanes.items c.args.lane c.index.result.now less c.index.ensures) c.if-index.true)
 
 at : (c : After-index_mut) → slice_get (map lane_held c.self.inside.lanes.items) c.args.lane ≡ Some (lane_held c.index_mut.result.now)
 at c =
@@ -28,7 +29,8 @@ at c =
 still_open : (c : After-index_mut) → c.index_mut.result.now.closed ≡ false
 still_open c =
     let less : c.args.lane < length c.self.inside.lanes.items = omega arith in
-    ap (λ (x : Lane). x.closed) (same_lane c.self.inside.lanes.items c.args.lane c.index_mut.result.now c.index.result.now less c.index_mut.ensures.value c.index.ensures) ∙ c.if-index.false
+    ap (λ (x : Lane). x.closed) (same_lane c.self.inside.lanes.items c.args.lane c.index_mut.result.now c.index.result.now less c.index_mut.ensures.value
+    c.index.ensures) ∙ c.if-index.false
 
 pub invariant_of-self : goal.invariant_of-self
 invariant_of-self c =
@@ -36,7 +38,8 @@ invariant_of-self c =
     let x = c.index_mut.result.now in
     let d = (goal.at.invariant_of-self c).After-index_mut in
     rw (map-set lane_held lanes c.args.lane record { closed = true; issued = x.issued; handed = x.handed; polled = x.polled })
-    (shown_after (held c.self.inside) _ (Close c.args.lane) _ c.self.invariant (close_done (held c.self.inside) c.args.lane (lane_held x) (at d) (still_open d)))
+    (shown_after (held c.self.inside) _ (Close c.args.lane) _ c.self.invariant
+    (close_done (held c.self.inside) c.args.lane (lane_held x) (at d) (still_open d)))
 
 pub returns-clause-steps : goal.returns-clause-steps
 returns-clause-steps c =

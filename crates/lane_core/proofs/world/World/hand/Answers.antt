@@ -31,7 +31,8 @@ pub invariant_of-self : goal.invariant_of-self
 invariant_of-self c =
     let less : c.args.lane < length c.self.inside.lanes.items = omega arith in
     let x = c.index_mut.result.now in
-    let same = lane_same c.self.inside.lanes.items c.args.lane x record { closed = x.closed; issued = x.issued; handed = c.reserve.new.self; polled = x.polled } less c.index_mut.ensures.value (λ i. lane_contents x.closed x.issued (c.reserve.ensures.items i) x.polled) in
+    let same = lane_same c.self.inside.lanes.items c.args.lane x record { closed = x.closed; issued = x.issued; handed = c.reserve.new.self; polled = x.polled }
+    less c.index_mut.ensures.value (λ i. lane_contents x.closed x.issued (c.reserve.ensures.items i) x.polled) in
     rw same c.self.invariant
 
 pub returns-in_err-reserve-clause-refused : goal.returns-in_err-reserve-clause-refused
@@ -39,34 +40,40 @@ returns-in_err-reserve-clause-refused c =
     let less : c.args.lane < length c.self.inside.lanes.items = omega arith in
     let x = c.index_mut.result.now in
     let next = if_some c.next.result (λ (y : Bor Plain). WaitsAsNext c.self.inside.deliverer c.args.lane y.now) c.if-is_none.ensures c.next.ensures.some in
-    of_refusal c.from_residual.result _ (rw (← c.self.view_is) (hand_enabled (held c.self.inside) c.args.lane (lane_held x) next.0.now (lane_at c.self.inside.lanes.items c.args.lane x less c.index_mut.ensures.value) next.1))
+    of_refusal c.from_residual.result _ (rw (← c.self.view_is)
+    (hand_enabled (held c.self.inside) c.args.lane (lane_held x) next.0.now (lane_at c.self.inside.lanes.items c.args.lane x less c.index_mut.ensures.value)
+    next.1))
 
 pub returns-in_err-reserve-clause-unchanged : goal.returns-in_err-reserve-clause-unchanged
 returns-in_err-reserve-clause-unchanged c =
     let less : c.args.lane < length c.self.inside.lanes.items = omega arith in
     let x = c.index_mut.result.now in
-    let same = lane_same c.self.inside.lanes.items c.args.lane x record { closed = x.closed; issued = x.issued; handed = c.reserve.new.self; polled = x.polled } less c.index_mut.ensures.value (λ i. lane_contents x.closed x.issued (c.reserve.ensures.items i) x.polled) in
+    let same = lane_same c.self.inside.lanes.items c.args.lane x record { closed = x.closed; issued = x.issued; handed = c.reserve.new.self; polled = x.polled }
+    less c.index_mut.ensures.value (λ i. lane_contents x.closed x.issued (c.reserve.ensures.items i) x.polled) in
     of_refusal c.from_residual.result _ (rw same c.self.view_is)
 
 pub invariant_of-self-in_default : goal.invariant_of-self-in_default
 invariant_of-self-in_default c =
     let less : c.args.lane < length c.self.inside.lanes.items = omega arith in
     let x = c.index_mut.result.now in
-    let same = lane_same c.self.inside.lanes.items c.args.lane x record { closed = x.closed; issued = x.issued; handed = c.reserve.new.self; polled = x.polled } less c.index_mut.ensures.value (λ i. lane_contents x.closed x.issued (c.reserve.ensures.items i) x.polled) in
+    let same = lane_same c.self.inside.lanes.items c.args.lane x record { closed = x.closed; issued = x.issued; handed = c.reserve.new.self; polled = x.polled }
+    less c.index_mut.ensures.value (λ i. lane_contents x.closed x.issued (c.reserve.ensures.items i) x.polled) in
     rw (same, c.in_default.ensures.none.1) c.self.invariant
 
 pub returns-in_default-clause-steps : goal.returns-in_default-clause-steps
 returns-in_default-clause-steps c =
     let less : c.args.lane < length c.self.inside.lanes.items = omega arith in
     let x = c.index_mut.result.now in
-    let same = lane_same c.self.inside.lanes.items c.args.lane x record { closed = x.closed; issued = x.issued; handed = c.reserve.new.self; polled = x.polled } less c.index_mut.ensures.value (λ i. lane_contents x.closed x.issued (c.reserve.ensures.items i) x.polled) in
+    let same = lane_same c.self.inside.lanes.items c.args.lane x record { closed = x.closed; issued = x.issued; handed = c.reserve.new.self; polled = x.polled }
+    less c.index_mut.ensures.value (λ i. lane_contents x.closed x.issued (c.reserve.ensures.items i) x.polled) in
     rw (← c.self.view_is) (rw (same, c.in_default.ensures.none.1) (hand_none (held c.self.inside) c.args.lane c.in_default.ensures.none.0))
 
 pub returns-in_default-clause-disabled : goal.returns-in_default-clause-disabled
 returns-in_default-clause-disabled c =
     let less : c.args.lane < length c.self.inside.lanes.items = omega arith in
     let x = c.index_mut.result.now in
-    let same = lane_same c.self.inside.lanes.items c.args.lane x record { closed = x.closed; issued = x.issued; handed = c.reserve.new.self; polled = x.polled } less c.index_mut.ensures.value (λ i. lane_contents x.closed x.issued (c.reserve.ensures.items i) x.polled) in
+    let same = lane_same c.self.inside.lanes.items c.args.lane x record { closed = x.closed; issued = x.issued; handed = c.reserve.new.self; polled = x.polled }
+    less c.index_mut.ensures.value (λ i. lane_contents x.closed x.issued (c.reserve.ensures.items i) x.polled) in
     λ _. rw (same, c.in_default.ensures.none.1) c.self.view_is
 
 pub invariant_of-self-2 : goal.invariant_of-self-2
@@ -75,8 +82,12 @@ invariant_of-self-2 c =
     let x = c.index_mut.result.now in
     let y = c.in-Some.delivery in
     let items = c.push_reserved.ensures.items ∙ ap (λ xs. xs ++ y ∷ []) c.reserve.ensures.items in
-    let put = lane_put c.self.inside.lanes.items c.args.lane record { closed = x.closed; issued = x.issued; handed = c.push_reserved.new.self; polled = x.polled } _ (λ i. lane_contents x.closed x.issued (items i) x.polled) in
-    rw put (shown_after (held c.self.inside) _ (Hand c.args.lane) _ c.self.invariant (hand_done (held c.self.inside) c.args.lane (lane_held x) y c.take_next.new.self (lane_at c.self.inside.lanes.items c.args.lane x less c.index_mut.ensures.value) c.in-Some.ensures.some))
+    let put = lane_put c.self.inside.lanes.items c.args.lane record
+    { closed = x.closed; issued = x.issued; handed = c.push_reserved.new.self; polled = x.polled } _
+    (λ i. lane_contents x.closed x.issued (items i) x.polled) in
+    rw put (shown_after (held c.self.inside) _ (Hand c.args.lane) _ c.self.invariant
+    (hand_done (held c.self.inside) c.args.lane (lane_held x) y c.take_next.new.self
+    (lane_at c.self.inside.lanes.items c.args.lane x less c.index_mut.ensures.value) c.in-Some.ensures.some))
 
 pub returns-clause-steps : goal.returns-clause-steps
 returns-clause-steps c =
@@ -84,5 +95,8 @@ returns-clause-steps c =
     let x = c.index_mut.result.now in
     let y = c.in-Some.delivery in
     let items = c.push_reserved.ensures.items ∙ ap (λ xs. xs ++ y ∷ []) c.reserve.ensures.items in
-    let put = lane_put c.self.inside.lanes.items c.args.lane record { closed = x.closed; issued = x.issued; handed = c.push_reserved.new.self; polled = x.polled } _ (λ i. lane_contents x.closed x.issued (items i) x.polled) in
-    rw (← c.self.view_is) (rw put (hand_done (held c.self.inside) c.args.lane (lane_held x) y c.take_next.new.self (lane_at c.self.inside.lanes.items c.args.lane x less c.index_mut.ensures.value) c.in-Some.ensures.some))
+    let put = lane_put c.self.inside.lanes.items c.args.lane record
+    { closed = x.closed; issued = x.issued; handed = c.push_reserved.new.self; polled = x.polled } _
+    (λ i. lane_contents x.closed x.issued (items i) x.polled) in
+    rw (← c.self.view_is) (rw put (hand_done (held c.self.inside) c.args.lane (lane_held x) y c.take_next.new.self
+    (lane_at c.self.inside.lanes.items c.args.lane x less c.index_mut.ensures.value) c.in-Some.ensures.some))

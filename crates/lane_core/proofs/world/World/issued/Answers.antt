@@ -9,4 +9,5 @@ returns c =
     let x = c.index.result.now in
     let less : c.args.lane < length c.self.inside.lanes.items = rw (← c.self.view_is, count_held) at c.requires in
     rw (← c.self.view_is)
-    (λ s reached shows. (seen (held c.self.inside) s c.args.lane (lane_held x) reached shows (lane_at c.self.inside.lanes.items c.args.lane x less c.index.ensures)).issued)
+    (λ s reached shows. (seen (held c.self.inside) s c.args.lane (lane_held x) reached shows
+    (lane_at c.self.inside.lanes.items c.args.lane x less c.index.ensures)).issued)

@@ -31,8 +31,10 @@ returns-then-index-len-clause-found c =
     let lanes = c.self.inside.lanes.items in
     let less : l < length lanes = omega arith in
     rw (← c.self.view_is) (λ s reached shows.
-    let a = (seen (held c.self.inside) s l (lane_held c.index-2.result.now) reached shows (lane_at lanes l c.index-2.result.now less c.index-2.ensures)).polled in
-    let b = (seen (held c.self.inside) s l (lane_held c.index-3.result.now) reached shows (lane_at lanes l c.index-3.result.now less c.index-3.ensures)).handed in
+    let a = (seen (held c.self.inside) s l (lane_held c.index-2.result.now) reached shows (lane_at lanes l c.index-2.result.now less c.index-2.ensures)).polled
+    in
+    let b = (seen (held c.self.inside) s l (lane_held c.index-3.result.now) reached shows (lane_at lanes l c.index-3.result.now less c.index-3.ensures)).handed
+    in
     outbox_true c.args.ticket.number (polled_of s l) (handed_of s l) (omega arith) (omega arith))
 
 pub returns-clause-found : goal.returns-clause-found
@@ -43,6 +45,7 @@ returns-clause-found c =
     let workers = ap (is_held_by l c.args.ticket.number) (sym c.deref.ensures.value) ∙ (sym c.is_held.ensures ∙ c.if-is_held.false) in
     rw (← c.self.view_is) (λ s reached shows.
     let a = (seen (held c.self.inside) s l (lane_held c.index.result.now) reached shows (lane_at lanes l c.index.result.now less c.index.ensures)).issued in
-    let b = (seen (held c.self.inside) s l (lane_held c.index-3.result.now) reached shows (lane_at lanes l c.index-3.result.now less c.index-3.ensures)).handed in
+    let b = (seen (held c.self.inside) s l (lane_held c.index-3.result.now) reached shows (lane_at lanes l c.index-3.result.now less c.index-3.ensures)).handed
+    in
     waits (held c.self.inside) s l c.args.ticket.number reached shows (omega arith) (omega arith)
     (sym c.is_job_of.ensures ∙ c.if-is_job_of.false) workers (sym c.is_result_of.ensures ∙ c.if-is_result_of.false))

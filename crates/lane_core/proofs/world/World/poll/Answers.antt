@@ -21,7 +21,8 @@ returns-then-polled-len-clause-steps c =
     let lanes = c.self.inside.lanes.items in
     let same = same_lane lanes c.args.lane c.index.result.now c.index-2.result.now less c.index.ensures c.index-2.ensures in
     let polled = ap (λ (x : Lane). x.polled) same in
-    rw (← c.self.view_is) (poll_none (held c.self.inside) c.args.lane (lane_held c.index-2.result.now) (lane_at lanes c.args.lane c.index-2.result.now less c.index-2.ensures) (omega arith))
+    rw (← c.self.view_is) (poll_none (held c.self.inside) c.args.lane (lane_held c.index-2.result.now)
+    (lane_at lanes c.args.lane c.index-2.result.now less c.index-2.ensures) (omega arith))
 
 at : (c : After-index_mut) → slice_get (map lane_held c.self.inside.lanes.items) c.args.lane ≡ Some (lane_held c.index_mut.result.now)
 at c =
@@ -31,13 +32,15 @@ at c =
 same_polled : (c : After-index_mut) → c.index.result.now.polled ≡ c.index_mut.result.now.polled
 same_polled c =
     let less : c.args.lane < length c.self.inside.lanes.items = omega arith in
-    ap (λ (x : Lane). x.polled) (same_lane c.self.inside.lanes.items c.args.lane c.index.result.now c.index_mut.result.now less c.index.ensures c.index_mut.ensures.value)
+    ap (λ (x : Lane). x.polled) (same_lane c.self.inside.lanes.items c.args.lane c.index.result.now c.index_mut.result.now less c.index.ensures
+    c.index_mut.ensures.value)
 
 one_more : (c : After-index_mut) → c.index_mut.result.now.polled < length c.index_mut.result.now.handed.items
 one_more c =
     let less : c.args.lane < length c.self.inside.lanes.items = omega arith in
     let polled = same_polled c in
-    let handed = ap (λ (x : Lane). length x.handed.items) (same_lane c.self.inside.lanes.items c.args.lane c.index-2.result.now c.index_mut.result.now less c.index-2.ensures c.index_mut.ensures.value) in
+    let handed = ap (λ (x : Lane). length x.handed.items) (same_lane c.self.inside.lanes.items c.args.lane c.index-2.result.now c.index_mut.result.now less
+    c.index-2.ensures c.index_mut.ensures.value) in
     omega arith
 
 pub invariant_of-self : goal.invariant_of-self

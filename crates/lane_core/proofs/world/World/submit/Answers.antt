@@ -21,12 +21,14 @@ returns-then-at-len-clause-steps c =
 pub returns-then-index-clause-steps : goal.returns-then-index-clause-steps
 returns-then-index-clause-steps c =
     let less : c.args.lane < length c.self.inside.lanes.items = omega arith in
-    rw (← c.self.view_is) (submit_closed (held c.self.inside) c.args.lane c.args.row (lane_held c.index.result.now) (lane_at c.self.inside.lanes.items c.args.lane c.index.result.now less c.index.ensures) c.if-index.true)
+    rw (← c.self.view_is) (submit_closed (held c.self.inside) c.args.lane c.args.row (lane_held c.index.result.now)
+    (lane_at c.self.inside.lanes.items c.args.lane c.index.result.now less c.index.ensures) c.if-index.true)
 
 pub returns-then-issued-from-clause-steps : goal.returns-then-issued-from-clause-steps
 returns-then-issued-from-clause-steps c =
     let less : c.args.lane < length c.self.inside.lanes.items = omega arith in
-    rw (← c.self.view_is) (submit_full (held c.self.inside) c.args.lane c.args.row (lane_held c.index-2.result.now) (lane_at c.self.inside.lanes.items c.args.lane c.index-2.result.now less c.index-2.ensures) (omega arith))
+    rw (← c.self.view_is) (submit_full (held c.self.inside) c.args.lane c.args.row (lane_held c.index-2.result.now)
+    (lane_at c.self.inside.lanes.items c.args.lane c.index-2.result.now less c.index-2.ensures) (omega arith))
 
 at : (c : After-index_mut) → slice_get (map lane_held c.self.inside.lanes.items) c.args.lane ≡ Some (lane_held c.index_mut.result.now)
 at c =
@@ -36,12 +38,14 @@ at c =
 still_open : (c : After-index_mut) → c.index_mut.result.now.closed ≡ false
 still_open c =
     let less : c.args.lane < length c.self.inside.lanes.items = omega arith in
-    ap (λ (x : Lane). x.closed) (same_lane c.self.inside.lanes.items c.args.lane c.index_mut.result.now c.index.result.now less c.index_mut.ensures.value c.index.ensures) ∙ c.if-index.false
+    ap (λ (x : Lane). x.closed) (same_lane c.self.inside.lanes.items c.args.lane c.index_mut.result.now c.index.result.now less c.index_mut.ensures.value
+    c.index.ensures) ∙ c.if-index.false
 
 same_issued : (c : After-index_mut) → c.index-2.result.now.issued ≡ c.index_mut.result.now.issued
 same_issued c =
     let less : c.args.lane < length c.self.inside.lanes.items = omega arith in
-    ap (λ (x : Lane). x.issued) (same_lane c.self.inside.lanes.items c.args.lane c.index-2.result.now c.index_mut.result.now less c.index-2.ensures c.index_mut.ensures.value)
+    ap (λ (x : Lane). x.issued) (same_lane c.self.inside.lanes.items c.args.lane c.index-2.result.now c.index_mut.result.now less c.index-2.ensures
+    c.index_mut.ensures.value)
 
 room : (c : After-index_mut) → c.index_mut.result.now.issued < 2 ^ 32
 room c = let issued = same_issued c in omega arith

@@ -18,8 +18,10 @@ serve_traffic-requires-clause-fresh g c κs within =
     let rows = map (λ feed. feed.items) feeds in
     let counts = and_parts (is_count (length rows)) (is_count c.args.workers && are_short rows) c.requires in
     let short : are_short rests ≡ true = ap are_short is ∙ (and_parts (is_count c.args.workers) (are_short rows) counts.1).1 in
-    let count : length rests ≡ c.len-lanes.result = omega (arith, ap length is, length-map feeds (λ feed. feed.items), c.len-lanes.ensures, c.args.feeds.ok.0) in
-    let both : AreGiven rests (replicate c.len-lanes.result []) rests × AreLinesOf (replicate c.len-lanes.result []) (map string_bytes c.in_ok-texts.texts.items) = (
+    let count : length rests ≡ c.len-lanes.result = omega (arith, ap length is, length-map feeds (λ feed. feed.items), c.len-lanes.ensures, c.args.feeds.ok.0)
+    in
+    let both : AreGiven rests (replicate c.len-lanes.result []) rests
+    × AreLinesOf (replicate c.len-lanes.result []) (map string_bytes c.in_ok-texts.texts.items) = (
       subst (λ n. AreGiven rests (replicate n []) rests) count (c.feeds_are_given.ensures.first rests short),
       no_lines c.len-lanes.result (map string_bytes c.in_ok-texts.texts.items) c.in_ok-texts.ensures,
     ) in

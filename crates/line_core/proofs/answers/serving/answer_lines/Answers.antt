@@ -10,4 +10,5 @@ returns-clause-report g c =
 
 pub returns-then-are_rowless-clause-report : goal.returns-then-are_rowless-clause-report
 returns-then-are_rowless-clause-report g c =
-    rowless (λ feed. feed.items) c.args.year c.args.feeds.items _ (subst (λ feeds. All (λ feed. feed.items ≡ []) feeds) c.as_slice.ensures.value (c.are_rowless.ensures.0 c.if-are_rowless.true)) c.new.ensures.bytes
+    rowless (λ feed. feed.items) c.args.year c.args.feeds.items _
+    (subst (λ feeds. All (λ feed. feed.items ≡ []) feeds) c.as_slice.ensures.value (c.are_rowless.ensures.0 c.if-are_rowless.true)) c.new.ensures.bytes

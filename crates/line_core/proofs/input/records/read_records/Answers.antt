@@ -18,7 +18,8 @@ returns-in-Ok-false-clause-ok g c =
     (inv.items, rw (← all) inv.taken, inv.made)
 
 -- the refusal of the next record names it
-named : {Item : Type 0} (means : Meaning Item) (index : ℕ) (rows : List (List (List ℕ))) (r : RecordRefusal) → ((f : RecordFault) → r ≡ refusal.Record f → IsFirstFault means rows index f)
+named : {Item : Type 0} (means : Meaning Item) (index : ℕ) (rows : List (List (List ℕ))) (r : RecordRefusal)
+    → ((f : RecordFault) → r ≡ refusal.Record f → IsFirstFault means rows index f)
     → NamesFirst means rows (refusal_at index r)
 named means index rows (refusal.Record f) why = why f refl
 named means index rows refusal.NoMemory why = tt

@@ -7,7 +7,8 @@ pub returns-in_err-get-clause-none : goal.returns-in_err-get-clause-none
 returns-in_err-get-clause-none c = rw c.from_residual.ensures (λ two. pair_has_first (fields_of c.args.fields.now) two c.in_err-get.ensures.value)
 
 pub returns-in_err-get-2-clause-none : goal.returns-in_err-get-2-clause-none
-returns-in_err-get-2-clause-none c = rw c.from_residual-in_err-get-2.ensures (λ two. pair_has_second (fields_of c.args.fields.now) two c.in_err-get-2.ensures.value)
+returns-in_err-get-2-clause-none c = rw c.from_residual-in_err-get-2.ensures
+    (λ two. pair_has_second (fields_of c.args.fields.now) two c.in_err-get-2.ensures.value)
 
 pub returns-clause-some : goal.returns-clause-some
 returns-clause-some c =

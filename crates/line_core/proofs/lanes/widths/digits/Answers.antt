@@ -19,7 +19,8 @@ widths-preserved g c =
     let width = c.width_of_digit-width.result in
     record {
       places = length-set widths c.widths.i width ∙ inv.places;
-      found = one_more c.args.text.now widths c.widths.i width c.widths.each (omega (arith, inv.places, c.widths-test.true)) inv.found c.width_of_digit-width.ensures.shown;
+      found = one_more c.args.text.now widths c.widths.i width c.widths.each (omega (arith, inv.places, c.widths-test.true)) inv.found
+          c.width_of_digit-width.ensures.shown;
       none = none_more c.args.text.now c.widths.i g.row.N width c.widths.each (omega (arith, c.widths-test.true)) inv.none c.width_of_digit-width.ensures.each;
     }
 
@@ -39,4 +40,5 @@ returns-clause-few g c =
 pub returns-clause-none : goal.returns-clause-none
 returns-clause-none g c =
     let None : Type 0 = (widths : List ℕ) → length widths ≡ g.row.N → 2 * g.row.N ≤ length c.args.text.now → BeginsWithDigits c.args.text.now widths → ⊥ in
-    subst (λ found. IfNone found None) (sym c.then_some.ensures) (not_given c.widths.each c.widths.widths None (λ other widths count _ begins. c.widths.invariant.none other widths count begins))
+    subst (λ found. IfNone found None) (sym c.then_some.ensures)
+    (not_given c.widths.each c.widths.widths None (λ other widths count _ begins. c.widths.invariant.none other widths count begins))

@@ -8,7 +8,8 @@ returns-in-len2-up-clause-some c =
     let text = c.args.text.now in
     let digit = sym c.is_ascii_digit.ensures.value ∙ c.if-is_ascii_digit.true in
     let value : digits_value 10 (take 1 text) ≡ 0 + (get_or text 0 0 - 48) = more_value text 0 (omega arith) digit in
-    next_width text _ 1 _ refl (omega arith) (omega arith) (omega arith) (more_digits text 0 (omega arith) refl digit) c.if-space-eq32.true (omega (arith, value, c.from.ensures))
+    next_width text _ 1 _ refl (omega arith) (omega arith) (omega arith) (more_digits text 0 (omega arith) refl digit) c.if-space-eq32.true
+    (omega (arith, value, c.from.ensures))
 
 pub returns-in-len3-up-clause-some : goal.returns-in-len3-up-clause-some
 returns-in-len3-up-clause-some c =

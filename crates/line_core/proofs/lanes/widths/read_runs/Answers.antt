@@ -16,7 +16,8 @@ pub returns-else-is_wide-clause-ok : goal.returns-else-is_wide-clause-ok
 returns-else-is_wide-clause-ok c =
     let read = c.in_ok-widths.ensures in
     c.in-Ok.ensures.ok
-    ∙ (row_taken c.args.field.now c.in_ok-widths.widths.items c.in_ok-widths.is_wide read.words read.widths read.wide c.if-is_wide.false c.in-Ok.ensures.taken).0
+    ∙ (row_taken c.args.field.now c.in_ok-widths.widths.items c.in_ok-widths.is_wide read.words read.widths read.wide c.if-is_wide.false
+    c.in-Ok.ensures.taken).0
 
 pub returns-else-is_wide-clause-taken : goal.returns-else-is_wide-clause-taken
 returns-else-is_wide-clause-taken c =

@@ -10,7 +10,8 @@ returns-in_default-first_width-clause-refused c = λ f same.
     let here : fault.BadRuns ≡ f = cc in
     let words = words_of c.args.field.now in
     let low : length c.words.widths.items < length words = omega (arith, c.count_words-count.ensures, c.len.ensures, c.words-test.true) in
-    bad_rest c.args.field.now (length c.words.widths.items) c.words.rest.now (c.words.invariant.read.rest low) c.in_default-first_width.ensures.none ∙ ap (λ x. Some x) here
+    bad_rest c.args.field.now (length c.words.widths.items) c.words.rest.now (c.words.invariant.read.rest low) c.in_default-first_width.ensures.none
+    ∙ ap (λ x. Some x) here
 
 pub words-preserved-in_ok-extend_from_slice : goal.words-preserved-in_ok-extend_from_slice
 words-preserved-in_ok-extend_from_slice c =
@@ -48,6 +49,7 @@ words-preserved c =
     record {
       read =
           subst (λ t. AreRead (words_of c.args.field.now) c.in-Some-first_width.after.now t (c.words.is_wide || nat_lt 65535 width)) (sym items)
-          (one_read (words_of c.args.field.now) width c.words.rest.now c.in-Some-first_width.after.now found c.words.is_wide low c.words.invariant.read c.in-Some-first_width.ensures.some);
+          (one_read (words_of c.args.field.now) width c.words.rest.now c.in-Some-first_width.after.now found c.words.is_wide low c.words.invariant.read
+          c.in-Some-first_width.ensures.some);
       room = omega (arith, c.push_reserved.ensures.capacity, c.words.invariant.room);
     }

@@ -64,7 +64,8 @@ returns-clause-some c =
     let whole : take c.digits.length text ≡ text = take_all c.digits.length text c.digits-test.false in
     let some : (length text == 0) ≡ false = sym c.is_empty.ensures ∙ c.if-is_empty.false in
     let long : 0 < length text = grind (arith, nat_tests) in
-    last_width text [] c.digits.width (sym (ap (list_all is_ascii_digit) whole) ∙ inv.digits) long (omega (arith, inv.few, c.digits-test.false)) (inv.value ∙ ap (digits_value 10) whole)
+    last_width text [] c.digits.width (sym (ap (list_all is_ascii_digit) whole) ∙ inv.digits) long (omega (arith, inv.few, c.digits-test.false))
+    (inv.value ∙ ap (digits_value 10) whole)
 
 pub returns-clause-small : goal.returns-clause-small
 returns-clause-small c =

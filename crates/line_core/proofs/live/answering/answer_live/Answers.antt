@@ -38,30 +38,46 @@ returns-in-Ok-serve_traffic-clause-lived g c =
     let keeps = at.keeps (λ is. (let nothing = last.3 in let never : ⊥ = cc (nothing, is) in never)) in
     let kept = subst (λ ps. KeepsPlaces (length p.lanes.items) t.form given brought events ps p.lines) last.2 keeps in
     let answers = all_answered (length p.lanes.items) t.form given brought events p.lines kept last.1 last.0 in
-    let both : AnsweredAll t.lanes t.form t.year events × g.W.Wire.at_end s.wire = ((subst (λ n. AnswersBy M (replies_to (line_meant n) (pieces_of (was_read events))) (was_written events)) count (answers_weaker L M to _ _ answers), st.ended last.0), came.6 last.0) in
+    let both : AnsweredAll t.lanes t.form t.year events × g.W.Wire.at_end s.wire = (
+      (
+        subst (λ n. AnswersBy M (replies_to (line_meant n) (pieces_of (was_read events))) (was_written events)) count (answers_weaker L M to _ _ answers),
+        st.ended last.0,
+      ),
+      came.6 last.0,
+    ) in
     both in
     record {
       events = events;
       were_done = subst (λ w. g.W.Wire.Did w s.wire events) wire came.1;
       prompt = prompt_weaker L M to (replies_to (line_meant t.lanes)) events st.prompt;
       front = front_weaker L M to (replies_to (line_meant t.lanes)) events st.front;
-      ok = at_a_regular_end c.stopped.result c.in-Ok-serve_traffic.ended c.ending-result.result (AnsweredAll t.lanes t.form t.year events × g.W.Wire.at_end s.wire) ends whole;
-      cut = λ is. answers_weaker L M to _ _ (st.answered (sym same ∙ why_it_ended c.stopped.result c.in-Ok-serve_traffic.ended c.ending-result.result fault.ReadFault ends (λ e. (let never : ⊥ = cc e in never)) is));
+      ok = at_a_regular_end c.stopped.result c.in-Ok-serve_traffic.ended c.ending-result.result
+          (AnsweredAll t.lanes t.form t.year events × g.W.Wire.at_end s.wire) ends whole;
+      cut = λ is. answers_weaker L M to _ _ (st.answered (sym same
+          ∙ why_it_ended c.stopped.result c.in-Ok-serve_traffic.ended c.ending-result.result fault.ReadFault ends (λ e. (let never : ⊥ = cc e in never)) is));
       read = λ first. (
-        λ is. told.read_fault (ap g.W.Wire.read_failed wire ∙ first) (sym same ∙ why_it_ended c.stopped.result c.in-Ok-serve_traffic.ended c.ending-result.result fault.ReadFault ends (λ e. (let never : ⊥ = cc e in never)) is),
-        λ is. it_is_told c.stopped.result c.in-Ok-serve_traffic.ended c.ending-result.result fault.ReadFault ends (same ∙ told.failed_read (ap g.W.Wire.read_failed wire ∙ first) is),
+        λ is. told.read_fault (ap g.W.Wire.read_failed wire ∙ first)
+            (sym same ∙ why_it_ended c.stopped.result c.in-Ok-serve_traffic.ended c.ending-result.result fault.ReadFault ends
+            (λ e. (let never : ⊥ = cc e in never)) is),
+        λ is. it_is_told c.stopped.result c.in-Ok-serve_traffic.ended c.ending-result.result fault.ReadFault ends
+            (same ∙ told.failed_read (ap g.W.Wire.read_failed wire ∙ first) is),
       );
       write = λ first. (
-        λ is. told.write_fault (ap g.W.Wire.write_failed wire ∙ first) (sym same ∙ why_it_ended c.stopped.result c.in-Ok-serve_traffic.ended c.ending-result.result fault.WriteFault ends (λ e. (let never : ⊥ = cc e in never)) is),
-        λ is. it_is_told c.stopped.result c.in-Ok-serve_traffic.ended c.ending-result.result fault.WriteFault ends (same ∙ told.failed_write (ap g.W.Wire.write_failed wire ∙ first) is),
+        λ is. told.write_fault (ap g.W.Wire.write_failed wire ∙ first)
+            (sym same ∙ why_it_ended c.stopped.result c.in-Ok-serve_traffic.ended c.ending-result.result fault.WriteFault ends
+            (λ e. (let never : ⊥ = cc e in never)) is),
+        λ is. it_is_told c.stopped.result c.in-Ok-serve_traffic.ended c.ending-result.result fault.WriteFault ends
+            (same ∙ told.failed_write (ap g.W.Wire.write_failed wire ∙ first) is),
       );
     }
 
 -- no memory for a live input
 pub returns-in-Err-clause-lived : goal.returns-in-Err-clause-lived
-returns-in-Err-clause-lived g c = lived_nothing c.args.terms g.W.Wire.Did g.W.Wire.read_failed g.W.Wire.write_failed g.W.Wire.at_end c.args.wire _ _ fault.NoMemory c.requires.fresh c.in-Err.ensures.refused refl (inl refl)
+returns-in-Err-clause-lived g c = lived_nothing c.args.terms g.W.Wire.Did g.W.Wire.read_failed g.W.Wire.write_failed g.W.Wire.at_end c.args.wire _ _
+    fault.NoMemory c.requires.fresh c.in-Err.ensures.refused refl (inl refl)
 
 -- no memory for a hub, or no thread
 pub returns-in-Err-serve_traffic-clause-lived : goal.returns-in-Err-serve_traffic-clause-lived
 returns-in-Err-serve_traffic-clause-lived g c =
-    lived_nothing c.args.terms g.W.Wire.Did g.W.Wire.read_failed g.W.Wire.write_failed g.W.Wire.at_end c.args.wire _ _ c.fault_of.result c.requires.fresh (ap (λ s. s.wire) c.in-Err-serve_traffic.ensures.untouched ∙ c.in-Ok.ensures.wire) refl c.fault_of.ensures.either
+    lived_nothing c.args.terms g.W.Wire.Did g.W.Wire.read_failed g.W.Wire.write_failed g.W.Wire.at_end c.args.wire _ _ c.fault_of.result c.requires.fresh
+    (ap (λ s. s.wire) c.in-Err-serve_traffic.ensures.untouched ∙ c.in-Ok.ensures.wire) refl c.fault_of.ensures.either

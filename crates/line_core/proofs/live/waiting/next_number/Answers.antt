@@ -8,7 +8,8 @@ returns c =
     let w = c.index_mut.result.now in (
       w,
       c.take_number.new.waiting,
-      slice_get_read items (length items) c.args.lane w refl (omega (arith, c.requires.low, c.args.lanes.now.ok.0)) (c.index_mut.ensures.value ∙ ap (λ k. get_or items k w) c.from.ensures),
+      slice_get_read items (length items) c.args.lane w refl (omega (arith, c.requires.low, c.args.lanes.now.ok.0))
+          (c.index_mut.ensures.value ∙ ap (λ k. get_or items k w) c.from.ensures),
       ap (λ k. set items k c.take_number.new.waiting) c.from.ensures,
       c.take_number.ensures,
     )

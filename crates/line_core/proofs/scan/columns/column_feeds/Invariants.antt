@@ -5,4 +5,5 @@ use Rattle.line_core.specs.scan.Columns.{HaveDots, column_dots}
 use Rattle.line_core.proofs.scan.columns.column_feeds.Given as goal
 
 abbrev pub invariant-columns : goal.invariant-columns
-invariant-columns l = AllZip (λ rows column. HaveDots rows (flat_map (column_dots (cells_of l.options) column) l.sheets)) (map (λ feed. feed.items) l.feeds.items) (range_with_len 0 l.column)
+invariant-columns l = AllZip (λ rows column. HaveDots rows (flat_map (column_dots (cells_of l.options) column) l.sheets))
+    (map (λ feed. feed.items) l.feeds.items) (range_with_len 0 l.column)

@@ -11,6 +11,7 @@ loop-row-preserved c =
     let runs = c.in-Ok.runs in
     record {
       more = inv.more ++ runs ∷ [];
-      shown = one_more_cell (λ cell. cell_dots (cells_of o) c.args.sheet.now cell (o.height / 2)) (λ row. row * o.columns + c.args.column) inv.more c.loop-row.row runs inv.shown (search rules) (rw c.requires.grid at c.in-Ok.ensures.dots);
+      shown = one_more_cell (λ cell. cell_dots (cells_of o) c.args.sheet.now cell (o.height / 2)) (λ row. row * o.columns + c.args.column) inv.more
+          c.loop-row.row runs inv.shown (search rules) (rw c.requires.grid at c.in-Ok.ensures.dots);
       added = c.in_ok-push.ensures.items ∙ ap (λ t. t ++ runs ∷ []) inv.added ∙ append_assoc c.args.rows.now.items inv.more (runs ∷ []);
     }

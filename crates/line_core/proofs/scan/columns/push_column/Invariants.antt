@@ -8,6 +8,7 @@ use Rattle.line_core.proofs.scan.columns.push_column.Given as goal
 abbrev pub invariant-loop-row : goal.invariant-loop-row
 invariant-loop-row l = record {
   more : List (List ℕ);
-  shown : HaveDots more (map (λ cell. cell_dots (cells_of l.options) l.sheet cell (l.options.height / 2)) (map (λ row. row * l.options.columns + l.column) (range_with_len 0 l.row)));
+  shown : HaveDots more (map (λ cell. cell_dots (cells_of l.options) l.sheet cell (l.options.height / 2))
+      (map (λ row. row * l.options.columns + l.column) (range_with_len 0 l.row)));
   added : l.rows.items ≡ l.fn.rows.items ++ more;
 }

@@ -17,9 +17,11 @@ pub runs-preserved : goal.runs-preserved
 runs-preserved c =
     let inv = c.runs.invariant in
     let e = c.run_end-end-in-runs.ensures in
-    let longer = goes_on c.args.bits.now c.args.from c.runs.end c.run_end-end-in-runs.result c.args.width (not c.runs.dark) c.runs-test.true e.behind inv.next e.ends in
+    let longer = goes_on c.args.bits.now c.args.from c.runs.end c.run_end-end-in-runs.result c.args.width (not c.runs.dark) c.runs-test.true e.behind inv.next
+    e.ends in
     record {
-      cut = next_run c.args.bits.now c.args.from c.runs.end c.run_end-end-in-runs.result c.runs.widths.items c.push.new.self.items c.runs.run c.runs.dark inv.cut c.in_ok-push.ensures.items longer e.alike;
+      cut = next_run c.args.bits.now c.args.from c.runs.end c.run_end-end-in-runs.result c.runs.widths.items c.push.new.self.items c.runs.run c.runs.dark
+          inv.cut c.in_ok-push.ensures.items longer e.alike;
       in_row = e.in_row;
       next = e.ends;
     }

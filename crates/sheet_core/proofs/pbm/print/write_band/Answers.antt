@@ -35,7 +35,8 @@ returns-in_err-write_rows-2-clause-err g c = λ symbols h.
     let d = g.W.Sink.taken c.write_rows-2.new.sink in
     let light = c.fill.ensures.after (λ y same. same) ∙ ap (λ n. replicate {A = ℕ} n 0) c.requires.long in
     subst (λ r. OnErr r (BandFront k symbols a d)) (sym (err_is c.from_residual-in_err-write_rows-2.result c.in_err-write_rows-2.field-0.0 e.0 e.1))
-    (band_bars k symbols a b d c.fill.new.self c.draw_line.new.line _ _ (c.draw_line.ensures symbols h) light (ap (λ (g : Cells). g.dots) c.grid.view_is) (ap bar_rows c.grid.view_is)
+    (band_bars k symbols a b d c.fill.new.self c.draw_line.new.line _ _ (c.draw_line.ensures symbols h) light (ap (λ (g : Cells). g.dots) c.grid.view_is)
+    (ap bar_rows c.grid.view_is)
     c.in_ok-write_rows.ensures.ok c.in_err-write_rows-2.ensures.err)
 
 pub returns-clause-ok : goal.returns-clause-ok
@@ -48,8 +49,10 @@ returns-clause-ok g c = λ symbols h.
     let line = c.draw_line.ensures symbols h in
     let light = c.fill.ensures.after (λ y same. same) ∙ ap (λ n. replicate {A = ℕ} n 0) c.requires.long in
     let dark = c.fill-2.ensures.after (λ y same. same) ∙ ap (λ n. replicate {A = ℕ} n 0) line.long in
-    on_ok c.write_rows-3.result (Appends d e (repeated_bytes c.grid.inside.module_dots c.fill-2.new.self)) ((bytes : List ℕ) × IsBand k symbols bytes × Appends a e bytes)
-    (λ last. band_out k symbols a b d e c.fill.new.self c.draw_line.new.line c.fill-2.new.self _ _ line light dark (ap (λ (g : Cells). g.dots) c.grid.view_is) (ap bar_rows c.grid.view_is)
+    on_ok c.write_rows-3.result (Appends d e (repeated_bytes c.grid.inside.module_dots c.fill-2.new.self))
+    ((bytes : List ℕ) × IsBand k symbols bytes × Appends a e bytes)
+    (λ last. band_out k symbols a b d e c.fill.new.self c.draw_line.new.line c.fill-2.new.self _ _ line light dark (ap (λ (g : Cells). g.dots) c.grid.view_is)
+    (ap bar_rows c.grid.view_is)
     c.in_ok-write_rows.ensures.ok c.in_ok-write_rows-2.ensures.ok last)
     c.write_rows-3.ensures.ok
 
@@ -64,6 +67,7 @@ returns-clause-err g c = λ symbols h.
     let light = c.fill.ensures.after (λ y same. same) ∙ ap (λ n. replicate {A = ℕ} n 0) c.requires.long in
     let dark = c.fill-2.ensures.after (λ y same. same) ∙ ap (λ n. replicate {A = ℕ} n 0) line.long in
     on_err c.write_rows-3.result (TookFront d e (repeated_bytes c.grid.inside.module_dots c.fill-2.new.self)) (BandFront k symbols a e)
-    (λ front. band_below k symbols a b d e c.fill.new.self c.draw_line.new.line c.fill-2.new.self _ _ line light dark (ap (λ (g : Cells). g.dots) c.grid.view_is) (ap bar_rows c.grid.view_is)
+    (λ front. band_below k symbols a b d e c.fill.new.self c.draw_line.new.line c.fill-2.new.self _ _ line light dark
+    (ap (λ (g : Cells). g.dots) c.grid.view_is) (ap bar_rows c.grid.view_is)
     c.in_ok-write_rows.ensures.ok c.in_ok-write_rows-2.ensures.ok front)
     c.write_rows-3.ensures.err

@@ -18,7 +18,8 @@ loop-preserved g c =
     let b = g.W.Sink.taken c.loop.sink in
     let d = g.W.Sink.taken c.write_all.new.sink in
     record {
-      wrote = subst (Appends a d) (sym (rows_more c.loop.counter line)) (Appends-trans a b d (repeated_bytes c.loop.counter line) line c.loop.invariant.wrote c.in_ok-write_all.ensures.ok);
+      wrote = subst (Appends a d) (sym (rows_more c.loop.counter line))
+          (Appends-trans a b d (repeated_bytes c.loop.counter line) line c.loop.invariant.wrote c.in_ok-write_all.ensures.ok);
       same = λ sound. still (g.W.Sink.failed c.write_all.new.sink) (λ e. false≢true ((c.in_ok-write_all.ensures.fault (c.loop.invariant.same sound)).1 e));
     }
 
@@ -33,4 +34,5 @@ returns-in_err-write_all-clause-err g c =
     let split : repeated_bytes c.args.count line ≡ repeated_bytes c.loop.counter line ++ (line ++ repeated_bytes left line) =
     ap (λ n. repeated_bytes n line) (let e : c.args.count ≡ c.loop.counter + suc left = omega arith in e) ∙ rows_add c.loop.counter (suc left) line in
     subst (λ r. OnErr r (TookFront a d (repeated_bytes c.args.count line))) (sym (err_is c.from_residual.result c.in_err-write_all.field-0.0 e.0 e.1))
-    (subst (TookFront a d) (sym split) (took_after a b d (repeated_bytes c.loop.counter line) (line ++ repeated_bytes left line) c.loop.invariant.wrote (took_more b d line (repeated_bytes left line) c.in_err-write_all.ensures.err)))
+    (subst (TookFront a d) (sym split) (took_after a b d (repeated_bytes c.loop.counter line) (line ++ repeated_bytes left line) c.loop.invariant.wrote
+    (took_more b d line (repeated_bytes left line) c.in_err-write_all.ensures.err)))

@@ -58,7 +58,8 @@ loop-row-preserved g c = record {
       let more = c.in_ok-write_band.ensures.ok (take n (drop m symbols)) here in (
         before.0 ++ more.0,
         band_more k symbols row before.0 more.0 before.1 (subst (λ ss. IsBand k ss more.0) part more.1),
-        Appends-trans (g.W.Sink.taken c.write_all.new.sink) (g.W.Sink.taken c.loop-row.sink) (g.W.Sink.taken c.write_band.new.sink) before.0 more.0 before.2 more.2,
+        Appends-trans (g.W.Sink.taken c.write_all.new.sink) (g.W.Sink.taken c.loop-row.sink) (g.W.Sink.taken c.write_band.new.sink) before.0 more.0 before.2
+            more.2,
       );
   same = λ sound. still (g.W.Sink.failed c.write_band.new.sink) (λ e. false≢true ((c.in_ok-write_band.ensures.fault (c.loop-row.invariant.same sound)).1 e));
 }
@@ -95,5 +96,6 @@ returns-clause-ok g c = λ symbols h.
     let head : c.as_slice.result.now ≡ head_of k = c.as_slice.ensures.value ∙ c.header.ensures ∙ ap head_of c.grid.view_is in
     let rows : c.grid.inside.rows ≡ k.rows = ap (λ (g : Cells). g.rows) c.grid.view_is in
     let end : c.loop-row.row ≡ k.rows = omega arith in
-    sheet_out k symbols (g.W.Sink.taken c.args.sink.now) (g.W.Sink.taken c.write_all.new.sink) (g.W.Sink.taken c.loop-row.sink) c.as_slice.result.now before.0 grid head c.in_ok-write_all.ensures.ok
+    sheet_out k symbols (g.W.Sink.taken c.args.sink.now) (g.W.Sink.taken c.write_all.new.sink) (g.W.Sink.taken c.loop-row.sink) c.as_slice.result.now before.0
+    grid head c.in_ok-write_all.ensures.ok
     (subst (λ n. Banded k symbols n before.0) end before.1) before.2

@@ -39,13 +39,15 @@ loop-i-preserved g c = record {
       let n : ℕ = c.from.result * c.from-2.result in
       let m : ℕ = c.loop-i.i * n in
       let grid : IsGrid k = subst IsGrid c.grid.view_is c.grid.invariant in
-      let cells : n ≡ cell_count k = ap₂ (λ a b. a * b) (c.from.ensures ∙ ap (λ (g : Cells). g.columns) c.grid.view_is) (c.from-2.ensures ∙ ap (λ (g : Cells). g.rows) c.grid.view_is) in
+      let cells : n ≡ cell_count k = ap₂ (λ a b. a * b) (c.from.ensures ∙ ap (λ (g : Cells). g.columns) c.grid.view_is)
+      (c.from-2.ensures ∙ ap (λ (g : Cells). g.rows) c.grid.view_is) in
       let here : AllZip IsDrawn c.part-here.result.now (take n (drop m symbols)) =
       rw c.part-here.ensures (AllZip-take IsDrawn n (drop m c.args.labels.now) (drop m symbols) (AllZip-drop IsDrawn m c.args.labels.now symbols h)) in
       let part : take n (drop m symbols) ≡ sheet_labels k symbols c.loop-i.i = ap (λ n. take n (drop (c.loop-i.i * n) symbols)) cells in
       let before = c.loop-i.invariant.wrote symbols h in
       let more = c.in_ok-write_sheet.ensures.ok (take n (drop m symbols)) here in
-      let all = sheets_more k symbols c.loop-i.i (g.W.Sink.taken c.args.sink.now) (g.W.Sink.taken c.loop-i.sink) (g.W.Sink.taken c.write_sheet.new.sink) before.0 more.0 grid before.1
+      let all = sheets_more k symbols c.loop-i.i (g.W.Sink.taken c.args.sink.now) (g.W.Sink.taken c.loop-i.sink) (g.W.Sink.taken c.write_sheet.new.sink)
+      before.0 more.0 grid before.1
       (subst (λ ss. IsSheet ss k 0 more.0) part more.1) before.2 more.2 in
       (before.0 ++ more.0 ∷ [], all.0, all.1);
   none = λ e. absurd (omega arith);
@@ -62,12 +64,14 @@ returns-in_err-write_sheet-clause-err g c = λ symbols h.
     let b = g.W.Sink.taken c.loop-i.sink in
     let d = g.W.Sink.taken c.write_sheet.new.sink in
     let grid : IsGrid k = subst IsGrid c.grid.view_is c.grid.invariant in
-    let cells : n ≡ cell_count k = ap₂ (λ a b. a * b) (c.from.ensures ∙ ap (λ (g : Cells). g.columns) c.grid.view_is) (c.from-2.ensures ∙ ap (λ (g : Cells). g.rows) c.grid.view_is) in
+    let cells : n ≡ cell_count k = ap₂ (λ a b. a * b) (c.from.ensures ∙ ap (λ (g : Cells). g.columns) c.grid.view_is)
+    (c.from-2.ensures ∙ ap (λ (g : Cells). g.rows) c.grid.view_is) in
     let here : AllZip IsDrawn c.part-here.result.now (take n (drop m symbols)) =
     rw c.part-here.ensures (AllZip-take IsDrawn n (drop m c.args.labels.now) (drop m symbols) (AllZip-drop IsDrawn m c.args.labels.now symbols h)) in
     let part : take n (drop m symbols) ≡ sheet_labels k symbols c.loop-i.i = ap (λ n. take n (drop (c.loop-i.i * n) symbols)) cells in
     let before = c.loop-i.invariant.wrote symbols h in
-    let count : (length c.args.labels.now + (n - 1)) / n ≡ sheet_count k (length symbols) = ap₂ (λ l n. (l + (n - 1)) / n) (sym (AllZip-long IsDrawn c.args.labels.now symbols h)) cells in
+    let count : (length c.args.labels.now + (n - 1)) / n ≡ sheet_count k (length symbols) =
+    ap₂ (λ l n. (l + (n - 1)) / n) (sym (AllZip-long IsDrawn c.args.labels.now symbols h)) cells in
     subst (λ r. OnErr r (SheetsFront k symbols a d)) (sym (err_is c.from_residual.result c.in_err-write_sheet.field-0.0 e.0 e.1))
     (sheets_cut k symbols c.loop-i.i ((length c.args.labels.now + (n - 1)) / n) a b d before.0 grid (omega arith) count before.1 before.2
     (subst (λ ss. SheetFront k ss b d) part (c.in_err-write_sheet.ensures.err (take n (drop m symbols)) here)))
@@ -77,7 +81,8 @@ returns-in_err-write_sheet-clause-none g c = λ empty.
     let k : Cells = c.args.grid.now in
     let n : ℕ = c.from.result * c.from-2.result in
     let grid : IsGrid k = subst IsGrid c.grid.view_is c.grid.invariant in
-    let cells : n ≡ cell_count k = ap₂ (λ a b. a * b) (c.from.ensures ∙ ap (λ (g : Cells). g.columns) c.grid.view_is) (c.from-2.ensures ∙ ap (λ (g : Cells). g.rows) c.grid.view_is) in
+    let cells : n ≡ cell_count k = ap₂ (λ a b. a * b) (c.from.ensures ∙ ap (λ (g : Cells). g.columns) c.grid.view_is)
+    (c.from-2.ensures ∙ ap (λ (g : Cells). g.rows) c.grid.view_is) in
     let zero : (length c.args.labels.now + (n - 1)) / n ≡ 0 = ap₂ (λ l n. (l + (n - 1)) / n) (ap length empty) cells ∙ no_sheets k grid in
     absurd (omega arith)
 
@@ -85,10 +90,12 @@ pub returns-clause-ok : goal.returns-clause-ok
 returns-clause-ok g c = λ symbols h.
     let k : Cells = c.args.grid.now in
     let n : ℕ = c.from.result * c.from-2.result in
-    let cells : n ≡ cell_count k = ap₂ (λ a b. a * b) (c.from.ensures ∙ ap (λ (g : Cells). g.columns) c.grid.view_is) (c.from-2.ensures ∙ ap (λ (g : Cells). g.rows) c.grid.view_is) in
+    let cells : n ≡ cell_count k = ap₂ (λ a b. a * b) (c.from.ensures ∙ ap (λ (g : Cells). g.columns) c.grid.view_is)
+    (c.from-2.ensures ∙ ap (λ (g : Cells). g.rows) c.grid.view_is) in
     let before = c.loop-i.invariant.wrote symbols h in
     let end : c.loop-i.i ≡ (length c.args.labels.now + (n - 1)) / n = omega arith in
-    let count : c.loop-i.i ≡ sheet_count k (length symbols) = end ∙ ap₂ (λ l n. (l + (n - 1)) / n) (sym (AllZip-long IsDrawn c.args.labels.now symbols h)) cells in
+    let count : c.loop-i.i ≡ sheet_count k (length symbols) =
+    end ∙ ap₂ (λ l n. (l + (n - 1)) / n) (sym (AllZip-long IsDrawn c.args.labels.now symbols h)) cells in
     sheets_out k symbols c.loop-i.i (g.W.Sink.taken c.args.sink.now) (g.W.Sink.taken c.loop-i.sink) before.0 count before.1 before.2
 
 pub returns-clause-none : goal.returns-clause-none
@@ -96,6 +103,7 @@ returns-clause-none g c = λ empty.
     let k : Cells = c.args.grid.now in
     let n : ℕ = c.from.result * c.from-2.result in
     let grid : IsGrid k = subst IsGrid c.grid.view_is c.grid.invariant in
-    let cells : n ≡ cell_count k = ap₂ (λ a b. a * b) (c.from.ensures ∙ ap (λ (g : Cells). g.columns) c.grid.view_is) (c.from-2.ensures ∙ ap (λ (g : Cells). g.rows) c.grid.view_is) in
+    let cells : n ≡ cell_count k = ap₂ (λ a b. a * b) (c.from.ensures ∙ ap (λ (g : Cells). g.columns) c.grid.view_is)
+    (c.from-2.ensures ∙ ap (λ (g : Cells). g.rows) c.grid.view_is) in
     let zero : (length c.args.labels.now + (n - 1)) / n ≡ 0 = ap₂ (λ l n. (l + (n - 1)) / n) (ap length empty) cells ∙ no_sheets k grid in
     c.loop-i.invariant.none (omega arith)

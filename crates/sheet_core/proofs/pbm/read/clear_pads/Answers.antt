@@ -13,7 +13,8 @@ loop-row-preserved c =
     let last : ℕ = c.stride-stride.result * c.loop-row.row + (c.stride-stride.result - 1) in
     let place : last ≡ stride width * c.loop-row.row + (stride width - 1) = ap (λ w. w * c.loop-row.row + (w - 1)) w in
     let pads : 8 * c.stride-stride.result - c.from.result ≡ pad width = ap₂ (λ a b. 8 * a - b) w c.from.ensures in
-    let below : stride width * c.loop-row.row + stride width ≤ stride width * c.args.size.height = next (stride width) c.loop-row.row c.args.size.height (omega arith) in
+    let below : stride width * c.loop-row.row + stride width ≤ stride width * c.args.size.height =
+    next (stride width) c.loop-row.row c.args.size.height (omega arith) in
     cleared_more width c.args.bytes.now c.loop-row.row c.loop-row.bytes last c.without_low_bits.result some place (omega arith)
     (c.without_low_bits.ensures ∙ ap (λ p. get_or c.loop-row.bytes last 0 - get_or c.loop-row.bytes last 0 % 2 ^ p) pads) c.loop-row.invariant
   where
@@ -23,4 +24,5 @@ loop-row-preserved c =
 pub returns : goal.returns
 returns c =
     let end : c.loop-row.row ≡ c.args.size.height = omega arith in
-    cleared_all c.args.size.width c.args.size.height c.args.bytes.now c.loop-row.bytes c.requires.count (subst (λ r. Cleared c.args.size.width c.args.bytes.now r c.loop-row.bytes) end c.loop-row.invariant)
+    cleared_all c.args.size.width c.args.size.height c.args.bytes.now c.loop-row.bytes c.requires.count
+    (subst (λ r. Cleared c.args.size.width c.args.bytes.now r c.loop-row.bytes) end c.loop-row.invariant)

@@ -36,7 +36,8 @@ reads-preserved g c =
       | then-filled-len+else-is_err w ↦
           let items : length c.reads.bytes.items ≡ filled = omega (arith, c.reads.bytes.ok, w.if-filled-len.true, c.len.ensures) in
           rw w.bytes-is (ap (take filled) w.resize.ensures.items
-          ∙ front_kept (is_ok w.resize.result) filled (filled + w.min-more.result) (filled + w.min-more.result - vec_len c.reads.bytes) c.reads.bytes.items items (omega arith))
+          ∙ front_kept (is_ok w.resize.result) filled (filled + w.min-more.result) (filled + w.min-more.result - vec_len c.reads.bytes) c.reads.bytes.items
+          items (omega arith))
       | else-filled-len w ↦ rw w.bytes-is refl
     ] in
     let fits : (filled ≤ vec_len c.if-filled-len.bytes) × (vec_len c.if-filled-len.bytes ≤ c.args.count) = elim c.if-filled-len.branch [
@@ -44,9 +45,11 @@ reads-preserved g c =
           let n : ℕ = filled + w.min-more.result in
           let below : n ≤ c.args.count = omega (arith, w.min-more.ensures, inv.few, inv.fits, c.reads-test.true) in
           let full : vec_len c.reads.bytes ≡ filled = omega (arith, w.if-filled-len.true, c.len.ensures) in
-          let len : vec_len w.resize.new.self ≡ (if is_ok w.resize.result then n else filled) = w.resize.ensures.len ∙ ap (λ f. if is_ok w.resize.result then n else f) full in
+          let len : vec_len w.resize.new.self ≡ (if is_ok w.resize.result then n else filled) =
+          w.resize.ensures.len ∙ ap (λ f. if is_ok w.resize.result then n else f) full in
           let more : filled ≤ n = omega arith in
-          let both : (filled ≤ vec_len w.resize.new.self) × (vec_len w.resize.new.self ≤ c.args.count) = room (is_ok w.resize.result) (vec_len w.resize.new.self) filled n c.args.count len more below in
+          let both : (filled ≤ vec_len w.resize.new.self) × (vec_len w.resize.new.self ≤ c.args.count) =
+          room (is_ok w.resize.result) (vec_len w.resize.new.self) filled n c.args.count len more below in
           rw w.bytes-is both
       | else-filled-len w ↦ rw w.bytes-is (inv.few, inv.fits)
     ] in
@@ -55,7 +58,8 @@ reads-preserved g c =
     let now : take filled c.as_mut_slice.result.now ≡ take filled c.reads.bytes.items = ap (take filled) v.value ∙ front in
     let begun : length (take filled c.as_mut_slice.result.now) ≡ filled = length-take-le filled c.as_mut_slice.result.now (omega (arith, v.len, fits.0)) in
     let fewer : filled + read ≤ vec_len c.if-filled-len.bytes = omega (arith, c.in_ok-read.ensures.bound, c.read.auto.buf, v.len, fits.0) in
-    let bytes = read_behind filled read (vec_len c.if-filled-len.bytes) (take filled c.as_mut_slice.result.now) buf _ _ begun c.in_ok-read.ensures.bound fewer in
+    let bytes = read_behind filled read (vec_len c.if-filled-len.bytes) (take filled c.as_mut_slice.result.now) buf _ _ begun c.in_ok-read.ensures.bound fewer
+    in
     record {
       gave = subst (Consumes (g.R.Source.left c.args.reader.now) (g.R.Source.left c.read.new.self)) (sym (bytes ∙ ap (λ xs. xs ++ take read buf) now))
           (Consumes-trans _ _ _ (take filled c.reads.bytes.items) (take read buf) inv.gave c.in_ok-read.ensures.bytes.0);

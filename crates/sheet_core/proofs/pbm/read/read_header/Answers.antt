@@ -12,12 +12,14 @@ pub returns-in-Done-clause-read : goal.returns-in-Done-clause-read
 returns-in-Done-clause-read g c = done _ _ _ _ _ _ _ c.loop-k.invariant.read c.loop-k-test.true (sym c.in-Done.ensures.value)
 
 pub returns-in-Refused-clause-read : goal.returns-in-Refused-clause-read
-returns-in-Refused-clause-read g c = refused _ _ _ _ _ _ _ c.loop-k.invariant.read c.loop-k-test.true (sym c.in-Refused.ensures.value) c.in-Refused.ensures.reached
+returns-in-Refused-clause-read g c = refused _ _ _ _ _ _ _ c.loop-k.invariant.read c.loop-k-test.true (sym c.in-Refused.ensures.value)
+    c.in-Refused.ensures.reached
 
 pub returns-in_err-next-clause-read : goal.returns-in_err-next-clause-read
 returns-in_err-next-clause-read g c =
     let e = c.from_residual.ensures in
-    subst (ReadsBytes (told c.args.first) (g.R.Source.left c.args.reader.now) (g.R.Source.left c.next.new.reader)) (sym (err_is c.from_residual.result ReadFault e.0 e.1))
+    subst (ReadsBytes (told c.args.first) (g.R.Source.left c.args.reader.now) (g.R.Source.left c.next.new.reader))
+    (sym (err_is c.from_residual.result ReadFault e.0 e.1))
     (broken _ _ _ _ _ _ _ _ c.loop-k.invariant.read c.loop-k-test.true (sym c.in-Goes.ensures.value) c.in_err-next.ensures.byte.1)
 
 pub returns-in-None-clause-read : goal.returns-in-None-clause-read
@@ -37,4 +39,5 @@ loop-k-preserved g c =
 pub returns-clause-read : goal.returns-clause-read
 returns-clause-read g c =
     let end : c.loop-k.k ≡ 4096 = omega arith in
-    too_long _ _ _ _ _ (subst (λ k. At (g.R.Source.left c.args.reader.now) (g.R.Source.left c.loop-k.reader) c.args.first k c.loop-k.state c.loop-k.byte) end c.loop-k.invariant.read)
+    too_long _ _ _ _ _ (subst (λ k. At (g.R.Source.left c.args.reader.now) (g.R.Source.left c.loop-k.reader) c.args.first k c.loop-k.state c.loop-k.byte) end
+    c.loop-k.invariant.read)

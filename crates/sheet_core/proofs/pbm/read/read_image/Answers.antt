@@ -10,9 +10,12 @@ pub returns-in_err-bytes-clause-read : goal.returns-in_err-bytes-clause-read
 returns-in_err-bytes-clause-read g c =
     let e = c.from_residual-in_err-bytes.ensures in
     let n : c.stride.result * c.from.result ≡ stride c.in_ok-size.size.width * c.in_ok-size.size.height = ap₂ (λ a b. a * b) c.stride.ensures c.from.ensures in
-    let s = subst (λ n. StopsBefore n (g.R.Source.left c.read_header.new.reader) (g.R.Source.left c.read_bytes.new.reader) c.in_err-bytes.field-0.0) n c.in_err-bytes.ensures.stopped in
-    subst (ReadsBytes (image_told c.args.first) (g.R.Source.left c.args.reader.now) (g.R.Source.left c.read_bytes.new.reader)) (sym (err_is c.from_residual-in_err-bytes.result c.in_err-bytes.field-0.0 e.0 e.1))
-    (image_stopped (g.R.Source.left c.args.reader.now) (g.R.Source.left c.read_header.new.reader) (g.R.Source.left c.read_bytes.new.reader) c.args.first c.in_ok-size.size c.in_err-bytes.field-0.0 c.in_ok-size.ensures.read s)
+    let s = subst (λ n. StopsBefore n (g.R.Source.left c.read_header.new.reader) (g.R.Source.left c.read_bytes.new.reader) c.in_err-bytes.field-0.0) n
+    c.in_err-bytes.ensures.stopped in
+    subst (ReadsBytes (image_told c.args.first) (g.R.Source.left c.args.reader.now) (g.R.Source.left c.read_bytes.new.reader))
+    (sym (err_is c.from_residual-in_err-bytes.result c.in_err-bytes.field-0.0 e.0 e.1))
+    (image_stopped (g.R.Source.left c.args.reader.now) (g.R.Source.left c.read_header.new.reader) (g.R.Source.left c.read_bytes.new.reader) c.args.first
+    c.in_ok-size.size c.in_err-bytes.field-0.0 c.in_ok-size.ensures.read s)
 
 pub invariant_of-result : goal.invariant_of-result
 invariant_of-result g c =
@@ -23,7 +26,8 @@ invariant_of-result g c =
     let same : c.clear_pads.new.bytes ≡ unpadded size.width rows = c.clear_pads.ensures ∙ ap (unpadded size.width) v.value in
     let all = take_at c.clear_pads.new.bytes (drop (length c.clear_pads.new.bytes) rows) c.in_ok-bytes.bytes.len (c.clear_pads.auto.bytes ∙ v.len) in
     let sizes = c.in_ok-size.ensures.size in
-    subst (λ bytes. IsBitmap (record { width = size.width; height = size.height; bytes = bytes })) (sym (all ∙ same)) (bitmap_of_rows size rows sizes.0 sizes.1 n)
+    subst (λ bytes. IsBitmap (record { width = size.width; height = size.height; bytes = bytes })) (sym (all ∙ same))
+    (bitmap_of_rows size rows sizes.0 sizes.1 n)
 
 pub returns-clause-read : goal.returns-clause-read
 returns-clause-read g c =
@@ -33,5 +37,7 @@ returns-clause-read g c =
     let n : length rows ≡ stride size.width * size.height = c.in_ok-bytes.ensures.count ∙ ap₂ (λ a b. a * b) c.stride.ensures c.from.ensures in
     let same : c.clear_pads.new.bytes ≡ unpadded size.width rows = c.clear_pads.ensures ∙ ap (unpadded size.width) v.value in
     let all = take_at c.clear_pads.new.bytes (drop (length c.clear_pads.new.bytes) rows) c.in_ok-bytes.bytes.len (c.clear_pads.auto.bytes ∙ v.len) in
-    subst (λ bytes. ReadsBytes (image_told c.args.first) (g.R.Source.left c.args.reader.now) (g.R.Source.left c.read_bytes.new.reader) (Ok (record { width = size.width; height = size.height; bytes = bytes }))) (sym (all ∙ same))
-    (image_read (g.R.Source.left c.args.reader.now) (g.R.Source.left c.read_header.new.reader) (g.R.Source.left c.read_bytes.new.reader) c.args.first size rows c.in_ok-size.ensures.read c.in_ok-bytes.ensures.ok n)
+    subst (λ bytes. ReadsBytes (image_told c.args.first) (g.R.Source.left c.args.reader.now) (g.R.Source.left c.read_bytes.new.reader)
+    (Ok (record { width = size.width; height = size.height; bytes = bytes }))) (sym (all ∙ same))
+    (image_read (g.R.Source.left c.args.reader.now) (g.R.Source.left c.read_header.new.reader) (g.R.Source.left c.read_bytes.new.reader) c.args.first size rows
+    c.in_ok-size.ensures.read c.in_ok-bytes.ensures.ok n)

@@ -16,7 +16,8 @@ pub returns-in_err-first-clause-err : goal.returns-in_err-first-clause-err
 returns-in_err-first-clause-err g c =
     let e = c.from_residual.ensures in
     let r = broken _ _ _ _ _ c.loop.invariant.had c.in_err-first.ensures.byte.1 in
-    subst (λ r. IfErr r (λ fault. ReadsBytes images_of (g.R.Source.left c.args.reader.now) (g.R.Source.left c.next.new.reader) (Err fault))) (sym (err_is c.from_residual.result ReadFault e.0 e.1)) r
+    subst (λ r. IfErr r (λ fault. ReadsBytes images_of (g.R.Source.left c.args.reader.now) (g.R.Source.left c.next.new.reader) (Err fault)))
+    (sym (err_is c.from_residual.result ReadFault e.0 e.1)) r
 
 pub returns-in_default-clause-ok : goal.returns-in_default-clause-ok
 returns-in_default-clause-ok g c =
@@ -29,7 +30,8 @@ returns-in_err-sheet-clause-err g c =
     let first = at_some _ _ _ _ c.in-Some.is c.in_ok-first.ensures.byte.1 in
     let fault = c.in_err-sheet.field-0.0 in
     let r = image_refused _ _ _ _ _ _ _ fault c.loop.invariant.had c.loop-test.true first c.in_err-sheet.ensures.read in
-    subst (λ r. IfErr r (λ fault. ReadsBytes images_of (g.R.Source.left c.args.reader.now) (g.R.Source.left c.read_image.new.reader) (Err fault))) (sym (err_is c.from_residual-in_err-sheet.result fault e.0 e.1)) r
+    subst (λ r. IfErr r (λ fault. ReadsBytes images_of (g.R.Source.left c.args.reader.now) (g.R.Source.left c.read_image.new.reader) (Err fault)))
+    (sym (err_is c.from_residual-in_err-sheet.result fault e.0 e.1)) r
 
 pub returns-then-is_err-clause-err : goal.returns-then-is_err-clause-err
 returns-then-is_err-clause-err g c =
@@ -37,7 +39,8 @@ returns-then-is_err-clause-err g c =
     let s = c.in_ok-sheet.sheet in
     let sheets : List Bitmap = c.loop.sheets.items ++ s ∷ [] in
     not_kept _ _ (c.loop.counter + 1) sheets
-    (had_more _ _ _ _ c.loop.counter c.loop.sheets.items sheets _ s c.loop.invariant.had c.loop-test.true first c.in_ok-sheet.ensures.read (λ bytes rest e. image_wider bytes rest s e) refl)
+    (had_more _ _ _ _ c.loop.counter c.loop.sheets.items sheets _ s c.loop.invariant.had c.loop-test.true first c.in_ok-sheet.ensures.read
+    (λ bytes rest e. image_wider bytes rest s e) refl)
 
 pub loop-preserved : goal.loop-preserved
 loop-preserved g c =
@@ -45,7 +48,8 @@ loop-preserved g c =
     let s = c.in_ok-sheet.sheet in
     let pushed : is_ok c.push.result ≡ true = search rules in
     record {
-      had = had_more _ _ _ _ c.loop.counter c.loop.sheets.items c.push.new.self.items _ s c.loop.invariant.had c.loop-test.true first c.in_ok-sheet.ensures.read (λ bytes rest e. image_wider bytes rest s e) (rw pushed at c.push.ensures.items);
+      had = had_more _ _ _ _ c.loop.counter c.loop.sheets.items c.push.new.self.items _ s c.loop.invariant.had c.loop-test.true first c.in_ok-sheet.ensures.read
+          (λ bytes rest e. image_wider bytes rest s e) (rw pushed at c.push.ensures.items);
       same = c.in_ok-sheet.ensures.failed ∙ c.in_ok-first.ensures.byte.0 ∙ c.loop.invariant.same;
     }
 
@@ -53,7 +57,8 @@ pub returns-in_err-next-clause-err : goal.returns-in_err-next-clause-err
 returns-in_err-next-clause-err g c =
     let e = c.from_residual-in_err-next.ensures in
     let r = broken _ _ _ _ _ c.loop.invariant.had c.in_err-next.ensures.byte.1 in
-    subst (λ r. IfErr r (λ fault. ReadsBytes images_of (g.R.Source.left c.args.reader.now) (g.R.Source.left c.next-2.new.reader) (Err fault))) (sym (err_is c.from_residual-in_err-next.result ReadFault e.0 e.1)) r
+    subst (λ r. IfErr r (λ fault. ReadsBytes images_of (g.R.Source.left c.args.reader.now) (g.R.Source.left c.next-2.new.reader) (Err fault)))
+    (sym (err_is c.from_residual-in_err-next.result ReadFault e.0 e.1)) r
 
 pub returns-in-None-clause-ok : goal.returns-in-None-clause-ok
 returns-in-None-clause-ok g c =
@@ -64,4 +69,5 @@ pub returns-in-Some-2-clause-err : goal.returns-in-Some-2-clause-err
 returns-in-Some-2-clause-err g c =
     let end : c.loop.counter ≡ 4096 = omega arith in
     let last = at_some _ _ _ _ c.in-Some-2.is c.in_ok-next.ensures.byte.1 in
-    too_many _ _ _ c.loop.sheets.items _ (subst (λ k. Had (g.R.Source.left c.args.reader.now) (g.R.Source.left c.loop.reader) k c.loop.sheets.items) end c.loop.invariant.had) last
+    too_many _ _ _ c.loop.sheets.items _ (subst (λ k. Had (g.R.Source.left c.args.reader.now) (g.R.Source.left c.loop.reader) k c.loop.sheets.items) end
+    c.loop.invariant.had) last

@@ -10,5 +10,7 @@ invariant_of-self c =
     let low : c.args.lane < length s.lanes.items = omega (arith, c.if-lane-len.false, c.len.ensures, s.lanes.ok.0) in
     let is = s.all.lanes c.args.lane c.index_mut.result.now low in
     record {
-      all = lane_used s.hub s.lanes.items s.workers.items s.deliverer c.args.lane c.index_mut.result.now c.poll.new.self (c.poll.ensures.lane ∙ ap lane_of c.index_mut.ensures.value) (c.poll.ensures.of_hub s.hub (subst (IsLaneOf s.hub) (sym c.index_mut.ensures.value) is)) s.all;
+      all = lane_used s.hub s.lanes.items s.workers.items s.deliverer c.args.lane c.index_mut.result.now c.poll.new.self
+          (c.poll.ensures.lane ∙ ap lane_of c.index_mut.ensures.value) (c.poll.ensures.of_hub s.hub (subst (IsLaneOf s.hub) (sym c.index_mut.ensures.value) is))
+          s.all;
     }

@@ -5,5 +5,6 @@ use Rattle.station.proofs.seats.Station.new.Goals as goal
 pub invariant_of-result : goal.invariant_of-result
 invariant_of-result g c = record {
   all = c.in-Ok.ensures.seats;
-  count = lanes_counted c.in-Ok.parts.lanes.items _ c.in-Ok.ensures.lanes ∙ sym (c.in-Ok.ensures.seats.deliverer.lanes ∙ ap (λ shape. shape.lanes) c.in-Ok.ensures.shape.0);
+  count = lanes_counted c.in-Ok.parts.lanes.items _ c.in-Ok.ensures.lanes
+      ∙ sym (c.in-Ok.ensures.seats.deliverer.lanes ∙ ap (λ shape. shape.lanes) c.in-Ok.ensures.shape.0);
 }

@@ -15,7 +15,8 @@ returns-in-Ok-clause-more c = λ is bytes rows h.
     let found = same c.in-Ok.is_found true is in
     let fields = fields_of c.read_byte_record.new.row in
     let s = rw found at (c.in-Ok.ensures.reads h.plain h.ready) in
-    let more = rows-more (λ (s : Bor (List ℕ)). Some s.now) c.args.self.now.reader c.read_byte_record.new.self fields default_config st.StartRecord (strip_bom bytes) h.rest rows h.config h.source h.reached s in
+    let more = rows-more (λ (s : Bor (List ℕ)). Some s.now) c.args.self.now.reader c.read_byte_record.new.self fields default_config st.StartRecord
+    (strip_bom bytes) h.rest rows h.config h.source h.reached s in
     record {
       plain = s.3 ∙ h.plain;
       ready = inl (c.in-Ok.ensures.ready h.plain);
@@ -30,5 +31,10 @@ pub returns-in-Ok-clause-end : goal.returns-in-Ok-clause-end
 returns-in-Ok-clause-end c = λ is bytes rows h.
     let found = same c.in-Ok.is_found false is in
     let s = rw found at (c.in-Ok.ensures.reads h.plain h.ready) in
-    are_records default_config (strip_bom bytes) rows
-    (c.args.self.now.reader.state, h.rest, h.reached, rows-end (λ (s : Bor (List ℕ)). Some s.now) c.args.self.now.reader c.read_byte_record.new.self (fields_of c.read_byte_record.new.row) default_config h.rest h.config h.source s)
+    are_records default_config (strip_bom bytes) rows (
+      c.args.self.now.reader.state,
+      h.rest,
+      h.reached,
+      rows-end (λ (s : Bor (List ℕ)). Some s.now) c.args.self.now.reader c.read_byte_record.new.self
+          (fields_of c.read_byte_record.new.row) default_config h.rest h.config h.source s,
+    )

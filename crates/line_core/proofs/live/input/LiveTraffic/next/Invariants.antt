@@ -8,7 +8,8 @@ use Rattle.line_core.proofs.live.input.LiveTraffic.next.Given as goal
 
 abbrev pub invariant-lines : goal.invariant-lines
 invariant-lines g l = record {
-  came : (f : Form) (events : List Event) (given : List (List (List ℕ))) (brought : List (List Plain)) → IsProgressAt f events l.fn.self.progress given brought → IsProgressAt f events l.self.progress given brought;
+  came : (f : Form) (events : List Event) (given : List (List (List ℕ))) (brought : List (List Plain)) → IsProgressAt f events l.fn.self.progress given brought
+      → IsProgressAt f events l.self.progress given brought;
   wire : l.self.wire ≡ l.fn.self.wire;
   form : l.self.form ≡ l.fn.self.form;
   ended : l.self.progress.lines.has_ended ≡ l.fn.self.progress.lines.has_ended;

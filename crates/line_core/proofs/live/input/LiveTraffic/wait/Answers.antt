@@ -14,5 +14,13 @@ returns-clause-came g c = λ start given brought came even.
     let w = g.W.Wire.write_failed start.wire in
     let wrote = c.write_turn.ensures.came start.wire came.0 given brought came.1 came.2 even in
     let read = c.read_on.ensures.came start.wire wrote.0 c.args.self.now.form given brought wrote.1 wrote.2 in
-    let lanes = ap (λ ls. length ls.items) c.read_on.ensures.lanes in
-    (read.0, read.1, read.2, came.3, lanes ∙ c.write_turn.ensures.lanes ∙ came.4, c.read_on.ensures.faults r w (c.write_turn.ensures.faults r w came.5), c.read_on.ensures.end (c.write_turn.ensures.end came.6))
+    let lanes = ap (λ ls. length ls.items) c.read_on.ensures.lanes in (
+      read.0,
+      read.1,
+      read.2,
+      came.3,
+      lanes ∙ c.write_turn.ensures.lanes
+          ∙ came.4,
+      c.read_on.ensures.faults r w (c.write_turn.ensures.faults r w came.5),
+      c.read_on.ensures.end (c.write_turn.ensures.end came.6),
+    )

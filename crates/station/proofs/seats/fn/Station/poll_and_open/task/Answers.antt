@@ -15,7 +15,8 @@ returns g c =
     let mine = IsLaneOf c.captures.shared.now in
     record {
       lanes = (
-        All-set mine (set items i free) k held c.polls_nothing-is_held.ensures.of_hub.0 (All-set mine items i free c.first_polled-polled.ensures.of_hub.0 c.requires.0),
+        All-set mine (set items i free) k held c.polls_nothing-is_held.ensures.of_hub.0
+            (All-set mine items i free c.first_polled-polled.ensures.of_hub.0 c.requires.0),
         map-set_same lane_of (set items i free) k held c.index_mut-2.result.now (c.polls_nothing-is_held.ensures.lane ∙ ap lane_of c.index_mut-2.ensures.value)
             ∙ map-set_same lane_of items i free c.index_mut.result.now (c.first_polled-polled.ensures.lane ∙ ap lane_of c.index_mut.ensures.value),
       );
