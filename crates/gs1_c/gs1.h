@@ -53,6 +53,7 @@ size_t gs1_c_row_elements(const uint16_t *widths, size_t count, uint16_t year, u
 size_t gs1_c_find(const uint16_t *widths, size_t count, uint16_t year, uint8_t *out, size_t room);
 size_t gs1_c_dots(const uint8_t *bits, size_t bytes, uint32_t count, uint16_t year, uint8_t *out, size_t room);
 size_t gs1_c_dots_elements(const uint8_t *bits, size_t bytes, uint32_t count, uint16_t year, uint8_t *out, size_t room);
+size_t gs1_c_date(const uint8_t *text, size_t length, uint16_t year, uint8_t *out, size_t room);
 size_t gs1_c_scan(const uint8_t *text, size_t length, uint16_t year, uint8_t *out, size_t room);
 size_t gs1_c_gtin(const uint8_t *text, size_t length, uint8_t *out, size_t room);
 size_t gs1_c_digit(const uint8_t *text, size_t length, uint8_t *out, size_t room);
@@ -102,6 +103,14 @@ static inline size_t gs1_dots(const uint8_t *bits, uint32_t count, uint16_t year
 static inline size_t gs1_dots_elements(const uint8_t *bits, uint32_t count, uint16_t year, uint8_t *out, size_t room) {
     return gs1_c_dots_elements(GS1_SOME(const uint8_t *, bits), (size_t)(((uint64_t)count + 7) / 8), count, year,
                                GS1_SOME(uint8_t *, out), room);
+}
+
+/* The day and the time that an element names, given as its AI, `=` and its value, as gs1_row_elements has it:
+ * `date 2026-12-31` of `17=261231`, `date 2026-12-31 23:59:00` of `7003=2612312359`, and `none` of an AI that has no
+ * date. The year, 1951 to 2149, is that of the call which gave the element; day 00 is the last of its month. What is
+ * no element is refused by its first fault, at place 0. */
+static inline size_t gs1_date(const uint8_t *text, size_t length, uint16_t year, uint8_t *out, size_t room) {
+    return gs1_c_date(GS1_SOME(const uint8_t *, text), length, year, GS1_SOME(uint8_t *, out), room);
 }
 
 /* What a text says that a scanner sends: a symbology identifier, and behind it the digits of a GTIN (`]E0`, `]E4`,

@@ -1,2 +1,3 @@
+mod DateFacts
 mod FoundFacts
 mod PutFacts

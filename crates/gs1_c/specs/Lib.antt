@@ -1,3 +1,4 @@
+pub mod Dates
 pub mod Found
 pub mod Labels
 pub mod Lines

@@ -9,6 +9,7 @@
 ghost use Rattle.std.specs.Prelude.{List, ℕ, codes};
 ghost use Rattle.digits_core.specs.Buffers.{IsPut};
 ghost use Rattle.element_core.specs.Lines.{IsDigitLine, gtin_line};
+ghost use Rattle.gs1_c.specs.Dates.{IsDateLine};
 ghost use Rattle.gs1_c.specs.Found.{AreSymbolsPut};
 ghost use Rattle.gs1_c.specs.Labels.{IsLabelBytes, one_cell};
 ghost use Rattle.gs1_c.specs.Lines.{IsDotsLine, IsRowLine, IsTextLine};
@@ -16,6 +17,7 @@ ghost use Rattle.gs1_c.specs.Scanned.{IsScanLine};
 
 mod answer;
 mod buffer;
+mod dates;
 mod found;
 mod label;
 mod scanned;
@@ -24,6 +26,7 @@ mod tests;
 
 use answer::{put_read, read_packed};
 use buffer::{put, put_line, put_refusal};
+use dates::put_date;
 use element_core::{Form, Year, digit_line, elements_line, gtin_line};
 use found::put_symbols;
 use label::{kind_numbered, put_kind};
@@ -102,6 +105,20 @@ pub extern "C" fn gs1_c_text_elements(text: &[u8], year: u16, out: &mut [u8]) ->
         return put(WORDS, out);
     };
     put_line(&elements_line("data", Form::Pairs, text, year), out)
+}
+
+/// The day and the time that an element names, given as its AI, `=` and its value, as `gs1_c_row_elements` has
+/// it: `date 2026-12-31` of `17=261231`, `date 2026-12-31 23:59:00` of `7003=2612312359`, and `none` of an AI
+/// that has no date (GS1 General Specifications, section 7.12). Day 00 is the last of its month. An element that
+/// is none is refused by its first fault, at place 0, and any year but 1951 to 2149 is `refused 42 Words`.
+#[unsafe(no_mangle)]
+pub extern "C" fn gs1_c_date(text: &[u8], year: u16, out: &mut [u8]) -> usize
+    ensures { (line : List ℕ) × IsDateLine year text.now line × IsPut line out.old out.new result }
+{
+    let Some(year) = Year::new(year) else {
+        return put(WORDS, out);
+    };
+    put_date(text, year, out)
 }
 
 /// What a text says that a scanner sends: a symbology identifier (ISO/IEC 15424), and behind it the digits of a

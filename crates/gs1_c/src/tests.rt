@@ -1,8 +1,8 @@
 //! What each call puts, against values from outside.
 
 use crate::{
-    gs1_c_digit, gs1_c_dots, gs1_c_dots_elements, gs1_c_find, gs1_c_gtin, gs1_c_label, gs1_c_row,
-    gs1_c_row_elements, gs1_c_scan, gs1_c_text, gs1_c_text_elements,
+    gs1_c_date, gs1_c_digit, gs1_c_dots, gs1_c_dots_elements, gs1_c_find, gs1_c_gtin, gs1_c_label,
+    gs1_c_row, gs1_c_row_elements, gs1_c_scan, gs1_c_text, gs1_c_text_elements,
 };
 use std::process::Abort;
 
@@ -37,6 +37,7 @@ enum Asked<'a> {
     Dots(&'a [u8], u32, u16),
     DotsElements(&'a [u8], u32, u16),
     Scan(&'a [u8], u16),
+    Date(&'a [u8], u16),
     Label(u32, &'a [u8], u16, u16),
 }
 
@@ -53,6 +54,7 @@ fn answer(asked: Asked, out: &mut [u8]) -> usize {
         Asked::Dots(bits, count, year) => gs1_c_dots(bits, count, year, out),
         Asked::DotsElements(bits, count, year) => gs1_c_dots_elements(bits, count, year, out),
         Asked::Scan(text, year) => gs1_c_scan(text, year, out),
+        Asked::Date(text, year) => gs1_c_date(text, year, out),
         Asked::Label(kind, text, year, width) => gs1_c_label(kind, text, year, 1, width, 3, out),
     }
 }
@@ -135,6 +137,43 @@ fn each_call_puts_its_line(rt: HostRuntime) {
         (Asked::Scan(b"", 2026), b"refused 40 Kind"),
         (Asked::Scan(b"10AB", 2026), b"refused 40 Kind"),
         (Asked::Scan(b"]C10", 1950), b"refused 42 Words"),
+        (Asked::Date(b"17=261231", 2026), b"date 2026-12-31"),
+        (Asked::Date(b"11=770101", 2026), b"date 1977-01-01"),
+        (Asked::Date(b"15=280200", 2026), b"date 2028-02-29"),
+        (
+            Asked::Date(b"7003=2612312359", 2026),
+            b"date 2026-12-31 23:59:00",
+        ),
+        (
+            Asked::Date(b"8008=26010207", 2026),
+            b"date 2026-01-02 07:00:00",
+        ),
+        (
+            Asked::Date(b"8008=260102070809", 2026),
+            b"date 2026-01-02 07:08:09",
+        ),
+        (Asked::Date(b"10=261231", 2026), b"none"),
+        (Asked::Date(b"10=A=B", 2026), b"none"),
+        (Asked::Date(b"", 2026), b"refused 4 Empty"),
+        (Asked::Date(b"17261231", 2026), b"refused 5 UnknownAi 0"),
+        (Asked::Date(b"170=261231", 2026), b"refused 5 UnknownAi 0"),
+        (Asked::Date(b"17=26123", 2026), b"refused 6 ValueLength 0"),
+        (Asked::Date(b"17", 2026), b"refused 6 ValueLength 0"),
+        (
+            Asked::Date(b"10=A\x1D17", 2026),
+            b"refused 7 ValueCharacter 0",
+        ),
+        (
+            Asked::Date(b"01=09501101530004", 2026),
+            b"refused 8 ValueCheckDigit 0",
+        ),
+        (Asked::Date(b"17=270229", 2026), b"refused 9 ValueDate 0"),
+        (
+            Asked::Date(b"7003=2612002359", 2026),
+            b"refused 9 ValueDate 0",
+        ),
+        (Asked::Date(&[b'1'; 193], 2026), b"refused 11 TooLong"),
+        (Asked::Date(b"17=261231", 2150), b"refused 42 Words"),
         (
             Asked::Label(6, b"9501101530003", 2026, 113),
             b"refused 40 Kind",
