@@ -9,12 +9,13 @@ refused is raised as a :class:`Refusal`, with its number and its name.
     3
     >>> read_elements("10AB\\x1d17261231", year=2026)
     '(10)AB(17)261231'
-    >>> read_scan("]C110AB\\x1d17261231", year=2026).elements
-    (Element(ai='10', value='AB'), Element(ai='17', value='261231'))
+    >>> read_scan("]C110AB\\x1d17261231", year=2026).elements[1]
+    Element(ai='17', value='261231', date=datetime.date(2026, 12, 31), time=None)
 """
 from __future__ import annotations
 
 import ctypes
+import datetime
 import enum
 import re
 from dataclasses import dataclass
@@ -40,13 +41,15 @@ _SIZE, _U16, _U32, _BYTES = ctypes.c_size_t, ctypes.c_uint16, ctypes.c_uint32, c
 _library.gs1_c_row_elements.argtypes = [ctypes.POINTER(_U16), _SIZE, _U16, _BYTES, _SIZE]
 _library.gs1_c_find.argtypes = [ctypes.POINTER(_U16), _SIZE, _U16, _BYTES, _SIZE]
 _library.gs1_c_dots_elements.argtypes = [_BYTES, _SIZE, _U32, _U16, _BYTES, _SIZE]
+_library.gs1_c_date.argtypes = [_BYTES, _SIZE, _U16, _BYTES, _SIZE]
 _library.gs1_c_scan.argtypes = [_BYTES, _SIZE, _U16, _BYTES, _SIZE]
 _library.gs1_c_gtin.argtypes = [_BYTES, _SIZE, _BYTES, _SIZE]
 _library.gs1_c_digit.argtypes = [_BYTES, _SIZE, _BYTES, _SIZE]
 _library.gs1_c_text.argtypes = [_BYTES, _SIZE, _U16, _BYTES, _SIZE]
 _library.gs1_c_text_elements.argtypes = [_BYTES, _SIZE, _U16, _BYTES, _SIZE]
 _library.gs1_c_label.argtypes = [_U32, _BYTES, _SIZE, _U16, _U16, _U16, _U16, _BYTES, _SIZE]
-for _name in ("row_elements", "find", "dots_elements", "scan", "gtin", "digit", "text", "text_elements", "label"):
+for _name in ("row_elements", "find", "dots_elements", "date", "scan", "gtin", "digit", "text", "text_elements",
+              "label"):
     getattr(_library, f"gs1_c_{_name}").restype = _SIZE
 
 
@@ -80,10 +83,15 @@ class Kind(enum.Enum):
 
 @dataclass(frozen=True)
 class Element:
-    """An element of a list: an Application Identifier and its value."""
+    """An element of a list: an Application Identifier and its value, with the day and the time that it names."""
 
     ai: str
     value: str
+    date: Optional[datetime.date] = None
+    """The day under the reference year, where the Application Identifier is one of a day; day 00 is the last of its
+    month."""
+    time: Optional[datetime.time] = None
+    """The time, where the Application Identifier is 7003 or 8008."""
 
 
 @dataclass(frozen=True)
@@ -174,15 +182,29 @@ def _line(answer: bytes) -> str:
     return line
 
 
-def _answer(answer: bytes) -> Answer:
+def _answer(answer: bytes, year: int) -> Answer:
     """The answer, where it is no refusal."""
     identifier, _, elements = _line(answer).partition(" ")
-    return Answer(identifier, _elements(elements))
+    return Answer(identifier, _elements(elements, year))
 
 
-def _elements(pairs: str) -> Tuple[Element, ...]:
-    """The elements of pairs: no Application Identifier has an equals sign, and no value a tab."""
-    return tuple(Element(ai, value) for ai, _, value in (pair.partition("=") for pair in pairs.split("\t")))
+def _elements(pairs: str, year: int) -> Tuple[Element, ...]:
+    """The elements of pairs: no value has a tab."""
+    return tuple(_element(pair, year) for pair in pairs.split("\t"))
+
+
+def _element(pair: str, year: int) -> Element:
+    """The element of a pair: no Application Identifier has an equals sign."""
+    ai, _, value = pair.partition("=")
+    # A value that names a day is all digits, 6 to 12 of them: the library is not asked of any other.
+    if not (6 <= len(value) <= 12 and value.isdecimal()):
+        return Element(ai, value)
+    words = _ask(_library.gs1_c_date, pair.encode("ascii"), len(pair), year).decode("ascii").split(" ")
+    # A hub of another version may tell elements that this library refuses.
+    if words[0] != "date":
+        return Element(ai, value)
+    time = datetime.time.fromisoformat(words[2]) if len(words) == 3 else None
+    return Element(ai, value, datetime.date.fromisoformat(words[1]), time)
 
 
 def _places(lines: str) -> List[Tuple[int, int]]:
@@ -224,7 +246,7 @@ def read_row(widths: Sequence[int], year: int) -> Answer:
     :raises Refusal: what is no row, or shows no symbol that says elements; 42 ``Words`` of a year out of range.
     :raises ValueError: a width is below 0.
     """
-    return _answer(_ask_of_widths(_library.gs1_c_row_elements, widths, year))
+    return _answer(_ask_of_widths(_library.gs1_c_row_elements, widths, year), year)
 
 
 def find(widths: Sequence[int], year: int) -> List[Found]:
@@ -279,7 +301,7 @@ def read_dots(dots: Union[bytes, bytearray, memoryview], width: int, year: int) 
     if width > 8 * len(packed):
         # As one dot of no byte, since the number may have more than 32 bits.
         packed, width = b"", 1
-    return _answer(_ask(_library.gs1_c_dots_elements, packed, len(packed), min(width, _MOST + 1), _u16(year)))
+    return _answer(_ask(_library.gs1_c_dots_elements, packed, len(packed), min(width, _MOST + 1), _u16(year)), year)
 
 
 def read_scan(text: Union[str, bytes], year: int) -> Answer:
@@ -292,7 +314,7 @@ def read_scan(text: Union[str, bytes], year: int) -> Answer:
         42 ``Words`` of a year out of range.
     """
     said = _bytes(text)
-    return _answer(_ask(_library.gs1_c_scan, said, len(said), _u16(year)))
+    return _answer(_ask(_library.gs1_c_scan, said, len(said), _u16(year)), year)
 
 
 def read_gtin(text: Union[str, bytes]) -> str:
@@ -328,7 +350,8 @@ def parse_elements(text: Union[str, bytes], year: int) -> Tuple[Element, ...]:
     :raises Refusal: as :func:`read_elements`.
     """
     elements = _bytes(text)
-    return _elements(_line(_ask(_library.gs1_c_text_elements, elements, len(elements), _u16(year))).partition(" ")[2])
+    pairs = _line(_ask(_library.gs1_c_text_elements, elements, len(elements), _u16(year))).partition(" ")[2]
+    return _elements(pairs, year)
 
 
 def draw_label(

@@ -33,12 +33,15 @@ class Library:
         """
         lines = _line(self._ask(_library.gs1_c_find, widths))
         rows = ((first, count, widths[first:first + count]) for first, count in _places(lines))
-        return [Found(first, count, _answer(self._ask(_library.gs1_c_row_elements, row))) for first, count, row in rows]
+        return [Found(first, count, self._answer(self._ask(_library.gs1_c_row_elements, row))) for first, count, row in rows]
 
     def row(self, widths: Widths) -> Optional[Answer]:
         """What a row says, or nothing where it is refused."""
         said = self._ask(_library.gs1_c_row_elements, widths)
-        return None if said.startswith(b"refused") else _answer(said)
+        return None if said.startswith(b"refused") else self._answer(said)
+
+    def _answer(self, said: bytes) -> Answer:
+        return _answer(said, self._year)
 
     def _ask(self, call: Any, widths: Widths) -> bytes:
         return _ask(call, (ctypes.c_uint16 * len(widths)).from_buffer(widths.data), len(widths), self._year)

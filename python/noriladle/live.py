@@ -9,7 +9,7 @@
     2 0 refused 19 Blank
     2 1 ]E4 (01)00000096385074
     >>> replies[1].answer.elements
-    (Element(ai='01', value='00000096385074'),)
+    (Element(ai='01', value='00000096385074', date=None, time=None),)
 
 Each lane gets the replies to its rows, in the order in which they were submitted, and each once. Any number of tasks
 may ask at the same time, all in the event loop in which the block was entered.
@@ -135,6 +135,7 @@ class Hub:
         self._words = [*([found] if isinstance(found, str) else found), *options]
         self.lanes = lanes
         self._most = most
+        self._year = year
         self._is_entered = False
         self._process: Optional[_Process] = None
 
@@ -145,7 +146,7 @@ class Hub:
         try:
             # A session of its own, so that the Ctrl-C that ends the caller leaves the process to the end of the block.
             _, self._process = await asyncio.get_running_loop().subprocess_exec(
-                lambda: _Process(self.lanes, self._most), *self._words, start_new_session=True
+                lambda: _Process(self.lanes, self._most, self._year), *self._words, start_new_session=True
             )
         except BaseException:
             self._is_entered = False
@@ -200,9 +201,10 @@ class _Process(asyncio.SubprocessProtocol):
     Rows wait only while it has ``most`` of them.
     """
 
-    def __init__(self, lanes: int, most: int) -> None:
+    def __init__(self, lanes: int, most: int, year: int) -> None:
         self._loop = asyncio.get_running_loop()
         self._most = most
+        self._year = year
         self._numbers = [0] * lanes
         self._sent: Deque[Tuple[int, asyncio.Future[Reply]]] = deque()
         self._waiting: OrderedDict[asyncio.Future[Reply], Tuple[int, bytes]] = OrderedDict()
@@ -296,7 +298,7 @@ class _Process(asyncio.SubprocessProtocol):
         if lane not in ("-", str(asked)) or number not in ("-", str(self._numbers[asked])):
             raise ValueError("of another row")
         identifier, _, elements = text.partition(" ")
-        answer = _refusal(text) or Answer(identifier, _elements(elements))
+        answer = _refusal(text) or Answer(identifier, _elements(elements, self._year))
         # From here on nothing fails, so that no row is taken off without its reply.
         self._sent.popleft()
         if not reply.done():

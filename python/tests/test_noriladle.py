@@ -1,4 +1,6 @@
 """The module's answers to worked cases, and what it raises."""
+import datetime
+
 import pytest
 
 import noriladle
@@ -7,6 +9,7 @@ from noriladle import Answer, Element, Found, Kind, Refusal
 EAN13 = [int(width) for width in """11 1 1 1 1 2 3 1 1 1 2 3 1 2 2 2 2 2 2 1 1 1 2 3 2 2 2 1 1 1 1 1 1 1 2 3 1 1 4
 1 1 3 2 1 1 3 2 1 1 3 2 1 1 1 4 1 1 1 1 1 7""".split()]
 FRAMED = [3, 2] + EAN13 + [2, 3]
+DATED = Element("17", "261231", datetime.date(2026, 12, 31))
 READ = Answer("]E0", (Element("01", "09501101530003"),))
 IMAGE = b"P4\n113 3\n" + bytes(15) + bytes.fromhex("00158A7666539954E85CB972854000") + bytes(15)
 
@@ -137,14 +140,36 @@ def test_tells_elements_apart():
     one, two = "10A(17)261231", "10A\x1d17261231"
     assert noriladle.read_elements(one, 2026) == noriladle.read_elements(two, 2026)
     assert noriladle.parse_elements(one, 2026) == (Element("10", "A(17)261231"),)
-    assert noriladle.parse_elements(two, 2026) == (Element("10", "A"), Element("17", "261231"))
+    assert noriladle.parse_elements(two, 2026) == (Element("10", "A"), DATED)
     assert refusal(noriladle.parse_elements, "17250229", 2026) == (9, "ValueDate", 0)
+
+
+def test_tells_dates_and_times():
+    def told(text, year=2026):
+        element, = noriladle.parse_elements(text, year)
+        return element.date, element.time
+
+    day = datetime.date(2026, 12, 31)
+    assert told("11261231") == (day, None)
+    assert told("15280200") == (datetime.date(2028, 2, 29), None)
+    assert told("17770101") == (datetime.date(1977, 1, 1), None)
+    assert told("17770101", 2027) == (datetime.date(2077, 1, 1), None)
+    assert told("70032612312359") == (day, datetime.time(23, 59))
+    assert told("800826123107") == (day, datetime.time(7))
+    assert told("8008261231070809") == (day, datetime.time(7, 8, 9))
+    assert told("10261231") == (None, None)
+    assert told("0109501101530003") == (None, None)
+    assert DATED == Element(ai="17", value="261231", date=day, time=None) != Element("17", "261231")
+    old = Element("17", "261231", datetime.date(1926, 12, 31))
+    assert noriladle.read_scan("]C11726123110AB", 1960).elements == (old, Element("10", "AB"))
+    image = noriladle.draw_label(Kind.GS1128, "17261231", 2026, width=480, height=120)
+    assert noriladle.read_dots(image[-60 * 60:-60 * 59], 480, 2026).elements == (DATED,)
 
 
 def test_reads_what_scanners_send():
     assert noriladle.read_scan("]E09501101530003", 2026) == READ
     assert noriladle.read_scan(b"]E496385074", 2026) == Answer("]E4", (Element("01", "00000096385074"),))
-    elements = (Element("10", "A=B"), Element("17", "261231"))
+    elements = (Element("10", "A=B"), DATED)
     for identifier in ("]C1", "]e0", "]d2", "]Q3", "]J1"):
         assert noriladle.read_scan(identifier + "10A=B\x1d17261231", 2026) == Answer(identifier, elements)
     assert refusal(noriladle.read_scan, "]E09501101530004", 2026) == (3, "CheckDigit", None)

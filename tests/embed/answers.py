@@ -1,6 +1,7 @@
 """The module's answers to the lines of standard input, one a line: `rows` for the lines of `lanes`, `dots` for the same
 as packed dots, `finds` for the symbols of such lines, with an empty line behind those of a row, `check` for those of
-`check`. The year is 2026."""
+`check`, `dates` for the date of the one element of a year, a comma, its Application Identifier, `=` and its value. The year
+is else 2026."""
 import sys
 
 import noriladle
@@ -21,9 +22,19 @@ def read_packed(widths):
     return noriladle.read_dots(int("0" + bits, 2).to_bytes(len(bits) // 8, "big"), count, YEAR)
 
 
+def dated(year, pair):
+    """The day and the time of an element, as the call in C tells them."""
+    element, = noriladle.parse_elements(pair.replace("=", "", 1), int(year))
+    if element.date is None:
+        return "none"
+    return f"date {element.date:%Y-%m-%d}" + ("" if element.time is None else f" {element.time:%H:%M:%S}")
+
+
 def answer(line):
     first, _, second = line.rstrip("\n").partition(",")
     try:
+        if sys.argv[1] == "dates":
+            return dated(first, second)
         if sys.argv[1] == "check":
             return CHECKS[first](second)
         widths = [int(width) for width in second.split()]

@@ -1,11 +1,11 @@
 /* Calls the library from C. With no words: the worked cases, each into a buffer of every size from 0 to past
  * its answer. With a word: the answers to the lines of standard input, one a line, by the word: `rows` for the
  * lines of `lanes`, `dots` for the same as packed dots, `finds` for the symbols of such lines, with an empty line behind
- * those of a row, `check` for those of `check`, `labels MODULE WIDTH HEIGHT`
+ * those of a row, `check` for those of `check`, `dates` for a year, a comma and an element as a pair, `labels MODULE WIDTH HEIGHT`
  * for those of `print`, whose images are written with nothing between them. With `time COUNT`: the milliseconds of
  * so many calls on the rows of such lines, in turn: gs1_find of those that begin with `find`, and gs1_row of the
  * others. With `threads`: whether several threads that ask the rows of such lines at once get the answers of one. The
- * year is 2026. */
+ * year is 2026, but for `dates`. */
 #include "gs1.h"
 #include <pthread.h>
 #include <stdio.h>
@@ -19,7 +19,7 @@ static long checks, wrong;
 
 /* A question: which call, and what it is asked. */
 struct asked {
-    enum { ROW, ROW_ELEMENTS, FIND, DOTS, DOTS_ELEMENTS, SCAN, GTIN, DIGIT, TEXT, TEXT_ELEMENTS, LABEL } call;
+    enum { ROW, ROW_ELEMENTS, FIND, DOTS, DOTS_ELEMENTS, SCAN, DATE, GTIN, DIGIT, TEXT, TEXT_ELEMENTS, LABEL } call;
     const void *items;
     size_t count;
     unsigned year, kind, module_dots, width, height;
@@ -33,6 +33,7 @@ static size_t ask(const struct asked *q, uint8_t *out, size_t room) {
     case DOTS: return gs1_dots(q->items, (uint32_t)q->count, (uint16_t)q->year, out, room);
     case DOTS_ELEMENTS: return gs1_dots_elements(q->items, (uint32_t)q->count, (uint16_t)q->year, out, room);
     case SCAN: return gs1_scan(q->items, q->count, (uint16_t)q->year, out, room);
+    case DATE: return gs1_date(q->items, q->count, (uint16_t)q->year, out, room);
     case GTIN: return gs1_gtin(q->items, q->count, out, room);
     case DIGIT: return gs1_digit(q->items, q->count, out, room);
     case TEXT: return gs1_text(q->items, q->count, (uint16_t)q->year, out, room);
@@ -92,6 +93,10 @@ static void row(const char *what, const uint16_t *widths, size_t count, unsigned
 
 static void scan(const char *text, unsigned year, const char *wanted) {
     line(text, (struct asked){.call = SCAN, .items = text, .count = strlen(text), .year = year}, wanted);
+}
+
+static void date(const char *pair, unsigned year, const char *wanted) {
+    line(pair, (struct asked){.call = DATE, .items = pair, .count = strlen(pair), .year = year}, wanted);
 }
 
 /* The dots of widths, packed; the bits behind the last are set. The answer is how many dots they are. */
@@ -216,6 +221,14 @@ static void cases(void) {
     scan("]C", YEAR, "refused 40 Kind");
     scan("", YEAR, "refused 40 Kind");
     scan("]A0", 1950, "refused 42 Words");
+    date("17=261231", YEAR, "date 2026-12-31");
+    date("7003=2612312359", YEAR, "date 2026-12-31 23:59:00");
+    date("8008=261231235958", YEAR, "date 2026-12-31 23:59:58");
+    date("10=17=261231", YEAR, "none");
+    date("", YEAR, "refused 4 Empty");
+    date("17261231", YEAR, "refused 5 UnknownAi 0");
+    date("17=270229", YEAR, "refused 9 ValueDate 0");
+    date("17=261231", 2150, "refused 42 Words");
 
     /* Two symbols that share a light end: as many whole lines as there is room for. */
     uint16_t two[2 * COUNT - 1];
@@ -303,6 +316,13 @@ static void answer_check(char *words) {
         if (*c == '^') *c = 29;
     struct asked q = {.items = text, .count = strlen(text), .year = YEAR};
     q.call = !strcmp(words, "gtin") ? GTIN : !strcmp(words, "digit") ? DIGIT : TEXT;
+    print(&q, "\n");
+}
+
+static void answer_date(char *words) {
+    char *pair = strchr(words, ',') + 1;
+    struct asked q = {.items = pair, .count = strlen(pair), .year = (unsigned)atoi(words)};
+    q.call = DATE;
     print(&q, "\n");
 }
 
@@ -399,6 +419,7 @@ int main(int count, char **words) {
         else if (!strcmp(words[1], "finds")) answer_finds(input);
         else if (!strcmp(words[1], "dots")) answer_dots(input);
         else if (!strcmp(words[1], "check")) answer_check(input);
+        else if (!strcmp(words[1], "dates")) answer_date(input);
         else answer_label(input, words + 2);
     }
     return 0;
