@@ -10,7 +10,7 @@ from PIL import Image
 from . import Answer
 from ._found import Placed, joined
 from ._reader import ROWS_AGAINST, Grey, Library
-from ._rows import Ends, Grid, Values, bounds_of, edges_of, sharpened
+from ._rows import Grid, Rows, Runs, bounds_of, runs_of, sharpened
 from ._straight import read_windows
 from ._stripes import FEWEST_BLOCKS, striped_blocks
 
@@ -59,16 +59,17 @@ def look_again(library: Library, grey: Grey, shown: List[Placed]) -> List[Placed
 
 def _along(library: Library, grid: Grid, picture: Image.Image, look: Look) -> List[Placed]:
     """The symbols that the rows of a grid show."""
-    rows = list(grid.rows(picture, look.lines))
-    tally = _Tally(grid)
-    for place, answer, left, right in read_windows([_edges(row.values, look.blur) for row in rows], library.row):
-        tally.add(answer, rows[place].left + left, rows[place].left + right, rows[place].v)
+    rows, tally = grid.rows(picture, look.lines), _Tally(grid)
+    if not len(rows.vs):
+        return []
+    for row, answer, left, right in read_windows(_runs(rows, look.blur), library.row):
+        tally.add(answer, rows.lefts[row] + left, rows.lefts[row] + right, rows.vs[row])
     return list(tally.sure())
 
 
-def _edges(values: Values, blur: float) -> Ends:
-    bounds = bounds_of(values)
-    return edges_of(sharpened(values, bounds, blur) if blur else values, bounds)
+def _runs(rows: Rows, blur: float) -> Runs:
+    bounds = bounds_of(rows)
+    return runs_of(sharpened(rows, bounds, blur) if blur else rows, bounds)
 
 
 @dataclass

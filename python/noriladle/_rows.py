@@ -3,16 +3,17 @@ from __future__ import annotations
 
 import cmath
 import math
-from typing import Iterator, NamedTuple, Tuple
+from typing import NamedTuple, Tuple
 
 import numpy
 from numpy.typing import NDArray
 from PIL import Image
 
-from ._found import Places
+from ._found import Mask, Places
 
 Values = NDArray[numpy.float32]
 Ends = NDArray[numpy.float64]
+Indices = NDArray[numpy.int64]
 
 BEYOND = 0.2
 """Rows go beyond the blocks of their direction by so much of their length."""
@@ -26,12 +27,28 @@ ROUNDS = 10
 """How often a row is sharpened."""
 
 
-class Row(NamedTuple):
-    """A row: its ``v``, the ``u`` of the middle of its first dot, and the grey values of its dots."""
+class Rows(NamedTuple):
+    """Rows: the ``v`` of each, the ``u`` of the middle of its first dot, and how many dots it has; and the grey values
+    of all dots, one row behind another."""
 
-    v: float
-    left: float
+    vs: Ends
+    lefts: Ends
+    lengths: Indices
     values: Values
+
+    @property
+    def starts(self) -> Indices:
+        """Where the dots of each row begin."""
+        starts: Indices = self.lengths.cumsum() - self.lengths
+        return starts
+
+
+class Runs(NamedTuple):
+    """The runs of rows, one row behind another, and for each its row; the first and the last of a row are light."""
+
+    rows: Indices
+    ends: Ends
+    widths: Ends
 
 
 class Grid:
@@ -48,7 +65,7 @@ class Grid:
         self.step = max(1.0, height / rows)
         self.count = max(1, int(height / self.step))
 
-    def rows(self, picture: Image.Image, lines: int) -> Iterator[Row]:
+    def rows(self, picture: Image.Image, lines: int) -> Rows:
         """The rows, each the mean of so many lines a dot apart, as far as all of these lie in the picture, which has
         floating-point numbers."""
         middles = self.top + (numpy.arange(self.count) + 0.5) * self.step
@@ -57,14 +74,18 @@ class Grid:
         first = numpy.max([left for left, _ in parts], axis=0)
         last = numpy.min([right for _, right in parts], axis=0)
         enough = last - first >= FEWEST_DOTS
+        lefts, lengths = first[enough], (last - first)[enough].astype(int)
         if not enough.any():
-            return
-        left = first[enough].min()
+            return Rows(middles[enough], lefts, lengths, numpy.zeros(0, numpy.float32))
+        left = lefts.min()
         size = (int(last[enough].max() - left), self.count)
-        corners = (complex(left, self.top + offset) for offset in offsets)
-        values: Values = numpy.mean([self._values(picture, corner, size) for corner in corners], axis=0)
-        for row in numpy.flatnonzero(enough):
-            yield Row(middles[row], first[row], values[row, int(first[row] - left):int(last[row] - left)])
+        values = numpy.zeros(size[::-1], numpy.float32)
+        for offset in offsets:
+            values += self._values(picture, complex(left, self.top + offset), size)
+        values /= lines
+        begins = (lefts - left).astype(int)
+        parts = [row[begin:begin + length] for row, begin, length in zip(values[enough], begins, lengths)]
+        return Rows(middles[enough], lefts, lengths, numpy.concatenate(parts))
 
     def _values(self, picture: Image.Image, corner: complex, size: Tuple[int, int]) -> Values:
         """The grey values of a line through each row, from dot to dot."""
@@ -94,57 +115,107 @@ class Grid:
 
 
 class Bounds(NamedTuple):
-    """The darkest and the lightest value about each dot of a row: of the five blocks around it."""
+    """The blocks of rows: the darkest and the lightest value about each, in the five blocks of its row around it; and
+    how many dots it has."""
 
     low: Values
     high: Values
+    dots: Indices
 
 
-def bounds_of(values: Values) -> Bounds:
-    size = max(10, len(values) >> 6)
-    starts = numpy.arange(0, len(values), size)
-    least, most = numpy.full(len(starts) + 4, 255, numpy.float32), numpy.zeros(len(starts) + 4, numpy.float32)
-    least[2:-2], most[2:-2] = numpy.minimum.reduceat(values, starts), numpy.maximum.reduceat(values, starts)
-    low = numpy.minimum.reduce([least[i:i + len(starts)] for i in range(5)])
-    high = numpy.maximum.reduce([most[i:i + len(starts)] for i in range(5)])
-    return Bounds(low.repeat(size)[:len(values)], high.repeat(size)[:len(values)])
+def bounds_of(rows: Rows) -> Bounds:
+    sizes = numpy.maximum(10, rows.lengths >> 6)
+    counts = -(-rows.lengths // sizes)
+    row = each_of(counts)
+    starts = rows.starts[row] + in_turn(numpy.zeros_like(counts), counts) * sizes[row]
+    # Two blocks of no dots stand beside each row.
+    places = numpy.arange(len(row)) + 2 * row + 2
+    least, most = (numpy.full(len(row) + 2 * len(counts) + 2, value, numpy.float32) for value in (255, 0))
+    least[places], most[places] = numpy.minimum.reduceat(rows.values, starts), numpy.maximum.reduceat(rows.values, starts)
+    low = numpy.minimum.reduce([least[places + away] for away in range(-2, 3)])
+    high = numpy.maximum.reduce([most[places + away] for away in range(-2, 3)])
+    return Bounds(low, high, numpy.diff(starts, append=len(rows.values)))
 
 
-def edges_of(values: Values, bounds: Bounds) -> Ends:
-    """The ends of the runs between the dots of a row, light first and last.
+def runs_of(rows: Rows, bounds: Bounds) -> Runs:
+    """The runs between the dots of rows.
 
-    Edges are where the values cross the middle of what is darkest and lightest around. The middle of the first dot is
-    at 0.
+    Edges are where the values cross the middle of what is darkest and lightest around. The middle of the first dot of a
+    row is at 0.
     """
-    low, high = bounds
+    starts, values = rows.starts, rows.values
+    levels = _levels(bounds).repeat(bounds.dots)
+    dark = values < levels
+    changes = numpy.append(False, dark[1:] != dark[:-1])
+    changes[starts] = dark[starts]
+    at = numpy.flatnonzero(changes)
+    counts = numpy.diff(numpy.searchsorted(at, numpy.append(starts, len(values))))
+    begins = starts.repeat(counts)
+    ends = at - begins + _from_dots(values[numpy.maximum(at - 1, begins)].astype(float), values[at], levels[at])
+    return _apart(ends, counts, rows.lengths, dark[starts + rows.lengths - 1])
+
+
+def _levels(bounds: Bounds) -> Ends:
+    """Below which value the dots of each block are dark: none where it is flat."""
+    low, high, _ = bounds
     flat = high - low < numpy.maximum(LEAST_CONTRAST, LEAST_SHARE * high.astype(float))
-    levels = (low.astype(float) + high) / 2
-    dark = (values < levels) & ~flat
-    before = numpy.empty_like(dark)
-    before[0], before[1:] = False, dark[:-1]
-    at = numpy.flatnonzero(dark != before)
-    left = values[numpy.maximum(at - 1, 0)].astype(float)
-    change = values[at] - left
-    sharp = flat[at] | (change == 0)
-    share = (levels[at] - left) / numpy.where(sharp, 1, change)
-    ends = at - numpy.where(sharp, 0.5, 1 - numpy.minimum(numpy.maximum(share, 0), 1))
+    return numpy.where(flat, -math.inf, (low.astype(float) + high) / 2)
+
+
+def _from_dots(before: Ends, values: Values, levels: Ends) -> Ends:
+    """How far behind dots of these values edges are, by the values of the dots before them: -1 to 0."""
+    change = values - before
+    sharp = (levels == -math.inf) | (change == 0)
+    share = (levels - before) / numpy.where(sharp, 1, change)
+    return numpy.where(sharp, -0.5, numpy.minimum(numpy.maximum(share, 0), 1) - 1)
+
+
+def _apart(ends: Ends, counts: Indices, lengths: Indices, dark: Mask) -> Runs:
+    """The runs of rows that have so many edges and so many dots, of which the last one is dark or not."""
     # Each end is at least so far behind the one before it.
-    least = LEAST_RUN * numpy.arange(len(ends))
-    ends = numpy.maximum.accumulate(numpy.maximum(ends, 0) - least) + least
-    last = [len(values), len(values) + LEAST_RUN][:1 + dark[-1]]
-    return numpy.concatenate((ends, last))
+    least = LEAST_RUN * in_turn(numpy.zeros_like(counts), counts)
+    ends = numpy.maximum(ends, 0) - least
+    for row in numpy.split(ends, counts.cumsum()[:-1]):
+        numpy.maximum.accumulate(row, out=row)
+    # A row ends with its last dot, and behind a dark one with a light run more.
+    more = 1 + dark
+    last = lengths.repeat(more) + LEAST_RUN * in_turn(numpy.zeros_like(more), more)
+    ends = numpy.insert(ends + least, counts.cumsum().repeat(more), last)
+    counts = counts + more
+    widths, begins = numpy.diff(ends, prepend=0.0), counts.cumsum() - counts
+    widths[begins] = ends[begins]
+    return Runs(each_of(counts), ends, widths)
 
 
-def sharpened(values: Values, bounds: Bounds, blur: float) -> Values:
-    """A row without a blur of this standard deviation, in dots (the method of Van Cittert, within the bounds of the
+def sharpened(rows: Rows, bounds: Bounds, blur: float) -> Rows:
+    """Rows without a blur of this standard deviation, in dots (the method of Van Cittert, within the bounds of each
     row, as Jansson has it)."""
     half = numpy.exp(-(numpy.arange(math.ceil(2.5 * blur) + 1) / blur) ** 2 / 2)
     bell = numpy.concatenate((half[:0:-1], half)).astype(numpy.float32)
     bell /= bell.sum()
-    beside = numpy.ones(len(half) - 1, numpy.float32)
+    # Beyond its ends a row is as its first and its last dot.
+    reach, starts, lengths = len(half) - 1, rows.starts, rows.lengths
+    wide = lengths + 2 * reach
+    dots = numpy.clip(in_turn(starts - reach, wide), starts.repeat(wide), (starts + lengths - 1).repeat(wide))
+    values, low, high = (each[dots] for each in (rows.values, bounds.low.repeat(bounds.dots), bounds.high.repeat(bounds.dots)))
+    first = wide.cumsum() - wide + reach
+    last, beside = first + lengths - 1, numpy.arange(1, reach + 1)
     clear = values
     for _ in range(ROUNDS):
-        # Beyond its ends a row is as its first and its last dot.
-        blurred = numpy.convolve(numpy.concatenate((beside * clear[0], clear, beside * clear[-1])), bell, "valid")
-        clear = numpy.minimum(numpy.maximum(clear + (values - blurred), bounds.low), bounds.high)
-    return clear
+        clear = clear + (values - numpy.convolve(clear, bell, "same"))
+        numpy.minimum(numpy.maximum(clear, low, out=clear), high, out=clear)
+        clear[first[:, None] - beside] = clear[first, None]
+        clear[last[:, None] + beside] = clear[last, None]
+    return rows._replace(values=clear[in_turn(first, lengths)])
+
+
+def each_of(counts: Indices) -> Indices:
+    """0 so many times, then 1, and so on."""
+    numbers: Indices = numpy.arange(len(counts)).repeat(counts)
+    return numbers
+
+
+def in_turn(starts: Indices, counts: Indices) -> Indices:
+    """So many numbers from each start on, one start behind another."""
+    numbers: Indices = numpy.arange(counts.sum()) + (starts - counts.cumsum() + counts).repeat(counts)
+    return numbers

@@ -6,15 +6,15 @@ wide, so their ends say how.
 from __future__ import annotations
 
 from collections import defaultdict
-from typing import Callable, Dict, Iterator, List, NamedTuple, Optional, Sequence, Tuple
+from typing import Callable, Dict, Iterator, List, NamedTuple, Optional, Tuple, Union
 
 import numpy
 from numpy.typing import NDArray
 
 from . import Answer
-from ._rows import Ends
+from ._found import Mask
+from ._rows import Ends, Indices, Runs, each_of, in_turn
 
-Indices = NDArray[numpy.int64]
 Widths = NDArray[numpy.uint16]
 
 QUIET = 5
@@ -63,7 +63,16 @@ def _shapes() -> Dict[int, List[Shape]]:
 
 
 SHAPES = _shapes()
-_STEPS = numpy.arange(-SPREADS, SPREADS + 1) * MOST_SPREAD / SPREADS
+_ALL = [shape for shapes in SHAPES.values() for shape in shapes]
+_COUNTS = numpy.array([count for count, shapes in SHAPES.items() for _ in shapes])
+"""All shapes in one list, and the number of runs of each."""
+_ENDS = numpy.array([len(shape.runs) for shape in _ALL])
+_RUNS = numpy.concatenate([shape.runs for shape in _ALL])
+_MODULES = numpy.concatenate([shape.modules for shape in _ALL])
+"""How many ends of characters each shape has, and those of all shapes, one behind another."""
+_FEW_ENDS = 8
+"""The most ends by which a scale is of degree 2 and not 3."""
+_SPREADS = numpy.arange(-SPREADS, SPREADS + 1) * MOST_SPREAD / SPREADS
 
 
 class Read(NamedTuple):
@@ -75,79 +84,16 @@ class Read(NamedTuple):
     right: float
 
 
-class _Runs(NamedTuple):
-    """The runs of rows, one row behind another, and for each its row; the first and the last of a row are light."""
+class _Windows(NamedTuple):
+    """Windows: the first run of each, a light one, how many stand between it and its last, and which of all shapes it
+    may have."""
 
-    rows: Indices
-    ends: Ends
-    widths: Ends
+    first: Indices
+    counts: Indices
+    shape: Indices
 
-
-class _Window(NamedTuple):
-    """A window: its first run, a light one, how many stand between it and its last, and which shape it may have; and
-    the widths of its runs on an even scale."""
-
-    first: int
-    between: int
-    shape: int
-    widths: Widths
-
-
-def read_windows(rows: Sequence[Ends], read: Callable[[Widths], Optional[Answer]]) -> Iterator[Read]:
-    """The windows of rows that are read, row by row and from the left. Where one is, the next begins at its end."""
-    if not rows:
-        return
-    runs = _runs_of(rows)
-    windows = sorted(_windows(runs), key=lambda window: window[:3])
-    begin = 0
-    for first, count, _, widths in windows:
-        answer = read(widths) if first >= begin else None
-        if answer is not None:
-            yield Read(int(runs.rows[first]), answer, float(runs.ends[first]), float(runs.ends[first + count]))
-            begin = first + count + 1
-
-
-def _runs_of(rows: Sequence[Ends]) -> _Runs:
-    counts = [len(ends) for ends in rows]
-    widths = [numpy.diff(ends, prepend=0.0) for ends in rows]
-    return _Runs(numpy.repeat(numpy.arange(len(rows)), counts), numpy.concatenate(rows), numpy.concatenate(widths))
-
-
-def _windows(runs: _Runs) -> Iterator[_Window]:
-    for count, firsts in _between(runs):
-        for number, shape in enumerate(SHAPES[count]):
-            kept, scales = _scales(runs, firsts, count, shape)
-            if len(kept):
-                straight = zip(*_straightened(runs, kept, count, scales))
-                yield from (_Window(int(first), count, number, widths) for first, widths in straight)
-
-
-def _between(runs: _Runs) -> Iterator[Tuple[int, Indices]]:
-    """Each number of runs of a symbol, and the light runs behind which there may be so many before another light one.
-
-    Both are wide enough for quiet zones: wider than every run between, of which none has more than four modules. So
-    even stripes have no window.
-    """
-    counts = numpy.bincount(runs.rows)
-    left = counts.cumsum()[runs.rows] - numpy.arange(len(runs.rows))
-    first = numpy.flatnonzero((counts[runs.rows] - left) % 2 == 0)
-    quiet, left, widest = runs.widths[first], left[first], numpy.zeros(len(first))
-    for count in range(1, max(SHAPES) + 1):
-        widest = numpy.maximum(widest, runs.widths.take(first + count, mode="clip"))
-        if count > min(SHAPES) and count not in SHAPES:
-            continue
-        inner = runs.ends.take(first + count, mode="clip") - runs.ends[first]
-        may_be = (widest < quiet) & (count + 1 < left)
-        if count in SHAPES:
-            may_be &= inner * QUIET <= quiet * count * WIDEST_MEAN
-        first, quiet, left, widest, inner = (each[may_be] for each in (first, quiet, left, widest, inner))
-        if not len(first):
-            return
-        if count in SHAPES:
-            least = numpy.maximum(widest, inner * QUIET * ASLANT / SHAPES[count][0].width)
-            wide = numpy.minimum(quiet, runs.widths[first + count + 1]) >= least
-            if wide.any():
-                yield count, first[wide]
+    def where(self, kept: Mask) -> _Windows:
+        return _Windows(self.first[kept], self.counts[kept], self.shape[kept])
 
 
 class _Scales(NamedTuple):
@@ -158,47 +104,143 @@ class _Scales(NamedTuple):
     half: Ends
     factors: Ends
 
+    def of(self, windows: Union[Indices, Mask]) -> _Scales:
+        return _Scales(self.middle[windows], self.half[windows], self.factors[:, windows])
+
     def modules(self, ends: Ends) -> Ends:
-        modules: Ends = (_powers((ends - self.middle) / self.half, self.factors.shape[1] - 1) @ self.factors)[..., 0]
+        """The module of one end in each window."""
+        places, (first, second, third, fourth) = (ends - self.middle) / self.half, self.factors
+        modules: Ends = ((fourth * places + third) * places + second) * places + first
         return modules
 
+    def at(self, place: float) -> Ends:
+        """The modules of a dot at a place in the dark part."""
+        before, behind = (self.modules(self.middle + self.half * (place + away)) for away in (-0.01, 0.01))
+        scale: Ends = (behind - before) / 0.02 / self.half
+        return scale
 
-def _scales(runs: _Runs, first: Indices, count: int, shape: Shape) -> Tuple[Indices, _Scales]:
+
+def read_windows(runs: Runs, read: Callable[[Widths], Optional[Answer]]) -> Iterator[Read]:
+    """The windows of rows that are read, row by row and from the left. Where one is, the next begins at its end."""
+    windows, scales = _fitting(runs, _windows(runs))
+    begin = 0
+    for first, count, widths in _straightened(runs, windows, scales):
+        answer = read(widths) if first >= begin else None
+        if answer is not None:
+            yield Read(int(runs.rows[first]), answer, float(runs.ends[first]), float(runs.ends[first + count]))
+            begin = first + count + 1
+
+
+def _windows(runs: Runs) -> _Windows:
+    """The windows that are wide enough and have light enough at their ends, from the left; those of one place by their
+    shapes."""
+    found = [(first, shape) for count, first in _between(runs) for shape in numpy.flatnonzero(_COUNTS == count)]
+    firsts = numpy.concatenate([[], *(first for first, _ in found)]).astype(int)
+    shapes = numpy.repeat([shape for _, shape in found], [len(first) for first, _ in found]).astype(int)
+    order = numpy.lexsort((shapes, firsts))
+    return _Windows(firsts[order], _COUNTS[shapes[order]], shapes[order])
+
+
+def _between(runs: Runs) -> Iterator[Tuple[int, Indices]]:
+    """Each number of runs of a symbol, and the light runs behind which there may be so many before another light one.
+
+    Both are wide enough for quiet zones: wider than every run between, of which none has more than four modules. So
+    even stripes have no window.
+    """
+    counts = numpy.bincount(runs.rows)
+    left = counts.cumsum()[runs.rows] - numpy.arange(len(runs.rows))
+    first = numpy.flatnonzero(((counts[runs.rows] - left) % 2 == 0) & (left > min(SHAPES) + 1))
+    quiet, left, widest = runs.widths[first], left[first], numpy.zeros(len(first))
+    steps = numpy.diff(list(SHAPES), prepend=0)
+    widest_of = {step: _widest(runs.widths, step) for step in set(steps)}
+    for count, step in zip(SHAPES, steps):
+        if not len(first):
+            return
+        widest = numpy.maximum(widest, widest_of[step].take(first + (count - step + 1), mode="clip"))
+        inner = runs.ends.take(first + count, mode="clip") - runs.ends[first]
+        may_be = (widest < quiet) & (count + 1 < left) & (inner * QUIET <= quiet * count * WIDEST_MEAN)
+        first, quiet, left, widest, inner = (each[may_be] for each in (first, quiet, left, widest, inner))
+        least = numpy.maximum(widest, inner * QUIET * ASLANT / SHAPES[count][0].width)
+        wide = numpy.minimum(quiet, runs.widths[first + count + 1]) >= least
+        if wide.any():
+            yield count, first[wide]
+
+
+def _widest(widths: Ends, count: int) -> Ends:
+    """The widest of each run and of those behind it, so many in all."""
+    taken = 1
+    while taken < count:
+        more = min(taken, count - taken)
+        widths, taken = numpy.maximum(widths[:-more], widths[more:]), taken + more
+    return widths
+
+
+def _fitting(runs: Runs, windows: _Windows) -> Tuple[_Windows, _Scales]:
     """Those of the windows whose characters are as wide as the shape's, and their scales, which fit best (Gauss)."""
-    left, right = runs.ends[first][:, None], runs.ends[first + count][:, None]
+    left, right = runs.ends[windows.first], runs.ends[windows.first + windows.counts]
     middle, half = (left + right) / 2, (right - left) / 2
-    known = _powers((runs.ends[first[:, None] + shape.runs] - middle) / half, 3 if len(shape.runs) > 8 else 2)
-    turned = known.swapaxes(1, 2)
-    factors = numpy.linalg.solve(turned @ known, turned @ shape.modules[:, None])
-    fits = (abs((known @ factors)[..., 0] - shape.modules) <= STRAY).all(axis=1)
-    return first[fits], _Scales(middle[fits], half[fits], factors[fits])
+    sizes = _ENDS[windows.shape]
+    window, begins = each_of(sizes), sizes.cumsum() - sizes
+    end = in_turn((_ENDS.cumsum() - _ENDS)[windows.shape], sizes)
+    places, modules = runs.ends[windows.first[window] + _RUNS[end]], _MODULES[end]
+    powers = _powers((places - middle[window]) / half[window])
+    sums, wanted = (numpy.add.reduceat(each, begins, axis=1) for each in (powers, powers[:4] * modules))
+    factors = _solved(sums, wanted, numpy.where(sizes > _FEW_ENDS, 3, 2))
+    scales = _Scales(middle, half, factors)
+    away = abs(scales.of(window).modules(places) - modules)
+    fits = numpy.maximum.reduceat(away, begins) <= STRAY
+    return windows.where(fits), scales.of(fits)
 
 
-def _straightened(runs: _Runs, first: Indices, count: int, scales: _Scales) -> Tuple[Indices, Widths]:
-    """Those of the windows whose scales rise from run to run, and the widths of their runs on these."""
-    even = numpy.diff(scales.modules(runs.ends[first[:, None] + numpy.arange(count + 1)]))
-    rising = (even > 0).all(axis=1)
+def _powers(places: Ends) -> Ends:
+    """The powers of each place, from 0 up to 6."""
+    powers = numpy.ones((7, len(places)))
+    powers[1:] = places
+    return numpy.multiply.accumulate(powers, axis=0, out=powers)
+
+
+def _solved(sums: Ends, wanted: Ends, degrees: Indices) -> Ends:
+    """The factors of the polynomials of these degrees, 2 or 3, by the sums of the powers of their places, and of these
+    times what is wanted there."""
+    power = numpy.arange(4)[:, None]
+    used = power <= degrees
+    equations = numpy.where(used[:, None] & used, sums[power + power.T], numpy.eye(4)[..., None])
+    factors: Ends = numpy.linalg.solve(equations.transpose(2, 0, 1), (wanted * used).T[..., None])[..., 0].T
+    return factors
+
+
+def _straightened(runs: Runs, windows: _Windows, scales: _Scales) -> Iterator[Tuple[int, int, Widths]]:
+    """The windows whose scales rise from run to run: the first run of each, how many stand between it and its last, and
+    the widths of all on its scale."""
+    count = windows.counts
+    rising = numpy.minimum.reduceat(_even(runs, windows, scales), count.cumsum() - count) > 0
+    windows, scales = windows.where(rising), scales.of(rising)
+    first, count, _ = windows
+    number = numpy.arange(len(count))
+    left, right = (count + 2).cumsum() - count - 2, (count + 2).cumsum() - 1
+    widths = numpy.empty((count + 2).sum())
+    widths[in_turn(left + 1, count)] = numpy.maximum(_spread_out(_even(runs, windows, scales), count), 1 / PARTS)
     # Outside of the symbol the scale is that of its ends.
-    beside = scales.modules(scales.middle + scales.half * [-1.01, -0.99, 0.99, 1.01])
-    scale = numpy.diff(beside)[:, ::2] / 0.02 / scales.half
-    quiet = numpy.clip(runs.widths[first[:, None] + [0, count + 1]] * scale, 0, MOST_QUIET)[rising]
-    dark_and_light = numpy.maximum(_spread_out(even[rising]), 1 / PARTS)
-    widths = numpy.hstack((quiet[:, :1], dark_and_light, quiet[:, 1:])) * PARTS
-    return first[rising], numpy.floor(widths + 0.5).astype(numpy.uint16)
+    for ends, run, place in (left, first, -1), (right, first + count + 1, 1):
+        widths[ends] = numpy.clip(runs.widths[run] * scales.at(place), 0, MOST_QUIET)
+    parts = numpy.floor(widths * PARTS + 0.5).astype(numpy.uint16)
+    for i in number:
+        yield int(first[i]), int(count[i]), parts[left[i]:right[i] + 1]
 
 
-def _powers(places: Ends, degree: int) -> Ends:
-    """The powers of each place, from 0 up to the degree, 2 or 3."""
-    square = places * places
-    return numpy.stack([numpy.ones_like(places), places, square, square * places][:degree + 1], axis=-1)
+def _even(runs: Runs, windows: _Windows, scales: _Scales) -> Ends:
+    """The widths in modules of all runs between the quiet zones of windows, one window behind another."""
+    run, scale = in_turn(windows.first, windows.counts), scales.of(each_of(windows.counts))
+    even: Ends = scale.modules(runs.ends[run + 1]) - scale.modules(runs.ends[run])
+    return even
 
 
-def _spread_out(even: Ends) -> Ends:
-    """The runs of windows, dark first, with all dark ones narrower or wider by one amount, which brings them nearest to
-    whole modules."""
-    signs = numpy.where(numpy.arange(even.shape[1]) % 2 == 0, -1, 1)
-    tried = even[:, None] + _STEPS[:, None] * signs
+def _spread_out(even: Ends, count: Indices) -> Ends:
+    """The runs of windows, dark first, so many in each, with all dark ones of a window narrower or wider by one amount,
+    which brings them nearest to whole modules."""
+    signs = numpy.where(in_turn(numpy.zeros_like(count), count) % 2 == 0, -1, 1)
+    tried = even + _SPREADS[:, None] * signs
     away = tried - numpy.clip(numpy.floor(tried + 0.5), 1, 4)
-    best = (away * away).sum(axis=2).argmin(axis=1)
-    spread: Ends = tried[numpy.arange(len(tried)), best]
+    best = numpy.add.reduceat(away * away, count.cumsum() - count, axis=1).argmin(axis=0)
+    spread: Ends = tried[best.repeat(count), numpy.arange(len(even))]
     return spread
