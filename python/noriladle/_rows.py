@@ -74,26 +74,23 @@ class Grid:
         first = numpy.max([left for left, _ in parts], axis=0)
         last = numpy.min([right for _, right in parts], axis=0)
         enough = last - first >= FEWEST_DOTS
-        lefts, lengths = first[enough], (last - first)[enough].astype(int)
-        if not enough.any():
-            return Rows(middles[enough], lefts, lengths, numpy.zeros(0, numpy.float32))
-        left = lefts.min()
-        size = (int(last[enough].max() - left), self.count)
-        values = numpy.zeros(size[::-1], numpy.float32)
-        for offset in offsets:
-            values += self._values(picture, complex(left, self.top + offset), size)
-        values /= lines
-        begins = (lefts - left).astype(int)
-        parts = [row[begin:begin + length] for row, begin, length in zip(values[enough], begins, lengths)]
-        return Rows(middles[enough], lefts, lengths, numpy.concatenate(parts))
+        vs, lefts, lengths = middles[enough], first[enough], (last - first)[enough].astype(int)
+        # The corners are those of the first dots' boxes, so half a dot before the first dots' places.
+        corners = (lefts - 0.5 + (vs + offsets[0] - 0.5) * 1j) * self.frame
+        return Rows(vs, lefts, lengths, self._values(picture, corners, lengths, lines))
 
-    def _values(self, picture: Image.Image, corner: complex, size: Tuple[int, int]) -> Values:
-        """The grey values of a line through each row, from dot to dot."""
-        along, down = self.frame, self.frame * 1j * self.step
-        # The corner is that of the first dot's box, so half a dot before the first dot's place.
-        start = (corner - 0.5) * self.frame
-        matrix = (along.real, down.real, start.real, along.imag, down.imag, start.imag)
-        return numpy.asarray(picture.transform(size, Image.Transform.AFFINE, matrix, Image.Resampling.BILINEAR))
+    def _values(self, picture: Image.Image, corners: Places, lengths: Indices, lines: int) -> Values:
+        """The mean grey values of so many lines through rows, which begin at these corners and have so many dots."""
+        if not len(corners):
+            return numpy.zeros(0, numpy.float32)
+        along, down = lengths * self.frame, lines * 1j * self.frame
+        quads = numpy.stack((corners, corners + down, corners + down + along, corners + along), axis=1).view(float)
+        boxes = [(0, row * lines, length, (row + 1) * lines) for row, length in enumerate(lengths.tolist())]
+        size = (max(length for _, _, length, _ in boxes), len(boxes) * lines)
+        mesh = list(zip(boxes, quads.tolist()))
+        dots = numpy.asarray(picture.transform(size, Image.Transform.MESH, mesh, Image.Resampling.BILINEAR))
+        means: Values = dots.reshape(len(boxes), lines, -1).sum(axis=1) / lines
+        return means[numpy.arange(size[0]) < lengths[:, None]]
 
     def _parts(self, vs: Ends, width: int, height: int) -> Tuple[Ends, Ends]:
         """The first u of each row in the picture, and the one behind its last; each dot has neighbours all around."""
