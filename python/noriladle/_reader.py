@@ -31,8 +31,10 @@ class Library:
 
         :raises Refusal: what is no row; 42 ``Words`` of a year out of range.
         """
-        lines = _line(self._ask(_library.gs1_c_find, widths))
-        rows = ((first, count, widths[first:first + count]) for first, count in _places(lines))
+        said = self._ask(_library.gs1_c_find, widths)
+        if not said:
+            return []
+        rows = ((first, count, widths[first:first + count]) for first, count in _places(_line(said)))
         return [Found(first, count, self._answer(self._ask(_library.gs1_c_row_elements, row))) for first, count, row in rows]
 
     def row(self, widths: Widths) -> Optional[Answer]:
@@ -110,7 +112,7 @@ def read_rows(library: Library, grey: Grey, level: int) -> List[Placed]:
     bands = _Bands()
     for y, (ends, is_new) in enumerate(_rows(dark)):
         if is_new:
-            found = library.find(numpy.diff(ends).astype(numpy.uint16))
+            found = library.find((ends[1:] - ends[:-1]).astype(numpy.uint16))
             bands.end_where_light(dark[y])
         bands.end_unread(y)
         for symbol in found:
@@ -131,6 +133,6 @@ def _rows(dark: NDArray[numpy.bool_]) -> Iterator[Tuple[NDArray[numpy.int64], bo
     is_new = numpy.append(True, (dark[1:] != dark[:-1]).any(axis=1))
     for y in range(height):
         if is_new[y]:
-            ends = numpy.flatnonzero(edges[y]) - 1
+            ends = edges[y].nonzero()[0] - 1
             ends[0], ends[-1] = 0, width
         yield ends, bool(is_new[y])

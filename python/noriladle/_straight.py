@@ -70,6 +70,8 @@ _ENDS = numpy.array([len(shape.runs) for shape in _ALL])
 _RUNS = numpy.concatenate([shape.runs for shape in _ALL])
 _MODULES = numpy.concatenate([shape.modules for shape in _ALL])
 """How many ends of characters each shape has, and those of all shapes, one behind another."""
+_STEPS = numpy.diff(list(SHAPES), prepend=0).tolist()
+"""How many more runs each number of runs has than the one before it."""
 _FEW_ENDS = 8
 """The most ends by which a scale is of degree 2 and not 3."""
 _SPREADS = numpy.arange(-SPREADS, SPREADS + 1) * MOST_SPREAD / SPREADS
@@ -147,23 +149,31 @@ def _between(runs: Runs) -> Iterator[Tuple[int, Indices]]:
     Both are wide enough for quiet zones: wider than every run between, of which none has more than four modules. So
     even stripes have no window.
     """
-    counts = numpy.bincount(runs.rows)
-    left = counts.cumsum()[runs.rows] - numpy.arange(len(runs.rows))
-    first = numpy.flatnonzero(((counts[runs.rows] - left) % 2 == 0) & (left > min(SHAPES) + 1))
-    quiet, left, widest = runs.widths[first], left[first], numpy.zeros(len(first))
-    steps = numpy.diff(list(SHAPES), prepend=0)
-    widest_of = {step: _widest(runs.widths, step) for step in set(steps)}
-    for count, step in zip(SHAPES, steps):
+    wider = {step: _widest(runs.widths, step) for step in set(_STEPS)}
+    first, left = _quiet(runs)
+    quiet, start, widest = runs.widths[first], runs.ends[first], numpy.zeros(len(first))
+    for count, step in zip(SHAPES, _STEPS):
         if not len(first):
             return
-        widest = numpy.maximum(widest, widest_of[step].take(first + (count - step + 1), mode="clip"))
-        inner = runs.ends.take(first + count, mode="clip") - runs.ends[first]
+        widest = numpy.maximum(widest, wider[step].take(first + (count - step + 1), mode="clip"))
+        inner = runs.ends.take(first + count, mode="clip") - start
         may_be = (widest < quiet) & (count + 1 < left) & (inner * QUIET <= quiet * count * WIDEST_MEAN)
-        first, quiet, left, widest, inner = (each[may_be] for each in (first, quiet, left, widest, inner))
+        first, left, quiet, start, widest, inner = (each[may_be] for each in (first, left, quiet, start, widest, inner))
         least = numpy.maximum(widest, inner * QUIET * ASLANT / SHAPES[count][0].width)
         wide = numpy.minimum(quiet, runs.widths[first + count + 1]) >= least
         if wide.any():
             yield count, first[wide]
+
+
+def _quiet(runs: Runs) -> Tuple[Indices, Indices]:
+    """The light runs that are wider than each of the runs behind them, as many as the least symbol has; and how many
+    runs the row of each has from it on."""
+    counts, least = numpy.bincount(runs.rows), min(SHAPES)
+    number = in_turn(numpy.zeros_like(counts), counts)
+    left = counts.repeat(counts) - number
+    first = numpy.flatnonzero((number % 2 == 0) & (left > least + 1))
+    quiet = first[runs.widths[first] > _widest(runs.widths, least)[first + 1]]
+    return quiet, left[quiet]
 
 
 def _widest(widths: Ends, count: int) -> Ends:
