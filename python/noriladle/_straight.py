@@ -70,8 +70,8 @@ _ENDS = numpy.array([len(shape.runs) for shape in _ALL])
 _RUNS = numpy.concatenate([shape.runs for shape in _ALL])
 _MODULES = numpy.concatenate([shape.modules for shape in _ALL])
 """How many ends of characters each shape has, and those of all shapes, one behind another."""
-_STEPS = numpy.diff(list(SHAPES), prepend=0).tolist()
-"""How many more runs each number of runs has than the one before it."""
+_MOST_MORE = max(more - few for few, more in zip(list(SHAPES), list(SHAPES)[1:]))
+"""How many more runs a symbol has than one of the next lower number, at most."""
 _FEW_ENDS = 8
 """The most ends by which a scale is of degree 2 and not 3."""
 _SPREADS = numpy.arange(-SPREADS, SPREADS + 1) * MOST_SPREAD / SPREADS
@@ -149,13 +149,12 @@ def _between(runs: Runs) -> Iterator[Tuple[int, Indices]]:
     Both are wide enough for quiet zones: wider than every run between, of which none has more than four modules. So
     even stripes have no window.
     """
-    wider = {step: _widest(runs.widths, step) for step in set(_STEPS)}
-    first, left = _quiet(runs)
-    quiet, start, widest = runs.widths[first], runs.ends[first], numpy.zeros(len(first))
-    for count, step in zip(SHAPES, _STEPS):
+    first, left, widest = _quiet(runs)
+    quiet, start, last = runs.widths[first], runs.ends[first], _widest(runs.widths, _MOST_MORE)
+    for count in SHAPES:
         if not len(first):
             return
-        widest = numpy.maximum(widest, wider[step].take(first + (count - step + 1), mode="clip"))
+        widest = numpy.maximum(widest, last.take(first + (count - _MOST_MORE + 1), mode="clip"))
         inner = runs.ends.take(first + count, mode="clip") - start
         may_be = (widest < quiet) & (count + 1 < left) & (inner * QUIET <= quiet * count * WIDEST_MEAN)
         first, left, quiet, start, widest, inner = (each[may_be] for each in (first, left, quiet, start, widest, inner))
@@ -165,15 +164,16 @@ def _between(runs: Runs) -> Iterator[Tuple[int, Indices]]:
             yield count, first[wide]
 
 
-def _quiet(runs: Runs) -> Tuple[Indices, Indices]:
-    """The light runs that are wider than each of the runs behind them, as many as the least symbol has; and how many
-    runs the row of each has from it on."""
+def _quiet(runs: Runs) -> Tuple[Indices, Indices, Ends]:
+    """The light runs that are wider than each of the runs behind them, as many as the least symbol has; how many runs
+    the row of each has from it on; and the widest of those behind it."""
     counts, least = numpy.bincount(runs.rows), min(SHAPES)
     number = in_turn(numpy.zeros_like(counts), counts)
     left = counts.repeat(counts) - number
-    first = numpy.flatnonzero((number % 2 == 0) & (left > least + 1))
-    quiet = first[runs.widths[first] > _widest(runs.widths, least)[first + 1]]
-    return quiet, left[quiet]
+    first = numpy.flatnonzero((number & 1 == 0) & (left > least + 1))
+    widest = _widest(runs.widths, least)[first + 1]
+    wide = runs.widths[first] > widest
+    return first[wide], left[first[wide]], widest[wide]
 
 
 def _widest(widths: Ends, count: int) -> Ends:
