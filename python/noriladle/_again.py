@@ -5,12 +5,11 @@ from dataclasses import dataclass
 from typing import Iterator, List, NamedTuple
 
 import numpy
-from PIL import Image
 
 from . import Answer
 from ._found import Placed, joined
 from ._reader import ROWS_AGAINST, Grey, Library
-from ._rows import Grid, Rows, Runs, bounds_of, runs_of, sharpened
+from ._rows import Grid, Pixels, Rows, Runs, bounds_of, runs_of, sharpened
 from ._straight import read_windows
 from ._stripes import FEWEST_BLOCKS, striped_blocks
 
@@ -42,14 +41,12 @@ def look_again(library: Library, grey: Grey, shown: List[Placed]) -> List[Placed
     """
     symbols = shown
     blocks = striped_blocks(grey, symbols)
-    picture = None
+    picture = Pixels(grey)
     for angle, mine in blocks.directions():
         left = blocks.rest(mine, symbols)
         for look in LOOKS:
             if numpy.count_nonzero(left) < FEWEST_BLOCKS:
                 break
-            if picture is None:
-                picture = Image.fromarray(grey.astype(numpy.float32))
             grid = Grid(angle, blocks.centres[left], blocks.side, look.rows)
             for symbol in _along(library, grid, picture, look):
                 symbols = joined(symbols, symbol)
@@ -57,7 +54,7 @@ def look_again(library: Library, grey: Grey, shown: List[Placed]) -> List[Placed
     return symbols
 
 
-def _along(library: Library, grid: Grid, picture: Image.Image, look: Look) -> List[Placed]:
+def _along(library: Library, grid: Grid, picture: Pixels, look: Look) -> List[Placed]:
     """The symbols that the rows of a grid show."""
     rows, tally = grid.rows(picture, look.lines), _Tally(grid)
     if not len(rows.vs):

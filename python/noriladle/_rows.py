@@ -3,6 +3,7 @@ from __future__ import annotations
 
 import cmath
 import math
+from functools import cached_property
 from typing import NamedTuple, Tuple
 
 import numpy
@@ -51,11 +52,31 @@ class Runs(NamedTuple):
     widths: Ends
 
 
+class Pixels:
+    """The grey values of a picture, in the forms that rows are taken from."""
+
+    def __init__(self, grey: NDArray[numpy.uint8]) -> None:
+        self.size = grey.shape[1], grey.shape[0]
+        self._turned = {0: grey}
+
+    @cached_property
+    def image(self) -> Image.Image:
+        """The picture with floating-point numbers, so that values between its dots are not rounded."""
+        return Image.fromarray(self._turned[0].astype(numpy.float32))
+
+    def turned(self, quarters: int) -> NDArray[numpy.uint8]:
+        """The picture turned to the left by so many quarters, -1 to 1."""
+        if quarters not in self._turned:
+            self._turned[quarters] = numpy.ascontiguousarray(numpy.rot90(self._turned[0], quarters))
+        return self._turned[quarters]
+
+
 class Grid:
     """The rows across the stripes of a direction, in a frame of its angle: through all of its blocks, and beyond."""
 
     def __init__(self, angle: float, centres: Places, side: int, rows: int) -> None:
         self.frame = cmath.rect(1, angle)
+        self.quarters = round(angle / (math.pi / 2))
         turned = centres * self.frame.conjugate()
         us, vs = turned.real, turned.imag
         beyond = (us.max() - us.min() + 2 * side) * BEYOND + side
@@ -65,9 +86,8 @@ class Grid:
         self.step = max(1.0, height / rows)
         self.count = max(1, int(height / self.step))
 
-    def rows(self, picture: Image.Image, lines: int) -> Rows:
-        """The rows, each the mean of so many lines a dot apart, as far as all of these lie in the picture, which has
-        floating-point numbers."""
+    def rows(self, picture: Pixels, lines: int) -> Rows:
+        """The rows, each the mean of so many lines a dot apart, as far as all of these lie in the picture."""
         middles = self.top + (numpy.arange(self.count) + 0.5) * self.step
         offsets = numpy.arange(lines) - (lines - 1) / 2
         parts = [self._parts(middles + offset, *picture.size) for offset in offsets]
@@ -75,22 +95,40 @@ class Grid:
         last = numpy.min([right for _, right in parts], axis=0)
         enough = last - first >= FEWEST_DOTS
         vs, lefts, lengths = middles[enough], first[enough], (last - first)[enough].astype(int)
-        # The corners are those of the first dots' boxes, so half a dot before the first dots' places.
-        corners = (lefts - 0.5 + (vs + offsets[0] - 0.5) * 1j) * self.frame
-        return Rows(vs, lefts, lengths, self._values(picture, corners, lengths, lines))
+        if not enough.any():
+            return Rows(vs, lefts, lengths, numpy.zeros(0, numpy.float32))
+        take = self._upright if abs(self.frame - 1j ** self.quarters) < 1e-9 else self._aslant
+        return Rows(vs, lefts, lengths, take(picture, vs + offsets[0], lefts, lengths, lines))
 
-    def _values(self, picture: Image.Image, corners: Places, lengths: Indices, lines: int) -> Values:
-        """The mean grey values of so many lines through rows, which begin at these corners and have so many dots."""
-        if not len(corners):
-            return numpy.zeros(0, numpy.float32)
+    def _aslant(self, picture: Pixels, vs: Ends, lefts: Ends, lengths: Indices, lines: int) -> Values:
+        """The mean grey values of so many lines of each row, of which the first are told: of the four dots around."""
+        # The corners are those of the first dots' boxes, so half a dot before the first dots' places.
+        corners = (lefts - 0.5 + (vs - 0.5) * 1j) * self.frame
         along, down = lengths * self.frame, lines * 1j * self.frame
         quads = numpy.stack((corners, corners + down, corners + down + along, corners + along), axis=1).view(float)
         boxes = [(0, row * lines, length, (row + 1) * lines) for row, length in enumerate(lengths.tolist())]
         size = (max(length for _, _, length, _ in boxes), len(boxes) * lines)
         mesh = list(zip(boxes, quads.tolist()))
-        dots = numpy.asarray(picture.transform(size, Image.Transform.MESH, mesh, Image.Resampling.BILINEAR))
+        dots = numpy.asarray(picture.image.transform(size, Image.Transform.MESH, mesh, Image.Resampling.BILINEAR))
         means: Values = dots.reshape(len(boxes), lines, -1).sum(axis=1) / lines
         return means[numpy.arange(size[0]) < lengths[:, None]]
+
+    def _upright(self, picture: Pixels, vs: Ends, lefts: Ends, lengths: Indices, lines: int) -> Values:
+        """The same along the rows or the columns of the picture: of the two dots around."""
+        turned = picture.turned(self.quarters)
+        # The turned picture has its upper left corner at one of the picture's corners.
+        left, top = (-turned.shape[1] if self.quarters < 0 else 0), (-turned.shape[0] if self.quarters > 0 else 0)
+        first, last = lefts.min(), (lefts + lengths).max()
+        dots = slice(int(first - left), int(last - left))
+        means = numpy.zeros((len(vs), int(last - first)), numpy.float32)
+        for line in range(lines):
+            ys = vs + line - top - 0.5
+            rows = numpy.floor(ys).astype(int)
+            above, below = turned[rows, dots].astype(float), turned[numpy.minimum(rows + 1, len(turned) - 1), dots]
+            means += (above + (below - above) * (ys - rows)[:, None]).astype(numpy.float32)
+        dot = numpy.arange(means.shape[1]) + first
+        values: Values = means[(lefts[:, None] <= dot) & (dot < (lefts + lengths)[:, None])]
+        return values / lines
 
     def _parts(self, vs: Ends, width: int, height: int) -> Tuple[Ends, Ends]:
         """The first u of each row in the picture, and the one behind its last; each dot has neighbours all around."""
@@ -128,7 +166,8 @@ def bounds_of(rows: Rows) -> Bounds:
     # Two blocks of no dots stand beside each row.
     places = numpy.arange(len(row)) + 2 * row + 2
     least, most = (numpy.full(len(row) + 2 * len(counts) + 2, value, numpy.float32) for value in (255, 0))
-    least[places], most[places] = numpy.minimum.reduceat(rows.values, starts), numpy.maximum.reduceat(rows.values, starts)
+    least[places] = numpy.minimum.reduceat(rows.values, starts)
+    most[places] = numpy.maximum.reduceat(rows.values, starts)
     low = numpy.minimum.reduce([least[places + away] for away in range(-2, 3)])
     high = numpy.maximum.reduce([most[places + away] for away in range(-2, 3)])
     return Bounds(low, high, numpy.diff(starts, append=len(rows.values)))
@@ -194,7 +233,8 @@ def sharpened(rows: Rows, bounds: Bounds, blur: float) -> Rows:
     reach, starts, lengths = len(half) - 1, rows.starts, rows.lengths
     wide = lengths + 2 * reach
     dots = numpy.clip(in_turn(starts - reach, wide), starts.repeat(wide), (starts + lengths - 1).repeat(wide))
-    values, low, high = (each[dots] for each in (rows.values, bounds.low.repeat(bounds.dots), bounds.high.repeat(bounds.dots)))
+    low, high = (each.repeat(bounds.dots) for each in (bounds.low, bounds.high))
+    values, low, high = (each[dots] for each in (rows.values, low, high))
     first = wide.cumsum() - wide + reach
     last, beside = first + lengths - 1, numpy.arange(1, reach + 1)
     clear = values
