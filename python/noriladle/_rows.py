@@ -227,8 +227,7 @@ def sharpened(rows: Rows, bounds: Bounds, blur: float) -> Rows:
     """Rows without a blur of this standard deviation, in dots (the method of Van Cittert, within the bounds of each
     row, as Jansson has it)."""
     half = numpy.exp(-(numpy.arange(math.ceil(2.5 * blur) + 1) / blur) ** 2 / 2)
-    bell = numpy.concatenate((half[:0:-1], half)).astype(numpy.float32)
-    bell /= bell.sum()
+    bell = (half / (2 * half.sum() - half[0])).astype(numpy.float32)
     # Beyond its ends a row is as its first and its last dot.
     reach, starts, lengths = len(half) - 1, rows.starts, rows.lengths
     wide = lengths + 2 * reach
@@ -239,11 +238,20 @@ def sharpened(rows: Rows, bounds: Bounds, blur: float) -> Rows:
     last, beside = first + lengths - 1, numpy.arange(1, reach + 1)
     clear = values
     for _ in range(ROUNDS):
-        clear = clear + (values - numpy.convolve(clear, bell, "same"))
+        clear = clear + (values - _blurred(clear, bell))
         numpy.minimum(numpy.maximum(clear, low, out=clear), high, out=clear)
         clear[first[:, None] - beside] = clear[first, None]
         clear[last[:, None] + beside] = clear[last, None]
     return rows._replace(values=clear[in_turn(first, lengths)])
+
+
+def _blurred(values: Values, bell: Values) -> Values:
+    """The values by a bell, of which the right half is told; those at the ends, which have too few beside them, are
+    none that count."""
+    blurred: Values = bell[0] * values
+    for away, part in enumerate(bell[1:], 1):
+        blurred[away:-away] += part * (values[:-2 * away] + values[2 * away:])
+    return blurred
 
 
 def each_of(counts: Indices) -> Indices:
