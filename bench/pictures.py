@@ -36,12 +36,21 @@ def photograph(chance):
     return numpy.clip(seen * numpy.linspace(1, 0.4, 1600) + chance.normal(0, 6, seen.shape), 0, 255).astype(numpy.uint8)
 
 
+def four_ways(stripes, chance):
+    """Squares of 128 dots, whose stripes go one of four ways: as many as read_picture looks along."""
+    whole = Image.fromarray(numpy.tile(stripes, (2, 2)))
+    turned = numpy.stack([numpy.asarray(whole.rotate(angle, **TURN))[600:1800, 800:2400] for angle in (10, 55, 100, 145)])
+    way = chance.randint(0, 4, (10, 13)).repeat(128, axis=0).repeat(128, axis=1)[:1200, :1600]
+    return numpy.take_along_axis(turned, way[None], axis=0)[0]
+
+
 def main():
     chance = numpy.random.RandomState(7)
     stripes = numpy.repeat(chance.randint(0, 2, (40, 1600)) * 200, 30, axis=0).astype(numpy.uint8)
     pictures = {
         "four labels": sheet(), "four labels turned by 25 degrees": sheet().rotate(25, **TURN), "a photograph": photograph(chance),
         "noise": chance.randint(0, 256, (1200, 1600), dtype=numpy.uint8), "stripes all over": stripes,
+        "stripes all over turned by 25 degrees": Image.fromarray(stripes).rotate(25, **TURN), "stripes four ways": four_ways(stripes, chance),
         "noise, 8,000 by 8,000": chance.randint(0, 256, (8000, 8000), dtype=numpy.uint8),
     }
     for name, picture in pictures.items():
