@@ -70,10 +70,8 @@ _ENDS = numpy.array([len(shape.runs) for shape in _ALL])
 _RUNS = numpy.concatenate([shape.runs for shape in _ALL])
 _MODULES = numpy.concatenate([shape.modules for shape in _ALL])
 """How many ends of characters each shape has, and those of all shapes, one behind another."""
-_MOST_MORE = max(more - few for few, more in zip(list(SHAPES), list(SHAPES)[1:]))
-"""How many more runs a symbol has than one of the next lower number, at most."""
-_FEW_ENDS = 8
-"""The most ends by which a scale is of degree 2 and not 3."""
+_DEGREES = numpy.array([3 if len(shape.runs) > 8 else 2 for shape in _ALL])
+"""The degree of each shape's scale."""
 _SPREADS = numpy.arange(-SPREADS, SPREADS + 1) * MOST_SPREAD / SPREADS
 
 
@@ -150,11 +148,14 @@ def _between(runs: Runs) -> Iterator[Tuple[int, Indices]]:
     even stripes have no window.
     """
     first, left, widest = _quiet(runs)
-    quiet, start, last = runs.widths[first], runs.ends[first], _widest(runs.widths, _MOST_MORE)
+    quiet, start = runs.widths[first], runs.ends[first]
+    # So many runs more has one symbol than another, at most.
+    more = int(numpy.diff(list(SHAPES)).max())
+    last = _widest(runs.widths, more)
     for count in SHAPES:
         if not len(first):
             return
-        widest = numpy.maximum(widest, last.take(first + (count - _MOST_MORE + 1), mode="clip"))
+        widest = numpy.maximum(widest, last.take(first + (count - more + 1), mode="clip"))
         inner = runs.ends.take(first + count, mode="clip") - start
         may_be = (widest < quiet) & (count + 1 < left) & (inner * QUIET <= quiet * count * WIDEST_MEAN)
         first, left, quiet, start, widest, inner = (each[may_be] for each in (first, left, quiet, start, widest, inner))
@@ -195,7 +196,7 @@ def _fitting(runs: Runs, windows: _Windows) -> Tuple[_Windows, _Scales]:
     places, modules = runs.ends[windows.first[window] + _RUNS[end]], _MODULES[end]
     powers = _powers((places - middle[window]) / half[window])
     sums, wanted = (numpy.add.reduceat(each, begins, axis=1) for each in (powers, powers[:4] * modules))
-    factors = _solved(sums, wanted, numpy.where(sizes > _FEW_ENDS, 3, 2))
+    factors = _solved(sums, wanted, _DEGREES[windows.shape])
     scales = _Scales(middle, half, factors)
     away = abs(scales.of(window).modules(places) - modules)
     fits = numpy.maximum.reduceat(away, begins) <= STRAY
