@@ -104,6 +104,11 @@ def test_reads_what_a_photograph_shows():
     assert texts(numpy.clip(noisy, 0, 255).astype(numpy.uint8)) == [str(READ)]
 
 
+def test_takes_a_blur_out():
+    image, _ = turned(30)
+    assert texts(image.filter(ImageFilter.GaussianBlur(1.5))) == [str(READ)]
+
+
 def test_reads_by_a_level_alone_where_one_is_given():
     light = numpy.where(GREY > 128, 230, 150).astype(numpy.uint8)
     assert [texts(light, level=level) for level in (1, 150, 151, 230, 231, 255)] == [[], [], [str(READ)], [str(READ)], [], []]
