@@ -237,7 +237,8 @@ def test_lanes_move_to_another_node():
             ask(new, "CLUSTER", "SETSLOT", slot, "IMPORTING", names[old])
             ask(old, "CLUSTER", "SETSLOT", slot, "MIGRATING", names[new])
             for key in ask(old, "CLUSTER", "GETKEYSINSLOT", slot, 10).split():
-                assert ask(old, "MIGRATE", "127.0.0.1", new, key, 0, 5000) == "OK"
+                # A key may run out after it was listed.
+                assert ask(old, "MIGRATE", "127.0.0.1", new, key, 0, 5000) in ("OK", "NOKEY")
                 time.sleep(0.05)
             for port in (new, old, *cluster.ports):
                 ask(port, "CLUSTER", "SETSLOT", slot, "NODE", names[new])
