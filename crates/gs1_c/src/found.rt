@@ -52,7 +52,7 @@ fn line_of(window: &Window) -> ArrayVec<u8, MOST>
 }
 
 /// Puts a line into `out` from `at` on where it has room for it, and says where the line ends.
-fn put_line(line: &[u8], at: usize, out: &mut [u8]) -> usize
+fn put_fitting(line: &[u8], at: usize, out: &mut [u8]) -> usize
     requires { at + length line.now < 2 ^ 64 }
     ensures end { result ≡ at + length line.now }
     ensures put { at + length line.now ≤ length out.old → out.new ≡ pasted out.old at line.now }
@@ -103,7 +103,7 @@ fn put_made(window: &Window, at: usize, out: &mut [u8]) -> usize
     ensures put { at + length (symbol_line window.now) ≤ length out.old → out.new ≡ pasted out.old at (symbol_line window.now) }
     ensures unchanged { length out.old < at + length (symbol_line window.now) → out.new ≡ out.old }
 {
-    put_line(line_of(window).as_slice(), at, out)
+    put_fitting(line_of(window).as_slice(), at, out)
 }
 
 /// The same, in the shorter way where there is room for any line.
