@@ -7,8 +7,8 @@ use Rattle.gs1_hub.specs.Runs.{Wrote}
 use Rattle.gs1_hub.specs.commands.{command_of}
 use Rattle.gs1_hub.specs.declared.fault.CommandFault.{CommandFault}
 use Rattle.gs1_hub.specs.declared.fault.CommandFault.TheVariants as command
-use Rattle.gs1_hub.specs.declared.commands.Batch.{Batch}
-use Rattle.gs1_hub.specs.declared.commands.Batch.TheVariants as batch
+use Rattle.words_core.specs.declared.commands.Batch.{Batch}
+use Rattle.words_core.specs.declared.commands.Batch.TheVariants as batch
 
 -- it took a front, and the rest waits or did not come
 pub took_front : (a b c : Option (List ℕ)) (first last text : List ℕ) → IfSome a (λ bytes. bytes ≡ []) → first ≡ [] → TookFront (append_known a first) b text

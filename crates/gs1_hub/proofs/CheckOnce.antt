@@ -12,11 +12,11 @@ use Rattle.element_core.specs.Elements.{OneListOrFault, hri}
 use Rattle.element_core.specs.Faults.{element_fault_text}
 use Rattle.element_core.specs.Lines.{IsDigitAnswer, IsElementsLine, line_of_gtin, line_text}
 use Rattle.element_core.specs.declared.line.Line.{Line}
-use Rattle.line_core.specs.check.Checks.{IsLineAs, IsLineBy, IsUpceLine, IsUpceRefused, IsUpceText, check_kind_named, check_meaning, check_report, spelling_fault}
-use Rattle.line_core.specs.input.Records.{AreItems, Fields, records_of}
-use Rattle.line_core.specs.input.Spelling.{spelled_text}
-use Rattle.line_core.specs.declared.check.answer.CheckKind.{CheckKind}
-use Rattle.line_core.specs.declared.check.answer.CheckKind.TheVariants as kind
+use Rattle.record_core.specs.check.Checks.{IsLineAs, IsLineBy, IsUpceLine, IsUpceRefused, IsUpceText, check_kind_named, check_meaning, check_report, spelling_fault}
+use Rattle.record_core.specs.input.Records.{AreItems, Fields, records_of}
+use Rattle.record_core.specs.input.Spelling.{spelled_text}
+use Rattle.record_core.specs.declared.check.answer.CheckKind.{CheckKind}
+use Rattle.record_core.specs.declared.check.answer.CheckKind.TheVariants as kind
 use Rattle.gs1_hub.specs.commands.Checks.{OneCheck}
 
 -- the last digit adds itself to the weighted sum

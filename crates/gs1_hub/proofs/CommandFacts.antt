@@ -7,23 +7,23 @@ use Rattle.std.proofs.lemmas.List.Elements.{All-cons, All-head, All-nil, All-tai
 use Rattle.sheet_core.specs.Bitmaps.{Bitmap}
 use Rattle.sheet_core.specs.Grids.{IsGrid}
 use Rattle.sheet_core.specs.pbm.Images.{ReadsBytes, images_of}
-use Rattle.line_core.specs.Grids.{cells_of}
-use Rattle.line_core.specs.answers.Reports.{IsReport}
-use Rattle.line_core.specs.input.Records.{Meaning, Takes}
-use Rattle.line_core.specs.scan.Columns.{AreColumns, HaveDots, column_dots, have_size}
-use Rattle.line_core.specs.declared.answers.serving.AnswerFault.{AnswerFault}
-use Rattle.line_core.specs.declared.answers.serving.AnswerFault.TheVariants as answers
-use Rattle.line_core.specs.answers.Rows.{RefusesRows}
-use Rattle.line_core.specs.declared.answers.rows.RowsFault.{RowsFault}
-use Rattle.line_core.specs.declared.answers.rows.RowsFault.TheVariants as rows
-use Rattle.line_core.specs.declared.input.fault.RecordsFault.TheVariants as records
+use Rattle.record_core.specs.Grids.{cells_of}
+use Rattle.answer_core.specs.answers.Reports.{IsReport}
+use Rattle.record_core.specs.input.Records.{Meaning, Takes}
+use Rattle.answer_core.specs.Columns.{AreColumns, HaveDots, column_dots, have_size}
+use Rattle.answer_core.specs.declared.answers.serving.AnswerFault.{AnswerFault}
+use Rattle.answer_core.specs.declared.answers.serving.AnswerFault.TheVariants as answers
+use Rattle.answer_core.specs.answers.Rows.{RefusesRows}
+use Rattle.answer_core.specs.declared.answers.rows.RowsFault.{RowsFault}
+use Rattle.answer_core.specs.declared.answers.rows.RowsFault.TheVariants as rows
+use Rattle.record_core.specs.declared.input.fault.RecordsFault.TheVariants as records
 use Rattle.gs1_hub.specs.Faults.{of_answers, of_rows}
 use Rattle.gs1_hub.specs.Runs.{WritesRecords, Wrote}
 use Rattle.gs1_hub.specs.commands.Lanes.{RefusesLanes}
 use Rattle.gs1_hub.specs.commands.Scans.{RefusesScan, scan_command}
 use Rattle.gs1_hub.specs.declared.fault.CommandFault.{CommandFault}
 use Rattle.gs1_hub.specs.declared.fault.CommandFault.TheVariants as command
-use Rattle.gs1_hub.specs.declared.commands.scan.options.ScanOptions.{ScanOptions}
+use Rattle.words_core.specs.declared.commands.scan.options.ScanOptions.{ScanOptions}
 
 -- records were taken, and a sink took a prefix of their text
 pub records_cut : {Item : Type 0} (means : Meaning Item) (made : List Item → Type 0) (output : List Item → List ℕ → Type 0) (refuses : _)

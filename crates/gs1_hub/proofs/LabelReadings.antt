@@ -11,10 +11,10 @@ use Rattle.sheet_core.specs.declared.kind.GtinKind.TheVariants as gtin_kind
 use Rattle.sheet_core.specs.declared.kind.LabelKind.{LabelKind}
 use Rattle.sheet_core.specs.declared.kind.LabelKind.TheVariants as kind
 use Rattle.sheet_core.specs.declared.label.Label.{Label}
-use Rattle.line_core.specs.input.Spelling.{spelled_text}
-use Rattle.line_core.specs.print.Labels.{IsElementLabel, IsGtinLabel, IsLabelAs, IsLabelBy, print_meaning}
-use Rattle.line_core.specs.scan.Printed.{SaysElements}
-use Rattle.line_core.specs.input.Records.{AreItems, Fields}
+use Rattle.record_core.specs.input.Spelling.{spelled_text}
+use Rattle.record_core.specs.print.Labels.{IsElementLabel, IsGtinLabel, IsLabelAs, IsLabelBy, print_meaning}
+use Rattle.answer_core.specs.Printed.{SaysElements}
+use Rattle.record_core.specs.input.Records.{AreItems, Fields}
 
 module _ (checked : GtinsAreChecked) (gtin : GtinReads) (canonical : CanonicalReads) (year : ℕ) where
   -- the label of a GTIN, as whichever kind, says its element

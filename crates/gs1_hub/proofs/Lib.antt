@@ -1,15 +1,9 @@
-pub mod AskedFacts
 pub mod BufferFacts
 pub mod CheckOnce
 pub mod CommandFacts
 pub mod CountFacts
-pub mod Flags
 pub mod LabelReadings
-pub mod Matches
-pub mod NumberRows
 pub mod OnceFacts
 pub mod PlaceFacts
 pub mod PrintOnce
 pub mod ScannedFacts
-pub mod TakenWords
-pub mod WalkKeeps

@@ -6,14 +6,14 @@ use Rattle.scan_core.specs.Answers.{IsAnswer, Reads}
 use Rattle.scan_core.specs.Laws.{OneAnswer, RowOrFault}
 use Rattle.scan_core.specs.Row.{IsRow, inner, runs_fault}
 use Rattle.scan_core.specs.declared.answer.Answer.{Answer}
-use Rattle.line_core.specs.answers.Reports.{report}
-use Rattle.line_core.specs.input.Records.{AreItems, Fields, Mean, Meaning, records_of}
-use Rattle.line_core.specs.lanes.Feeds.{LaneRow, feed_of, feeds_of, is_lane, lane_row, lanes_meaning, row_or}
-use Rattle.line_core.specs.lanes.Widths.{are_widths, field_fault, widths_in, words_of}
-use Rattle.line_core.specs.declared.input.fault.RecordFault.{RecordFault}
-use Rattle.line_core.specs.declared.input.fault.RecordFault.TheVariants as fault
+use Rattle.answer_core.specs.answers.Reports.{report}
+use Rattle.record_core.specs.input.Records.{AreItems, Fields, Mean, Meaning, records_of}
+use Rattle.record_core.specs.lanes.Feeds.{LaneRow, feed_of, feeds_of, is_lane, lane_row, lanes_meaning, row_or}
+use Rattle.record_core.specs.lanes.Widths.{are_widths, field_fault, widths_in, words_of}
+use Rattle.record_core.specs.declared.input.fault.RecordFault.{RecordFault}
+use Rattle.record_core.specs.declared.input.fault.RecordFault.TheVariants as fault
 use Rattle.gs1_hub.specs.commands.Lanes.{OneLanes}
-use Rattle.line_core.proofs.Beside.{same_beside}
+use Rattle.record_core.proofs.Beside.{same_beside}
 
 -- where each record means one item at most, bytes mean one list of items
 pub mean_once : {Item : Type 0} (means : Meaning Item) → ((fields : Fields) (x y : Item) → means fields (Ok x) → means fields (Ok y) → x ≡ y)

@@ -10,8 +10,8 @@ use Rattle.sheet_core.specs.Drawing.{cell_count, sheet_count}
 use Rattle.sheet_core.specs.Grids.{Cells}
 use Rattle.scan_core.specs.Row.{IsRow, dots_of}
 use Rattle.gs1_hub.specs.Laws.{AnswersByPlace, RowsByPlace}
-use Rattle.line_core.specs.scan.Columns.{HaveDots, column_cells, column_dots}
-use Rattle.line_core.specs.scan.Printed.{cell_answer, sheet_answers}
+use Rattle.answer_core.specs.Columns.{HaveDots, column_cells, column_dots}
+use Rattle.answer_core.specs.Printed.{cell_answer, sheet_answers}
 
 get_first : {A : Type 0} (xs ys : List A) (j : ℕ) → j < length xs → slice_get (xs ++ ys) j ≡ slice_get xs j
 get_first [] ys j low = absurd (omega (arith, low))

@@ -10,13 +10,13 @@ use Rattle.sheet_core.specs.declared.kind.LabelKind.{LabelKind}
 use Rattle.sheet_core.specs.declared.kind.LabelKind.TheVariants as kind
 use Rattle.sheet_core.specs.declared.label.Label.{Label}
 use Rattle.sheet_core.specs.declared.label.Label.TheVariants as label
-use Rattle.line_core.specs.Grids.{cells_of}
-use Rattle.line_core.specs.input.Records.{Fields}
-use Rattle.line_core.specs.input.Spelling.{spelled_text}
-use Rattle.line_core.specs.print.Labels.{IsElementLabel, IsLabelAs, IsLabelBy, print_meaning}
+use Rattle.record_core.specs.Grids.{cells_of}
+use Rattle.record_core.specs.input.Records.{Fields}
+use Rattle.record_core.specs.input.Spelling.{spelled_text}
+use Rattle.record_core.specs.print.Labels.{IsElementLabel, IsLabelAs, IsLabelBy, print_meaning}
 use Rattle.gs1_hub.specs.commands.Prints.{IsPrinted, OnePrint}
-use Rattle.gs1_hub.specs.declared.commands.print.options.Output.{Output}
-use Rattle.gs1_hub.specs.declared.commands.print.options.Output.TheVariants as output
+use Rattle.words_core.specs.declared.commands.print.options.Output.{Output}
+use Rattle.words_core.specs.declared.commands.print.options.Output.TheVariants as output
 use Rattle.gs1_hub.proofs.OnceFacts.{mean_once}
 
 module _ (one : OneListOrFault) (year : ℕ) where

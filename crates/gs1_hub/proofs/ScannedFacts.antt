@@ -13,18 +13,18 @@ use Rattle.sheet_core.specs.Labels.{IsDrawn}
 use Rattle.sheet_core.specs.Laws.{PrintedIsRead}
 use Rattle.sheet_core.specs.pbm.Images.{images_of}
 use Rattle.sheet_core.specs.declared.label.Label.{Label}
-use Rattle.line_core.specs.Grids.{cells_of}
-use Rattle.line_core.specs.answers.Reports.{report}
-use Rattle.line_core.specs.input.Records.{AreItems, Fields}
-use Rattle.line_core.specs.print.Labels.{print_meaning}
-use Rattle.line_core.specs.scan.Columns.{has_size, have_size}
-use Rattle.line_core.specs.scan.Printed.{AreScanned, PrintedAnswer, SaysElements, ScannedOnce, labels_answers, labels_report}
+use Rattle.record_core.specs.Grids.{cells_of}
+use Rattle.answer_core.specs.answers.Reports.{report}
+use Rattle.record_core.specs.input.Records.{AreItems, Fields}
+use Rattle.record_core.specs.print.Labels.{print_meaning}
+use Rattle.answer_core.specs.Columns.{has_size, have_size}
+use Rattle.answer_core.specs.Printed.{AreScanned, PrintedAnswer, SaysElements, ScannedOnce, labels_answers, labels_report}
 use Rattle.gs1_hub.specs.Laws.{IsPrintFor, PrintedIsAnswered, PrintedIsScanned}
 use Rattle.gs1_hub.specs.commands.Prints.{IsPrinted}
 use Rattle.gs1_hub.specs.commands.Scans.{AreImages, IsScan, OneScan}
-use Rattle.gs1_hub.specs.declared.commands.print.options.Output.TheVariants as output
-use Rattle.gs1_hub.specs.declared.commands.print.options.PrintOptions.{PrintOptions}
-use Rattle.gs1_hub.specs.declared.commands.scan.options.ScanOptions.{ScanOptions}
+use Rattle.words_core.specs.declared.commands.print.options.Output.TheVariants as output
+use Rattle.words_core.specs.declared.commands.print.options.PrintOptions.{PrintOptions}
+use Rattle.words_core.specs.declared.commands.scan.options.ScanOptions.{ScanOptions}
 
 -- the labels of records say their elements
 abbrev LabelsSay : Type 0

@@ -1,5 +1,5 @@
 -- The texts of faults, and how those of one layer become those of the next.
-use Rattle.std.specs.Prelude.{◌++◌, ℕ, List, codes, string_bytes}
+use Rattle.std.specs.Prelude.{◌++◌, ℕ, List, codes}
 use Rattle.std.specs.Fmt.{decimal}
 use Rattle.digits_core.specs.Faults.{input_fault_text}
 use Rattle.digits_core.specs.declared.source.InputFault.TheVariants as input
@@ -12,19 +12,17 @@ use Rattle.sheet_core.specs.declared.fault.SheetFault.{SheetFault}
 use Rattle.sheet_core.specs.declared.fault.SheetFault.TheVariants as sheet
 use Rattle.hub_core.specs.Faults.{serve_fault_text}
 use Rattle.hub_core.specs.declared.fault.ServeFault.TheVariants as serve
-use Rattle.line_core.specs.input.Faults.{record_fault_text}
-use Rattle.line_core.specs.declared.answers.serving.AnswerFault.{AnswerFault}
-use Rattle.line_core.specs.declared.answers.serving.AnswerFault.TheVariants as answers
-use Rattle.line_core.specs.declared.answers.rows.RowsFault.{RowsFault}
-use Rattle.line_core.specs.declared.answers.rows.RowsFault.TheVariants as rows
-use Rattle.line_core.specs.declared.input.fault.RecordsFault.{RecordsFault}
-use Rattle.line_core.specs.declared.input.fault.RecordsFault.TheVariants as records
-use Rattle.line_core.specs.declared.live.fault.LiveFault.{LiveFault}
-use Rattle.line_core.specs.declared.live.fault.LiveFault.TheVariants as live
+use Rattle.record_core.specs.input.Faults.{record_fault_text}
+use Rattle.answer_core.specs.declared.answers.serving.AnswerFault.{AnswerFault}
+use Rattle.answer_core.specs.declared.answers.serving.AnswerFault.TheVariants as answers
+use Rattle.answer_core.specs.declared.answers.rows.RowsFault.{RowsFault}
+use Rattle.answer_core.specs.declared.answers.rows.RowsFault.TheVariants as rows
+use Rattle.record_core.specs.declared.input.fault.RecordsFault.{RecordsFault}
+use Rattle.record_core.specs.declared.input.fault.RecordsFault.TheVariants as records
+use Rattle.answer_core.specs.declared.live.fault.LiveFault.{LiveFault}
+use Rattle.answer_core.specs.declared.live.fault.LiveFault.TheVariants as live
 use Rattle.gs1_hub.specs.declared.fault.CommandFault.{CommandFault}
 use Rattle.gs1_hub.specs.declared.fault.CommandFault.TheVariants as command
-use Rattle.gs1_hub.specs.declared.words.WordsFault.{WordsFault}
-use Rattle.gs1_hub.specs.declared.words.WordsFault.TheVariants as words
 
 -- of a command: `refused`, its number, its name and, where it has one, the label's index; of a record its index and its fault
 abbrev pub command_fault_text : CommandFault → List ℕ
@@ -41,12 +39,6 @@ command_fault_text command.PbmHeader = pbm_fault_text pbm.PbmHeader
 command_fault_text command.Truncated = pbm_fault_text pbm.Truncated
 command_fault_text command.PbmSize = pbm_fault_text pbm.PbmSize
 command_fault_text command.NoThread = serve_fault_text serve.NoThread
-
--- of words that ask for no command; or the help that they ask for
-abbrev pub words_fault_text : WordsFault → List ℕ
-words_fault_text words.Words = codes "refused 42 Words"
-words_fault_text words.NoMemory = command_fault_text command.NoMemory
-words_fault_text (words.Help text) = string_bytes text
 
 -- a fault of the records, as the command's
 abbrev pub of_records : RecordsFault → CommandFault

@@ -1,25 +1,21 @@
 -- Laws about what the commands write and read.
-use Rattle.std.specs.Prelude.{◌≡◌, ◌↔◌, ◌≤◌, ◌<◌, ◌+◌, ◌*◌, ◌/◌, ℕ, List, [], Some, length, slice_get}
-use Rattle.clap.specs.Words.{Text, fault_of}
+use Rattle.std.specs.Prelude.{◌≡◌, ◌↔◌, ◌≤◌, ◌<◌, ◌+◌, ◌*◌, ◌/◌, ℕ, List, Some, length, slice_get}
 use Rattle.scan_core.specs.declared.answer.Answer.{Answer}
 use Rattle.scan_core.specs.Row.{IsRow, dots_of}
 use Rattle.sheet_core.specs.Bitmaps.{Bitmap, cell_dots}
 use Rattle.sheet_core.specs.Drawing.{cell_count, sheet_count}
 use Rattle.sheet_core.specs.Grids.{Cells}
 use Rattle.sheet_core.specs.declared.label.Label.{Label}
-use Rattle.line_core.specs.Grids.{cells_of}
-use Rattle.line_core.specs.print.Labels.{print_meaning}
-use Rattle.gs1_hub.specs.Asking.{WordsAsk}
-use Rattle.gs1_hub.specs.commands.{hub_app}
+use Rattle.record_core.specs.Grids.{cells_of}
+use Rattle.record_core.specs.print.Labels.{print_meaning}
 use Rattle.gs1_hub.specs.commands.Prints.{IsPrint}
 use Rattle.gs1_hub.specs.commands.Scans.{AreImages, IsScan}
-use Rattle.gs1_hub.specs.declared.commands.Asked.{Asked}
-use Rattle.gs1_hub.specs.declared.commands.print.options.Output.TheVariants as output
-use Rattle.gs1_hub.specs.declared.commands.print.options.PrintOptions.{PrintOptions}
-use Rattle.gs1_hub.specs.declared.commands.scan.options.ScanOptions.{ScanOptions}
-use Rattle.line_core.specs.input.Records.{AreItems, Fields}
-use Rattle.line_core.specs.scan.Columns.{AreColumns}
-use Rattle.line_core.specs.scan.Printed.{AreScanned, cell_answer, column_answers, labels_answers, labels_report}
+use Rattle.words_core.specs.declared.commands.print.options.Output.TheVariants as output
+use Rattle.words_core.specs.declared.commands.print.options.PrintOptions.{PrintOptions}
+use Rattle.words_core.specs.declared.commands.scan.options.ScanOptions.{ScanOptions}
+use Rattle.record_core.specs.input.Records.{AreItems, Fields}
+use Rattle.answer_core.specs.Columns.{AreColumns}
+use Rattle.answer_core.specs.Printed.{AreScanned, cell_answer, column_answers, labels_answers, labels_report}
 
 -- what `print` writes of the labels of records as at most 4,096 images, for a scan in the same grid and year
 pub record IsPrintFor (scan : ScanOptions) (print : PrintOptions) (rows : List Fields) (labels : List Label) (bytes : List ℕ) : Type 0 where
@@ -67,7 +63,3 @@ RowsByPlace =
     × ((sheet row : ℕ) (s : Bitmap) → slice_get sheets sheet ≡ Some s → row < g.rows
     → (runs : List ℕ) × (slice_get rows (sheet * g.rows + row) ≡ Some runs)
     × (IsRow runs × (dots_of runs ≡ cell_dots g s (row * g.columns + column) (g.height / 2))))
-
--- words in which `clap` finds no fault ask for a command with its numbers
-abbrev pub TakenAsk : Type 0
-TakenAsk = (words : List Text) → fault_of hub_app words ≡ [] → (asked : Asked) × WordsAsk words asked

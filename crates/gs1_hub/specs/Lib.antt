@@ -1,5 +1,3 @@
-pub mod Arguments
-pub mod Asking
 pub mod Buffers
 pub mod Faults
 pub mod Laws

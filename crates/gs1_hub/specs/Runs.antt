@@ -2,8 +2,8 @@
 use Rattle.std.specs.Prelude.{◌≡◌, ◌≢◌, ◌↔◌, ⊤, ℕ, Bool, false, true, List, Option, Result, IfErr, IsErrOf, OnOk}
 use Rattle.std.specs.Io.KnownBytes.{Appends}
 use Rattle.digits_core.specs.Bytes.{GaveAll, TookFront}
-use Rattle.line_core.specs.input.Records.{Mean, Meaning, Refuses}
-use Rattle.line_core.specs.declared.input.fault.RecordsFault.TheVariants as records
+use Rattle.record_core.specs.input.Records.{Mean, Meaning, Refuses}
+use Rattle.record_core.specs.declared.input.fault.RecordsFault.TheVariants as records
 use Rattle.gs1_hub.specs.declared.fault.CommandFault.{CommandFault}
 use Rattle.gs1_hub.specs.declared.fault.CommandFault.TheVariants as command
 

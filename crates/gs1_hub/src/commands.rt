@@ -1,10 +1,6 @@
-//! The commands: which there are, what the words of one ask for, and a run of it.
-ghost use Rattle.std.specs.Prelude.{◌≡◌, IfNone, IfOk, IfSome};
-ghost use Rattle.clap.specs.Words.{app_of, found_of, rows_of};
+//! The commands, and a run of each.
 ghost use Rattle.gs1_hub.specs.Runs.{Ran};
-ghost use Rattle.gs1_hub.specs.commands.{AsksIn, batch_of, command_of, hub_app, row_app, text_app};
-ghost use Rattle.gs1_hub.specs.declared.commands.Asked.{Asked};
-ghost use Rattle.gs1_hub.specs.declared.commands.Batch.{Batch};
+ghost use Rattle.gs1_hub.specs.commands.{command_of};
 
 pub mod check;
 pub mod lanes;
@@ -12,114 +8,17 @@ pub mod live;
 pub mod print;
 pub mod scan;
 
-use crate::arguments::year_named;
-use crate::commands::check::{check_words, run_check};
-use crate::commands::lanes::options::LaneOptions;
-use crate::commands::lanes::{lanes_words, run_lanes};
-use crate::commands::live::live_words;
-use crate::commands::live::options::LiveOptions;
-use crate::commands::print::options::PrintOptions;
-use crate::commands::print::{print_words, run_print};
-use crate::commands::scan::options::ScanOptions;
-use crate::commands::scan::{run_scan, scan_words};
+use crate::commands::check::run_check;
+use crate::commands::lanes::run_lanes;
+use crate::commands::print::run_print;
+use crate::commands::scan::run_scan;
 use crate::fault::CommandFault;
-use crate::help;
-use clap::{ArgMatches, Command};
 use digits_core::{Sink, Source};
-use element_core::Year;
 use hub_core::Gate;
-use std::alloc::{AllocError, Global};
+use std::alloc::Global;
 use std::sync::Wait;
 use std::thread::Threads;
-
-/// What the words ask for.
-#[derive(Clone, Copy, Debug, PartialEq, Eq)]
-pub enum Asked {
-    /// Texts are to be checked, dates under this reference year.
-    Check(Year),
-    /// Labels are to be printed.
-    Print(PrintOptions),
-    /// The rows of these lanes are to be read.
-    Lanes(LaneOptions),
-    /// The sheets of these images are to be read.
-    Scan(ScanOptions),
-    /// The rows of these lanes are to be read as they come.
-    Live(LiveOptions),
-}
-
-/// A command over its whole input, of which it writes nothing before it has read all.
-#[derive(Clone, Copy, Debug, PartialEq, Eq)]
-pub enum Batch {
-    /// Texts are to be checked, dates under this reference year.
-    Check(Year),
-    /// Labels are to be printed.
-    Print(PrintOptions),
-    /// The rows of these lanes are to be read.
-    Lanes(LaneOptions),
-    /// The sheets of these images are to be read.
-    Scan(ScanOptions),
-}
-
-impl Asked {
-    /// The command over its whole input that is asked for, or what is to be read as it comes.
-    pub fn batch(self) -> Result<Batch, LiveOptions>
-        ensures { result ≡ batch_of self }
-    {
-        match self {
-            Asked::Check(year) => Ok(Batch::Check(year)),
-            Asked::Print(options) => Ok(Batch::Print(options)),
-            Asked::Lanes(options) => Ok(Batch::Lanes(options)),
-            Asked::Scan(options) => Ok(Batch::Scan(options)),
-            Asked::Live(options) => Err(options),
-        }
-    }
-}
-
-/// The program with the commands that take texts.
-fn text_words<'a>(alloc: Global) -> Result<Command<'a>, AllocError>
-    ensures { IfOk result (λ c. app_of c ≡ text_app) }
-{
-    Command::new(alloc, "gs1_hub")
-        .version(help::VERSION)
-        .about(help::HUB)
-        .after_help(help::HUB_EXAMPLE)
-        .disable_help_subcommand(true)
-        .subcommand_required(true)
-        .subcommand(check_words(alloc)?)?
-        .subcommand(print_words(alloc)?)
-}
-
-/// The program with the commands over their whole input.
-fn row_words<'a>(alloc: Global) -> Result<Command<'a>, AllocError>
-    ensures { IfOk result (λ c. app_of c ≡ row_app) }
-{
-    text_words(alloc)?
-        .subcommand(lanes_words(alloc)?)?
-        .subcommand(scan_words(alloc)?)
-}
-
-/// The program with its commands, as `clap` reads their words.
-pub fn hub_words<'a>(alloc: Global) -> Result<Command<'a>, AllocError>
-    ensures { IfOk result (λ c. app_of c ≡ hub_app) }
-{
-    row_words(alloc)?.subcommand(live_words(alloc)?)
-}
-
-/// What the matches of a command ask for.
-pub fn asked_by(name: &str, matches: &ArgMatches<'_>) -> Option<Asked>
-    ensures some { IfSome result (AsksIn name.now (rows_of (found_of matches.now))) }
-    ensures none { IfNone result ((a : Asked)
-        → AsksIn name.now (rows_of (found_of matches.now)) a → ⊥) }
-{
-    match name {
-        "check" => year_named(matches).map(Asked::Check),
-        "print" => print::options_named(matches).map(Asked::Print),
-        "lanes" => lanes::options_named(matches).map(Asked::Lanes),
-        "scan" => scan::options_named(matches).map(Asked::Scan),
-        "live" => live::options_named(matches).map(Asked::Live),
-        _ => None,
-    }
-}
+use words_core::Batch;
 
 /// Runs a command over its whole input. The gate is for the workers of those that read rows.
 pub fn run<R: Threads + Wait + Sync, S: Source, W: Sink, G: Gate + Sync>(

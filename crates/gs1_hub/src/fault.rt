@@ -2,9 +2,10 @@
 ghost use Rattle.std.specs.Prelude.{Some, ◌≡◌};
 ghost use Rattle.gs1_hub.specs.Faults.{bad_grid, command_fault_text, failed_write, no_memory, of_answers, of_images, of_live, of_prints, of_records, of_rows, of_sheets};
 
+use answer_core::{AnswerFault, LiveFault, RowsFault};
 use digits_core::{Failed, InputFault};
 use hub_core::ServeFault;
-use line_core::{AnswerFault, LiveFault, RecordFault, RecordsFault, RowsFault};
+use record_core::{RecordFault, RecordsFault};
 use sheet_core::{BadGrid, PbmFault, PrintFault, SheetFault, WriteFault};
 use std::alloc::AllocError;
 use std::fmt;

@@ -1,4 +1,4 @@
-//! What `--help` and `--version` print: the texts, and the writing of them.
+//! The writing of what `--help` and `--version` print.
 ghost use Rattle.std.specs.Prelude.{◌≡◌, ◌↔◌, true, false, IfErr, IsErr, OnErr, OnOk};
 ghost use Rattle.std.specs.Io.KnownBytes.{Appends};
 ghost use Rattle.digits_core.specs.Bytes.{TookFront};
@@ -6,29 +6,6 @@ ghost use Rattle.gs1_hub.specs.Faults.{failed_write};
 
 use crate::fault::CommandFault;
 use digits_core::{Sink, write_all};
-
-/// The product's version and, in parentheses, the sum of the logic that proves it, with which `rt version`
-/// ends.
-pub const VERSION: &str = "1.1.0 (rattle logic dac8208d650f15bf)";
-
-/// What the program is for.
-pub const HUB: &str = "Checks, prints and scans GS1 bar codes";
-
-/// How a label is printed and read back, and what the exit statuses mean.
-pub const HUB_EXAMPLE: &str = "\
-Each command reads standard input to its end and writes standard output; `live` answers line by line.
-`gs1_hub COMMAND --help` has its options, its input and an example.
-
-Print a label and read it back:
-  $ echo ean13,9501101530003 > label.csv
-  $ gs1_hub print --module 2 --width 240 --height 120 --columns 1 --rows 1 --year 2026 < label.csv > label.pbm
-  $ gs1_hub scan --module 2 --width 240 --height 120 --columns 1 --rows 1 --workers 1 --year 2026 < label.pbm
-  0 0 ]E0 (01)09501101530003
-The last line is the answer: the column, the cell in it, the symbology identifier and the elements.
-
-Exit status: 0 where it is done; 1 where the input or the output is refused, in one line on standard
-error; 2 where the words are not understood. A refusal is `refused`, a number and a name, and
-docs/FAULTS.md says what to do.";
 
 /// Writes the text that is asked for, whole or, where a write fails, a prefix of it.
 pub fn write_help<W: Sink>(text: &str, sink: &mut W) -> Result<(), CommandFault>

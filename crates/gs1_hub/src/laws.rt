@@ -1,9 +1,9 @@
 //! Laws about what the commands write and read, each the contract of a function that does nothing.
-ghost use Rattle.gs1_hub.specs.Laws.{AnswersByPlace, PrintedIsAnswered, PrintedIsScanned, RowsByPlace, TakenAsk};
+ghost use Rattle.gs1_hub.specs.Laws.{AnswersByPlace, PrintedIsAnswered, PrintedIsScanned, RowsByPlace};
 
+use answer_core::{printed_answer, scanned_once};
 use digits_core::gtins_are_checked;
 use element_core::{canonical_reads, gtin_reads};
-use line_core::{printed_answer, scanned_once};
 use sheet_core::printed_is_read;
 
 /// Of what `print` writes as at most 4,096 images, a scan in the same grid and year answers for each
@@ -31,9 +31,4 @@ pub fn answers_by_place()
 /// there.
 pub fn rows_by_place()
     ensures { RowsByPlace }
-{}
-
-/// Words in which `clap` finds no fault ask for a command with its numbers, each in its range.
-pub fn taken_words_ask()
-    ensures { TakenAsk }
 {}

@@ -7,7 +7,6 @@ ghost use Rattle.gs1_hub.specs.inner.Faults.{TookHelp, status_of, words_status};
 ghost use Rattle.gs1_hub.specs.Runs.{Ran};
 ghost use Rattle.gs1_hub.specs.commands.{command_of};
 
-mod arguments;
 mod buffered;
 mod commands;
 mod fault;
@@ -16,16 +15,13 @@ mod laws;
 mod remedies;
 #[cfg(test)]
 mod tests;
-mod words;
 
 use crate::buffered::Buffered;
-use crate::commands::live::options::LiveOptions;
 use crate::commands::live::run_live;
-use crate::commands::{Asked, Batch, run};
+use crate::commands::run;
 use crate::fault::CommandFault;
 use crate::help::write_help;
 use crate::remedies::remedy;
-use crate::words::{WordsFault, read_words, sentence};
 use digits_core::{FromReader, Sink, Source, ToWriter};
 use hub_core::{Gate, OpenGate};
 use std::alloc::Global;
@@ -35,6 +31,7 @@ use std::process::ExitCode;
 use std::sync::Wait;
 use std::thread::Threads;
 use wire_core::Wired;
+use words_core::{Asked, Batch, LiveOptions, WordsFault, read_words, sentence};
 
 /// Runs the command with a buffer before its output, and writes what waits in it at the end. Before it runs
 /// nothing waits, and nothing is known to have been taken.

@@ -4,7 +4,7 @@
 use crate::fault::CommandFault;
 use digits_core::DigitFault;
 use element_core::ElementFault;
-use line_core::RecordFault;
+use record_core::RecordFault;
 
 /// Why a command is refused, and what to do.
 pub fn remedy(fault: &CommandFault) -> &'static str {

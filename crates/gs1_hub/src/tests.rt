@@ -1,11 +1,7 @@
 //! Each run of a command once, and gates that see its workers beside each other.
 
-use crate::commands::lanes::options::LaneOptions;
-use crate::commands::live::options::LiveOptions;
 use crate::commands::live::run_live;
-use crate::commands::print::options::PrintOptions;
-use crate::commands::scan::options::ScanOptions;
-use crate::commands::{Batch, run};
+use crate::commands::run;
 use digits_core::{FromReader, ToWriter};
 use element_core::Year;
 use fakes::{Happened, Holding, Meeting, Recorded};
@@ -16,6 +12,7 @@ use std::process::Abort;
 use std::sync::Wait;
 use std::test::Fail;
 use std::thread::Threads;
+use words_core::{Batch, LaneOptions, LiveOptions, PrintOptions, ScanOptions};
 
 // The rows of 9501101530003 as EAN-13 and of 96385074 as EAN-8, at one dot a module.
 const EAN13: &str = "11 1 1 1 1 2 3 1 1 1 2 3 1 2 2 2 2 2 2 1 1 1 2 3 2 2 2 1 1 1 1 1 \

@@ -1,23 +1,12 @@
 -- The command `live`.
-use Rattle.std.specs.Prelude.{◌≡◌, Bool, List, Result, Ok, Err, codes}
-use Rattle.clap.specs.Words.{App, Row, new_app, with_rule}
+use Rattle.std.specs.Prelude.{◌≡◌, Bool, List, Result, Ok, Err}
 use Rattle.wire_core.specs.Events.{Event}
-use Rattle.line_core.specs.live.Lived.{Lived}
-use Rattle.line_core.specs.declared.live.answering.LiveTerms.{LiveTerms}
-use Rattle.line_core.specs.declared.live.fault.LiveFault.{LiveFault}
-use Rattle.gs1_hub.specs.Arguments.{HasFlag, asks_elements, flag_rule, with_lanes}
+use Rattle.answer_core.specs.live.Lived.{Lived}
+use Rattle.answer_core.specs.declared.live.answering.LiveTerms.{LiveTerms}
+use Rattle.answer_core.specs.declared.live.fault.LiveFault.{LiveFault}
 use Rattle.gs1_hub.specs.Faults.{of_live}
-use Rattle.gs1_hub.specs.commands.Lanes.{HasLanes}
 use Rattle.gs1_hub.specs.declared.fault.CommandFault.{CommandFault}
-use Rattle.gs1_hub.specs.declared.commands.live.options.LiveOptions.{LiveOptions}
-
--- `live --lanes N --workers K --year Y [--elements]`
-abbrev pub live_app : App
-live_app = with_rule (with_lanes (new_app (codes "live"))) (flag_rule (codes "elements"))
-
--- its options among the matches: those of `lanes`, and whether the flag is set
-abbrev pub HasLive : List Row → LiveOptions → Type 0
-HasLive rows o = HasLanes rows o.rows × HasFlag (codes "elements") rows (asks_elements o.form)
+use Rattle.words_core.specs.declared.commands.live.options.LiveOptions.{LiveOptions}
 
 -- what is asked for of a live input
 abbrev pub live_terms : LiveOptions → LiveTerms

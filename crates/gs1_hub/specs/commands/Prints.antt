@@ -1,7 +1,6 @@
 -- The command `print`.
-use Rattle.std.specs.Prelude.{◌≡◌, ⊤, ℕ, Bool, true, false, List, Option, codes}
+use Rattle.std.specs.Prelude.{◌≡◌, ⊤, ℕ, List, Option}
 use Rattle.std.specs.List.{AllByRecursion}
-use Rattle.clap.specs.Words.{App, Row, new_app, with_rule}
 use Rattle.sheet_core.specs.Bitmaps.{Bitmap}
 use Rattle.sheet_core.specs.Drawing.{ArePrinted, IsSheetFault, cell_count}
 use Rattle.sheet_core.specs.Grids.{Cells, IsGrid}
@@ -10,32 +9,15 @@ use Rattle.sheet_core.specs.PrintLaws.{AreBytes}
 use Rattle.sheet_core.specs.pbm.Images.{pbm_of}
 use Rattle.sheet_core.specs.declared.fault.SheetFault.TheVariants as sheet
 use Rattle.sheet_core.specs.declared.label.Label.{Label}
-use Rattle.line_core.specs.Grids.{cells_of}
-use Rattle.line_core.specs.input.Records.{Takes}
-use Rattle.line_core.specs.print.Labels.{label_lines, print_meaning}
-use Rattle.gs1_hub.specs.Arguments.{HasFlag, HasGrid, HasYear, flag_rule, with_cell, with_places, year_rule}
+use Rattle.record_core.specs.Grids.{cells_of}
+use Rattle.record_core.specs.input.Records.{Takes}
+use Rattle.record_core.specs.print.Labels.{label_lines, print_meaning}
 use Rattle.gs1_hub.specs.Runs.{Command, RefusesRecords, WritesRecords}
 use Rattle.gs1_hub.specs.declared.fault.CommandFault.{CommandFault}
 use Rattle.gs1_hub.specs.declared.fault.CommandFault.TheVariants as command
-use Rattle.gs1_hub.specs.declared.commands.print.options.Output.{Output}
-use Rattle.gs1_hub.specs.declared.commands.print.options.Output.TheVariants as output
-use Rattle.gs1_hub.specs.declared.commands.print.options.PrintOptions.{PrintOptions}
-
--- `print --module M --width W --height H --columns C --rows R --year Y [--text]`
-abbrev pub print_app : App
-print_app = with_rule (with_rule (with_places (with_cell (new_app (codes "print")))) year_rule) (flag_rule (codes "text"))
-
--- lines are asked for by a flag, else it is images
-abbrev pub asks_lines : Output → Bool
-asks_lines output.Images = false
-asks_lines output.Lines = true
-
-abbrev pub HasOutput : List Row → Output → Type 0
-HasOutput rows o = HasFlag (codes "text") rows (asks_lines o)
-
--- its options among the matches, each in its range
-abbrev pub HasPrint : List Row → PrintOptions → Type 0
-HasPrint rows o = HasGrid rows o.grid × HasYear rows o.year × HasOutput rows o.output
+use Rattle.words_core.specs.declared.commands.print.options.Output.{Output}
+use Rattle.words_core.specs.declared.commands.print.options.Output.TheVariants as output
+use Rattle.words_core.specs.declared.commands.print.options.PrintOptions.{PrintOptions}
 
 -- what is written of labels that are printed: their lines, or the images of their sheets
 abbrev pub IsPrinted : Cells → Output → List Label → List ℕ → Type 0

@@ -1,27 +1,17 @@
 -- The command `scan`.
-use Rattle.std.specs.Prelude.{◌≡◌, ◌≢◌, ◌⊎◌, ⊤, ℕ, true, false, List, [], Option, Ok, Err, codes}
-use Rattle.clap.specs.Words.{App, Row, new_app, with_rule}
+use Rattle.std.specs.Prelude.{◌≡◌, ◌≢◌, ◌⊎◌, ⊤, ℕ, true, false, List, [], Option, Ok, Err}
 use Rattle.digits_core.specs.Bytes.{GaveAll}
 use Rattle.sheet_core.specs.Bitmaps.{Bitmap}
 use Rattle.sheet_core.specs.Grids.{IsGrid}
 use Rattle.sheet_core.specs.pbm.Images.{ReadsBytes, images_of}
 use Rattle.sheet_core.specs.declared.fault.PbmFault.TheVariants as pbm
-use Rattle.line_core.specs.Grids.{cells_of}
-use Rattle.line_core.specs.answers.Reports.{IsReport}
-use Rattle.line_core.specs.scan.Columns.{AreColumns, have_size}
-use Rattle.gs1_hub.specs.Arguments.{HasGrid, HasWorkers, HasYear, with_cell, with_places, workers_rule, year_rule}
+use Rattle.record_core.specs.Grids.{cells_of}
+use Rattle.answer_core.specs.answers.Reports.{IsReport}
+use Rattle.answer_core.specs.Columns.{AreColumns, have_size}
 use Rattle.gs1_hub.specs.Runs.{Command, WritesOnce}
 use Rattle.gs1_hub.specs.declared.fault.CommandFault.{CommandFault}
 use Rattle.gs1_hub.specs.declared.fault.CommandFault.TheVariants as command
-use Rattle.gs1_hub.specs.declared.commands.scan.options.ScanOptions.{ScanOptions}
-
--- `scan --module M --width W --height H --columns C --rows R --workers K --year Y`
-abbrev pub scan_app : App
-scan_app = with_rule (with_rule (with_places (with_cell (new_app (codes "scan")))) workers_rule) year_rule
-
--- its options among the matches, each in its range
-abbrev pub HasScan : List Row → ScanOptions → Type 0
-HasScan rows o = HasGrid rows o.grid × HasWorkers rows o.workers × HasYear rows o.year
+use Rattle.words_core.specs.declared.commands.scan.options.ScanOptions.{ScanOptions}
 
 -- the bytes are images of the grid's size
 abbrev pub AreImages : ScanOptions → List ℕ → List Bitmap → Type 0

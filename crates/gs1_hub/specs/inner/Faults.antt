@@ -3,8 +3,8 @@ use Rattle.std.specs.Prelude.{◌≡◌, ℕ, Bool, false, true, List, Option, R
 use Rattle.std.specs.Io.KnownBytes.{Appends}
 use Rattle.digits_core.specs.Bytes.{TookFront}
 use Rattle.gs1_hub.specs.declared.fault.CommandFault.{CommandFault}
-use Rattle.gs1_hub.specs.declared.words.WordsFault.{WordsFault}
-use Rattle.gs1_hub.specs.declared.words.WordsFault.TheVariants as words
+use Rattle.words_core.specs.declared.words.WordsFault.{WordsFault}
+use Rattle.words_core.specs.declared.words.WordsFault.TheVariants as words
 
 -- the status that the program ends with, after a command that has run
 abbrev pub status_of : Result (Unit {0}) CommandFault → ℕ

@@ -1,45 +1,12 @@
 //! The command `check`: records of a kind and a text in, a line for each out.
-ghost use Rattle.std.specs.Prelude.{◌≡◌, IfOk, false};
-ghost use Rattle.clap.specs.Words.{app_of};
-ghost use Rattle.clap.specs.declared.builder.command.Command.TheViews.{out-Command};
 ghost use Rattle.gs1_hub.specs.Runs.{Ran};
-ghost use Rattle.gs1_hub.specs.commands.Checks.{OneCheck, check_app, check_command};
+ghost use Rattle.gs1_hub.specs.commands.Checks.{OneCheck, check_command};
 
-use crate::arguments::{command, year};
 use crate::fault::CommandFault;
-use clap::Command;
 use digits_core::{Sink, Source, write_all};
 use element_core::{Year, one_list_or_fault};
-use line_core::check_lines;
-use std::alloc::{AllocError, Global};
-
-/// What `check` does.
-const ABOUT: &str =
-    "Answers each text: a check digit, a GTIN, the element strings, or why it is refused";
-
-/// The input of `check`, its output and an example.
-const EXAMPLE: &str = "\
-Input, one record a line, a kind, a comma and a text:
-  digit,950110153000              1 to 17 digits that have no check digit yet
-  gtin,9501101530003              a GTIN of 8, 12, 13 or 14 digits
-  upce,01234565                   a UPC-E number of 8 digits, the first 0
-  text,10AB^17261231              an element string of at most 192 bytes: each AI and its value, without
-                                  parentheses; ^ stands after a value of no fixed length that another
-                                  AI follows
-Output, a line for each record: `digit`, `gtin` or `hri` and the answer, or `refused`, a number, a name
-and the place in the text, from 0.
-
-Example:
-  $ echo gtin,9501101530003 | gs1_hub check --year 2026
-  gtin 09501101530003";
-
-/// The words of the command `check`, as `clap` reads them.
-pub fn check_words<'a>(alloc: Global) -> Result<Command<'a>, AllocError>
-    ensures app { IfOk result (λ c. app_of c ≡ check_app) }
-    ensures own { IfOk result (λ c. (out-Command c).has_globals ≡ false) }
-{
-    command(alloc, "check", ABOUT, EXAMPLE).arg(year(alloc))
-}
+use record_core::check_lines;
+use std::alloc::Global;
 
 /// Checks the texts that a source gives, a line for each in their order.
 ///

@@ -1,59 +1,16 @@
 //! The command `lanes`: records in, the answers of each lane out.
-ghost use Rattle.std.specs.Prelude.{◌≡◌, IfNone, IfOk, IfSome, false};
-ghost use Rattle.clap.specs.Words.{app_of, found_of, rows_of};
-ghost use Rattle.clap.specs.declared.builder.command.Command.TheViews.{out-Command};
 ghost use Rattle.gs1_hub.specs.Runs.{Ran};
-ghost use Rattle.gs1_hub.specs.commands.Lanes.{HasLanes, OneLanes, lanes_app, lanes_command};
-ghost use Rattle.gs1_hub.specs.declared.commands.lanes.options.LaneOptions.{LaneOptions};
+ghost use Rattle.gs1_hub.specs.commands.Lanes.{OneLanes, lanes_command};
 
-pub mod options;
-
-use crate::arguments::{byte_named, command, number_named, with_lanes};
-use crate::commands::lanes::options::LaneOptions;
 use crate::fault::CommandFault;
-use clap::{ArgMatches, Command};
+use answer_core::answer_records;
 use digits_core::{Sink, Source, write_all};
 use hub_core::Gate;
-use line_core::answer_records;
 use scan_core::{one_answer, row_or_fault};
-use std::alloc::{AllocError, Global};
+use std::alloc::Global;
 use std::sync::Wait;
 use std::thread::Threads;
-
-/// What `lanes` does.
-const ABOUT: &str = "Answers scanned rows, lane by lane";
-
-/// The input of `lanes`, its output and an example.
-const EXAMPLE: &str = "\
-Input, one row a line: a lane from 0, a comma, and the widths of the row's runs in dots with one space
-between them, light first, then dark and light in turn, light last. A row has at most 65,535 dots.
-Output, lane by lane: the lane, the row's number in it, from 0, and the symbology identifier with the
-elements, or `refused`, a number and a name.
-
-Example, a row of 100 light dots:
-  $ echo 0,100 | gs1_hub lanes --lanes 1 --workers 1 --year 2026
-  0 0 refused 19 Blank";
-
-/// The options of the command `lanes`.
-pub fn options_named(matches: &ArgMatches<'_>) -> Option<LaneOptions>
-    ensures some { IfSome result (HasLanes (rows_of (found_of matches.now))) }
-    ensures none { IfNone result ((o : LaneOptions)
-        → HasLanes (rows_of (found_of matches.now)) o → ⊥) }
-{
-    LaneOptions::new(
-        byte_named(matches, "lanes")?,
-        byte_named(matches, "workers")?,
-        number_named(matches, "year")?,
-    )
-}
-
-/// The words of the command `lanes`, as `clap` reads them.
-pub fn lanes_words<'a>(alloc: Global) -> Result<Command<'a>, AllocError>
-    ensures app { IfOk result (λ c. app_of c ≡ lanes_app) }
-    ensures own { IfOk result (λ c. (out-Command c).has_globals ≡ false) }
-{
-    with_lanes(alloc, command(alloc, "lanes", ABOUT, EXAMPLE))
-}
+use words_core::LaneOptions;
 
 /// Answers the rows that a source gives, a line for each, lane by lane and by number. Workers read
 /// them beside each other, and each passes the gate before a row.

@@ -1,5 +1,5 @@
 use Rattle.std.proofs.Common.{◌≡◌, ◌∙◌, rules, string_bytes}
-use Rattle.line_core.specs.check.Checks.{check_meaning, check_report}
+use Rattle.record_core.specs.check.Checks.{check_meaning, check_report}
 use Rattle.gs1_hub.specs.commands.Checks.{check_command}
 use Rattle.gs1_hub.proofs.CommandFacts.{records_cut}
 use Rattle.gs1_hub.proofs.commands.check.run_check.Goals as goal

@@ -1,6 +1,6 @@
 use Rattle.std.proofs.Common.{◌≡◌, ◌∙◌, Err, ap, rules, string_bytes}
-use Rattle.line_core.specs.answers.Reports.{IsReport}
-use Rattle.line_core.specs.lanes.Feeds.{feeds_of, lanes_meaning}
+use Rattle.answer_core.specs.answers.Reports.{IsReport}
+use Rattle.record_core.specs.lanes.Feeds.{feeds_of, lanes_meaning}
 use Rattle.gs1_hub.specs.commands.Lanes.{lanes_command}
 use Rattle.gs1_hub.specs.Faults.{of_rows}
 use Rattle.gs1_hub.proofs.BufferFacts.{refused_as}

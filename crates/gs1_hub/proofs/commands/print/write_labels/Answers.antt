@@ -6,8 +6,8 @@ use Rattle.digits_core.specs.Bytes.{TookFront}
 use Rattle.sheet_core.specs.declared.fault.PrintFault.{PrintFault}
 use Rattle.sheet_core.specs.declared.fault.PrintFault.TheVariants as print
 use Rattle.sheet_core.specs.declared.fault.SheetFault.TheVariants as sheet
-use Rattle.gs1_hub.specs.declared.commands.print.options.Output.{Output}
-use Rattle.gs1_hub.specs.declared.commands.print.options.Output.TheVariants as output
+use Rattle.words_core.specs.declared.commands.print.options.Output.{Output}
+use Rattle.words_core.specs.declared.commands.print.options.Output.TheVariants as output
 use Rattle.gs1_hub.specs.declared.fault.CommandFault.{CommandFault}
 use Rattle.gs1_hub.specs.declared.fault.CommandFault.TheVariants as command
 use Rattle.sheet_core.specs.Bitmaps.{Bitmap}
@@ -16,10 +16,10 @@ use Rattle.sheet_core.specs.Grids.{Cells}
 use Rattle.sheet_core.specs.Labels.{IsPrintable}
 use Rattle.sheet_core.specs.pbm.Images.{pbm_of}
 use Rattle.sheet_core.specs.declared.label.Label.{Label}
-use Rattle.line_core.specs.Grids.{cells_of}
+use Rattle.record_core.specs.Grids.{cells_of}
 use Rattle.gs1_hub.specs.Faults.{of_prints}
 use Rattle.gs1_hub.specs.commands.Prints.{IsPrinted}
-use Rattle.line_core.specs.print.Labels.{label_lines}
+use Rattle.record_core.specs.print.Labels.{label_lines}
 use Rattle.gs1_hub.proofs.commands.print.write_labels.Goals as goal
 
 -- the lines, where text is asked for

@@ -1,7 +1,7 @@
 use Rattle.std.proofs.Common.{◌≡◌, ◌≤◌, ◌∙◌, Err, ap, length, map, refl, rules, string_bytes, subst, sym, true}
 use Rattle.sheet_core.specs.declared.fault.PbmFault.TheVariants.{ReadFault}
-use Rattle.line_core.specs.Grids.{cells_of}
-use Rattle.line_core.specs.scan.Columns.{AreColumns, have_size}
+use Rattle.record_core.specs.Grids.{cells_of}
+use Rattle.answer_core.specs.Columns.{AreColumns, have_size}
 use Rattle.gs1_hub.specs.Faults.{of_answers}
 use Rattle.gs1_hub.specs.commands.Scans.{scan_command}
 use Rattle.gs1_hub.proofs.BufferFacts.{refused_as}

@@ -1,0 +1,4 @@
+pub mod FeedCounts
+pub mod FeedFacts
+pub mod ReportFacts
+pub mod RowFacts

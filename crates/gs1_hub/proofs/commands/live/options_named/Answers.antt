@@ -1,5 +1,0 @@
-use Rattle.gs1_hub.proofs.Matches.{in_none}
-use Rattle.gs1_hub.proofs.commands.live.options_named.Goals as goal
-
-pub returns-in_err-rows-clause-none : goal.returns-in_err-rows-clause-none
-returns-in_err-rows-clause-none c = in_none c.from_residual.result _ (λ o h. c.in_err-rows.ensures.none o.rows h.0)

@@ -1,2 +1,0 @@
-pub mod ReportFacts
-pub mod RowFacts

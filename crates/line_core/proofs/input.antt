@@ -1,4 +1,0 @@
-pub mod FirstFault
-pub mod ReadFacts
-pub mod Reaching
-pub mod TwoFields

@@ -1,9 +1,0 @@
-use Rattle.std.proofs.Common.{map}
-use Rattle.std.specs.List.{AllZip, flat_map, range_with_len}
-use Rattle.line_core.specs.Grids.{cells_of}
-use Rattle.line_core.specs.scan.Columns.{HaveDots, column_dots}
-use Rattle.line_core.proofs.scan.columns.column_feeds.Given as goal
-
-abbrev pub invariant-columns : goal.invariant-columns
-invariant-columns l = AllZip (λ rows column. HaveDots rows (flat_map (column_dots (cells_of l.options) column) l.sheets))
-    (map (λ feed. feed.items) l.feeds.items) (range_with_len 0 l.column)

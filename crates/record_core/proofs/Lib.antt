@@ -1,0 +1,4 @@
+pub mod Beside
+pub mod Decimals
+pub mod ReadFacts
+pub mod Reaching

@@ -1,0 +1,7 @@
+pub mod Grids
+pub mod Numbers
+pub mod check
+pub mod inner
+pub mod input
+pub mod lanes
+pub mod print

@@ -1,0 +1,17 @@
+//! The records of an input: what each means to a command, and the lines that answer those which need no hub.
+#![tactic(auto)]
+
+mod check;
+mod grid;
+mod input;
+mod lanes;
+mod print;
+
+pub use check::lines::check_lines;
+pub use grid::{GridOptions, MOST_COLUMNS, MOST_HEIGHT, MOST_MODULE_DOTS, MOST_ROWS, MOST_WIDTH};
+pub use input::fault::{RecordFault, RecordRefusal, RecordsFault};
+pub use input::records::{INPUT_LIMIT, Records};
+pub use lanes::feeds::{check_rows, lane_in, next_row};
+pub use lanes::widths::read_runs;
+pub use print::label_lines::label_lines;
+pub use print::labels::read_labels;

@@ -1,0 +1,6 @@
+pub mod AskedFacts
+pub mod Flags
+pub mod Matches
+pub mod NumberRows
+pub mod TakenWords
+pub mod WalkKeeps

@@ -1,0 +1,14 @@
+use Rattle.std.proofs.Common.{arith}
+use Rattle.words_core.proofs.Matches.{in_none}
+use Rattle.words_core.proofs.commands.lanes.options_named.Goals as goal
+
+pub returns-in_err-byte_named-clause-none : goal.returns-in_err-byte_named-clause-none
+returns-in_err-byte_named-clause-none c = in_none c.from_residual.result _ (λ o h. c.in_err-byte_named.ensures.none o.lanes (omega (arith, o.some_lanes.1)) h.0)
+
+pub returns-in_err-byte_named-2-clause-none : goal.returns-in_err-byte_named-2-clause-none
+returns-in_err-byte_named-2-clause-none c = in_none c.from_residual-in_err-byte_named-2.result _
+    (λ o h. c.in_err-byte_named-2.ensures.none o.workers (omega (arith, o.some_workers.1)) h.2.0)
+
+pub returns-in_err-number_named-clause-none : goal.returns-in_err-number_named-clause-none
+returns-in_err-number_named-clause-none c = in_none c.from_residual-in_err-number_named.result _
+    (λ o h. c.in_err-number_named.ensures.none o.year (omega (arith, h.3.1.1)) h.3.0)

@@ -1,0 +1,108 @@
+-- The arguments that commands share: the rules that `clap` is told of, and what its matches have under their names.
+use Rattle.std.specs.Prelude.{◌≡◌, ℕ, pos, Bool, List, Some, true, false, codes}
+use Rattle.std.specs.Int.{IsInRange}
+use Rattle.std.specs.Str.Parse.{IsNumeral, digits_value, without_leading_plus}
+use Rattle.clap.specs.Words.{App, Row, Rule, Text, new_rule, one_of, with_rule}
+use Rattle.clap.specs.declared.builder.ArgAction.TheVariants.{Set, SetTrue}
+use Rattle.clap.specs.declared.builder.value_parser.ValueParser.TheVariants as vp
+use Rattle.record_core.specs.Numbers.{AreGridNumbers, most_columns, most_dots, most_grid_rows, most_height, most_width}
+use Rattle.record_core.specs.declared.grid.GridOptions.{GridOptions}
+use Rattle.element_core.specs.declared.form.Form.{Form}
+use Rattle.element_core.specs.declared.form.Form.TheVariants as form
+
+-- the greatest numbers of lanes and of workers; the least is 1
+abbrev pub most_lanes : ℕ
+most_lanes = 16
+
+abbrev pub most_workers : ℕ
+most_workers = 16
+
+abbrev pub IsLaneCount : ℕ → Type 0
+IsLaneCount lanes = IsInRange 1 most_lanes lanes
+
+abbrev pub IsWorkerCount : ℕ → Type 0
+IsWorkerCount workers = IsInRange 1 most_workers workers
+
+-- the reference years of dates
+abbrev pub first_year : ℕ
+first_year = 1951
+
+abbrev pub last_year : ℕ
+last_year = 2149
+
+abbrev pub IsReferenceYear : ℕ → Type 0
+IsReferenceYear year = IsInRange first_year last_year year
+
+-- ---- the rules
+
+-- `--name N`, which is required and lies from `least` to `most`; the help has one name for N
+abbrev pub number_rule : Text → ℕ → ℕ → Rule
+number_rule name least most = record (new_rule name) {
+  long = Some name;
+  action = Some Set;
+  value_names = 1;
+  required = true;
+  parser = Some (vp.Signed (pos least) (pos most));
+}
+
+-- `--name`, which has no value and may be left out
+abbrev pub flag_rule : Text → Rule
+flag_rule name = record (new_rule name) {
+  long = Some name;
+  action = Some SetTrue;
+}
+
+-- `--year Y`, the reference year of dates
+abbrev pub year_rule : Rule
+year_rule = number_rule (codes "year") first_year last_year
+
+-- `--workers K`
+abbrev pub workers_rule : Rule
+workers_rule = number_rule (codes "workers") 1 most_workers
+
+-- `--lanes N --workers K --year Y`, of a command over rows of lanes
+abbrev pub with_lanes : App → App
+with_lanes a = with_rule (with_rule (with_rule a (number_rule (codes "lanes") 1 most_lanes)) workers_rule) year_rule
+
+-- `--module M --width W --height H`, in dots
+abbrev pub with_cell : App → App
+with_cell a = with_rule (with_rule (with_rule a (number_rule (codes "module") 1 most_dots)) (number_rule (codes "width") 1 most_width))
+    (number_rule (codes "height") 1 most_height)
+
+-- `--columns C --rows R`
+abbrev pub with_places : App → App
+with_places a = with_rule (with_rule a (number_rule (codes "columns") 1 most_columns)) (number_rule (codes "rows") 1 most_grid_rows)
+
+-- ---- what the matches have
+
+-- among the matches of a command, this number stands under the name
+abbrev pub HasNumber : Text → List Row → ℕ → Type 0
+HasNumber name rows n = (t : Text) × (one_of name rows ≡ Some t)
+    × IsNumeral 10 (without_leading_plus t) × (n ≡ digits_value 10 (without_leading_plus t))
+
+-- and this reference year
+abbrev pub HasYear : List Row → ℕ → Type 0
+HasYear rows year = HasNumber (codes "year") rows year × IsReferenceYear year
+
+-- so many workers
+abbrev pub HasWorkers : List Row → ℕ → Type 0
+HasWorkers rows workers = HasNumber (codes "workers") rows workers × IsWorkerCount workers
+
+-- the numbers of a grid, each in its range
+abbrev pub HasGrid : List Row → GridOptions → Type 0
+HasGrid rows o = HasNumber (codes "module") rows o.module_dots × HasNumber (codes "width") rows o.width
+    × HasNumber (codes "height") rows o.height × HasNumber (codes "columns") rows o.columns × HasNumber (codes "rows") rows o.rows
+    × AreGridNumbers o.module_dots o.width o.height o.columns o.rows
+
+-- the flag of this name stands among them, or not
+abbrev pub flag_text : Bool → Text
+flag_text true = codes "true"
+flag_text false = codes "false"
+
+abbrev pub HasFlag : Text → List Row → Bool → Type 0
+HasFlag name rows is_set = one_of name rows ≡ Some (flag_text is_set)
+
+-- elements one by one are asked for by a flag, else it is the human-readable text
+abbrev pub asks_elements : Form → Bool
+asks_elements form.HumanReadable = false
+asks_elements form.Pairs = true

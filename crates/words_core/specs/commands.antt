@@ -1,0 +1,52 @@
+-- The commands: which there are, and what the words of one ask for.
+pub mod Checks
+pub mod Lanes
+pub mod Lives
+pub mod Prints
+pub mod Scans
+use Rattle.std.specs.Prelude.{◌≡◌, Err, Ok, Result, true, List, codes}
+use Rattle.clap.specs.Words.{App, Row, Text, new_app, with_subcommand}
+use Rattle.words_core.specs.Arguments.{HasYear}
+use Rattle.words_core.specs.commands.Checks.{check_app}
+use Rattle.words_core.specs.commands.Lanes.{HasLanes, lanes_app}
+use Rattle.words_core.specs.commands.Lives.{HasLive, live_app}
+use Rattle.words_core.specs.commands.Prints.{HasPrint, print_app}
+use Rattle.words_core.specs.commands.Scans.{HasScan, scan_app}
+use Rattle.words_core.specs.declared.commands.Asked.{Asked}
+use Rattle.words_core.specs.declared.commands.Asked.TheVariants as asked
+use Rattle.words_core.specs.declared.commands.Batch.{Batch}
+use Rattle.words_core.specs.declared.commands.Batch.TheVariants as batch
+use Rattle.words_core.specs.declared.commands.live.options.LiveOptions.{LiveOptions}
+
+-- a command is wanted, there is no command `help`, and there is a version
+abbrev pub hub_top : App
+hub_top = let fresh = new_app (codes "gs1_hub") in record fresh
+    { top = record fresh.top { has_version = true; disable_help_subcommand = true; subcommand_required = true } }
+
+-- the program with the commands that take texts
+abbrev pub text_app : App
+text_app = with_subcommand (with_subcommand hub_top check_app.top) print_app.top
+
+-- the program with the commands over their whole input
+abbrev pub row_app : App
+row_app = with_subcommand (with_subcommand text_app lanes_app.top) scan_app.top
+
+-- the program with its commands
+abbrev pub hub_app : App
+hub_app = with_subcommand row_app live_app.top
+
+-- the command of this name, with its numbers
+abbrev pub AsksIn : Text → List Row → Asked → Type 0
+AsksIn name rows (asked.Check year) = (name ≡ codes "check") × HasYear rows year
+AsksIn name rows (asked.Print o) = (name ≡ codes "print") × HasPrint rows o
+AsksIn name rows (asked.Lanes o) = (name ≡ codes "lanes") × HasLanes rows o
+AsksIn name rows (asked.Scan o) = (name ≡ codes "scan") × HasScan rows o
+AsksIn name rows (asked.Live o) = (name ≡ codes "live") × HasLive rows o
+
+-- the command over its whole input that is asked for, or what is read as it comes
+abbrev pub batch_of : Asked → Result Batch LiveOptions
+batch_of (asked.Check year) = Ok (batch.Check year)
+batch_of (asked.Print o) = Ok (batch.Print o)
+batch_of (asked.Lanes o) = Ok (batch.Lanes o)
+batch_of (asked.Scan o) = Ok (batch.Scan o)
+batch_of (asked.Live o) = Err o

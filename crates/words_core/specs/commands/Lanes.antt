@@ -1,0 +1,13 @@
+-- The words of the command `lanes`.
+use Rattle.std.specs.Prelude.{List, codes}
+use Rattle.clap.specs.Words.{App, Row, new_app}
+use Rattle.words_core.specs.Arguments.{HasNumber, HasWorkers, HasYear, IsLaneCount, with_lanes}
+use Rattle.words_core.specs.declared.commands.lanes.options.LaneOptions.{LaneOptions}
+
+-- `lanes --lanes N --workers K --year Y`
+abbrev pub lanes_app : App
+lanes_app = with_lanes (new_app (codes "lanes"))
+
+-- its options among the matches, each in its range
+abbrev pub HasLanes : List Row → LaneOptions → Type 0
+HasLanes rows o = HasNumber (codes "lanes") rows o.lanes × IsLaneCount o.lanes × HasWorkers rows o.workers × HasYear rows o.year

@@ -1,0 +1,187 @@
+//! The arguments that commands share: as `clap` is told of them, and as they are read of its matches.
+ghost use Rattle.std.specs.Prelude.{◌<◌, ◌≡◌, ◌^◌, Bool, ℕ, IfNone, IfOk, IfSome, false};
+ghost use Rattle.clap.specs.Words.{app_of, found_of, new_app, rows_of, rule_of};
+ghost use Rattle.clap.specs.declared.builder.command.Command.TheViews.{out-Command};
+ghost use Rattle.words_core.specs.Arguments.{HasFlag, HasNumber, HasYear, flag_rule, number_rule, with_cell, with_lanes, with_places, workers_rule, year_rule};
+
+use clap::builder::ValueParser;
+use clap::{Arg, ArgAction, ArgMatches, Command};
+use element_core::Year;
+use record_core::{MOST_COLUMNS, MOST_HEIGHT, MOST_MODULE_DOTS, MOST_ROWS, MOST_WIDTH};
+use std::alloc::{AllocError, Global};
+
+/// How many lanes there are at most.
+pub const MOST_LANES: u8 = 16;
+
+/// How many workers there are at most.
+pub const MOST_WORKERS: u8 = 16;
+
+/// The first year that is a reference year.
+pub const FIRST_YEAR: u16 = 1951;
+
+/// The last year that is a reference year.
+pub const LAST_YEAR: u16 = 2149;
+
+/// The option `--module`.
+const MODULE: &str = "Width of a module, the narrowest bar, 1 to 8 dots";
+
+/// The option `--width`.
+const WIDTH: &str = "Width of a cell, 1 to 4096 dots";
+
+/// The option `--height`.
+const HEIGHT: &str = "Height of a cell, 1 to 1024 dots";
+
+/// The option `--columns`.
+const COLUMNS: &str = "Cells beside each other on a sheet, 1 to 16";
+
+/// The option `--rows`.
+const ROWS: &str = "Cells above each other on a sheet, 1 to 64";
+
+/// The option `--lanes`.
+const LANES: &str = "How many lanes there are, 1 to 16";
+
+/// The option `--workers`.
+const WORKERS: &str = "How many threads read rows beside each other, 1 to 16";
+
+/// The option `--year`.
+const YEAR: &str =
+    "Year that dates of two digits are read by, 1951 to 2149, such as the year of today";
+
+/// The command of this name, before it has arguments. The help says `about` of it, and ends with `example`.
+pub fn command<'a>(alloc: Global, name: &'a str, about: &'a str, example: &'a str) -> Command<'a>
+    ensures app { app_of result ≡ new_app name.now }
+    ensures own { (out-Command result).has_globals ≡ false }
+{
+    Command::new(alloc, name).about(about).after_help(example)
+}
+
+/// The option `--name`, which is required and takes a number from `least` to `most`. The help calls
+/// the number `value`, and says `help` of it.
+pub fn number<'a>(
+    alloc: Global,
+    name: &'a str,
+    least: u16,
+    most: u16,
+    value: &'a str,
+    help: &'a str,
+) -> Arg<'a>
+    ensures rule { rule_of result ≡ number_rule name.now least most }
+    ensures own { result.global ≡ false }
+{
+    let reader = ValueParser::Signed(i64::from(least), i64::from(most));
+    Arg::new(alloc, name)
+        .long(name)
+        .action(ArgAction::Set)
+        .required(true)
+        .value_parser(reader)
+        .value_name(value)
+        .help(help)
+}
+
+/// The option `--name`, which has no value and may be left out, and of which the help says `help`.
+pub fn flag<'a>(alloc: Global, name: &'a str, help: &'a str) -> Arg<'a>
+    ensures rule { rule_of result ≡ flag_rule name.now }
+    ensures own { result.global ≡ false }
+{
+    Arg::new(alloc, name)
+        .long(name)
+        .action(ArgAction::SetTrue)
+        .help(help)
+}
+
+/// The option `--year`, the reference year of dates.
+pub fn year<'a>(alloc: Global) -> Arg<'a>
+    ensures rule { rule_of result ≡ year_rule }
+    ensures own { result.global ≡ false }
+{
+    number(alloc, "year", FIRST_YEAR, LAST_YEAR, "YEAR", YEAR)
+}
+
+/// The option `--workers`, how many of them read rows.
+pub fn workers<'a>(alloc: Global) -> Arg<'a>
+    ensures rule { rule_of result ≡ workers_rule }
+    ensures own { result.global ≡ false }
+{
+    let most = u16::from(MOST_WORKERS);
+    number(alloc, "workers", 1, most, "COUNT", WORKERS)
+}
+
+/// The command with the options of rows of lanes: how many lanes there are, how many workers, and the year.
+pub fn with_lanes<'a>(alloc: Global, command: Command<'a>) -> Result<Command<'a>, AllocError>
+    ensures app { IfOk result (λ c. app_of c ≡ with_lanes (app_of command.entry)) }
+    ensures own { (out-Command command.entry).has_globals ≡ false
+        → IfOk result (λ c. (out-Command c).has_globals ≡ false) }
+{
+    let most = u16::from(MOST_LANES);
+    command
+        .arg(number(alloc, "lanes", 1, most, "COUNT", LANES))?
+        .arg(workers(alloc))?
+        .arg(year(alloc))
+}
+
+/// The command with the options of a cell: how wide a module is, and how wide and high the cell.
+fn with_cell<'a>(alloc: Global, command: Command<'a>) -> Result<Command<'a>, AllocError>
+    ensures app { IfOk result (λ c. app_of c ≡ with_cell (app_of command.entry)) }
+    ensures own { (out-Command command.entry).has_globals ≡ false
+        → IfOk result (λ c. (out-Command c).has_globals ≡ false) }
+{
+    command
+        .arg(number(alloc, "module", 1, MOST_MODULE_DOTS, "DOTS", MODULE))?
+        .arg(number(alloc, "width", 1, MOST_WIDTH, "DOTS", WIDTH))?
+        .arg(number(alloc, "height", 1, MOST_HEIGHT, "DOTS", HEIGHT))
+}
+
+/// The command with the options of a sheet: how many columns and rows of cells it has.
+fn with_places<'a>(alloc: Global, command: Command<'a>) -> Result<Command<'a>, AllocError>
+    ensures app { IfOk result (λ c. app_of c ≡ with_places (app_of command.entry)) }
+    ensures own { (out-Command command.entry).has_globals ≡ false
+        → IfOk result (λ c. (out-Command c).has_globals ≡ false) }
+{
+    command
+        .arg(number(alloc, "columns", 1, MOST_COLUMNS, "COUNT", COLUMNS))?
+        .arg(number(alloc, "rows", 1, MOST_ROWS, "COUNT", ROWS))
+}
+
+/// The command with the options of a grid of cells: those of a cell, and those of a sheet.
+pub fn with_grid<'a>(alloc: Global, command: Command<'a>) -> Result<Command<'a>, AllocError>
+    ensures app { IfOk result (λ c. app_of c ≡ with_places (with_cell (app_of command.entry))) }
+    ensures own { (out-Command command.entry).has_globals ≡ false
+        → IfOk result (λ c. (out-Command c).has_globals ≡ false) }
+{
+    let sized = with_cell(alloc, command)?;
+    with_places(alloc, sized)
+}
+
+/// The number under this name.
+pub fn number_named(matches: &ArgMatches<'_>, name: &str) -> Option<u16>
+    ensures some { IfSome result (HasNumber name.now (rows_of (found_of matches.now))) }
+    ensures none { IfNone result ((n : ℕ) → n < 2 ^ 16
+        → HasNumber name.now (rows_of (found_of matches.now)) n → ⊥) }
+{
+    matches.get_one::<u16>(name)
+}
+
+/// The number under this name, where it is a byte.
+pub fn byte_named(matches: &ArgMatches<'_>, name: &str) -> Option<u8>
+    ensures some { IfSome result (HasNumber name.now (rows_of (found_of matches.now))) }
+    ensures none { IfNone result ((n : ℕ) → n < 2 ^ 8
+        → HasNumber name.now (rows_of (found_of matches.now)) n → ⊥) }
+{
+    matches.get_one::<u8>(name)
+}
+
+/// Whether the flag of this name is set.
+pub fn flag_named(matches: &ArgMatches<'_>, name: &str) -> Option<bool>
+    ensures some { IfSome result (HasFlag name.now (rows_of (found_of matches.now))) }
+    ensures none { IfNone result ((b : Bool) → HasFlag name.now (rows_of (found_of matches.now)) b → ⊥) }
+{
+    matches.get_one::<bool>(name)
+}
+
+/// The reference year.
+pub fn year_named(matches: &ArgMatches<'_>) -> Option<Year>
+    ensures some { IfSome result (HasYear (rows_of (found_of matches.now))) }
+    ensures none { IfNone result ((y : ℕ) → HasYear (rows_of (found_of matches.now)) y → ⊥) }
+{
+    Year::new(number_named(matches, "year")?)
+}

@@ -1,0 +1,116 @@
+//! The commands: which there are, and what the words of one ask for.
+ghost use Rattle.std.specs.Prelude.{◌≡◌, IfNone, IfOk, IfSome};
+ghost use Rattle.clap.specs.Words.{app_of, found_of, rows_of};
+ghost use Rattle.words_core.specs.commands.{AsksIn, batch_of, hub_app, row_app, text_app};
+ghost use Rattle.words_core.specs.declared.commands.Asked.{Asked};
+ghost use Rattle.words_core.specs.declared.commands.Batch.{Batch};
+
+pub mod check;
+pub mod lanes;
+pub mod live;
+pub mod print;
+pub mod scan;
+
+use crate::arguments::year_named;
+use crate::commands::check::check_words;
+use crate::commands::lanes::lanes_words;
+use crate::commands::lanes::options::LaneOptions;
+use crate::commands::live::live_words;
+use crate::commands::live::options::LiveOptions;
+use crate::commands::print::options::PrintOptions;
+use crate::commands::print::print_words;
+use crate::commands::scan::options::ScanOptions;
+use crate::commands::scan::scan_words;
+use crate::help;
+use clap::{ArgMatches, Command};
+use element_core::Year;
+use std::alloc::{AllocError, Global};
+
+/// What the words ask for.
+#[derive(Clone, Copy, Debug, PartialEq, Eq)]
+pub enum Asked {
+    /// Texts are to be checked, dates under this reference year.
+    Check(Year),
+    /// Labels are to be printed.
+    Print(PrintOptions),
+    /// The rows of these lanes are to be read.
+    Lanes(LaneOptions),
+    /// The sheets of these images are to be read.
+    Scan(ScanOptions),
+    /// The rows of these lanes are to be read as they come.
+    Live(LiveOptions),
+}
+
+/// A command over its whole input, of which it writes nothing before it has read all.
+#[derive(Clone, Copy, Debug, PartialEq, Eq)]
+pub enum Batch {
+    /// Texts are to be checked, dates under this reference year.
+    Check(Year),
+    /// Labels are to be printed.
+    Print(PrintOptions),
+    /// The rows of these lanes are to be read.
+    Lanes(LaneOptions),
+    /// The sheets of these images are to be read.
+    Scan(ScanOptions),
+}
+
+impl Asked {
+    /// The command over its whole input that is asked for, or what is to be read as it comes.
+    pub fn batch(self) -> Result<Batch, LiveOptions>
+        ensures { result ≡ batch_of self }
+    {
+        match self {
+            Asked::Check(year) => Ok(Batch::Check(year)),
+            Asked::Print(options) => Ok(Batch::Print(options)),
+            Asked::Lanes(options) => Ok(Batch::Lanes(options)),
+            Asked::Scan(options) => Ok(Batch::Scan(options)),
+            Asked::Live(options) => Err(options),
+        }
+    }
+}
+
+/// The program with the commands that take texts.
+fn text_words<'a>(alloc: Global) -> Result<Command<'a>, AllocError>
+    ensures { IfOk result (λ c. app_of c ≡ text_app) }
+{
+    Command::new(alloc, "gs1_hub")
+        .version(help::VERSION)
+        .about(help::HUB)
+        .after_help(help::HUB_EXAMPLE)
+        .disable_help_subcommand(true)
+        .subcommand_required(true)
+        .subcommand(check_words(alloc)?)?
+        .subcommand(print_words(alloc)?)
+}
+
+/// The program with the commands over their whole input.
+fn row_words<'a>(alloc: Global) -> Result<Command<'a>, AllocError>
+    ensures { IfOk result (λ c. app_of c ≡ row_app) }
+{
+    text_words(alloc)?
+        .subcommand(lanes_words(alloc)?)?
+        .subcommand(scan_words(alloc)?)
+}
+
+/// The program with its commands, as `clap` reads their words.
+pub fn hub_words<'a>(alloc: Global) -> Result<Command<'a>, AllocError>
+    ensures { IfOk result (λ c. app_of c ≡ hub_app) }
+{
+    row_words(alloc)?.subcommand(live_words(alloc)?)
+}
+
+/// What the matches of a command ask for.
+pub fn asked_by(name: &str, matches: &ArgMatches<'_>) -> Option<Asked>
+    ensures some { IfSome result (AsksIn name.now (rows_of (found_of matches.now))) }
+    ensures none { IfNone result ((a : Asked)
+        → AsksIn name.now (rows_of (found_of matches.now)) a → ⊥) }
+{
+    match name {
+        "check" => year_named(matches).map(Asked::Check),
+        "print" => print::options_named(matches).map(Asked::Print),
+        "lanes" => lanes::options_named(matches).map(Asked::Lanes),
+        "scan" => scan::options_named(matches).map(Asked::Scan),
+        "live" => live::options_named(matches).map(Asked::Live),
+        _ => None,
+    }
+}

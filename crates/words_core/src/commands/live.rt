@@ -1,0 +1,54 @@
+//! The words of the command `live`, and the options that they give.
+ghost use Rattle.std.specs.Prelude.{◌≡◌, IfNone, IfOk, IfSome, false};
+ghost use Rattle.clap.specs.Words.{app_of, found_of, rows_of};
+ghost use Rattle.clap.specs.declared.builder.command.Command.TheViews.{out-Command};
+ghost use Rattle.words_core.specs.commands.Lives.{HasLive, live_app};
+ghost use Rattle.words_core.specs.declared.commands.live.options.LiveOptions.{LiveOptions};
+
+pub mod options;
+
+use crate::arguments::{command, flag, flag_named, with_lanes};
+use crate::commands::lanes;
+use crate::commands::live::options::LiveOptions;
+use clap::{ArgMatches, Command};
+use std::alloc::{AllocError, Global};
+
+/// What `live` does.
+const ABOUT: &str = "Answers scanned rows as they come, each before the next is read";
+
+/// The input of `live`, its output and an example.
+const EXAMPLE: &str = "\
+Input, without an end or a limit of size, one row a line: a lane from 0, a comma, and the widths of the
+row's runs in dots, as `lanes --help` says. A line has at most 65,536 bytes, and quotes have no meaning.
+Output, a line for each record in the order of the records, written before more input is waited for: the
+lane, the row's number in it, from 0, and the symbology identifier with the elements, or `refused`, a
+number and a name. A record that is no row has `-` in place of its number, and of its lane where it names
+none. With --elements each element is its AI, = and its value, with a tab between each two.
+
+Example, a row of 100 light dots, and one of a lane that is not there:
+  $ printf '0,100\\n1,100\\n' | gs1_hub live --lanes 1 --workers 1 --year 2026
+  0 0 refused 19 Blank
+  - - refused 41 BadLane";
+
+/// The flag `--elements`.
+const ELEMENTS: &str = "Write each element as its AI, = and its value, with tabs between them";
+
+/// The options of the command `live`.
+pub fn options_named(matches: &ArgMatches<'_>) -> Option<LiveOptions>
+    ensures some { IfSome result (HasLive (rows_of (found_of matches.now))) }
+    ensures none { IfNone result ((o : LiveOptions)
+        → HasLive (rows_of (found_of matches.now)) o → ⊥) }
+{
+    let rows = lanes::options_named(matches)?;
+    Some(LiveOptions::new(rows, flag_named(matches, "elements")?))
+}
+
+/// The words of the command `live`, as `clap` reads them.
+pub fn live_words<'a>(alloc: Global) -> Result<Command<'a>, AllocError>
+    ensures app { IfOk result (λ c. app_of c ≡ live_app) }
+    ensures own { IfOk result (λ c. (out-Command c).has_globals ≡ false) }
+{
+    with_lanes(alloc, command(alloc, "live", ABOUT, EXAMPLE))?.arg(flag(
+        alloc, "elements", ELEMENTS,
+    ))
+}

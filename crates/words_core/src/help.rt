@@ -1,0 +1,24 @@
+//! What `--help` and `--version` print of the program as a whole.
+
+/// The product's version and, in parentheses, the sum of the logic that proves it, with which `rt version`
+/// ends.
+pub const VERSION: &str = "1.1.0 (rattle logic dac8208d650f15bf)";
+
+/// What the program is for.
+pub const HUB: &str = "Checks, prints and scans GS1 bar codes";
+
+/// How a label is printed and read back, and what the exit statuses mean.
+pub const HUB_EXAMPLE: &str = "\
+Each command reads standard input to its end and writes standard output; `live` answers line by line.
+`gs1_hub COMMAND --help` has its options, its input and an example.
+
+Print a label and read it back:
+  $ echo ean13,9501101530003 > label.csv
+  $ gs1_hub print --module 2 --width 240 --height 120 --columns 1 --rows 1 --year 2026 < label.csv > label.pbm
+  $ gs1_hub scan --module 2 --width 240 --height 120 --columns 1 --rows 1 --workers 1 --year 2026 < label.pbm
+  0 0 ]E0 (01)09501101530003
+The last line is the answer: the column, the cell in it, the symbology identifier and the elements.
+
+Exit status: 0 where it is done; 1 where the input or the output is refused, in one line on standard
+error; 2 where the words are not understood. A refusal is `refused`, a number and a name, and
+docs/FAULTS.md says what to do.";
