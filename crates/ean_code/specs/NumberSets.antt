@@ -1,21 +1,20 @@
 -- The characters of EAN and UPC symbols, and the number sets that they are drawn in (ISO/IEC 15420, symbol character encodation).
 use Rattle.std.specs.Prelude.{ℕ, Bool, List, [], ◌∷◌, map, slice_index_or, if◌then◌else◌, ◌==◌, codes}
 use Rattle.std.specs.List.{flat_map, zip}
+use Rattle.digits_core.specs.Digits.{digits_of}
 use Rattle.ean_code.specs.declared.number_sets.Character.{Character}
 use Rattle.ean_code.specs.declared.number_sets.NumberSet.{NumberSet}
 use Rattle.ean_code.specs.declared.number_sets.NumberSet.TheVariants.{A, B}
 
 -- the widths of the digits 0 to 9 in number set A, four each, the space first; set C has them too, the bar first
 abbrev pub set_a : List (List ℕ)
-set_a =
-    (3 ∷ 2 ∷ 1 ∷ 1 ∷ []) ∷ (2 ∷ 2 ∷ 2 ∷ 1 ∷ []) ∷ (2 ∷ 1 ∷ 2 ∷ 2 ∷ []) ∷ (1 ∷ 4 ∷ 1 ∷ 1 ∷ []) ∷ (1 ∷ 1 ∷ 3 ∷ 2 ∷ [])
-    ∷ (1 ∷ 2 ∷ 3 ∷ 1 ∷ []) ∷ (1 ∷ 1 ∷ 1 ∷ 4 ∷ []) ∷ (1 ∷ 3 ∷ 1 ∷ 2 ∷ []) ∷ (1 ∷ 2 ∷ 1 ∷ 3 ∷ []) ∷ (3 ∷ 1 ∷ 1 ∷ 2 ∷ []) ∷ []
+set_a = map digits_of
+    (codes "3211" ∷ codes "2221" ∷ codes "2122" ∷ codes "1411" ∷ codes "1132" ∷ codes "1231" ∷ codes "1114" ∷ codes "1312" ∷ codes "1213" ∷ codes "3112" ∷ [])
 
 -- the widths of the digits 0 to 9 in number set B, four each, the space first
 abbrev pub set_b : List (List ℕ)
-set_b =
-    (1 ∷ 1 ∷ 2 ∷ 3 ∷ []) ∷ (1 ∷ 2 ∷ 2 ∷ 2 ∷ []) ∷ (2 ∷ 2 ∷ 1 ∷ 2 ∷ []) ∷ (1 ∷ 1 ∷ 4 ∷ 1 ∷ []) ∷ (2 ∷ 3 ∷ 1 ∷ 1 ∷ [])
-    ∷ (1 ∷ 3 ∷ 2 ∷ 1 ∷ []) ∷ (4 ∷ 1 ∷ 1 ∷ 1 ∷ []) ∷ (2 ∷ 1 ∷ 3 ∷ 1 ∷ []) ∷ (3 ∷ 1 ∷ 2 ∷ 1 ∷ []) ∷ (2 ∷ 1 ∷ 1 ∷ 3 ∷ []) ∷ []
+set_b = map digits_of
+    (codes "1123" ∷ codes "1222" ∷ codes "2212" ∷ codes "1141" ∷ codes "2311" ∷ codes "1321" ∷ codes "4111" ∷ codes "2131" ∷ codes "3121" ∷ codes "2113" ∷ [])
 
 -- the widths of the digits 0 to 9 in a number set left of the centre
 abbrev pub widths_in_set : NumberSet → List (List ℕ)
@@ -44,11 +43,11 @@ character_of (of_b, d) = in_set (set_b_or_a of_b) d
 
 -- digits as characters, each in the number set at its place
 abbrev pub characters_in : List NumberSet → List ℕ → List Character
-characters_in row ds = map (λ (c : NumberSet × ℕ). in_set c.0 c.1) (zip row ds)
+characters_in row ds = map (λ (c : NumberSet × ℕ). record { set = c.0; digit = c.1 }) (zip row ds)
 
 -- the number sets that letters name: A, or else B
 abbrev pub sets_in : List ℕ → List NumberSet
-sets_in letters = map (λ letter. set_b_or_a (letter == 66)) letters
+sets_in letters = map (λ letter. if letter == 66 then B else A) letters
 
 -- the number sets of the left six of an EAN-13, by its first digit, which they alone show
 abbrev pub ean13_rows : List (List NumberSet)
@@ -76,4 +75,4 @@ left_part row ds = flat_map left_widths (characters_in row ds)
 
 -- digits drawn in number set C, right of the centre
 abbrev pub right_part : List ℕ → List ℕ
-right_part ds = flat_map right_widths ds
+right_part ds = flat_map (λ d. slice_index_or set_a d []) ds

@@ -3,16 +3,18 @@ use Rattle.std.specs.Prelude.{◌≡◌, ℕ, List, [], ◌∷◌, ◌++◌, sli
 use Rattle.digits_core.specs.Digits.{IsChecked, padded}
 use Rattle.digits_core.specs.Upce.{IsFirstUpceOf, upce_expanded}
 use Rattle.ean_code.specs.Symbols.{Kind, IsNumberSymbol}
-use Rattle.ean_code.specs.Symbols.Kind.{Ean13, Ean8, UpcE, Itf14}
+use Rattle.ean_code.specs.Symbols.Kind.{UpcE}
 use Rattle.ean_code.specs.declared.reading.Spelled.{Spelled}
 use Rattle.ean_code.specs.declared.reading.Spelled.TheVariants.{NoPattern, BadCheck, Found}
 
--- the digits of a symbol of this kind stand for this GTIN, if it is checked; those of a UPC-E for the GTIN-12 that they are expanded to
+-- what the digits of a symbol of this kind stand for, a GTIN if it is checked; those of a UPC-E for the GTIN-12 that they are expanded to
+abbrev pub gtin_of : Kind → List ℕ → List ℕ
+gtin_of UpcE digits = padded (upce_expanded (take 6 digits) (slice_index digits 6))
+gtin_of _ digits = padded digits
+
+-- the digits of a symbol of this kind stand for this GTIN, if it is checked
 abbrev pub IsGtinOf : Kind → List ℕ → List ℕ → Type 0
-IsGtinOf Ean13 digits gtin = gtin ≡ padded digits
-IsGtinOf Ean8 digits gtin = gtin ≡ padded digits
-IsGtinOf UpcE digits gtin = gtin ≡ padded (upce_expanded (take 6 digits) (slice_index digits 6))
-IsGtinOf Itf14 digits gtin = gtin ≡ padded digits
+IsGtinOf kind digits gtin = gtin ≡ gtin_of kind digits
 
 -- no digits have this symbol; or some have and no GTIN stands for them; or they stand for this GTIN
 abbrev pub IsSpelled : Kind → List ℕ → Spelled → Type 0

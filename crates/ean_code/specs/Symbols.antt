@@ -4,15 +4,13 @@ use Rattle.digits_core.specs.Digits.{AreDigits}
 use Rattle.ean_code.specs.NumberSets.{ean13_rows, ean8_row, upce_rows, row_of, left_part, right_part}
 use Rattle.ean_code.specs.TwoOfFive.{itf_widths}
 
--- the normal guard pattern
+-- the guard patterns: the normal one, that of the centre, and the special one at the right of a UPC-E
 abbrev pub normal_guard : List ℕ
 normal_guard = 1 ∷ 1 ∷ 1 ∷ []
 
--- the centre guard pattern
 abbrev pub centre_guard : List ℕ
 centre_guard = 1 ∷ 1 ∷ 1 ∷ 1 ∷ 1 ∷ []
 
--- the special guard pattern, at the right of a UPC-E
 abbrev pub special_guard : List ℕ
 special_guard = 1 ∷ 1 ∷ 1 ∷ 1 ∷ 1 ∷ 1 ∷ []
 

@@ -1,13 +1,14 @@
 -- Interleaved 2 of 5, in which ITF-14 is drawn (ISO/IEC 16390, symbol character encodation; GS1 General Specifications, section 5.3). A narrow
 -- element is one module here and a wide one three; of five elements of a digit two are wide.
-use Rattle.std.specs.Prelude.{◌≡◌, ℕ, ◌⊎◌, List, [], ◌∷◌, ◌++◌, slice_index_or}
+use Rattle.std.specs.Prelude.{◌≡◌, ℕ, ◌⊎◌, List, [], ◌∷◌, ◌++◌, map, slice_index_or, codes}
 use Rattle.std.specs.List.{flat_map, zip, AllByRecursion}
+use Rattle.digits_core.specs.Digits.{digits_of}
 
 -- the five widths of the digits 0 to 9, in bars as in spaces
 abbrev pub two_of_five : List (List ℕ)
-two_of_five =
-    (1 ∷ 1 ∷ 3 ∷ 3 ∷ 1 ∷ []) ∷ (3 ∷ 1 ∷ 1 ∷ 1 ∷ 3 ∷ []) ∷ (1 ∷ 3 ∷ 1 ∷ 1 ∷ 3 ∷ []) ∷ (3 ∷ 3 ∷ 1 ∷ 1 ∷ 1 ∷ []) ∷ (1 ∷ 1 ∷ 3 ∷ 1 ∷ 3 ∷ [])
-    ∷ (3 ∷ 1 ∷ 3 ∷ 1 ∷ 1 ∷ []) ∷ (1 ∷ 3 ∷ 3 ∷ 1 ∷ 1 ∷ []) ∷ (1 ∷ 1 ∷ 1 ∷ 3 ∷ 3 ∷ []) ∷ (3 ∷ 1 ∷ 1 ∷ 3 ∷ 1 ∷ []) ∷ (1 ∷ 3 ∷ 1 ∷ 3 ∷ 1 ∷ []) ∷ []
+two_of_five = map digits_of
+    (codes "11331" ∷ codes "31113" ∷ codes "13113" ∷ codes "33111" ∷ codes "11313"
+    ∷ codes "31311" ∷ codes "13311" ∷ codes "11133" ∷ codes "31131" ∷ codes "13131" ∷ [])
 
 -- the five widths of a digit
 abbrev pub five_widths : ℕ → List ℕ
