@@ -10,7 +10,8 @@ use Rattle.element_core.specs.Days.{day_of}
 use Rattle.element_core.specs.Times.{exact_day_of, time_of}
 use Rattle.element_core.specs.Table.{Row, ai_rows, begins, row_at, is_dated, is_7003_or_8008, is_timed, names_day, names_time, greatest_of, have_one_length}
 use Rattle.element_core.specs.inner.Table.{is_timed_exactly}
-use Rattle.element_core.specs.Elements.{DatedElements, IsElement, TimedElements, Entry, each_part, has_date, is_named, day_by, time_by}
+use Rattle.element_core.specs.inner.PartTests.{has_date}
+use Rattle.element_core.specs.Elements.{DatedElements, IsElement, TimedElements, Entry, each_part, is_named, day_by, time_by}
 use Rattle.element_core.proofs.TableLaws.{each_is_timed_exactly, parts_have_one_length}
 use Rattle.element_core.proofs.Look.{all_at, begins-append, row_found}
 

@@ -9,8 +9,8 @@ use Rattle.std.proofs.lemmas.Bool.Decides.{eqb_tells, leb_tells}
 use Rattle.std.proofs.lemmas.Int.{ints}
 use Rattle.jiff.specs.Types.{Date}
 use Rattle.jiff.specs.Words.{IsDate, IsYmd, days_in_month, month_length}
-use Rattle.element_core.specs.inner.Days.{AreSixDigits}
-use Rattle.element_core.specs.Days.{IsDay, day_in, day_named, day_of, is_leap, is_six_digits, last_day, months}
+use Rattle.element_core.specs.inner.Days.{AreSixDigits, day_named, is_six_digits}
+use Rattle.element_core.specs.Days.{IsDay, day_in, day_of, is_leap, last_day, months}
 
 -- the months of a year, each by its place
 same_at : (y k : ℕ) → k < 12 → days_in_month (pos y) (suc k) ≡ slice_index (months (is_leap y)) k

@@ -6,11 +6,11 @@ use Rattle.std.proofs.lemmas.Bool.{cases_Bool, eqb-true, cases_lt, le-leb, lt-le
 use Rattle.std.proofs.lemmas.Bool.Decides.{nat_tests}
 use Rattle.std.proofs.lemmas.List.{length-take-le}
 use Rattle.element_core.specs.declared.family.AiFamily.{AiFamily}
-use Rattle.element_core.specs.Table.{Row, ais, row_in, rows_of, ai_rows, begins, row_at}
+use Rattle.element_core.specs.Table.{Row, ais, rows_of, ai_rows, begins, row_at}
 use Rattle.element_core.specs.inner.Table.{has_few_parts, is_short_ai}
 use Rattle.element_core.proofs.TableLaws.{each_has_few_parts, each_is_short}
 use Rattle.element_core.proofs.Look.{all_at, row_is}
-use Rattle.element_core.specs.inner.Families.{family_of, is_in_family, row_by, row_with}
+use Rattle.element_core.specs.inner.Families.{family_of, is_in_family, row_by, row_in, row_with}
 
 abbrev pub or_else : {X : Type 0} → Option X → Option X → Option X
 or_else (Some x) o = Some x

@@ -5,10 +5,10 @@ use Rattle.std.specs.List.{list_all}
 use Rattle.std.proofs.lemmas.Bool.{cases_Bool, and_parts, and_from, leb-true, not-true, both_ways}
 use Rattle.element_core.specs.declared.family.AiFamily.{AiFamily}
 use Rattle.element_core.specs.declared.first_digits.TheConstants.{STARTS, ENDS}
-use Rattle.element_core.specs.Table.{Family, Row, row_in, rows_of, families, ai_rows, begins, row_at}
+use Rattle.element_core.specs.Table.{Family, Row, rows_of, families, ai_rows, begins, row_at}
 use Rattle.element_core.specs.inner.Table.{is_of_digits}
 use Rattle.element_core.specs.Elements.{is_digit}
-use Rattle.element_core.specs.inner.Families.{family_of, has_first_two, is_in_family, row_by}
+use Rattle.element_core.specs.inner.Families.{family_of, has_first_two, is_in_family, row_by, row_in}
 use Rattle.element_core.proofs.TableLaws.{each_is_of_digits}
 use Rattle.element_core.proofs.Look.{all_at, begins-split, row_is}
 use Rattle.element_core.proofs.FamilyLemmas.{or_else, find-append, find-map, find-ais, row_by_is}

@@ -5,8 +5,8 @@ use Rattle.std.proofs.lemmas.Bool.{cases_Bool, leb-true}
 use Rattle.std.proofs.lemmas.List.{nil_from_length}
 use Rattle.element_core.specs.Table.{Row, ai_rows, least_of, predefined_length}
 use Rattle.element_core.specs.inner.Table.{is_long_enough}
-use Rattle.element_core.specs.Elements.{Entry, IsElement, IsElements, StopsWith, FirstFault, fault_at, separator_for, canonical}
-use Rattle.element_core.specs.inner.Elements.{AreElements}
+use Rattle.element_core.specs.Elements.{Entry, IsElement, IsElements, StopsWith, FirstFault, separator_for, canonical}
+use Rattle.element_core.specs.inner.Elements.{AreElements, fault_at}
 use Rattle.element_core.specs.Fronts.{Begins, ReadsFromLeft}
 use Rattle.element_core.specs.inner.Growing.{last_gap, separator_if}
 use Rattle.element_core.proofs.TableLaws.{each_is_long_enough}

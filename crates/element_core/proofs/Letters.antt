@@ -4,12 +4,13 @@ use Rattle.std.specs.Prelude.{is_some}
 use Rattle.std.specs.List.{list_all, AllByRecursion}
 use Rattle.std.proofs.lemmas.Bool.{and_parts, and_from, leb-true, le-leb, lt-leb, ne_eqb, cases_lt}
 use Rattle.std.proofs.lemmas.List.{take-append-drop, nil_from_length}
+use Rattle.std.specs.Int.{is_in_range}
 use Rattle.element_core.specs.declared.part.Part.{Part}
 use Rattle.element_core.specs.declared.part.PartFormat.{PartFormat}
 use Rattle.element_core.specs.declared.part.PartFormat.TheVariants.{Numeric, Alphanumeric, Date, DateAndTime}
 use Rattle.element_core.specs.Table.{Row, ai_rows, greatest_of, predefined_length}
 use Rattle.element_core.specs.inner.Table.{is_of_digits}
-use Rattle.element_core.specs.Elements.{Entry, IsElement, IsElements, belongs, between, is_digit, is_character, is_text_byte, begins_with_digits, is_printable, has_characters, each_part, separator_for, canonical}
+use Rattle.element_core.specs.Elements.{Entry, IsElement, IsElements, belongs, is_digit, is_character, is_text_byte, begins_with_digits, is_printable, has_characters, each_part, separator_for, canonical}
 use Rattle.element_core.specs.inner.Elements.{AreElements}
 use Rattle.element_core.proofs.TableLaws.{each_is_of_digits}
 use Rattle.element_core.proofs.Look.{all_at}
@@ -28,8 +29,8 @@ digit_is_character b h =
     let p = and_parts (leb 48 b) (leb b 57) h in
     let low = leb-true 48 b p.0 in
     let high = leb-true b 57 p.1 in
-    let inside : between 37 63 b ≡ true = and_from (leb 37 b) (leb b 63) (le-leb 37 b (omega arith)) (le-leb b 63 (omega arith)) in
-    or_left _ _ (or_left _ _ (or_left _ _ (or_right (between 33 34 b) (between 37 63 b) inside)))
+    let inside : is_in_range 37 63 b ≡ true = and_from (leb 37 b) (leb b 63) (le-leb 37 b (omega arith)) (le-leb b 63 (omega arith)) in
+    or_left _ _ (or_left _ _ (or_left _ _ (or_right (is_in_range 33 34 b) (is_in_range 37 63 b) inside)))
 
 belongs_is_character : (format : PartFormat) (b : ℕ) → belongs format b ≡ true → is_character b ≡ true
 belongs_is_character Alphanumeric b h = h

@@ -8,8 +8,9 @@ use Rattle.element_core.specs.declared.fault.ElementFault.TheVariants.{Empty, Va
 use Rattle.element_core.specs.declared.part.Part.{Part}
 use Rattle.element_core.specs.Table.{ai_rows, predefined_length, Row, begins, row_at, least_of, greatest_of}
 use Rattle.element_core.specs.inner.Table.{is_of_digits}
-use Rattle.element_core.specs.Elements.{Entry, IsElement, IsElements, each_part, has_even_length, value_in, field_of, row_fault, value_fault, fault_by, canonical}
+use Rattle.element_core.specs.Elements.{Entry, IsElement, IsElements, each_part, has_even_length, value_in, field_of, row_fault, fault_by, canonical}
 use Rattle.element_core.specs.inner.Elements.{AreElements}
+use Rattle.element_core.specs.inner.PartTests.{value_fault}
 use Rattle.element_core.specs.Pairs.{FaultlessPairs, HasRow, PairLengths, PairsAsTexts, UnknownPairs, entry_fault, entry_fault_by, entries_fault, list_fault}
 use Rattle.element_core.proofs.PieceLemmas.{from_left, to_pieces}
 use Rattle.element_core.proofs.Canonical.{canonical_reads, elements_are, or_true}

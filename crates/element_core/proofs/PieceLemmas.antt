@@ -1,9 +1,20 @@
 -- Joined pieces are what is read from the left.
-use Rattle.std.proofs.Common.{◌≡◌, ℕ, Bool, true, false, eqb, not, ◌||◌, List, [], ◌∷◌, ◌++◌, map, refl, sym, ap, subst, ◌∙◌, append_assoc, eqb-true, inl, inr}
+use Rattle.std.proofs.Common.{◌≡◌, ℕ, Bool, true, false, eqb, not, ◌||◌, List, [], ◌∷◌, ◌++◌, map, refl, sym, ap, subst, ◌∙◌, append_assoc, eqb-true, inl, inr, arith}
+use Rattle.std.specs.Prelude.{◌==◌, if◌then◌else◌, length, slice_index_or}
 use Rattle.std.proofs.lemmas.Bool.{cases_Bool, not-true}
 use Rattle.element_core.specs.Table.{ai_rows}
-use Rattle.element_core.specs.Elements.{Entry, Piece, separator, joined, is_empty, begins_with_separator, IsPiece, ArePieces, ReadsElements}
+use Rattle.element_core.specs.Elements.{Entry, Piece, joined, IsPiece, ArePieces, ReadsElements}
 use Rattle.element_core.specs.Fronts.{ReadsFromLeft, ReadsPieces, ends_element, after_separator}
+
+-- the separator of a piece, if it has one
+abbrev separator : Bool → List ℕ
+separator separated = if separated then 29 ∷ [] else []
+
+abbrev is_empty : List ℕ → Bool
+is_empty left = length left == 0
+
+abbrev begins_with_separator : List ℕ → Bool
+begins_with_separator left = slice_index_or left 0 0 == 29
 
 -- what is after a value is its separator and the rest
 parted : (after : List ℕ) → after ≡ separator (begins_with_separator after) ++ after_separator after
@@ -70,7 +81,7 @@ kept (b ∷ text) h = let no = not-true (eqb b 29) h in rw no refl
 ended : (p : Bool) (left : List ℕ) → (p || is_empty left) ≡ true → (p || ends_element left) ≡ true
 ended true left h = refl
 ended false [] h = refl
-ended false (b ∷ left) h = absurd cc
+ended false (b ∷ left) h = let none : length (b ∷ left) ≡ 0 = eqb-true (length (b ∷ left)) 0 h in absurd (omega arith)
 
 closed_by : (p separated : Bool) (left : List ℕ) → (p || (separated || is_empty left)) ≡ true → (separated || not (begins_with_separator left)) ≡ true
     → ((p || ends_element (separator separated ++ left)) ≡ true) × (left ≡ after_separator (separator separated ++ left))

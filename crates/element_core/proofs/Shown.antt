@@ -5,7 +5,9 @@ use Rattle.std.proofs.lemmas.List.{take-append-drop, drop_at, take_at, length-ta
 use Rattle.element_core.specs.declared.fault.ElementFault.{ElementFault}
 use Rattle.element_core.specs.declared.fault.ElementFault.TheVariants.{ValueLength, ValueCharacter, ValueCheckDigit, ValueDate, MissingSeparator}
 use Rattle.element_core.specs.Table.{Row, begins, row_at, least_of, greatest_of}
-use Rattle.element_core.specs.Elements.{Entry, IsValue, each_part, has_characters, has_check_digit, has_date, has_even_length, field_of, value_in, row_fault, fault_by, fault_at}
+use Rattle.element_core.specs.Elements.{Entry, IsValue, each_part, has_characters, has_check_digit, has_even_length, field_of, value_in, row_fault, fault_by}
+use Rattle.element_core.specs.inner.Elements.{fault_at}
+use Rattle.element_core.specs.inner.PartTests.{has_date}
 use Rattle.element_core.specs.Fronts.{Begins, ends_element, after_separator}
 use Rattle.element_core.specs.Shown.{shown_value, shown_rest}
 use Rattle.element_core.proofs.Look.{begins-append, begins-split, row_found, row_is as row_listed, predefined_length_is}

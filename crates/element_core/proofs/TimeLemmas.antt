@@ -1,7 +1,8 @@
 -- Days that a time follows, and times.
 use Rattle.std.proofs.Common.{◌≡◌, ◌∙◌, ap, ℕ, Bool, true, false, cond, eqb, List, None, refl, inl, inr}
 use Rattle.std.proofs.lemmas.Bool.{cases_Bool}
-use Rattle.element_core.specs.Days.{day_named, day_of, is_six_digits, two}
+use Rattle.element_core.specs.Days.{day_of, two}
+use Rattle.element_core.specs.inner.Days.{day_named, is_six_digits}
 use Rattle.element_core.specs.Times.{exact_day_of, is_time_text, time_in, time_of, two_or_zero}
 use Rattle.element_core.proofs.DayLemmas.{day_of-other, day_of-six}
 

@@ -6,7 +6,8 @@ use Rattle.std.proofs.lemmas.List.{nil_from_length}
 use Rattle.element_core.specs.declared.fault.ElementFault.{ElementFault}
 use Rattle.element_core.specs.declared.fault.ElementFault.TheVariants.{Empty, TooLong}
 use Rattle.element_core.specs.Table.{row_at}
-use Rattle.element_core.specs.Elements.{Entry, IsElements, StopsWith, FirstFault, size_fault, fault_by, fault_at, EachText}
+use Rattle.element_core.specs.inner.Elements.{fault_at}
+use Rattle.element_core.specs.Elements.{Entry, IsElements, StopsWith, FirstFault, size_fault, fault_by, EachText}
 use Rattle.element_core.specs.Fronts.{ReadsFromLeft}
 use Rattle.element_core.specs.Shown.{shown_value, shown_rest}
 use Rattle.element_core.proofs.Shown.{stands}

@@ -5,7 +5,8 @@ use Rattle.std.proofs.lemmas.Bool.{le-ltb, ne_eqb}
 use Rattle.element_core.specs.declared.fault.ElementFault.{ElementFault}
 use Rattle.element_core.specs.declared.fault.ElementFault.TheVariants.{UnknownAi}
 use Rattle.element_core.specs.Table.{Row}
-use Rattle.element_core.specs.Elements.{Entry, IsElements, StopsWith, FirstFault, size_fault, fault_by, fault_at, OneListOrFault, Listing}
+use Rattle.element_core.specs.inner.Elements.{fault_at}
+use Rattle.element_core.specs.Elements.{Entry, IsElements, StopsWith, FirstFault, size_fault, fault_by, OneListOrFault, Listing}
 use Rattle.element_core.specs.Fronts.{Begins, ReadsFromLeft}
 use Rattle.element_core.proofs.TableLaws.{none_begins_nothing}
 use Rattle.element_core.proofs.PieceLemmas.{from_left}

@@ -32,17 +32,10 @@ abbrev pub day_in : ℕ → ℕ → ℕ → Option (ℕ × ℕ × ℕ)
 day_in year month day = if nat_le 1 month && (nat_le month 12 && nat_le day (last_day year month))
     then Some (year, month, if day == 0 then last_day year month else day) else None
 
--- the day that six digits name: year, month and day, two digits each
-abbrev pub day_named : List ℕ → ℕ → Option (ℕ × ℕ × ℕ)
-day_named six reference = day_in (full_year reference (two six 0)) (two six 2) (two six 4)
-
--- whether a text is six ASCII digits
-abbrev pub is_six_digits : List ℕ → Bool
-is_six_digits text = (length text == 6) && list_all is_ascii_digit text
-
--- the year, the month and the day that a text names under a reference year, if it names a day
+-- the year, the month and the day that six ASCII digits name under a reference year, two digits each, if they name a day
 unfoldable pub day_of : List ℕ → ℕ → Option (ℕ × ℕ × ℕ)
-day_of text reference = if is_six_digits text then day_named text reference else None
+day_of text reference = if (length text == 6) && list_all is_ascii_digit text
+    then day_in (full_year reference (two text 0)) (two text 2) (two text 4) else None
 
 -- the date is that day, and there is none where the day is not
 abbrev pub IsDay : Option Date → Option (ℕ × ℕ × ℕ) → Type 0

@@ -1,7 +1,8 @@
 -- Element strings: which texts they are, and the first fault of a text that is none
 -- (GS1 General Specifications, section 7.8).
 -- A text says one list of elements or has one first fault. A canonical text reads back as its elements.
-use Rattle.std.specs.Prelude.{◌≡◌, ◌⊎◌, ℕ, ◌+◌, ◌%◌, ◌<◌, ◌≤◌, Bool, true, false, ◌&&◌, ◌||◌, not, List, [], ◌∷◌, ◌++◌, length, take, drop, Option, Some, None, IsTrue, MatchOption, Contains, nat_lt, nat_le, ◌==◌, if◌then◌else◌, is_some, flat_map, map, codes}
+use Rattle.std.specs.Prelude.{◌≡◌, ◌⊎◌, ℕ, ◌+◌, ◌%◌, ◌<◌, ◌≤◌, Bool, true, false, ◌&&◌, ◌||◌, not, List, [], ◌∷◌, ◌++◌, length, take, drop, Option, Some, None, IsTrue, MatchOption, Contains, nat_lt, ◌==◌, if◌then◌else◌, is_some, flat_map, map, slice_index_or, codes}
+use Rattle.std.specs.Int.{is_in_range}
 use Rattle.std.specs.List.{list_all, join_with_byte}
 use Rattle.element_core.specs.declared.fault.ElementFault.{ElementFault}
 use Rattle.element_core.specs.declared.fault.ElementFault.TheVariants.{Empty, UnknownAi, ValueLength, ValueCharacter, ValueCheckDigit, ValueDate, MissingSeparator, TooLong}
@@ -15,17 +16,13 @@ use Rattle.element_core.specs.Table.{Row, ai_rows, first_rows, row_at, least_of,
 
 -- ---- values
 
--- whether a number lies between two, both included
-abbrev pub between : ℕ → ℕ → ℕ → Bool
-between least greatest b = nat_le least b && nat_le b greatest
-
 -- an ASCII digit
 abbrev pub is_digit : ℕ → Bool
-is_digit b = between 48 57 b
+is_digit b = is_in_range 48 57 b
 
 -- the 82 characters: ! and ", from % to ?, A to Z, _ and a to z (GS1 General Specifications, section 7.11)
 abbrev pub is_character : ℕ → Bool
-is_character b = between 33 34 b || between 37 63 b || between 65 90 b || (b == 95) || between 97 122 b
+is_character b = is_in_range 33 34 b || is_in_range 37 63 b || is_in_range 65 90 b || (b == 95) || is_in_range 97 122 b
 
 -- whether a part of this format may have the byte
 abbrev pub belongs : PartFormat → ℕ → Bool
@@ -50,10 +47,6 @@ is_named year Date bytes = is_some (day_of bytes year)
 is_named year DateAndTime bytes = is_day_and_time bytes year
 is_named year _ bytes = true
 
--- whether there is such a day and such a time, where the part names them
-abbrev pub has_date : ℕ → Part → List ℕ → Bool
-has_date year part bytes = is_named year part.format bytes
-
 -- whether each part of a value passes a test; every part but the last has one length alone
 abbrev pub each_part : (Part → List ℕ → Bool) → List Part → List ℕ → Bool
 each_part test [] value = true
@@ -66,7 +59,7 @@ pub record IsValue (year : ℕ) (parts : List Part) (value : List ℕ) : Type 0 
   pub even : IsTrue (each_part has_even_length parts value)
   pub characters : IsTrue (each_part has_characters parts value)
   pub check_digits : IsTrue (each_part has_check_digit parts value)
-  pub dates : IsTrue (each_part (has_date year) parts value)
+  pub dates : IsTrue (each_part (λ p. is_named year p.format) parts value)
 
 -- ---- elements
 
@@ -88,36 +81,22 @@ pub record Piece : Type 0 where
   pub element : Entry
   pub separated : Bool
 
--- the separator of a piece, if it has one
-abbrev pub separator : Bool → List ℕ
-separator separated = if separated then 29 ∷ [] else []
-
--- the AI, the value and the separator
+-- the AI, the value and the separator, if it has one
 abbrev pub piece_text : Piece → List ℕ
-piece_text p = p.element.ai ++ p.element.value ++ separator p.separated
+piece_text p = p.element.ai ++ p.element.value ++ (if p.separated then 29 ∷ [] else [])
 
 -- the pieces, one after another
 abbrev pub joined : List Piece → List ℕ
 joined pieces = flat_map piece_text pieces
-
--- whether nothing is left of a text
-abbrev pub is_empty : List ℕ → Bool
-is_empty [] = true
-is_empty (b ∷ text) = false
-
--- whether a separator stands first
-abbrev pub begins_with_separator : List ℕ → Bool
-begins_with_separator [] = false
-begins_with_separator (b ∷ text) = b == 29
 
 -- a piece before what is left of the text
 pub record IsPiece (table : List Row) (year : ℕ) (p : Piece) (left : List ℕ) : Type 0 where
   pub row : Row
   pub element : IsElement table year row p.element
   -- it has a separator, or its length is predefined, or the text ends with it
-  pub ends : IsTrue (row.predefined || (p.separated || is_empty left))
+  pub ends : IsTrue (row.predefined || (p.separated || (length left == 0)))
   -- a separator that stands directly after its value is its own
-  pub own : IsTrue (p.separated || not (begins_with_separator left))
+  pub own : IsTrue (p.separated || not (slice_index_or left 0 0 == 29))
 
 -- each is a piece before what follows it
 abbrev pub ArePieces : List Row → ℕ → List Piece → List ℕ → Type 0
@@ -152,30 +131,21 @@ field_of (b ∷ text) = if b == 29 then [] else b ∷ field_of text
 abbrev pub value_in : Row → List ℕ → List ℕ
 value_in row field = if row.predefined then take (greatest_of row.parts) field else field
 
--- the first test that a value of a right length fails
-abbrev pub value_fault : ℕ → ℕ → List Part → List ℕ → Option ElementFault
-value_fault year place parts value =
-    if not (each_part has_characters parts value) then Some (ValueCharacter place)
-    else if not (each_part has_check_digit parts value) then Some (ValueCheckDigit place)
-    else if not (each_part (has_date year) parts value) then Some (ValueDate place)
-    else None
-
 -- the first test that a value of these parts fails, its length first, where this is the fault of one that is too long
 abbrev pub row_fault : ℕ → ℕ → ElementFault → List Part → List ℕ → Option ElementFault
 row_fault year place too_long parts value =
     if nat_lt (length value) (least_of parts) then Some (ValueLength place)
     else if nat_lt (greatest_of parts) (length value) then Some too_long
     else if not (each_part has_even_length parts value) then Some (ValueLength place)
-    else value_fault year place parts value
+    else if not (each_part has_characters parts value) then Some (ValueCharacter place)
+    else if not (each_part has_check_digit parts value) then Some (ValueCheckDigit place)
+    else if not (each_part (λ p. is_named year p.format) parts value) then Some (ValueDate place)
+    else None
 
--- the fault at the beginning of a text, by the row of its AI
+-- the fault at the beginning of a text, whose element stands at this place, by the row of its AI
 abbrev pub fault_by : ℕ → ℕ → List ℕ → Option Row → Option ElementFault
 fault_by year place text None = Some (UnknownAi place)
 fault_by year place text (Some row) = row_fault year place (MissingSeparator place) row.parts (value_in row (field_of (drop (length row.ai) text)))
-
--- the fault at the beginning of a text, of which the element stands at this place
-abbrev pub fault_at : ℕ → ℕ → List ℕ → Option ElementFault
-fault_at year place text = fault_by year place text (row_at text)
 
 -- elements, and then a fault
 pub record StopsWith (year : ℕ) (text : List ℕ) (f : ElementFault) : Type 0 where
@@ -185,7 +155,7 @@ pub record StopsWith (year : ℕ) (text : List ℕ) (f : ElementFault) : Type 0 
   pub some : 0 < length rest
   pub place : ℕ
   pub place_is : place + length rest ≡ length text
-  pub fault : fault_at year place rest ≡ Some f
+  pub fault : fault_by year place rest (row_at rest) ≡ Some f
 
 -- a text of too many bytes, or of none
 abbrev pub size_fault : List ℕ → Option ElementFault

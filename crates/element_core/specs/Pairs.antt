@@ -6,7 +6,7 @@ use Rattle.element_core.specs.declared.fault.ElementFault.TheVariants.{Empty, Un
 use Rattle.element_core.specs.declared.pairs.Pair.{Pair}
 use Rattle.element_core.specs.declared.part.Part.{Part}
 use Rattle.element_core.specs.Table.{Row, ai_rows, row_at, least_of, greatest_of}
-use Rattle.element_core.specs.Elements.{Entry, IsElements, each_part, has_even_length, row_fault, fault_at, canonical}
+use Rattle.element_core.specs.Elements.{Entry, IsElements, each_part, has_even_length, row_fault, fault_by, canonical}
 
 -- the entry of a pair
 abbrev pub entry_of : Pair → Entry
@@ -71,4 +71,4 @@ abbrev pub PairsAsTexts : Type 0
 PairsAsTexts = (year i : ℕ) (row : Row) (e : Entry) → HasRow e row
     → least_of row.parts ≤ length e.value → length e.value ≤ greatest_of row.parts
     → IsTrue (list_all (λ b. not (b == 29)) e.value)
-    → entry_fault year i e ≡ fault_at year i (e.ai ++ e.value)
+    → entry_fault year i e ≡ fault_by year i (e.ai ++ e.value) (row_at (e.ai ++ e.value))

@@ -31,15 +31,13 @@ n_to least greatest = record { format = Numeric; least = least; greatest = great
 abbrev pub n_check : ℕ → Part
 n_check count = record { format = Numeric; least = count; greatest = count; check = true; even = false }
 
--- YYMMDD
+-- YYMMDD; YYMMDDHHMM; and YYMMDDHH, YYMMDDHHMM or YYMMDDHHMMSS
 abbrev pub n6_date : Part
 n6_date = record { format = Date; least = 6; greatest = 6; check = false; even = false }
 
--- YYMMDDHHMM
 abbrev pub n10_date_and_time : Part
 n10_date_and_time = record { format = DateAndTime; least = 10; greatest = 10; check = false; even = false }
 
--- YYMMDDHH, YYMMDDHHMM or YYMMDDHHMMSS
 abbrev pub n8_to_12_date_and_time : Part
 n8_to_12_date_and_time = record { format = DateAndTime; least = 8; greatest = 12; check = false; even = true }
 
@@ -102,13 +100,9 @@ ais (a ∷ least) (z ∷ greatest) = flat_map (λ d. map (λ ai. d ∷ ai) (ais 
 ais [] greatest = [] ∷ []
 ais (a ∷ least) [] = []
 
--- the row of an AI of the family
-abbrev pub row_in : Family → List ℕ → Row
-row_in f ai = record { ai = ai; parts = f.parts; predefined = f.predefined }
-
 -- the rows of a family
 abbrev pub rows_of : Family → List Row
-rows_of f = map (row_in f) (ais f.least f.greatest)
+rows_of f = map (λ ai. record { ai = ai; parts = f.parts; predefined = f.predefined }) (ais f.least f.greatest)
 
 -- the table
 unfoldable pub ai_rows : List Row

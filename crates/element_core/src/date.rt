@@ -5,8 +5,8 @@ ghost use Rattle.std.specs.Int.{IsInRange};
 ghost use Rattle.std.specs.Char.{is_ascii_digit};
 ghost use Rattle.std.specs.List.{list_all};
 ghost use Rattle.jiff.specs.Words.{IsBetween, month_length};
-ghost use Rattle.element_core.specs.inner.Days.{AreSixDigits};
-ghost use Rattle.element_core.specs.Days.{IsDay, day_in, day_named, day_of, full_year, is_six_digits, two};
+ghost use Rattle.element_core.specs.inner.Days.{AreSixDigits, day_named, is_six_digits};
+ghost use Rattle.element_core.specs.Days.{IsDay, day_in, day_of, full_year, two};
 
 use crate::year::Year;
 use jiff::civil::Date;

@@ -1,7 +1,8 @@
 //! The element at the front of a text.
 
 ghost use Rattle.std.specs.Prelude.{◌≡◌, ◌+◌, ◌≤◌, length, take, drop, [], Some, None, IfOk, IfErr, IfSome, MatchOption, is_some, ◌<◌};
-ghost use Rattle.element_core.specs.Elements.{Entry, field_of, fault_at, value_in};
+ghost use Rattle.element_core.specs.Elements.{Entry, field_of, value_in};
+ghost use Rattle.element_core.specs.inner.Elements.{fault_at};
 ghost use Rattle.element_core.specs.Fronts.{Begins, after_separator};
 ghost use Rattle.element_core.specs.Shown.{shown_elements};
 ghost use Rattle.element_core.specs.Table.{predefined_length, row_at};

@@ -3,7 +3,7 @@
 ghost use Rattle.std.specs.Prelude.{◌≡◌, ◌+◌, ◌<◌, ◌≤◌, ◌∷◌, [], Some, None, take, drop, length, is_some, IsTrue};
 ghost use Rattle.std.specs.List.{list_all};
 ghost use Rattle.std.specs.Char.{is_ascii_digit};
-ghost use Rattle.element_core.specs.Days.{IsDay, is_six_digits, two};
+ghost use Rattle.element_core.specs.Days.{IsDay, two};
 ghost use Rattle.element_core.specs.Times.{exact_day_of, is_day_and_time, is_time_text, time_in, time_of, two_or_zero};
 
 use crate::date::{are_digits, is_six_digits, named_day, two_digits};

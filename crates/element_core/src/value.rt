@@ -1,10 +1,10 @@
 //! The tests of an element's value.
 
 ghost use Rattle.std.specs.Prelude.{◌≡◌, ◌≤◌, [], length, take, drop};
-ghost use Rattle.element_core.specs.Elements.{belongs, has_characters, has_check_digit, has_date, has_even_length, each_part, row_fault, value_fault};
+ghost use Rattle.element_core.specs.Elements.{belongs, has_characters, has_check_digit, has_even_length, each_part, row_fault};
 ghost use Rattle.digits_core.specs.Digits.{digits_of, weighted};
 ghost use Rattle.element_core.specs.Table.{least_of, greatest_of};
-ghost use Rattle.element_core.specs.inner.PartTests.{passes};
+ghost use Rattle.element_core.specs.inner.PartTests.{has_date, passes, value_fault};
 
 use crate::date::date_of;
 use crate::fault::ElementFault;

@@ -1,7 +1,11 @@
 -- Families of AIs as the code keeps them.
 use Rattle.std.specs.Prelude.{ℕ, Bool, true, false, ◌&&◌, List, [], ◌∷◌, length, take, nat_le, Option, Some, None, if◌then◌else◌}
 use Rattle.element_core.specs.declared.family.AiFamily.{AiFamily}
-use Rattle.element_core.specs.Table.{Family, Row, row_in}
+use Rattle.element_core.specs.Table.{Family, Row}
+
+-- the row of an AI of the family
+abbrev pub row_in : Family → List ℕ → Row
+row_in f ai = record { ai = ai; parts = f.parts; predefined = f.predefined }
 
 -- the family as the table has it
 abbrev pub family_of : AiFamily → Family

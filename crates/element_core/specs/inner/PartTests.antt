@@ -1,9 +1,23 @@
 -- The tests of the parts of a value, as the code keeps them.
-use Rattle.std.specs.Prelude.{ℕ, Bool, List}
+use Rattle.std.specs.Prelude.{ℕ, Bool, not, List, Option, Some, None, if◌then◌else◌}
+use Rattle.element_core.specs.declared.fault.ElementFault.{ElementFault}
+use Rattle.element_core.specs.declared.fault.ElementFault.TheVariants.{ValueCharacter, ValueCheckDigit, ValueDate}
 use Rattle.element_core.specs.declared.part.Part.{Part}
 use Rattle.element_core.specs.declared.value.PartTest.{PartTest}
 use Rattle.element_core.specs.declared.value.PartTest.TheVariants.{EvenLength, Characters, CheckDigit, Dates}
-use Rattle.element_core.specs.Elements.{has_characters, has_check_digit, has_date, has_even_length}
+use Rattle.element_core.specs.Elements.{each_part, has_characters, has_check_digit, has_even_length, is_named}
+
+-- whether there is such a day and such a time, where the part names them
+abbrev pub has_date : ℕ → Part → List ℕ → Bool
+has_date year part bytes = is_named year part.format bytes
+
+-- the first test that a value of a right length fails
+abbrev pub value_fault : ℕ → ℕ → List Part → List ℕ → Option ElementFault
+value_fault year place parts value =
+    if not (each_part has_characters parts value) then Some (ValueCharacter place)
+    else if not (each_part has_check_digit parts value) then Some (ValueCheckDigit place)
+    else if not (each_part (has_date year) parts value) then Some (ValueDate place)
+    else None
 
 -- whether the bytes of a part pass a test
 abbrev pub passes : PartTest → Part → List ℕ → Bool

@@ -1,5 +1,5 @@
 use Rattle.std.proofs.Common.{◌≡◌, false, true, rules}
-use Rattle.element_core.specs.Days.{day_named, is_six_digits}
+use Rattle.element_core.specs.inner.Days.{day_named, is_six_digits}
 use Rattle.element_core.proofs.DayLemmas.{day_of-six, day_of-other, some_day}
 use Rattle.element_core.proofs.date.date_of.Goals as goal
 

@@ -1,5 +1,6 @@
 use Rattle.std.proofs.Common.{◌≡◌, false, true, eqb, rules}
-use Rattle.element_core.specs.Days.{day_named, is_six_digits, two}
+use Rattle.element_core.specs.Days.{two}
+use Rattle.element_core.specs.inner.Days.{day_named, is_six_digits}
 use Rattle.element_core.specs.Times.{exact_day_of}
 use Rattle.element_core.proofs.DayLemmas.{some_day}
 use Rattle.element_core.proofs.TimeLemmas.{exact_day-other, exact_day-six}
