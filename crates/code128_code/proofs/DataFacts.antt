@@ -1,10 +1,11 @@
 -- The data values of an element string: few, and each of a data character.
 use Rattle.std.proofs.Common.{◌≡◌, ℕ, zero, suc, ◌-◌, ◌≤◌, Bool, true, false, eqb, leb, ◌&&◌, ◌||◌, List, [], ◌∷◌, length, refl, sym, subst, arith, inl, inr, drop, take}
+use Rattle.std.specs.Int.{is_in_range}
 use Rattle.std.specs.List.{list_all}
 use Rattle.std.proofs.lemmas.Bool.{cases_Bool, and_parts, or_cases, eqb-true, leb-true, le-leb, both_ways}
 use Rattle.std.proofs.lemmas.List.{length-drop, take_all}
 use Rattle.std.proofs.Math.Bool.{or-true}
-use Rattle.element_core.specs.Elements.{begins_with_digits, between, is_character, is_digit, is_printable, is_text_byte}
+use Rattle.element_core.specs.Elements.{begins_with_digits, is_character, is_digit, is_printable, is_text_byte}
 use Rattle.code128_code.specs.Characters.{fnc1}
 use Rattle.code128_code.specs.Coding.{data_values, digits_ahead, is_coded_byte, pair}
 use Rattle.code128_code.specs.inner.Steps.{coded_on, has_even_run}
@@ -79,17 +80,17 @@ pub data_valid : (text : List ℕ) → list_all is_coded_byte text ≡ true → 
 data_valid text h = (omega arith, subst AreValues (sym (coded_is text)) (coded_valid text true h))
 
 -- the characters of an element string stand in code set B
-between_coded : (m n b : ℕ) → 32 ≤ m → n ≤ 127 → between m n b ≡ true → (leb 32 b && leb b 127) ≡ true
+between_coded : (m n b : ℕ) → 32 ≤ m → n ≤ 127 → is_in_range m n b ≡ true → (leb 32 b && leb b 127) ≡ true
 between_coded m n b low high h =
     let p = and_parts (leb m b) (leb b n) h in
     let from = leb-true m b p.0 in let to = leb-true b n p.1 in rw (le-leb 32 b (omega arith), le-leb b 127 (omega arith)) refl
 
 character_coded : (b : ℕ) → is_character b ≡ true → (leb 32 b && leb b 127) ≡ true
 character_coded b h =
-    elim (or_cases (between 33 34 b || between 37 63 b || between 65 90 b || eqb b 95) (between 97 122 b) h) [
-      | inl h4 ↦ elim (or_cases (between 33 34 b || between 37 63 b || between 65 90 b) (eqb b 95) h4) [
-        | inl h3 ↦ elim (or_cases (between 33 34 b || between 37 63 b) (between 65 90 b) h3) [
-          | inl h2 ↦ elim (or_cases (between 33 34 b) (between 37 63 b) h2) [
+    elim (or_cases (is_in_range 33 34 b || is_in_range 37 63 b || is_in_range 65 90 b || eqb b 95) (is_in_range 97 122 b) h) [
+      | inl h4 ↦ elim (or_cases (is_in_range 33 34 b || is_in_range 37 63 b || is_in_range 65 90 b) (eqb b 95) h4) [
+        | inl h3 ↦ elim (or_cases (is_in_range 33 34 b || is_in_range 37 63 b) (is_in_range 65 90 b) h3) [
+          | inl h2 ↦ elim (or_cases (is_in_range 33 34 b) (is_in_range 37 63 b) h2) [
             | inl x ↦ between_coded 33 34 b (omega arith) (omega arith) x
             | inr x ↦ between_coded 37 63 b (omega arith) (omega arith) x
           ]

@@ -75,4 +75,4 @@ left_part row ds = flat_map left_widths (characters_in row ds)
 
 -- digits drawn in number set C, right of the centre
 abbrev pub right_part : List ℕ → List ℕ
-right_part ds = flat_map (λ d. slice_index_or set_a d []) ds
+right_part ds = flat_map right_widths ds

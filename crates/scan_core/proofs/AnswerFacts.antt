@@ -1,5 +1,5 @@
 -- A row has at most one answer.
-use Rattle.std.proofs.Common.{◌≡◌, ℕ, true, List, length, Contains, Result, Ok, Err, refl, sym, ap, ap₂, subst, ◌∙◌, inl, inr}
+use Rattle.std.proofs.Common.{◌≡◌, ℕ, true, List, Contains, Result, Ok, Err, refl, sym, ap, ap₂, subst, ◌∙◌, inl, inr}
 use Rattle.element_core.specs.Elements.{Listing, OneListOrFault}
 use Rattle.ean_code.specs.Laws.{OneListOfDigits}
 use Rattle.code128_code.specs.Laws.{OneReading}
@@ -10,15 +10,15 @@ use Rattle.scan_core.specs.declared.fault.RowFault.{RowFault}
 use Rattle.scan_core.specs.declared.fault.RowFault.TheVariants.{Blank, RunCount, QuietZone, Modules, Pattern, SymbolCheckDigit, Code128, Elements}
 use Rattle.scan_core.specs.declared.answer.Answer.{Answer}
 use Rattle.scan_core.specs.declared.answer.Answer.TheVariants.{Read, Refused}
-use Rattle.scan_core.specs.Row.{IsRow, dots_of, inner}
-use Rattle.scan_core.specs.Showing.{IsCandidate, kind_of}
-use Rattle.scan_core.specs.Answers.{FailsAt, IsAnswer, IsRefused, Spells, Tells}
+use Rattle.scan_core.specs.Row.{IsRow, dots_of}
+use Rattle.scan_core.specs.Showing.{kind_of}
+use Rattle.scan_core.specs.Answers.{ComesTo, IsAnswer, IsRefused, Spells, Tells}
 use Rattle.scan_core.specs.inner.Reading.{IsReadAs}
 use Rattle.scan_core.specs.Reading.{stage_fault}
 use Rattle.scan_core.proofs.CandidateFacts.{candidate_dark}
 use Rattle.scan_core.proofs.ContentFacts.{one_content, spelled_fault}
 use Rattle.scan_core.proofs.ShownFacts.{SymbolLaws, one_symbol}
-use Rattle.scan_core.proofs.StageFacts.{latest_once, never}
+use Rattle.scan_core.proofs.StageFacts.{candidate_of, latest_once, never}
 
 -- what the row says where its symbol's content is read as this
 abbrev pub answer_of : Carrier → Result Listing RowFault → Answer
@@ -57,8 +57,8 @@ one_read law year (Err fault) r q a b = a ∙ sym b
 data Reason (runs : List ℕ) (year : ℕ) : Answer → Type 0 where
   blank : (Contains (dots_of runs) true → ⊥) → Reason runs year (Refused Blank)
   uncounted :
-      Contains (dots_of runs) true → ((c : Carrier) (N : ℕ) → IsCandidate c (length (inner runs)) N → ⊥) → Reason runs year (Refused RunCount)
-  failed : {stage : Stage} → FailsAt runs stage → Reason runs year (Refused (stage_fault stage))
+      Contains (dots_of runs) true → (ComesTo runs stages.QuietZone → ⊥) → Reason runs year (Refused RunCount)
+  failed : (stage : Stage) → IsRefused runs year (stage_fault stage) → Reason runs year (Refused (stage_fault stage))
   told :
       (c : Carrier) (content : Result (List ℕ) RowFault) (read : Result Listing RowFault) → Tells runs c content → IsReadAs year content read
       → Reason runs year (answer_of c read)
@@ -67,9 +67,9 @@ reason : (runs : List ℕ) (year : ℕ) (x : Answer) → IsAnswer runs year x �
 reason runs year (Read c listing) a = told c (Ok a.0) (Ok listing) a.1 (a.2, a.3)
 reason runs year (Refused Blank) a = blank a
 reason runs year (Refused RunCount) a = uncounted a.0 a.1
-reason runs year (Refused QuietZone) a = failed {stage = stages.QuietZone} a
-reason runs year (Refused Modules) a = failed {stage = stages.Modules} a
-reason runs year (Refused Pattern) a = failed {stage = stages.Pattern} a
+reason runs year (Refused QuietZone) a = failed stages.QuietZone a
+reason runs year (Refused Modules) a = failed stages.Modules a
+reason runs year (Refused Pattern) a = failed stages.Pattern a
 reason runs year (Refused SymbolCheckDigit) a = told a.0 (Err SymbolCheckDigit) (Err SymbolCheckDigit) a.1 refl
 reason runs year (Refused (Code128 fault)) a = told a.0 (Err (Code128 fault)) (Err (Code128 fault)) a.1 refl
 reason runs year (Refused (Elements fault)) a = told a.0 (Ok a.1) (Err (Elements fault)) a.2 (fault, a.3, refl)
@@ -87,29 +87,32 @@ module _ (laws : ReadingLaws) (runs : List ℕ) (year : ℕ) (row : IsRow runs) 
       → Tells runs c x → IsReadAs year x r → Tells runs d y → IsReadAs year y q → answer_of c r ≡ answer_of d q
   same_told c d x y r q t i u j =
       let one = one_symbol laws.symbols runs c d t.0 u.0 t.1 u.1 row t.2 u.2 in
-      let moved : Spells d u.1 x = subst (λ ms. Spells d ms x) one.2 (subst (λ e. Spells e t.1 x) one.0 t.3) in
+      let moved : Spells (kind_of d) u.1 x = subst (λ ms. Spells (kind_of d) ms x) one.2 (subst (λ e. Spells (kind_of e) t.1 x) one.0 t.3) in
       let content : x ≡ y = one_content laws.numbers laws.codes (kind_of d) u.1 x y moved u.3 in
       ap₂ answer_of one.0 (one_read laws.texts year y r q (subst (λ z. IsReadAs year z r) content i) j)
 
   dark : (c : Carrier) (x : Result (List ℕ) RowFault) → Tells runs c x → Contains (dots_of runs) true
   dark c x t = candidate_dark runs c t.2.N row t.2.candidate
 
+  lit : (f : Stage) → IsRefused runs year (stage_fault f) → Contains (dots_of runs) true
+  lit f a = let m = candidate_of f runs year a in candidate_dark runs m.0 m.1 row m.2
+
   same_reason : (x y : Answer) → Reason runs year x → Reason runs year y → x ≡ y
   same_reason x y (blank a) (blank b) = refl
   same_reason x y (blank a) (uncounted b none) = absurd (a b)
-  same_reason x y (blank a) (failed b) = absurd (a (candidate_dark runs b.carrier b.N row b.candidate))
+  same_reason x y (blank a) (failed g b) = absurd (a (lit g b))
   same_reason x y (blank a) (told c content read u j) = absurd (a (dark c content u))
   same_reason x y (uncounted a none) (blank b) = absurd (b a)
   same_reason x y (uncounted a none) (uncounted b other) = refl
-  same_reason x y (uncounted a none) (failed b) = absurd (none b.carrier b.N b.candidate)
-  same_reason x y (uncounted a none) (told c content read u j) = absurd (none c u.2.N u.2.candidate)
-  same_reason x y (failed a) (blank b) = absurd (b (candidate_dark runs a.carrier a.N row a.candidate))
-  same_reason x y (failed a) (uncounted b none) = absurd (none a.carrier a.N a.candidate)
-  same_reason x y (failed {stage = f} a) (failed {stage = g} b) = ap (λ s. Refused (stage_fault s)) (latest_once f g runs a b)
-  same_reason x y (failed {stage = f} a) (told c content read u j) = absurd (never f runs c u.0 u.1 u.2 a)
+  same_reason x y (uncounted a none) (failed g b) = absurd (none (candidate_of g runs year b))
+  same_reason x y (uncounted a none) (told c content read u j) = absurd (none (c, u.2.N, u.2.candidate))
+  same_reason x y (failed f a) (blank b) = absurd (b (lit f a))
+  same_reason x y (failed f a) (uncounted b none) = absurd (none (candidate_of f runs year a))
+  same_reason x y (failed f a) (failed g b) = ap (λ s. Refused (stage_fault s)) (latest_once f g runs year a b)
+  same_reason x y (failed f a) (told c content read u j) = absurd (never f runs year c u.0 u.1 u.2 a)
   same_reason x y (told c content read t i) (blank b) = absurd (b (dark c content t))
-  same_reason x y (told c content read t i) (uncounted b none) = absurd (none c t.2.N t.2.candidate)
-  same_reason x y (told c content read t i) (failed {stage = g} b) = absurd (never g runs c t.0 t.1 t.2 b)
+  same_reason x y (told c content read t i) (uncounted b none) = absurd (none (c, t.2.N, t.2.candidate))
+  same_reason x y (told c content read t i) (failed g b) = absurd (never g runs year c t.0 t.1 t.2 b)
   same_reason x y (told c content read t i) (told d other q u j) =
       same_told c d content other read q t i u j
 

@@ -3,54 +3,49 @@ use Rattle.std.proofs.Common.{◌≢◌, ℕ, List, length, subst}
 use Rattle.scan_core.specs.declared.carrier.Carrier.{Carrier}
 use Rattle.scan_core.specs.declared.carrier.Carrier.TheVariants.{Itf14}
 use Rattle.scan_core.specs.declared.stage.Stage.{Stage}
+use Rattle.scan_core.specs.declared.stage.Stage.TheVariants as stages
 use Rattle.scan_core.specs.declared.fault.RowFault.{RowFault}
 use Rattle.scan_core.specs.declared.fault.RowFault.TheVariants.{Blank, RunCount, QuietZone, Modules, Pattern, SymbolCheckDigit, Code128, Elements}
 use Rattle.scan_core.specs.declared.answer.Answer.{Answer}
 use Rattle.scan_core.specs.declared.answer.Answer.TheVariants.{Read, Refused}
 use Rattle.scan_core.specs.Row.{inner}
-use Rattle.scan_core.specs.Showing.{IsCandidate}
-use Rattle.scan_core.specs.Answers.{FailsAt, IsAnswer, IsRefused}
-use Rattle.scan_core.specs.BeforeItf14.{FailedAt, OtherRowsKeep, WasAnswer, WasRefused}
+use Rattle.scan_core.specs.Showing.{HasSize, kind_of}
+use Rattle.scan_core.specs.Answers.{ComesAs, ComesTo, IsAnswer, IsRefused}
+use Rattle.scan_core.specs.BeforeItf14.{CameTo, OtherRowsKeep, WasAnswer, WasRefused}
 
 module _ (runs : List ℕ) (year : ℕ) (other : length (inner runs) ≢ 77) where
   -- no candidate of such a row is ITF-14
-  apart : (c : Carrier) (N : ℕ) → IsCandidate c (length (inner runs)) N → c ≢ Itf14
-  apart c N h e = other (subst (λ d. IsCandidate d (length (inner runs)) N) e h).0
+  apart : (c : Carrier) (N : ℕ) → HasSize (kind_of c) (length (inner runs)) N → c ≢ Itf14
+  apart c N h e = other (subst (λ d. HasSize (kind_of d) (length (inner runs)) N) e h).0
 
-  failed : (stage : Stage) → FailsAt runs stage → FailedAt runs stage
-  failed stage a = record {
-    carrier = (a.carrier, apart a.carrier a.N a.candidate);
-    N = a.N;
-    candidate = a.candidate;
-    fails = a.fails;
-    none_later = λ d M h. a.none_later d.0 M h;
-  }
+  -- nor at any stage
+  apart_at : (stage : Stage) (c : Carrier) (N : ℕ) → ComesAs runs c N stage → c ≢ Itf14
+  apart_at stages.QuietZone c N h = apart c N h
+  apart_at stages.Modules c N h = apart c N h.0
+  apart_at stages.Pattern c N h = apart c N h.0
 
-  fails : (stage : Stage) → FailedAt runs stage → FailsAt runs stage
-  fails stage a = record {
-    carrier = a.carrier.0;
-    N = a.N;
-    candidate = a.candidate;
-    fails = a.fails;
-    none_later = λ d M h. a.none_later (d, apart d M h) M h;
-  }
+  came : (stage : Stage) → ComesTo runs stage → CameTo runs stage
+  came stage a = ((a.0, apart_at stage a.0 a.1 a.2), a.1, a.2)
+
+  comes : (stage : Stage) → CameTo runs stage → ComesTo runs stage
+  comes stage a = (a.0.0, a.1, a.2)
 
   was_refused : (fault : RowFault) → IsRefused runs year fault → WasRefused runs year fault
   was_refused Blank a = a
-  was_refused RunCount a = (a.0, λ c N h. a.1 c.0 N h)
-  was_refused QuietZone a = failed _ a
-  was_refused Modules a = failed _ a
-  was_refused Pattern a = failed _ a
+  was_refused RunCount a = (a.0, λ h. a.1 (comes stages.QuietZone h))
+  was_refused QuietZone a = (came stages.QuietZone a.0, λ h. a.1 (comes stages.Modules h))
+  was_refused Modules a = (came stages.Modules a.0, λ h. a.1 (comes stages.Pattern h))
+  was_refused Pattern a = (came stages.Pattern a.0, λ c w ms s. a.1 c.0 w ms s)
   was_refused SymbolCheckDigit a = ((a.0, apart a.0 a.1.2.N a.1.2.candidate), a.1)
   was_refused (Code128 fault) a = ((a.0, apart a.0 a.1.2.N a.1.2.candidate), a.1)
   was_refused (Elements fault) a = ((a.0, apart a.0 a.2.2.N a.2.2.candidate), a.1, a.2, a.3)
 
   is_refused : (fault : RowFault) → WasRefused runs year fault → IsRefused runs year fault
   is_refused Blank a = a
-  is_refused RunCount a = (a.0, λ c N h. a.1 (c, apart c N h) N h)
-  is_refused QuietZone a = fails _ a
-  is_refused Modules a = fails _ a
-  is_refused Pattern a = fails _ a
+  is_refused RunCount a = (a.0, λ h. a.1 (came stages.QuietZone h))
+  is_refused QuietZone a = (comes stages.QuietZone a.0, λ h. a.1 (came stages.Modules h))
+  is_refused Modules a = (comes stages.Modules a.0, λ h. a.1 (came stages.Pattern h))
+  is_refused Pattern a = (comes stages.Pattern a.0, λ c w ms s. a.1 (c, apart c s.N s.candidate) w ms s)
   is_refused SymbolCheckDigit a = (a.0.0, a.1)
   is_refused (Code128 fault) a = (a.0.0, a.1)
   is_refused (Elements fault) a = (a.0.0, a.1, a.2, a.3)

@@ -1,13 +1,13 @@
 -- The text of a symbol fits an element string, so no row is refused for its length.
-use Rattle.std.proofs.Common.{◌≡◌, ℕ, ◌+◌, ◌≤◌, ◌==◌, nat_le, nat_lt, not, Bool, true, false, List, [], ◌∷◌, length, drop, take, Option, Some, None, MatchOption, Result, Ok, Err, codes, refl, ap, ◌∙◌, arith, get_or, if◌then◌else◌}
+use Rattle.std.proofs.Common.{◌≡◌, ℕ, ◌+◌, ◌%◌, ◌≤◌, ◌==◌, nat_le, nat_lt, not, Bool, true, false, List, [], ◌∷◌, ◌++◌, length, drop, take, Option, Some, None, MatchOption, Result, Ok, Err, codes, refl, ap, ◌∙◌, arith, get_or, if◌then◌else◌}
 use Rattle.std.proofs.lemmas.Bool.Decides.{nat_tests}
 use Rattle.std.proofs.lemmas.List.{length-append, length-map, length-replicate}
-use Rattle.digits_core.specs.Digits.{ascii_of, padded}
+use Rattle.digits_core.specs.Digits.{ascii_of, padded, weighted}
 use Rattle.digits_core.specs.Upce.{upce_expanded}
-use Rattle.element_core.specs.Elements.{FirstFault, StopsWith, each_part, fault_by, field_of, has_characters, has_check_digit, has_date, has_even_length, value_in}
+use Rattle.element_core.specs.Elements.{FirstFault, StopsWith, each_part, fault_by, field_of, has_characters, has_check_digit, has_even_length, is_named, value_in}
 use Rattle.element_core.specs.Table.{Row, greatest_of, least_of, row_at}
 use Rattle.element_core.specs.declared.fault.ElementFault.TheVariants.{Empty, ValueLength, ValueCharacter, ValueCheckDigit, ValueDate, MissingSeparator, TooLong}
-use Rattle.ean_code.specs.Spelling.{IsGtinOf}
+use Rattle.ean_code.specs.Spelling.{gtin_of}
 use Rattle.ean_code.specs.Symbols.{Kind, digit_count}
 use Rattle.ean_code.specs.Symbols.Kind.{Ean13 as KindEan13, Ean8 as KindEan8, UpcE as KindUpcE, Itf14 as KindItf14}
 use Rattle.code128_code.specs.Laws.{SaidIsShort}
@@ -16,7 +16,8 @@ use Rattle.code128_code.specs.Texts.{gs1_text, set_of, symbol_text, text_from}
 use Rattle.code128_code.specs.declared.code_set.CodeSet.{CodeSet}
 use Rattle.code128_code.specs.declared.fault.Code128Fault.{Code128Fault}
 use Rattle.code128_code.specs.declared.fault.Code128Fault.TheVariants.{CheckCharacter, NotGs1}
-use Rattle.scan_core.specs.Answers.{SpellsAs, SpellsNumber, row_text}
+use Rattle.scan_core.specs.Answers.{Spells, row_text}
+use Rattle.scan_core.specs.declared.fault.RowFault.TheVariants.{SymbolCheckDigit}
 
 -- ---- numbers
 
@@ -40,13 +41,13 @@ expanded_length six check =
 padded_length : (ds : List ℕ) → length ds ≤ 14 → length (padded ds) ≡ 14
 padded_length ds few = omega (arith, length-append {A = ℕ}, length-replicate {A = ℕ})
 
-gtin_length : (kind : Kind) (ds gtin : List ℕ) → length ds ≤ 14 → IsGtinOf kind ds gtin → length gtin ≡ 14
-gtin_length KindEan13 ds gtin few e = ap length e ∙ padded_length ds few
-gtin_length KindEan8 ds gtin few e = ap length e ∙ padded_length ds few
-gtin_length KindItf14 ds gtin few e = ap length e ∙ padded_length ds few
-gtin_length KindUpcE ds gtin few e =
+gtin_length : (kind : Kind) (ds : List ℕ) → length ds ≤ 14 → length (gtin_of kind ds) ≡ 14
+gtin_length KindEan13 ds few = padded_length ds few
+gtin_length KindEan8 ds few = padded_length ds few
+gtin_length KindItf14 ds few = padded_length ds few
+gtin_length KindUpcE ds few =
     let twelve = expanded_length (take 6 ds) (get_or ds 6 0) in
-    ap length e ∙ padded_length (upce_expanded (take 6 ds) (get_or ds 6 0)) (omega arith)
+    padded_length (upce_expanded (take 6 ds) (get_or ds 6 0)) (omega arith)
 
 few_digits : (kind : Kind) (ds : List ℕ) → length ds ≡ digit_count kind → length ds ≤ 14
 few_digits KindEan13 ds e = omega arith
@@ -54,12 +55,17 @@ few_digits KindEan8 ds e = omega arith
 few_digits KindUpcE ds e = omega arith
 few_digits KindItf14 ds e = omega arith
 
-number_fits : (kind : Kind) (ms text : List ℕ) → SpellsNumber kind ms (Ok text) → length text ≤ 192
+checked_is : (right : Bool) (text all : List ℕ) → Ok text ≡ (if right then Ok all else Err SymbolCheckDigit) → text ≡ all
+checked_is true text all e = cc
+checked_is false text all e = absurd cc
+
+number_fits : (kind : Kind) (ms text : List ℕ) → Spells (Some kind) ms (Ok text) → length text ≤ 192
 number_fits kind ms text a =
-    let spelled = a.1 in
-    let long : length a.0 ≡ 14 = gtin_length kind spelled.0 a.0 (few_digits kind spelled.0 spelled.1.count) spelled.2 in
-    let ascii : length (ascii_of a.0) ≡ 14 = length-map a.0 (λ d. d + 48) ∙ long in
-    let all : length text ≡ 16 = ap length a.2 ∙ length-append (codes "01") (ascii_of a.0) ∙ (omega arith) in omega arith
+    let gtin : List ℕ = gtin_of kind a.0 in
+    let long : length gtin ≡ 14 = gtin_length kind a.0 (few_digits kind a.0 a.1.count) in
+    let ascii : length (ascii_of gtin) ≡ 14 = length-map gtin (λ d. d + 48) ∙ long in
+    let is : text ≡ codes "01" ++ ascii_of gtin = checked_is (weighted gtin % 10 == 0) text (codes "01" ++ ascii_of gtin) a.2 in
+    let all : length text ≡ 16 = ap length is ∙ length-append (codes "01") (ascii_of gtin) ∙ (omega arith) in omega arith
 
 -- ---- Code 128
 
@@ -77,7 +83,7 @@ row_ok : (text : List ℕ) (r : Result (List ℕ) Code128Fault) → Ok text ≡ 
 row_ok text (Ok u) e = cc
 row_ok text (Err f) e = absurd cc
 
-pub content_fits : SaidIsShort → (kind : Option Kind) (ms text : List ℕ) → SpellsAs kind ms (Ok text) → length text ≤ 192
+pub content_fits : SaidIsShort → (kind : Option Kind) (ms text : List ℕ) → Spells kind ms (Ok text) → length text ≤ 192
 content_fits law (Some kind) ms text a = number_fits kind ms text a
 content_fits law None ms text a =
     code_fits law (set_of a.0) a.1 text (a.2 == mod103 a.0 a.1) a.3.few (row_ok text (symbol_text a.0 a.1 a.2) a.4)
@@ -102,7 +108,7 @@ fault_not_long year p text (Some row) h =
     let value = value_in row (field_of (drop (length row.ai) text)) in
     not_long (nat_lt (length value) (least_of row.parts)) (nat_lt (greatest_of row.parts) (length value)) (each_part has_even_length row.parts value)
     (each_part has_characters row.parts value)
-    (each_part has_check_digit row.parts value) (each_part (has_date year) row.parts value) p h
+    (each_part has_check_digit row.parts value) (each_part (λ p. is_named year p.format) row.parts value) p h
 
 sized : (a b : Bool) (P : Type 0) → a ≡ false → (P → ⊥)
     → MatchOption (if a then Some TooLong else if b then Some Empty else None) P (λ g. TooLong ≡ g) → ⊥

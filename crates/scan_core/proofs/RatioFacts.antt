@@ -14,7 +14,8 @@ use Rattle.scan_core.specs.declared.answer.Answer.TheVariants.{Read}
 use Rattle.scan_core.specs.Row.{IsRow, inner}
 use Rattle.scan_core.specs.Showing.{IsQuiet, IsRun, Rounds, Shows}
 use Rattle.scan_core.specs.Showing.Way.{Forwards, Backwards}
-use Rattle.scan_core.specs.Answers.{IsAnswer}
+use Rattle.scan_core.specs.Answers.{IsAnswer, checked_text}
+use Rattle.scan_core.proofs.ContentFacts.{checked_right}
 use Rattle.scan_core.specs.Ratios.{AreInRatio, EachRatioIsRead, drawn_row, element_dots}
 use Rattle.scan_core.proofs.TurnedFacts.{IsRow-reverse, turned_row}
 
@@ -133,7 +134,7 @@ module _ (two : TwoWidths) (measures : MeasuresOfKind) (reads : GtinReads) where
         is_row,
         (
           codes "01" ++ ascii_of gtin,
-          (Forwards, ms, shows, (gtin, (ds, symbol.1, symbol.2, checked), refl)),
+          (Forwards, ms, shows, (ds, symbol.1, checked_right gtin checked ∙ ap checked_text symbol.2)),
           refl,
           reads gtin year g.0 g.1 checked,
         ),

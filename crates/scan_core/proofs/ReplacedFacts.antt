@@ -5,9 +5,8 @@ use Rattle.std.specs.List.{AllByRecursion}
 use Rattle.std.proofs.lemmas.List.{length-set}
 use Rattle.digits_core.specs.Digits.{AreDigits, IsChecked}
 use Rattle.ean_code.specs.Symbols.{Kind, IsCheckedPlace, IsNumberSymbol, digit_count, widths_of}
-use Rattle.ean_code.specs.Spelling.{IsGtinOf, IsSpelled}
+use Rattle.ean_code.specs.Spelling.{IsGtinOf, gtin_of}
 use Rattle.ean_code.specs.Laws.{ReplacedDigitIsUnchecked}
-use Rattle.ean_code.specs.declared.reading.Spelled.TheVariants.{BadCheck}
 use Rattle.code128_code.specs.Symbols.{mod103}
 use Rattle.code128_code.specs.Texts.{gs1_text, set_of, symbol_text}
 use Rattle.code128_code.specs.declared.fault.Code128Fault.{Code128Fault}
@@ -16,6 +15,7 @@ use Rattle.scan_core.specs.declared.carrier.Carrier.{Carrier}
 use Rattle.scan_core.specs.declared.fault.RowFault.TheVariants.{SymbolCheckDigit, Code128}
 use Rattle.scan_core.specs.Showing.{kind_of}
 use Rattle.scan_core.specs.Answers.{Spells, row_text}
+use Rattle.scan_core.proofs.ContentFacts.{checked_wrong}
 
 -- a digit put among digits
 each-set : (P : ℕ → Type 0) (ds : List ℕ) (k d : ℕ) → AllByRecursion P ds → P d → AllByRecursion P (set ds k d)
@@ -23,22 +23,22 @@ each-set P [] k d each new = tt
 each-set P (x ∷ ds) zero d each new = (new, each.1)
 each-set P (x ∷ ds) (suc k) d each new = (each.0, each-set P ds k d each.1 new)
 
-spells_of : (carrier : Carrier) (kind : Kind) (modules : List ℕ) → kind_of carrier ≡ Some kind → IsSpelled kind modules BadCheck
-    → Spells carrier modules (Err SymbolCheckDigit)
-spells_of carrier kind modules is bad = rw is (bad, refl)
+spells_of : (carrier : Carrier) (kind : Kind) (modules digits : List ℕ) → kind_of carrier ≡ Some kind → IsNumberSymbol kind modules digits
+    → (IsChecked (gtin_of kind digits) → ⊥) → Spells (kind_of carrier) modules (Err SymbolCheckDigit)
+spells_of carrier kind modules digits is symbol wrong = rw is (digits, symbol, checked_wrong (gtin_of kind digits) wrong)
 
 pub replaced_spells : (carrier : Carrier) (kind : Kind) → kind_of carrier ≡ Some kind → ReplacedDigitIsUnchecked kind → (digits gtin : List ℕ) (k d : ℕ)
     → length digits ≡ digit_count kind → AreDigits digits → IsGtinOf kind digits gtin → IsChecked gtin
     → IsCheckedPlace kind k → d < 10 → d ≢ get_or digits k 0
-    → Spells carrier (widths_of kind (set digits k d)) (Err SymbolCheckDigit)
+    → Spells (kind_of carrier) (widths_of kind (set digits k d)) (Err SymbolCheckDigit)
 replaced_spells carrier kind is law digits gtin k d count valid number checked place low other =
     let symbol : IsNumberSymbol kind (widths_of kind (set digits k d)) (set digits k d) = record {
       count = length-set digits k d ∙ count;
       valid = each-set (λ x. x < 10) digits k d valid low;
       widths = refl;
     } in
-    spells_of carrier kind (widths_of kind (set digits k d)) is
-    (set digits k d, symbol, λ g. law digits gtin g k d count valid number checked place low other)
+    spells_of carrier kind (widths_of kind (set digits k d)) (set digits k d) is symbol
+    (law digits gtin (gtin_of kind (set digits k d)) k d count valid number checked place low other refl)
 
 -- ---- Code 128
 

@@ -8,7 +8,7 @@ use Rattle.code128_code.specs.Laws.{Measures, OneWay}
 use Rattle.scan_core.specs.declared.carrier.Carrier.{Carrier}
 use Rattle.scan_core.specs.declared.carrier.Carrier.TheVariants.{Ean13, Ean8, UpcE, Itf14, Gs1128}
 use Rattle.scan_core.specs.Row.{IsRow, inner}
-use Rattle.scan_core.specs.Showing.{HasForm, IsCandidate, IsRun, IsSymbol, Rounds, Shows, Way, along, kind_of}
+use Rattle.scan_core.specs.Showing.{HasSize, IsRun, IsSymbol, Rounds, Shows, Way, along, kind_of}
 use Rattle.scan_core.specs.Showing.Way.{Forwards, Backwards}
 use Rattle.scan_core.proofs.CandidateFacts.{candidate_dots}
 use Rattle.scan_core.proofs.OuterBars.{outer_bars}
@@ -25,7 +25,7 @@ pub record SymbolLaws : Type 0 where
   pub measures : Measures
 
 -- a symbol measures what its carrier says
-pub code_measures : Measures → (ms : List ℕ) → HasForm Gs1128 ms → IsCandidate Gs1128 (length ms) (sum ms)
+pub code_measures : Measures → (ms : List ℕ) → IsSymbol (kind_of Gs1128) ms → HasSize (kind_of Gs1128) (length ms) (sum ms)
 code_measures law ms f =
     let m = law f.0 f.2 f.1 ms f.3 in (length f.1 + 2, m.least, m.greatest, m.count, m.total)
 
@@ -35,10 +35,10 @@ module _ (laws : SymbolLaws) where
   one_form None ms e f = laws.code e.0 f.0 e.2 f.2 e.1 f.1 ms e.3 f.3
 
   -- what lies in one way in a row has the form in one way
-  one_way : (c : Carrier) (v w : Way) (ms ks : List ℕ) → HasForm c ms → HasForm c ks → along v ms ≡ along w ks → (v ≡ w) × (ms ≡ ks)
+  one_way : (c : Carrier) (v w : Way) (ms ks : List ℕ) → IsSymbol (kind_of c) ms → IsSymbol (kind_of c) ks → along v ms ≡ along w ks → (v ≡ w) × (ms ≡ ks)
   one_way c Forwards Forwards ms ks f g e = (refl, e)
-  one_way c Forwards Backwards ms ks f g e = absurd (one_form (kind_of c) ks g (subst (HasForm c) e f))
-  one_way c Backwards Forwards ms ks f g e = absurd (one_form (kind_of c) ms f (subst (HasForm c) (sym e) g))
+  one_way c Forwards Backwards ms ks f g e = absurd (one_form (kind_of c) ks g (subst (IsSymbol (kind_of c)) e f))
+  one_way c Backwards Forwards ms ks f g e = absurd (one_form (kind_of c) ms f (subst (IsSymbol (kind_of c)) (sym e) g))
   one_way c Backwards Backwards ms ks f g e = (refl, sym (reverse-reverse ms) ∙ ap reverse e ∙ reverse-reverse ks)
 
   -- ---- 43 runs: EAN-8 has outer bars of one module, GS1-128 of two
@@ -52,17 +52,17 @@ module _ (laws : SymbolLaws) where
   first_run N (w ∷ runs) ms pos h = AllZip-get_or (IsRun N (sum (w ∷ runs))) (w ∷ runs) ms 0 0 0 h (omega arith)
 
   -- the first bar, either way
-  bar_of_ean8 : (v : Way) (ms : List ℕ) → HasForm Ean8 ms → get_or (along v ms) 0 0 ≡ 1
+  bar_of_ean8 : (v : Way) (ms : List ℕ) → IsSymbol (kind_of Ean8) ms → get_or (along v ms) 0 0 ≡ 1
   bar_of_ean8 Forwards ms f = (outer_bars ms f.0 f.1).0
   bar_of_ean8 Backwards ms f = (outer_bars ms f.0 f.1).1
 
-  bar_of_gs1128 : (v : Way) (ms : List ℕ) → HasForm Gs1128 ms → get_or (along v ms) 0 0 ≡ 2
+  bar_of_gs1128 : (v : Way) (ms : List ℕ) → IsSymbol (kind_of Gs1128) ms → get_or (along v ms) 0 0 ≡ 2
   bar_of_gs1128 Forwards ms f = (laws.measures f.0 f.2 f.1 ms f.3).first_bar
   bar_of_gs1128 Backwards ms f = (laws.measures f.0 f.2 f.1 ms f.3).last_bar
 
   -- no row is both
   overlap : (v w : Way) (runs ms ks : List ℕ) → 0 < sum runs → Rounds (along v runs) 67 ms → Rounds (along w runs) 79 ks
-      → HasForm Ean8 ms → HasForm Gs1128 ks → ⊥
+      → IsSymbol (kind_of Ean8) ms → IsSymbol (kind_of Gs1128) ks → ⊥
   overlap v w runs ms ks pos a b f g =
       narrower (sum runs) (get_or runs 0 0) pos
       (subst (IsRun 67 (sum runs) (get_or runs 0 0)) (bar_of_ean8 v ms f) (first_run 67 runs (along v ms) pos (rounds_lying v runs 67 ms a)))
@@ -77,7 +77,7 @@ data Meet : Carrier → Carrier → ℕ → ℕ → Type 0 where
 met_at : (c : Carrier) (N M : ℕ) → N ≡ M → Meet c c N M
 met_at c N M e = subst (λ K. Meet c c N K) e same_carrier
 
-meet : (a b : Carrier) (n N M : ℕ) → IsCandidate a n N → IsCandidate b n M → Meet a b N M
+meet : (a b : Carrier) (n N M : ℕ) → HasSize (kind_of a) n N → HasSize (kind_of b) n M → Meet a b N M
 meet Ean13 Ean13 n N M x y = met_at Ean13 N M (omega arith)
 meet Ean8 Ean8 n N M x y = met_at Ean8 N M (omega arith)
 meet UpcE UpcE n N M x y = met_at UpcE N M (omega arith)
@@ -112,7 +112,7 @@ meet UpcE Itf14 n N M x y = absurd (omega arith)
 meet Gs1128 Itf14 n N M x y = absurd (let i = y.0 in let j = x.3 in omega arith)
 
 settle : SymbolLaws → (a b : Carrier) (N M : ℕ) → Meet a b N M → (v w : Way) (runs ms ks : List ℕ) → 0 < sum runs
-    → Rounds (along v runs) N ms → Rounds (along w runs) M ks → HasForm a ms → HasForm b ks → (a ≡ b) × (v ≡ w) × (ms ≡ ks)
+    → Rounds (along v runs) N ms → Rounds (along w runs) M ks → IsSymbol (kind_of a) ms → IsSymbol (kind_of b) ks → (a ≡ b) × (v ≡ w) × (ms ≡ ks)
 settle laws a b N M same_carrier v w runs ms ks pos x y f g =
     let one = one_way laws a v w ms ks f g (one_lying v w runs N ms ks pos x y) in (refl, one.0, one.1)
 settle laws a b N M ean_first v w runs ms ks pos x y f g = absurd (overlap laws v w runs ms ks pos x y f g)

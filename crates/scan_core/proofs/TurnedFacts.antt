@@ -11,9 +11,9 @@ use Rattle.scan_core.specs.declared.fault.RowFault.TheVariants.{Blank, RunCount,
 use Rattle.scan_core.specs.declared.answer.Answer.{Answer}
 use Rattle.scan_core.specs.declared.answer.Answer.TheVariants.{Read, Refused}
 use Rattle.scan_core.specs.Row.{IsRow, dots_of, inner}
-use Rattle.scan_core.specs.Showing.{IsCandidate, IsQuiet, Rounds, Shows, Way, along}
+use Rattle.scan_core.specs.Showing.{HasSize, IsQuiet, Rounds, Shows, Way, along, kind_of}
 use Rattle.scan_core.specs.Showing.Way.{Forwards, Backwards}
-use Rattle.scan_core.specs.Answers.{Fails, FailsAt, IsAnswer, IsRefused, Tells}
+use Rattle.scan_core.specs.Answers.{ComesTo, IsAnswer, IsRefused, Tells}
 use Rattle.scan_core.proofs.RowFacts.{each-push, has_dark, has_no_dark}
 use Rattle.scan_core.proofs.WayFacts.{sum-reverse}
 
@@ -78,39 +78,32 @@ quiet_turned runs N some quiet =
     record { left = rw (total, first) quiet.right; right = rw (total, last) quiet.left }
 
 module _ (runs : List ℕ) (some : 0 < length runs) where
-  quiet_back : (N : ℕ) → IsQuiet (reverse runs) N → IsQuiet runs N
-  quiet_back N quiet =
-      let more : 0 < length (reverse runs) = let n = length-reverse runs in omega arith in
-      subst (λ ws. IsQuiet ws N) (reverse-reverse runs) (quiet_turned (reverse runs) N more quiet)
-
   shows_turned : (c : Carrier) (w : Way) (ms : List ℕ) → Shows runs c w ms → Shows (reverse runs) c (other_way w) ms
   shows_turned c w ms s = record {
     N = s.N;
-    candidate = subst (λ n. IsCandidate c n s.N) (sym (count_turned runs)) s.candidate;
+    candidate = subst (λ n. HasSize (kind_of c) n s.N) (sym (count_turned runs)) s.candidate;
     quiet = quiet_turned runs s.N some s.quiet;
     rounds = subst (λ ws. Rounds ws s.N ms) (sym (along_other w runs)) s.rounds;
     form = s.form;
   }
 
-  fails_turned : (f : Stage) (c : Carrier) (N : ℕ) → Fails runs c N f → Fails (reverse runs) c N f
-  fails_turned stages.QuietZone c N h = λ quiet. h (quiet_back N quiet)
-  fails_turned stages.Modules c N h =
-      (quiet_turned runs N some h.0, λ way ms r. h.1 (other_way way) ms (subst (λ ws. Rounds ws N ms) (along_turned way runs) r))
-  fails_turned stages.Pattern c N h = (
-    quiet_turned runs N some h.0,
-    (other_way h.1.0, h.1.1, subst (λ ws. Rounds ws N h.1.1) (sym (along_other h.1.0 runs)) h.1.2),
-    λ way ms r. h.2 (other_way way) ms (subst (λ ws. Rounds ws N ms) (along_turned way runs) r),
-  )
+  size_turned : (c : Carrier) (N : ℕ) → HasSize (kind_of c) (length (inner runs)) N → HasSize (kind_of c) (length (inner (reverse runs))) N
+  size_turned c N h = subst (λ n. HasSize (kind_of c) n N) (sym (count_turned runs)) h
 
-  fails_at_turned : (f : Stage) → FailsAt runs f → FailsAt (reverse runs) f
-  fails_at_turned f a = record {
-    carrier = a.carrier;
-    N = a.N;
-    candidate = subst (λ n. IsCandidate a.carrier n a.N) (sym (count_turned runs)) a.candidate;
-    fails = fails_turned f a.carrier a.N a.fails;
-    none_later = λ d M h.
-        let o = a.none_later d M (subst (λ n. IsCandidate d n M) (count_turned runs) h) in (o.0, fails_turned o.0 d M o.1, o.2);
-  }
+  comes_turned : (f : Stage) → ComesTo runs f → ComesTo (reverse runs) f
+  comes_turned stages.QuietZone a = (a.0, a.1, size_turned a.0 a.1 a.2)
+  comes_turned stages.Modules a = (a.0, a.1, (size_turned a.0 a.1 a.2.0, quiet_turned runs a.1 some a.2.1))
+  comes_turned stages.Pattern a = (
+    a.0,
+    a.1,
+    (
+      size_turned a.0 a.1 a.2.0,
+      quiet_turned runs a.1 some a.2.1,
+      other_way a.2.2,
+      a.2.3,
+      subst (λ ws. Rounds ws a.1 a.2.3) (sym (along_other a.2.2 runs)) a.2.4,
+    ),
+  )
 
   tells_turned : (c : Carrier) (x : Result (List ℕ) RowFault) → Tells runs c x → Tells (reverse runs) c x
   tells_turned c x t = (other_way t.0, t.1, shows_turned c t.0 t.1 t.2, t.3)
@@ -131,14 +124,22 @@ module _ (runs : List ℕ) (row : IsRow runs) where
   not_empty : 0 < length runs
   not_empty = let odd = row.odd_number in omega arith
 
+  not_empty_turned : 0 < length (reverse runs)
+  not_empty_turned = let n = length-reverse runs in let some = not_empty in omega arith
+
+  comes_back : (f : Stage) → ComesTo (reverse runs) f → ComesTo runs f
+  comes_back f a = subst (λ ws. ComesTo ws f) (reverse-reverse runs) (comes_turned (reverse runs) not_empty_turned f a)
+
+  shows_back : (c : Carrier) (w : Way) (ms : List ℕ) → Shows (reverse runs) c w ms → Shows runs c (other_way w) ms
+  shows_back c w ms s = subst (λ ws. Shows ws c (other_way w) ms) (reverse-reverse runs) (shows_turned (reverse runs) not_empty_turned c w ms s)
+
   refused_turned : (year : ℕ) (f : RowFault) → IsRefused runs year f → IsRefused (reverse runs) year f
   refused_turned year Blank light = λ dark.
       light (subst (λ ws. Contains (dots_of ws) true) (reverse-reverse runs) (dark_turned (reverse runs) (IsRow-reverse runs row) dark))
-  refused_turned year RunCount a =
-      (dark_turned runs row a.0, λ c N h. a.1 c N (subst (λ n. IsCandidate c n N) (count_turned runs) h))
-  refused_turned year QuietZone a = fails_at_turned runs not_empty stages.QuietZone a
-  refused_turned year Modules a = fails_at_turned runs not_empty stages.Modules a
-  refused_turned year Pattern a = fails_at_turned runs not_empty stages.Pattern a
+  refused_turned year RunCount a = (dark_turned runs row a.0, λ h. a.1 (comes_back stages.QuietZone h))
+  refused_turned year QuietZone a = (comes_turned runs not_empty stages.QuietZone a.0, λ h. a.1 (comes_back stages.Modules h))
+  refused_turned year Modules a = (comes_turned runs not_empty stages.Modules a.0, λ h. a.1 (comes_back stages.Pattern h))
+  refused_turned year Pattern a = (comes_turned runs not_empty stages.Pattern a.0, λ c w ms s. a.1 c (other_way w) ms (shows_back c w ms s))
   refused_turned year SymbolCheckDigit a = (a.0, tells_turned runs not_empty a.0 (Err SymbolCheckDigit) a.1)
   refused_turned year (Code128 fault) a = (a.0, tells_turned runs not_empty a.0 (Err (Code128 fault)) a.1)
   refused_turned year (Elements fault) a = (a.0, a.1, tells_turned runs not_empty a.0 (Ok a.1) a.2, a.3)

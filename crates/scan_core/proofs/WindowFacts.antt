@@ -9,7 +9,7 @@ use Rattle.std.proofs.lemmas.List.Sums.{sum_by-take-le, sum_by-take-drop}
 use Rattle.scan_core.specs.declared.carrier.Carrier.{Carrier}
 use Rattle.scan_core.specs.declared.window.Window.{Window}
 use Rattle.scan_core.specs.Row.{IsRow, inner}
-use Rattle.scan_core.specs.Showing.{IsCandidate, IsRun, Shows, Way, along, kind_of}
+use Rattle.scan_core.specs.Showing.{HasSize, IsRun, Shows, Way, along, kind_of}
 use Rattle.scan_core.specs.inner.Searches.{HasRun, MayEnd}
 use Rattle.scan_core.specs.Windows.{IsSymbolOf, runs_in}
 use Rattle.scan_core.proofs.CandidateFacts.{candidate_dots, few_runs}
@@ -131,9 +131,9 @@ module _ (runs : List ℕ) (year : ℕ) (row : IsRow runs) (w : Window) (s : IsS
   pub shown : Shows (runs_in runs w.first w.count) w.carrier s.read.1.0 s.read.1.1
   shown = s.read.1.2
 
-  pub window_candidate : IsCandidate w.carrier (w.count - 2) shown.N
+  pub window_candidate : HasSize (kind_of w.carrier) (w.count - 2) shown.N
   window_candidate =
-      subst (λ n. IsCandidate w.carrier n shown.N) (length-inner (runs_in runs w.first w.count)
+      subst (λ n. HasSize (kind_of w.carrier) n shown.N) (length-inner (runs_in runs w.first w.count)
       ∙ ap (λ n. n - 2) (length-runs_in runs w.first w.count s.within)) shown.candidate
 
   pub window_counts : (27 ≤ w.count) × (w.count ≤ 597)

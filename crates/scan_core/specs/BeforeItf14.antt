@@ -1,5 +1,5 @@
 -- What a row said before ITF-14 was read: the reading definition over the other carriers alone.
-use Rattle.std.specs.Prelude.{◌≡◌, ◌≢◌, ◌↔◌, ℕ, ◌≤◌, true, List, length, Contains, Ok, Err}
+use Rattle.std.specs.Prelude.{◌≡◌, ◌≢◌, ◌↔◌, ℕ, true, List, length, Contains, Ok, Err}
 use Rattle.element_core.specs.Elements.{IsElements, FirstFault}
 use Rattle.scan_core.specs.declared.carrier.Carrier.{Carrier}
 use Rattle.scan_core.specs.declared.carrier.Carrier.TheVariants.{Itf14}
@@ -10,30 +10,25 @@ use Rattle.scan_core.specs.declared.fault.RowFault.TheVariants.{Blank, RunCount,
 use Rattle.scan_core.specs.declared.answer.Answer.{Answer}
 use Rattle.scan_core.specs.declared.answer.Answer.TheVariants.{Read, Refused}
 use Rattle.scan_core.specs.Row.{dots_of, inner}
-use Rattle.scan_core.specs.Showing.{IsCandidate}
-use Rattle.scan_core.specs.Answers.{Fails, IsAnswer, Tells, number_of}
+use Rattle.scan_core.specs.Showing.{Shows, Way}
+use Rattle.scan_core.specs.Answers.{ComesAs, IsAnswer, Tells}
 
 -- the carriers but ITF-14
 abbrev pub EarlierCarrier : Type 0
 EarlierCarrier = (carrier : Carrier) × (carrier ≢ Itf14)
 
--- some carrier with as many runs fails at this stage, and none comes to a later one
-pub record FailedAt (runs : List ℕ) (stage : Stage) : Type 0 where
-  pub carrier : EarlierCarrier
-  pub N : ℕ
-  pub candidate : IsCandidate carrier.0 (length (inner runs)) N
-  pub fails : Fails runs carrier.0 N stage
-  pub none_later : (other : EarlierCarrier) (M : ℕ) → IsCandidate other.0 (length (inner runs)) M
-      → (at : Stage) × Fails runs other.0 M at × (number_of at ≤ number_of stage)
+-- the row comes to this stage as a symbol of some of these carriers
+abbrev pub CameTo : List ℕ → Stage → Type 0
+CameTo runs stage = (carrier : EarlierCarrier) × (N : ℕ) × ComesAs runs carrier.0 N stage
 
 -- the row was refused for this
 abbrev pub WasRefused : List ℕ → ℕ → RowFault → Type 0
 WasRefused runs year Blank = Contains (dots_of runs) true → ⊥
-WasRefused runs year RunCount =
-    Contains (dots_of runs) true × ((carrier : EarlierCarrier) (N : ℕ) → IsCandidate carrier.0 (length (inner runs)) N → ⊥)
-WasRefused runs year QuietZone = FailedAt runs stages.QuietZone
-WasRefused runs year Modules = FailedAt runs stages.Modules
-WasRefused runs year Pattern = FailedAt runs stages.Pattern
+WasRefused runs year RunCount = Contains (dots_of runs) true × (CameTo runs stages.QuietZone → ⊥)
+WasRefused runs year QuietZone = CameTo runs stages.QuietZone × (CameTo runs stages.Modules → ⊥)
+WasRefused runs year Modules = CameTo runs stages.Modules × (CameTo runs stages.Pattern → ⊥)
+WasRefused runs year Pattern =
+    CameTo runs stages.Pattern × ((carrier : EarlierCarrier) (way : Way) (modules : List ℕ) → Shows runs carrier.0 way modules → ⊥)
 WasRefused runs year SymbolCheckDigit = (carrier : EarlierCarrier) × Tells runs carrier.0 (Err SymbolCheckDigit)
 WasRefused runs year (Code128 fault) = (carrier : EarlierCarrier) × Tells runs carrier.0 (Err (Code128 fault))
 WasRefused runs year (Elements fault) =

@@ -12,7 +12,7 @@ use Rattle.scan_core.specs.declared.fault.RowFault.TheVariants.{SymbolCheckDigit
 use Rattle.scan_core.specs.declared.answer.Answer.{Answer}
 use Rattle.scan_core.specs.declared.answer.Answer.TheVariants.{Refused}
 use Rattle.scan_core.specs.Row.{IsRow, dots_of, runs_fault}
-use Rattle.scan_core.specs.Showing.{HasForm, IsCandidate, Shows, Way, kind_of}
+use Rattle.scan_core.specs.Showing.{HasSize, IsSymbol, Shows, Way, kind_of}
 use Rattle.scan_core.specs.Answers.{IsAnswer}
 
 -- a row shows at most one symbol, and reads as it in one way
@@ -70,7 +70,7 @@ NeverTooLong = (runs : List ℕ) (year : ℕ) → IsAnswer runs year (Refused (E
 
 -- a symbol of a carrier has as many widths and modules as the carrier says
 abbrev pub SymbolMeasures : Type 0
-SymbolMeasures = (carrier : Carrier) (modules : List ℕ) → HasForm carrier modules → IsCandidate carrier (length modules) (sum modules)
+SymbolMeasures = (carrier : Carrier) (modules : List ℕ) → IsSymbol (kind_of carrier) modules → HasSize (kind_of carrier) (length modules) (sum modules)
 
 -- widths are a row exactly where they have no fault
 abbrev pub RowOrFault : Type 0

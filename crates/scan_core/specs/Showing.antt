@@ -40,18 +40,10 @@ abbrev pub HasSize : Option Kind → ℕ → ℕ → Type 0
 HasSize (Some kind) n N = (n ≡ width_count kind) × (N ≡ module_count kind)
 HasSize None n N = (k : ℕ) × (3 ≤ k) × (k ≤ 98) × (n ≡ 6 * k + 7) × (N ≡ 11 * k + 13)
 
--- a symbol of the carrier has n runs and is N modules wide
-abbrev pub IsCandidate : Carrier → ℕ → ℕ → Type 0
-IsCandidate carrier n N = HasSize (kind_of carrier) n N
-
 -- the modules are a symbol of this kind, or else of Code 128
 abbrev pub IsSymbol : Option Kind → List ℕ → Type 0
 IsSymbol (Some kind) modules = (digits : List ℕ) × IsNumberSymbol kind modules digits
 IsSymbol None modules = (start : ℕ) × (values : List ℕ) × (check : ℕ) × IsCode128Symbol start values check modules
-
--- the modules are a symbol of the carrier
-abbrev pub HasForm : Carrier → List ℕ → Type 0
-HasForm carrier modules = IsSymbol (kind_of carrier) modules
 
 -- from left to right, or from right to left
 pub data Way : Type 0 where
@@ -66,7 +58,7 @@ along Backwards widths = reverse widths
 -- the row shows a symbol of the carrier with these modules, read this way
 pub record Shows (runs : List ℕ) (carrier : Carrier) (way : Way) (modules : List ℕ) : Type 0 where
   pub N : ℕ
-  pub candidate : IsCandidate carrier (length (inner runs)) N
+  pub candidate : HasSize (kind_of carrier) (length (inner runs)) N
   pub quiet : IsQuiet runs N
   pub rounds : Rounds (along way (inner runs)) N modules
-  pub form : HasForm carrier modules
+  pub form : IsSymbol (kind_of carrier) modules

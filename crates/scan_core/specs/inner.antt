@@ -2,3 +2,4 @@
 pub mod FirstRuns
 pub mod Reading
 pub mod Searches
+pub mod Stages

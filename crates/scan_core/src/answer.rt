@@ -1,9 +1,10 @@
 //! What a row says.
 ghost use Rattle.std.specs.Prelude.{None, Some, ◌≡◌, ◌≢◌, IfErr, IfOk, OnOk, ℕ, length, sum};
-ghost use Rattle.scan_core.specs.Answers.{Fails, FailsAt, IsAnswer};
+ghost use Rattle.scan_core.specs.Answers.{IsAnswer};
+ghost use Rattle.scan_core.specs.inner.Stages.{Fails, FailsAt};
 ghost use Rattle.scan_core.specs.Reading.{IsFound, IsUnread, ShowsSymbol};
 ghost use Rattle.scan_core.specs.Row.{IsRow, inner, runs_fault};
-ghost use Rattle.scan_core.specs.Showing.{IsCandidate};
+ghost use Rattle.scan_core.specs.Showing.{HasSize, kind_of};
 
 use crate::carrier::{Candidate, Carrier, fixed_candidate, gs1128_candidate};
 use crate::fault::{RowFault, RunFault};
@@ -40,7 +41,7 @@ struct Shown {
 fn try_candidate(widths: &[u16], total: u32, candidate: Candidate) -> Result<Shown, Stage>
     requires row { IsRow widths.now }
     requires sum { total ≡ sum (inner widths.now) }
-    requires counted { IsCandidate candidate.carrier (length (inner widths.now)) candidate.count }
+    requires counted { HasSize (kind_of candidate.carrier) (length (inner widths.now)) candidate.count }
     ensures shown { IfOk result (λ s. ShowsSymbol widths.now s.carrier s.symbol) }
     ensures fails { IfErr result (λ stage. Fails widths.now candidate.carrier candidate.count stage) }
 {
@@ -64,8 +65,8 @@ fn try_candidate(widths: &[u16], total: u32, candidate: Candidate) -> Result<Sho
 fn try_both(widths: &[u16], total: u32, fixed: Candidate, gs1128: Candidate) -> Result<Shown, Stage>
     requires row { IsRow widths.now }
     requires sum { total ≡ sum (inner widths.now) }
-    requires counted { IsCandidate fixed.carrier (length (inner widths.now)) fixed.count }
-    requires counted_gs1128 { IsCandidate gs1128.carrier (length (inner widths.now)) gs1128.count }
+    requires counted { HasSize (kind_of fixed.carrier) (length (inner widths.now)) fixed.count }
+    requires counted_gs1128 { HasSize (kind_of gs1128.carrier) (length (inner widths.now)) gs1128.count }
     requires fixed { fixed.carrier ≢ Carrier.Gs1128 }
     requires gs1128 { gs1128.carrier ≡ Carrier.Gs1128 }
     ensures shown { IfOk result (λ s. ShowsSymbol widths.now s.carrier s.symbol) }

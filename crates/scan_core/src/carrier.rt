@@ -1,6 +1,6 @@
 //! The carriers that a row can show.
 ghost use Rattle.std.specs.Prelude.{◌≡◌, ◌≢◌, ℕ, IfNone, IfSome};
-ghost use Rattle.scan_core.specs.Showing.{IsCandidate};
+ghost use Rattle.scan_core.specs.Showing.{HasSize, kind_of};
 
 /// A kind of symbol that a row can show.
 #[derive(Clone, Copy, Debug, PartialEq, Eq)]
@@ -28,9 +28,9 @@ pub(crate) struct Candidate {
 
 /// The carrier whose symbols all have so many runs.
 pub(crate) fn fixed_candidate(run_count: usize) -> Option<Candidate>
-    ensures found { IfSome result (λ c. IsCandidate c.carrier run_count c.count) }
+    ensures found { IfSome result (λ c. HasSize (kind_of c.carrier) run_count c.count) }
     ensures fixed { IfSome result (λ c. c.carrier ≢ Carrier.Gs1128) }
-    ensures none { IfNone result ((c : Carrier) (N : ℕ) → c ≢ Carrier.Gs1128 → IsCandidate c run_count N → ⊥) }
+    ensures none { IfNone result ((c : Carrier) (N : ℕ) → c ≢ Carrier.Gs1128 → HasSize (kind_of c) run_count N → ⊥) }
 {
     match run_count {
         33 => Some(Candidate {
@@ -55,9 +55,9 @@ pub(crate) fn fixed_candidate(run_count: usize) -> Option<Candidate>
 
 /// GS1-128, where its symbols have so many runs.
 pub(crate) fn gs1128_candidate(run_count: usize) -> Option<Candidate>
-    ensures found { IfSome result (λ c. IsCandidate c.carrier run_count c.count) }
+    ensures found { IfSome result (λ c. HasSize (kind_of c.carrier) run_count c.count) }
     ensures gs1128 { IfSome result (λ c. c.carrier ≡ Carrier.Gs1128) }
-    ensures none { IfNone result ((N : ℕ) → IsCandidate Carrier.Gs1128 run_count N → ⊥) }
+    ensures none { IfNone result ((N : ℕ) → HasSize (kind_of Carrier.Gs1128) run_count N → ⊥) }
 {
     if run_count < 25 || 595 < run_count || run_count % 6 != 1 {
         return None;

@@ -3,7 +3,7 @@ ghost use Rattle.std.specs.Prelude.{IfNone, IfSome, List, Some, ℕ};
 ghost use Rattle.ean_code.specs.Spelling.{IsSpelled};
 ghost use Rattle.ean_code.specs.Symbols.{IsNumberSymbol, Kind};
 ghost use Rattle.scan_core.specs.Reading.{IsSymbolAs};
-ghost use Rattle.scan_core.specs.Showing.{HasForm, Way, along, kind_of};
+ghost use Rattle.scan_core.specs.Showing.{IsSymbol, Way, along, kind_of};
 
 use crate::carrier::Carrier;
 use code128_code::{Values, values};
@@ -38,7 +38,7 @@ fn number(spelled: Spelled) -> Option<Symbol>
 /// The symbol of the carrier that the modules are, read from the left.
 fn read_symbol(carrier: Carrier, modules: &Modules) -> Option<Symbol>
     ensures found { IfSome result (λ s. IsSymbolAs (kind_of carrier) modules.now s) }
-    ensures none { IfNone result (HasForm carrier modules.now → ⊥) }
+    ensures none { IfNone result (IsSymbol (kind_of carrier) modules.now → ⊥) }
 {
     match carrier {
         Carrier::Ean13 => number(read_ean13(modules)),
@@ -53,7 +53,7 @@ fn read_symbol(carrier: Carrier, modules: &Modules) -> Option<Symbol>
 /// none from the left they are turned round.
 pub(crate) fn read_some_way(carrier: Carrier, modules: &mut Modules) -> Option<Symbol>
     ensures found { IfSome result (λ s. (way : Way) × IsSymbolAs (kind_of carrier) (along way modules.old) s) }
-    ensures none { IfNone result ((way : Way) → HasForm carrier (along way modules.old) → ⊥) }
+    ensures none { IfNone result ((way : Way) → IsSymbol (kind_of carrier) (along way modules.old) → ⊥) }
 {
     match read_symbol(carrier, modules) {
         Some(forwards) => Some(forwards),

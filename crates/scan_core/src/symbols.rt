@@ -1,7 +1,7 @@
 //! Every symbol of a row.
 ghost use Rattle.std.specs.Prelude.{None, ◌≡◌, ◌⊎◌, ◌<◌, ◌+◌, ◌%◌, ◌≤◌, ◌↔◌, IfErr, IfNone, IfOk, IfSome, IsTrue, OnOk, ℕ, false, length, slice_index};
 ghost use Rattle.scan_core.specs.Row.{IsRow, runs_fault};
-ghost use Rattle.scan_core.specs.Showing.{IsCandidate};
+ghost use Rattle.scan_core.specs.Showing.{HasSize, kind_of};
 ghost use Rattle.scan_core.specs.inner.Searches.{AreNoneShorter, HasRun, IsNextPlace, MayEnd};
 ghost use Rattle.scan_core.specs.Windows.{IsNext, IsOver, IsSymbolOf, search_after, search_of};
 
@@ -57,7 +57,7 @@ struct Place {
 /// Whether a carrier has symbols of so many runs. Few windows come so far, so its division is kept out of the loop.
 #[inline(never)]
 fn is_symbol_count(run_count: usize) -> bool
-    ensures { result ≡ false → (c : Carrier) (N : ℕ) → IsCandidate c run_count N → ⊥ }
+    ensures { result ≡ false → (c : Carrier) (N : ℕ) → HasSize (kind_of c) run_count N → ⊥ }
 {
     match (fixed_candidate(run_count), gs1128_candidate(run_count)) {
         (None, None) => false,

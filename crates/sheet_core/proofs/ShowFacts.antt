@@ -4,12 +4,17 @@ use Rattle.std.proofs.lemmas.List.Elements.{All-contains, All-replicate}
 use Rattle.std.specs.Prelude.{Contains}
 use Rattle.std.proofs.Common.{◌≡◌, ℕ, ◌+◌, ◌-◌, ◌*◌, ◌%◌, ◌<◌, ◌≤◌, true, List, [], ◌∷◌, ◌++◌, Ok, length, map, sum, refl, sym, ap, nat_le, nat_lt, subst, ◌∙◌, get_or, arith, replicate, false, Bool}
 use Rattle.std.specs.List.{AllZip, AllByRecursion}
+use Rattle.std.specs.Prelude.{codes, Some}
 use Rattle.std.proofs.lemmas.List.{length-append, length-map, take_at, get_or_push}
 use Rattle.std.proofs.lemmas.Bool.{and_parts}
 use Rattle.std.proofs.lemmas.Bool.Decides.{nat_tests}
 use Rattle.std.proofs.lemmas.Option.{get_or_from_slice_get, slice_get_within, slice_get_past}
 use Rattle.ean_code.specs.Symbols.Kind.{Ean13 as KindEan13, Ean8 as KindEan8, UpcE as KindUpcE, Itf14 as KindItf14}
 use Rattle.ean_code.specs.Widths.{AreWidths}
+use Rattle.digits_core.specs.Digits.{ascii_of}
+use Rattle.ean_code.specs.Spelling.{IsSpelled}
+use Rattle.ean_code.specs.Symbols.{Kind}
+use Rattle.ean_code.specs.declared.reading.Spelled.TheVariants.{Found}
 use Rattle.element_core.specs.Elements.{canonical}
 use Rattle.code128_code.specs.Coding.{data_values}
 use Rattle.code128_code.specs.Laws.{ModulesSay}
@@ -19,8 +24,8 @@ use Rattle.scan_core.specs.declared.carrier.Carrier.TheVariants.{Ean13 as Carrie
 use Rattle.ean_code.specs.Laws.{MeasuresOfKind}
 use Rattle.scan_core.specs.Laws.{DotsDetermine, OneAnswer, SymbolMeasures}
 use Rattle.scan_core.specs.Row.{IsRow, dots_of, inner}
-use Rattle.scan_core.specs.Answers.{IsAnswer, Spells, row_text}
-use Rattle.scan_core.specs.Showing.{HasForm, IsCandidate, IsQuiet, IsRun, Rounds, Shows}
+use Rattle.scan_core.specs.Answers.{IsAnswer, Spells, checked_text, row_text}
+use Rattle.scan_core.specs.Showing.{HasSize, IsQuiet, IsRun, IsSymbol, Rounds, Shows, kind_of}
 use Rattle.scan_core.specs.Showing.Way.{Forwards}
 use Rattle.sheet_core.specs.declared.label.Label.{Label}
 use Rattle.sheet_core.specs.declared.label.Label.TheVariants.{Ean13, UpcA, Ean8, UpcE, Itf14, Gs1128}
@@ -77,12 +82,12 @@ quiet g s left right fits =
 
 -- what is needed of a symbol
 record Fit (c : Carrier) (ms : List ℕ) : Type 0 where
-  candidate : IsCandidate c (length ms) (sum ms)
+  candidate : HasSize (kind_of c) (length ms) (sum ms)
   odd : length ms % 2 ≡ 1
   widths : AreWidths ms
-  form : HasForm c ms
+  form : IsSymbol (kind_of c) ms
 
-odd_count : (c : Carrier) (n N : ℕ) → IsCandidate c n N → n % 2 ≡ 1
+odd_count : (c : Carrier) (n N : ℕ) → HasSize (kind_of c) n N → n % 2 ≡ 1
 odd_count CarrierEan13 n N h = ap (λ k. k % 2) h.0
 odd_count CarrierEan8 n N h = ap (λ k. k % 2) h.0
 odd_count CarrierUpcE n N h = ap (λ k. k % 2) h.0
@@ -93,7 +98,7 @@ odd_count CarrierGs1128 n N h = let k : ℕ = h.0 in let e = h.3 in omega arith
 abbrev Measured : Type 0
 Measured = SymbolMeasures × MeasuresOfKind
 
-fit_by : Measured → (c : Carrier) (ms : List ℕ) → HasForm c ms → AreWidths ms → Fit c ms
+fit_by : Measured → (c : Carrier) (ms : List ℕ) → IsSymbol (kind_of c) ms → AreWidths ms → Fit c ms
 fit_by measures c ms form widths = let m = measures.0 c ms form in
     record { candidate = m; odd = odd_count c (length ms) (sum ms) m; widths = widths; form = form }
 
@@ -149,7 +154,7 @@ printed_shows one_row measures g label s runs grid drawn fits row dots =
     let inside = inner-cell_runs g s in
     let shown : Shows (cell_runs g s) (carrier_of label) Forwards ms = record {
       N = sum ms;
-      candidate = subst (λ n. IsCandidate (carrier_of label) n (sum ms)) (sym (ap length inside ∙ length-map ms (λ m. g.dots * m))) f.candidate;
+      candidate = subst (λ n. HasSize (kind_of (carrier_of label)) n (sum ms)) (sym (ap length inside ∙ length-map ms (λ m. g.dots * m))) f.candidate;
       quiet = quiet g s z.0 z.1 fits;
       rounds = subst (λ xs. Rounds xs (sum ms) ms) (sym inside) (rounds g.dots ms f.widths);
       form = f.form;
@@ -188,13 +193,19 @@ bar_rows_show one_row measures labels g sheets label row printed bar =
     let d = found_of labels g sheets label row printed bar in
     (d.s.modules, d.drawn.symbol, printed_shows one_row measures g label d.s row printed.grid d.drawn d.fits bar.row_is d.dots)
 
+-- the symbol of a GTIN spells its text
+found_spells : (kind : Kind) (ms gtin : List ℕ) → IsSpelled kind ms (Found gtin) → Spells (Some kind) ms (Ok (codes "01" ++ ascii_of gtin))
+found_spells kind ms gtin a =
+    let right : Ok (codes "01" ++ ascii_of gtin) ≡ checked_text gtin = rw a.3 refl in
+    (a.0, a.1, right ∙ ap checked_text a.2)
+
 -- a label's symbol spells its text
-spelled : ModulesSay → (label : Label) (ms : List ℕ) → IsLabelSymbol label ms → Spells (carrier_of label) ms (Ok (label_text label))
-spelled say (Ean13 g) ms h = (g, h, refl)
-spelled say (UpcA g) ms h = (g, h.1, refl)
-spelled say (Ean8 g) ms h = (g, h, refl)
-spelled say (UpcE g) ms h = let s = symbol_of_upce g ms h in (g, (s.0, s.1, s.2, h.2.spelling.checked), refl)
-spelled say (Itf14 g) ms h = (g, h, refl)
+spelled : ModulesSay → (label : Label) (ms : List ℕ) → IsLabelSymbol label ms → Spells (kind_of (carrier_of label)) ms (Ok (label_text label))
+spelled say (Ean13 g) ms h = found_spells KindEan13 ms g h
+spelled say (UpcA g) ms h = found_spells KindEan13 ms g h.1
+spelled say (Ean8 g) ms h = found_spells KindEan8 ms g h
+spelled say (UpcE g) ms h = let s = symbol_of_upce g ms h in found_spells KindUpcE ms g (s.0, s.1, s.2, h.2.spelling.checked)
+spelled say (Itf14 g) ms h = found_spells KindItf14 ms g h
 spelled say (Gs1128 l) ms h =
     let text : List ℕ = canonical l.list in
     let values : List ℕ = data_values text in

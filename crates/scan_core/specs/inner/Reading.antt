@@ -10,7 +10,8 @@ use Rattle.scan_core.specs.declared.stage.Stage.{Stage}
 use Rattle.scan_core.specs.declared.symbol.Symbol.{Symbol}
 use Rattle.scan_core.specs.declared.symbol.Symbol.TheVariants.{Number, BadCheckDigit, Characters}
 use Rattle.code128_code.specs.declared.symbol_values.Values.{Values}
-use Rattle.scan_core.specs.Answers.{number_of, row_text}
+use Rattle.scan_core.specs.Answers.{row_text}
+use Rattle.scan_core.specs.inner.Stages.{number_of}
 
 -- the later one of two stages
 abbrev pub later : Stage → Stage → Stage

@@ -1,8 +1,8 @@
 use Rattle.std.proofs.Common.{length, subst, arith, inl, inr}
 use Rattle.std.proofs.lemmas.Result.{err_from_is_err_and}
-use Rattle.scan_core.specs.Answers.{Fails}
+use Rattle.scan_core.specs.inner.Stages.{Fails}
 use Rattle.scan_core.specs.Row.{inner}
-use Rattle.scan_core.specs.Showing.{IsCandidate}
+use Rattle.scan_core.specs.Showing.{HasSize, kind_of}
 use Rattle.scan_core.proofs.CandidateFacts.{which}
 use Rattle.scan_core.proofs.RowFacts.{has_dark}
 use Rattle.scan_core.proofs.StageFacts.{alone_fixed, alone_gs1128, refused_at}
@@ -30,7 +30,7 @@ returns-in_err-try_candidate-in-Some-None-clause-refused c =
     let runs = c.args.widths.now in
     let fixed = c.in-Some-None.fixed in
     let stage = c.in_err-try_candidate-in-Some-None.field-0.0 in
-    let candidate : IsCandidate fixed.carrier (length (inner runs)) fixed.count = rw c.inner-inner.ensures at c.in-Some-None.ensures.found in
+    let candidate : HasSize (kind_of fixed.carrier) (length (inner runs)) fixed.count = rw c.inner-inner.ensures at c.in-Some-None.ensures.found in
     rw (p.1, p.2) (
       before_text stage,
       λ year. refused_at stage runs year
@@ -48,11 +48,11 @@ returns-in_err-try_candidate-in-None-Some-clause-refused c =
     let gs1128 = c.in-None-Some.gs1128 in
     let stage = c.in_err-try_candidate-in-None-Some.field-0.0 in
     let is = c.in-None-Some.ensures.gs1128 in
-    let candidate : IsCandidate gs1128.carrier (length (inner runs)) gs1128.count = rw c.inner-inner.ensures at c.in-None-Some.ensures.found in
+    let candidate : HasSize (kind_of gs1128.carrier) (length (inner runs)) gs1128.count = rw c.inner-inner.ensures at c.in-None-Some.ensures.found in
     rw (p.1, p.2) (
       before_text stage,
       λ year. refused_at stage runs year
-          (alone_gs1128 runs gs1128.count stage (subst (λ d. IsCandidate d (length (inner runs)) gs1128.count) is candidate)
+          (alone_gs1128 runs gs1128.count stage (subst (λ d. HasSize (kind_of d) (length (inner runs)) gs1128.count) is candidate)
           (λ d M ne h. (rw c.in-None-Some.is-0 at c.fixed_candidate.ensures.none) d M ne (rw c.inner-inner.ensures h))
           (subst (λ d. Fails runs d gs1128.count stage) is c.in_err-try_candidate-in-None-Some.ensures.fails)),
     )
@@ -64,10 +64,10 @@ returns-in-None-None-clause-refused c =
       tt,
       λ year. (
         has_dark runs c.requires (omega arith),
-        λ d N h.
-            elim (which d) [
-              | inl e ↦ c.in-None-None.ensures.none N (rw c.inner-inner.ensures (subst (λ o. IsCandidate o (length (inner runs)) N) e h))
-              | inr ne ↦ (rw c.in-None-None.is-0 at c.fixed_candidate.ensures.none) d N ne (rw c.inner-inner.ensures h)
+        λ h.
+            elim (which h.0) [
+              | inl e ↦ c.in-None-None.ensures.none h.1 (rw c.inner-inner.ensures (subst (λ o. HasSize (kind_of o) (length (inner runs)) h.1) e h.2))
+              | inr ne ↦ (rw c.in-None-None.is-0 at c.fixed_candidate.ensures.none) h.0 h.1 ne (rw c.inner-inner.ensures h.2)
             ],
       ),
     )

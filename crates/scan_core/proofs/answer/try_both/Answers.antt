@@ -1,7 +1,7 @@
 use Rattle.std.proofs.Common.{length, subst}
-use Rattle.scan_core.specs.Answers.{Fails}
+use Rattle.scan_core.specs.inner.Stages.{Fails}
 use Rattle.scan_core.specs.Row.{inner}
-use Rattle.scan_core.specs.Showing.{IsCandidate}
+use Rattle.scan_core.specs.Showing.{HasSize, kind_of}
 use Rattle.scan_core.proofs.StageFacts.{both}
 use Rattle.scan_core.proofs.answer.try_both.Goals as goal
 
@@ -14,6 +14,6 @@ returns-in-Err-try_candidate-clause-fails c =
     let other = c.in-Err-try_candidate.other in
     rw c.later.ensures
     (both runs first.carrier first.count second.count stage other c.requires.fixed c.requires.counted
-    (subst (λ d. IsCandidate d (length (inner runs)) second.count) c.requires.gs1128 c.requires.counted_gs1128)
+    (subst (λ d. HasSize (kind_of d) (length (inner runs)) second.count) c.requires.gs1128 c.requires.counted_gs1128)
     c.in-Err.ensures.fails
     (subst (λ d. Fails runs d second.count other) c.requires.gs1128 c.in-Err-try_candidate.ensures.fails))

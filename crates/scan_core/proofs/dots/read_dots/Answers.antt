@@ -6,4 +6,4 @@ use Rattle.scan_core.proofs.dots.read_dots.Goals as goal
 pub returns-in-None : goal.returns-in-None
 returns-in-None c =
     let long = c.in-None.ensures in
-    (long.0, long.1, long.2, (has_dark long.0 long.1 (let more = long.3 in omega arith), λ carrier N h. none_long long.0 carrier N h long.3))
+    (long.0, long.1, long.2, (has_dark long.0 long.1 (let more = long.3 in omega arith), λ h. none_long long.0 h.0 h.1 h.2 long.3))
