@@ -16,12 +16,9 @@ months leap = 31 ∷ (if leap then 29 else 28) ∷ 31 ∷ 30 ∷ 31 ∷ 30 ∷ 3
 abbrev pub last_day : ℕ → ℕ → ℕ
 last_day year month = slice_index (months (is_leap year)) (month - 1)
 
--- the year of two digits: that of the reference year's century, or of the one before or after
+-- the year of two digits: the one that ends in them from 49 years before the reference year to 50 after it
 abbrev pub full_year : ℕ → ℕ → ℕ
-full_year reference digits =
-    if nat_le (reference % 100 + 51) digits then (reference - reference % 100) + digits - 100
-    else (if nat_le (digits + 50) (reference % 100) then (reference - reference % 100) + digits + 100
-    else (reference - reference % 100) + digits)
+full_year reference digits = reference + 50 - (reference + 150 - digits) % 100
 
 -- the number of two ASCII digits
 abbrev pub two : List ℕ → ℕ → ℕ
