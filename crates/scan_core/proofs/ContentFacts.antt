@@ -63,6 +63,7 @@ spelled_form (Some kind) ms x a = (a.0, a.1)
 spelled_form None ms x a = (a.0, a.1, a.2, a.3)
 
 -- modules that are no symbol either way
-pub no_way : (c : Carrier) (ms : List ℕ) → (IsSymbol (kind_of c) ms → ⊥) → (IsSymbol (kind_of c) (reverse ms) → ⊥) → (way : Way) → IsSymbol (kind_of c) (along way ms) → ⊥
+pub no_way : (c : Carrier) (ms : List ℕ) → (IsSymbol (kind_of c) ms → ⊥) → (IsSymbol (kind_of c) (reverse ms) → ⊥) → (way : Way)
+    → IsSymbol (kind_of c) (along way ms) → ⊥
 no_way c ms a b Forwards form = a form
 no_way c ms a b Backwards form = b form
