@@ -1,5 +1,5 @@
 -- Runs that are cut out of dots, one after the other.
-use Rattle.std.proofs.Common.{◌≡◌, ℕ, zero, suc, ◌+◌, ◌-◌, ◌%◌, ◌<◌, ◌≤◌, Bool, true, false, not, List, [], ◌∷◌, ◌++◌, length, drop, sum, replicate, inl, inr, refl, sym, ap, ap₂, add-zero, subst, ◌∙◌, arith}
+use Rattle.std.proofs.Common.{◌≡◌, ◌⊎◌, ℕ, zero, suc, ◌+◌, ◌-◌, ◌%◌, ◌<◌, ◌≤◌, Bool, true, false, not, List, [], ◌∷◌, ◌++◌, length, drop, sum, replicate, inl, inr, refl, sym, ap, ap₂, add-zero, subst, ◌∙◌, arith}
 use Rattle.std.specs.List.{AllByRecursion}
 use Rattle.std.proofs.lemmas.Bool.{cases_lt}
 use Rattle.std.proofs.lemmas.List.{append-nil, append_assoc, length-append, replicate_more, take_at}
@@ -143,3 +143,53 @@ end_light widths all run dark n dots h e few same = rw same (ends_light widths r
 pub end_dark : (widths some all : List ℕ) (run : ℕ) (dark : Bool) (n : ℕ) (dots : List Bool) → Cut widths run dark n dots → dark ≡ true → n ≤ 65535
     → some ≡ widths ++ run ∷ [] → all ≡ some ++ 0 ∷ [] → IsRowOf all dots
 end_dark widths some all run dark n dots h e few same more = rw (more, same) (ends_dark widths run n dots (subst (λ d. Cut widths run d n dots) e h) few)
+
+-- ---- runs that are cut no further
+
+same_or_not : (a b : Bool) → (a ≡ b) ⊎ (a ≡ not b)
+same_or_not true true = inl refl
+same_or_not true false = inr refl
+same_or_not false true = inr refl
+same_or_not false false = inl refl
+
+-- one dot more of the same run
+run_on : (bits : List ℕ) (from n : ℕ) (widths : List ℕ) (run : ℕ) (dark : Bool) → Cut widths run dark n (dots_at bits from n)
+    → dot_at bits (from + n) ≡ dark → Cut widths (run + 1) dark (n + 1) (dots_at bits from (n + 1))
+run_on bits from n widths run dark h same = record {
+  joined =
+      ap (λ ds. dots_from false widths ++ ds) (sym (replicate_more run dark))
+      ∙ sym (append_assoc (dots_from false widths) (replicate run dark) (dark ∷ []))
+      ∙ ap₂ (λ ds d. ds ++ d ∷ []) h.joined (sym same)
+      ∙ sym (map-range_with_len_more (dot_at bits) from n (from + n) refl);
+  dark_is = h.dark_is;
+  each = h.each;
+  begun = λ some. omega arith;
+  total = let t = h.total in omega arith;
+}
+
+-- a row with these finished runs and others behind them
+abbrev pub HasRest : List ℕ → List Bool → Type 0
+HasRest widths dots = (rest : List ℕ) × (0 < length rest) × IsRowOf (widths ++ rest) dots
+
+finish_now : (widths : List ℕ) (run : ℕ) (dark : Bool) (n : ℕ) (dots : List Bool) → n ≤ 65535 → Cut widths run dark n dots → HasRest widths dots
+finish_now widths run true n dots few h =
+    (run ∷ 0 ∷ [], omega arith, subst (λ ws. IsRowOf ws dots) (append_assoc widths (run ∷ []) (0 ∷ [])) (ends_dark widths run n dots h few))
+finish_now widths run false n dots few h = (run ∷ [], omega arith, ends_light widths run n dots h few)
+
+-- whatever dots come behind
+pub finish : (bits : List ℕ) (from more n : ℕ) (widths : List ℕ) (run : ℕ) (dark : Bool) → n + more ≤ 65535 → Cut widths run dark n (dots_at bits from n)
+    → HasRest widths (dots_at bits from (n + more))
+finish bits from zero n widths run dark few h =
+    let e : n ≡ n + zero = omega arith in
+    subst (λ k. HasRest widths (dots_at bits from k)) e (finish_now widths run dark n (dots_at bits from n) (omega arith) h)
+finish bits from (suc more) n widths run dark few h =
+    let e : n + 1 + more ≡ n + suc more = omega arith in
+    subst (λ k. HasRest widths (dots_at bits from k)) e (elim (same_or_not (dot_at bits (from + n)) dark) [
+      | inl same ↦ finish bits from more (n + 1) widths (run + 1) dark (omega arith) (run_on bits from n widths run dark h same)
+      | inr other ↦
+          let all : List ℕ = widths ++ run ∷ [] in
+          let next = next_run bits from n (n + 1) widths all run dark h refl (omega arith)
+          (λ k some lt. let here : k ≡ n = omega arith in ap (λ i. dot_at bits (from + i)) here ∙ other) in
+          let r = finish bits from more (n + 1) all (n + 1 - n) (not dark) (omega arith) next in
+          (run ∷ r.0, omega arith, subst (λ ws. IsRowOf ws (dots_at bits from (n + 1 + more))) (append_assoc widths (run ∷ []) r.0) r.2)
+    ])

@@ -52,7 +52,7 @@ abbrev pub colour : Bool → ℕ → Bool
 colour dark zero = dark
 colour dark (suc n) = colour (not dark) n
 
-even_colour : (dark : Bool) (n : ℕ) → n % 2 ≡ 0 → colour dark n ≡ dark
+pub even_colour : (dark : Bool) (n : ℕ) → n % 2 ≡ 0 → colour dark n ≡ dark
 even_colour dark zero e = refl
 even_colour dark (suc zero) e = absurd (omega arith)
 even_colour true (suc (suc n)) e = even_colour true n (omega arith)

@@ -6,9 +6,11 @@ pub mod CutFacts
 pub mod DotFacts
 pub mod EarlierFacts
 pub mod EndFacts
+pub mod FirstFacts
 pub mod FoundFacts
 pub mod LengthFacts
 pub mod OuterBars
+pub mod PartFacts
 pub mod RatioFacts
 pub mod ReplacedFacts
 pub mod RoundingFacts

@@ -1,5 +1,6 @@
 -- Definitions for the inside of the crate: types, private contracts and proofs name them, and no public contract reaches them.
 pub mod FirstRuns
+pub mod Parts
 pub mod Reading
 pub mod Searches
 pub mod Stages

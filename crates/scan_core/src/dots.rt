@@ -1,8 +1,8 @@
 //! What a row of packed dots says, with no memory taken.
-ghost use Rattle.std.specs.Prelude.{◌≡◌, ◌<◌, ◌≤◌, ◌*◌, ◌++◌, ◌∷◌, [], List, ℕ, length, MatchOption};
+ghost use Rattle.std.specs.Prelude.{◌≡◌, ◌≤◌, ◌+◌, ◌*◌, ◌++◌, ◌∷◌, [], List, ℕ, length};
 ghost use Rattle.scan_core.specs.Answers.{IsAnswer};
 ghost use Rattle.scan_core.specs.Bits.{dots_at};
-ghost use Rattle.scan_core.specs.inner.FirstRuns.{AreFirst, IsLongRow};
+ghost use Rattle.scan_core.specs.inner.FirstRuns.{AreFirst};
 ghost use Rattle.scan_core.specs.Row.{IsRow, dots_of};
 
 use crate::answer::{Answer, answer_in};
@@ -11,15 +11,15 @@ use crate::fault::RowFault;
 use arrayvec::ArrayVec;
 use element_core::Year;
 
-/// As many runs as the longest symbol has, with its light ends.
-const MOST: usize = 597;
+/// As many runs as two of the longest symbol have, with a light end between them and one on each side.
+const MOST: usize = 1_195;
 
 /// The first runs of a row.
 #[derive(Drop)]
-struct FirstRuns {
-    widths: ArrayVec<u16, MOST>,
+pub(crate) struct FirstRuns {
+    pub(crate) widths: ArrayVec<u16, MOST>,
     /// Whether the row has more.
-    more: bool,
+    pub(crate) more: bool,
 }
 
 impl FirstRuns {
@@ -27,7 +27,7 @@ impl FirstRuns {
 
     /// Puts a run at the end.
     fn push(&mut self, width: u16)
-        ensures { (runs : List ℕ) → AreFirst runs self.old → AreFirst (runs ++ width ∷ []) self.new }
+        ensures { (all : List ℕ) → AreFirst all self.old → AreFirst (all ++ width ∷ []) self.new }
     {
         if self.widths.try_push(width).is_err() {
             self.more = true;
@@ -35,32 +35,35 @@ impl FirstRuns {
     }
 }
 
-/// The widths of the runs of so many dots, if no symbol has fewer.
-fn few_runs(bits: &[u8], width: u16) -> Option<ArrayVec<u16, MOST>>
-    requires { width ≤ 8 * length bits.now }
-    ensures { MatchOption result (IsLongRow (dots_at bits.now 0 width))
-        (λ w. IsRow w.items × (dots_of w.items ≡ dots_at bits.now 0 width)) }
+/// The first runs of the row of `width` dots of packed bytes, from the dot `from` on.
+pub(crate) fn first_runs(bits: &[u8], from: usize, width: usize) -> FirstRuns
+    requires within { from + width ≤ 8 * length bits.now }
+    requires few { width ≤ 65535 }
+    ensures { (all : List ℕ) × IsRow all × (dots_of all ≡ dots_at bits.now from width) × AreFirst all result }
 {
-    let mut first = FirstRuns {
-        widths: ArrayVec::new(),
-        more: false,
-    };
+    let mut widths = ArrayVec::new();
     let mut dark = false;
-    let count = usize::from(width);
-    let mut end = run_end(bits, 0, 0, count, dark);
+    let mut end = run_end(bits, from, 0, width, dark);
     let mut run = end as u16;
-    'runs: while end < count {
-        first.push(run);
+    'runs: while end < width {
+        if widths.is_full() {
+            return FirstRuns { widths, more: true };
+        }
+        widths.push(run);
         dark = !dark;
         let start = end;
-        end = run_end(bits, 0, start, count, dark);
+        end = run_end(bits, from, start, width, dark);
         run = (end - start) as u16;
     }
+    let mut first = FirstRuns {
+        widths,
+        more: false,
+    };
     first.push(run);
     if dark {
         first.push(0);
     }
-    if first.more { None } else { Some(first.widths) }
+    first
 }
 
 /// What the row of `width` dots of packed bytes says, as `read_row` does of the row that `Runs::cut`
@@ -69,8 +72,9 @@ pub fn read_dots(bits: &[u8], width: u16, year: Year) -> Answer
     requires { width ≤ 8 * length bits.now }
     ensures { (runs : List ℕ) × IsRow runs × (dots_of runs ≡ dots_at bits.now 0 width) × IsAnswer runs year result }
 {
-    match few_runs(bits, width) {
-        Some(widths) => answer_in(widths.as_slice(), year),
-        None => Answer::Refused(RowFault::RunCount),
+    let first = first_runs(bits, 0, usize::from(width));
+    if first.more {
+        return Answer::Refused(RowFault::RunCount);
     }
+    answer_in(first.widths.as_slice(), year)
 }

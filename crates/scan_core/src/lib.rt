@@ -5,6 +5,7 @@
 mod answer;
 mod bits;
 mod carrier;
+mod dot_symbols;
 mod dots;
 mod fault;
 mod found;
@@ -19,6 +20,7 @@ mod window;
 
 pub use answer::{Answer, find_symbol, read_row, read_widths};
 pub use carrier::Carrier;
+pub use dot_symbols::DotSymbols;
 pub use dots::read_dots;
 pub use fault::{RowFault, RunFault};
 pub use found::Found;

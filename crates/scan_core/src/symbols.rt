@@ -160,7 +160,7 @@ fn next_place(widths: &[u16], first: usize, least: usize) -> Option<Place>
 }
 
 /// The first of the windows that begin after this run, or at it with so many runs at least, that is read.
-fn next_window(widths: &[u16], first: usize, least: usize, year: Year) -> Option<Window>
+pub(crate) fn next_window(widths: &[u16], first: usize, least: usize, year: Year) -> Option<Window>
     requires row { IsRow widths.now }
     requires light { first % 2 ≡ 0 }
     ensures next { IfSome result (λ w. IsNext (record { runs = widths.now; year = year; first = first; least = least }) w) }
