@@ -3,7 +3,7 @@
  * Each call answers with bytes, without an end mark, and returns how many they are. They stand at the front
  * of `out` where `room` is at least their number; else `out` is as it was, and the number says how much
  * room to bring. So a call with a `room` of 0 tells the size of its answer. A line has at most GS1_LINE
- * bytes, and one of gs1_find at most GS1_FOUND. A question that is refused is answered by `refused`, a number, a name and, where it has one, a
+ * bytes, and one of gs1_find and gs1_find_dots at most GS1_FOUND. A question that is refused is answered by `refused`, a number, a name and, where it has one, a
  * place, as `refused 2 NotDigit 12`; docs/FAULTS.md says what to do about each.
  *
  * No call takes memory, keeps anything, waits, prints or ends the program, so calls in several threads at a
@@ -25,7 +25,7 @@ extern "C" {
 /* The most bytes of a line: room for each answer but an image. */
 #define GS1_LINE 292
 
-/* The most bytes of the line of a symbol that gs1_find found. */
+/* The most bytes of the line of a symbol that gs1_find or gs1_find_dots found. */
 #define GS1_FOUND 304
 
 /* The version of the library. */
@@ -53,6 +53,7 @@ size_t gs1_c_row_elements(const uint16_t *widths, size_t count, uint16_t year, u
 size_t gs1_c_find(const uint16_t *widths, size_t count, uint16_t year, uint8_t *out, size_t room);
 size_t gs1_c_dots(const uint8_t *bits, size_t bytes, uint32_t count, uint16_t year, uint8_t *out, size_t room);
 size_t gs1_c_dots_elements(const uint8_t *bits, size_t bytes, uint32_t count, uint16_t year, uint8_t *out, size_t room);
+size_t gs1_c_find_dots(const uint8_t *bits, size_t bytes, uint32_t count, uint16_t year, uint8_t *out, size_t room);
 size_t gs1_c_date(const uint8_t *text, size_t length, uint16_t year, uint8_t *out, size_t room);
 size_t gs1_c_scan(const uint8_t *text, size_t length, uint16_t year, uint8_t *out, size_t room);
 size_t gs1_c_gtin(const uint8_t *text, size_t length, uint8_t *out, size_t room);
@@ -103,6 +104,14 @@ static inline size_t gs1_dots(const uint8_t *bits, uint32_t count, uint16_t year
 static inline size_t gs1_dots_elements(const uint8_t *bits, uint32_t count, uint16_t year, uint8_t *out, size_t room) {
     return gs1_c_dots_elements(GS1_SOME(const uint8_t *, bits), (size_t)(((uint64_t)count + 7) / 8), count, year,
                                GS1_SOME(uint8_t *, out), room);
+}
+
+/* Every symbol of the row of `count` packed dots, which are given as gs1_dots takes them: the lines of gs1_find of the
+ * row's widths, of which it puts as many whole ones as there is room for; the number returned is that of all of them.
+ * More than 65,535 dots are `refused 17 TooWide`. */
+static inline size_t gs1_find_dots(const uint8_t *bits, uint32_t count, uint16_t year, uint8_t *out, size_t room) {
+    return gs1_c_find_dots(GS1_SOME(const uint8_t *, bits), (size_t)(((uint64_t)count + 7) / 8), count, year,
+                           GS1_SOME(uint8_t *, out), room);
 }
 
 /* The day and the time that an element names, given as its AI, `=` and its value, as gs1_row_elements has it:

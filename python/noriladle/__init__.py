@@ -27,7 +27,7 @@ if TYPE_CHECKING:
 
 __all__ = [
     "Answer", "Box", "Element", "Found", "Kind", "Refusal", "Symbol", "check_digit", "draw_label", "find",
-    "parse_elements", "read_dots", "read_elements", "read_gtin", "read_picture", "read_row", "read_scan",
+    "find_dots", "parse_elements", "read_dots", "read_elements", "read_gtin", "read_picture", "read_row", "read_scan",
 ]
 
 __version__ = "1.1.0"
@@ -41,6 +41,7 @@ _SIZE, _U16, _U32, _BYTES = ctypes.c_size_t, ctypes.c_uint16, ctypes.c_uint32, c
 _library.gs1_c_row_elements.argtypes = [ctypes.POINTER(_U16), _SIZE, _U16, _BYTES, _SIZE]
 _library.gs1_c_find.argtypes = [ctypes.POINTER(_U16), _SIZE, _U16, _BYTES, _SIZE]
 _library.gs1_c_dots_elements.argtypes = [_BYTES, _SIZE, _U32, _U16, _BYTES, _SIZE]
+_library.gs1_c_find_dots.argtypes = [_BYTES, _SIZE, _U32, _U16, _BYTES, _SIZE]
 _library.gs1_c_date.argtypes = [_BYTES, _SIZE, _U16, _BYTES, _SIZE]
 _library.gs1_c_scan.argtypes = [_BYTES, _SIZE, _U16, _BYTES, _SIZE]
 _library.gs1_c_gtin.argtypes = [_BYTES, _SIZE, _BYTES, _SIZE]
@@ -48,8 +49,8 @@ _library.gs1_c_digit.argtypes = [_BYTES, _SIZE, _BYTES, _SIZE]
 _library.gs1_c_text.argtypes = [_BYTES, _SIZE, _U16, _BYTES, _SIZE]
 _library.gs1_c_text_elements.argtypes = [_BYTES, _SIZE, _U16, _BYTES, _SIZE]
 _library.gs1_c_label.argtypes = [_U32, _BYTES, _SIZE, _U16, _U16, _U16, _U16, _BYTES, _SIZE]
-for _name in ("row_elements", "find", "dots_elements", "date", "scan", "gtin", "digit", "text", "text_elements",
-              "label"):
+for _name in ("row_elements", "find", "dots_elements", "find_dots", "date", "scan", "gtin", "digit", "text",
+              "text_elements", "label"):
     getattr(_library, f"gs1_c_{_name}").restype = _SIZE
 
 
@@ -237,6 +238,25 @@ def _ask_of_widths(call: Any, widths: Sequence[int], year: int) -> bytes:
     return answer
 
 
+def _ask_of_dots(call: Any, dots: Union[bytes, bytearray, memoryview], width: int, year: int) -> bytes:
+    """What a call answers to packed dots."""
+    if width < 0:
+        raise ValueError("the width is below 0")
+    packed = bytes(dots)
+    if width > 8 * len(packed):
+        # As one dot of no byte, since the number may have more than 32 bits.
+        packed, width = b"", 1
+    return _ask(call, packed, len(packed), min(width, _MOST + 1), _u16(year))
+
+
+def _widths(dots: Union[bytes, bytearray, memoryview], width: int) -> List[int]:
+    """The widths of the runs of packed dots, light first and last."""
+    row = "".join(f"{byte:08b}" for byte in bytes(dots))[:width]
+    # Between light ends of no dot, where the row has none.
+    light, *others = (len(run) for run in re.findall("^0*|1+|0+", row))
+    return [light, *others] if len(others) % 2 == 0 else [light, *others, 0]
+
+
 def read_row(widths: Sequence[int], year: int) -> Answer:
     """What a row of a scan says, given as the widths of its runs in dots.
 
@@ -295,13 +315,20 @@ def read_dots(dots: Union[bytes, bytearray, memoryview], width: int, year: int) 
         symbol that says elements; 42 ``Words`` of a year out of range.
     :raises ValueError: the width is below 0.
     """
-    if width < 0:
-        raise ValueError("the width is below 0")
-    packed = bytes(dots)
-    if width > 8 * len(packed):
-        # As one dot of no byte, since the number may have more than 32 bits.
-        packed, width = b"", 1
-    return _answer(_ask(_library.gs1_c_dots_elements, packed, len(packed), min(width, _MOST + 1), _u16(year)), year)
+    return _answer(_ask_of_dots(_library.gs1_c_dots_elements, dots, width, year), year)
+
+
+def find_dots(dots: Union[bytes, bytearray, memoryview], width: int, year: int) -> List[Found]:
+    """Every symbol of a row of ``width`` dots, given as :func:`read_dots` takes them: what :func:`find` finds in the
+    widths of the row's runs, light first and last.
+
+    :raises Refusal: 18 ``BadRuns`` of more dots than ``dots`` has, 17 ``TooWide`` of more than 65,535; 42 ``Words`` of
+        a year out of range.
+    :raises ValueError: the width is below 0.
+    """
+    places = _places(_line(_ask_of_dots(_library.gs1_c_find_dots, dots, width, year)))
+    widths = _widths(dots, width) if places else []
+    return [Found(first, count, read_row(widths[first:first + count], year)) for first, count in places]
 
 
 def read_scan(text: Union[str, bytes], year: int) -> Answer:

@@ -1,5 +1,6 @@
 """The module's answers to worked cases, and what it raises."""
 import datetime
+import random
 
 import pytest
 
@@ -104,9 +105,50 @@ def test_refuses_packed_dots(dots, width, year, wanted):
     assert refusal(noriladle.read_dots, dots, width, year) == wanted
 
 
-def test_refuses_a_number_of_dots_below_0():
+def packed(widths):
+    """The dots of a row, eight of them a byte; those behind the last are dark."""
+    bits = "".join("01"[i % 2] * width for i, width in enumerate(widths))
+    return int("0" + bits + "1" * (-len(bits) % 8), 2).to_bytes((len(bits) + 7) // 8, "big"), len(bits)
+
+
+def test_finds_each_symbol_of_packed_dots():
+    row = IMAGE[9 + 15:9 + 30]
+    assert noriladle.find_dots(row, 113, 2026) == [Found(0, 61, READ)]
+    assert noriladle.find_dots(bytearray(row), width=113, year=2149) == [Found(0, 61, READ)]
+    assert noriladle.find_dots(memoryview(IMAGE)[24:39], 113, 2026) == [Found(0, 61, READ)]
+    assert noriladle.find_dots(*packed(FRAMED), 2026) == [Found(2, 61, READ)]
+    assert noriladle.find_dots(*packed([0, 3] + FRAMED[2:]), 2026) == [Found(2, 61, READ)]
+    assert noriladle.find_dots(b"", 0, 2026) == []
+    assert noriladle.find_dots(b"\x80", 1, 2026) == []
+    assert noriladle.find_dots(b"\xff" * 8192, 65_535, 2026) == []
+
+
+@pytest.mark.parametrize("seed", range(20))
+def test_finds_in_packed_dots_what_it_finds_in_their_widths(seed):
+    # Symbols and noise, of so many runs that they are searched in several parts.
+    chance = random.Random(seed)
+    widths = [0, 40]
+    while len(widths) < 5000:
+        widths += EAN13 + [40] if chance.random() < 0.5 else [chance.randint(1, 8) for _ in range(2 * chance.randint(1, 400))]
+    widths += [chance.randint(0, 1)]
+    found = noriladle.find(widths, 2026)
+    assert found and noriladle.find_dots(*packed(widths), 2026) == found
+
+
+@pytest.mark.parametrize("dots, width, year, wanted", [
+    (b"", 1, 2026, (18, "BadRuns", None)),
+    (b"\0", 2 ** 32 + 8, 2026, (18, "BadRuns", None)),
+    (b"\xff" * 8192, 65_536, 2026, (17, "TooWide", None)),
+    (b"\0", 8, 2150, (42, "Words", None)),
+])
+def test_finds_nothing_in_dots_that_are_no_row(dots, width, year, wanted):
+    assert refusal(noriladle.find_dots, dots, width, year) == wanted
+
+
+@pytest.mark.parametrize("call", [noriladle.read_dots, noriladle.find_dots])
+def test_refuses_a_number_of_dots_below_0(call):
     with pytest.raises(ValueError) as raised:
-        noriladle.read_dots(b"", -1, 2026)
+        call(b"", -1, 2026)
     assert raised.type is ValueError
 
 

@@ -1,5 +1,5 @@
 """The module's answers to the lines of standard input, one a line: `rows` for the lines of `lanes`, `dots` for the same
-as packed dots, `finds` for the symbols of such lines, with an empty line behind those of a row, `check` for those of
+as packed dots, `finds` and `dotfinds` for the symbols of both, with an empty line behind those of a row, `check` for those of
 `check`, `dates` for the date of the one element of a year, a comma, its Application Identifier, `=` and its value. The year
 is else 2026."""
 import sys
@@ -14,12 +14,17 @@ CHECKS = {
 }
 
 
-def read_packed(widths):
-    """What the dots of these widths say, packed; the bits behind the last are dark."""
+def packed(widths):
+    """The dots of these widths, packed, and how many they are; the bits behind the last are dark."""
     bits = "".join("01"[i % 2] * width for i, width in enumerate(widths))
     count = len(bits)
     bits += "1" * (-count % 8)
-    return noriladle.read_dots(int("0" + bits, 2).to_bytes(len(bits) // 8, "big"), count, YEAR)
+    return int("0" + bits, 2).to_bytes(len(bits) // 8, "big"), count
+
+
+def lines_of(found):
+    """The lines of symbols, as the call in C tells them."""
+    return "".join(f"{it.first} {it.count} {it.answer}\n" for it in found)
 
 
 def dated(year, pair):
@@ -39,8 +44,10 @@ def answer(line):
             return CHECKS[first](second)
         widths = [int(width) for width in second.split()]
         if sys.argv[1] == "finds":
-            return "".join(f"{it.first} {it.count} {it.answer}\n" for it in noriladle.find(widths, YEAR))
-        return noriladle.read_row(widths, YEAR) if sys.argv[1] == "rows" else read_packed(widths)
+            return lines_of(noriladle.find(widths, YEAR))
+        if sys.argv[1] == "dotfinds":
+            return lines_of(noriladle.find_dots(*packed(widths), YEAR))
+        return noriladle.read_row(widths, YEAR) if sys.argv[1] == "rows" else noriladle.read_dots(*packed(widths), YEAR)
     except noriladle.Refusal as refusal:
         return refusal
 

@@ -1,7 +1,7 @@
 /* Calls the library from C. With no words: the worked cases, each into a buffer of every size from 0 to past
  * its answer. With a word: the answers to the lines of standard input, one a line, by the word: `rows` for the
- * lines of `lanes`, `dots` for the same as packed dots, `finds` for the symbols of such lines, with an empty line behind
- * those of a row, `check` for those of `check`, `dates` for a year, a comma and an element as a pair, `labels MODULE WIDTH HEIGHT`
+ * lines of `lanes`, `dots` for the same as packed dots, `finds` and `dotfinds` for the symbols of both, with an empty line
+ * behind those of a row, `check` for those of `check`, `dates` for a year, a comma and an element as a pair, `labels MODULE WIDTH HEIGHT`
  * for those of `print`, whose images are written with nothing between them. With `time COUNT`: the milliseconds of
  * so many calls on the rows of such lines, in turn: gs1_find of those that begin with `find`, and gs1_row of the
  * others. With `threads`: whether several threads that ask the rows of such lines at once get the answers of one. The
@@ -19,7 +19,7 @@ static long checks, wrong;
 
 /* A question: which call, and what it is asked. */
 struct asked {
-    enum { ROW, ROW_ELEMENTS, FIND, DOTS, DOTS_ELEMENTS, SCAN, DATE, GTIN, DIGIT, TEXT, TEXT_ELEMENTS, LABEL } call;
+    enum { ROW, ROW_ELEMENTS, FIND, DOTS, FIND_DOTS, DOTS_ELEMENTS, SCAN, DATE, GTIN, DIGIT, TEXT, TEXT_ELEMENTS, LABEL } call;
     const void *items;
     size_t count;
     unsigned year, kind, module_dots, width, height;
@@ -31,6 +31,7 @@ static size_t ask(const struct asked *q, uint8_t *out, size_t room) {
     case ROW_ELEMENTS: return gs1_row_elements(q->items, q->count, (uint16_t)q->year, out, room);
     case FIND: return gs1_find(q->items, q->count, (uint16_t)q->year, out, room);
     case DOTS: return gs1_dots(q->items, (uint32_t)q->count, (uint16_t)q->year, out, room);
+    case FIND_DOTS: return gs1_find_dots(q->items, (uint32_t)q->count, (uint16_t)q->year, out, room);
     case DOTS_ELEMENTS: return gs1_dots_elements(q->items, (uint32_t)q->count, (uint16_t)q->year, out, room);
     case SCAN: return gs1_scan(q->items, q->count, (uint16_t)q->year, out, room);
     case DATE: return gs1_date(q->items, q->count, (uint16_t)q->year, out, room);
@@ -204,6 +205,9 @@ static void cases(void) {
     line("no row's", (struct asked){.call = ROW_ELEMENTS, .items = EAN13, .count = 2, .year = YEAR}, "refused 18 BadRuns");
     uint8_t *bits;
     size_t dots_of_row = pack(EAN13, COUNT, &bits);
+    line("the symbol of dots", (struct asked){.call = FIND_DOTS, .items = bits, .count = dots_of_row, .year = YEAR}, "0 61 ]E0 (01)09501101530003\n");
+    line("that of no dots", (struct asked){.call = FIND_DOTS, .items = bits, .count = 0, .year = YEAR}, "");
+    line("that and the year 1950", (struct asked){.call = FIND_DOTS, .items = bits, .count = dots_of_row, .year = 1950}, "refused 42 Words");
     line("the elements of dots", (struct asked){.call = DOTS_ELEMENTS, .items = bits, .count = dots_of_row, .year = YEAR}, "]E0 01=09501101530003");
     line("those of no dots", (struct asked){.call = DOTS_ELEMENTS, .items = bits, .count = 0, .year = YEAR}, "refused 19 Blank");
     free(bits);
@@ -246,6 +250,42 @@ static void cases(void) {
         free(found);
         checks++;
     }
+
+    /* The same as packed dots, and 300 of them: the row has 18,001 runs. */
+    uint8_t *dots_of_two;
+    size_t many_dots = pack(two, 2 * COUNT - 1, &dots_of_two);
+    for (size_t room = 0; room <= all + 2; room++) {
+        uint8_t *found = room ? malloc(room) : NULL;
+        if (room) memset(found, '.', room);
+        size_t put = room < first ? 0 : room < all ? first : all;
+        int bad = gs1_find_dots(dots_of_two, (uint32_t)many_dots, YEAR, found, room) != all || (put && memcmp(found, lines, put));
+        for (size_t i = put; i < room; i++) bad |= found[i] != '.';
+        if (bad) wrong++, puts("wrong: two symbols of dots");
+        free(found);
+        checks++;
+    }
+    free(dots_of_two);
+    uint16_t *wide = malloc((300 * (COUNT - 1) + 1) * sizeof *wide);
+    for (size_t i = 0; i < 300; i++) memcpy(wide + i * (COUNT - 1), EAN13, sizeof EAN13);
+    many_dots = pack(wide, 300 * (COUNT - 1) + 1, &dots_of_two);
+    char *told = malloc(300 * GS1_FOUND), *end = told;
+    for (int i = 0; i < 300; i++) end += sprintf(end, "%d 61 ]E0 (01)09501101530003\n", 60 * i);
+    uint8_t *found = malloc(300 * GS1_FOUND);
+    size_t length = gs1_find_dots(dots_of_two, (uint32_t)many_dots, YEAR, found, 300 * GS1_FOUND);
+    if (length != (size_t)(end - told) || memcmp(found, told, length)) wrong++, puts("wrong: 300 symbols of dots");
+    checks++;
+    free(found), free(told), free(dots_of_two), free(wide);
+
+    /* Dots that are none. */
+    uint8_t none = 0, refusal[GS1_LINE];
+    if (gs1_c_find_dots(&none, 1, 9, YEAR, refusal, sizeof refusal) != 18 || memcmp(refusal, "refused 18 BadRuns", 18))
+        wrong++, puts("wrong: the symbols of nine dots of one byte");
+    uint8_t *too_many = calloc(8192, 1);
+    if (gs1_find_dots(too_many, 65536, YEAR, refusal, sizeof refusal) != 18 || memcmp(refusal, "refused 17 TooWide", 18))
+        wrong++, puts("wrong: the symbols of 65,536 dots");
+    if (gs1_find_dots(too_many, 65535, YEAR, refusal, sizeof refusal) != 0) wrong++, puts("wrong: the symbols of light dots");
+    checks += 3;
+    free(too_many);
 
     char many[194];
     memset(many, '1', 193);
@@ -298,16 +338,22 @@ static void answer_row(char *words) { answer_widths(words, ROW); }
 
 static void answer_finds(char *words) { answer_widths(words, FIND); }
 
-static void answer_dots(char *words) {
+static void answer_packed(char *words, int call) {
     uint16_t *widths = malloc(MOST_RUNS * sizeof *widths);
     size_t count = 0;
     for (char *word = strtok(strchr(words, ',') + 1, " "); word; word = strtok(NULL, " ")) widths[count++] = (uint16_t)atoi(word);
     uint8_t *bits;
     size_t many = pack(widths, count, &bits);
-    print(&(struct asked){.call = DOTS, .items = bits, .count = many, .year = YEAR}, "\n");
+    struct asked q = {.items = bits, .count = many, .year = YEAR};
+    q.call = call;
+    print(&q, "\n");
     free(bits);
     free(widths);
 }
+
+static void answer_dots(char *words) { answer_packed(words, DOTS); }
+
+static void answer_dotfinds(char *words) { answer_packed(words, FIND_DOTS); }
 
 static void answer_check(char *words) {
     char *text = strchr(words, ',');
@@ -418,6 +464,7 @@ int main(int count, char **words) {
         if (!strcmp(words[1], "rows")) answer_row(input);
         else if (!strcmp(words[1], "finds")) answer_finds(input);
         else if (!strcmp(words[1], "dots")) answer_dots(input);
+        else if (!strcmp(words[1], "dotfinds")) answer_dotfinds(input);
         else if (!strcmp(words[1], "check")) answer_check(input);
         else if (!strcmp(words[1], "dates")) answer_date(input);
         else answer_label(input, words + 2);

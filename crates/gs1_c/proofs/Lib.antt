@@ -1,3 +1,4 @@
 mod DateFacts
 mod FoundFacts
 mod PutFacts
+mod ToldFacts

@@ -4,12 +4,13 @@ use Rattle.std.specs.Fmt.{decimal}
 use Rattle.digits_core.specs.Buffers.{IsPut, pasted}
 use Rattle.scan_core.specs.Faults.{run_fault_text}
 use Rattle.scan_core.specs.Lines.{answer_text}
-use Rattle.scan_core.specs.Row.{runs_fault}
+use Rattle.scan_core.specs.Bits.{dots_at}
+use Rattle.scan_core.specs.Row.{IsRow, dots_of, runs_fault}
 use Rattle.scan_core.specs.Windows.{AreSymbolsOf}
 use Rattle.scan_core.specs.declared.answer.Answer.TheVariants.{Read}
 use Rattle.scan_core.specs.declared.fault.RunFault.{RunFault}
 use Rattle.scan_core.specs.declared.window.Window.{Window}
-use Rattle.gs1_c.specs.Lines.{IsYear, words_text}
+use Rattle.gs1_c.specs.Lines.{IsYear, packed_fault, words_text}
 
 -- the line of a symbol: its window's first run, how many runs it has, and what they say
 abbrev pub symbol_line : Window → List ℕ
@@ -34,3 +35,17 @@ AreDatedSymbolsPut year widths (Some fault) old new count = IsPut (run_fault_tex
 abbrev pub AreSymbolsPut : ℕ → List ℕ → List ℕ → List ℕ → ℕ → Type 0
 AreSymbolsPut year widths old new count =
     ((IsYear year → ⊥) × IsPut words_text old new count) ⊎ (IsYear year × AreDatedSymbolsPut year widths (runs_fault widths) old new count)
+
+-- ---- packed dots
+
+-- the lines of the symbols of the row whose dots these are, by their fault, under a reference year; or why they are no row
+abbrev pub ArePackedSymbolsPut : ℕ → List ℕ → ℕ → Option RunFault → List ℕ → List ℕ → ℕ → Type 0
+ArePackedSymbolsPut year bits dots None old new count =
+    (runs : List ℕ) × IsRow runs × (dots_of runs ≡ dots_at bits 0 dots) × AreDatedSymbolsPut year runs None old new count
+ArePackedSymbolsPut year bits dots (Some fault) old new count = IsPut (run_fault_text fault) old new count
+
+-- the same of any year
+abbrev pub AreDotSymbolsPut : ℕ → List ℕ → ℕ → List ℕ → List ℕ → ℕ → Type 0
+AreDotSymbolsPut year bits dots old new count =
+    ((IsYear year → ⊥) × IsPut words_text old new count)
+    ⊎ (IsYear year × ArePackedSymbolsPut year bits dots (packed_fault (length bits) dots) old new count)

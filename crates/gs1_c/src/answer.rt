@@ -1,5 +1,5 @@
 //! The lines of answers.
-ghost use Rattle.std.specs.Prelude.{◌≡◌, None, Some, IfErr, IfOk, length};
+ghost use Rattle.std.specs.Prelude.{◌≡◌, ◌≤◌, ◌*◌, None, Some, IfErr, IfOk, length};
 ghost use Rattle.digits_core.specs.Buffers.{IsPut};
 ghost use Rattle.scan_core.specs.Lines.{said};
 ghost use Rattle.gs1_c.specs.Lines.{IsPackedAnswer, packed_fault};
@@ -35,9 +35,9 @@ pub fn put_read(read: &Result<Answer, RunFault>, form: Form, out: &mut [u8]) -> 
     }
 }
 
-/// What a row of packed dots says, or why they are no row.
-pub fn read_packed(bits: &[u8], count: u32, year: Year) -> Result<Answer, RunFault>
-    ensures ok { IfOk result (λ a. (packed_fault (length bits.now) count ≡ None) × IsPackedAnswer year bits.now count a) }
+/// How many dots a row has of so many packed dots, or why they are no row.
+pub fn dots_in(bits: &[u8], count: u32) -> Result<u16, RunFault>
+    ensures ok { IfOk result (λ dots. (packed_fault (length bits.now) count ≡ None) × (dots ≡ count) × (count ≤ 8 * length bits.now)) }
     ensures err { IfErr result (λ fault. packed_fault (length bits.now) count ≡ Some fault) }
 {
     if (bits.len() as u64) < u64::from(count.div_ceil(8)) {
@@ -46,5 +46,14 @@ pub fn read_packed(bits: &[u8], count: u32, year: Year) -> Result<Answer, RunFau
     if count > MOST_DOTS {
         return Err(RunFault::TooWide);
     }
-    Ok(read_dots(bits, count as u16, year))
+    Ok(count as u16)
+}
+
+/// What a row of packed dots says, or why they are no row.
+pub fn read_packed(bits: &[u8], count: u32, year: Year) -> Result<Answer, RunFault>
+    ensures ok { IfOk result (λ a. (packed_fault (length bits.now) count ≡ None) × IsPackedAnswer year bits.now count a) }
+    ensures err { IfErr result (λ fault. packed_fault (length bits.now) count ≡ Some fault) }
+{
+    let dots = dots_in(bits, count)?;
+    Ok(read_dots(bits, dots, year))
 }

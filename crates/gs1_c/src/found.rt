@@ -2,17 +2,19 @@
 ghost use Rattle.std.specs.Prelude.{None, ◌≡◌, ◌+◌, ◌++◌, ◌<◌, ◌≤◌, ◌^◌, ◌∷◌, [], List, length, map};
 ghost use Rattle.std.specs.Fmt.{decimal};
 ghost use Rattle.digits_core.specs.Buffers.{pasted};
-ghost use Rattle.gs1_c.specs.Found.{ArePut, AreDatedSymbolsPut, symbol_line};
+ghost use Rattle.gs1_c.specs.Found.{ArePackedSymbolsPut, ArePut, AreDatedSymbolsPut, symbol_line};
+ghost use Rattle.gs1_c.specs.Lines.{packed_fault};
 ghost use Rattle.scan_core.specs.Row.{runs_fault};
 ghost use Rattle.scan_core.specs.Windows.{AreTold};
 ghost use Rattle.scan_core.specs.declared.window.Window.{Window};
 
+use crate::answer::dots_in;
 use crate::buffer::put_refusal;
 use arrayvec::ArrayVec;
 use digits_core::put_at;
 use element_core::Year;
 use itoa::Buffer;
-use scan_core::{Symbols, Window, row_or_fault, symbols_are_told};
+use scan_core::{DotSymbols, Symbols, Window, row_or_fault, symbols_are_told};
 
 /// More bytes than a line has: two numbers, an identifier and the elements, with what stands between.
 const MOST: usize = 400;
@@ -142,6 +144,31 @@ pub fn put_symbols(widths: &[u16], year: Year, out: &mut [u8]) -> usize
     row_or_fault();
     match Symbols::of_widths(widths, year) {
         Ok(search) => put_told(search, out),
+        Err(fault) => put_refusal(fault.refusal(), out),
+    }
+}
+
+/// Puts the lines of what a search of packed dots tells, as many as there is room for, and says how many bytes
+/// all of them have.
+fn put_told_of_dots(search: DotSymbols<'_>, out: &mut [u8]) -> usize
+    requires { length search.runs ≤ 65537 }
+    ensures { (ws : List Window) × AreTold search.entry ws × ArePut (map symbol_line ws) out.old out.new result }
+{
+    let mut search = search;
+    let mut count = 0;
+    'symbols: while let Some(window) = search.next_symbol() {
+        count = put_symbol(&window, count, out);
+    }
+    count
+}
+
+/// The same of the symbols of the row of so many packed dots, or why they are no row.
+pub fn put_dot_symbols(bits: &[u8], count: u32, year: Year, out: &mut [u8]) -> usize
+    ensures { ArePackedSymbolsPut year bits.now count (packed_fault (length bits.now) count) out.old out.new result }
+{
+    symbols_are_told();
+    match dots_in(bits, count) {
+        Ok(dots) => put_told_of_dots(DotSymbols::of_dots(bits, dots, year), out),
         Err(fault) => put_refusal(fault.refusal(), out),
     }
 }

@@ -10,7 +10,7 @@ ghost use Rattle.std.specs.Prelude.{List, ℕ, codes};
 ghost use Rattle.digits_core.specs.Buffers.{IsPut};
 ghost use Rattle.element_core.specs.Lines.{IsDigitLine, gtin_line};
 ghost use Rattle.gs1_c.specs.Dates.{IsDateLine};
-ghost use Rattle.gs1_c.specs.Found.{AreSymbolsPut};
+ghost use Rattle.gs1_c.specs.Found.{AreDotSymbolsPut, AreSymbolsPut};
 ghost use Rattle.gs1_c.specs.Labels.{IsLabelBytes, one_cell};
 ghost use Rattle.gs1_c.specs.Lines.{IsDotsLine, IsRowLine, IsTextLine};
 ghost use Rattle.gs1_c.specs.Scanned.{IsScanLine};
@@ -28,7 +28,7 @@ use answer::{put_read, read_packed};
 use buffer::{put, put_line, put_refusal};
 use dates::put_date;
 use element_core::{Form, Year, digit_line, elements_line, gtin_line};
-use found::put_symbols;
+use found::{put_dot_symbols, put_symbols};
 use label::{kind_numbered, put_kind};
 use scan_core::read_widths;
 use scanned::put_scanned;
@@ -175,6 +175,20 @@ pub extern "C" fn gs1_c_dots_elements(bits: &[u8], count: u32, year: u16, out: &
         return put(WORDS, out);
     };
     put_read(&read_packed(bits, count, year), Form::Pairs, out)
+}
+
+/// Every symbol of a row of `count` packed dots, given as `gs1_c_dots` takes them: the lines of `gs1_c_find` of the
+/// row's widths. More dots than `bits` has are `refused 18 BadRuns`, and more than 65,535 `refused 17 TooWide`.
+///
+/// The count is that of all lines, of which those stand in `out` that it has room for, as with `gs1_c_find`.
+#[unsafe(no_mangle)]
+pub extern "C" fn gs1_c_find_dots(bits: &[u8], count: u32, year: u16, out: &mut [u8]) -> usize
+    ensures { AreDotSymbolsPut year bits.now count out.old out.new result }
+{
+    let Some(year) = Year::new(year) else {
+        return put(WORDS, out);
+    };
+    put_dot_symbols(bits, count, year, out)
 }
 
 /// The image of a label as PBM (netpbm, pbm(5)), of `width` by `height` dots, with modules of

@@ -1,8 +1,9 @@
 //! What each call puts, against values from outside.
 
 use crate::{
-    gs1_c_date, gs1_c_digit, gs1_c_dots, gs1_c_dots_elements, gs1_c_find, gs1_c_gtin, gs1_c_label,
-    gs1_c_row, gs1_c_row_elements, gs1_c_scan, gs1_c_text, gs1_c_text_elements,
+    gs1_c_date, gs1_c_digit, gs1_c_dots, gs1_c_dots_elements, gs1_c_find, gs1_c_find_dots,
+    gs1_c_gtin, gs1_c_label, gs1_c_row, gs1_c_row_elements, gs1_c_scan, gs1_c_text,
+    gs1_c_text_elements,
 };
 use std::process::Abort;
 
@@ -34,6 +35,7 @@ enum Asked<'a> {
     Row(&'a [u16], u16),
     RowElements(&'a [u16], u16),
     Find(&'a [u16], u16),
+    FindDots(&'a [u8], u32, u16),
     Dots(&'a [u8], u32, u16),
     DotsElements(&'a [u8], u32, u16),
     Scan(&'a [u8], u16),
@@ -51,6 +53,7 @@ fn answer(asked: Asked, out: &mut [u8]) -> usize {
         Asked::Row(widths, year) => gs1_c_row(widths, year, out),
         Asked::RowElements(widths, year) => gs1_c_row_elements(widths, year, out),
         Asked::Find(widths, year) => gs1_c_find(widths, year, out),
+        Asked::FindDots(bits, count, year) => gs1_c_find_dots(bits, count, year, out),
         Asked::Dots(bits, count, year) => gs1_c_dots(bits, count, year, out),
         Asked::DotsElements(bits, count, year) => gs1_c_dots_elements(bits, count, year, out),
         Asked::Scan(text, year) => gs1_c_scan(text, year, out),
@@ -96,6 +99,17 @@ fn each_call_puts_its_line(rt: HostRuntime) {
         (Asked::Find(&[113], 2026), b""),
         (Asked::Find(&[1, 0, 1], 2026), b"refused 18 BadRuns"),
         (Asked::Find(WIDTHS, 2150), b"refused 42 Words"),
+        (
+            Asked::FindDots(DOTS, 113, 2026),
+            b"0 61 ]E0 (01)09501101530003\n",
+        ),
+        (Asked::FindDots(DOTS, 0, 2026), b""),
+        (Asked::FindDots(DOTS, 121, 2026), b"refused 18 BadRuns"),
+        (
+            Asked::FindDots(&[0; 8192], 65_536, 2026),
+            b"refused 17 TooWide",
+        ),
+        (Asked::FindDots(DOTS, 113, 2150), b"refused 42 Words"),
         (Asked::Dots(DOTS, 113, 2026), b"]E0 (01)09501101530003"),
         (Asked::Dots(DOTS, 121, 2026), b"refused 18 BadRuns"),
         (Asked::Dots(&[0; 8192], 65_536, 2026), b"refused 17 TooWide"),

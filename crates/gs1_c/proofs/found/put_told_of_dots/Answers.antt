@@ -1,0 +1,25 @@
+use Rattle.gs1_c.proofs.ToldFacts.{left_less, told_all, told_more, told_none, told_room}
+use Rattle.gs1_c.proofs.found.put_told_of_dots.Goals as goal
+
+pub symbols-init : goal.symbols-init
+symbols-init c = told_none c.args.search c.args.out.now
+
+pub put_symbol-count-requires : goal.put_symbol-count-requires
+put_symbol-count-requires c = told_room c.args.search c.symbols.search c.symbols.count c.args.out.now c.symbols.out c.requires c.symbols.invariant
+
+pub symbols-preserved : goal.symbols-preserved
+symbols-preserved c =
+    let e = c.in-Some.ensures in
+    let p = c.put_symbol-count.ensures in
+    told_more c.args.search c.symbols.search c.next_symbol.new.self c.in-Some.window c.symbols.count c.put_symbol-count.result c.args.out.now c.symbols.out
+    c.put_symbol-count.new.out c.symbols.invariant e.next e.after
+    (record { ends = p.end; few = p.few; put = p.put; unchanged = p.unchanged; long = c.put_symbol-count.auto.out })
+
+pub symbols-smaller : goal.symbols-smaller
+symbols-smaller c =
+    let e = c.in-Some.ensures in
+    left_less c.symbols.search c.next_symbol.new.self c.in-Some.window e.next e.after
+
+pub returns : goal.returns
+returns c =
+    told_all c.args.search c.symbols.search c.symbols.count c.args.out.now c.symbols.out c.symbols.invariant c.in_default.ensures.over
