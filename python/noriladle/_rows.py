@@ -8,7 +8,6 @@ from typing import NamedTuple, Tuple
 
 import numpy
 from numpy.typing import NDArray
-from PIL import Image
 
 from ._found import Mask, Places
 
@@ -45,9 +44,10 @@ class Rows(NamedTuple):
 
 
 class Runs(NamedTuple):
-    """The runs of rows, one row behind another, and for each its row; the first and the last of a row are light."""
+    """The runs of rows, one row behind another, of which the first and the last of a row are light; and how many there
+    are up to the end of each row."""
 
-    rows: Indices
+    behind: Indices
     ends: Ends
     widths: Ends
 
@@ -60,9 +60,12 @@ class Pixels:
         self._turned = {0: grey}
 
     @cached_property
-    def image(self) -> Image.Image:
-        """The picture with floating-point numbers, so that values between its dots are not rounded."""
-        return Image.fromarray(self._turned[0].astype(numpy.float32))
+    def squares(self) -> NDArray[numpy.uint8]:
+        """The four dots around each corner of the picture's dots, with one more dot all around, like its neighbour: row
+        by row, one more than the picture is wide."""
+        wide = numpy.pad(self._turned[0], 1, mode="edge")
+        squares: NDArray[numpy.uint8] = numpy.stack((wide[:-1, :-1], wide[:-1, 1:], wide[1:, :-1], wide[1:, 1:]), axis=-1)
+        return squares.reshape(-1, 4)
 
     def turned(self, quarters: int) -> NDArray[numpy.uint8]:
         """The picture turned to the left by so many quarters, -1 to 1."""
@@ -73,6 +76,9 @@ class Pixels:
 
 class Grid:
     """The rows across the stripes of a direction, in a frame of its angle: through all of its blocks, and beyond."""
+
+    at_once = 32_768
+    """About how many dots are taken at a time, so that they stay in the processor's own memory."""
 
     def __init__(self, angle: float, centres: Places, side: int, rows: int) -> None:
         self.frame = cmath.rect(1, angle)
@@ -102,16 +108,35 @@ class Grid:
 
     def _aslant(self, picture: Pixels, vs: Ends, lefts: Ends, lengths: Indices, lines: int) -> Values:
         """The mean grey values of so many lines of each row, of which the first are told: of the four dots around."""
-        # The corners are those of the first dots' boxes, so half a dot before the first dots' places.
-        corners = (lefts - 0.5 + (vs - 0.5) * 1j) * self.frame
-        along, down = lengths * self.frame, lines * 1j * self.frame
-        quads = numpy.stack((corners, corners + down, corners + down + along, corners + along), axis=1).view(float)
-        boxes = [(0, row * lines, length, (row + 1) * lines) for row, length in enumerate(lengths.tolist())]
-        size = (max(length for _, _, length, _ in boxes), len(boxes) * lines)
-        mesh = list(zip(boxes, quads.tolist()))
-        dots = numpy.asarray(picture.image.transform(size, Image.Transform.MESH, mesh, Image.Resampling.BILINEAR))
-        means: Values = dots.reshape(len(boxes), lines, -1).sum(axis=1) / lines
-        return means[numpy.arange(size[0]) < lengths[:, None]]
+        rights = lefts + lengths
+        some = max(1, self.at_once // (lines * int(lengths.max())))
+        means = []
+        for row in range(0, len(vs), some):
+            left, right = lefts[row:row + some, None], rights[row:row + some, None]
+            us = numpy.arange(left.min(), right.max())
+            dots = self._between_dots(picture, us, (vs[row:row + some, None] + numpy.arange(lines)).ravel())
+            mean = dots.reshape(len(left), lines, -1).sum(axis=1) / lines
+            means.append(mean[(left <= us) & (us < right)])
+        return numpy.concatenate(means)
+
+    def _between_dots(self, picture: Pixels, us: Ends, vs: Ends) -> Values:
+        """The grey values at each u of each v; what is asked for beside the picture is anything."""
+        # The first square is that around the upper left corner of the picture.
+        x = us * self.frame.real + (0.5 - vs * self.frame.imag)[:, None]
+        y = us * self.frame.imag + (0.5 + vs * self.frame.real)[:, None]
+        left, square = numpy.floor(x), numpy.floor(y)
+        x -= left
+        y -= square
+        square *= picture.size[0] + 1
+        square += left
+        around = picture.squares.take(square.astype(int), axis=0, mode="clip")
+        above, right, below, last = (around[..., dot].astype(float) for dot in range(4))
+        for dots, behind, part in ((above, right, x), (below, last, x), (right, last, y)):
+            behind -= dots
+            behind *= part
+            behind += dots
+        values: Values = last.astype(numpy.float32)
+        return values
 
     def _upright(self, picture: Pixels, vs: Ends, lefts: Ends, lengths: Indices, lines: int) -> Values:
         """The same along the rows or the columns of the picture: of the two dots around."""
@@ -186,8 +211,10 @@ def runs_of(rows: Rows, bounds: Bounds) -> Runs:
     changes[starts] = dark[starts]
     at = numpy.flatnonzero(changes)
     counts = numpy.diff(numpy.searchsorted(at, numpy.append(starts, len(values))))
-    begins = starts.repeat(counts)
-    ends = at - begins + _from_dots(values[numpy.maximum(at - 1, begins)].astype(float), values[at], levels[at])
+    ends = at - starts.repeat(counts) + _from_dots(values[at - 1].astype(float), values[at], levels[at])
+    # A dark first dot has no dot before it.
+    first = (counts.cumsum() - counts)[dark[starts]]
+    ends[first] = 0
     return _apart(ends, counts, rows.lengths, dark[starts + rows.lengths - 1])
 
 
@@ -202,25 +229,33 @@ def _from_dots(before: Ends, values: Values, levels: Ends) -> Ends:
     """How far behind dots of these values edges are, by the values of the dots before them: -1 to 0."""
     change = values - before
     sharp = (levels == -math.inf) | (change == 0)
-    share = (levels - before) / numpy.where(sharp, 1, change)
-    return numpy.where(sharp, -0.5, numpy.minimum(numpy.maximum(share, 0), 1) - 1)
+    share = levels - before
+    share /= numpy.where(sharp, 1, change)
+    numpy.minimum(numpy.maximum(share, 0, out=share), 1, out=share)
+    share -= 1
+    share[sharp] = -0.5
+    return share
 
 
 def _apart(ends: Ends, counts: Indices, lengths: Indices, dark: Mask) -> Runs:
     """The runs of rows that have so many edges and so many dots, of which the last one is dark or not."""
+    behind = counts.cumsum()
+    is_first = numpy.zeros(len(ends) + 1, bool)
+    is_first[behind - counts] = True
     # Each end is at least so far behind the one before it.
-    least = LEAST_RUN * in_turn(numpy.zeros_like(counts), counts)
-    ends = numpy.maximum(ends, 0) - least
-    for row in numpy.split(ends, counts.cumsum()[:-1]):
-        numpy.maximum.accumulate(row, out=row)
+    close = numpy.flatnonzero((ends[1:] < ends[:-1] + LEAST_RUN) & ~is_first[1:-1]) + 1
+    while len(close):
+        ends[close] = ends[close - 1] + LEAST_RUN
+        close = close[~is_first[close + 1] & (close + 1 < len(ends))] + 1
+        close = close[ends[close] < ends[close - 1] + LEAST_RUN]
     # A row ends with its last dot, and behind a dark one with a light run more.
     more = 1 + dark
     last = lengths.repeat(more) + LEAST_RUN * in_turn(numpy.zeros_like(more), more)
-    ends = numpy.insert(ends + least, counts.cumsum().repeat(more), last)
-    counts = counts + more
-    widths, begins = numpy.diff(ends, prepend=0.0), counts.cumsum() - counts
-    widths[begins] = ends[begins]
-    return Runs(each_of(counts), ends, widths)
+    ends, behind = numpy.insert(ends, behind.repeat(more), last), behind + more.cumsum()
+    widths = ends.copy()
+    widths[1:] -= ends[:-1]
+    widths[behind[:-1]] = ends[behind[:-1]]
+    return Runs(behind, ends, widths)
 
 
 def sharpened(rows: Rows, bounds: Bounds, blur: float) -> Rows:
@@ -229,20 +264,21 @@ def sharpened(rows: Rows, bounds: Bounds, blur: float) -> Rows:
     half = numpy.exp(-(numpy.arange(math.ceil(2.5 * blur) + 1) / blur) ** 2 / 2)
     bell = (half / (2 * half.sum() - half[0])).astype(numpy.float32)
     # Beyond its ends a row is as its first and its last dot.
-    reach, starts, lengths = len(half) - 1, rows.starts, rows.lengths
-    wide = lengths + 2 * reach
-    dots = numpy.clip(in_turn(starts - reach, wide), starts.repeat(wide), (starts + lengths - 1).repeat(wide))
-    low, high = (each.repeat(bounds.dots) for each in (bounds.low, bounds.high))
-    values, low, high = (each[dots] for each in (rows.values, low, high))
-    first = wide.cumsum() - wide + reach
-    last, beside = first + lengths - 1, numpy.arange(1, reach + 1)
-    clear = values
-    for _ in range(ROUNDS):
-        clear = clear + (values - _blurred(clear, bell))
-        numpy.minimum(numpy.maximum(clear, low, out=clear), high, out=clear)
-        clear[first[:, None] - beside] = clear[first, None]
-        clear[last[:, None] + beside] = clear[last, None]
-    return rows._replace(values=clear[in_turn(first, lengths)])
+    reach, behind = len(half) - 1, (rows.lengths + 2 * (len(half) - 1)).cumsum()
+    last = behind - reach - 1
+    first, beside = last - rows.lengths + 1, numpy.arange(1, reach + 1)
+    before, behind = first[:, None] - beside, last[:, None] + beside
+    inner = numpy.ones(last[-1] + reach + 1, bool)
+    inner[before] = inner[behind] = False
+    values, low, high = numpy.zeros((3, len(inner)), numpy.float32)
+    values[inner], low[inner], high[inner] = rows.values, bounds.low.repeat(bounds.dots), bounds.high.repeat(bounds.dots)
+    clear = values.copy()
+    for rounds in range(ROUNDS + 1):
+        if rounds:
+            clear += values - _blurred(clear, bell)
+            numpy.minimum(numpy.maximum(clear, low, out=clear), high, out=clear)
+        clear[before], clear[behind] = clear[first, None], clear[last, None]
+    return rows._replace(values=clear[inner])
 
 
 def _blurred(values: Values, bell: Values) -> Values:
@@ -250,7 +286,9 @@ def _blurred(values: Values, bell: Values) -> Values:
     none that count."""
     blurred: Values = bell[0] * values
     for away, part in enumerate(bell[1:], 1):
-        blurred[away:-away] += part * (values[:-2 * away] + values[2 * away:])
+        both = values[:-2 * away] + values[2 * away:]
+        both *= part
+        blurred[away:-away] += both
     return blurred
 
 

@@ -70,6 +70,14 @@ _ENDS = numpy.array([len(shape.runs) for shape in _ALL])
 _RUNS = numpy.concatenate([shape.runs for shape in _ALL])
 _MODULES = numpy.concatenate([shape.modules for shape in _ALL])
 """How many ends of characters each shape has, and those of all shapes, one behind another."""
+_RUNS_OF = numpy.array(list(SHAPES))
+_SHAPES_OF = numpy.array([len(shapes) for shapes in SHAPES.values()])
+_FIRST_OF = _SHAPES_OF.cumsum() - _SHAPES_OF
+_MODULES_OF = numpy.array([shapes[0].width for shapes in SHAPES.values()])
+"""The numbers of runs that symbols have, the fewest first; how many shapes have each, the first of these among all, and its
+modules."""
+_STEPS = [0, 4, 16, 48, len(_RUNS_OF)]
+"""Up to which of the numbers of runs windows are looked for at once: most light runs are not wide enough for many."""
 _DEGREES = numpy.array([3 if len(shape.runs) > 8 else 2 for shape in _ALL])
 """The degree of each shape's scale."""
 _SPREADS = numpy.arange(-SPREADS, SPREADS + 1) * MOST_SPREAD / SPREADS
@@ -127,54 +135,63 @@ def read_windows(runs: Runs, read: Callable[[Widths], Optional[Answer]]) -> Iter
     for first, count, widths in _straightened(runs, windows, scales):
         answer = read(widths) if first >= begin else None
         if answer is not None:
-            yield Read(int(runs.rows[first]), answer, float(runs.ends[first]), float(runs.ends[first + count]))
+            row = numpy.searchsorted(runs.behind, first, side="right")
+            yield Read(int(row), answer, float(runs.ends[first]), float(runs.ends[first + count]))
             begin = first + count + 1
 
 
 def _windows(runs: Runs) -> _Windows:
     """The windows that are wide enough and have light enough at their ends, from the left; those of one place by their
     shapes."""
-    found = [(first, shape) for count, first in _between(runs) for shape in numpy.flatnonzero(_COUNTS == count)]
-    firsts = numpy.concatenate([[], *(first for first, _ in found)]).astype(int)
-    shapes = numpy.repeat([shape for _, shape in found], [len(first) for first, _ in found]).astype(int)
-    order = numpy.lexsort((shapes, firsts))
-    return _Windows(firsts[order], _COUNTS[shapes[order]], shapes[order])
+    first, number = _between(runs)
+    shapes = _SHAPES_OF[number]
+    return _Windows(first.repeat(shapes), _RUNS_OF[number].repeat(shapes), in_turn(_FIRST_OF[number], shapes))
 
 
-def _between(runs: Runs) -> Iterator[Tuple[int, Indices]]:
-    """Each number of runs of a symbol, and the light runs behind which there may be so many before another light one.
+def _between(runs: Runs) -> Tuple[Indices, Indices]:
+    """The light runs behind which there may be as many as a symbol has before another light one, and as how many that
+    is, by its place among all numbers of runs that symbols have.
 
     Both are wide enough for quiet zones: wider than every run between, of which none has more than four modules. So
     even stripes have no window.
     """
     first, left, widest = _quiet(runs)
-    quiet, start = runs.widths[first], runs.ends[first]
     # So many runs more has one symbol than another, at most.
-    more = int(numpy.diff(list(SHAPES)).max())
+    more = int(numpy.diff(_RUNS_OF).max())
     last = _widest(runs.widths, more)
-    for count in SHAPES:
-        if not len(first):
-            return
-        widest = numpy.maximum(widest, last.take(first + (count - more + 1), mode="clip"))
-        inner = runs.ends.take(first + count, mode="clip") - start
-        may_be = (widest < quiet) & (count + 1 < left) & (inner * QUIET <= quiet * count * WIDEST_MEAN)
-        first, left, quiet, start, widest, inner = (each[may_be] for each in (first, left, quiet, start, widest, inner))
-        least = numpy.maximum(widest, inner * QUIET * ASLANT / SHAPES[count][0].width)
-        wide = numpy.minimum(quiet, runs.widths[first + count + 1]) >= least
-        if wide.any():
-            yield count, first[wide]
+    found = []
+    for begin, end in zip(_STEPS, _STEPS[1:]):
+        # Some numbers of runs at once: a row for each light run, a column for each number.
+        counts = _RUNS_OF[begin:end]
+        ends, quiet = first[:, None] + counts, runs.widths[first, None]
+        inner = (runs.ends.take(ends, mode="clip") - runs.ends[first, None]) * QUIET
+        widths = last.take(ends - (more - 1), mode="clip")
+        widths[:, 0] = numpy.maximum(widths[:, 0], widest)
+        numpy.maximum.accumulate(widths, axis=1, out=widths)
+        may_be = (widths < quiet) & (counts + 1 < left[:, None]) & (inner <= quiet * counts * WIDEST_MEAN)
+        # Behind one that is too wide there is none.
+        numpy.logical_and.accumulate(may_be, axis=1, out=may_be)
+        least = numpy.maximum(widths, inner * ASLANT / _MODULES_OF[begin:end])
+        wide = numpy.minimum(quiet, runs.widths.take(ends + 1, mode="clip")) >= least
+        at, number = (may_be & wide).nonzero()
+        found.append((first[at], begin + number))
+        goes_on = may_be[:, -1]
+        first, left, widest = first[goes_on], left[goes_on], widths[goes_on, -1]
+    first, number = (numpy.concatenate(each) for each in zip(*found))
+    order = first.argsort(kind="stable")
+    return first[order], number[order]
 
 
 def _quiet(runs: Runs) -> Tuple[Indices, Indices, Ends]:
     """The light runs that are wider than each of the runs behind them, as many as the least symbol has; how many runs
     the row of each has from it on; and the widest of those behind it."""
-    counts, least = numpy.bincount(runs.rows), min(SHAPES)
-    number = in_turn(numpy.zeros_like(counts), counts)
-    left = counts.repeat(counts) - number
-    first = numpy.flatnonzero((number & 1 == 0) & (left > least + 1))
-    widest = _widest(runs.widths, least)[first + 1]
-    wide = runs.widths[first] > widest
-    return first[wide], left[first[wide]], widest[wide]
+    least = int(_RUNS_OF[0])
+    widest = _widest(runs.widths, least)[1:]
+    first = numpy.flatnonzero(runs.widths[:len(widest)] > widest)
+    left = runs.behind[numpy.searchsorted(runs.behind, first, side="right")] - first
+    # A row has an odd number of runs, and from a light one on there are as odd many.
+    quiet = (left & 1 == 1) & (left > least + 1)
+    return first[quiet], left[quiet], widest[first[quiet]]
 
 
 def _widest(widths: Ends, count: int) -> Ends:
