@@ -43,11 +43,11 @@ def look_again(library: Library, grey: Grey, shown: List[Placed]) -> List[Placed
     blocks = striped_blocks(grey, symbols)
     picture = Pixels(grey)
     for angle, mine in blocks.directions():
-        left = blocks.rest(mine, symbols)
+        left, grid = blocks.rest(mine, symbols), None
         for look in LOOKS:
             if numpy.count_nonzero(left) < FEWEST_BLOCKS:
                 break
-            grid = Grid(angle, blocks.centres[left], blocks.side, look.rows)
+            grid = Grid(angle, blocks.centres[left], blocks.side, look.rows).or_same(grid)
             for symbol in _along(library, grid, picture, look):
                 symbols = joined(symbols, symbol)
             left = blocks.rest(left, symbols)

@@ -3,8 +3,8 @@ from __future__ import annotations
 
 import cmath
 import math
-from functools import cached_property
-from typing import NamedTuple, Tuple
+from functools import cached_property, reduce
+from typing import Dict, List, NamedTuple, Optional, Tuple
 
 import numpy
 from numpy.typing import NDArray
@@ -74,11 +74,36 @@ class Pixels:
         return self._turned[quarters]
 
 
+class _Part(NamedTuple):
+    """Some of the rows of a grid, the places of the dots along them, and the grey values there of the lines that are
+    taken, by how far they are from the middles of their rows."""
+
+    rows: slice
+    us: Ends
+    lines: Dict[float, Values]
+
+
+class _Lines:
+    """The lines of rows that are taken already, of so many rows at a time."""
+
+    def __init__(self, vs: Ends, lefts: Ends, rights: Ends, some: int) -> None:
+        self._rows = vs, lefts, rights
+        slices = [slice(row, row + some) for row in range(0, len(vs), some)]
+        self.parts = [_Part(rows, numpy.arange(lefts[rows].min(), rights[rows].max()), {}) for rows in slices]
+
+    def hold(self, vs: Ends, lefts: Ends, rights: Ends) -> bool:
+        """Whether these are the same rows, and no longer ones."""
+        mine, first, last = self._rows
+        return numpy.array_equal(mine, vs) and bool((first <= lefts).all() and (rights <= last).all())
+
+
 class Grid:
     """The rows across the stripes of a direction, in a frame of its angle: through all of its blocks, and beyond."""
 
     at_once = 32_768
     """About how many dots are taken at a time, so that they stay in the processor's own memory."""
+    _taken: Optional[_Lines] = None
+    """The lines of rows that are taken already: a look has all lines of one before it where both have the same rows."""
 
     def __init__(self, angle: float, centres: Places, side: int, rows: int) -> None:
         self.frame = cmath.rect(1, angle)
@@ -92,6 +117,13 @@ class Grid:
         self.step = max(1.0, height / rows)
         self.count = max(1, int(height / self.step))
 
+    def or_same(self, other: Optional[Grid]) -> Grid:
+        """The other grid, where it has the same rows: it has taken some of their lines."""
+        if other is None:
+            return self
+        mine, others = ((grid.frame, grid.left, grid.right, grid.top, grid.step, grid.count) for grid in (self, other))
+        return other if mine == others else self
+
     def rows(self, picture: Pixels, lines: int) -> Rows:
         """The rows, each the mean of so many lines a dot apart, as far as all of these lie in the picture."""
         middles = self.top + (numpy.arange(self.count) + 0.5) * self.step
@@ -103,39 +135,36 @@ class Grid:
         vs, lefts, lengths = middles[enough], first[enough], (last - first)[enough].astype(int)
         if not enough.any():
             return Rows(vs, lefts, lengths, numpy.zeros(0, numpy.float32))
-        take = self._upright if abs(self.frame - 1j ** self.quarters) < 1e-9 else self._aslant
-        return Rows(vs, lefts, lengths, take(picture, vs + offsets[0], lefts, lengths, lines))
+        if abs(self.frame - 1j ** self.quarters) < 1e-9:
+            return Rows(vs, lefts, lengths, self._upright(picture, vs + offsets[0], lefts, lengths, lines))
+        return Rows(vs, lefts, lengths, self._aslant(picture, vs, lefts, lengths, offsets.tolist()))
 
-    def _aslant(self, picture: Pixels, vs: Ends, lefts: Ends, lengths: Indices, lines: int) -> Values:
-        """The mean grey values of so many lines of each row, of which the first are told: of the four dots around."""
+    def _aslant(self, picture: Pixels, vs: Ends, lefts: Ends, lengths: Indices, offsets: List[float]) -> Values:
+        """The mean grey values of the lines of each row that are so far from its middle: of the four dots around."""
         rights = lefts + lengths
-        some = max(1, self.at_once // (lines * int(lengths.max())))
+        if not (self._taken and self._taken.hold(vs, lefts, rights)):
+            self._taken = _Lines(vs, lefts, rights, max(1, self.at_once // (len(offsets) * int(lengths.max()))))
         means = []
-        for row in range(0, len(vs), some):
-            left, right = lefts[row:row + some, None], rights[row:row + some, None]
-            us = numpy.arange(left.min(), right.max())
-            dots = self._between_dots(picture, us, (vs[row:row + some, None] + numpy.arange(lines)).ravel())
-            mean = dots.reshape(len(left), lines, -1).sum(axis=1) / lines
-            means.append(mean[(left <= us) & (us < right)])
+        for rows, us, lines in self._taken.parts:
+            new = [offset for offset in offsets if offset not in lines]
+            dots = self._between_dots(picture, us, numpy.add.outer(new, vs[rows]).ravel())
+            lines.update(zip(new, dots.reshape(len(new), len(vs[rows]), len(us))))
+            mean = reduce(numpy.add, (lines[offset] for offset in offsets)) / len(offsets)
+            means.append(mean[(lefts[rows, None] <= us) & (us < rights[rows, None])])
         return numpy.concatenate(means)
 
     def _between_dots(self, picture: Pixels, us: Ends, vs: Ends) -> Values:
         """The grey values at each u of each v; what is asked for beside the picture is anything."""
         # The first square is that around the upper left corner of the picture.
-        x = us * self.frame.real + (0.5 - vs * self.frame.imag)[:, None]
         y = us * self.frame.imag + (0.5 + vs * self.frame.real)[:, None]
-        left, square = numpy.floor(x), numpy.floor(y)
-        x -= left
-        y -= square
+        square = _parted(y)
         square *= picture.size[0] + 1
-        square += left
+        x = us * self.frame.real + (0.5 - vs * self.frame.imag)[:, None]
+        square += _parted(x)
         around = picture.squares.take(square.astype(int), axis=0, mode="clip")
-        above, right, below, last = (around[..., dot].astype(float) for dot in range(4))
-        for dots, behind, part in ((above, right, x), (below, last, x), (right, last, y)):
-            behind -= dots
-            behind *= part
-            behind += dots
-        values: Values = last.astype(numpy.float32)
+        above = _between(around[..., 0].astype(float), around[..., 1].astype(float), x)
+        below = _between(around[..., 2].astype(float), around[..., 3].astype(float), x)
+        values: Values = _between(above, below, y).astype(numpy.float32)
         return values
 
     def _upright(self, picture: Pixels, vs: Ends, lefts: Ends, lengths: Indices, lines: int) -> Values:
@@ -172,6 +201,21 @@ class Grid:
         # Where the rows are those of the picture, its dots are taken as they are.
         first = numpy.ceil(first - 0.5) + 0.5
         return first, first + numpy.maximum(0, numpy.floor(last - first) + 1)
+
+
+def _parted(places: Ends) -> Ends:
+    """The whole numbers in places, of which the parts alone stay there."""
+    whole: Ends = numpy.floor(places)
+    places -= whole
+    return whole
+
+
+def _between(ones: Ends, others: Ends, parts: Ends) -> Ends:
+    """The values at such parts of the way from one to another, in the memory of the others."""
+    others -= ones
+    others *= parts
+    others += ones
+    return others
 
 
 class Bounds(NamedTuple):

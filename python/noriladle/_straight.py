@@ -64,8 +64,7 @@ def _shapes() -> Dict[int, List[Shape]]:
 
 SHAPES = _shapes()
 _ALL = [shape for shapes in SHAPES.values() for shape in shapes]
-_COUNTS = numpy.array([count for count, shapes in SHAPES.items() for _ in shapes])
-"""All shapes in one list, and the number of runs of each."""
+"""All shapes in one list."""
 _ENDS = numpy.array([len(shape.runs) for shape in _ALL])
 _RUNS = numpy.concatenate([shape.runs for shape in _ALL])
 _MODULES = numpy.concatenate([shape.modules for shape in _ALL])
