@@ -11,6 +11,8 @@ numpy = pytest.importorskip("numpy")
 Image = pytest.importorskip("PIL.Image")
 ImageFilter = pytest.importorskip("PIL.ImageFilter")
 
+from noriladle import _rows, _straight  # noqa: E402
+
 # The runs of 9501101530003 as an EAN-13, and what they say.
 BARS = [int(width) for width in """1 1 1 1 2 3 1 1 1 2 3 1 2 2 2 2 2 2 1 1 1 2 3 2 2 2 1 1 1 1 1 1 1 2 3 1 1 4
 1 1 3 2 1 1 3 2 1 1 3 2 1 1 1 4 1 1 1 1 1""".split()]
@@ -129,6 +131,83 @@ def test_finds_nothing_in_stripes(height, width):
     stripes = numpy.repeat(numpy.random.RandomState(7).randint(0, 2, (1, width)) * 200, height, axis=0).astype(numpy.uint8)
     for picture in (stripes, stripes.T, numpy.tile([0, 0, 200, 200], (height, width // 4)).astype(numpy.uint8)):
         assert noriladle.read_picture(picture, 2026) == []
+
+
+def test_takes_the_dots_that_pillow_takes_between_dots():
+    grey = numpy.random.RandomState(7).randint(0, 256, (90, 130)).astype(numpy.uint8)
+    image = Image.fromarray(grey.astype(numpy.float32))
+    for degrees in (-44, -10, 3, 20, 45, 72, 88, 110, 134):
+        blocks = numpy.array([30 + 30j, 100 + 60j])
+        for lines in (1, 3, 4):
+            grid = _rows.Grid(math.radians(degrees), blocks, 8, 12)
+            rows = grid.rows(_rows.Pixels(grey), lines)
+            for v, left, length, start in zip(rows.vs, rows.lefts, rows.lengths, rows.starts):
+                # The upper left corner of the box of the first line's first dot, and the one of so many lines of a row.
+                first = complex(left - 0.5, v - lines / 2) * grid.frame
+                along, down = grid.frame, 1j * grid.frame
+                turn = (along.real, down.real, first.real, along.imag, down.imag, first.imag)
+                dots = image.transform((int(length), lines), Image.Transform.AFFINE, turn, Image.Resampling.BILINEAR)
+                wanted = numpy.asarray(dots).mean(axis=0)
+                assert abs(rows.values[start:start + length] - wanted).max() < 1e-3
+
+
+def test_takes_no_line_twice_and_the_same_values():
+    grey = numpy.random.RandomState(7).randint(0, 256, (200, 300)).astype(numpy.uint8)
+    blocks, picture = numpy.array([50 + 50j, 250 + 60j, 150 + 150j]), _rows.Pixels(grey)
+    first = _rows.Grid(0.5, blocks, 10, 60)
+    first.rows(picture, 3)
+    second = _rows.Grid(0.5, blocks, 10, 60)
+    assert second.or_same(first) is first and second.or_same(None) is second
+    for other in (_rows.Grid(0.5, blocks, 10, 40), _rows.Grid(0.6, blocks, 10, 60), _rows.Grid(0.5, blocks[:2], 10, 60)):
+        assert other.or_same(first) is other
+    asked = []
+    first._between_dots = lambda picture, us, vs: asked.append(len(vs)) or second._between_dots(picture, us, vs)
+    for kept, fresh in zip(first.rows(picture, 5), second.rows(picture, 5)):
+        assert numpy.array_equal(kept, fresh)
+    assert sum(asked) == 2 * len(second.rows(picture, 5).vs)
+
+
+def windows_of(widths):
+    """The windows of a row by a plain search: the first run, how many there are up to the last, and the shape."""
+    ends = numpy.cumsum(widths)
+    for first in range(0, len(widths), 2):
+        shape = 0
+        for count, shapes in _straight.SHAPES.items():
+            last, shape = first + count + 1, shape + len(shapes)
+            if last >= len(widths):
+                break
+            widest, inner = max(widths[first + 1:last]), ends[last - 1] - ends[first]
+            if widest >= widths[first] or inner * 5 > widths[first] * count * 3:
+                break
+            if min(widths[first], widths[last]) >= max(widest, inner * 5 * 0.6 / shapes[0].width):
+                yield from ((first, count, number) for number in range(shape - len(shapes), shape))
+
+
+def test_looks_at_every_window():
+    chance, seen = numpy.random.RandomState(7), 0
+    for _ in range(200):
+        rows = []
+        for _ in range(chance.randint(1, 5)):
+            widths = chance.randint(1, 5, 1 + 2 * chance.randint(0, chance.choice([3, 320, 640]))).astype(float)
+            wide = chance.rand(len(widths)) < chance.choice([0.005, 0.01, 0.03])
+            widths[wide] = chance.choice([4.0, 6.0, 9.0, 40.0], wide.sum())
+            rows.append(widths / chance.choice([1, 4]))
+        behind = numpy.cumsum([len(widths) for widths in rows])
+        runs = _rows.Runs(behind, numpy.concatenate([widths.cumsum() for widths in rows]), numpy.concatenate(rows))
+        begins = behind - [len(widths) for widths in rows]
+        wanted = [(begin + first, count, shape) for begin, widths in zip(begins, rows) for first, count, shape in windows_of(widths)]
+        assert [tuple(window) for window in zip(*_straight._windows(runs))] == wanted
+        seen += len(wanted)
+    assert seen > 1000
+
+
+def test_keeps_edges_apart():
+    # Two rows, the second dark first and last; some edges are at one place, and one before.
+    ends = numpy.array([2.0, 2.0, 2.0, 2.01, 5.0, 0.0, 0.0, 7.0])
+    runs = _rows._apart(ends, numpy.array([5, 3]), numpy.array([9, 8]), numpy.array([True, True]))
+    assert runs.behind.tolist() == [7, 12]
+    assert runs.ends.tolist() == pytest.approx([2, 2.05, 2.1, 2.15, 5, 9, 9.05, 0, 0.05, 7, 8, 8.05])
+    assert runs.widths.tolist() == pytest.approx([2, 0.05, 0.05, 0.05, 2.85, 4, 0.05, 0, 0.05, 6.95, 1, 0.05])
 
 
 def test_finds_no_number_that_is_wrong():
