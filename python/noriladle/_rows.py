@@ -144,13 +144,14 @@ class Grid:
         rights = lefts + lengths
         if not (self._taken and self._taken.hold(vs, lefts, rights)):
             self._taken = _Lines(vs, lefts, rights, max(1, self.at_once // (len(offsets) * int(lengths.max()))))
-        means = []
+        means: List[Values] = []
         for rows, us, lines in self._taken.parts:
             new = [offset for offset in offsets if offset not in lines]
             dots = self._between_dots(picture, us, numpy.add.outer(new, vs[rows]).ravel())
             lines.update(zip(new, dots.reshape(len(new), len(vs[rows]), len(us))))
             mean = reduce(numpy.add, (lines[offset] for offset in offsets)) / len(offsets)
-            means.append(mean[(lefts[rows, None] <= us) & (us < rights[rows, None])])
+            first, ends = us[0], zip(lefts[rows].tolist(), rights[rows].tolist())
+            means += [row[int(left - first):int(right - first)] for row, (left, right) in zip(mean, ends)]
         return numpy.concatenate(means)
 
     def _between_dots(self, picture: Pixels, us: Ends, vs: Ends) -> Values:
@@ -220,11 +221,11 @@ def _between(ones: Ends, others: Ends, parts: Ends) -> Ends:
 
 class Bounds(NamedTuple):
     """The blocks of rows: the darkest and the lightest value about each, in the five blocks of its row around it; and
-    how many dots it has."""
+    the block of each dot."""
 
     low: Values
     high: Values
-    dots: Indices
+    block: Indices
 
 
 def bounds_of(rows: Rows) -> Bounds:
@@ -239,7 +240,9 @@ def bounds_of(rows: Rows) -> Bounds:
     most[places] = numpy.maximum.reduceat(rows.values, starts)
     low = numpy.minimum.reduce([least[places + away] for away in range(-2, 3)])
     high = numpy.maximum.reduce([most[places + away] for away in range(-2, 3)])
-    return Bounds(low, high, numpy.diff(starts, append=len(rows.values)))
+    block = numpy.zeros(len(rows.values), int)
+    block[starts[1:]] = 1
+    return Bounds(low, high, block.cumsum(out=block))
 
 
 def runs_of(rows: Rows, bounds: Bounds) -> Runs:
@@ -249,7 +252,7 @@ def runs_of(rows: Rows, bounds: Bounds) -> Runs:
     row is at 0.
     """
     starts, values = rows.starts, rows.values
-    levels = _levels(bounds).repeat(bounds.dots)
+    levels = _levels(bounds).take(bounds.block)
     dark = values < levels
     changes = numpy.append(False, dark[1:] != dark[:-1])
     changes[starts] = dark[starts]
@@ -315,7 +318,7 @@ def sharpened(rows: Rows, bounds: Bounds, blur: float) -> Rows:
     inner = numpy.ones(last[-1] + reach + 1, bool)
     inner[before] = inner[behind] = False
     values, low, high = numpy.zeros((3, len(inner)), numpy.float32)
-    values[inner], low[inner], high[inner] = rows.values, bounds.low.repeat(bounds.dots), bounds.high.repeat(bounds.dots)
+    values[inner], low[inner], high[inner] = rows.values, bounds.low.take(bounds.block), bounds.high.take(bounds.block)
     clear = values.copy()
     for rounds in range(ROUNDS + 1):
         if rounds:
