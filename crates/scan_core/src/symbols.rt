@@ -87,25 +87,24 @@ fn may_end(end: u16, dark: u16, light: u16) -> bool
     15 * u32::from(light) <= 4 * u32::from(end) && 15 * u32::from(dark) <= 7 * u32::from(end)
 }
 
-/// Whether the window of so many runs from this one on may be a symbol, where one of the runs between its
-/// ends is `widest` dots.
-fn may_be_symbol(widths: &[u16], first: usize, count: usize, widest: u16) -> bool
+/// Whether the window of so many runs from this one on may be a symbol, by its right end and how many they are.
+fn may_be_symbol(widths: &[u16], first: usize, count: usize) -> bool
     requires row { IsRow widths.now }
     requires many { 3 ≤ count }
     requires within { first + count ≤ length widths.now }
-    requires run { HasRun widths.now first count widest }
     ensures { result ≡ false → (year : ℕ) (v : Window) → IsSymbolOf widths.now year v → v.first ≡ first → v.count ≡ count → ⊥ }
 {
     let last = first + count - 1;
-    widest < widths[last]
-        && may_end(widths[last], widths[last - 1], widths[last - 2])
-        && is_symbol_count(count - 2)
+    may_end(widths[last], widths[last - 1], widths[last - 2]) && is_symbol_count(count - 2)
 }
 
 /// How many runs the first of the windows has that begin with this run, have so many runs at least and may
 /// be a symbol, shorter ones first.
 ///
-/// A window grows until one of its runs is no narrower than its light end: no longer one is read.
+/// A window grows until one of its runs is no narrower than its light end: no longer one is read. It may be a
+/// symbol where its other end is wider than all its runs before. Few runs are looked at as light ends, so this is
+/// kept out of their loop.
+#[inline(never)]
 fn count_from(widths: &[u16], first: usize, least: usize) -> Option<usize>
     requires row { IsRow widths.now }
     requires light { first % 2 ≡ 0 }
@@ -117,7 +116,7 @@ fn count_from(widths: &[u16], first: usize, least: usize) -> Option<usize>
     ensures none { IfNone result ((year : ℕ) (v : Window) → IsSymbolOf widths.now year v → v.first ≡ first → least ≤ v.count → ⊥) }
 {
     let left = widths[first];
-    if !may_end(left, widths[first + 1], widths[first + 2]) || widths.len() - first < least {
+    if widths.len() - first < least {
         return None;
     }
     let pairs = ((widths.len() - first) / 2).min(MOST_PAIRS);
@@ -129,10 +128,12 @@ fn count_from(widths: &[u16], first: usize, least: usize) -> Option<usize>
         if left <= widest {
             return None;
         }
-        if least <= 2 * k + 3 && may_be_symbol(widths, first, 2 * k + 3, widest) {
-            return Some(2 * k + 3);
+        if widest < widths[last] {
+            if least <= 2 * k + 3 && may_be_symbol(widths, first, 2 * k + 3) {
+                return Some(2 * k + 3);
+            }
+            widest = widths[last];
         }
-        widest = widths[last].max(widest);
     }
     None
 }
@@ -144,14 +145,17 @@ fn next_place(widths: &[u16], first: usize, least: usize) -> Option<Place>
     ensures next { IfSome result (λ p. (year : ℕ) → IsNextPlace (record { runs = widths.now; year = year; first = first; least = least }) p) }
     ensures over { IfNone result ((year : ℕ) → IsOver (record { runs = widths.now; year = year; first = first; least = least })) }
 {
+    let last = widths.len().checked_sub(LEAST_RUNS)?;
     let mut start = first;
     let mut shortest = least;
-    'runs: while start < widths.len() && LEAST_RUNS <= widths.len() - start {
-        if let Some(count) = count_from(widths, start, shortest) {
-            return Some(Place {
-                first: start,
-                count,
-            });
+    'runs: while start <= last {
+        if may_end(widths[start], widths[start + 1], widths[start + 2]) {
+            if let Some(count) = count_from(widths, start, shortest) {
+                return Some(Place {
+                    first: start,
+                    count,
+                });
+            }
         }
         start += 2;
         shortest = 0;

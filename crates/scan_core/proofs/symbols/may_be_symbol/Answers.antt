@@ -1,7 +1,6 @@
 use Rattle.std.proofs.Common.{◌≡◌, ℕ, ◌-◌, ◌+◌, ap, arith, get_or}
-use Rattle.scan_core.proofs.WindowFacts.{window_ends, window_narrow}
+use Rattle.scan_core.proofs.WindowFacts.{window_ends}
 use Rattle.scan_core.proofs.symbols.may_be_symbol.Goals as goal
-use Rattle.scan_core.proofs.symbols.may_be_symbol.Goals.{then-widest-widths, else-widest-widths}
 
 pub returns-else-may_end : goal.returns-else-may_end
 returns-else-may_end c = λ none year v s first count.
@@ -11,22 +10,12 @@ returns-else-may_end c = λ none year v s first count.
     let right = at 1 in
     let next = at 2 in
     let third = at 3 in
-    elim c.if-widest-widths.branch [
-      | then-widest-widths w ↦
-          let ends = (window_ends runs year c.requires.row v s).1 in
-          let dark = ends.narrow_dark in
-          let light = ends.narrow_light in
-          let second : c.args.first + c.args.count - 1 - 1 ≡ c.args.first + c.args.count - 2 = omega arith in
-          let last : c.args.first + c.args.count - 1 - 2 ≡ c.args.first + c.args.count - 3 = omega arith in
-          let a = ap (λ i. get_or runs i 0) second in
-          let b = ap (λ i. get_or runs i 0) last in
-          let yes = w.may_end.ensures.1 (record { narrow_dark = omega arith; narrow_light = omega arith }) in
-          let same = w.value-is in cc
-      | else-widest-widths w ↦
-          let run = c.requires.run in
-          let after = run.1 in
-          let before = run.2 in
-          let narrow = (window_narrow runs year c.requires.row v s run.0 (omega arith) (omega arith)).1 in
-          let width = run.3 in
-          omega (arith, w.if-widest-widths)
-    ]
+    let ends = (window_ends runs year c.requires.row v s).1 in
+    let dark = ends.narrow_dark in
+    let light = ends.narrow_light in
+    let second : c.args.first + c.args.count - 1 - 1 ≡ c.args.first + c.args.count - 2 = omega arith in
+    let last : c.args.first + c.args.count - 1 - 2 ≡ c.args.first + c.args.count - 3 = omega arith in
+    let a = ap (λ i. get_or runs i 0) second in
+    let b = ap (λ i. get_or runs i 0) last in
+    let yes = c.may_end.ensures.1 (record { narrow_dark = omega arith; narrow_light = omega arith }) in
+    let no = c.if-may_end.false in cc
