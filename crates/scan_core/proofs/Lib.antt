@@ -16,6 +16,7 @@ pub mod ReplacedFacts
 pub mod RoundingFacts
 pub mod RowFacts
 pub mod RunsOfDots
+pub mod SearchFacts
 pub mod ShownFacts
 pub mod StageFacts
 pub mod SymbolFacts

@@ -163,19 +163,23 @@ fn next_place(widths: &[u16], first: usize, least: usize) -> Option<Place>
     None
 }
 
-/// The first of the windows that begin after this run, or at it with so many runs at least, that is read.
-pub(crate) fn next_window(widths: &[u16], first: usize, least: usize, year: Year) -> Option<Window>
+/// The first that is read of this window and those that come after it.
+///
+/// It is called where there is a window that may be a symbol, so that a search which finds none does not pay for
+/// the room of an answer.
+#[inline(never)]
+fn first_read(widths: &[u16], place: Place, year: Year) -> Option<Window>
     requires row { IsRow widths.now }
-    requires light { first % 2 ≡ 0 }
-    ensures next { IfSome result (λ w. IsNext (record { runs = widths.now; year = year; first = first; least = least }) w) }
-    ensures over { IfNone result (IsOver (record { runs = widths.now; year = year; first = first; least = least })) }
+    requires begins_light { place.first % 2 ≡ 0 }
+    requires ends_light { place.count % 2 ≡ 1 }
+    requires within { place.first + place.count ≤ length widths.now }
+    ensures next { IfSome result (λ w. IsNext (record { runs = widths.now; year = year; first = place.first; least = place.count }) w) }
+    ensures over { IfNone result (IsOver (record { runs = widths.now; year = year; first = place.first; least = place.count })) }
 {
     one_answer();
-    let mut after = first;
-    let mut more = least;
-    'places: while let Some(Place { first, count }) = next_place(widths, after, more) {
-        after = first;
-        more = count + 1;
+    let mut here = place;
+    'places: loop {
+        let Place { first, count } = here;
         if let Answer::Read { carrier, elements } = answer_in(&widths[first..first + count], year) {
             return Some(Window {
                 first,
@@ -184,8 +188,24 @@ pub(crate) fn next_window(widths: &[u16], first: usize, least: usize, year: Year
                 elements,
             });
         }
+        let Some(next) = next_place(widths, first, count + 1) else {
+            return None;
+        };
+        here = next;
     }
-    None
+}
+
+/// The first of the windows that begin after this run, or at it with so many runs at least, that is read.
+pub(crate) fn next_window(widths: &[u16], first: usize, least: usize, year: Year) -> Option<Window>
+    requires row { IsRow widths.now }
+    requires light { first % 2 ≡ 0 }
+    ensures next { IfSome result (λ w. IsNext (record { runs = widths.now; year = year; first = first; least = least }) w) }
+    ensures over { IfNone result (IsOver (record { runs = widths.now; year = year; first = first; least = least })) }
+{
+    let Some(place) = next_place(widths, first, least) else {
+        return None;
+    };
+    first_read(widths, place, year)
 }
 
 impl<'a> Symbols<'a> {

@@ -1,12 +1,11 @@
-use Rattle.std.proofs.Common.{◌≡◌, ◌⊎◌, ◌+◌, ◌<◌, ◌≤◌, ℕ, IfNone, Option, Some, None, arith, inl, inr, refl, subst, sym}
+use Rattle.std.proofs.Common.{◌+◌, arith, inl, inr, refl, subst, sym}
 use Rattle.std.proofs.lemmas.Bool.{cases_lt}
 use Rattle.std.proofs.lemmas.Option.{IfSome_then}
 use Rattle.scan_core.specs.Bits.{dots_at}
 use Rattle.scan_core.specs.Row.{IsRow}
-use Rattle.scan_core.specs.Windows.{IsLeft, IsNext, IsSymbolOf, Search}
-use Rattle.scan_core.specs.declared.window.Window.{Window}
 use Rattle.scan_core.specs.inner.FirstRuns.{runs_of}
 use Rattle.scan_core.proofs.PartFacts.{items_row, next_in_row, none_early, over_in_row}
+use Rattle.scan_core.proofs.SearchFacts.{earlier, none_then}
 use Rattle.scan_core.proofs.dot_symbols.next_in_parts.Goals as goal
 
 pub next_early-requires-clause-row : goal.next_early-requires-clause-row
@@ -15,28 +14,6 @@ next_early-requires-clause-row c = items_row c.args.bits.now c.args.width c.args
 pub next_window-requires-clause-row : goal.next_window-requires-clause-row
 next_window-requires-clause-row c =
     subst IsRow (sym c.as_slice.ensures.value) (items_row c.args.bits.now c.args.width c.args.year c.requires.few c.parts.part c.parts.invariant.part)
-
--- the next symbol of what is left now is that of what was left
-earlier : (s : Search) (first least : ℕ) (w : Window) → (s.first < first) ⊎ ((s.first ≡ first) × (s.least ≤ least))
-    → ((v : Window) → IsSymbolOf s.runs s.year v → IsLeft s v → IsLeft (record { runs = s.runs; year = s.year; first = first; least = least }) v)
-    → IsNext (record { runs = s.runs; year = s.year; first = first; least = least }) w → IsNext s w
-earlier s first least w behind passed next = record {
-  symbol = next.symbol;
-  left = elim behind [
-    | inl less ↦ elim next.left [
-      | inl more ↦ inl (omega arith)
-      | inr same ↦ let here = same.0 in inl (omega arith)
-    ]
-    | inr at ↦
-        let start = at.0 in
-        let fewer = at.1 in
-        elim next.left [
-          | inl more ↦ inl (omega arith)
-          | inr same ↦ let here = same.0 in let many = same.1 in inr (omega arith, omega arith)
-        ]
-  ];
-  none_before = λ v s' left before. next.none_before v s' (passed v s' left) before;
-}
 
 pub returns-in-Some-clause-next : goal.returns-in-Some-clause-next
 returns-in-Some-clause-next c =
@@ -77,10 +54,6 @@ returns-clause-next c = IfSome_then c.next_window.result c.next_window.ensures.n
     (c.parts.part.before + c.parts.first) c.parts.least _ i.behind i.passed
     (next_in_row c.args.bits.now c.args.width c.args.year c.requires.few c.parts.part i.part c.parts.first c.parts.least w
     (rw c.as_slice.ensures.value at next) (λ more. cc)))
-
-none_then : {X : Type 0} (r : Option X) {P Q : Type 0} → IfNone r P → (P → Q) → IfNone r Q
-none_then None p f = f p
-none_then (Some x) p f = tt
 
 pub returns-clause-over : goal.returns-clause-over
 returns-clause-over c = none_then c.next_window.result c.next_window.ensures.over (λ over v s left.
