@@ -311,20 +311,19 @@ def sharpened(rows: Rows, bounds: Bounds, blur: float) -> Rows:
     half = numpy.exp(-(numpy.arange(math.ceil(2.5 * blur) + 1) / blur) ** 2 / 2)
     bell = (half / (2 * half.sum() - half[0])).astype(numpy.float32)
     # Beyond its ends a row is as its first and its last dot.
-    reach, behind = len(half) - 1, (rows.lengths + 2 * (len(half) - 1)).cumsum()
-    last = behind - reach - 1
-    first, beside = last - rows.lengths + 1, numpy.arange(1, reach + 1)
+    reach, beside = len(half) - 1, numpy.arange(1, len(half))
+    last = (rows.lengths + 2 * reach).cumsum() - reach - 1
+    first = last - rows.lengths + 1
     before, behind = first[:, None] - beside, last[:, None] + beside
     inner = numpy.ones(last[-1] + reach + 1, bool)
     inner[before] = inner[behind] = False
     values, low, high = numpy.zeros((3, len(inner)), numpy.float32)
     values[inner], low[inner], high[inner] = rows.values, bounds.low.take(bounds.block), bounds.high.take(bounds.block)
     clear = values.copy()
-    for rounds in range(ROUNDS + 1):
-        if rounds:
-            clear += values - _blurred(clear, bell)
-            numpy.minimum(numpy.maximum(clear, low, out=clear), high, out=clear)
+    for _ in range(ROUNDS):
         clear[before], clear[behind] = clear[first, None], clear[last, None]
+        clear += values - _blurred(clear, bell)
+        numpy.minimum(numpy.maximum(clear, low, out=clear), high, out=clear)
     return rows._replace(values=clear[inner])
 
 

@@ -84,12 +84,16 @@ def _changes(grey: NDArray[numpy.uint8], side: int) -> List[NDArray[numpy.float6
     sums = numpy.zeros((6, len(tops), len(lefts)))
     dots = numpy.ones((len(tops), len(lefts)))
     for row, top in enumerate(tops):
-        band = grey[max(top - 1, 0):top + side + 1].astype(numpy.int32)
+        band = grey[max(top - 1, 0):top + side + 1].astype(numpy.int16)
         if width < 3 or len(band) < 3:
             continue
         dx, dy = band[1:-1, 2:] - band[1:-1, :-2], band[2:, 1:-1] - band[:-2, 1:-1]
-        for which, change in enumerate((dx * dx, dy * dy, dx * dy, dx, dy, abs(dx) + abs(dy))):
-            sums[which, row] = numpy.add.reduceat(numpy.add.reduce(change, axis=0, dtype=numpy.int32), starts)
+        # The sums of the 32 dots of a column, of squares as of changes, are exact in these numbers.
+        one, other = dx.astype(numpy.float32), dy.astype(numpy.float32)
+        squares = (numpy.einsum("ij,ij->j", *pair) for pair in ((one, one), (other, other), (one, other)))
+        changes = (numpy.add.reduce(change, axis=0, dtype=numpy.int16) for change in (dx, dy, abs(dx) + abs(dy)))
+        for which, columns in enumerate((*squares, *changes)):
+            sums[which, row] = numpy.add.reduceat(columns, starts, dtype=numpy.int64)
         dots[row] = len(dx) * numpy.diff(starts, append=width - 2)
     sums[:3] /= dots
     return list(sums)
