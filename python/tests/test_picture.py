@@ -154,17 +154,42 @@ def test_takes_the_dots_that_pillow_takes_between_dots():
 def test_takes_no_line_twice_and_the_same_values():
     grey = numpy.random.RandomState(7).randint(0, 256, (200, 300)).astype(numpy.uint8)
     blocks, picture = numpy.array([50 + 50j, 250 + 60j, 150 + 150j]), _rows.Pixels(grey)
-    first = _rows.Grid(0.5, blocks, 10, 60)
-    first.rows(picture, 3)
-    second = _rows.Grid(0.5, blocks, 10, 60)
-    assert second.or_same(first) is first and second.or_same(None) is second
-    for other in (_rows.Grid(0.5, blocks, 10, 40), _rows.Grid(0.6, blocks, 10, 60), _rows.Grid(0.5, blocks[:2], 10, 60)):
-        assert other.or_same(first) is other
-    asked = []
-    first._between_dots = lambda picture, us, vs: asked.append(len(vs)) or second._between_dots(picture, us, vs)
-    for kept, fresh in zip(first.rows(picture, 5), second.rows(picture, 5)):
-        assert numpy.array_equal(kept, fresh)
-    assert sum(asked) == 2 * len(second.rows(picture, 5).vs)
+    # Rows of three lines go on behind those of five, so all of theirs are taken anew.
+    for before, lines, taken in ((3, 5, 2), (5, 3, 3)):
+        grid, fresh = (_rows.Grid(0.5, blocks, 10, 60) for _ in range(2))
+        grid.rows(picture, before)
+        assert fresh.or_same(grid) is grid and fresh.or_same(None) is fresh
+        for other in (_rows.Grid(0.5, blocks, 10, 40), _rows.Grid(0.6, blocks, 10, 60), _rows.Grid(0.5, blocks[:2], 10, 60)):
+            assert other.or_same(grid) is other
+        asked, wanted = [], fresh.rows(picture, lines)
+        grid._between_dots = lambda picture, us, vs: asked.append(len(vs)) or fresh._between_dots(picture, us, vs)
+        assert all(numpy.array_equal(one, other) for one, other in zip(grid.rows(picture, lines), wanted))
+        assert sum(asked) == taken * len(wanted.vs)
+
+
+def test_takes_each_row_by_itself():
+    chance = numpy.random.RandomState(7)
+    lengths = numpy.array([30, 700, 25, 1000, 64])
+    starts = lengths.cumsum() - lengths
+    values = chance.choice([20, 60, 180, 230], lengths.sum()).astype(numpy.float32)
+    # The first of these rows, the third and the last one begin with a dark dot.
+    values[starts] = 20, 230, 20, 230, 20
+    for blur in (0, 0.8, 2.7):
+        together = runs_of(values, lengths, blur)
+        begins = numpy.append(0, together.behind[:-1])
+        for start, length, begin, end in zip(starts, lengths, begins, together.behind):
+            alone = runs_of(values[start:start + length], numpy.array([length]), blur)
+            assert numpy.array_equal(together.ends[begin:end], alone.ends)
+            assert numpy.array_equal(together.widths[begin:end], alone.widths)
+            assert numpy.allclose(alone.widths.cumsum(), alone.ends)
+        assert together.ends[begins[[0, 2, 4]]].tolist() == [0, 0, 0]
+
+
+def runs_of(values, lengths, blur):
+    """The runs of rows of so many dots."""
+    rows = _rows.Rows(numpy.zeros(len(lengths)), numpy.zeros(len(lengths)), lengths, values)
+    bounds = _rows.bounds_of(rows)
+    return _rows.runs_of(_rows.sharpened(rows, bounds, blur) if blur else rows, bounds)
 
 
 def windows_of(widths):
@@ -184,13 +209,16 @@ def windows_of(widths):
 
 
 def test_looks_at_every_window():
+    # The longest symbol; and 61 runs of which the first 43 are too wide, so no more are looked at.
+    long, wide = numpy.array([9.0, *[1.0] * 595, 9.0]), numpy.array([5.0, *[3.0] * 37, *[4.0] * 6, *[1.0] * 18, 5.0])
+    assert [count for _, count, _ in windows_of(long)] == [595, 595] and not list(windows_of(wide))
     chance, seen = numpy.random.RandomState(7), 0
     for _ in range(200):
-        rows = []
+        rows = [long, wide]
         for _ in range(chance.randint(1, 5)):
             widths = chance.randint(1, 5, 1 + 2 * chance.randint(0, chance.choice([3, 320, 640]))).astype(float)
-            wide = chance.rand(len(widths)) < chance.choice([0.005, 0.01, 0.03])
-            widths[wide] = chance.choice([4.0, 6.0, 9.0, 40.0], wide.sum())
+            quiet = chance.rand(len(widths)) < chance.choice([0.005, 0.01, 0.03])
+            widths[quiet] = chance.choice([4.0, 6.0, 9.0, 40.0], quiet.sum())
             rows.append(widths / chance.choice([1, 4]))
         behind = numpy.cumsum([len(widths) for widths in rows])
         runs = _rows.Runs(behind, numpy.concatenate([widths.cumsum() for widths in rows]), numpy.concatenate(rows))
@@ -198,7 +226,7 @@ def test_looks_at_every_window():
         wanted = [(begin + first, count, shape) for begin, widths in zip(begins, rows) for first, count, shape in windows_of(widths)]
         assert [tuple(window) for window in zip(*_straight._windows(runs))] == wanted
         seen += len(wanted)
-    assert seen > 1000
+    assert seen > 1500
 
 
 def test_keeps_edges_apart():
