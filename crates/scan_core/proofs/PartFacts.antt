@@ -11,7 +11,8 @@ use Rattle.scan_core.specs.Row.{IsRow, dots_from, dots_of}
 use Rattle.scan_core.specs.Windows.{IsLeft, IsNext, IsOver, IsSymbolOf, Search, runs_in}
 use Rattle.scan_core.specs.declared.answer.Answer.TheVariants.{Read}
 use Rattle.scan_core.specs.declared.window.Window.{Window}
-use Rattle.scan_core.specs.inner.FirstRuns.{AreFirst, runs_of}
+use Rattle.scan_core.specs.DotRuns.{runs_of_dots}
+use Rattle.scan_core.specs.inner.FirstRuns.{AreFirst}
 use Rattle.scan_core.specs.inner.Parts.{IsPart, shifted}
 use Rattle.scan_core.specs.declared.dot_symbols.Part.{Part}
 use Rattle.scan_core.specs.declared.dots.FirstRuns.{FirstRuns}
@@ -151,20 +152,20 @@ rest_dots bits runs width before at dots light within is =
 
 -- the runs of the row
 pub row_of_dots : (bits : List ℕ) (width : ℕ) → width ≤ 65535
-    → IsRow (runs_of (dots_at bits 0 width)) × (dots_of (runs_of (dots_at bits 0 width)) ≡ dots_at bits 0 width)
+    → IsRow (runs_of_dots (dots_at bits 0 width)) × (dots_of (runs_of_dots (dots_at bits 0 width)) ≡ dots_at bits 0 width)
 row_of_dots bits width few = let long = length-dots_at bits 0 width in runs_of_row (dots_at bits 0 width) (omega arith)
 
 -- what is cut of the dots from there on is a part
-pub part_of : (bits : List ℕ) (width before at : ℕ) (f : FirstRuns) → width ≤ 65535 → before % 2 ≡ 0 → before < length (runs_of (dots_at bits 0 width))
-    → at ≡ sum (take before (runs_of (dots_at bits 0 width)))
+pub part_of : (bits : List ℕ) (width before at : ℕ) (f : FirstRuns) → width ≤ 65535 → before % 2 ≡ 0 → before < length (runs_of_dots (dots_at bits 0 width))
+    → at ≡ sum (take before (runs_of_dots (dots_at bits 0 width)))
     → (all : List ℕ) × IsRow all × (dots_of all ≡ dots_at bits at (width - at)) × AreFirst all f
     → IsPart (dots_at bits 0 width) (record { before = before; at = at; runs = f })
 part_of bits width before at f few light within is found =
     let dots = dots_at bits 0 width in
     let row = row_of_dots bits width few in
-    let rest = rest_dots bits (runs_of dots) width before at row.1 light within is in
-    let same : found.0 ≡ drop before (runs_of dots) =
-    dots_determine found.0 (drop before (runs_of dots)) found.1 (row_from (runs_of dots) before row.0 light within) (found.2 ∙ sym rest.1) in
+    let rest = rest_dots bits (runs_of_dots dots) width before at row.1 light within is in
+    let same : found.0 ≡ drop before (runs_of_dots dots) =
+    dots_determine found.0 (drop before (runs_of_dots dots)) found.1 (row_from (runs_of_dots dots) before row.0 light within) (found.2 ∙ sym rest.1) in
     record { light = light; within = within; begins = is; first = subst (λ all. AreFirst all f) same found.3 }
 
 -- the part that begins so many runs further right
@@ -175,9 +176,9 @@ pub record Moves (width : ℕ) (runs : List ℕ) (p : Part) : Type 0 where
   pub at_most : p.at + sum (take 600 p.runs.widths.items) ≤ width
 
 pub part_moves : (bits : List ℕ) (width : ℕ) (p : Part) → width ≤ 65535 → IsPart (dots_at bits 0 width) p → p.runs.more ≡ true
-    → Moves width (runs_of (dots_at bits 0 width)) p
+    → Moves width (runs_of_dots (dots_at bits 0 width)) p
 part_moves bits width p few part more =
-    let runs = runs_of (dots_at bits 0 width) in
+    let runs = runs_of_dots (dots_at bits 0 width) in
     let items = p.runs.widths.items in
     let all = drop p.before runs in
     let row = row_of_dots bits width few in
@@ -216,7 +217,7 @@ reach_end false before n all first count last whole cut early le few within some
 
 module _ (bits : List ℕ) (width year : ℕ) (few : width ≤ 65535) (p : Part) (is : IsPart (dots_at bits 0 width) p) where
   abbrev runs : List ℕ
-  runs = runs_of (dots_at bits 0 width)
+  runs = runs_of_dots (dots_at bits 0 width)
 
   abbrev items : List ℕ
   items = p.runs.widths.items

@@ -5,7 +5,7 @@ use Rattle.std.proofs.lemmas.List.{length-append, length-replicate}
 use Rattle.std.proofs.lemmas.List.Sums.{sum_by-cons}
 use Rattle.scan_core.specs.Laws.{DotsMakeRow}
 use Rattle.scan_core.specs.Row.{IsRow, dots_from, dots_of}
-use Rattle.scan_core.specs.inner.FirstRuns.{dark_before, light_before, runs_of}
+use Rattle.scan_core.specs.DotRuns.{dark_before, light_before, runs_of_dots}
 use Rattle.scan_core.proofs.DotFacts.{HaveDots, rest_have}
 
 pub length-dots_from : (dark : Bool) (ws : List ℕ) → length (dots_from dark ws) ≡ sum ws
@@ -76,7 +76,7 @@ same_before dots zero (x ∷ y ∷ ws) e even h = refl
 same_before dots (suc w) [] e even h = refl
 same_before dots (suc w) (x ∷ ws) e even h = refl
 
-made_runs : (dots : List Bool) → runs_of dots ≡ (made dots).first ∷ (made dots).rest
+made_runs : (dots : List Bool) → runs_of_dots dots ≡ (made dots).first ∷ (made dots).rest
 unfolding made
 made_runs [] = refl
 made_runs (false ∷ dots) = ap light_before (made_runs dots)
@@ -84,6 +84,6 @@ made_runs (true ∷ dots) =
     let m = made dots in ap dark_before (made_runs dots) ∙ same_before dots m.first m.rest m.shown m.even m.have
 
 -- they are a row with these dots
-pub runs_of_row : (dots : List Bool) → length dots ≤ 65535 → IsRow (runs_of dots) × (dots_of (runs_of dots) ≡ dots)
+pub runs_of_row : (dots : List Bool) → length dots ≤ 65535 → IsRow (runs_of_dots dots) × (dots_of (runs_of_dots dots) ≡ dots)
 unfolding dots_make_row
 runs_of_row dots few = let r = dots_make_row dots few in subst (λ ws. IsRow ws × (dots_of ws ≡ dots)) (sym (made_runs dots)) (r.1, r.2)

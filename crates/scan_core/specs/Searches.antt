@@ -4,7 +4,7 @@ use Rattle.scan_core.specs.declared.symbols.Symbols.TheInside.{Inside}
 use Rattle.scan_core.specs.declared.dot_symbols.DotSymbols.TheInside as dots
 use Rattle.scan_core.specs.Bits.{dots_at}
 use Rattle.scan_core.specs.Windows.{Search}
-use Rattle.scan_core.specs.inner.FirstRuns.{runs_of}
+use Rattle.scan_core.specs.DotRuns.{runs_of_dots}
 
 -- the widths of the row, and how far it is searched
 abbrev pub search_in : Inside → Search
@@ -12,4 +12,4 @@ search_in s = record { runs = s.widths.now; year = s.year; first = s.first; leas
 
 -- the runs of the row of packed dots, and how far it is searched
 abbrev pub search_in_dots : dots.Inside → Search
-search_in_dots s = record { runs = runs_of (dots_at s.bits.now 0 s.width); year = s.year; first = s.part.before + s.first; least = s.least }
+search_in_dots s = record { runs = runs_of_dots (dots_at s.bits.now 0 s.width); year = s.year; first = s.part.before + s.first; least = s.least }

@@ -3,7 +3,7 @@ ghost use Rattle.std.specs.Prelude.{◌≡◌, ◌≤◌, ◌+◌, ◌*◌, ◌%
 ghost use Rattle.scan_core.specs.Bits.{dots_at};
 ghost use Rattle.scan_core.specs.Row.{IsRow, dots_of};
 ghost use Rattle.scan_core.specs.Windows.{IsLeft, IsNext, IsOver, IsSymbolOf, search_after, search_of};
-ghost use Rattle.scan_core.specs.inner.FirstRuns.{runs_of};
+ghost use Rattle.scan_core.specs.DotRuns.{runs_of_dots};
 ghost use Rattle.scan_core.specs.inner.Parts.{IsPart, shifted};
 
 use crate::dots::{FirstRuns, first_runs};
@@ -83,9 +83,9 @@ fn next_in_parts(
     ensures light { IfSome result (λ w. w.first % 2 ≡ 0) }
     ensures early { part.new.runs.more ≡ true → IfSome result (λ w. w.first ≤ 598) }
     ensures last { part.new.runs.more ≡ true → IfNone result ⊥ }
-    ensures next { IfSome result (λ w. IsNext (record { runs = runs_of (dots_at bits.now 0 width); year = year; first = part.old.before + first; least = least })
+    ensures next { IfSome result (λ w. IsNext (record { runs = runs_of_dots (dots_at bits.now 0 width); year = year; first = part.old.before + first; least = least })
         (shifted part.new.before w)) }
-    ensures over { IfNone result (IsOver (record { runs = runs_of (dots_at bits.now 0 width); year = year; first = part.old.before + first; least = least })) }
+    ensures over { IfNone result (IsOver (record { runs = runs_of_dots (dots_at bits.now 0 width); year = year; first = part.old.before + first; least = least })) }
 {
     let mut first = first;
     let mut least = least;

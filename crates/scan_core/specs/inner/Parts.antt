@@ -1,7 +1,8 @@
 -- Parts of a row of packed dots, and its search in them.
 use Rattle.std.specs.Prelude.{◌≡◌, ◌+◌, ◌*◌, ◌%◌, ◌<◌, ◌≤◌, ℕ, true, Bool, List, drop, length, sum, take}
 use Rattle.scan_core.specs.Bits.{dots_at}
-use Rattle.scan_core.specs.inner.FirstRuns.{AreFirst, runs_of}
+use Rattle.scan_core.specs.DotRuns.{runs_of_dots}
+use Rattle.scan_core.specs.inner.FirstRuns.{AreFirst}
 use Rattle.scan_core.specs.declared.dot_symbols.Part.{Part}
 use Rattle.scan_core.specs.declared.dot_symbols.DotSymbols.TheInside.{Inside}
 use Rattle.scan_core.specs.declared.window.Window.{Window}
@@ -9,9 +10,9 @@ use Rattle.scan_core.specs.declared.window.Window.{Window}
 -- the part of the row with these dots that begins with a light run
 pub record IsPart (dots : List Bool) (p : Part) : Type 0 where
   pub light : p.before % 2 ≡ 0
-  pub within : p.before < length (runs_of dots)
-  pub begins : p.at ≡ sum (take p.before (runs_of dots))
-  pub first : AreFirst (drop p.before (runs_of dots)) p.runs
+  pub within : p.before < length (runs_of_dots dots)
+  pub begins : p.at ≡ sum (take p.before (runs_of_dots dots))
+  pub first : AreFirst (drop p.before (runs_of_dots dots)) p.runs
 
 -- a window of a part, in a row that has so many runs before the part
 abbrev pub shifted : ℕ → Window → Window

@@ -3,7 +3,7 @@ use Rattle.std.proofs.lemmas.Bool.{cases_lt}
 use Rattle.std.proofs.lemmas.Option.{IfSome_then}
 use Rattle.scan_core.specs.Bits.{dots_at}
 use Rattle.scan_core.specs.Row.{IsRow}
-use Rattle.scan_core.specs.inner.FirstRuns.{runs_of}
+use Rattle.scan_core.specs.DotRuns.{runs_of_dots}
 use Rattle.scan_core.proofs.PartFacts.{items_row, next_in_row, none_early, over_in_row}
 use Rattle.scan_core.proofs.SearchFacts.{earlier, none_then}
 use Rattle.scan_core.proofs.dot_symbols.next_in_parts.Goals as goal
@@ -19,7 +19,7 @@ pub returns-in-Some-clause-next : goal.returns-in-Some-clause-next
 returns-in-Some-clause-next c =
     let i = c.parts.invariant in
     let dots = dots_at c.args.bits.now 0 c.args.width in
-    earlier (record { runs = runs_of dots; year = c.args.year; first = c.args.part.now.before + c.args.first; least = c.args.least })
+    earlier (record { runs = runs_of_dots dots; year = c.args.year; first = c.args.part.now.before + c.args.first; least = c.args.least })
     (c.parts.part.before + c.parts.first) c.parts.least _ i.behind i.passed
     (next_in_row c.args.bits.now c.args.width c.args.year c.requires.few c.parts.part i.part c.parts.first c.parts.least c.in-Some.window c.in-Some.ensures.next
     (λ more. c.in-Some.ensures.early))
@@ -50,7 +50,7 @@ pub returns-clause-next : goal.returns-clause-next
 returns-clause-next c = IfSome_then c.next_window.result c.next_window.ensures.next (λ w next.
     let i = c.parts.invariant in
     let dots = dots_at c.args.bits.now 0 c.args.width in
-    earlier (record { runs = runs_of dots; year = c.args.year; first = c.args.part.now.before + c.args.first; least = c.args.least })
+    earlier (record { runs = runs_of_dots dots; year = c.args.year; first = c.args.part.now.before + c.args.first; least = c.args.least })
     (c.parts.part.before + c.parts.first) c.parts.least _ i.behind i.passed
     (next_in_row c.args.bits.now c.args.width c.args.year c.requires.few c.parts.part i.part c.parts.first c.parts.least w
     (rw c.as_slice.ensures.value at next) (λ more. cc)))

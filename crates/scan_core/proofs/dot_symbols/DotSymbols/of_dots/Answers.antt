@@ -1,6 +1,6 @@
 use Rattle.std.proofs.Common.{◌≡◌, ◌∙◌, ◌-◌, ap, arith, refl}
 use Rattle.scan_core.specs.Bits.{dots_at}
-use Rattle.scan_core.specs.inner.FirstRuns.{runs_of}
+use Rattle.scan_core.specs.DotRuns.{runs_of_dots}
 use Rattle.scan_core.proofs.PartFacts.{part_of, row_of_dots}
 use Rattle.scan_core.proofs.RowFacts.{row_short}
 use Rattle.scan_core.proofs.dot_symbols.DotSymbols.of_dots.Goals as goal
@@ -29,4 +29,4 @@ returns-clause-dots c = let few = c.ranges.width.fits in (row_of_dots c.args.bit
 pub returns-clause-few : goal.returns-clause-few
 returns-clause-few c =
     let few = c.ranges.width.fits in
-    row_short (runs_of (dots_at c.args.bits.now 0 c.args.width)) (row_of_dots c.args.bits.now c.args.width (omega arith)).0
+    row_short (runs_of_dots (dots_at c.args.bits.now 0 c.args.width)) (row_of_dots c.args.bits.now c.args.width (omega arith)).0

@@ -1,6 +1,6 @@
 use Rattle.std.proofs.Common.{◌∙◌, ◌+◌, ℕ, List, ap, arith, sum, take}
 use Rattle.scan_core.specs.Bits.{dots_at}
-use Rattle.scan_core.specs.inner.FirstRuns.{runs_of}
+use Rattle.scan_core.specs.DotRuns.{runs_of_dots}
 use Rattle.scan_core.proofs.PartFacts.{part_moves, part_of, row_of_dots}
 use Rattle.scan_core.proofs.RowFacts.{row_short}
 use Rattle.scan_core.proofs.dot_symbols.Part.go_on.Goals as goal
@@ -29,7 +29,7 @@ overflow_add-self-2 c =
     let m = part_moves c.args.bits.now c.args.width c.args.self.now c.requires.few c.requires.part c.requires.more in
     let within = m.within in
     let row = row_of_dots c.args.bits.now c.args.width c.requires.few in
-    let short = row_short (runs_of (dots_at c.args.bits.now 0 c.args.width)) row.0 in omega arith
+    let short = row_short (runs_of_dots (dots_at c.args.bits.now 0 c.args.width)) row.0 in omega arith
 
 pub overflow_sub-width : goal.overflow_sub-width
 overflow_sub-width c =
