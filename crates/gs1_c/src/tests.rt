@@ -35,7 +35,6 @@ enum Asked<'a> {
     Row(&'a [u16], u16),
     RowElements(&'a [u16], u16),
     Find(&'a [u16], u16),
-    FindDots(&'a [u8], u32, u16),
     Dots(&'a [u8], u32, u16),
     DotsElements(&'a [u8], u32, u16),
     Scan(&'a [u8], u16),
@@ -53,7 +52,6 @@ fn answer(asked: Asked, out: &mut [u8]) -> usize {
         Asked::Row(widths, year) => gs1_c_row(widths, year, out),
         Asked::RowElements(widths, year) => gs1_c_row_elements(widths, year, out),
         Asked::Find(widths, year) => gs1_c_find(widths, year, out),
-        Asked::FindDots(bits, count, year) => gs1_c_find_dots(bits, count, year, out),
         Asked::Dots(bits, count, year) => gs1_c_dots(bits, count, year, out),
         Asked::DotsElements(bits, count, year) => gs1_c_dots_elements(bits, count, year, out),
         Asked::Scan(text, year) => gs1_c_scan(text, year, out),
@@ -99,17 +97,6 @@ fn each_call_puts_its_line(rt: HostRuntime) {
         (Asked::Find(&[113], 2026), b""),
         (Asked::Find(&[1, 0, 1], 2026), b"refused 18 BadRuns"),
         (Asked::Find(WIDTHS, 2150), b"refused 42 Words"),
-        (
-            Asked::FindDots(DOTS, 113, 2026),
-            b"0 61 ]E0 (01)09501101530003\n",
-        ),
-        (Asked::FindDots(DOTS, 0, 2026), b""),
-        (Asked::FindDots(DOTS, 121, 2026), b"refused 18 BadRuns"),
-        (
-            Asked::FindDots(&[0; 8192], 65_536, 2026),
-            b"refused 17 TooWide",
-        ),
-        (Asked::FindDots(DOTS, 113, 2150), b"refused 42 Words"),
         (Asked::Dots(DOTS, 113, 2026), b"]E0 (01)09501101530003"),
         (Asked::Dots(DOTS, 121, 2026), b"refused 18 BadRuns"),
         (Asked::Dots(&[0; 8192], 65_536, 2026), b"refused 17 TooWide"),
@@ -232,5 +219,21 @@ fn each_kind_is_drawn_by_its_number(rt: HostRuntime) {
         assert_eq!(rt; answer(Asked::Label(kind, text, 2026, 160), &mut out), 69);
         assert_eq!(rt; out.get(..29), Some(LIGHT.as_slice()));
         assert_eq!(rt; out.get(29..33), Some(bars));
+    }
+}
+
+#[test]
+fn each_symbol_of_packed_dots_is_told(rt: HostRuntime) {
+    let cases: &[(&[u8], u32, u16, &[u8])] = &[
+        (DOTS, 113, 2026, b"0 61 ]E0 (01)09501101530003\n"),
+        (DOTS, 0, 2026, b""),
+        (DOTS, 121, 2026, b"refused 18 BadRuns"),
+        (&[0; 8192], 65_536, 2026, b"refused 17 TooWide"),
+        (DOTS, 113, 2150, b"refused 42 Words"),
+    ];
+    let mut out = [0; 304];
+    for &(bits, dots, year, wanted) in cases {
+        let count = gs1_c_find_dots(bits, dots, year, &mut out);
+        assert_eq!(rt; out.get(..count), Some(wanted));
     }
 }
