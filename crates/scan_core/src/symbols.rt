@@ -235,11 +235,9 @@ impl<'a> Symbols<'a> {
         ensures over { IfNone result (IsOver self.old) }
         ensures unchanged { IfNone result (self.new ≡ self.old) }
     {
-        let next = next_window(self.widths, self.first, self.least, self.year);
-        if let Some(window) = &next {
-            self.first = window.first;
-            self.least = window.count + 1;
-        }
-        next
+        let window = next_window(self.widths, self.first, self.least, self.year)?;
+        self.first = window.first;
+        self.least = window.count + 1;
+        Some(window)
     }
 }
