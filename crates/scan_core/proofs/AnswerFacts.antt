@@ -12,7 +12,7 @@ use Rattle.scan_core.specs.declared.answer.Answer.{Answer}
 use Rattle.scan_core.specs.declared.answer.Answer.TheVariants.{Read, Refused}
 use Rattle.scan_core.specs.Row.{IsRow, dots_of}
 use Rattle.scan_core.specs.Showing.{kind_of}
-use Rattle.scan_core.specs.Answers.{ComesTo, IsAnswer, IsRefused, Spells, Tells}
+use Rattle.scan_core.specs.Answers.{ComesTo, IsAnswer, IsRefused, Spells, Tells, every_carrier}
 use Rattle.scan_core.specs.inner.Reading.{IsReadAs}
 use Rattle.scan_core.specs.Reading.{stage_fault}
 use Rattle.scan_core.proofs.CandidateFacts.{candidate_dark}
@@ -57,7 +57,7 @@ one_read law year (Err fault) r q a b = a ∙ sym b
 data Reason (runs : List ℕ) (year : ℕ) : Answer → Type 0 where
   blank : (Contains (dots_of runs) true → ⊥) → Reason runs year (Refused Blank)
   uncounted :
-      Contains (dots_of runs) true → (ComesTo runs stages.QuietZone → ⊥) → Reason runs year (Refused RunCount)
+      Contains (dots_of runs) true → (ComesTo every_carrier runs stages.QuietZone → ⊥) → Reason runs year (Refused RunCount)
   failed : (stage : Stage) → IsRefused runs year (stage_fault stage) → Reason runs year (Refused (stage_fault stage))
   told :
       (c : Carrier) (content : Result (List ℕ) RowFault) (read : Result Listing RowFault) → Tells runs c content → IsReadAs year content read

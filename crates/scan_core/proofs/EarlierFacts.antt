@@ -10,8 +10,8 @@ use Rattle.scan_core.specs.declared.answer.Answer.{Answer}
 use Rattle.scan_core.specs.declared.answer.Answer.TheVariants.{Read, Refused}
 use Rattle.scan_core.specs.Row.{inner}
 use Rattle.scan_core.specs.Showing.{HasSize, kind_of}
-use Rattle.scan_core.specs.Answers.{ComesAs, ComesTo, IsAnswer, IsRefused}
-use Rattle.scan_core.specs.BeforeItf14.{CameTo, OtherRowsKeep, WasAnswer, WasRefused}
+use Rattle.scan_core.specs.Answers.{ComesAs, ComesTo, IsAnswer, IsRefused, IsRefusedOf, every_carrier}
+use Rattle.scan_core.specs.BeforeItf14.{OtherRowsKeep, WasAnswer, earlier}
 
 module _ (runs : List ℕ) (year : ℕ) (other : length (inner runs) ≢ 77) where
   -- no candidate of such a row is ITF-14
@@ -24,13 +24,13 @@ module _ (runs : List ℕ) (year : ℕ) (other : length (inner runs) ≢ 77) whe
   apart_at stages.Modules c N h = apart c N h.0
   apart_at stages.Pattern c N h = apart c N h.0
 
-  came : (stage : Stage) → ComesTo runs stage → CameTo runs stage
+  came : (stage : Stage) → ComesTo every_carrier runs stage → ComesTo earlier runs stage
   came stage a = ((a.0, apart_at stage a.0 a.1 a.2), a.1, a.2)
 
-  comes : (stage : Stage) → CameTo runs stage → ComesTo runs stage
+  comes : (stage : Stage) → ComesTo earlier runs stage → ComesTo every_carrier runs stage
   comes stage a = (a.0.0, a.1, a.2)
 
-  was_refused : (fault : RowFault) → IsRefused runs year fault → WasRefused runs year fault
+  was_refused : (fault : RowFault) → IsRefused runs year fault → IsRefusedOf earlier runs year fault
   was_refused Blank a = a
   was_refused RunCount a = (a.0, λ h. a.1 (comes stages.QuietZone h))
   was_refused QuietZone a = (came stages.QuietZone a.0, λ h. a.1 (comes stages.Modules h))
@@ -40,7 +40,7 @@ module _ (runs : List ℕ) (year : ℕ) (other : length (inner runs) ≢ 77) whe
   was_refused (Code128 fault) a = ((a.0, apart a.0 a.1.2.N a.1.2.candidate), a.1)
   was_refused (Elements fault) a = ((a.0, apart a.0 a.2.2.N a.2.2.candidate), a.1, a.2, a.3)
 
-  is_refused : (fault : RowFault) → WasRefused runs year fault → IsRefused runs year fault
+  is_refused : (fault : RowFault) → IsRefusedOf earlier runs year fault → IsRefused runs year fault
   is_refused Blank a = a
   is_refused RunCount a = (a.0, λ h. a.1 (came stages.QuietZone h))
   is_refused QuietZone a = (comes stages.QuietZone a.0, λ h. a.1 (came stages.Modules h))

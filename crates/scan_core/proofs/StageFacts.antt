@@ -7,7 +7,7 @@ use Rattle.scan_core.specs.declared.stage.Stage.{Stage}
 use Rattle.scan_core.specs.declared.stage.Stage.TheVariants.{QuietZone, Modules, Pattern}
 use Rattle.scan_core.specs.Row.{inner}
 use Rattle.scan_core.specs.Showing.{HasSize, IsQuiet, Rounds, Shows, Way, along, kind_of}
-use Rattle.scan_core.specs.Answers.{ComesTo, IsRefused}
+use Rattle.scan_core.specs.Answers.{ComesTo, IsRefused, every_carrier}
 use Rattle.scan_core.specs.inner.Stages.{Fails, FailsAt, number_of}
 use Rattle.scan_core.specs.inner.Reading.{later}
 use Rattle.scan_core.specs.Reading.{stage_fault}
@@ -16,13 +16,13 @@ use Rattle.scan_core.proofs.CandidateFacts.{one_fixed, one_gs1128, which}
 -- ---- a row is refused for one stage
 
 -- a row that is refused for a stage has a candidate
-pub candidate_of : (f : Stage) (runs : List ℕ) (year : ℕ) → IsRefused runs year (stage_fault f) → ComesTo runs QuietZone
+pub candidate_of : (f : Stage) (runs : List ℕ) (year : ℕ) → IsRefused runs year (stage_fault f) → ComesTo every_carrier runs QuietZone
 candidate_of QuietZone runs year a = a.0
 candidate_of Modules runs year a = (a.0.0, a.0.1, a.0.2.0)
 candidate_of Pattern runs year a = (a.0.0, a.0.1, a.0.2.0)
 
 -- it comes to the stage before as well
-quiet_too : (runs : List ℕ) → ComesTo runs Pattern → ComesTo runs Modules
+quiet_too : (runs : List ℕ) → ComesTo every_carrier runs Pattern → ComesTo every_carrier runs Modules
 quiet_too runs a = (a.0, a.1, (a.2.0, a.2.1))
 
 pub latest_once : (f g : Stage) (runs : List ℕ) (year : ℕ) → IsRefused runs year (stage_fault f) → IsRefused runs year (stage_fault g) → f ≡ g

@@ -13,7 +13,7 @@ use Rattle.scan_core.specs.declared.answer.Answer.TheVariants.{Read, Refused}
 use Rattle.scan_core.specs.Row.{IsRow, dots_of, inner}
 use Rattle.scan_core.specs.Showing.{HasSize, IsQuiet, Rounds, Shows, Way, along, kind_of}
 use Rattle.scan_core.specs.Showing.Way.{Forwards, Backwards}
-use Rattle.scan_core.specs.Answers.{ComesTo, IsAnswer, IsRefused, Tells}
+use Rattle.scan_core.specs.Answers.{ComesTo, IsAnswer, IsRefused, Tells, every_carrier}
 use Rattle.scan_core.proofs.RowFacts.{each-push, has_dark, has_no_dark}
 use Rattle.scan_core.proofs.WayFacts.{sum-reverse}
 
@@ -90,7 +90,7 @@ module _ (runs : List ℕ) (some : 0 < length runs) where
   size_turned : (c : Carrier) (N : ℕ) → HasSize (kind_of c) (length (inner runs)) N → HasSize (kind_of c) (length (inner (reverse runs))) N
   size_turned c N h = subst (λ n. HasSize (kind_of c) n N) (sym (count_turned runs)) h
 
-  comes_turned : (f : Stage) → ComesTo runs f → ComesTo (reverse runs) f
+  comes_turned : (f : Stage) → ComesTo every_carrier runs f → ComesTo every_carrier (reverse runs) f
   comes_turned stages.QuietZone a = (a.0, a.1, size_turned a.0 a.1 a.2)
   comes_turned stages.Modules a = (a.0, a.1, (size_turned a.0 a.1 a.2.0, quiet_turned runs a.1 some a.2.1))
   comes_turned stages.Pattern a = (
@@ -127,8 +127,8 @@ module _ (runs : List ℕ) (row : IsRow runs) where
   not_empty_turned : 0 < length (reverse runs)
   not_empty_turned = let n = length-reverse runs in let some = not_empty in omega arith
 
-  comes_back : (f : Stage) → ComesTo (reverse runs) f → ComesTo runs f
-  comes_back f a = subst (λ ws. ComesTo ws f) (reverse-reverse runs) (comes_turned (reverse runs) not_empty_turned f a)
+  comes_back : (f : Stage) → ComesTo every_carrier (reverse runs) f → ComesTo every_carrier runs f
+  comes_back f a = subst (λ ws. ComesTo every_carrier ws f) (reverse-reverse runs) (comes_turned (reverse runs) not_empty_turned f a)
 
   shows_back : (c : Carrier) (w : Way) (ms : List ℕ) → Shows (reverse runs) c w ms → Shows runs c (other_way w) ms
   shows_back c w ms s = subst (λ ws. Shows ws c (other_way w) ms) (reverse-reverse runs) (shows_turned (reverse runs) not_empty_turned c w ms s)

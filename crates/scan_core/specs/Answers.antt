@@ -29,9 +29,9 @@ ComesAs runs carrier N stages.Modules = HasSize (kind_of carrier) (length (inner
 ComesAs runs carrier N stages.Pattern =
     HasSize (kind_of carrier) (length (inner runs)) N × IsQuiet runs N × (way : Way) × (modules : List ℕ) × Rounds (along way (inner runs)) N modules
 
--- the row comes to this stage as a symbol of some carrier
-abbrev pub ComesTo : List ℕ → Stage → Type 0
-ComesTo runs stage = (carrier : Carrier) × (N : ℕ) × ComesAs runs carrier N stage
+-- the row comes to this stage as a symbol of one of these carriers
+abbrev pub ComesTo : {C : Type 0} → (C → Carrier) → List ℕ → Stage → Type 0
+ComesTo carriers runs stage = (c : _) × (N : ℕ) × ComesAs runs (carriers c) N stage
 
 -- ---- what a symbol spells
 
@@ -58,18 +58,26 @@ Tells runs carrier content = (way : Way) × (modules : List ℕ) × Shows runs c
 
 -- ---- answers
 
+-- as symbols of these carriers alone the row is refused for this
+abbrev pub IsRefusedOf : {C : Type 0} → (C → Carrier) → List ℕ → ℕ → RowFault → Type 0
+IsRefusedOf carriers runs year Blank = Contains (dots_of runs) true → ⊥
+IsRefusedOf carriers runs year RunCount = Contains (dots_of runs) true × (ComesTo carriers runs stages.QuietZone → ⊥)
+IsRefusedOf carriers runs year QuietZone = ComesTo carriers runs stages.QuietZone × (ComesTo carriers runs stages.Modules → ⊥)
+IsRefusedOf carriers runs year Modules = ComesTo carriers runs stages.Modules × (ComesTo carriers runs stages.Pattern → ⊥)
+IsRefusedOf carriers runs year Pattern =
+    ComesTo carriers runs stages.Pattern × ((c : _) (way : Way) (modules : List ℕ) → Shows runs (carriers c) way modules → ⊥)
+IsRefusedOf carriers runs year SymbolCheckDigit = (c : _) × Tells runs (carriers c) (Err SymbolCheckDigit)
+IsRefusedOf carriers runs year (Code128 fault) = (c : _) × Tells runs (carriers c) (Err (Code128 fault))
+IsRefusedOf carriers runs year (Elements fault) =
+    (c : _) × (text : List ℕ) × Tells runs (carriers c) (Ok text) × FirstFault year text fault
+
+-- all carriers
+abbrev pub every_carrier : Carrier → Carrier
+every_carrier carrier = carrier
+
 -- the row is refused for this
 abbrev pub IsRefused : List ℕ → ℕ → RowFault → Type 0
-IsRefused runs year Blank = Contains (dots_of runs) true → ⊥
-IsRefused runs year RunCount = Contains (dots_of runs) true × (ComesTo runs stages.QuietZone → ⊥)
-IsRefused runs year QuietZone = ComesTo runs stages.QuietZone × (ComesTo runs stages.Modules → ⊥)
-IsRefused runs year Modules = ComesTo runs stages.Modules × (ComesTo runs stages.Pattern → ⊥)
-IsRefused runs year Pattern =
-    ComesTo runs stages.Pattern × ((carrier : Carrier) (way : Way) (modules : List ℕ) → Shows runs carrier way modules → ⊥)
-IsRefused runs year SymbolCheckDigit = (carrier : Carrier) × Tells runs carrier (Err SymbolCheckDigit)
-IsRefused runs year (Code128 fault) = (carrier : Carrier) × Tells runs carrier (Err (Code128 fault))
-IsRefused runs year (Elements fault) =
-    (carrier : Carrier) × (text : List ℕ) × Tells runs carrier (Ok text) × FirstFault year text fault
+IsRefused runs year fault = IsRefusedOf every_carrier runs year fault
 
 -- under this reference year the row says this
 abbrev pub IsAnswer : List ℕ → ℕ → Answer → Type 0
