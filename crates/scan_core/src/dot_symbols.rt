@@ -13,10 +13,10 @@ use crate::window::Window;
 use element_core::Year;
 use std::marker::Model;
 
-/// A symbol that begins with this run of a part, or before it, ends in the part where the row has more.
+/// A window that is read and begins with this run of a part, or before it, ends in the part.
 const LAST_FIRST: usize = 598;
 
-/// The next light run but one, with which the next part begins.
+/// The light run after it, with which the next part begins.
 const STEP: usize = 600;
 
 /// A part of a row: its first runs from one on.

@@ -11,7 +11,8 @@ use crate::fault::RowFault;
 use arrayvec::ArrayVec;
 use element_core::Year;
 
-/// As many runs as two of the longest symbol have, with a light end between them and one on each side.
+/// So many runs that the longest symbol with its light ends, of 597 runs, is among them where it begins with
+/// run 598 or before.
 const MOST: usize = 1_195;
 
 /// The first runs of a row.
