@@ -7,7 +7,7 @@ use Rattle.std.proofs.lemmas.List.Elements.{All-cons, All-head, All-nil, All-tai
 use Rattle.sheet_core.specs.Bitmaps.{Bitmap}
 use Rattle.sheet_core.specs.Grids.{IsGrid}
 use Rattle.sheet_core.specs.pbm.Images.{ReadsBytes, images_of}
-use Rattle.record_core.specs.Grids.{cells_of}
+use Rattle.gs1_hub.specs.Grids.{cells_of}
 use Rattle.answer_core.specs.answers.Reports.{IsReport}
 use Rattle.record_core.specs.input.Records.{Meaning, Takes}
 use Rattle.answer_core.specs.Columns.{AreColumns, HaveDots, column_dots, have_size}

@@ -10,7 +10,7 @@ use Rattle.sheet_core.specs.declared.kind.LabelKind.{LabelKind}
 use Rattle.sheet_core.specs.declared.kind.LabelKind.TheVariants as kind
 use Rattle.sheet_core.specs.declared.label.Label.{Label}
 use Rattle.sheet_core.specs.declared.label.Label.TheVariants as label
-use Rattle.record_core.specs.Grids.{cells_of}
+use Rattle.gs1_hub.specs.Grids.{cells_of}
 use Rattle.record_core.specs.input.Records.{Fields}
 use Rattle.record_core.specs.input.Spelling.{spelled_text}
 use Rattle.record_core.specs.print.Labels.{IsElementLabel, IsLabelAs, IsLabelBy, print_meaning}

@@ -13,7 +13,7 @@ use Rattle.sheet_core.specs.Labels.{IsDrawn}
 use Rattle.sheet_core.specs.Laws.{PrintedIsRead}
 use Rattle.sheet_core.specs.pbm.Images.{images_of}
 use Rattle.sheet_core.specs.declared.label.Label.{Label}
-use Rattle.record_core.specs.Grids.{cells_of}
+use Rattle.gs1_hub.specs.Grids.{cells_of}
 use Rattle.answer_core.specs.answers.Reports.{report}
 use Rattle.record_core.specs.input.Records.{AreItems, Fields}
 use Rattle.record_core.specs.print.Labels.{print_meaning}

@@ -6,7 +6,7 @@ use Rattle.sheet_core.specs.Bitmaps.{Bitmap, cell_dots}
 use Rattle.sheet_core.specs.Drawing.{cell_count, sheet_count}
 use Rattle.sheet_core.specs.Grids.{Cells}
 use Rattle.sheet_core.specs.declared.label.Label.{Label}
-use Rattle.record_core.specs.Grids.{cells_of}
+use Rattle.gs1_hub.specs.Grids.{cells_of}
 use Rattle.record_core.specs.print.Labels.{print_meaning}
 use Rattle.gs1_hub.specs.commands.Prints.{IsPrint}
 use Rattle.gs1_hub.specs.commands.Scans.{AreImages, IsScan}

@@ -10,6 +10,7 @@ ghost use Rattle.gs1_hub.specs.commands.{command_of};
 mod buffered;
 mod commands;
 mod fault;
+mod grid;
 mod help;
 mod laws;
 mod remedies;

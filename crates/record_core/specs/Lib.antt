@@ -1,5 +1,3 @@
-pub mod Grids
-pub mod Numbers
 pub mod check
 pub mod inner
 pub mod input

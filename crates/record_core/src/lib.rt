@@ -2,13 +2,11 @@
 #![tactic(auto)]
 
 mod check;
-mod grid;
 mod input;
 mod lanes;
 mod print;
 
 pub use check::lines::check_lines;
-pub use grid::{GridOptions, MOST_COLUMNS, MOST_HEIGHT, MOST_MODULE_DOTS, MOST_ROWS, MOST_WIDTH};
 pub use input::fault::{RecordFault, RecordRefusal, RecordsFault};
 pub use input::records::{INPUT_LIMIT, Records};
 pub use lanes::feeds::{check_rows, lane_in, next_row};

@@ -69,6 +69,34 @@ impl Grid {
         })
     }
 
+    /// How many columns of cells a sheet has, 1 to 16.
+    pub fn columns(&self) -> u16
+        ensures { result ≡ self.now.columns }
+    {
+        self.columns
+    }
+
+    /// How many rows of cells a sheet has, 1 to 64.
+    pub fn rows(&self) -> u16
+        ensures { result ≡ self.now.rows }
+    {
+        self.rows
+    }
+
+    /// How wide a cell is, 1 to 4,096 dots.
+    pub fn cell_width(&self) -> u16
+        ensures { result ≡ self.now.width }
+    {
+        self.cell_width
+    }
+
+    /// How high a cell is, 3 to 1,024 dots.
+    pub fn cell_height(&self) -> u16
+        ensures { result ≡ self.now.height }
+    {
+        self.cell_height
+    }
+
     /// The left and the top of a cell, in dots; cells count row by row from the top left.
     pub(crate) fn corner(&self, cell: u16) -> (u16, u16)
         requires { cell < self.now.columns * self.now.rows }

@@ -1,7 +1,9 @@
 //! Laws about the definitions, each the contract of a function that does nothing.
+ghost use Rattle.sheet_core.specs.Grids.{IsGrid};
 ghost use Rattle.sheet_core.specs.Laws.{BarRowsAnswer, BarRowsShow, DrawnIsRead, EmptyCellsAreBlank, FilesAreRead, FilesAreRefused, HeadersAreRead, HeadersAreRefused, OneDrawn, OneListOfSheets, PrintedIsRead, WrittenIsRead};
 ghost use Rattle.sheet_core.specs.PrintLaws.{OneBitmap, OnePrinted};
 
+use crate::grid::Grid;
 use code128_code::modules_say;
 use scan_core::{dots_determine, one_answer, symbol_measures};
 
@@ -47,6 +49,13 @@ pub fn drawn_is_read()
 pub fn empty_cells_are_blank()
     ensures { EmptyCellsAreBlank }
 {}
+
+/// Each grid keeps the limits of `Grid::new`.
+pub fn grids_keep_limits(grid: &Grid)
+    ensures { IsGrid grid.now }
+{
+    let _rows = grid.rows;
+}
 
 /// Sheets that are written, at most 4,096, are read as the same sheets.
 pub fn written_is_read()

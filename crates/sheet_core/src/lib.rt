@@ -20,8 +20,8 @@ pub use label::{Content, Label};
 pub use label_image::label_pbm;
 pub use laws::{
     bar_rows_answer, bar_rows_show, drawn_is_read, empty_cells_are_blank, files_are_read,
-    files_are_refused, headers_are_read, headers_are_refused, one_bitmap, one_drawn,
-    one_list_of_sheets, one_printed, printed_is_read, written_is_read,
+    files_are_refused, grids_keep_limits, headers_are_read, headers_are_refused, one_bitmap,
+    one_drawn, one_list_of_sheets, one_printed, printed_is_read, written_is_read,
 };
 pub use pbm::print::print_pbm;
 pub use pbm::read::read_pbm;

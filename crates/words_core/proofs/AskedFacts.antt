@@ -3,7 +3,7 @@ use Rattle.std.proofs.Common.{◌≡◌, ◌++◌, Bool, false, true, List, [], 
 use Rattle.clap.specs.Faults.{fault_of}
 use Rattle.clap.specs.Simple.{subcommand_of}
 use Rattle.clap.specs.Walk.{Row, Rule, Text, rows_after}
-use Rattle.record_core.specs.Numbers.{most_columns, most_dots, most_grid_rows, most_height, most_width}
+use Rattle.words_core.specs.Numbers.{most_columns, most_dots, most_grid_rows, most_height, most_width}
 use Rattle.words_core.specs.Arguments.{HasFlag, asks_elements, first_year, last_year, most_lanes, most_workers}
 use Rattle.words_core.specs.commands.Prints.{HasOutput}
 use Rattle.element_core.specs.declared.form.Form.{Form}

@@ -5,8 +5,8 @@ use Rattle.std.specs.Str.Parse.{IsNumeral, digits_value, without_leading_plus}
 use Rattle.clap.specs.Words.{App, Row, Rule, Text, new_rule, one_of, with_rule}
 use Rattle.clap.specs.declared.builder.ArgAction.TheVariants.{Set, SetTrue}
 use Rattle.clap.specs.declared.builder.value_parser.ValueParser.TheVariants as vp
-use Rattle.record_core.specs.Numbers.{AreGridNumbers, most_columns, most_dots, most_grid_rows, most_height, most_width}
-use Rattle.record_core.specs.declared.grid.GridOptions.{GridOptions}
+use Rattle.words_core.specs.Numbers.{AreGridNumbers, most_columns, most_dots, most_grid_rows, most_height, most_width}
+use Rattle.words_core.specs.declared.grid_options.GridOptions.{GridOptions}
 use Rattle.element_core.specs.declared.form.Form.{Form}
 use Rattle.element_core.specs.declared.form.Form.TheVariants as form
 

@@ -2,12 +2,15 @@
 ghost use Rattle.std.specs.Prelude.{◌<◌, ◌≡◌, ◌^◌, Bool, ℕ, IfNone, IfOk, IfSome, false};
 ghost use Rattle.clap.specs.Words.{app_of, found_of, new_app, rows_of, rule_of};
 ghost use Rattle.clap.specs.declared.builder.command.Command.TheViews.{out-Command};
-ghost use Rattle.words_core.specs.Arguments.{HasFlag, HasNumber, HasYear, flag_rule, number_rule, with_cell, with_lanes, with_places, workers_rule, year_rule};
+ghost use Rattle.words_core.specs.declared.grid_options.GridOptions.{GridOptions};
+ghost use Rattle.words_core.specs.Arguments.{HasFlag, HasGrid, HasNumber, HasYear, flag_rule, number_rule, with_cell, with_lanes, with_places, workers_rule, year_rule};
 
+use crate::grid_options::{
+    GridOptions, MOST_COLUMNS, MOST_HEIGHT, MOST_MODULE_DOTS, MOST_ROWS, MOST_WIDTH,
+};
 use clap::builder::ValueParser;
 use clap::{Arg, ArgAction, ArgMatches, Command};
 use element_core::Year;
-use record_core::{MOST_COLUMNS, MOST_HEIGHT, MOST_MODULE_DOTS, MOST_ROWS, MOST_WIDTH};
 use std::alloc::{AllocError, Global};
 
 /// How many lanes there are at most.
@@ -168,6 +171,20 @@ pub fn byte_named(matches: &ArgMatches<'_>, name: &str) -> Option<u8>
         → HasNumber name.now (rows_of (found_of matches.now)) n → ⊥) }
 {
     matches.get_one::<u8>(name)
+}
+
+/// The numbers of a grid of cells.
+pub fn grid_named(matches: &ArgMatches<'_>) -> Option<GridOptions>
+    ensures some { IfSome result (HasGrid (rows_of (found_of matches.now))) }
+    ensures none { IfNone result ((o : GridOptions) → HasGrid (rows_of (found_of matches.now)) o → ⊥) }
+{
+    GridOptions::new(
+        number_named(matches, "module")?,
+        number_named(matches, "width")?,
+        number_named(matches, "height")?,
+        number_named(matches, "columns")?,
+        number_named(matches, "rows")?,
+    )
 }
 
 /// Whether the flag of this name is set.

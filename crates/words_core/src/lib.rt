@@ -3,6 +3,7 @@
 
 mod arguments;
 mod commands;
+mod grid_options;
 mod help;
 mod laws;
 mod words;
@@ -12,5 +13,6 @@ pub use commands::live::options::LiveOptions;
 pub use commands::print::options::{Output, PrintOptions};
 pub use commands::scan::options::ScanOptions;
 pub use commands::{Asked, Batch};
+pub use grid_options::GridOptions;
 pub use laws::taken_words_ask;
 pub use words::{WordsFault, read_words, sentence};

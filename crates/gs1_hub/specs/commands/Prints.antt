@@ -9,7 +9,7 @@ use Rattle.sheet_core.specs.PrintLaws.{AreBytes}
 use Rattle.sheet_core.specs.pbm.Images.{pbm_of}
 use Rattle.sheet_core.specs.declared.fault.SheetFault.TheVariants as sheet
 use Rattle.sheet_core.specs.declared.label.Label.{Label}
-use Rattle.record_core.specs.Grids.{cells_of}
+use Rattle.gs1_hub.specs.Grids.{cells_of}
 use Rattle.record_core.specs.input.Records.{Takes}
 use Rattle.record_core.specs.print.Labels.{label_lines, print_meaning}
 use Rattle.gs1_hub.specs.Runs.{Command, RefusesRecords, WritesRecords}

@@ -5,7 +5,7 @@ use Rattle.sheet_core.specs.Bitmaps.{Bitmap}
 use Rattle.sheet_core.specs.Grids.{IsGrid}
 use Rattle.sheet_core.specs.pbm.Images.{ReadsBytes, images_of}
 use Rattle.sheet_core.specs.declared.fault.PbmFault.TheVariants as pbm
-use Rattle.record_core.specs.Grids.{cells_of}
+use Rattle.gs1_hub.specs.Grids.{cells_of}
 use Rattle.answer_core.specs.answers.Reports.{IsReport}
 use Rattle.answer_core.specs.Columns.{AreColumns, have_size}
 use Rattle.gs1_hub.specs.Runs.{Command, WritesOnce}

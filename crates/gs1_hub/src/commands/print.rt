@@ -2,12 +2,12 @@
 ghost use Rattle.std.specs.Prelude.{◌≡◌, ◌≢◌, ◌↔◌, List, ℕ, true, false, IfErr, IsErrOf, OnOk};
 ghost use Rattle.std.specs.Io.KnownBytes.{Appends};
 ghost use Rattle.digits_core.specs.Bytes.{TookFront};
-ghost use Rattle.record_core.specs.Grids.{cells_of};
 ghost use Rattle.gs1_hub.specs.Runs.{Ran};
 ghost use Rattle.gs1_hub.specs.commands.Prints.{IsPrinted, IsUnprinted, OnePrint, print_command};
 ghost use Rattle.words_core.specs.declared.commands.print.options.Output.{Output};
 
 use crate::fault::CommandFault;
+use crate::grid::grid_of;
 use digits_core::{Sink, Source, write_all};
 use element_core::one_list_or_fault;
 use record_core::{label_lines, read_labels};
@@ -23,13 +23,12 @@ fn write_labels<W: Sink>(
     labels: &[Label],
     sink: &mut W,
 ) -> Result<(), CommandFault>
-    requires { grid ≡ cells_of options.grid }
-    ensures ok { OnOk result ((text : List ℕ) × IsPrinted (cells_of options.grid) options.output labels.now text
+    ensures ok { OnOk result ((text : List ℕ) × IsPrinted grid options.output labels.now text
         × Appends (W.taken sink.old) (W.taken sink.new) text) }
     ensures cut { IsErrOf result CommandFault.WriteFault
-        → (text : List ℕ) × IsPrinted (cells_of options.grid) options.output labels.now text
+        → (text : List ℕ) × IsPrinted grid options.output labels.now text
         × TookFront (W.taken sink.old) (W.taken sink.new) text }
-    ensures refused { IfErr result (IsUnprinted (cells_of options.grid) labels.now) }
+    ensures refused { IfErr result (IsUnprinted grid labels.now) }
     ensures unwritten { IfErr result (λ e. e ≢ CommandFault.WriteFault → sink.new ≡ sink.old) }
     ensures write { W.failed sink.old ≡ false
         → (IsErrOf result CommandFault.WriteFault ↔ (W.failed sink.new ≡ true)) }
@@ -37,7 +36,7 @@ fn write_labels<W: Sink>(
     match options.output {
         Output::Lines => {
             check_labels(labels, &grid)?;
-            let cells = usize::from(options.grid.columns) * usize::from(options.grid.rows);
+            let cells = usize::from(grid.columns()) * usize::from(grid.rows());
             let text = label_lines(alloc, labels, cells, options.year)?;
             write_all(sink, text.as_str().as_bytes())?;
         }
@@ -60,7 +59,7 @@ pub fn run_print<S: Source, W: Sink>(
 ) -> Result<(), CommandFault>
     ensures { Ran (print_command options) S.left S.failed W.taken W.failed source.old source.new sink.old sink.new result }
 {
-    let grid = options.grid.grid()?;
+    let grid = grid_of(options.grid)?;
     let labels = read_labels(alloc, options.year, source)?;
     write_labels(alloc, options, grid, labels.as_slice(), sink)
 }

@@ -3,6 +3,7 @@ ghost use Rattle.gs1_hub.specs.Runs.{Ran};
 ghost use Rattle.gs1_hub.specs.commands.Scans.{OneScan, scan_command};
 
 use crate::fault::CommandFault;
+use crate::grid::grid_of;
 use answer_core::{answer_lines, are_of_size, column_feeds, scanned_once};
 use digits_core::{Sink, Source, write_all};
 use hub_core::Gate;
@@ -29,14 +30,14 @@ pub fn run_scan<R: Threads + Wait + Sync, S: Source, W: Sink, G: Gate + Sync>(
 ) -> Result<(), CommandFault>
     ensures { Ran (scan_command options) S.left S.failed W.taken W.failed source.old source.new sink.old sink.new result }
 {
-    let grid = options.grid.grid()?;
+    let grid = grid_of(options.grid)?;
     let sheets = read_pbm(alloc, source)?;
-    if !are_of_size(options.grid, sheets.as_slice()) {
+    if !are_of_size(grid, sheets.as_slice()) {
         return Err(CommandFault::PbmSize);
     }
     // The law by which there are few images, and so few rows.
     files_are_read();
-    let feeds = column_feeds(alloc, options.grid, grid, sheets.as_slice())?;
+    let feeds = column_feeds(alloc, grid, sheets.as_slice())?;
     drop(sheets);
     let lines = answer_lines(rt, alloc, feeds, options.workers, options.year, gate)?;
     write_all(sink, lines.as_str().as_bytes())?;

@@ -7,7 +7,7 @@ ghost use Rattle.words_core.specs.declared.commands.print.options.PrintOptions.{
 
 pub mod options;
 
-use crate::arguments::{command, flag, flag_named, number_named, with_grid, year};
+use crate::arguments::{command, flag, flag_named, grid_named, number_named, with_grid, year};
 use crate::commands::print::options::PrintOptions;
 use clap::{ArgMatches, Command};
 use std::alloc::{AllocError, Global};
@@ -53,12 +53,8 @@ pub fn options_named(matches: &ArgMatches<'_>) -> Option<PrintOptions>
     ensures none { IfNone result ((o : PrintOptions)
         → HasPrint (rows_of (found_of matches.now)) o → ⊥) }
 {
-    PrintOptions::new(
-        number_named(matches, "module")?,
-        number_named(matches, "width")?,
-        number_named(matches, "height")?,
-        number_named(matches, "columns")?,
-        number_named(matches, "rows")?,
+    PrintOptions::in_grid(
+        grid_named(matches)?,
         number_named(matches, "year")?,
         flag_named(matches, "text")?,
     )

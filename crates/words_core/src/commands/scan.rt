@@ -7,7 +7,7 @@ ghost use Rattle.words_core.specs.declared.commands.scan.options.ScanOptions.{Sc
 
 pub mod options;
 
-use crate::arguments::{byte_named, command, number_named, with_grid, workers, year};
+use crate::arguments::{byte_named, command, grid_named, number_named, with_grid, workers, year};
 use crate::commands::scan::options::ScanOptions;
 use clap::{ArgMatches, Command};
 use std::alloc::{AllocError, Global};
@@ -43,12 +43,8 @@ pub fn options_named(matches: &ArgMatches<'_>) -> Option<ScanOptions>
     ensures none { IfNone result ((o : ScanOptions)
         → HasScan (rows_of (found_of matches.now)) o → ⊥) }
 {
-    ScanOptions::new(
-        number_named(matches, "module")?,
-        number_named(matches, "width")?,
-        number_named(matches, "height")?,
-        number_named(matches, "columns")?,
-        number_named(matches, "rows")?,
+    ScanOptions::in_grid(
+        grid_named(matches)?,
         byte_named(matches, "workers")?,
         number_named(matches, "year")?,
     )

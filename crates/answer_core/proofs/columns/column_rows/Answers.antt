@@ -1,5 +1,4 @@
 use Rattle.std.proofs.Common.{arith}
-use Rattle.record_core.specs.Grids.{cells_of}
 use Rattle.answer_core.specs.Columns.{column_dots}
 use Rattle.answer_core.proofs.ColumnFacts.{one_more_sheet}
 use Rattle.answer_core.proofs.columns.column_rows.Goals as goal
@@ -7,6 +6,6 @@ use Rattle.answer_core.proofs.columns.column_rows.Goals as goal
 pub sheets-preserved : goal.sheets-preserved
 sheets-preserved c =
     let added = c.in_ok-push_column.ensures.added in
-    rw added.2 (one_more_sheet (column_dots (cells_of c.args.options) c.args.column) c.args.sheets.now c.sheets.sheet-index c.sheet-item.result
+    rw added.2 (one_more_sheet (column_dots c.args.grid c.args.column) c.args.sheets.now c.sheets.sheet-index c.sheet-item.result
     c.sheets.rows.items added.0
     (omega arith) c.sheet-item.is c.sheets.invariant added.1)

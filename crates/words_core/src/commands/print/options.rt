@@ -1,12 +1,12 @@
 //! The options of the command `print`, and the numbers that it takes.
 ghost use Rattle.std.specs.Prelude.{◌≡◌, ◌↔◌, IfSome, IsSome};
-ghost use Rattle.record_core.specs.Grids.{HasNumbers};
-ghost use Rattle.record_core.specs.Numbers.{AreGridNumbers};
 ghost use Rattle.words_core.specs.Arguments.{IsReferenceYear};
 ghost use Rattle.words_core.specs.commands.Prints.{asks_lines};
+ghost use Rattle.words_core.specs.Grids.{HasNumbers};
+ghost use Rattle.words_core.specs.Numbers.{AreGridNumbers};
 
+use crate::grid_options::GridOptions;
 use element_core::Year;
-use record_core::GridOptions;
 
 /// What `print` writes of labels.
 #[derive(Clone, Copy, Debug, PartialEq, Eq)]
@@ -46,6 +46,14 @@ impl PrintOptions {
         ensures rest { IfSome result (λ o. (o.year ≡ year) × (asks_lines o.output ≡ text)) }
     {
         let grid = GridOptions::new(module_dots, width, height, columns, rows)?;
+        PrintOptions::in_grid(grid, year, text)
+    }
+
+    /// The options in this grid, or none where the year lies outside its range.
+    pub(crate) fn in_grid(grid: GridOptions, year: u16, text: bool) -> Option<PrintOptions>
+        ensures taken { IsSome result ↔ IsReferenceYear year }
+        ensures numbers { IfSome result (λ o. (o.grid ≡ grid) × (o.year ≡ year) × (asks_lines o.output ≡ text)) }
+    {
         let year = Year::new(year)?;
         let output = if text { Output::Lines } else { Output::Images };
         Some(PrintOptions { grid, year, output })

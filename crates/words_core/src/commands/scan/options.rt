@@ -1,12 +1,12 @@
 //! The options of the command `scan`, and the numbers that it takes.
 ghost use Rattle.std.specs.Prelude.{◌≡◌, ◌↔◌, IfSome, IsSome};
-ghost use Rattle.record_core.specs.Grids.{HasNumbers};
-ghost use Rattle.record_core.specs.Numbers.{AreGridNumbers};
 ghost use Rattle.words_core.specs.Arguments.{IsReferenceYear, IsWorkerCount};
+ghost use Rattle.words_core.specs.Grids.{HasNumbers};
+ghost use Rattle.words_core.specs.Numbers.{AreGridNumbers};
 
 use crate::arguments::MOST_WORKERS;
+use crate::grid_options::GridOptions;
 use element_core::Year;
-use record_core::GridOptions;
 
 /// The options of the command `scan`.
 #[derive(Clone, Copy, Debug, PartialEq, Eq)]
@@ -38,6 +38,14 @@ impl ScanOptions {
         ensures rest { IfSome result (λ o. (o.workers ≡ workers) × (o.year ≡ year)) }
     {
         let grid = GridOptions::new(module_dots, width, height, columns, rows)?;
+        ScanOptions::in_grid(grid, workers, year)
+    }
+
+    /// The options in this grid, or none where one number alone lies outside its range.
+    pub(crate) fn in_grid(grid: GridOptions, workers: u8, year: u16) -> Option<ScanOptions>
+        ensures taken { IsSome result ↔ (IsWorkerCount workers × IsReferenceYear year) }
+        ensures numbers { IfSome result (λ o. (o.grid ≡ grid) × (o.workers ≡ workers) × (o.year ≡ year)) }
+    {
         if !(1..=MOST_WORKERS).contains(&workers) {
             return None;
         }

@@ -16,7 +16,6 @@ use Rattle.sheet_core.specs.Grids.{Cells}
 use Rattle.sheet_core.specs.Labels.{IsPrintable}
 use Rattle.sheet_core.specs.pbm.Images.{pbm_of}
 use Rattle.sheet_core.specs.declared.label.Label.{Label}
-use Rattle.record_core.specs.Grids.{cells_of}
 use Rattle.gs1_hub.specs.Faults.{of_prints}
 use Rattle.gs1_hub.specs.commands.Prints.{IsPrinted}
 use Rattle.record_core.specs.print.Labels.{label_lines}
@@ -34,15 +33,16 @@ images_printed g o labels sheets asked printed = rw asked (sheets, printed, refl
 
 pub returns-in_err-write_all-in-Lines-clause-cut : goal.returns-in_err-write_all-in-Lines-clause-cut
 returns-in_err-write_all-in-Lines-clause-cut g c = λ same.
+    let grid = c.args.grid in
     let o = c.args.options in
     let labels = c.args.labels.now in
     let text = string_bytes c.in_ok-text-in-Lines.text in
-    let cells : c.from.result * c.from-in-Lines.result ≡ cell_count (cells_of o.grid) = rw (c.from.ensures, c.from-in-Lines.ensures) refl in
-    let fit = subst (λ g. AllByRecursion (IsPrintable g) labels) c.requires c.in_ok-check_labels-in-Lines.ensures.ok in
-    let lines : text ≡ label_lines (cell_count (cells_of o.grid)) labels = c.in_ok-text-in-Lines.ensures ∙ ap (λ k. label_lines k labels) cells in
+    let cells : c.from.result * c.from-in-Lines.result ≡ cell_count grid = rw (c.from.ensures, c.columns.ensures, c.from-in-Lines.ensures, c.rows.ensures) refl in
+    let fit = c.in_ok-check_labels-in-Lines.ensures.ok in
+    let lines : text ≡ label_lines (cell_count grid) labels = c.in_ok-text-in-Lines.ensures ∙ ap (λ k. label_lines k labels) cells in
     let sent = c.as_bytes.ensures.value ∙ c.as_str.ensures.value in (
       text,
-      lines_printed (cells_of o.grid) o.output labels text c.in-Lines.is fit lines,
+      lines_printed grid o.output labels text c.in-Lines.is fit lines,
       subst (λ t. TookFront (g.W.Sink.taken c.args.sink.now) (g.W.Sink.taken c.write_all.new.sink) t) sent c.in_err-write_all-in-Lines.ensures.err,
     )
 
@@ -61,14 +61,15 @@ its_write (Err x) f h k e = let same : x ≡ command.WriteFault = cc in only_wri
 
 pub returns-in_err-print_pbm-in-Images-clause-cut : goal.returns-in_err-print_pbm-in-Images-clause-cut
 returns-in_err-print_pbm-in-Images-clause-cut g c = λ same.
+    let grid = c.args.grid in
     let o = c.args.options in
     let labels = c.args.labels.now in
     let e = c.from_residual-in_err-print_pbm-in-Images.ensures in
     let f = c.in_err-print_pbm-in-Images.field-0.0 in
     let write = its_write c.from_residual-in_err-print_pbm-in-Images.result f e.0 e.1 same in
     let out = c.in_err-print_pbm-in-Images.ensures.cut (ap (λ f. Err f) write) in
-    let printed = subst (λ g. ArePrinted labels g out.0) c.requires out.1 in (
+    let printed = out.1 in (
       pbm_of out.0,
-      images_printed (cells_of o.grid) o.output labels out.0 c.in-Images.is printed,
+      images_printed grid o.output labels out.0 c.in-Images.is printed,
       out.2,
     )

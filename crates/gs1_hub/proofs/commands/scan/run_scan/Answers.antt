@@ -1,6 +1,7 @@
 use Rattle.std.proofs.Common.{◌≡◌, ◌≤◌, ◌∙◌, Err, ap, length, map, refl, rules, string_bytes, subst, sym, true}
 use Rattle.sheet_core.specs.declared.fault.PbmFault.TheVariants.{ReadFault}
-use Rattle.record_core.specs.Grids.{cells_of}
+use Rattle.sheet_core.specs.Grids.{Cells}
+use Rattle.gs1_hub.specs.Grids.{cells_of}
 use Rattle.answer_core.specs.Columns.{AreColumns, have_size}
 use Rattle.gs1_hub.specs.Faults.{of_answers}
 use Rattle.gs1_hub.specs.commands.Scans.{scan_command}
@@ -19,7 +20,8 @@ column_feeds-requires-clause-few g c =
 pub answer_lines-requires-after_bounds : goal.answer_lines-requires-after_bounds
 answer_lines-requires-after_bounds g c κs within =
     let o = c.args.options in
-    counts_hold (λ feed. feed.items) c.in_ok-feeds.feeds.items o.grid.columns o.workers c.in_ok-feeds.ensures.count o.grid.numbers.3 o.some_workers
+    counts_hold (λ feed. feed.items) c.in_ok-feeds.feeds.items o.grid.columns o.workers
+    (c.in_ok-feeds.ensures.count ∙ ap (λ (g : Cells). g.columns) c.in_ok-grid.ensures.ok) o.grid.numbers.3 o.some_workers
     c.in_ok-feeds.ensures.short
 
 pub returns-in_err-lines : goal.returns-in_err-lines
@@ -30,7 +32,8 @@ returns-in_err-lines g c =
     let fault = c.in_err-lines.field-0.0 in
     let left = g.S.Source.left c.args.source.now in
     let rest = g.S.Source.left c.read_pbm.new.reader in
-    let are = subst (λ s. AreColumns (cells_of o.grid) s (map (λ feed. feed.items) feeds)) c.as_slice-2.ensures.value c.in_ok-feeds.ensures.feeds in
+    let asked = subst (λ g. AreColumns g c.as_slice-2.result.now (map (λ feed. feed.items) feeds)) c.in_ok-grid.ensures.ok c.in_ok-feeds.ensures.feeds in
+    let are = subst (λ s. AreColumns (cells_of o.grid) s (map (λ feed. feed.items) feeds)) c.as_slice-2.ensures.value asked in
     let size : have_size (cells_of o.grid) sheets ≡ true = search rules in
     let why = images_unanswered (λ feed. feed.items) o sheets feeds left rest fault (c.in_ok-grid.ensures.exact.0 refl) c.in_ok-sheets.ensures.ok
     c.in_ok-sheets.ensures.end size are
@@ -56,7 +59,8 @@ returns-in_err-write_all g c =
     let sheets = c.in_ok-sheets.sheets.items in
     let feeds = map (λ feed. feed.items) c.in_ok-feeds.feeds.items in
     let lines = string_bytes c.in_ok-lines.lines in
-    let are = subst (λ s. AreColumns (cells_of o.grid) s feeds) c.as_slice-2.ensures.value c.in_ok-feeds.ensures.feeds in
+    let asked = subst (λ g. AreColumns g c.as_slice-2.result.now feeds) c.in_ok-grid.ensures.ok c.in_ok-feeds.ensures.feeds in
+    let are = subst (λ s. AreColumns (cells_of o.grid) s feeds) c.as_slice-2.ensures.value asked in
     let size : have_size (cells_of o.grid) sheets ≡ true = search rules in
     record {
       ok = search rules;

@@ -1,8 +1,6 @@
-//! The numbers of a grid.
-ghost use Rattle.std.specs.Prelude.{◌↔◌, IfOk, IfSome, IsOk, IsSome, ◌≡◌};
-ghost use Rattle.record_core.specs.Numbers.{AreGridNumbers};
-
-use sheet_core::{BadGrid, Grid};
+//! The numbers of a grid of cells.
+ghost use Rattle.std.specs.Prelude.{◌↔◌, IfSome, IsSome};
+ghost use Rattle.words_core.specs.Numbers.{AreGridNumbers};
 
 /// How wide a module is at most, in dots.
 pub const MOST_MODULE_DOTS: u16 = 8;
@@ -37,10 +35,10 @@ pub struct GridOptions {
 }
 
 impl GridOptions {
-    ghost use Rattle.sheet_core.specs.Grids.{IsGrid};
-    ghost use Rattle.record_core.specs.Grids.{HasNumbers, cells_of};
+    ghost use Rattle.words_core.specs.Grids.{HasNumbers};
 
-    /// These numbers, or none where one of them alone lies outside its range.
+    /// These numbers, or none where one of them alone lies outside its range. What they may be
+    /// together is for the grid that is made of them.
     pub fn new(
         module_dots: u16,
         width: u16,
@@ -67,19 +65,5 @@ impl GridOptions {
             columns,
             rows,
         })
-    }
-
-    /// The grid of these numbers, where they may stand together.
-    pub fn grid(self) -> Result<Grid, BadGrid>
-        ensures ok { IfOk result (λ g. g ≡ cells_of self) }
-        ensures exact { IsOk result ↔ IsGrid (cells_of self) }
-    {
-        Grid::new(
-            self.module_dots,
-            self.width,
-            self.height,
-            self.columns,
-            self.rows,
-        )
     }
 }
