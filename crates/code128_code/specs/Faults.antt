@@ -1,11 +1,13 @@
 -- The texts of faults, as they stand in an output line.
-use Rattle.std.specs.Prelude.{ℕ, List, codes}
+use Rattle.std.specs.Prelude.{ℕ, List}
+use Rattle.digits_core.specs.Refusals.{refusal_words}
+use Rattle.digits_core.specs.declared.refusal.RefusalKind.TheVariants as refusal
 use Rattle.code128_code.specs.declared.fault.Code128Fault.{Code128Fault}
 use Rattle.code128_code.specs.declared.fault.Code128Fault.TheVariants.{CheckCharacter, NotGs1, FunctionCharacter, CodeSet}
 
 -- `refused`, its number and its name
 abbrev pub code128_fault_text : Code128Fault → List ℕ
-code128_fault_text CheckCharacter = codes "refused 13 CheckCharacter"
-code128_fault_text NotGs1 = codes "refused 14 NotGs1"
-code128_fault_text FunctionCharacter = codes "refused 15 FunctionCharacter"
-code128_fault_text CodeSet = codes "refused 16 CodeSet"
+code128_fault_text CheckCharacter = refusal_words refusal.CheckCharacter
+code128_fault_text NotGs1 = refusal_words refusal.NotGs1
+code128_fault_text FunctionCharacter = refusal_words refusal.FunctionCharacter
+code128_fault_text CodeSet = refusal_words refusal.CodeSet

@@ -1,9 +1,10 @@
 //! Why values say no element string, and why elements are not encoded.
-ghost use Rattle.std.specs.Prelude.{Some, ◌≡◌, codes};
-ghost use Rattle.digits_core.specs.Refusals.{refusal_text};
+ghost use Rattle.std.specs.Prelude.{Some, ◌≡◌};
+ghost use Rattle.digits_core.specs.Refusals.{refusal_text, refusal_words};
+ghost use Rattle.digits_core.specs.declared.refusal.RefusalKind.TheVariants as refusal;
 ghost use Rattle.code128_code.specs.Faults.{code128_fault_text};
 
-use digits_core::Refusal;
+use digits_core::{Refusal, RefusalKind};
 use std::fmt;
 
 /// Why the values of a Code 128 symbol say no text: the first of these tests that they fail, and of
@@ -23,15 +24,15 @@ pub enum Code128Fault {
 impl Code128Fault {
     /// The refusal that an output line tells.
     pub fn refusal(self) -> Refusal
-        ensures { refusal_text result.words.now result.place ≡ code128_fault_text self }
+        ensures { refusal_text result.kind result.place ≡ code128_fault_text self }
     {
-        let words = match self {
-            Code128Fault::CheckCharacter => "refused 13 CheckCharacter",
-            Code128Fault::NotGs1 => "refused 14 NotGs1",
-            Code128Fault::FunctionCharacter => "refused 15 FunctionCharacter",
-            Code128Fault::CodeSet => "refused 16 CodeSet",
+        let kind = match self {
+            Code128Fault::CheckCharacter => RefusalKind::CheckCharacter,
+            Code128Fault::NotGs1 => RefusalKind::NotGs1,
+            Code128Fault::FunctionCharacter => RefusalKind::FunctionCharacter,
+            Code128Fault::CodeSet => RefusalKind::CodeSet,
         };
-        Refusal { words, place: None }
+        Refusal { kind, place: None }
     }
 }
 
@@ -48,10 +49,22 @@ impl fmt::Display for Code128Fault {
 #[derive(Clone, Copy, Debug, PartialEq, Eq)]
 pub struct TooManyCharacters;
 
+impl TooManyCharacters {
+    /// The refusal that an output line tells.
+    pub fn refusal(self) -> Refusal
+        ensures { refusal_text result.kind result.place ≡ refusal_words refusal.TooManyCharacters }
+    {
+        Refusal {
+            kind: RefusalKind::TooManyCharacters,
+            place: None,
+        }
+    }
+}
+
 impl fmt::Display for TooManyCharacters {
-    ghost output = { λ _. Some (codes "refused 12 TooManyCharacters") };
+    ghost output = { λ _. Some (refusal_words refusal.TooManyCharacters) };
 
     fn fmt<W: fmt::Write>(&self, f: &mut fmt::Formatter<W>) -> fmt::Result {
-        write!(f, "refused 12 TooManyCharacters")
+        self.refusal().fmt(f)
     }
 }

@@ -3,7 +3,7 @@ ghost use Rattle.std.specs.Prelude.{Some, ◌≡◌};
 ghost use Rattle.digits_core.specs.Faults.{digit_fault_text};
 ghost use Rattle.digits_core.specs.Refusals.{refusal_text};
 
-use crate::refusal::Refusal;
+use crate::refusal::{Refusal, RefusalKind};
 use std::fmt;
 
 /// Why a text is no number of the kind that was asked for.
@@ -20,14 +20,14 @@ pub enum DigitFault {
 impl DigitFault {
     /// The refusal that an output line tells.
     pub fn refusal(self) -> Refusal
-        ensures { refusal_text result.words.now result.place ≡ digit_fault_text self }
+        ensures { refusal_text result.kind result.place ≡ digit_fault_text self }
     {
-        let (words, place) = match self {
-            DigitFault::Length => ("refused 1 Length", None),
-            DigitFault::NotDigit(place) => ("refused 2 NotDigit", Some(place)),
-            DigitFault::CheckDigit => ("refused 3 CheckDigit", None),
+        let (kind, place) = match self {
+            DigitFault::Length => (RefusalKind::Length, None),
+            DigitFault::NotDigit(place) => (RefusalKind::NotDigit, Some(place)),
+            DigitFault::CheckDigit => (RefusalKind::CheckDigit, None),
         };
-        Refusal { words, place }
+        Refusal { kind, place }
     }
 }
 

@@ -17,7 +17,7 @@ pub use fault::DigitFault;
 pub use gtin::Gtin;
 pub use laws::{gtins_are_checked, one_first_spelling};
 pub use payload::{check_digit, not_digits, payload_digit};
-pub use refusal::Refusal;
+pub use refusal::{Refusal, RefusalKind};
 pub use sink::{Sink, write_all};
 pub use source::{Failed, InputFault, Source, read_all};
 pub use tracked::{FromReader, ToWriter, Tracked};

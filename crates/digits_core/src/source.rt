@@ -2,8 +2,10 @@
 ghost use Rattle.std.specs.Prelude.{◌≡◌, ◌↔◌, ◌≤◌, ℕ, List, Option, Bool, true, false, length, IfOk, OnOk, OnErr, IsErr, IsErrOf, IsTrue, Some};
 ghost use Rattle.std.specs.Io.KnownBytes.{ReadConsumes};
 ghost use Rattle.digits_core.specs.Faults.{input_fault_text};
+ghost use Rattle.digits_core.specs.Refusals.{refusal_text};
 ghost use Rattle.digits_core.specs.Bytes.{GaveAll, GaveAtMost, GaveMoreThan};
 
+use crate::refusal::{Refusal, RefusalKind};
 use std::alloc::Global;
 use std::fmt;
 
@@ -42,15 +44,25 @@ pub enum InputFault {
     NoMemory,
 }
 
+impl InputFault {
+    /// The refusal that an output line tells.
+    pub fn refusal(self) -> Refusal
+        ensures { refusal_text result.kind result.place ≡ input_fault_text self }
+    {
+        let kind = match self {
+            InputFault::ReadFault => RefusalKind::ReadFault,
+            InputFault::InputSize => RefusalKind::InputSize,
+            InputFault::NoMemory => RefusalKind::NoMemory,
+        };
+        Refusal { kind, place: None }
+    }
+}
+
 impl fmt::Display for InputFault {
     ghost output = { λ fault. Some (input_fault_text fault) };
 
     fn fmt<W: fmt::Write>(&self, f: &mut fmt::Formatter<W>) -> fmt::Result {
-        match self {
-            InputFault::ReadFault => write!(f, "refused 37 ReadFault"),
-            InputFault::InputSize => write!(f, "refused 44 InputSize"),
-            InputFault::NoMemory => write!(f, "refused 43 NoMemory"),
-        }
+        self.refusal().fmt(f)
     }
 }
 

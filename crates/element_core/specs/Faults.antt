@@ -1,16 +1,17 @@
 -- The text of a fault, as it stands in an output line.
-use Rattle.std.specs.Prelude.{ℕ, List, ◌++◌, codes}
-use Rattle.std.specs.Fmt.{decimal}
+use Rattle.std.specs.Prelude.{ℕ, List, Some}
+use Rattle.digits_core.specs.Refusals.{refusal_text, refusal_words}
+use Rattle.digits_core.specs.declared.refusal.RefusalKind.TheVariants as refusal
 use Rattle.element_core.specs.declared.fault.ElementFault.{ElementFault}
 use Rattle.element_core.specs.declared.fault.ElementFault.TheVariants.{Empty, UnknownAi, ValueLength, ValueCharacter, ValueCheckDigit, ValueDate, MissingSeparator, TooLong}
 
 -- `refused`, its number, its name and, where it has one, its place
 abbrev pub element_fault_text : ElementFault → List ℕ
-element_fault_text Empty = codes "refused 4 Empty"
-element_fault_text (UnknownAi place) = codes "refused 5 UnknownAi " ++ decimal place
-element_fault_text (ValueLength place) = codes "refused 6 ValueLength " ++ decimal place
-element_fault_text (ValueCharacter place) = codes "refused 7 ValueCharacter " ++ decimal place
-element_fault_text (ValueCheckDigit place) = codes "refused 8 ValueCheckDigit " ++ decimal place
-element_fault_text (ValueDate place) = codes "refused 9 ValueDate " ++ decimal place
-element_fault_text (MissingSeparator place) = codes "refused 10 MissingSeparator " ++ decimal place
-element_fault_text TooLong = codes "refused 11 TooLong"
+element_fault_text Empty = refusal_words refusal.Empty
+element_fault_text (UnknownAi place) = refusal_text refusal.UnknownAi (Some place)
+element_fault_text (ValueLength place) = refusal_text refusal.ValueLength (Some place)
+element_fault_text (ValueCharacter place) = refusal_text refusal.ValueCharacter (Some place)
+element_fault_text (ValueCheckDigit place) = refusal_text refusal.ValueCheckDigit (Some place)
+element_fault_text (ValueDate place) = refusal_text refusal.ValueDate (Some place)
+element_fault_text (MissingSeparator place) = refusal_text refusal.MissingSeparator (Some place)
+element_fault_text TooLong = refusal_words refusal.TooLong

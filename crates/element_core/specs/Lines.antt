@@ -18,7 +18,7 @@ use Rattle.element_core.specs.declared.line.Line.TheVariants as line
 -- the bytes of a line: a word, a space and what is said, or a refusal
 abbrev pub line_text : Line → List ℕ
 line_text (line.Said word text) = word.now ++ (32 ∷ text.bytes)
-line_text (line.Refused words place) = refusal_text words.now place
+line_text (line.Refused refusal) = refusal_text refusal.kind refusal.place
 
 -- elements, in the human-readable form or as pairs
 abbrev pub elements_text : Form → List Entry → List ℕ

@@ -4,7 +4,7 @@ ghost use Rattle.std.specs.Prelude.{Some, ◌≡◌};
 ghost use Rattle.digits_core.specs.Refusals.{refusal_text};
 ghost use Rattle.element_core.specs.Faults.{element_fault_text};
 
-use digits_core::Refusal;
+use digits_core::{Refusal, RefusalKind};
 use std::fmt;
 
 /// The first fault of a text, with the offset in it of the first byte of the element's AI, in bytes;
@@ -32,19 +32,19 @@ pub enum ElementFault {
 impl ElementFault {
     /// The refusal that an output line tells.
     pub fn refusal(self) -> Refusal
-        ensures { refusal_text result.words.now result.place ≡ element_fault_text self }
+        ensures { refusal_text result.kind result.place ≡ element_fault_text self }
     {
-        let (words, place) = match self {
-            ElementFault::Empty => ("refused 4 Empty", None),
-            ElementFault::UnknownAi(place) => ("refused 5 UnknownAi", Some(place)),
-            ElementFault::ValueLength(place) => ("refused 6 ValueLength", Some(place)),
-            ElementFault::ValueCharacter(place) => ("refused 7 ValueCharacter", Some(place)),
-            ElementFault::ValueCheckDigit(place) => ("refused 8 ValueCheckDigit", Some(place)),
-            ElementFault::ValueDate(place) => ("refused 9 ValueDate", Some(place)),
-            ElementFault::MissingSeparator(place) => ("refused 10 MissingSeparator", Some(place)),
-            ElementFault::TooLong => ("refused 11 TooLong", None),
+        let (kind, place) = match self {
+            ElementFault::Empty => (RefusalKind::Empty, None),
+            ElementFault::UnknownAi(place) => (RefusalKind::UnknownAi, Some(place)),
+            ElementFault::ValueLength(place) => (RefusalKind::ValueLength, Some(place)),
+            ElementFault::ValueCharacter(place) => (RefusalKind::ValueCharacter, Some(place)),
+            ElementFault::ValueCheckDigit(place) => (RefusalKind::ValueCheckDigit, Some(place)),
+            ElementFault::ValueDate(place) => (RefusalKind::ValueDate, Some(place)),
+            ElementFault::MissingSeparator(place) => (RefusalKind::MissingSeparator, Some(place)),
+            ElementFault::TooLong => (RefusalKind::TooLong, None),
         };
-        Refusal { words, place }
+        Refusal { kind, place }
     }
 }
 

@@ -20,11 +20,8 @@ pub enum Line {
         word: &'static str,
         text: ArrayString<288>,
     },
-    /// Why there is nothing to say: `refused`, a number and a name, and a place where it has one.
-    Refused {
-        words: &'static str,
-        place: Option<usize>,
-    },
+    /// Why there is nothing to say.
+    Refused(Refusal),
 }
 
 impl fmt::Display for Line {
@@ -36,13 +33,7 @@ impl fmt::Display for Line {
                 let said = text.as_str();
                 write!(f, "{word} {said}")
             }
-            Line::Refused { words, place } => {
-                let refusal = Refusal {
-                    words,
-                    place: *place,
-                };
-                write!(f, "{refusal}")
-            }
+            Line::Refused(why) => why.fmt(f),
         }
     }
 }
@@ -50,12 +41,9 @@ impl fmt::Display for Line {
 impl Line {
     /// A refusal.
     pub fn refused(refusal: Refusal) -> Line
-        ensures { line_text result ≡ refusal_text refusal.words.now refusal.place }
+        ensures { line_text result ≡ refusal_text refusal.kind refusal.place }
     {
-        Line::Refused {
-            words: refusal.words,
-            place: refusal.place,
-        }
+        Line::Refused(refusal)
     }
 
     /// A word, and the elements of a list in a form.

@@ -1,8 +1,10 @@
 -- Images of single labels.
-use Rattle.std.specs.Prelude.{◌≡◌, ◌⊎◌, ◌==◌, ℕ, List, [], ◌∷◌, Option, Some, None, codes, if◌then◌else◌}
+use Rattle.std.specs.Prelude.{◌≡◌, ◌⊎◌, ◌==◌, ℕ, List, [], ◌∷◌, Option, Some, None, if◌then◌else◌}
 use Rattle.digits_core.specs.Digits.{digits_of, padded}
 use Rattle.digits_core.specs.Faults.{digit_fault_text}
 use Rattle.digits_core.specs.Gtins.{gtin_fault}
+use Rattle.digits_core.specs.Refusals.{refusal_words}
+use Rattle.digits_core.specs.declared.refusal.RefusalKind.TheVariants as refusal
 use Rattle.digits_core.specs.declared.fault.DigitFault.{DigitFault}
 use Rattle.element_core.specs.Elements.{FirstFault, IsElements, Listing}
 use Rattle.element_core.specs.Faults.{element_fault_text}
@@ -61,10 +63,10 @@ IsKindPrinted year kind.Gs1128 text g bytes = IsTextPrinted year text g bytes
 
 -- the same by the kind's number: first the kind is looked at, then the year, then the cell
 abbrev pub IsNumberPrinted : Option LabelKind → ℕ → List ℕ → Cells → List ℕ → Type 0
-IsNumberPrinted None year text g bytes = bytes ≡ codes "refused 40 Kind"
+IsNumberPrinted None year text g bytes = bytes ≡ refusal_words refusal.Kind
 IsNumberPrinted (Some k) year text g bytes =
     ((IsYear year → ⊥) × (bytes ≡ words_text))
-    ⊎ (IsYear year × (IsGrid g → ⊥) × (bytes ≡ codes "refused 25 BadGrid"))
+    ⊎ (IsYear year × (IsGrid g → ⊥) × (bytes ≡ refusal_words refusal.BadGrid))
     ⊎ (IsYear year × IsGrid g × IsKindPrinted year k text g bytes)
 
 abbrev pub IsLabelBytes : ℕ → ℕ → List ℕ → Cells → List ℕ → Type 0

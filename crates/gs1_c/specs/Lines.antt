@@ -1,5 +1,7 @@
 -- The lines that the calls answer.
-use Rattle.std.specs.Prelude.{◌≡◌, ◌⊎◌, ◌≤◌, ◌*◌, nat_lt, ℕ, List, Option, Some, None, codes, length, if◌then◌else◌}
+use Rattle.std.specs.Prelude.{◌≡◌, ◌⊎◌, ◌≤◌, ◌*◌, nat_lt, ℕ, List, Option, Some, None, length, if◌then◌else◌}
+use Rattle.digits_core.specs.Refusals.{refusal_words}
+use Rattle.digits_core.specs.declared.refusal.RefusalKind.TheVariants as refusal
 use Rattle.element_core.specs.Lines.{IsElementsLine, elements_text}
 use Rattle.element_core.specs.declared.form.Form.{Form}
 use Rattle.scan_core.specs.Answers.{IsAnswer}
@@ -17,7 +19,7 @@ IsYear year = (1951 ≤ year) × (year ≤ 2149)
 
 -- the line of a year that is none
 abbrev pub words_text : List ℕ
-words_text = codes "refused 42 Words"
+words_text = refusal_words refusal.Words
 
 -- this line where the year is a reference year, and else the line of a year that is none
 abbrev pub IsInYear : ℕ → (List ℕ → Type 0) → List ℕ → Type 0

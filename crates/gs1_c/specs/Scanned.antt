@@ -4,6 +4,8 @@ use Rattle.std.specs.Str.{bytes_eq}
 use Rattle.digits_core.specs.Digits.{digits_of, padded}
 use Rattle.digits_core.specs.Faults.{digit_fault_text}
 use Rattle.digits_core.specs.Gtins.{gtin_fault}
+use Rattle.digits_core.specs.Refusals.{refusal_words}
+use Rattle.digits_core.specs.declared.refusal.RefusalKind.TheVariants as refusal
 use Rattle.digits_core.specs.declared.fault.DigitFault.{DigitFault}
 use Rattle.element_core.specs.Elements.{gtin_entry, pairs_text}
 use Rattle.element_core.specs.Lines.{IsElementsLine}
@@ -40,7 +42,7 @@ scanned_gtin identifier said (Some fault) = digit_fault_text fault
 abbrev pub IsMessageLine : ℕ → List ℕ → List ℕ → Option Message → List ℕ → Type 0
 IsMessageLine year identifier said (Some message.Gtin) line = line ≡ scanned_gtin identifier said (gtin_fault said)
 IsMessageLine year identifier said (Some message.Elements) line = IsElementsLine identifier pairs_text year said line
-IsMessageLine year identifier said None line = line ≡ codes "refused 40 Kind"
+IsMessageLine year identifier said None line = line ≡ refusal_words refusal.Kind
 
 -- the line of a text as a scanner sends it
 abbrev pub IsScanLine : ℕ → List ℕ → List ℕ → Type 0

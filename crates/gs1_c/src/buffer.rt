@@ -1,11 +1,11 @@
 //! Bytes into a caller's buffer.
 ghost use Rattle.std.specs.Prelude.{◌∷◌, ◌++◌};
 ghost use Rattle.digits_core.specs.Buffers.{IsPut};
-ghost use Rattle.digits_core.specs.Refusals.{refusal_text};
+ghost use Rattle.digits_core.specs.Refusals.{refusal_text, refusal_words};
 ghost use Rattle.element_core.specs.Elements.{hri, pairs_text};
 ghost use Rattle.element_core.specs.Lines.{line_text};
 
-use digits_core::Refusal;
+use digits_core::{Refusal, RefusalKind};
 use element_core::{Elements, Line};
 use itoa::Buffer;
 
@@ -59,11 +59,18 @@ pub fn put_pairs(word: &[u8], elements: &Elements, out: &mut [u8]) -> usize
     count
 }
 
+/// The same of a refusal that has no place.
+pub fn put_refused(kind: RefusalKind, out: &mut [u8]) -> usize
+    ensures { IsPut (refusal_words kind) out.old out.new result }
+{
+    put(kind.words().as_bytes(), out)
+}
+
 /// The same of a refusal.
 pub fn put_refusal(refusal: Refusal, out: &mut [u8]) -> usize
-    ensures { IsPut (refusal_text refusal.words.now refusal.place) out.old out.new result }
+    ensures { IsPut (refusal_text refusal.kind refusal.place) out.old out.new result }
 {
-    let words = refusal.words.as_bytes();
+    let words = refusal.kind.words().as_bytes();
     match refusal.place {
         None => put(words, out),
         Some(place) => {
@@ -79,12 +86,6 @@ pub fn put_line(line: &Line, out: &mut [u8]) -> usize
 {
     match line {
         Line::Said { word, text } => put_words(word.as_bytes(), text.as_bytes(), out),
-        Line::Refused { words, place } => put_refusal(
-            Refusal {
-                words,
-                place: *place,
-            },
-            out,
-        ),
+        Line::Refused(refusal) => put_refusal(*refusal, out),
     }
 }

@@ -25,17 +25,15 @@ mod scanned;
 mod tests;
 
 use answer::{put_read, read_packed};
-use buffer::{put, put_line, put_refusal};
+use buffer::{put_line, put_refusal, put_refused};
 use dates::put_date;
+use digits_core::RefusalKind;
 use element_core::{Form, Year, digit_line, elements_line, gtin_line};
 use found::{put_dot_symbols, put_symbols};
 use label::{kind_numbered, put_kind};
 use scan_core::read_widths;
 use scanned::put_scanned;
 use sheet_core::Grid;
-
-/// The line of a year that is none.
-const WORDS: &[u8] = b"refused 42 Words";
 
 /// The GTIN, in 14 digits, of its 8, 12, 13 or 14 (GS1 General Specifications, section 7.9), as
 /// `gtin 09501101530003`; or why it is none.
@@ -63,7 +61,7 @@ pub extern "C" fn gs1_c_text(text: &[u8], year: u16, out: &mut [u8]) -> usize
     ensures { (line : List ℕ) × IsTextLine (codes "hri") Form.HumanReadable year text.now line × IsPut line out.old out.new result }
 {
     let Some(year) = Year::new(year) else {
-        return put(WORDS, out);
+        return put_refused(RefusalKind::Words, out);
     };
     let line = elements_line("hri", Form::HumanReadable, text, year);
     put_line(&line, out)
@@ -78,7 +76,7 @@ pub extern "C" fn gs1_c_row(widths: &[u16], year: u16, out: &mut [u8]) -> usize
     ensures { (line : List ℕ) × IsRowLine Form.HumanReadable year widths.now line × IsPut line out.old out.new result }
 {
     let Some(year) = Year::new(year) else {
-        return put(WORDS, out);
+        return put_refused(RefusalKind::Words, out);
     };
     put_read(&read_widths(widths, year), Form::HumanReadable, out)
 }
@@ -90,7 +88,7 @@ pub extern "C" fn gs1_c_row_elements(widths: &[u16], year: u16, out: &mut [u8]) 
     ensures { (line : List ℕ) × IsRowLine Form.Pairs year widths.now line × IsPut line out.old out.new result }
 {
     let Some(year) = Year::new(year) else {
-        return put(WORDS, out);
+        return put_refused(RefusalKind::Words, out);
     };
     put_read(&read_widths(widths, year), Form::Pairs, out)
 }
@@ -102,7 +100,7 @@ pub extern "C" fn gs1_c_text_elements(text: &[u8], year: u16, out: &mut [u8]) ->
     ensures { (line : List ℕ) × IsTextLine (codes "data") Form.Pairs year text.now line × IsPut line out.old out.new result }
 {
     let Some(year) = Year::new(year) else {
-        return put(WORDS, out);
+        return put_refused(RefusalKind::Words, out);
     };
     put_line(&elements_line("data", Form::Pairs, text, year), out)
 }
@@ -116,7 +114,7 @@ pub extern "C" fn gs1_c_date(text: &[u8], year: u16, out: &mut [u8]) -> usize
     ensures { (line : List ℕ) × IsDateLine year text.now line × IsPut line out.old out.new result }
 {
     let Some(year) = Year::new(year) else {
-        return put(WORDS, out);
+        return put_refused(RefusalKind::Words, out);
     };
     put_date(text, year, out)
 }
@@ -131,7 +129,7 @@ pub extern "C" fn gs1_c_scan(text: &[u8], year: u16, out: &mut [u8]) -> usize
     ensures { (line : List ℕ) × IsScanLine year text.now line × IsPut line out.old out.new result }
 {
     let Some(year) = Year::new(year) else {
-        return put(WORDS, out);
+        return put_refused(RefusalKind::Words, out);
     };
     put_scanned(text, year, out)
 }
@@ -148,7 +146,7 @@ pub extern "C" fn gs1_c_find(widths: &[u16], year: u16, out: &mut [u8]) -> usize
     ensures { AreSymbolsPut year widths.now out.old out.new result }
 {
     let Some(year) = Year::new(year) else {
-        return put(WORDS, out);
+        return put_refused(RefusalKind::Words, out);
     };
     put_symbols(widths, year, out)
 }
@@ -161,7 +159,7 @@ pub extern "C" fn gs1_c_dots(bits: &[u8], count: u32, year: u16, out: &mut [u8])
     ensures { (line : List ℕ) × IsDotsLine Form.HumanReadable year bits.now count line × IsPut line out.old out.new result }
 {
     let Some(year) = Year::new(year) else {
-        return put(WORDS, out);
+        return put_refused(RefusalKind::Words, out);
     };
     put_read(&read_packed(bits, count, year), Form::HumanReadable, out)
 }
@@ -172,7 +170,7 @@ pub extern "C" fn gs1_c_dots_elements(bits: &[u8], count: u32, year: u16, out: &
     ensures { (line : List ℕ) × IsDotsLine Form.Pairs year bits.now count line × IsPut line out.old out.new result }
 {
     let Some(year) = Year::new(year) else {
-        return put(WORDS, out);
+        return put_refused(RefusalKind::Words, out);
     };
     put_read(&read_packed(bits, count, year), Form::Pairs, out)
 }
@@ -186,7 +184,7 @@ pub extern "C" fn gs1_c_find_dots(bits: &[u8], count: u32, year: u16, out: &mut 
     ensures { AreDotSymbolsPut year bits.now count out.old out.new result }
 {
     let Some(year) = Year::new(year) else {
-        return put(WORDS, out);
+        return put_refused(RefusalKind::Words, out);
     };
     put_dot_symbols(bits, count, year, out)
 }
@@ -212,10 +210,10 @@ pub extern "C" fn gs1_c_label(
         × IsPut bytes out.old out.new result }
 {
     let Some(kind) = kind_numbered(kind) else {
-        return put(b"refused 40 Kind", out);
+        return put_refused(RefusalKind::Kind, out);
     };
     let Some(year) = Year::new(year) else {
-        return put(WORDS, out);
+        return put_refused(RefusalKind::Words, out);
     };
     match Grid::new(module_dots, width, height, 1, 1) {
         Ok(grid) => put_kind(kind, text, year, grid, out),

@@ -3,8 +3,8 @@ ghost use Rattle.std.specs.Prelude.{◌≡◌, List, ℕ};
 ghost use Rattle.digits_core.specs.Buffers.{IsPut};
 ghost use Rattle.gs1_c.specs.Scanned.{IsMessageLine, identifier_of, message_after, said_after};
 
-use crate::buffer::{put, put_pairs, put_refusal};
-use digits_core::Gtin;
+use crate::buffer::{put_pairs, put_refusal, put_refused};
+use digits_core::{Gtin, RefusalKind};
 use element_core::{Elements, Year};
 
 /// How many bytes a symbology identifier has.
@@ -49,7 +49,7 @@ fn put_message(identifier: &[u8], said: &[u8], year: Year, out: &mut [u8]) -> us
             Ok(elements) => put_pairs(identifier, &elements, out),
             Err(fault) => put_refusal(fault.refusal(), out),
         },
-        None => put(b"refused 40 Kind", out),
+        None => put_refused(RefusalKind::Kind, out),
     }
 }
 

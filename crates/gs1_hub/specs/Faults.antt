@@ -1,17 +1,14 @@
 -- The texts of faults, and how those of one layer become those of the next.
-use Rattle.std.specs.Prelude.{◌++◌, ℕ, List, codes}
+use Rattle.std.specs.Prelude.{◌++◌, ℕ, List, Some, codes}
 use Rattle.std.specs.Fmt.{decimal}
-use Rattle.digits_core.specs.Faults.{input_fault_text}
-use Rattle.digits_core.specs.declared.source.InputFault.TheVariants as input
-use Rattle.sheet_core.specs.Faults.{pbm_fault_text, sheet_fault_text}
+use Rattle.digits_core.specs.Refusals.{refusal_text, refusal_words}
+use Rattle.digits_core.specs.declared.refusal.RefusalKind.TheVariants as refusal
 use Rattle.sheet_core.specs.declared.fault.PbmFault.{PbmFault}
 use Rattle.sheet_core.specs.declared.fault.PbmFault.TheVariants as pbm
 use Rattle.sheet_core.specs.declared.fault.PrintFault.{PrintFault}
 use Rattle.sheet_core.specs.declared.fault.PrintFault.TheVariants as print
 use Rattle.sheet_core.specs.declared.fault.SheetFault.{SheetFault}
 use Rattle.sheet_core.specs.declared.fault.SheetFault.TheVariants as sheet
-use Rattle.hub_core.specs.Faults.{serve_fault_text}
-use Rattle.hub_core.specs.declared.fault.ServeFault.TheVariants as serve
 use Rattle.record_core.specs.input.Faults.{record_fault_text}
 use Rattle.answer_core.specs.declared.answers.serving.AnswerFault.{AnswerFault}
 use Rattle.answer_core.specs.declared.answers.serving.AnswerFault.TheVariants as answers
@@ -24,21 +21,26 @@ use Rattle.answer_core.specs.declared.live.fault.LiveFault.TheVariants as live
 use Rattle.gs1_hub.specs.declared.fault.CommandFault.{CommandFault}
 use Rattle.gs1_hub.specs.declared.fault.CommandFault.TheVariants as command
 
--- of a command: `refused`, its number, its name and, where it has one, the label's index; of a record its index and its fault
+-- of a command: `refused`, its number, its name and, where it has one, the label's index; of a record those of its fault
+abbrev pub command_refusal_text : CommandFault → List ℕ
+command_refusal_text command.ReadFault = refusal_words refusal.ReadFault
+command_refusal_text command.InputSize = refusal_words refusal.InputSize
+command_refusal_text command.NoMemory = refusal_words refusal.NoMemory
+command_refusal_text command.WriteFault = refusal_words refusal.WriteFault
+command_refusal_text (command.Record i f) = record_fault_text f
+command_refusal_text command.BadGrid = refusal_words refusal.BadGrid
+command_refusal_text (command.LabelKind i) = refusal_text refusal.LabelKind (Some i)
+command_refusal_text (command.LabelWidth i) = refusal_text refusal.LabelWidth (Some i)
+command_refusal_text command.NotP4 = refusal_words refusal.NotP4
+command_refusal_text command.PbmHeader = refusal_words refusal.PbmHeader
+command_refusal_text command.Truncated = refusal_words refusal.Truncated
+command_refusal_text command.PbmSize = refusal_words refusal.PbmSize
+command_refusal_text command.NoThread = refusal_words refusal.NoThread
+
+-- the same, and before it the index of a record
 abbrev pub command_fault_text : CommandFault → List ℕ
-command_fault_text command.ReadFault = input_fault_text input.ReadFault
-command_fault_text command.InputSize = input_fault_text input.InputSize
-command_fault_text command.NoMemory = input_fault_text input.NoMemory
-command_fault_text command.WriteFault = codes "refused 38 WriteFault"
 command_fault_text (command.Record i f) = codes "record " ++ decimal i ++ codes ": " ++ record_fault_text f
-command_fault_text command.BadGrid = codes "refused 25 BadGrid"
-command_fault_text (command.LabelKind i) = sheet_fault_text (sheet.LabelKind i)
-command_fault_text (command.LabelWidth i) = sheet_fault_text (sheet.LabelWidth i)
-command_fault_text command.NotP4 = pbm_fault_text pbm.NotP4
-command_fault_text command.PbmHeader = pbm_fault_text pbm.PbmHeader
-command_fault_text command.Truncated = pbm_fault_text pbm.Truncated
-command_fault_text command.PbmSize = pbm_fault_text pbm.PbmSize
-command_fault_text command.NoThread = serve_fault_text serve.NoThread
+command_fault_text fault = command_refusal_text fault
 
 -- a fault of the records, as the command's
 abbrev pub of_records : RecordsFault → CommandFault

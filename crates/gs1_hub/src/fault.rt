@@ -1,12 +1,12 @@
 //! Why a command is refused as a whole.
 ghost use Rattle.std.specs.Prelude.{Some, ◌≡◌};
-ghost use Rattle.gs1_hub.specs.Faults.{bad_grid, command_fault_text, failed_write, no_memory, of_answers, of_images, of_live, of_prints, of_records, of_rows, of_sheets};
+ghost use Rattle.digits_core.specs.Refusals.{refusal_text};
+ghost use Rattle.gs1_hub.specs.Faults.{bad_grid, command_fault_text, command_refusal_text, failed_write, no_memory, of_answers, of_images, of_live, of_prints, of_records, of_rows, of_sheets};
 
 use answer_core::{AnswerFault, LiveFault, RowsFault};
-use digits_core::{Failed, InputFault};
-use hub_core::ServeFault;
+use digits_core::{Failed, Refusal, RefusalKind};
 use record_core::{RecordFault, RecordsFault};
-use sheet_core::{BadGrid, PbmFault, PrintFault, SheetFault, WriteFault};
+use sheet_core::{BadGrid, PbmFault, PrintFault, SheetFault};
 use std::alloc::AllocError;
 use std::fmt;
 use thiserror::Error;
@@ -43,25 +43,37 @@ pub enum CommandFault {
     NoThread,
 }
 
-// Each text is that of the fault that it is made from.
+impl CommandFault {
+    /// The refusal that the line on standard error tells, after the record's index where it has one.
+    pub fn refusal(self) -> Refusal
+        ensures { refusal_text result.kind result.place ≡ command_refusal_text self }
+    {
+        let (kind, place) = match self {
+            CommandFault::ReadFault => (RefusalKind::ReadFault, None),
+            CommandFault::WriteFault => (RefusalKind::WriteFault, None),
+            CommandFault::Record(_, fault) => return fault.refusal(),
+            CommandFault::NoMemory => (RefusalKind::NoMemory, None),
+            CommandFault::InputSize => (RefusalKind::InputSize, None),
+            CommandFault::BadGrid => (RefusalKind::BadGrid, None),
+            CommandFault::LabelKind(index) => (RefusalKind::LabelKind, Some(index)),
+            CommandFault::LabelWidth(index) => (RefusalKind::LabelWidth, Some(index)),
+            CommandFault::NotP4 => (RefusalKind::NotP4, None),
+            CommandFault::PbmHeader => (RefusalKind::PbmHeader, None),
+            CommandFault::Truncated => (RefusalKind::Truncated, None),
+            CommandFault::PbmSize => (RefusalKind::PbmSize, None),
+            CommandFault::NoThread => (RefusalKind::NoThread, None),
+        };
+        Refusal { kind, place }
+    }
+}
+
 impl fmt::Display for CommandFault {
     ghost output = { λ fault. Some (command_fault_text fault) };
 
     fn fmt<W: fmt::Write>(&self, f: &mut fmt::Formatter<W>) -> fmt::Result {
         match self {
-            CommandFault::ReadFault => InputFault::ReadFault.fmt(f),
-            CommandFault::WriteFault => WriteFault.fmt(f),
             CommandFault::Record(index, fault) => write!(f, "record {index}: {fault}"),
-            CommandFault::NoMemory => InputFault::NoMemory.fmt(f),
-            CommandFault::InputSize => InputFault::InputSize.fmt(f),
-            CommandFault::BadGrid => BadGrid.fmt(f),
-            CommandFault::LabelKind(index) => SheetFault::LabelKind(*index).fmt(f),
-            CommandFault::LabelWidth(index) => SheetFault::LabelWidth(*index).fmt(f),
-            CommandFault::NotP4 => PbmFault::NotP4.fmt(f),
-            CommandFault::PbmHeader => PbmFault::PbmHeader.fmt(f),
-            CommandFault::Truncated => PbmFault::Truncated.fmt(f),
-            CommandFault::PbmSize => PbmFault::PbmSize.fmt(f),
-            CommandFault::NoThread => ServeFault::NoThread.fmt(f),
+            other => other.refusal().fmt(f),
         }
     }
 }

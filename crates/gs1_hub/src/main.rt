@@ -64,8 +64,8 @@ fn finish(rt: &impl Eprint, ran: Result<(), CommandFault>, terminal: bool) -> io
         Ok(()) => Ok(ExitCode::SUCCESS),
         Err(fault) => {
             eprintln!(rt; "{fault}")?;
-            if terminal {
-                eprintln!(rt; "{}", remedy(&fault))?;
+            if terminal && let Some(said) = remedy(fault.refusal().kind) {
+                eprintln!(rt; "{said}")?;
             }
             Ok(ExitCode::from(1))
         }

@@ -1,13 +1,15 @@
 -- The text of a fault, as it stands in an output line: `refused`, its number and its name.
-use Rattle.std.specs.Prelude.{ℕ, List, codes}
+use Rattle.std.specs.Prelude.{ℕ, List}
+use Rattle.digits_core.specs.Refusals.{refusal_words}
+use Rattle.digits_core.specs.declared.refusal.RefusalKind.TheVariants as refusal
 use Rattle.lane_core.specs.declared.fault.TakeFault.{TakeFault}
 use Rattle.lane_core.specs.declared.fault.TakeFault.TheVariants.{Stranger, NoMemory}
 
 -- of a refusal of memory
 abbrev pub no_memory_text : List ℕ
-no_memory_text = codes "refused 43 NoMemory"
+no_memory_text = refusal_words refusal.NoMemory
 
 -- of a delivery that is not taken in
 abbrev pub take_fault_text : TakeFault → List ℕ
-take_fault_text (Stranger delivery) = codes "refused 32 Stranger"
-take_fault_text (NoMemory delivery) = codes "refused 43 NoMemory"
+take_fault_text (Stranger delivery) = refusal_words refusal.Stranger
+take_fault_text (NoMemory delivery) = refusal_words refusal.NoMemory

@@ -8,7 +8,7 @@ ghost use Rattle.scan_core.specs.declared.fault.RunFault.TheVariants.{NoMemory};
 
 use crate::stage::Stage;
 use code128_code::Code128Fault;
-use digits_core::Refusal;
+use digits_core::{Refusal, RefusalKind};
 use element_core::ElementFault;
 use std::alloc::AllocFailed;
 use std::fmt;
@@ -88,14 +88,14 @@ impl From<ElementFault> for RowFault {
 impl RunFault {
     /// The refusal that an output line tells.
     pub fn refusal(self) -> Refusal
-        ensures { refusal_text result.words.now result.place ≡ run_fault_text self }
+        ensures { refusal_text result.kind result.place ≡ run_fault_text self }
     {
-        let words = match self {
-            RunFault::TooWide => "refused 17 TooWide",
-            RunFault::BadRuns => "refused 18 BadRuns",
-            RunFault::NoMemory => "refused 43 NoMemory",
+        let kind = match self {
+            RunFault::TooWide => RefusalKind::TooWide,
+            RunFault::BadRuns => RefusalKind::BadRuns,
+            RunFault::NoMemory => RefusalKind::NoMemory,
         };
-        Refusal { words, place: None }
+        Refusal { kind, place: None }
     }
 }
 
@@ -110,19 +110,19 @@ impl fmt::Display for RunFault {
 impl RowFault {
     /// The refusal that an output line tells.
     pub fn refusal(self) -> Refusal
-        ensures { refusal_text result.words.now result.place ≡ row_fault_text self }
+        ensures { refusal_text result.kind result.place ≡ row_fault_text self }
     {
-        let words = match self {
-            RowFault::Blank => "refused 19 Blank",
-            RowFault::RunCount => "refused 20 RunCount",
-            RowFault::QuietZone => "refused 21 QuietZone",
-            RowFault::Modules => "refused 22 Modules",
-            RowFault::Pattern => "refused 23 Pattern",
-            RowFault::SymbolCheckDigit => "refused 24 SymbolCheckDigit",
+        let kind = match self {
+            RowFault::Blank => RefusalKind::Blank,
+            RowFault::RunCount => RefusalKind::RunCount,
+            RowFault::QuietZone => RefusalKind::QuietZone,
+            RowFault::Modules => RefusalKind::Modules,
+            RowFault::Pattern => RefusalKind::Pattern,
+            RowFault::SymbolCheckDigit => RefusalKind::SymbolCheckDigit,
             RowFault::Code128(fault) => return fault.refusal(),
             RowFault::Elements(fault) => return fault.refusal(),
         };
-        Refusal { words, place: None }
+        Refusal { kind, place: None }
     }
 }
 

@@ -1,10 +1,11 @@
 //! Why a grid, labels or images are refused.
-ghost use Rattle.std.specs.Prelude.{Some, ◌≡◌, codes};
-ghost use Rattle.digits_core.specs.Refusals.{refusal_text};
+ghost use Rattle.std.specs.Prelude.{Some, ◌≡◌};
+ghost use Rattle.digits_core.specs.Refusals.{refusal_text, refusal_words};
+ghost use Rattle.digits_core.specs.declared.refusal.RefusalKind.TheVariants as refusal;
 ghost use Rattle.sheet_core.specs.Faults.{pbm_fault_text, print_fault_text, sheet_fault_text};
 ghost use Rattle.sheet_core.specs.declared.fault.PbmFault.TheVariants.{ReadFault};
 
-use digits_core::{Failed, Refusal};
+use digits_core::{Failed, Refusal, RefusalKind};
 use std::fmt;
 
 /// A grid is outside the limits.
@@ -67,50 +68,74 @@ impl From<Failed> for PbmFault {
 impl BadGrid {
     /// The refusal that an output line tells.
     pub fn refusal(self) -> Refusal
-        ensures { refusal_text result.words.now result.place ≡ codes "refused 25 BadGrid" }
+        ensures { refusal_text result.kind result.place ≡ refusal_words refusal.BadGrid }
     {
         Refusal {
-            words: "refused 25 BadGrid",
+            kind: RefusalKind::BadGrid,
             place: None,
         }
     }
 }
 
 impl fmt::Display for BadGrid {
-    ghost output = { λ fault. Some (codes "refused 25 BadGrid") };
+    ghost output = { λ _. Some (refusal_words refusal.BadGrid) };
 
     fn fmt<W: fmt::Write>(&self, f: &mut fmt::Formatter<W>) -> fmt::Result {
         self.refusal().fmt(f)
     }
 }
 
+impl NoMemory {
+    /// The refusal that an output line tells.
+    pub fn refusal(self) -> Refusal
+        ensures { refusal_text result.kind result.place ≡ refusal_words refusal.NoMemory }
+    {
+        Refusal {
+            kind: RefusalKind::NoMemory,
+            place: None,
+        }
+    }
+}
+
 impl fmt::Display for NoMemory {
-    ghost output = { λ fault. Some (codes "refused 43 NoMemory") };
+    ghost output = { λ _. Some (refusal_words refusal.NoMemory) };
 
     fn fmt<W: fmt::Write>(&self, f: &mut fmt::Formatter<W>) -> fmt::Result {
-        write!(f, "refused 43 NoMemory")
+        self.refusal().fmt(f)
+    }
+}
+
+impl WriteFault {
+    /// The refusal that an output line tells.
+    pub fn refusal(self) -> Refusal
+        ensures { refusal_text result.kind result.place ≡ refusal_words refusal.WriteFault }
+    {
+        Refusal {
+            kind: RefusalKind::WriteFault,
+            place: None,
+        }
     }
 }
 
 impl fmt::Display for WriteFault {
-    ghost output = { λ fault. Some (codes "refused 38 WriteFault") };
+    ghost output = { λ _. Some (refusal_words refusal.WriteFault) };
 
     fn fmt<W: fmt::Write>(&self, f: &mut fmt::Formatter<W>) -> fmt::Result {
-        write!(f, "refused 38 WriteFault")
+        self.refusal().fmt(f)
     }
 }
 
 impl SheetFault {
     /// The refusal that an output line tells.
     pub fn refusal(self) -> Refusal
-        ensures { refusal_text result.words.now result.place ≡ sheet_fault_text self }
+        ensures { refusal_text result.kind result.place ≡ sheet_fault_text self }
     {
-        let (words, place) = match self {
-            SheetFault::LabelKind(label) => ("refused 26 LabelKind", Some(label)),
-            SheetFault::LabelWidth(label) => ("refused 27 LabelWidth", Some(label)),
-            SheetFault::NoMemory => ("refused 43 NoMemory", None),
+        let (kind, place) = match self {
+            SheetFault::LabelKind(label) => (RefusalKind::LabelKind, Some(label)),
+            SheetFault::LabelWidth(label) => (RefusalKind::LabelWidth, Some(label)),
+            SheetFault::NoMemory => (RefusalKind::NoMemory, None),
         };
-        Refusal { words, place }
+        Refusal { kind, place }
     }
 }
 
@@ -122,14 +147,40 @@ impl fmt::Display for SheetFault {
     }
 }
 
+impl PrintFault {
+    /// The refusal that an output line tells.
+    pub fn refusal(self) -> Refusal
+        ensures { refusal_text result.kind result.place ≡ print_fault_text self }
+    {
+        match self {
+            PrintFault::Sheet(fault) => fault.refusal(),
+            PrintFault::WriteFault => WriteFault.refusal(),
+        }
+    }
+}
+
 impl fmt::Display for PrintFault {
     ghost output = { λ fault. Some (print_fault_text fault) };
 
     fn fmt<W: fmt::Write>(&self, f: &mut fmt::Formatter<W>) -> fmt::Result {
-        match self {
-            PrintFault::Sheet(fault) => write!(f, "{fault}"),
-            PrintFault::WriteFault => WriteFault.fmt(f),
-        }
+        self.refusal().fmt(f)
+    }
+}
+
+impl PbmFault {
+    /// The refusal that an output line tells.
+    pub fn refusal(self) -> Refusal
+        ensures { refusal_text result.kind result.place ≡ pbm_fault_text self }
+    {
+        let kind = match self {
+            PbmFault::NotP4 => RefusalKind::NotP4,
+            PbmFault::PbmHeader => RefusalKind::PbmHeader,
+            PbmFault::Truncated => RefusalKind::Truncated,
+            PbmFault::PbmSize => RefusalKind::PbmSize,
+            PbmFault::ReadFault => RefusalKind::ReadFault,
+            PbmFault::NoMemory => RefusalKind::NoMemory,
+        };
+        Refusal { kind, place: None }
     }
 }
 
@@ -137,13 +188,6 @@ impl fmt::Display for PbmFault {
     ghost output = { λ fault. Some (pbm_fault_text fault) };
 
     fn fmt<W: fmt::Write>(&self, f: &mut fmt::Formatter<W>) -> fmt::Result {
-        match self {
-            PbmFault::NotP4 => write!(f, "refused 28 NotP4"),
-            PbmFault::PbmHeader => write!(f, "refused 29 PbmHeader"),
-            PbmFault::Truncated => write!(f, "refused 30 Truncated"),
-            PbmFault::PbmSize => write!(f, "refused 31 PbmSize"),
-            PbmFault::ReadFault => write!(f, "refused 37 ReadFault"),
-            PbmFault::NoMemory => write!(f, "refused 43 NoMemory"),
-        }
+        self.refusal().fmt(f)
     }
 }

@@ -9,7 +9,7 @@ ghost use Rattle.words_core.specs.declared.commands.Asked.{Asked};
 use crate::commands::{Asked, asked_by, hub_words};
 use clap::error::ErrorKind;
 use clap::{ArgMatches, Error};
-use digits_core::InputFault;
+use digits_core::RefusalKind;
 use std::alloc::Global;
 use std::fmt;
 
@@ -29,8 +29,8 @@ impl fmt::Display for WordsFault {
 
     fn fmt<W: fmt::Write>(&self, f: &mut fmt::Formatter<W>) -> fmt::Result {
         match self {
-            WordsFault::Words => write!(f, "refused 42 Words"),
-            WordsFault::NoMemory => InputFault::NoMemory.fmt(f),
+            WordsFault::Words => RefusalKind::Words.fmt(f),
+            WordsFault::NoMemory => RefusalKind::NoMemory.fmt(f),
             WordsFault::Help(text) => text.fmt(f),
         }
     }

@@ -2,6 +2,8 @@
 use Rattle.std.specs.Prelude.{◌==◌, ◌+◌, ◌++◌, ◌∷◌, ℕ, List, [], Option, Some, None, Result, Ok, Err, codes, nat_lt, if◌then◌else◌}
 use Rattle.std.specs.Fmt.{decimal}
 use Rattle.std.specs.List.{filter_map}
+use Rattle.digits_core.specs.Refusals.{refusal_words}
+use Rattle.digits_core.specs.declared.refusal.RefusalKind.TheVariants as refusal
 
 -- the line of a refusal: the lane where the record names one, no number, and why it is refused
 abbrev pub refusal_line : Option ℕ → List ℕ → List ℕ
@@ -30,7 +32,7 @@ most_rows = 4294967295
 
 -- a row gets its lane's next number, unless the lane has had all
 abbrev pub reply_to : Numbers → Meant → Reply
-reply_to next (Ok row) = if nat_lt (next row.0) most_rows then Row row.0 (next row.0) row.1 else Line (refusal_line (Some row.0) (codes "refused 35 Spent"))
+reply_to next (Ok row) = if nat_lt (next row.0) most_rows then Row row.0 (next row.0) row.1 else Line (refusal_line (Some row.0) (refusal_words refusal.Spent))
 reply_to next (Err line) = Line line
 
 abbrev pub numbers_after : Numbers → Reply → Numbers

@@ -1,7 +1,9 @@
 -- What a line of a live input means, and the text that answers the lines.
-use Rattle.std.specs.Prelude.{◌≡◌, ◌==◌, ◌++◌, ◌∷◌, ℕ, List, [], Option, Some, None, Ok, Err, codes, length, nat_lt, if◌then◌else◌}
+use Rattle.std.specs.Prelude.{◌≡◌, ◌==◌, ◌++◌, ◌∷◌, ℕ, List, [], Option, Some, None, Ok, Err, length, nat_lt, if◌then◌else◌}
 use Rattle.std.specs.List.{slice_split}
 use Rattle.std.specs.Str.Parse.{digits_value}
+use Rattle.digits_core.specs.Refusals.{refusal_words}
+use Rattle.digits_core.specs.declared.refusal.RefusalKind.TheVariants as refusal
 use Rattle.scan_core.specs.Answers.{IsAnswer}
 use Rattle.scan_core.specs.declared.answer.Answer.{Answer}
 use Rattle.wire_core.specs.Events.{Event, was_read, was_written}
@@ -31,8 +33,8 @@ without_return (b ∷ c ∷ line) = b ∷ without_return (c ∷ line)
 -- why a line gets no ticket, as it stands in its answer
 abbrev pub line_fault_text : LineFault → List ℕ
 line_fault_text (line_fault.Record f) = record_fault_text f
-line_fault_text line_fault.InputSize = codes "refused 44 InputSize"
-line_fault_text line_fault.Spent = codes "refused 35 Spent"
+line_fault_text line_fault.InputSize = refusal_words refusal.InputSize
+line_fault_text line_fault.Spent = refusal_words refusal.Spent
 
 -- a row of a lane, or the line that refuses its widths
 abbrev pub row_or_line : ℕ → Option RecordFault → List ℕ → Meant

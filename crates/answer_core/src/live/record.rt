@@ -2,8 +2,10 @@
 ghost use Rattle.std.specs.Prelude.{◌≡◌, ◌≢◌, ◌∷◌, [], IfOk, IfSome, IfNone, None, Some, length};
 ghost use Rattle.answer_core.specs.inner.Meaning.{HoldsRecord, IsRecord};
 ghost use Rattle.answer_core.specs.live.Text.{fields_in, fields_meant, line_fault_text, line_meant, without_return};
+ghost use Rattle.digits_core.specs.Refusals.{refusal_text};
 ghost use Rattle.wire_core.specs.Lines.{held_line};
 
+use digits_core::{Refusal, RefusalKind};
 use memchr::memchr;
 use record_core::{RecordFault, RecordRefusal, lane_in, read_runs};
 use scan_core::Runs;
@@ -22,15 +24,25 @@ pub enum LineFault {
     Spent,
 }
 
+impl LineFault {
+    /// The refusal that an output line tells.
+    fn refusal(self) -> Refusal
+        ensures { refusal_text result.kind result.place ≡ line_fault_text self }
+    {
+        let kind = match self {
+            LineFault::Record(fault) => return fault.refusal(),
+            LineFault::InputSize => RefusalKind::InputSize,
+            LineFault::Spent => RefusalKind::Spent,
+        };
+        Refusal { kind, place: None }
+    }
+}
+
 impl fmt::Display for LineFault {
     ghost output = { λ fault. Some (line_fault_text fault) };
 
     fn fmt<W: fmt::Write>(&self, f: &mut fmt::Formatter<W>) -> fmt::Result {
-        match self {
-            LineFault::Record(fault) => fault.fmt(f),
-            LineFault::InputSize => write!(f, "refused 44 InputSize"),
-            LineFault::Spent => write!(f, "refused 35 Spent"),
-        }
+        self.refusal().fmt(f)
     }
 }
 

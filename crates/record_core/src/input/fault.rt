@@ -1,10 +1,10 @@
 //! Why records are not taken.
 ghost use Rattle.std.specs.Prelude.{Some, ◌≡◌};
+ghost use Rattle.digits_core.specs.Refusals.{refusal_text};
 ghost use Rattle.record_core.specs.input.Faults.{no_room, of_record, refusal_at, of_input, record_fault_text};
 
-use digits_core::{DigitFault, InputFault};
+use digits_core::{DigitFault, InputFault, Refusal, RefusalKind};
 use element_core::ElementFault;
-use scan_core::RunFault;
 use std::alloc::AllocError;
 use std::fmt;
 
@@ -28,19 +28,29 @@ pub enum RecordFault {
     Elements(ElementFault),
 }
 
+impl RecordFault {
+    /// The refusal that an output line tells.
+    pub fn refusal(self) -> Refusal
+        ensures { refusal_text result.kind result.place ≡ record_fault_text self }
+    {
+        let kind = match self {
+            RecordFault::Csv => RefusalKind::Csv,
+            RecordFault::Kind => RefusalKind::Kind,
+            RecordFault::BadLane => RefusalKind::BadLane,
+            RecordFault::BadRuns => RefusalKind::BadRuns,
+            RecordFault::TooWide => RefusalKind::TooWide,
+            RecordFault::Digits(fault) => return fault.refusal(),
+            RecordFault::Elements(fault) => return fault.refusal(),
+        };
+        Refusal { kind, place: None }
+    }
+}
+
 impl fmt::Display for RecordFault {
     ghost output = { λ fault. Some (record_fault_text fault) };
 
     fn fmt<W: fmt::Write>(&self, f: &mut fmt::Formatter<W>) -> fmt::Result {
-        match self {
-            RecordFault::Csv => write!(f, "refused 39 Csv"),
-            RecordFault::Kind => write!(f, "refused 40 Kind"),
-            RecordFault::BadLane => write!(f, "refused 41 BadLane"),
-            RecordFault::BadRuns => RunFault::BadRuns.fmt(f),
-            RecordFault::TooWide => RunFault::TooWide.fmt(f),
-            RecordFault::Digits(fault) => fault.fmt(f),
-            RecordFault::Elements(fault) => fault.fmt(f),
-        }
+        self.refusal().fmt(f)
     }
 }
 
