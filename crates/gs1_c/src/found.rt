@@ -14,7 +14,7 @@ use arrayvec::ArrayVec;
 use digits_core::put_at;
 use element_core::Year;
 use itoa::Buffer;
-use scan_core::{DotSymbols, Symbols, Window, row_or_fault, symbols_are_told};
+use scan_core::{DotSymbols, SymbolSearch, Symbols, Window, row_or_fault, symbols_are_told};
 
 /// More bytes than a line has: two numbers, an identifier and the elements, with what stands between.
 const MOST: usize = 400;
@@ -122,13 +122,12 @@ fn put_symbol(window: &Window, at: usize, out: &mut [u8]) -> usize
     put_made(window, at, out)
 }
 
-/// Puts the lines of what a search tells, as many as there is room for, and says how many bytes all of
+/// Puts the lines of what is left of a search, as many as there is room for, and says how many bytes all of
 /// them have.
-fn put_told(search: Symbols<'_>, out: &mut [u8]) -> usize
-    requires { length search.runs ≤ 65537 }
-    ensures { (ws : List Window) × AreTold search.entry ws × ArePut (map symbol_line ws) out.old out.new result }
+fn put_told<S: SymbolSearch>(search: &mut S, out: &mut [u8]) -> usize
+    requires { length (S.rest search.old).runs ≤ 65537 }
+    ensures { (ws : List Window) × AreTold (S.rest search.old) ws × ArePut (map symbol_line ws) out.old out.new result }
 {
-    let mut search = search;
     let mut end = 0;
     'symbols: while let Some(window) = search.next_symbol() {
         end = put_symbol(&window, end, out);
@@ -136,39 +135,25 @@ fn put_told(search: Symbols<'_>, out: &mut [u8]) -> usize
     end
 }
 
-/// The same of the symbols of the row of these widths, or why they are no row.
+/// Puts the lines of the symbols of the row of these widths, or why they are no row.
 pub fn put_symbols(widths: &[u16], year: Year, out: &mut [u8]) -> usize
     ensures { AreDatedSymbolsPut year widths.now (runs_fault widths.now) out.old out.new result }
 {
     symbols_are_told();
     row_or_fault();
     match Symbols::of_widths(widths, year) {
-        Ok(search) => put_told(search, out),
+        Ok(mut search) => put_told(&mut search, out),
         Err(fault) => put_refusal(fault.refusal(), out),
     }
 }
 
-/// Puts the lines of what a search of packed dots tells, as many as there is room for, and says how many bytes
-/// all of them have.
-fn put_told_of_dots(search: DotSymbols<'_>, out: &mut [u8]) -> usize
-    requires { length search.runs ≤ 65537 }
-    ensures { (ws : List Window) × AreTold search.entry ws × ArePut (map symbol_line ws) out.old out.new result }
-{
-    let mut search = search;
-    let mut count = 0;
-    'symbols: while let Some(window) = search.next_symbol() {
-        count = put_symbol(&window, count, out);
-    }
-    count
-}
-
-/// The same of the symbols of the row of so many packed dots, or why they are no row.
+/// The same of the row of so many packed dots.
 pub fn put_dot_symbols(bits: &[u8], count: u32, year: Year, out: &mut [u8]) -> usize
     ensures { ArePackedSymbolsPut year bits.now count (packed_fault (length bits.now) count) out.old out.new result }
 {
     symbols_are_told();
     match dots_in(bits, count) {
-        Ok(dots) => put_told_of_dots(DotSymbols::of_dots(bits, dots, year), out),
+        Ok(dots) => put_told(&mut DotSymbols::of_dots(bits, dots, year), out),
         Err(fault) => put_refusal(fault.refusal(), out),
     }
 }

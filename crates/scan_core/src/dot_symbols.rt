@@ -8,6 +8,7 @@ ghost use Rattle.scan_core.specs.inner.Parts.{IsPart, shifted};
 
 use crate::dots::{FirstRuns, first_runs};
 use crate::rounding::total_dots;
+use crate::search::SymbolSearch;
 use crate::symbols::next_window;
 use crate::window::Window;
 use element_core::Year;
@@ -150,15 +151,12 @@ impl<'a> DotSymbols<'a> {
             least: 0,
         }
     }
+}
 
-    /// The next symbol, as `Symbols::next_symbol` tells it of the row's runs.
-    pub fn next_symbol(&mut self) -> Option<Window>
-        ensures next { IfSome result (λ w. IsNext self.old w) }
-        ensures after { IfSome result (λ w. self.new ≡ search_after self.old w) }
-        ensures over { IfNone result (IsOver self.old) }
-        ensures stays { IfNone result (IsOver self.new) }
-        ensures same { IfNone result (self.new.runs ≡ self.old.runs) }
-    {
+impl<'a> SymbolSearch for DotSymbols<'a> {
+    ghost rest = { λ s. s };
+
+    fn next_symbol(&mut self) -> Option<Window> {
         let window = next_in_parts(
             self.bits,
             usize::from(self.width),

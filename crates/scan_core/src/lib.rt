@@ -13,6 +13,7 @@ mod identifier;
 mod laws;
 mod rounding;
 mod runs;
+mod search;
 mod stage;
 mod symbol;
 mod symbols;
@@ -30,5 +31,6 @@ pub use laws::{
     symbol_measures, symbols_are_told, turned_dots, turned_row, turned_symbols, whole_row,
 };
 pub use runs::Runs;
+pub use search::SymbolSearch;
 pub use symbols::Symbols;
 pub use window::Window;

@@ -10,6 +10,7 @@ use crate::carrier::{Carrier, fixed_candidate, gs1128_candidate};
 use crate::fault::RunFault;
 use crate::laws::one_answer;
 use crate::runs::runs_fault;
+use crate::search::SymbolSearch;
 use crate::window::Window;
 use element_core::Year;
 use std::marker::Model;
@@ -226,13 +227,17 @@ impl<'a> Symbols<'a> {
             least: 0,
         })
     }
+}
 
-    /// The next symbol: of the windows that begin and end with a light run and are read as a row, the
-    /// first from the left that was not told yet; of those that begin at one run the shortest.
-    pub fn next_symbol(&mut self) -> Option<Window>
+impl<'a> SymbolSearch for Symbols<'a> {
+    ghost rest = { λ s. s };
+
+    fn next_symbol(&mut self) -> Option<Window>
         ensures next { IfSome result (λ w. IsNext self.old w) }
         ensures after { IfSome result (λ w. self.new ≡ search_after self.old w) }
         ensures over { IfNone result (IsOver self.old) }
+        ensures stays { IfNone result (IsOver self.new) }
+        ensures same { IfNone result (self.new.runs ≡ self.old.runs) }
         ensures unchanged { IfNone result (self.new ≡ self.old) }
     {
         let window = next_window(self.widths, self.first, self.least, self.year)?;

@@ -3,7 +3,7 @@ use Rattle.scan_core.specs.Bits.{dots_at}
 use Rattle.scan_core.specs.DotRuns.{runs_of_dots}
 use Rattle.scan_core.proofs.PartFacts.{row_of_dots}
 use Rattle.scan_core.proofs.RowFacts.{row_short}
-use Rattle.scan_core.proofs.dot_symbols.DotSymbols.next_symbol.Goals as goal
+use Rattle.scan_core.proofs.dot_symbols.DotSymbolsSymbolSearch.next_symbol.Goals as goal
 
 pub overflow_add-result : goal.overflow_add-result
 overflow_add-result c =
