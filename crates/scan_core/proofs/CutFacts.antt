@@ -7,6 +7,7 @@ use Rattle.std.proofs.lemmas.List.FromFn.{map-range_with_len_more}
 use Rattle.std.proofs.lemmas.List.Sums.{sum_by_push}
 use Rattle.scan_core.specs.Bits.{dot_at, dots_at}
 use Rattle.scan_core.specs.Row.{IsRow, dots_from, dots_of, inner}
+use Rattle.scan_core.specs.inner.Cutting.{IsFrontOf, IsRowOf}
 use Rattle.scan_core.proofs.DotFacts.{colour, colour_more, dots_from-push}
 use Rattle.scan_core.proofs.RowFacts.{each-push}
 
@@ -107,10 +108,6 @@ inner_before [] last = refl
 inner_before (w ∷ ws) last =
     let n = length-append ws (last ∷ []) in take_at ws (last ∷ []) (length (w ∷ (ws ++ last ∷ [])) - 2) (omega arith)
 
--- the runs are a row with these dots
-abbrev pub IsRowOf : List ℕ → List Bool → Type 0
-IsRowOf ws dots = IsRow ws × (dots_of ws ≡ dots)
-
 ends_light : (widths : List ℕ) (run n : ℕ) (dots : List Bool) → Cut widths run false n dots → n ≤ 65535 → IsRowOf (widths ++ run ∷ []) dots
 ends_light widths run n dots h few =
     let count = length-append widths (run ∷ []) in
@@ -167,24 +164,20 @@ run_on bits from n widths run dark h same = record {
   total = let t = h.total in omega arith;
 }
 
--- a row with these finished runs and others behind them
-abbrev pub HasRest : List ℕ → List Bool → Type 0
-HasRest widths dots = (rest : List ℕ) × (0 < length rest) × IsRowOf (widths ++ rest) dots
-
-finish_now : (widths : List ℕ) (run : ℕ) (dark : Bool) (n : ℕ) (dots : List Bool) → n ≤ 65535 → Cut widths run dark n dots → HasRest widths dots
+finish_now : (widths : List ℕ) (run : ℕ) (dark : Bool) (n : ℕ) (dots : List Bool) → n ≤ 65535 → Cut widths run dark n dots → IsFrontOf widths dots
 finish_now widths run true n dots few h =
     (run ∷ 0 ∷ [], omega arith, subst (λ ws. IsRowOf ws dots) (append_assoc widths (run ∷ []) (0 ∷ [])) (ends_dark widths run n dots h few))
 finish_now widths run false n dots few h = (run ∷ [], omega arith, ends_light widths run n dots h few)
 
 -- whatever dots come behind
 pub finish : (bits : List ℕ) (from more n : ℕ) (widths : List ℕ) (run : ℕ) (dark : Bool) → n + more ≤ 65535 → Cut widths run dark n (dots_at bits from n)
-    → HasRest widths (dots_at bits from (n + more))
+    → IsFrontOf widths (dots_at bits from (n + more))
 finish bits from zero n widths run dark few h =
     let e : n ≡ n + zero = omega arith in
-    subst (λ k. HasRest widths (dots_at bits from k)) e (finish_now widths run dark n (dots_at bits from n) (omega arith) h)
+    subst (λ k. IsFrontOf widths (dots_at bits from k)) e (finish_now widths run dark n (dots_at bits from n) (omega arith) h)
 finish bits from (suc more) n widths run dark few h =
     let e : n + 1 + more ≡ n + suc more = omega arith in
-    subst (λ k. HasRest widths (dots_at bits from k)) e (elim (same_or_not (dot_at bits (from + n)) dark) [
+    subst (λ k. IsFrontOf widths (dots_at bits from k)) e (elim (same_or_not (dot_at bits (from + n)) dark) [
       | inl same ↦ finish bits from more (n + 1) widths (run + 1) dark (omega arith) (run_on bits from n widths run dark h same)
       | inr other ↦
           let all : List ℕ = widths ++ run ∷ [] in
@@ -193,3 +186,10 @@ finish bits from (suc more) n widths run dark few h =
           let r = finish bits from more (n + 1) all (n + 1 - n) (not dark) (omega arith) next in
           (run ∷ r.0, omega arith, subst (λ ws. IsRowOf ws (dots_at bits from (n + 1 + more))) (append_assoc widths (run ∷ []) r.0) r.2)
     ])
+
+-- the finished runs are the first of the row
+pub front : (bits : List ℕ) (from n width : ℕ) (widths now : List ℕ) (run : ℕ) (dark : Bool) → n ≤ width → width ≤ 65535
+    → Cut widths run dark n (dots_at bits from n) → now ≡ widths → IsFrontOf now (dots_at bits from width)
+front bits from n width widths now run dark in_row few h same =
+    let whole : n + (width - n) ≡ width = omega arith in
+    rw same (subst (λ k. IsFrontOf widths (dots_at bits from k)) whole (finish bits from (width - n) n widths run dark (omega arith) h))

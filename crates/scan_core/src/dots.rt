@@ -6,7 +6,7 @@ ghost use Rattle.scan_core.specs.inner.FirstRuns.{AreFirst};
 ghost use Rattle.scan_core.specs.Row.{IsRow, dots_of};
 
 use crate::answer::{Answer, answer_in};
-use crate::bits::run_end;
+use crate::cut::cut_into;
 use crate::fault::RowFault;
 use arrayvec::ArrayVec;
 use element_core::Year;
@@ -23,47 +23,17 @@ pub(crate) struct FirstRuns {
     pub(crate) more: bool,
 }
 
-impl FirstRuns {
-    ghost use Rattle.std.specs.Prelude.{List, ℕ};
-
-    /// Puts a run at the end.
-    fn push(&mut self, width: u16)
-        ensures { (all : List ℕ) → AreFirst all self.old → AreFirst (all ++ width ∷ []) self.new }
-    {
-        if self.widths.try_push(width).is_err() {
-            self.more = true;
-        }
-    }
-}
-
 /// The first runs of the row of `width` dots of packed bytes, from the dot `from` on.
 pub(crate) fn first_runs(bits: &[u8], from: usize, width: usize) -> FirstRuns
     requires within { from + width ≤ 8 * length bits.now }
     requires few { width ≤ 65535 }
     ensures { (all : List ℕ) × IsRow all × (dots_of all ≡ dots_at bits.now from width) × AreFirst all result }
 {
-    let mut widths = ArrayVec::new();
-    let mut dark = false;
-    let mut end = run_end(bits, from, 0, width, dark);
-    let mut run = end as u16;
-    'runs: while end < width {
-        if widths.is_full() {
-            return FirstRuns { widths, more: true };
-        }
-        widths.push(run);
-        dark = !dark;
-        let start = end;
-        end = run_end(bits, from, start, width, dark);
-        run = (end - start) as u16;
-    }
     let mut first = FirstRuns {
-        widths,
+        widths: ArrayVec::new(),
         more: false,
     };
-    first.push(run);
-    if dark {
-        first.push(0);
-    }
+    first.more = cut_into(bits, from, width, &mut first.widths).is_err();
     first
 }
 

@@ -5,6 +5,7 @@
 mod answer;
 mod bits;
 mod carrier;
+mod cut;
 mod dot_symbols;
 mod dots;
 mod fault;

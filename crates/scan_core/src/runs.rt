@@ -4,7 +4,7 @@ ghost use Rattle.std.specs.List.{list_all};
 ghost use Rattle.scan_core.specs.Bits.{dots_at};
 ghost use Rattle.scan_core.specs.Row.{IsRow, dots_of, inner, runs_fault};
 
-use crate::bits::run_end;
+use crate::cut::cut_into;
 use crate::fault::RunFault;
 use std::alloc::Global;
 use std::marker::Model;
@@ -136,19 +136,8 @@ impl Runs {
         let Ok(mut widths) = Vec::with_capacity(alloc, MANY_RUNS.min(width + 2)) else {
             return Err(RunFault::NoMemory);
         };
-        let mut dark = false;
-        let mut end = run_end(bits, from, 0, width, dark);
-        let mut run = end as u16;
-        'runs: while end < width {
-            widths.push(run)?;
-            dark = !dark;
-            let start = end;
-            end = run_end(bits, from, start, width, dark);
-            run = (end - start) as u16;
-        }
-        widths.push(run)?;
-        if dark {
-            widths.push(0)?;
+        if cut_into(bits, from, width, &mut widths).is_err() {
+            return Err(RunFault::NoMemory);
         }
         Ok(Runs { widths })
     }
