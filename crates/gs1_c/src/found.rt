@@ -129,8 +129,8 @@ fn put_told<S: SymbolSearch>(search: &mut S, out: &mut [u8]) -> usize
     ensures { (ws : List Window) × AreTold (S.rest search.old) ws × ArePut (map symbol_line ws) out.old out.new result }
 {
     let mut end = 0;
-    'symbols: while let Some(window) = search.next_symbol() {
-        end = put_symbol(&window, end, out);
+    'symbols: while let Some(window) = &search.next_symbol() {
+        end = put_symbol(window, end, out);
     }
     end
 }

@@ -1,5 +1,5 @@
 -- Windows of a row.
-use Rattle.std.proofs.Common.{◌≡◌, ◌∙◌, ◌⊎◌, ℕ, zero, suc, ◌+◌, ◌-◌, ◌*◌, ◌%◌, ◌<◌, ◌≤◌, List, [], ◌∷◌, length, drop, sum, sym, ap, subst, inl, inr, arith, get_or, length-drop, length-take, max, reverse}
+use Rattle.std.proofs.Common.{◌≡◌, ◌∙◌, ℕ, zero, suc, ◌+◌, ◌-◌, ◌*◌, ◌%◌, ◌<◌, ◌≤◌, List, [], ◌∷◌, length, drop, sum, sym, ap, subst, inl, inr, arith, get_or, length-drop, length-take, reverse}
 use Rattle.std.specs.List.{AllByRecursion}
 use Rattle.std.proofs.Math.Nat.{mul-le-mul_right}
 use Rattle.std.proofs.lemmas.Bool.{cases_lt}
@@ -10,7 +10,7 @@ use Rattle.scan_core.specs.declared.carrier.Carrier.{Carrier}
 use Rattle.scan_core.specs.declared.window.Window.{Window}
 use Rattle.scan_core.specs.Row.{IsRow, inner}
 use Rattle.scan_core.specs.Showing.{HasSize, IsRun, Shows, Way, along, kind_of}
-use Rattle.scan_core.specs.inner.Searches.{HasRun, MayEnd}
+use Rattle.scan_core.specs.inner.Searches.{MayEnd}
 use Rattle.scan_core.specs.Windows.{IsSymbolOf, runs_in}
 use Rattle.scan_core.proofs.CandidateFacts.{candidate_dots, few_runs}
 use Rattle.scan_core.proofs.EndFacts.{lying_narrow, may_end}
@@ -185,15 +185,9 @@ module _ (runs : List ℕ) (year : ℕ) (row : IsRow runs) (w : Window) (s : IsS
       let two = both.1 in
       (omega arith, omega arith)
 
--- ---- the widest run, while a window grows
-
-pub run_more : (runs : List ℕ) (first count more at width m : ℕ) → first < at → at + 1 < first + more → count ≤ more
-    → (width ≡ 0) ⊎ HasRun runs first count width → m ≡ max (get_or runs at 0) width → HasRun runs first more m
-run_more runs first count more at width m after before longer reached is =
-    elim (cases_lt (get_or runs at 0) width) [
-      | inl less ↦ elim reached [
-        | inl none ↦ absurd (omega arith)
-        | inr run ↦ let p = run.1 in let q = run.2 in let same : width ≡ m = omega arith in (run.0, p, omega arith, run.3 ∙ same)
-      ]
-      | inr rest ↦ let same : get_or runs at 0 ≡ m = omega arith in (at, after, before, same)
-    ]
+-- a window is no symbol where a run between its ends is no narrower than its first
+pub none_past : (runs : List ℕ) (year : ℕ) → IsRow runs → (v : Window) → IsSymbolOf runs year v → (first i : ℕ) → v.first ≡ first → first < i
+    → i + 1 < first + v.count → get_or runs first 0 ≤ get_or runs i 0 → ⊥
+none_past runs year row v s first i same after before wide =
+    let narrow = (window_narrow runs year row v s i (omega arith) (omega arith)).0 in
+    let left = ap (λ j. get_or runs j 0) same in omega arith

@@ -8,7 +8,7 @@ use Rattle.scan_core.specs.DotRuns.{runs_of_dots}
 
 -- the widths of the row, and how far it is searched
 abbrev pub search_in : Inside → Search
-search_in s = record { runs = s.widths.now; year = s.year; first = s.first; least = s.least }
+search_in s = record { runs = s.widths.now; year = s.year; first = s.rest.first; least = s.rest.least }
 
 -- the runs of the row of packed dots, and how far it is searched
 abbrev pub search_in_dots : dots.Inside → Search

@@ -9,7 +9,7 @@ ghost use Rattle.scan_core.specs.inner.Parts.{IsPart, shifted};
 use crate::dots::{FirstRuns, first_runs};
 use crate::rounding::total_dots;
 use crate::search::SymbolSearch;
-use crate::symbols::next_window;
+use crate::symbols::{Rest, next_window};
 use crate::window::Window;
 use element_core::Year;
 use std::marker::Model;
@@ -56,7 +56,7 @@ fn next_early(runs: &FirstRuns, first: usize, least: usize, year: Year) -> Optio
     ensures none { IfNone result ((v : Window) → IsSymbolOf runs.now.widths.items year v
         → IsLeft (record { runs = runs.now.widths.items; year = year; first = first; least = least }) v → v.first ≤ 598 → ⊥) }
 {
-    let window = next_window(runs.widths.as_slice(), first, least, year)?;
+    let window = next_window(runs.widths.as_slice(), &mut Rest { first, least }, year)?;
     if window.first <= LAST_FIRST {
         Some(window)
     } else {
@@ -98,7 +98,11 @@ fn next_in_parts(
         first = 0;
         least = 0;
     }
-    next_window(part.runs.widths.as_slice(), first, least, year)
+    next_window(
+        part.runs.widths.as_slice(),
+        &mut Rest { first, least },
+        year,
+    )
 }
 
 /// The search of a row of packed dots for its symbols, from the left. No memory is taken: of the row, which may
@@ -157,21 +161,19 @@ impl<'a> SymbolSearch for DotSymbols<'a> {
     ghost rest = { λ s. s };
 
     fn next_symbol(&mut self) -> Option<Window> {
-        let window = next_in_parts(
+        let mut found = next_in_parts(
             self.bits,
             usize::from(self.width),
             self.year,
             &mut self.part,
             self.first,
             self.least,
-        )?;
-        self.first = window.first;
-        self.least = window.count + 1;
-        Some(Window {
-            first: self.part.before + window.first,
-            count: window.count,
-            carrier: window.carrier,
-            elements: window.elements,
-        })
+        );
+        if let Some(window) = &mut found {
+            self.first = window.first;
+            self.least = window.count + 1;
+            window.first += self.part.before;
+        }
+        found
     }
 }

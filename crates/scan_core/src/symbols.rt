@@ -1,5 +1,5 @@
 //! Every symbol of a row.
-ghost use Rattle.std.specs.Prelude.{None, ◌≡◌, ◌⊎◌, ◌<◌, ◌+◌, ◌%◌, ◌≤◌, ◌↔◌, IfErr, IfNone, IfOk, IfSome, IsTrue, OnOk, ℕ, false, length, slice_index};
+ghost use Rattle.std.specs.Prelude.{None, ◌≡◌, ◌⊎◌, ◌<◌, ◌+◌, ◌*◌, ◌%◌, ◌≤◌, ◌↔◌, IfErr, IfNone, IfOk, IfSome, IsTrue, OnOk, ℕ, false, length, slice_index, true};
 ghost use Rattle.scan_core.specs.Row.{IsRow, runs_fault};
 ghost use Rattle.scan_core.specs.Showing.{HasSize, kind_of};
 ghost use Rattle.scan_core.specs.inner.Searches.{AreNoneShorter, HasRun, IsNextPlace, MayEnd};
@@ -24,15 +24,21 @@ const LEAST_PAIRS: usize = 12;
 /// The longest window has so many pairs of runs after its first run.
 const MOST_PAIRS: usize = 298;
 
+/// What is left of a row to be searched.
+#[derive(Clone, Copy)]
+pub(crate) struct Rest {
+    /// Windows that begin before this run are passed.
+    pub(crate) first: usize,
+    /// So are those that begin at it and have fewer runs.
+    pub(crate) least: usize,
+}
+
 /// The search of a row for its symbols, from the left.
 #[derive(Drop)]
 pub struct Symbols<'a> {
     widths: &'a [u16],
     year: Year,
-    /// Windows that begin before this run are passed.
-    first: usize,
-    /// So are those that begin at it and have fewer runs.
-    least: usize,
+    rest: Rest,
 }
 
 impl<'a> Model for Symbols<'a> {
@@ -78,6 +84,18 @@ fn widest_of(widths: &[u16]) -> u16
     widest
 }
 
+/// Whether none of the runs is wider than so much.
+fn none_wider(widths: &[u16], widest: u16) -> bool
+    ensures { result ≡ true → (i : ℕ) → i < length widths.now → slice_index widths.now i ≤ widest }
+{
+    // Each run is looked at, since a loop without an early end looks at many at once.
+    let mut none = true;
+    'runs: for i in 0..widths.len() {
+        none &= widths[i] <= widest;
+    }
+    none
+}
+
 /// Whether a light run may be an end of a symbol that has these dark and light runs next to it.
 ///
 /// An end is at least five modules, the dark run two at most, and the light one a single one, each to
@@ -99,12 +117,30 @@ fn may_be_symbol(widths: &[u16], first: usize, count: usize) -> bool
     may_end(widths[last], widths[last - 1], widths[last - 2]) && is_symbol_count(count - 2)
 }
 
+/// How many pairs of runs behind the first run are passed, eight at a time, as no light run from the thirteenth
+/// pair on is wider than so much.
+fn pairs_passed(widths: &[u16], first: usize, pairs: usize, widest: u16) -> usize
+    requires within { first + 2 * pairs + 1 ≤ length widths.now }
+    ensures least { 12 ≤ result }
+    ensures passed { (k : ℕ) → 12 ≤ k → k < result → slice_index widths.now (first + 2 * k + 2) ≤ widest }
+{
+    let mut passed = LEAST_PAIRS;
+    'eights: while passed + 8 <= pairs {
+        let next = first + 2 * passed + 1;
+        if !none_wider(&widths[next..next + 16], widest) {
+            return passed;
+        }
+        passed += 8;
+    }
+    passed
+}
+
 /// How many runs the first of the windows has that begin with this run, have so many runs at least and may
 /// be a symbol, shorter ones first.
 ///
-/// A window grows until one of its runs is no narrower than its light end: no longer one is read. It may be a
-/// symbol where its other end is wider than all its runs before. Few runs are looked at as light ends, so this is
-/// kept out of their loop.
+/// A window grows until one of its light runs is no narrower than its light end: no longer one is read. It may be
+/// a symbol where its other end is wider than those before it, and the first dark ones. Few runs are looked at as
+/// light ends, so this is kept out of their loop.
 #[inline(never)]
 fn count_from(widths: &[u16], first: usize, least: usize) -> Option<usize>
     requires row { IsRow widths.now }
@@ -123,17 +159,19 @@ fn count_from(widths: &[u16], first: usize, least: usize) -> Option<usize>
     let pairs = ((widths.len() - first) / 2).min(MOST_PAIRS);
     // No window of fewer than 27 runs is read, so the first 24 between its ends are looked at together.
     let mut widest = widest_of(&widths[first + 1..first + 25]);
-    'pairs: for k in LEAST_PAIRS..pairs {
-        let last = first + 2 * k + 2;
-        widest = widths[last - 1].max(widest);
-        if left <= widest {
-            return None;
-        }
-        if widest < widths[last] {
+    if left <= widest {
+        return None;
+    }
+    'pairs: for k in pairs_passed(widths, first, pairs, widest)..pairs {
+        let right = widths[first + 2 * k + 2];
+        if widest < right {
             if least <= 2 * k + 3 && may_be_symbol(widths, first, 2 * k + 3) {
                 return Some(2 * k + 3);
             }
-            widest = widths[last];
+            if left <= right {
+                return None;
+            }
+            widest = right;
         }
     }
     None
@@ -164,29 +202,35 @@ fn next_place(widths: &[u16], first: usize, least: usize) -> Option<Place>
     None
 }
 
-/// The first that is read of this window and those that come after it.
+/// The first that is read of this window and those that come after it. What is left of the row goes on behind it.
 ///
 /// It is called where there is a window that may be a symbol, so that a search which finds none does not pay for
 /// the room of an answer.
 #[inline(never)]
-fn first_read(widths: &[u16], place: Place, year: Year) -> Option<Window>
+fn first_read(widths: &[u16], place: Place, year: Year, rest: &mut Rest) -> Option<Window>
     requires row { IsRow widths.now }
     requires begins_light { place.first % 2 ≡ 0 }
     requires ends_light { place.count % 2 ≡ 1 }
     requires within { place.first + place.count ≤ length widths.now }
     ensures next { IfSome result (λ w. IsNext (record { runs = widths.now; year = year; first = place.first; least = place.count }) w) }
+    ensures after { IfSome result (λ w. rest.new ≡ record { first = w.first; least = w.count + 1 }) }
     ensures over { IfNone result (IsOver (record { runs = widths.now; year = year; first = place.first; least = place.count })) }
+    ensures unchanged { IfNone result (rest.new ≡ rest.old) }
 {
     one_answer();
     let mut here = place;
     'places: loop {
         let Place { first, count } = here;
         if let Answer::Read { carrier, elements } = answer_in(&widths[first..first + count], year) {
+            *rest = Rest {
+                first,
+                least: count + 1,
+            };
             return Some(Window {
                 first,
                 count,
-                carrier,
                 elements,
+                carrier,
             });
         }
         let Some(next) = next_place(widths, first, count + 1) else {
@@ -196,17 +240,19 @@ fn first_read(widths: &[u16], place: Place, year: Year) -> Option<Window>
     }
 }
 
-/// The first of the windows that begin after this run, or at it with so many runs at least, that is read.
-pub(crate) fn next_window(widths: &[u16], first: usize, least: usize, year: Year) -> Option<Window>
+/// The next symbol of what is left of a row, which goes on behind it.
+pub(crate) fn next_window(widths: &[u16], rest: &mut Rest, year: Year) -> Option<Window>
     requires row { IsRow widths.now }
-    requires light { first % 2 ≡ 0 }
-    ensures next { IfSome result (λ w. IsNext (record { runs = widths.now; year = year; first = first; least = least }) w) }
-    ensures over { IfNone result (IsOver (record { runs = widths.now; year = year; first = first; least = least })) }
+    requires light { rest.old.first % 2 ≡ 0 }
+    ensures next { IfSome result (λ w. IsNext (record { runs = widths.now; year = year; first = rest.old.first; least = rest.old.least }) w) }
+    ensures after { IfSome result (λ w. rest.new ≡ record { first = w.first; least = w.count + 1 }) }
+    ensures over { IfNone result (IsOver (record { runs = widths.now; year = year; first = rest.old.first; least = rest.old.least })) }
+    ensures unchanged { IfNone result (rest.new ≡ rest.old) }
 {
-    let Some(place) = next_place(widths, first, least) else {
+    let Some(place) = next_place(widths, rest.first, rest.least) else {
         return None;
     };
-    first_read(widths, place, year)
+    first_read(widths, place, year, rest)
 }
 
 impl<'a> Symbols<'a> {
@@ -223,8 +269,7 @@ impl<'a> Symbols<'a> {
         Ok(Symbols {
             widths,
             year,
-            first: 0,
-            least: 0,
+            rest: Rest { first: 0, least: 0 },
         })
     }
 }
@@ -240,9 +285,6 @@ impl<'a> SymbolSearch for Symbols<'a> {
         ensures same { IfNone result (self.new.runs ≡ self.old.runs) }
         ensures unchanged { IfNone result (self.new ≡ self.old) }
     {
-        let window = next_window(self.widths, self.first, self.least, self.year)?;
-        self.first = window.first;
-        self.least = window.count + 1;
-        Some(window)
+        next_window(self.widths, &mut self.rest, self.year)
     }
 }

@@ -10,8 +10,8 @@ pub struct Window {
     pub first: usize,
     /// How many runs it has, with the light ones at its ends: from 27 to 597.
     pub count: usize,
-    /// The symbol's kind.
-    pub carrier: Carrier,
     /// Its elements, dates under the reference year.
     pub elements: Elements,
+    /// The symbol's kind.
+    pub carrier: Carrier,
 }

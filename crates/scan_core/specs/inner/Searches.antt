@@ -9,11 +9,11 @@ use Rattle.scan_core.specs.Windows.{IsLeft, IsSymbolOf, Search}
 -- the widths are a row, and the search goes on at a light run
 pub record IsSearch (s : Inside) : Type 0 where
   pub row : IsRow s.widths.now
-  pub light : s.first % 2 ≡ 0
+  pub light : s.rest.first % 2 ≡ 0
 
--- a run between the ends of a window is so wide
+-- a run between the ends of a window is so wide at least
 abbrev pub HasRun : List ℕ → ℕ → ℕ → ℕ → Type 0
-HasRun runs first count width = (i : ℕ) × (first < i) × (i + 1 < first + count) × (slice_index runs i ≡ width)
+HasRun runs first count width = (i : ℕ) × (first < i) × (i + 1 < first + count) × (width ≤ slice_index runs i)
 
 -- of the windows that begin with this run and have so many runs at least, none with fewer than so many is read
 abbrev pub AreNoneShorter : List ℕ → ℕ → ℕ → ℕ → ℕ → Type 0

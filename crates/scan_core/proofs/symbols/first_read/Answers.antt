@@ -16,6 +16,7 @@ sliced first count runs = ap (λ n. take n (drop first runs)) (let e : first + c
 
 pub places-init : goal.places-init
 places-init c = record {
+  unchanged = refl;
   begins_light = c.requires.begins_light;
   ends_light = c.requires.ends_light;
   within = c.requires.within;
@@ -108,6 +109,7 @@ places-preserved c =
     let next = c.in-Some.ensures.next c.args.year in
     let s : Search = record { runs = c.args.widths.now; year = c.args.year; first = c.places.here.first; least = c.places.here.count + 1 } in
     record {
+      unchanged = c.places.invariant.unchanged;
       begins_light = next.begins_light;
       ends_light = next.ends_light;
       within = next.within;

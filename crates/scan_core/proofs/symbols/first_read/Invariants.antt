@@ -5,6 +5,7 @@ use Rattle.scan_core.proofs.symbols.first_read.Given as goal
 
 abbrev pub invariant-places : goal.invariant-places
 invariant-places l = record {
+  unchanged : l.rest ≡ l.fn.rest;
   begins_light : l.here.first % 2 ≡ 0;
   ends_light : l.here.count % 2 ≡ 1;
   within : l.here.first + l.here.count ≤ length l.widths;

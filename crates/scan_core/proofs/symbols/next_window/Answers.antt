@@ -14,14 +14,14 @@ first_read-requires-clause-within c = (c.in-Some.ensures.next c.args.year).withi
 
 pub returns-clause-next : goal.returns-clause-next
 returns-clause-next c =
-    let s : Search = record { runs = c.args.widths.now; year = c.args.year; first = c.args.first; least = c.args.least } in
+    let s : Search = record { runs = c.args.widths.now; year = c.args.year; first = c.args.rest.now.first; least = c.args.rest.now.least } in
     let p = c.in-Some.place in
     let at = c.in-Some.ensures.next c.args.year in
     IfSome_then c.first_read.result c.first_read.ensures.next (λ w next. earlier s p.first p.count w at.left (at_place s p at) next)
 
 pub returns-clause-over : goal.returns-clause-over
 returns-clause-over c =
-    let s : Search = record { runs = c.args.widths.now; year = c.args.year; first = c.args.first; least = c.args.least } in
+    let s : Search = record { runs = c.args.widths.now; year = c.args.year; first = c.args.rest.now.first; least = c.args.rest.now.least } in
     let p = c.in-Some.place in
     let at = c.in-Some.ensures.next c.args.year in
     none_then c.first_read.result c.first_read.ensures.over (λ over v symbol left. over v symbol (at_place s p at v symbol left))
