@@ -46,7 +46,8 @@ class Library:
         return _answer(said, self._year)
 
     def _ask(self, call: Any, widths: Widths) -> bytes:
-        return _ask(call, (ctypes.c_uint16 * len(widths)).from_buffer(widths.data), len(widths), self._year)
+        # The first width stands for its place: an array would want a type of its own for each number of widths.
+        return _ask(call, ctypes.c_uint16.from_buffer(widths.data), len(widths), self._year)
 
 
 @dataclass
