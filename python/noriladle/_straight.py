@@ -6,7 +6,7 @@ wide, so their ends say how.
 from __future__ import annotations
 
 from collections import defaultdict
-from typing import Callable, Dict, Iterator, List, NamedTuple, Optional, Tuple, Union
+from typing import Any, Callable, Dict, Iterator, List, NamedTuple, Optional, Tuple, Union
 
 import numpy
 from numpy.typing import NDArray
@@ -75,6 +75,11 @@ _FIRST_OF = _SHAPES_OF.cumsum() - _SHAPES_OF
 _MODULES_OF = numpy.array([shapes[0].width for shapes in SHAPES.values()])
 """The numbers of runs that symbols have, the fewest first; how many shapes have each, the first of these among all, and its
 modules."""
+_FIVES = [
+    numpy.multiply.outer(parts, _ENDS - 1).astype(int) + _ENDS.cumsum() - _ENDS
+    for parts in ((0, 0.25, 0.5, 0.75, 1), (0, 0.375, 0.625, 0.875, 1))
+]
+"""Five of the ends of each shape, far apart: a row for each of the five; and five others."""
 _STEPS = [0, 4, 16, 48, len(_RUNS_OF)]
 """Up to which of the numbers of runs windows are looked for at once: most light runs are not wide enough for many."""
 _DEGREES = numpy.array([3 if len(shape.runs) > 8 else 2 for shape in _ALL])
@@ -129,7 +134,7 @@ class _Scales(NamedTuple):
 
 def read_windows(runs: Runs, read: Callable[[Widths], Optional[Answer]]) -> Iterator[Read]:
     """The windows of rows that are read, row by row and from the left. Where one is, the next begins at its end."""
-    windows, scales = _fitting(runs, _windows(runs))
+    windows, scales = _fitting(runs, _may_fit(runs, _windows(runs)))
     begin = 0
     for first, count, widths in _straightened(runs, windows, scales):
         answer = read(widths) if first >= begin else None
@@ -160,25 +165,34 @@ def _between(runs: Runs) -> Tuple[Indices, Indices]:
     last = _widest(runs.widths, more)
     found = []
     for begin, end in zip(_STEPS, _STEPS[1:]):
-        # Some numbers of runs at once: a row for each light run, a column for each number.
-        counts = _RUNS_OF[begin:end]
-        ends, quiet = first[:, None] + counts, runs.widths[first, None]
-        inner = (runs.ends.take(ends, mode="clip") - runs.ends[first, None]) * QUIET
+        # Some numbers of runs at once: a row for each number, a column for each light run.
+        counts = _RUNS_OF[begin:end, None]
+        ends, quiet = first + counts, runs.widths[first]
+        inner = (runs.ends.take(ends, mode="clip") - runs.ends[first]) * QUIET
         widths = last.take(ends - (more - 1), mode="clip")
-        widths[:, 0] = numpy.maximum(widths[:, 0], widest)
-        numpy.maximum.accumulate(widths, axis=1, out=widths)
-        may_be = (widths < quiet) & (counts + 1 < left[:, None]) & (inner <= quiet * counts * WIDEST_MEAN)
+        numpy.maximum(widths[0], widest, out=widths[0])
+        _join_from_above(numpy.maximum, widths)
+        may_be = (widths < quiet) & (counts + 1 < left) & (inner <= quiet * counts * WIDEST_MEAN)
         # Behind one that is too wide there is none.
-        numpy.logical_and.accumulate(may_be, axis=1, out=may_be)
-        least = numpy.maximum(widths, inner * ASLANT / _MODULES_OF[begin:end])
+        _join_from_above(numpy.logical_and, may_be)
+        least = numpy.maximum(widths, inner * ASLANT / _MODULES_OF[begin:end, None])
         wide = numpy.minimum(quiet, runs.widths.take(ends + 1, mode="clip")) >= least
-        at, number = (may_be & wide).nonzero()
+        number, at = numpy.divmod(numpy.flatnonzero(may_be & wide), len(first))
         found.append((first[at], begin + number))
-        goes_on = may_be[:, -1]
-        first, left, widest = first[goes_on], left[goes_on], widths[goes_on, -1]
+        goes_on = may_be[-1]
+        first, left, widest = first[goes_on], left[goes_on], widths[-1, goes_on]
     first, number = (numpy.concatenate(each) for each in zip(*found))
     order = first.argsort(kind="stable")
     return first[order], number[order]
+
+
+def _join_from_above(join: numpy.ufunc, rows: NDArray[Any]) -> None:
+    """Joins each row with all above it, in place: at each step with twice as many. numpy's own accumulate goes column by
+    column, which takes longer."""
+    step = 1
+    while step < len(rows):
+        rows[step:] = join(rows[step:], rows[:-step])
+        step *= 2
 
 
 def _quiet(runs: Runs) -> Tuple[Indices, Indices, Ends]:
@@ -200,6 +214,26 @@ def _widest(widths: Ends, count: int) -> Ends:
         more = min(taken, count - taken)
         widths, taken = numpy.maximum(widths[:-more], widths[more:]), taken + more
     return widths
+
+
+def _may_fit(runs: Runs, windows: _Windows) -> _Windows:
+    """Those of the windows whose characters may be as wide as the shape's, by five of their ends, and five others: none
+    that fits is missing.
+
+    Over five places, a scale of degree 3 or less has no divided difference of degree 4: the sum of its modules, each
+    divided by how far its place is from each other one. So that of the shape's modules is that of what these are away
+    from the scale. Where none is away by more than STRAY, it is at most as if each were, and all added up.
+    """
+    for five in _FIVES:
+        end = five[:, windows.shape]
+        places = runs.ends[windows.first + _RUNS[end]]
+        apart = places[:, None] - places
+        apart[range(5), range(5)] = 1
+        parts = 1 / apart.prod(axis=1)
+        difference = abs((parts * _MODULES[end]).sum(axis=0))
+        # A little more, since numbers are rounded.
+        windows = windows.where(difference <= 1.001 * STRAY * abs(parts).sum(axis=0))
+    return windows
 
 
 def _fitting(runs: Runs, windows: _Windows) -> Tuple[_Windows, _Scales]:
@@ -239,14 +273,13 @@ def _solved(sums: Ends, wanted: Ends, degrees: Indices) -> Ends:
 def _straightened(runs: Runs, windows: _Windows, scales: _Scales) -> Iterator[Tuple[int, int, Widths]]:
     """The windows whose scales rise from run to run: the first run of each, how many stand between it and its last, and
     the widths of all on its scale."""
-    count = windows.counts
-    rising = numpy.minimum.reduceat(_even(runs, windows, scales), count.cumsum() - count) > 0
-    windows, scales = windows.where(rising), scales.of(rising)
-    first, count, _ = windows
+    even, count = _even(runs, windows, scales), windows.counts
+    rising = numpy.minimum.reduceat(even, count.cumsum() - count) > 0
+    even, (first, count, _), scales = even[rising.take(each_of(count))], windows.where(rising), scales.of(rising)
     number = numpy.arange(len(count))
     left, right = (count + 2).cumsum() - count - 2, (count + 2).cumsum() - 1
     widths = numpy.empty((count + 2).sum())
-    widths[in_turn(left + 1, count)] = numpy.maximum(_spread_out(_even(runs, windows, scales), count), 1 / PARTS)
+    widths[in_turn(left + 1, count)] = numpy.maximum(_spread_out(even, count), 1 / PARTS)
     # Outside of the symbol the scale is that of its ends.
     for ends, run, place in (left, first, -1), (right, first + count + 1, 1):
         widths[ends] = numpy.clip(runs.widths[run] * scales.at(place), 0, MOST_QUIET)

@@ -229,6 +229,27 @@ def test_looks_at_every_window():
     assert seen > 1500
 
 
+def test_drops_no_window_that_fits():
+    chance, fit, left, asked = numpy.random.RandomState(7), 0, 0, 0
+    counts_of = numpy.array([count for count, shapes in _straight.SHAPES.items() for _ in shapes])
+    for strays in (0, 0.2, 0.4, 0.6, 1, 3):
+        numbers, rows = chance.randint(0, len(counts_of), 300), []
+        for shape, count in zip((_straight._ALL[number] for number in numbers), counts_of[numbers]):
+            # A scale that grows along the symbol, and ends of characters that stray from it.
+            part, modules = shape.modules / shape.width, shape.modules + chance.uniform(-strays, strays, len(shape.modules))
+            places = 9 + 3 * modules + shape.width * (chance.uniform(-1, 1) * part ** 2 + chance.uniform(0, 1) * part ** 3)
+            rows.append(numpy.interp(numpy.arange(count + 2), shape.runs, numpy.maximum.accumulate(places)))
+            rows[-1] += 0.01 * numpy.arange(count + 2)
+        lengths = counts_of[numbers] + 2
+        runs = _rows.Runs(lengths.cumsum(), numpy.concatenate(rows), numpy.zeros(lengths.sum()))
+        windows = _straight._Windows(lengths.cumsum() - lengths, lengths - 2, numbers)
+        may_fit = _straight._may_fit(runs, windows)
+        (wanted, scales), (got, same) = (_straight._fitting(runs, each) for each in (windows, may_fit))
+        assert all(numpy.array_equal(one, other) for one, other in zip((*wanted, *scales), (*got, *same)))
+        fit, left, asked = fit + len(got.first), left + len(may_fit.first), asked + len(numbers)
+    assert 0.2 * asked < fit < left < 0.9 * asked
+
+
 def test_keeps_edges_apart():
     # Two rows, the second dark first and last; some edges are at one place, and one before.
     ends = numpy.array([2.0, 2.0, 2.0, 2.01, 5.0, 0.0, 0.0, 7.0])
