@@ -60,12 +60,12 @@ class Pixels:
         self._turned = {0: grey}
 
     @cached_property
-    def squares(self) -> NDArray[numpy.uint8]:
-        """The four dots around each corner of the picture's dots, with one more dot all around, like its neighbour: row
-        by row, one more than the picture is wide."""
+    def pairs(self) -> NDArray[numpy.uint16]:
+        """Each dot of the picture and the one below it, with one more dot all around, like its neighbour: row by row,
+        two more than the picture is wide. A pair is a number of two bytes."""
         wide = numpy.pad(self._turned[0], 1, mode="edge")
-        squares: NDArray[numpy.uint8] = numpy.stack((wide[:-1, :-1], wide[:-1, 1:], wide[1:, :-1], wide[1:, 1:]), axis=-1)
-        return squares.reshape(-1, 4)
+        pairs: NDArray[numpy.uint16] = numpy.stack((wide[:-1], wide[1:]), axis=-1).view(numpy.uint16).ravel()
+        return pairs
 
     def turned(self, quarters: int) -> NDArray[numpy.uint8]:
         """The picture turned to the left by so many quarters, -1 to 1."""
@@ -100,7 +100,7 @@ class _Lines:
 class Grid:
     """The rows across the stripes of a direction, in a frame of its angle: through all of its blocks, and beyond."""
 
-    at_once = 32_768
+    at_once = 49_152
     """About how many dots are taken at a time, so that they stay in the processor's own memory."""
     _taken: Optional[_Lines] = None
     """The lines of rows that are taken already: a look has all lines of one before it where both have the same rows."""
@@ -128,9 +128,8 @@ class Grid:
         """The rows, each the mean of so many lines a dot apart, as far as all of these lie in the picture."""
         middles = self.top + (numpy.arange(self.count) + 0.5) * self.step
         offsets = numpy.arange(lines) - (lines - 1) / 2
-        parts = [self._parts(middles + offset, *picture.size) for offset in offsets]
-        first = numpy.max([left for left, _ in parts], axis=0)
-        last = numpy.min([right for _, right in parts], axis=0)
+        firsts, lasts = self._parts(middles + offsets[:, None], *picture.size)
+        first, last = firsts.max(axis=0), lasts.min(axis=0)
         enough = last - first >= FEWEST_DOTS
         vs, lefts, lengths = middles[enough], first[enough], (last - first)[enough].astype(int)
         if not enough.any():
@@ -150,21 +149,22 @@ class Grid:
             dots = self._between_dots(picture, us, numpy.add.outer(new, vs[rows]).ravel())
             lines.update(zip(new, dots.reshape(len(new), len(vs[rows]), len(us))))
             mean = reduce(numpy.add, (lines[offset] for offset in offsets)) / len(offsets)
-            first, ends = us[0], zip(lefts[rows].tolist(), rights[rows].tolist())
-            means += [row[int(left - first):int(right - first)] for row, (left, right) in zip(mean, ends)]
+            begins, ends = ((each[rows] - us[0]).astype(int).tolist() for each in (lefts, rights))
+            means += [row[begin:end] for row, begin, end in zip(mean, begins, ends)]
         return numpy.concatenate(means)
 
     def _between_dots(self, picture: Pixels, us: Ends, vs: Ends) -> Values:
         """The grey values at each u of each v; what is asked for beside the picture is anything."""
-        # The first square is that around the upper left corner of the picture.
+        # The first pair is that of the dot beside the upper left corner, which is not of the picture.
         y = us * self.frame.imag + (0.5 + vs * self.frame.real)[:, None]
-        square = _parted(y)
-        square *= picture.size[0] + 1
+        pair = _parted(y)
+        pair *= picture.size[0] + 2
         x = us * self.frame.real + (0.5 - vs * self.frame.imag)[:, None]
-        square += _parted(x)
-        around = picture.squares.take(square.astype(int), axis=0, mode="clip")
-        above = _between(around[..., 0].astype(float), around[..., 1].astype(float), x)
-        below = _between(around[..., 2].astype(float), around[..., 3].astype(float), x)
+        pair += _parted(x)
+        at = pair.astype(int)
+        lefts, rights = (pairs.take(at, mode="clip").view(numpy.uint8) for pairs in (picture.pairs, picture.pairs[1:]))
+        above = _between(lefts[:, ::2].astype(float), rights[:, ::2].astype(float), x)
+        below = _between(lefts[:, 1::2].astype(float), rights[:, 1::2].astype(float), x)
         values: Values = _between(above, below, y).astype(numpy.float32)
         return values
 
@@ -187,7 +187,7 @@ class Grid:
 
     def _parts(self, vs: Ends, width: int, height: int) -> Tuple[Ends, Ends]:
         """The first u of each row in the picture, and the one behind its last; each dot has neighbours all around."""
-        first, last = numpy.full(len(vs), self.left), numpy.full(len(vs), self.right)
+        first, last = numpy.full(vs.shape, self.left), numpy.full(vs.shape, self.right)
         # The middle of a picture's first dot is at one half.
         starts = vs * 1j * self.frame - (0.5 + 0.5j)
         for start, step, most in (
@@ -236,13 +236,31 @@ def bounds_of(rows: Rows) -> Bounds:
     # Two blocks of no dots stand beside each row.
     places = numpy.arange(len(row)) + 2 * row + 2
     least, most = (numpy.full(len(row) + 2 * len(counts) + 2, value, numpy.float32) for value in (255, 0))
-    least[places] = numpy.minimum.reduceat(rows.values, starts)
-    most[places] = numpy.maximum.reduceat(rows.values, starts)
-    low = numpy.minimum.reduce([least[places + away] for away in range(-2, 3)])
-    high = numpy.maximum.reduce([most[places + away] for away in range(-2, 3)])
+    least[places], most[places] = _extremes(rows.values, starts)
+    around = [slice(away, len(least) - 4 + away) for away in range(5)]
+    low = reduce(numpy.minimum, (least[blocks] for blocks in around))[places - 2]
+    high = reduce(numpy.maximum, (most[blocks] for blocks in around))[places - 2]
     block = numpy.zeros(len(rows.values), int)
     block[starts[1:]] = 1
     return Bounds(low, high, block.cumsum(out=block))
+
+
+def _extremes(values: Values, starts: Indices) -> Tuple[Values, Values]:
+    """The darkest and the lightest value of each block, of which one ends where the next begins."""
+    sizes = numpy.diff(starts, append=len(values))
+    powers = numpy.frexp(sizes)[1] - 1
+    least, most = numpy.empty((2, len(starts)), numpy.float32)
+    low, high, span = values, values, 1
+    for power in range(powers.max() + 1):
+        if power:
+            # From here on each of these is the value of twice as many dots, of which the first is its own.
+            low, high = numpy.minimum(low[:-span], low[span:]), numpy.maximum(high[:-span], high[span:])
+            span *= 2
+        # The first and the last so many dots are all of a block that has fewer than twice as many.
+        block = numpy.flatnonzero(powers == power)
+        first, last = starts[block], starts[block] + sizes[block] - span
+        least[block], most[block] = numpy.minimum(low[first], low[last]), numpy.maximum(high[first], high[last])
+    return least, most
 
 
 def runs_of(rows: Rows, bounds: Bounds) -> Runs:
@@ -254,11 +272,13 @@ def runs_of(rows: Rows, bounds: Bounds) -> Runs:
     starts, values = rows.starts, rows.values
     levels = _levels(bounds).take(bounds.block)
     dark = values < levels
-    changes = numpy.append(False, dark[1:] != dark[:-1])
+    changes = numpy.empty(len(dark), bool)
+    numpy.not_equal(dark[1:], dark[:-1], out=changes[1:])
     changes[starts] = dark[starts]
     at = numpy.flatnonzero(changes)
     counts = numpy.diff(numpy.searchsorted(at, numpy.append(starts, len(values))))
-    ends = at - starts.repeat(counts) + _from_dots(values[at - 1].astype(float), values[at], levels[at])
+    before = values.take(at - 1).astype(float)
+    ends = at - starts.take(each_of(counts)) + _from_dots(before, values.take(at), levels.take(at))
     # A dark first dot has no dot before it.
     first = (counts.cumsum() - counts)[dark[starts]]
     ends[first] = 0
@@ -331,20 +351,23 @@ def _blurred(values: Values, bell: Values) -> Values:
     """The values by a bell, of which the right half is told; those at the ends, which have too few beside them, are
     none that count."""
     blurred: Values = bell[0] * values
+    room = numpy.empty_like(values)
     for away, part in enumerate(bell[1:], 1):
-        both = values[:-2 * away] + values[2 * away:]
+        both = numpy.add(values[:-2 * away], values[2 * away:], out=room[:-2 * away])
         both *= part
         blurred[away:-away] += both
     return blurred
 
 
 def each_of(counts: Indices) -> Indices:
-    """0 so many times, then 1, and so on."""
-    numbers: Indices = numpy.arange(len(counts)).repeat(counts)
+    """0 so many times, then 1, and so on: by sums, which take less than to repeat each."""
+    total = counts.sum()
+    numbers: Indices = numpy.bincount(counts.cumsum()[:-1], minlength=total)[:total].cumsum()
     return numbers
 
 
 def in_turn(starts: Indices, counts: Indices) -> Indices:
     """So many numbers from each start on, one start behind another."""
-    numbers: Indices = numpy.arange(counts.sum()) + (starts - counts.cumsum() + counts).repeat(counts)
+    numbers: Indices = (starts - counts.cumsum() + counts).take(each_of(counts))
+    numbers += numpy.arange(len(numbers))
     return numbers

@@ -250,6 +250,23 @@ def test_drops_no_window_that_fits():
     assert 0.2 * asked < fit < left < 0.9 * asked
 
 
+def test_tells_the_extremes_of_blocks():
+    chance = numpy.random.RandomState(7)
+    for longest in (1, 2, 3, 9, 40, 300):
+        sizes = chance.randint(1, longest + 1, 50)
+        starts, values = sizes.cumsum() - sizes, chance.rand(sizes.sum()).astype(numpy.float32)
+        blocks = numpy.split(values, starts[1:])
+        wanted = [block.min() for block in blocks], [block.max() for block in blocks]
+        assert numpy.array_equal(_rows._extremes(values, starts), wanted)
+
+
+def test_counts_none_too():
+    counts, starts = numpy.array([0, 2, 0, 0, 3, 1, 0]), numpy.array([9, 5, 7, 7, 1, 8, 2])
+    assert _rows.each_of(counts).tolist() == [1, 1, 4, 4, 4, 5]
+    assert _rows.in_turn(starts, counts).tolist() == [5, 6, 1, 2, 3, 8]
+    assert not len(_rows.in_turn(starts[:0], counts[:0])) and not len(_rows.each_of(counts[:1]))
+
+
 def test_keeps_edges_apart():
     # Two rows, the second dark first and last; some edges are at one place, and one before.
     ends = numpy.array([2.0, 2.0, 2.0, 2.01, 5.0, 0.0, 0.0, 7.0])
