@@ -10,20 +10,20 @@ use Rattle.sheet_core.specs.declared.kind.LabelKind.TheVariants.{Gtin, Gs1128}
 
 -- what is told and drawn of a kind: its name, the carrier that its symbol is read as, and the nominal quiet zones left and right of the symbol, in
 -- modules
-pub record Form : Type 0 where
+pub record Symbology : Type 0 where
   pub name : List ℕ
   pub carrier : Carrier
   pub quiet_left : ℕ
   pub quiet_right : ℕ
 
 -- the table of kinds
-abbrev pub form_of : LabelKind → Form
-form_of (Gtin Ean13) = record { name = codes "ean13"; carrier = carrier.Ean13; quiet_left = 11; quiet_right = 7 }
-form_of (Gtin UpcA) = record { name = codes "upca"; carrier = carrier.Ean13; quiet_left = 9; quiet_right = 9 }
-form_of (Gtin Ean8) = record { name = codes "ean8"; carrier = carrier.Ean8; quiet_left = 7; quiet_right = 7 }
-form_of (Gtin UpcE) = record { name = codes "upce"; carrier = carrier.UpcE; quiet_left = 9; quiet_right = 7 }
-form_of (Gtin Itf14) = record { name = codes "itf14"; carrier = carrier.Itf14; quiet_left = 10; quiet_right = 10 }
-form_of Gs1128 = record { name = codes "gs1128"; carrier = carrier.Gs1128; quiet_left = 10; quiet_right = 10 }
+abbrev pub symbology_of : LabelKind → Symbology
+symbology_of (Gtin Ean13) = record { name = codes "ean13"; carrier = carrier.Ean13; quiet_left = 11; quiet_right = 7 }
+symbology_of (Gtin UpcA) = record { name = codes "upca"; carrier = carrier.Ean13; quiet_left = 9; quiet_right = 9 }
+symbology_of (Gtin Ean8) = record { name = codes "ean8"; carrier = carrier.Ean8; quiet_left = 7; quiet_right = 7 }
+symbology_of (Gtin UpcE) = record { name = codes "upce"; carrier = carrier.UpcE; quiet_left = 9; quiet_right = 7 }
+symbology_of (Gtin Itf14) = record { name = codes "itf14"; carrier = carrier.Itf14; quiet_left = 10; quiet_right = 10 }
+symbology_of Gs1128 = record { name = codes "gs1128"; carrier = carrier.Gs1128; quiet_left = 10; quiet_right = 10 }
 
 -- all kinds
 abbrev pub kinds : List LabelKind
@@ -31,4 +31,4 @@ kinds = Gtin Ean13 ∷ Gtin UpcA ∷ Gtin Ean8 ∷ Gtin UpcE ∷ Gtin Itf14 ∷ 
 
 -- the kind of this name
 abbrev pub kind_named : List ℕ → Option LabelKind
-kind_named name = find (λ kind. bytes_eq (form_of kind).name name) kinds
+kind_named name = find (λ kind. bytes_eq (symbology_of kind).name name) kinds

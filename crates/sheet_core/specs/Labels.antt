@@ -19,7 +19,7 @@ use Rattle.sheet_core.specs.declared.label.Content.TheVariants.{Gtin as LentGtin
 use Rattle.sheet_core.specs.declared.label.Label.{Label}
 use Rattle.sheet_core.specs.declared.label.Label.TheVariants.{Ean13, UpcA, Ean8, UpcE, Itf14, Gs1128}
 use Rattle.sheet_core.specs.Grids.{Cells}
-use Rattle.sheet_core.specs.Kinds.{form_of}
+use Rattle.sheet_core.specs.Kinds.{symbology_of}
 
 -- the element string of a GTIN: Application Identifier 01 and its 14 digits
 abbrev pub gtin_text : List ℕ → List ℕ
@@ -77,7 +77,7 @@ label_text label = content_text (content_of label)
 
 -- the carrier that its symbol is read as
 abbrev pub carrier_of : Label → Carrier
-carrier_of label = (form_of (label_kind label)).carrier
+carrier_of label = (symbology_of (label_kind label)).carrier
 
 -- the modules are the GS1-128 symbol that is printed for a text of at most 48 characters: start character C, the values of the text by the
 -- encoding rule, and the check character
@@ -104,8 +104,8 @@ pub record Drawn : Type 0 where
 -- this is what is drawn of the label
 pub record IsDrawn (label : Label) (s : Drawn) : Type 0 where
   pub symbol : IsLabelSymbol label s.modules
-  pub left : s.quiet_left ≡ (form_of (label_kind label)).quiet_left
-  pub right : s.quiet_right ≡ (form_of (label_kind label)).quiet_right
+  pub left : s.quiet_left ≡ (symbology_of (label_kind label)).quiet_left
+  pub right : s.quiet_right ≡ (symbology_of (label_kind label)).quiet_right
 
 -- a symbol and its quiet zones in dots are at most as wide as a cell
 abbrev pub FitsCell : Cells → Drawn → Type 0

@@ -2,7 +2,7 @@
 ghost use Rattle.std.specs.Prelude.{◌≡◌, ◌≤◌};
 ghost use Rattle.std.specs.List.{find};
 ghost use Rattle.std.specs.Str.{bytes_eq};
-ghost use Rattle.sheet_core.specs.Kinds.{form_of, kind_named};
+ghost use Rattle.sheet_core.specs.Kinds.{symbology_of, kind_named};
 
 use scan_core::Carrier;
 
@@ -32,7 +32,7 @@ pub enum LabelKind {
 
 /// What is told and drawn of a kind of label.
 #[derive(Clone, Copy, Debug)]
-pub struct Form {
+pub struct Symbology {
     /// Its name.
     pub name: &'static str,
     /// The carrier that its symbol is read as.
@@ -43,14 +43,14 @@ pub struct Form {
     pub quiet_right: u8,
 }
 
-impl Form {
-    fn new(name: &'static str, carrier: Carrier, quiet_left: u8, quiet_right: u8) -> Form
+impl Symbology {
+    fn new(name: &'static str, carrier: Carrier, quiet_left: u8, quiet_right: u8) -> Symbology
         ensures name { result.name.now ≡ name.now }
         ensures carrier { result.carrier ≡ carrier }
         ensures left { result.quiet_left ≡ quiet_left }
         ensures right { result.quiet_right ≡ quiet_right }
     {
-        Form {
+        Symbology {
             name,
             carrier,
             quiet_left,
@@ -71,31 +71,31 @@ const KINDS: [LabelKind; 6] = [
 
 /// The first of these kinds that has this name.
 fn named_in(kinds: &[LabelKind], name: &[u8]) -> Option<LabelKind>
-    ensures { result ≡ find (λ kind. bytes_eq (form_of kind).name name.now) kinds.now }
+    ensures { result ≡ find (λ kind. bytes_eq (symbology_of kind).name name.now) kinds.now }
 {
     kinds
         .iter()
         .copied()
-        .find(|kind| kind.form().name.as_bytes() == name)
+        .find(|kind| kind.symbology().name.as_bytes() == name)
 }
 
 impl LabelKind {
     /// The name, the carrier and the nominal quiet zones (GS1 General Specifications, sections 5.2 to
     /// 5.4).
-    pub fn form(self) -> Form
-        ensures name { result.name.now ≡ (form_of self).name }
-        ensures carrier { result.carrier ≡ (form_of self).carrier }
-        ensures left { result.quiet_left ≡ (form_of self).quiet_left }
-        ensures right { result.quiet_right ≡ (form_of self).quiet_right }
+    pub fn symbology(self) -> Symbology
+        ensures name { result.name.now ≡ (symbology_of self).name }
+        ensures carrier { result.carrier ≡ (symbology_of self).carrier }
+        ensures left { result.quiet_left ≡ (symbology_of self).quiet_left }
+        ensures right { result.quiet_right ≡ (symbology_of self).quiet_right }
         ensures few { (result.quiet_left ≤ 11) × (result.quiet_right ≤ 11) }
     {
         match self {
-            LabelKind::Gtin(GtinKind::Ean13) => Form::new("ean13", Carrier::Ean13, 11, 7),
-            LabelKind::Gtin(GtinKind::UpcA) => Form::new("upca", Carrier::Ean13, 9, 9),
-            LabelKind::Gtin(GtinKind::Ean8) => Form::new("ean8", Carrier::Ean8, 7, 7),
-            LabelKind::Gtin(GtinKind::UpcE) => Form::new("upce", Carrier::UpcE, 9, 7),
-            LabelKind::Gtin(GtinKind::Itf14) => Form::new("itf14", Carrier::Itf14, 10, 10),
-            LabelKind::Gs1128 => Form::new("gs1128", Carrier::Gs1128, 10, 10),
+            LabelKind::Gtin(GtinKind::Ean13) => Symbology::new("ean13", Carrier::Ean13, 11, 7),
+            LabelKind::Gtin(GtinKind::UpcA) => Symbology::new("upca", Carrier::Ean13, 9, 9),
+            LabelKind::Gtin(GtinKind::Ean8) => Symbology::new("ean8", Carrier::Ean8, 7, 7),
+            LabelKind::Gtin(GtinKind::UpcE) => Symbology::new("upce", Carrier::UpcE, 9, 7),
+            LabelKind::Gtin(GtinKind::Itf14) => Symbology::new("itf14", Carrier::Itf14, 10, 10),
+            LabelKind::Gs1128 => Symbology::new("gs1128", Carrier::Gs1128, 10, 10),
         }
     }
 

@@ -158,7 +158,7 @@ impl Label {
     pub fn carrier(&self) -> Carrier
         ensures { result ≡ carrier_of self.now }
     {
-        self.kind().form().carrier
+        self.kind().symbology().carrier
     }
 
     /// The modules of the label's symbol, if it has one.
@@ -182,11 +182,11 @@ impl Label {
         ensures none { IfNone result ((s : Drawn) → IsDrawn self.now s → ⊥) }
     {
         let modules = self.modules()?;
-        let form = self.kind().form();
+        let symbology = self.kind().symbology();
         Some(Symbol {
             modules,
-            quiet_left: form.quiet_left,
-            quiet_right: form.quiet_right,
+            quiet_left: symbology.quiet_left,
+            quiet_right: symbology.quiet_right,
         })
     }
 

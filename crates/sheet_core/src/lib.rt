@@ -15,7 +15,7 @@ mod symbol;
 
 pub use fault::{BadGrid, NoMemory, PbmFault, PrintFault, SheetFault, WriteFault};
 pub use grid::Grid;
-pub use kind::{Form, GtinKind, LabelKind};
+pub use kind::{GtinKind, LabelKind, Symbology};
 pub use label::{Content, Label};
 pub use label_image::label_pbm;
 pub use laws::{

@@ -6,7 +6,7 @@ use Rattle.digits_core.specs.Gtins.{gtin_fault}
 use Rattle.digits_core.specs.declared.fault.DigitFault.{DigitFault}
 use Rattle.element_core.specs.declared.fault.ElementFault.{ElementFault}
 use Rattle.element_core.specs.Elements.{Entry, FirstFault, IsElements, Listing, hri}
-use Rattle.sheet_core.specs.Kinds.{form_of, kind_named}
+use Rattle.sheet_core.specs.Kinds.{symbology_of, kind_named}
 use Rattle.sheet_core.specs.Labels.{content_list, content_of, gtin_label, label_kind}
 use Rattle.sheet_core.specs.declared.kind.GtinKind.{GtinKind}
 use Rattle.sheet_core.specs.declared.kind.LabelKind.{LabelKind}
@@ -62,7 +62,7 @@ label_hri l = hri (label_list l)
 
 -- a line: the sheet, the cell in it, the kind, the human-readable line and a line feed
 abbrev pub label_line : ℕ → ℕ → Label → List ℕ
-label_line cells i l = decimal (i / cells) ++ (32 ∷ []) ++ decimal (i % cells) ++ (32 ∷ []) ++ (form_of (label_kind l)).name ++ (32 ∷ []) ++ label_hri l
+label_line cells i l = decimal (i / cells) ++ (32 ∷ []) ++ decimal (i % cells) ++ (32 ∷ []) ++ (symbology_of (label_kind l)).name ++ (32 ∷ []) ++ label_hri l
     ++ (10 ∷ [])
 
 -- the lines of labels, from an index on, where a sheet has so many cells

@@ -32,7 +32,7 @@ fn push_line(
 {
     let sheet = index / cells;
     let cell = index % cells;
-    let kind = label.kind().form().name;
+    let kind = label.kind().symbology().name;
     let line = label_hri(label, year);
     let elements = line.as_str();
     writeln!(text, "{sheet} {cell} {kind} {elements}")
