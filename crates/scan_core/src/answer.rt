@@ -101,7 +101,7 @@ fn find_shown(widths: &[u16]) -> Result<Shown, RowFault>
 }
 
 /// What is found in the row of these widths.
-fn found_in(widths: &[u16]) -> Found
+pub(crate) fn found_in(widths: &[u16]) -> Found
     requires { IsRow widths.now }
     ensures { IsFound widths.now result }
 {

@@ -5,7 +5,7 @@ ghost use Rattle.scan_core.specs.Showing.{HasSize, kind_of};
 ghost use Rattle.scan_core.specs.inner.Searches.{AreNoneShorter, HasRun, IsNextPlace, MayEnd};
 ghost use Rattle.scan_core.specs.Windows.{IsNext, IsOver, IsSymbolOf, search_after, search_of};
 
-use crate::answer::{Answer, answer_in};
+use crate::answer::{Answer, found_in};
 use crate::carrier::{Carrier, fixed_candidate, gs1128_candidate};
 use crate::fault::RunFault;
 use crate::laws::one_answer;
@@ -221,7 +221,8 @@ fn first_read(widths: &[u16], place: Place, year: Year, rest: &mut Rest) -> Opti
     let mut here = place;
     'places: loop {
         let Place { first, count } = here;
-        if let Answer::Read { carrier, elements } = answer_in(&widths[first..first + count], year) {
+        let found = found_in(&widths[first..first + count]);
+        if let Answer::Read { carrier, elements } = found.answer(year) {
             *rest = Rest {
                 first,
                 least: count + 1,

@@ -39,11 +39,11 @@ overflow_add-count c =
     let within = c.places.invariant.within in
     let short = row_short c.args.widths.now c.requires.row in omega arith
 
-pub slice_bounds-answer_in-end : goal.slice_bounds-answer_in-end
-slice_bounds-answer_in-end c = c.places.invariant.within
+pub slice_bounds-found_in-end : goal.slice_bounds-found_in-end
+slice_bounds-found_in-end c = c.places.invariant.within
 
-pub answer_in-requires : goal.answer_in-requires
-answer_in-requires c =
+pub found_in-found-requires : goal.found_in-found-requires
+found_in-found-requires c =
     let i = c.places.invariant in
     let runs = c.args.widths.now in
     let here = c.places.here in
@@ -59,7 +59,8 @@ returns-in-Read-clause-next c =
         begins_light = i.begins_light;
         ends_light = i.ends_light;
         within = i.within;
-        read = subst (λ ws. IsAnswer ws c.args.year (Read c.in-Read.carrier c.in-Read.elements)) (sliced here.first here.count runs) c.in-Read.ensures;
+        read = subst (λ ws. IsAnswer ws c.args.year (Read c.in-Read.carrier c.in-Read.elements)) (sliced here.first here.count runs)
+            (c.in-Read.ensures _ c.found_in-found.ensures);
       };
       left = i.behind;
       none_before = λ v s left before. elim (i.passed v s left) [
@@ -90,7 +91,7 @@ returns-in_default-next_place-clause-over c = λ v symbol left.
     let i = c.places.invariant in
     let here = c.places.here in
     let no = not_read c.args.widths.now c.args.year here.first here.count c.in_default.field-0 c.one_answer.ensures c.requires.row i.ends_light i.within
-    c.in_default.ensures v symbol in
+    (c.in_default.ensures _ c.found_in-found.ensures) v symbol in
     c.in_default-next_place.ensures.over c.args.year v symbol
     (behind_here (record { runs = c.args.widths.now; year = c.args.year; first = here.first; least = here.count }) v (i.passed v symbol left) no)
 
@@ -130,7 +131,7 @@ places-preserved c =
           let i = c.places.invariant in
           let here = c.places.here in
           let no = not_read c.args.widths.now c.args.year here.first here.count c.in_default.field-0 c.one_answer.ensures c.requires.row i.ends_light i.within
-          c.in_default.ensures v symbol in
+          (c.in_default.ensures _ c.found_in-found.ensures) v symbol in
           at_place s c.in-Some.next next v symbol
           (behind_here (record { runs = c.args.widths.now; year = c.args.year; first = here.first; least = here.count }) v (i.passed v symbol left) no);
     }
