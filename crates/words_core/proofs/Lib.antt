@@ -1,4 +1,5 @@
 pub mod AskedFacts
+pub mod ErrorFacts
 pub mod Flags
 pub mod Matches
 pub mod NumberRows

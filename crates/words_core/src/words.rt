@@ -1,7 +1,7 @@
 //! The words of the command line.
 ghost use Rattle.std.specs.Prelude.{Some, IfOk, IfSome, IfNone, IfErr, map, string_bytes};
 ghost use Rattle.clap.specs.Words.{kind_of, subcommand_rows_of};
-ghost use Rattle.words_core.specs.Asking.{Asks, Explains, WordsAsk};
+ghost use Rattle.words_core.specs.Asking.{AreFaulty, Asks, Explains, WordsAsk};
 ghost use Rattle.words_core.specs.inner.Asking.{FaultOfKind};
 ghost use Rattle.words_core.specs.Faults.{words_fault_text};
 ghost use Rattle.words_core.specs.declared.commands.Asked.{Asked};
@@ -80,11 +80,17 @@ pub fn read_words(alloc: Global, words: &[String]) -> Result<Asked, WordsFault>
 
 /// What clap says of words that it refuses: which word, and what it expected. None where it takes them, where
 /// they ask for help or the version, and where there is no memory to say it.
-pub fn sentence(alloc: Global, words: &[String]) -> Option<String> {
-    let hub = hub_words(alloc).ok()?;
-    let error = hub.try_get_matches_from(words).err()?;
+pub fn sentence(alloc: Global, words: &[String]) -> Option<String>
+    ensures { IfSome result (λ text. AreFaulty (map string_bytes words.now)) }
+{
+    let Ok(hub) = hub_words(alloc) else {
+        return None;
+    };
+    let Err(error) = hub.try_get_matches_from(words) else {
+        return None;
+    };
     match error.kind() {
-        ErrorKind::DisplayHelp | ErrorKind::DisplayVersion => None,
+        ErrorKind::DisplayHelp | ErrorKind::DisplayVersion | ErrorKind::OutOfMemory => None,
         _ => error.to_string(alloc).ok(),
     }
 }

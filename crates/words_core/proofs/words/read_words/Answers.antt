@@ -1,31 +1,12 @@
-use Rattle.std.proofs.Common.{◌≡◌, [], inl, inr, ap, refl, subst, sym, List, map, string_bytes}
-use Rattle.clap.specs.Words.{App, HasKind, HasMatchesOf, Text, app_of, fault_of, is_simple_and_free, kind_of, subcommand_rows_of}
-use Rattle.clap.specs.declared.error.Error.{Error}
+use Rattle.std.proofs.Common.{◌≡◌, [], ap, refl, subst, sym, List, map, string_bytes}
+use Rattle.clap.specs.Words.{App, HasMatchesOf, Text, app_of, fault_of, is_simple_and_free, subcommand_rows_of}
 use Rattle.clap.specs.declared.parser.matches.ArgMatches.{ArgMatches}
-use Rattle.words_core.specs.Asking.{Asks, Explains, WordsAsk}
-use Rattle.words_core.specs.inner.Asking.{FaultOfKind}
+use Rattle.words_core.specs.Asking.{Asks, WordsAsk}
 use Rattle.words_core.specs.commands.{hub_app}
 use Rattle.words_core.specs.declared.commands.Asked.{Asked}
-use Rattle.words_core.specs.declared.words.WordsFault.{WordsFault}
-use Rattle.words_core.specs.declared.words.WordsFault.TheVariants as fault
 use Rattle.words_core.proofs.AskedFacts.{asked_for}
+use Rattle.words_core.proofs.ErrorFacts.{explained_of}
 use Rattle.words_core.proofs.words.read_words.Goals as goal
-
--- what the fault says of the words
-explained : (words : List Text) (e : Error) (f : WordsFault) → HasKind (fault_of hub_app words) e → FaultOfKind (kind_of e) f → Explains words f
-explained words e fault.Words (inl h) k = absurd (k.0 h)
-explained words e fault.Words (inr h) k = (kind_of e, h, k.1)
-explained words e (fault.Help text) (inl h) k = absurd (elim k [
-  | inl help ↦ cc (h, help)
-  | inr version ↦ cc (h, version)
-])
-explained words e (fault.Help text) (inr h) k = (kind_of e, h, k)
-explained words e fault.NoMemory h k = tt
-
--- by the command that was built
-explained_of : (a : App) (words : List Text) (e : Error) (f : WordsFault) → a ≡ hub_app → HasKind (fault_of a words) e → FaultOfKind (kind_of e) f
-    → Explains words f
-explained_of a words e f is h k = explained words e f (subst (λ x. HasKind (fault_of x words) e) is h) k
 
 pub returns-in-Err-clause-refused : goal.returns-in-Err-clause-refused
 returns-in-Err-clause-refused c =
