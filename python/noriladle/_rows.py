@@ -4,7 +4,7 @@ from __future__ import annotations
 import cmath
 import math
 from functools import cached_property, reduce
-from typing import Dict, List, NamedTuple, Optional, Tuple
+from typing import List, NamedTuple, Optional, Tuple
 
 import numpy
 from numpy.typing import NDArray
@@ -14,6 +14,7 @@ from ._found import Mask, Places
 Values = NDArray[numpy.float32]
 Ends = NDArray[numpy.float64]
 Indices = NDArray[numpy.int64]
+Parts = NDArray[numpy.int32]
 
 BEYOND = 0.2
 """Rows go beyond the blocks of their direction by so much of their length."""
@@ -58,14 +59,36 @@ class Pixels:
     def __init__(self, grey: NDArray[numpy.uint8]) -> None:
         self.size = grey.shape[1], grey.shape[0]
         self._turned = {0: grey}
+        self.bits = 31 - (max(self.size) + 2).bit_length()
+        """A place between dots is told in parts of a dot, two to the power of this: as many as four bytes hold."""
 
     @cached_property
-    def pairs(self) -> NDArray[numpy.uint16]:
-        """Each dot of the picture and the one below it, with one more dot all around, like its neighbour: row by row,
-        two more than the picture is wide. A pair is a number of two bytes."""
-        wide = numpy.pad(self._turned[0], 1, mode="edge")
-        pairs: NDArray[numpy.uint16] = numpy.stack((wide[:-1], wide[1:]), axis=-1).view(numpy.uint16).ravel()
-        return pairs
+    def wide(self) -> NDArray[numpy.uint8]:
+        """The dots with one more all around, like its neighbour: row by row, two more than the picture is wide."""
+        return numpy.pad(self._turned[0], 1, mode="edge").ravel()
+
+    def in_parts(self, places: Places) -> Parts:
+        """The x of places and their y, in parts of a dot."""
+        parts = numpy.rint(numpy.stack((places.real, places.imag)) * 2 ** self.bits)
+        whole: Parts = parts.astype(int).astype(numpy.int32)
+        return whole
+
+    def between_dots(self, places: Parts) -> Values:
+        """The grey values at places, whose memory it takes, from the dot beside the upper left corner on: of the four dots
+        around. What is asked for beside the picture is anything."""
+        width = self.size[0] + 2
+        columns, rows = places >> self.bits
+        at = rows.astype(int)
+        at *= width
+        at += columns
+        places &= 2 ** self.bits - 1
+        parts = places.astype(numpy.float32)
+        parts *= 0.5 ** self.bits
+        upper_left, upper_right, lower_left, lower_right = (
+            self.wide[away:].take(at, mode="clip").astype(numpy.float32) for away in (0, 1, width, width + 1)
+        )
+        right, below = parts
+        return _between(_between(upper_left, upper_right, right), _between(lower_left, lower_right, right), below)
 
     def turned(self, quarters: int) -> NDArray[numpy.uint8]:
         """The picture turned to the left by so many quarters, -1 to 1."""
@@ -74,35 +97,33 @@ class Pixels:
         return self._turned[quarters]
 
 
-class _Part(NamedTuple):
-    """Some of the rows of a grid, the places of the dots along them, and the grey values there of the lines that are
-    taken, by how far they are from the middles of their rows."""
+class _Sums(NamedTuple):
+    """Rows, and the sums of the grey values of their lines that are so far from their middles: as many for each row, the first
+    at the first ``u`` of all."""
 
-    rows: slice
-    us: Ends
-    lines: Dict[float, Values]
+    vs: Ends
+    lefts: Ends
+    rights: Ends
+    offsets: List[float]
+    values: Values
 
+    def begin(self, offsets: List[float], vs: Ends, lefts: Ends, rights: Ends) -> bool:
+        """Whether these are some of the lines of the same rows, and of no shorter ones."""
+        same = offsets[:len(self.offsets)] == self.offsets and numpy.array_equal(self.vs, vs)
+        return same and bool((self.lefts <= lefts).all() and (rights <= self.rights).all())
 
-class _Lines:
-    """The lines of rows that are taken already, of so many rows at a time."""
-
-    def __init__(self, vs: Ends, lefts: Ends, rights: Ends, some: int) -> None:
-        self._rows = vs, lefts, rights
-        slices = [slice(row, row + some) for row in range(0, len(vs), some)]
-        self.parts = [_Part(rows, numpy.arange(lefts[rows].min(), rights[rows].max()), {}) for rows in slices]
-
-    def hold(self, vs: Ends, lefts: Ends, rights: Ends) -> bool:
-        """Whether these are the same rows, and no longer ones."""
-        mine, first, last = self._rows
-        return numpy.array_equal(mine, vs) and bool((first <= lefts).all() and (rights <= last).all())
+    def at(self, us: Ends) -> List[int]:
+        """Where these u are in the values."""
+        places: List[int] = (us - self.lefts.min()).astype(int).tolist()
+        return places
 
 
 class Grid:
     """The rows across the stripes of a direction, in a frame of its angle: through all of its blocks, and beyond."""
 
-    at_once = 49_152
+    at_once = 24_576
     """About how many dots are taken at a time, so that they stay in the processor's own memory."""
-    _taken: Optional[_Lines] = None
+    _taken: Optional[_Sums] = None
     """The lines of rows that are taken already: a look has all lines of one before it where both have the same rows."""
 
     def __init__(self, angle: float, centres: Places, side: int, rows: int) -> None:
@@ -140,33 +161,31 @@ class Grid:
 
     def _aslant(self, picture: Pixels, vs: Ends, lefts: Ends, lengths: Indices, offsets: List[float]) -> Values:
         """The mean grey values of the lines of each row that are so far from its middle: of the four dots around."""
-        rights = lefts + lengths
-        if not (self._taken and self._taken.hold(vs, lefts, rights)):
-            self._taken = _Lines(vs, lefts, rights, max(1, self.at_once // (len(offsets) * int(lengths.max()))))
-        means: List[Values] = []
-        for rows, us, lines in self._taken.parts:
-            new = [offset for offset in offsets if offset not in lines]
-            dots = self._between_dots(picture, us, numpy.add.outer(new, vs[rows]).ravel())
-            lines.update(zip(new, dots.reshape(len(new), len(vs[rows]), len(us))))
-            mean = reduce(numpy.add, (lines[offset] for offset in offsets)) / len(offsets)
-            begins, ends = ((each[rows] - us[0]).astype(int).tolist() for each in (lefts, rights))
-            means += [row[begin:end] for row, begin, end in zip(mean, begins, ends)]
-        return numpy.concatenate(means)
+        rights, inner_first = lefts + lengths, sorted(offsets, key=abs)
+        taken = self._taken
+        if taken is None or not taken.begin(inner_first, vs, lefts, rights):
+            values = numpy.zeros((len(vs), int(rights.max() - lefts.min())), numpy.float32)
+            taken = _Sums(vs, lefts, rights, [], values)
+        if taken.offsets != inner_first:
+            self._add(picture, taken, numpy.array(inner_first[len(taken.offsets):]))
+        self._taken = taken._replace(offsets=inner_first)
+        rows = zip(taken.values, taken.at(lefts), taken.at(rights))
+        means: Values = numpy.concatenate([row[begin:end] for row, begin, end in rows])
+        means /= len(offsets)
+        return means
 
-    def _between_dots(self, picture: Pixels, us: Ends, vs: Ends) -> Values:
-        """The grey values at each u of each v; what is asked for beside the picture is anything."""
-        # The first pair is that of the dot beside the upper left corner, which is not of the picture.
-        y = us * self.frame.imag + (0.5 + vs * self.frame.real)[:, None]
-        pair = _parted(y)
-        pair *= picture.size[0] + 2
-        x = us * self.frame.real + (0.5 - vs * self.frame.imag)[:, None]
-        pair += _parted(x)
-        at = pair.astype(int)
-        lefts, rights = (pairs.take(at, mode="clip").view(numpy.uint8) for pairs in (picture.pairs, picture.pairs[1:]))
-        above = _between(lefts[:, ::2].astype(float), rights[:, ::2].astype(float), x)
-        below = _between(lefts[:, 1::2].astype(float), rights[:, 1::2].astype(float), x)
-        values: Values = _between(above, below, y).astype(numpy.float32)
-        return values
+    def _add(self, picture: Pixels, taken: _Sums, offsets: Ends) -> None:
+        """Adds the lines that are so far from the middles of their rows."""
+        vs, lefts, rights, _, values = taken
+        along = picture.in_parts((lefts.min() + numpy.arange(values.shape[1])) * self.frame)
+        beside = picture.in_parts(numpy.add.outer(offsets, vs) * 1j * self.frame + (0.5 + 0.5j))
+        some = max(1, self.at_once // (len(offsets) * int((rights - lefts).max())))
+        rows = numpy.arange(0, len(vs), some)
+        begins, ends = taken.at(numpy.minimum.reduceat(lefts, rows)), taken.at(numpy.maximum.reduceat(rights, rows))
+        for row, begin, end in zip(rows.tolist(), begins, ends):
+            mine, dots = slice(row, row + some), slice(begin, end)
+            for line in picture.between_dots(beside[..., mine, None] + along[:, None, None, dots]):
+                values[mine, dots] += line
 
     def _upright(self, picture: Pixels, vs: Ends, lefts: Ends, lengths: Indices, lines: int) -> Values:
         """The same along the rows or the columns of the picture: of the two dots around."""
@@ -204,14 +223,7 @@ class Grid:
         return first, first + numpy.maximum(0, numpy.floor(last - first) + 1)
 
 
-def _parted(places: Ends) -> Ends:
-    """The whole numbers in places, of which the parts alone stay there."""
-    whole: Ends = numpy.floor(places)
-    places -= whole
-    return whole
-
-
-def _between(ones: Ends, others: Ends, parts: Ends) -> Ends:
+def _between(ones: Values, others: Values, parts: Values) -> Values:
     """The values at such parts of the way from one to another, in the memory of the others."""
     others -= ones
     others *= parts
@@ -236,31 +248,13 @@ def bounds_of(rows: Rows) -> Bounds:
     # Two blocks of no dots stand beside each row.
     places = numpy.arange(len(row)) + 2 * row + 2
     least, most = (numpy.full(len(row) + 2 * len(counts) + 2, value, numpy.float32) for value in (255, 0))
-    least[places], most[places] = _extremes(rows.values, starts)
+    least[places], most[places] = numpy.minimum.reduceat(rows.values, starts), numpy.maximum.reduceat(rows.values, starts)
     around = [slice(away, len(least) - 4 + away) for away in range(5)]
     low = reduce(numpy.minimum, (least[blocks] for blocks in around))[places - 2]
     high = reduce(numpy.maximum, (most[blocks] for blocks in around))[places - 2]
     block = numpy.zeros(len(rows.values), int)
     block[starts[1:]] = 1
     return Bounds(low, high, block.cumsum(out=block))
-
-
-def _extremes(values: Values, starts: Indices) -> Tuple[Values, Values]:
-    """The darkest and the lightest value of each block, of which one ends where the next begins."""
-    sizes = numpy.diff(starts, append=len(values))
-    powers = numpy.frexp(sizes)[1] - 1
-    least, most = numpy.empty((2, len(starts)), numpy.float32)
-    low, high, span = values, values, 1
-    for power in range(powers.max() + 1):
-        if power:
-            # From here on each of these is the value of twice as many dots, of which the first is its own.
-            low, high = numpy.minimum(low[:-span], low[span:]), numpy.maximum(high[:-span], high[span:])
-            span *= 2
-        # The first and the last so many dots are all of a block that has fewer than twice as many.
-        block = numpy.flatnonzero(powers == power)
-        first, last = starts[block], starts[block] + sizes[block] - span
-        least[block], most[block] = numpy.minimum(low[first], low[last]), numpy.maximum(high[first], high[last])
-    return least, most
 
 
 def runs_of(rows: Rows, bounds: Bounds) -> Runs:
@@ -270,7 +264,7 @@ def runs_of(rows: Rows, bounds: Bounds) -> Runs:
     row is at 0.
     """
     starts, values = rows.starts, rows.values
-    levels = _levels(bounds).take(bounds.block)
+    levels = _levels(bounds).take(bounds.block, mode="clip")
     dark = values < levels
     changes = numpy.empty(len(dark), bool)
     numpy.not_equal(dark[1:], dark[:-1], out=changes[1:])
@@ -310,14 +304,16 @@ def _apart(ends: Ends, counts: Indices, lengths: Indices, dark: Mask) -> Runs:
     is_first = numpy.zeros(len(ends) + 1, bool)
     is_first[behind - counts] = True
     # Each end is at least so far behind the one before it.
-    close = numpy.flatnonzero((ends[1:] < ends[:-1] + LEAST_RUN) & ~is_first[1:-1]) + 1
+    close = numpy.flatnonzero(numpy.diff(ends) < LEAST_RUN) + 1
+    close = close[~is_first[close]]
     while len(close):
         ends[close] = ends[close - 1] + LEAST_RUN
         close = close[~is_first[close + 1] & (close + 1 < len(ends))] + 1
         close = close[ends[close] < ends[close - 1] + LEAST_RUN]
     # A row ends with its last dot, and behind a dark one with a light run more.
     more = 1 + dark
-    last = lengths.repeat(more) + LEAST_RUN * in_turn(numpy.zeros_like(more), more)
+    last = lengths.repeat(more).astype(float)
+    last[more.cumsum()[dark] - 1] += LEAST_RUN
     ends, behind = numpy.insert(ends, behind.repeat(more), last), behind + more.cumsum()
     widths = ends.copy()
     widths[1:] -= ends[:-1]
@@ -334,17 +330,24 @@ def sharpened(rows: Rows, bounds: Bounds, blur: float) -> Rows:
     reach, beside = len(half) - 1, numpy.arange(1, len(half))
     last = (rows.lengths + 2 * reach).cumsum() - reach - 1
     first = last - rows.lengths + 1
-    before, behind = first[:, None] - beside, last[:, None] + beside
-    inner = numpy.ones(last[-1] + reach + 1, bool)
-    inner[before] = inner[behind] = False
-    values, low, high = numpy.zeros((3, len(inner)), numpy.float32)
-    values[inner], low[inner], high[inner] = rows.values, bounds.low.take(bounds.block), bounds.high.take(bounds.block)
+    beyond = numpy.concatenate((first[:, None] - beside, last[:, None] + beside))
+    ends = numpy.concatenate((first, last))[:, None]
+    bounded = (each.take(bounds.block, mode="clip") for each in (bounds.low, bounds.high))
+    values, low, high = (_spaced(rows._replace(values=each), reach) for each in (rows.values, *bounded))
     clear = values.copy()
     for _ in range(ROUNDS):
-        clear[before], clear[behind] = clear[first, None], clear[last, None]
+        clear[beyond] = clear[ends]
         clear += values - _blurred(clear, bell)
         numpy.minimum(numpy.maximum(clear, low, out=clear), high, out=clear)
-    return rows._replace(values=clear[inner])
+    spans = zip(first.tolist(), (last + 1).tolist())
+    return rows._replace(values=numpy.concatenate([clear[begin:end] for begin, end in spans]))
+
+
+def _spaced(rows: Rows, space: int) -> Values:
+    """The values of rows, with so many more before and behind each."""
+    more = numpy.zeros(space, numpy.float32)
+    ends = rows.starts.tolist(), (rows.starts + rows.lengths).tolist()
+    return numpy.concatenate([part for begin, end in zip(*ends) for part in (more, rows.values[begin:end], more)])
 
 
 def _blurred(values: Values, bell: Values) -> Values:

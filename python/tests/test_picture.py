@@ -151,7 +151,7 @@ def test_takes_the_dots_that_pillow_takes_between_dots():
                 assert abs(rows.values[start:start + length] - wanted).max() < 1e-3
 
 
-def test_takes_no_line_twice_and_the_same_values():
+def test_takes_no_line_twice_and_the_same_values(monkeypatch):
     grey = numpy.random.RandomState(7).randint(0, 256, (200, 300)).astype(numpy.uint8)
     blocks, picture = numpy.array([50 + 50j, 250 + 60j, 150 + 150j]), _rows.Pixels(grey)
     # Rows of three lines go on behind those of five, so all of theirs are taken anew.
@@ -161,10 +161,13 @@ def test_takes_no_line_twice_and_the_same_values():
         assert fresh.or_same(grid) is grid and fresh.or_same(None) is fresh
         for other in (_rows.Grid(0.5, blocks, 10, 40), _rows.Grid(0.6, blocks, 10, 60), _rows.Grid(0.5, blocks[:2], 10, 60)):
             assert other.or_same(grid) is other
-        asked, wanted = [], fresh.rows(picture, lines)
-        grid._between_dots = lambda picture, us, vs: asked.append(len(vs)) or fresh._between_dots(picture, us, vs)
-        assert all(numpy.array_equal(one, other) for one, other in zip(grid.rows(picture, lines), wanted))
-        assert sum(asked) == taken * len(wanted.vs)
+        asked, wanted = [], fresh.rows(_rows.Pixels(grey), lines)
+        between_dots = picture.between_dots
+        monkeypatch.setattr(picture, "between_dots", lambda places: asked.append(places[0, ..., 0].size) or between_dots(places))
+        for _ in range(2):
+            assert all(numpy.array_equal(one, other) for one, other in zip(grid.rows(picture, lines), wanted))
+            assert sum(asked) == taken * len(wanted.vs)
+        monkeypatch.undo()
 
 
 def test_takes_each_row_by_itself():
@@ -250,14 +253,18 @@ def test_drops_no_window_that_fits():
     assert 0.2 * asked < fit < left < 0.9 * asked
 
 
-def test_tells_the_extremes_of_blocks():
+def test_tells_what_is_darkest_and_lightest_around():
     chance = numpy.random.RandomState(7)
-    for longest in (1, 2, 3, 9, 40, 300):
-        sizes = chance.randint(1, longest + 1, 50)
-        starts, values = sizes.cumsum() - sizes, chance.rand(sizes.sum()).astype(numpy.float32)
-        blocks = numpy.split(values, starts[1:])
-        wanted = [block.min() for block in blocks], [block.max() for block in blocks]
-        assert numpy.array_equal(_rows._extremes(values, starts), wanted)
+    lengths = numpy.array([25, 30, 31, 639, 700, 1500])
+    starts, values = lengths.cumsum() - lengths, chance.rand(lengths.sum()).astype(numpy.float32)
+    low, high, block = _rows.bounds_of(_rows.Rows(starts * 0.0, starts * 0.0, lengths, values))
+    wanted = []
+    for start, length in zip(starts, lengths):
+        size = max(10, length // 64)
+        for dot in range(length):
+            around = [start + max(0, dot // size - 2) * size, start + min(length, (dot // size + 3) * size)]
+            wanted.append((values[slice(*around)].min(), values[slice(*around)].max()))
+    assert numpy.array_equal(numpy.stack((low[block], high[block]), axis=1), wanted)
 
 
 def test_counts_none_too():
