@@ -29,6 +29,10 @@ const ROWS_APART = 3;
 // The greatest gap between rows of one symbol, as a part of its width.
 const GAP = 0.2;
 
+// How many dots looks take before no more look begins, beside as many as the picture has: so a picture that has nothing but
+// stripes takes no longer.
+const MOST_TAKEN = 3_000_000;
+
 // What rows read, put together by what it says and where.
 class Tally {
   constructor() { this.found = []; }
@@ -58,18 +62,19 @@ class Again {
   constructor(reader, picture) {
     this.reader = reader;
     this.picture = picture;
+    this.taken = 0;
     this.ends = new Float32Array(2 * Math.ceil(Math.hypot(picture.width, picture.height)) + 8);
   }
 
   // The symbols that are shown, and those on stripes outside of them. One that is shown in part is made as large as it is.
   symbols(shown) {
     let symbols = shown;
-    const { side, blocks } = stripedBlocks(this.picture, symbols);
+    const { side, blocks } = stripedBlocks(this.picture, symbols), most = MOST_TAKEN + this.picture.grey.length;
     const rest = (all) => together(all.filter((block) => !symbols.some((symbol) => symbol.isNear(block))), side);
     for (const direction of directionsOf(blocks)) {
       let left = rest(direction.blocks);
       for (const look of LOOKS) {
-        if (left.length < FEWEST_BLOCKS) break;
+        if (left.length < FEWEST_BLOCKS || this.taken >= most) break;
         const found = this.along(new Grid({ ...direction, blocks: left }, side, look.rows), look);
         for (const symbol of found) symbols = joined(symbols, symbol);
         left = rest(left);
@@ -95,6 +100,7 @@ class Again {
     for (let row = 0; row < grid.count && tried <= most; row++) {
       const v = grid.top + (row + 0.5) * grid.step, { from, profile } = grid.profile(this.picture, v, look.lines);
       if (profile.length < FEWEST_DOTS) continue;
+      this.taken += look.lines * profile.length;
       const bounds = boundsOf(profile), clear = look.blur ? sharpened(profile, bounds, look.blur) : profile;
       const count = edgesOf(clear, bounds, this.ends);
       eachWindow(this.ends, count, (first, last, shapes) => {

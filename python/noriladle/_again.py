@@ -19,6 +19,9 @@ ROWS_APART = 3
 """Two symbols that are fewer rows apart than this have no light between them, so they are one."""
 GAP = 0.2
 """The greatest gap between rows of one symbol, as a part of its width."""
+MOST_TAKEN = 3_000_000
+"""How many dots looks take before no more look begins, beside as many as the picture has: so a picture that has nothing but
+stripes takes no longer."""
 
 
 class Look(NamedTuple):
@@ -41,25 +44,27 @@ def look_again(library: Library, grey: Grey, shown: List[Placed]) -> List[Placed
     """
     symbols = shown
     blocks = striped_blocks(grey, symbols)
-    picture = Pixels(grey)
+    picture, most = Pixels(grey), MOST_TAKEN + grey.size
     for angle, mine in blocks.directions():
         left, grid = blocks.rest(mine, symbols), None
         for look in LOOKS:
-            if numpy.count_nonzero(left) < FEWEST_BLOCKS:
+            if numpy.count_nonzero(left) < FEWEST_BLOCKS or most <= 0:
                 break
             grid = Grid(angle, blocks.centres[left], blocks.side, look.rows).or_same(grid)
-            for symbol in _along(library, grid, picture, look):
+            rows = grid.rows(picture, look.lines)
+            most -= look.lines * len(rows.values)
+            for symbol in _along(library, grid, rows, look.blur):
                 symbols = joined(symbols, symbol)
             left = blocks.rest(left, symbols)
     return symbols
 
 
-def _along(library: Library, grid: Grid, picture: Pixels, look: Look) -> List[Placed]:
+def _along(library: Library, grid: Grid, rows: Rows, blur: float) -> List[Placed]:
     """The symbols that the rows of a grid show."""
-    rows, tally = grid.rows(picture, look.lines), _Tally(grid)
+    tally = _Tally(grid)
     if not len(rows.vs):
         return []
-    for row, answer, left, right in read_windows(_runs(rows, look.blur), library.row):
+    for row, answer, left, right in read_windows(_runs(rows, blur), library.row):
         tally.add(answer, rows.lefts[row] + left, rows.lefts[row] + right, rows.vs[row])
     return list(tally.sure())
 

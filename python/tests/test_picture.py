@@ -11,7 +11,7 @@ numpy = pytest.importorskip("numpy")
 Image = pytest.importorskip("PIL.Image")
 ImageFilter = pytest.importorskip("PIL.ImageFilter")
 
-from noriladle import _rows, _straight  # noqa: E402
+from noriladle import _again, _rows, _straight  # noqa: E402
 
 # The runs of 9501101530003 as an EAN-13, and what they say.
 BARS = [int(width) for width in """1 1 1 1 2 3 1 1 1 2 3 1 2 2 2 2 2 2 1 1 1 2 3 2 2 2 1 1 1 1 1 1 1 2 3 1 1 4
@@ -109,6 +109,14 @@ def test_reads_what_a_photograph_shows():
 def test_takes_a_blur_out():
     image, _ = turned(30)
     assert texts(image.filter(ImageFilter.GaussianBlur(1.5))) == [str(READ)]
+
+
+def test_begins_no_look_behind_so_many_dots(monkeypatch):
+    image, _ = turned(30)
+    monkeypatch.setattr(_again, "MOST_TAKEN", 1 - image.width * image.height)
+    assert texts(image) == [str(READ)]
+    monkeypatch.setattr(_again, "MOST_TAKEN", -image.width * image.height)
+    assert texts(image) == []
 
 
 def test_reads_by_a_level_alone_where_one_is_given():
