@@ -102,9 +102,10 @@ def _changes(grey: NDArray[numpy.uint8], side: int) -> List[NDArray[numpy.float6
 def _around(blocks: NDArray[Any]) -> NDArray[numpy.float64]:
     """The sums of each block and its neighbours."""
     rows, columns = blocks.shape
-    padded = numpy.pad(blocks.astype(float), 1)
-    near = [padded[y:y + rows, x:x + columns] for y in range(3) for x in range(3)]
-    sums: NDArray[numpy.float64] = numpy.sum(near, axis=0)
+    padded = numpy.zeros((rows + 2, columns + 2))
+    padded[1:-1, 1:-1] = blocks
+    down = padded[:-2] + padded[1:-1] + padded[2:]
+    sums: NDArray[numpy.float64] = down[:, :-2] + down[:, 1:-1] + down[:, 2:]
     return sums
 
 
