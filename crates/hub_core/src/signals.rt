@@ -70,25 +70,89 @@ impl Signal {
         self.wait(rt, seen, LOOKS, REST);
     }
 
-    /// Gives it, and wakes a thread where so many sleep.
-    pub(crate) fn notify_where(&self, asleep: u64) {
+    /// Gives it, and wakes no thread.
+    fn give(&self) {
         self.given.fetch_add(1, Ordering::SeqCst);
-        if self.sleepers() >= asleep {
-            self.given.wake_one();
+    }
+
+    /// Wakes a thread that sleeps, and tells whether one slept.
+    fn wake_one(&self) -> bool {
+        if self.sleepers() == 0 {
+            return false;
         }
+        self.given.wake_one();
+        true
     }
 
     /// Gives it, and wakes a thread that sleeps.
     pub(crate) fn notify_one(&self) {
-        self.notify_where(1);
+        self.give();
+        self.wake_one();
     }
 
     /// Gives it, and wakes all threads that sleep.
     pub(crate) fn notify_all(&self) {
-        self.given.fetch_add(1, Ordering::SeqCst);
+        self.give();
         if self.sleepers() > 0 {
             self.given.wake_all();
         }
+    }
+}
+
+/// That there are jobs.
+///
+/// One worker sleeps until a signal of its own is given, and is woken before all others: of rows that come one by
+/// one each finds the worker that was awake last, whose thread a processor runs sooner than one that slept long.
+#[derive(Drop)]
+pub(crate) struct JobsSignal {
+    first: Signal,
+    others: Signal,
+    /// How many workers have asked for their signal.
+    workers: AtomicU64,
+}
+
+impl JobsSignal {
+    /// A signal that was not given.
+    fn new() -> JobsSignal {
+        JobsSignal {
+            first: Signal::new(),
+            others: Signal::new(),
+            workers: AtomicU64::new(0),
+        }
+    }
+
+    /// The signal of the next worker that begins.
+    pub(crate) fn of_next_worker(&self) -> &Signal {
+        if self.workers.fetch_add(1, Ordering::SeqCst) == 0 {
+            &self.first
+        } else {
+            &self.others
+        }
+    }
+
+    /// How many workers sleep until it is given.
+    pub(crate) fn sleepers(&self) -> u64 {
+        self.first.sleepers().saturating_add(self.others.sleepers())
+    }
+
+    /// Gives it, and wakes a worker where so many sleep.
+    pub(crate) fn notify_where(&self, asleep: u64) {
+        self.first.give();
+        self.others.give();
+        if self.sleepers() >= asleep && !self.first.wake_one() {
+            self.others.wake_one();
+        }
+    }
+
+    /// Gives it, and wakes a worker that sleeps.
+    pub(crate) fn notify_one(&self) {
+        self.notify_where(1);
+    }
+
+    /// Gives it, and wakes all workers that sleep.
+    pub(crate) fn notify_all(&self) {
+        self.first.notify_all();
+        self.others.notify_all();
     }
 }
 
@@ -97,7 +161,7 @@ impl Signal {
 #[derive(Drop)]
 pub struct Signals {
     /// To the workers: there are jobs.
-    pub(crate) jobs: Signal,
+    pub(crate) jobs: JobsSignal,
     /// To the workers with a delivery in hand: there are places for deliveries.
     pub(crate) places: Signal,
     /// To the calling thread: there are deliveries, or no jobs.
@@ -109,7 +173,7 @@ impl Signals {
     /// Nothing is told.
     pub fn new() -> Signals {
         Signals {
-            jobs: Signal::new(),
+            jobs: JobsSignal::new(),
             places: Signal::new(),
             deliveries: Signal::new(),
             stop: AtomicU64::new(GOING_ON),

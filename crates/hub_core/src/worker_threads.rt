@@ -46,8 +46,9 @@ fn run_worker<R: Wait, G: Gate>(
 {
     let mut seat = seat;
     let mut untold: u32 = 0;
+    let jobs_signal = signals.jobs.of_next_worker();
     for _ in rt.forever() {
-        let jobs = signals.jobs.given();
+        let jobs = jobs_signal.given();
         let places = signals.places.given();
         let is_last = signals.is_stop_requested();
         match hub.work(rt, &mut seat, gate) {
@@ -58,7 +59,7 @@ fn run_worker<R: Wait, G: Gate>(
             _ if is_last => break,
             Worked::Nothing => {
                 tell_of(signals, &mut untold, 1);
-                signals.jobs.rest(rt, jobs);
+                jobs_signal.rest(rt, jobs);
             }
             Worked::Held => {
                 tell_of(signals, &mut untold, 1);
