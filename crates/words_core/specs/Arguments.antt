@@ -1,5 +1,5 @@
 -- The arguments that commands share: the rules that `clap` is told of, and what its matches have under their names.
-use Rattle.std.specs.Prelude.{◌≡◌, ℕ, pos, Bool, List, Some, true, false, codes}
+use Rattle.std.specs.Prelude.{◌≡◌, ℕ, pos, Bool, List, [], ◌∷◌, Some, true, false, codes}
 use Rattle.std.specs.Int.{IsInRange}
 use Rattle.std.specs.Str.Parse.{IsNumeral, digits_value, without_leading_plus}
 use Rattle.clap.specs.Words.{App, Row, Rule, Text, new_rule, one_of, with_rule}
@@ -60,18 +60,39 @@ year_rule = number_rule (codes "year") first_year last_year
 abbrev pub workers_rule : Rule
 workers_rule = number_rule (codes "workers") 1 most_workers
 
+-- `--lanes N`
+abbrev pub lanes_rule : Rule
+lanes_rule = number_rule (codes "lanes") 1 most_lanes
+
 -- `--lanes N --workers K --year Y`, of a command over rows of lanes
-abbrev pub with_lanes : App → App
-with_lanes a = with_rule (with_rule (with_rule a (number_rule (codes "lanes") 1 most_lanes)) workers_rule) year_rule
+abbrev pub lane_row_rules : List Rule
+lane_row_rules = lanes_rule ∷ workers_rule ∷ year_rule ∷ []
 
 -- `--module M --width W --height H`, in dots
-abbrev pub with_cell : App → App
-with_cell a = with_rule (with_rule (with_rule a (number_rule (codes "module") 1 most_dots)) (number_rule (codes "width") 1 most_width))
-    (number_rule (codes "height") 1 most_height)
+abbrev pub module_rule : Rule
+module_rule = number_rule (codes "module") 1 most_dots
+
+abbrev pub width_rule : Rule
+width_rule = number_rule (codes "width") 1 most_width
+
+abbrev pub height_rule : Rule
+height_rule = number_rule (codes "height") 1 most_height
 
 -- `--columns C --rows R`
-abbrev pub with_places : App → App
-with_places a = with_rule (with_rule a (number_rule (codes "columns") 1 most_columns)) (number_rule (codes "rows") 1 most_grid_rows)
+abbrev pub columns_rule : Rule
+columns_rule = number_rule (codes "columns") 1 most_columns
+
+abbrev pub rows_rule : Rule
+rows_rule = number_rule (codes "rows") 1 most_grid_rows
+
+-- those of a cell and those of a sheet, of a command over a grid of cells
+abbrev pub grid_rules : List Rule
+grid_rules = module_rule ∷ width_rule ∷ height_rule ∷ columns_rule ∷ rows_rule ∷ []
+
+-- the command with these arguments more, in this order
+abbrev pub with_rules : App → List Rule → App
+with_rules a [] = a
+with_rules a (r ∷ rs) = with_rules (with_rule a r) rs
 
 -- ---- what the matches have
 

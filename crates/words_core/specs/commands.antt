@@ -4,7 +4,7 @@ pub mod Lanes
 pub mod Lives
 pub mod Prints
 pub mod Scans
-use Rattle.std.specs.Prelude.{◌≡◌, Err, Ok, Result, true, List, codes}
+use Rattle.std.specs.Prelude.{◌≡◌, ◌∷◌, [], Err, Ok, Result, true, List, codes}
 use Rattle.clap.specs.Words.{App, Row, Text, new_app, with_subcommand}
 use Rattle.words_core.specs.Arguments.{HasYear}
 use Rattle.words_core.specs.commands.Checks.{check_app}
@@ -23,17 +23,18 @@ abbrev pub hub_top : App
 hub_top = let fresh = new_app (codes "gs1_hub") in record fresh
     { top = record fresh.top { has_version = true; disable_help_subcommand = true; subcommand_required = true } }
 
--- the program with the commands that take texts
-abbrev pub text_app : App
-text_app = with_subcommand (with_subcommand hub_top check_app.top) print_app.top
+-- the program with these commands more, in this order
+abbrev pub with_commands : App → List App → App
+with_commands a [] = a
+with_commands a (c ∷ cs) = with_commands (with_subcommand a c.top) cs
 
--- the program with the commands over their whole input
-abbrev pub row_app : App
-row_app = with_subcommand (with_subcommand text_app lanes_app.top) scan_app.top
+-- the commands
+abbrev pub hub_commands : List App
+hub_commands = check_app ∷ print_app ∷ lanes_app ∷ scan_app ∷ live_app ∷ []
 
 -- the program with its commands
 abbrev pub hub_app : App
-hub_app = with_subcommand row_app live_app.top
+hub_app = with_commands hub_top hub_commands
 
 -- the command of this name, with its numbers
 abbrev pub AsksIn : Text → List Row → Asked → Type 0

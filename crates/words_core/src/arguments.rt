@@ -1,9 +1,9 @@
 //! The arguments that commands share: as `clap` is told of them, and as they are read of its matches.
-ghost use Rattle.std.specs.Prelude.{◌<◌, ◌≡◌, ◌^◌, Bool, ℕ, IfNone, IfOk, IfSome, false};
+ghost use Rattle.std.specs.Prelude.{◌<◌, ◌≡◌, ◌^◌, Bool, ℕ, IfNone, IfSome, false};
 ghost use Rattle.clap.specs.Words.{app_of, found_of, new_app, rows_of, rule_of};
 ghost use Rattle.clap.specs.declared.builder.command.Command.TheViews.{out-Command};
 ghost use Rattle.words_core.specs.declared.grid_options.GridOptions.{GridOptions};
-ghost use Rattle.words_core.specs.Arguments.{HasFlag, HasGrid, HasNumber, HasYear, flag_rule, number_rule, with_cell, with_lanes, with_places, workers_rule, year_rule};
+ghost use Rattle.words_core.specs.Arguments.{HasFlag, HasGrid, HasNumber, HasYear, columns_rule, flag_rule, height_rule, lanes_rule, module_rule, number_rule, rows_rule, width_rule, workers_rule, year_rule};
 
 use crate::grid_options::{
     GridOptions, MOST_COLUMNS, MOST_HEIGHT, MOST_MODULE_DOTS, MOST_ROWS, MOST_WIDTH,
@@ -11,7 +11,7 @@ use crate::grid_options::{
 use clap::builder::ValueParser;
 use clap::{Arg, ArgAction, ArgMatches, Command};
 use element_core::Year;
-use std::alloc::{AllocError, Global};
+use std::alloc::Global;
 
 /// How many lanes there are at most.
 pub const MOST_LANES: u8 = 16;
@@ -92,12 +92,53 @@ pub fn flag<'a>(alloc: Global, name: &'a str, help: &'a str) -> Arg<'a>
         .help(help)
 }
 
-/// The option `--year`, the reference year of dates.
-pub fn year<'a>(alloc: Global) -> Arg<'a>
-    ensures rule { rule_of result ≡ year_rule }
+/// The option `--lanes`, how many lanes there are.
+pub fn lane_count<'a>(alloc: Global) -> Arg<'a>
+    ensures rule { rule_of result ≡ lanes_rule }
     ensures own { result.global ≡ false }
 {
-    number(alloc, "year", FIRST_YEAR, LAST_YEAR, "YEAR", YEAR)
+    let most = u16::from(MOST_LANES);
+    number(alloc, "lanes", 1, most, "COUNT", LANES)
+}
+
+/// The option `--module`, how wide a module is, in dots.
+pub fn module_width<'a>(alloc: Global) -> Arg<'a>
+    ensures rule { rule_of result ≡ module_rule }
+    ensures own { result.global ≡ false }
+{
+    number(alloc, "module", 1, MOST_MODULE_DOTS, "DOTS", MODULE)
+}
+
+/// The option `--width`, how wide a cell is, in dots.
+pub fn width<'a>(alloc: Global) -> Arg<'a>
+    ensures rule { rule_of result ≡ width_rule }
+    ensures own { result.global ≡ false }
+{
+    number(alloc, "width", 1, MOST_WIDTH, "DOTS", WIDTH)
+}
+
+/// The option `--height`, how high a cell is, in dots.
+pub fn height<'a>(alloc: Global) -> Arg<'a>
+    ensures rule { rule_of result ≡ height_rule }
+    ensures own { result.global ≡ false }
+{
+    number(alloc, "height", 1, MOST_HEIGHT, "DOTS", HEIGHT)
+}
+
+/// The option `--columns`, how many columns of cells a sheet has.
+pub fn columns<'a>(alloc: Global) -> Arg<'a>
+    ensures rule { rule_of result ≡ columns_rule }
+    ensures own { result.global ≡ false }
+{
+    number(alloc, "columns", 1, MOST_COLUMNS, "COUNT", COLUMNS)
+}
+
+/// The option `--rows`, how many rows of cells a sheet has.
+pub fn rows<'a>(alloc: Global) -> Arg<'a>
+    ensures rule { rule_of result ≡ rows_rule }
+    ensures own { result.global ≡ false }
+{
+    number(alloc, "rows", 1, MOST_ROWS, "COUNT", ROWS)
 }
 
 /// The option `--workers`, how many of them read rows.
@@ -109,50 +150,12 @@ pub fn workers<'a>(alloc: Global) -> Arg<'a>
     number(alloc, "workers", 1, most, "COUNT", WORKERS)
 }
 
-/// The command with the options of rows of lanes: how many lanes there are, how many workers, and the year.
-pub fn with_lanes<'a>(alloc: Global, command: Command<'a>) -> Result<Command<'a>, AllocError>
-    ensures app { IfOk result (λ c. app_of c ≡ with_lanes (app_of command.entry)) }
-    ensures own { (out-Command command.entry).has_globals ≡ false
-        → IfOk result (λ c. (out-Command c).has_globals ≡ false) }
+/// The option `--year`, the reference year of dates.
+pub fn year<'a>(alloc: Global) -> Arg<'a>
+    ensures rule { rule_of result ≡ year_rule }
+    ensures own { result.global ≡ false }
 {
-    let most = u16::from(MOST_LANES);
-    command
-        .arg(number(alloc, "lanes", 1, most, "COUNT", LANES))?
-        .arg(workers(alloc))?
-        .arg(year(alloc))
-}
-
-/// The command with the options of a cell: how wide a module is, and how wide and high the cell.
-fn with_cell<'a>(alloc: Global, command: Command<'a>) -> Result<Command<'a>, AllocError>
-    ensures app { IfOk result (λ c. app_of c ≡ with_cell (app_of command.entry)) }
-    ensures own { (out-Command command.entry).has_globals ≡ false
-        → IfOk result (λ c. (out-Command c).has_globals ≡ false) }
-{
-    command
-        .arg(number(alloc, "module", 1, MOST_MODULE_DOTS, "DOTS", MODULE))?
-        .arg(number(alloc, "width", 1, MOST_WIDTH, "DOTS", WIDTH))?
-        .arg(number(alloc, "height", 1, MOST_HEIGHT, "DOTS", HEIGHT))
-}
-
-/// The command with the options of a sheet: how many columns and rows of cells it has.
-fn with_places<'a>(alloc: Global, command: Command<'a>) -> Result<Command<'a>, AllocError>
-    ensures app { IfOk result (λ c. app_of c ≡ with_places (app_of command.entry)) }
-    ensures own { (out-Command command.entry).has_globals ≡ false
-        → IfOk result (λ c. (out-Command c).has_globals ≡ false) }
-{
-    command
-        .arg(number(alloc, "columns", 1, MOST_COLUMNS, "COUNT", COLUMNS))?
-        .arg(number(alloc, "rows", 1, MOST_ROWS, "COUNT", ROWS))
-}
-
-/// The command with the options of a grid of cells: those of a cell, and those of a sheet.
-pub fn with_grid<'a>(alloc: Global, command: Command<'a>) -> Result<Command<'a>, AllocError>
-    ensures app { IfOk result (λ c. app_of c ≡ with_places (with_cell (app_of command.entry))) }
-    ensures own { (out-Command command.entry).has_globals ≡ false
-        → IfOk result (λ c. (out-Command c).has_globals ≡ false) }
-{
-    let sized = with_cell(alloc, command)?;
-    with_places(alloc, sized)
+    number(alloc, "year", FIRST_YEAR, LAST_YEAR, "YEAR", YEAR)
 }
 
 /// The number under this name.

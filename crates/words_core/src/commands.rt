@@ -1,7 +1,8 @@
 //! The commands: which there are, and what the words of one ask for.
-ghost use Rattle.std.specs.Prelude.{◌≡◌, IfNone, IfOk, IfSome};
-ghost use Rattle.clap.specs.Words.{app_of, found_of, rows_of};
-ghost use Rattle.words_core.specs.commands.{AsksIn, batch_of, hub_app, row_app, text_app};
+ghost use Rattle.std.specs.Prelude.{◌≡◌, IfNone, IfOk, IfSome, List, Ok, map};
+ghost use Rattle.clap.specs.Words.{AddsInTurn, AddsSubcommand, app_of, found_of, rows_of};
+ghost use Rattle.clap.specs.declared.builder.command.Command.{Command};
+ghost use Rattle.words_core.specs.commands.{AsksIn, batch_of, hub_app, hub_top};
 ghost use Rattle.words_core.specs.declared.commands.Asked.{Asked};
 ghost use Rattle.words_core.specs.declared.commands.Batch.{Batch};
 
@@ -69,9 +70,9 @@ impl Asked {
     }
 }
 
-/// The program with the commands that take texts.
-fn text_words<'a>(alloc: Global) -> Result<Command<'a>, AllocError>
-    ensures { IfOk result (λ c. app_of c ≡ text_app) }
+/// The program before it has commands.
+fn program<'a>(alloc: Global) -> Command<'a>
+    ensures { app_of result ≡ hub_top }
 {
     Command::new(alloc, "gs1_hub")
         .version(help::VERSION)
@@ -79,24 +80,35 @@ fn text_words<'a>(alloc: Global) -> Result<Command<'a>, AllocError>
         .after_help(help::HUB_EXAMPLE)
         .disable_help_subcommand(true)
         .subcommand_required(true)
-        .subcommand(check_words(alloc)?)?
-        .subcommand(print_words(alloc)?)
 }
 
-/// The program with the commands over their whole input.
-fn row_words<'a>(alloc: Global) -> Result<Command<'a>, AllocError>
-    ensures { IfOk result (λ c. app_of c ≡ row_app) }
+/// The program with these commands, where each was made.
+fn with_commands<'a>(
+    program: Command<'a>,
+    commands: [Result<Command<'a>, AllocError>; 5],
+) -> Result<Command<'a>, AllocError>
+    ensures { IfOk result (λ c. (made : List Command) × (commands.entry ≡ map (λ m. Ok m) made)
+        × AddsInTurn AddsSubcommand program.entry made c) }
 {
-    text_words(alloc)?
-        .subcommand(lanes_words(alloc)?)?
-        .subcommand(scan_words(alloc)?)
+    let mut whole = program;
+    for command in commands {
+        whole = whole.subcommand(command?)?;
+    }
+    Ok(whole)
 }
 
 /// The program with its commands, as `clap` reads their words.
 pub fn hub_words<'a>(alloc: Global) -> Result<Command<'a>, AllocError>
     ensures { IfOk result (λ c. app_of c ≡ hub_app) }
 {
-    row_words(alloc)?.subcommand(live_words(alloc)?)
+    let commands = [
+        check_words(alloc),
+        print_words(alloc),
+        lanes_words(alloc),
+        scan_words(alloc),
+        live_words(alloc),
+    ];
+    with_commands(program(alloc), commands)
 }
 
 /// What the matches of a command ask for.

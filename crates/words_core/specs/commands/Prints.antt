@@ -1,14 +1,14 @@
 -- The words of the command `print`.
-use Rattle.std.specs.Prelude.{Bool, true, false, List, codes}
-use Rattle.clap.specs.Words.{App, Row, new_app, with_rule}
-use Rattle.words_core.specs.Arguments.{HasFlag, HasGrid, HasYear, flag_rule, with_cell, with_places, year_rule}
+use Rattle.std.specs.Prelude.{◌++◌, ◌∷◌, [], Bool, true, false, List, codes}
+use Rattle.clap.specs.Words.{App, Row, new_app}
+use Rattle.words_core.specs.Arguments.{HasFlag, HasGrid, HasYear, flag_rule, grid_rules, with_rules, year_rule}
 use Rattle.words_core.specs.declared.commands.print.options.Output.{Output}
 use Rattle.words_core.specs.declared.commands.print.options.Output.TheVariants as output
 use Rattle.words_core.specs.declared.commands.print.options.PrintOptions.{PrintOptions}
 
 -- `print --module M --width W --height H --columns C --rows R --year Y [--text]`
 abbrev pub print_app : App
-print_app = with_rule (with_rule (with_places (with_cell (new_app (codes "print")))) year_rule) (flag_rule (codes "text"))
+print_app = with_rules (new_app (codes "print")) (grid_rules ++ year_rule ∷ flag_rule (codes "text") ∷ [])
 
 -- lines are asked for by a flag, else it is images
 abbrev pub asks_lines : Output → Bool

@@ -1,12 +1,12 @@
 -- The words of the command `scan`.
-use Rattle.std.specs.Prelude.{List, codes}
-use Rattle.clap.specs.Words.{App, Row, new_app, with_rule}
-use Rattle.words_core.specs.Arguments.{HasGrid, HasWorkers, HasYear, with_cell, with_places, workers_rule, year_rule}
+use Rattle.std.specs.Prelude.{◌++◌, ◌∷◌, [], List, codes}
+use Rattle.clap.specs.Words.{App, Row, new_app}
+use Rattle.words_core.specs.Arguments.{HasGrid, HasWorkers, HasYear, grid_rules, with_rules, workers_rule, year_rule}
 use Rattle.words_core.specs.declared.commands.scan.options.ScanOptions.{ScanOptions}
 
 -- `scan --module M --width W --height H --columns C --rows R --workers K --year Y`
 abbrev pub scan_app : App
-scan_app = with_rule (with_rule (with_places (with_cell (new_app (codes "scan")))) workers_rule) year_rule
+scan_app = with_rules (new_app (codes "scan")) (grid_rules ++ workers_rule ∷ year_rule ∷ [])
 
 -- its options among the matches, each in its range
 abbrev pub HasScan : List Row → ScanOptions → Type 0

@@ -7,7 +7,7 @@ ghost use Rattle.words_core.specs.declared.commands.lanes.options.LaneOptions.{L
 
 pub mod options;
 
-use crate::arguments::{byte_named, command, number_named, with_lanes};
+use crate::arguments::{byte_named, command, lane_count, number_named, workers, year};
 use crate::commands::lanes::options::LaneOptions;
 use clap::{ArgMatches, Command};
 use std::alloc::{AllocError, Global};
@@ -44,5 +44,6 @@ pub fn lanes_words<'a>(alloc: Global) -> Result<Command<'a>, AllocError>
     ensures app { IfOk result (λ c. app_of c ≡ lanes_app) }
     ensures own { IfOk result (λ c. (out-Command c).has_globals ≡ false) }
 {
-    with_lanes(alloc, command(alloc, "lanes", ABOUT, EXAMPLE))
+    let options = vec![in alloc; lane_count(alloc), workers(alloc), year(alloc)]?;
+    command(alloc, "lanes", ABOUT, EXAMPLE).args(options)
 }

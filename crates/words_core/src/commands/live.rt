@@ -7,7 +7,7 @@ ghost use Rattle.words_core.specs.declared.commands.live.options.LiveOptions.{Li
 
 pub mod options;
 
-use crate::arguments::{command, flag, flag_named, with_lanes};
+use crate::arguments::{command, flag, flag_named, lane_count, workers, year};
 use crate::commands::lanes;
 use crate::commands::live::options::LiveOptions;
 use clap::{ArgMatches, Command};
@@ -48,7 +48,11 @@ pub fn live_words<'a>(alloc: Global) -> Result<Command<'a>, AllocError>
     ensures app { IfOk result (λ c. app_of c ≡ live_app) }
     ensures own { IfOk result (λ c. (out-Command c).has_globals ≡ false) }
 {
-    with_lanes(alloc, command(alloc, "live", ABOUT, EXAMPLE))?.arg(flag(
-        alloc, "elements", ELEMENTS,
-    ))
+    let options = vec![in alloc;
+        lane_count(alloc),
+        workers(alloc),
+        year(alloc),
+        flag(alloc, "elements", ELEMENTS),
+    ]?;
+    command(alloc, "live", ABOUT, EXAMPLE).args(options)
 }

@@ -7,7 +7,10 @@ ghost use Rattle.words_core.specs.declared.commands.print.options.PrintOptions.{
 
 pub mod options;
 
-use crate::arguments::{command, flag, flag_named, grid_named, number_named, with_grid, year};
+use crate::arguments::{
+    columns, command, flag, flag_named, grid_named, height, module_width, number_named, rows,
+    width, year,
+};
 use crate::commands::print::options::PrintOptions;
 use clap::{ArgMatches, Command};
 use std::alloc::{AllocError, Global};
@@ -42,9 +45,16 @@ pub fn print_words<'a>(alloc: Global) -> Result<Command<'a>, AllocError>
     ensures app { IfOk result (λ c. app_of c ≡ print_app) }
     ensures own { IfOk result (λ c. (out-Command c).has_globals ≡ false) }
 {
-    with_grid(alloc, command(alloc, "print", ABOUT, EXAMPLE))?
-        .arg(year(alloc))?
-        .arg(flag(alloc, "text", TEXT))
+    let options = vec![in alloc;
+        module_width(alloc),
+        width(alloc),
+        height(alloc),
+        columns(alloc),
+        rows(alloc),
+        year(alloc),
+        flag(alloc, "text", TEXT),
+    ]?;
+    command(alloc, "print", ABOUT, EXAMPLE).args(options)
 }
 
 /// The options of the command `print`.

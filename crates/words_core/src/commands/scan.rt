@@ -7,7 +7,10 @@ ghost use Rattle.words_core.specs.declared.commands.scan.options.ScanOptions.{Sc
 
 pub mod options;
 
-use crate::arguments::{byte_named, command, grid_named, number_named, with_grid, workers, year};
+use crate::arguments::{
+    byte_named, columns, command, grid_named, height, module_width, number_named, rows, width,
+    workers, year,
+};
 use crate::commands::scan::options::ScanOptions;
 use clap::{ArgMatches, Command};
 use std::alloc::{AllocError, Global};
@@ -32,9 +35,16 @@ pub fn scan_words<'a>(alloc: Global) -> Result<Command<'a>, AllocError>
     ensures app { IfOk result (λ c. app_of c ≡ scan_app) }
     ensures own { IfOk result (λ c. (out-Command c).has_globals ≡ false) }
 {
-    with_grid(alloc, command(alloc, "scan", ABOUT, EXAMPLE))?
-        .arg(workers(alloc))?
-        .arg(year(alloc))
+    let options = vec![in alloc;
+        module_width(alloc),
+        width(alloc),
+        height(alloc),
+        columns(alloc),
+        rows(alloc),
+        workers(alloc),
+        year(alloc),
+    ]?;
+    command(alloc, "scan", ABOUT, EXAMPLE).args(options)
 }
 
 /// The options of the command `scan`.
