@@ -1,3 +1,4 @@
+pub mod Added
 pub mod AskedFacts
 pub mod ErrorFacts
 pub mod Flags

@@ -1,6 +1,6 @@
 -- What `get_one` says of a number among the matches.
-use Rattle.std.proofs.Common.{◌≡◌, ◌∙◌, ◌<◌, ◌^◌, ℕ, List, Option, Some, None, Result, IfNone, IfSome, is_some, sym, refl, subst}
-use Rattle.std.specs.Str.Parse.{ExplainsUnsignedError, HasUnsignedDigitsIfOk, ParsesUnsigned}
+use Rattle.std.proofs.Common.{◌≡◌, ◌∙◌, ◌<◌, ◌^◌, ℕ, List, Option, Some, None, Result, IfNone, IfSome, IsSome, ap, is_some, sym, refl, subst}
+use Rattle.std.specs.Str.Parse.{ExplainsUnsignedError, HasUnsignedDigitsIfOk, ParsesUnsigned, digits_value, without_leading_plus}
 use Rattle.std.specs.declared.num.ParseIntError.{ParseIntError}
 use Rattle.clap.specs.Words.{Row, Text, one_of, one_text, rows_of}
 use Rattle.clap.specs.Matches.{ReadsOne}
@@ -43,3 +43,19 @@ none_after None None P Q same p so = so p
 none_after None (Some x) P Q same p so = tt
 none_after (Some y) None P Q same p so = cc same
 none_after (Some y) (Some x) P Q same p so = tt
+
+-- what follows of a value, and of there being one
+pub some_with : {T : Type 0} (r : Option T) {P Q : T → Type 0} {K : Type 0} → IfSome r P → (IsSome r → K) → ((x : T) → P x → K → Q x) → IfSome r Q
+some_with None p k f = tt
+some_with (Some x) p k f = f x p (k refl)
+
+-- what there is nothing of, where it would give a value
+pub none_by : {T X : Type 0} (r : Option T) {P : X → Type 0} → ((x : X) → P x → IsSome r) → IfNone r ((x : X) → P x → ⊥)
+none_by None some = λ x p. cc (some x p)
+none_by (Some y) some = tt
+
+-- a name has one number
+pub one_number : (name : Text) (rows : List Row) (m n : ℕ) → HasNumber name rows m → HasNumber name rows n → m ≡ n
+one_number name rows m n h k =
+    let same : h.0 ≡ k.0 = cc (sym h.1 ∙ k.1) in
+    h.3 ∙ ap (λ t. digits_value 10 (without_leading_plus t)) same ∙ sym k.3

@@ -22,3 +22,6 @@ returns c =
         | inr version ↦ no.not-DisplayVersion (same ∙ version)
       ]),
     ))
+
+pub returns-in-DisplayHelp : goal.returns-in-DisplayHelp
+returns-in-DisplayHelp c = tt
