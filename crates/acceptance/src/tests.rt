@@ -2,6 +2,7 @@
 
 mod adapters;
 mod code_sets;
+mod commands;
 mod element_lists;
 mod elements;
 mod held;

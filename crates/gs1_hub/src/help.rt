@@ -2,9 +2,9 @@
 ghost use Rattle.std.specs.Prelude.{◌≡◌, ◌↔◌, true, false, IfErr, IsErr, OnErr, OnOk};
 ghost use Rattle.std.specs.Io.KnownBytes.{Appends};
 ghost use Rattle.digits_core.specs.Bytes.{TookFront};
-ghost use Rattle.gs1_hub.specs.Faults.{failed_write};
+ghost use Rattle.command_core.specs.Faults.{failed_write};
 
-use crate::fault::CommandFault;
+use command_core::CommandFault;
 use digits_core::{Sink, write_all};
 
 /// Writes the text that is asked for, whole or, where a write fails, a prefix of it.

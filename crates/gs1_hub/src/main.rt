@@ -3,29 +3,16 @@
 
 ghost use Rattle.std.specs.Prelude.{◌≡◌, [], IfOk, IfSome, IsOk, OnOk, false};
 ghost use Rattle.std.specs.Process.{exit_status};
-ghost use Rattle.gs1_hub.specs.inner.Faults.{TookHelp, status_of, words_status};
-ghost use Rattle.gs1_hub.specs.Runs.{Ran};
-ghost use Rattle.gs1_hub.specs.commands.{command_of};
+ghost use Rattle.gs1_hub.specs.inner.Endings.{TookHelp, status_of, words_status};
 
-mod buffered;
-mod commands;
-mod fault;
-mod grid;
 mod help;
-mod laws;
 mod remedies;
-#[cfg(test)]
-mod tests;
 
-use crate::buffered::Buffered;
-use crate::commands::live::run_live;
-use crate::commands::run;
-use crate::fault::CommandFault;
 use crate::help::write_help;
 use crate::remedies::remedy;
+use command_core::{CommandFault, run_buffered, run_live};
 use digits_core::{FromReader, Sink, Source, ToWriter};
-use hub_core::{Gate, OpenGate};
-use std::alloc::Global;
+use hub_core::OpenGate;
 use std::env::{self, Env};
 use std::io::{self, Input, IsTerminal};
 use std::process::ExitCode;
@@ -33,26 +20,6 @@ use std::sync::Wait;
 use std::thread::Threads;
 use wire_core::Wired;
 use words_core::{Asked, Batch, LiveOptions, WordsFault, read_words, sentence};
-
-/// Runs the command with a buffer before its output, and writes what waits in it at the end. Before it runs
-/// nothing waits, and nothing is known to have been taken.
-fn run_buffered<R: Threads + Wait + Sync, S: Source, W: Sink, G: Gate + Sync>(
-    rt: &R,
-    alloc: Global,
-    batch: Batch,
-    source: &mut S,
-    sink: &mut Buffered<W>,
-    gate: &G,
-) -> Result<(), CommandFault>
-    requires empty { sink.old.waiting ≡ [] }
-    requires fresh { IfSome (W.taken sink.old.sink) (λ bytes. bytes ≡ []) }
-    ensures { Ran (command_of batch) S.left S.failed (λ s. W.taken s.sink) (λ s. W.failed s.sink)
-        source.old source.new sink.old sink.new result }
-{
-    run(rt, alloc, batch, source, sink, gate)?;
-    sink.flush()?;
-    Ok(())
-}
 
 /// The exit status of a command that has run. A refusal is told on standard error, at a terminal with what
 /// to do about it, and without one nothing is told, so that nothing fails.
@@ -107,6 +74,20 @@ fn words_given<R: Env + AllocGlobal>(rt: &R) -> Result<Vec<String>, WordsFault> 
     }
 }
 
+/// Runs a command over a whole source, with a buffer before the sink.
+fn run_over<R: Threads + Wait + Sync + AllocGlobal, S: Source, W: Sink + Drop>(
+    rt: &R,
+    batch: Batch,
+    source: &mut S,
+    sink: W,
+) -> Result<(), CommandFault>
+    requires sound { W.failed sink ≡ false }
+    requires fresh { IfSome (W.taken sink) (λ bytes. bytes ≡ []) }
+{
+    let (_, ran) = run_buffered(rt, rt.alloc(), batch, source, sink, &OpenGate);
+    ran
+}
+
 /// Runs a command over standard input as a whole, with buffers before it and before standard output.
 fn run_over_input<R: Threads + Wait + Sync + Input + Print + AllocGlobal>(
     rt: &R,
@@ -116,8 +97,7 @@ fn run_over_input<R: Threads + Wait + Sync + Input + Print + AllocGlobal>(
         return Err(CommandFault::NoMemory);
     };
     let mut source = FromReader::new(reader);
-    let mut sink = Buffered::new(ToWriter::new(io::writer(rt)));
-    run_buffered(rt, rt.alloc(), batch, &mut source, &mut sink, &OpenGate)
+    run_over(rt, batch, &mut source, ToWriter::new(io::writer(rt)))
 }
 
 /// Runs `live` on standard input and output without buffers, so that a read gives what is there and an answer

@@ -69,7 +69,7 @@ pub fn what_print_writes_scan_reads()
         → ArePrinted labels g printed → length printed ≤ 4096 → AllByRecursion (SaysElements year) labels
         → images_of (pbm_of printed) ≡ (Ok sheets, []) → AreScanned g sheets year answers → answers ≡ labels_answers g year labels }
 {
-    answer_core::written_answer();
+    command_core::written_answer();
 }
 
 /// Whatever the threads of 1 to 16 lanes and workers did, what each lane polled, and then its list, are the deliveries of its rows, in order and each once.
@@ -95,6 +95,6 @@ pub fn live_answers_as_lanes_does()
         → AreItems (lanes_meaning lanes) (records_of bytes) rows → All (λ feed. length feed ≤ most_rows) (feeds_of lanes rows)
         → Answers lanes HumanReadable year (pieces_of bytes) text → IsReordered lanes year rows text }
 {
-    answer_core::lines_are_records();
-    answer_core::lines_are_report();
+    command_core::lines_are_records();
+    command_core::lines_are_report();
 }

@@ -1,0 +1,267 @@
+//! Each run of a command once, and gates that see its workers beside each other.
+
+use command_core::{run, run_live};
+use digits_core::{FromReader, ToWriter};
+use element_core::Year;
+use fakes::{Happened, Holding, Meeting, Recorded};
+use hub_core::{Gate, OpenGate};
+use lane_core::Ticket;
+use std::alloc::Global;
+use std::process::Abort;
+use std::sync::Wait;
+use std::test::Fail;
+use std::thread::Threads;
+use words_core::{Batch, LaneOptions, LiveOptions, PrintOptions, ScanOptions};
+
+// The rows of 9501101530003 as EAN-13 and of 96385074 as EAN-8, at one dot a module.
+const EAN13: &str = "11 1 1 1 1 2 3 1 1 1 2 3 1 2 2 2 2 2 2 1 1 1 2 3 2 2 2 1 1 1 1 1 \
+                     1 1 2 3 1 1 4 1 1 3 2 1 1 3 2 1 1 3 2 1 1 1 4 1 1 1 1 1 7";
+
+const EAN8: &str = "7 1 1 1 3 1 1 2 1 1 1 4 1 4 1 1 1 2 1 3 1 1 1 1 1 1 2 3 1 3 2 1 \
+                    1 1 3 1 2 1 1 3 2 1 1 1 7";
+
+// An image of two cells of 113 by 3 dots, one above the other, each with the EAN-13.
+const TWO_LABELS: &[u8] = b"P4\n113 6\n\
+    \0\0\0\0\0\0\0\0\0\0\0\0\0\0\0\x00\x15\x8A\x76\x66\x53\x99\x54\xE8\x5C\xB9\x72\x85\x40\x00\
+    \0\0\0\0\0\0\0\0\0\0\0\0\0\0\0\0\0\0\0\0\0\0\0\0\0\0\0\0\0\0\
+    \x00\x15\x8A\x76\x66\x53\x99\x54\xE8\x5C\xB9\x72\x85\x40\x00\0\0\0\0\0\0\0\0\0\0\0\0\0\0\0";
+
+// Its row through the bars.
+const BARS: &[u8] = b"\x00\x15\x8A\x76\x66\x53\x99\x54\xE8\x5C\xB9\x72\x85\x40\x00";
+
+// Two records of that label.
+const TWO_RECORDS: &[u8] = b"ean13,9501101530003\nean13,9501101530003\n";
+
+/// The ticket of a row.
+fn ticket(lane: u8, number: u32) -> Ticket {
+    Ticket { lane, number }
+}
+
+/// That a command writes this of an input, its workers passing the gate.
+fn writes<R: Threads + Wait + AllocGlobal + Sync + Abort, G: Gate + Sync>(
+    rt: &R,
+    asked: Batch,
+    input: &[u8],
+    gate: &G,
+    wanted: &[u8],
+) -> Result<(), Fail> {
+    let alloc = rt.alloc();
+    let mut source = FromReader::new(input);
+    let mut sink = ToWriter::new(Vec::new(alloc));
+    if let Err(fault) = run(rt, alloc, asked, &mut source, &mut sink, gate) {
+        return Err(Fail::from(format!(in alloc; "{fault}")?));
+    }
+    assert_eq!(*rt; sink.into_inner().as_slice(), wanted);
+    Ok(())
+}
+
+#[test]
+fn check_answers_a_text(rt: HostRuntime) -> Result<(), Fail> {
+    let year = Year::new(2026).ok_or("year")?;
+    writes(
+        &rt,
+        Batch::Check(year),
+        b"digit,950110153000\n",
+        &OpenGate,
+        b"digit 3\n",
+    )
+}
+
+#[test]
+fn print_writes_images_or_lines(rt: HostRuntime) -> Result<(), Fail> {
+    let images = PrintOptions::new(1, 113, 3, 1, 2, 2026, false).ok_or("options")?;
+    writes(
+        &rt,
+        Batch::Print(images),
+        TWO_RECORDS,
+        &OpenGate,
+        TWO_LABELS,
+    )?;
+    let lines = PrintOptions::new(1, 113, 3, 1, 2, 2026, true).ok_or("options")?;
+    let wanted = b"0 0 ean13 (01)09501101530003\n0 1 ean13 (01)09501101530003\n";
+    writes(&rt, Batch::Print(lines), TWO_RECORDS, &OpenGate, wanted)
+}
+
+#[test]
+fn two_workers_read_the_rows_of_a_lane(rt: HostRuntime) -> Result<(), Fail> {
+    let options = LaneOptions::new(1, 2, 2026).ok_or("options")?;
+    let input = format!(in rt.alloc(); "0,{EAN13}\n0,{EAN8}\n")?;
+    let gate = Holding::new(rt.alloc(), &[2], ticket(0, 0), ticket(0, 1))?;
+    let wanted = b"0 0 ]E0 (01)09501101530003\n0 1 ]E4 (01)00000096385074\n";
+    writes(&rt, Batch::Lanes(options), input.as_bytes(), &gate, wanted)?;
+    assert!(rt; gate.saw_each_once());
+    Ok(())
+}
+
+#[test]
+fn two_workers_read_the_rows_of_a_column(rt: HostRuntime) -> Result<(), Fail> {
+    let options = ScanOptions::new(1, 113, 3, 1, 2, 2, 2026).ok_or("options")?;
+    let gate = Holding::new(rt.alloc(), &[2], ticket(0, 0), ticket(0, 1))?;
+    let wanted = b"0 0 ]E0 (01)09501101530003\n0 1 ]E0 (01)09501101530003\n";
+    writes(&rt, Batch::Scan(options), TWO_LABELS, &gate, wanted)?;
+    assert!(rt; gate.saw_each_once());
+    Ok(())
+}
+
+#[test]
+fn a_row_of_the_last_lane_is_held_alone(rt: HostRuntime) -> Result<(), Fail> {
+    let options = LaneOptions::new(3, 2, 2026).ok_or("options")?;
+    let input = format!(in rt.alloc(); "2,{EAN8}\n0,{EAN13}\n2,{EAN13}\n0,{EAN8}\n")?;
+    let gate = Holding::new(rt.alloc(), &[2, 0, 2], ticket(2, 0), ticket(2, 1))?;
+    let wanted = b"0 0 ]E0 (01)09501101530003\n0 1 ]E4 (01)00000096385074\n\
+        2 0 ]E4 (01)00000096385074\n2 1 ]E0 (01)09501101530003\n";
+    writes(&rt, Batch::Lanes(options), input.as_bytes(), &gate, wanted)?;
+    assert!(rt; gate.saw_each_once());
+    Ok(())
+}
+
+/// That sixteen workers are at work at once on this input, and write a line like this for each of sixteen lanes.
+fn meet<R: Threads + Wait + AllocGlobal + Sync + Abort>(
+    rt: &R,
+    asked: Batch,
+    input: &[u8],
+    answer: &str,
+) -> Result<(), Fail> {
+    let alloc = rt.alloc();
+    let mut wanted = String::new(alloc);
+    for lane in 0..16 {
+        wanted.push_str(format!(in alloc; "{lane} 0 {answer}\n")?.as_str())?;
+    }
+    let gate = Meeting::of(alloc, 16)?;
+    writes(rt, asked, input, &gate, wanted.as_bytes())?;
+    assert!(*rt; gate.has_met());
+    Ok(())
+}
+
+#[test]
+fn sixteen_workers_read_rows_of_lanes_at_once(rt: HostRuntime) -> Result<(), Fail> {
+    let alloc = rt.alloc();
+    let options = LaneOptions::new(16, 16, 2026).ok_or("options")?;
+    let mut input = String::new(alloc);
+    for lane in 0..16 {
+        input.push_str(format!(in alloc; "{lane},{EAN8}\n")?.as_str())?;
+    }
+    meet(
+        &rt,
+        Batch::Lanes(options),
+        input.as_bytes(),
+        "]E4 (01)00000096385074",
+    )
+}
+
+#[test]
+fn sixteen_workers_read_rows_of_columns_at_once(rt: HostRuntime) -> Result<(), Fail> {
+    // Cells of 120 dots, which are whole bytes.
+    let options = ScanOptions::new(1, 120, 3, 16, 1, 16, 2026).ok_or("options")?;
+    let mut input = Vec::new(rt.alloc());
+    input.extend_from_slice(b"P4\n1920 3\n")?;
+    for y in 0..3 {
+        for _ in 0..16 {
+            input.extend_from_slice(if y == 1 { BARS } else { &[0; 15] })?;
+        }
+    }
+    meet(
+        &rt,
+        Batch::Scan(options),
+        input.as_slice(),
+        "]E0 (01)09501101530003",
+    )
+}
+
+#[test]
+fn each_row_of_a_long_lane_comes_once(rt: HostRuntime) -> Result<(), Fail> {
+    let alloc = rt.alloc();
+    let options = LaneOptions::new(1, 2, 2026).ok_or("options")?;
+    let mut input = String::new(alloc);
+    let mut wanted = String::new(alloc);
+    for number in 0..5_000 {
+        input.push_str("0,7\n")?;
+        wanted.push_str(format!(in alloc; "0 {number} refused 19 Blank\n")?.as_str())?;
+    }
+    let gate = Holding::new(alloc, &[5_000], ticket(0, 0), ticket(0, 4_999))?;
+    writes(
+        &rt,
+        Batch::Lanes(options),
+        input.as_bytes(),
+        &gate,
+        wanted.as_bytes(),
+    )?;
+    assert!(rt; gate.saw_each_once());
+    Ok(())
+}
+
+// What `live` reads and writes of this input, twelve bytes at a time: a read begins with `<`, a write with `>`.
+const LIVE_INPUT: &[u8] = b"0,100\n0,1 2\n0,100\n0,100";
+
+const LIVE_CALLS: &[&str] = &[
+    "<0,100\n0,1 2\n",
+    ">0 0 refused ",
+    ">19 Blank\n0 -",
+    "> refused 18 ",
+    ">BadRuns\n",
+    "<0,100\n0,100",
+    ">0 1 refused ",
+    ">19 Blank\n",
+    "<",
+    ">0 2 refused ",
+    ">19 Blank\n",
+];
+
+/// What a wire did.
+fn told(alloc: Global, wire: &Recorded<'_>) -> Result<String, Fail> {
+    let mut text = String::new(alloc);
+    for call in wire.happened() {
+        let (mark, bytes) = match call {
+            Happened::Read(bytes) => ("<", bytes),
+            Happened::Wrote(bytes) => (">", bytes),
+        };
+        text.push_str(mark)?;
+        text.push_str(str::from_utf8(bytes.as_slice()).map_err(|_| "text")?)?;
+    }
+    Ok(text)
+}
+
+/// The first calls, one after another.
+fn first_calls(alloc: Global, calls: usize) -> Result<String, Fail> {
+    let mut text = String::new(alloc);
+    for call in LIVE_CALLS.iter().take(calls) {
+        text.push_str(call)?;
+    }
+    Ok(text)
+}
+
+/// That `live` makes the first `calls` of its calls on a wire that fails at the next, and how it ends.
+fn lives<R: Threads + Wait + AllocGlobal + Sync + Abort>(
+    rt: &R,
+    calls: usize,
+    ending: &str,
+) -> Result<(), Fail> {
+    let alloc = rt.alloc();
+    let rows = LaneOptions::new(1, 2, 2026).ok_or("options")?;
+    let wire = Recorded::new(alloc, LIVE_INPUT, 12, calls);
+    let options = LiveOptions::new(rows, false);
+    let (wire, ended) = run_live(rt, alloc, options, wire, &OpenGate);
+    assert_eq!(*rt;
+        told(alloc, &wire)?.as_str(),
+        first_calls(alloc, calls)?.as_str()
+    );
+    let ended = match ended {
+        Ok(()) => String::new(alloc),
+        Err(fault) => fault.to_string(alloc)?,
+    };
+    assert_eq!(*rt; ended.as_str(), ending);
+    Ok(())
+}
+
+#[test]
+fn live_reads_and_writes_in_turn(rt: HostRuntime) -> Result<(), Fail> {
+    for (calls, next) in LIVE_CALLS.iter().enumerate() {
+        let ending = if next.starts_with('<') {
+            "refused 37 ReadFault"
+        } else {
+            "refused 38 WriteFault"
+        };
+        lives(&rt, calls, ending)?;
+    }
+    lives(&rt, LIVE_CALLS.len(), "")
+}

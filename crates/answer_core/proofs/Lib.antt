@@ -1,3 +1,0 @@
-pub mod ColumnCounts
-pub mod ColumnFacts
-pub mod PrintedFacts

@@ -1,5 +1,0 @@
-pub mod Columns
-pub mod Printed
-pub mod answers
-pub mod inner
-pub mod live

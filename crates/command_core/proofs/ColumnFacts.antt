@@ -1,0 +1,44 @@
+-- The rows of columns as they come.
+use Rattle.std.proofs.Common.{◌+◌, ◌++◌, ◌<◌, ◌≡◌, ◌∙◌, ◌∷◌, Bool, List, [], ap, arith, get_or, length, map, suc, sym, take, zero, ℕ}
+use Rattle.std.specs.List.{AllZip, flat_map, range_with_len}
+use Rattle.std.proofs.lemmas.List.{append-nil, map-append, take_more}
+use Rattle.std.proofs.lemmas.Grind.{flat_map-append}
+use Rattle.std.proofs.lemmas.List.FromFn.{map-range_with_len_more}
+use Rattle.scan_core.specs.Row.{IsRow, dots_of}
+use Rattle.command_core.specs.Columns.{HaveDots}
+use Rattle.record_core.proofs.Beside.{beside-append, zip_more}
+
+-- one more row of a sheet
+pub one_more_cell : (dots : ℕ → List Bool) (cell : ℕ → ℕ) (rows : List (List ℕ)) (n : ℕ) (runs : List ℕ)
+    → HaveDots rows (map dots (map cell (range_with_len 0 n))) → IsRow runs → dots_of runs ≡ dots (cell n)
+    → HaveDots (rows ++ runs ∷ []) (map dots (map cell (range_with_len 0 (n + 1))))
+one_more_cell dots cell rows n runs have is shown =
+    let longer : map dots (map cell (range_with_len 0 (n + 1))) ≡ map dots (map cell (range_with_len 0 n)) ++ dots (cell n) ∷ [] =
+    ap (map dots) (map-range_with_len_more cell 0 n n (omega arith)) ∙ map-append dots (map cell (range_with_len 0 n)) (cell n ∷ []) in
+    rw longer (zip_more _ rows (map dots (map cell (range_with_len 0 n))) runs (dots (cell n)) have (is, shown))
+
+-- the rows of one more sheet
+pub one_more_sheet : {S : Type 0} (dots : S → List (List Bool)) (sheets : List S) (i : ℕ) (s : S) (rows more : List (List ℕ)) → i < length sheets
+    → s ≡ get_or sheets i s → HaveDots rows (flat_map dots (take i sheets)) → HaveDots more (dots s)
+    → HaveDots (rows ++ more) (flat_map dots (take (i + 1) sheets))
+one_more_sheet dots sheets i s rows more low is have added =
+    let longer : flat_map dots (take (i + 1) sheets) ≡ flat_map dots (take i sheets) ++ dots s =
+    ap (flat_map dots) (take_more sheets i s low ∙ ap (λ x. take i sheets ++ x ∷ []) (sym is))
+    ∙ flat_map-append dots (take i sheets) (s ∷ []) ∙ ap (λ t. flat_map dots (take i sheets) ++ t) (append-nil (dots s)) in
+    rw longer (beside-append _ rows more (flat_map dots (take i sheets)) (dots s) have added)
+
+range_more : (a n : ℕ) → range_with_len a (suc n) ≡ range_with_len a n ++ (a + n) ∷ []
+range_more a zero = ap (λ k. k ∷ []) (omega arith)
+range_more a (suc n) =
+    ap (λ t. a ∷ t) (range_more (a + 1) n ∙ ap (λ k. range_with_len (a + 1) n ++ k ∷ []) (omega arith))
+
+range_next : (n : ℕ) → range_with_len 0 (n + 1) ≡ range_with_len 0 n ++ n ∷ []
+range_next n =
+    let next : n + 1 ≡ suc n = omega arith in
+    ap (range_with_len 0) next ∙ range_more 0 n ∙ ap (λ k. range_with_len 0 n ++ k ∷ []) (omega arith)
+
+-- the rows of one more column
+pub one_more_column : {V : Type 0} (R : List (List ℕ) → ℕ → Type 0) (f : V → List (List ℕ)) (feeds new : List V) (v : V) (n : ℕ) → new ≡ feeds ++ v ∷ []
+    → AllZip R (map f feeds) (range_with_len 0 n) → R (f v) n → AllZip R (map f new) (range_with_len 0 (n + 1))
+one_more_column R f feeds new v n is have added =
+    rw (is, map-append f feeds (v ∷ []), range_next n) (zip_more R (map f feeds) (range_with_len 0 n) (f v) n have added)

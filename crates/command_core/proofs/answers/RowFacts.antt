@@ -1,0 +1,114 @@
+-- Rows of records that are read as they are answered.
+use Rattle.std.proofs.Common.{All, List, Ok, [], ap, arith, get_or, length, map, refl, replicate, set, string_bytes, subst, suc, sym, true, zero, ◌+◌, ◌++◌, ◌<◌, ◌≡◌, ◌≢◌, ◌∙◌, ◌∷◌, ℕ}
+use Rattle.std.specs.List.{AllZip, concat, range_with_len}
+use Rattle.std.proofs.lemmas.List.Elements.{All-cons, All-nil}
+use Rattle.std.proofs.lemmas.List.FromFn.{get_or-map-range_with_len, length-map-range_with_len}
+use Rattle.std.proofs.lemmas.Slice.Zip.{AllZip-long}
+use Rattle.scan_core.specs.Answers.{Reads}
+use Rattle.lane_core.specs.declared.job.Plain.{Plain}
+use Rattle.hub_core.specs.Laws.{AnswersAreRead, AreAnswersOf}
+use Rattle.hub_core.specs.Serving.{served}
+use Rattle.hub_core.specs.Traffics.{HasRoom, with_more}
+use Rattle.command_core.specs.inner.Reports.{AreLinesOf}
+use Rattle.command_core.specs.answers.Reports.{IsReport}
+use Rattle.command_core.specs.inner.Rows.{HasGiven, StandsAfter, is_ended}
+use Rattle.record_core.specs.input.Reading.{HasRead}
+use Rattle.record_core.specs.input.Records.{AreItems, Fields, records_of}
+use Rattle.record_core.specs.lanes.Feeds.{LaneRow, feed_of, feeds_of, lanes_meaning}
+use Rattle.command_core.specs.declared.answers.rows.Course.{Course}
+use Rattle.command_core.specs.declared.answers.rows.Course.TheVariants as course
+use Rattle.command_core.specs.declared.answers.rows.Reading.{Reading}
+use Rattle.record_core.specs.declared.input.records.Records.{Records}
+use Rattle.command_core.proofs.answers.ReportFacts.{lanes_joined, rowless}
+use Rattle.record_core.proofs.ReadFacts.{read_few}
+use Rattle.command_core.proofs.answers.FeedCounts.{feed_short}
+use Rattle.command_core.proofs.answers.FeedFacts.{feeds_more}
+use Rattle.record_core.proofs.Beside.{zip_more}
+
+-- of no records no lane has a row
+no_rows_from : (first n : ℕ) → replicate n [] ≡ map (λ lane. feed_of lane []) (range_with_len first n)
+no_rows_from first zero = refl
+no_rows_from first (suc n) = ap (λ t. [] ∷ t) (no_rows_from (first + 1) n)
+
+pub no_rows : (lanes : ℕ) → replicate lanes [] ≡ feeds_of lanes []
+no_rows lanes = no_rows_from 0 lanes
+
+none : (ks : List ℕ) → All (λ lane. feed_of lane [] ≡ []) ks
+none [] = let P : ℕ → Type 0 = λ lane. feed_of lane [] ≡ [] in All-nil P
+none (k ∷ ks) = let P : ℕ → Type 0 = λ lane. feed_of lane [] ≡ [] in All-cons P k ks refl (none ks)
+
+-- and the report is empty
+pub no_report : (year lanes : ℕ) (text : List ℕ) → text ≡ [] → IsReport year (feeds_of lanes []) text
+no_report year lanes text is =
+    rowless (λ lane. feed_of lane []) year (range_with_len 0 lanes) text (none (range_with_len 0 lanes)) is
+
+-- the row of the next record is given
+pub row_given : (start old new : Reading) (given : List (List (List ℕ))) (brought : List (List Plain)) (row : LaneRow)
+    → old.course ≡ course.Open → new.course ≡ course.Open → new.lanes ≡ old.lanes → new.texts ≡ old.texts → row.0 < old.lanes
+    → ((bytes : List ℕ) (rows : List Fields) → HasRead bytes old.records rows → (fields : Fields) × HasRead bytes new.records (rows ++ fields ∷ [])
+    × lanes_meaning old.lanes fields (Ok row))
+    → HasGiven start old given brought → HasRoom row.0 given × HasGiven start new (with_more row.0 row.1 given) brought
+row_given start old new given brought row is stays lanes texts low more was =
+    let read : HasRead start.bytes.now old.records was.rows = subst (λ k. StandsAfter k start.bytes.now old.records was.rows) is was.stands in
+    let next = more start.bytes.now was.rows read in
+    let small : row.0 < start.lanes = omega (arith, low, was.lanes) in
+    let many = AllZip-long _ was.rows was.items was.means in
+    let few = read_few start.bytes.now old.records was.rows read in
+    let short = feed_short was.items row.0 in
+    let at : get_or given row.0 [] ≡ feed_of row.0 was.items =
+    ap (λ g. get_or g row.0 []) was.fed ∙ get_or-map-range_with_len (λ lane. feed_of lane was.items) 0 start.lanes row.0 row.0 [] small (omega arith) in
+    let count : length given ≡ start.lanes = ap length was.fed ∙ length-map-range_with_len (λ lane. feed_of lane was.items) 0 start.lanes in (
+      (omega (arith, small, count), omega (arith, ap length at, short, many, few, was.few)),
+      record {
+        lanes = lanes ∙ was.lanes;
+        few = was.few;
+        rows = was.rows ++ next.0 ∷ [];
+        stands = subst (λ k. StandsAfter k start.bytes.now new.records (was.rows ++ next.0 ∷ [])) (sym stays) next.1;
+        items = was.items ++ row ∷ [];
+        means = zip_more _ was.rows was.items next.0 row was.means (subst (λ n. lanes_meaning n next.0 (Ok row)) was.lanes next.2);
+        fed = ap (λ feed. set given row.0 (feed ++ row.1 ∷ [])) at ∙ ap (λ g. set g row.0 (feed_of row.0 was.items ++ row.1 ∷ [])) was.fed
+            ∙ feeds_more start.lanes was.items row small;
+        lines = subst (λ t. AreLinesOf brought (map string_bytes t.items)) (sym texts) was.lines;
+      },
+    )
+
+-- where no row was read nothing was given
+pub none_given : (start old new : Reading) (given : List (List (List ℕ))) (brought : List (List Plain)) → old.course ≡ course.Open → new.lanes ≡ old.lanes
+    → new.texts ≡ old.texts
+    → ((rows : List Fields) → HasRead start.bytes.now old.records rows → StandsAfter new.course start.bytes.now new.records rows)
+    → HasGiven start old given brought → HasGiven start new given brought
+none_given start old new given brought is lanes texts stands was = record {
+  lanes = lanes ∙ was.lanes;
+  few = was.few;
+  rows = was.rows;
+  stands = stands was.rows (subst (λ k. StandsAfter k start.bytes.now old.records was.rows) is was.stands);
+  items = was.items;
+  means = was.means;
+  fed = was.fed;
+  lines = subst (λ t. AreLinesOf brought (map string_bytes t.items)) (sym texts) was.lines;
+}
+
+all_read : (k : Course) (bytes : List ℕ) (r : Records) (rows : List Fields) → is_ended k ≡ true → StandsAfter k bytes r rows → rows ≡ records_of bytes
+all_read course.Ended bytes r rows is stands = stands
+all_read course.Open bytes r rows is stands = cc is
+all_read course.Refused bytes r rows is stands = cc is
+
+-- once all were read and brought, the texts are the report
+pub reported : (year : ℕ) (start s : Reading) (given : List (List (List ℕ))) (brought : List (List Plain)) → AnswersAreRead → HasGiven start s given brought
+    → is_ended s.course ≡ true → brought ≡ served year given
+    → (items : List LaneRow) × AreItems (lanes_meaning start.lanes) (records_of start.bytes.now) items
+    × IsReport year (feeds_of start.lanes items) (concat (map string_bytes s.texts.items))
+reported year start s given brought law was is all =
+    let lines = was.lines in
+    let read = law year given lines.0 (subst (λ lists. AllZip AreAnswersOf lists lines.0) all lines.1) in
+    let records = all_read s.course start.bytes.now s.records was.rows is was.stands in (
+      was.items,
+      subst (λ rows. AreItems (lanes_meaning start.lanes) rows was.items) records was.means,
+      (lines.0, subst (λ feeds. AllZip (λ rows answers. Reads rows year answers) feeds lines.0) was.fed read, ap concat lines.2 ∙ lanes_joined 0 lines.0),
+    )
+
+-- records of which there is one mean an item
+pub some_item : (means : _) (rows : List Fields) (items : List LaneRow) (first : Fields) (more : List Fields) → AreItems means rows items → rows ≡ first ∷ more
+    → items ≢ []
+some_item means rows items first more are is none =
+    omega (arith, AllZip-long _ rows items are, ap length is, ap length none)

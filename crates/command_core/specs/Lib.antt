@@ -1,0 +1,10 @@
+pub mod Columns
+pub mod Faults
+pub mod Grids
+pub mod Laws
+pub mod Printed
+pub mod Runs
+pub mod answers
+pub mod commands
+pub mod inner
+pub mod live

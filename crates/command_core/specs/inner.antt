@@ -1,0 +1,11 @@
+-- Definitions for the inside of the crate: types, private contracts and proofs name them, and no public contract reaches them.
+pub mod Buffers
+pub mod Came
+pub mod Finish
+pub mod Lived
+pub mod Meaning
+pub mod Replies
+pub mod Reports
+pub mod Rows
+pub mod Stops
+pub mod Turns

@@ -1,0 +1,137 @@
+-- How far a live input has come.
+use Rattle.std.specs.Prelude.{◌≡◌, ◌<◌, ◌≤◌, ◌-◌, ◌+◌, ◌++◌, ◌⊎◌, Bool, true, false, ⊤, ℕ, All, List, [], ◌∷◌, Option, Some, None, Result, Ok, Err, length, slice_get, slice_index_or, slice_set, vec_capacity}
+use Rattle.std.specs.List.{AllZip}
+use Rattle.scan_core.specs.Answers.{IsAnswer}
+use Rattle.scan_core.specs.declared.answer.Answer.{Answer}
+use Rattle.std.specs.declared.alloc.AllocError.{AllocError}
+use Rattle.lane_core.specs.declared.job.Plain.{Plain}
+use Rattle.hub_core.specs.Traffics.{HasRoom, with_more}
+use Rattle.wire_core.specs.Events.{Event, was_read, was_written}
+use Rattle.wire_core.specs.Lines.{Held, TakesLines}
+use Rattle.command_core.specs.live.Answering.{AnswersBy, IsFrontBy, IsPromptBy, whole_lines}
+use Rattle.command_core.specs.live.Replies.{Reply, refusal_line, replies_to}
+use Rattle.command_core.specs.inner.Replies.{numbers_after_lines}
+use Rattle.command_core.specs.live.Replies.Reply.{Row, Line}
+use Rattle.command_core.specs.answers.Reports.{numbered_line}
+use Rattle.command_core.specs.live.Text.{HasEnded, line_fault_text, line_meant}
+use Rattle.element_core.specs.declared.form.Form.{Form}
+use Rattle.command_core.specs.declared.live.fault.LiveFault.{LiveFault}
+use Rattle.command_core.specs.declared.live.fault.LiveFault.TheVariants.{NoMemory, ReadFault, WriteFault}
+use Rattle.command_core.specs.declared.live.place.Place.{Place}
+use Rattle.command_core.specs.declared.live.place.Place.TheVariants as place
+use Rattle.command_core.specs.declared.live.progress.Progress.{Progress}
+use Rattle.command_core.specs.declared.live.progress.Taken.{Taken}
+use Rattle.command_core.specs.declared.live.progress.Taken.TheVariants as take
+use Rattle.command_core.specs.declared.live.record.LineFault.TheVariants as line_fault
+use Rattle.command_core.specs.declared.live.waiting.Waiting.{Waiting}
+use Rattle.command_core.specs.inner.Turns.{IsOneMore, IsRoomier}
+
+-- ---- the lanes
+
+-- of a lane these rows were given and these deliveries brought, of which the last wait for their place, with room for all that may come
+pub record IsWaiting (rows : List (List ℕ)) (brought : List Plain) (w : Waiting) : Type 0 where
+  pub written : List Plain
+  pub whole : brought ≡ written ++ w.deliveries.items
+  pub first : w.first ≡ length written
+  pub next : w.next ≡ length rows
+  pub behind : w.first + length w.deliveries.items ≤ w.next
+  pub room : w.next ≤ w.first + vec_capacity w.deliveries
+
+-- of each lane
+pub record AreWaiting (given : List (List (List ℕ))) (brought : List (List Plain)) (lanes : List Waiting) : Type 0 where
+  pub rows : length given ≡ length lanes
+  pub deliveries : length brought ≡ length lanes
+  pub each : (l : ℕ) (w : Waiting) → slice_get lanes l ≡ Some w → IsWaiting (slice_index_or given l []) (slice_index_or brought l []) w
+
+-- the place is of a row that was given in this turn, if it is of a row
+abbrev pub IsInTurn : List Waiting → Place → Type 0
+IsInTurn lanes (place.Row lane number) = (w : Waiting) × (lane < length lanes) × (slice_get lanes lane ≡ Some w) × (w.first ≤ number) × (number < w.next)
+IsInTurn lanes (place.Refused lane fault) = ⊤
+
+-- the row of a place has been brought
+abbrev pub IsReady : List Waiting → Place → Type 0
+IsReady lanes (place.Row lane number) = (w : Waiting) × (lane < length lanes) × (slice_get lanes lane ≡ Some w) × (w.first ≤ number)
+    × (number < w.first + length w.deliveries.items)
+IsReady lanes (place.Refused lane fault) = ⊤
+
+-- ---- places and their lines
+
+-- the place is kept for this reply
+abbrev pub IsPlaceOf : Place → Reply → Type 0
+IsPlaceOf (place.Row lane number) (Row l n widths) = (l ≡ lane) × (n ≡ number)
+IsPlaceOf (place.Row lane number) (Line line) = ⊥
+IsPlaceOf (place.Refused lane fault) (Row l n widths) = ⊥
+IsPlaceOf (place.Refused lane fault) (Line line) = line ≡ refusal_line lane (line_fault_text fault)
+
+-- the line of a place, by the deliveries that wait
+abbrev pub TellsPlace : Form → List Waiting → Place → List ℕ → Type 0
+TellsPlace f lanes (place.Row lane number) text = (w : Waiting) × (x : Plain) × (a : Answer) × (slice_get lanes lane ≡ Some w) × (w.first ≤ number)
+    × (slice_get w.deliveries.items (number - w.first) ≡ Some x) × IsAnswer x.widths x.year a × (text ≡ numbered_line f lane number a)
+TellsPlace f lanes (place.Refused lane fault) text = text ≡ refusal_line lane (line_fault_text fault)
+
+-- a row of a reply was given
+abbrev pub WasGiven : List (List (List ℕ)) → Reply → Type 0
+WasGiven given (Row lane number widths) = slice_get (slice_index_or given lane []) number ≡ Some widths
+WasGiven given (Line line) = ⊤
+
+-- the line of a reply, by the deliveries that were brought
+abbrev pub TellsReply : Form → List (List (List ℕ)) → List (List Plain) → Reply → List ℕ → Type 0
+TellsReply f given brought (Row lane number widths) text = (slice_get (slice_index_or given lane []) number ≡ Some widths)
+    × ((x : Plain) × (a : Answer) × (slice_get (slice_index_or brought lane []) number ≡ Some x) × IsAnswer x.widths x.year a
+    × (text ≡ numbered_line f lane number a))
+TellsReply f given brought (Line line) text = text ≡ line
+
+-- ---- reads and writes
+
+-- of the lines that were taken the first were answered, and the others have their places in this turn
+pub record KeepsPlaces (lanes : ℕ) (f : Form) (given : List (List (List ℕ))) (brought : List (List Plain)) (events : List Event) (places : List Place)
+    (h : Held) : Type 0 where
+  pub taken : List (List ℕ)
+  pub done : List Reply
+  pub turn : List Reply
+  pub lines : TakesLines (was_read events) taken h
+  pub replies : replies_to (line_meant lanes) taken ≡ done ++ turn
+  pub numbers : (l : ℕ) → numbers_after_lines (line_meant lanes) taken l ≡ length (slice_index_or given l [])
+  pub kept : AllZip IsPlaceOf places turn
+  pub rows : All (WasGiven given) turn
+  pub answers : AnswersBy (TellsReply f given brought) done (was_written events)
+
+-- what stands of reads and writes whatever comes
+pub record Stands (lanes : ℕ) (f : Form) (given : List (List (List ℕ))) (brought : List (List Plain)) (events : List Event) (h : Held)
+    (stopped : Option LiveFault) : Type 0 where
+  pub prompt : IsPromptBy (TellsReply f given brought) (replies_to (line_meant lanes)) events
+  pub front : IsFrontBy (TellsReply f given brought) (replies_to (line_meant lanes)) events
+  pub ended : h.has_ended ≡ true → HasEnded events
+  pub answered : stopped ≡ Some ReadFault → AnswersBy (TellsReply f given brought) (replies_to (line_meant lanes) (whole_lines (was_read events)))
+      (was_written events)
+
+-- after these reads and writes a live input has come this far
+pub record HasCome (f : Form) (events : List Event) (lanes : List Waiting) (places : List Place) (h : Held) (stopped : Option LiveFault)
+    (given : List (List (List ℕ))) (brought : List (List Plain)) : Type 0 where
+  pub waiting : AreWaiting given brought lanes
+  pub turn : All (IsInTurn lanes) places
+  pub few : length lanes < 256
+  pub keeps : (stopped ≡ Some WriteFault → ⊥) → KeepsPlaces (length lanes) f given brought events places h
+  pub stands : Stands (length lanes) f given brought events h stopped
+
+abbrev pub IsProgressAt : Form → List Event → Progress → List (List (List ℕ)) → List (List Plain) → Type 0
+IsProgressAt f events p given brought = HasCome f events p.lanes.items p.places.items p.lines p.stopped given brought
+
+-- what was taken was given
+abbrev pub Took : (List (List (List ℕ)) → List (List Plain) → Type 0) → List (List (List ℕ)) → List (List Plain) → Taken → Type 0
+Took C given brought (take.Row lane row) = HasRoom lane given × C (with_more lane row given) brought
+Took C given brought take.Line = C given brought
+Took C given brought take.Nothing = C given brought
+
+-- a row's place was kept, or that of its refusal where the lane has had all its numbers
+abbrev pub KeepsRow : ℕ → Result Bool AllocError → List Waiting → List Waiting → List Place → List Place → Type 0
+KeepsRow lane (Ok true) old new places more = (number : ℕ) × (w : Waiting) × (v : Waiting) × (slice_get old lane ≡ Some w) × (new ≡ slice_set old lane v)
+    × IsOneMore number w v × (more ≡ places ++ place.Row lane number ∷ [])
+KeepsRow lane (Ok false) old new places more = (w : Waiting) × (v : Waiting) × (slice_get old lane ≡ Some w) × (new ≡ slice_set old lane v) × IsRoomier w v
+    × (w.next ≡ 4294967295) × (more ≡ places ++ place.Refused (Some lane) line_fault.Spent ∷ [])
+KeepsRow lane (Err refused) old new places more = ((new ≡ old)
+    ⊎ ((w : Waiting) × (v : Waiting) × (slice_get old lane ≡ Some w) × (new ≡ slice_set old lane v) × IsRoomier w v)) × (more ≡ places)
+
+-- nothing has stopped it, but memory may have been refused now
+abbrev pub IsStoppedBy : Option LiveFault → Option LiveFault → Type 0
+IsStoppedBy old new = (new ≡ old) ⊎ ((old ≡ None) × (new ≡ Some NoMemory))

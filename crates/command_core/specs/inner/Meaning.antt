@@ -1,0 +1,20 @@
+-- Records as they are read of lines.
+use Rattle.std.specs.Prelude.{◌≡◌, ◌<◌, ℕ, List, Option, Some, None, Ok, Err, true, false, length}
+use Rattle.wire_core.specs.Lines.{Held, held_line}
+use Rattle.command_core.specs.live.Replies.{Meant, refusal_line}
+use Rattle.command_core.specs.live.Text.{line_fault_text, line_meant}
+use Rattle.command_core.specs.declared.live.record.LineFault.TheVariants as line_fault
+use Rattle.command_core.specs.declared.live.record.Record.{Record}
+use Rattle.command_core.specs.declared.live.record.Record.TheVariants as read
+
+-- the record is what a line means
+abbrev pub IsRecord : ℕ → Record → Option Meant → Type 0
+IsRecord lanes read.Blank m = m ≡ None
+IsRecord lanes (read.Row lane row) m = (m ≡ Some (Ok (lane, row))) × (lane < lanes)
+IsRecord lanes (read.Refused lane fault) m = m ≡ Some (Err (refusal_line lane (line_fault_text fault)))
+
+-- a line is held, so many bytes of it, and this is the record that it means, whatever front was given up
+abbrev pub HoldsRecord : ℕ → Held → ℕ → Record → Type 0
+HoldsRecord lanes h count r = (found : List ℕ) × (held_line h ≡ Some found) × (length found ≡ count)
+    × (h.is_cut ≡ false → IsRecord lanes r (line_meant lanes found))
+    × (h.is_cut ≡ true → r ≡ read.Refused None line_fault.InputSize)

@@ -1,0 +1,16 @@
+-- What types, private contracts and proofs name beside `Reports`.
+use Rattle.std.specs.Prelude.{◌≡◌, ◌+◌, ℕ, List, [], ◌∷◌}
+use Rattle.std.specs.List.{AllZip}
+use Rattle.scan_core.specs.declared.answer.Answer.{Answer}
+use Rattle.lane_core.specs.declared.job.Plain.{Plain}
+use Rattle.hub_core.specs.Laws.{AreAnswersOf}
+use Rattle.command_core.specs.answers.Reports.{lines_from}
+
+-- the lines of each lane, from one on
+abbrev pub lane_lines : ℕ → List (List Answer) → List (List ℕ)
+lane_lines lane [] = []
+lane_lines lane (answers ∷ rest) = lines_from lane 0 answers ∷ lane_lines (lane + 1) rest
+
+-- the texts are the lines of what each lane was brought
+abbrev pub AreLinesOf : List (List Plain) → List (List ℕ) → Type 0
+AreLinesOf brought texts = (answers : List (List Answer)) × AllZip AreAnswersOf brought answers × (texts ≡ lane_lines 0 answers)

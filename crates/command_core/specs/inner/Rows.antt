@@ -1,0 +1,40 @@
+-- What types, private contracts and proofs name beside `Rows`.
+use Rattle.std.specs.Prelude.{◌≡◌, ◌≢◌, ◌≤◌, ⊤, ℕ, Bool, false, true, List, [], length, map, string_bytes}
+use Rattle.lane_core.specs.declared.job.Plain.{Plain}
+use Rattle.command_core.specs.inner.Reports.{AreLinesOf}
+use Rattle.record_core.specs.input.Reading.{HasRead}
+use Rattle.record_core.specs.input.Records.{AreItems, Fields, most_bytes, records_of, NamesFirst}
+use Rattle.record_core.specs.lanes.Feeds.{LaneRow, feeds_of, lanes_meaning}
+use Rattle.record_core.specs.declared.input.records.Records.{Records}
+use Rattle.command_core.specs.declared.answers.rows.Course.{Course}
+use Rattle.command_core.specs.declared.answers.rows.Course.TheVariants as course
+use Rattle.command_core.specs.declared.answers.rows.Reading.{Reading}
+use Rattle.command_core.specs.declared.answers.rows.RowsFault.{RowsFault}
+use Rattle.command_core.specs.declared.answers.rows.RowsFault.TheVariants as rows
+
+-- whether all records were read
+abbrev pub is_ended : Course → Bool
+is_ended course.Ended = true
+is_ended _ = false
+
+-- where the reading of the bytes stands after these records
+abbrev pub StandsAfter : Course → List ℕ → Records → List Fields → Type 0
+StandsAfter course.Open bytes r rows = HasRead bytes r rows
+StandsAfter course.Ended bytes r rows = rows ≡ records_of bytes
+StandsAfter course.Refused bytes r rows = ⊤
+
+-- of the records, from the first on, these rows of each lane were given, and their deliveries brought
+pub record HasGiven (start s : Reading) (given : List (List (List ℕ))) (brought : List (List Plain)) : Type 0 where
+  pub lanes : s.lanes ≡ start.lanes
+  pub few : length start.bytes.now ≤ most_bytes
+  pub rows : List Fields
+  pub stands : StandsAfter s.course start.bytes.now s.records rows
+  pub items : List LaneRow
+  pub means : AreItems (lanes_meaning start.lanes) rows items
+  pub fed : given ≡ feeds_of start.lanes items
+  pub lines : AreLinesOf brought (map string_bytes s.texts.items)
+
+-- why the rows of records are not answered: a record, or a thread that could not be started, and only where there is a row
+abbrev pub RefusesBytes : ℕ → List Fields → RowsFault → Type 0
+RefusesBytes lanes records (rows.Records fault) = NamesFirst (lanes_meaning lanes) records fault
+RefusesBytes lanes records rows.NoThread = (items : List LaneRow) × AreItems (lanes_meaning lanes) records items × (items ≢ [])

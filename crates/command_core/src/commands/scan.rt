@@ -1,0 +1,54 @@
+//! The command `scan`: images of sheets in, the answers of their columns out.
+ghost use Rattle.command_core.specs.Runs.{Ran};
+ghost use Rattle.command_core.specs.commands.Scans.{OneScan, scan_command};
+
+use crate::answers::serving::answer_lines;
+use crate::columns::{are_of_size, column_feeds};
+use crate::fault::CommandFault;
+use crate::grid::grid_of;
+use crate::printed::scanned_once;
+use digits_core::{Sink, Source, write_all};
+use hub_core::Gate;
+use sheet_core::{files_are_read, read_pbm};
+use std::alloc::Global;
+use std::sync::Wait;
+use std::thread::Threads;
+use words_core::ScanOptions;
+
+/// Answers the rows of sheets that a source gives as PBM images, a line for each, column by column
+/// and by number. Workers read them beside each other, and each passes the gate before a row.
+///
+/// Column `c` of the grid is lane `c`; its rows are the middle rows of its cells, from top to
+/// bottom, sheet after sheet. A grid outside its limits is refused before any input is read, and an
+/// image of another size than the grid's once all images are read. Nothing is written unless the
+/// whole input is taken.
+pub fn run_scan<R: Threads + Wait + Sync, S: Source, W: Sink, G: Gate + Sync>(
+    rt: &R,
+    alloc: Global,
+    options: ScanOptions,
+    source: &mut S,
+    sink: &mut W,
+    gate: &G,
+) -> Result<(), CommandFault>
+    ensures { Ran (scan_command options) S.left S.failed W.taken W.failed source.old source.new sink.old sink.new result }
+{
+    let grid = grid_of(options.grid)?;
+    let sheets = read_pbm(alloc, source)?;
+    if !are_of_size(grid, sheets.as_slice()) {
+        return Err(CommandFault::PbmSize);
+    }
+    // The law by which there are few images, and so few rows.
+    files_are_read();
+    let feeds = column_feeds(alloc, grid, sheets.as_slice())?;
+    drop(sheets);
+    let lines = answer_lines(rt, alloc, feeds, options.workers, options.year, gate)?;
+    write_all(sink, lines.as_str().as_bytes())?;
+    Ok(())
+}
+
+/// Of the same bytes `scan` writes one text at most.
+pub fn one_scan()
+    ensures { OneScan }
+{
+    scanned_once();
+}

@@ -1,9 +1,0 @@
-pub mod BufferFacts
-pub mod CheckOnce
-pub mod CommandFacts
-pub mod CountFacts
-pub mod LabelReadings
-pub mod OnceFacts
-pub mod PlaceFacts
-pub mod PrintOnce
-pub mod ScannedFacts

@@ -1,5 +1,0 @@
-use Rattle.gs1_hub.proofs.PrintOnce.{one_print as law}
-use Rattle.gs1_hub.proofs.commands.print.one_print.Goals as goal
-
-pub returns : goal.returns
-returns c = law c.one_list_or_fault.ensures c.one_printed.ensures

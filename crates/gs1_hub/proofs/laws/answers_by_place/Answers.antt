@@ -1,5 +1,0 @@
-use Rattle.gs1_hub.proofs.PlaceFacts.{answers_by_place as law}
-use Rattle.gs1_hub.proofs.laws.answers_by_place.Goals as goal
-
-pub returns : goal.returns
-returns c = law
