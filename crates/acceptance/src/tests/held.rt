@@ -24,15 +24,9 @@ fn settles_the_held<R: Wait + AllocGlobal + Abort>(
     Ok(())
 }
 
-/// That one lane's row is delivered while the other's is held.
-fn holds<R: Threads + Wait + Sync + AllocGlobal + Abort>(
-    rt: &R,
-    held: u8,
-    free: u8,
-    carriers: (Carrier, Carrier),
-) -> Result<(), Fail> {
+/// A hub of two lanes and two workers, each lane with a row: an EAN-13, and an EAN-8.
+fn with_two_rows<R: Wait + AllocGlobal>(rt: &R) -> Result<Station, Fail> {
     let alloc = rt.alloc();
-    let gate = LaneGate::new(held);
     let shape = Shape {
         lanes: 2,
         workers: 2,
@@ -42,6 +36,19 @@ fn holds<R: Threads + Wait + Sync + AllocGlobal + Abort>(
     let mut hub = Station::new(rt, alloc, shape)?;
     hub.submit(rt, alloc, 0, row(alloc, EAN13)?)?;
     hub.submit(rt, alloc, 1, row(alloc, EAN8)?)?;
+    Ok(hub)
+}
+
+/// That one lane's row is delivered while the other's is held.
+fn holds<R: Threads + Wait + Sync + AllocGlobal + Abort>(
+    rt: &R,
+    held: u8,
+    free: u8,
+    carriers: (Carrier, Carrier),
+) -> Result<(), Fail> {
+    let alloc = rt.alloc();
+    let gate = LaneGate::new(held);
+    let hub = with_two_rows(rt)?;
     let (hub, polled, is_held) = hub.poll_and_open(rt, alloc, &gate, (free, held))?;
     assert!(*rt; is_answer(polled.as_ref(), free, 0, carriers.0));
     assert!(*rt; is_held);

@@ -48,24 +48,44 @@ enum Step {
     Issued(usize, u32),
 }
 
+/// That a lane that submits a row is answered by this: the ticket, or the line of the refusal.
+fn submits<R: Wait + AllocGlobal + Abort>(
+    rt: &R,
+    hub: &mut Station,
+    lane: usize,
+    widths: &[u16],
+    told: &str,
+) -> Result<(), Fail> {
+    let alloc = rt.alloc();
+    let found = hub.submit(rt, alloc, lane, row(alloc, widths)?)?;
+    assert_eq!(*rt; found.as_str(), told);
+    Ok(())
+}
+
+/// That a lane polls the delivery of this number and this carrier.
+fn polls<R: Abort>(
+    rt: &R,
+    hub: &mut Station,
+    lane: u8,
+    number: u32,
+    carrier: Carrier,
+) -> Result<(), Fail> {
+    let found = hub.poll(usize::from(lane))?;
+    assert!(*rt; is_answer(found.as_ref(), lane, number, carrier));
+    Ok(())
+}
+
 /// That a step has its answer.
 fn take<R: Wait + AllocGlobal + Abort>(rt: &R, hub: &mut Station, step: &Step) -> Result<(), Fail> {
-    let alloc = rt.alloc();
     match step {
-        Step::Submit(lane, widths, told) => {
-            let found = hub.submit(rt, alloc, *lane, row(alloc, widths)?)?;
-            assert_eq!(*rt; found.as_str(), *told);
-        }
+        Step::Submit(lane, widths, told) => submits(rt, hub, *lane, widths, told)?,
         Step::Work(worker, told) => assert_eq!(*rt; hub.work(rt, *worker)?, *told),
         Step::Collect(told) => assert_eq!(*rt; hub.collect(rt), *told),
         Step::Next(lane, number, carrier, told) => {
             assert_eq!(*rt; hub.has_next(*lane, *number, *carrier)?, *told);
         }
         Step::Hand(lane, told) => assert_eq!(*rt; hub.hand(*lane)?, *told),
-        Step::Poll(lane, number, carrier) => {
-            let found = hub.poll(usize::from(*lane))?;
-            assert!(*rt; is_answer(found.as_ref(), *lane, *number, *carrier));
-        }
+        Step::Poll(lane, number, carrier) => polls(rt, hub, *lane, *number, *carrier)?,
         Step::Issued(lane, count) => assert_eq!(*rt; hub.issued(*lane)?, *count),
     }
     Ok(())
@@ -244,17 +264,22 @@ fn polls_of_each<R: Wait + AllocGlobal + Abort>(
     Ok(())
 }
 
+/// A hub of so many lanes and workers, each lane with three rows.
+fn with_three_of_each<R: Wait + AllocGlobal + Abort>(rt: &R, count: u8) -> Result<Station, Fail> {
+    let mut hub = Station::new(rt, rt.alloc(), shape(count, 64, 3))?;
+    for widths in [EAN13, EAN8, GS1_128] {
+        submit_to_each(rt, &mut hub, count, widths)?;
+    }
+    Ok(hub)
+}
+
 /// That a hub of so many lanes and workers answers three rows of each lane, one of which it polls.
 fn answers_each_lane<R: Wait + AllocGlobal + Abort>(rt: &R, count: u8) -> Result<(), Fail> {
-    let alloc = rt.alloc();
-    let mut hub = Station::new(rt, alloc, shape(count, 64, 3))?;
-    submit_to_each(rt, &mut hub, count, EAN13)?;
-    submit_to_each(rt, &mut hub, count, EAN8)?;
-    submit_to_each(rt, &mut hub, count, GS1_128)?;
+    let mut hub = with_three_of_each(rt, count)?;
     collects(rt, &mut hub, 2 * u32::from(count))?;
     polls_of_each(rt, &mut hub, count)?;
     let wanted = &[Carrier::Ean8, Carrier::Gs1128];
-    settles(rt, hub.close(alloc)?, count, 1, wanted)
+    settles(rt, hub.close(rt.alloc())?, count, 1, wanted)
 }
 
 #[test]

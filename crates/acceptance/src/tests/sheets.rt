@@ -295,6 +295,29 @@ fn begins_with<R: Abort>(rt: &R, row: &Runs, left: u16, runs: usize) {
     assert_eq!(*rt; row.widths().len(), runs);
 }
 
+/// That of the three rows of a cell the middle one begins with so many light dots and has so many runs, and the others
+/// are light.
+fn has_bars<R: AllocGlobal + Abort>(
+    rt: &R,
+    sheet: &Sheet,
+    grid: &Grid,
+    shape: Shape,
+    cell: u16,
+    begins: (u16, usize),
+) -> Result<(), Fail>
+    requires width { grid.now.width ≡ shape.width }
+    requires height { grid.now.height ≡ shape.height }
+    requires columns { grid.now.columns ≡ shape.columns }
+    requires rows { grid.now.rows ≡ shape.rows }
+{
+    let alloc = rt.alloc();
+    let found = row_of_cell(alloc, sheet, grid, shape, cell, 1)?;
+    begins_with(rt, &found, begins.0, begins.1);
+    is_light(rt, &row_of_cell(alloc, sheet, grid, shape, cell, 0)?);
+    is_light(rt, &row_of_cell(alloc, sheet, grid, shape, cell, 2)?);
+    Ok(())
+}
+
 #[test]
 fn fills_sheets_row_by_row(rt: HostRuntime) -> Result<(), Fail> {
     let alloc = rt.alloc();
@@ -328,10 +351,7 @@ fn fills_sheets_row_by_row(rt: HostRuntime) -> Result<(), Fail> {
     ];
     for &(sheet, cell, left, runs) in cases {
         let sheet = sheets.get(sheet).ok_or("sheet")?;
-        let found = row_of_cell(alloc, sheet, &grid, shape, cell, 1)?;
-        begins_with(&rt, &found, left, runs);
-        is_light(&rt, &row_of_cell(alloc, sheet, &grid, shape, cell, 0)?);
-        is_light(&rt, &row_of_cell(alloc, sheet, &grid, shape, cell, 2)?);
+        has_bars(&rt, sheet, &grid, shape, cell, (left, runs))?;
     }
     Ok(())
 }
@@ -350,16 +370,22 @@ fn shows<R: AllocGlobal + Abort>(rt: &R, sheet: &Sheet, y: u16, dots: &str) -> R
     Ok(())
 }
 
+/// That a sheet has the dots of `IMAGE`.
+fn has_its_dots<R: AllocGlobal + Abort>(rt: &R, sheet: &Sheet) -> Result<(), Fail> {
+    assert_eq!(*rt; (sheet.width(), sheet.height()), (10, 2));
+    shows(rt, sheet, 0, "1010101010")?;
+    shows(rt, sheet, 1, "0101010101")?;
+    let runs = sheet.row(rt.alloc(), 0).ok().ok_or("row")?;
+    assert_eq!(*rt; runs.widths(), [0, 1, 1, 1, 1, 1, 1, 1, 1, 1, 1].as_slice());
+    Ok(())
+}
+
 /// That a file has one sheet, the one of `IMAGE`.
 fn is_image<R: AllocGlobal + Abort>(rt: &R, file: &[u8]) -> Result<(), Fail> {
     let alloc = rt.alloc();
     let sheets = read(alloc, file).ok().ok_or("read")?;
     assert_eq!(*rt; sheets.len(), 1);
-    assert_eq!(*rt; (sheets[0].width(), sheets[0].height()), (10, 2));
-    shows(rt, &sheets[0], 0, "1010101010")?;
-    shows(rt, &sheets[0], 1, "0101010101")?;
-    let runs = sheets[0].row(alloc, 0).ok().ok_or("row")?;
-    assert_eq!(*rt; runs.widths(), [0, 1, 1, 1, 1, 1, 1, 1, 1, 1, 1].as_slice());
+    has_its_dots(rt, &sheets[0])?;
     let bytes = written(alloc, sheets.as_slice())?;
     assert_eq!(*rt; bytes.as_slice(), b"P4\n10 2\n\xAA\x80\x55\x40".as_slice());
     Ok(())
@@ -609,6 +635,21 @@ fn rows_say<R: AllocGlobal + Abort>(
     Ok(())
 }
 
+/// A label of each kind, and a second of element strings.
+fn labels_of_each_kind() -> Result<[Label; 7], Fail> {
+    let number = gtin("9501101530003")?;
+    let suppressed = gtin("012345000065")?;
+    Ok([
+        Label::Ean13(number),
+        Label::UpcA(suppressed),
+        Label::Ean8(gtin("96385074")?),
+        Label::UpcE(suppressed),
+        Label::Gs1128(elements("10AB\x1d17261231", 2026)?),
+        Label::Gs1128(elements("17000229", 2026)?),
+        Label::Itf14(number),
+    ])
+}
+
 #[test]
 fn reads_each_bar_row_as_its_label(rt: HostRuntime) -> Result<(), Fail> {
     let alloc = rt.alloc();
@@ -621,17 +662,7 @@ fn reads_each_bar_row_as_its_label(rt: HostRuntime) -> Result<(), Fail> {
         columns: 3,
         rows: 3,
     };
-    let number = gtin("9501101530003")?;
-    let suppressed = gtin("012345000065")?;
-    let labels = [
-        Label::Ean13(number),
-        Label::UpcA(suppressed),
-        Label::Ean8(gtin("96385074")?),
-        Label::UpcE(suppressed),
-        Label::Gs1128(elements("10AB\x1d17261231", 2026)?),
-        Label::Gs1128(elements("17000229", 2026)?),
-        Label::Itf14(number),
-    ];
+    let labels = labels_of_each_kind()?;
     let sheets = print_sheets(alloc, &labels, grid).ok().ok_or("print")?;
     let sheet = sheets.first().ok_or("sheet")?;
     let cases: &[(u16, &str)] = &[
