@@ -7,12 +7,11 @@ ghost use Rattle.lane_core.specs.ReorderBuffer.{lanes_of};
 
 use digits_core::{Gtin, Sink, ToWriter};
 use element_core::Year;
-use fakes::Holding;
+use fakes::{Holding, Station};
 use hub_core::{Collected, ServeFault, Shape, serve};
 use lane_core::{Deliverer, Delivery, Event, Job, TakeFault, Ticket, World, decode};
 use scan_core::Runs;
 use sheet_core::{Grid, Label, PrintFault, Sheet, SheetFault, print_pbm, print_sheets};
-use station::Station;
 use std::alloc::Global;
 use std::io::{self, Read};
 use std::process::ExitCode;

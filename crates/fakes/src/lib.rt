@@ -1,16 +1,20 @@
-//! For tests: a reader that fails, a writer that takes little, a wire that keeps what it did, and gates that hold rows.
+//! For tests: a reader that fails, a writer that takes little, a wire that keeps what it did, gates that hold rows, and a
+//! hub with all its seats at hand.
 #![tactic(auto)]
 
 mod breaking;
 mod holding;
+mod lane_gate;
 mod meeting;
 mod narrow;
 mod recorded;
+mod seats;
 mod waiting;
 
 pub use breaking::Breaking;
 pub use holding::Holding;
+pub use lane_gate::LaneGate;
 pub use meeting::Meeting;
 pub use narrow::Narrow;
 pub use recorded::{Happened, Recorded};
-pub use waiting::{TURN_LIMIT, reaches};
+pub use seats::{Closed, Station, StationFault, is_answer};

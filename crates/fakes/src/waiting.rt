@@ -4,10 +4,10 @@ use std::sync::atomic::{AtomicU64, Ordering};
 use std::thread;
 
 /// How often a thread looks whether it may go on.
-pub const TURN_LIMIT: u64 = 50_000_000;
+pub(crate) const TURN_LIMIT: u64 = 50_000_000;
 
 /// Waits until a counter is that high. Whether it was, before the limit of turns.
-pub fn reaches(counter: &AtomicU64, wanted: u64) -> bool {
+pub(crate) fn reaches(counter: &AtomicU64, wanted: u64) -> bool {
     for _ in 0..TURN_LIMIT {
         if counter.load(Ordering::SeqCst) >= wanted {
             return true;

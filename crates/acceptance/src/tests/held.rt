@@ -3,7 +3,7 @@
 use crate::tests::rows::{EAN8, EAN13, row};
 use hub_core::Shape;
 use scan_core::Carrier;
-use station::{Closed, LaneGate, Station, is_answer};
+use fakes::{Closed, LaneGate, Station, is_answer};
 use std::process::Abort;
 use std::sync::Wait;
 use std::test::Fail;

@@ -5,7 +5,7 @@ use element_core::Year;
 use hub_core::{Collected, Handed, Hub, HubFault, Shape, SubmitFault, Worked};
 use lane_core::{Delivery, Ticket};
 use scan_core::{Carrier, Runs};
-use station::{Closed, Station, is_answer};
+use fakes::{Closed, Station, is_answer};
 use std::process::Abort;
 use std::sync::Wait;
 use std::test::Fail;

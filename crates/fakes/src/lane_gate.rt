@@ -3,7 +3,7 @@ ghost use Rattle.std.specs.Prelude.{◌≡◌};
 ghost use Rattle.hub_core.specs.Hubs.{IsDelivererOf, IsLaneOf};
 ghost use Rattle.hub_core.specs.Lanes.{lane_of};
 
-use fakes::{TURN_LIMIT, reaches};
+use crate::waiting::{TURN_LIMIT, reaches};
 use hub_core::{DelivererSeat, Gate, Hub, LaneSeat};
 use lane_core::{Delivery, Ticket};
 use std::sync::Wait;

@@ -2,8 +2,8 @@ use Rattle.std.proofs.Common.{◌<◌, length, subst, sym, ap, ◌∙◌, arith}
 use Rattle.std.proofs.lemmas.List.{length-set}
 use Rattle.hub_core.specs.Hubs.{IsLaneOf}
 use Rattle.hub_core.specs.Lanes.{lane_of}
-use Rattle.station.proofs.StationFacts.{lane_used}
-use Rattle.station.proofs.seats.Station.poll.Goals as goal
+use Rattle.fakes.proofs.StationFacts.{lane_used}
+use Rattle.fakes.proofs.seats.Station.poll.Goals as goal
 
 pub invariant_of-self : goal.invariant_of-self
 invariant_of-self c =

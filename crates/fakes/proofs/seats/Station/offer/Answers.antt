@@ -1,8 +1,8 @@
 use Rattle.std.proofs.lemmas.List.{length-set}
 use Rattle.std.proofs.Common.{ap, ◌∙◌}
 use Rattle.hub_core.specs.Lanes.{lane_of}
-use Rattle.station.proofs.StationFacts.{lane_used}
-use Rattle.station.proofs.seats.Station.offer.Goals as goal
+use Rattle.fakes.proofs.StationFacts.{lane_used}
+use Rattle.fakes.proofs.seats.Station.offer.Goals as goal
 
 pub invariant_of-self-2 : goal.invariant_of-self-2
 invariant_of-self-2 g c =

@@ -1,6 +1,6 @@
 use Rattle.std.proofs.Common.{◌∙◌, sym, ap}
 use Rattle.hub_core.proofs.ServeFacts.{lanes_counted}
-use Rattle.station.proofs.seats.Station.new.Goals as goal
+use Rattle.fakes.proofs.seats.Station.new.Goals as goal
 
 pub invariant_of-result : goal.invariant_of-result
 invariant_of-result g c = record {

@@ -53,6 +53,13 @@ pub fn is_answer(found: Option<&Delivery>, lane: u8, number: u32, wanted: Carrie
     }
 }
 
+/// Why a row comes back, and how many runs it has.
+fn told(alloc: Global, fault: SubmitFault) -> Result<String, AllocError> {
+    let text = format!(in alloc; "{fault}")?;
+    let (SubmitFault::Spent(row) | SubmitFault::Full(row)) = fault;
+    format!(in alloc; "{text} {}", row.widths().len())
+}
+
 /// Closes each lane, in their order.
 fn close_all(alloc: Global, lanes: Vec<LaneSeat>) -> Result<Vec<ClosedLane>, StationFault>
     ensures { IfOk result (λ v. v.items ≡ lanes.items) }
@@ -112,11 +119,7 @@ impl Station {
     ) -> Result<String, StationFault> {
         match self.offer(rt, lane, row)? {
             Ok(Ticket { lane, number }) => Ok(format!(in alloc; "{lane}/{number}")?),
-            Err(fault) => {
-                let text = format!(in alloc; "{fault}")?;
-                let (SubmitFault::Spent(row) | SubmitFault::Full(row)) = fault;
-                Ok(format!(in alloc; "{text} {}", row.widths().len())?)
-            }
+            Err(fault) => Ok(told(alloc, fault)?),
         }
     }
 
@@ -264,30 +267,44 @@ impl Closed {
         self
     }
 
-    /// The lists that settling gives; where memory was refused, those that settling again gives.
-    pub fn settle<R: Wait>(
-        self,
-        rt: &R,
-        alloc: Global,
-    ) -> Result<Vec<Vec<Delivery>>, StationFault> {
+    /// The lists that settling gives, or where memory was refused all as it was.
+    fn settle_once<R: Wait>(self, rt: &R, alloc: Global) -> Result<Vec<Vec<Delivery>>, Closed> {
         let Closed {
             hub,
             lanes,
             workers,
             deliverer,
         } = self;
-        let Unsettled {
-            hub,
-            lanes,
-            workers,
-            deliverer,
-        } = match hub.settle(rt, alloc, lanes, workers, deliverer) {
-            Ok(lists) => return Ok(lists),
-            Err(unsettled) => unsettled,
-        };
         match hub.settle(rt, alloc, lanes, workers, deliverer) {
             Ok(lists) => Ok(lists),
-            Err(_) => Err(StationFault::Refused),
+            Err(
+                Unsettled {
+                    hub,
+                    lanes,
+                    workers,
+                    deliverer,
+                },
+            ) => Err(Closed {
+                hub,
+                lanes,
+                workers,
+                deliverer,
+            }),
+        }
+    }
+
+    /// The lists that settling gives; where memory was refused, those that settling again gives.
+    pub fn settle<R: Wait>(
+        self,
+        rt: &R,
+        alloc: Global,
+    ) -> Result<Vec<Vec<Delivery>>, StationFault> {
+        match self.settle_once(rt, alloc) {
+            Ok(lists) => Ok(lists),
+            Err(again) => match again.settle_once(rt, alloc) {
+                Ok(lists) => Ok(lists),
+                Err(_) => Err(StationFault::Refused),
+            },
         }
     }
 }

@@ -1,7 +1,7 @@
 use Rattle.std.proofs.Common.{reverse, subst, sym}
 use Rattle.hub_core.specs.Hubs.{AreAllSeats}
-use Rattle.station.proofs.StationFacts.{seats_turned}
-use Rattle.station.proofs.seats.Closed.turned.Goals as goal
+use Rattle.fakes.proofs.StationFacts.{seats_turned}
+use Rattle.fakes.proofs.seats.Closed.turned.Goals as goal
 
 pub invariant_of-self : goal.invariant_of-self
 invariant_of-self c =

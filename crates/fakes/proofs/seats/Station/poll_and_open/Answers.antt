@@ -1,6 +1,6 @@
 use Rattle.std.proofs.Common.{arith}
-use Rattle.station.proofs.StationFacts.{count_kept, seats_kept}
-use Rattle.station.proofs.seats.Station.poll_and_open.Goals as goal
+use Rattle.fakes.proofs.StationFacts.{count_kept, seats_kept}
+use Rattle.fakes.proofs.seats.Station.poll_and_open.Goals as goal
 
 pub invariant_of-station : goal.invariant_of-station
 invariant_of-station g c =

@@ -3,7 +3,7 @@ use Rattle.std.proofs.Math.Seq.{map-set_same}
 use Rattle.std.proofs.lemmas.List.Elements.{All-set}
 use Rattle.hub_core.specs.Hubs.{IsLaneOf}
 use Rattle.hub_core.specs.Lanes.{lane_of}
-use Rattle.station.proofs.seats.fn.Station.poll_and_open.task.Goals as goal
+use Rattle.fakes.proofs.seats.fn.Station.poll_and_open.task.Goals as goal
 
 pub returns : goal.returns
 returns g c =
