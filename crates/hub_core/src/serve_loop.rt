@@ -43,7 +43,7 @@ const AFTER_A_SLEEP: u32 = 64;
 const ROWS_A_WORKER: u32 = 16;
 
 /// What a turn leaves to do.
-#[derive(Clone, Copy, Debug, PartialEq, Eq)]
+#[derive(Clone, Copy)]
 enum Turn {
     /// The next turn.
     GoesOn,
@@ -54,7 +54,7 @@ enum Turn {
 }
 
 /// What became of a row to be submitted.
-#[derive(Clone, Copy, Debug, PartialEq, Eq)]
+#[derive(Clone, Copy, PartialEq)]
 enum Submitted {
     /// There was none.
     Nothing,
