@@ -1,5 +1,5 @@
 -- Rows that are left of each lane, one of which was given.
-use Rattle.std.proofs.Common.{◌≡◌, ℕ, ◌<◌, ◌==◌, ◌++◌, ◌&&◌, IfSome, Option, Some, None, option_to_list, leb, true, zero, suc, List, [], ◌∷◌, get_or, length, length-append, map, replicate, set, refl, sym, ap, ◌∙◌, arith, append-nil, append_assoc}
+use Rattle.std.proofs.Common.{◌≡◌, ℕ, ◌<◌, ◌==◌, ◌++◌, ◌&&◌, IfSome, IsSome, Option, Some, None, is_some, option_to_list, leb, true, zero, suc, List, [], ◌∷◌, get_or, length, length-append, map, replicate, set, refl, sym, ap, ◌∙◌, arith, append-nil, append_assoc}
 use Rattle.std.proofs.lemmas.Bool.{and_parts, both_ways, leb-true, ne_eqb}
 use Rattle.std.specs.List.{list_all}
 use Rattle.std.proofs.lemmas.List.{get_or-map, length-map, length-replicate, length-set, map-append, map-set, replicate-append-replicate}
@@ -48,6 +48,16 @@ pub untaken : {V : Type 0} (f : V → List (List ℕ)) (vs : List V) (i : ℕ) (
     → o ≡ None → map f (set vs i w) ≡ map f vs
 untaken f vs i v w o at next none = map-set_same f vs i w v (sym (next ∙ ap (λ r. option_to_list r ++ f w) none) ∙ ap f at)
 
+-- nothing is left where no row was there to be taken
+pub no_more : (o : Option (List ℕ)) (n : ℕ) (rows : List (List ℕ)) → (0 < n → IsSome o) → n ≡ length rows → o ≡ None → rows ≡ []
+no_more o n [] some long none = refl
+no_more o n (row ∷ rows) some long none = absurd (both_ways (is_some o) (ap is_some none) (some (omega (arith, long))))
+
+pub left_none : {V : Type 0} (f : V → List (List ℕ)) (vs : List V) (i lane : ℕ) (v : V) → i ≡ lane → lane < length (map f vs) → v ≡ get_or vs i v → f v ≡ []
+    → get_or (map f vs) lane [] ≡ []
+left_none f vs i lane v is low at none =
+    ap (λ k. get_or (map f vs) k []) (sym is) ∙ (get_or-map f vs i v [] (omega (arith, low, is, length-map vs f)) ∙ (ap f (sym at) ∙ none))
+
 pub given_by : {V : Type 0} (f : V → List (List ℕ)) (n : V → ℕ) (vs : List V) → ((v : V) → length (f v) ≡ n v)
     → list_all (λ v. n v == 0) vs ≡ are_given (map f vs)
 given_by f n [] same = refl
@@ -87,6 +97,12 @@ list_more {V} {X} f vs i lane v w x brought is low at more all =
     ∙ (ap (λ k. get_or (map f vs) k []) (sym is) ∙ (get_or-map f vs i v [] (omega (arith, low, is, long)) ∙ ap f (sym at))) in
     map-set f vs i w ∙ (ap (λ xss. set xss i (f w)) all ∙ (ap (λ k. set brought k (f w)) is
     ∙ ap (set brought lane) (more ∙ ap (λ (xs : List X). xs ++ x ∷ []) (sym here))))
+
+-- what is left of one more feed
+pub rests_more : {V W : Type 0} (f : V → List (List ℕ)) (g : W → List (List ℕ)) (old new : List V) (v : V) (feeds : List W) (feed : W) → new ≡ old ++ v ∷ []
+    → f v ≡ g feed → map f old ≡ map g feeds → map f new ≡ map g (feeds ++ feed ∷ [])
+rests_more f g old new v feeds feed is one all =
+    ap (map f) is ∙ (map-append f old (v ∷ []) ∙ ((λ i. all i ++ one i ∷ []) ∙ sym (map-append g feeds (feed ∷ []))))
 
 -- one more empty list
 pub empty_more : {V X : Type 0} (f : V → List X) (old new : List V) (v : V) (n k : ℕ) → new ≡ old ++ v ∷ [] → f v ≡ [] → map f old ≡ replicate n [] → k ≡ suc n

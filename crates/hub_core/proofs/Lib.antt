@@ -26,3 +26,4 @@ pub mod SortFacts
 pub mod TrafficFacts
 pub mod UnpolledFacts
 pub mod WeightFacts
+pub mod WorkFacts

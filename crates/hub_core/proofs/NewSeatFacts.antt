@@ -29,6 +29,9 @@ paired_more rings ss r s paired at pair =
     (λ k d less. let p = paired k d less in (omega arith, λ t e. p.1 t (get_below rings r t _ p.0 e)))
     (omega arith, λ t e. subst (λ (u : PushEnd). IsPair u s.ring) (get_last rings r t (ap (slice_get (rings ++ r ∷ [])) (sym at) ∙ e)) pair)
 
+pub count_more : {X : Type 0} (xs ys : List X) (x : X) (n : ℕ) → ys ≡ xs ++ x ∷ [] → length xs ≡ n → length ys ≡ n + 1
+count_more xs ys x n is count = ap length is ∙ omega (arith, count, length-append xs (x ∷ []))
+
 -- one share less
 pub cut_more : (b v : Trace) (i : ℕ) → v ≡ trace (b.shares - i) b.pushed b.popped → trace (v.shares - 1) v.pushed v.popped
     ≡ trace (b.shares - (i + 1)) b.pushed b.popped

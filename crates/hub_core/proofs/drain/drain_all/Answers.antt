@@ -18,6 +18,11 @@ place_rings-requires-clause-rings g c =
     all_paired c.args.hub.now c.args.deliverer.rings.items c.args.lanes.items c.requires.deliverer.rings
     (all_rings c.args.hub.now c.args.deliverer c.requires.deliverer) c.requires.lanes
 
+pub place_queue-requires : goal.place_queue-requires
+place_queue-requires g c =
+    let a = ap (λ (v : Trace). v.shares) c.place_hands.ensures.results in
+    (c.place_hands.ensures.same.1, (let f = c.requires.deliverer.shares_of_results in let k = c.requires.each_worker in omega arith))
+
 pub place_queue-requires-2 : goal.place_queue-requires-2
 place_queue-requires-2 g c =
     let a = ap (λ (v : Trace). v.shares) c.place_rings.ensures.jobs in

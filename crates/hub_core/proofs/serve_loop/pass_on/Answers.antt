@@ -13,3 +13,15 @@ hand-requires g c =
       inv.deliverer.lanes,
       c.from-index.ensures,
     )
+
+pub loop-i-preserved : goal.loop-i-preserved
+loop-i-preserved g c =
+    let inv = c.loop-i.invariant in
+    let came = c.in_ok-bring_next.ensures.came in
+    record {
+      serves = c.bring_next.ensures.serves;
+      some = (inv.some.0, came inv.some.0 inv.some.1);
+      came = λ start was. came start (inv.came start was);
+      deliverer = c.hand.ensures.of_hub c.args.hub.now inv.deliverer;
+      low = omega (arith, inv.low, c.bring_next.ensures.count);
+    }

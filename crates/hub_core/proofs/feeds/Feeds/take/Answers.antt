@@ -9,3 +9,9 @@ returns-in-None-clause-left c = λ none few.
     let long = ap length same in
     all_left (rests_of c.args.self.now) (λ l low. subst (λ rests. get_or rests l [] ≡ []) same
     (c.take_from-in-None.ensures.left none l (omega arith) (omega (arith, few, low)) (omega (arith, low, long))))
+
+pub returns-in-Some-clause-some : goal.returns-in-Some-clause-some
+returns-in-Some-clause-some c = c.in-Some.ensures.some
+
+pub returns-in-Some-clause-given : goal.returns-in-Some-clause-given
+returns-in-Some-clause-given c = c.in-Some.ensures.given

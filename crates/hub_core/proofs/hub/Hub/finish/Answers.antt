@@ -10,6 +10,9 @@ use Rattle.hub_core.proofs.LaneViewFacts.{polled_first}
 use Rattle.hub_core.proofs.SeatFacts.{all_at, whole_from}
 use Rattle.hub_core.proofs.hub.Hub.finish.Goals as goal
 
+pub drain_all-requires : goal.drain_all-requires
+drain_all-requires g c = c.requires
+
 pub returns : goal.returns
 returns g c =
     let ls = c.args.lanes.items in

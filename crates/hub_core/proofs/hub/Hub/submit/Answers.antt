@@ -1,4 +1,4 @@
-use Rattle.std.proofs.Common.{rules, ◌∷◌, [], ◌∙◌, ap, arith, length, length-append, map, refl, sym}
+use Rattle.std.proofs.Common.{rules, ◌∷◌, ◌++◌, [], ◌∙◌, ap, arith, length, length-append, map, refl, sym}
 use Rattle.std.proofs.lemmas.List.{length-map, map-append}
 use Rattle.crossbeam_queue.specs.Passes.{view}
 use Rattle.lane_core.specs.Issuing.{ticket_of}
@@ -61,3 +61,15 @@ returns-in-Ok-clause-ticket g c =
 pub returns-in-Err-clause-seen : goal.returns-in-Err-clause-seen
 unfolding as_lane
 returns-in-Err-clause-seen g c = search rules
+
+pub returns-then-seat-self-clause-submits : goal.returns-then-seat-self-clause-submits
+returns-then-seat-self-clause-submits g c = (omega (arith, c.if-seat-self.true, c.args.seat.now.counted, c.requires.limit), refl, refl)
+
+pub returns-in-Ok-clause-submits : goal.returns-in-Ok-clause-submits
+returns-in-Ok-clause-submits g c =
+    let s = c.args.seat.now in
+    let put = ap (λ (t : Trace). t.pushed) c.in-Ok.ensures.rule in (
+      omega (arith, c.if-seat-self.false, s.counted),
+      ap (ticket_of s.lane) s.counted,
+      put ∙ ap (λ n. (view s.pass).pushed ++ plain_of s.lane n c.args.self.now.year c.args.row ∷ []) s.counted,
+    )
