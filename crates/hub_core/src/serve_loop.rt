@@ -235,6 +235,34 @@ fn wait_for_more<T: Traffic>(
     traffic.wait()
 }
 
+/// What a turn leaves to do in which this was collected and submitted. Where there was nothing to do it waits for
+/// a delivery.
+fn end_turn<R: Wait>(
+    rt: &R,
+    seats: &[LaneSeat],
+    collected: CollectedByLane,
+    submitted: Submitted,
+    pace: &mut Pace<'_>,
+    seen: u64,
+) -> Turn
+    ensures { result ≡ Turn.Even → AreEven seats.now × (submitted ≡ Submitted.Nothing) }
+{
+    match collected {
+        CollectedByLane::Taken(_) => Turn::GoesOn,
+        CollectedByLane::NoMemory => Turn::NoMemory,
+        CollectedByLane::Nothing => {
+            if submitted == Submitted::Row {
+                return Turn::GoesOn;
+            }
+            if submitted == Submitted::Nothing && are_even(seats) {
+                return Turn::Even;
+            }
+            pace.wait(rt, seen);
+            Turn::GoesOn
+        }
+    }
+}
+
 /// Collects, submits, and where there is nothing to do waits for a delivery.
 fn take_turn<R: Wait, T: Traffic>(
     rt: &R,
@@ -261,20 +289,8 @@ fn take_turn<R: Wait, T: Traffic>(
     }
     let submitted = submit_some(rt, hub, traffic, seats, held, pace);
     pace.tell_of_rows(submitted == Submitted::Row);
-    match collected {
-        CollectedByLane::Taken(_) => Ok(Turn::GoesOn),
-        CollectedByLane::NoMemory => Ok(Turn::NoMemory),
-        CollectedByLane::Nothing => {
-            if submitted == Submitted::Row {
-                return Ok(Turn::GoesOn);
-            }
-            if submitted == Submitted::Nothing && are_even(seats.as_slice()) {
-                return Ok(Turn::Even);
-            }
-            pace.wait(rt, seen);
-            Ok(Turn::GoesOn)
-        }
-    }
+    let left = end_turn(rt, seats.as_slice(), collected, submitted, pace, seen);
+    Ok(left)
 }
 
 /// Submits, collects, hands and brings in turn, until the traffic ends.
