@@ -2,7 +2,7 @@ use Rattle.std.proofs.Common.{◌<◌, Some, arith, map, set, length}
 use Rattle.std.proofs.lemmas.List.{length-map}
 use Rattle.hub_core.specs.Lanes.{polled, submitted_rows}
 use Rattle.hub_core.specs.Traffics.{HasRoom}
-use Rattle.hub_core.proofs.TrafficFacts.{came_full, came_more, if_none, room_same, step_serves}
+use Rattle.hub_core.proofs.TrafficFacts.{came_full, came_more, if_none, room_same, seat_at, step_serves}
 use Rattle.hub_core.proofs.serve_loop.submit_next.Goals as goal
 
 pub returns-in-Ok-clause-serves : goal.returns-in-Ok-clause-serves
@@ -40,3 +40,16 @@ returns-in-Err-Full-clause-came g c = λ start was.
     c.in-Err-Full.row
     c.index_mut.ensures.value full.2 c.submit.ensures.lane c.submit.ensures.received full.1
     (c.in-Some.ensures.came start (map submitted_rows seats) (map polled seats) was)
+
+pub submit-requires : goal.submit-requires
+submit-requires g c =
+    let seats = c.args.seats.now.items in
+    let room = c.in-Some.ensures.room c.requires.1.0 (map submitted_rows seats) (map polled seats) c.requires.1.1 c.requires.0.room in
+    seat_at c.args.hub.now seats c.args.held.now c.from-index.result c.index_mut.result.now c.requires.0
+    (omega (arith, room.0, c.from-index.ensures, length-map seats submitted_rows)) c.index_mut.ensures.value
+
+pub index_mut-requires : goal.index_mut-requires
+index_mut-requires g c =
+    let seats = c.args.seats.now.items in
+    let room = c.in-Some.ensures.room c.requires.1.0 (map submitted_rows seats) (map polled seats) c.requires.1.1 c.requires.0.room in
+    omega (arith, room.0, c.from-index.ensures, length-map seats submitted_rows, c.args.seats.now.ok.0)

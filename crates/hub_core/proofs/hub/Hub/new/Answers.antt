@@ -67,3 +67,16 @@ returns-clause-unused g c =
 pub returns-clause-seen : goal.returns-clause-seen
 returns-clause-seen g c = fresh_lanes c.in_ok-lanes.lanes.items (λ k d less. (c.in_ok-lanes.ensures.seats k d less).1)
     ∙ ap (map new_lane) c.in_ok-lanes.ensures.lanes
+
+pub returns-clause-capacity : goal.returns-clause-capacity
+returns-clause-capacity g c = record {
+  jobs = c.in_ok-jobs.ensures.0 ∙ c.from-capacity.ensures;
+  results = c.in_ok-results.ensures.0 ∙ c.from-capacity.ensures;
+  rings = λ k d less. (c.in_ok-lanes.ensures.rings.1 k d less).1 ∙ c.from-capacity.ensures;
+}
+
+pub returns-clause-lanes : goal.returns-clause-lanes
+returns-clause-lanes g c = c.in_ok-lanes.ensures.lanes
+
+pub returns-clause-shape : goal.returns-clause-shape
+returns-clause-shape g c = (refl, refl)
