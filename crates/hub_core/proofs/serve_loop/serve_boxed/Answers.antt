@@ -48,3 +48,6 @@ returns-clause-served g c =
           let all = all_served hub seats (subst (λ o. Serves hub seats o) end.2 done.1) first end.1 in
           (end.0, subst (λ o. polled_by_each seats ≡ served c.args.year (given_to seats o)) (sym end.2) (all ∙ ap (λ y. served y (given_to seats None)) year)),
     )
+
+pub returns-in-Err-clause-untouched : goal.returns-in-Err-clause-untouched
+returns-in-Err-clause-untouched g c = c.new-in-Err.ensures.input
