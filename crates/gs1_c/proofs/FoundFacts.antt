@@ -1,5 +1,5 @@
 -- Lines that are put one after the other, as long as there is room.
-use Rattle.std.proofs.Common.{◌≡◌, ◌∙◌, ◌⊎◌, ℕ, ◌+◌, ◌-◌, ◌*◌, ◌<◌, ◌≤◌, List, [], ◌∷◌, ◌++◌, ap, append_assoc, arith, inl, inr, length, length-append, refl, sym}
+use Rattle.std.proofs.Common.{◌≡◌, ◌∙◌, ◌⊎◌, ℕ, ◌+◌, ◌-◌, ◌*◌, ◌<◌, ◌≤◌, List, [], ◌∷◌, ◌++◌, ap, ap₂, append_assoc, arith, inl, inr, length, length-append, refl, sym}
 use Rattle.std.specs.Prelude.{flat_map}
 use Rattle.std.proofs.Math.Nat.{mul-le-mul_right}
 use Rattle.std.proofs.lemmas.Bool.{cases_lt, le-leb, lt-leb}
@@ -36,6 +36,18 @@ line_parts f c i h =
     ∙ ap (λ (t : List ℕ). f ++ (32 ∷ t)) (append_assoc c one (i ++ behind))
     ∙ ap (λ (t : List ℕ). f ++ ((32 ∷ c) ++ (32 ∷ t))) (sym (append_assoc i (32 ∷ h) (10 ∷ [])))
     ∙ sym (append_assoc f (32 ∷ c) (said ++ 10 ∷ [])) ∙ sym (append_assoc (f ++ (32 ∷ c)) said (10 ∷ []))
+
+-- the line of a symbol whose parts are pushed one after the other
+pub six_pushed : (f c i h none one two three four five six name said : List ℕ) → none ≡ [] → one ≡ none ++ (f ++ 32 ∷ []) → two ≡ one ++ (c ++ 32 ∷ [])
+    → three ≡ two ++ name → four ≡ three ++ (32 ∷ []) → five ≡ four ++ said → six ≡ five ++ (10 ∷ []) → name ≡ i → said ≡ h
+    → six ≡ ((f ++ (32 ∷ c)) ++ (32 ∷ (i ++ (32 ∷ h)))) ++ (10 ∷ [])
+six_pushed f c i h none one two three four five six name said e0 e1 e2 e3 e4 e5 e6 named told =
+    let to_one = e1 ∙ ap (λ (t : List ℕ). t ++ (f ++ 32 ∷ [])) e0 in
+    let to_two = e2 ∙ ap (λ (t : List ℕ). t ++ (c ++ 32 ∷ [])) to_one in
+    let to_three = e3 ∙ ap₂ (λ (t u : List ℕ). t ++ u) to_two named in
+    let to_four = e4 ∙ ap (λ (t : List ℕ). t ++ 32 ∷ []) to_three in
+    let to_five = e5 ∙ ap₂ (λ (t u : List ℕ). t ++ u) to_four told in
+    e6 ∙ ap (λ (t : List ℕ). t ++ 10 ∷ []) to_five ∙ line_parts f c i h
 
 -- the bytes of all lines
 abbrev pub all_of : List (List ℕ) → List ℕ

@@ -1,4 +1,5 @@
 mod DateFacts
 mod FoundFacts
+mod LineFacts
 mod PutFacts
 mod ToldFacts

@@ -19,3 +19,14 @@ returns-then-count-out c =
           rw (c.copy_from_slice.ensures.after) (ap (λ o. slice_set (word ++ drop (length word) o) (length word) 32) put ∙ word_before word line out room);
       unchanged = λ short. absurd (omega (arith, count, size, c.if-count-out.true, c.put_pairs.auto.out, short));
     }
+
+pub returns-else-count-out : goal.returns-else-count-out
+returns-else-count-out c =
+    let size = c.put_pairs.ensures.count in
+    let count = length-append c.args.word.now (32 ∷ pairs_text c.args.elements.now.list) in
+    let short = c.if-count-out.false in
+    record {
+      counted = omega (arith, count, size);
+      front = λ fits. absurd (omega (arith, count, size, short, c.put_pairs.auto.out, fits));
+      unchanged = λ _. c.put_pairs.ensures.unchanged (omega (arith, short, c.put_pairs.auto.out));
+    }

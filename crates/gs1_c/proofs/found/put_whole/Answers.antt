@@ -7,6 +7,32 @@ use Rattle.scan_core.specs.Lines.{identifier}
 use Rattle.gs1_c.proofs.FoundFacts.{length-identifier, line_parts}
 use Rattle.gs1_c.proofs.found.put_whole.Goals as goal
 
+pub returns-clause-end : goal.returns-clause-end
+returns-clause-end c =
+    let w = c.args.window.now in
+    let f : List ℕ = decimal w.first ++ 32 ∷ [] in
+    let n : List ℕ = decimal w.count ++ 32 ∷ [] in
+    let i : List ℕ = identifier w.carrier in
+    let h : List ℕ = hri w.elements.list in
+    let parts = ap length (line_parts (decimal w.first) (decimal w.count) i h) in
+    let name = ap length (c.as_bytes.ensures.value ∙ c.identifier.ensures) in
+    omega (
+      arith,
+      parts,
+      name,
+      length-append f n,
+      length-append (f ++ n) i,
+      length-append ((f ++ n) ++ i) (32 ∷ []),
+      length-append (((f ++ n) ++ i) ++ 32 ∷ []) h,
+      length-append ((((f ++ n) ++ i) ++ 32 ∷ []) ++ h) (10 ∷ []),
+      c.put_number-count.ensures.end,
+      c.put_number-carrier.ensures.end,
+      c.put_at-space.ensures.end,
+      c.put_at-said.ensures.end,
+      c.put_hri.ensures.count,
+      c.put_at.ensures.end,
+    )
+
 pub returns-clause-put : goal.returns-clause-put
 returns-clause-put c =
     let w = c.args.window.now in
