@@ -153,7 +153,10 @@ pub fn put_dot_symbols(bits: &[u8], count: u32, year: Year, out: &mut [u8]) -> u
 {
     symbols_are_told();
     match dots_in(bits, count) {
-        Ok(dots) => put_told(&mut DotSymbols::of_dots(bits, dots, year), out),
+        Ok(dots) => {
+            let mut search = DotSymbols::of_dots(bits, dots, year);
+            put_told(&mut search, out)
+        }
         Err(fault) => put_refusal(fault.refusal(), out),
     }
 }

@@ -9,8 +9,8 @@ pub returns-in-Ok : goal.returns-in-Ok
 returns-in-Ok c =
     let bits = c.args.bits.now in
     let dots = c.in-Ok.ensures.ok in
-    let search = c.of_dots.ensures in
-    let runs = c.of_dots.result.runs in
+    let search = c.of_dots-search.ensures in
+    let runs = c.of_dots-search.result.runs in
     let put = c.put_told.ensures in
     let told = subst (λ (s : Search). AreTold s put.0) search.all put.1 in
     let symbols = c.symbols_are_told.ensures runs c.args.year put.0 search.row told in
