@@ -23,23 +23,23 @@ const FRAMED: &[u16] = &[
 const DOTS: &[u8] = b"\x00\x15\x8A\x76\x66\x53\x99\x54\xE8\x5C\xB9\x72\x85\x40\x00";
 
 // The header of an image of 160 by 3 dots and its first row, which is light.
-const LIGHT: &[u8; 29] = b"P4\n160 3\n\0\0\0\0\0\0\0\0\0\0\0\0\0\0\0\0\0\0\0\0";
+const LIGHT: &[u8] = b"P4\n160 3\n\0\0\0\0\0\0\0\0\0\0\0\0\0\0\0\0\0\0\0\0";
 
 /// A call and what it is asked.
 #[derive(Clone, Copy)]
-enum Asked<'a> {
-    Gtin(&'a [u8]),
-    Digit(&'a [u8]),
-    Text(&'a [u8], u16),
-    TextElements(&'a [u8], u16),
-    Row(&'a [u16], u16),
-    RowElements(&'a [u16], u16),
-    Find(&'a [u16], u16),
-    Dots(&'a [u8], u32, u16),
-    DotsElements(&'a [u8], u32, u16),
-    Scan(&'a [u8], u16),
-    Date(&'a [u8], u16),
-    Label(u32, &'a [u8], u16, u16),
+enum Asked {
+    Gtin(&'static [u8]),
+    Digit(&'static [u8]),
+    Text(&'static [u8], u16),
+    TextElements(&'static [u8], u16),
+    Row(&'static [u16], u16),
+    RowElements(&'static [u16], u16),
+    Find(&'static [u16], u16),
+    Dots(&'static [u8], u32, u16),
+    DotsElements(&'static [u8], u32, u16),
+    Scan(&'static [u8], u16),
+    Date(&'static [u8], u16),
+    Label(u32, &'static [u8], u16, u16),
 }
 
 /// What the call answers; a label in a cell of three rows, at one dot a module.
@@ -60,180 +60,193 @@ fn answer(asked: Asked, out: &mut [u8]) -> usize {
     }
 }
 
+/// Asserts that these bytes are put.
+fn puts<R: Abort>(rt: &R, put: Option<&[u8]>, wanted: &[u8]) {
+    assert_eq!(*rt; put, Some(wanted));
+}
+
+/// What each call is asked, and its line.
+const CASES: &[(Asked, &[u8])] = &[
+    (Asked::Gtin(b"9501101530003"), b"gtin 09501101530003"),
+    (Asked::Gtin(b"950110153000X"), b"refused 2 NotDigit 12"),
+    (Asked::Digit(b"950110153000"), b"digit 3"),
+    (Asked::Digit(b""), b"refused 1 Length"),
+    (
+        Asked::Text(b"10AB\x1D17261231", 2026),
+        b"hri (10)AB(17)261231",
+    ),
+    (
+        Asked::Text(b"10AB\x1D17261301", 2026),
+        b"refused 9 ValueDate 5",
+    ),
+    (Asked::Text(b"10AB", 1950), b"refused 42 Words"),
+    (
+        Asked::TextElements(b"10A\x1D17261231", 2026),
+        b"data 10=A\t17=261231",
+    ),
+    (
+        Asked::TextElements(b"10A(17)261231", 2026),
+        b"data 10=A(17)261231",
+    ),
+    (Asked::TextElements(b"10AB", 1950), b"refused 42 Words"),
+    (Asked::Row(WIDTHS, 2026), b"]E0 (01)09501101530003"),
+    (Asked::RowElements(WIDTHS, 2026), b"]E0 01=09501101530003"),
+    (Asked::RowElements(&[113], 2026), b"refused 19 Blank"),
+    (Asked::Row(&[113], 2026), b"refused 19 Blank"),
+    (Asked::Row(&[1, 0, 1], 2026), b"refused 18 BadRuns"),
+    (Asked::Row(WIDTHS, 2150), b"refused 42 Words"),
+    (Asked::Row(FRAMED, 2026), b"refused 20 RunCount"),
+    (Asked::Find(WIDTHS, 2026), b"0 61 ]E0 (01)09501101530003\n"),
+    (Asked::Find(FRAMED, 2026), b"2 61 ]E0 (01)09501101530003\n"),
+    (Asked::Find(&[113], 2026), b""),
+    (Asked::Find(&[1, 0, 1], 2026), b"refused 18 BadRuns"),
+    (Asked::Find(WIDTHS, 2150), b"refused 42 Words"),
+    (Asked::Dots(DOTS, 113, 2026), b"]E0 (01)09501101530003"),
+    (Asked::Dots(DOTS, 121, 2026), b"refused 18 BadRuns"),
+    (Asked::Dots(&[0; 8192], 65_536, 2026), b"refused 17 TooWide"),
+    (Asked::Dots(DOTS, 113, 2150), b"refused 42 Words"),
+    (
+        Asked::DotsElements(DOTS, 113, 2026),
+        b"]E0 01=09501101530003",
+    ),
+    (Asked::DotsElements(DOTS, 121, 2026), b"refused 18 BadRuns"),
+    (Asked::DotsElements(DOTS, 113, 2150), b"refused 42 Words"),
+    (
+        Asked::Scan(b"]E09501101530003", 2026),
+        b"]E0 01=09501101530003",
+    ),
+    (Asked::Scan(b"]E496385074", 2026), b"]E4 01=00000096385074"),
+    (
+        Asked::Scan(b"]I109501101530003", 2026),
+        b"]I1 01=09501101530003",
+    ),
+    (
+        Asked::Scan(b"]E09501101530004", 2026),
+        b"refused 3 CheckDigit",
+    ),
+    (
+        Asked::Scan(b"]C110A(17)261231", 2026),
+        b"]C1 10=A(17)261231",
+    ),
+    (
+        Asked::Scan(b"]C110A\x1D17261231", 2026),
+        b"]C1 10=A\t17=261231",
+    ),
+    (Asked::Scan(b"]e010AB", 2026), b"]e0 10=AB"),
+    (Asked::Scan(b"]d210AB", 2026), b"]d2 10=AB"),
+    (Asked::Scan(b"]Q310AB", 2026), b"]Q3 10=AB"),
+    (Asked::Scan(b"]J110AB", 2026), b"]J1 10=AB"),
+    (Asked::Scan(b"]C1", 2026), b"refused 4 Empty"),
+    (Asked::Scan(b"]C017261301", 2026), b"refused 40 Kind"),
+    (Asked::Scan(b"]C", 2026), b"refused 40 Kind"),
+    (Asked::Scan(b"", 2026), b"refused 40 Kind"),
+    (Asked::Scan(b"10AB", 2026), b"refused 40 Kind"),
+    (Asked::Scan(b"]C10", 1950), b"refused 42 Words"),
+    (Asked::Date(b"17=261231", 2026), b"date 2026-12-31"),
+    (Asked::Date(b"11=770101", 2026), b"date 1977-01-01"),
+    (Asked::Date(b"15=280200", 2026), b"date 2028-02-29"),
+    (
+        Asked::Date(b"7003=2612312359", 2026),
+        b"date 2026-12-31 23:59:00",
+    ),
+    (
+        Asked::Date(b"8008=26010207", 2026),
+        b"date 2026-01-02 07:00:00",
+    ),
+    (
+        Asked::Date(b"8008=260102070809", 2026),
+        b"date 2026-01-02 07:08:09",
+    ),
+    (Asked::Date(b"10=261231", 2026), b"none"),
+    (Asked::Date(b"10=A=B", 2026), b"none"),
+    (Asked::Date(b"", 2026), b"refused 4 Empty"),
+    (Asked::Date(b"17261231", 2026), b"refused 5 UnknownAi 0"),
+    (Asked::Date(b"170=261231", 2026), b"refused 5 UnknownAi 0"),
+    (Asked::Date(b"17=26123", 2026), b"refused 6 ValueLength 0"),
+    (Asked::Date(b"17", 2026), b"refused 6 ValueLength 0"),
+    (
+        Asked::Date(b"10=A\x1D17", 2026),
+        b"refused 7 ValueCharacter 0",
+    ),
+    (
+        Asked::Date(b"01=09501101530004", 2026),
+        b"refused 8 ValueCheckDigit 0",
+    ),
+    (Asked::Date(b"17=270229", 2026), b"refused 9 ValueDate 0"),
+    (
+        Asked::Date(b"7003=2612002359", 2026),
+        b"refused 9 ValueDate 0",
+    ),
+    (Asked::Date(&[b'1'; 193], 2026), b"refused 11 TooLong"),
+    (Asked::Date(b"17=261231", 2150), b"refused 42 Words"),
+    (
+        Asked::Label(6, b"9501101530003", 2026, 113),
+        b"refused 40 Kind",
+    ),
+    (
+        Asked::Label(0, b"9501101530003", 1950, 113),
+        b"refused 42 Words",
+    ),
+    (
+        Asked::Label(0, b"9501101530003", 2026, 4097),
+        b"refused 25 BadGrid",
+    ),
+    (
+        Asked::Label(0, b"9501101530003", 2026, 112),
+        b"refused 27 LabelWidth 0",
+    ),
+    (
+        Asked::Label(4, b"10AB^", 2026, 400),
+        b"refused 7 ValueCharacter 0",
+    ),
+];
+
 #[test]
 fn each_call_puts_its_line(rt: HostRuntime) {
-    let cases: &[(Asked, &[u8])] = &[
-        (Asked::Gtin(b"9501101530003"), b"gtin 09501101530003"),
-        (Asked::Gtin(b"950110153000X"), b"refused 2 NotDigit 12"),
-        (Asked::Digit(b"950110153000"), b"digit 3"),
-        (Asked::Digit(b""), b"refused 1 Length"),
-        (
-            Asked::Text(b"10AB\x1D17261231", 2026),
-            b"hri (10)AB(17)261231",
-        ),
-        (
-            Asked::Text(b"10AB\x1D17261301", 2026),
-            b"refused 9 ValueDate 5",
-        ),
-        (Asked::Text(b"10AB", 1950), b"refused 42 Words"),
-        (
-            Asked::TextElements(b"10A\x1D17261231", 2026),
-            b"data 10=A\t17=261231",
-        ),
-        (
-            Asked::TextElements(b"10A(17)261231", 2026),
-            b"data 10=A(17)261231",
-        ),
-        (Asked::TextElements(b"10AB", 1950), b"refused 42 Words"),
-        (Asked::Row(WIDTHS, 2026), b"]E0 (01)09501101530003"),
-        (Asked::RowElements(WIDTHS, 2026), b"]E0 01=09501101530003"),
-        (Asked::RowElements(&[113], 2026), b"refused 19 Blank"),
-        (Asked::Row(&[113], 2026), b"refused 19 Blank"),
-        (Asked::Row(&[1, 0, 1], 2026), b"refused 18 BadRuns"),
-        (Asked::Row(WIDTHS, 2150), b"refused 42 Words"),
-        (Asked::Row(FRAMED, 2026), b"refused 20 RunCount"),
-        (Asked::Find(WIDTHS, 2026), b"0 61 ]E0 (01)09501101530003\n"),
-        (Asked::Find(FRAMED, 2026), b"2 61 ]E0 (01)09501101530003\n"),
-        (Asked::Find(&[113], 2026), b""),
-        (Asked::Find(&[1, 0, 1], 2026), b"refused 18 BadRuns"),
-        (Asked::Find(WIDTHS, 2150), b"refused 42 Words"),
-        (Asked::Dots(DOTS, 113, 2026), b"]E0 (01)09501101530003"),
-        (Asked::Dots(DOTS, 121, 2026), b"refused 18 BadRuns"),
-        (Asked::Dots(&[0; 8192], 65_536, 2026), b"refused 17 TooWide"),
-        (Asked::Dots(DOTS, 113, 2150), b"refused 42 Words"),
-        (
-            Asked::DotsElements(DOTS, 113, 2026),
-            b"]E0 01=09501101530003",
-        ),
-        (Asked::DotsElements(DOTS, 121, 2026), b"refused 18 BadRuns"),
-        (Asked::DotsElements(DOTS, 113, 2150), b"refused 42 Words"),
-        (
-            Asked::Scan(b"]E09501101530003", 2026),
-            b"]E0 01=09501101530003",
-        ),
-        (Asked::Scan(b"]E496385074", 2026), b"]E4 01=00000096385074"),
-        (
-            Asked::Scan(b"]I109501101530003", 2026),
-            b"]I1 01=09501101530003",
-        ),
-        (
-            Asked::Scan(b"]E09501101530004", 2026),
-            b"refused 3 CheckDigit",
-        ),
-        (
-            Asked::Scan(b"]C110A(17)261231", 2026),
-            b"]C1 10=A(17)261231",
-        ),
-        (
-            Asked::Scan(b"]C110A\x1D17261231", 2026),
-            b"]C1 10=A\t17=261231",
-        ),
-        (Asked::Scan(b"]e010AB", 2026), b"]e0 10=AB"),
-        (Asked::Scan(b"]d210AB", 2026), b"]d2 10=AB"),
-        (Asked::Scan(b"]Q310AB", 2026), b"]Q3 10=AB"),
-        (Asked::Scan(b"]J110AB", 2026), b"]J1 10=AB"),
-        (Asked::Scan(b"]C1", 2026), b"refused 4 Empty"),
-        (Asked::Scan(b"]C017261301", 2026), b"refused 40 Kind"),
-        (Asked::Scan(b"]C", 2026), b"refused 40 Kind"),
-        (Asked::Scan(b"", 2026), b"refused 40 Kind"),
-        (Asked::Scan(b"10AB", 2026), b"refused 40 Kind"),
-        (Asked::Scan(b"]C10", 1950), b"refused 42 Words"),
-        (Asked::Date(b"17=261231", 2026), b"date 2026-12-31"),
-        (Asked::Date(b"11=770101", 2026), b"date 1977-01-01"),
-        (Asked::Date(b"15=280200", 2026), b"date 2028-02-29"),
-        (
-            Asked::Date(b"7003=2612312359", 2026),
-            b"date 2026-12-31 23:59:00",
-        ),
-        (
-            Asked::Date(b"8008=26010207", 2026),
-            b"date 2026-01-02 07:00:00",
-        ),
-        (
-            Asked::Date(b"8008=260102070809", 2026),
-            b"date 2026-01-02 07:08:09",
-        ),
-        (Asked::Date(b"10=261231", 2026), b"none"),
-        (Asked::Date(b"10=A=B", 2026), b"none"),
-        (Asked::Date(b"", 2026), b"refused 4 Empty"),
-        (Asked::Date(b"17261231", 2026), b"refused 5 UnknownAi 0"),
-        (Asked::Date(b"170=261231", 2026), b"refused 5 UnknownAi 0"),
-        (Asked::Date(b"17=26123", 2026), b"refused 6 ValueLength 0"),
-        (Asked::Date(b"17", 2026), b"refused 6 ValueLength 0"),
-        (
-            Asked::Date(b"10=A\x1D17", 2026),
-            b"refused 7 ValueCharacter 0",
-        ),
-        (
-            Asked::Date(b"01=09501101530004", 2026),
-            b"refused 8 ValueCheckDigit 0",
-        ),
-        (Asked::Date(b"17=270229", 2026), b"refused 9 ValueDate 0"),
-        (
-            Asked::Date(b"7003=2612002359", 2026),
-            b"refused 9 ValueDate 0",
-        ),
-        (Asked::Date(&[b'1'; 193], 2026), b"refused 11 TooLong"),
-        (Asked::Date(b"17=261231", 2150), b"refused 42 Words"),
-        (
-            Asked::Label(6, b"9501101530003", 2026, 113),
-            b"refused 40 Kind",
-        ),
-        (
-            Asked::Label(0, b"9501101530003", 1950, 113),
-            b"refused 42 Words",
-        ),
-        (
-            Asked::Label(0, b"9501101530003", 2026, 4097),
-            b"refused 25 BadGrid",
-        ),
-        (
-            Asked::Label(0, b"9501101530003", 2026, 112),
-            b"refused 27 LabelWidth 0",
-        ),
-        (
-            Asked::Label(4, b"10AB^", 2026, 400),
-            b"refused 7 ValueCharacter 0",
-        ),
-    ];
     let mut out = [0; 292];
-    for &(asked, wanted) in cases {
+    for &(asked, wanted) in CASES {
         let count = answer(asked, &mut out);
-        assert_eq!(rt; out.get(..count), Some(wanted));
+        puts(&rt, out.get(..count), wanted);
     }
 }
+
+/// The kinds' numbers, texts, and the first 32 dots of their bars: the left quiet zone, the guard and the first
+/// characters.
+const KINDS: &[(u32, &[u8], &[u8])] = &[
+    (0, b"9501101530003", b"\x00\x15\x8A\x76"),
+    (1, b"012345000065", b"\x00\x51\xA6\x49"),
+    (2, b"96385074", b"\x01\x45\xAF\x7A"),
+    (3, b"012345000065", b"\x00\x56\x64\xDE"),
+    (4, b"422528", b"\x00\x34\xE7\xAE"),
+    (5, b"09501101530003", b"\x00\x2A\x8E\xE2"),
+];
 
 #[test]
 fn each_kind_is_drawn_by_its_number(rt: HostRuntime) {
-    // The first 32 dots of the bars: the left quiet zone, the guard and the first characters.
-    let cases: &[(u32, &[u8], &[u8])] = &[
-        (0, b"9501101530003", b"\x00\x15\x8A\x76"),
-        (1, b"012345000065", b"\x00\x51\xA6\x49"),
-        (2, b"96385074", b"\x01\x45\xAF\x7A"),
-        (3, b"012345000065", b"\x00\x56\x64\xDE"),
-        (4, b"422528", b"\x00\x34\xE7\xAE"),
-        (5, b"09501101530003", b"\x00\x2A\x8E\xE2"),
-    ];
-    for &(kind, text, bars) in cases {
+    for &(kind, text, bars) in KINDS {
         let mut out = [255; 69];
-        assert_eq!(rt; answer(Asked::Label(kind, text, 2026, 160), &mut out), 69);
-        assert_eq!(rt; out.get(..29), Some(LIGHT.as_slice()));
-        assert_eq!(rt; out.get(29..33), Some(bars));
+        let count = answer(Asked::Label(kind, text, 2026, 160), &mut out);
+        // The image fills the buffer.
+        puts(&rt, out.get(count..), b"");
+        puts(&rt, out.get(..29), LIGHT);
+        puts(&rt, out.get(29..33), bars);
     }
 }
 
+/// Packed dots, how many they are, a year, and the lines of their symbols.
+const PACKED: &[(&[u8], u32, u16, &[u8])] = &[
+    (DOTS, 113, 2026, b"0 61 ]E0 (01)09501101530003\n"),
+    (DOTS, 0, 2026, b""),
+    (DOTS, 121, 2026, b"refused 18 BadRuns"),
+    (&[0; 8192], 65_536, 2026, b"refused 17 TooWide"),
+    (DOTS, 113, 2150, b"refused 42 Words"),
+];
+
 #[test]
 fn each_symbol_of_packed_dots_is_told(rt: HostRuntime) {
-    let cases: &[(&[u8], u32, u16, &[u8])] = &[
-        (DOTS, 113, 2026, b"0 61 ]E0 (01)09501101530003\n"),
-        (DOTS, 0, 2026, b""),
-        (DOTS, 121, 2026, b"refused 18 BadRuns"),
-        (&[0; 8192], 65_536, 2026, b"refused 17 TooWide"),
-        (DOTS, 113, 2150, b"refused 42 Words"),
-    ];
     let mut out = [0; 304];
-    for &(bits, dots, year, wanted) in cases {
+    for &(bits, dots, year, wanted) in PACKED {
         let count = gs1_c_find_dots(bits, dots, year, &mut out);
-        assert_eq!(rt; out.get(..count), Some(wanted));
+        puts(&rt, out.get(..count), wanted);
     }
 }
