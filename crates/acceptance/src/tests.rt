@@ -5,6 +5,7 @@ mod code_sets;
 mod commands;
 mod element_lists;
 mod elements;
+mod equal;
 mod held;
 mod hubs;
 mod lanes;

@@ -2,6 +2,7 @@
 //! answered after a failure.
 ghost use Rattle.std.specs.Prelude.{◌≡◌, IfOk};
 
+use crate::tests::equal::is_equal;
 use digits_core::{Failed, FromReader, Sink, Source, ToWriter};
 use std::io::{self, ErrorKind, Read, Write};
 use std::process::Abort;
@@ -47,7 +48,7 @@ impl Write for Failing {
 
 /// That a call has this answer.
 fn is_answered<R: Abort>(rt: &R, found: Result<usize, Failed>, wanted: Result<usize, Failed>) {
-    assert_eq!(*rt; found, wanted);
+    is_equal(rt, found, wanted);
 }
 
 #[test]
@@ -61,7 +62,7 @@ fn a_reader_is_read_once_a_call_until_it_fails(rt: HostRuntime) -> Result<(), Fa
     for &answer in ANSWERS {
         is_answered(&rt, source.read(&mut buffer), answer);
     }
-    assert_eq!(rt; reader.calls, 3);
+    is_equal(&rt, reader.calls, 3);
     Ok(())
 }
 
@@ -75,6 +76,6 @@ fn a_writer_is_written_to_once_a_call_until_it_fails(rt: HostRuntime) -> Result<
         is_answered(&rt, sink.write(b"0"), answer);
     }
     is_answered(&rt, sink.write(b""), Err(Failed));
-    assert_eq!(rt; sink.into_inner().calls, 3);
+    is_equal(&rt, sink.into_inner().calls, 3);
     Ok(())
 }

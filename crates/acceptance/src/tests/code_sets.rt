@@ -1,5 +1,6 @@
 //! What each data value of Code 128 says in each code set, as bytes (ISO/IEC 15417, code set tables).
 
+use crate::tests::equal::is_equal;
 use crate::tests::symbols::shown;
 use code128_code::text_of;
 use std::process::Abort;
@@ -12,7 +13,7 @@ type Symbol = (u8, &'static [u8], u8, &'static [u8]);
 fn say<R: Abort>(rt: &R, symbols: &[Symbol]) -> Result<(), Fail> {
     for &(start, data, check, text) in symbols {
         let said = text_of(&shown(start, data, check))?;
-        assert_eq!(*rt; said.as_slice(), text);
+        is_equal(rt, said.as_slice(), text);
     }
     Ok(())
 }

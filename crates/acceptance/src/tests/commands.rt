@@ -1,8 +1,9 @@
 //! Each run of a command once, and gates that see its workers beside each other.
 
+use crate::tests::equal::is_equal;
+use crate::tests::rows::year_of;
 use command_core::{run, run_live};
 use digits_core::{FromReader, ToWriter};
-use element_core::Year;
 use fakes::{Happened, Holding, Meeting, Recorded};
 use hub_core::{Gate, OpenGate};
 use lane_core::Ticket;
@@ -51,13 +52,13 @@ fn writes<R: Threads + Wait + AllocGlobal + Sync + Abort, G: Gate + Sync>(
     if let Err(fault) = run(rt, alloc, asked, &mut source, &mut sink, gate) {
         return Err(Fail::from(format!(in alloc; "{fault}")?));
     }
-    assert_eq!(*rt; sink.into_inner().as_slice(), wanted);
+    is_equal(rt, sink.into_inner().as_slice(), wanted);
     Ok(())
 }
 
 #[test]
 fn check_answers_a_text(rt: HostRuntime) -> Result<(), Fail> {
-    let year = Year::new(2026).ok_or("year")?;
+    let year = year_of(2026)?;
     writes(
         &rt,
         Batch::Check(year),
@@ -241,15 +242,16 @@ fn lives<R: Threads + Wait + AllocGlobal + Sync + Abort>(
     let wire = Recorded::new(alloc, LIVE_INPUT, 12, calls);
     let options = LiveOptions::new(rows, false);
     let (wire, ended) = run_live(rt, alloc, options, wire, &OpenGate);
-    assert_eq!(*rt;
+    is_equal(
+        rt,
         told(alloc, &wire)?.as_str(),
-        first_calls(alloc, calls)?.as_str()
+        first_calls(alloc, calls)?.as_str(),
     );
     let ended = match ended {
         Ok(()) => String::new(alloc),
         Err(fault) => fault.to_string(alloc)?,
     };
-    assert_eq!(*rt; ended.as_str(), ending);
+    is_equal(rt, ended.as_str(), ending);
     Ok(())
 }
 

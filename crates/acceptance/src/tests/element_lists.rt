@@ -1,6 +1,8 @@
 //! Lists of elements: how many there are, each of them, its day and its time, and their human-readable line.
 
-use element_core::{Element, Elements, Year};
+use crate::tests::equal::is_equal;
+use crate::tests::rows::year_of;
+use element_core::{Element, Elements};
 use std::alloc::Global;
 use std::process::Abort;
 use std::test::Fail;
@@ -12,7 +14,7 @@ fn parsed(text: &[u8]) -> Result<Elements, Fail> {
 
 /// The elements of a text under a reference year.
 fn parsed_in(reference: u16, text: &[u8]) -> Result<Elements, Fail> {
-    let year = Year::new(reference).ok_or("year")?;
+    let year = year_of(reference)?;
     Ok(Elements::parse(text, year).ok().ok_or("a list")?)
 }
 
@@ -26,18 +28,19 @@ fn element(elements: &Elements, i: usize) -> Result<Element, Fail> {
 
 /// That an element has this AI and this value, and whether it has a date.
 fn is_element<R: Abort>(rt: &R, found: &Element, ai: &str, value: &str, is_dated: bool) {
-    assert_eq!(*rt; found.ai.as_slice(), ai.as_bytes());
-    assert_eq!(*rt; found.value.as_slice(), value.as_bytes());
-    assert_eq!(*rt; found.date.is_some(), is_dated);
+    is_equal(rt, found.ai.as_slice(), ai.as_bytes());
+    is_equal(rt, found.value.as_slice(), value.as_bytes());
+    is_equal(rt, found.date.is_some(), is_dated);
 }
 
 #[test]
 fn elements_are_found_in_their_text(rt: HostRuntime) -> Result<(), Fail> {
     let elements = parsed(b"21A1\x1D0109501101530003\x1D17260100\x1D")?;
-    assert_eq!(rt; elements.len(), 3);
-    assert_eq!(rt;
+    is_equal(&rt, elements.len(), 3);
+    is_equal(
+        &rt,
         elements.text().as_slice(),
-        b"21A1\x1D010950110153000317260100".as_slice()
+        b"21A1\x1D010950110153000317260100".as_slice(),
     );
     is_element(&rt, &element(&elements, 0)?, "21", "A1", false);
     is_element(&rt, &element(&elements, 1)?, "01", "09501101530003", false);
@@ -50,7 +53,7 @@ fn the_line_stands_after_what_is_there(rt: HostRuntime) -> Result<(), Fail> {
     let elements = parsed(b"010950110153000310AB\x1D17261231")?;
     let mut line = String::from_str(rt.alloc(), "hri ")?;
     elements.push_hri(&mut line)?;
-    assert_eq!(rt; line.as_str(), "hri (01)09501101530003(10)AB(17)261231");
+    is_equal(&rt, line.as_str(), "hri (01)09501101530003(10)AB(17)261231");
     Ok(())
 }
 
@@ -65,10 +68,10 @@ fn repeated(alloc: Global, text: &str) -> Result<String, Fail> {
 
 /// That elements have this human-readable line.
 fn has_line<R: AllocGlobal + Abort>(rt: &R, elements: &Elements, wanted: &str) -> Result<(), Fail> {
-    assert_eq!(*rt; elements.hri().as_str(), wanted);
+    is_equal(rt, elements.hri().as_str(), wanted);
     let mut line = String::new(rt.alloc());
     elements.push_hri(&mut line)?;
-    assert_eq!(*rt; line.as_str(), wanted);
+    is_equal(rt, line.as_str(), wanted);
     Ok(())
 }
 
@@ -76,7 +79,7 @@ fn has_line<R: AllocGlobal + Abort>(rt: &R, elements: &Elements, wanted: &str) -
 fn the_most_elements_fill_the_line(rt: HostRuntime) -> Result<(), Fail> {
     let alloc = rt.alloc();
     let elements = parsed(repeated(alloc, "2007")?.as_str().as_bytes())?;
-    assert_eq!(rt; elements.len(), 48);
+    is_equal(&rt, elements.len(), 48);
     is_element(&rt, &element(&elements, 47)?, "20", "07", false);
     has_line(&rt, &elements, repeated(alloc, "(20)07")?.as_str())
 }
@@ -89,11 +92,11 @@ fn has_pairs<R: AllocGlobal + Abort>(
     pairs: &str,
 ) -> Result<(), Fail> {
     let elements = parsed(text)?;
-    assert_eq!(*rt; elements.hri().as_str(), line);
-    assert_eq!(*rt; elements.pairs().as_str(), pairs);
+    is_equal(rt, elements.hri().as_str(), line);
+    is_equal(rt, elements.pairs().as_str(), pairs);
     let mut pushed = String::new(rt.alloc());
     elements.push_pairs(&mut pushed)?;
-    assert_eq!(*rt; pushed.as_str(), pairs);
+    is_equal(rt, pushed.as_str(), pairs);
     Ok(())
 }
 
@@ -119,8 +122,12 @@ fn pairs_are_put_into_a_buffer(rt: HostRuntime) -> Result<(), Fail> {
     let elements = parsed(b"10A\x1D17261231")?;
     let mut out = [0; 20];
     let count = elements.put_pairs(0, &mut out);
-    assert_eq!(rt; count, 14);
-    assert_eq!(rt; out.as_slice(), b"10=A\t17=261231\0\0\0\0\0\0".as_slice());
+    is_equal(&rt, count, 14);
+    is_equal(
+        &rt,
+        out.as_slice(),
+        b"10=A\t17=261231\0\0\0\0\0\0".as_slice(),
+    );
     Ok(())
 }
 
@@ -132,8 +139,8 @@ fn day_of(element: &Element) -> Option<(i16, i8, i8)> {
 
 /// That an element has this day and this time.
 fn is_at<R: Abort>(rt: &R, found: &Element, day: Option<(i16, i8, i8)>, time: Option<[u8; 3]>) {
-    assert_eq!(*rt; day_of(found), day);
-    assert_eq!(*rt; found.time, time);
+    is_equal(rt, day_of(found), day);
+    is_equal(rt, found.time, time);
 }
 
 #[test]
@@ -172,7 +179,7 @@ fn an_element_has_its_day_by_the_reference_year(rt: HostRuntime) -> Result<(), F
     ];
     for &(reference, text, day) in cases {
         let element = element(&parsed_in(reference, text)?, 0)?;
-        assert_eq!(rt; day_of(&element), Some(day));
+        is_equal(&rt, day_of(&element), Some(day));
     }
     Ok(())
 }
@@ -201,7 +208,7 @@ fn a_year_of_two_digits_is_the_nearest(rt: HostRuntime) -> Result<(), Fail> {
     ];
     for &(reference, text, year) in cases {
         let element = element(&parsed_in(reference, text)?, 0)?;
-        assert_eq!(rt; day_of(&element), Some((year, 1, 1)));
+        is_equal(&rt, day_of(&element), Some((year, 1, 1)));
     }
     Ok(())
 }

@@ -1,6 +1,8 @@
 //! Elements that are given as pairs, and rows of the table of AIs.
 
-use element_core::{Elements, Pair, Part, PartFormat, Text, Year, ai_row};
+use crate::tests::equal::is_equal;
+use crate::tests::rows::year_of;
+use element_core::{Elements, Pair, Part, PartFormat, Text, ai_row};
 use std::alloc::Global;
 use std::process::Abort;
 use std::test::Fail;
@@ -26,7 +28,7 @@ fn line(alloc: Global, pairs: &[(&str, &str)]) -> Result<String, Fail> {
             value: text(value)?,
         })?;
     }
-    let year = Year::new(2026).ok_or("year")?;
+    let year = year_of(2026)?;
     match Elements::of_pairs(list.as_slice(), year) {
         Ok(elements) => {
             let hri = elements.hri();
@@ -40,7 +42,7 @@ fn line(alloc: Global, pairs: &[(&str, &str)]) -> Result<String, Fail> {
 /// That pairs have this line.
 fn says<R: AllocGlobal + Abort>(rt: &R, pairs: &[(&str, &str)], wanted: &str) -> Result<(), Fail> {
     let found = line(rt.alloc(), pairs)?;
-    assert_eq!(*rt; found.as_str(), wanted);
+    is_equal(rt, found.as_str(), wanted);
     Ok(())
 }
 
@@ -84,15 +86,15 @@ fn has_parts<R: Abort>(
     parts: &[Part],
 ) -> Result<(), Fail> {
     let row = ai_row(text.as_bytes()).ok_or("a row")?;
-    assert_eq!(*rt; row.predefined, is_predefined);
-    assert_eq!(*rt; row.parts.as_slice(), parts);
+    is_equal(rt, row.predefined, is_predefined);
+    is_equal(rt, row.parts.as_slice(), parts);
     Ok(())
 }
 
 #[test]
 fn the_row_of_an_ai_has_its_parts(rt: HostRuntime) -> Result<(), Fail> {
     let row = ai_row(b"0109501101530003").ok_or("01")?;
-    assert_eq!(rt; row.ai.as_slice(), b"01".as_slice());
+    is_equal(&rt, row.ai.as_slice(), b"01".as_slice());
     let gtin = Part {
         format: PartFormat::Numeric,
         least: 14,

@@ -1,5 +1,6 @@
 //! A row that is held back at the gate is not delivered, and holds no other lane back.
 
+use crate::tests::equal::is_equal;
 use crate::tests::rows::{EAN8, EAN13, row};
 use hub_core::Shape;
 use scan_core::Carrier;
@@ -17,8 +18,8 @@ fn settles_the_held<R: Wait + AllocGlobal + Abort>(
     carrier: Carrier,
 ) -> Result<(), Fail> {
     let lists = hub.settle(rt, rt.alloc())?;
-    assert_eq!(*rt; lists.len(), 2);
-    assert_eq!(*rt; (lists[0].len() + lists[1].len()), 1);
+    is_equal(rt, lists.len(), 2);
+    is_equal(rt, (lists[0].len() + lists[1].len()), 1);
     let list = lists.get(usize::from(held)).ok_or("a list")?;
     assert!(*rt; is_answer(list.get(0), held, 0, carrier));
     Ok(())
@@ -52,7 +53,7 @@ fn holds<R: Threads + Wait + Sync + AllocGlobal + Abort>(
     let (hub, polled, is_held) = hub.poll_and_open(rt, alloc, &gate, (free, held))?;
     assert!(*rt; is_answer(polled.as_ref(), free, 0, carriers.0));
     assert!(*rt; is_held);
-    assert_eq!(*rt; gate.limits_met(), 0);
+    is_equal(rt, gate.limits_met(), 0);
     settles_the_held(rt, hub.close(alloc)?, held, carriers.1)
 }
 

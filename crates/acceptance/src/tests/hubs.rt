@@ -1,6 +1,7 @@
 //! The hub's calls one by one, on one thread.
 
-use crate::tests::rows::{EAN8, EAN13, GS1_128, row};
+use crate::tests::equal::is_equal;
+use crate::tests::rows::{EAN8, EAN13, GS1_128, row, year_of};
 use element_core::Year;
 use hub_core::{Collected, Handed, Hub, HubFault, Shape, SubmitFault, Worked};
 use lane_core::{Delivery, Ticket};
@@ -58,7 +59,7 @@ fn submits<R: Wait + AllocGlobal + Abort>(
 ) -> Result<(), Fail> {
     let alloc = rt.alloc();
     let found = hub.submit(rt, alloc, lane, row(alloc, widths)?)?;
-    assert_eq!(*rt; found.as_str(), told);
+    is_equal(rt, found.as_str(), told);
     Ok(())
 }
 
@@ -79,14 +80,14 @@ fn polls<R: Abort>(
 fn take<R: Wait + AllocGlobal + Abort>(rt: &R, hub: &mut Station, step: &Step) -> Result<(), Fail> {
     match step {
         Step::Submit(lane, widths, told) => submits(rt, hub, *lane, widths, told)?,
-        Step::Work(worker, told) => assert_eq!(*rt; hub.work(rt, *worker)?, *told),
-        Step::Collect(told) => assert_eq!(*rt; hub.collect(rt), *told),
+        Step::Work(worker, told) => is_equal(rt, hub.work(rt, *worker)?, *told),
+        Step::Collect(told) => is_equal(rt, hub.collect(rt), *told),
         Step::Next(lane, number, carrier, told) => {
-            assert_eq!(*rt; hub.has_next(*lane, *number, *carrier)?, *told);
+            is_equal(rt, hub.has_next(*lane, *number, *carrier)?, *told);
         }
-        Step::Hand(lane, told) => assert_eq!(*rt; hub.hand(*lane)?, *told),
+        Step::Hand(lane, told) => is_equal(rt, hub.hand(*lane)?, *told),
         Step::Poll(lane, number, carrier) => polls(rt, hub, *lane, *number, *carrier)?,
-        Step::Issued(lane, count) => assert_eq!(*rt; hub.issued(*lane)?, *count),
+        Step::Issued(lane, count) => is_equal(rt, hub.issued(*lane)?, *count),
     }
     Ok(())
 }
@@ -112,7 +113,7 @@ fn are_answers<R: Abort>(
     carriers: &[Carrier],
 ) -> Result<(), Fail> {
     let list = lists.get(usize::from(lane)).ok_or("a list")?;
-    assert_eq!(*rt; list.len(), carriers.len());
+    is_equal(rt, list.len(), carriers.len());
     for (delivery, (number, carrier)) in list.iter().zip((first..).zip(carriers)) {
         assert!(*rt; is_answer(Some(delivery), lane, number, *carrier));
     }
@@ -129,7 +130,7 @@ fn settles<R: Wait + AllocGlobal + Abort>(
     carriers: &[Carrier],
 ) -> Result<(), Fail> {
     let lists = hub.settle(rt, rt.alloc())?;
-    assert_eq!(*rt; lists.len(), usize::from(lanes));
+    is_equal(rt, lists.len(), usize::from(lanes));
     for lane in 0..lanes {
         are_answers(rt, lists.as_slice(), lane, first, carriers)?;
     }
@@ -334,8 +335,8 @@ fn submits_three_of_each<R: Wait + AllocGlobal + Abort>(
     for lane in 0..MOST {
         for &(number, widths) in rows {
             let (ticket, rounds) = submitted(rt, hub, lane, row(alloc, widths)?)?;
-            assert_eq!(*rt; ticket, Ticket { lane, number });
-            assert_eq!(*rt; rounds > 0, ticket != Ticket { lane: 0, number: 0 });
+            is_equal(rt, ticket, Ticket { lane, number });
+            is_equal(rt, rounds > 0, ticket != Ticket { lane: 0, number: 0 });
         }
     }
     Ok(())
@@ -393,7 +394,7 @@ fn seats_are_settled_in_any_order(rt: HostRuntime) -> Result<(), Fail> {
         ],
     )?;
     let lists = hub.close(alloc)?.turned().settle(&rt, alloc)?;
-    assert_eq!(rt; lists.len(), 3);
+    is_equal(&rt, lists.len(), 3);
     are_answers(&rt, lists.as_slice(), 0, 0, &[Carrier::Ean13])?;
     are_answers(&rt, lists.as_slice(), 1, 0, &[Carrier::Ean8])?;
     are_answers(&rt, lists.as_slice(), 2, 0, &[Carrier::Gs1128])
@@ -416,7 +417,7 @@ fn is_refused<R: Wait + AllocGlobal>(rt: &R, shape: Shape, year: Year) -> bool {
 
 #[test]
 fn shapes_have_limits(rt: HostRuntime) -> Result<(), Fail> {
-    let year = Year::new(2026).ok_or("year")?;
+    let year = year_of(2026)?;
     let counts: &[(u8, u8, u16, u32)] = &[
         (0, 1, 1, 1),
         (17, 1, 1, 1),
@@ -448,6 +449,10 @@ fn the_largest_shape_has_a_hub(rt: HostRuntime) -> Result<(), Fail> {
 fn faults_of_hubs_are_named(rt: HostRuntime) -> Result<(), Fail> {
     let alloc = rt.alloc();
     let text = format!(in alloc; "{} {}", HubFault::BadCount, HubFault::NoMemory)?;
-    assert_eq!(rt; text.as_str(), "refused 33 BadCount refused 43 NoMemory");
+    is_equal(
+        &rt,
+        text.as_str(),
+        "refused 33 BadCount refused 43 NoMemory",
+    );
     Ok(())
 }

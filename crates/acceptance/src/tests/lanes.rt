@@ -2,7 +2,8 @@
 ghost use Rattle.std.specs.Prelude.{◌<◌, IfOk, length};
 ghost use Rattle.lane_core.specs.ReorderBuffer.{lanes_of};
 
-use crate::tests::rows::{EAN8, EAN13, row};
+use crate::tests::equal::is_equal;
+use crate::tests::rows::{EAN8, EAN13, row, year_of};
 use element_core::Year;
 use lane_core::{
     Deliverer, Delivery, Event, Job, NoMemory, Place, TakeFault, Ticket, Ticketer, World, decode,
@@ -14,7 +15,7 @@ use std::test::Fail;
 
 /// The delivery of an EAN-13 row under the ticket.
 fn delivery(alloc: Global, lane: u8, number: u32) -> Result<Delivery, Fail> {
-    let year = Year::new(2026).ok_or("year")?;
+    let year = year_of(2026)?;
     Ok(decode(Job {
         ticket: Ticket { lane, number },
         row: row(alloc, EAN13)?,
@@ -38,12 +39,12 @@ fn is_stranger(taken: Result<(), TakeFault>) -> bool {
 #[test]
 fn issues_each_number_once(rt: HostRuntime) -> Result<(), Fail> {
     let mut two = Ticketer::new(3, 2);
-    assert_eq!(rt; two.issue(), Some(Ticket { lane: 3, number: 0 }));
-    assert_eq!(rt; two.issue(), Some(Ticket { lane: 3, number: 1 }));
-    assert_eq!(rt; two.issue(), None);
-    assert_eq!(rt; two.issue(), None);
+    is_equal(&rt, two.issue(), Some(Ticket { lane: 3, number: 0 }));
+    is_equal(&rt, two.issue(), Some(Ticket { lane: 3, number: 1 }));
+    is_equal(&rt, two.issue(), None);
+    is_equal(&rt, two.issue(), None);
     let mut none = Ticketer::new(3, 0);
-    assert_eq!(rt; none.issue(), None);
+    is_equal(&rt, none.issue(), None);
     Ok(())
 }
 
@@ -101,7 +102,7 @@ fn takes_one_out_of_turn(rt: HostRuntime) -> Result<(), Fail> {
 fn one_lane(alloc: Global, workers: u32) -> Result<World, Fail>
     ensures { IfOk result (λ world. 0 < length world.lanes) }
 {
-    let year = Year::new(2026).ok_or("year")?;
+    let year = year_of(2026)?;
     match World::new(alloc, 1, workers, year) {
         Ok(world) => Ok(world),
         Err(_) => Err(Fail::from("memory")),
@@ -125,7 +126,7 @@ fn does<R: Abort>(rt: &R, world: &mut World, event: Event, wanted: bool) -> Resu
     ensures { 0 < length world.new.lanes }
 {
     let is_done = done(world, event)?;
-    assert_eq!(*rt; is_done, wanted);
+    is_equal(rt, is_done, wanted);
     Ok(())
 }
 
@@ -194,7 +195,7 @@ fn polls_in_order_what_was_posted_out_of_order(rt: HostRuntime) -> Result<(), Fa
 
 /// That lane 0's ticket of this number is in this place.
 fn is_at<R: Abort>(rt: &R, world: &World, number: u32, wanted: Option<Place>) {
-    assert_eq!(*rt; world.place(Ticket { lane: 0, number }), wanted);
+    is_equal(rt, world.place(Ticket { lane: 0, number }), wanted);
 }
 
 /// That the two tickets are in their places until the first is polled.
@@ -217,7 +218,7 @@ fn are_at_each_place<R: AllocGlobal + Abort>(rt: &R, world: &mut World) -> Resul
 fn tells_where_each_ticket_is(rt: HostRuntime) -> Result<(), Fail> {
     let mut world = one_lane(rt.alloc(), 2)?;
     are_at_each_place(&rt, &mut world)?;
-    assert_eq!(rt; world.issued(0), 2);
+    is_equal(&rt, world.issued(0), 2);
     assert!(rt; !world.is_closed(0));
     Ok(())
 }
@@ -243,22 +244,22 @@ fn passes_over_what_cannot_be_done(rt: HostRuntime) -> Result<(), Fail> {
 
 /// That a job has this ticket, the EAN-8 row and this year.
 fn is_job<R: Abort>(rt: &R, job: &Job, ticket: Ticket, year: Year) {
-    assert_eq!(*rt; job.ticket, ticket);
-    assert_eq!(*rt; job.row.widths(), EAN8);
-    assert_eq!(*rt; job.year, year);
+    is_equal(rt, job.ticket, ticket);
+    is_equal(rt, job.row.widths(), EAN8);
+    is_equal(rt, job.year, year);
 }
 
 /// The same of a delivery.
 fn is_delivery<R: Abort>(rt: &R, delivery: &Delivery, ticket: Ticket, year: Year) {
-    assert_eq!(*rt; delivery.ticket(), ticket);
-    assert_eq!(*rt; delivery.row().widths(), EAN8);
-    assert_eq!(*rt; delivery.year(), year);
+    is_equal(rt, delivery.ticket(), ticket);
+    is_equal(rt, delivery.row().widths(), EAN8);
+    is_equal(rt, delivery.year(), year);
 }
 
 #[test]
 fn gives_a_job_and_its_parts_back(rt: HostRuntime) -> Result<(), Fail> {
     let alloc = rt.alloc();
-    let year = Year::new(2026).ok_or("year")?;
+    let year = year_of(2026)?;
     let ticket = Ticket { lane: 2, number: 9 };
     let job = Job {
         ticket,
@@ -269,6 +270,10 @@ fn gives_a_job_and_its_parts_back(rt: HostRuntime) -> Result<(), Fail> {
     let delivery = decode(job);
     is_delivery(&rt, &delivery, ticket, year);
     let text = format!(in alloc; "{} {}", TakeFault::Stranger(delivery), NoMemory)?;
-    assert_eq!(rt; text.as_str(), "refused 32 Stranger refused 43 NoMemory");
+    is_equal(
+        &rt,
+        text.as_str(),
+        "refused 32 Stranger refused 43 NoMemory",
+    );
     Ok(())
 }

@@ -1,16 +1,21 @@
 //! Numbers: outside vectors, and each refusal once.
 
+use crate::tests::equal::is_equal;
 use digits_core::{Gtin, check_digit, upce_expand, upce_suppress};
 use std::process::Abort;
 use std::test::Fail;
 
 #[test]
 fn reads_numbers(rt: HostRuntime) -> Result<(), Fail> {
-    assert_eq!(rt; check_digit(b"950110153000"), 3);
+    is_equal(&rt, check_digit(b"950110153000"), 3);
     let gtin = Gtin::read(b"9501101530003").ok().ok_or("a number")?;
-    assert_eq!(rt; gtin.digits14().as_slice(), b"09501101530003".as_slice());
+    is_equal(
+        &rt,
+        gtin.digits14().as_slice(),
+        b"09501101530003".as_slice(),
+    );
     let thirteen = gtin.as13().ok_or("13 digits")?;
-    assert_eq!(rt; thirteen.as_slice(), b"9501101530003".as_slice());
+    is_equal(&rt, thirteen.as_slice(), b"9501101530003".as_slice());
     assert!(rt; gtin.as12().is_none() && gtin.as8().is_none());
     Ok(())
 }
@@ -20,8 +25,8 @@ fn reads_a_number_of_eight_digits(rt: HostRuntime) -> Result<(), Fail> {
     let gtin = Gtin::read(b"96385074").ok().ok_or("a number")?;
     let eight = gtin.as8().ok_or("8 digits")?;
     let twelve = gtin.as12().ok_or("12 digits")?;
-    assert_eq!(rt; eight.as_slice(), b"96385074".as_slice());
-    assert_eq!(rt; twelve.as_slice(), b"000096385074".as_slice());
+    is_equal(&rt, eight.as_slice(), b"96385074".as_slice());
+    is_equal(&rt, twelve.as_slice(), b"000096385074".as_slice());
     Ok(())
 }
 
@@ -34,7 +39,7 @@ fn refuses_what_is_no_number(rt: HostRuntime) -> Result<(), Fail> {
     ];
     for &(text, fault) in texts {
         let found = Gtin::read(text).err().ok_or("a fault")?;
-        assert_eq!(rt; found.to_string(rt.alloc())?.as_str(), fault);
+        is_equal(&rt, found.to_string(rt.alloc())?.as_str(), fault);
     }
     Ok(())
 }
@@ -42,8 +47,8 @@ fn refuses_what_is_no_number(rt: HostRuntime) -> Result<(), Fail> {
 /// That a number is suppressed to these six digits and this check digit.
 fn is_suppressed<R: Abort>(rt: &R, gtin: &Gtin, six: &[u8; 6], check: u8) -> Result<(), Fail> {
     let (again, last) = upce_suppress(gtin).ok_or("six digits")?;
-    assert_eq!(*rt; again.as_slice(), six.as_slice());
-    assert_eq!(*rt; last, check);
+    is_equal(rt, again.as_slice(), six.as_slice());
+    is_equal(rt, last, check);
     Ok(())
 }
 
@@ -59,7 +64,7 @@ fn suppresses_zeros(rt: HostRuntime) -> Result<(), Fail> {
     ];
     for &(six, check, digits) in cases {
         let gtin = upce_expand(six, check).ok_or("a number")?;
-        assert_eq!(rt; gtin.digits14().as_slice(), digits.as_slice());
+        is_equal(&rt, gtin.digits14().as_slice(), digits.as_slice());
         is_suppressed(&rt, &gtin, &six, check)?;
     }
     Ok(())
@@ -69,7 +74,7 @@ fn suppresses_zeros(rt: HostRuntime) -> Result<(), Fail> {
 fn suppresses_to_one_form_or_none(rt: HostRuntime) -> Result<(), Fail> {
     let gtin = upce_expand(*b"120003", b'3').ok_or("a number")?;
     let (first, _) = upce_suppress(&gtin).ok_or("six digits")?;
-    assert_eq!(rt; first.as_slice(), b"120000".as_slice());
+    is_equal(&rt, first.as_slice(), b"120000".as_slice());
     assert!(rt; upce_expand(*b"123456", b'4').is_none());
     let gtin = Gtin::read(b"9501101530003").ok().ok_or("a number")?;
     assert!(rt; upce_suppress(&gtin).is_none());

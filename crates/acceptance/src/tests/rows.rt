@@ -1,5 +1,6 @@
 //! The rows of the tests, from outside.
 
+use element_core::Year;
 use scan_core::Runs;
 use std::alloc::Global;
 use std::test::Fail;
@@ -39,4 +40,9 @@ pub const ITF14_WRONG: &[u16] = &[
 /// The row of these widths.
 pub fn row(alloc: Global, widths: &[u16]) -> Result<Runs, Fail> {
     Ok(Runs::of_widths(alloc, widths).ok().ok_or("row")?)
+}
+
+/// The reference year of this number.
+pub fn year_of(number: u16) -> Result<Year, Fail> {
+    Ok(Year::new(number).ok_or("year")?)
 }

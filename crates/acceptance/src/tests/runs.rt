@@ -1,5 +1,6 @@
 //! Rows that are cut from dots, rows that are turned, and widths that are no row.
 
+use crate::tests::equal::is_equal;
 use scan_core::{RunFault, Runs};
 use std::process::Abort;
 use std::test::Fail;
@@ -8,9 +9,9 @@ use std::test::Fail;
 fn cuts_rows(rt: HostRuntime) -> Result<(), Fail> {
     let alloc = rt.alloc();
     let row = Runs::cut(alloc, &[0xaa, 0x80], 1, 8).ok().ok_or("a row")?;
-    assert_eq!(rt; row.widths(), [1, 1, 1, 1, 1, 1, 1, 1, 0].as_slice());
+    is_equal(&rt, row.widths(), [1, 1, 1, 1, 1, 1, 1, 1, 0].as_slice());
     let row = Runs::cut(alloc, &[], 0, 0).ok().ok_or("a row")?;
-    assert_eq!(rt; row.widths(), [0].as_slice());
+    is_equal(&rt, row.widths(), [0].as_slice());
     Ok(())
 }
 
@@ -19,9 +20,9 @@ fn turns_rows(rt: HostRuntime) -> Result<(), Fail> {
     let mut row = Runs::cut(rt.alloc(), &[0x07, 0xff, 0x3f], 2, 20)
         .ok()
         .ok_or("a row")?;
-    assert_eq!(rt; row.widths(), [3, 11, 2, 4, 0].as_slice());
+    is_equal(&rt, row.widths(), [3, 11, 2, 4, 0].as_slice());
     row.reverse();
-    assert_eq!(rt; row.widths(), [0, 4, 2, 11, 3].as_slice());
+    is_equal(&rt, row.widths(), [0, 4, 2, 11, 3].as_slice());
     Ok(())
 }
 
@@ -37,7 +38,7 @@ fn cuts_the_widest_row(rt: HostRuntime) -> Result<(), Fail> {
         return Err(Fail::from("8,192 bytes"));
     }
     let row = Runs::cut(alloc, light, 1, 65_535).ok().ok_or("a row")?;
-    assert_eq!(rt; row.widths(), [65_535].as_slice());
+    is_equal(&rt, row.widths(), [65_535].as_slice());
     let fault = Runs::cut(alloc, light, 0, 65_536).err().ok_or("a fault")?;
     assert!(rt; matches!(fault, RunFault::TooWide));
     Ok(())
@@ -47,7 +48,7 @@ fn cuts_the_widest_row(rt: HostRuntime) -> Result<(), Fail> {
 fn has_fault<R: AllocGlobal + Abort>(rt: &R, widths: &[u16], wanted: &str) -> Result<(), Fail> {
     let fault = Runs::of_widths(rt.alloc(), widths).err().ok_or("a fault")?;
     let found = fault.to_string(rt.alloc())?;
-    assert_eq!(*rt; found.as_str(), wanted);
+    is_equal(rt, found.as_str(), wanted);
     Ok(())
 }
 

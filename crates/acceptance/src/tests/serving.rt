@@ -1,7 +1,7 @@
 //! Feeds served by workers beside each other.
 
-use crate::tests::rows::{EAN8, EAN13, GS1_128, row};
-use element_core::Year;
+use crate::tests::equal::is_equal;
+use crate::tests::rows::{EAN8, EAN13, GS1_128, row, year_of};
 use fakes::{Holding, Meeting};
 use hub_core::{Gate, OpenGate, serve};
 use lane_core::{Delivery, Ticket};
@@ -61,7 +61,7 @@ fn answered<R: Threads + Wait + AllocGlobal + Sync, G: Gate + Sync>(
     gate: &G,
 ) -> Result<String, Fail> {
     let alloc = rt.alloc();
-    let year = Year::new(2026).ok_or("year")?;
+    let year = year_of(2026)?;
     match serve(rt, alloc, feeds(alloc, lanes)?, workers, year, gate) {
         Ok(lists) => shown(alloc, lists.as_slice()),
         Err(fault) => Ok(fault.to_string(alloc)?),
@@ -73,7 +73,8 @@ fn two_workers_run_beside_each_other(rt: HostRuntime) -> Result<(), Fail> {
     let gate = Holding::new(rt.alloc(), &[2], FIRST, Ticket { lane: 0, number: 1 })?;
     let found = answered(&rt, &[&[EAN13, EAN8]], 2, &gate)?;
     assert!(rt; gate.saw_each_once());
-    assert_eq!(rt;
+    is_equal(
+        &rt,
         found.as_str(),
         "0: 0/0 61 Read { carrier: Ean13\n\
          0: 0/1 45 Read { carrier: Ean8\n",
@@ -86,7 +87,8 @@ fn a_worker_that_is_held_holds_no_other_row(rt: HostRuntime) -> Result<(), Fail>
     let gate = Holding::new(rt.alloc(), &[3], FIRST, Ticket { lane: 0, number: 2 })?;
     let found = answered(&rt, &[&[EAN13, EAN8, GS1_128]], 2, &gate)?;
     assert!(rt; gate.saw_each_once());
-    assert_eq!(rt;
+    is_equal(
+        &rt,
         found.as_str(),
         "0: 0/0 61 Read { carrier: Ean13\n\
          0: 0/1 45 Read { carrier: Ean8\n\
@@ -138,11 +140,11 @@ fn long_feeds(alloc: Global) -> Result<Vec<Vec<Runs>>, Fail> {
 
 /// That a lane's deliveries are those of its feed of so many rows, in their order.
 fn are_of_the_feed<R: Abort>(rt: &R, lane: u8, count: u16, list: &[Delivery]) -> Result<(), Fail> {
-    assert_eq!(*rt; list.len(), usize::from(count));
+    is_equal(rt, list.len(), usize::from(count));
     for number in 0..count {
         let delivery = list.get(usize::from(number)).ok_or("a delivery")?;
-        assert_eq!(*rt; delivery.ticket().number, u32::from(number));
-        assert_eq!(*rt; delivery.row().widths(), widths_of(lane, number));
+        is_equal(rt, delivery.ticket().number, u32::from(number));
+        is_equal(rt, delivery.row().widths(), widths_of(lane, number));
     }
     Ok(())
 }
@@ -153,9 +155,9 @@ fn serve_in_order<R: Threads + Wait + AllocGlobal + Sync + Abort>(
     workers: u8,
 ) -> Result<(), Fail> {
     let alloc = rt.alloc();
-    let year = Year::new(2026).ok_or("year")?;
+    let year = year_of(2026)?;
     let lists = serve(rt, alloc, long_feeds(alloc)?, workers, year, &OpenGate)?;
-    assert_eq!(*rt; lists.len(), 16);
+    is_equal(rt, lists.len(), 16);
     for lane in 0..16 {
         let list = lists.get(usize::from(lane)).ok_or("a list")?;
         are_of_the_feed(rt, lane, count_of(lane), list.as_slice())?;
@@ -179,7 +181,7 @@ fn served_past<R: Threads + Wait + AllocGlobal + Sync, G: Gate + Sync>(
     gate: &G,
 ) -> Result<Vec<Vec<Delivery>>, Fail> {
     let alloc = rt.alloc();
-    let year = Year::new(2026).ok_or("year")?;
+    let year = year_of(2026)?;
     let mut feeds = Vec::new(alloc);
     feeds.push(long_feed(alloc, 0, count)?)?;
     Ok(serve(rt, alloc, feeds, 2, year, gate)?)
@@ -246,10 +248,10 @@ fn serves_three_lanes<R: Threads + Wait + AllocGlobal + Sync + Abort>(
     workers: u8,
 ) -> Result<(), Fail> {
     let alloc = rt.alloc();
-    let year = Year::new(2026).ok_or("year")?;
+    let year = year_of(2026)?;
     let fed = feeds(alloc, THREE_LANES)?;
     let lists = serve(rt, alloc, fed, workers, year, &OpenGate)?;
-    assert_eq!(*rt; lists.len(), 3);
+    is_equal(rt, lists.len(), 3);
     let text = shown(alloc, lists.as_slice())?;
     assert_eq!(*rt; text.as_str(), THREE_LANES_ANSWERED, "{workers} workers");
     Ok(())

@@ -1,10 +1,11 @@
 //! Printed labels, images read and written, and readers and writers that fail.
 ghost use Rattle.std.specs.Prelude.{◌≡◌, ◌<◌};
 
-use crate::tests::rows::{ITF14, ITF14_WRONG};
+use crate::tests::equal::is_equal;
+use crate::tests::rows::{ITF14, ITF14_WRONG, year_of};
 use code128_code::encode;
 use digits_core::{FromReader, Gtin, ToWriter};
-use element_core::{Elements, Year};
+use element_core::Elements;
 use fakes::{Breaking, Narrow};
 use scan_core::{Answer, Carrier, Runs, read_row};
 use sheet_core::{
@@ -33,6 +34,11 @@ fn read(alloc: Global, file: &[u8]) -> Result<Vec<Sheet>, PbmFault> {
     read_pbm(alloc, &mut source)
 }
 
+/// The sheets of a file that has no fault.
+fn sheets_in(alloc: Global, file: &[u8]) -> Result<Vec<Sheet>, Fail> {
+    Ok(read(alloc, file).ok().ok_or("read")?)
+}
+
 /// How many sheets a file has, or the line of its fault.
 fn answer(alloc: Global, file: &[u8]) -> Result<String, AllocError> {
     match read(alloc, file) {
@@ -47,7 +53,7 @@ fn answer(alloc: Global, file: &[u8]) -> Result<String, AllocError> {
 /// That a file has so many sheets, or this fault.
 fn answers<R: AllocGlobal + Abort>(rt: &R, file: &[u8], wanted: &str) -> Result<(), Fail> {
     let found = answer(rt.alloc(), file)?;
-    assert_eq!(*rt; found.as_str(), wanted);
+    is_equal(rt, found.as_str(), wanted);
     Ok(())
 }
 
@@ -56,6 +62,11 @@ fn written(alloc: Global, sheets: &[Sheet]) -> Result<Vec<u8>, Fail> {
     let mut sink = ToWriter::new(Vec::new(alloc));
     write_pbm(sheets, &mut sink).ok().ok_or("write")?;
     Ok(sink.into_inner())
+}
+
+/// That these are the bytes that are wanted.
+fn are_bytes<R: Abort>(rt: &R, found: &Vec<u8>, wanted: &[u8]) {
+    is_equal(rt, found.as_slice(), wanted);
 }
 
 /// The bytes that labels are printed as, and whether they are.
@@ -78,7 +89,7 @@ fn row(alloc: Global, sheet: &Sheet, y: u16) -> Result<String, Fail> {
 }
 
 fn elements(text: &str, year: u16) -> Result<Elements, Fail> {
-    let year = Year::new(year).ok_or("year")?;
+    let year = year_of(year)?;
     Ok(
         Elements::parse(text.as_bytes(), year)
             .ok()
@@ -124,34 +135,110 @@ fn row_of_cell(
     Ok(sheet.cell_row(alloc, grid, cell, y).ok().ok_or("row")?)
 }
 
+/// The symbology identifier of a carrier.
+fn identifier(carrier: Carrier) -> &'static str {
+    match carrier {
+        Carrier::Ean13 | Carrier::UpcE => "]E0",
+        Carrier::Ean8 => "]E4",
+        Carrier::Itf14 => "]I1",
+        Carrier::Gs1128 => "]C1",
+    }
+}
+
+/// What a row says that is answered so.
+fn told(alloc: Global, answer: &Answer) -> Result<String, AllocError> {
+    match answer {
+        Answer::Read { carrier, elements } => {
+            let mut text = String::from_str(alloc, identifier(*carrier))?;
+            text.push(' ')?;
+            text.push_str(elements.hri().as_str())?;
+            Ok(text)
+        }
+        Answer::Refused(fault) => fault.to_string(alloc),
+    }
+}
+
 /// What a row says under a year.
 fn line(alloc: Global, runs: &Runs, year: u16) -> Result<String, Fail> {
-    match read_row(runs, Year::new(year).ok_or("year")?) {
-        Answer::Read { carrier, elements } => {
-            let id = match carrier {
-                Carrier::Ean13 | Carrier::UpcE => "]E0",
-                Carrier::Ean8 => "]E4",
-                Carrier::Itf14 => "]I1",
-                Carrier::Gs1128 => "]C1",
-            };
-            let hri = elements.hri();
-            let text = hri.as_str();
-            Ok(format!(in alloc; "{id} {text}")?)
-        }
-        Answer::Refused(fault) => Ok(format!(in alloc; "{fault}")?),
-    }
+    let year = year_of(year)?;
+    Ok(told(alloc, &read_row(runs, year))?)
 }
 
 /// That a row says this under a year.
 fn says<R: AllocGlobal + Abort>(rt: &R, runs: &Runs, year: u16, wanted: &str) -> Result<(), Fail> {
     let found = line(rt.alloc(), runs, year)?;
-    assert_eq!(*rt; found.as_str(), wanted);
+    is_equal(rt, found.as_str(), wanted);
     Ok(())
 }
 
 fn gtin(digits: &str) -> Result<Gtin, Fail> {
     Ok(Gtin::read(digits.as_bytes()).ok().ok_or("gtin")?)
 }
+
+/// A kind of label, in a table of cases.
+#[derive(Clone, Copy)]
+enum Kind {
+    Ean13,
+    UpcA,
+    Ean8,
+    UpcE,
+    Itf14,
+    Gs1128,
+}
+
+/// The label of this kind and these digits, or of this kind and this text in 2026.
+fn label_of(kind: Kind, text: &str) -> Result<Label, Fail> {
+    if let Kind::Gs1128 = kind {
+        return Ok(Label::Gs1128(elements(text, 2026)?));
+    }
+    let number = gtin(text)?;
+    Ok(match kind {
+        Kind::Ean13 => Label::Ean13(number),
+        Kind::UpcA => Label::UpcA(number),
+        Kind::Ean8 => Label::Ean8(number),
+        Kind::UpcE => Label::UpcE(number),
+        Kind::Itf14 | Kind::Gs1128 => Label::Itf14(number),
+    })
+}
+
+/// The labels of these kinds and texts.
+fn labels_of(alloc: Global, texts: &[(Kind, &str)]) -> Result<Vec<Label>, Fail> {
+    let mut labels = Vec::new(alloc);
+    for &(kind, text) in texts {
+        labels.push(label_of(kind, text)?)?;
+    }
+    Ok(labels)
+}
+
+/// The sheets that labels are printed on.
+fn sheets_of(alloc: Global, labels: &[Label], grid: Grid) -> Result<Vec<Sheet>, Fail> {
+    Ok(print_sheets(alloc, labels, grid).ok().ok_or("print")?)
+}
+
+/// The numbers of a grid, in the order in which `Grid::new` takes them.
+type Numbers = (u16, u16, u16, u16, u16);
+
+/// The grid of these numbers.
+fn grid_of(numbers: Numbers) -> Result<Grid, Fail> {
+    let (module, width, height, columns, rows) = numbers;
+    let grid = Grid::new(module, width, height, columns, rows);
+    Ok(grid.ok().ok_or("grid")?)
+}
+
+// A number of 13 digits, one that a UPC-E has, and one of 8 digits.
+const NUMBER: &str = "9501101530003";
+
+const SUPPRESSED: &str = "012345000065";
+
+const SHORT: &str = "96385074";
+
+// Four cells in which an EAN-13 fits, or is too wide by a dot.
+const WIDE: Numbers = (2, 226, 5, 2, 2);
+
+const NARROW: Numbers = (2, 225, 5, 2, 2);
+
+// One cell in which an EAN-13 fits.
+const ONE: Numbers = (1, 113, 3, 1, 1);
 
 /// How many sheets labels are printed on, or the line of their fault.
 fn print(alloc: Global, labels: &[Label], grid: Grid) -> Result<String, AllocError> {
@@ -172,14 +259,14 @@ fn prints<R: AllocGlobal + Abort>(
     wanted: &str,
 ) -> Result<(), Fail> {
     let found = print(rt.alloc(), labels, grid)?;
-    assert_eq!(*rt; found.as_str(), wanted);
+    is_equal(rt, found.as_str(), wanted);
     Ok(())
 }
 
 #[test]
 fn refuses_grids_outside_the_limits(_rt: HostRuntime) -> Result<(), Fail> {
-    Grid::new(1, 113, 3, 1, 1).ok().ok_or("least")?;
-    Grid::new(8, 1024, 256, 16, 64).ok().ok_or("greatest")?;
+    grid_of((1, 113, 3, 1, 1))?;
+    grid_of((8, 1024, 256, 16, 64))?;
     let cases: &[(u16, u16, u16, u16, u16)] = &[
         (1, 113, 2, 1, 1),
         (1, 1025, 3, 16, 1),
@@ -202,97 +289,109 @@ fn refuses_grids_outside_the_limits(_rt: HostRuntime) -> Result<(), Fail> {
 /// That labels are printed as these bytes.
 fn prints_bytes<R: AllocGlobal + Abort>(rt: &R, labels: &[Label], grid: Grid, wanted: &[u8]) {
     let (found, outcome) = printed(rt.alloc(), labels, grid);
-    assert_eq!(*rt; outcome, Ok(()));
-    assert_eq!(*rt; found.as_slice(), wanted);
+    is_equal(rt, outcome, Ok(()));
+    are_bytes(rt, &found, wanted);
+}
+
+/// That the sheets of labels are written as these bytes.
+fn are_written<R: AllocGlobal + Abort>(
+    rt: &R,
+    labels: &[Label],
+    grid: Grid,
+    wanted: &[u8],
+) -> Result<(), Fail> {
+    let alloc = rt.alloc();
+    let sheets = sheets_of(alloc, labels, grid)?;
+    are_bytes(rt, &written(alloc, sheets.as_slice())?, wanted);
+    Ok(())
 }
 
 #[test]
 fn prints_a_label_as_its_bytes(rt: HostRuntime) -> Result<(), Fail> {
-    let alloc = rt.alloc();
-    let grid = Grid::new(1, 113, 3, 1, 1).ok().ok_or("grid")?;
-    let labels = [Label::Ean13(gtin("9501101530003")?)];
-    let sheets = print_sheets(alloc, &labels, grid).ok().ok_or("print")?;
-    let bytes = written(alloc, sheets.as_slice())?;
-    assert_eq!(rt; bytes.as_slice(), PRINTED);
+    let labels = [label_of(Kind::Ean13, NUMBER)?];
+    let grid = grid_of(ONE)?;
+    are_written(&rt, &labels, grid, PRINTED)?;
     prints_bytes(&rt, &labels, grid, PRINTED);
     Ok(())
 }
 
 #[test]
 fn prints_no_bytes_without_labels(rt: HostRuntime) -> Result<(), Fail> {
-    let grid = Grid::new(1, 113, 3, 1, 1).ok().ok_or("grid")?;
-    prints_bytes(&rt, &[], grid, b"");
+    prints_bytes(&rt, &[], grid_of(ONE)?, b"");
     Ok(())
 }
 
 #[test]
 fn writes_what_it_reads(rt: HostRuntime) -> Result<(), Fail> {
     let alloc = rt.alloc();
-    let read = read(alloc, PRINTED).ok().ok_or("read")?;
-    let again = written(alloc, read.as_slice())?;
-    assert_eq!(rt; again.as_slice(), PRINTED);
+    let sheets = sheets_in(alloc, PRINTED)?;
+    are_bytes(&rt, &written(alloc, sheets.as_slice())?, PRINTED);
+    Ok(())
+}
+
+/// That each of these labels alone, in such a grid, is printed, or has this fault.
+fn print_alone<R: AllocGlobal + Abort>(
+    rt: &R,
+    cases: &[(Kind, &str, Numbers, &str)],
+) -> Result<(), Fail> {
+    for &(kind, text, numbers, wanted) in cases {
+        prints(rt, &[label_of(kind, text)?], grid_of(numbers)?, wanted)?;
+    }
     Ok(())
 }
 
 #[test]
 fn prints_ean13_and_upc_labels_that_fit(rt: HostRuntime) -> Result<(), Fail> {
-    let number = gtin("9501101530003")?;
-    let suppressed = gtin("012345000065")?;
-    let wide = Grid::new(2, 226, 5, 2, 2).ok().ok_or("wide")?;
-    let narrow = Grid::new(2, 225, 5, 2, 2).ok().ok_or("narrow")?;
-    prints(&rt, &[Label::Ean13(number)], wide, "1 sheets")?;
-    prints(
+    print_alone(
         &rt,
-        &[Label::Ean13(number)],
-        narrow,
-        "refused 27 LabelWidth 0",
-    )?;
-    prints(&rt, &[Label::UpcA(suppressed)], wide, "1 sheets")?;
-    prints(&rt, &[Label::UpcA(number)], wide, "refused 26 LabelKind 0")?;
-    prints(&rt, &[Label::UpcE(suppressed)], wide, "1 sheets")?;
-    prints(&rt, &[Label::UpcE(number)], wide, "refused 26 LabelKind 0")
+        &[
+            (Kind::Ean13, NUMBER, WIDE, "1 sheets"),
+            (Kind::Ean13, NUMBER, NARROW, "refused 27 LabelWidth 0"),
+            (Kind::UpcA, SUPPRESSED, WIDE, "1 sheets"),
+            (Kind::UpcA, NUMBER, WIDE, "refused 26 LabelKind 0"),
+            (Kind::UpcE, SUPPRESSED, WIDE, "1 sheets"),
+            (Kind::UpcE, NUMBER, WIDE, "refused 26 LabelKind 0"),
+        ],
+    )
 }
 
 #[test]
 fn prints_itf14_and_ean8_labels_that_fit(rt: HostRuntime) -> Result<(), Fail> {
-    let number = gtin("9501101530003")?;
-    let short = gtin("96385074")?;
-    let wide = Grid::new(2, 226, 5, 2, 2).ok().ok_or("wide")?;
-    let few = Grid::new(1, 81, 3, 1, 1).ok().ok_or("few")?;
-    let case = Grid::new(1, 155, 3, 1, 1).ok().ok_or("case")?;
-    let slim = Grid::new(1, 154, 3, 1, 1).ok().ok_or("slim")?;
-    prints(&rt, &[Label::Itf14(number)], case, "1 sheets")?;
-    prints(
+    print_alone(
         &rt,
-        &[Label::Itf14(number)],
-        slim,
-        "refused 27 LabelWidth 0",
-    )?;
-    prints(&rt, &[Label::Itf14(short)], case, "1 sheets")?;
-    prints(&rt, &[Label::Ean8(short)], few, "1 sheets")?;
-    prints(&rt, &[Label::Ean8(number)], wide, "refused 26 LabelKind 0")
+        &[
+            (Kind::Itf14, NUMBER, (1, 155, 3, 1, 1), "1 sheets"),
+            (
+                Kind::Itf14,
+                NUMBER,
+                (1, 154, 3, 1, 1),
+                "refused 27 LabelWidth 0",
+            ),
+            (Kind::Itf14, SHORT, (1, 155, 3, 1, 1), "1 sheets"),
+            (Kind::Ean8, SHORT, (1, 81, 3, 1, 1), "1 sheets"),
+            (Kind::Ean8, NUMBER, WIDE, "refused 26 LabelKind 0"),
+        ],
+    )
 }
 
 #[test]
 fn answers_the_first_label_that_is_not_printed(rt: HostRuntime) -> Result<(), Fail> {
     let number = gtin("9501101530003")?;
-    let wide = Grid::new(2, 226, 5, 2, 2).ok().ok_or("wide")?;
-    let narrow = Grid::new(2, 225, 5, 2, 2).ok().ok_or("narrow")?;
     let labels = [Label::Ean13(number), Label::Ean8(number)];
-    prints(&rt, &labels, narrow, "refused 27 LabelWidth 0")?;
-    prints(&rt, &labels, wide, "refused 26 LabelKind 1")?;
-    prints(&rt, &[], wide, "0 sheets")
+    prints(&rt, &labels, grid_of(NARROW)?, "refused 27 LabelWidth 0")?;
+    prints(&rt, &labels, grid_of(WIDE)?, "refused 26 LabelKind 1")?;
+    prints(&rt, &[], grid_of(WIDE)?, "0 sheets")
 }
 
 /// That a row of 113 dots has no dark dot.
 fn is_light<R: Abort>(rt: &R, row: &Runs) {
-    assert_eq!(*rt; row.widths(), [113].as_slice());
+    is_equal(rt, row.widths(), [113].as_slice());
 }
 
 /// That a row begins with so many light dots, and has so many runs.
 fn begins_with<R: Abort>(rt: &R, row: &Runs, left: u16, runs: usize) {
-    assert_eq!(*rt; row.widths().first(), Some(&left));
-    assert_eq!(*rt; row.widths().len(), runs);
+    is_equal(rt, row.widths().first(), Some(&left));
+    is_equal(rt, row.widths().len(), runs);
 }
 
 /// That of the three rows of a cell the middle one begins with so many light dots and has so many runs, and the others
@@ -318,6 +417,15 @@ fn has_bars<R: AllocGlobal + Abort>(
     Ok(())
 }
 
+// The labels of a sheet of four cells and of one cell of the next.
+const FIVE: &[(Kind, &str)] = &[
+    (Kind::Ean13, NUMBER),
+    (Kind::Ean8, SHORT),
+    (Kind::UpcE, SUPPRESSED),
+    (Kind::Ean13, NUMBER),
+    (Kind::UpcA, SUPPRESSED),
+];
+
 #[test]
 fn fills_sheets_row_by_row(rt: HostRuntime) -> Result<(), Fail> {
     let alloc = rt.alloc();
@@ -330,16 +438,9 @@ fn fills_sheets_row_by_row(rt: HostRuntime) -> Result<(), Fail> {
         columns: 2,
         rows: 2,
     };
-    let number = gtin("9501101530003")?;
-    let labels = [
-        Label::Ean13(number),
-        Label::Ean8(gtin("96385074")?),
-        Label::UpcE(gtin("012345000065")?),
-        Label::Ean13(number),
-        Label::UpcA(gtin("012345000065")?),
-    ];
-    let sheets = print_sheets(alloc, &labels, grid).ok().ok_or("print")?;
-    assert_eq!(rt; sheets.len(), 2);
+    let labels = labels_of(alloc, FIVE)?;
+    let sheets = sheets_of(alloc, labels.as_slice(), grid)?;
+    is_equal(&rt, sheets.len(), 2);
     let cases: &[(usize, u16, u16, usize)] = &[
         (0, 0, 11, 61),
         (0, 1, 7, 45),
@@ -358,36 +459,44 @@ fn fills_sheets_row_by_row(rt: HostRuntime) -> Result<(), Fail> {
 
 #[test]
 fn a_label_has_its_text(rt: HostRuntime) -> Result<(), Fail> {
-    let label = Label::Ean8(gtin("96385074")?);
-    assert_eq!(rt; label.text().as_slice(), b"0100000096385074".as_slice());
+    let label = label_of(Kind::Ean8, SHORT)?;
+    is_equal(&rt, label.text().as_slice(), b"0100000096385074".as_slice());
     Ok(())
 }
 
 /// That row `y` of a sheet has these dots.
 fn shows<R: AllocGlobal + Abort>(rt: &R, sheet: &Sheet, y: u16, dots: &str) -> Result<(), Fail> {
     let found = row(rt.alloc(), sheet, y)?;
-    assert_eq!(*rt; found.as_str(), dots);
+    is_equal(rt, found.as_str(), dots);
+    Ok(())
+}
+
+/// That the first row of a sheet has runs of these widths.
+fn has_runs<R: AllocGlobal + Abort>(rt: &R, sheet: &Sheet, widths: &[u16]) -> Result<(), Fail> {
+    let runs = sheet.row(rt.alloc(), 0).ok().ok_or("row")?;
+    is_equal(rt, runs.widths(), widths);
     Ok(())
 }
 
 /// That a sheet has the dots of `IMAGE`.
 fn has_its_dots<R: AllocGlobal + Abort>(rt: &R, sheet: &Sheet) -> Result<(), Fail> {
-    assert_eq!(*rt; (sheet.width(), sheet.height()), (10, 2));
+    is_equal(rt, (sheet.width(), sheet.height()), (10, 2));
     shows(rt, sheet, 0, "1010101010")?;
     shows(rt, sheet, 1, "0101010101")?;
-    let runs = sheet.row(rt.alloc(), 0).ok().ok_or("row")?;
-    assert_eq!(*rt; runs.widths(), [0, 1, 1, 1, 1, 1, 1, 1, 1, 1, 1].as_slice());
-    Ok(())
+    has_runs(rt, sheet, &[0, 1, 1, 1, 1, 1, 1, 1, 1, 1, 1])
 }
 
 /// That a file has one sheet, the one of `IMAGE`.
 fn is_image<R: AllocGlobal + Abort>(rt: &R, file: &[u8]) -> Result<(), Fail> {
     let alloc = rt.alloc();
-    let sheets = read(alloc, file).ok().ok_or("read")?;
-    assert_eq!(*rt; sheets.len(), 1);
+    let sheets = sheets_in(alloc, file)?;
+    is_equal(rt, sheets.len(), 1);
     has_its_dots(rt, &sheets[0])?;
-    let bytes = written(alloc, sheets.as_slice())?;
-    assert_eq!(*rt; bytes.as_slice(), b"P4\n10 2\n\xAA\x80\x55\x40".as_slice());
+    are_bytes(
+        rt,
+        &written(alloc, sheets.as_slice())?,
+        b"P4\n10 2\n\xAA\x80\x55\x40",
+    );
     Ok(())
 }
 
@@ -430,15 +539,21 @@ fn zeros(alloc: Global, count: u16) -> Result<Vec<u8>, AllocError> {
     Ok(file)
 }
 
+/// A file of so many sheets of one dot.
+fn dots(alloc: Global, count: u16) -> Result<Vec<u8>, AllocError> {
+    let mut file = Vec::new(alloc);
+    for _ in 0..count {
+        file.extend_from_slice(b"P4 1 1 \x80")?;
+    }
+    Ok(file)
+}
+
 #[test]
 fn keeps_the_limits_of_files(rt: HostRuntime) -> Result<(), Fail> {
     let alloc = rt.alloc();
     answers(&rt, zeros(alloc, 4088)?.as_slice(), "1 sheets")?;
     answers(&rt, zeros(alloc, 4089)?.as_slice(), "refused 29 PbmHeader")?;
-    let mut file = Vec::new(alloc);
-    for _ in 0..4096 {
-        file.extend_from_slice(b"P4 1 1 \x80")?;
-    }
+    let mut file = dots(alloc, 4096)?;
     answers(&rt, file.as_slice(), "4096 sheets")?;
     file.push(b'P')?;
     answers(&rt, file.as_slice(), "refused 31 PbmSize")
@@ -466,20 +581,27 @@ fn answers_a_reader_that_fails(rt: HostRuntime) -> Result<(), Fail> {
     for place in 0..17 {
         let mut source = Breaking::new(&IMAGE[..place]);
         let fault = read_pbm(rt.alloc(), &mut source).err().ok_or("fault")?;
-        assert_eq!(rt; fault, PbmFault::ReadFault);
+        is_equal(&rt, fault, PbmFault::ReadFault);
     }
     Ok(())
+}
+
+/// That so many bytes of `PRINTED` are taken of its sheets where there is room for no more.
+fn writes_front<R: AllocGlobal + Abort>(rt: &R, sheets: &[Sheet], room: usize)
+    requires { room < 55 }
+{
+    let mut sink = Narrow::new(rt.alloc(), room);
+    let wrote = write_pbm(sheets, &mut sink);
+    is_equal(rt, wrote.is_ok(), room == 54);
+    is_equal(rt, sink.taken(), &PRINTED[..room]);
 }
 
 #[test]
 fn writes_fronts_of_files(rt: HostRuntime) -> Result<(), Fail> {
     let alloc = rt.alloc();
-    let sheets = read(alloc, PRINTED).ok().ok_or("read")?;
+    let sheets = sheets_in(alloc, PRINTED)?;
     for room in 0..55 {
-        let mut sink = Narrow::new(alloc, room);
-        let wrote = write_pbm(sheets.as_slice(), &mut sink);
-        assert_eq!(rt; wrote.is_ok(), room == 54);
-        assert_eq!(rt; sink.taken(), &PRINTED[..room]);
+        writes_front(&rt, sheets.as_slice(), room);
     }
     Ok(())
 }
@@ -495,15 +617,14 @@ fn prints_front<R: AllocGlobal + Abort>(rt: &R, labels: &[Label], grid: Grid, ro
     } else {
         Err(PrintFault::WriteFault)
     };
-    assert_eq!(*rt; outcome, wanted);
-    assert_eq!(*rt; sink.taken(), &PRINTED[..room]);
+    is_equal(rt, outcome, wanted);
+    is_equal(rt, sink.taken(), &PRINTED[..room]);
 }
 
 #[test]
 fn prints_fronts_of_files(rt: HostRuntime) -> Result<(), Fail> {
-    let alloc = rt.alloc();
-    let grid = Grid::new(1, 113, 3, 1, 1).ok().ok_or("grid")?;
-    let labels = [Label::Ean13(gtin("9501101530003")?)];
+    let grid = grid_of(ONE)?;
+    let labels = [label_of(Kind::Ean13, NUMBER)?];
     for room in 0..55 {
         prints_front(&rt, &labels, grid, room);
     }
@@ -517,7 +638,7 @@ fn prints_as_written<R: AllocGlobal + Abort>(
     grid: Grid,
 ) -> Result<(), Fail> {
     let alloc = rt.alloc();
-    let sheets = print_sheets(alloc, labels, grid).ok().ok_or("print")?;
+    let sheets = sheets_of(alloc, labels, grid)?;
     let wanted = written(alloc, sheets.as_slice())?;
     prints_bytes(rt, labels, grid, wanted.as_slice());
     Ok(())
@@ -525,22 +646,18 @@ fn prints_as_written<R: AllocGlobal + Abort>(
 
 #[test]
 fn prints_the_bytes_of_sheets(rt: HostRuntime) -> Result<(), Fail> {
-    let labels = [
-        Label::Gs1128(elements("10AB\x1d17261231", 2026)?),
-        Label::Ean13(gtin("9501101530003")?),
-        Label::Ean8(gtin("96385074")?),
-        Label::UpcE(gtin("012345000065")?),
-        Label::Gs1128(elements("17000229", 2026)?),
+    let texts: &[(Kind, &str)] = &[
+        (Kind::Gs1128, "10AB\x1d17261231"),
+        (Kind::Ean13, NUMBER),
+        (Kind::Ean8, SHORT),
+        (Kind::UpcE, SUPPRESSED),
+        (Kind::Gs1128, "17000229"),
     ];
     // In the last grid several pieces make up the bars of a row of cells.
-    let grids: &[(u16, u16, u16, u16, u16)] = &[
-        (1, 250, 3, 1, 1),
-        (2, 400, 12, 3, 3),
-        (3, 683, 200, 2, 1),
-    ];
-    for &(module, width, height, columns, rows) in grids {
-        let grid = Grid::new(module, width, height, columns, rows);
-        prints_as_written(&rt, &labels, grid.ok().ok_or("grid")?)?;
+    let grids: &[Numbers] = &[(1, 250, 3, 1, 1), (2, 400, 12, 3, 3), (3, 683, 200, 2, 1)];
+    let labels = labels_of(rt.alloc(), texts)?;
+    for &numbers in grids {
+        prints_as_written(&rt, labels.as_slice(), grid_of(numbers)?)?;
     }
     Ok(())
 }
@@ -573,9 +690,9 @@ fn prints_48_characters(rt: HostRuntime) -> Result<(), Fail> {
         columns: 1,
         rows: 1,
     };
-    let labels = [Label::Gs1128(elements(LONGEST, 2026)?)];
-    assert_eq!(rt; labels[0].text().len(), 48);
-    let sheets = print_sheets(alloc, &labels, wide).ok().ok_or("print")?;
+    let labels = [label_of(Kind::Gs1128, LONGEST)?];
+    is_equal(&rt, labels[0].text().len(), 48);
+    let sheets = sheets_of(alloc, &labels, wide)?;
     let sheet = sheets.first().ok_or("sheet")?;
     for y in 1..3 {
         let runs = row_of_cell(alloc, sheet, &wide, shape, 0, y)?;
@@ -588,25 +705,25 @@ fn prints_48_characters(rt: HostRuntime) -> Result<(), Fail> {
 /// That no byte of labels is printed, for this fault.
 fn prints_nothing<R: AllocGlobal + Abort>(rt: &R, labels: &[Label], grid: Grid, fault: SheetFault) {
     let (bytes, outcome) = printed(rt.alloc(), labels, grid);
-    assert_eq!(*rt; outcome, Err(PrintFault::Sheet(fault)));
-    assert_eq!(*rt; bytes.len(), 0);
+    is_equal(rt, outcome, Err(PrintFault::Sheet(fault)));
+    is_equal(rt, bytes.len(), 0);
+}
+
+/// That a text has too many characters for a symbol, and is printed in no cell.
+fn is_too_long<R: AllocGlobal + Abort>(rt: &R, text: &str) -> Result<(), Fail> {
+    let longer = elements(text, 2026)?;
+    encode(&longer).err().ok_or("too many characters")?;
+    let wide = grid_of((1, 594, 4, 1, 1))?;
+    prints(rt, &[Label::Gs1128(longer)], wide, "refused 26 LabelKind 0")
 }
 
 #[test]
 fn refuses_49_characters_and_narrow_cells(rt: HostRuntime) -> Result<(), Fail> {
-    let wide = Grid::new(1, 594, 4, 1, 1).ok().ok_or("wide")?;
-    let narrow = Grid::new(1, 593, 4, 1, 1).ok().ok_or("narrow")?;
-    let labels = [Label::Gs1128(elements(LONGEST, 2026)?)];
+    let narrow = grid_of((1, 593, 4, 1, 1))?;
+    let labels = [label_of(Kind::Gs1128, LONGEST)?];
     prints(&rt, &labels, narrow, "refused 27 LabelWidth 0")?;
     prints_nothing(&rt, &labels, narrow, SheetFault::LabelWidth(0));
-    let longer = elements("91AAAAAAAAAAAAAAAAAAAAAAAAAAAAAAAAAAAAAAAAAAAAAAA", 2026)?;
-    encode(&longer).err().ok_or("too many characters")?;
-    prints(
-        &rt,
-        &[Label::Gs1128(longer)],
-        wide,
-        "refused 26 LabelKind 0",
-    )
+    is_too_long(&rt, "91AAAAAAAAAAAAAAAAAAAAAAAAAAAAAAAAAAAAAAAAAAAAAAA")
 }
 
 /// That each of the eight bar rows of a cell of twelve rows says this in 2026, and the others nothing.
@@ -635,20 +752,16 @@ fn rows_say<R: AllocGlobal + Abort>(
     Ok(())
 }
 
-/// A label of each kind, and a second of element strings.
-fn labels_of_each_kind() -> Result<[Label; 7], Fail> {
-    let number = gtin("9501101530003")?;
-    let suppressed = gtin("012345000065")?;
-    Ok([
-        Label::Ean13(number),
-        Label::UpcA(suppressed),
-        Label::Ean8(gtin("96385074")?),
-        Label::UpcE(suppressed),
-        Label::Gs1128(elements("10AB\x1d17261231", 2026)?),
-        Label::Gs1128(elements("17000229", 2026)?),
-        Label::Itf14(number),
-    ])
-}
+// A label of each kind, and a second of element strings.
+const EACH_KIND: &[(Kind, &str)] = &[
+    (Kind::Ean13, NUMBER),
+    (Kind::UpcA, SUPPRESSED),
+    (Kind::Ean8, SHORT),
+    (Kind::UpcE, SUPPRESSED),
+    (Kind::Gs1128, "10AB\x1d17261231"),
+    (Kind::Gs1128, "17000229"),
+    (Kind::Itf14, NUMBER),
+];
 
 #[test]
 fn reads_each_bar_row_as_its_label(rt: HostRuntime) -> Result<(), Fail> {
@@ -662,8 +775,8 @@ fn reads_each_bar_row_as_its_label(rt: HostRuntime) -> Result<(), Fail> {
         columns: 3,
         rows: 3,
     };
-    let labels = labels_of_each_kind()?;
-    let sheets = print_sheets(alloc, &labels, grid).ok().ok_or("print")?;
+    let labels = labels_of(alloc, EACH_KIND)?;
+    let sheets = sheets_of(alloc, labels.as_slice(), grid)?;
     let sheet = sheets.first().ok_or("sheet")?;
     let cases: &[(u16, &str)] = &[
         (0, "]E0 (01)09501101530003"),

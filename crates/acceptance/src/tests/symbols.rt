@@ -1,12 +1,14 @@
 //! Symbols: their modules, and the values and texts of those of Code 128.
 
+use crate::tests::equal::is_equal;
+use crate::tests::rows::year_of;
 use arrayvec::ArrayVec;
 use code128_code::{
     Code128Fault, TooManyCharacters, Values, character, check_character, encode, text_of, values,
 };
 use digits_core::Gtin;
 use ean_code::{Modules, Spelled, ean8, ean13, itf14, read_itf14, upce};
-use element_core::{Elements, Year};
+use element_core::Elements;
 use std::process::Abort;
 use std::test::Fail;
 
@@ -18,7 +20,7 @@ const COUNTRY: [u8; 43] = [
 
 /// The elements of a text.
 fn elements_of(text: &[u8]) -> Result<Elements, Fail> {
-    let year = Year::new(2026).ok_or("a year")?;
+    let year = year_of(2026)?;
     let elements = Elements::parse(text, year)?;
     Ok(elements)
 }
@@ -53,11 +55,11 @@ fn is_read_again<R: Abort>(
     check: u8,
 ) -> Result<(), Fail> {
     let found = values(modules).ok_or("a symbol")?;
-    assert_eq!(*rt; found.start, 105);
-    assert_eq!(*rt; found.values.as_slice(), data);
-    assert_eq!(*rt; found.check, check);
+    is_equal(rt, found.start, 105);
+    is_equal(rt, found.values.as_slice(), data);
+    is_equal(rt, found.check, check);
     let said = text_of(&found)?;
-    assert_eq!(*rt; said.as_slice(), text);
+    is_equal(rt, said.as_slice(), text);
     Ok(())
 }
 
@@ -66,12 +68,12 @@ fn is_encoded<R: Abort>(rt: &R, text: &[u8], data: &[u8], check: u8) -> Result<(
     if data.len() > 96 {
         return Err(Fail::from("at most 96 values"));
     }
-    assert_eq!(*rt; check_character(105, data), check);
+    is_equal(rt, check_character(105, data), check);
     let modules = encode(&elements_of(text)?)?;
     is_read_again(rt, &modules, text, data, check)?;
     let characters = data.len() + 2;
-    assert_eq!(*rt; modules.widths().len(), 6 * characters + 7);
-    assert_eq!(*rt; total(&modules), 11 * characters + 13);
+    is_equal(rt, modules.widths().len(), 6 * characters + 7);
+    is_equal(rt, total(&modules), 11 * characters + 13);
     Ok(())
 }
 
@@ -102,7 +104,7 @@ fn encodes_and_reads_again(rt: HostRuntime) -> Result<(), Fail> {
 #[test]
 fn draws_the_printed_widths(rt: HostRuntime) -> Result<(), Fail> {
     let mut modules = encode(&elements_of(b"422528")?)?;
-    assert_eq!(rt; modules.widths(), COUNTRY.as_slice());
+    is_equal(&rt, modules.widths(), COUNTRY.as_slice());
     modules.reverse();
     assert!(rt; values(&modules).is_none());
     let drawn = Modules::of(&COUNTRY).ok_or("modules")?;
@@ -113,9 +115,9 @@ fn draws_the_printed_widths(rt: HostRuntime) -> Result<(), Fail> {
 #[test]
 fn finds_characters_by_their_widths(rt: HostRuntime) -> Result<(), Fail> {
     // 211232, the start character C, and widths that no character has.
-    assert_eq!(rt; character(0b01_00_00_01_10_01), Some(105));
-    assert_eq!(rt; character(0), None);
-    assert_eq!(rt; character(4096), None);
+    is_equal(&rt, character(0b01_00_00_01_10_01), Some(105));
+    is_equal(&rt, character(0), None);
+    is_equal(&rt, character(4096), None);
     Ok(())
 }
 
@@ -126,10 +128,10 @@ fn encodes_48_characters(rt: HostRuntime) -> Result<(), Fail> {
     text[1] = b'1';
     let modules = encode(&elements_of(&text[..48])?)?;
     // 49 data characters, start and check character: 51 of eleven modules, and thirteen.
-    assert_eq!(rt; total(&modules), 574);
+    is_equal(&rt, total(&modules), 574);
     assert!(rt; encode(&elements_of(&text)?) == Err(TooManyCharacters));
     let fault = TooManyCharacters.to_string(rt.alloc())?;
-    assert_eq!(rt; fault.as_str(), "refused 12 TooManyCharacters");
+    is_equal(&rt, fault.as_str(), "refused 12 TooManyCharacters");
     Ok(())
 }
 
@@ -145,7 +147,7 @@ fn says_the_text_in_each_code_set(rt: HostRuntime) -> Result<(), Fail> {
     ];
     for &(start, data, check, text) in symbols {
         let said = text_of(&shown(start, data, check))?;
-        assert_eq!(rt; said.as_slice(), text);
+        is_equal(&rt, said.as_slice(), text);
     }
     Ok(())
 }
@@ -200,7 +202,7 @@ fn refuses_values_without_a_text(rt: HostRuntime) -> Result<(), Fail> {
     for &(start, data, check, fault, line) in symbols {
         let found = text_of(&shown(start, data, check)).err().ok_or("a fault")?;
         assert!(rt; found == fault);
-        assert_eq!(rt; found.to_string(rt.alloc())?.as_str(), line);
+        is_equal(&rt, found.to_string(rt.alloc())?.as_str(), line);
     }
     Ok(())
 }

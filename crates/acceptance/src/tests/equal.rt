@@ -1,0 +1,9 @@
+//! One assertion for all tests: its code is proved here once, that of `assert_eq!` at each place.
+
+use std::fmt::Debug;
+use std::process::Abort;
+
+/// That what is found is what is wanted.
+pub fn is_equal<R: Abort, T: PartialEq + Debug + Drop>(rt: &R, found: T, wanted: T) {
+    assert_eq!(*rt; found, wanted);
+}
