@@ -7,7 +7,7 @@ use digits_core::{FromReader, ToWriter};
 use fakes::{Happened, Holding, Meeting, Recorded};
 use hub_core::{Gate, OpenGate};
 use lane_core::Ticket;
-use std::alloc::Global;
+use std::alloc::{AllocError, Global};
 use std::process::Abort;
 use std::sync::Wait;
 use std::test::Fail;
@@ -56,6 +56,24 @@ fn writes<R: Threads + Wait + AllocGlobal + Sync + Abort, G: Gate + Sync>(
     Ok(())
 }
 
+/// That a command writes this of an input, each row of which passes the gate once.
+fn writes_past<R: Threads + Wait + AllocGlobal + Sync + Abort>(
+    rt: &R,
+    asked: Batch,
+    input: &[u8],
+    gate: &Holding,
+    wanted: &[u8],
+) -> Result<(), Fail> {
+    writes(rt, asked, input, gate, wanted)?;
+    assert!(*rt; gate.saw_each_once());
+    Ok(())
+}
+
+/// The options of so many lanes and workers, in 2026.
+fn options_of(lanes: u8, workers: u8) -> Result<LaneOptions, Fail> {
+    Ok(LaneOptions::new(lanes, workers, 2026).ok_or("options")?)
+}
+
 #[test]
 fn check_answers_a_text(rt: HostRuntime) -> Result<(), Fail> {
     let year = year_of(2026)?;
@@ -85,13 +103,11 @@ fn print_writes_images_or_lines(rt: HostRuntime) -> Result<(), Fail> {
 
 #[test]
 fn two_workers_read_the_rows_of_a_lane(rt: HostRuntime) -> Result<(), Fail> {
-    let options = LaneOptions::new(1, 2, 2026).ok_or("options")?;
+    let options = options_of(1, 2)?;
     let input = format!(in rt.alloc(); "0,{EAN13}\n0,{EAN8}\n")?;
     let gate = Holding::new(rt.alloc(), &[2], ticket(0, 0), ticket(0, 1))?;
     let wanted = b"0 0 ]E0 (01)09501101530003\n0 1 ]E4 (01)00000096385074\n";
-    writes(&rt, Batch::Lanes(options), input.as_bytes(), &gate, wanted)?;
-    assert!(rt; gate.saw_each_once());
-    Ok(())
+    writes_past(&rt, Batch::Lanes(options), input.as_bytes(), &gate, wanted)
 }
 
 #[test]
@@ -99,21 +115,26 @@ fn two_workers_read_the_rows_of_a_column(rt: HostRuntime) -> Result<(), Fail> {
     let options = ScanOptions::new(1, 113, 3, 1, 2, 2, 2026).ok_or("options")?;
     let gate = Holding::new(rt.alloc(), &[2], ticket(0, 0), ticket(0, 1))?;
     let wanted = b"0 0 ]E0 (01)09501101530003\n0 1 ]E0 (01)09501101530003\n";
-    writes(&rt, Batch::Scan(options), TWO_LABELS, &gate, wanted)?;
-    assert!(rt; gate.saw_each_once());
-    Ok(())
+    writes_past(&rt, Batch::Scan(options), TWO_LABELS, &gate, wanted)
 }
 
 #[test]
 fn a_row_of_the_last_lane_is_held_alone(rt: HostRuntime) -> Result<(), Fail> {
-    let options = LaneOptions::new(3, 2, 2026).ok_or("options")?;
+    let options = options_of(3, 2)?;
     let input = format!(in rt.alloc(); "2,{EAN8}\n0,{EAN13}\n2,{EAN13}\n0,{EAN8}\n")?;
     let gate = Holding::new(rt.alloc(), &[2, 0, 2], ticket(2, 0), ticket(2, 1))?;
     let wanted = b"0 0 ]E0 (01)09501101530003\n0 1 ]E4 (01)00000096385074\n\
         2 0 ]E4 (01)00000096385074\n2 1 ]E0 (01)09501101530003\n";
-    writes(&rt, Batch::Lanes(options), input.as_bytes(), &gate, wanted)?;
-    assert!(rt; gate.saw_each_once());
-    Ok(())
+    writes_past(&rt, Batch::Lanes(options), input.as_bytes(), &gate, wanted)
+}
+
+/// A line for each of sixteen lanes: its number, and these texts.
+fn lines(alloc: Global, mark: &str, text: &str) -> Result<String, AllocError> {
+    let mut lines = String::new(alloc);
+    for lane in 0..16 {
+        lines.push_str(format!(in alloc; "{lane}{mark}{text}\n")?.as_str())?;
+    }
+    Ok(lines)
 }
 
 /// That sixteen workers are at work at once on this input, and write a line like this for each of sixteen lanes.
@@ -124,10 +145,7 @@ fn meet<R: Threads + Wait + AllocGlobal + Sync + Abort>(
     answer: &str,
 ) -> Result<(), Fail> {
     let alloc = rt.alloc();
-    let mut wanted = String::new(alloc);
-    for lane in 0..16 {
-        wanted.push_str(format!(in alloc; "{lane} 0 {answer}\n")?.as_str())?;
-    }
+    let wanted = lines(alloc, " 0 ", answer)?;
     let gate = Meeting::of(alloc, 16)?;
     writes(rt, asked, input, &gate, wanted.as_bytes())?;
     assert!(*rt; gate.has_met());
@@ -136,12 +154,8 @@ fn meet<R: Threads + Wait + AllocGlobal + Sync + Abort>(
 
 #[test]
 fn sixteen_workers_read_rows_of_lanes_at_once(rt: HostRuntime) -> Result<(), Fail> {
-    let alloc = rt.alloc();
-    let options = LaneOptions::new(16, 16, 2026).ok_or("options")?;
-    let mut input = String::new(alloc);
-    for lane in 0..16 {
-        input.push_str(format!(in alloc; "{lane},{EAN8}\n")?.as_str())?;
-    }
+    let options = options_of(16, 16)?;
+    let input = lines(rt.alloc(), ",", EAN8)?;
     meet(
         &rt,
         Batch::Lanes(options),
@@ -169,26 +183,32 @@ fn sixteen_workers_read_rows_of_columns_at_once(rt: HostRuntime) -> Result<(), F
     )
 }
 
+/// So many rows of lane 0 without a dark dot.
+fn blank_rows(alloc: Global, count: u32) -> Result<String, AllocError> {
+    let mut rows = String::new(alloc);
+    for _ in 0..count {
+        rows.push_str("0,7\n")?;
+    }
+    Ok(rows)
+}
+
+/// The lines of their refusals.
+fn refusals(alloc: Global, count: u32) -> Result<String, AllocError> {
+    let mut lines = String::new(alloc);
+    for number in 0..count {
+        lines.push_str(format!(in alloc; "0 {number} refused 19 Blank\n")?.as_str())?;
+    }
+    Ok(lines)
+}
+
 #[test]
 fn each_row_of_a_long_lane_comes_once(rt: HostRuntime) -> Result<(), Fail> {
     let alloc = rt.alloc();
-    let options = LaneOptions::new(1, 2, 2026).ok_or("options")?;
-    let mut input = String::new(alloc);
-    let mut wanted = String::new(alloc);
-    for number in 0..5_000 {
-        input.push_str("0,7\n")?;
-        wanted.push_str(format!(in alloc; "0 {number} refused 19 Blank\n")?.as_str())?;
-    }
+    let lanes = Batch::Lanes(options_of(1, 2)?);
+    let input = blank_rows(alloc, 5_000)?;
+    let wanted = refusals(alloc, 5_000)?;
     let gate = Holding::new(alloc, &[5_000], ticket(0, 0), ticket(0, 4_999))?;
-    writes(
-        &rt,
-        Batch::Lanes(options),
-        input.as_bytes(),
-        &gate,
-        wanted.as_bytes(),
-    )?;
-    assert!(rt; gate.saw_each_once());
-    Ok(())
+    writes_past(&rt, lanes, input.as_bytes(), &gate, wanted.as_bytes())
 }
 
 // What `live` reads and writes of this input, twelve bytes at a time: a read begins with `<`, a write with `>`.
@@ -238,7 +258,7 @@ fn lives<R: Threads + Wait + AllocGlobal + Sync + Abort>(
     ending: &str,
 ) -> Result<(), Fail> {
     let alloc = rt.alloc();
-    let rows = LaneOptions::new(1, 2, 2026).ok_or("options")?;
+    let rows = options_of(1, 2)?;
     let wire = Recorded::new(alloc, LIVE_INPUT, 12, calls);
     let options = LiveOptions::new(rows, false);
     let (wire, ended) = run_live(rt, alloc, options, wire, &OpenGate);

@@ -19,23 +19,29 @@ fn text(bytes: &str) -> Result<Text, Fail> {
     Ok(text)
 }
 
-/// The human-readable line of pairs in 2026, or the line of their fault.
-fn line(alloc: Global, pairs: &[(&str, &str)]) -> Result<String, Fail> {
+/// The pair of an AI and a value.
+fn pair(ai: &str, value: &str) -> Result<Pair, Fail> {
+    Ok(Pair {
+        ai: text(ai)?,
+        value: text(value)?,
+    })
+}
+
+/// The list of these pairs.
+fn list_of(alloc: Global, pairs: &[(&str, &str)]) -> Result<Vec<Pair>, Fail> {
     let mut list = Vec::new(alloc);
     for (ai, value) in pairs {
-        list.push(Pair {
-            ai: text(ai)?,
-            value: text(value)?,
-        })?;
+        list.push(pair(ai, value)?)?;
     }
-    let year = year_of(2026)?;
-    match Elements::of_pairs(list.as_slice(), year) {
-        Ok(elements) => {
-            let hri = elements.hri();
-            let line = hri.as_str();
-            Ok(format!(in alloc; "{line}")?)
-        }
-        Err(fault) => Ok(format!(in alloc; "{fault}")?),
+    Ok(list)
+}
+
+/// The human-readable line of pairs in 2026, or the line of their fault.
+fn line(alloc: Global, pairs: &[(&str, &str)]) -> Result<String, Fail> {
+    let list = list_of(alloc, pairs)?;
+    match Elements::of_pairs(list.as_slice(), year_of(2026)?) {
+        Ok(elements) => Ok(String::from_str(alloc, elements.hri().as_str())?),
+        Err(fault) => Ok(fault.to_string(alloc)?),
     }
 }
 

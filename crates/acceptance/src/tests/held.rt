@@ -1,6 +1,6 @@
 //! A row that is held back at the gate is not delivered, and holds no other lane back.
 
-use crate::tests::equal::is_equal;
+use crate::tests::equal::{is_equal, is_true};
 use crate::tests::rows::{EAN8, EAN13, row};
 use hub_core::Shape;
 use scan_core::Carrier;
@@ -21,7 +21,7 @@ fn settles_the_held<R: Wait + AllocGlobal + Abort>(
     is_equal(rt, lists.len(), 2);
     is_equal(rt, (lists[0].len() + lists[1].len()), 1);
     let list = lists.get(usize::from(held)).ok_or("a list")?;
-    assert!(*rt; is_answer(list.get(0), held, 0, carrier));
+    is_true(rt, is_answer(list.get(0), held, 0, carrier));
     Ok(())
 }
 
@@ -51,8 +51,8 @@ fn holds<R: Threads + Wait + Sync + AllocGlobal + Abort>(
     let gate = LaneGate::new(held);
     let hub = with_two_rows(rt)?;
     let (hub, polled, is_held) = hub.poll_and_open(rt, alloc, &gate, (free, held))?;
-    assert!(*rt; is_answer(polled.as_ref(), free, 0, carriers.0));
-    assert!(*rt; is_held);
+    is_true(rt, is_answer(polled.as_ref(), free, 0, carriers.0));
+    is_true(rt, is_held);
     is_equal(rt, gate.limits_met(), 0);
     settles_the_held(rt, hub.close(alloc)?, held, carriers.1)
 }

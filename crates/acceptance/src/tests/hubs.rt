@@ -1,6 +1,6 @@
 //! The hub's calls one by one, on one thread.
 
-use crate::tests::equal::is_equal;
+use crate::tests::equal::{is_equal, is_true};
 use crate::tests::rows::{EAN8, EAN13, GS1_128, row, year_of};
 use element_core::Year;
 use hub_core::{Collected, Handed, Hub, HubFault, Shape, SubmitFault, Worked};
@@ -72,7 +72,7 @@ fn polls<R: Abort>(
     carrier: Carrier,
 ) -> Result<(), Fail> {
     let found = hub.poll(usize::from(lane))?;
-    assert!(*rt; is_answer(found.as_ref(), lane, number, carrier));
+    is_true(rt, is_answer(found.as_ref(), lane, number, carrier));
     Ok(())
 }
 
@@ -115,7 +115,7 @@ fn are_answers<R: Abort>(
     let list = lists.get(usize::from(lane)).ok_or("a list")?;
     is_equal(rt, list.len(), carriers.len());
     for (delivery, (number, carrier)) in list.iter().zip((first..).zip(carriers)) {
-        assert!(*rt; is_answer(Some(delivery), lane, number, *carrier));
+        is_true(rt, is_answer(Some(delivery), lane, number, *carrier));
     }
     Ok(())
 }
@@ -200,11 +200,11 @@ fn one_lane_polls_all_before_it_is_settled(rt: HostRuntime) -> Result<(), Fail> 
 
 /// That the one lane polls its second row's delivery, and is done then.
 fn polls_the_last<R: Abort>(rt: &R, hub: &mut Closed) -> Result<(), Fail> {
-    assert!(*rt; !hub.is_done(0)?);
+    is_true(rt, !hub.is_done(0)?);
     let last = hub.poll(0)?;
-    assert!(*rt; is_answer(last.as_ref(), 0, 1, Carrier::Ean8));
-    assert!(*rt; hub.is_done(0)?);
-    assert!(*rt; hub.poll(0)?.is_none());
+    is_true(rt, is_answer(last.as_ref(), 0, 1, Carrier::Ean8));
+    is_true(rt, hub.is_done(0)?);
+    is_true(rt, hub.poll(0)?.is_none());
     Ok(())
 }
 
@@ -221,7 +221,7 @@ fn settles_what_no_lane_has_polled(rt: HostRuntime) -> Result<(), Fail> {
             Step::Submit(0, GS1_128, "0/2"),
         ],
     )?;
-    assert!(rt; hub.poll(0)?.is_none());
+    is_true(&rt, hub.poll(0)?.is_none());
     settles(&rt, hub.close(alloc)?, 1, 0, ALL)
 }
 
@@ -379,6 +379,13 @@ fn a_spent_lane_is_told_before_a_full_queue(rt: HostRuntime) -> Result<(), Fail>
     )
 }
 
+/// That three lists have a delivery each: of an EAN-13, an EAN-8 and a GS1-128.
+fn are_of_three_lanes<R: Abort>(rt: &R, lists: &[Vec<Delivery>]) -> Result<(), Fail> {
+    are_answers(rt, lists, 0, 0, &[Carrier::Ean13])?;
+    are_answers(rt, lists, 1, 0, &[Carrier::Ean8])?;
+    are_answers(rt, lists, 2, 0, &[Carrier::Gs1128])
+}
+
 #[test]
 fn seats_are_settled_in_any_order(rt: HostRuntime) -> Result<(), Fail> {
     let alloc = rt.alloc();
@@ -395,9 +402,7 @@ fn seats_are_settled_in_any_order(rt: HostRuntime) -> Result<(), Fail> {
     )?;
     let lists = hub.close(alloc)?.turned().settle(&rt, alloc)?;
     is_equal(&rt, lists.len(), 3);
-    are_answers(&rt, lists.as_slice(), 0, 0, &[Carrier::Ean13])?;
-    are_answers(&rt, lists.as_slice(), 1, 0, &[Carrier::Ean8])?;
-    are_answers(&rt, lists.as_slice(), 2, 0, &[Carrier::Gs1128])
+    are_of_three_lanes(&rt, lists.as_slice())
 }
 
 #[test]

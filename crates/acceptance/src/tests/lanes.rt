@@ -2,7 +2,7 @@
 ghost use Rattle.std.specs.Prelude.{◌<◌, IfOk, length};
 ghost use Rattle.lane_core.specs.ReorderBuffer.{lanes_of};
 
-use crate::tests::equal::is_equal;
+use crate::tests::equal::{is_equal, is_true};
 use crate::tests::rows::{EAN8, EAN13, row, year_of};
 use element_core::Year;
 use lane_core::{
@@ -56,6 +56,22 @@ fn is_taken(deliverer: &mut Deliverer, delivery: Delivery) -> bool
     !is_stranger(deliverer.take_in(delivery))
 }
 
+/// That the delivery of this lane and number is taken in, or else comes back as a stranger.
+fn takes<R: AllocGlobal + Abort>(
+    rt: &R,
+    deliverer: &mut Deliverer,
+    lane: u8,
+    number: u32,
+    wanted: bool,
+) -> Result<(), Fail>
+    requires { 0 < lanes_of deliverer.old }
+    ensures { 0 < lanes_of deliverer.new }
+{
+    let found = is_taken(deliverer, delivery(rt.alloc(), lane, number)?);
+    is_equal(rt, found, wanted);
+    Ok(())
+}
+
 /// Whether lane 0 is given this number next.
 fn gives(deliverer: &mut Deliverer, number: u32) -> bool
     requires { 0 < lanes_of deliverer.old }
@@ -68,15 +84,14 @@ fn gives(deliverer: &mut Deliverer, number: u32) -> bool
 fn hands_two<R: AllocGlobal + Abort>(rt: &R, deliverer: &mut Deliverer) -> Result<(), Fail>
     requires { 0 < lanes_of deliverer.old }
 {
-    let alloc = rt.alloc();
-    assert!(*rt; is_taken(deliverer, delivery(alloc, 0, 1)?));
-    assert!(*rt; deliverer.next(0).is_none());
-    assert!(*rt; is_taken(deliverer, delivery(alloc, 0, 0)?));
-    assert!(*rt; !is_taken(deliverer, delivery(alloc, 0, 0)?));
-    assert!(*rt; !is_taken(deliverer, delivery(alloc, 5, 0)?));
-    assert!(*rt; gives(deliverer, 0));
-    assert!(*rt; gives(deliverer, 1));
-    assert!(*rt; deliverer.take_next(0).is_none());
+    takes(rt, deliverer, 0, 1, true)?;
+    is_true(rt, deliverer.next(0).is_none());
+    takes(rt, deliverer, 0, 0, true)?;
+    takes(rt, deliverer, 0, 0, false)?;
+    takes(rt, deliverer, 5, 0, false)?;
+    is_true(rt, gives(deliverer, 0));
+    is_true(rt, gives(deliverer, 1));
+    is_true(rt, deliverer.take_next(0).is_none());
     Ok(())
 }
 
@@ -90,12 +105,11 @@ fn hands_deliveries_by_number(rt: HostRuntime) -> Result<(), Fail> {
 fn takes_one_out_of_turn(rt: HostRuntime) -> Result<(), Fail> {
     let alloc = rt.alloc();
     let mut deliverer = Deliverer::new(alloc, 1).ok().ok_or("deliverer")?;
-    assert!(rt; is_taken(&mut deliverer, delivery(alloc, 0, 3)?));
-    assert!(rt; deliverer.next(0).is_none());
-    assert!(rt; is_number(deliverer.take_any(), 0, 3));
-    assert!(rt; deliverer.take_any().is_none());
-    assert!(rt; is_stranger(deliverer.take_in(delivery(alloc, 0, 3)?)));
-    Ok(())
+    takes(&rt, &mut deliverer, 0, 3, true)?;
+    is_true(&rt, deliverer.next(0).is_none());
+    is_true(&rt, is_number(deliverer.take_any(), 0, 3));
+    is_true(&rt, deliverer.take_any().is_none());
+    takes(&rt, &mut deliverer, 0, 3, false)
 }
 
 /// A world of one lane.
@@ -141,13 +155,21 @@ fn has_polled(world: &World, lane: u8, carriers: &[Carrier]) -> bool
         })
 }
 
+/// Two rows are submitted.
+fn submit_both(alloc: Global, world: &mut World) -> Result<bool, Fail>
+    requires { 0 < length world.old.lanes }
+    ensures { 0 < length world.new.lanes }
+{
+    let first = done(world, Event::Submit(0, row(alloc, EAN13)?))?;
+    Ok(first && done(world, Event::Submit(0, row(alloc, EAN8)?))?)
+}
+
 /// Two rows are submitted and taken, and the second is posted and collected.
 fn bring_the_second(alloc: Global, world: &mut World) -> Result<bool, Fail>
     requires { 0 < length world.old.lanes }
     ensures { 0 < length world.new.lanes }
 {
-    let submitted = done(world, Event::Submit(0, row(alloc, EAN13)?))?
-        && done(world, Event::Submit(0, row(alloc, EAN8)?))?;
+    let submitted = submit_both(alloc, world)?;
     let taken = done(world, Event::Take(0))? && done(world, Event::Take(1))?;
     Ok(submitted && taken && done(world, Event::Post(1))? && done(world, Event::Collect)?)
 }
@@ -166,12 +188,12 @@ fn polls_both<R: AllocGlobal + Abort>(rt: &R, world: &mut World) -> Result<(), F
     requires { 0 < length world.old.lanes }
 {
     does(rt, world, Event::Poll(0), true)?;
-    assert!(*rt; has_polled(world, 0, &[Carrier::Ean13]));
+    is_true(rt, has_polled(world, 0, &[Carrier::Ean13]));
     does(rt, world, Event::Close(0), true)?;
     does(rt, world, Event::Submit(0, row(rt.alloc(), EAN8)?), false)?;
     does(rt, world, Event::Poll(0), true)?;
     does(rt, world, Event::Poll(0), false)?;
-    assert!(*rt; has_polled(world, 0, &[Carrier::Ean13, Carrier::Ean8]));
+    is_true(rt, has_polled(world, 0, &[Carrier::Ean13, Carrier::Ean8]));
     Ok(())
 }
 
@@ -180,9 +202,9 @@ fn hands_both<R: AllocGlobal + Abort>(rt: &R, world: &mut World) -> Result<(), F
     requires { 0 < length world.old.lanes }
     ensures { 0 < length world.new.lanes }
 {
-    assert!(*rt; bring_the_second(rt.alloc(), world)?);
+    is_true(rt, bring_the_second(rt.alloc(), world)?);
     does(rt, world, Event::Hand(0), false)?;
-    assert!(*rt; hand_both(world)?);
+    is_true(rt, hand_both(world)?);
     Ok(())
 }
 
@@ -204,10 +226,10 @@ fn are_at_each_place<R: AllocGlobal + Abort>(rt: &R, world: &mut World) -> Resul
     ensures { 0 < length world.new.lanes }
 {
     is_at(rt, world, 0, None);
-    assert!(*rt; bring_the_second(rt.alloc(), world)?);
+    is_true(rt, bring_the_second(rt.alloc(), world)?);
     is_at(rt, world, 0, Some(Place::Worker));
     is_at(rt, world, 1, Some(Place::Waiting));
-    assert!(*rt; hand_both(world)?);
+    is_true(rt, hand_both(world)?);
     is_at(rt, world, 1, Some(Place::Outbox));
     does(rt, world, Event::Poll(0), true)?;
     is_at(rt, world, 0, Some(Place::Polled));
@@ -219,7 +241,7 @@ fn tells_where_each_ticket_is(rt: HostRuntime) -> Result<(), Fail> {
     let mut world = one_lane(rt.alloc(), 2)?;
     are_at_each_place(&rt, &mut world)?;
     is_equal(&rt, world.issued(0), 2);
-    assert!(rt; !world.is_closed(0));
+    is_true(&rt, !world.is_closed(0));
     Ok(())
 }
 

@@ -1,14 +1,19 @@
 //! Numbers: outside vectors, and each refusal once.
 
-use crate::tests::equal::is_equal;
+use crate::tests::equal::{is_equal, is_true};
 use digits_core::{Gtin, check_digit, upce_expand, upce_suppress};
 use std::process::Abort;
 use std::test::Fail;
 
+/// The number of these digits.
+pub fn gtin_of(digits: &[u8]) -> Result<Gtin, Fail> {
+    Ok(Gtin::read(digits).ok().ok_or("a number")?)
+}
+
 #[test]
 fn reads_numbers(rt: HostRuntime) -> Result<(), Fail> {
     is_equal(&rt, check_digit(b"950110153000"), 3);
-    let gtin = Gtin::read(b"9501101530003").ok().ok_or("a number")?;
+    let gtin = gtin_of(b"9501101530003")?;
     is_equal(
         &rt,
         gtin.digits14().as_slice(),
@@ -16,13 +21,13 @@ fn reads_numbers(rt: HostRuntime) -> Result<(), Fail> {
     );
     let thirteen = gtin.as13().ok_or("13 digits")?;
     is_equal(&rt, thirteen.as_slice(), b"9501101530003".as_slice());
-    assert!(rt; gtin.as12().is_none() && gtin.as8().is_none());
+    is_true(&rt, gtin.as12().is_none() && gtin.as8().is_none());
     Ok(())
 }
 
 #[test]
 fn reads_a_number_of_eight_digits(rt: HostRuntime) -> Result<(), Fail> {
-    let gtin = Gtin::read(b"96385074").ok().ok_or("a number")?;
+    let gtin = gtin_of(b"96385074")?;
     let eight = gtin.as8().ok_or("8 digits")?;
     let twelve = gtin.as12().ok_or("12 digits")?;
     is_equal(&rt, eight.as_slice(), b"96385074".as_slice());
@@ -75,8 +80,8 @@ fn suppresses_to_one_form_or_none(rt: HostRuntime) -> Result<(), Fail> {
     let gtin = upce_expand(*b"120003", b'3').ok_or("a number")?;
     let (first, _) = upce_suppress(&gtin).ok_or("six digits")?;
     is_equal(&rt, first.as_slice(), b"120000".as_slice());
-    assert!(rt; upce_expand(*b"123456", b'4').is_none());
-    let gtin = Gtin::read(b"9501101530003").ok().ok_or("a number")?;
-    assert!(rt; upce_suppress(&gtin).is_none());
+    is_true(&rt, upce_expand(*b"123456", b'4').is_none());
+    let gtin = gtin_of(b"9501101530003")?;
+    is_true(&rt, upce_suppress(&gtin).is_none());
     Ok(())
 }

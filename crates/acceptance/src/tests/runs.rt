@@ -2,6 +2,7 @@
 
 use crate::tests::equal::is_equal;
 use scan_core::{RunFault, Runs};
+use std::alloc::{AllocError, Global};
 use std::process::Abort;
 use std::test::Fail;
 
@@ -26,13 +27,19 @@ fn turns_rows(rt: HostRuntime) -> Result<(), Fail> {
     Ok(())
 }
 
+/// So many bytes without a dark dot.
+fn zeros(alloc: Global, count: u16) -> Result<Vec<u8>, AllocError> {
+    let mut bytes = Vec::new(alloc);
+    for _ in 0..count {
+        bytes.push(0u8)?;
+    }
+    Ok(bytes)
+}
+
 #[test]
 fn cuts_the_widest_row(rt: HostRuntime) -> Result<(), Fail> {
     let alloc = rt.alloc();
-    let mut bytes = Vec::new(alloc);
-    for _ in 0..8192 {
-        bytes.push(0u8)?;
-    }
+    let bytes = zeros(alloc, 8192)?;
     let light = bytes.as_slice();
     if light.len() < 8192 {
         return Err(Fail::from("8,192 bytes"));

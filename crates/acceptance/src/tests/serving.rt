@@ -33,12 +33,18 @@ fn feeds(alloc: Global, lanes: &[&[&[u16]]]) -> Result<Vec<Vec<Runs>>, Fail> {
     Ok(feeds)
 }
 
+/// The front of a delivery's answer.
+fn front(alloc: Global, delivery: &Delivery) -> Result<String, Fail> {
+    let answer = format!(in alloc; "{:?}", delivery.answer())?;
+    let front = answer.as_str().split(',').next().ok_or("answer")?;
+    Ok(String::from_str(alloc, front)?)
+}
+
 /// The line of a delivery: its lane and number, how many runs its row has, and the front of its answer.
 fn line(alloc: Global, place: usize, delivery: &Delivery) -> Result<String, Fail> {
     let Ticket { lane, number } = delivery.ticket();
     let count = delivery.row().widths().len();
-    let answer = format!(in alloc; "{:?}", delivery.answer())?;
-    let front = answer.as_str().split(',').next().ok_or("answer")?;
+    let front = front(alloc, delivery)?;
     Ok(format!(in alloc; "{place}: {lane}/{number} {count} {front}\n")?)
 }
 

@@ -2,9 +2,10 @@
 ghost use Rattle.std.specs.Prelude.{◌≡◌, ◌<◌};
 
 use crate::tests::equal::is_equal;
+use crate::tests::numbers::gtin_of;
 use crate::tests::rows::{ITF14, ITF14_WRONG, year_of};
 use code128_code::encode;
-use digits_core::{FromReader, Gtin, ToWriter};
+use digits_core::{FromReader, ToWriter};
 use element_core::Elements;
 use fakes::{Breaking, Narrow};
 use scan_core::{Answer, Carrier, Runs, read_row};
@@ -171,10 +172,6 @@ fn says<R: AllocGlobal + Abort>(rt: &R, runs: &Runs, year: u16, wanted: &str) ->
     Ok(())
 }
 
-fn gtin(digits: &str) -> Result<Gtin, Fail> {
-    Ok(Gtin::read(digits.as_bytes()).ok().ok_or("gtin")?)
-}
-
 /// A kind of label, in a table of cases.
 #[derive(Clone, Copy)]
 enum Kind {
@@ -191,7 +188,7 @@ fn label_of(kind: Kind, text: &str) -> Result<Label, Fail> {
     if let Kind::Gs1128 = kind {
         return Ok(Label::Gs1128(elements(text, 2026)?));
     }
-    let number = gtin(text)?;
+    let number = gtin_of(text.as_bytes())?;
     Ok(match kind {
         Kind::Ean13 => Label::Ean13(number),
         Kind::UpcA => Label::UpcA(number),
@@ -376,7 +373,7 @@ fn prints_itf14_and_ean8_labels_that_fit(rt: HostRuntime) -> Result<(), Fail> {
 
 #[test]
 fn answers_the_first_label_that_is_not_printed(rt: HostRuntime) -> Result<(), Fail> {
-    let number = gtin("9501101530003")?;
+    let number = gtin_of(NUMBER.as_bytes())?;
     let labels = [Label::Ean13(number), Label::Ean8(number)];
     prints(&rt, &labels, grid_of(NARROW)?, "refused 27 LabelWidth 0")?;
     prints(&rt, &labels, grid_of(WIDE)?, "refused 26 LabelKind 1")?;
@@ -539,6 +536,12 @@ fn zeros(alloc: Global, count: u16) -> Result<Vec<u8>, AllocError> {
     Ok(file)
 }
 
+/// That the file with so many zeros has so many sheets, or this fault.
+fn answers_zeros<R: AllocGlobal + Abort>(rt: &R, count: u16, wanted: &str) -> Result<(), Fail> {
+    let file = zeros(rt.alloc(), count)?;
+    answers(rt, file.as_slice(), wanted)
+}
+
 /// A file of so many sheets of one dot.
 fn dots(alloc: Global, count: u16) -> Result<Vec<u8>, AllocError> {
     let mut file = Vec::new(alloc);
@@ -551,8 +554,8 @@ fn dots(alloc: Global, count: u16) -> Result<Vec<u8>, AllocError> {
 #[test]
 fn keeps_the_limits_of_files(rt: HostRuntime) -> Result<(), Fail> {
     let alloc = rt.alloc();
-    answers(&rt, zeros(alloc, 4088)?.as_slice(), "1 sheets")?;
-    answers(&rt, zeros(alloc, 4089)?.as_slice(), "refused 29 PbmHeader")?;
+    answers_zeros(&rt, 4088, "1 sheets")?;
+    answers_zeros(&rt, 4089, "refused 29 PbmHeader")?;
     let mut file = dots(alloc, 4096)?;
     answers(&rt, file.as_slice(), "4096 sheets")?;
     file.push(b'P')?;

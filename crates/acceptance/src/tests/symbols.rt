@@ -1,12 +1,12 @@
 //! Symbols: their modules, and the values and texts of those of Code 128.
 
-use crate::tests::equal::is_equal;
+use crate::tests::equal::{is_equal, is_true};
+use crate::tests::numbers::gtin_of;
 use crate::tests::rows::year_of;
 use arrayvec::ArrayVec;
 use code128_code::{
     Code128Fault, TooManyCharacters, Values, character, check_character, encode, text_of, values,
 };
-use digits_core::Gtin;
 use ean_code::{Modules, Spelled, ean8, ean13, itf14, read_itf14, upce};
 use element_core::Elements;
 use std::process::Abort;
@@ -106,9 +106,9 @@ fn draws_the_printed_widths(rt: HostRuntime) -> Result<(), Fail> {
     let mut modules = encode(&elements_of(b"422528")?)?;
     is_equal(&rt, modules.widths(), COUNTRY.as_slice());
     modules.reverse();
-    assert!(rt; values(&modules).is_none());
+    is_true(&rt, values(&modules).is_none());
     let drawn = Modules::of(&COUNTRY).ok_or("modules")?;
-    assert!(rt; values(&drawn).is_some());
+    is_true(&rt, values(&drawn).is_some());
     Ok(())
 }
 
@@ -129,7 +129,7 @@ fn encodes_48_characters(rt: HostRuntime) -> Result<(), Fail> {
     let modules = encode(&elements_of(&text[..48])?)?;
     // 49 data characters, start and check character: 51 of eleven modules, and thirteen.
     is_equal(&rt, total(&modules), 574);
-    assert!(rt; encode(&elements_of(&text)?) == Err(TooManyCharacters));
+    is_true(&rt, encode(&elements_of(&text)?) == Err(TooManyCharacters));
     let fault = TooManyCharacters.to_string(rt.alloc())?;
     is_equal(&rt, fault.as_str(), "refused 12 TooManyCharacters");
     Ok(())
@@ -201,7 +201,7 @@ fn refuses_values_without_a_text(rt: HostRuntime) -> Result<(), Fail> {
     ];
     for &(start, data, check, fault, line) in symbols {
         let found = text_of(&shown(start, data, check)).err().ok_or("a fault")?;
-        assert!(rt; found == fault);
+        is_true(&rt, found == fault);
         is_equal(&rt, found.to_string(rt.alloc())?.as_str(), line);
     }
     Ok(())
@@ -226,38 +226,44 @@ fn has_widths(modules: Option<Modules>, groups: &str) -> bool {
 
 #[test]
 fn draws_symbols_of_numbers(rt: HostRuntime) -> Result<(), Fail> {
-    let gtin = Gtin::read(b"9501101530003").ok().ok_or("a number")?;
-    assert!(rt;
+    let gtin = gtin_of(b"9501101530003")?;
+    is_true(
+        &rt,
         has_widths(
             ean13(&gtin),
-            "111 1231 1123 1222 2221 1123 2221 11111 1231 1411 3211 3211 3211 1411 111"
-        )
+            "111 1231 1123 1222 2221 1123 2221 11111 1231 1411 3211 3211 3211 1411 111",
+        ),
     );
-    assert!(rt; ean8(&gtin).is_none() && upce(&gtin).is_none());
-    let gtin = Gtin::read(b"96385074").ok().ok_or("a number")?;
-    assert!(rt;
+    is_true(&rt, ean8(&gtin).is_none() && upce(&gtin).is_none());
+    let gtin = gtin_of(b"96385074")?;
+    is_true(
+        &rt,
         has_widths(
             ean8(&gtin),
-            "111 3112 1114 1411 1213 11111 1231 3211 1312 1132 111"
-        )
+            "111 3112 1114 1411 1213 11111 1231 3211 1312 1132 111",
+        ),
     );
-    let gtin = Gtin::read(b"012345000065").ok().ok_or("a number")?;
-    assert!(rt; has_widths(upce(&gtin), "111 1222 2122 1411 2311 1321 1114 111111"));
+    let gtin = gtin_of(b"012345000065")?;
+    is_true(
+        &rt,
+        has_widths(upce(&gtin), "111 1222 2122 1411 2311 1321 1114 111111"),
+    );
     Ok(())
 }
 
 #[test]
 fn draws_itf14_and_reads_it_in_one_direction(rt: HostRuntime) -> Result<(), Fail> {
-    let gtin = Gtin::read(b"09501101530003").ok().ok_or("a number")?;
+    let gtin = gtin_of(b"09501101530003")?;
     let mut drawn = itf14(&gtin);
-    assert!(rt; read_itf14(&drawn) == Spelled::Found(gtin));
+    is_true(&rt, read_itf14(&drawn) == Spelled::Found(gtin));
     drawn.reverse();
-    assert!(rt; read_itf14(&drawn) == Spelled::NoPattern);
-    assert!(rt;
+    is_true(&rt, read_itf14(&drawn) == Spelled::NoPattern);
+    is_true(
+        &rt,
         has_widths(
             Some(itf14(&gtin)),
-            "1111 1113313311 3111331311 3311111133 1311313113 3313311111 1111333311 1313313111 311"
-        )
+            "1111 1113313311 3111331311 3311111133 1311313113 3313311111 1111333311 1313313111 311",
+        ),
     );
     Ok(())
 }
