@@ -2,7 +2,7 @@
 
 use crate::tests::equal::is_equal;
 use crate::tests::rows::year_of;
-use command_core::{run, run_live};
+use command_core::{CommandFault, run, run_live};
 use digits_core::{FromReader, ToWriter};
 use fakes::{Happened, Holding, Meeting, Recorded};
 use hub_core::{Gate, OpenGate};
@@ -251,6 +251,28 @@ fn first_calls(alloc: Global, calls: usize) -> Result<String, Fail> {
     Ok(text)
 }
 
+/// That a wire did the first calls.
+fn has_made<R: AllocGlobal + Abort>(rt: &R, wire: &Recorded<'_>, calls: usize) -> Result<(), Fail> {
+    let found = told(rt.alloc(), wire)?;
+    let wanted = first_calls(rt.alloc(), calls)?;
+    is_equal(rt, found.as_str(), wanted.as_str());
+    Ok(())
+}
+
+/// That a command ended with this line of its fault, or with none.
+fn has_ended<R: AllocGlobal + Abort>(
+    rt: &R,
+    ended: Result<(), CommandFault>,
+    ending: &str,
+) -> Result<(), Fail> {
+    let found = match ended {
+        Ok(()) => String::new(rt.alloc()),
+        Err(fault) => fault.to_string(rt.alloc())?,
+    };
+    is_equal(rt, found.as_str(), ending);
+    Ok(())
+}
+
 /// That `live` makes the first `calls` of its calls on a wire that fails at the next, and how it ends.
 fn lives<R: Threads + Wait + AllocGlobal + Sync + Abort>(
     rt: &R,
@@ -262,17 +284,8 @@ fn lives<R: Threads + Wait + AllocGlobal + Sync + Abort>(
     let wire = Recorded::new(alloc, LIVE_INPUT, 12, calls);
     let options = LiveOptions::new(rows, false);
     let (wire, ended) = run_live(rt, alloc, options, wire, &OpenGate);
-    is_equal(
-        rt,
-        told(alloc, &wire)?.as_str(),
-        first_calls(alloc, calls)?.as_str(),
-    );
-    let ended = match ended {
-        Ok(()) => String::new(alloc),
-        Err(fault) => fault.to_string(alloc)?,
-    };
-    is_equal(rt, ended.as_str(), ending);
-    Ok(())
+    has_made(rt, &wire, calls)?;
+    has_ended(rt, ended, ending)
 }
 
 #[test]

@@ -25,6 +25,14 @@ fn settles_the_held<R: Wait + AllocGlobal + Abort>(
     Ok(())
 }
 
+/// The two lanes submit a row each.
+fn submit_two<R: Wait + AllocGlobal>(rt: &R, hub: &mut Station) -> Result<(), Fail> {
+    let alloc = rt.alloc();
+    hub.submit(rt, alloc, 0, row(alloc, EAN13)?)?;
+    hub.submit(rt, alloc, 1, row(alloc, EAN8)?)?;
+    Ok(())
+}
+
 /// A hub of two lanes and two workers, each lane with a row: an EAN-13, and an EAN-8.
 fn with_two_rows<R: Wait + AllocGlobal>(rt: &R) -> Result<Station, Fail> {
     let alloc = rt.alloc();
@@ -35,8 +43,7 @@ fn with_two_rows<R: Wait + AllocGlobal>(rt: &R) -> Result<Station, Fail> {
         limit: 1,
     };
     let mut hub = Station::new(rt, alloc, shape)?;
-    hub.submit(rt, alloc, 0, row(alloc, EAN13)?)?;
-    hub.submit(rt, alloc, 1, row(alloc, EAN8)?)?;
+    submit_two(rt, &mut hub)?;
     Ok(hub)
 }
 

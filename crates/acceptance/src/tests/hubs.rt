@@ -104,6 +104,17 @@ fn follow<R: Wait + AllocGlobal + Abort>(
     Ok(())
 }
 
+/// A hub of this shape that has answered these steps.
+fn after<R: Wait + AllocGlobal + Abort>(
+    rt: &R,
+    shape: Shape,
+    steps: &[Step],
+) -> Result<Station, Fail> {
+    let mut hub = Station::new(rt, rt.alloc(), shape)?;
+    follow(rt, &mut hub, steps)?;
+    Ok(hub)
+}
+
 /// That a lane's list has the deliveries of these carriers, from this number on.
 fn are_answers<R: Abort>(
     rt: &R,
@@ -137,12 +148,22 @@ fn settles<R: Wait + AllocGlobal + Abort>(
     Ok(())
 }
 
+/// That a hub is settled, once it is closed, as `settles` says.
+fn is_settled<R: Wait + AllocGlobal + Abort>(
+    rt: &R,
+    hub: Station,
+    lanes: u8,
+    first: u32,
+    carriers: &[Carrier],
+) -> Result<(), Fail> {
+    settles(rt, hub.close(rt.alloc())?, lanes, first, carriers)
+}
+
 #[test]
 fn two_lanes_share_two_workers(rt: HostRuntime) -> Result<(), Fail> {
-    let mut hub = Station::new(&rt, rt.alloc(), shape(2, 2, 2))?;
-    follow(
+    after(
         &rt,
-        &mut hub,
+        shape(2, 2, 2),
         &[
             Step::Submit(0, EAN13, "0/0"),
             Step::Submit(1, EAN8, "1/0"),
@@ -166,16 +187,15 @@ fn two_lanes_share_two_workers(rt: HostRuntime) -> Result<(), Fail> {
             Step::Issued(0, 2),
             Step::Issued(1, 1),
         ],
-    )
+    )?;
+    Ok(())
 }
 
 #[test]
 fn one_lane_polls_all_before_it_is_settled(rt: HostRuntime) -> Result<(), Fail> {
-    let alloc = rt.alloc();
-    let mut hub = Station::new(&rt, alloc, shape(1, 1, 2))?;
-    follow(
+    let hub = after(
         &rt,
-        &mut hub,
+        shape(1, 1, 2),
         &[
             Step::Submit(0, EAN13, "0/0"),
             Step::Submit(0, EAN8, "refused 34 Full 45"),
@@ -193,7 +213,7 @@ fn one_lane_polls_all_before_it_is_settled(rt: HostRuntime) -> Result<(), Fail> 
             Step::Submit(0, GS1_128, "refused 35 Spent 45"),
         ],
     )?;
-    let mut hub = hub.close(alloc)?;
+    let mut hub = hub.close(rt.alloc())?;
     polls_the_last(&rt, &mut hub)?;
     settles(&rt, hub, 1, 2, &[])
 }
@@ -210,11 +230,9 @@ fn polls_the_last<R: Abort>(rt: &R, hub: &mut Closed) -> Result<(), Fail> {
 
 #[test]
 fn settles_what_no_lane_has_polled(rt: HostRuntime) -> Result<(), Fail> {
-    let alloc = rt.alloc();
-    let mut hub = Station::new(&rt, alloc, shape(1, 3, 3))?;
-    follow(
+    let mut hub = after(
         &rt,
-        &mut hub,
+        shape(1, 3, 3),
         &[
             Step::Submit(0, EAN13, "0/0"),
             Step::Submit(0, EAN8, "0/1"),
@@ -222,7 +240,7 @@ fn settles_what_no_lane_has_polled(rt: HostRuntime) -> Result<(), Fail> {
         ],
     )?;
     is_true(&rt, hub.poll(0)?.is_none());
-    settles(&rt, hub.close(alloc)?, 1, 0, ALL)
+    is_settled(&rt, hub, 1, 0, ALL)
 }
 
 /// Each lane submits the row, and the workers work.
@@ -265,6 +283,16 @@ fn polls_of_each<R: Wait + AllocGlobal + Abort>(
     Ok(())
 }
 
+/// That two deliveries for each lane are collected, and each lane polls its first.
+fn delivers_to_each<R: Wait + AllocGlobal + Abort>(
+    rt: &R,
+    hub: &mut Station,
+    count: u8,
+) -> Result<(), Fail> {
+    collects(rt, hub, 2 * u32::from(count))?;
+    polls_of_each(rt, hub, count)
+}
+
 /// A hub of so many lanes and workers, each lane with three rows.
 fn with_three_of_each<R: Wait + AllocGlobal + Abort>(rt: &R, count: u8) -> Result<Station, Fail> {
     let mut hub = Station::new(rt, rt.alloc(), shape(count, 64, 3))?;
@@ -277,10 +305,8 @@ fn with_three_of_each<R: Wait + AllocGlobal + Abort>(rt: &R, count: u8) -> Resul
 /// That a hub of so many lanes and workers answers three rows of each lane, one of which it polls.
 fn answers_each_lane<R: Wait + AllocGlobal + Abort>(rt: &R, count: u8) -> Result<(), Fail> {
     let mut hub = with_three_of_each(rt, count)?;
-    collects(rt, &mut hub, 2 * u32::from(count))?;
-    polls_of_each(rt, &mut hub, count)?;
-    let wanted = &[Carrier::Ean8, Carrier::Gs1128];
-    settles(rt, hub.close(rt.alloc())?, count, 1, wanted)
+    delivers_to_each(rt, &mut hub, count)?;
+    is_settled(rt, hub, count, 1, &[Carrier::Ean8, Carrier::Gs1128])
 }
 
 #[test]
@@ -342,30 +368,39 @@ fn submits_three_of_each<R: Wait + AllocGlobal + Abort>(
     Ok(())
 }
 
+/// The largest hub with the smallest queues, each lane with its three tickets.
+fn with_the_smallest_queues<R: Wait + AllocGlobal + Abort>(rt: &R) -> Result<Station, Fail> {
+    let mut hub = Station::new(rt, rt.alloc(), shape(MOST, 1, 3))?;
+    submits_three_of_each(rt, &mut hub)?;
+    Ok(hub)
+}
+
 #[test]
 fn the_largest_hub_with_the_smallest_queues_answers_each_row(rt: HostRuntime) -> Result<(), Fail> {
-    let mut hub = Station::new(&rt, rt.alloc(), shape(MOST, 1, 3))?;
-    submits_three_of_each(&rt, &mut hub)?;
-    settles(&rt, hub.close(rt.alloc())?, MOST, 0, ALL)
+    let hub = with_the_smallest_queues(&rt)?;
+    is_settled(&rt, hub, MOST, 0, ALL)
+}
+
+/// That each lane of the largest hub is spent.
+fn are_spent<R: Wait + AllocGlobal + Abort>(rt: &R, hub: &mut Station) -> Result<(), Fail> {
+    for lane in 0..MOST {
+        submits(rt, hub, usize::from(lane), EAN13, "refused 35 Spent 61")?;
+    }
+    Ok(())
 }
 
 #[test]
 fn a_spent_lane_of_the_largest_hub_keeps_its_answers(rt: HostRuntime) -> Result<(), Fail> {
-    let mut hub = Station::new(&rt, rt.alloc(), shape(MOST, 1, 3))?;
-    submits_three_of_each(&rt, &mut hub)?;
-    for lane in 0..MOST {
-        let again = Step::Submit(usize::from(lane), EAN13, "refused 35 Spent 61");
-        take(&rt, &mut hub, &again)?;
-    }
-    settles(&rt, hub.close(rt.alloc())?, MOST, 0, ALL)
+    let mut hub = with_the_smallest_queues(&rt)?;
+    are_spent(&rt, &mut hub)?;
+    is_settled(&rt, hub, MOST, 0, ALL)
 }
 
 #[test]
 fn a_spent_lane_is_told_before_a_full_queue(rt: HostRuntime) -> Result<(), Fail> {
-    let mut hub = Station::new(&rt, rt.alloc(), shape(2, 1, 1))?;
-    follow(
+    after(
         &rt,
-        &mut hub,
+        shape(2, 1, 1),
         &[
             Step::Submit(0, EAN13, "0/0"),
             Step::Submit(0, GS1_128, "refused 35 Spent 45"),
@@ -376,7 +411,8 @@ fn a_spent_lane_is_told_before_a_full_queue(rt: HostRuntime) -> Result<(), Fail>
             Step::Issued(0, 1),
             Step::Issued(1, 1),
         ],
-    )
+    )?;
+    Ok(())
 }
 
 /// That three lists have a delivery each: of an EAN-13, an EAN-8 and a GS1-128.
@@ -389,10 +425,9 @@ fn are_of_three_lanes<R: Abort>(rt: &R, lists: &[Vec<Delivery>]) -> Result<(), F
 #[test]
 fn seats_are_settled_in_any_order(rt: HostRuntime) -> Result<(), Fail> {
     let alloc = rt.alloc();
-    let mut hub = Station::new(&rt, alloc, shape(3, 4, 1))?;
-    follow(
+    let hub = after(
         &rt,
-        &mut hub,
+        shape(3, 4, 1),
         &[
             Step::Submit(0, EAN13, "0/0"),
             Step::Submit(1, EAN8, "1/0"),
@@ -407,9 +442,8 @@ fn seats_are_settled_in_any_order(rt: HostRuntime) -> Result<(), Fail> {
 
 #[test]
 fn a_hub_that_did_nothing_is_settled(rt: HostRuntime) -> Result<(), Fail> {
-    let alloc = rt.alloc();
-    let hub = Station::new(&rt, alloc, shape(3, 2, 1))?;
-    settles(&rt, hub.close(alloc)?, 3, 0, &[])
+    let hub = after(&rt, shape(3, 2, 1), &[])?;
+    is_settled(&rt, hub, 3, 0, &[])
 }
 
 /// Whether there is no hub of a shape.

@@ -1,6 +1,6 @@
 //! Feeds served by workers beside each other.
 
-use crate::tests::equal::is_equal;
+use crate::tests::equal::{is_equal, is_true};
 use crate::tests::rows::{EAN8, EAN13, GS1_128, row, year_of};
 use fakes::{Holding, Meeting};
 use hub_core::{Gate, OpenGate, serve};
@@ -78,7 +78,7 @@ fn answered<R: Threads + Wait + AllocGlobal + Sync, G: Gate + Sync>(
 fn two_workers_run_beside_each_other(rt: HostRuntime) -> Result<(), Fail> {
     let gate = Holding::new(rt.alloc(), &[2], FIRST, Ticket { lane: 0, number: 1 })?;
     let found = answered(&rt, &[&[EAN13, EAN8]], 2, &gate)?;
-    assert!(rt; gate.saw_each_once());
+    is_true(&rt, gate.saw_each_once());
     is_equal(
         &rt,
         found.as_str(),
@@ -92,7 +92,7 @@ fn two_workers_run_beside_each_other(rt: HostRuntime) -> Result<(), Fail> {
 fn a_worker_that_is_held_holds_no_other_row(rt: HostRuntime) -> Result<(), Fail> {
     let gate = Holding::new(rt.alloc(), &[3], FIRST, Ticket { lane: 0, number: 2 })?;
     let found = answered(&rt, &[&[EAN13, EAN8, GS1_128]], 2, &gate)?;
-    assert!(rt; gate.saw_each_once());
+    is_true(&rt, gate.saw_each_once());
     is_equal(
         &rt,
         found.as_str(),
@@ -108,7 +108,7 @@ fn sixteen_workers_run_beside_each_other(rt: HostRuntime) -> Result<(), Fail> {
     let lane: &[&[u16]] = &[EAN8];
     let gate = Meeting::of(rt.alloc(), 16)?;
     answered(&rt, &[lane; 16], 16, &gate)?;
-    assert!(rt; gate.has_met());
+    is_true(&rt, gate.has_met());
     Ok(())
 }
 
@@ -201,7 +201,7 @@ fn a_held_row_holds_none_of_three_thousand(rt: HostRuntime) -> Result<(), Fail> 
     };
     let gate = Holding::new(rt.alloc(), &[3_001], FIRST, last)?;
     let lists = served_past(&rt, 3_001, &gate)?;
-    assert!(rt; gate.saw_each_once());
+    is_true(&rt, gate.saw_each_once());
     let list = lists.get(0).ok_or("a list")?;
     are_of_the_feed(&rt, 0, 3_001, list.as_slice())
 }
