@@ -185,16 +185,14 @@ enum Kind {
 
 /// The label of this kind and these digits, or of this kind and this text in 2026.
 fn label_of(kind: Kind, text: &str) -> Result<Label, Fail> {
-    if let Kind::Gs1128 = kind {
-        return Ok(Label::Gs1128(elements(text, 2026)?));
-    }
-    let number = gtin_of(text.as_bytes())?;
+    let digits = text.as_bytes();
     Ok(match kind {
-        Kind::Ean13 => Label::Ean13(number),
-        Kind::UpcA => Label::UpcA(number),
-        Kind::Ean8 => Label::Ean8(number),
-        Kind::UpcE => Label::UpcE(number),
-        Kind::Itf14 | Kind::Gs1128 => Label::Itf14(number),
+        Kind::Ean13 => Label::Ean13(gtin_of(digits)?),
+        Kind::UpcA => Label::UpcA(gtin_of(digits)?),
+        Kind::Ean8 => Label::Ean8(gtin_of(digits)?),
+        Kind::UpcE => Label::UpcE(gtin_of(digits)?),
+        Kind::Itf14 => Label::Itf14(gtin_of(digits)?),
+        Kind::Gs1128 => Label::Gs1128(elements(text, 2026)?),
     })
 }
 
