@@ -63,7 +63,8 @@ fn run_and_flush<R: Threads + Wait + Sync, S: Source, W: Sink, G: Gate + Sync>(
 }
 
 /// Runs a command over its whole input, and lets up to 65,536 bytes wait before its sink, so that many small writes
-/// are few large ones. The sink, which had not failed and is not known to have taken bytes, is given back.
+/// are few large ones. Where the run or a write fails, what still waits is dropped. The sink, which had not failed and
+/// is not known to have taken bytes, is given back.
 pub fn run_buffered<R: Threads + Wait + Sync, S: Source, W: Sink, G: Gate + Sync>(
     rt: &R,
     alloc: Global,
