@@ -2,9 +2,9 @@
 
 use crate::tests::equal::{is_equal, is_true};
 use crate::tests::rows::{EAN8, EAN13, row};
+use fakes::{Closed, LaneGate, Station, is_answer};
 use hub_core::Shape;
 use scan_core::Carrier;
-use fakes::{Closed, LaneGate, Station, is_answer};
 use std::process::Abort;
 use std::sync::Wait;
 use std::test::Fail;

@@ -3,10 +3,10 @@
 use crate::tests::equal::{is_equal, is_true};
 use crate::tests::rows::{EAN8, EAN13, GS1_128, row, year_of};
 use element_core::Year;
+use fakes::{Closed, Station, is_answer};
 use hub_core::{Collected, Handed, Hub, HubFault, Shape, SubmitFault, Worked};
 use lane_core::{Delivery, Ticket};
 use scan_core::{Carrier, Runs};
-use fakes::{Closed, Station, is_answer};
 use std::process::Abort;
 use std::sync::Wait;
 use std::test::Fail;
