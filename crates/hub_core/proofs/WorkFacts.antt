@@ -1,5 +1,5 @@
 -- What a worker has taken, once a delivery is in its hand.
-use Rattle.std.proofs.Common.{◌≡◌, ◌++◌, ◌∷◌, ◌∙◌, [], List, None, Option, Some, ap, append-nil, option_to_list, sym}
+use Rattle.std.proofs.Common.{◌≡◌, ◌++◌, ◌∷◌, ◌∙◌, [], None, Option, Some, ap, append-nil, option_to_list, sym}
 use Rattle.lane_core.specs.declared.job.Plain.{Plain}
 use Rattle.hub_core.specs.declared.rule.Trace.{Trace}
 use Rattle.hub_core.specs.Rule.{trace}
