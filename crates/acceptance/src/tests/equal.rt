@@ -1,4 +1,5 @@
-//! Assertions for all tests: their code is proved here once, that of `assert_eq!` and `assert!` at each place.
+//! Assertions for all tests: their code is proved here once, that of `assert_eq!` and `assert!` at each place. These stand
+//! where the code behind them needs the fact.
 
 use std::fmt::Debug;
 use std::process::Abort;

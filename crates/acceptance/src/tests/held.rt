@@ -18,8 +18,8 @@ fn settles_the_held<R: Wait + AllocGlobal + Abort>(
     carrier: Carrier,
 ) -> Result<(), Fail> {
     let lists = hub.settle(rt, rt.alloc())?;
-    is_equal(rt, lists.len(), 2);
-    is_equal(rt, (lists[0].len() + lists[1].len()), 1);
+    assert_eq!(*rt; lists.len(), 2);
+    is_equal(rt, lists[0].len() + lists[1].len(), 1);
     let list = lists.get(usize::from(held)).ok_or("a list")?;
     is_true(rt, is_answer(list.get(0), held, 0, carrier));
     Ok(())
