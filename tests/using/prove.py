@@ -1,0 +1,194 @@
+#!/usr/bin/env python3
+"""Runs package/prove on a tree of empty crates, with a kit that proves nothing and notes what it is asked: tests/using/prove.py ROOT
+
+What is asked of the kit is compared with what has to be proved anew: at first, after an edit, after a crate that is not
+proved, after an interrupted run, and with another kit. The last line has the count of runs.
+"""
+import os
+import re
+import shutil
+import signal
+import subprocess
+import sys
+import tempfile
+import time
+
+ROOT = sys.argv[1]
+RATTLE = """#!/bin/sh
+while [ $# -gt 0 ]; do
+    case $1 in --crate-name) name=$2 ;; -o) out=$2 ;; esac
+    shift
+done
+echo "$name" >>"$NOTES/asked"
+sleep "${NAP:-0}"
+[ "$name" != "${FAILS:-}" ] || { echo "not proved"; exit 1; }
+case $out in *.rlib) mkdir -p "$out" ;; *) echo "$name" >"$out" ;; esac
+"""
+LINK = """#!/bin/sh
+while [ $# -gt 0 ]; do
+    case $1 in -o) printf '#!/bin/sh\\necho "ran $*"\\nexit 3\\n' >"$2" && chmod +x "$2" ;; esac
+    shift
+done
+"""
+
+
+def listed():
+    """What each crate of the repository stands on, of the repository, by its name."""
+    with open(os.path.join(ROOT, "crates.txt"), encoding="utf-8") as lines:
+        read = [re.fullmatch(r"(\w+)(?: staticlib)?:(.*)", line.rstrip("\n")) for line in lines if not line.startswith("#")]
+    crates = {it[1]: it[2].split() for it in read}
+    return {name: [other for other in others if other in crates] for name, others in crates.items()}
+
+
+def below(crates, name):
+    """All crates below one."""
+    return {it for other in crates[name] for it in {other} | below(crates, other)}
+
+
+class Tree:
+    """A tree of empty crates, and a kit that notes what it is asked."""
+
+    def __init__(self, folder, crates):
+        self.folder, self.crates = folder, crates
+        self.kit = os.path.join(folder, "kit", "bin")
+        os.makedirs(self.kit)
+        for name, text in [("rattle", RATTLE), ("rattle-link", LINK), ("rt", "#!/bin/sh\necho kit one\n")]:
+            self.write(os.path.join(self.kit, name), text)
+        for name in crates:
+            os.makedirs(self.at("crates", name, "src"))
+            self.write(self.at("crates", name, "src", "main.rt" if name in ("gs1_hub", "calls_again") else "lib.rt"), "")
+        os.mkdir(self.at("package"))
+        for name in ["crates.txt", "gs1_hub", "package/prove"]:
+            shutil.copy(os.path.join(ROOT, name), self.at(name))
+
+    def at(self, *parts):
+        """A path in the tree."""
+        return os.path.join(self.folder, *parts)
+
+    @staticmethod
+    def write(path, text):
+        """Writes a file that can be run."""
+        with open(path, "w", encoding="utf-8") as file:
+            file.write(text)
+        os.chmod(path, 0o755)
+
+    def start(self, *words, **how):
+        """Starts a script of the tree, in a group of its own."""
+        environment = {"PATH": f"{self.kit}:/usr/bin:/bin", "NOTES": self.folder, **how}
+        return subprocess.Popen([self.at(words[0]), *words[1:]], env=environment, stdin=subprocess.DEVNULL,
+                                stdout=subprocess.PIPE, stderr=subprocess.STDOUT, text=True, start_new_session=True)
+
+    def run(self, *words, **how):
+        """The status of a script, what it printed, and what it asked of the kit."""
+        with self.start(*words, **how) as ran:
+            said = ran.stdout.read()
+        return ran.returncode, said, self.asked()
+
+    def asked(self):
+        """The crates that the kit was asked to prove since this was last called, in their order."""
+        path = self.at("asked")
+        if not os.path.exists(path):
+            return []
+        with open(path, encoding="utf-8") as file:
+            names = file.read().split()
+        os.remove(path)
+        return names
+
+    def edit(self, name):
+        """Changes a file of a crate."""
+        time.sleep(0.02)
+        os.utime(self.at("crates", name, "src", "lib.rt"))
+        time.sleep(0.02)
+
+
+def main():
+    crates = listed()
+    hub = below(crates, "gs1_hub") | {"gs1_hub"}
+    over = {name: {it for it in hub if name in below(crates, it)} for name in hub}
+    runs, wrong = 0, 0
+
+    def expect(what, is_so, seen):
+        nonlocal runs, wrong
+        runs += 1
+        if not is_so:
+            wrong += 1
+            print(f"package/prove, {what}: {seen}", file=sys.stderr)
+
+    def in_order(names):
+        return all(names.index(other) < names.index(name) for name in names for other in crates[name] if other in names)
+
+    with tempfile.TemporaryDirectory() as folder:
+        tree = Tree(folder, crates)
+        status, said, asked = tree.run("gs1_hub", "--version")
+        is_so = status == 3 and "ran" in said and sorted(asked) == sorted(hub) and in_order(asked)
+        expect("a first run", is_so, (status, said, asked))
+        status, said, asked = tree.run("gs1_hub")
+        expect("a second", status == 3 and said.startswith("ran") and not asked, (status, said, asked))
+        tree.edit("acceptance")
+        status, said, asked = tree.run("gs1_hub")
+        expect("a crate that it does not stand on", status == 3 and not asked, (status, said, asked))
+        os.rename(tree.kit, f"{tree.kit}.away")
+        status, said, asked = tree.run("gs1_hub")
+        os.rename(f"{tree.kit}.away", tree.kit)
+        expect("the run after it, without a kit", status == 3 and said.startswith("ran"), (status, said, asked))
+        tree.edit("scan_core")
+        status, said, asked = tree.run("package/prove", "gs1_hub", FAILS="lane_core")
+        is_so = status == 70 and "lane_core: not proved or not built" in said and "not proved\n" in said
+        is_so = is_so and {"scan_core", "lane_core"} <= {*asked} and not {*asked} & over["lane_core"]
+        expect("one that is not proved", is_so, (status, said, asked))
+        kept = {*asked} - {"lane_core"}
+        status, said, asked = tree.run("package/prove", "gs1_hub")
+        is_so = status == 0 and {*asked} == (over["scan_core"] | {"scan_core"}) - kept and in_order(asked)
+        expect("the run after it", is_so, (status, said, asked))
+        for kind, made in [([], "libgs1_c.a"), (["wasm64"], "gs1_c.wasm")]:
+            status, said, asked = tree.run("package/prove", "gs1_c", *kind)
+            is_so = status == 0 and asked == ["gs1_c"] and os.path.exists(tree.at("crates", "gs1_c", "out", made))
+            expect(made, is_so, (status, said, asked))
+        for words, sentence in [(["hub_core"], "neither a program nor a static library"), ([], "the crate is missing")]:
+            status, said, asked = tree.run("package/prove", *words)
+            expect(f"with {words}", status != 0 and sentence in said and not asked, (status, said, asked))
+
+        tree.edit("digits_core")
+        for sign in [signal.SIGINT, signal.SIGTERM]:
+            with tree.start("gs1_hub", NAP="1") as ran:
+                said = ""
+                while not re.search(r"(digits|element)_core: proved", said) and (line := ran.stdout.readline()):
+                    said += line
+                os.kill(ran.pid, sign)
+                said += ran.stdout.read()
+            asked = tree.asked()
+            lost = subprocess.run(["pgrep", "-f", tree.kit], stdout=subprocess.PIPE, text=True, check=False).stdout
+            is_so = ran.returncode == 130 and "the next run goes on" in said and not lost
+            expect(f"interrupted by {sign.name}", is_so, (ran.returncode, said, asked, lost))
+        done = re.findall(r"(\w+): proved", said)
+        with tree.start("package/prove", "gs1_hub", NAP="0.1") as one:
+            while (line := one.stdout.readline()) and "crates are proved before it" not in line:
+                pass
+            status, said, _ = tree.run("package/prove", "gs1_hub")
+            first = one.stdout.read()
+        is_so = status == 0 and one.returncode == 0 and "waiting for another run" in said and "proving" not in said
+        expect("two at once", is_so, (status, said, first))
+        proved = re.findall(r"(\w+): proved", first)
+        is_so = "digits_core" not in proved and not {*proved} & {*done} and {*proved} <= over["digits_core"]
+        expect("the run after those that were interrupted", is_so, (done, proved))
+
+        tree.edit("hub_core")
+        with tree.start("package/prove", "gs1_hub", NAP="0.5") as ran:
+            while not os.path.exists(tree.at("asked")) and ran.poll() is None:
+                time.sleep(0.02)
+            tree.edit("hub_core")
+            said = ran.stdout.read()
+        first = tree.asked()
+        status, said, asked = tree.run("package/prove", "gs1_hub")
+        is_so = status == 0 and {*first} == {*asked} == over["hub_core"] | {"hub_core"}
+        expect("a file that changes while it is proved", is_so, (status, first, said, asked))
+
+        tree.write(os.path.join(tree.kit, "rt"), "#!/bin/sh\necho kit two\n")
+        status, said, asked = tree.run("package/prove", "gs1_hub")
+        expect("with another kit", status == 0 and sorted(asked) == sorted(hub), (status, said, asked))
+    print(f"package/prove: {runs} runs, {wrong} wrong")
+    return wrong > 0
+
+
+if __name__ == "__main__":
+    sys.exit(main())
