@@ -1,7 +1,7 @@
 //! What becomes of a delivery that is collected.
 
 /// What became of a delivery to be collected, and of which lane it is.
-#[derive(Clone, Copy)]
+#[derive(Clone, Copy, PartialEq)]
 pub(crate) enum CollectedByLane {
     /// There was none.
     Nothing,

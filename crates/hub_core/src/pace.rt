@@ -53,6 +53,11 @@ impl<'a> Pace<'a> {
         self.untold = self.untold.saturating_add(1);
     }
 
+    /// Counts a row that the calling thread has read: the workers need not be told of one.
+    pub(crate) fn count_read(&mut self) {
+        self.untold = self.untold.saturating_sub(1);
+    }
+
     /// Tells the workers of the rows that were queued: of a few only where no more come for now. One is woken
     /// where all sleep that are not held: a worker that is awake looks for rows until it finds none.
     pub(crate) fn tell_of_rows(&mut self, are_more: bool) {

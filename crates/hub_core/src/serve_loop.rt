@@ -1,5 +1,8 @@
 //! The one loop of the calling thread, by which a traffic is served by workers beside each other.
-ghost use Rattle.std.specs.Prelude.{◌≡◌, ◌<◌, ◌≢◌, [], All, IfErr, IfOk, IfSome, List, None, Ok, Option, ℕ, false, length, replicate, true, vec_capacity, vec_len, ◌≤◌};
+//!
+//! Where the calling thread has nothing else to do it reads a row itself: to wake a worker takes longer. For this it has
+//! a worker's seat of its own, which has no thread, unless the gate may wait, or a hub can have no more seats.
+ghost use Rattle.std.specs.Prelude.{◌≡◌, ◌<◌, ◌≢◌, ◌+◌, [], All, IfErr, IfOk, IfSome, List, None, Ok, Option, ℕ, false, length, option_to_list, replicate, true, vec_capacity, vec_len, ◌≤◌};
 ghost use Rattle.std.specs.List.{range_with_len};
 ghost use Rattle.lane_core.specs.declared.job.Plain.{Plain};
 ghost use Rattle.hub_core.specs.Fresh.{HasDoneNothing};
@@ -22,7 +25,7 @@ use crate::parts::Parts;
 use crate::shape::Shape;
 use crate::signals::Signals;
 use crate::traffic::Traffic;
-use crate::worker_seat::WorkerSeat;
+use crate::worker_seat::{Worked, WorkerSeat};
 use crate::worker_threads::run_workers;
 use element_core::Year;
 use scan_core::Runs;
@@ -38,6 +41,9 @@ const IN_A_TURN: u32 = 16;
 
 /// How many deliveries are collected where the calling thread has slept: all that were posted meanwhile.
 const AFTER_A_SLEEP: u32 = 64;
+
+/// How many workers' seats a hub has at most.
+const MOST_WORKERS: u8 = 16;
 
 /// More rows than these that are under way after that are work for one worker more.
 const ROWS_A_WORKER: u32 = 16;
@@ -220,6 +226,33 @@ fn are_many(seats: &[LaneSeat]) -> bool {
     under_way > ROWS_A_WORKER
 }
 
+/// Reads a row with the calling thread's own seat where this is idle, and posts at all times the delivery that the seat
+/// holds. Whether a delivery was posted.
+fn read_here<R: Wait, G: Gate>(
+    rt: &R,
+    hub: &Hub,
+    own: &mut Option<WorkerSeat>,
+    gate: &G,
+    is_idle: bool,
+    pace: &mut Pace<'_>,
+) -> bool
+    requires { IfSome own.old (IsWorkerOf hub.now) }
+    ensures own { IfSome own.new (IsWorkerOf hub.now) }
+    ensures count { length (option_to_list own.new) ≡ length (option_to_list own.old) }
+{
+    let Some(seat) = own else {
+        return false;
+    };
+    if !is_idle && seat.held.is_none() {
+        return false;
+    }
+    let has_posted = hub.work(rt, seat, gate) == Worked::Posted;
+    if has_posted {
+        pace.count_read();
+    }
+    has_posted
+}
+
 /// Waits for more, where nothing is under way and nothing in hand.
 fn wait_for_more<T: Traffic>(
     hub: &Hub,
@@ -242,6 +275,7 @@ fn end_turn<R: Wait>(
     seats: &[LaneSeat],
     collected: CollectedByLane,
     submitted: Submitted,
+    has_posted: bool,
     pace: &mut Pace<'_>,
     seen: u64,
 ) -> Turn
@@ -251,7 +285,7 @@ fn end_turn<R: Wait>(
         CollectedByLane::Taken(_) => Turn::GoesOn,
         CollectedByLane::NoMemory => Turn::NoMemory,
         CollectedByLane::Nothing => {
-            if submitted == Submitted::Row {
+            if submitted == Submitted::Row || has_posted {
                 return Turn::GoesOn;
             }
             if submitted == Submitted::Nothing && are_even(seats) {
@@ -263,17 +297,20 @@ fn end_turn<R: Wait>(
     }
 }
 
-/// Collects, submits, and where there is nothing to do waits for a delivery.
-fn take_turn<R: Wait, T: Traffic>(
+/// Collects and submits. Where there is neither to do it reads a row, and where there is none it waits for a delivery.
+fn take_turn<R: Wait, G: Gate, T: Traffic>(
     rt: &R,
     hub: &Hub,
     traffic: &mut T,
     seats: &mut Vec<LaneSeat>,
     deliverer: &mut DelivererSeat,
+    own: &mut Option<WorkerSeat>,
+    gate: &G,
     held: &mut Option<(u8, Runs)>,
     pace: &mut Pace<'_>,
 ) -> Result<Turn, T::BringFault>
-    requires { Serves hub.now seats.old.items held.old × ((start : T) × T.Came start traffic.old (given_to seats.old.items held.old) (polled_by_each seats.old.items)) × IsDelivererOf hub.now deliverer.old }
+    requires { Serves hub.now seats.old.items held.old × ((start : T) × T.Came start traffic.old (given_to seats.old.items held.old) (polled_by_each seats.old.items)) × IsDelivererOf hub.now deliverer.old × IfSome own.old (IsWorkerOf hub.now) }
+    ensures own { IfSome own.new (IsWorkerOf hub.now) × (length (option_to_list own.new) ≡ length (option_to_list own.old)) }
     ensures serves { Serves hub.now seats.new.items held.new }
     ensures came { IfOk result (λ _. (start : T) → T.Came start traffic.old (given_to seats.old.items held.old) (polled_by_each seats.old.items) → T.Came start traffic.new (given_to seats.new.items held.new) (polled_by_each seats.new.items)) }
     ensures deliverer { IsDelivererOf hub.now deliverer.new }
@@ -288,30 +325,47 @@ fn take_turn<R: Wait, T: Traffic>(
         pace.wake_one_more();
     }
     let submitted = submit_some(rt, hub, traffic, seats, held, pace);
+    let is_idle = collected == CollectedByLane::Nothing && submitted != Submitted::Row;
+    let has_posted = read_here(rt, hub, own, gate, is_idle, pace);
     pace.tell_of_rows(submitted == Submitted::Row);
-    let left = end_turn(rt, seats.as_slice(), collected, submitted, pace, seen);
+    let left = end_turn(
+        rt,
+        seats.as_slice(),
+        collected,
+        submitted,
+        has_posted,
+        pace,
+        seen,
+    );
     Ok(left)
 }
 
 /// Submits, collects, hands and brings in turn, until the traffic ends.
-fn run<R: Wait, T: Traffic>(
+fn run<R: Wait, G: Gate, T: Traffic>(
     rt: &R,
     hub: &Hub,
     traffic: &mut T,
     seats: &mut Vec<LaneSeat>,
     deliverer: &mut DelivererSeat,
+    own: &mut Option<WorkerSeat>,
+    gate: &G,
     signals: &Signals,
 ) -> Ended<T::WaitFault, T::BringFault>
-    requires { Serves hub.now seats.old.items None × ((start : T) × T.Came start traffic.old (given_to seats.old.items None) (polled_by_each seats.old.items)) × IsDelivererOf hub.now deliverer.old }
+    requires { Serves hub.now seats.old.items None × ((start : T) × T.Came start traffic.old (given_to seats.old.items None) (polled_by_each seats.old.items)) × IsDelivererOf hub.now deliverer.old × IfSome own.old (IsWorkerOf hub.now) }
+    ensures own { IfSome own.new (IsWorkerOf hub.now) × (length (option_to_list own.new) ≡ length (option_to_list own.old)) }
     ensures serves { (held : Option (ℕ × List ℕ)) × Serves hub.now seats.new.items held
         × (IsKept result → (start : T) → T.Came start traffic.old (given_to seats.old.items None) (polled_by_each seats.old.items) → T.Came start traffic.new (given_to seats.new.items held) (polled_by_each seats.new.items))
         × (result ≡ Ended.Done → (T.has_ended traffic.new ≡ true) × AreEven seats.new.items × (held ≡ None)) }
     ensures deliverer { IsDelivererOf hub.now deliverer.new }
 {
     let mut held = None;
-    let mut pace = Pace::new(signals, hub.shape.workers);
+    // Its own seat has no thread.
+    let threads = hub.shape.workers.saturating_sub(u8::from(own.is_some()));
+    let mut pace = Pace::new(signals, threads);
     for _ in rt.forever() {
-        match take_turn(rt, hub, traffic, seats, deliverer, &mut held, &mut pace) {
+        match take_turn(
+            rt, hub, traffic, seats, deliverer, own, gate, &mut held, &mut pace,
+        ) {
             Ok(Turn::GoesOn) => {}
             Ok(Turn::NoMemory) => return Ended::NoMemory,
             Ok(Turn::Even) => match wait_for_more(hub, traffic, seats) {
@@ -334,6 +388,7 @@ fn serve_seats<R: Threads + Wait + Sync, G: Gate + Sync, T: Traffic + Drop>(
     seats: Vec<LaneSeat>,
     workers: Vec<WorkerSeat>,
     deliverer: DelivererSeat,
+    own: Option<WorkerSeat>,
     gate: &G,
 ) -> Result<
     (
@@ -341,14 +396,16 @@ fn serve_seats<R: Threads + Wait + Sync, G: Gate + Sync, T: Traffic + Drop>(
         Vec<LaneSeat>,
         Vec<WorkerSeat>,
         DelivererSeat,
+        Option<WorkerSeat>,
         Ended<T::WaitFault, T::BringFault>,
     ),
     Unstarted<Box<T>>,
 >
-    requires { Serves hub.now seats.items None × T.Came traffic.value traffic.value (given_to seats.items None) (polled_by_each seats.items) × All (IsWorkerOf hub.now) workers.items × IsDelivererOf hub.now deliverer }
-    ensures serves { IfOk result (λ v. (held : Option (ℕ × List ℕ)) × Serves hub.now v.1.items held × (IsKept v.4 → T.Came traffic.value v.0.value (given_to v.1.items held) (polled_by_each v.1.items)) × (v.4 ≡ Ended.Done → (T.has_ended v.0.value ≡ true) × AreEven v.1.items × (held ≡ None))) }
-    ensures workers { IfOk result (λ v. All (IsWorkerOf hub.now) v.2.items × (vec_len v.2 ≡ vec_len workers)) }
+    requires { Serves hub.now seats.items None × T.Came traffic.value traffic.value (given_to seats.items None) (polled_by_each seats.items) × All (IsWorkerOf hub.now) workers.items × IsDelivererOf hub.now deliverer × IfSome own (IsWorkerOf hub.now) }
+    ensures serves { IfOk result (λ v. (held : Option (ℕ × List ℕ)) × Serves hub.now v.1.items held × (IsKept v.5 → T.Came traffic.value v.0.value (given_to v.1.items held) (polled_by_each v.1.items)) × (v.5 ≡ Ended.Done → (T.has_ended v.0.value ≡ true) × AreEven v.1.items × (held ≡ None))) }
+    ensures workers { IfOk result (λ v. All (IsWorkerOf hub.now) v.2.items × (vec_len v.2 ≡ vec_len workers) × (vec_capacity v.2 ≡ vec_capacity workers)) }
     ensures deliverer { IfOk result (λ v. IsDelivererOf hub.now v.3) }
+    ensures own { IfOk result (λ v. IfSome v.4 (IsWorkerOf hub.now) × (length (option_to_list v.4) ≡ length (option_to_list own))) }
     ensures refused { IfErr result (λ e. e.fault ≢ ServeFault.BadCount) }
     ensures untouched { IfErr result (λ e. e.input ≡ traffic) }
 {
@@ -358,29 +415,34 @@ fn serve_seats<R: Threads + Wait + Sync, G: Gate + Sync, T: Traffic + Drop>(
         Box<T>,
         Vec<LaneSeat>,
         DelivererSeat,
+        Option<WorkerSeat>,
         Ended<T::WaitFault, T::BringFault>,
     )
-        requires { Serves hub.now seats.items None × T.Came traffic.value traffic.value (given_to seats.items None) (polled_by_each seats.items) × IsDelivererOf hub.now deliverer }
-        ensures serves { (held : Option (ℕ × List ℕ)) × Serves hub.entry.now result.1.items held × (IsKept result.3 → T.Came traffic.value result.0.value (given_to result.1.items held) (polled_by_each result.1.items)) × (result.3 ≡ Ended.Done → (T.has_ended result.0.value ≡ true) × AreEven result.1.items × (held ≡ None)) }
+        requires { Serves hub.now seats.items None × T.Came traffic.value traffic.value (given_to seats.items None) (polled_by_each seats.items) × IsDelivererOf hub.now deliverer × IfSome own (IsWorkerOf hub.now) }
+        ensures serves { (held : Option (ℕ × List ℕ)) × Serves hub.entry.now result.1.items held × (IsKept result.4 → T.Came traffic.value result.0.value (given_to result.1.items held) (polled_by_each result.1.items)) × (result.4 ≡ Ended.Done → (T.has_ended result.0.value ≡ true) × AreEven result.1.items × (held ≡ None)) }
         ensures deliverer { IsDelivererOf hub.entry.now result.2 }
+        ensures own { IfSome result.3 (IsWorkerOf hub.entry.now) × (length (option_to_list result.3) ≡ length (option_to_list own)) }
     {
         let mut traffic = traffic;
         let mut seats = seats;
         let mut deliverer = deliverer;
+        let mut own = own;
         let ended = run(
             rt,
             hub,
             traffic.as_mut(),
             &mut seats,
             &mut deliverer,
+            &mut own,
+            gate,
             signals,
         );
-        (traffic, seats, deliverer, ended)
+        (traffic, seats, deliverer, own, ended)
     };
-    let (workers, (traffic, seats, deliverer, ended)) = run_workers(
+    let (workers, (traffic, seats, deliverer, own, ended)) = run_workers(
         rt, alloc, hub, workers, gate, signals, traffic, task,
     )?;
-    Ok((traffic, seats, workers, deliverer, ended))
+    Ok((traffic, seats, workers, deliverer, own, ended))
 }
 
 /// A hub whose queues and rings hold 64, with as many tickets a lane as there are.
@@ -392,7 +454,7 @@ fn new_hub<R: Wait>(
     year: Year,
 ) -> Result<Parts, ServeFault>
     requires counts { (is_count lanes ≡ true) × (is_count workers ≡ true) }
-    ensures shape { IfOk result (λ p. ((shape_of p.hub).lanes ≡ lanes) × ((shape_of p.hub).limit ≡ 4294967295) × (year_of p.hub ≡ year)) }
+    ensures shape { IfOk result (λ p. ((shape_of p.hub).lanes ≡ lanes) × ((shape_of p.hub).limit ≡ 4294967295) × (year_of p.hub ≡ year) × ((shape_of p.hub).workers ≡ workers)) }
     ensures lanes { IfOk result (λ p. numbers_of p.lanes.items ≡ range_with_len 0 lanes) }
     ensures seats { IfOk result (λ p. AreAllSeats p.hub p.lanes.items p.workers.items p.deliverer) }
     ensures unused { IfOk result (λ p. All HasDoneNothing p.lanes.items) }
@@ -424,6 +486,31 @@ fn close_all(seats: Vec<LaneSeat>, room: Vec<ClosedLane>) -> Vec<ClosedLane>
     closed
 }
 
+/// Takes the seat with which the calling thread reads, where it is to have one.
+fn take_own(hub: &Hub, workers: &mut Vec<WorkerSeat>, has_own: bool) -> Option<WorkerSeat>
+    requires { All (IsWorkerOf hub.now) workers.old.items }
+    ensures workers { All (IsWorkerOf hub.now) workers.new.items }
+    ensures own { IfSome result (IsWorkerOf hub.now) }
+    ensures count { vec_len workers.new + length (option_to_list result) ≡ vec_len workers.old }
+    ensures capacity { vec_capacity workers.new ≡ vec_capacity workers.old }
+{
+    let _ = hub;
+    if has_own { workers.pop() } else { None }
+}
+
+/// Puts it back, where there is one.
+fn put_back(hub: &Hub, workers: &mut Vec<WorkerSeat>, own: Option<WorkerSeat>)
+    requires seats { All (IsWorkerOf hub.now) workers.old.items × IfSome own (IsWorkerOf hub.now) }
+    requires room { vec_len workers.old + length (option_to_list own) ≤ vec_capacity workers.old }
+    ensures seats { All (IsWorkerOf hub.now) workers.new.items }
+    ensures count { vec_len workers.new ≡ vec_len workers.old + length (option_to_list own) }
+{
+    let _ = hub;
+    if let Some(seat) = own {
+        workers.push_reserved(seat);
+    }
+}
+
 /// Serves a traffic that has given nothing.
 fn serve_boxed<R: Threads + Wait + Sync, G: Gate + Sync, T: Traffic + Drop>(
     rt: &R,
@@ -441,22 +528,26 @@ fn serve_boxed<R: Threads + Wait + Sync, G: Gate + Sync, T: Traffic + Drop>(
     ensures refused { IfErr result (λ e. e.fault ≢ ServeFault.BadCount) }
     ensures untouched { IfErr result (λ e. e.input ≡ traffic) }
 {
+    let has_own = workers < MOST_WORKERS && !gate.may_wait();
+    let seats = workers + u8::from(has_own);
     let Ok(room) = Vec::with_capacity(alloc, usize::from(lanes)) else {
         return Err(Unstarted::new(ServeFault::NoMemory, traffic));
     };
     let Parts {
         hub,
         lanes,
-        workers,
+        mut workers,
         deliverer,
-    } = match new_hub(rt, alloc, lanes, workers, year) {
+    } = match new_hub(rt, alloc, lanes, seats, year) {
         Ok(parts) => parts,
         Err(fault) => return Err(Unstarted::new(fault, traffic)),
     };
-    let (traffic, lanes, workers, deliverer, ended) = serve_seats(
-        rt, alloc, &hub, traffic, lanes, workers, deliverer, gate,
+    let own = take_own(&hub, &mut workers, has_own);
+    let (traffic, lanes, mut workers, deliverer, own, ended) = serve_seats(
+        rt, alloc, &hub, traffic, lanes, workers, deliverer, own, gate,
     )?;
     let closed = close_all(lanes, room);
+    put_back(&hub, &mut workers, own);
     hub.finish(rt, alloc, closed, workers, deliverer);
     Ok((traffic, ended))
 }

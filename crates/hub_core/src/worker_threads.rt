@@ -81,6 +81,7 @@ fn join_all<'a>(
     requires room { vec_len back.old + vec_len handles ≤ vec_capacity back.old }
     ensures seats { All (IsWorkerOf hub.now) back.new.items }
     ensures count { vec_len back.new ≡ vec_len back.old + vec_len handles.entry }
+    ensures capacity { vec_capacity back.new ≡ vec_capacity back.old }
 {
     for handle in handles {
         back.push_reserved(handle.join(rt));
@@ -122,7 +123,7 @@ fn start_all<'s, 'e: 's, R: Threads + Wait + Sync, G: Gate + Sync>(
 /// input. Once the task has ended they are asked to stop, and each stops when it then finds no job or no
 /// place for its answer.
 ///
-/// All threads have ended when it returns. `NoThread` says that a thread could not be started,
+/// All threads have ended when it returns, and the seats come back in a list of the same capacity. `NoThread` says that a thread could not be started,
 /// `NoMemory` that memory was refused: the task has not begun then, and its input is given back as it was;
 /// the task and the seats are dropped.
 pub fn run_workers<
@@ -143,20 +144,20 @@ pub fn run_workers<
     task: F,
 ) -> Result<(Vec<WorkerSeat>, T), Unstarted<I>>
     requires { All (IsWorkerOf hub.now) seats.items × F.pre task input }
-    ensures seats { IfOk result (λ v. All (IsWorkerOf hub.now) v.0.items × (vec_len v.0 ≡ vec_len seats)) }
+    ensures seats { IfOk result (λ v. All (IsWorkerOf hub.now) v.0.items × (vec_len v.0 ≡ vec_len seats) × (vec_capacity v.0 ≡ vec_capacity seats)) }
     ensures task { IfOk result (λ v. F.post task input v.1) }
     ensures refused { IfErr result (λ e. e.fault ≢ ServeFault.BadCount) }
     ensures untouched { IfErr result (λ e. e.input ≡ input) }
 {
-    let Ok(mut back) = Vec::with_capacity(alloc, seats.len()) else {
+    let Ok(mut back) = Vec::with_capacity(alloc, seats.capacity()) else {
         return Err(Unstarted::new(ServeFault::NoMemory, input));
     };
     thread::scope(
         thread::scope_env(),
         rt,
         |scope| -> Result<(Vec<WorkerSeat>, T), Unstarted<I>>
-            requires { All (IsWorkerOf hub.now) seats.items × F.pre task input × (back.items ≡ []) × (vec_len back ≡ 0) × (vec_capacity back ≡ vec_len seats) }
-            ensures seats { IfOk result (λ v. All (IsWorkerOf hub.entry.now) v.0.items × (vec_len v.0 ≡ vec_len seats)) }
+            requires { All (IsWorkerOf hub.now) seats.items × F.pre task input × (back.items ≡ []) × (vec_len back ≡ 0) × (vec_capacity back ≡ vec_capacity seats) }
+            ensures seats { IfOk result (λ v. All (IsWorkerOf hub.entry.now) v.0.items × (vec_len v.0 ≡ vec_len seats) × (vec_capacity v.0 ≡ vec_capacity seats)) }
             ensures task { IfOk result (λ v. F.post task input v.1) }
             ensures refused { IfErr result (λ e. e.fault ≢ ServeFault.BadCount) }
             ensures untouched { IfErr result (λ e. e.input ≡ input) }

@@ -89,6 +89,14 @@ fn two_workers_run_beside_each_other(rt: HostRuntime) -> Result<(), Fail> {
 }
 
 #[test]
+fn a_gate_may_wait_unless_it_says_otherwise(rt: HostRuntime) -> Result<(), Fail> {
+    let gate = Meeting::of(rt.alloc(), 1)?;
+    is_true(&rt, gate.may_wait());
+    is_true(&rt, !OpenGate.may_wait());
+    Ok(())
+}
+
+#[test]
 fn a_worker_that_is_held_holds_no_other_row(rt: HostRuntime) -> Result<(), Fail> {
     let gate = Holding::new(rt.alloc(), &[3], FIRST, Ticket { lane: 0, number: 2 })?;
     let found = answered(&rt, &[&[EAN13, EAN8, GS1_128]], 2, &gate)?;

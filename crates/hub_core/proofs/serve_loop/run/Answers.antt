@@ -1,4 +1,4 @@
-use Rattle.std.proofs.Common.{Ok, ap, rules, subst, sym}
+use Rattle.std.proofs.Common.{Ok, ◌∙◌, ap, rules, subst, sym}
 use Rattle.hub_core.specs.inner.Traffics.{given_to, polled_by_each}
 use Rattle.hub_core.specs.Traffics.{IsKept}
 use Rattle.hub_core.proofs.serve_loop.run.Goals as goal
@@ -14,6 +14,7 @@ loop-preserved-in-Ok-GoesOn g c =
       some = (inv.some.0, came inv.some.0 inv.some.1);
       came = λ start was. came start (inv.came start was);
       deliverer = c.take_turn.ensures.deliverer;
+      own = (c.take_turn.ensures.own.0, c.take_turn.ensures.own.1 ∙ inv.own.1);
     }
 
 pub loop-preserved : goal.loop-preserved
@@ -31,6 +32,7 @@ loop-preserved g c =
       some = (inv.some.0, came inv.some.0 inv.some.1);
       came = λ start was. came start (inv.came start was);
       deliverer = c.take_turn.ensures.deliverer;
+      own = (c.take_turn.ensures.own.0, c.take_turn.ensures.own.1 ∙ inv.own.1);
     }
 
 pub returns-in-Ok-NoMemory-clause-serves : goal.returns-in-Ok-NoMemory-clause-serves

@@ -1,5 +1,5 @@
-use Rattle.std.proofs.Common.{None}
-use Rattle.hub_core.specs.Hubs.{IsDelivererOf}
+use Rattle.std.proofs.Common.{◌≡◌, IfSome, None, length, option_to_list}
+use Rattle.hub_core.specs.Hubs.{IsDelivererOf, IsWorkerOf}
 use Rattle.hub_core.specs.inner.Traffics.{Serves, given_to, polled_by_each}
 use Rattle.hub_core.proofs.serve_loop.run.Given as goal
 
@@ -12,4 +12,5 @@ invariant-loop g l = record {
   came : (start : _) → g.T.Traffic.Came start l.initial.traffic (given_to l.initial.seats.items None) (polled_by_each l.initial.seats.items)
       → g.T.Traffic.Came start l.traffic (given_to l.seats.items l.held) (polled_by_each l.seats.items);
   deliverer : IsDelivererOf l.hub l.deliverer;
+  own : IfSome l.own (IsWorkerOf l.hub) × (length (option_to_list l.own) ≡ length (option_to_list l.initial.own));
 }

@@ -16,8 +16,9 @@ serve_seats-requires-after_bounds g c κs within =
     let count = lanes_counted lanes c.args.lanes is.lanes in (
       serves_fresh hub lanes c.args.lanes is.seats.lanes is.lanes is.shape.0 is.shape.1,
       came_fresh (g.T.Traffic.Came c.args.traffic.value c.args.traffic.value) lanes c.args.lanes is.unused count c.requires.fresh,
-      is.seats.workers,
+      c.take_own-own.ensures.workers,
       is.seats.deliverer,
+      c.take_own-own.ensures.own,
     )
 
 pub close_all-closed-requires : goal.close_all-closed-requires
@@ -30,6 +31,20 @@ close_all-closed-requires g c =
     let before = lanes_counted c.in-Ok-new_hub.parts.lanes.items c.args.lanes is.lanes in
     let room = c.in-Ok.ensures in
     (room.items, room.len, omega (arith, now, before, is.shape.0, room.capacity, c.from.ensures, c.in-Ok-new_hub.parts.lanes.ok.0, c.in_ok-traffic.lanes.ok.0))
+
+pub put_back-requires-clause-room : goal.put_back-requires-clause-room
+put_back-requires-clause-room g c =
+    let served = c.in_ok-traffic.ensures in
+    let taken = c.take_own-own.ensures in
+    omega (
+      arith,
+      served.workers.1,
+      served.workers.2,
+      served.own.1,
+      taken.count,
+      taken.capacity,
+      c.in-Ok-new_hub.parts.workers.ok.1,
+    )
 
 pub returns-clause-served : goal.returns-clause-served
 returns-clause-served g c =

@@ -9,5 +9,6 @@ invariant-loop-handle g l = record {
   ends : (goal.iterator-loop-handle g).is_finite l.handle-iterator;
   room : vec_len l.back + into_iter_len l.handle-iterator ≤ vec_capacity l.back;
   count : vec_len l.back + into_iter_len l.handle-iterator ≡ vec_len l.initial.back + into_iter_len l.initial.handle-iterator;
+  capacity : vec_capacity l.back ≡ vec_capacity l.initial.back;
   seats : All (IsWorkerOf l.hub) l.back.items;
 }
