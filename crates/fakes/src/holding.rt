@@ -1,6 +1,6 @@
 //! A gate that holds a row.
 
-use crate::waiting::reaches;
+use crate::waiting::{TURN_LIMIT, reaches_within};
 use hub_core::Gate;
 use lane_core::Ticket;
 use std::alloc::{AllocError, Global};
@@ -11,6 +11,8 @@ use std::sync::atomic::{AtomicU64, Ordering};
 pub struct Holding {
     held: Ticket,
     until: Ticket,
+    /// After how many turns a wait is ended.
+    turns: u64,
     /// How often each row has come, lane by lane and by number.
     came: Vec<Vec<AtomicU64>>,
     /// How often any other row has come.
@@ -44,10 +46,18 @@ impl Holding {
         Ok(Holding {
             held,
             until,
+            turns: TURN_LIMIT,
             came,
             others: AtomicU64::new(0),
             limits_met: AtomicU64::new(0),
         })
+    }
+
+    /// The gate, whose wait ends after so many turns.
+    pub fn with_limit(self, turns: u64) -> Holding {
+        let mut gate = self;
+        gate.turns = turns;
+        gate
     }
 
     /// How often a row has come; none of a row that is not of the lanes.
@@ -78,7 +88,7 @@ impl Gate for Holding {
         }
         if !self
             .count(self.until)
-            .is_some_and(|count| reaches(count, 1))
+            .is_some_and(|count| reaches_within(count, 1, self.turns))
         {
             self.limits_met.fetch_add(1, Ordering::SeqCst);
         }

@@ -8,7 +8,12 @@ pub(crate) const TURN_LIMIT: u64 = 50_000_000;
 
 /// Waits until a counter is that high. Whether it was, before the limit of turns.
 pub(crate) fn reaches(counter: &AtomicU64, wanted: u64) -> bool {
-    for _ in 0..TURN_LIMIT {
+    reaches_within(counter, wanted, TURN_LIMIT)
+}
+
+/// The same, with a limit of so many turns.
+pub(crate) fn reaches_within(counter: &AtomicU64, wanted: u64, turns: u64) -> bool {
+    for _ in 0..turns {
         if counter.load(Ordering::SeqCst) >= wanted {
             return true;
         }
