@@ -102,6 +102,8 @@ class Tree:
 
 
 def main():
+    # A script cannot trap a signal that is ignored when it starts, as SIGINT is in the background of another script.
+    signal.signal(signal.SIGINT, signal.default_int_handler)
     crates = listed()
     hub = below(crates, "gs1_hub") | {"gs1_hub"}
     over = {name: {it for it in hub if name in below(crates, it)} for name in hub}
