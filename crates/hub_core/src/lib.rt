@@ -1,6 +1,7 @@
 //! The scanning hub: lanes' rows are answered by workers beside each other.
 #![tactic(auto)]
 
+mod calling_thread;
 mod closed_lane;
 mod collected_by_lane;
 mod deliverer_seat;
@@ -18,7 +19,6 @@ mod next_ticket;
 mod pace;
 mod parts;
 mod rule;
-mod serve_loop;
 mod serving;
 mod settle;
 mod shape;
@@ -27,6 +27,7 @@ mod traffic;
 mod worker_seat;
 mod worker_threads;
 
+pub use calling_thread::serve_traffic;
 pub use closed_lane::ClosedLane;
 pub use deliverer_seat::{Collected, DelivererSeat, Handed};
 pub use ended::Ended;
@@ -40,7 +41,6 @@ pub use laws::{
 };
 pub use parts::Parts;
 pub use rule::{OneForOne, Trace};
-pub use serve_loop::serve_traffic;
 pub use serving::serve;
 pub use settle::Unsettled;
 pub use shape::Shape;

@@ -123,9 +123,9 @@ fn start_all<'s, 'e: 's, R: Threads + Wait + Sync, G: Gate + Sync>(
 /// input. Once the task has ended they are asked to stop, and each stops when it then finds no job or no
 /// place for its answer.
 ///
-/// All threads have ended when it returns, and the seats come back in a list of the same capacity. `NoThread` says that a thread could not be started,
-/// `NoMemory` that memory was refused: the task has not begun then, and its input is given back as it was;
-/// the task and the seats are dropped.
+/// All threads have ended when it returns, and the seats come back in a list of the same capacity. `NoThread`
+/// says that a thread could not be started, `NoMemory` that memory was refused: the task has not begun then,
+/// and its input is given back as it was; the task and the seats are dropped.
 pub fn run_workers<
     'e,
     R: Threads + Wait + Sync,

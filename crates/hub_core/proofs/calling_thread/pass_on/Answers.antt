@@ -1,6 +1,6 @@
 use Rattle.std.proofs.Common.{arith}
 use Rattle.hub_core.proofs.TrafficFacts.{seats_counted}
-use Rattle.hub_core.proofs.serve_loop.pass_on.Goals as goal
+use Rattle.hub_core.proofs.calling_thread.pass_on.Goals as goal
 
 pub hand-requires : goal.hand-requires
 hand-requires g c =

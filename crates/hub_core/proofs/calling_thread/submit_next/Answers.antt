@@ -3,7 +3,7 @@ use Rattle.std.proofs.lemmas.List.{length-map}
 use Rattle.hub_core.specs.Lanes.{polled, submitted_rows}
 use Rattle.hub_core.specs.Traffics.{HasRoom}
 use Rattle.hub_core.proofs.TrafficFacts.{came_full, came_more, if_none, room_same, seat_at, step_serves}
-use Rattle.hub_core.proofs.serve_loop.submit_next.Goals as goal
+use Rattle.hub_core.proofs.calling_thread.submit_next.Goals as goal
 
 pub returns-in-Ok-clause-serves : goal.returns-in-Ok-clause-serves
 returns-in-Ok-clause-serves g c =

@@ -1,7 +1,7 @@
 use Rattle.std.proofs.Common.{◌≡◌, IfSome, None, length, option_to_list}
 use Rattle.hub_core.specs.Hubs.{IsDelivererOf, IsWorkerOf}
 use Rattle.hub_core.specs.inner.Traffics.{Serves, given_to, polled_by_each}
-use Rattle.hub_core.proofs.serve_loop.run.Given as goal
+use Rattle.hub_core.proofs.calling_thread.run.Given as goal
 
 abbrev pub invariant-loop : goal.invariant-loop
 invariant-loop g l = record {

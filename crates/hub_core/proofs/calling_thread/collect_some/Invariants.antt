@@ -1,7 +1,6 @@
-use Rattle.std.proofs.Common.{◌<◌, vec_len}
 use Rattle.hub_core.specs.Hubs.{IsDelivererOf}
 use Rattle.hub_core.specs.inner.Traffics.{Serves, given_to, polled_by_each}
-use Rattle.hub_core.proofs.serve_loop.pass_on.Given as goal
+use Rattle.hub_core.proofs.calling_thread.collect_some.Given as goal
 
 abbrev pub invariant-loop-i : goal.invariant-loop-i
 invariant-loop-i g l = record {
@@ -10,5 +9,4 @@ invariant-loop-i g l = record {
   came : (start : _) → g.T.Traffic.Came start l.initial.traffic (given_to l.initial.seats.items l.held) (polled_by_each l.initial.seats.items)
       → g.T.Traffic.Came start l.traffic (given_to l.seats.items l.held) (polled_by_each l.seats.items);
   deliverer : IsDelivererOf l.hub l.deliverer;
-  low : l.index < vec_len l.seats;
 }

@@ -1,4 +1,4 @@
-use Rattle.hub_core.proofs.serve_loop.submit_some.Goals as goal
+use Rattle.hub_core.proofs.calling_thread.submit_some.Goals as goal
 
 pub loop-i-preserved : goal.loop-i-preserved
 loop-i-preserved g c =

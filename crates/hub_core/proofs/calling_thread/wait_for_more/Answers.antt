@@ -1,7 +1,7 @@
 use Rattle.std.proofs.Common.{None}
 use Rattle.hub_core.specs.inner.Traffics.{given_to, polled_by_each}
 use Rattle.hub_core.proofs.TrafficFacts.{even_given}
-use Rattle.hub_core.proofs.serve_loop.wait_for_more.Goals as goal
+use Rattle.hub_core.proofs.calling_thread.wait_for_more.Goals as goal
 
 pub wait-requires : goal.wait-requires
 wait-requires g c =

@@ -6,7 +6,7 @@ use Rattle.hub_core.specs.Traffics.{AreServedFirst}
 use Rattle.hub_core.specs.inner.Traffics.{Serves, given_to, polled_by_each}
 use Rattle.hub_core.proofs.ServeFacts.{lanes_counted}
 use Rattle.hub_core.proofs.TrafficFacts.{all_served, came_fresh, seats_counted, serves_fresh, served_first}
-use Rattle.hub_core.proofs.serve_loop.serve_boxed.Goals as goal
+use Rattle.hub_core.proofs.calling_thread.serve_boxed.Goals as goal
 
 pub serve_seats-requires-after_bounds : goal.serve_seats-requires-after_bounds
 serve_seats-requires-after_bounds g c κs within =

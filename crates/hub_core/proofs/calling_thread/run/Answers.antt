@@ -1,7 +1,7 @@
 use Rattle.std.proofs.Common.{Ok, refl, ◌∙◌, ap, rules, subst, sym}
 use Rattle.hub_core.specs.inner.Traffics.{AreEven, Serves, given_to, polled_by_each}
 use Rattle.hub_core.specs.Traffics.{IsKept}
-use Rattle.hub_core.proofs.serve_loop.run.Goals as goal
+use Rattle.hub_core.proofs.calling_thread.run.Goals as goal
 
 pub loop-preserved-in-Ok-GoesOn : goal.loop-preserved-in-Ok-GoesOn
 loop-preserved-in-Ok-GoesOn g c =

@@ -3,8 +3,8 @@ use Rattle.std.proofs.lemmas.Result.{IfOk-weaker}
 use Rattle.hub_core.specs.Traffics.{IsNextOf}
 use Rattle.hub_core.specs.inner.Traffics.{Serves, given_to, polled_by_each}
 use Rattle.hub_core.proofs.TrafficFacts.{came_brought, came_same, lane_at, next_of, room_same, seat_at, step_serves}
-use Rattle.hub_core.proofs.serve_loop.bring_next.Goals as goal
-use Rattle.hub_core.proofs.serve_loop.bring_next.Goals.{After-poll, In-Some}
+use Rattle.hub_core.proofs.calling_thread.bring_next.Goals as goal
+use Rattle.hub_core.proofs.calling_thread.bring_next.Goals.{After-poll, In-Some}
 
 low : (g : _) (c : After-poll g) → c.args.index < length c.args.seats.now.items
 low g c = omega (arith, c.requires.2, c.args.seats.now.ok.0)
