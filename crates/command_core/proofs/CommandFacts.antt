@@ -1,11 +1,15 @@
 -- A run of a command, from its parts.
-use Rattle.std.proofs.Common.{◌≡◌, ◌∙◌, ◌∷◌, [], All, Err, IsErrAnd, List, Ok, Option, Result, ap, inr, map, refl, subst, sym, true, Bool, ℕ}
+use Rattle.std.proofs.Common.{◌≡◌, ◌∙◌, ◌∷◌, [], All, Err, IsErrAnd, List, Ok, Option, Result, ap, false, inl, inr, map, refl, subst, sym, true, Bool, ℕ}
+use Rattle.std.specs.Prelude.{◌↔◌, IfOk, IsErr}
 use Rattle.std.specs.List.{AllZip, flat_map, range_with_len}
-use Rattle.std.specs.Io.KnownBytes.{IsAtEnd}
+use Rattle.std.specs.Io.KnownBytes.{Appends, IsAtEnd}
 use Rattle.digits_core.specs.Bytes.{TookFront}
+use Rattle.std.proofs.lemmas.Bool.{false≢true}
 use Rattle.std.proofs.lemmas.List.Elements.{All-cons, All-head, All-nil, All-tail}
 use Rattle.sheet_core.specs.Bitmaps.{Bitmap}
-use Rattle.sheet_core.specs.Grids.{IsGrid}
+use Rattle.sheet_core.specs.Grids.{Cells, IsGrid}
+use Rattle.sheet_core.specs.declared.fault.PbmFault.{PbmFault}
+use Rattle.sheet_core.specs.declared.fault.PbmFault.TheVariants as pbm
 use Rattle.sheet_core.specs.pbm.Images.{ReadsBytes, images_of}
 use Rattle.command_core.specs.Grids.{cells_of}
 use Rattle.command_core.specs.answers.Reports.{IsReport}
@@ -17,8 +21,8 @@ use Rattle.command_core.specs.answers.Rows.{RefusesRows}
 use Rattle.command_core.specs.declared.answers.rows.RowsFault.{RowsFault}
 use Rattle.command_core.specs.declared.answers.rows.RowsFault.TheVariants as rows
 use Rattle.record_core.specs.declared.input.fault.RecordsFault.TheVariants as records
-use Rattle.command_core.specs.Faults.{of_answers, of_rows}
-use Rattle.command_core.specs.Runs.{WritesRecords, Wrote}
+use Rattle.command_core.specs.Faults.{of_answers, of_images, of_rows}
+use Rattle.command_core.specs.Runs.{Command, Ran, WritesRecords, Wrote}
 use Rattle.command_core.specs.commands.Lanes.{RefusesLanes}
 use Rattle.command_core.specs.commands.Scans.{RefusesScan, scan_command}
 use Rattle.command_core.specs.declared.fault.CommandFault.{CommandFault}
@@ -40,30 +44,124 @@ pub images_cut : (o : ScanOptions) (left rest before after : Option (List ℕ)) 
 images_cut o left rest before after sheets feeds text sent grid read end size are report is sunk =
     (read.bytes, text, (read.consumed, end), (sheets, (grid, read.tells, size), feeds, are, report), subst (λ t. TookFront before after t) is sunk)
 
+-- ---- results that are a fault
+
+-- no value
+pub only_fault : {A E : Type 0} (r : Result A E) (P : A → Type 0) → IsErr r → IfOk r P
+only_fault (Ok x) P failed = absurd (false≢true failed)
+only_fault (Err e) P failed = tt
+
+-- no fault
+pub never_refused : {A E : Type 0} (x : A) (e : E) → (let r : Result A E = Ok x in r ≡ Err e) → ⊥
+never_refused x e same = cc
+
+-- this fault
+pub told_fault : {A : Type 0} (r : Result A CommandFault) (fault : CommandFault) → IsErrAnd r (λ e. e ≡ fault) → r ≡ Err fault
+told_fault (Ok x) fault told = absurd told
+told_fault (Err e) fault told = ap (λ f. Err f) told
+
+-- no failed write
+pub not_cut : {A : Type 0} (r : Result A CommandFault) (fault : CommandFault) → (fault ≡ command.WriteFault → ⊥) → IsErrAnd r (λ e. e ≡ fault)
+    → r ≡ Err command.WriteFault → ⊥
+not_cut (Ok x) fault other told same = absurd told
+not_cut (Err e) fault other told same = let here : e ≡ command.WriteFault = cc in other (sym told ∙ here)
+
+-- a run that is refused before a write
+pub refused_run : {S W : Type 0} (c : Command) (left : S → Option (List ℕ)) (source_failed : S → Bool) (taken : W → Option (List ℕ)) (sink_failed : W → Bool)
+    (source rest : S) (sink : W) (result : Result (Unit {0}) CommandFault) (fault : CommandFault) → IsErrAnd result (λ e. e ≡ fault)
+    → c.refuses (left source) (left rest) fault → (fault ≡ command.WriteFault → ⊥)
+    → (source_failed source ≡ false → (fault ≡ command.ReadFault ↔ (source_failed rest ≡ true)))
+    → Ran c left source_failed taken sink_failed source rest sink sink result
+refused_run c left source_failed taken sink_failed source rest sink (Ok x) fault told why unwritten reads = absurd told
+refused_run c left source_failed taken sink_failed source rest sink (Err e) fault told why unwritten reads = record {
+  ok = tt;
+  cut = λ same. let here : e ≡ command.WriteFault = cc in absurd (unwritten (sym told ∙ here));
+  refused = subst (c.refuses (left source) (left rest)) (sym told) why;
+  unwritten = λ other. refl;
+  read = λ sound. (
+    λ same. let here : e ≡ command.ReadFault = cc in (reads sound).0 (sym told ∙ here),
+    λ failed. ap (λ f. Err f) (told ∙ (reads sound).1 failed),
+  );
+  write = λ sound. (
+    λ same. let here : e ≡ command.WriteFault = cc in absurd (unwritten (sym told ∙ here)),
+    λ failed. absurd (false≢true (sym sound ∙ failed)),
+  );
+}
+
+-- a run whose write failed
+pub cut_run : {S W : Type 0} (c : Command) (left : S → Option (List ℕ)) (source_failed : S → Bool) (taken : W → Option (List ℕ)) (sink_failed : W → Bool)
+    (source rest : S) (sink after : W) (result : Result (Unit {0}) CommandFault) → IsErrAnd result (λ e. e ≡ command.WriteFault)
+    → Wrote c TookFront (left source) (left rest) (taken sink) (taken after) → c.refuses (left source) (left rest) command.WriteFault
+    → (source_failed source ≡ false → source_failed rest ≡ true → ⊥) → (sink_failed sink ≡ false → sink_failed after ≡ true)
+    → Ran c left source_failed taken sink_failed source rest sink after result
+cut_run c left source_failed taken sink_failed source rest sink after (Ok x) told wrote why reads writes = absurd told
+cut_run c left source_failed taken sink_failed source rest sink after (Err e) told wrote why reads writes = record {
+  ok = tt;
+  cut = λ same. wrote;
+  refused = subst (c.refuses (left source) (left rest)) (sym told) why;
+  unwritten = λ other. absurd (other told);
+  read = λ sound. (λ same. let here : e ≡ command.ReadFault = cc in let both = sym told ∙ here in cc, λ failed. absurd (reads sound failed));
+  write = λ sound. (λ same. writes sound, λ failed. ap (λ f. Err f) told);
+}
+
+-- a run that wrote all
+pub written_run : {S W : Type 0} (c : Command) (left : S → Option (List ℕ)) (source_failed : S → Bool) (taken : W → Option (List ℕ)) (sink_failed : W → Bool)
+    (source rest : S) (sink after : W) → Wrote c Appends (left source) (left rest) (taken sink) (taken after)
+    → (source_failed source ≡ false → source_failed rest ≡ true → ⊥) → (sink_failed sink ≡ false → sink_failed after ≡ true → ⊥)
+    → Ran c left source_failed taken sink_failed source rest sink after (Ok tt)
+written_run c left source_failed taken sink_failed source rest sink after wrote reads writes = record {
+  ok = wrote;
+  cut = λ same. absurd (never_refused tt command.WriteFault same);
+  refused = tt;
+  unwritten = tt;
+  read = λ sound. (λ same. absurd (never_refused tt command.ReadFault same), λ failed. absurd (reads sound failed));
+  write = λ sound. (λ same. absurd (never_refused tt command.WriteFault same), λ failed. absurd (writes sound failed));
+}
+
+-- ---- images that are refused
+
+pub images_refused : (o : ScanOptions) (left rest : Option (List ℕ)) (fault : PbmFault) → IsGrid (cells_of o.grid) → ReadsBytes images_of left rest (Err fault)
+    → RefusesScan o left rest (of_images fault)
+images_refused o left rest pbm.NotP4 grid read = (grid, read)
+images_refused o left rest pbm.PbmHeader grid read = (grid, read)
+images_refused o left rest pbm.Truncated grid read = (grid, read)
+images_refused o left rest pbm.PbmSize grid read = (grid, inl read)
+images_refused o left rest pbm.ReadFault grid read = (grid, read)
+images_refused o left rest pbm.NoMemory grid read = (grid, read)
+
+pub images_no_write : (f : PbmFault) → of_images f ≡ command.WriteFault → ⊥
+images_no_write pbm.NotP4 same = cc
+images_no_write pbm.PbmHeader same = cc
+images_no_write pbm.Truncated same = cc
+images_no_write pbm.PbmSize same = cc
+images_no_write pbm.ReadFault same = cc
+images_no_write pbm.NoMemory same = cc
+
+pub images_read : (f : PbmFault) → of_images f ≡ command.ReadFault → f ≡ pbm.ReadFault
+images_read pbm.NotP4 same = cc
+images_read pbm.PbmHeader same = cc
+images_read pbm.Truncated same = cc
+images_read pbm.PbmSize same = cc
+images_read pbm.ReadFault same = refl
+images_read pbm.NoMemory same = cc
+
+-- whether images have the size of a grid, by other names
+pub sized : (g h : Cells) (s t : List Bitmap) (b : Bool) → g ≡ h → s ≡ t → b ≡ have_size g s → have_size h t ≡ b
+sized g h s t b grid sheets is = sym (is ∙ ap (λ g. have_size g s) grid ∙ ap (have_size h) sheets)
+
+pub columns_of : (g h : Cells) (s t : List Bitmap) (feeds : List (List (List ℕ))) → g ≡ h → s ≡ t → AreColumns g s feeds → AreColumns h t feeds
+columns_of g h s t feeds grid sheets are = subst (λ s. AreColumns h s feeds) sheets (subst (λ g. AreColumns g s feeds) grid are)
+
 -- ---- rows that were not answered
 
 -- a refusal of the answers is that of no read and of no write
-no_read : (f : AnswerFault) → of_answers f ≡ command.ReadFault → ⊥
+pub no_read : (f : AnswerFault) → of_answers f ≡ command.ReadFault → ⊥
 no_read answers.NoThread same = cc
 no_read answers.NoMemory same = cc
 
-no_write : (f : AnswerFault) → of_answers f ≡ command.WriteFault → ⊥
+pub no_write : (f : AnswerFault) → of_answers f ≡ command.WriteFault → ⊥
 no_write answers.NoThread same = cc
 no_write answers.NoMemory same = cc
-
-told_by : {A : Type 0} (r : Result A CommandFault) (f : AnswerFault) (other : CommandFault) → IsErrAnd r (λ e. e ≡ of_answers f) → r ≡ Err other → of_answers f
-    ≡ other
-told_by (Ok x) f other told same = absurd told
-told_by (Err e) f other told same = let here : e ≡ other = cc in sym told ∙ here
-
-pub unanswered_not_read : {A : Type 0} (r : Result A CommandFault) (f : AnswerFault) → IsErrAnd r (λ e. e ≡ of_answers f) → r ≡ Err command.ReadFault → ⊥
-unanswered_not_read r f told same = no_read f (told_by r f command.ReadFault told same)
-
-pub unanswered_not_cut : {A : Type 0} (r : Result A CommandFault) (f : AnswerFault) → IsErrAnd r (λ e. e ≡ of_answers f) → r ≡ Err command.WriteFault → ⊥
-unanswered_not_cut r f told same = no_write f (told_by r f command.WriteFault told same)
-
-pub never_refused : {A E : Type 0} (x : A) (e : E) → (let r : Result A E = Ok x in r ≡ Err e) → ⊥
-never_refused x e same = cc
 
 -- lists of no rows, behind their values
 rowless : {V : Type 0} (f : V → List (List ℕ)) (vs : List V) → All (λ rows. rows ≡ []) (map f vs) → All (λ v. f v ≡ []) vs
