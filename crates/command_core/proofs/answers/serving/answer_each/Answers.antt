@@ -7,8 +7,17 @@ use Rattle.hub_core.specs.Laws.{AreAnswersOf}
 use Rattle.hub_core.specs.Serving.{are_short, is_count, served}
 use Rattle.hub_core.specs.Traffics.{IsKept}
 use Rattle.command_core.specs.inner.Reports.{AreLinesOf}
+use Rattle.command_core.proofs.CommandFacts.{only_fault}
 use Rattle.command_core.proofs.answers.ReportFacts.{no_lines}
 use Rattle.command_core.proofs.answers.serving.answer_each.Goals as goal
+
+pub serve_traffic-requires-clause-counts : goal.serve_traffic-requires-clause-counts
+serve_traffic-requires-clause-counts g c κs within =
+    let feeds = c.args.feeds.items in
+    let rows = map (λ feed. feed.items) feeds in
+    let counts = and_parts (is_count (length rows)) (is_count c.args.workers && are_short rows) c.requires in
+    let count : length rows ≡ c.len-lanes.result = omega (arith, length-map feeds (λ feed. feed.items), c.len-lanes.ensures, c.args.feeds.ok.0) in
+    (subst (λ n. is_count n ≡ true) count counts.0, (and_parts (is_count c.args.workers) (are_short rows) counts.1).0)
 
 pub serve_traffic-requires-clause-fresh : goal.serve_traffic-requires-clause-fresh
 serve_traffic-requires-clause-fresh g c κs within =
@@ -26,6 +35,21 @@ serve_traffic-requires-clause-fresh g c κs within =
       no_lines c.len-lanes.result (map string_bytes c.in_ok-texts.texts.items) c.in_ok-texts.ensures,
     ) in
     both
+
+pub fault_of-requires : goal.fault_of-requires
+fault_of-requires g c = c.in-Err.ensures.refused
+
+pub returns-in_err-texts : goal.returns-in_err-texts
+returns-in_err-texts g c = record { lines = only_fault c.from_residual.result _ c.from_residual.ensures.0 }
+
+pub returns-in_err-new : goal.returns-in_err-new
+returns-in_err-new g c = record { lines = only_fault c.from_residual-in_err-new.result _ c.from_residual-in_err-new.ensures.0 }
+
+pub returns-in-Ok : goal.returns-in-Ok
+returns-in-Ok g c = record { lines = tt }
+
+pub returns-in-Err : goal.returns-in-Err
+returns-in-Err g c = record { lines = tt }
 
 pub returns-in-Ok-default-Done : goal.returns-in-Ok-default-Done
 returns-in-Ok-default-Done g c =
