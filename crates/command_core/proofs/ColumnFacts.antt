@@ -1,5 +1,6 @@
 -- The rows of columns as they come.
-use Rattle.std.proofs.Common.{◌+◌, ◌++◌, ◌*◌, ◌/◌, ◌<◌, ◌≤◌, ◌==◌, ◌≡◌, ◌∙◌, ◌∷◌, Bool, Fits, List, [], ap, arith, get_or, length, map, suc, sym, take, true, w16, zero, ℕ}
+use Rattle.std.proofs.Common.{◌+◌, ◌++◌, ◌*◌, ◌/◌, ◌<◌, ◌≤◌, ◌==◌, ◌≡◌, ◌∙◌, ◌∷◌, Bool, Fits, List, [], ap, arith, get_or, length, map, suc, sym, take}
+use Rattle.std.proofs.Common.{true, w16, zero, ℕ}
 use Rattle.std.proofs.lemmas.Bool.{and_parts, eqb-true}
 use Rattle.std.proofs.Math.Nat.{mul-le-mul_right}
 use Rattle.sheet_core.specs.Bitmaps.{Bitmap}

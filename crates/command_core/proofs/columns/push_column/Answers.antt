@@ -49,9 +49,11 @@ pub returns : goal.returns
 returns c =
     let inv = c.loop-row.invariant in
     let g = c.args.grid in
-    let end : c.loop-row.row ≡ g.rows = ended c.loop-row.row c.rows-row-end.result g.rows c.loop-row.auto.row-end c.loop-row-test.false c.rows-row-end.ensures in
-    record { added = (inv.more, subst (λ n. HaveDots inv.more (map (λ cell. cell_dots g c.args.sheet.now cell (g.height / 2))
-    (map (λ row. row * g.columns + c.args.column) (range_with_len 0 n)))) end inv.shown, inv.added) }
+    let end : c.loop-row.row ≡ g.rows = ended c.loop-row.row c.rows-row-end.result g.rows c.loop-row.auto.row-end c.loop-row-test.false
+    c.rows-row-end.ensures in
+    let shown = subst (λ n. HaveDots inv.more (map (λ cell. cell_dots g c.args.sheet.now cell (g.height / 2))
+    (map (λ row. row * g.columns + c.args.column) (range_with_len 0 n)))) end inv.shown in
+    record { added = (inv.more, shown, inv.added) }
 
 pub loop-row-preserved : goal.loop-row-preserved
 loop-row-preserved c =

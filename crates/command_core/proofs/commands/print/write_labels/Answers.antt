@@ -105,7 +105,8 @@ returns-in_err-write_all-in-Lines g c =
     let o = c.args.options in
     let labels = c.args.labels.now in
     let text = string_bytes c.in_ok-text-in-Lines.text in
-    let cells : c.from.result * c.from-in-Lines.result ≡ cell_count grid = rw (c.from.ensures, c.columns.ensures, c.from-in-Lines.ensures, c.rows.ensures) refl in
+    let cells : c.from.result * c.from-in-Lines.result ≡ cell_count grid = rw (c.from.ensures, c.columns.ensures, c.from-in-Lines.ensures, c.rows.ensures)
+    refl in
     let fit = c.in_ok-check_labels-in-Lines.ensures.ok in
     let lines : text ≡ label_lines (cell_count grid) labels = c.in_ok-text-in-Lines.ensures ∙ ap (λ k. label_lines k labels) cells in
     let sent = c.as_bytes.ensures.value ∙ c.as_str.ensures.value in
@@ -150,7 +151,8 @@ returns-in_ok-write_all-in-Lines g c =
     let o = c.args.options in
     let labels = c.args.labels.now in
     let text = string_bytes c.in_ok-text-in-Lines.text in
-    let cells : c.from.result * c.from-in-Lines.result ≡ cell_count grid = rw (c.from.ensures, c.columns.ensures, c.from-in-Lines.ensures, c.rows.ensures) refl in
+    let cells : c.from.result * c.from-in-Lines.result ≡ cell_count grid = rw (c.from.ensures, c.columns.ensures, c.from-in-Lines.ensures, c.rows.ensures)
+    refl in
     let fit = c.in_ok-check_labels-in-Lines.ensures.ok in
     let lines : text ≡ label_lines (cell_count grid) labels = c.in_ok-text-in-Lines.ensures ∙ ap (λ k. label_lines k labels) cells in
     let sent = c.as_bytes.ensures.value ∙ c.as_str.ensures.value in
