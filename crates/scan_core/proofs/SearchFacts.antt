@@ -1,7 +1,7 @@
 -- Searches that go on.
 use Rattle.std.proofs.Common.{◌≡◌, ◌⊎◌, ◌+◌, ◌<◌, ◌≤◌, ℕ, IfNone, Option, Some, None, arith, inl, inr, sym}
 use Rattle.std.proofs.lemmas.Bool.{cases_lt}
-use Rattle.scan_core.specs.Windows.{IsLeft, IsNext, IsSymbolOf, Search}
+use Rattle.scan_core.specs.Windows.{IsLeft, IsNext, IsOver, IsSymbolOf, Search}
 use Rattle.scan_core.specs.declared.symbols.Place.{Place}
 use Rattle.scan_core.specs.declared.window.Window.{Window}
 use Rattle.scan_core.specs.inner.Searches.{IsNextPlace}
@@ -31,6 +31,18 @@ earlier s first least w behind passed next = record {
   ];
   none_before = λ v s' left before. next.none_before v s' (passed v s' left) before;
 }
+
+-- where none is left, none is further right
+pub over_behind : (s : Search) (first : ℕ) → s.first ≤ first → IsOver s → IsOver (record { runs = s.runs; year = s.year; first = first; least = s.least })
+over_behind s first behind over = λ v symbol left. over v symbol (elim left [
+  | inl more ↦ inl (omega arith)
+  | inr at ↦
+      let here = at.0 in
+      elim (cases_lt s.first v.first) [
+        | inl more ↦ inl more
+        | inr most ↦ inr (omega arith, at.1)
+      ]
+])
 
 -- what is left is no window before the next that may be a symbol
 pub at_place : (s : Search) (p : Place) → IsNextPlace s p → (v : Window) → IsSymbolOf s.runs s.year v → IsLeft s v
