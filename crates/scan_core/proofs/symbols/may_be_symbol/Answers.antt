@@ -1,6 +1,14 @@
-use Rattle.std.proofs.Common.{◌≡◌, ℕ, ◌-◌, ◌+◌, ap, arith, get_or}
-use Rattle.scan_core.proofs.WindowFacts.{window_ends}
+use Rattle.std.proofs.Common.{◌≡◌, ℕ, ◌-◌, ◌+◌, ap, arith, get_or, subst}
+use Rattle.scan_core.specs.Showing.{HasSize, kind_of}
+use Rattle.scan_core.proofs.WindowFacts.{shown, window_candidate, window_ends}
 use Rattle.scan_core.proofs.symbols.may_be_symbol.Goals as goal
+
+pub returns-then-may_end : goal.returns-then-may_end
+returns-then-may_end c = λ none year v s first count.
+    let runs = c.args.widths.now in
+    let N = (shown runs year c.requires.row v s).N in
+    let candidate = window_candidate runs year c.requires.row v s in
+    c.is_symbol_count.ensures none v.carrier N (subst (λ n. HasSize (kind_of v.carrier) (n - 2) N) count candidate)
 
 pub returns-else-may_end : goal.returns-else-may_end
 returns-else-may_end c = λ none year v s first count.
