@@ -1,4 +1,4 @@
-use Rattle.std.proofs.Common.{length, subst, arith, inl, inr}
+use Rattle.std.proofs.Common.{◌∙◌, ap, length, subst, sum, arith, inl, inr}
 use Rattle.std.proofs.lemmas.Result.{err_from_is_err_and}
 use Rattle.scan_core.specs.inner.Stages.{Fails}
 use Rattle.scan_core.specs.Row.{inner}
@@ -15,6 +15,68 @@ before_text : (stage : Stage) → IsBeforeText (stage_fault stage)
 before_text QuietZone = tt
 before_text Modules = tt
 before_text Pattern = tt
+
+pub try_both-requires-clause-row : goal.try_both-requires-clause-row
+try_both-requires-clause-row c = c.requires
+
+pub try_both-requires-clause-sum : goal.try_both-requires-clause-sum
+try_both-requires-clause-sum c = c.total_dots-total.ensures ∙ ap sum c.inner-inner.ensures
+
+pub try_both-requires-clause-counted : goal.try_both-requires-clause-counted
+try_both-requires-clause-counted c = rw c.inner-inner.ensures at c.in-Some-Some.ensures.found
+
+pub try_both-requires-clause-counted_gs1128 : goal.try_both-requires-clause-counted_gs1128
+try_both-requires-clause-counted_gs1128 c = rw c.inner-inner.ensures at c.in-Some-Some.ensures'.found
+
+pub try_both-requires-clause-fixed : goal.try_both-requires-clause-fixed
+try_both-requires-clause-fixed c = c.in-Some-Some.ensures.fixed
+
+pub try_both-requires-clause-gs1128 : goal.try_both-requires-clause-gs1128
+try_both-requires-clause-gs1128 c = c.in-Some-Some.ensures'.gs1128
+
+pub try_candidate-requires-clause-row : goal.try_candidate-requires-clause-row
+try_candidate-requires-clause-row c = c.requires
+
+pub try_candidate-requires-clause-sum : goal.try_candidate-requires-clause-sum
+try_candidate-requires-clause-sum c = c.total_dots-total.ensures ∙ ap sum c.inner-inner.ensures
+
+pub try_candidate-requires-clause-counted : goal.try_candidate-requires-clause-counted
+try_candidate-requires-clause-counted c = rw c.inner-inner.ensures at c.in-Some-None.ensures.found
+
+pub try_candidate-requires-in-None-Some-clause-row : goal.try_candidate-requires-in-None-Some-clause-row
+try_candidate-requires-in-None-Some-clause-row c = c.requires
+
+pub try_candidate-requires-in-None-Some-clause-sum : goal.try_candidate-requires-in-None-Some-clause-sum
+try_candidate-requires-in-None-Some-clause-sum c = c.total_dots-total.ensures ∙ ap sum c.inner-inner.ensures
+
+pub try_candidate-requires-in-None-Some-clause-counted : goal.try_candidate-requires-in-None-Some-clause-counted
+try_candidate-requires-in-None-Some-clause-counted c = rw c.inner-inner.ensures at c.in-None-Some.ensures.found
+
+pub returns-in_err-try_both-in-Some-Some-clause-shown : goal.returns-in_err-try_both-in-Some-Some-clause-shown
+returns-in_err-try_both-in-Some-Some-clause-shown c =
+    let p = err_from_is_err_and c.from_residual.result c.from_residual.ensures.1 in
+    rw p.1 tt
+
+pub returns-in_err-try_candidate-in-Some-None-clause-shown : goal.returns-in_err-try_candidate-in-Some-None-clause-shown
+returns-in_err-try_candidate-in-Some-None-clause-shown c =
+    let from = c.from_residual-in_err-try_candidate-in-Some-None in
+    let p = err_from_is_err_and from.result from.ensures.1 in
+    rw p.1 tt
+
+pub returns-in_err-try_candidate-in-None-Some-clause-shown : goal.returns-in_err-try_candidate-in-None-Some-clause-shown
+returns-in_err-try_candidate-in-None-Some-clause-shown c =
+    let from = c.from_residual-in_err-try_candidate-in-None-Some in
+    let p = err_from_is_err_and from.result from.ensures.1 in
+    rw p.1 tt
+
+pub returns-in_ok-try_both-in-Some-Some-clause-shown : goal.returns-in_ok-try_both-in-Some-Some-clause-shown
+returns-in_ok-try_both-in-Some-Some-clause-shown c = c.in_ok-try_both-in-Some-Some.ensures.shown
+
+pub returns-in_ok-try_candidate-in-Some-None-clause-shown : goal.returns-in_ok-try_candidate-in-Some-None-clause-shown
+returns-in_ok-try_candidate-in-Some-None-clause-shown c = c.in_ok-try_candidate-in-Some-None.ensures.shown
+
+pub returns-in_ok-try_candidate-in-None-Some-clause-shown : goal.returns-in_ok-try_candidate-in-None-Some-clause-shown
+returns-in_ok-try_candidate-in-None-Some-clause-shown c = c.in_ok-try_candidate-in-None-Some.ensures.shown
 
 pub returns-in_err-try_both-in-Some-Some-clause-refused : goal.returns-in_err-try_both-in-Some-Some-clause-refused
 returns-in_err-try_both-in-Some-Some-clause-refused c =
