@@ -1,5 +1,5 @@
 -- Runs are at most one list of modules.
-use Rattle.std.proofs.Common.{◌≡◌, ℕ, ◌+◌, ◌*◌, ◌<◌, ◌≤◌, ◌&&◌, Bool, List, [], ◌∷◌, false, get_or, length, set, sum, take, true, refl, subst, ap₂, arith, inl, inr}
+use Rattle.std.proofs.Common.{◌≡◌, ℕ, ◌+◌, ◌*◌, ◌<◌, ◌≤◌, ◌&&◌, Bool, List, [], ◌∷◌, ap, ap₂, arith, false, get_or, inl, inr, length, refl, set, subst, sum, take, true}
 use Rattle.std.specs.List.{AllZip, AllByRecursion}
 use Rattle.std.proofs.lemmas.List.{get_or_default, take_more_set}
 use Rattle.std.proofs.lemmas.List.Elements.{AllZip-get_or, all_zip_more}
@@ -37,6 +37,24 @@ not_near N W w k m one reached passed far run =
             subst (λ i. 3 * gap (w * N) (i * W) ≤ W) same near in omega arith
       ]
     ]
+
+-- the modules nearest to a run, as they are counted, are it
+pub is_run : (N W w k width thirds modules total far : ℕ) → width ≡ w → thirds ≡ 3 * N → modules ≡ 3 * k → total ≡ W → 1 ≤ k → k ≤ 4
+    → far ≡ gap (width * thirds) (modules * total) → far ≤ total → IsRun N W w k
+is_run N W w k width thirds modules total far a b c d least most is near =
+    let run : width * thirds ≡ 3 * (w * N) = rw (a, b) (omega arith) in
+    let nearest : modules * total ≡ 3 * (k * W) = rw (c, d) (omega arith) in
+    record { least = least; most = most; near = omega arith }
+
+-- or else none are
+pub no_run : (N W w k m width thirds modules total far : ℕ) → width ≡ w → thirds ≡ 3 * N → modules ≡ 3 * k → total ≡ W → 1 ≤ k
+    → (1 < k → 3 * (k * total) ≤ width * thirds + total) → (k < 4 → width * thirds < 3 * (k * total) + 2 * total)
+    → far ≡ gap (width * thirds) (modules * total) → total < far → IsRun N W w m → ⊥
+no_run N W w k m width thirds modules total far a b c d one reached passed is more run =
+    let dots : width * thirds ≡ 3 * (w * N) = rw (a, b) (omega arith) in
+    let nearest : modules * total ≡ 3 * (k * W) = rw (c, d) (omega arith) in
+    let all : k * total ≡ k * W = ap (λ t. k * t) d in
+    not_near N W w k m one (λ low. let up = reached low in omega arith) (λ high. let down = passed high in omega arith) (omega arith) run
 
 one_list : (N W : ℕ) → 0 < W → (ws ms ks : List ℕ) → AllZip (IsRun N W) ws ms → AllZip (IsRun N W) ws ks → ms ≡ ks
 one_list N W pos [] [] [] a b = refl
