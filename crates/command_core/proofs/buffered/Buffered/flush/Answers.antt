@@ -1,6 +1,39 @@
-use Rattle.std.proofs.Common.{◌++◌, ◌≡◌, ◌∙◌, ap, drop, refl, sym, take, take-append-drop}
-use Rattle.std.proofs.KnownBytes.{Keeps-trans, append_known-kept, append_known-moved}
+use Rattle.std.proofs.Common.{◌++◌, ◌==◌, ◌<◌, ◌≡◌, ◌≤◌, ◌∙◌, List, ap, arith, drop, false, length, length-drop, refl, subst, sym, take, take-append-drop, ℕ}
+use Rattle.std.specs.Io.KnownBytes.{Keeps, append_known}
+use Rattle.std.proofs.lemmas.Bool.{eqb-false}
+use Rattle.std.proofs.KnownBytes.{Keeps-refl, Keeps-trans, append_known-kept, append_known-moved}
+use Rattle.command_core.specs.inner.Buffers.{taken_and_waiting}
 use Rattle.command_core.proofs.buffered.Buffered.flush.Goals as goal
+
+pub returns-then-self-clause-bytes : goal.returns-then-self-clause-bytes
+returns-then-self-clause-bytes g c = Keeps-refl _
+
+pub writes-init : goal.writes-init
+writes-init g c =
+    let s = c.self.inside in
+    record {
+      bytes =
+          subst (λ v. Keeps (taken_and_waiting g.W.Sink.taken v) (append_known (g.W.Sink.taken s.sink) s.waiting.items)) c.self.view_is (Keeps-refl _);
+      same = ap (λ v. g.W.Sink.failed v.sink) c.self.view_is;
+      sound = c.self.invariant;
+    }
+
+pub drop_front-requires : goal.drop_front-requires
+drop_front-requires g c = subst (λ bytes. c.in-Ok.count ≤ length bytes) c.as_slice.ensures.value c.in-Ok.ensures.bound
+
+-- fewer bytes wait after a write that took some
+fewer : (n : ℕ) (waiting sent rest : List ℕ) → sent ≡ waiting → false ≡ (length waiting == 0) → (0 < length sent → 0 < n) → n ≤ length sent
+    → rest ≡ drop n waiting → length rest < length waiting
+fewer n waiting sent rest is full some bound dropped =
+    let none = eqb-false (length waiting) 0 (sym full) in
+    let long = ap length is in
+    let left = ap length dropped in
+    omega (arith, length-drop n waiting)
+
+pub writes-smaller : goal.writes-smaller
+writes-smaller g c =
+    fewer c.in-Ok.count c.writes.self-inside.waiting.items c.as_slice.result.now c.drop_front.new.waiting.items c.as_slice.ensures.value
+    c.writes-test.ensures c.in-Ok.ensures.some c.in-Ok.ensures.bound c.drop_front.ensures
 
 pub writes-preserved : goal.writes-preserved
 writes-preserved g c =
