@@ -25,6 +25,10 @@ use Rattle.command_core.proofs.BufferFacts.{refused_as}
 use Rattle.command_core.proofs.CommandFacts.{never_refused, not_cut, only_fault, told_fault}
 use Rattle.command_core.proofs.commands.print.write_labels.Goals as goal
 
+-- the cells, as they are counted
+counted : (g : Cells) (wide columns high rows : ℕ) → wide ≡ columns → columns ≡ g.columns → high ≡ rows → rows ≡ g.rows → wide * high ≡ cell_count g
+counted g wide columns high rows a b c d = rw (a, b, c, d) refl
+
 -- the lines, where text is asked for
 lines_printed : (g : Cells) (o : Output) (labels : List Label) (text : List ℕ) → o ≡ output.Lines → AllByRecursion (IsPrintable g) labels
     → text ≡ label_lines (cell_count g) labels → IsPrinted g o labels text
@@ -105,8 +109,8 @@ returns-in_err-write_all-in-Lines g c =
     let o = c.args.options in
     let labels = c.args.labels.now in
     let text = string_bytes c.in_ok-text-in-Lines.text in
-    let cells : c.from.result * c.from-in-Lines.result ≡ cell_count grid = rw (c.from.ensures, c.columns.ensures, c.from-in-Lines.ensures, c.rows.ensures)
-    refl in
+    let cells = counted grid c.from.result c.columns.result c.from-in-Lines.result c.rows.result c.from.ensures c.columns.ensures c.from-in-Lines.ensures
+    c.rows.ensures in
     let fit = c.in_ok-check_labels-in-Lines.ensures.ok in
     let lines : text ≡ label_lines (cell_count grid) labels = c.in_ok-text-in-Lines.ensures ∙ ap (λ k. label_lines k labels) cells in
     let sent = c.as_bytes.ensures.value ∙ c.as_str.ensures.value in
@@ -151,8 +155,8 @@ returns-in_ok-write_all-in-Lines g c =
     let o = c.args.options in
     let labels = c.args.labels.now in
     let text = string_bytes c.in_ok-text-in-Lines.text in
-    let cells : c.from.result * c.from-in-Lines.result ≡ cell_count grid = rw (c.from.ensures, c.columns.ensures, c.from-in-Lines.ensures, c.rows.ensures)
-    refl in
+    let cells = counted grid c.from.result c.columns.result c.from-in-Lines.result c.rows.result c.from.ensures c.columns.ensures c.from-in-Lines.ensures
+    c.rows.ensures in
     let fit = c.in_ok-check_labels-in-Lines.ensures.ok in
     let lines : text ≡ label_lines (cell_count grid) labels = c.in_ok-text-in-Lines.ensures ∙ ap (λ k. label_lines k labels) cells in
     let sent = c.as_bytes.ensures.value ∙ c.as_str.ensures.value in
