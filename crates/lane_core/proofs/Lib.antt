@@ -5,6 +5,7 @@ pub mod GoodFacts
 pub mod HandShowFacts
 pub mod HeldFacts
 pub mod HistoryFacts
+pub mod IdleFacts
 pub mod LaneFacts
 pub mod LaneShowFacts
 pub mod ListFacts
