@@ -1,5 +1,5 @@
 -- The lanes of a world by their places.
-use Rattle.std.proofs.Common.{◌≡◌, ℕ, ◌<◌, List, map, length, get_or, set, Some, sym, ap, ◌∙◌}
+use Rattle.std.proofs.Common.{◌≡◌, ℕ, ◌<◌, List, map, length, length-set, get_or, set, Some, sym, ap, ◌∙◌}
 use Rattle.std.specs.List.{slice_get}
 use Rattle.std.proofs.lemmas.List.{map-set}
 use Rattle.lane_core.specs.declared.lane.Lane.{Lane}
@@ -26,3 +26,7 @@ lane_same lanes i x y less is same =
 -- a lane that holds something else
 pub lane_put : (lanes : List Lane) (i : ℕ) (y : Lane) (h : LaneContents) → lane_held y ≡ h → map lane_held (set lanes i y) ≡ set (map lane_held lanes) i h
 lane_put lanes i y h is = map-set lane_held lanes i y ∙ ap (set (map lane_held lanes) i) is
+
+-- as many lanes, whatever one of them is
+pub count_put : (lanes : List Lane) (i : ℕ) (x : Lane) → length (map lane_held (set lanes i x)) ≡ length (map lane_held lanes)
+count_put lanes i x = count_held (set lanes i x) ∙ (length-set lanes i x ∙ sym (count_held lanes))

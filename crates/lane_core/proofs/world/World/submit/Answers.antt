@@ -5,9 +5,11 @@ use Rattle.std.proofs.lemmas.List.{map-set}
 use Rattle.lane_core.specs.declared.event.Event.TheVariants.{Submit}
 use Rattle.lane_core.specs.declared.job.Plain.{Plain}
 use Rattle.lane_core.specs.declared.lane.Lane.{Lane}
+use Rattle.lane_core.specs.Contents.{Contents}
 use Rattle.lane_core.specs.Plain.{plain_of}
 use Rattle.lane_core.specs.Holding.{held, lane_held}
-use Rattle.lane_core.proofs.HeldFacts.{count_held, lane_at, same_lane}
+use Rattle.lane_core.proofs.HeldFacts.{count_held, count_put, lane_at, same_lane}
+use Rattle.lane_core.proofs.IdleFacts.{not_done}
 use Rattle.lane_core.proofs.LaneShowFacts.{submit_closed, submit_done, submit_full, submit_past}
 use Rattle.lane_core.proofs.ShowFacts.{shown_after}
 use Rattle.lane_core.proofs.world.World.submit.Goals as goal
@@ -84,3 +86,21 @@ returns-in-Err-clause-refused c =
     let steps = submit_done (held c.self.inside) c.args.lane c.args.row (lane_held x) at open_ room in
     let row = ap (λ (f : AllocFailed Plain). f.value.widths) c.failed.view_is ∙ ap (λ (x : Plain). x.widths) c.in-Err.ensures.value_returned in
     rw (← c.self.view_is) ((λ i. Submit c.args.lane (row i)), λ s reached shows. (steps s reached shows).0)
+
+pub returns-in-Ok-clause-disabled : goal.returns-in-Ok-clause-disabled
+returns-in-Ok-clause-disabled c = λ e. not_done e
+
+pub returns-in-Ok-clause-lanes : goal.returns-in-Ok-clause-lanes
+returns-in-Ok-clause-lanes c = count_put c.self.inside.lanes.items c.args.lane _ ∙ ap (λ (x : Contents). length x.lanes) c.self.view_is
+
+pub invariant_of-self-in-Err : goal.invariant_of-self-in-Err
+invariant_of-self-in-Err c = rw c.in-Err.ensures.items c.self.invariant
+
+pub returns-in-Err-clause-unchanged : goal.returns-in-Err-clause-unchanged
+returns-in-Err-clause-unchanged c = rw c.in-Err.ensures.items c.self.view_is
+
+pub returns-in-Err-clause-lanes : goal.returns-in-Err-clause-lanes
+returns-in-Err-clause-lanes c = ap (λ (x : Contents). length x.lanes) c.self.view_is
+
+pub overflow_cast-ticket : goal.overflow_cast-ticket
+overflow_cast-ticket c = omega arith
