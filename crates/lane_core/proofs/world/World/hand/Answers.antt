@@ -1,21 +1,16 @@
-use Rattle.std.specs.Prelude.{Err, Ok, OnErr, Result}
-use Rattle.std.proofs.Common.{◌<◌, [], ◌∷◌, ◌++◌, length, Bor, ap, ◌∙◌, arith}
+use Rattle.std.proofs.Common.{List, ◌<◌, [], ◌∷◌, ◌++◌, length, Bor, ap, ◌∙◌, arith}
 use Rattle.lane_core.specs.declared.event.Event.TheVariants.{Hand}
 use Rattle.lane_core.specs.declared.job.Plain.{Plain}
-use Rattle.lane_core.specs.Contents.{lane_contents}
+use Rattle.lane_core.specs.Contents.{Contents, lane_contents}
 use Rattle.lane_core.specs.ReorderBuffer.{WaitsAsNext}
 use Rattle.lane_core.specs.Holding.{held, lane_held}
 use Rattle.lane_core.proofs.HandShowFacts.{hand_done, hand_enabled, hand_none, if_some}
-use Rattle.lane_core.proofs.HeldFacts.{count_held, lane_at, lane_put, lane_same}
+use Rattle.lane_core.proofs.HeldFacts.{count_held, count_put, lane_at, lane_put, lane_same}
+use Rattle.lane_core.proofs.IdleFacts.{count_kept, not_done, of_no_refusal, of_refusal}
 use Rattle.lane_core.proofs.LaneShowFacts.{hand_past}
 use Rattle.lane_core.proofs.NextFacts.{none_has}
 use Rattle.lane_core.proofs.ShowFacts.{shown_after}
 use Rattle.lane_core.proofs.world.World.hand.Goals as goal
-
--- what holds at all holds of a refusal
-of_refusal : {T E : Type 0} (r : Result T E) (P : Type 0) → P → OnErr r P
-of_refusal (Ok x) P p = record {}
-of_refusal (Err e) P p = p
 
 pub returns-then-at-len-clause-steps : goal.returns-then-at-len-clause-steps
 returns-then-at-len-clause-steps c =
@@ -81,7 +76,7 @@ invariant_of-self-2 c =
     let less : c.args.lane < length c.self.inside.lanes.items = omega arith in
     let x = c.index_mut.result.now in
     let y = c.in-Some.delivery in
-    let items = c.push_reserved.ensures.items ∙ ap (λ xs. xs ++ y ∷ []) c.reserve.ensures.items in
+    let items = ◌∙◌ {A = List Plain} c.push_reserved.ensures.items (ap (λ (xs : List Plain). xs ++ y ∷ []) c.reserve.ensures.items) in
     let put = lane_put c.self.inside.lanes.items c.args.lane record
     { closed = x.closed; issued = x.issued; handed = c.push_reserved.new.self; polled = x.polled } _
     (λ i. lane_contents x.closed x.issued (items i) x.polled) in
@@ -94,9 +89,42 @@ returns-clause-steps c =
     let less : c.args.lane < length c.self.inside.lanes.items = omega arith in
     let x = c.index_mut.result.now in
     let y = c.in-Some.delivery in
-    let items = c.push_reserved.ensures.items ∙ ap (λ xs. xs ++ y ∷ []) c.reserve.ensures.items in
+    let items = ◌∙◌ {A = List Plain} c.push_reserved.ensures.items (ap (λ (xs : List Plain). xs ++ y ∷ []) c.reserve.ensures.items) in
     let put = lane_put c.self.inside.lanes.items c.args.lane record
     { closed = x.closed; issued = x.issued; handed = c.push_reserved.new.self; polled = x.polled } _
     (λ i. lane_contents x.closed x.issued (items i) x.polled) in
     rw (← c.self.view_is) (rw put (hand_done (held c.self.inside) c.args.lane (lane_held x) y c.take_next.new.self
     (lane_at c.self.inside.lanes.items c.args.lane x less c.index_mut.ensures.value) c.in-Some.ensures.some))
+
+pub next-requires : goal.next-requires
+next-requires c =
+    let kept = count_kept (held c.self.inside) c.self.invariant in
+    let count = count_held c.self.inside.lanes.items in
+    omega arith
+
+pub index_mut-requires : goal.index_mut-requires
+index_mut-requires c = omega arith
+
+pub take_next-requires : goal.take_next-requires
+take_next-requires c =
+    let kept = count_kept (held c.self.inside) c.self.invariant in
+    let count = count_held c.self.inside.lanes.items in
+    omega arith
+
+pub returns-in_err-reserve-clause-steps : goal.returns-in_err-reserve-clause-steps
+returns-in_err-reserve-clause-steps c = of_no_refusal c.from_residual.result _ c.from_residual.ensures.0
+
+pub returns-in_err-reserve-clause-disabled : goal.returns-in_err-reserve-clause-disabled
+returns-in_err-reserve-clause-disabled c = of_no_refusal c.from_residual.result _ c.from_residual.ensures.0
+
+pub returns-in_err-reserve-clause-lanes : goal.returns-in_err-reserve-clause-lanes
+returns-in_err-reserve-clause-lanes c = count_put c.self.inside.lanes.items c.args.lane _ ∙ ap (λ (x : Contents). length x.lanes) c.self.view_is
+
+pub returns-in_default-clause-lanes : goal.returns-in_default-clause-lanes
+returns-in_default-clause-lanes c = count_put c.self.inside.lanes.items c.args.lane _ ∙ ap (λ (x : Contents). length x.lanes) c.self.view_is
+
+pub returns-clause-disabled : goal.returns-clause-disabled
+returns-clause-disabled c = λ e. not_done e
+
+pub returns-clause-lanes : goal.returns-clause-lanes
+returns-clause-lanes c = count_put c.self.inside.lanes.items c.args.lane _ ∙ ap (λ (x : Contents). length x.lanes) c.self.view_is
