@@ -1,6 +1,5 @@
 -- A world shows the machine's next state: events of workers that are not done, and those that are allowed.
 use Rattle.std.proofs.Common.{◌≡◌, ℕ, ◌<◌, ◌≤◌, true, false, List, [], ◌∷◌, length, get_or, Option, Some, None, refl, sym, ap, ◌∙◌, arith}
-use Rattle.std.specs.Prelude.{Err, IfOk, IsErr, Ok, OnErr, Result}
 use Rattle.std.specs.List.{slice_get}
 use Rattle.std.specs.Option.{is_some}
 use Rattle.std.proofs.lemmas.Option.{slice_get_past}
@@ -9,25 +8,8 @@ use Rattle.lane_core.specs.declared.job.Plain.{Plain}
 use Rattle.lane_core.specs.Contents.{Contents, IsEnabled, IsShown, LaneContents, Steps, shown_lane}
 use Rattle.lane_core.specs.Machine.{LaneState, post, take_job}
 use Rattle.lane_core.proofs.ListFacts.{length_map, placed}
+use Rattle.lane_core.proofs.ResultFacts.{not_done}
 use Rattle.lane_core.proofs.ShowFacts.{idle, post_done}
-
--- what holds at all holds of a refusal
-pub of_refusal : {T E : Type 0} (r : Result T E) (P : Type 0) → P → OnErr r P
-of_refusal (Ok x) P p = record {}
-of_refusal (Err e) P p = p
-
--- an event that is done is not one that is not
-pub not_done : {P : Type 0} → ◌≡◌ true false → P
-not_done e = absurd (cc)
-
--- a refusal says nothing of what comes of no refusal
-pub of_no_refusal : {T E : Type 0} (r : Result T E) (P : T → Type 0) → IsErr r → IfOk r P
-of_no_refusal (Ok x) P e = not_done (sym e)
-of_no_refusal (Err e) P _ = record {}
-
-pub some_from : {X : Type 0} (o : Option X) → is_some o ≡ true → (x : X) × (o ≡ Some x)
-some_from None e = absurd (cc)
-some_from (Some x) e = (x, refl)
 
 -- no such worker
 pub take_past : (c : Contents) (w : ℕ) → length c.workers ≤ w → Steps c (Take w) false c

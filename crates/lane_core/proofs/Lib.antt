@@ -16,6 +16,7 @@ pub mod PlaceFacts
 pub mod PolledFacts
 pub mod QueueFacts
 pub mod ReadFacts
+pub mod ResultFacts
 pub mod SameFacts
 pub mod SeenFacts
 pub mod SettlingFacts

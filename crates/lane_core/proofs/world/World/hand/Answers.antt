@@ -6,9 +6,10 @@ use Rattle.lane_core.specs.ReorderBuffer.{WaitsAsNext}
 use Rattle.lane_core.specs.Holding.{held, lane_held}
 use Rattle.lane_core.proofs.HandShowFacts.{hand_done, hand_enabled, hand_none, if_some}
 use Rattle.lane_core.proofs.HeldFacts.{count_held, count_put, lane_at, lane_put, lane_same}
-use Rattle.lane_core.proofs.IdleFacts.{count_kept, not_done, of_no_refusal, of_refusal}
+use Rattle.lane_core.proofs.IdleFacts.{count_kept}
 use Rattle.lane_core.proofs.LaneShowFacts.{hand_past}
 use Rattle.lane_core.proofs.NextFacts.{none_has}
+use Rattle.lane_core.proofs.ResultFacts.{not_done, of_no_refusal, of_refusal}
 use Rattle.lane_core.proofs.ShowFacts.{shown_after}
 use Rattle.lane_core.proofs.world.World.hand.Goals as goal
 

@@ -3,8 +3,9 @@ use Rattle.lane_core.specs.declared.event.Event.TheVariants.{Post}
 use Rattle.lane_core.specs.declared.job.Plain.{Plain}
 use Rattle.lane_core.specs.Contents.{Contents}
 use Rattle.lane_core.specs.Holding.{held}
-use Rattle.lane_core.proofs.IdleFacts.{not_done, of_no_refusal, of_refusal, post_enabled, post_free, post_past, some_from, still_there}
+use Rattle.lane_core.proofs.IdleFacts.{post_enabled, post_free, post_past, still_there}
 use Rattle.lane_core.proofs.ListFacts.{none_from, placed}
+use Rattle.lane_core.proofs.ResultFacts.{not_done, of_no_refusal, of_refusal, some_from}
 use Rattle.lane_core.proofs.ShowFacts.{post_done, shown_after}
 use Rattle.lane_core.proofs.world.World.post.Goals as goal
 

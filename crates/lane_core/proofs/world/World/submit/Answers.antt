@@ -9,8 +9,8 @@ use Rattle.lane_core.specs.Contents.{Contents}
 use Rattle.lane_core.specs.Plain.{plain_of}
 use Rattle.lane_core.specs.Holding.{held, lane_held}
 use Rattle.lane_core.proofs.HeldFacts.{count_held, count_put, lane_at, same_lane}
-use Rattle.lane_core.proofs.IdleFacts.{not_done}
 use Rattle.lane_core.proofs.LaneShowFacts.{submit_closed, submit_done, submit_full, submit_past}
+use Rattle.lane_core.proofs.ResultFacts.{not_done}
 use Rattle.lane_core.proofs.ShowFacts.{shown_after}
 use Rattle.lane_core.proofs.world.World.submit.Goals as goal
 use Rattle.lane_core.proofs.world.World.submit.Goals.{After-index_mut}
