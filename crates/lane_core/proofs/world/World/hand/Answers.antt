@@ -12,6 +12,11 @@ use Rattle.lane_core.proofs.NextFacts.{none_has}
 use Rattle.lane_core.proofs.ResultFacts.{not_done, of_no_refusal, of_refusal}
 use Rattle.lane_core.proofs.ShowFacts.{shown_after}
 use Rattle.lane_core.proofs.world.World.hand.Goals as goal
+use Rattle.lane_core.proofs.world.World.hand.Goals.{After-index_mut}
+
+-- there is such a lane
+low : (c : After-index_mut) → c.args.lane < length c.self.inside.lanes.items
+low c = omega arith
 
 pub returns-then-at-len-clause-steps : goal.returns-then-at-len-clause-steps
 returns-then-at-len-clause-steps c =
@@ -25,7 +30,7 @@ returns-then-is_none-clause-steps c =
 
 pub invariant_of-self : goal.invariant_of-self
 invariant_of-self c =
-    let less : c.args.lane < length c.self.inside.lanes.items = omega arith in
+    let less = low (goal.at.invariant_of-self c).After-index_mut in
     let x = c.index_mut.result.now in
     let same = lane_same c.self.inside.lanes.items c.args.lane x record { closed = x.closed; issued = x.issued; handed = c.reserve.new.self; polled = x.polled }
     less c.index_mut.ensures.value (λ i. lane_contents x.closed x.issued (c.reserve.ensures.items i) x.polled) in
@@ -33,7 +38,7 @@ invariant_of-self c =
 
 pub returns-in_err-reserve-clause-refused : goal.returns-in_err-reserve-clause-refused
 returns-in_err-reserve-clause-refused c =
-    let less : c.args.lane < length c.self.inside.lanes.items = omega arith in
+    let less = low (goal.at.returns-in_err-reserve-clause-refused c).After-index_mut in
     let x = c.index_mut.result.now in
     let next = if_some c.next.result (λ (y : Bor Plain). WaitsAsNext c.self.inside.deliverer c.args.lane y.now) c.if-is_none.ensures c.next.ensures.some in
     of_refusal c.from_residual.result _ (rw (← c.self.view_is)
@@ -42,7 +47,7 @@ returns-in_err-reserve-clause-refused c =
 
 pub returns-in_err-reserve-clause-unchanged : goal.returns-in_err-reserve-clause-unchanged
 returns-in_err-reserve-clause-unchanged c =
-    let less : c.args.lane < length c.self.inside.lanes.items = omega arith in
+    let less = low (goal.at.returns-in_err-reserve-clause-unchanged c).After-index_mut in
     let x = c.index_mut.result.now in
     let same = lane_same c.self.inside.lanes.items c.args.lane x record { closed = x.closed; issued = x.issued; handed = c.reserve.new.self; polled = x.polled }
     less c.index_mut.ensures.value (λ i. lane_contents x.closed x.issued (c.reserve.ensures.items i) x.polled) in
@@ -50,7 +55,7 @@ returns-in_err-reserve-clause-unchanged c =
 
 pub invariant_of-self-in_default : goal.invariant_of-self-in_default
 invariant_of-self-in_default c =
-    let less : c.args.lane < length c.self.inside.lanes.items = omega arith in
+    let less = low (goal.at.invariant_of-self-in_default c).After-index_mut in
     let x = c.index_mut.result.now in
     let same = lane_same c.self.inside.lanes.items c.args.lane x record { closed = x.closed; issued = x.issued; handed = c.reserve.new.self; polled = x.polled }
     less c.index_mut.ensures.value (λ i. lane_contents x.closed x.issued (c.reserve.ensures.items i) x.polled) in
@@ -58,7 +63,7 @@ invariant_of-self-in_default c =
 
 pub returns-in_default-clause-steps : goal.returns-in_default-clause-steps
 returns-in_default-clause-steps c =
-    let less : c.args.lane < length c.self.inside.lanes.items = omega arith in
+    let less = low (goal.at.returns-in_default-clause-steps c).After-index_mut in
     let x = c.index_mut.result.now in
     let same = lane_same c.self.inside.lanes.items c.args.lane x record { closed = x.closed; issued = x.issued; handed = c.reserve.new.self; polled = x.polled }
     less c.index_mut.ensures.value (λ i. lane_contents x.closed x.issued (c.reserve.ensures.items i) x.polled) in
@@ -66,7 +71,7 @@ returns-in_default-clause-steps c =
 
 pub returns-in_default-clause-disabled : goal.returns-in_default-clause-disabled
 returns-in_default-clause-disabled c =
-    let less : c.args.lane < length c.self.inside.lanes.items = omega arith in
+    let less = low (goal.at.returns-in_default-clause-disabled c).After-index_mut in
     let x = c.index_mut.result.now in
     let same = lane_same c.self.inside.lanes.items c.args.lane x record { closed = x.closed; issued = x.issued; handed = c.reserve.new.self; polled = x.polled }
     less c.index_mut.ensures.value (λ i. lane_contents x.closed x.issued (c.reserve.ensures.items i) x.polled) in
@@ -74,7 +79,7 @@ returns-in_default-clause-disabled c =
 
 pub invariant_of-self-2 : goal.invariant_of-self-2
 invariant_of-self-2 c =
-    let less : c.args.lane < length c.self.inside.lanes.items = omega arith in
+    let less = low (goal.at.invariant_of-self-2 c).After-index_mut in
     let x = c.index_mut.result.now in
     let y = c.in-Some.delivery in
     let items = ◌∙◌ {A = List Plain} c.push_reserved.ensures.items (ap (λ (xs : List Plain). xs ++ y ∷ []) c.reserve.ensures.items) in
@@ -87,7 +92,7 @@ invariant_of-self-2 c =
 
 pub returns-clause-steps : goal.returns-clause-steps
 returns-clause-steps c =
-    let less : c.args.lane < length c.self.inside.lanes.items = omega arith in
+    let less = low (goal.at.returns-clause-steps c).After-index_mut in
     let x = c.index_mut.result.now in
     let y = c.in-Some.delivery in
     let items = ◌∙◌ {A = List Plain} c.push_reserved.ensures.items (ap (λ (xs : List Plain). xs ++ y ∷ []) c.reserve.ensures.items) in

@@ -8,6 +8,11 @@ use Rattle.lane_core.proofs.ListFacts.{none_from, placed}
 use Rattle.lane_core.proofs.ResultFacts.{not_done, of_no_refusal, of_refusal, some_from}
 use Rattle.lane_core.proofs.ShowFacts.{post_done, shown_after}
 use Rattle.lane_core.proofs.world.World.post.Goals as goal
+use Rattle.lane_core.proofs.world.World.post.Goals.{After-index}
+
+-- there is such a worker
+low : (c : After-index) → c.args.worker < length c.self.inside.workers.items
+low c = omega arith
 
 pub returns-then-at-len-clause-steps : goal.returns-then-at-len-clause-steps
 returns-then-at-len-clause-steps c = rw (← c.self.view_is) (post_past (held c.self.inside) c.args.worker (omega arith))
@@ -36,7 +41,7 @@ returns-in_err-reserve-clause-disabled c = of_no_refusal c.from_residual.result 
 
 pub returns-in_err-reserve-clause-refused : goal.returns-in_err-reserve-clause-refused
 returns-in_err-reserve-clause-refused c =
-    let less : c.args.worker < length c.self.inside.workers.items = omega arith in
+    let less = low (goal.at.returns-in_err-reserve-clause-refused c).After-index in
     let job = some_from c.index.result.now (c.is_none.ensures ∙ ap not c.if-is_none.false) in
     let holds = placed c.self.inside.workers.items c.args.worker c.index.result.now less c.index.ensures ∙ ap Some job.1 in
     of_refusal c.from_residual.result _ (rw (← c.self.view_is) (post_enabled (held c.self.inside) c.args.worker job.0 holds))
@@ -74,7 +79,7 @@ returns-clause-lanes c = ap (λ (x : Contents). length x.lanes) c.self.view_is
 
 pub invariant_of-self-2 : goal.invariant_of-self-2
 invariant_of-self-2 c =
-    let less : c.args.worker < length c.self.inside.workers.items = omega arith in
+    let less = low (goal.at.invariant_of-self-2 c).After-index in
     let holds = placed c.self.inside.workers.items c.args.worker c.index_mut.result.now less c.index_mut.ensures.value
     ∙ ap Some (sym c.in-Some.ensures.value) in
     let results = ◌∙◌ {A = List Plain} c.push_back_reserved.ensures.items (λ i. c.reserve.ensures.items i ++ c.decode.ensures i ∷ []) in
@@ -83,7 +88,7 @@ invariant_of-self-2 c =
 
 pub returns-clause-steps : goal.returns-clause-steps
 returns-clause-steps c =
-    let less : c.args.worker < length c.self.inside.workers.items = omega arith in
+    let less = low (goal.at.returns-clause-steps c).After-index in
     let holds = placed c.self.inside.workers.items c.args.worker c.index_mut.result.now less c.index_mut.ensures.value
     ∙ ap Some (sym c.in-Some.ensures.value) in
     let results = ◌∙◌ {A = List Plain} c.push_back_reserved.ensures.items (λ i. c.reserve.ensures.items i ++ c.decode.ensures i ∷ []) in

@@ -13,7 +13,11 @@ use Rattle.lane_core.proofs.LaneShowFacts.{submit_closed, submit_done, submit_fu
 use Rattle.lane_core.proofs.ResultFacts.{not_done}
 use Rattle.lane_core.proofs.ShowFacts.{shown_after}
 use Rattle.lane_core.proofs.world.World.submit.Goals as goal
-use Rattle.lane_core.proofs.world.World.submit.Goals.{After-index_mut}
+use Rattle.lane_core.proofs.world.World.submit.Goals.{After-index, After-index_mut}
+
+-- there is such a lane
+low : (c : After-index) → c.args.lane < length c.self.inside.lanes.items
+low c = omega arith
 
 pub returns-then-at-len-clause-steps : goal.returns-then-at-len-clause-steps
 returns-then-at-len-clause-steps c =
@@ -77,7 +81,7 @@ returns-in-Ok-clause-steps c =
 
 pub returns-in-Err-clause-refused : goal.returns-in-Err-clause-refused
 returns-in-Err-clause-refused c =
-    let less : c.args.lane < length c.self.inside.lanes.items = omega arith in
+    let less = low (goal.at.returns-in-Err-clause-refused c).After-index in
     let lanes = c.self.inside.lanes.items in
     let x = c.index-2.result.now in
     let at = lane_at lanes c.args.lane x less c.index-2.ensures in
@@ -104,3 +108,15 @@ returns-in-Err-clause-lanes c = ap (λ (x : Contents). length x.lanes) c.self.vi
 
 pub overflow_cast-ticket : goal.overflow_cast-ticket
 overflow_cast-ticket c = omega arith
+
+pub index-requires : goal.index-requires
+index-requires c = omega arith
+
+pub index-requires-2 : goal.index-requires-2
+index-requires-2 c = omega arith
+
+pub index_mut-requires : goal.index_mut-requires
+index_mut-requires c = omega arith
+
+pub overflow_add-issued : goal.overflow_add-issued
+overflow_add-issued c = omega arith

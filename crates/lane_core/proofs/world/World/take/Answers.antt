@@ -7,6 +7,11 @@ use Rattle.lane_core.proofs.ListFacts.{none_from, placed}
 use Rattle.lane_core.proofs.ResultFacts.{not_done, some_from}
 use Rattle.lane_core.proofs.ShowFacts.{shown_after, take_done}
 use Rattle.lane_core.proofs.world.World.take.Goals as goal
+use Rattle.lane_core.proofs.world.World.take.Goals.{After-index}
+
+-- there is such a worker
+low : (c : After-index) → c.args.worker < length c.self.inside.workers.items
+low c = omega arith
 
 pub returns-then-at-len-clause-steps : goal.returns-then-at-len-clause-steps
 returns-then-at-len-clause-steps c = rw (← c.self.view_is) (take_past (held c.self.inside) c.args.worker (omega arith))
@@ -29,7 +34,7 @@ invariant_of-self c = rw (← c.in_default.ensures.items) c.self.invariant
 
 pub returns-in_default-clause-steps : goal.returns-in_default-clause-steps
 returns-in_default-clause-steps c =
-    let less : c.args.worker < length c.self.inside.workers.items = omega arith in
+    let less = low (goal.at.returns-in_default-clause-steps c).After-index in
     let free = placed c.self.inside.workers.items c.args.worker c.index.result.now less c.index.ensures
     ∙ ap Some (none_from c.index.result.now (sym c.is_some.ensures ∙ c.if-is_some.false)) in
     let empty : length c.self.inside.jobs.items ≡ 0 = omega (arith, c.in_default.ensures.cases.0) in
@@ -43,7 +48,7 @@ returns-in_default-clause-lanes c = ap (λ (x : Contents). length x.lanes) c.sel
 
 pub invariant_of-self-2 : goal.invariant_of-self-2
 invariant_of-self-2 c =
-    let less : c.args.worker < length c.self.inside.workers.items = omega arith in
+    let less = low (goal.at.invariant_of-self-2 c).After-index in
     let free = placed c.self.inside.workers.items c.args.worker c.index.result.now less c.index.ensures
     ∙ ap Some (none_from c.index.result.now (sym c.is_some.ensures ∙ c.if-is_some.false)) in
     shown_after (held c.self.inside) _ (Take c.args.worker) _ c.self.invariant
@@ -51,7 +56,7 @@ invariant_of-self-2 c =
 
 pub returns-clause-steps : goal.returns-clause-steps
 returns-clause-steps c =
-    let less : c.args.worker < length c.self.inside.workers.items = omega arith in
+    let less = low (goal.at.returns-clause-steps c).After-index in
     let free = placed c.self.inside.workers.items c.args.worker c.index.result.now less c.index.ensures
     ∙ ap Some (none_from c.index.result.now (sym c.is_some.ensures ∙ c.if-is_some.false)) in
     rw (← c.self.view_is) (take_done (held c.self.inside) c.args.worker c.in-Some.job c.pop_front.new.self.items free c.in-Some.ensures.items)
