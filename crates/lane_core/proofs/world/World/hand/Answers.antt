@@ -1,4 +1,4 @@
-use Rattle.std.proofs.Common.{List, ◌<◌, [], ◌∷◌, ◌++◌, length, Bor, ap, ◌∙◌, arith}
+use Rattle.std.proofs.Common.{◌≡◌, List, ◌<◌, [], ◌∷◌, ◌++◌, map, set, length, Bor, ap, ◌∙◌, arith}
 use Rattle.lane_core.specs.declared.event.Event.TheVariants.{Hand}
 use Rattle.lane_core.specs.declared.job.Plain.{Plain}
 use Rattle.lane_core.specs.Contents.{Contents, lane_contents}
@@ -12,11 +12,22 @@ use Rattle.lane_core.proofs.NextFacts.{none_has}
 use Rattle.lane_core.proofs.ResultFacts.{not_done, of_no_refusal, of_refusal}
 use Rattle.lane_core.proofs.ShowFacts.{shown_after}
 use Rattle.lane_core.proofs.world.World.hand.Goals as goal
-use Rattle.lane_core.proofs.world.World.hand.Goals.{After-index_mut}
+use Rattle.lane_core.proofs.world.World.hand.Goals.{After-index_mut, After-reserve}
 
 -- there is such a lane
 low : (c : After-index_mut) → c.args.lane < length c.self.inside.lanes.items
 low c = omega arith
+
+-- room for one more changes no lane
+same_lanes : (c : After-reserve)
+    → map lane_held (set c.self.inside.lanes.items c.args.lane record
+    { closed = c.index_mut.result.now.closed; issued = c.index_mut.result.now.issued; handed = c.reserve.new.self; polled = c.index_mut.result.now.polled })
+    ≡ map lane_held c.self.inside.lanes.items
+same_lanes c =
+    let less : c.args.lane < length c.self.inside.lanes.items = omega arith in
+    let x = c.index_mut.result.now in
+    lane_same c.self.inside.lanes.items c.args.lane x record { closed = x.closed; issued = x.issued; handed = c.reserve.new.self; polled = x.polled }
+    less c.index_mut.ensures.value (λ i. lane_contents x.closed x.issued (c.reserve.ensures.items i) x.polled)
 
 pub returns-then-at-len-clause-steps : goal.returns-then-at-len-clause-steps
 returns-then-at-len-clause-steps c =
@@ -29,12 +40,7 @@ returns-then-is_none-clause-steps c =
     rw (← c.self.view_is) (hand_none (held c.self.inside) c.args.lane none)
 
 pub invariant_of-self : goal.invariant_of-self
-invariant_of-self c =
-    let less = low (goal.at.invariant_of-self c).After-index_mut in
-    let x = c.index_mut.result.now in
-    let same = lane_same c.self.inside.lanes.items c.args.lane x record { closed = x.closed; issued = x.issued; handed = c.reserve.new.self; polled = x.polled }
-    less c.index_mut.ensures.value (λ i. lane_contents x.closed x.issued (c.reserve.ensures.items i) x.polled) in
-    rw same c.self.invariant
+invariant_of-self c = rw (same_lanes (goal.at.invariant_of-self c).After-reserve) c.self.invariant
 
 pub returns-in_err-reserve-clause-refused : goal.returns-in_err-reserve-clause-refused
 returns-in_err-reserve-clause-refused c =
@@ -47,35 +53,20 @@ returns-in_err-reserve-clause-refused c =
 
 pub returns-in_err-reserve-clause-unchanged : goal.returns-in_err-reserve-clause-unchanged
 returns-in_err-reserve-clause-unchanged c =
-    let less = low (goal.at.returns-in_err-reserve-clause-unchanged c).After-index_mut in
-    let x = c.index_mut.result.now in
-    let same = lane_same c.self.inside.lanes.items c.args.lane x record { closed = x.closed; issued = x.issued; handed = c.reserve.new.self; polled = x.polled }
-    less c.index_mut.ensures.value (λ i. lane_contents x.closed x.issued (c.reserve.ensures.items i) x.polled) in
-    of_refusal c.from_residual.result _ (rw same c.self.view_is)
+    of_refusal c.from_residual.result _ (rw (same_lanes (goal.at.returns-in_err-reserve-clause-unchanged c).After-reserve) c.self.view_is)
 
 pub invariant_of-self-in_default : goal.invariant_of-self-in_default
 invariant_of-self-in_default c =
-    let less = low (goal.at.invariant_of-self-in_default c).After-index_mut in
-    let x = c.index_mut.result.now in
-    let same = lane_same c.self.inside.lanes.items c.args.lane x record { closed = x.closed; issued = x.issued; handed = c.reserve.new.self; polled = x.polled }
-    less c.index_mut.ensures.value (λ i. lane_contents x.closed x.issued (c.reserve.ensures.items i) x.polled) in
-    rw (same, c.in_default.ensures.none.1) c.self.invariant
+    rw (same_lanes (goal.at.invariant_of-self-in_default c).After-reserve, c.in_default.ensures.none.1) c.self.invariant
 
 pub returns-in_default-clause-steps : goal.returns-in_default-clause-steps
 returns-in_default-clause-steps c =
-    let less = low (goal.at.returns-in_default-clause-steps c).After-index_mut in
-    let x = c.index_mut.result.now in
-    let same = lane_same c.self.inside.lanes.items c.args.lane x record { closed = x.closed; issued = x.issued; handed = c.reserve.new.self; polled = x.polled }
-    less c.index_mut.ensures.value (λ i. lane_contents x.closed x.issued (c.reserve.ensures.items i) x.polled) in
-    rw (← c.self.view_is) (rw (same, c.in_default.ensures.none.1) (hand_none (held c.self.inside) c.args.lane c.in_default.ensures.none.0))
+    rw (← c.self.view_is) (rw (same_lanes (goal.at.returns-in_default-clause-steps c).After-reserve, c.in_default.ensures.none.1)
+    (hand_none (held c.self.inside) c.args.lane c.in_default.ensures.none.0))
 
 pub returns-in_default-clause-disabled : goal.returns-in_default-clause-disabled
 returns-in_default-clause-disabled c =
-    let less = low (goal.at.returns-in_default-clause-disabled c).After-index_mut in
-    let x = c.index_mut.result.now in
-    let same = lane_same c.self.inside.lanes.items c.args.lane x record { closed = x.closed; issued = x.issued; handed = c.reserve.new.self; polled = x.polled }
-    less c.index_mut.ensures.value (λ i. lane_contents x.closed x.issued (c.reserve.ensures.items i) x.polled) in
-    λ _. rw (same, c.in_default.ensures.none.1) c.self.view_is
+    λ _. rw (same_lanes (goal.at.returns-in_default-clause-disabled c).After-reserve, c.in_default.ensures.none.1) c.self.view_is
 
 pub invariant_of-self-2 : goal.invariant_of-self-2
 invariant_of-self-2 c =
