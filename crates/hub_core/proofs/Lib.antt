@@ -16,6 +16,7 @@ pub mod NumberFacts
 pub mod OrderFacts
 pub mod OwedFacts
 pub mod PairFacts
+pub mod RefusedFacts
 pub mod RingFacts
 pub mod RuleFacts
 pub mod SeatFacts

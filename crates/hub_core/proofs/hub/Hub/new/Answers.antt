@@ -1,14 +1,15 @@
-use Rattle.std.proofs.Common.{rules, get_or, length, map, refl, sym, ap, ◌∙◌, arith}
+use Rattle.std.proofs.Common.{◌∙◌, ap, arith, get_or, length, map, refl, sym}
 use Rattle.std.proofs.lemmas.List.{length-replicate}
 use Rattle.lane_core.specs.ReorderBuffer.{ReorderBuffer}
 use Rattle.hub_core.specs.Lane.{new_lane}
 use Rattle.hub_core.proofs.LaneViewFacts.{fresh_lanes}
 use Rattle.hub_core.proofs.NewFacts.{fresh_accounted, given_none, has_each, left_of_jobs, left_of_results, no_rows, ring_of, same_ends, small}
+use Rattle.hub_core.proofs.RefusedFacts.{never, no_hub, ok_is_no_err}
 use Rattle.hub_core.proofs.hub.Hub.new.Goals as goal
 
 pub invariant_of-deliverer : goal.invariant_of-deliverer
 invariant_of-deliverer g c =
-    let few = small c.args.shape (search rules) in
+    let few = small c.args.shape (sym c.is_allowed.ensures ∙ c.if-not-is_allowed.false) in
     let j = left_of_jobs _ _ _ c.args.shape.lanes c.args.shape.workers few.0 few.1 c.in_ok-jobs.ensures.3 c.in_ok-lanes.ensures.left.1
     c.in_ok-workers.ensures.jobs.1 in
     let r = left_of_results _ _ c.args.shape.workers few.1 c.in_ok-results.ensures.3 c.in_ok-workers.ensures.results.1 in
@@ -22,7 +23,7 @@ invariant_of-deliverer g c =
 
 pub returns-clause-seats : goal.returns-clause-seats
 returns-clause-seats g c =
-    let few = small c.args.shape (search rules) in
+    let few = small c.args.shape (sym c.is_allowed.ensures ∙ c.if-not-is_allowed.false) in
     let j = left_of_jobs _ _ _ c.args.shape.lanes c.args.shape.workers few.0 few.1 c.in_ok-jobs.ensures.3 c.in_ok-lanes.ensures.left.1
     c.in_ok-workers.ensures.jobs.1 in
     let r = left_of_results _ _ c.args.shape.workers few.1 c.in_ok-results.ensures.3 c.in_ok-workers.ensures.results.1 in
@@ -54,7 +55,7 @@ returns-clause-seats g c =
 
 pub returns-clause-unused : goal.returns-clause-unused
 returns-clause-unused g c =
-    let few = small c.args.shape (search rules) in
+    let few = small c.args.shape (sym c.is_allowed.ensures ∙ c.if-not-is_allowed.false) in
     let r = left_of_results _ _ c.args.shape.workers few.1 c.in_ok-results.ensures.3 c.in_ok-workers.ensures.results.1 in
     record {
       lanes = λ k d less. (c.in_ok-lanes.ensures.seats k d less).1;
@@ -80,3 +81,25 @@ returns-clause-lanes g c = c.in_ok-lanes.ensures.lanes
 
 pub returns-clause-shape : goal.returns-clause-shape
 returns-clause-shape g c = (refl, refl)
+
+pub returns-in_err-jobs-clause-refused : goal.returns-in_err-jobs-clause-refused
+returns-in_err-jobs-clause-refused g c = never (sym c.is_allowed.ensures ∙ c.if-not-is_allowed.false) (no_hub c.from_residual.result c.from_residual.ensures.1)
+
+pub returns-in_err-results-clause-refused : goal.returns-in_err-results-clause-refused
+returns-in_err-results-clause-refused g c = never (sym c.is_allowed.ensures ∙ c.if-not-is_allowed.false)
+    (no_hub c.from_residual-in_err-results.result c.from_residual-in_err-results.ensures.1)
+
+pub returns-in_err-lanes-clause-refused : goal.returns-in_err-lanes-clause-refused
+returns-in_err-lanes-clause-refused g c = never (sym c.is_allowed.ensures ∙ c.if-not-is_allowed.false)
+    (no_hub c.from_residual-in_err-lanes.result c.from_residual-in_err-lanes.ensures.1)
+
+pub returns-in_err-workers-clause-refused : goal.returns-in_err-workers-clause-refused
+returns-in_err-workers-clause-refused g c = never (sym c.is_allowed.ensures ∙ c.if-not-is_allowed.false)
+    (no_hub c.from_residual-in_err-workers.result c.from_residual-in_err-workers.ensures.1)
+
+pub returns-in_err-deliverer-clause-refused : goal.returns-in_err-deliverer-clause-refused
+returns-in_err-deliverer-clause-refused g c = never (sym c.is_allowed.ensures ∙ c.if-not-is_allowed.false)
+    (no_hub c.from_residual-in_err-deliverer.result c.from_residual-in_err-deliverer.ensures.1)
+
+pub returns-clause-refused : goal.returns-clause-refused
+returns-clause-refused g c = never (sym c.is_allowed.ensures ∙ c.if-not-is_allowed.false) (ok_is_no_err _ _)

@@ -1,0 +1,26 @@
+-- that what is right is not refused as a bad count
+use Rattle.std.proofs.Common.{◌≡◌, ◌∙◌, Bool, Err, Ok, Result, false, sym, true}
+use Rattle.std.specs.Result.{IsErrAnd, IsErrOf}
+use Rattle.hub_core.specs.declared.fault.HubFault.TheVariants as hub_fault
+use Rattle.hub_core.specs.declared.fault.ServeFault.TheVariants as serve_fault
+
+true_is_not_false : true ≡ false → ⊥
+true_is_not_false e = cc
+
+-- neither side of the clause holds where the test is true
+pub never : {A : Type 0} {b : Bool} → b ≡ true → (A → ⊥) → (A → b ≡ false) × (b ≡ false → A)
+never is not = (λ a. absurd (not a), λ f. absurd (true_is_not_false (sym is ∙ f)))
+
+pub ok_is_no_err : {T E : Type 0} (x : T) (e : E) → IsErrOf {T = T} {E = E} (Ok x) e → ⊥
+ok_is_no_err x e is = cc
+
+pub no_hub : {T : Type 0} (r : Result T hub_fault.the_data) → IsErrAnd r (λ e. e ≡ hub_fault.NoMemory) → r ≡ Err hub_fault.BadCount → ⊥
+no_hub (Ok x) of is = of
+no_hub (Err e) of is = cc
+
+pub none_served : {T : Type 0} (r : Result T serve_fault.the_data) → IsErrAnd r (λ e. e ≡ serve_fault.NoMemory) → r ≡ Err serve_fault.BadCount → ⊥
+none_served (Ok x) of is = of
+none_served (Err e) of is = cc
+
+pub other_fault : {T : Type 0} (e : serve_fault.the_data) → (e ≡ serve_fault.BadCount → ⊥) → IsErrOf {T = T} (Err e) serve_fault.BadCount → ⊥
+other_fault e other is = other (let same : e ≡ serve_fault.BadCount = cc in same)
