@@ -1,9 +1,12 @@
 use Rattle.std.proofs.Common.{◌≡◌, ◌∙◌, None, ap, arith, subst, sym}
-use Rattle.hub_core.specs.Hubs.{year_of}
+use Rattle.std.specs.List.{All}
+use Rattle.hub_core.specs.Hubs.{IsLaneOf, shape_of, year_of}
+use Rattle.hub_core.specs.Lanes.{numbers_of}
 use Rattle.hub_core.specs.Serving.{served}
 use Rattle.hub_core.proofs.LaneViewFacts.{PolledFirst, first_of}
 use Rattle.hub_core.specs.Traffics.{AreServedFirst}
 use Rattle.hub_core.specs.inner.Traffics.{Serves, given_to, polled_by_each}
+use Rattle.hub_core.proofs.NewFacts.{has_each}
 use Rattle.hub_core.proofs.ServeFacts.{lanes_counted}
 use Rattle.hub_core.proofs.TrafficFacts.{all_served, came_fresh, seats_counted, serves_fresh, served_first}
 use Rattle.hub_core.proofs.calling_thread.serve_boxed.Goals as goal
@@ -66,3 +69,30 @@ returns-clause-served g c =
 
 pub returns-in-Err-clause-untouched : goal.returns-in-Err-clause-untouched
 returns-in-Err-clause-untouched g c = c.new-in-Err.ensures.input
+
+pub put_back-requires-clause-seats : goal.put_back-requires-clause-seats
+put_back-requires-clause-seats g c = (c.in_ok-traffic.ensures.workers.0, c.in_ok-traffic.ensures.own.0)
+
+pub finish-requires : goal.finish-requires
+finish-requires g c =
+    let hub = c.in-Ok-new_hub.parts.hub in
+    let all = c.in-Ok-new_hub.ensures.seats in
+    let closed = c.close_all-closed.ensures in
+    let served = c.in_ok-traffic.ensures in
+    let serves = served.serves.1 in
+    record {
+      lanes = subst (All (IsLaneOf hub)) (sym closed) serves.lanes;
+      workers = c.put_back.ensures.seats;
+      deliverer = served.deliverer;
+      each_lane = has_each (shape_of hub).lanes _ (ap numbers_of closed ∙ serves.numbers);
+      each_worker = omega (
+        arith,
+        c.put_back.ensures.count,
+        c.put_back.new.workers.ok.0,
+        served.workers.1,
+        served.own.1,
+        c.take_own-own.ensures.count,
+        all.each_worker,
+        c.in-Ok-new_hub.parts.workers.ok.0,
+      );
+    }
