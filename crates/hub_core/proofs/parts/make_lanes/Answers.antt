@@ -1,6 +1,7 @@
 use Rattle.std.proofs.Common.{rules, List, ◌∷◌, [], length, length-append, subst, ap, arith, sym, ◌∙◌}
 use Rattle.std.specs.List.{All}
 use Rattle.std.proofs.lemmas.List.Elements.{All-push}
+use Rattle.std.proofs.lemmas.Result.{IfOk-from_err}
 use Rattle.crossbeam_queue.specs.Passes.{view, IsPassOf}
 use Rattle.rtrb.specs.Ring.{IsPair}
 use Rattle.hub_core.specs.declared.rule.Trace.{Trace}
@@ -36,4 +37,40 @@ loop-lane-preserved c =
           (All-push (IsUnsent c.args.capacity) c.loop-lane.rings.items c.in_ok-producer.producer inv.unsent (new.producer.0, new.producer.2));
       paired = subst (λ (x : List PushEnd × List LaneSeat). All (IsPairedIn x.0) x.1)
           (λ i. (sym c.push_reserved-in-loop-lane.ensures.items i, sym c.push_reserved.ensures.items i)) p;
+    }
+
+pub returns-in_err-seats : goal.returns-in_err-seats
+returns-in_err-seats c =
+    let r = c.from_residual.result in
+    let e = c.from_residual.ensures.0 in
+    record {
+      left = IfOk-from_err r _ e;
+      lanes = IfOk-from_err r _ e;
+      seats = IfOk-from_err r _ e;
+      rings = IfOk-from_err r _ e;
+      paired = IfOk-from_err r _ e;
+    }
+
+pub returns-in_err-rings : goal.returns-in_err-rings
+returns-in_err-rings c =
+    let r = c.from_residual-in_err-rings.result in
+    let e = c.from_residual-in_err-rings.ensures.0 in
+    record {
+      left = IfOk-from_err r _ e;
+      lanes = IfOk-from_err r _ e;
+      seats = IfOk-from_err r _ e;
+      rings = IfOk-from_err r _ e;
+      paired = IfOk-from_err r _ e;
+    }
+
+pub returns-in_err-producer : goal.returns-in_err-producer
+returns-in_err-producer c =
+    let r = c.from_residual-in_err-producer.result in
+    let e = c.from_residual-in_err-producer.ensures.0 in
+    record {
+      left = IfOk-from_err r _ e;
+      lanes = IfOk-from_err r _ e;
+      seats = IfOk-from_err r _ e;
+      rings = IfOk-from_err r _ e;
+      paired = IfOk-from_err r _ e;
     }
