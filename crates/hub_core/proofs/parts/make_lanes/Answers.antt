@@ -1,5 +1,5 @@
-use Rattle.std.proofs.Common.{rules, List, ◌∷◌, [], length, length-append, subst, ap, arith, sym, ◌∙◌}
-use Rattle.std.specs.List.{All}
+use Rattle.std.proofs.Common.{rules, ◌≡◌, ◌-◌, List, ◌∷◌, [], length, length-append, subst, ap, arith, sym, ◌∙◌}
+use Rattle.std.specs.List.{All, range_with_len}
 use Rattle.std.proofs.lemmas.List.Elements.{All-push}
 use Rattle.std.proofs.lemmas.Result.{IfOk-from_err}
 use Rattle.crossbeam_queue.specs.Passes.{view, IsPassOf}
@@ -8,6 +8,8 @@ use Rattle.hub_core.specs.declared.rule.Trace.{Trace}
 use Rattle.hub_core.specs.declared.lane_seat.LaneSeat.{LaneSeat}
 use Rattle.hub_core.specs.Fresh.{HasDoneNothing}
 use Rattle.hub_core.specs.inner.Fresh.{IsPairedIn, IsUnsent}
+use Rattle.hub_core.specs.Passes.{shares_of}
+use Rattle.hub_core.specs.Rule.{trace}
 use Rattle.hub_core.specs.Rings.{PopEnd, PushEnd}
 use Rattle.hub_core.proofs.RuleFacts.{forks}
 use Rattle.hub_core.proofs.NewSeatFacts.{cut_more, lanes_more, paired_more}
@@ -73,4 +75,20 @@ returns-in_err-producer c =
       seats = IfOk-from_err r _ e;
       rings = IfOk-from_err r _ e;
       paired = IfOk-from_err r _ e;
+    }
+
+pub another-pass-requires-clause-queue : goal.another-pass-requires-clause-queue
+another-pass-requires-clause-queue c = c.loop-lane.invariant.of_jobs
+
+pub returns : goal.returns
+returns c =
+    let inv = c.loop-lane.invariant in
+    let was = view c.args.all_jobs.now in
+    let all : c.loop-lane.lane ≡ c.args.count = omega (arith, c.loop-lane-test.false, c.loop-lane.auto.lane-end) in
+    record {
+      left = (inv.of_jobs, inv.left ∙ ap (λ k. trace (shares_of c.args.all_jobs.now - k) was.pushed was.popped) all);
+      lanes = inv.lanes ∙ ap (range_with_len 0) all;
+      seats = inv.seats;
+      rings = (inv.count ∙ all, inv.unsent);
+      paired = inv.paired;
     }
