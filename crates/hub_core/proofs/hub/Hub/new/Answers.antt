@@ -1,5 +1,6 @@
 use Rattle.std.proofs.Common.{◌∙◌, ap, arith, get_or, length, map, refl, sym}
 use Rattle.std.proofs.lemmas.List.{length-replicate}
+use Rattle.std.proofs.lemmas.Result.{IfOk-from_err}
 use Rattle.lane_core.specs.ReorderBuffer.{ReorderBuffer}
 use Rattle.hub_core.specs.Lane.{new_lane}
 use Rattle.hub_core.proofs.LaneViewFacts.{fresh_lanes}
@@ -82,24 +83,75 @@ returns-clause-lanes g c = c.in_ok-lanes.ensures.lanes
 pub returns-clause-shape : goal.returns-clause-shape
 returns-clause-shape g c = (refl, refl)
 
-pub returns-in_err-jobs-clause-refused : goal.returns-in_err-jobs-clause-refused
-returns-in_err-jobs-clause-refused g c = never (sym c.is_allowed.ensures ∙ c.if-not-is_allowed.false) (no_hub c.from_residual.result c.from_residual.ensures.1)
+pub returns-in_err-jobs : goal.returns-in_err-jobs
+returns-in_err-jobs g c =
+    let r = c.from_residual.result in
+    let e = c.from_residual.ensures in
+    record {
+      refused = never (sym c.is_allowed.ensures ∙ c.if-not-is_allowed.false) (no_hub r e.1);
+      shape = IfOk-from_err r _ e.0;
+      seen = IfOk-from_err r _ e.0;
+      lanes = IfOk-from_err r _ e.0;
+      seats = IfOk-from_err r _ e.0;
+      unused = IfOk-from_err r _ e.0;
+      capacity = IfOk-from_err r _ e.0;
+    }
 
-pub returns-in_err-results-clause-refused : goal.returns-in_err-results-clause-refused
-returns-in_err-results-clause-refused g c = never (sym c.is_allowed.ensures ∙ c.if-not-is_allowed.false)
-    (no_hub c.from_residual-in_err-results.result c.from_residual-in_err-results.ensures.1)
+pub returns-in_err-results : goal.returns-in_err-results
+returns-in_err-results g c =
+    let r = c.from_residual-in_err-results.result in
+    let e = c.from_residual-in_err-results.ensures in
+    record {
+      refused = never (sym c.is_allowed.ensures ∙ c.if-not-is_allowed.false) (no_hub r e.1);
+      shape = IfOk-from_err r _ e.0;
+      seen = IfOk-from_err r _ e.0;
+      lanes = IfOk-from_err r _ e.0;
+      seats = IfOk-from_err r _ e.0;
+      unused = IfOk-from_err r _ e.0;
+      capacity = IfOk-from_err r _ e.0;
+    }
 
-pub returns-in_err-lanes-clause-refused : goal.returns-in_err-lanes-clause-refused
-returns-in_err-lanes-clause-refused g c = never (sym c.is_allowed.ensures ∙ c.if-not-is_allowed.false)
-    (no_hub c.from_residual-in_err-lanes.result c.from_residual-in_err-lanes.ensures.1)
+pub returns-in_err-lanes : goal.returns-in_err-lanes
+returns-in_err-lanes g c =
+    let r = c.from_residual-in_err-lanes.result in
+    let e = c.from_residual-in_err-lanes.ensures in
+    record {
+      refused = never (sym c.is_allowed.ensures ∙ c.if-not-is_allowed.false) (no_hub r e.1);
+      shape = IfOk-from_err r _ e.0;
+      seen = IfOk-from_err r _ e.0;
+      lanes = IfOk-from_err r _ e.0;
+      seats = IfOk-from_err r _ e.0;
+      unused = IfOk-from_err r _ e.0;
+      capacity = IfOk-from_err r _ e.0;
+    }
 
-pub returns-in_err-workers-clause-refused : goal.returns-in_err-workers-clause-refused
-returns-in_err-workers-clause-refused g c = never (sym c.is_allowed.ensures ∙ c.if-not-is_allowed.false)
-    (no_hub c.from_residual-in_err-workers.result c.from_residual-in_err-workers.ensures.1)
+pub returns-in_err-workers : goal.returns-in_err-workers
+returns-in_err-workers g c =
+    let r = c.from_residual-in_err-workers.result in
+    let e = c.from_residual-in_err-workers.ensures in
+    record {
+      refused = never (sym c.is_allowed.ensures ∙ c.if-not-is_allowed.false) (no_hub r e.1);
+      shape = IfOk-from_err r _ e.0;
+      seen = IfOk-from_err r _ e.0;
+      lanes = IfOk-from_err r _ e.0;
+      seats = IfOk-from_err r _ e.0;
+      unused = IfOk-from_err r _ e.0;
+      capacity = IfOk-from_err r _ e.0;
+    }
 
-pub returns-in_err-deliverer-clause-refused : goal.returns-in_err-deliverer-clause-refused
-returns-in_err-deliverer-clause-refused g c = never (sym c.is_allowed.ensures ∙ c.if-not-is_allowed.false)
-    (no_hub c.from_residual-in_err-deliverer.result c.from_residual-in_err-deliverer.ensures.1)
+pub returns-in_err-deliverer : goal.returns-in_err-deliverer
+returns-in_err-deliverer g c =
+    let r = c.from_residual-in_err-deliverer.result in
+    let e = c.from_residual-in_err-deliverer.ensures in
+    record {
+      refused = never (sym c.is_allowed.ensures ∙ c.if-not-is_allowed.false) (no_hub r e.1);
+      shape = IfOk-from_err r _ e.0;
+      seen = IfOk-from_err r _ e.0;
+      lanes = IfOk-from_err r _ e.0;
+      seats = IfOk-from_err r _ e.0;
+      unused = IfOk-from_err r _ e.0;
+      capacity = IfOk-from_err r _ e.0;
+    }
 
 pub returns-clause-refused : goal.returns-clause-refused
 returns-clause-refused g c = never (sym c.is_allowed.ensures ∙ c.if-not-is_allowed.false) (ok_is_no_err _ _)
