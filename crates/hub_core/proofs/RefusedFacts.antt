@@ -1,4 +1,4 @@
--- that what is right is not refused as a bad count
+-- What is right is not refused as a bad count, and no other fault is one.
 use Rattle.std.proofs.Common.{◌≡◌, ◌∙◌, Bool, Err, Ok, Result, false, sym, true}
 use Rattle.std.specs.Result.{IsErrAnd, IsErrOf}
 use Rattle.hub_core.specs.declared.fault.HubFault.TheVariants as hub_fault
