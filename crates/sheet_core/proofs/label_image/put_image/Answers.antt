@@ -1,4 +1,5 @@
-use Rattle.std.proofs.Common.{◌≡◌, ◌≤◌, ◌+◌, ◌-◌, ◌*◌, ◌++◌, ◌∙◌, ℕ, List, ap, arith, length, length-append, replicate, subst, sym}
+use Rattle.std.proofs.Common.{◌≡◌, ◌≤◌, ◌<◌, ◌+◌, ◌-◌, ◌*◌, ◌++◌, ◌∙◌, ℕ, List, ap, arith, length, length-append, replicate, le_of_lt, mul-le-mul_right, subst, sym}
+use Rattle.std.proofs.lemmas.List.{length-replicate}
 use Rattle.sheet_core.specs.Bitmaps.{stride}
 use Rattle.sheet_core.specs.Grids.{Cells}
 use Rattle.sheet_core.specs.inner.Lines.{band, repeated_bytes}
@@ -37,6 +38,15 @@ begun c =
           (c.as_slice.ensures.value ∙ zeros)
           c.put_at-above.ensures.end c.put_at-above.ensures.put c.put_rows-bars.ensures.end c.put_rows-bars.ensures.put;
     }
+
+front_fits : (h n o : ℕ) → h + n ≤ o → 0 + h ≤ o
+front_fits h n o e = omega arith
+
+-- there is room for some of the rows
+rows_fit : (r h m n len out new high hi : ℕ) → r ≡ 0 + h → len ≡ n → 2 * m < high → high ≡ hi → h + hi * n ≤ out → new ≡ out → r + m * len ≤ new
+rows_fit r h m n len out new high hi end long few same room kept =
+    let most : m * n ≤ hi * n = mul-le-mul_right n (omega arith) in
+    rw long (omega (arith, most))
 
 pub put_rows-below-requires : goal.put_rows-below-requires
 put_rows-below-requires c =
@@ -90,3 +100,21 @@ returns c =
     (c.put_rows.ensures.put ∙ ap (pasted c.put_rows-below.new.out c.put_rows-below.result) piece) in
     subst (λ (k : Cells). c.put_rows.new.out ≡ pasted out 0 (header ++ band k line)) c.grid.view_is
     (image_put g header line out c.put_rows.new.out c.put_rows.result all)
+
+pub overflow_sub-bar_rows : goal.overflow_sub-bar_rows
+overflow_sub-bar_rows c = le_of_lt c.grid.invariant.height_least
+
+pub put_at-above-requires : goal.put_at-above-requires
+put_at-above-requires c = front_fits _ _ _ c.requires.room
+
+pub put_rows-bars-requires : goal.put_rows-bars-requires
+put_rows-bars-requires c =
+    let i = c.grid.inside in
+    let zeros : length c.as_slice.result.now ≡ stride (i.columns * i.cell_width) = ap length (c.as_slice.ensures.value ∙ c.light_line-light.ensures)
+    ∙ length-replicate (stride (i.columns * i.cell_width)) 0 in
+    let wide : stride (i.columns * i.cell_width) ≡ length c.args.line.now = ap (λ (g : Cells). stride (g.columns * g.width)) c.grid.view_is
+    ∙ sym c.requires.long in
+    rows_fit c.put_at-above.result (length c.args.header.now) i.module_dots (length c.args.line.now) (length c.as_slice.result.now)
+    (length c.args.out.now) (length c.put_at-above.new.out) i.cell_height c.args.grid.now.height
+    c.put_at-above.ensures.end (zeros ∙ wide) c.grid.invariant.height_least (ap (λ (g : Cells). g.height) c.grid.view_is) c.requires.room
+    c.put_at-above.auto.out
