@@ -1,9 +1,13 @@
-use Rattle.std.proofs.Common.{◌≡◌, ℕ, ◌+◌, ◌≤◌, Bool, true, false, if◌then◌else◌, List, ◌++◌, length, take, replicate, ◌-◌, append_assoc, refl, sym, ap, subst, ◌∙◌, arith, vec_len}
+use Rattle.std.proofs.Common.{◌≡◌, ℕ, ◌+◌, ◌≤◌, Bool, true, false, if◌then◌else◌, List, ◌++◌, length, take, replicate, ◌-◌, append_assoc, length-take, refl, sym, ap, subst, ◌∙◌, arith, vec_len}
 use Rattle.std.proofs.lemmas.List.{length-take-le, take-append-le, take-take, take_all}
 use Rattle.std.proofs.Math.Seq.{take-append-add}
-use Rattle.std.specs.Result.{is_ok}
-use Rattle.std.proofs.KnownBytes.{Consumes-trans}
-use Rattle.std.specs.Io.KnownBytes.{Consumes}
+use Rattle.std.specs.Prelude.{Option, Result, Ok, Err, IfErr}
+use Rattle.std.specs.Result.{IsErrAnd, is_ok}
+use Rattle.std.proofs.KnownBytes.{Consumes-kept, Consumes-trans}
+use Rattle.std.specs.Io.KnownBytes.{Consumes, Keeps}
+use Rattle.sheet_core.specs.declared.fault.PbmFault.{PbmFault}
+use Rattle.sheet_core.specs.declared.fault.PbmFault.TheVariants.{ReadFault}
+use Rattle.sheet_core.specs.inner.Images.{FailsFor, StopsBefore}
 use Rattle.sheet_core.proofs.pbm.read.read_bytes.Goals as goal
 use Rattle.sheet_core.proofs.pbm.read.read_bytes.Goals.{then-filled-len+else-is_err, else-filled-len}
 
@@ -22,6 +26,20 @@ front_kept true f n k xs h le =
     let all : take n xs ≡ xs = take_all n xs (omega arith) in
     ap (λ ys. take f (ys ++ replicate k 0)) all ∙ take-append-le f xs (replicate k 0) (omega arith)
 front_kept false f n k xs h le = refl
+
+-- a read that failed says so
+fails_read : {A : Type 0} (old new : Bool) (r : Result A PbmFault) → IsErrAnd r (λ f. f ≡ ReadFault) → new ≡ true → FailsFor old new r
+fails_read old new (Ok a) h e = absurd h
+fails_read old new (Err f) h e = rw h e
+
+-- and what came before it is all that came
+stops_read : {A : Type 0} (count : ℕ) (old mid new : Option (List ℕ)) (bytes : List ℕ) (r : Result A PbmFault) → IsErrAnd r (λ f. f ≡ ReadFault)
+    → Consumes old mid bytes → Keeps mid new → length bytes ≤ count → IfErr r (StopsBefore count old new)
+stops_read count old mid new bytes (Ok a) h came kept few = tt
+stops_read count old mid new bytes (Err f) h came kept few = rw h (bytes, Consumes-kept old mid new bytes came kept, few)
+
+few_taken : (n len count : ℕ) (xs : List ℕ) → n ≤ len → len ≤ count → length (take n xs) ≤ count
+few_taken n len count xs h k = rw length-take (omega arith)
 
 room : (ok : Bool) (len f n count : ℕ) → len ≡ (if ok then n else f) → f ≤ n → n ≤ count → (f ≤ len) × (len ≤ count)
 room true len f n count e h k = (omega arith, omega arith)
@@ -67,3 +85,21 @@ reads-preserved g c =
       fits = fits.1;
       same = c.in_ok-read.ensures.ok ∙ inv.same;
     }
+
+pub returns-in_err-read-clause-stopped : goal.returns-in_err-read-clause-stopped
+returns-in_err-read-clause-stopped g c =
+    let inv = c.reads.invariant in
+    let few = few_taken c.reads.filled (vec_len c.reads.bytes) c.args.count c.reads.bytes.items inv.few inv.fits in
+    stops_read c.args.count (g.R.Source.left c.args.reader.now) (g.R.Source.left c.reads.reader) (g.R.Source.left c.read.new.self)
+    (take c.reads.filled c.reads.bytes.items) c.from_residual.result c.from_residual.ensures.1 inv.gave c.in_err-read.ensures.bytes few
+
+pub returns-in_err-read-clause-failed : goal.returns-in_err-read-clause-failed
+returns-in_err-read-clause-failed g c =
+    fails_read (g.R.Source.failed c.args.reader.now) (g.R.Source.failed c.read.new.self) c.from_residual.result c.from_residual.ensures.1
+    c.in_err-read.ensures.err
+
+pub returns-clause-ok : goal.returns-clause-ok
+returns-clause-ok g c =
+    let inv = c.reads.invariant in
+    let whole : length c.reads.bytes.items ≤ c.reads.filled = omega (arith, c.reads.bytes.ok, inv.fits, c.reads-test.false) in
+    subst (Consumes (g.R.Source.left c.args.reader.now) (g.R.Source.left c.reads.reader)) (take_all c.reads.filled c.reads.bytes.items whole) inv.gave
