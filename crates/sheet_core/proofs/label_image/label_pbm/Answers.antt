@@ -1,9 +1,10 @@
-use Rattle.std.proofs.Common.{◌≡◌, ◌∙◌, ◌+◌, ◌*◌, ◌∷◌, ◌++◌, [], ℕ, List, ap, ap₂, drop, length, subst, sym, take}
+use Rattle.std.proofs.Common.{◌≡◌, ◌≤◌, ◌∙◌, ◌+◌, ◌*◌, ◌∷◌, ◌++◌, [], ℕ, List, ap, ap₂, arith, drop, length, refl, subst, sym, take}
 use Rattle.std.specs.List.{AllByRecursion, AllZip}
 use Rattle.std.proofs.lemmas.List.{length-replicate, take_at}
+use Rattle.std.proofs.lemmas.Result.{err_from_is_err_and}
 use Rattle.digits_core.specs.Buffers.{IsPut, pasted}
 use Rattle.sheet_core.specs.Bitmaps.{Bitmap, stride}
-use Rattle.sheet_core.specs.Drawing.{ArePrinted}
+use Rattle.sheet_core.specs.Drawing.{ArePrinted, IsSheetFault}
 use Rattle.sheet_core.specs.Grids.{Cells, IsGrid}
 use Rattle.sheet_core.specs.Labels.{IsDrawn, IsPrintable}
 use Rattle.sheet_core.specs.inner.Lines.{band}
@@ -28,6 +29,7 @@ record Known (c : After-len-2) : Type 0 where
   whole : take (length c.light_line-line.result.items) (line_of c ++ drop (length (line_of c)) c.light_line-line.result.items) ≡ line_of c
   head : c.header-header.result.items ≡ header_text (c.args.grid.columns * c.args.grid.width) (c.args.grid.rows * c.args.grid.height)
   size : c.len.result + c.from.result * c.len-2.result ≡ length (image_bytes c.args.grid (line_of c))
+  long : length (line_of c) ≡ stride (c.args.grid.columns * c.args.grid.width)
   image : (sheets : List Bitmap) × ArePrinted (c.args.label.now ∷ []) c.args.grid sheets × (pbm_of sheets ≡ image_bytes c.args.grid (line_of c))
 
 known : (c : After-len-2) → Known c
@@ -54,6 +56,7 @@ known c =
       whole = same;
       head = head;
       size = image_long g c.header-header.result.items line count grid c.requires.rows head parts;
+      long = drawn.long;
       image = image_of_label g c.args.label.now p line grid c.requires.columns c.requires.rows drawn;
     }
 
@@ -82,3 +85,34 @@ returns-else-count-out-clause-ok c =
       subst (λ bs. IsPut bs out out count) (sym k.image.2)
           (put_none (image_bytes c.args.grid c.draw_line.new.line) out count k.size c.if-count-out.false),
     )
+
+pub returns-in_err-check_labels-clause-refused : goal.returns-in_err-check_labels-clause-refused
+returns-in_err-check_labels-clause-refused c =
+    let p = err_from_is_err_and c.from_residual.result c.from_residual.ensures.1 in
+    rw (p.1, p.2) (subst (λ ls. IsSheetFault c.args.grid ls c.in_err-check_labels.field-0.0) c.from_ref-labels.ensures.value
+    c.in_err-check_labels.ensures.err)
+
+pub returns-in_err-check_labels-clause-unchanged : goal.returns-in_err-check_labels-clause-unchanged
+returns-in_err-check_labels-clause-unchanged c =
+    let p = err_from_is_err_and c.from_residual.result c.from_residual.ensures.1 in
+    rw (p.1) refl
+
+-- there is room for an image of one row of cells
+room_of : (a b la lb f h rows out : ℕ) → a ≡ la → b ≡ lb → f ≡ rows * h → rows ≡ 1 → la + f * lb ≤ out → a + h * b ≤ out
+room_of a b la lb f h rows out p q r s t =
+    let one : 1 * h ≡ h = omega arith in
+    let high : f ≡ h = r ∙ ap (λ n. n * h) s ∙ one in
+    rw (p, q, ← high) t
+
+pub put_image-requires-clause-room : goal.put_image-requires-clause-room
+put_image-requires-clause-room c =
+    let high = c.from.ensures ∙ ap (λ (g : Cells). g.rows * g.height) c.grid.view_is in
+    room_of (length c.as_slice.result.now) (length c.as_slice-then-count-out.result.now) c.len.result c.len-2.result c.from.result
+    c.args.grid.height c.args.grid.rows (length c.args.out.now)
+    (ap length c.as_slice.ensures.value ∙ sym c.len.ensures.value) (ap length c.as_slice-then-count-out.ensures.value ∙ sym c.len-2.ensures.value)
+    high c.requires.rows c.if-count-out.true
+
+pub put_image-requires-clause-long : goal.put_image-requires-clause-long
+put_image-requires-clause-long c =
+    let k = known (goal.at.put_image-requires-clause-long c).After-len-2 in
+    ap length (c.as_slice-then-count-out.ensures.value ∙ k.whole) ∙ k.long
