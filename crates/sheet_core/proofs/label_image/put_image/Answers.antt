@@ -1,4 +1,5 @@
-use Rattle.std.proofs.Common.{◌≡◌, ◌≤◌, ◌<◌, ◌+◌, ◌-◌, ◌*◌, ◌++◌, ◌∙◌, ℕ, List, ap, arith, length, length-append, replicate, le_of_lt, mul-le-mul_right, subst, sym}
+use Rattle.std.proofs.Common.{◌≡◌, ◌≤◌, ◌<◌, ◌+◌, ◌-◌, ◌*◌, ◌++◌, ◌∙◌, ℕ}
+use Rattle.std.proofs.Common.{List, ap, arith, length, length-append, replicate, le_of_lt, mul-le-mul_right, subst, sym}
 use Rattle.std.proofs.lemmas.List.{length-replicate}
 use Rattle.sheet_core.specs.Bitmaps.{stride}
 use Rattle.sheet_core.specs.Grids.{Cells}

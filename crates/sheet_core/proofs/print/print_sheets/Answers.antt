@@ -1,4 +1,5 @@
-use Rattle.std.proofs.Common.{rules, true, ◌≡◌, ◌≢◌, ◌+◌, ◌-◌, ◌*◌, ◌/◌, ◌++◌, ◌∷◌, [], ◌≤◌, ℕ, List, Fits, w64, mul-le-mul, length, length-take, take, drop, sym, ap, ap₂, subst, ◌∙◌, refl, inl, inr, arith, length-append}
+use Rattle.std.proofs.Common.{rules, true, ◌≡◌, ◌≢◌, ◌+◌, ◌-◌, ◌*◌, ◌/◌, ◌++◌, ◌∷◌, [], ◌≤◌, ℕ, List, Fits}
+use Rattle.std.proofs.Common.{w64, mul-le-mul, length, length-take, take, drop, sym, ap, ap₂, subst, ◌∙◌, refl, inl, inr, arith, length-append}
 use Rattle.std.specs.Prelude.{Some, slice_get}
 use Rattle.std.specs.Prelude.{Result, Ok, Err, IfErr, IsErrOf}
 use Rattle.std.specs.Result.{IsErrAnd, is_ok}
