@@ -106,7 +106,7 @@ day_missing y m d z first head month number missing =
 
 -- ---- texts of six digits
 
-digits_at : (text : List ℕ) (k : ℕ) → list_all is_ascii_digit text ≡ true → k < length text → IsInRange 48 57 (slice_index text k)
+pub digits_at : (text : List ℕ) (k : ℕ) → list_all is_ascii_digit text ≡ true → k < length text → IsInRange 48 57 (slice_index text k)
 digits_at [] k h lt = absurd (omega arith)
 digits_at (b ∷ text) zero h lt =
     let p = and_parts (is_ascii_digit b) (list_all is_ascii_digit text) h in
