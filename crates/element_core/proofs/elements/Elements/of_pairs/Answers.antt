@@ -1,4 +1,4 @@
-use Rattle.std.proofs.Common.{◌≡◌, ◌+◌, ◌++◌, ◌∷◌, [], ◌<◌, ◌≤◌, length, drop, sym, ap, subst, take, ◌∙◌, arith, List, ℕ, not, refl}
+use Rattle.std.proofs.Common.{◌≡◌, ◌+◌, ◌++◌, ◌∷◌, [], ◌<◌, ◌≤◌, length, drop, sym, ap, subst, take, ◌∙◌, arith, List, ℕ, not, refl, length-append}
 use Rattle.std.specs.Prelude.{IsSome, is_some}
 use Rattle.std.proofs.lemmas.Grind.{common_steps}
 use Rattle.std.proofs.lemmas.List.{length-map, take_all}
@@ -119,3 +119,27 @@ needs_separator-separate-requires c =
     subst (λ (a : List ℕ). IsSome (row_at a)) (sym c.as_slice-ai.ensures.value)
     (known_pair c.args.year (entries_of (take i pairs)) (entry_of pair) (entries_of (drop (i + 1) pairs))
     (subst (AreElements c.args.year) (entries_split pairs i pair c.loop-pair-test.true c.pair-item.is) (entries_valid c.args.year 0 (entries_of pairs) none)))
+
+pub append-requires : goal.append-requires
+append-requires c =
+    let under = c.if-len-gap_length-gt192.false in
+    let ai = c.as_slice-ai.result.now in
+    let value = c.as_slice-value.result.now in
+    let gap = separator_if c.loop-pair.separate in
+    omega (
+      arith,
+      c.len.ensures.value,
+      c.gap_length.ensures,
+      length-append (c.loop-pair.out.items ++ gap) (ai ++ value),
+      length-append c.loop-pair.out.items gap,
+      length-append ai value,
+    )
+
+pub loop-pair-init : goal.loop-pair-init
+loop-pair-init c = record { canonical_text = c.new-out.ensures; fits = omega (arith, ap length c.new-out.ensures); gap_is = refl }
+
+pub returns-then-is_empty-clause-err : goal.returns-then-is_empty-clause-err
+returns-then-is_empty-clause-err c = rw (length-map c.args.pairs.now entry_of, sym c.if-is_empty.ensures) refl
+
+pub returns-in-Some-clause-err : goal.returns-in-Some-clause-err
+returns-in-Some-clause-err c = rw (length-map c.args.pairs.now entry_of, sym c.if-is_empty.ensures, sym c.in-Some.ensures) refl
