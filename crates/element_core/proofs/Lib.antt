@@ -1,3 +1,4 @@
+pub mod RowsApart
 pub mod TableLaws
 pub mod Look
 pub mod Fields

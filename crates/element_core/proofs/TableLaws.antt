@@ -3,10 +3,16 @@ use Rattle.std.proofs.Common.{◌≡◌, true, [], None, refl}
 use Rattle.std.specs.List.{list_all}
 use Rattle.element_core.specs.Table.{families, ai_rows, CountsFirstRows, NoAiBeginsAnother, FirstDigitsDecide, PartsHaveOneLength, row_at}
 use Rattle.element_core.specs.inner.Table.{begins_with_digit, has_few_parts, is_long_enough, is_of_digits, is_short_ai, is_timed_exactly}
+use Rattle.element_core.proofs.RowsApart.{families_apart, rows_apart}
+
+-- family by family, which is far less than row by row
+apart : families_apart families ≡ true
+unfolding families
+apart = refl
 
 pub no_ai_begins_another : NoAiBeginsAnother
-unfolding families ai_rows
-no_ai_begins_another = refl
+unfolding ai_rows
+no_ai_begins_another = rows_apart families apart
 
 pub first_digits_decide : FirstDigitsDecide
 unfolding families ai_rows
