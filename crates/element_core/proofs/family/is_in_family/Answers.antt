@@ -19,8 +19,13 @@ returns-then-i-greatest c =
 between : (l g t : List ℕ) (i : ℕ) → i < length l → i < length g → i < length t → get_or l i 0 ≤ get_or t i 0 → get_or t i 0 ≤ get_or g i 0
     → is_in_family (drop (i + 1) l) (drop (i + 1) g) (drop (i + 1) t) ≡ is_in_family (drop i l) (drop i g) (drop i t)
 between l g t i in_l in_g in_t low high =
-    rw (drop_more l i 0 in_l, drop_more g i 0 in_g, drop_more t i 0 in_t, le-leb (get_or l i 0) (get_or t i 0) low,
-        le-leb (get_or t i 0) (get_or g i 0) high) refl
+    rw (
+      drop_more l i 0 in_l,
+      drop_more g i 0 in_g,
+      drop_more t i 0 in_t,
+      le-leb (get_or l i 0) (get_or t i 0) low,
+      le-leb (get_or t i 0) (get_or g i 0) high,
+    ) refl
 
 ended : (l g t : List ℕ) (i : ℕ) → length l ≤ i → true ≡ is_in_family (drop i l) (drop i g) (drop i t)
 ended l g t i past = rw (drop_all i l past) refl

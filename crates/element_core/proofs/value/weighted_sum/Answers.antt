@@ -34,13 +34,13 @@ loop-i-preserved c =
     let fits = c.saturating_sub.type_inv in
     elim c.if-bytes-i-eq0.branch [
       | then-bytes-i-eq0 w ↦ record {
-          told = told bytes i c.loop-i.sum c.if-bytes-i-eq0.sum c.loop-i-test.true c.loop-i.invariant.told
-              (w.sum-is ∙ digit ∙ once (length bytes - i - 1) (get_or bytes i 0 - 48) w.if-bytes-i-eq0.true);
-          small = omega (arith, w.sum-is, c.from-digit.ensures);
-        }
+        told = told bytes i c.loop-i.sum c.if-bytes-i-eq0.sum c.loop-i-test.true c.loop-i.invariant.told
+            (w.sum-is ∙ digit ∙ once (length bytes - i - 1) (get_or bytes i 0 - 48) w.if-bytes-i-eq0.true);
+        small = omega (arith, w.sum-is, c.from-digit.ensures);
+      }
       | else-bytes-i-eq0 w ↦ record {
-          told = told bytes i c.loop-i.sum c.if-bytes-i-eq0.sum c.loop-i-test.true c.loop-i.invariant.told
-              (w.sum-is ∙ ap (λ (d : ℕ). 3 * d) digit ∙ thrice (length bytes - i - 1) (get_or bytes i 0 - 48) w.if-bytes-i-eq0.false);
-          small = omega (arith, w.sum-is, c.from-digit.ensures);
-        }
+        told = told bytes i c.loop-i.sum c.if-bytes-i-eq0.sum c.loop-i-test.true c.loop-i.invariant.told
+            (w.sum-is ∙ ap (λ (d : ℕ). 3 * d) digit ∙ thrice (length bytes - i - 1) (get_or bytes i 0 - 48) w.if-bytes-i-eq0.false);
+        small = omega (arith, w.sum-is, c.from-digit.ensures);
+      }
     ]

@@ -145,7 +145,7 @@ returns-in_err-print_pbm-in-Images g c =
       write = λ sound. (
         λ same. (printed.write sound).0 (ap (λ f. Err f) (its_write r f e.0 e.1 same)),
         λ failed. let is : f ≡ print.WriteFault = cc ((printed.write sound).1 failed) in
-        told_fault r (of_prints f) e.1 ∙ ap (λ f. Err (of_prints f)) is,
+            told_fault r (of_prints f) e.1 ∙ ap (λ f. Err (of_prints f)) is,
       );
     }
 

@@ -62,8 +62,7 @@ returns-in_err-feeds g c =
     let o = c.args.options in
     let read = c.in_ok-sheets.ensures.ok in
     refused_run (scan_command o) g.S.Source.left g.S.Source.failed g.W.Sink.taken g.W.Sink.failed c.args.source.now c.read_pbm.new.reader c.args.sink.now
-    c.from_residual-in_err-feeds.result no_memory c.from_residual-in_err-feeds.ensures.1
-    (
+    c.from_residual-in_err-feeds.result no_memory c.from_residual-in_err-feeds.ensures.1 (
       c.in_ok-grid.ensures.exact.0 refl,
       record { bytes = read.bytes; consumed = read.consumed; tells = inr (c.in_ok-sheets.sheets.items, read.tells) },
     )
@@ -133,8 +132,7 @@ returns g c =
     let sent = c.as_bytes.ensures.value ∙ c.as_str.ensures.value in
     let report = subst (λ t. IsReport o.year feeds t) (sym sent) c.in_ok-lines.ensures.report in
     written_run (scan_command o) g.S.Source.left g.S.Source.failed g.W.Sink.taken g.W.Sink.failed c.args.source.now c.read_pbm.new.reader c.args.sink.now
-    c.write_all.new.sink
-    (
+    c.write_all.new.sink (
       read.bytes,
       c.as_bytes.result.now,
       (read.consumed, c.in_ok-sheets.ensures.end),

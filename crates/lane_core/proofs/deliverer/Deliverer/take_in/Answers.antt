@@ -31,12 +31,14 @@ returns-then-lane-len-clause-refused c =
     let d = c.args.self.now in
     let x = c.args.delivery in
     elim c.then-lane-len.branch [
-      then-lane-len-via-then-lane-len w ↦
-        (low_off (nat_lt x.lane (lanes_of d)) (was_taken d x.lane x.number) (le-ltb x.lane (lanes_of d) (omega arith)), refl)
-    | then-lane-len-via-else-lane-len+then-was_taken w ↦
-        (taken_off (nat_lt x.lane (lanes_of d)) (was_taken d x.lane x.number)
-        ((λ i. was_taken d (sym c.ticket-ticket.ensures.lane i) (sym c.ticket-ticket.ensures.number i))
-        ∙ (sym w.was_taken.ensures ∙ w.if-was_taken.true)), refl)
+      | then-lane-len-via-then-lane-len w ↦
+          (low_off (nat_lt x.lane (lanes_of d)) (was_taken d x.lane x.number) (le-ltb x.lane (lanes_of d) (omega arith)), refl)
+      | then-lane-len-via-else-lane-len+then-was_taken w ↦ (
+        taken_off (nat_lt x.lane (lanes_of d)) (was_taken d x.lane x.number)
+            ((λ i. was_taken d (sym c.ticket-ticket.ensures.lane i) (sym c.ticket-ticket.ensures.number i))
+            ∙ (sym w.was_taken.ensures ∙ w.if-was_taken.true)),
+        refl,
+      )
     ]
 
 pub returns-then-lane-len-clause-lanes : goal.returns-then-lane-len-clause-lanes

@@ -71,9 +71,9 @@ pub returns-then-not-contains-3-clause-exact : goal.returns-then-not-contains-3-
 returns-then-not-contains-3-clause-exact c = (
   λ ok. none ok,
   λ grid.
-    let n = c.new-2.ensures in
-    outside (2 * c.args.module_dots + 1) 1024 c.args.cell_height _ _ _ n.start n.end n.exhausted c.if-not-contains-3.ensures.value
-    (search (rules, grid.height_least)) grid.height_most,
+      let n = c.new-2.ensures in
+      outside (2 * c.args.module_dots + 1) 1024 c.args.cell_height _ _ _ n.start n.end n.exhausted c.if-not-contains-3.ensures.value
+      (search (rules, grid.height_least)) grid.height_most,
 )
 
 pub returns-then-not-contains-4-clause-exact : goal.returns-then-not-contains-4-clause-exact
