@@ -24,10 +24,10 @@ mod settle;
 mod shape;
 mod signals;
 mod traffic;
+mod traffic_serving;
 mod worker_seat;
 mod worker_threads;
 
-pub use calling_thread::serve_traffic;
 pub use closed_lane::ClosedLane;
 pub use deliverer_seat::{Collected, DelivererSeat, Handed};
 pub use ended::Ended;
@@ -46,5 +46,6 @@ pub use settle::Unsettled;
 pub use shape::Shape;
 pub use signals::Signals;
 pub use traffic::Traffic;
+pub use traffic_serving::serve_traffic;
 pub use worker_seat::{Worked, WorkerSeat};
 pub use worker_threads::run_workers;

@@ -152,6 +152,11 @@ impl<W: Wire> Traffic for Live<W> {
 
     ghost has_ended = { λ s. is_finished s.progress };
 
+    /// To wake a worker takes longer than to read a row that comes alone.
+    fn lets_caller_read(&self) -> bool {
+        true
+    }
+
     fn next(&mut self) -> Option<(u8, Runs)> {
         'lines: for _ in 0..TURN {
             match self.progress.take_next(self.alloc) {

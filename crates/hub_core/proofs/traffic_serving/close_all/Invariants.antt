@@ -1,6 +1,6 @@
 use Rattle.std.proofs.Common.{◌≡◌, ◌+◌, ◌≤◌, vec_capacity, vec_len}
 use Rattle.std.specs.Vec.Iter.{into_iter_len}
-use Rattle.hub_core.proofs.calling_thread.close_all.Given as goal
+use Rattle.hub_core.proofs.traffic_serving.close_all.Given as goal
 
 abbrev pub invariant-loop-seat : goal.invariant-loop-seat
 invariant-loop-seat l = record {

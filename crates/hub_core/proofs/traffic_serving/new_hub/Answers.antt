@@ -1,4 +1,4 @@
-use Rattle.hub_core.proofs.calling_thread.new_hub.Goals as goal
+use Rattle.hub_core.proofs.traffic_serving.new_hub.Goals as goal
 
 pub returns-in-Ok-clause-capacity : goal.returns-in-Ok-clause-capacity
 returns-in-Ok-clause-capacity g c = c.in-Ok.ensures.capacity

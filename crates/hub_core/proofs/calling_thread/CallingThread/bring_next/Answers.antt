@@ -1,0 +1,83 @@
+use Rattle.std.proofs.Common.{◌<◌, ◌∙◌, arith, length, refl, set, sym}
+use Rattle.std.proofs.lemmas.Result.{IfOk-weaker}
+use Rattle.hub_core.specs.Traffics.{IsNextOf}
+use Rattle.hub_core.specs.inner.Traffics.{Serves, given_to, polled_by_each}
+use Rattle.hub_core.proofs.TrafficFacts.{came_brought, came_same, lane_at, next_of, room_same, seat_at, step_serves}
+use Rattle.hub_core.proofs.calling_thread.CallingThread.bring_next.Goals as goal
+use Rattle.hub_core.proofs.calling_thread.CallingThread.bring_next.Goals.{After-poll, In-Some}
+
+low : (g : _) (c : After-poll g) → c.args.index < length c.args.self.now.lanes.items
+low g c = omega (arith, c.requires.lane, c.args.self.now.lanes.ok.0)
+
+still_serves : (g : _) (c : After-poll g)
+    → Serves c.args.self.now.hub.now (set c.args.self.now.lanes.items c.args.index c.poll.new.self) c.args.self.now.held
+still_serves g c =
+    let s = c.args.self.now in
+    let seats = s.lanes.items in
+    let at = c.index_mut.ensures.value in
+    let was = c.requires.serves.lanes in
+    let is = c.poll.ensures.of_hub s.hub.now (seat_at s.hub.now seats s.held c.args.index c.index_mut.result.now was (low g c) at) in
+    step_serves s.hub.now seats s.held s.held c.args.index c.index_mut.result.now c.poll.new.self at c.poll.ensures.lane is was
+    (room_same seats s.held c.args.index c.index_mut.result.now c.poll.new.self at c.poll.ensures.submitted was.room)
+
+is_next : (g : _) (c : In-Some g) → IsNextOf c.in-Some.delivery (given_to c.args.self.now.lanes.items c.args.self.now.held) (polled_by_each c.args.self.now.lanes.items)
+is_next g c =
+    let s = c.args.self.now in
+    let polls = c.in-Some.ensures.polls in
+    let t = c.poll.new.self in
+    next_of s.hub.now s.lanes.items s.held c.args.index c.index_mut.result.now t c.in-Some.delivery c.requires.serves.lanes
+    (omega (arith, c.requires.lane, s.lanes.ok.0)) c.index_mut.ensures.value c.poll.ensures.submitted polls.0 polls.1 polls.2
+    (omega (arith, t.polled_issued, t.counted, t.polls_counted))
+
+pub bring-requires : goal.bring-requires
+bring-requires g c =
+    let s = c.args.self.now in (
+      s.start.value,
+      given_to s.lanes.items s.held,
+      polled_by_each s.lanes.items,
+      rw c.deref_mut.ensures.value c.requires.serves.came,
+      is_next g (goal.at.bring-requires g c).In-Some,
+    )
+
+pub returns-in-Some : goal.returns-in-Some
+returns-in-Some g c =
+    let s = c.args.self.now in
+    let seats = s.lanes.items in
+    let is = c.requires.serves in
+    let d = (goal.at.returns-in-Some g c).After-poll in
+    let at = c.index_mut.ensures.value in
+    let polls = c.in-Some.ensures.polls in
+    let lane = lane_at s.hub.now seats s.held c.args.index c.index_mut.result.now is.lanes (low g d) at in
+    IfOk-weaker c.bring.result _ _
+    (λ _ bring. record {
+      hub = refl;
+      start = refl;
+      seats = refl;
+      serves = record {
+        lanes = still_serves g d;
+        deliverer = is.deliverer;
+        own = is.own;
+        came = came_brought (g.T.Traffic.Came s.start.value c.bring.new.self) seats s.held c.args.index c.in-Some.delivery.lane c.index_mut.result.now
+            c.poll.new.self c.in-Some.delivery (lane ∙ sym polls.0) (low g d) at c.poll.ensures.submitted polls.2
+            (bring s.start.value (given_to seats s.held) (polled_by_each seats) (rw c.deref_mut.ensures.value is.came)
+            (is_next g (goal.at.returns-in-Some g c).In-Some));
+      };
+    })
+    c.bring.ensures
+
+pub returns-in-None : goal.returns-in-None
+returns-in-None g c =
+    let s = c.args.self.now in
+    let is = c.requires.serves in
+    record {
+      hub = refl;
+      start = refl;
+      seats = refl;
+      serves = record {
+        lanes = still_serves g (goal.at.returns-in-None g c).After-poll;
+        deliverer = is.deliverer;
+        own = is.own;
+        came = came_same (g.T.Traffic.Came s.start.value s.traffic.value) s.lanes.items s.held c.args.index c.index_mut.result.now c.poll.new.self
+            c.index_mut.ensures.value c.poll.ensures.submitted c.in-None.ensures.polls.0 is.came;
+      };
+    }

@@ -1,0 +1,54 @@
+use Rattle.std.proofs.Common.{◌≡◌, ◌∙◌, None, ap, arith, subst, sym}
+use Rattle.hub_core.specs.Hubs.{year_of}
+use Rattle.hub_core.specs.Serving.{served}
+use Rattle.hub_core.proofs.LaneViewFacts.{PolledFirst, first_of}
+use Rattle.hub_core.specs.Traffics.{AreServedFirst}
+use Rattle.hub_core.specs.inner.Traffics.{Serves, given_to, polled_by_each}
+use Rattle.hub_core.proofs.ServeFacts.{lanes_counted}
+use Rattle.hub_core.proofs.TrafficFacts.{all_served, came_fresh, seats_counted, serves_fresh, served_first}
+use Rattle.hub_core.proofs.traffic_serving.serve_boxed.Goals as goal
+
+pub serve_seats-requires-clause-seats : goal.serve_seats-requires-clause-seats
+serve_seats-requires-clause-seats g c κs within =
+    let hub = c.in-Ok-new_hub.parts.hub in
+    let lanes = c.in-Ok-new_hub.parts.lanes.items in
+    let is = c.in-Ok-new_hub.ensures in
+    let own = c.take_own-own.ensures in
+    record {
+      serves = serves_fresh hub lanes c.args.lanes is.seats.lanes is.lanes is.shape.0 is.shape.1;
+      workers_are = own.workers;
+      own_is = own.own;
+      deliverer = is.seats.deliverer;
+      count = omega (arith, own.count, is.seats.each_worker, c.in-Ok-new_hub.parts.workers.ok.0);
+      room = omega (arith, own.count, own.capacity, c.in-Ok-new_hub.parts.workers.ok.1);
+    }
+
+pub serve_seats-requires-clause-fresh : goal.serve_seats-requires-clause-fresh
+serve_seats-requires-clause-fresh g c κs within =
+    let lanes = c.in-Ok-new_hub.parts.lanes.items in
+    let is = c.in-Ok-new_hub.ensures in
+    came_fresh (g.T.Traffic.Came c.args.traffic.value c.args.traffic.value) lanes c.args.lanes is.unused (lanes_counted lanes c.args.lanes is.lanes)
+    c.requires.fresh
+
+pub finish_all-requires-clause-room : goal.finish_all-requires-clause-room
+finish_all-requires-clause-room g c =
+    let room = c.in-Ok.ensures in
+    (room.items, room.len, omega (arith, c.in-Ok-new_hub.ensures.shape.0, room.capacity, c.from.ensures))
+
+pub returns-clause-served : goal.returns-clause-served
+returns-clause-served g c =
+    λ kept.
+    let hub = c.in-Ok-new_hub.parts.hub in
+    let seats = c.in_ok-traffic.seats.lanes.items in
+    let done = c.in_ok-traffic.ensures.served kept in
+    let first : PolledFirst hub seats = first_of hub _ c.finish_all.ensures in
+    let year : year_of hub ≡ c.args.year = c.in-Ok-new_hub.ensures.shape.2 in (
+      given_to seats done.0,
+      polled_by_each seats,
+      done.2,
+      subst (λ y. AreServedFirst y (given_to seats done.0) (polled_by_each seats)) year (served_first hub seats done.0 done.1.serves first),
+      λ ended.
+          let end = done.3 ended in
+          let all = all_served hub seats (subst (λ o. Serves hub seats o) end.2 done.1.serves) first end.1 in
+          (end.0, subst (λ o. polled_by_each seats ≡ served c.args.year (given_to seats o)) (sym end.2) (all ∙ ap (λ y. served y (given_to seats None)) year)),
+    )

@@ -1,0 +1,288 @@
+//! The serving of a traffic, from the making of its hub to the end of its threads.
+ghost use Rattle.std.specs.Prelude.{◌≡◌, ◌≢◌, ◌+◌, ◌≤◌, [], All, IfErr, IfOk, IfSome, List, None, Option, length, map, option_to_list, replicate, true, vec_capacity, vec_len, ℕ};
+ghost use Rattle.std.specs.List.{range_with_len};
+ghost use Rattle.lane_core.specs.declared.job.Plain.{Plain};
+ghost use Rattle.hub_core.specs.Fresh.{HasDoneNothing};
+ghost use Rattle.hub_core.specs.Hubs.{AreAllSeats, Holds, IsDelivererOf, IsWorkerOf, shape_of, year_of};
+ghost use Rattle.hub_core.specs.Lane.{ArePolledFirst};
+ghost use Rattle.hub_core.specs.Lanes.{as_lane, numbers_of};
+ghost use Rattle.hub_core.specs.Serving.{is_count, served};
+ghost use Rattle.hub_core.specs.Traffics.{AreServedFirst, IsKept};
+ghost use Rattle.hub_core.specs.inner.CallingThread.{AreSeats, WasServed};
+ghost use Rattle.hub_core.specs.inner.Traffics.{AreEven, Serves, given_to, polled_by_each};
+
+use crate::calling_thread::CallingThread;
+use crate::closed_lane::ClosedLane;
+use crate::deliverer_seat::DelivererSeat;
+use crate::ended::Ended;
+use crate::fault::{HubFault, ServeFault, Unstarted};
+use crate::gate::Gate;
+use crate::hub::Hub;
+use crate::lane_seat::LaneSeat;
+use crate::pace::Pace;
+use crate::parts::Parts;
+use crate::shape::Shape;
+use crate::signals::Signals;
+use crate::traffic::Traffic;
+use crate::worker_seat::WorkerSeat;
+use crate::worker_threads::run_workers;
+use element_core::Year;
+use std::alloc::Global;
+use std::sync::Wait;
+use std::thread::Threads;
+
+/// What each queue and each ring holds.
+const CAPACITY: u16 = 64;
+
+/// How many workers' seats a hub has at most.
+const MOST_WORKERS: u8 = 16;
+
+/// A hub whose queues and rings hold 64, with as many tickets a lane as there are.
+fn new_hub<R: Wait>(
+    rt: &R,
+    alloc: Global,
+    lanes: u8,
+    workers: u8,
+    year: Year,
+) -> Result<Parts, ServeFault>
+    requires counts { (is_count lanes ≡ true) × (is_count workers ≡ true) }
+    ensures shape { IfOk result (λ p. ((shape_of p.hub).lanes ≡ lanes) × ((shape_of p.hub).limit ≡ 4294967295) × (year_of p.hub ≡ year) × ((shape_of p.hub).workers ≡ workers)) }
+    ensures lanes { IfOk result (λ p. numbers_of p.lanes.items ≡ range_with_len 0 lanes) }
+    ensures seats { IfOk result (λ p. AreAllSeats p.hub p.lanes.items p.workers.items p.deliverer) }
+    ensures unused { IfOk result (λ p. All HasDoneNothing p.lanes.items) }
+    ensures capacity { IfOk result (λ p. Holds p.hub p.deliverer 64) }
+    ensures refused { IfErr result (λ e. e ≡ ServeFault.NoMemory) }
+{
+    let shape = Shape {
+        lanes,
+        workers,
+        capacity: CAPACITY,
+        limit: u32::MAX,
+    };
+    match Hub::new(rt, alloc, shape, year) {
+        Ok(parts) => Ok(parts),
+        Err(HubFault::NoMemory) => Err(ServeFault::NoMemory),
+        Err(HubFault::BadCount) => unreachable!(),
+    }
+}
+
+/// Closes each lane, in room that was taken before.
+fn close_all(seats: Vec<LaneSeat>, room: Vec<ClosedLane>) -> Vec<ClosedLane>
+    requires { (room.items ≡ []) × (vec_len room ≡ 0) × (vec_len seats ≤ vec_capacity room) }
+    ensures { result.items ≡ seats.items }
+{
+    let mut closed = room;
+    for seat in seats {
+        closed.push_reserved(seat.close());
+    }
+    closed
+}
+
+/// Takes a seat from the workers', where one is asked for.
+fn take_own(hub: &Hub, workers: &mut Vec<WorkerSeat>, has_own: bool) -> Option<WorkerSeat>
+    requires { All (IsWorkerOf hub.now) workers.old.items }
+    ensures workers { All (IsWorkerOf hub.now) workers.new.items }
+    ensures own { IfSome result (IsWorkerOf hub.now) }
+    ensures count { vec_len workers.new + length (option_to_list result) ≡ vec_len workers.old }
+    ensures capacity { vec_capacity workers.new ≡ vec_capacity workers.old }
+{
+    let _ = hub;
+    if has_own { workers.pop() } else { None }
+}
+
+/// Puts it back, where there is one.
+fn put_back(hub: &Hub, workers: &mut Vec<WorkerSeat>, own: Option<WorkerSeat>)
+    requires seats { All (IsWorkerOf hub.now) workers.old.items × IfSome own (IsWorkerOf hub.now) }
+    requires room { vec_len workers.old + length (option_to_list own) ≤ vec_capacity workers.old }
+    ensures seats { All (IsWorkerOf hub.now) workers.new.items }
+    ensures count { vec_len workers.new ≡ vec_len workers.old + length (option_to_list own) }
+{
+    let _ = hub;
+    if let Some(seat) = own {
+        workers.push_reserved(seat);
+    }
+}
+
+/// The seats of a hub, of which the calling thread may have a worker's.
+#[derive(Drop)]
+pub(crate) struct Seats {
+    pub(crate) lanes: Vec<LaneSeat>,
+    pub(crate) workers: Vec<WorkerSeat>,
+    pub(crate) deliverer: DelivererSeat,
+    pub(crate) own: Option<WorkerSeat>,
+}
+
+/// What the calling thread leaves.
+#[derive(Drop)]
+struct Left<T> {
+    lanes: Vec<LaneSeat>,
+    deliverer: DelivererSeat,
+    own: Option<WorkerSeat>,
+    traffic: Box<T>,
+}
+
+/// Serves the traffic beside the workers.
+fn serve_seats<'e, R: Threads + Wait + Sync, G: Gate + Sync, T: Traffic + Drop>(
+    rt: &'e R,
+    alloc: Global,
+    hub: &'e Hub,
+    seats: Seats,
+    traffic: Box<T>,
+    gate: &'e G,
+    signals: &'e Signals,
+) -> Result<(Box<T>, Seats, Ended<T::WaitFault, T::BringFault>), Unstarted<Box<T>>>
+    requires seats { AreSeats hub.now seats.lanes.items seats.workers seats.deliverer seats.own None }
+    requires fresh { T.Came traffic.value traffic.value (given_to seats.lanes.items None) (polled_by_each seats.lanes.items) }
+    ensures served { IfOk result (λ v. IsKept v.2 → (held : Option (ℕ × List ℕ)) × AreSeats hub.now v.1.lanes.items v.1.workers v.1.deliverer v.1.own held × T.Came traffic.value v.0.value (given_to v.1.lanes.items held) (polled_by_each v.1.lanes.items)
+        × (v.2 ≡ Ended.Done → (T.has_ended v.0.value ≡ true) × AreEven v.1.lanes.items × (held ≡ None))) }
+    ensures refused { IfErr result (λ e. e.fault ≢ ServeFault.BadCount) }
+    ensures untouched { IfErr result (λ e. e.input ≡ traffic) }
+{
+    let Seats {
+        lanes,
+        workers,
+        deliverer,
+        own,
+    } = seats;
+    let threads = workers.len() as u8;
+    let task = move |traffic: Box<T>| -> (Left<T>, Ended<T::WaitFault, T::BringFault>)
+        requires { Serves hub.now lanes.items None × IsDelivererOf hub.now deliverer × IfSome own (IsWorkerOf hub.now) × T.Came traffic.value traffic.value (given_to lanes.items None) (polled_by_each lanes.items) }
+        ensures seats { IsKept result.1 → IsDelivererOf hub.entry.now result.0.deliverer × IfSome result.0.own (IsWorkerOf hub.entry.now) × (length (option_to_list result.0.own) ≡ length (option_to_list own)) }
+        ensures served { IsKept result.1 → WasServed T.Came T.has_ended hub.entry.now traffic.value result.0.traffic.value result.0.lanes.items result.1 }
+    {
+        let pace = Pace::new(signals, threads);
+        let thread = CallingThread::new(hub, lanes, deliverer, own, traffic, pace);
+        let (thread, ended) = thread.run(rt);
+        let CallingThread {
+            hub: _,
+            lanes,
+            deliverer,
+            own,
+            traffic,
+            start: _,
+            held: _,
+            pace: _,
+        } = thread;
+        let left = Left {
+            lanes,
+            deliverer,
+            own,
+            traffic,
+        };
+        (left, ended)
+    };
+    let (workers, done) = run_workers(rt, alloc, hub, workers, gate, signals, traffic, task)?;
+    let (left, ended) = done;
+    let Left {
+        lanes,
+        deliverer,
+        own,
+        traffic,
+    } = left;
+    let seats = Seats {
+        lanes,
+        workers,
+        deliverer,
+        own,
+    };
+    Ok((traffic, seats, ended))
+}
+
+/// Takes all seats back, in room that was taken before.
+fn finish_all<R: Wait>(rt: &R, alloc: Global, hub: Hub, seats: Seats, room: Vec<ClosedLane>)
+    requires seats { (held : Option (ℕ × List ℕ)) × AreSeats hub seats.lanes.items seats.workers seats.deliverer seats.own held }
+    requires room { (room.items ≡ []) × (vec_len room ≡ 0) × ((shape_of hub).lanes ≤ vec_capacity room) }
+    ensures { ArePolledFirst (year_of hub) (map as_lane seats.lanes.items) }
+{
+    let Seats {
+        lanes,
+        mut workers,
+        deliverer,
+        own,
+    } = seats;
+    put_back(&hub, &mut workers, own);
+    let closed = close_all(lanes, room);
+    hub.finish(rt, alloc, closed, workers, deliverer);
+}
+
+/// Serves a traffic that has given nothing.
+fn serve_boxed<R: Threads + Wait + Sync, G: Gate + Sync, T: Traffic + Drop>(
+    rt: &R,
+    alloc: Global,
+    traffic: Box<T>,
+    lanes: u8,
+    workers: u8,
+    year: Year,
+    gate: &G,
+) -> Result<(Box<T>, Ended<T::WaitFault, T::BringFault>), Unstarted<Box<T>>>
+    requires counts { (is_count lanes ≡ true) × (is_count workers ≡ true) }
+    requires fresh { T.Came traffic.value traffic.value (replicate lanes []) (replicate lanes []) }
+    ensures served { IfOk result (λ v. IsKept v.1 → (given : List (List (List ℕ))) × (brought : List (List Plain)) × T.Came traffic.value v.0.value given brought × AreServedFirst year given brought
+        × (v.1 ≡ Ended.Done → (T.has_ended v.0.value ≡ true) × (brought ≡ served year given))) }
+    ensures refused { IfErr result (λ e. e.fault ≢ ServeFault.BadCount) }
+    ensures untouched { IfErr result (λ e. e.input ≡ traffic) }
+{
+    let Ok(room) = Vec::with_capacity(alloc, usize::from(lanes)) else {
+        return Err(Unstarted::new(ServeFault::NoMemory, traffic));
+    };
+    let has_own = traffic.lets_caller_read() && workers < MOST_WORKERS;
+    let Parts {
+        hub,
+        lanes,
+        mut workers,
+        deliverer,
+    } = match new_hub(rt, alloc, lanes, workers + u8::from(has_own), year) {
+        Ok(parts) => parts,
+        Err(fault) => return Err(Unstarted::new(fault, traffic)),
+    };
+    let own = take_own(&hub, &mut workers, has_own);
+    let seats = Seats {
+        lanes,
+        workers,
+        deliverer,
+        own,
+    };
+    let signals = Signals::new();
+    let (traffic, seats, ended) = serve_seats(rt, alloc, &hub, seats, traffic, gate, &signals)?;
+    if ended.is_lost() {
+        return Ok((traffic, ended));
+    }
+    finish_all(rt, alloc, hub, seats, room);
+    Ok((traffic, ended))
+}
+
+/// Serves a traffic that has given nothing: the calling thread submits its rows, collects, hands and
+/// brings their deliveries, and so many workers read them beside each other, each row once the gate has
+/// let its ticket pass.
+///
+/// `NoThread` says that a thread could not be started, `NoMemory` that the hub or its threads were refused
+/// memory: the traffic has given nothing then, and is given back as it was.
+pub fn serve_traffic<R: Threads + Wait + Sync, G: Gate + Sync, T: Traffic + Drop>(
+    rt: &R,
+    alloc: Global,
+    traffic: T,
+    lanes: u8,
+    workers: u8,
+    year: Year,
+    gate: &G,
+) -> Result<(T, Ended<T::WaitFault, T::BringFault>), Unstarted<T>>
+    requires counts { (is_count lanes ≡ true) × (is_count workers ≡ true) }
+    requires fresh { T.Came traffic traffic (replicate lanes []) (replicate lanes []) }
+    ensures served { IfOk result (λ v. IsKept v.1 → (given : List (List (List ℕ))) × (brought : List (List Plain)) × T.Came traffic v.0 given brought × AreServedFirst year given brought
+        × (v.1 ≡ Ended.Done → (T.has_ended v.0 ≡ true) × (brought ≡ served year given))) }
+    ensures refused { IfErr result (λ e. e.fault ≢ ServeFault.BadCount) }
+    ensures untouched { IfErr result (λ e. e.input ≡ traffic) }
+{
+    // In a box, since a large one that is moved from result to result takes the compiler minutes.
+    let traffic = match Box::new(alloc, traffic) {
+        Ok(traffic) => traffic,
+        Err(refused) => return Err(Unstarted::new(ServeFault::NoMemory, refused.value)),
+    };
+    match serve_boxed(rt, alloc, traffic, lanes, workers, year, gate) {
+        Ok((traffic, ended)) => Ok((Box::into_inner(traffic), ended)),
+        Err(refused) => {
+            let traffic = Box::into_inner(refused.input);
+            Err(Unstarted::new(refused.fault, traffic))
+        }
+    }
+}

@@ -1,0 +1,45 @@
+"""Which threads read rows: the workers that were asked for, and not the thread that writes the answers."""
+
+import os
+import subprocess
+import time
+
+import program
+from program import CommandTest
+from rows import SYMBOL
+
+# Rows that take some tenths of a second to answer, and hardly fit the input.
+ROWS = 100_000
+
+
+def ticks(process):
+    """The processor time of each thread that the process has now, in ticks of a hundredth of a second."""
+    found = {}
+    for thread in os.listdir(f"/proc/{process}/task"):
+        try:
+            with open(f"/proc/{process}/task/{thread}/stat", encoding="utf-8") as file:
+                fields = file.read().rpartition(")")[2].split()
+        except OSError:
+            continue
+        found[int(thread)] = int(fields[11]) + int(fields[12])
+    return found
+
+
+class ReadersTest(CommandTest):
+    def test_workers_read_the_rows(self):
+        given = f"0,11 {SYMBOL} 7\n".encode() * ROWS
+        for workers in [1, 3]:
+            with self.subTest(workers):
+                words = f"lanes --lanes 1 --workers {workers} --year 2026".split()
+                last = {}
+                with subprocess.Popen([program.PATH, *words], stdin=subprocess.PIPE, stdout=subprocess.DEVNULL) as it:
+                    it.stdin.write(given)
+                    it.stdin.close()
+                    while it.poll() is None:
+                        last.update(ticks(it.pid))
+                        time.sleep(0.002)
+                self.assertEqual(it.returncode, 0)
+                calling = last.pop(it.pid)
+                self.assertEqual(len(last), workers, "threads beside the calling one")
+                # A third of the work is to read the rows; a worker that reads none takes no time.
+                self.assertGreater(sum(last.values()), (calling + sum(last.values())) / 10, (calling, last))
