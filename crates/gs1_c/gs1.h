@@ -122,10 +122,14 @@ static inline size_t gs1_date(const uint8_t *text, size_t length, uint16_t year,
     return gs1_c_date(GS1_SOME(const uint8_t *, text), length, year, GS1_SOME(uint8_t *, out), room);
 }
 
-/* What a text says that a scanner sends: a symbology identifier, and behind it the digits of a GTIN (`]E0`, `]E4`,
- * `]I1`) or an element string in which byte 29 is the separator (`]C1`, `]e0`, `]d2`, `]Q3`, `]J1`). The identifier
- * and the elements as data, as `]C1 10=AB<TAB>17=261231`; a place is an offset behind the identifier. Any other
- * identifier is `refused 40 Kind`. */
+/* What a text says that a scanner sends: a symbology identifier, and behind it the digits of a GTIN (`]E0` 12 or 13,
+ * or the 8 of a UPC-E; `]E4` 8; `]I1` 14), an element string in which byte 29 or `^` is the separator (`]C1`, `]e0`,
+ * `]d2`, `]Q3`, `]J1`), or a GS1 Digital Link (`]Q1`, `]d1`). Without an identifier it is an element string where it
+ * begins with a separator, a GTIN where it begins with eight digits, and a Digital Link where it begins with `http://`
+ * or `https://`; `-` stands for the identifier then. The identifier and the elements as data, as
+ * `]C1 10=AB<TAB>17=261231`; a place is an offset behind the identifier and a separator there, or in a Digital Link the
+ * index of the element. Blanks and ends of lines behind the text are passed over. Any other text is
+ * `refused 40 Kind`. */
 static inline size_t gs1_scan(const uint8_t *text, size_t length, uint16_t year, uint8_t *out, size_t room) {
     return gs1_c_scan(GS1_SOME(const uint8_t *, text), length, year, GS1_SOME(uint8_t *, out), room);
 }

@@ -41,7 +41,7 @@ async def turns(reader: asyncio.StreamReader, idle: float) -> AsyncIterator[List
 def text_of(answer: Union[Answer, Refusal], elements: bool) -> str:
     """The text of an answer, with its elements for people, or as `gs1_hub live --elements` writes them."""
     if elements and isinstance(answer, Answer):
-        return f"{answer.identifier} " + "\t".join(f"{element.ai}={element.value}" for element in answer.elements)
+        return f"{answer.identifier or '-'} " + "\t".join(f"{element.ai}={element.value}" for element in answer.elements)
     return str(answer)
 
 

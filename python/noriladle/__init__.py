@@ -11,6 +11,8 @@ refused is raised as a :class:`Refusal`, with its number and its name.
     '(10)AB(17)261231'
     >>> read_scan("]C110AB\\x1d17261231", year=2026).elements[1]
     Element(ai='17', value='261231', date=datetime.date(2026, 12, 31), time=None)
+    >>> read_scan("https://id.gs1.org/01/09501101530003/10/AB", year=2026).text
+    '(01)09501101530003(10)AB'
 """
 from __future__ import annotations
 
@@ -99,9 +101,9 @@ class Element:
 class Answer:
     """What a row, or a text from a scanner, says."""
 
-    identifier: str
+    identifier: Optional[str]
     """The symbology identifier: ``]E0`` of EAN-13, UPC-A and UPC-E, ``]E4`` of EAN-8, ``]I1`` of ITF-14, ``]C1`` of
-    GS1-128."""
+    GS1-128, or another that a scanner sent; None if the scanner sent none."""
     elements: Tuple[Element, ...]
 
     @property
@@ -116,7 +118,7 @@ class Answer:
         return self.elements[0].value if self.elements[0].ai == "01" else None
 
     def __str__(self) -> str:
-        return f"{self.identifier} {self.text}"
+        return f"{self.identifier or '-'} {self.text}"
 
 
 @dataclass(frozen=True)
@@ -185,8 +187,13 @@ def _line(answer: bytes) -> str:
 
 def _answer(answer: bytes, year: int) -> Answer:
     """The answer, where it is no refusal."""
-    identifier, _, elements = _line(answer).partition(" ")
-    return Answer(identifier, _elements(elements, year))
+    return _answer_of(_line(answer), year)
+
+
+def _answer_of(line: str, year: int) -> Answer:
+    """The answer of a line that is no refusal: ``-`` stands for an identifier that was not sent."""
+    identifier, _, elements = line.partition(" ")
+    return Answer(None if identifier == "-" else identifier, _elements(elements, year))
 
 
 def _elements(pairs: str, year: int) -> Tuple[Element, ...]:
@@ -332,13 +339,25 @@ def find_dots(dots: Union[bytes, bytearray, memoryview], width: int, year: int) 
 
 
 def read_scan(text: Union[str, bytes], year: int) -> Answer:
-    """What a text says that a scanner sends: a symbology identifier, and what the symbol says.
+    """What a text from a scanner says: a symbology identifier, and behind it what the symbol says.
 
-    Behind ``]E0``, ``]E4`` and ``]I1`` stand the digits of a GTIN, behind ``]C1``, ``]e0``, ``]d2``, ``]Q3`` and
-    ``]J1`` an element string, in which ``"\\x1d"`` is the separator. A place is an offset behind the identifier.
+    - ``]E0`` has the 12 or 13 digits of a GTIN or the 8 of a UPC-E, ``]E4`` 8 digits, ``]I1`` 14.
+    - ``]C1``, ``]e0``, ``]d2``, ``]Q3`` and ``]J1`` have an element string. ``"\\x1d"`` or ``"^"`` is the separator.
+    - ``]Q1`` and ``]d1`` have a GS1 Digital Link.
 
-    :raises Refusal: 40 ``Kind`` of any other identifier, 1 to 3 of the digits, 4 to 11 of the element string, and
-        42 ``Words`` of a year out of range.
+    If the scanner sends no identifier, digits are read as a GTIN, a separator begins an element string, and ``http://``
+    or ``https://`` a Digital Link. Eight digits of which the first is 0 are refused: they may be an EAN-8 or a UPC-E.
+
+        >>> read_scan("]E001234565", year=2026).gtin
+        '00012345000065'
+        >>> answer = read_scan("9501101530003", year=2026)
+        >>> answer.identifier, answer.gtin
+        (None, '09501101530003')
+
+    A place is an offset behind the identifier, or in a Digital Link the index of the element, from 0.
+
+    :raises Refusal: 40 ``Kind`` of any other identifier, and of what is no Digital Link; 1 to 3 of digits, 4 to 11 of
+        elements; 42 ``Words`` of a year out of range.
     """
     said = _bytes(text)
     return _answer(_ask(_library.gs1_c_scan, said, len(said), _u16(year)), year)

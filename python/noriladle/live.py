@@ -11,8 +11,14 @@
     >>> replies[1].answer.elements
     (Element(ai='01', value='00000096385074', date=None, time=None),)
 
-Each lane gets the replies to its rows, in the order in which they were submitted, and each once. Any number of tasks
-may ask at the same time, all in the event loop in which the block was entered.
+A text from a scanner that reads symbols itself is asked in the same way, and its reply has no number:
+
+    >>> print(*asyncio.run(read("]E09501101530003", [100])), sep="\\n")
+    2 - ]E0 (01)09501101530003
+    2 0 refused 19 Blank
+
+Each lane gets the replies to its rows and texts, in the order in which they were submitted, and each once. Any number
+of tasks may ask at the same time, all in the event loop in which the block was entered.
 """
 from __future__ import annotations
 
@@ -25,13 +31,14 @@ from dataclasses import dataclass
 from types import TracebackType
 from typing import AsyncIterator, Deque, Iterable, List, Optional, Sequence, Tuple, Type, Union, cast
 
-from . import Answer, Refusal, _bytes, _elements, _refusal
+from . import Answer, Refusal, _answer_of, _bytes, _refusal
 
 __all__ = ["Hub", "HubEnded", "Lane", "Reply", "Widths"]
 
 Widths = Union[Sequence[int], str, bytes]
 """A row of a scan: the widths of its runs in dots, light and dark in turn, light first and last; or their text, with
-one space between each two."""
+one space between each two. Or the text of a scanner that reads symbols itself, as :func:`noriladle.read_scan` takes
+it."""
 
 _WIDEST = 99_999
 """The widest run of five digits; each above 65,535 is refused as too wide."""
@@ -54,14 +61,14 @@ class HubEnded(Exception):
 
 @dataclass(frozen=True)
 class Reply:
-    """What a row is answered with."""
+    """What a row, or the text of a scanner, is answered with."""
 
     lane: int
     number: Optional[int]
-    """The row's number in its lane, from 0; None of what is no row (17, 18, 39 or 44) or comes after the lane's last
-    number (35): it takes none."""
+    """The row's number in its lane, from 0. None of the text of a scanner, of what is neither (17, 18, 39 or 44), and
+    of a row after the lane's last number (35): these take none."""
     answer: Union[Answer, Refusal]
-    """What the row says, or why it is refused."""
+    """What the row or the text says, or why it is refused."""
 
     def __str__(self) -> str:
         """The line of ``gs1_hub live``, but for the lane of 39 and 44, which that does not tell."""
@@ -76,7 +83,7 @@ class Lane:
         self.number = number
 
     async def read(self, widths: Widths) -> Reply:
-        """The reply to a row, whose answer may be a refusal.
+        """The reply to a row or to the text of a scanner, whose answer may be a refusal.
 
         Where the call is cancelled, its row may have been submitted, and then it has a number all the same.
 
@@ -297,8 +304,7 @@ class _Process(asyncio.SubprocessProtocol):
         lane, number, text = line.decode("ascii").split(" ", 2)
         if lane not in ("-", str(asked)) or number not in ("-", str(self._numbers[asked])):
             raise ValueError("of another row")
-        identifier, _, elements = text.partition(" ")
-        answer = _refusal(text) or Answer(identifier, _elements(elements, self._year))
+        answer = _refusal(text) or _answer_of(text, self._year)
         # From here on nothing fails, so that no row is taken off without its reply.
         self._sent.popleft()
         if not reply.done():

@@ -90,7 +90,7 @@ def test_tells_elements_apart(text):
     ("rm -rf", "1 - refused 18 BadRuns"),
     ("\u20ac\udcff", "1 - refused 18 BadRuns"),
     (b"\0\xff\r", "1 - refused 18 BadRuns"),
-    ("9" * 65_534, "1 - refused 18 BadRuns"),
+    ("9" * 65_534, "1 - refused 1 Length"),
     ("9" * 65_535, "1 - refused 44 InputSize"),
     ("9" * 10_000_000, "1 - refused 44 InputSize"),
 ], ids=lambda it: str(it)[:30])
@@ -102,6 +102,32 @@ def test_refuses_a_row(widths, wanted):
             # The next row is not moved by it.
             following = await hub.lane(1).read(WIDTHS)
             assert (following.number, following.answer) == (0 if reply.number is None else 1, READ)
+    run(test())
+
+
+@pytest.mark.parametrize("text, wanted", [
+    ("]E09501101530003", "1 - ]E0 (01)09501101530003"),
+    ("]E001234565", "1 - ]E0 (01)00012345000065"),
+    (b"]C110A,B\x1d17261231", "1 - ]C1 (10)A,B(17)261231"),
+    ("9501101530003\r", "1 - - (01)09501101530003"),
+    ("^10A=B", "1 - - (10)A=B"),
+    ("https://id.gs1.org/01/9501101530003?10=A%3DB", "1 - - (01)09501101530003(10)A=B"),
+    ("]E09501101530004", "1 - refused 3 CheckDigit"),
+    ("]Q1https://id.gs1.org/", "1 - refused 40 Kind"),
+    ("01234565", "1 - refused 40 Kind"),
+])
+def test_reads_what_scanners_send(text, wanted):
+    """As the library does, in its place and without a number."""
+    async def test():
+        async with Hub(2, 1, 2026) as hub:
+            replies = await asyncio.gather(*(hub.lane(1).read(it) for it in (WIDTHS, text, WIDTHS, text)))
+            assert [reply.number for reply in replies] == [0, None, 1, None]
+            assert [str(reply) for reply in replies[1::2]] == [wanted, wanted]
+            assert (replies[0].answer, replies[2].answer) == (READ, READ)
+            try:
+                assert replies[1].answer == noriladle.read_scan(text, 2026)
+            except Refusal as refusal:
+                assert str(replies[1].answer) == str(refusal)
     run(test())
 
 

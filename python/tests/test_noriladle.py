@@ -214,11 +214,59 @@ def test_reads_what_scanners_send():
     elements = (Element("10", "A=B"), DATED)
     for identifier in ("]C1", "]e0", "]d2", "]Q3", "]J1"):
         assert noriladle.read_scan(identifier + "10A=B\x1d17261231", 2026) == Answer(identifier, elements)
-    assert refusal(noriladle.read_scan, "]E09501101530004", 2026) == (3, "CheckDigit", None)
-    assert refusal(noriladle.read_scan, "]C117250229", 2026) == (9, "ValueDate", 0)
-    assert refusal(noriladle.read_scan, "]A010AB", 2026) == (40, "Kind", None)
-    assert refusal(noriladle.read_scan, "", 2026) == (40, "Kind", None)
-    assert refusal(noriladle.read_scan, "]C110AB", 1950) == (42, "Words", None)
+        assert noriladle.read_scan(identifier + "^10A=B^17261231\r\n", 2026) == Answer(identifier, elements)
+    assert noriladle.read_scan("]I109501101530003", 2026) == Answer("]I1", READ.elements)
+
+
+def test_reads_a_upce_as_a_scanner_sends_it():
+    """Its eight digits, of which some are a GTIN-8 too: the product is that of the symbol."""
+    assert noriladle.read_scan("]E001234565", 2026) == Answer("]E0", (Element("01", "00012345000065"),))
+    assert noriladle.read_scan("]E001200003", 2026).gtin == "00012000000003"
+    assert noriladle.read_gtin("01234565") == "00000001234565"
+
+
+@pytest.mark.parametrize("text", ["https://id.gs1.org/01/9501101530003/10/A%3DB?17=261231", "HTTP://[::1]:80/a/b/01/09501101530003/10/A=B?x=1&17=261231#y"])
+def test_reads_digital_links(text):
+    elements = (*READ.elements, Element("10", "A=B"), DATED)
+    for identifier in (None, "]Q1", "]d1"):
+        answer = noriladle.read_scan((identifier or "") + text, 2026)
+        assert answer == Answer(identifier, elements)
+        assert str(answer) == f"{identifier or '-'} (01)09501101530003(10)A=B(17)261231"
+
+
+def test_reads_what_has_no_identifier():
+    assert noriladle.read_scan("9501101530003\r", 2026) == Answer(None, READ.elements)
+    assert noriladle.read_scan(b"96385074", 2026) == Answer(None, (Element("01", "00000096385074"),))
+    for separator in ("^", "\x1d"):
+        assert noriladle.read_scan(f"{separator}10A=B{separator}17261231", 2026) == Answer(None, (Element("10", "A=B"), DATED))
+    assert str(noriladle.read_scan("^10AB", 2026)) == "- (10)AB"
+
+
+@pytest.mark.parametrize("text, wanted", [
+    ("]E09501101530004", (3, "CheckDigit", None)),
+    ("]E009501101530003", (1, "Length", None)),
+    ("]E49501101530003", (1, "Length", None)),
+    ("]I19501101530003", (1, "Length", None)),
+    ("]E0950110153000X", (2, "NotDigit", 12)),
+    ("]C117250229", (9, "ValueDate", 0)),
+    ("]C1^10A^^", (5, "UnknownAi", 4)),
+    ("]C1", (4, "Empty", None)),
+    ("]C1" + 193 * "A", (11, "TooLong", None)),
+    ("]A010AB", (40, "Kind", None)),
+    ("]", (40, "Kind", None)),
+    ("", (40, "Kind", None)),
+    ("100", (40, "Kind", None)),
+    ("01234565", (40, "Kind", None)),
+    ("0109501101530003", (1, "Length", None)),
+    ("https://id.gs1.org/", (40, "Kind", None)),
+    ("https://id.gs1.org/01/09501101530003?10=A+B", (7, "ValueCharacter", 1)),
+    ("]Q1gs1.org/01/09501101530003", (40, "Kind", None)),
+    ("]Q3https://id.gs1.org/01/09501101530003", (5, "UnknownAi", 0)),
+    ("https://id.gs1.org/01/09501101530003/10/\u00e9", (40, "Kind", None)),
+])
+def test_refuses_what_scanners_send(text, wanted):
+    assert refusal(noriladle.read_scan, text, 2026) == wanted
+    assert refusal(noriladle.read_scan, text, 1950) == (42, "Words", None)
 
 
 @pytest.mark.parametrize("call", [noriladle.read_gtin, noriladle.check_digit])

@@ -69,6 +69,24 @@ FAULTS = [
     ("1,99999", "1 - refused 17 TooWide"),
 ]
 
+# Messages of scanners, of two lanes, with what is answered in their place.
+MESSAGES = [
+    ("0,]E09501101530003", "0 - ]E0 (01)09501101530003"),
+    ("1,]E001234565", "1 - ]E0 (01)00012345000065"),
+    ("01,]C110A,B\x1d17261231", "1 - ]C1 (10)A,B(17)261231"),
+    ("1,^10AB^", "1 - - (10)AB"),
+    ("0,9501101530003", "0 - - (01)09501101530003"),
+    ("0,https://id.gs1.org/01/09501101530003?17=261231", "0 - - (01)09501101530003(17)261231"),
+    ("0,]E09501101530004", "0 - refused 3 CheckDigit"),
+    ("1,]d210AB^^", "1 - refused 5 UnknownAi 5"),
+    ("0,]Q1https://id.gs1.org/", "0 - refused 40 Kind"),
+    ("1,01234565", "1 - refused 40 Kind"),
+    ("16,]E09501101530003", "- - refused 41 BadLane"),
+]
+
+# What takes no number.
+PLACED = FAULTS + MESSAGES
+
 MOST = 65_536
 
 # How long a test waits for an answer that comes at once.
@@ -81,13 +99,17 @@ def live(lanes=2, workers=1, more=""):
 
 
 def meant(line, lanes):
-    """The lane of a line without its line feed, and its widths or why it has none; None for no record."""
+    """The lane of a line without its line feed, and its widths or what stands in its place; None for no record."""
     text = line.removesuffix(b"\r")
     if not text:
         return None
     if len(text) > MOST:
         return "-", "refused 44 InputSize"
-    fields = text.decode("latin-1").split(",")
+    record = text.decode("latin-1")
+    if record in dict(MESSAGES):
+        lane, _, told = dict(MESSAGES)[record].split(" ", 2)
+        return lane, told
+    fields = record.split(",")
     if len(fields) != 2:
         return "-", "refused 39 Csv"
     if not re.fullmatch("[0-9]{1,2}", fields[0], re.ASCII) or int(fields[0]) >= lanes:
@@ -129,25 +151,26 @@ def text_of(given, lanes):
 
 
 def random_line(rng):
-    """A line of an input: a row, a fault, bytes, digits where numbers stand, or nothing."""
+    """A line of an input: a row, a fault or a message, bytes, digits where numbers stand, or nothing."""
     kind = rng.randrange(10)
     if kind < 4:
         line = f"{rng.randrange(3)},{rng.choice(ROWS)[0]}".encode()
     elif kind < 6:
-        line = rng.choice(FAULTS)[0].encode("latin-1")
+        line = rng.choice(PLACED)[0].encode("latin-1")
     elif kind == 6:
         line = bytes(rng.randrange(256) for _ in range(rng.randrange(6))).replace(b"\n", b",")
     elif kind == 7:
-        line = "".join(rng.choice("0011289 ,,\r") for _ in range(rng.randrange(12))).encode()
+        # Too short to be a lane and the digits of a GTIN.
+        line = "".join(rng.choice("0011289 ,,\r") for _ in range(rng.randrange(10))).encode()
     else:
         line = b""
     return line + rng.choice([b"\n", b"\n", b"\r\n"])
 
 
 def random_input(rng, count):
-    """So many lines, of which the last may be unfinished."""
-    given = b"".join(random_line(rng) for _ in range(count))
-    return given[: len(given) - rng.randrange(3)]
+    """So many lines, and a row of which the line may be unfinished."""
+    given = b"".join(random_line(rng) for _ in range(count)) + b"0,7\r\n"
+    return given[: len(given) - rng.randrange(6)]
 
 
 class Running:
@@ -207,10 +230,10 @@ class LiveTest(CommandTest):
             with self.subTest(told):
                 self.answers(f"0,{widths}\n", [f"0 0 {told}"])
 
-    def test_each_fault_in_its_place(self):
-        given = "".join(f"{record}\n1,7\n" for record, _ in FAULTS)
-        blank = (f"1 {number} refused 19 Blank" for number in range(len(FAULTS)))
-        self.answers(given, [line for (_, told), other in zip(FAULTS, blank) for line in (told, other)])
+    def test_each_fault_and_message_in_its_place(self):
+        given = "".join(f"{record}\n1,7\n" for record, _ in PLACED)
+        blank = (f"1 {number} refused 19 Blank" for number in range(len(PLACED)))
+        self.answers(given, [line for (_, told), other in zip(PLACED, blank) for line in (told, other)])
 
     def test_lines(self):
         blank = "0 0 refused 19 Blank"
@@ -283,7 +306,9 @@ class LiveTest(CommandTest):
             ("7", "refused 19 Blank"),
         ]:
             with self.subTest(told):
-                self.answers(f"1,{widths}\n1,\n", [f"1 0 {told}", "1 - refused 18 BadRuns"], more=" --elements")
+                messages = "1,\n1,]C110A=B^21(10)C\n1,96385074\n"
+                answers = ["1 - refused 18 BadRuns", "1 - ]C1 10=A=B\t21=(10)C", "1 - - 01=00000096385074"]
+                self.answers(f"1,{widths}\n{messages}", [f"1 0 {told}", *answers], more=" --elements")
 
     def test_any_input_as_the_model(self):
         rng = random.Random(47)
@@ -351,7 +376,7 @@ class LiveTest(CommandTest):
         """That each record is answered before the next is sent."""
         numbers = [0, 0]
         rows = [(f"{lane},{widths}", told) for lane in range(2) for widths, told in ROWS]
-        for record, told in [*rows, *FAULTS, *rows]:
+        for record, told in [*rows, *PLACED, *rows]:
             it.send((record + ("\r\n" if len(record) % 2 else "\n")).encode("latin-1"))
             if (record, told) in rows:
                 lane = int(record[0])
@@ -417,7 +442,7 @@ class LiveTest(CommandTest):
 
     def test_an_input_that_fails_at_any_byte(self):
         # The lines that had ended are answered.
-        given = b"0,1\n0,0 1 0\n1,\n"
+        given = b"0,1\n0,0 1 0\n1,^10AB^\n1,\n"
         for count in range(len(given) + 1):
             with self.subTest(count=count), Breaking(given[:count]) as broken:
                 told = text_of(given[: given[:count].rfind(b"\n") + 1], 2)
@@ -430,7 +455,7 @@ class LiveTest(CommandTest):
                 self.assertEqual(ran(live(), given[:count]).outcome(), (0, text_of(given[:count], 2), ""))
 
     def test_an_output_that_fails_at_any_byte(self):
-        given = b"0,1\n0,0 1 0\n1,\n"
+        given = b"0,1\n0,0 1 0\n1,^10AB^\n1,\n"
         output = text_of(given, 2)
         for room in range(len(output)):
             with self.subTest(room=room):

@@ -219,6 +219,14 @@ static void cases(void) {
     scan("]E496385074", YEAR, "]E4 01=00000096385074");
     scan("]E096385075", YEAR, "refused 3 CheckDigit");
     scan("]d210A\x1d" "17261231", YEAR, "]d2 10=A\t17=261231");
+    scan("]E001234565", YEAR, "]E0 01=00012345000065");
+    scan("]E009501101530003", YEAR, "refused 1 Length");
+    scan("^10A^17261231\r\n", YEAR, "- 10=A\t17=261231");
+    scan("9501101530003", YEAR, "- 01=09501101530003");
+    scan("01234565", YEAR, "refused 40 Kind");
+    scan("https://id.gs1.org/01/9501101530003/10/A%3DB?17=261231", YEAR, "- 01=09501101530003\t10=A=B\t17=261231");
+    scan("]Q1https://id.gs1.org/01/9501101530003?17=260231", YEAR, "refused 9 ValueDate 1");
+    scan("]Q1https://example.com/", YEAR, "refused 40 Kind");
     scan("]C117250229", YEAR, "refused 9 ValueDate 0");
     scan("]C1", YEAR, "refused 4 Empty");
     scan("]A010AB", YEAR, "refused 40 Kind");

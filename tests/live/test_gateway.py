@@ -116,6 +116,17 @@ def test_elements(tmp_path):
     with Gateway(tmp_path, "--elements") as gateway, gateway.connect() as client:
         assert client.ask(ROW) == "0 ]E0 01=09501101530003\n"
         assert client.ask(b"100\n") == "1 refused 19 Blank\n"
+        assert client.ask(b"^10A=B^21C\n") == "- - 10=A=B\t21=C\n"
+
+
+def test_texts_of_scanners(gateway):
+    """They take no number."""
+    with gateway.connect() as client:
+        for number in range(3):
+            assert client.ask(ROW) == f"{number} {READ}\n"
+            assert client.ask(b"]C110A,B^21C\r\n") == "- ]C1 (10)A,B(21)C\n"
+            assert client.ask(b"9501101530003\n") == "- - (01)09501101530003\n"
+            assert client.ask(b"]E09501101530004\n") == "- refused 3 CheckDigit\n"
 
 
 def test_16_connections_and_the_17th(gateway):
@@ -151,7 +162,7 @@ def test_16_connections_and_the_17th(gateway):
     (b"\xff\x00\x1b[2J", "- refused 18 BadRuns"),
     (b"GET / HTTP/1.1\r", "- refused 18 BadRuns"),
     (b"1 " * 40_000, "- refused 44 InputSize"),
-    (b"9" * 65_534, "- refused 18 BadRuns"),
+    (b"9" * 65_534, "- refused 1 Length"),
     (b"9" * 65_535, "- refused 44 InputSize"),
     (b"x" * 10_000_000, "- refused 44 InputSize"),
     (b"70000", "- refused 17 TooWide"),

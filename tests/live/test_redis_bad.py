@@ -23,20 +23,21 @@ NO_ROWS = {
     "1\n2": "18 BadRuns", "\u20ac": "18 BadRuns", "1 " * 40_000: "44 InputSize", "1 " * 5_000_000: "44 InputSize",
     "100": "19 Blank",
 }
+TEXTS = {"]C110A,B^21C": "]C1 (10)A,B(21)C", "9501101530003": "- (01)09501101530003", "]E09501101530004": "refused 3 CheckDigit"}
 
 
 @pytest.mark.limit(40)
 def test_what_is_no_row_has_one_answer_too():
     with Cluster() as cluster, Workers(cluster.address, 1) as workers:
-        got = asyncio.run(read_lane(cluster.address, "3", [EAN13, *NO_ROWS, EAN13]))
-        assert got == [READ, *(f"refused {fault}" for fault in NO_ROWS.values()), READ]
+        got = asyncio.run(read_lane(cluster.address, "3", [EAN13, *NO_ROWS, *TEXTS, EAN13]))
+        assert got == [READ, *(f"refused {fault}" for fault in NO_ROWS.values()), *TEXTS.values(), READ]
         # Behind the till's back: another field, bytes that are no text, and two fields of one name.
         for words in (["x", "y"], ["widths", b"\xff\xfe\x01"], ["widths", "100", "widths", EAN13]):
             add = ["redis-cli", "-p", str(cluster.holder(ROWS)), "XADD", ROWS, "*", *words]
             subprocess.run(add, capture_output=True, check=True)
         time.sleep(1)
         said, names = asyncio.run(streams(cluster.address, ["3"]))
-        assert [name for name, _ in said["3"]] == names["3"] and len(names["3"]) == len(NO_ROWS) + 5
+        assert [name for name, _ in said["3"]] == names["3"] and len(names["3"]) == len(NO_ROWS) + len(TEXTS) + 5
         assert [answer for _, answer in said["3"][-3:]] == ["refused 18 BadRuns", "refused 18 BadRuns", READ]
         workers.end()
 

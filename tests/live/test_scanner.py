@@ -36,7 +36,9 @@ TEXTS = [
     (b"]C191" + b"A" * 200, "refused 11 TooLong"),
     (b"]C0ABC", "refused 40 Kind"),  # Code 128 that is not GS1's.
     (b"]d1ABC", "refused 40 Kind"),
-    (b"9501101530003", "refused 40 Kind"),  # The identifier is not switched on.
+    (b"]E001234565", "]E0 (01)00012345000065"),  # A UPC-E, in the digits of its symbol.
+    (b"]Q1https://id.gs1.org/01/09501101530003/10/AB", "]Q1 (01)09501101530003(10)AB"),
+    (b"9501101530003", "- (01)09501101530003"),  # The identifier is not switched on.
     (b"]", "refused 40 Kind"),
     (b"\xff\x00\x1b[2J", "refused 40 Kind"),
 ]

@@ -1,20 +1,19 @@
 -- `check` writes one text at most of the same bytes.
-use Rattle.std.proofs.Common.{◌≡◌, ◌+◌, ◌++◌, ◌<◌, ◌%◌, ◌∙◌, ◌∷◌, ◌*◌, List, None, Ok, Option, Some, [], add_assoc, ap, ap₂, arith, inl, inr, length, refl, sym, ℕ}
+use Rattle.std.proofs.Common.{◌≡◌, ◌+◌, ◌++◌, ◌<◌, ◌%◌, ◌∙◌, ◌∷◌, ◌*◌, List, None, Ok, Option, Some, [], add_assoc, ap, ap₂, arith, length, refl, sym, ℕ}
 use Rattle.std.specs.Prelude.{codes}
 use Rattle.std.specs.Fmt.{decimal}
 use Rattle.std.proofs.lemmas.List.{length-append}
 use Rattle.digits_core.specs.Digits.{IsChecked, digits_of, weight, weighted}
-use Rattle.digits_core.specs.Faults.{digit_fault_text}
 use Rattle.digits_core.specs.Payloads.{payload_fault}
 use Rattle.digits_core.specs.declared.fault.DigitFault.{DigitFault}
-use Rattle.digits_core.specs.declared.fault.DigitFault.TheVariants as digits
 use Rattle.element_core.specs.Elements.{OneListOrFault, hri}
-use Rattle.element_core.specs.Faults.{element_fault_text}
-use Rattle.element_core.specs.Lines.{IsDigitAnswer, IsElementsLine, line_of_gtin, line_text}
+use Rattle.element_core.specs.Lines.{IsDigitAnswer, line_of_gtin, line_text}
 use Rattle.element_core.specs.declared.line.Line.{Line}
-use Rattle.record_core.specs.check.Checks.{IsLineAs, IsLineBy, IsUpceLine, IsUpceRefused, IsUpceText, check_kind_named, check_meaning, check_report, spelling_fault}
+use Rattle.record_core.specs.check.Checks.{IsLineAs, IsLineBy, check_kind_named, check_meaning, check_report}
 use Rattle.record_core.specs.input.Records.{AreItems, Fields, records_of}
-use Rattle.record_core.specs.input.Spelling.{spelled_text}
+use Rattle.message_core.specs.Spellings.{spelled}
+use Rattle.message_core.proofs.SaidFacts.{one_elements_line}
+use Rattle.message_core.proofs.UpceFacts.{one_upce_line}
 use Rattle.record_core.specs.declared.check.answer.CheckKind.{CheckKind}
 use Rattle.record_core.specs.declared.check.answer.CheckKind.TheVariants as kind
 use Rattle.command_core.specs.commands.Checks.{OneCheck}
@@ -39,42 +38,12 @@ digit_by text None a b h k =
     h.3 ∙ (ap (λ n. codes "digit " ++ decimal n) (digit_once (digits_of text) h.0 k.0 h.1 k.1 h.2 k.2) ∙ sym k.3)
 digit_by text (Some f) a b h k = h ∙ sym k
 
--- digits that stand for a GTIN are not refused
-upce_refused : (text gtin : List ℕ) (f : DigitFault) → spelling_fault text ≡ None → IsUpceText text gtin → IsUpceRefused text f → ⊥
-upce_refused text gtin digits.CheckDigit none is h = h.1 gtin is
-upce_refused text gtin digits.Length none is h = absurd (let no : Some digits.Length ≡ None = sym h ∙ none in cc no)
-upce_refused text gtin (digits.NotDigit place) none is h = absurd (let no : Some (digits.NotDigit place) ≡ None = sym h ∙ none in cc no)
-
-upce_faults : (text : List ℕ) (f g : DigitFault) → IsUpceRefused text f → IsUpceRefused text g → f ≡ g
-upce_faults text digits.CheckDigit digits.CheckDigit h k = refl
-upce_faults text digits.CheckDigit digits.Length h k = cc (h.0, k)
-upce_faults text digits.CheckDigit (digits.NotDigit q) h k = cc (h.0, k)
-upce_faults text digits.Length digits.CheckDigit h k = cc (h, k.0)
-upce_faults text digits.Length digits.Length h k = refl
-upce_faults text digits.Length (digits.NotDigit q) h k = cc (h, k)
-upce_faults text (digits.NotDigit p) digits.CheckDigit h k = cc (h, k.0)
-upce_faults text (digits.NotDigit p) digits.Length h k = cc (h, k)
-upce_faults text (digits.NotDigit p) (digits.NotDigit q) h k = cc (h, k)
-
-upce_line : (text a b : List ℕ) → IsUpceLine text a → IsUpceLine text b → a ≡ b
-upce_line text a b (inl (g, none, is, line)) (inl (o, also, it, other)) = line ∙ (ap line_of_gtin (is.number ∙ sym it.number) ∙ sym other)
-upce_line text a b (inl (g, none, is, line)) (inr (f, refused, other)) = absurd (upce_refused text g f none is refused)
-upce_line text a b (inr (f, refused, line)) (inl (g, none, is, other)) = absurd (upce_refused text g f none is refused)
-upce_line text a b (inr (f, refused, line)) (inr (g, also, other)) = line ∙ (ap digit_fault_text (upce_faults text f g refused also) ∙ sym other)
-
 module _ (one : OneListOrFault) (year : ℕ) where
-  elements_line : (text a b : List ℕ) → IsElementsLine (codes "hri") hri year text a → IsElementsLine (codes "hri") hri year text b → a ≡ b
-  elements_line text a b (inl (es, read, line)) (inl (fs, also, other)) =
-      line ∙ (ap (λ l. codes "hri " ++ hri l) ((one year text).0 es fs read also) ∙ sym other)
-  elements_line text a b (inl (es, read, line)) (inr (f, refused, other)) = absurd ((one year text).2 es f read refused)
-  elements_line text a b (inr (f, refused, line)) (inl (es, read, other)) = absurd ((one year text).2 es f read refused)
-  elements_line text a b (inr (f, refused, line)) (inr (g, also, other)) = line ∙ (ap element_fault_text ((one year text).1 f g refused also) ∙ sym other)
-
   by_kind : (k : CheckKind) (text a b : List ℕ) → IsLineAs year k text a → IsLineAs year k text b → a ≡ b
   by_kind kind.Digit text a b h k = digit_by text (payload_fault text) a b h k
   by_kind kind.Gtin text a b h k = h ∙ sym k
-  by_kind kind.Upce text a b h k = upce_line text a b h k
-  by_kind kind.Text text a b h k = elements_line (spelled_text text) a b h k
+  by_kind kind.Upce text a b h k = one_upce_line line_of_gtin text a b h k
+  by_kind kind.Text text a b h k = one_elements_line one (codes "hri") hri year (spelled text) a b h k
 
   by_name : (o : Option CheckKind) (text : List ℕ) (a b : Line) → IsLineBy year o text (Ok a) → IsLineBy year o text (Ok b) → line_text a ≡ line_text b
   by_name (Some k) text a b h p = by_kind k text (line_text a) (line_text b) h p

@@ -11,7 +11,7 @@ use Rattle.sheet_core.specs.declared.kind.GtinKind.TheVariants as gtin_kind
 use Rattle.sheet_core.specs.declared.kind.LabelKind.{LabelKind}
 use Rattle.sheet_core.specs.declared.kind.LabelKind.TheVariants as kind
 use Rattle.sheet_core.specs.declared.label.Label.{Label}
-use Rattle.record_core.specs.input.Spelling.{spelled_text}
+use Rattle.message_core.specs.Spellings.{spelled}
 use Rattle.record_core.specs.print.Labels.{IsElementLabel, IsGtinLabel, IsLabelAs, IsLabelBy, print_meaning}
 use Rattle.command_core.specs.Printed.{SaysElements}
 use Rattle.record_core.specs.input.Records.{AreItems, Fields}
@@ -36,7 +36,7 @@ module _ (checked : GtinsAreChecked) (gtin : GtinReads) (canonical : CanonicalRe
 
   by_kind : (k : LabelKind) (field : List ℕ) (l : Label) → IsLabelAs year k field (Ok l) → SaysElements year l
   by_kind (kind.Gtin k) field l h = of_gtin k field l h
-  by_kind kind.Gs1128 field l h = of_elements (spelled_text field) l h
+  by_kind kind.Gs1128 field l h = of_elements (spelled field) l h
 
   by_name : (o : Option LabelKind) (field : List ℕ) (l : Label) → IsLabelBy year o field (Ok l) → SaysElements year l
   by_name (Some k) field l h = by_kind k field l h

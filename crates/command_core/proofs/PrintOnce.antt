@@ -12,7 +12,7 @@ use Rattle.sheet_core.specs.declared.label.Label.{Label}
 use Rattle.sheet_core.specs.declared.label.Label.TheVariants as label
 use Rattle.command_core.specs.Grids.{cells_of}
 use Rattle.record_core.specs.input.Records.{Fields}
-use Rattle.record_core.specs.input.Spelling.{spelled_text}
+use Rattle.message_core.specs.Spellings.{spelled}
 use Rattle.record_core.specs.print.Labels.{IsElementLabel, IsLabelAs, IsLabelBy, print_meaning}
 use Rattle.command_core.specs.commands.Prints.{IsPrinted, OnePrint}
 use Rattle.words_core.specs.declared.commands.print.options.Output.{Output}
@@ -30,7 +30,7 @@ module _ (one : OneListOrFault) (year : ℕ) where
 
   by_kind : (k : LabelKind) (field : List ℕ) (a b : Label) → IsLabelAs year k field (Ok a) → IsLabelAs year k field (Ok b) → a ≡ b
   by_kind (kind.Gtin k) field a b h p = h.1 ∙ sym p.1
-  by_kind kind.Gs1128 field a b h p = element_label (spelled_text field) a b h p
+  by_kind kind.Gs1128 field a b h p = element_label (spelled field) a b h p
 
   by_name : (o : Option LabelKind) (field : List ℕ) (a b : Label) → IsLabelBy year o field (Ok a) → IsLabelBy year o field (Ok b) → a ≡ b
   by_name (Some k) field a b h p = by_kind k field a b h p

@@ -6,6 +6,7 @@ pub mod GrowFacts
 pub mod KeepFacts
 pub mod LogFacts
 pub mod MeaningFacts
+pub mod MessageFacts
 pub mod ReorderFacts
 pub mod ReplyFacts
 pub mod TurnFacts

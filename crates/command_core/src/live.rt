@@ -3,6 +3,7 @@ pub mod answering;
 pub mod fault;
 pub mod input;
 pub mod laws;
+pub mod manner;
 pub mod place;
 pub mod progress;
 pub mod record;

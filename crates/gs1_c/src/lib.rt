@@ -20,7 +20,6 @@ mod buffer;
 mod dates;
 mod found;
 mod label;
-mod scanned;
 #[cfg(test)]
 mod tests;
 
@@ -31,8 +30,8 @@ use digits_core::RefusalKind;
 use element_core::{Form, Year, digit_line, elements_line, gtin_line};
 use found::{put_dot_symbols, put_symbols};
 use label::{kind_numbered, put_kind};
+use message_core::message_line;
 use scan_core::read_widths;
-use scanned::put_scanned;
 use sheet_core::Grid;
 
 /// The GTIN, in 14 digits, of its 8, 12, 13 or 14 (GS1 General Specifications, section 7.9), as
@@ -120,10 +119,13 @@ pub extern "C" fn gs1_c_date(text: &[u8], year: u16, out: &mut [u8]) -> usize
 }
 
 /// What a text says that a scanner sends: a symbology identifier (ISO/IEC 15424), and behind it the digits of a
-/// GTIN (`]E0`, `]E4`, `]I1`) or an element string in which byte 29 is the separator (`]C1`, `]e0`, `]d2`, `]Q3`,
-/// `]J1`). The identifier and the elements as data, as `]C1 10=AB<TAB>17=261231`; or why what stands behind the
-/// identifier is refused, a place being an offset in it. Any other identifier is `refused 40 Kind`, and a year
-/// that is no reference year `refused 42 Words` before that.
+/// GTIN (`]E0` 12 or 13, or the 8 of a UPC-E; `]E4` 8; `]I1` 14), an element string in which byte 29 or `^` is the
+/// separator (`]C1`, `]e0`, `]d2`, `]Q3`, `]J1`), or a GS1 Digital Link (`]Q1`, `]d1`). Without an identifier it is an
+/// element string where it begins with a separator, a GTIN where it begins with eight digits, and a Digital Link where
+/// it begins with `http://` or `https://`. The identifier, or `-`, and the elements as data, as
+/// `]C1 10=AB<TAB>17=261231`; or why it is refused, a place being an offset behind the identifier and a separator
+/// there, or in a Digital Link the index of the element. Blanks, tabs and ends of lines at the end are passed over. Any
+/// other text is `refused 40 Kind`, and a year that is no reference year `refused 42 Words` before that.
 #[unsafe(no_mangle)]
 pub extern "C" fn gs1_c_scan(text: &[u8], year: u16, out: &mut [u8]) -> usize
     ensures { (line : List ℕ) × IsScanLine year text.now line × IsPut line out.old out.new result }
@@ -131,7 +133,7 @@ pub extern "C" fn gs1_c_scan(text: &[u8], year: u16, out: &mut [u8]) -> usize
     let Some(year) = Year::new(year) else {
         return put_refused(RefusalKind::Words, out);
     };
-    put_scanned(text, year, out)
+    put_line(&message_line(Form::Pairs, text, year), out)
 }
 
 /// Every symbol of a row, given as `gs1_c_row` takes it: of each window of its runs that begins and ends

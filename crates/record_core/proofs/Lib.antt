@@ -2,3 +2,5 @@ pub mod Beside
 pub mod Decimals
 pub mod ReadFacts
 pub mod Reaching
+pub mod MessageWidths
+mod UpceMessages

@@ -1,3 +1,4 @@
+pub mod Laws
 pub mod check
 pub mod inner
 pub mod input

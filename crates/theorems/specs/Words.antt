@@ -1,7 +1,11 @@
 -- The words of the theorems: those of the crates below, passed on, and a few of their own.
 pub use Rattle.std.specs.List.{AllByRecursion, AllZip}
 pub use Rattle.digits_core.specs.Digits.{AreAsciiDigits, AreDigits, IsChecked, digits_of}
-pub use Rattle.element_core.specs.Elements.{Entry, IsElements}
+pub use Rattle.digits_core.specs.Upce.{IsUpceOf}
+pub use Rattle.element_core.specs.Elements.{Entry, IsElements, gtin_entry, pairs_text}
+pub use Rattle.element_core.specs.Lines.{line_text}
+pub use Rattle.message_core.specs.Laws.{IsRefusedBy, MessageSays}
+pub use Rattle.message_core.specs.Messages.{IsMessageLine}
 pub use Rattle.ean_code.specs.Symbols.{IsCheckedPlace, Kind, widths_of}
 pub use Rattle.code128_code.specs.Symbols.{IsCode128Symbol, characters_of, mod103}
 pub use Rattle.code128_code.specs.declared.fault.Code128Fault.TheVariants.{CheckCharacter}
@@ -34,7 +38,7 @@ pub use Rattle.record_core.specs.lanes.Feeds.{LaneRow, feeds_of, lanes_meaning}
 pub use Rattle.command_core.specs.live.Laws.{IsPlain, IsReordered, record_lines}
 pub use Rattle.command_core.specs.live.Replies.{most_rows}
 pub use Rattle.command_core.specs.live.Text.{Answers, fields_in}
-pub use Rattle.element_core.specs.declared.form.Form.TheVariants.{HumanReadable}
+pub use Rattle.element_core.specs.declared.form.Form.TheVariants.{HumanReadable, Pairs}
 pub use Rattle.command_core.specs.Printed.{AreScanned, SaysElements, labels_answers}
 use Rattle.std.specs.Prelude.{◌≡◌, ◌≢◌, ◌<◌, ℕ, List, Result, Ok, Err, length, slice_index, slice_set}
 use Rattle.ean_code.specs.Spelling.{IsGtinOf}

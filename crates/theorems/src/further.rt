@@ -1,8 +1,8 @@
-//! Theorems more: a check digit, a drawn label without its sheet, and the call that the program makes.
-ghost use Rattle.std.specs.Prelude.{◌≡◌, ◌↔◌, ◌≤◌, ◌++◌, ◌∷◌, ℕ, [], IfOk, List, length, map};
-ghost use Rattle.theorems.specs.Words.{AllZip, AreAnswersOf, AreAsciiDigits, Cells, Drawn, Entry, FitsCell, IsAnswer, IsChecked, IsDrawn, IsElements, IsGrid, IsRow, Label, Reads, Said, bar_dots, digits_of, dots_of, label_answer, label_text, served};
+//! Theorems more: a check digit, scanner texts, a drawn label without its sheet, and the call that the program makes.
+ghost use Rattle.std.specs.Prelude.{◌≡◌, ◌⊎◌, ◌↔◌, ◌<◌, ◌≤◌, ◌-◌, ◌++◌, ◌∷◌, ℕ, [], IfOk, List, codes, length, map};
+ghost use Rattle.theorems.specs.Words.{AllZip, AreAnswersOf, AreAsciiDigits, Cells, Drawn, Entry, FitsCell, IsAnswer, IsChecked, IsDrawn, IsElements, IsGrid, IsMessageLine, IsRefusedBy, IsRow, IsUpceOf, Label, MessageSays, Pairs, Reads, Said, bar_dots, digits_of, dots_of, gtin_entry, label_answer, label_text, line_text, pairs_text, served};
 
-use element_core::Year;
+use element_core::{Form, Line, Year};
 use hub_core::{Gate, ServeFault};
 use lane_core::Delivery;
 use scan_core::Runs;
@@ -19,6 +19,22 @@ pub fn check_digit(payload: &[u8]) -> u8
     ensures { IsChecked (digits_of payload.now ++ result ∷ []) }
 {
     digits_core::check_digit(payload)
+}
+
+/// A scanner text has exactly one answer line. Texts with one line of pairs say the same elements, or are refused alike. The eight
+/// digits under a UPC-E symbol, behind `]E0`, say the GTIN that the symbol carries.
+pub fn message_line(form: Form, text: &[u8], year: Year) -> Line
+    ensures one { (line : List ℕ) → IsMessageLine form year text.now line ↔ (line ≡ line_text result) }
+    ensures pairs { (year : ℕ) (text more line : List ℕ) → IsMessageLine Pairs year text line → IsMessageLine Pairs year more line
+        → ((word : List ℕ) × (es : List Entry) × (line ≡ word ++ (32 ∷ pairs_text es)) × MessageSays year text word es × MessageSays year more word es)
+        ⊎ (IsRefusedBy year text line × IsRefusedBy year more line) }
+    ensures upce { (year : ℕ) (six gtin : List ℕ) (check : ℕ) → AreAsciiDigits six → (48 ≤ check) × (check < 58) → IsUpceOf (digits_of six) (check - 48) gtin
+        → MessageSays year (codes "]E0" ++ (48 ∷ six) ++ check ∷ []) (codes "]E0") (gtin_entry gtin ∷ []) }
+{
+    message_core::one_message_line();
+    message_core::pairs_say_elements();
+    message_core::upce_is_expanded();
+    message_core::message_line(form, text, year)
 }
 
 /// A row with the dots of what is drawn of a label answers that label, and nothing else.

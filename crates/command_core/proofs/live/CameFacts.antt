@@ -1,5 +1,5 @@
 -- How far a live input has come, by the steps that it takes.
-use Rattle.std.proofs.Common.{◌≡◌, ◌≢◌, ◌<◌, ◌≤◌, ◌++◌, ◌∙◌, ◌∷◌, ⊎_elim, Bool, Err, List, None, Ok, Option, Result, Some, [], ap, append-nil, append_assoc, arith, false, get_or, length, length-append, refl, set, subst, sym, true, vec_capacity, ℕ}
+use Rattle.std.proofs.Common.{Global, Vec, ◌≡◌, ◌≢◌, ◌<◌, ◌≤◌, ◌++◌, ◌∙◌, ◌∷◌, ⊎_elim, Bool, Err, List, None, Ok, Option, Result, Some, [], ap, append-nil, append_assoc, arith, false, get_or, length, length-append, refl, set, subst, sym, true, vec_capacity, ℕ}
 use Rattle.std.specs.List.{slice_get}
 use Rattle.std.proofs.lemmas.Bool.{cases_eq}
 use Rattle.std.proofs.lemmas.Grind.{get_or-set_at}
@@ -17,7 +17,7 @@ use Rattle.command_core.specs.live.Replies.{most_rows}
 use Rattle.command_core.specs.inner.Turns.{IsEnded, IsOneMore, IsRoomier}
 use Rattle.command_core.specs.declared.live.fault.LiveFault.{LiveFault}
 use Rattle.command_core.specs.declared.live.fault.LiveFault.TheVariants.{NoMemory}
-use Rattle.element_core.specs.declared.form.Form.{Form}
+use Rattle.command_core.specs.declared.live.manner.Manner.{Manner}
 use Rattle.command_core.specs.declared.live.place.Place.{Place}
 use Rattle.command_core.specs.declared.live.place.Place.TheVariants as place
 use Rattle.command_core.specs.declared.live.record.LineFault.{LineFault}
@@ -25,7 +25,7 @@ use Rattle.command_core.specs.declared.live.record.LineFault.TheVariants as line
 use Rattle.command_core.specs.declared.live.record.Record.TheVariants as read
 use Rattle.command_core.specs.declared.live.waiting.Waiting.{Waiting}
 use Rattle.command_core.proofs.live.GrowFacts.{grows_more, grows_same, more_here, more_other, stands_grow}
-use Rattle.command_core.proofs.live.KeepFacts.{blank_taken, refused_taken, row_taken, spent_taken, still_kept}
+use Rattle.command_core.proofs.live.KeepFacts.{blank_taken, message_taken, refused_taken, row_taken, spent_taken, still_kept}
 use Rattle.command_core.proofs.live.TurnFacts.{item_kept, item_set}
 
 -- ---- the lanes
@@ -76,6 +76,7 @@ still_in_turn lanes lane w v at first next (place.Row l number) is = ⊎_elim
     ))
     (λ (e : l ≢ lane). (is.0, omega (arith, is.1, length-set lanes lane v), item_kept lanes lane l v e ∙ is.2, is.3, is.4))
     (cases_eq l lane)
+still_in_turn lanes lane w v at first next (place.Message l text) is = tt
 still_in_turn lanes lane w v at first next (place.Refused l fault) is = tt
 
 -- a row more of a lane
@@ -166,6 +167,7 @@ ready given brought lanes a even (place.Row l number) is =
     let i = a.each l w is.2 in
     let same = even_at given brought l even (omega (arith, is.1, a.rows)) (omega (arith, is.1, a.deliveries)) in
     (w, is.1, is.2, is.3, omega (arith, is.4, same, i.next, i.first, ap length i.whole, length-append i.written w.deliveries.items))
+ready given brought lanes a even (place.Message l text) is = tt
 ready given brought lanes a even (place.Refused l fault) is = tt
 
 -- the turn has ended
@@ -194,14 +196,14 @@ turn_ended given brought lanes new a even count each = record {
 -- ---- steps
 
 -- after the place of a row was kept
-abbrev pub CameKept : Form → List Event → ℕ → List ℕ → Result Bool AllocError → List Waiting → List Place → Held → Option LiveFault → List (List (List ℕ))
+abbrev pub CameKept : Manner → List Event → ℕ → List ℕ → Result Bool AllocError → List Waiting → List Place → Held → Option LiveFault → List (List (List ℕ))
     → List (List Plain) → Type 0
 CameKept f events lane row (Ok true) lanes places h stopped given brought =
     HasRoom lane given × HasCome f events lanes places (without_line h) stopped (with_more lane row given) brought
 CameKept f events lane row (Ok false) lanes places h stopped given brought = HasCome f events lanes places (without_line h) stopped given brought
 CameKept f events lane row (Err refused) lanes places h stopped given brought = HasCome f events lanes places h stopped given brought
 
-module _ (f : Form) (events : List Event) (lanes : List Waiting) (places : List Place) (h : Held) (stopped : Option LiveFault) (given : List (List (List ℕ)))
+module _ (f : Manner) (events : List Event) (lanes : List Waiting) (places : List Place) (h : Held) (stopped : Option LiveFault) (given : List (List (List ℕ)))
     (brought : List (List Plain)) where
   pub came_blank : (count : ℕ) → HoldsRecord (length lanes) h count read.Blank → HasCome f events lanes places h stopped given brought
       → HasCome f events lanes places (without_line h) stopped given brought
@@ -221,6 +223,17 @@ module _ (f : Form) (events : List Event) (lanes : List Waiting) (places : List 
     turn = All-push (IsInTurn lanes) places (place.Refused lane fault) c.turn tt;
     few = c.few;
     keeps = λ p. refused_taken (length lanes) f given brought events places h count lane fault found (c.keeps p);
+    stands = record { prompt = c.stands.prompt; front = c.stands.front; ended = c.stands.ended; answered = c.stands.answered };
+  }
+
+  pub came_message : (count : ℕ) (lane : ℕ) (text : Vec ℕ Global) → HoldsRecord (length lanes) h count (read.Message lane text)
+      → HasCome f events lanes places h stopped given brought
+      → HasCome f events lanes (places ++ place.Message lane text ∷ []) (without_line h) stopped given brought
+  came_message count lane text found c = record {
+    waiting = c.waiting;
+    turn = All-push (IsInTurn lanes) places (place.Message lane text) c.turn tt;
+    few = c.few;
+    keeps = λ p. message_taken (length lanes) f given brought events places h count lane text found (c.keeps p);
     stands = record { prompt = c.stands.prompt; front = c.stands.front; ended = c.stands.ended; answered = c.stands.answered };
   }
 

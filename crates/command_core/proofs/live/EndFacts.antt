@@ -29,7 +29,7 @@ use Rattle.command_core.specs.live.Lived.{Lived}
 use Rattle.command_core.specs.declared.live.answering.LiveTerms.{LiveTerms}
 use Rattle.command_core.specs.declared.live.fault.LiveFault.{LiveFault}
 use Rattle.command_core.specs.declared.live.fault.LiveFault.TheVariants as fault
-use Rattle.element_core.specs.declared.form.Form.{Form}
+use Rattle.command_core.specs.declared.live.manner.Manner.{Manner}
 use Rattle.command_core.specs.declared.live.place.Place.{Place}
 use Rattle.command_core.specs.declared.live.waiting.Waiting.{Waiting}
 use Rattle.command_core.proofs.live.GrowFacts.{got_more}
@@ -60,7 +60,7 @@ nothing_front L records before after is =
     let none = empty_before before after is in
     ([], records (pieces_of (was_read before)), [], [], refl, tt, sym (append-nil (was_written before) ∙ ap was_written none))
 
-pub come_at_first : (f : Form) (n : ℕ) (lanes : List Waiting) (places : List Place) (h : Held) (stopped : Option LiveFault) → length lanes ≡ n → n < 256
+pub come_at_first : (f : Manner) (n : ℕ) (lanes : List Waiting) (places : List Place) (h : Held) (stopped : Option LiveFault) → length lanes ≡ n → n < 256
     → All IsFresh lanes → places ≡ [] → h ≡ nothing_held → stopped ≡ None
     → HasCome f [] lanes places h stopped (replicate n []) (replicate n [])
 come_at_first f n lanes places h stopped count few fresh none held going = record {
@@ -135,9 +135,10 @@ some_one : {X : Type 0} {x y : X} → Some x ≡ Some y → x ≡ y
 some_one is = cc
 
 -- what was brought of a row that was given is the answer to the row
-pub tells_reply : (year : ℕ) (f : Form) (given : List (List (List ℕ))) (brought : List (List Plain)) → ServedByPlace → AreServedFirst year given brought
-    → (r : Reply) (t : List ℕ) → TellsReply f given brought r t → IsReply year f r t
-tells_reply year f given brought law first (Row lane number widths) t is =
+pub tells_reply : (f : Manner) (given : List (List (List ℕ))) (brought : List (List Plain)) → ServedByPlace → AreServedFirst f.year given brought
+    → (r : Reply) (t : List ℕ) → TellsReply f given brought r t → IsReply f.year f.form r t
+tells_reply f given brought law first (Row lane number widths) t is =
+    let year = f.year in
     let rows = get_or given lane [] in
     let list = get_or (served year given) lane [] in
     let x = is.1.0 in
@@ -148,10 +149,10 @@ tells_reply year f given brought law first (Row lane number widths) t is =
     let row : get_or rows number [] ≡ widths = get_or_from_slice_get rows number widths [] is.0 in
     let same : x ≡ plain_of lane number year widths = some_one (sym there ∙ place.2 low ∙ ap (λ ws. Some (plain_of lane number year ws)) row) in
     (is.1.1, subst (λ (y : Plain). IsAnswer y.widths y.year is.1.1) same is.1.3, is.1.4)
-tells_reply year f given brought law first (Line line) t is = is
+tells_reply f given brought law first (Line told) t is = is
 
 -- at the end of the input all pieces are answered
-pub all_answered : (lanes : ℕ) (f : Form) (given : List (List (List ℕ))) (brought : List (List Plain)) (events : List Event) (h : Held)
+pub all_answered : (lanes : ℕ) (f : Manner) (given : List (List (List ℕ))) (brought : List (List Plain)) (events : List Event) (h : Held)
     → (k : KeepsPlaces lanes f given brought events [] h) → held_line h ≡ None → h.has_ended ≡ true
     → AnswersBy (TellsReply f given brought) (replies_to (line_meant lanes) (pieces_of (was_read events))) (was_written events)
 all_answered lanes f given brought events h k none ended =

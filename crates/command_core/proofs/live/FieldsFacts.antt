@@ -1,22 +1,26 @@
 -- Lines and their fields.
-use Rattle.std.proofs.Common.{◌≡◌, ◌<◌, ◌+◌, ◌-◌, ◌++◌, ◌==◌, ◌∙◌, ◌∷◌, All, Bool, List, None, Some, Err, [], ap, arith, cond, drop, false, if◌then◌else◌, length, length-drop, nat_lt, refl, take, true, ℕ}
+use Rattle.std.proofs.Common.{◌≡◌, ◌<◌, ◌≤◌, ◌+◌, ◌-◌, ◌++◌, ◌==◌, ◌∙◌, ◌∷◌, All, Bool, List, None, Some, Err, [], ap, arith, cond, drop, false, if◌then◌else◌, length, length-drop, nat_lt, refl, take, true, ℕ}
 use Rattle.std.specs.List.{position_or_len}
 use Rattle.std.proofs.lemmas.Bool.{false_from_ne_true}
 use Rattle.std.proofs.lemmas.List.{take_all}
 use Rattle.std.proofs.lemmas.List.Splits.{length-slice_split, slice_split_first, slice_split_none}
 use Rattle.std.proofs.lemmas.List.Sums.{fails_before_first, position_or_len_is}
 use Rattle.memchr.specs.Find.{IsFirstByte, is_byte}
-use Rattle.command_core.specs.live.Replies.{refusal_line}
-use Rattle.command_core.specs.live.Text.{fields_in, fields_meant, line_fault_text, text_meant, without_return}
+use Rattle.command_core.specs.live.Replies.{unnumbered_line}
+use Rattle.command_core.specs.live.Replies.Told.{Refusal}
+use Rattle.command_core.specs.live.Text.{fields_in, is_comma, line_fault_text, record_in, text_meant, without_return}
 use Rattle.command_core.specs.declared.live.record.LineFault.TheVariants as line_fault
 use Rattle.wire_core.specs.Lines.{most_line}
 
-abbrev is_comma : ℕ → Bool
-is_comma b = b == 44
-
-comma_at : (xs : List ℕ) (k : ℕ) → IsFirstByte (is_byte 44) xs (Some k) → (k < length xs) × (position_or_len is_comma xs ≡ k)
+pub comma_at : (xs : List ℕ) (k : ℕ) → IsFirstByte (is_byte 44) xs (Some k) → (k < length xs) × (position_or_len is_comma xs ≡ k)
 comma_at xs k found = let high = found.0.high in
     (high, position_or_len_is is_comma xs k 0 (omega (arith, high)) (λ j low. false_from_ne_true _ (found.0.before j (omega arith) low)) (λ _. found.1))
+
+pub past_end : (xs : List ℕ) → IsFirstByte (is_byte 44) xs None → length xs ≤ position_or_len is_comma xs
+past_end xs none =
+    let past : position_or_len is_comma xs ≡ length xs = position_or_len_is is_comma xs (length xs) 0 (omega arith)
+    (λ j low. false_from_ne_true _ (none j (omega arith) low)) (λ low. absurd (omega (arith, low))) in
+    omega (arith, past)
 
 no_comma : (xs : List ℕ) → IsFirstByte (is_byte 44) xs None → All (λ b. is_comma b ≡ false) xs
 no_comma xs none =
@@ -51,8 +55,7 @@ return_cut (a ∷ c ∷ front) b = ap (λ t. a ∷ t) (return_cut (c ∷ front) 
 
 -- what a line with a byte means
 pub byte_meant : (lanes : ℕ) (t : List ℕ) → 0 < length t
-    → text_meant lanes t ≡ Some (if nat_lt most_line (length t) then Err (refusal_line None (line_fault_text line_fault.InputSize)) else fields_meant lanes
-    (fields_in t))
+    → text_meant lanes t ≡ Some (if nat_lt most_line (length t) then Err (Refusal (unnumbered_line None (line_fault_text line_fault.InputSize))) else record_in lanes t)
 byte_meant lanes [] some = absurd (omega (arith, some))
 byte_meant lanes (b ∷ t) some = refl
 

@@ -14,7 +14,7 @@ use Rattle.command_core.specs.live.Replies.{Reply, replies_to}
 use Rattle.command_core.specs.live.Replies.Reply.{Row, Line}
 use Rattle.command_core.specs.live.Text.{line_meant}
 use Rattle.command_core.specs.declared.live.fault.LiveFault.{LiveFault}
-use Rattle.element_core.specs.declared.form.Form.{Form}
+use Rattle.command_core.specs.declared.live.manner.Manner.{Manner}
 use Rattle.command_core.proofs.live.LogFacts.{answers_weaker, front_weaker, prompt_weaker}
 
 -- each list has more at its end, or is as it was
@@ -68,13 +68,13 @@ pub got_grown : {X : Type 0} (old new : List (List X)) (l n : ℕ) (x : X) → G
     → slice_get (get_or new l []) n ≡ Some x
 got_grown old new l n x grows at = let g = grows l in ap (λ xs. slice_get xs n) g.1 ∙ got_more (get_or old l []) g.0 n x at
 
-module _ (f : Form) (given given' : List (List (List ℕ))) (brought brought' : List (List Plain)) (more : Grows given given') (others : Grows brought brought')
+module _ (f : Manner) (given given' : List (List (List ℕ))) (brought brought' : List (List Plain)) (more : Grows given given') (others : Grows brought brought')
   where
     pub tells_grow : (r : Reply) (t : List ℕ) → TellsReply f given brought r t → TellsReply f given' brought' r t
     tells_grow (Row lane number widths) t is =
         let x = is.1 in
         (got_grown given given' lane number widths more is.0, (x.0, x.1, got_grown brought brought' lane number x.0 others x.2, x.3, x.4))
-    tells_grow (Line line) t is = is
+    tells_grow (Line told) t is = is
 
     pub stands_grow : (lanes : ℕ) (events : List Event) (h : Held) (stopped : Option LiveFault) → Stands lanes f given brought events h stopped
         → Stands lanes f given' brought' events h stopped

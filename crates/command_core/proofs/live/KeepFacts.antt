@@ -1,5 +1,5 @@
 -- What a live input keeps of its lines and their answers, by the steps that it takes.
-use Rattle.std.proofs.Common.{◌≡◌, ◌≢◌, ◌<◌, ◌-◌, ◌++◌, ◌∙◌, ◌∷◌, ⊎_elim, All, Err, List, None, Ok, Option, Some, [], ap, append-nil, append_assoc, arith, false, get_or, length, length-append, nat_eq, nat_lt, refl, subst, sym, take, true, ℕ}
+use Rattle.std.proofs.Common.{Global, Vec, ◌≡◌, ◌≢◌, ◌<◌, ◌-◌, ◌++◌, ◌∙◌, ◌∷◌, ⊎_elim, All, Err, List, None, Ok, Option, Some, [], ap, append-nil, append_assoc, arith, false, get_or, length, length-append, nat_eq, nat_lt, refl, subst, sym, take, true, ℕ}
 use Rattle.std.specs.List.{AllZip, concat, filter_map, slice_get}
 use Rattle.std.proofs.Math.Seq.{take-append_seam}
 use Rattle.std.proofs.lemmas.Bool.{cases_eq, cond-false, cond-true, eqb-true, le-ltb, lt-ltb}
@@ -13,19 +13,21 @@ use Rattle.wire_core.specs.Lines.{Held, TakesLines, arrived, held_line, pieces_o
 use Rattle.wire_core.proofs.PieceFacts.{lines_are_pieces}
 use Rattle.command_core.specs.live.Answering.{AnswersBy, BeginsBy, whole_lines}
 use Rattle.command_core.specs.inner.Came.{AreWaiting, IsPlaceOf, KeepsPlaces, Stands, TellsPlace, TellsReply, WasGiven}
-use Rattle.command_core.specs.inner.Meaning.{HoldsRecord}
-use Rattle.command_core.specs.live.Replies.{Reply, numbers_after, most_rows, refusal_line, replies_from, replies_to, reply_to}
+use Rattle.command_core.specs.inner.Meaning.{HoldsRecord, IsRecord}
+use Rattle.command_core.specs.live.Replies.{Reply, Told, numbers_after, most_rows, unnumbered_line, replies_from, replies_to, reply_to}
 use Rattle.command_core.specs.inner.Replies.{numbers_after_lines}
 use Rattle.command_core.specs.live.Replies.Reply.{Row, Line}
+use Rattle.command_core.specs.live.Replies.Told.{Refusal, Message}
 use Rattle.command_core.specs.answers.Reports.{numbered_line}
-use Rattle.command_core.specs.live.Text.{HasEnded, line_fault_text, line_meant}
+use Rattle.command_core.specs.live.Text.{HasEnded, IsTold, line_fault_text, line_meant}
 use Rattle.command_core.specs.declared.live.fault.LiveFault.{LiveFault}
 use Rattle.command_core.specs.declared.live.fault.LiveFault.TheVariants.{ReadFault}
-use Rattle.element_core.specs.declared.form.Form.{Form}
+use Rattle.command_core.specs.declared.live.manner.Manner.{Manner}
 use Rattle.command_core.specs.declared.live.place.Place.{Place}
 use Rattle.command_core.specs.declared.live.place.Place.TheVariants as place
 use Rattle.command_core.specs.declared.live.record.LineFault.{LineFault}
 use Rattle.command_core.specs.declared.live.record.LineFault.TheVariants as line_fault
+use Rattle.command_core.specs.declared.live.record.Record.{Record}
 use Rattle.command_core.specs.declared.live.record.Record.TheVariants as read
 use Rattle.command_core.specs.declared.live.waiting.Waiting.{Waiting}
 use Rattle.record_core.proofs.Beside.{beside-append, zip_more}
@@ -34,7 +36,7 @@ use Rattle.command_core.proofs.live.LogFacts.{answers_begin, answers_weaker, fro
 use Rattle.command_core.proofs.live.MeaningFacts.{record_meant}
 use Rattle.command_core.proofs.live.ReplyFacts.{later_other, later_same, next_numbers, no_reply, one_reply, replies_more, same_numbers}
 
-module _ (lanes : ℕ) (f : Form) (given : List (List (List ℕ))) (brought : List (List Plain)) (events : List Event) where
+module _ (lanes : ℕ) (f : Manner) (given : List (List (List ℕ))) (brought : List (List Plain)) (events : List Event) where
   -- a line that means nothing was taken
   pub blank_taken : (places : List Place) (h : Held) (count : ℕ) → HoldsRecord lanes h count read.Blank → KeepsPlaces lanes f given brought events places h
       → KeepsPlaces lanes f given brought events places (without_line h)
@@ -53,26 +55,39 @@ module _ (lanes : ℕ) (f : Form) (given : List (List (List ℕ))) (brought : Li
         answers = k.answers;
       }
 
+  -- a record in whose place something is told was taken
+  told_taken : (places : List Place) (h : Held) (count : ℕ) (r : Record) (p : Place) (told : Told) → HoldsRecord lanes h count r
+      → ((line : List ℕ) → IsRecord lanes r (line_meant lanes line) → line_meant lanes line ≡ Some (Err told)) → IsPlaceOf p (Line told)
+      → KeepsPlaces lanes f given brought events places h → KeepsPlaces lanes f given brought events (places ++ p ∷ []) (without_line h)
+  told_taken places h count r p told found means same k =
+      let t = lines_are_pieces.taken (was_read events) k.taken h found.0 k.lines found.1 in
+      let is : line_meant lanes t.0 ≡ Some (Err told) = means t.0 (record_meant lanes h count r t.0 found t.1) in
+      record {
+        taken = k.taken ++ t.0 ∷ [];
+        done = k.done;
+        turn = k.turn ++ Line told ∷ [];
+        lines = t.2;
+        replies = one_reply (line_meant lanes) k.taken t.0 (Err told) is ∙ ap (λ rs. rs ++ Line told ∷ []) k.replies
+            ∙ append_assoc k.done k.turn (Line told ∷ []);
+        numbers = λ l. ap (λ ns. ns l) (next_numbers (line_meant lanes) k.taken t.0 (Err told) is) ∙ k.numbers l;
+        kept = zip_more IsPlaceOf places k.turn p (Line told) k.kept same;
+        rows = All-push (WasGiven given) k.turn (Line told) k.rows tt;
+        answers = k.answers;
+      }
+
   -- a record that is refused was taken
   pub refused_taken : (places : List Place) (h : Held) (count : ℕ) (lane : Option ℕ) (fault : LineFault) → HoldsRecord lanes h count (read.Refused lane fault)
       → KeepsPlaces lanes f given brought events places h
       → KeepsPlaces lanes f given brought events (places ++ place.Refused lane fault ∷ []) (without_line h)
-  refused_taken places h count lane fault found k =
-      let t = lines_are_pieces.taken (was_read events) k.taken h found.0 k.lines found.1 in
-      let text = refusal_line lane (line_fault_text fault) in
-      let is : line_meant lanes t.0 ≡ Some (Err text) = record_meant lanes h count (read.Refused lane fault) t.0 found t.1 in
-      record {
-        taken = k.taken ++ t.0 ∷ [];
-        done = k.done;
-        turn = k.turn ++ Line text ∷ [];
-        lines = t.2;
-        replies = one_reply (line_meant lanes) k.taken t.0 (Err text) is ∙ ap (λ rs. rs ++ Line text ∷ []) k.replies
-            ∙ append_assoc k.done k.turn (Line text ∷ []);
-        numbers = λ l. ap (λ ns. ns l) (next_numbers (line_meant lanes) k.taken t.0 (Err text) is) ∙ k.numbers l;
-        kept = zip_more IsPlaceOf places k.turn (place.Refused lane fault) (Line text) k.kept refl;
-        rows = All-push (WasGiven given) k.turn (Line text) k.rows tt;
-        answers = k.answers;
-      }
+  refused_taken places h count lane fault found k = told_taken places h count (read.Refused lane fault) (place.Refused lane fault)
+      (Refusal (unnumbered_line lane (line_fault_text fault))) found (λ line is. is) refl k
+
+  -- a message was taken
+  pub message_taken : (places : List Place) (h : Held) (count : ℕ) (lane : ℕ) (text : Vec ℕ Global) → HoldsRecord lanes h count (read.Message lane text)
+      → KeepsPlaces lanes f given brought events places h
+      → KeepsPlaces lanes f given brought events (places ++ place.Message lane text ∷ []) (without_line h)
+  message_taken places h count lane text found k = told_taken places h count (read.Message lane text) (place.Message lane text)
+      (Message lane text.items) found (λ line is. is) refl k
 
   -- a row of a lane that has had all its numbers was taken
   pub spent_taken : (places : List Place) (h : Held) (count : ℕ) (lane : ℕ) (row : List ℕ) → HoldsRecord lanes h count (read.Row lane row)
@@ -81,28 +96,28 @@ module _ (lanes : ℕ) (f : Form) (given : List (List (List ℕ))) (brought : Li
   spent_taken places h count lane row found all k =
       let t = lines_are_pieces.taken (was_read events) k.taken h found.0 k.lines found.1 in
       let meant = line_meant lanes in
-      let text = refusal_line (Some lane) (line_fault_text line_fault.Spent) in
+      let text = unnumbered_line (Some lane) (line_fault_text line_fault.Spent) in
       let is : meant t.0 ≡ Some (Ok (lane, row)) = (record_meant lanes h count (read.Row lane row) t.0 found t.1).0 in
       let ns = numbers_after_lines meant k.taken in
-      let spent : reply_to ns (Ok (lane, row)) ≡ Line text =
-      cond-false (nat_lt (ns lane) most_rows) (Row lane (ns lane) row) (Line text) (le-ltb (ns lane) most_rows (omega (arith, k.numbers lane, all))) in
+      let spent : reply_to ns (Ok (lane, row)) ≡ Line (Refusal text) =
+      cond-false (nat_lt (ns lane) most_rows) (Row lane (ns lane) row) (Line (Refusal text)) (le-ltb (ns lane) most_rows (omega (arith, k.numbers lane, all))) in
       record {
         taken = k.taken ++ t.0 ∷ [];
         done = k.done;
-        turn = k.turn ++ Line text ∷ [];
+        turn = k.turn ++ Line (Refusal text) ∷ [];
         lines = t.2;
         replies = one_reply meant k.taken t.0 (Ok (lane, row)) is ∙ ap (λ r. replies_to meant k.taken ++ r ∷ []) spent
-            ∙ ap (λ rs. rs ++ Line text ∷ []) k.replies ∙ append_assoc k.done k.turn (Line text ∷ []);
+            ∙ ap (λ rs. rs ++ Line (Refusal text) ∷ []) k.replies ∙ append_assoc k.done k.turn (Line (Refusal text) ∷ []);
         numbers = λ l. ap (λ n. n l) (next_numbers meant k.taken t.0 (Ok (lane, row)) is ∙ ap (numbers_after ns) spent) ∙ k.numbers l;
-        kept = zip_more IsPlaceOf places k.turn (place.Refused (Some lane) line_fault.Spent) (Line text) k.kept refl;
-        rows = All-push (WasGiven given) k.turn (Line text) k.rows tt;
+        kept = zip_more IsPlaceOf places k.turn (place.Refused (Some lane) line_fault.Spent) (Line (Refusal text)) k.kept refl;
+        rows = All-push (WasGiven given) k.turn (Line (Refusal text)) k.rows tt;
         answers = k.answers;
       }
 
   given_still : (lane : ℕ) (row : List ℕ) → lane < length given → (r : Reply) → WasGiven given r → WasGiven (with_more lane row given) r
   given_still lane row low (Row l n widths) is = let g = grows_more given lane row low l in ap (λ xs. slice_get xs n) g.1
       ∙ got_more (get_or given l []) g.0 n widths is
-  given_still lane row low (Line line) is = tt
+  given_still lane row low (Line told) is = tt
 
   -- a row was taken under its lane's next number
   pub row_taken : (places : List Place) (h : Held) (count : ℕ) (lane number : ℕ) (row : List ℕ) → HoldsRecord lanes h count (read.Row lane row)
@@ -162,12 +177,14 @@ module _ (lanes : ℕ) (f : Form) (given : List (List (List ℕ))) (brought : Li
       let i = a.each l w (ap (λ k. slice_get ws k) is.0 ∙ at) in
       let there : slice_get (get_or brought l []) n ≡ Some x =
       ap (λ bs. slice_get bs n) i.whole ∙ got_after i.written w.deliveries.items (number - w.first) n x (omega (arith, low, i.first, is.1)) got in
-      let same : t ≡ numbered_line f l n answer = line ∙ ap (λ k. numbered_line f k number answer) (sym is.0)
-      ∙ ap (λ m. numbered_line f l m answer) (sym is.1) in
+      let same : t ≡ numbered_line f.form l n answer = line ∙ ap (λ k. numbered_line f.form k number answer) (sym is.0)
+      ∙ ap (λ m. numbered_line f.form l m answer) (sym is.1) in
       (was, (x, answer, there, answers, same))
-  says_tells ws a (place.Row lane number) (Line line) t is was says = absurd is
+  says_tells ws a (place.Row lane number) (Line told) t is was says = absurd is
+  says_tells ws a (place.Message lane text) (Row l n widths) t is was says = absurd is
+  says_tells ws a (place.Message lane text) (Line told) t is was says = subst (λ k. IsTold f.year f.form k t) (sym is) says
   says_tells ws a (place.Refused lane fault) (Row l n widths) t is was says = absurd is
-  says_tells ws a (place.Refused lane fault) (Line line) t is was says = says ∙ sym is
+  says_tells ws a (place.Refused lane fault) (Line told) t is was says = subst (λ k. IsTold f.year f.form k t) (sym is) says
 
   zip_tells : (ws : List Waiting) → AreWaiting given brought ws → (places : List Place) (turn : List Reply) (texts : List (List ℕ))
       → AllZip IsPlaceOf places turn → All (WasGiven given) turn → AllZip (TellsPlace f ws) places texts → AllZip (TellsReply f given brought) turn texts
@@ -299,7 +316,7 @@ no_bytes : (bytes : List ℕ) → nat_eq (length bytes) 0 ≡ true → bytes ≡
 no_bytes [] is = refl
 no_bytes (b ∷ bytes) is = absurd (omega (arith, eqb-true (length (b ∷ bytes)) 0 is))
 
-module _ (lanes : ℕ) (f : Form) (given : List (List (List ℕ))) (brought : List (List Plain)) (events : List Event) where
+module _ (lanes : ℕ) (f : Manner) (given : List (List (List ℕ))) (brought : List (List Plain)) (events : List Event) where
   pub stands_read : (h : Held) (bytes : List ℕ) (stopped : Option LiveFault) → KeepsPlaces lanes f given brought events [] h → held_line h ≡ None → h.has_ended
       ≡ false → (stopped ≡ Some ReadFault → ⊥)
       → Stands lanes f given brought events h stopped → Stands lanes f given brought (events ++ Read bytes ∷ []) (arrived h bytes) stopped

@@ -3,7 +3,8 @@ use Rattle.std.proofs.Common.{◌≡◌, ◌<◌, ◌≤◌, ◌+◌, ◌==◌, 
 use Rattle.std.proofs.lemmas.Bool.{cases_Bool, cond-true, cond_both, lt-ltb}
 use Rattle.wire_core.specs.Lines.{Held, IsLine, most_line}
 use Rattle.command_core.specs.inner.Meaning.{HoldsRecord, IsRecord}
-use Rattle.command_core.specs.live.Replies.{refusal_line}
+use Rattle.command_core.specs.live.Replies.{unnumbered_line}
+use Rattle.command_core.specs.live.Replies.Told.{Refusal}
 use Rattle.command_core.specs.live.Text.{line_fault_text, line_meant, without_return}
 use Rattle.command_core.specs.declared.live.record.LineFault.TheVariants as line_fault
 use Rattle.command_core.specs.declared.live.record.Record.{Record}
@@ -15,7 +16,7 @@ shorter (b ∷ []) = cond_both (b == 13) [] (b ∷ []) (λ t. 1 ≤ length t + 1
 shorter (b ∷ c ∷ line) = omega (arith, shorter (c ∷ line))
 
 long_meant : (lanes : ℕ) (line : List ℕ) → most_line + 1 < length line → line_meant lanes line
-    ≡ Some (Err (refusal_line None (line_fault_text line_fault.InputSize)))
+    ≡ Some (Err (Refusal (unnumbered_line None (line_fault_text line_fault.InputSize))))
 long_meant lanes line long =
     let t = without_return line in
     let many : most_line < length t = omega (arith, long, shorter line) in

@@ -14,14 +14,16 @@ use Rattle.record_core.specs.input.Records.{AreItems}
 use Rattle.record_core.specs.lanes.Feeds.{LaneRow, feed_of, feeds_of, is_lane, lane_row, lanes_meaning, row_or}
 use Rattle.record_core.specs.lanes.Widths.{field_fault, is_number, widths_in}
 use Rattle.command_core.specs.live.Laws.{IsLaneRowLine, LaneLine, LinesAreReport, has_byte, record_lines}
-use Rattle.command_core.specs.live.Replies.{Meant, Numbers, most_rows, numbers_after, one_later, refusal_line, replies_from, reply_to}
+use Rattle.command_core.specs.live.Replies.{Meant, Numbers, Told, most_rows, numbers_after, one_later, unnumbered_line, replies_from, reply_to}
 use Rattle.command_core.specs.live.Replies.Reply.{Row}
-use Rattle.command_core.specs.live.Text.{IsReply, fields_in, fields_meant, line_fault_text, line_meant, row_or_line, text_meant, without_return}
+use Rattle.command_core.specs.live.Replies.Told.{Refusal}
+use Rattle.command_core.specs.live.Text.{IsReply, fields_in, fields_meant, line_fault_text, line_meant, record_in, row_or_line, text_meant, without_return}
 use Rattle.record_core.specs.declared.input.fault.RecordFault.{RecordFault}
 use Rattle.record_core.specs.declared.input.fault.RecordFault.TheVariants as fault
 use Rattle.element_core.specs.declared.form.Form.TheVariants as form
 use Rattle.command_core.specs.declared.live.record.LineFault.TheVariants as line_fault
 use Rattle.command_core.proofs.live.CsvFacts.{lines_are_records}
+use Rattle.command_core.proofs.live.MessageFacts.{row_line}
 use Rattle.command_core.proofs.live.ReplyFacts.{later_other, later_same}
 
 -- ---- what the lines mean
@@ -35,7 +37,7 @@ abbrev meants : List LaneRow → List Meant
 meants rows = map (λ row. Ok row) rows
 
 -- two fields mean a row to `live` where they do to `lanes`
-two_meant : (b : Bool) (o : Option RecordFault) (row found : LaneRow) (line : List ℕ) → Ok row ≡ cond b (row_or o found) (Err fault.BadLane)
+two_meant : (b : Bool) (o : Option RecordFault) (row found : LaneRow) (line : Told) → Ok row ≡ cond b (row_or o found) (Err fault.BadLane)
     → (cond b (row_or_line found.0 o found.1) (Err line) ≡ Ok row) × (b ≡ true) × (found ≡ row)
 two_meant true None row found line is = (cc, refl, cc)
 two_meant true (Some f) row found line is = absurd (cc is)
@@ -44,7 +46,7 @@ two_meant false o row found line is = absurd (cc is)
 module _ (lanes : ℕ) where
   -- what the fields of a line mean
   abbrev line_fields_meant : List ℕ → Meant
-  line_fields_meant line = fields_meant lanes (fields_in line)
+  line_fields_meant line = record_in lanes line
 
   -- of lines that are not too long
   meant_more : (text : List ℕ) (texts : List (List ℕ)) (ms : List Meant) → All IsShort (filter has_byte (text ∷ texts))
@@ -54,7 +56,7 @@ module _ (lanes : ℕ) where
   meant_more (b ∷ text) texts ms short same =
       let few : length (b ∷ text) ≤ most_line = All-head IsShort (b ∷ text) (filter has_byte texts) short in
       let line = b ∷ text in
-      let refused = Err (refusal_line None (line_fault_text line_fault.InputSize)) in
+      let refused = Err (Refusal (unnumbered_line None (line_fault_text line_fault.InputSize))) in
       let here = cond-false (nat_lt most_line (length line)) refused (line_fields_meant line) (le-ltb most_line (length line) few) in
       ap (λ m. m ∷ ms) here ∙ ap (λ ns. line_fields_meant (b ∷ text) ∷ ns) (same (All-tail IsShort (b ∷ text) (filter has_byte texts) short))
 
@@ -69,7 +71,7 @@ module _ (lanes : ℕ) where
   row_meant (lane ∷ []) row is = absurd (cc is)
   row_meant (lane ∷ widths ∷ []) row is =
       let number = digits_value 10 lane in
-      let m = two_meant (is_lane lanes lane) (field_fault widths) row (number, widths_in widths) (refusal_line None (record_fault_text fault.BadLane)) is in
+      let m = two_meant (is_lane lanes lane) (field_fault widths) row (number, widths_in widths) (Refusal (unnumbered_line None (record_fault_text fault.BadLane))) is in
       (m.0, subst (λ (r : LaneRow). r.0 < lanes) m.2 (ltb-true number lanes (and_parts (is_number 2 lane) (nat_lt number lanes) m.1).1))
   row_meant (lane ∷ widths ∷ more ∷ rest) row is = absurd (cc is)
 
@@ -82,7 +84,7 @@ module _ (lanes : ℕ) where
   rows_meant (line ∷ lines) (row ∷ rows) are =
       let here = row_meant (fields_in line) row are.0 in
       let rest = rows_meant lines rows are.1 in
-      (ap (λ m. m ∷ map line_fields_meant lines) here.0 ∙ ap (λ ms. Ok row ∷ ms) rest.0, All-cons (λ (r : LaneRow). r.0 < lanes) row rows here.1 rest.1)
+      (ap (λ m. m ∷ map line_fields_meant lines) (row_line lanes row line are.0 ∙ here.0) ∙ ap (λ ms. Ok row ∷ ms) rest.0, All-cons (λ (r : LaneRow). r.0 < lanes) row rows here.1 rest.1)
 
 -- ---- their answers
 

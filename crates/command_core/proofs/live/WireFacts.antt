@@ -13,7 +13,7 @@ use Rattle.command_core.specs.inner.Stops.{MayStillWrite, TellsEnd, TellsFaults}
 use Rattle.command_core.specs.inner.Turns.{IsEnded}
 use Rattle.command_core.specs.declared.live.fault.LiveFault.{LiveFault}
 use Rattle.command_core.specs.declared.live.fault.LiveFault.TheVariants.{NoMemory, ReadFault, WriteFault}
-use Rattle.element_core.specs.declared.form.Form.{Form}
+use Rattle.command_core.specs.declared.live.manner.Manner.{Manner}
 use Rattle.command_core.specs.declared.live.place.Place.{Place}
 use Rattle.command_core.specs.declared.live.progress.Progress.{Progress}
 use Rattle.command_core.specs.declared.live.waiting.Waiting.{Waiting}
@@ -28,7 +28,7 @@ pub not_read_fault : (stopped : Option LiveFault) → MayStillWrite stopped → 
 not_read_fault stopped opened is = ⊎_elim (λ (e : stopped ≡ None). (let never : ⊥ = cc (e, is) in never))
     (λ (e : stopped ≡ Some NoMemory). (let never : ⊥ = cc (e, is) in never)) opened
 
-module _ (f : Form) (events : List Event) (lanes : List Waiting) (places : List Place) (h : Held) (stopped : Option LiveFault) (given : List (List (List ℕ)))
+module _ (f : Manner) (events : List Event) (lanes : List Waiting) (places : List Place) (h : Held) (stopped : Option LiveFault) (given : List (List (List ℕ)))
     (brought : List (List Plain)) where
   -- all rows of the turn have come back
   pub all_ready : HasCome f events lanes places h stopped given brought → IsEven given brought → All (IsReady lanes) places
@@ -107,7 +107,7 @@ told_stopped a b c d old new (inr by) t = record {
 }
 
 -- so far a live input has come, which had this wire, this form and so many lanes at first
-abbrev Has : {W : Type 0} → (W → W → List Event → Type 0) → (W → Bool) → (W → Bool) → (W → Type 0) → W → Form → ℕ → W → Form → Progress → List (List (List ℕ))
+abbrev Has : {W : Type 0} → (W → W → List Event → Type 0) → (W → Bool) → (W → Bool) → (W → Type 0) → W → Manner → ℕ → W → Manner → Progress → List (List (List ℕ))
     → List (List Plain) → Type 0
 Has did read_failed write_failed at_end start first count wire f p given brought =
     (events : List Event) × did start wire events × IsProgressAt f events p given brought × (f ≡ first)
@@ -115,8 +115,8 @@ Has did read_failed write_failed at_end start first count wire f p given brought
     × TellsEnd p.lines (at_end wire)
 
 -- further rows were taken of it, and its wire and its form stay
-pub took_on : {W : Type 0} (did : W → W → List Event → Type 0) (read_failed write_failed : W → Bool) (at_end : W → Type 0) (start : W) (first : Form)
-    (count : ℕ) (wire now : W) (f form : Form) (old new : Progress) (given more : List (List (List ℕ))) (brought : List (List Plain))
+pub took_on : {W : Type 0} (did : W → W → List Event → Type 0) (read_failed write_failed : W → Bool) (at_end : W → Type 0) (start : W) (first : Manner)
+    (count : ℕ) (wire now : W) (f form : Manner) (old new : Progress) (given more : List (List (List ℕ))) (brought : List (List Plain))
     → now ≡ wire → form ≡ f → new.lines.has_ended ≡ old.lines.has_ended → Has did read_failed write_failed at_end start first count wire f old given brought
     → ((events : List Event) → IsProgressAt f events old given brought → IsProgressAt f events new more brought)
     → ((a b c d : Bool) → TellsFaults a b c d old.stopped → TellsFaults a b c d new.stopped)

@@ -9,12 +9,13 @@ use Rattle.hub_core.specs.Traffics.{HasRoom, with_more}
 use Rattle.wire_core.specs.Events.{Event, was_read, was_written}
 use Rattle.wire_core.specs.Lines.{Held, TakesLines}
 use Rattle.command_core.specs.live.Answering.{AnswersBy, IsFrontBy, IsPromptBy, whole_lines}
-use Rattle.command_core.specs.live.Replies.{Reply, refusal_line, replies_to}
+use Rattle.command_core.specs.live.Replies.{Reply, unnumbered_line, replies_to}
 use Rattle.command_core.specs.inner.Replies.{numbers_after_lines}
 use Rattle.command_core.specs.live.Replies.Reply.{Row, Line}
+use Rattle.command_core.specs.live.Replies.Told.{Refusal, Message}
 use Rattle.command_core.specs.answers.Reports.{numbered_line}
-use Rattle.command_core.specs.live.Text.{HasEnded, line_fault_text, line_meant}
-use Rattle.element_core.specs.declared.form.Form.{Form}
+use Rattle.command_core.specs.live.Text.{HasEnded, IsTold, line_fault_text, line_meant}
+use Rattle.command_core.specs.declared.live.manner.Manner.{Manner}
 use Rattle.command_core.specs.declared.live.fault.LiveFault.{LiveFault}
 use Rattle.command_core.specs.declared.live.fault.LiveFault.TheVariants.{NoMemory, ReadFault, WriteFault}
 use Rattle.command_core.specs.declared.live.place.Place.{Place}
@@ -46,12 +47,14 @@ pub record AreWaiting (given : List (List (List ℕ))) (brought : List (List Pla
 -- the place is of a row that was given in this turn, if it is of a row
 abbrev pub IsInTurn : List Waiting → Place → Type 0
 IsInTurn lanes (place.Row lane number) = (w : Waiting) × (lane < length lanes) × (slice_get lanes lane ≡ Some w) × (w.first ≤ number) × (number < w.next)
+IsInTurn lanes (place.Message lane text) = ⊤
 IsInTurn lanes (place.Refused lane fault) = ⊤
 
 -- the row of a place has been brought
 abbrev pub IsReady : List Waiting → Place → Type 0
 IsReady lanes (place.Row lane number) = (w : Waiting) × (lane < length lanes) × (slice_get lanes lane ≡ Some w) × (w.first ≤ number)
     × (number < w.first + length w.deliveries.items)
+IsReady lanes (place.Message lane text) = ⊤
 IsReady lanes (place.Refused lane fault) = ⊤
 
 -- ---- places and their lines
@@ -59,32 +62,35 @@ IsReady lanes (place.Refused lane fault) = ⊤
 -- the place is kept for this reply
 abbrev pub IsPlaceOf : Place → Reply → Type 0
 IsPlaceOf (place.Row lane number) (Row l n widths) = (l ≡ lane) × (n ≡ number)
-IsPlaceOf (place.Row lane number) (Line line) = ⊥
+IsPlaceOf (place.Row lane number) (Line told) = ⊥
+IsPlaceOf (place.Message lane text) (Row l n widths) = ⊥
+IsPlaceOf (place.Message lane text) (Line told) = told ≡ Message lane text.items
 IsPlaceOf (place.Refused lane fault) (Row l n widths) = ⊥
-IsPlaceOf (place.Refused lane fault) (Line line) = line ≡ refusal_line lane (line_fault_text fault)
+IsPlaceOf (place.Refused lane fault) (Line told) = told ≡ Refusal (unnumbered_line lane (line_fault_text fault))
 
 -- the line of a place, by the deliveries that wait
-abbrev pub TellsPlace : Form → List Waiting → Place → List ℕ → Type 0
+abbrev pub TellsPlace : Manner → List Waiting → Place → List ℕ → Type 0
 TellsPlace f lanes (place.Row lane number) text = (w : Waiting) × (x : Plain) × (a : Answer) × (slice_get lanes lane ≡ Some w) × (w.first ≤ number)
-    × (slice_get w.deliveries.items (number - w.first) ≡ Some x) × IsAnswer x.widths x.year a × (text ≡ numbered_line f lane number a)
-TellsPlace f lanes (place.Refused lane fault) text = text ≡ refusal_line lane (line_fault_text fault)
+    × (slice_get w.deliveries.items (number - w.first) ≡ Some x) × IsAnswer x.widths x.year a × (text ≡ numbered_line f.form lane number a)
+TellsPlace f lanes (place.Message lane said) text = IsTold f.year f.form (Message lane said.items) text
+TellsPlace f lanes (place.Refused lane fault) text = text ≡ unnumbered_line lane (line_fault_text fault)
 
 -- a row of a reply was given
 abbrev pub WasGiven : List (List (List ℕ)) → Reply → Type 0
 WasGiven given (Row lane number widths) = slice_get (slice_index_or given lane []) number ≡ Some widths
-WasGiven given (Line line) = ⊤
+WasGiven given (Line told) = ⊤
 
 -- the line of a reply, by the deliveries that were brought
-abbrev pub TellsReply : Form → List (List (List ℕ)) → List (List Plain) → Reply → List ℕ → Type 0
+abbrev pub TellsReply : Manner → List (List (List ℕ)) → List (List Plain) → Reply → List ℕ → Type 0
 TellsReply f given brought (Row lane number widths) text = (slice_get (slice_index_or given lane []) number ≡ Some widths)
     × ((x : Plain) × (a : Answer) × (slice_get (slice_index_or brought lane []) number ≡ Some x) × IsAnswer x.widths x.year a
-    × (text ≡ numbered_line f lane number a))
-TellsReply f given brought (Line line) text = text ≡ line
+    × (text ≡ numbered_line f.form lane number a))
+TellsReply f given brought (Line told) text = IsTold f.year f.form told text
 
 -- ---- reads and writes
 
 -- of the lines that were taken the first were answered, and the others have their places in this turn
-pub record KeepsPlaces (lanes : ℕ) (f : Form) (given : List (List (List ℕ))) (brought : List (List Plain)) (events : List Event) (places : List Place)
+pub record KeepsPlaces (lanes : ℕ) (f : Manner) (given : List (List (List ℕ))) (brought : List (List Plain)) (events : List Event) (places : List Place)
     (h : Held) : Type 0 where
   pub taken : List (List ℕ)
   pub done : List Reply
@@ -97,7 +103,7 @@ pub record KeepsPlaces (lanes : ℕ) (f : Form) (given : List (List (List ℕ)))
   pub answers : AnswersBy (TellsReply f given brought) done (was_written events)
 
 -- what stands of reads and writes whatever comes
-pub record Stands (lanes : ℕ) (f : Form) (given : List (List (List ℕ))) (brought : List (List Plain)) (events : List Event) (h : Held)
+pub record Stands (lanes : ℕ) (f : Manner) (given : List (List (List ℕ))) (brought : List (List Plain)) (events : List Event) (h : Held)
     (stopped : Option LiveFault) : Type 0 where
   pub prompt : IsPromptBy (TellsReply f given brought) (replies_to (line_meant lanes)) events
   pub front : IsFrontBy (TellsReply f given brought) (replies_to (line_meant lanes)) events
@@ -106,7 +112,7 @@ pub record Stands (lanes : ℕ) (f : Form) (given : List (List (List ℕ))) (bro
       (was_written events)
 
 -- after these reads and writes a live input has come this far
-pub record HasCome (f : Form) (events : List Event) (lanes : List Waiting) (places : List Place) (h : Held) (stopped : Option LiveFault)
+pub record HasCome (f : Manner) (events : List Event) (lanes : List Waiting) (places : List Place) (h : Held) (stopped : Option LiveFault)
     (given : List (List (List ℕ))) (brought : List (List Plain)) : Type 0 where
   pub waiting : AreWaiting given brought lanes
   pub turn : All (IsInTurn lanes) places
@@ -114,7 +120,7 @@ pub record HasCome (f : Form) (events : List Event) (lanes : List Waiting) (plac
   pub keeps : (stopped ≡ Some WriteFault → ⊥) → KeepsPlaces (length lanes) f given brought events places h
   pub stands : Stands (length lanes) f given brought events h stopped
 
-abbrev pub IsProgressAt : Form → List Event → Progress → List (List (List ℕ)) → List (List Plain) → Type 0
+abbrev pub IsProgressAt : Manner → List Event → Progress → List (List (List ℕ)) → List (List Plain) → Type 0
 IsProgressAt f events p given brought = HasCome f events p.lanes.items p.places.items p.lines p.stopped given brought
 
 -- what was taken was given

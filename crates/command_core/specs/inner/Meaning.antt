@@ -1,7 +1,8 @@
 -- Records as they are read of lines.
 use Rattle.std.specs.Prelude.{◌≡◌, ◌<◌, ℕ, List, Option, Some, None, Ok, Err, true, false, length}
 use Rattle.wire_core.specs.Lines.{Held, held_line}
-use Rattle.command_core.specs.live.Replies.{Meant, refusal_line}
+use Rattle.command_core.specs.live.Replies.{Meant, unnumbered_line}
+use Rattle.command_core.specs.live.Replies.Told.{Refusal, Message}
 use Rattle.command_core.specs.live.Text.{line_fault_text, line_meant}
 use Rattle.command_core.specs.declared.live.record.LineFault.TheVariants as line_fault
 use Rattle.command_core.specs.declared.live.record.Record.{Record}
@@ -11,7 +12,8 @@ use Rattle.command_core.specs.declared.live.record.Record.TheVariants as read
 abbrev pub IsRecord : ℕ → Record → Option Meant → Type 0
 IsRecord lanes read.Blank m = m ≡ None
 IsRecord lanes (read.Row lane row) m = (m ≡ Some (Ok (lane, row))) × (lane < lanes)
-IsRecord lanes (read.Refused lane fault) m = m ≡ Some (Err (refusal_line lane (line_fault_text fault)))
+IsRecord lanes (read.Message lane text) m = m ≡ Some (Err (Message lane text.items))
+IsRecord lanes (read.Refused lane fault) m = m ≡ Some (Err (Refusal (unnumbered_line lane (line_fault_text fault))))
 
 -- a line is held, so many bytes of it, and this is the record that it means, whatever front was given up
 abbrev pub HoldsRecord : ℕ → Held → ℕ → Record → Type 0

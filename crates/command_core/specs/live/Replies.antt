@@ -5,19 +5,24 @@ use Rattle.std.specs.List.{filter_map}
 use Rattle.digits_core.specs.Refusals.{refusal_words}
 use Rattle.digits_core.specs.declared.refusal.RefusalKind.TheVariants as refusal
 
--- the line of a refusal: the lane where the record names one, no number, and why it is refused
-abbrev pub refusal_line : Option ℕ → List ℕ → List ℕ
-refusal_line None words = codes "- - " ++ words ++ (10 ∷ [])
-refusal_line (Some lane) words = decimal lane ++ codes " - " ++ words ++ (10 ∷ [])
+-- a line without a number: the lane if the record names one, and why it is refused or what its message says
+abbrev pub unnumbered_line : Option ℕ → List ℕ → List ℕ
+unnumbered_line None words = codes "- - " ++ words ++ (10 ∷ [])
+unnumbered_line (Some lane) words = decimal lane ++ codes " - " ++ words ++ (10 ∷ [])
 
--- what a record means: a row of a lane, or the line that refuses it
+-- what is told of a record that is no row: the line that refuses it, or what this message of a scanner says, of a lane
+pub data Told : Type 0 where
+  Refusal : List ℕ → Told
+  Message : ℕ → List ℕ → Told
+
+-- what a record means: a row of a lane, or what is told in its place
 abbrev pub Meant : Type 0
-Meant = Result (ℕ × List ℕ) (List ℕ)
+Meant = Result (ℕ × List ℕ) Told
 
--- what is written for a record: the answer to this row of a lane under this number, or this line
+-- what is written for a record: the answer to this row of a lane under this number, or what is told in its place
 pub data Reply : Type 0 where
   Row : ℕ → ℕ → List ℕ → Reply
-  Line : List ℕ → Reply
+  Line : Told → Reply
 
 -- the numbers of the lanes' next rows
 abbrev pub Numbers : Type 0
@@ -32,12 +37,12 @@ most_rows = 4294967295
 
 -- a row gets its lane's next number, unless the lane has had all
 abbrev pub reply_to : Numbers → Meant → Reply
-reply_to next (Ok row) = if nat_lt (next row.0) most_rows then Row row.0 (next row.0) row.1 else Line (refusal_line (Some row.0) (refusal_words refusal.Spent))
-reply_to next (Err line) = Line line
+reply_to next (Ok row) = if nat_lt (next row.0) most_rows then Row row.0 (next row.0) row.1 else Line (Refusal (unnumbered_line (Some row.0) (refusal_words refusal.Spent)))
+reply_to next (Err told) = Line told
 
 abbrev pub numbers_after : Numbers → Reply → Numbers
 numbers_after next (Row lane number widths) = one_later lane next
-numbers_after next (Line line) = next
+numbers_after next (Line told) = next
 
 -- what is written for records, in their order
 abbrev pub replies_from : Numbers → List Meant → List Reply

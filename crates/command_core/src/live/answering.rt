@@ -7,6 +7,7 @@ ghost use Rattle.command_core.specs.live.Lived.{Lived};
 
 use crate::live::fault::LiveFault;
 use crate::live::input::{Live, Stopped};
+use crate::live::manner::Manner;
 use element_core::{Form, Year};
 use hub_core::{Ended, Gate, ServeFault, Unstarted, serve_traffic, served_by_place};
 use std::alloc::Global;
@@ -52,8 +53,8 @@ fn ending(stopped: Option<LiveFault>, ended: Ended<Stopped, Infallible>) -> Resu
 }
 
 /// Answers each record that comes over a wire by one line, in the order of the records, as soon as it can be: a
-/// lane and the widths of a row, with a comma between them, on a line. So many workers read the rows beside each
-/// other, all through one hub, and each passes the gate before a row.
+/// lane and the widths of a row, or a message of a scanner, with a comma between them, on a line. So many workers read
+/// the rows beside each other, all through one hub, and each passes the gate before a row; a message has no number.
 ///
 /// Before each read all records that have come are answered. It ends with the input, or where a read or a write
 /// fails, memory is refused or a thread could not be started. The wire is given back at each end; after
@@ -70,7 +71,11 @@ pub fn answer_live<R: Threads + Wait + Sync, W: Wire + Drop, G: Gate + Sync>(
     ensures lived { Lived terms W.Did W.read_failed W.write_failed W.at_end wire result.0 result.1 }
     ensures untouched { IsErrOf result.1 LiveFault.NoThread → result.0 ≡ wire }
 {
-    let live = match Live::new(alloc, terms.lanes, terms.form, wire) {
+    let manner = Manner {
+        form: terms.form,
+        year: terms.year,
+    };
+    let live = match Live::new(alloc, terms.lanes, manner, wire) {
         Ok(live) => live,
         Err(wire) => return (wire, Err(LiveFault::NoMemory)),
     };

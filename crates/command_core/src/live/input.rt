@@ -6,13 +6,13 @@ ghost use Rattle.wire_core.specs.Events.{Event};
 ghost use Rattle.command_core.specs.inner.Came.{IsProgressAt};
 ghost use Rattle.command_core.specs.inner.Finish.{is_finished};
 ghost use Rattle.command_core.specs.inner.Stops.{MayStillWrite, TellsEnd, TellsFaults};
-ghost use Rattle.element_core.specs.declared.form.Form.{Form};
+ghost use Rattle.command_core.specs.declared.live.manner.Manner.{Manner};
 
 use crate::live::fault::{LiveFault, is_open};
+use crate::live::manner::Manner;
 use crate::live::place::push_places;
 use crate::live::progress::{Progress, TURN, Taken};
 use crate::live::waiting::end_turn;
-use element_core::Form;
 use hub_core::Traffic;
 use lane_core::Delivery;
 use scan_core::Runs;
@@ -30,7 +30,7 @@ pub struct Live<W> {
     /// The wire.
     pub wire: W,
     alloc: Global,
-    form: Form,
+    manner: Manner,
     text: String,
     progress: Progress,
 }
@@ -39,13 +39,13 @@ pub struct Live<W> {
 fn write_turn<W: Wire>(
     wire: &mut W,
     text: &mut String,
-    form: Form,
+    manner: &Manner,
     progress: &mut Progress,
 ) -> Result<(), Stopped>
     requires going { MayStillWrite progress.old.stopped }
-    requires even { (start : W) × (events : List Event) × (given : List (List (List ℕ))) × (brought : List (List Plain)) × W.Did start wire.old events × IsProgressAt form events progress.old given brought × IsEven given brought }
-    ensures came { (start : W) (events : List Event) (given : List (List (List ℕ))) (brought : List (List Plain)) → W.Did start wire.old events → IsProgressAt form events progress.old given brought → IsEven given brought
-        → (later : List Event) × W.Did start wire.new later × IsProgressAt form later progress.new given brought }
+    requires even { (start : W) × (events : List Event) × (given : List (List (List ℕ))) × (brought : List (List Plain)) × W.Did start wire.old events × IsProgressAt manner.now events progress.old given brought × IsEven given brought }
+    ensures came { (start : W) (events : List Event) (given : List (List (List ℕ))) (brought : List (List Plain)) → W.Did start wire.old events → IsProgressAt manner.now events progress.old given brought → IsEven given brought
+        → (later : List Event) × W.Did start wire.new later × IsProgressAt manner.now later progress.new given brought }
     ensures written { OnOk result (progress.new.places.items ≡ []) }
     ensures still { OnOk result (progress.new.stopped ≡ progress.old.stopped) }
     ensures lanes { length progress.new.lanes.items ≡ length progress.old.lanes.items }
@@ -55,7 +55,7 @@ fn write_turn<W: Wire>(
     text.clear();
     let Ok(()) = push_places(
         text,
-        form,
+        manner,
         progress.lanes.as_slice(),
         progress.places.as_slice(),
     ) else {
@@ -79,8 +79,8 @@ fn write_turn<W: Wire>(
 fn read_on<W: Wire>(wire: &mut W, progress: &mut Progress) -> Result<bool, Stopped>
     requires answered { progress.old.places.items ≡ [] }
     requires going { MayStillWrite progress.old.stopped }
-    ensures came { (start : W) (events : List Event) (form : Form) (given : List (List (List ℕ))) (brought : List (List Plain)) → W.Did start wire.old events → IsProgressAt form events progress.old given brought
-        → (later : List Event) × W.Did start wire.new later × IsProgressAt form later progress.new given brought }
+    ensures came { (start : W) (events : List Event) (manner : Manner) (given : List (List (List ℕ))) (brought : List (List Plain)) → W.Did start wire.old events → IsProgressAt manner events progress.old given brought
+        → (later : List Event) × W.Did start wire.new later × IsProgressAt manner later progress.new given brought }
     ensures ended { result ≡ Ok false → is_finished progress.new ≡ true }
     ensures lanes { progress.new.lanes ≡ progress.old.lanes }
     ensures end { TellsEnd progress.old.lines (W.at_end wire.old) → TellsEnd progress.new.lines (W.at_end wire.new) }
@@ -107,11 +107,11 @@ fn read_on<W: Wire>(wire: &mut W, progress: &mut Progress) -> Result<bool, Stopp
 impl<W: Wire> Live<W> {
     /// A live input of so many lanes, of which nothing has been read. Where memory is refused the wire is given
     /// back.
-    pub fn new(alloc: Global, lanes: u8, form: Form, wire: W) -> Result<Live<W>, W>
+    pub fn new(alloc: Global, lanes: u8, manner: Manner, wire: W) -> Result<Live<W>, W>
         requires { W.Did wire wire [] }
         ensures came { IfOk result (λ s. ⟦<Live<W> as Traffic>⟧.Came s s (replicate lanes []) (replicate lanes [])) }
         ensures wire { IfOk result (λ s. s.wire ≡ wire) }
-        ensures form { IfOk result (λ s. s.form ≡ form) }
+        ensures manner { IfOk result (λ s. s.manner ≡ manner) }
         ensures count { IfOk result (λ s. length s.progress.lanes.items ≡ lanes) }
         ensures refused { IfErr result (λ w. w ≡ wire) }
     {
@@ -119,7 +119,7 @@ impl<W: Wire> Live<W> {
             Ok(progress) => Ok(Live {
                 wire,
                 alloc,
-                form,
+                manner,
                 text: String::new(alloc),
                 progress,
             }),
@@ -146,7 +146,7 @@ impl<W: Wire> Traffic for Live<W> {
 
     type BringFault = Infallible;
 
-    ghost Came = { λ start s given brought. (events : List Event) × W.Did start.wire s.wire events × IsProgressAt s.form events s.progress given brought × (s.form ≡ start.form)
+    ghost Came = { λ start s given brought. (events : List Event) × W.Did start.wire s.wire events × IsProgressAt s.manner events s.progress given brought × (s.manner ≡ start.manner)
         × (length s.progress.lanes.items ≡ length start.progress.lanes.items) × TellsFaults (W.read_failed start.wire) (W.read_failed s.wire) (W.write_failed start.wire) (W.write_failed s.wire) s.progress.stopped
         × TellsEnd s.progress.lines (W.at_end s.wire) };
 
@@ -180,7 +180,7 @@ impl<W: Wire> Traffic for Live<W> {
         write_turn(
             &mut self.wire,
             &mut self.text,
-            self.form,
+            &self.manner,
             &mut self.progress,
         )?;
         read_on(&mut self.wire, &mut self.progress)

@@ -6,7 +6,7 @@ ghost use Rattle.wire_core.specs.Lines.{without_line};
 ghost use Rattle.hub_core.specs.Traffics.{IsNextOf, with_more};
 ghost use Rattle.command_core.specs.inner.Came.{IsProgressAt, IsStoppedBy, KeepsRow, Took};
 ghost use Rattle.command_core.specs.inner.Meaning.{HoldsRecord};
-ghost use Rattle.element_core.specs.declared.form.Form.{Form};
+ghost use Rattle.command_core.specs.declared.live.manner.Manner.{Manner};
 ghost use Rattle.command_core.specs.declared.live.waiting.Waiting.{Waiting};
 
 use crate::live::fault::LiveFault;
@@ -48,7 +48,7 @@ pub struct Progress {
 impl Progress {
     /// Nothing has come, of so many lanes.
     pub fn new(alloc: Global, lanes: u8) -> Result<Progress, AllocError>
-        ensures come { IfOk result (λ p. (f : Form) → IsProgressAt f [] p (replicate lanes []) (replicate lanes [])) }
+        ensures come { IfOk result (λ p. (f : Manner) → IsProgressAt f [] p (replicate lanes []) (replicate lanes [])) }
         ensures count { IfOk result (λ p. length p.lanes.items ≡ lanes) }
         ensures going { IfOk result (λ p. p.stopped ≡ None) }
         ensures begun { IfOk result (λ p. p.lines.has_ended ≡ false) }
@@ -85,14 +85,18 @@ impl Progress {
 
     /// Keeps the place of a record.
     fn keep(&mut self, found: Record) -> Result<Taken, AllocError>
-        requires { (f : Form) × (events : List Event) × (given : List (List (List ℕ))) × (brought : List (List Plain)) × (count : ℕ) × IsProgressAt f events self.old given brought × HoldsRecord (length self.old.lanes.items) self.old.lines count found }
-        ensures came { (f : Form) (events : List Event) (given : List (List (List ℕ))) (brought : List (List Plain)) (count : ℕ) → IsProgressAt f events self.old given brought → HoldsRecord (length self.old.lanes.items) self.old.lines count found
+        requires { (f : Manner) × (events : List Event) × (given : List (List (List ℕ))) × (brought : List (List Plain)) × (count : ℕ) × IsProgressAt f events self.old given brought × HoldsRecord (length self.old.lanes.items) self.old.lines count found }
+        ensures came { (f : Manner) (events : List Event) (given : List (List (List ℕ))) (brought : List (List Plain)) (count : ℕ) → IsProgressAt f events self.old given brought → HoldsRecord (length self.old.lanes.items) self.old.lines count found
             → MatchResult result (Took (IsProgressAt f events (record self.new { lines = without_line self.new.lines })) given brought) (λ _. IsProgressAt f events self.new given brought) }
         ensures lines { self.new.lines ≡ self.old.lines }
         ensures stopped { self.new.stopped ≡ self.old.stopped }
     {
         match found {
             Record::Blank => Ok(Taken::Line),
+            Record::Message(lane, text) => {
+                self.places.push(Place::Message(lane, text))?;
+                Ok(Taken::Line)
+            }
             Record::Refused(lane, fault) => {
                 self.places.push(Place::Refused(lane, fault))?;
                 Ok(Taken::Line)
@@ -107,8 +111,8 @@ impl Progress {
 
     /// Takes the next line, and keeps the place of its record.
     fn take_line(&mut self, alloc: Global) -> Result<Taken, AllocError>
-        requires { (f : Form) × (events : List Event) × (given : List (List (List ℕ))) × (brought : List (List Plain)) × IsProgressAt f events self.old given brought }
-        ensures came { (f : Form) (events : List Event) (given : List (List (List ℕ))) (brought : List (List Plain)) → IsProgressAt f events self.old given brought
+        requires { (f : Manner) × (events : List Event) × (given : List (List (List ℕ))) × (brought : List (List Plain)) × IsProgressAt f events self.old given brought }
+        ensures came { (f : Manner) (events : List Event) (given : List (List (List ℕ))) (brought : List (List Plain)) → IsProgressAt f events self.old given brought
             → MatchResult result (Took (IsProgressAt f events self.new) given brought) (λ _. IsProgressAt f events self.new given brought) }
         ensures ended { self.new.lines.has_ended ≡ self.old.lines.has_ended }
         ensures stopped { self.new.stopped ≡ self.old.stopped }
@@ -128,8 +132,8 @@ impl Progress {
 
     /// Takes the next line, where nothing has stopped and the turn is not full.
     pub fn take_next(&mut self, alloc: Global) -> Taken
-        requires { (f : Form) × (events : List Event) × (given : List (List (List ℕ))) × (brought : List (List Plain)) × IsProgressAt f events self.old given brought }
-        ensures came { (f : Form) (events : List Event) (given : List (List (List ℕ))) (brought : List (List Plain)) → IsProgressAt f events self.old given brought → Took (IsProgressAt f events self.new) given brought result }
+        requires { (f : Manner) × (events : List Event) × (given : List (List (List ℕ))) × (brought : List (List Plain)) × IsProgressAt f events self.old given brought }
+        ensures came { (f : Manner) (events : List Event) (given : List (List (List ℕ))) (brought : List (List Plain)) → IsProgressAt f events self.old given brought → Took (IsProgressAt f events self.new) given brought result }
         ensures ended { self.new.lines.has_ended ≡ self.old.lines.has_ended }
         ensures told { IsStoppedBy self.old.stopped self.new.stopped }
     {
@@ -147,8 +151,8 @@ impl Progress {
 
     /// Keeps a delivery for its place.
     pub fn bring(&mut self, delivery: Delivery)
-        requires { (f : Form) × (events : List Event) × (given : List (List (List ℕ))) × (brought : List (List Plain)) × IsProgressAt f events self.old given brought × IsNextOf delivery given brought }
-        ensures came { (f : Form) (events : List Event) (given : List (List (List ℕ))) (brought : List (List Plain)) → IsProgressAt f events self.old given brought → IsNextOf delivery given brought → IsProgressAt f events self.new given (with_more delivery.lane delivery brought) }
+        requires { (f : Manner) × (events : List Event) × (given : List (List (List ℕ))) × (brought : List (List Plain)) × IsProgressAt f events self.old given brought × IsNextOf delivery given brought }
+        ensures came { (f : Manner) (events : List Event) (given : List (List (List ℕ))) (brought : List (List Plain)) → IsProgressAt f events self.old given brought → IsNextOf delivery given brought → IsProgressAt f events self.new given (with_more delivery.lane delivery brought) }
         ensures lines { self.new.lines ≡ self.old.lines }
         ensures stopped { self.new.stopped ≡ self.old.stopped }
     {

@@ -1,12 +1,13 @@
 //! What a line of a live input means.
 ghost use Rattle.std.specs.Prelude.{◌≡◌, ◌≢◌, ◌∷◌, [], IfOk, IfSome, IfNone, None, Some, length};
 ghost use Rattle.command_core.specs.inner.Meaning.{HoldsRecord, IsRecord};
-ghost use Rattle.command_core.specs.live.Text.{fields_in, fields_meant, line_fault_text, line_meant, without_return};
+ghost use Rattle.command_core.specs.live.Text.{fields_in, fields_meant, line_fault_text, line_meant, message_meant, record_in, without_return};
 ghost use Rattle.digits_core.specs.Refusals.{refusal_text};
 ghost use Rattle.wire_core.specs.Lines.{held_line};
 
 use digits_core::{Refusal, RefusalKind};
 use memchr::memchr;
+use message_core::is_message;
 use record_core::{RecordFault, RecordRefusal, lane_in, read_runs};
 use scan_core::Runs;
 use std::alloc::{AllocError, Global};
@@ -53,6 +54,8 @@ pub enum Record {
     Blank,
     /// A row of a lane.
     Row(u8, Runs),
+    /// A message of a scanner, of a lane.
+    Message(u8, Vec<u8>),
     /// A record that gets no ticket, and the lane that it names.
     Refused(Option<u8>, LineFault),
 }
@@ -74,7 +77,7 @@ fn two_fields(line: &[u8]) -> Option<(&[u8], &[u8])>
     }
 }
 
-/// The record of a line that has a byte and not too many.
+/// The record of a line by its fields.
 fn read_fields(alloc: Global, lanes: u8, line: &[u8]) -> Result<Record, AllocError>
     ensures { IfOk result (λ found. IsRecord lanes found (Some (fields_meant lanes (fields_in line.now)))) }
 {
@@ -90,6 +93,33 @@ fn read_fields(alloc: Global, lanes: u8, line: &[u8]) -> Result<Record, AllocErr
             Ok(Record::Refused(Some(lane), LineFault::Record(fault)))
         }
         Err(RecordRefusal::NoMemory) => Err(AllocError),
+    }
+}
+
+/// The record of a message of a scanner.
+fn read_message(alloc: Global, lanes: u8, lane: &[u8], text: &[u8]) -> Result<Record, AllocError>
+    ensures { IfOk result (λ found. IsRecord lanes found (Some (message_meant lanes lane.now text.now))) }
+{
+    let Some(lane) = lane_in(lane, lanes) else {
+        return Ok(Record::Refused(None, LineFault::Record(RecordFault::BadLane)));
+    };
+    Ok(Record::Message(lane, text.to_vec(alloc)?))
+}
+
+/// The record of a line that has a byte and not too many.
+fn read_record(alloc: Global, lanes: u8, line: &[u8]) -> Result<Record, AllocError>
+    ensures { IfOk result (λ found. IsRecord lanes found (Some (record_in lanes line.now))) }
+{
+    match memchr(b',', line) {
+        Some(comma) => {
+            let text = &line[comma + 1..];
+            if is_message(text) {
+                read_message(alloc, lanes, &line[..comma], text)
+            } else {
+                read_fields(alloc, lanes, line)
+            }
+        }
+        None => read_fields(alloc, lanes, line),
     }
 }
 
@@ -114,7 +144,7 @@ fn read_line(alloc: Global, lanes: u8, line: &[u8]) -> Result<Record, AllocError
     if line.len() > MOST_LINE {
         return Ok(Record::Refused(None, LineFault::InputSize));
     }
-    read_fields(alloc, lanes, line)
+    read_record(alloc, lanes, line)
 }
 
 /// The record of the line that is held, and how many bytes are held of the line.

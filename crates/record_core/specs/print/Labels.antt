@@ -13,7 +13,7 @@ use Rattle.sheet_core.specs.declared.kind.LabelKind.{LabelKind}
 use Rattle.sheet_core.specs.declared.kind.LabelKind.TheVariants as kind
 use Rattle.sheet_core.specs.declared.label.Label.{Label}
 use Rattle.sheet_core.specs.declared.label.Label.TheVariants as label
-use Rattle.record_core.specs.input.Spelling.{spelled_text}
+use Rattle.message_core.specs.Spellings.{spelled}
 use Rattle.record_core.specs.input.Records.{Meaning}
 use Rattle.record_core.specs.declared.input.fault.RecordFault.{RecordFault}
 use Rattle.record_core.specs.declared.input.fault.RecordFault.TheVariants as fault
@@ -38,7 +38,7 @@ IsElementLabel year text (Err f) = (e : ElementFault) × (f ≡ fault.Elements e
 -- the label of a field, as one of this kind, or its fault
 abbrev pub IsLabelAs : ℕ → LabelKind → List ℕ → Result Label RecordFault → Type 0
 IsLabelAs year (kind.Gtin k) field r = IsGtinLabel k field r
-IsLabelAs year kind.Gs1128 field r = IsElementLabel year (spelled_text field) r
+IsLabelAs year kind.Gs1128 field r = IsElementLabel year (spelled field) r
 
 -- the same by the name of the kind
 abbrev pub IsLabelBy : ℕ → Option LabelKind → List ℕ → Result Label RecordFault → Type 0

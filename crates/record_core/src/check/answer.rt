@@ -1,14 +1,13 @@
 //! The lines of texts that are checked.
-ghost use Rattle.std.specs.Prelude.{◌≡◌, length, codes, IfNone};
-ghost use Rattle.digits_core.specs.Digits.{AreAsciiDigits};
+ghost use Rattle.std.specs.Prelude.{◌≡◌, codes};
 ghost use Rattle.element_core.specs.Elements.{hri};
-ghost use Rattle.element_core.specs.Lines.{IsElementsLine, line_text};
-ghost use Rattle.record_core.specs.check.Checks.{IsLineAs, IsUpceLine, check_kind_named, spelling_fault};
-ghost use Rattle.record_core.specs.input.Spelling.{spelled_text};
+ghost use Rattle.element_core.specs.Lines.{IsElementsLine, line_of_gtin, line_text};
+ghost use Rattle.message_core.specs.Spellings.{spelled};
+ghost use Rattle.message_core.specs.Upce.{IsUpceLine};
+ghost use Rattle.record_core.specs.check.Checks.{IsLineAs, check_kind_named};
 
-use crate::input::element_field::read_elements;
-use digits_core::{DigitFault, not_digits, upce_expand};
 use element_core::{Form, Line, Year, digit_line, gtin_line};
+use message_core::{read_spelled, read_upce};
 
 /// What a text is checked as.
 #[derive(Clone, Copy, Debug, PartialEq, Eq)]
@@ -36,44 +35,21 @@ pub fn kind_named(name: &[u8]) -> Option<CheckKind>
     }
 }
 
-/// Why a text is not the digit 0 and seven digits, if it is not.
-fn spelling_fault(text: &[u8]) -> Option<DigitFault>
-    ensures fault { result ≡ spelling_fault text.now }
-    ensures long { IfNone result (length text.now ≡ 8) }
-    ensures digits { IfNone result (AreAsciiDigits text.now) }
-{
-    if text.len() != 8 {
-        return Some(DigitFault::Length);
-    }
-    if let Some(fault) = not_digits(text) {
-        return Some(fault);
-    }
-    if text[0] != b'0' {
-        return Some(DigitFault::Length);
-    }
-    None
-}
-
 /// The line of the GTIN that UPC-E digits stand for, or why they stand for none.
 fn upce_line(text: &[u8]) -> Line
-    ensures { IsUpceLine text.now (line_text result) }
+    ensures { IsUpceLine line_of_gtin text.now (line_text result) }
 {
-    if let Some(fault) = spelling_fault(text) {
-        return Line::refused(fault.refusal());
-    }
-    let mut six = [0; 6];
-    six.copy_from_slice(&text[1..7]);
-    match upce_expand(six, text[7]) {
-        Some(gtin) => Line::of_gtin(&gtin),
-        None => Line::refused(DigitFault::CheckDigit.refusal()),
+    match read_upce(text) {
+        Ok(gtin) => Line::of_gtin(&gtin),
+        Err(fault) => Line::refused(fault.refusal()),
     }
 }
 
 /// The line of the elements of a text, or of its first fault.
 fn text_line(field: &[u8], year: Year) -> Line
-    ensures { IsElementsLine (codes "hri") hri year (spelled_text field.now) (line_text result) }
+    ensures { IsElementsLine (codes "hri") hri year (spelled field.now) (line_text result) }
 {
-    match read_elements(field, year) {
+    match read_spelled(field, year) {
         Ok(elements) => Line::of_elements("hri", &elements, Form::HumanReadable),
         Err(fault) => Line::refused(fault.refusal()),
     }

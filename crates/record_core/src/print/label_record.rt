@@ -5,12 +5,12 @@ ghost use Rattle.digits_core.specs.Digits.{digits_of, padded};
 ghost use Rattle.digits_core.specs.Gtins.{gtin_fault};
 ghost use Rattle.record_core.specs.print.Labels.{IsLabelAs, of_digits, print_meaning};
 
-use crate::input::element_field::read_elements;
 use crate::input::fault::RecordFault;
 use crate::input::records::two_fields;
 use csv::ByteRecord;
 use digits_core::Gtin;
 use element_core::Year;
+use message_core::read_spelled;
 use sheet_core::{Label, LabelKind};
 
 /// The GTIN of its digits.
@@ -28,7 +28,7 @@ fn label_as(kind: LabelKind, field: &[u8], year: Year) -> Result<Label, RecordFa
 {
     match kind {
         LabelKind::Gtin(kind) => Ok(Label::of_gtin(kind, gtin_in(field)?)),
-        LabelKind::Gs1128 => match read_elements(field, year) {
+        LabelKind::Gs1128 => match read_spelled(field, year) {
             Ok(elements) => Ok(Label::Gs1128(elements)),
             Err(fault) => Err(RecordFault::Elements(fault)),
         },

@@ -14,20 +14,24 @@ use clap::{ArgMatches, Command};
 use std::alloc::{AllocError, Global};
 
 /// What `live` does.
-const ABOUT: &str = "Answers scanned rows as they come, each before the next is read";
+const ABOUT: &str =
+    "Answers scanned rows and scanner texts as they come, each before the next is read";
 
 /// The input of `live`, its output and an example.
 const EXAMPLE: &str = "\
-Input, without an end or a limit of size, one row a line: a lane from 0, a comma, and the widths of the
-row's runs in dots, as `lanes --help` says. A line has at most 65,536 bytes, and quotes have no meaning.
+Input, without an end or a limit of size, one record a line: a lane from 0, a comma, and either the widths
+of a row's runs in dots, as `lanes --help` says, or the text that a scanner sends. A text begins with ], ^,
+byte 29, eight digits, http:// or https://. A line has at most 65,536 bytes, and quotes have no meaning.
 Output, a line for each record in the order of the records, written before more input is waited for: the
 lane, the row's number in it, from 0, and the symbology identifier with the elements, or `refused`, a
-number and a name. A record that is no row has `-` in place of its number, and of its lane where it names
-none. With --elements each element is its AI, = and its value, with a tab between each two.
+number and a name. A text has `-` in place of the number, and `-` in place of the identifier if none was
+sent. A record that is neither has `-` in place of its number, and of its lane if it names none.
+With --elements each element is its AI, = and its value, with a tab between each two.
 
-Example, a row of 100 light dots, and one of a lane that is not there:
-  $ printf '0,100\\n1,100\\n' | gs1_hub live --lanes 1 --workers 1 --year 2026
+Example, a row of 100 light dots, a scanner text, and a row of a lane that is not there:
+  $ printf '0,100\\n0,]E09501101530003\\n1,100\\n' | gs1_hub live --lanes 1 --workers 1 --year 2026
   0 0 refused 19 Blank
+  0 - ]E0 (01)09501101530003
   - - refused 41 BadLane";
 
 /// The flag `--elements`.

@@ -7,6 +7,7 @@ use Rattle.command_core.specs.inner.Came.{HasCome, KeepsPlaces, Stands, TellsRep
 use Rattle.command_core.specs.live.Replies.{replies_to}
 use Rattle.command_core.specs.live.Text.{AnsweredAll, IsReply, line_meant}
 use Rattle.command_core.specs.live.Answering.{AnswersBy}
+use Rattle.command_core.specs.declared.live.manner.Manner.{Manner}
 use Rattle.command_core.specs.declared.live.fault.LiveFault.TheVariants as fault
 use Rattle.command_core.proofs.live.EndFacts.{all_answered, at_a_regular_end, finished, it_is_told, lived_nothing, none_lost, tells_reply, why_it_ended}
 use Rattle.command_core.proofs.live.LogFacts.{answers_weaker, front_weaker, prompt_weaker}
@@ -24,20 +25,21 @@ returns-in-Ok-serve_traffic-clause-lived g c =
     let events = came.0 in
     let told = came.5 in
     let wire : c.in-Ok.live.wire ≡ c.args.wire = c.in-Ok.ensures.wire in
-    let form : s.form ≡ t.form = came.3 ∙ c.in-Ok.ensures.form in
+    let m : Manner = record { form = t.form; year = t.year } in
+    let manner : s.manner ≡ m = came.3 ∙ c.in-Ok.ensures.manner in
     let count : length p.lanes.items ≡ t.lanes = came.4 ∙ c.in-Ok.ensures.count in
-    let at = subst (λ f. HasCome f events p.lanes.items p.places.items p.lines p.stopped given brought) form came.2 in
-    let st = subst (λ n. Stands n t.form given brought events p.lines p.stopped) count at.stands in
+    let at = subst (λ f. HasCome f events p.lanes.items p.places.items p.lines p.stopped given brought) manner came.2 in
+    let st = subst (λ n. Stands n m given brought events p.lines p.stopped) count at.stands in
     let ends = c.ending-result.ensures in
-    let to = tells_reply t.year t.form given brought c.served_by_place.ensures all.3 in
-    let L = TellsReply t.form given brought in
+    let to = tells_reply m given brought c.served_by_place.ensures all.3 in
+    let L = TellsReply m given brought in
     let M = IsReply t.year t.form in
     let same : c.stopped.result ≡ p.stopped = c.stopped.ensures in
     let whole = λ (none : c.stopped.result ≡ None) (done : c.in-Ok-serve_traffic.ended ≡ Done).
     let last = finished p.lines p.places.items p.stopped (all.4 done).0 in
     let keeps = at.keeps (λ is. (let nothing = last.3 in let never : ⊥ = cc (nothing, is) in never)) in
-    let kept = subst (λ ps. KeepsPlaces (length p.lanes.items) t.form given brought events ps p.lines) last.2 keeps in
-    let answers = all_answered (length p.lanes.items) t.form given brought events p.lines kept last.1 last.0 in
+    let kept = subst (λ ps. KeepsPlaces (length p.lanes.items) m given brought events ps p.lines) last.2 keeps in
+    let answers = all_answered (length p.lanes.items) m given brought events p.lines kept last.1 last.0 in
     let both : AnsweredAll t.lanes t.form t.year events × g.W.Wire.at_end s.wire = (
       (
         subst (λ n. AnswersBy M (replies_to (line_meant n) (pieces_of (was_read events))) (was_written events)) count (answers_weaker L M to _ _ answers),

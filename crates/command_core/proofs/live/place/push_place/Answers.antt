@@ -3,6 +3,8 @@ use Rattle.std.proofs.lemmas.Option.{get_or_from_slice_get, slice_get_read}
 use Rattle.std.proofs.lemmas.Result.{on_ok_weaker}
 use Rattle.command_core.specs.inner.Came.{IsReady, TellsPlace}
 use Rattle.command_core.specs.answers.Reports.{numbered_line}
+use Rattle.command_core.specs.live.Replies.Told.{Message}
+use Rattle.command_core.specs.live.Text.{IsTold}
 use Rattle.command_core.specs.declared.live.waiting.Waiting.{Waiting}
 use Rattle.command_core.proofs.live.place.push_place.Goals as goal
 
@@ -26,9 +28,9 @@ returns-in-Row c =
     subst (λ (w : Waiting). (w.first ≤ c.in-Row.number) × (c.in-Row.number < w.first + length w.deliveries.items)) (sym same) (r.3, r.4) in
     let x = c.index.result.now in
     on_ok_weaker c.push_line.result (λ p. (
-      numbered_line c.args.form c.in-Row.lane c.in-Row.number c.answer.result,
+      numbered_line c.args.manner.now.form c.in-Row.lane c.in-Row.number c.answer.result,
       p,
-      subst (λ place. TellsPlace c.args.form c.args.lanes.now place (numbered_line c.args.form c.in-Row.lane c.in-Row.number c.answer.result)) (sym c.in-Row.is) (
+      subst (λ place. TellsPlace c.args.manner.now c.args.lanes.now place (numbered_line c.args.manner.now.form c.in-Row.lane c.in-Row.number c.answer.result)) (sym c.in-Row.is) (
         v,
         x,
         c.answer.result,
@@ -41,3 +43,14 @@ returns-in-Row c =
       ),
     ))
     c.push_line.ensures
+
+pub returns-in-Message : goal.returns-in-Message
+returns-in-Message c =
+    let manner = c.args.manner.now in
+    on_ok_weaker c.push_message.result (λ told. (
+      told.0,
+      told.1,
+      subst (λ place. TellsPlace manner c.args.lanes.now place told.0) (sym c.in-Message.is)
+          (subst (λ text. IsTold manner.year manner.form (Message c.in-Message.lane text) told.0) c.as_slice.ensures.value told.2),
+    ))
+    c.push_message.ensures

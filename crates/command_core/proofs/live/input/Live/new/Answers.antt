@@ -6,7 +6,7 @@ pub returns-in-Ok-clause-came : goal.returns-in-Ok-clause-came
 returns-in-Ok-clause-came g c = (
   [],
   c.requires,
-  c.in-Ok.ensures.come c.args.form,
+  c.in-Ok.ensures.come c.args.manner,
   refl,
   refl,
   told_at_first _ _ c.in-Ok.progress.stopped c.in-Ok.ensures.going,

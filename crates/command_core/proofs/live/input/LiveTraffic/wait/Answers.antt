@@ -13,7 +13,7 @@ returns-clause-came g c = λ start given brought came even.
     let r = g.W.Wire.read_failed start.wire in
     let w = g.W.Wire.write_failed start.wire in
     let wrote = c.write_turn.ensures.came start.wire came.0 given brought came.1 came.2 even in
-    let read = c.read_on.ensures.came start.wire wrote.0 c.args.self.now.form given brought wrote.1 wrote.2 in
+    let read = c.read_on.ensures.came start.wire wrote.0 c.args.self.now.manner given brought wrote.1 wrote.2 in
     let lanes = ap (λ ls. length ls.items) c.read_on.ensures.lanes in (
       read.0,
       read.1,

@@ -3,7 +3,7 @@ use Rattle.command_core.specs.inner.Came.{HasCome, KeepsRow}
 use Rattle.command_core.specs.inner.Meaning.{HoldsRecord}
 use Rattle.hub_core.specs.Traffics.{with_more}
 use Rattle.wire_core.specs.Lines.{without_line}
-use Rattle.command_core.proofs.live.CameFacts.{came_blank, came_kept, came_refused}
+use Rattle.command_core.proofs.live.CameFacts.{came_blank, came_kept, came_message, came_refused}
 use Rattle.command_core.proofs.live.progress.Progress.keep.Goals as goal
 
 pub keep_row-requires-clause-behind : goal.keep_row-requires-clause-behind
@@ -56,3 +56,10 @@ returns-in-Err-clause-came c = λ f events given brought count at found.
     q.lanes.items q.places.items (subst (λ r. HoldsRecord (length p.lanes.items) p.lines count r) c.in-Row.is found) c.in-Err.ensures.row at in
     subst (λ h. HasCome f events q.lanes.items q.places.items h q.stopped given brought) (sym c.keep_row.ensures.lines)
     (subst (λ s. HasCome f events q.lanes.items q.places.items p.lines s given brought) (sym c.keep_row.ensures.stopped) k)
+
+pub returns-in_ok-push-in-Message-clause-came : goal.returns-in_ok-push-in-Message-clause-came
+returns-in_ok-push-in-Message-clause-came c = λ f events given brought count at found.
+    let p = c.args.self.now in
+    subst (λ ps. HasCome f events p.lanes.items ps (without_line p.lines) p.stopped given brought) (sym c.in_ok-push-in-Message.ensures.items)
+    (came_message f events p.lanes.items p.places.items p.lines p.stopped given brought count c.in-Message.lane c.in-Message.text
+    (subst (λ r. HoldsRecord (length p.lanes.items) p.lines count r) c.in-Message.is found) at)

@@ -1,0 +1,51 @@
+"""Prints texts of scanners as `live` reads them: a lane, a comma and what a scanner sends.
+
+Usage: texts.py COUNT LANES SEED. The texts are the same for the same words: EAN-13, UPC-E, GS1-128 with a GTIN, a date and a lot,
+and Digital Links with these, in turn; one in ten with a digit changed.
+"""
+import random
+import sys
+
+from rows import check_digit, digits
+
+
+def gtin(random, count):
+    text = digits(random, count - 1)
+    return text + check_digit(text)
+
+
+def lot(random):
+    return "".join(random.choice("ABCDEFGHJKLMNPQRSTUVWXYZ0123456789") for _ in range(random.randint(1, 12)))
+
+
+def day(random):
+    return f"{random.randint(20, 60)}{random.randint(1, 12):02}{random.randint(0, 28):02}"
+
+
+def upce(random):
+    six = digits(random, 5) + random.choice("56789")
+    return f"0{six}{check_digit(f'0{six[:5]}0000{six[5]}')}"
+
+
+KINDS = [
+    lambda random: "]E0" + gtin(random, 13),
+    lambda random: "]E0" + upce(random),
+    lambda random: f"]C101{gtin(random, 14)}17{day(random)}10{lot(random)}",
+    lambda random: f"]Q1https://id.gs1.org/01/{gtin(random, 14)}/10/{lot(random)}?17={day(random)}",
+]
+
+
+def damaged(random, text):
+    place = random.choice([i for i, byte in enumerate(text) if byte.isdigit() and i > 2])
+    return text[:place] + random.choice("0123456789") + text[place + 1 :]
+
+
+def main():
+    count, lanes, seed = map(int, sys.argv[1:4])
+    chance = random.Random(seed)
+    for number in range(count):
+        text = KINDS[number % len(KINDS)](chance)
+        print(f"{chance.randrange(lanes)},{damaged(chance, text) if chance.random() < 0.1 else text}")
+
+
+main()

@@ -1,0 +1,63 @@
+-- What the definitions of messages and of Digital Links say together.
+use Rattle.std.specs.Prelude.{◌≡◌, ◌↔◌, ◌⊎◌, ◌≤◌, ◌<◌, ◌-◌, ◌+◌, ◌++◌, ℕ, true, List, [], ◌∷◌, Some, codes}
+use Rattle.digits_core.specs.Digits.{AreAsciiDigits, digits_of}
+use Rattle.digits_core.specs.Upce.{IsUpceOf}
+use Rattle.element_core.specs.Elements.{Entry, gtin_entry, pairs_text}
+use Rattle.element_core.specs.Lines.{elements_text}
+use Rattle.element_core.specs.declared.form.Form.{Form}
+use Rattle.element_core.specs.declared.form.Form.TheVariants.{Pairs}
+use Rattle.message_core.specs.Keys.{is_key, place_by}
+use Rattle.message_core.specs.Links.{key_part}
+use Rattle.message_core.specs.Messages.{IsMessageLine}
+
+-- ---- messages
+
+-- a message has one line
+abbrev pub OneMessageLine : Type 0
+OneMessageLine = (f : Form) (year : ℕ) (text line other : List ℕ) → IsMessageLine f year text line → IsMessageLine f year text other → line ≡ other
+
+-- a message says these elements behind this word: each form of its line is these two
+abbrev pub MessageSays : ℕ → List ℕ → List ℕ → List Entry → Type 0
+MessageSays year text word es = (f : Form) → IsMessageLine f year text (word ++ (32 ∷ elements_text f es))
+
+-- a message is refused by this line: it has no other form
+abbrev pub IsRefusedBy : ℕ → List ℕ → List ℕ → Type 0
+IsRefusedBy year text line = (f : Form) → IsMessageLine f year text line
+
+-- messages with one line of pairs say the same elements behind the same word, or are refused alike
+abbrev pub PairsSayElements : Type 0
+PairsSayElements = (year : ℕ) (text more line : List ℕ) → IsMessageLine Pairs year text line → IsMessageLine Pairs year more line
+    → ((word : List ℕ) × (es : List Entry) × (line ≡ word ++ (32 ∷ pairs_text es)) × MessageSays year text word es × MessageSays year more word es)
+    ⊎ (IsRefusedBy year text line × IsRefusedBy year more line)
+
+-- behind `]E0` the digit 0, six digits and their check digit say the GTIN that they are a spelling of
+abbrev pub UpceIsExpanded : Type 0
+UpceIsExpanded = (year : ℕ) (six gtin : List ℕ) (check : ℕ) → AreAsciiDigits six → (48 ≤ check) × (check < 58) → IsUpceOf (digits_of six) (check - 48) gtin
+    → MessageSays year (codes "]E0" ++ (48 ∷ six) ++ check ∷ []) (codes "]E0") (gtin_entry gtin ∷ [])
+
+-- ---- Digital Links
+
+-- AIs and values as segments
+abbrev pub spread : List Entry → List (List ℕ)
+spread [] = []
+spread (e ∷ es) = e.ai ∷ e.value ∷ spread es
+
+-- qualifiers of a key, each at a place behind that of the one before
+abbrev pub StandInOrder : List ℕ → ℕ → List Entry → Type 0
+StandInOrder key least [] = Unit {0}
+StandInOrder key least (e ∷ es) = (place : ℕ) × (place_by key e.ai ≡ Some place) × (least ≤ place) × StandInOrder key (place + 1) es
+
+-- the segments are stems, and then this part: a key, its value and its qualifiers in their order
+pub record IsLinkPath (all part : List (List ℕ)) : Type 0 where
+  pub stems : List (List ℕ)
+  pub key : List ℕ
+  pub value : List ℕ
+  pub qualifiers : List Entry
+  pub listed : is_key key ≡ true
+  pub order : StandInOrder key 0 qualifiers
+  pub part_is : part ≡ key ∷ value ∷ spread qualifiers
+  pub all_is : all ≡ stems ++ part
+
+-- segments have one such part at most, whatever the stems are, and it is what is found
+abbrev pub KeyPartIs : Type 0
+KeyPartIs = (all part : List (List ℕ)) → (key_part all ≡ Some part) ↔ IsLinkPath all part

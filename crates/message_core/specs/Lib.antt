@@ -1,0 +1,10 @@
+pub mod Coding
+pub mod Heads
+pub mod Keys
+pub mod Laws
+pub mod Links
+pub mod Messages
+pub mod Spellings
+pub mod Symbologies
+pub mod Upce
+pub mod inner

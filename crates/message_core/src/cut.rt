@@ -1,0 +1,50 @@
+//! Texts that are cut at a byte.
+ghost use Rattle.std.specs.Prelude.{◌≡◌, ◌==◌, ◌<◌, ◌≤◌, ◌∷◌, ℕ, List, [], length, IfNone, IfSome};
+ghost use Rattle.std.specs.List.{after_first, before_first, position_or_len, slice_split};
+
+/// Where the first such byte stands, or the length of the text.
+fn place_of(byte: u8, text: &[u8]) -> usize
+    ensures value { result ≡ position_or_len (λ b. b == byte) text.now }
+    ensures within { result ≤ length text.now }
+{
+    for (i, b) in text.iter().enumerate() {
+        if *b == byte {
+            return i;
+        }
+    }
+    text.len()
+}
+
+/// What stands before the first such byte, or all.
+pub(crate) fn before(byte: u8, text: &[u8]) -> &[u8]
+    ensures { result.now ≡ before_first (λ b. b == byte) text.now }
+{
+    &text[..place_of(byte, text)]
+}
+
+/// What stands behind the first such byte, or nothing.
+pub(crate) fn behind(byte: u8, text: &[u8]) -> &[u8]
+    ensures { result.now ≡ after_first (λ b. b == byte) text.now }
+{
+    let place = place_of(byte, text);
+    if place < text.len() {
+        &text[place + 1..]
+    } else {
+        &text[text.len()..]
+    }
+}
+
+/// The first part of a text that such bytes part, and the text of the others, if there are any.
+pub(crate) fn first_part(byte: u8, text: &[u8]) -> (&[u8], Option<&[u8]>)
+    ensures some { IfSome result.1 (λ left. slice_split (λ b. b == byte) text.now ≡ result.0.now ∷ slice_split (λ b. b == byte) left.now) }
+    ensures shorter { IfSome result.1 (λ left. length left.now < length text.now) }
+    ensures none { IfNone result.1 (slice_split (λ b. b == byte) text.now ≡ result.0.now ∷ []) }
+    ensures first { (others : List (List ℕ)) × (slice_split (λ b. b == byte) text.now ≡ result.0.now ∷ others) }
+{
+    let place = place_of(byte, text);
+    if place < text.len() {
+        (&text[..place], Some(&text[place + 1..]))
+    } else {
+        (text, None)
+    }
+}

@@ -1,0 +1,22 @@
+//! The texts of scanners that decode symbols themselves, most of them with a symbology identifier in front.
+#![tactic(auto)]
+
+mod coding;
+mod cut;
+mod head;
+mod key;
+mod laws;
+mod line;
+mod link;
+mod pairs;
+mod path;
+mod spelling;
+mod symbology;
+mod upce;
+
+pub use head::is_message;
+pub use laws::{key_part_is, one_message_line, pairs_say_elements, upce_is_expanded};
+pub use line::message_line;
+pub use spelling::read_spelled;
+pub use symbology::Symbology;
+pub use upce::read_upce;

@@ -1,0 +1,208 @@
+//! Digital Links: URIs that carry elements.
+ghost use Rattle.std.specs.Prelude.{◌≡◌, ◌==◌, ◌++◌, drop, not};
+ghost use Rattle.std.specs.Char.{is_ascii_graphic};
+ghost use Rattle.std.specs.List.{list_all};
+ghost use Rattle.digits_core.specs.Refusals.{refusal_words};
+ghost use Rattle.digits_core.specs.declared.refusal.RefusalKind.TheVariants as refusal;
+ghost use Rattle.element_core.specs.Lines.{line_text};
+ghost use Rattle.message_core.specs.Links.{begins_any_case, begins_http, begins_https, begins_link, behind_scheme, entries_said, has_host, is_plain, is_plain_name, is_uri, is_written, link_said, parameters, path_entries, path_of, place_of, query_entries, query_of, segments, without_slash};
+
+use crate::coding::is_coded;
+use crate::cut::{before, behind, first_part};
+use crate::pairs::{Pairs, put_path, put_query};
+use crate::path::key_part;
+use digits_core::{Refusal, RefusalKind};
+use element_core::{ElementFault, Elements, Form, Line, Year};
+
+/// Whether a text begins with small letters or other bytes, each letter in any case.
+fn begins_any_case(small: &[u8], text: &[u8]) -> bool
+    ensures { result ≡ begins_any_case small.now text.now }
+{
+    for (i, byte) in small.iter().enumerate() {
+        if i >= text.len() {
+            return false;
+        }
+        if text[i].to_ascii_lowercase() != *byte {
+            return false;
+        }
+    }
+    true
+}
+
+/// Whether a text begins with `http://`.
+fn begins_http(text: &[u8]) -> bool
+    ensures { result ≡ begins_http text.now }
+{
+    begins_any_case(b"http://", text)
+}
+
+/// Whether a text begins with `https://`.
+fn begins_https(text: &[u8]) -> bool
+    ensures { result ≡ begins_https text.now }
+{
+    begins_any_case(b"https://", text)
+}
+
+/// Whether a text begins as a URI of the web does.
+pub(crate) fn begins_link(text: &[u8]) -> bool
+    ensures { result ≡ begins_link text.now }
+{
+    begins_http(text) || begins_https(text)
+}
+
+/// What stands behind so many bytes.
+fn without_first(many: usize, text: &[u8]) -> &[u8]
+    ensures { result.now ≡ drop many text.now }
+{
+    text.split_at(text.len().min(many)).1
+}
+
+/// What stands behind the scheme.
+fn behind_scheme(text: &[u8]) -> &[u8]
+    ensures { result.now ≡ behind_scheme text.now }
+{
+    if begins_http(text) {
+        without_first(7, text)
+    } else {
+        without_first(8, text)
+    }
+}
+
+/// The path without a slash at its end.
+fn without_slash(path: &[u8]) -> &[u8]
+    ensures { result.now ≡ without_slash path.now }
+{
+    let count = path.len();
+    if count > 0 && path[count - 1] == b'/' {
+        &path[..count - 1]
+    } else {
+        path
+    }
+}
+
+/// Whether there is no such byte.
+fn has_no(byte: u8, text: &[u8]) -> bool
+    ensures { result ≡ list_all (λ b. not (b == byte)) text.now }
+{
+    text.iter().all(|b| *b != byte)
+}
+
+/// Whether there is no `%` in the name of a parameter.
+fn is_plain_name(parameter: &[u8]) -> bool
+    ensures { result ≡ is_plain_name parameter.now }
+{
+    has_no(b'%', before(b'=', parameter))
+}
+
+/// Whether there is none in the names of a query.
+fn has_plain_names(query: &[u8]) -> bool
+    ensures { result ≡ list_all is_plain_name (parameters query.now) }
+{
+    let mut rest = query;
+    loop {
+        let (parameter, left) = first_part(b'&', rest);
+        if !is_plain_name(parameter) {
+            return false;
+        }
+        let Some(left) = left else {
+            return true;
+        };
+        rest = left;
+    }
+}
+
+/// Whether a query has no `;`, which some take for a `&`, and its names no `%`.
+fn is_plain(query: &[u8]) -> bool
+    ensures { result ≡ is_plain query.now }
+{
+    has_no(b';', query) && has_plain_names(query)
+}
+
+/// Whether all bytes are letters, digits and marks.
+fn is_graphic(text: &[u8]) -> bool
+    ensures { result ≡ list_all is_ascii_graphic text.now }
+{
+    text.iter().all(|byte| byte.is_ascii_graphic())
+}
+
+/// Whether a text has bytes of a URI alone, with two hexadecimal digits behind each `%`.
+fn is_written(text: &[u8]) -> bool
+    ensures { result ≡ is_written text.now }
+{
+    is_graphic(text) && is_coded(text)
+}
+
+/// Whether a URI has a host that is not empty.
+fn has_host(text: &[u8]) -> bool
+    ensures { result ≡ has_host text.now }
+{
+    !before(b'/', place_of(text)).is_empty()
+}
+
+/// The host and the path of a URI.
+fn place_of(text: &[u8]) -> &[u8]
+    ensures { result.now ≡ place_of text.now }
+{
+    before(b'?', before(b'#', behind_scheme(text)))
+}
+
+/// The query of a URI.
+fn query_of(text: &[u8]) -> &[u8]
+    ensures { result.now ≡ query_of text.now }
+{
+    behind(b'?', before(b'#', behind_scheme(text)))
+}
+
+/// The path of a URI.
+fn path_of(text: &[u8]) -> &[u8]
+    ensures { result.now ≡ path_of text.now }
+{
+    without_slash(behind(b'/', place_of(text)))
+}
+
+/// Whether a text is a URI of the web, with a host and a plain query.
+fn is_uri(text: &[u8]) -> bool
+    ensures { result ≡ is_uri text.now }
+{
+    begins_link(text) && is_written(text) && has_host(text) && is_plain(query_of(text))
+}
+
+/// The line of the elements of a path from its key on and of a query, behind a word.
+fn elements_said(word: &'static str, form: Form, path: &[u8], query: &[u8], year: Year) -> Line
+    ensures { line_text result ≡ entries_said word.now form year (path_entries (segments path.now) ++ query_entries (parameters query.now)) }
+{
+    let mut pairs = Pairs::new();
+    if !put_path(&mut pairs, path) {
+        return Line::refused(ElementFault::TooLong.refusal());
+    }
+    if !put_query(&mut pairs, query) {
+        return Line::refused(ElementFault::TooLong.refusal());
+    }
+    match Elements::of_pairs(pairs.as_slice(), year) {
+        Ok(elements) => Line::of_elements(word, &elements, form),
+        Err(fault) => Line::refused(fault.refusal()),
+    }
+}
+
+/// What is said of a text that is no Digital Link.
+fn no_link() -> Line
+    ensures { line_text result ≡ refusal_words refusal.Kind }
+{
+    Line::refused(Refusal {
+        kind: RefusalKind::Kind,
+        place: None,
+    })
+}
+
+/// The line of a Digital Link, behind a word: its elements, or why it has none.
+pub(crate) fn link_said(word: &'static str, form: Form, text: &[u8], year: Year) -> Line
+    ensures { line_text result ≡ link_said word.now form year text.now }
+{
+    if !is_uri(text) {
+        return no_link();
+    }
+    match key_part(path_of(text)) {
+        Some(path) => elements_said(word, form, path, query_of(text), year),
+        None => no_link(),
+    }
+}

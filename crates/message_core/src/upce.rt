@@ -1,0 +1,51 @@
+//! UPC-E in the eight digits that stand under the symbol.
+ghost use Rattle.std.specs.Prelude.{◌≡◌, None, length, IfErr, IfNone, IfOk};
+ghost use Rattle.digits_core.specs.Digits.{AreAsciiDigits};
+ghost use Rattle.element_core.specs.Lines.{line_text};
+ghost use Rattle.message_core.specs.Upce.{IsUpceDigits, IsUpceFault, IsUpceSaid, upce_fault};
+
+use digits_core::{DigitFault, Gtin, not_digits, upce_expand};
+use element_core::{Elements, Form, Line, Year};
+
+/// Why a text is not the digit 0 and seven digits, if it is not.
+fn upce_fault(text: &[u8]) -> Option<DigitFault>
+    ensures fault { result ≡ upce_fault text.now }
+    ensures long { IfNone result (length text.now ≡ 8) }
+    ensures digits { IfNone result (AreAsciiDigits text.now) }
+{
+    if text.len() != 8 {
+        return Some(DigitFault::Length);
+    }
+    if let Some(fault) = not_digits(text) {
+        return Some(fault);
+    }
+    if text[0] != b'0' {
+        return Some(DigitFault::Length);
+    }
+    None
+}
+
+/// The GTIN that a UPC-E stands for, given as it is written under the symbol: the digit 0, six digits and the check
+/// digit, in ASCII (GS1 General Specifications, section 5.2.2.4). Other lengths are refused first, then the first byte
+/// that is no digit, then another first digit (as `Length`), then the check digit.
+pub fn read_upce(text: &[u8]) -> Result<Gtin, DigitFault>
+    ensures ok { IfOk result (λ gtin. (upce_fault text.now ≡ None) × IsUpceDigits text.now gtin) }
+    ensures refused { IfErr result (IsUpceFault text.now) }
+{
+    if let Some(fault) = upce_fault(text) {
+        return Err(fault);
+    }
+    let mut six = [0; 6];
+    six.copy_from_slice(&text[1..7]);
+    upce_expand(six, text[7]).ok_or(DigitFault::CheckDigit)
+}
+
+/// The line of the GTIN that a UPC-E stands for, behind a word.
+pub(crate) fn upce_said(word: &'static str, form: Form, digits: &[u8], year: Year) -> Line
+    ensures { IsUpceSaid word.now form digits.now (line_text result) }
+{
+    match read_upce(digits) {
+        Ok(gtin) => Line::of_elements(word, &Elements::of_gtin(&gtin, year), form),
+        Err(fault) => Line::refused(fault.refusal()),
+    }
+}
