@@ -217,7 +217,8 @@ static void cases(void) {
     scan("]E09501101530003", YEAR, "]E0 01=09501101530003");
     scan("]I109501101530003", YEAR, "]I1 01=09501101530003");
     scan("]E496385074", YEAR, "]E4 01=00000096385074");
-    scan("]E096385075", YEAR, "refused 3 CheckDigit");
+    scan("]E496385075", YEAR, "refused 3 CheckDigit");
+    scan("]E096385074", YEAR, "refused 1 Length");
     scan("]d210A\x1d" "17261231", YEAR, "]d2 10=A\t17=261231");
     scan("]E001234565", YEAR, "]E0 01=00012345000065");
     scan("]E009501101530003", YEAR, "refused 1 Length");
