@@ -9,9 +9,10 @@ case ${1:-} in
     test) tests/commands/run "${@:2}" ;; #            test the commands on the built program
     edits) tests/edits/run "${@:2}" ;; #              try each must-fail edit by itself; [CRATE..]
     specs) tests/specs/run "${@:2}" ;; #              count what a reader of the theorems reads; [--list or --page]
-    gate) .ci/run "${@:2}" ;; #                       the gate: all proofs, edits and tests, from nothing
+    gate) .ci/run "${@:2}" ;; #                       the gate: all proofs, edits and tests; [--anew: take nothing from earlier runs]
     bench) bench/run "${@:2}" ;; #                    measure the program; [--against PROGRAM]
-    package) package/build "${@:2}" ;; #              make the packages; [FOLDER]
+    release) package/release "${@:2}" ;; #            prove and build what release/ has; [FOLDER]
+    package) package/build "${@:2}" ;; #              make the packages; [--key KEY] [FOLDER]
     *)
         echo "Usage: ./do NAME [WORDS..]"
         sed -nE 's/^    ([a-z]+)\) (.*) "[^"]*" ;; # +(.*)/\1|\2|\3/p' "$self" |

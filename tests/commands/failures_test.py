@@ -1,10 +1,9 @@
 """Inputs that fail or end at each byte, outputs that fail at each byte, and too little memory."""
 
-import resource
 import subprocess
 
 import program
-from program import Breaking, CommandTest, ran, ran_to
+from program import Breaking, CommandTest, ran, ran_to, room_for
 from rows import EAN8_ROW
 from sheets import LOW, RECORD, image
 
@@ -128,13 +127,8 @@ class FailuresTest(CommandTest):
                 self.is_refused(ran(command, zeros), "refused 44 InputSize")
 
     def limited(self, command, given, mebibytes):
-        """A run with so much room for memory and for threads, each with a stack of eight MiB."""
-
-        def limit():
-            resource.setrlimit(resource.RLIMIT_STACK, (8 << 20, resource.getrlimit(resource.RLIMIT_STACK)[1]))
-            resource.setrlimit(resource.RLIMIT_AS, (mebibytes << 20, mebibytes << 20))
-
-        return ran(command, given, preexec_fn=limit)
+        """A run with so much room."""
+        return ran(command, given, **room_for(mebibytes))
 
     def test_too_little_memory(self):
         # 15 MB of records do not go into 8 MiB.

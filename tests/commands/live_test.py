@@ -4,7 +4,6 @@ later record."""
 import os
 import random
 import re
-import resource
 import select
 import shutil
 import socket
@@ -13,7 +12,7 @@ import tempfile
 import time
 
 import program
-from program import Breaking, CommandTest, ran, ran_to
+from program import Breaking, CommandTest, ran, ran_to, room_for
 from rows import EAN8_ROW, GS1128_ROW, SYMBOL, WIDE_SPACE, WRONG_CHECK_DIGIT
 
 # Widths of rows with what is answered to them.
@@ -468,13 +467,8 @@ class LiveTest(CommandTest):
         self.assertEqual((it.status, it.error), (1, b"refused 38 WriteFault\n"))
 
     def limited(self, workers, mebibytes):
-        """A run of one row with so much room for memory and for threads, each with a stack of eight MiB."""
-
-        def limit():
-            resource.setrlimit(resource.RLIMIT_STACK, (8 << 20, resource.getrlimit(resource.RLIMIT_STACK)[1]))
-            resource.setrlimit(resource.RLIMIT_AS, (mebibytes << 20, mebibytes << 20))
-
-        return ran(live(1, workers), b"0,7\n", preexec_fn=limit)
+        """A run of one row with so much room."""
+        return ran(live(1, workers), b"0,7\n", **room_for(mebibytes))
 
     def test_a_thread_for_each_worker(self):
         # Before the first byte is read.

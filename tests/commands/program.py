@@ -15,6 +15,9 @@ PATH = None
 # No run takes as long.
 SECONDS = 120
 
+# Whether the program is one that runs an emulator of another processor.
+EMULATED = bool(os.environ.get("EMULATED"))
+
 
 class Ran:
     """What a run left: its exit status, its output, and what it wrote on standard error."""
@@ -46,6 +49,18 @@ def ran_to(room, command, given):
         it = ran(command, given, stdout=file, preexec_fn=narrow, restore_signals=False)
         file.seek(0)
         return Ran(it.status, file.read(), it.error)
+
+
+def room_for(mebibytes):
+    """How a run is started with so much room for memory and for threads, each with a stack of eight MiB."""
+    if EMULATED:
+        raise unittest.SkipTest("an emulator takes the room that is meant for the program")
+
+    def limit():
+        resource.setrlimit(resource.RLIMIT_STACK, (8 << 20, resource.getrlimit(resource.RLIMIT_STACK)[1]))
+        resource.setrlimit(resource.RLIMIT_AS, (mebibytes << 20, mebibytes << 20))
+
+    return {"preexec_fn": limit}
 
 
 def field(text):

@@ -3,12 +3,11 @@ and after refused words what clap says of them. Where standard error is no termi
 
 import os
 import re
-import resource
 import subprocess
 import tty
 
 import program
-from program import CommandTest, ran
+from program import CommandTest, ran, room_for
 from rows import EAN8_ROW
 from sheets import LOW, RECORD, image
 
@@ -103,24 +102,14 @@ class TerminalTest(CommandTest):
 
     def test_what_the_machine_refuses(self):
         said = remedies()
-
-        def short(mebibytes):
-            """So much room for memory and for threads, each with a stack of eight MiB."""
-
-            def limit():
-                resource.setrlimit(resource.RLIMIT_STACK, (8 << 20, resource.getrlimit(resource.RLIMIT_STACK)[1]))
-                resource.setrlimit(resource.RLIMIT_AS, (mebibytes << 20, mebibytes << 20))
-
-            return {"preexec_fn": limit}
-
         folder = os.open("/", os.O_RDONLY)
         with open("/dev/full", "wb") as full, open("/dev/zero", "rb") as zeros:
             for command, given, how, line in [
                 (CHECK, folder, {}, "refused 37 ReadFault"),
                 (CHECK, b"digit,12", {"stdout": full}, "refused 38 WriteFault"),
                 ("--help", b"", {"stdout": full}, "refused 38 WriteFault"),
-                (LANES.replace("--workers 1", "--workers 16"), f"0,{EAN8_ROW}".encode(), short(40), "refused 36 NoThread"),
-                (CHECK, 1_500_000 * b"digit,123\n", short(8), "refused 43 NoMemory"),
+                (LANES.replace("--workers 1", "--workers 16"), f"0,{EAN8_ROW}".encode(), room_for(40), "refused 36 NoThread"),
+                (CHECK, 1_500_000 * b"digit,123\n", room_for(8), "refused 43 NoMemory"),
                 (CHECK, zeros, {}, "refused 44 InputSize"),
             ]:
                 with self.subTest(line):

@@ -2,7 +2,7 @@
 """Runs package/prove on a tree of empty crates, with a kit that proves nothing and notes what it is asked: tests/using/prove.py ROOT
 
 What is asked of the kit is compared with what has to be proved anew: at first, after an edit, after a crate that is not
-proved, after an interrupted run, and with another kit. The last line has the count of runs.
+proved, after an interrupted run, with another kit, and after a gate. The last line has the count of runs.
 """
 import os
 import re
@@ -24,6 +24,7 @@ sleep "${NAP:-0}"
 [ "$name" != "${FAILS:-}" ] || { echo "not proved"; exit 1; }
 case $out in *.rlib) mkdir -p "$out" ;; *) echo "$name" >"$out" ;; esac
 """
+SCRIPTS = ["prove", "program", "rattle", "sources", "stamp", "take"]
 LINK = """#!/bin/sh
 while [ $# -gt 0 ]; do
     case $1 in -o) printf '#!/bin/sh\\necho "ran $*"\\nexit 3\\n' >"$2" && chmod +x "$2" ;; esac
@@ -52,13 +53,18 @@ class Tree:
         self.folder, self.crates = folder, crates
         self.kit = os.path.join(folder, "kit", "bin")
         os.makedirs(self.kit)
+        clang = os.path.join(folder, "kit", "toolchain", "bin")
+        os.makedirs(clang)
+        self.write(os.path.join(clang, "clang"), "#!/bin/sh\n")
         for name, text in [("rattle", RATTLE), ("rattle-link", LINK), ("rt", "#!/bin/sh\necho kit one\n")]:
             self.write(os.path.join(self.kit, name), text)
         for name in crates:
             os.makedirs(self.at("crates", name, "src"))
             self.write(self.at("crates", name, "src", "main.rt" if name in ("gs1_hub", "calls_again") else "lib.rt"), "")
         os.mkdir(self.at("package"))
-        for name in ["crates.txt", "gs1_hub", "package/prove"]:
+        os.mkdir(self.at("embed"))
+        shutil.copytree(os.path.join(ROOT, "package", "aarch64"), self.at("package", "aarch64"))
+        for name in ["crates.txt", "VERSION", "gs1_hub", "embed/exports", *(f"package/{it}" for it in SCRIPTS)]:
             shutil.copy(os.path.join(ROOT, name), self.at(name))
 
     def at(self, *parts):
@@ -94,11 +100,21 @@ class Tree:
         os.remove(path)
         return names
 
+    def gate(self, names):
+        """Leaves what .ci/run leaves when rt has proved these crates."""
+        sources = subprocess.run([self.at("package", "sources")], stdout=subprocess.PIPE, check=True, text=True).stdout
+        shutil.rmtree(self.at("out", "gate"), ignore_errors=True)
+        for name in names:
+            os.makedirs(self.at("out", "gate", f"{name}.rlib"))
+        self.write(self.at("out", "gate", "sources"), sources)
+
     def edit(self, name):
-        """Changes a file of a crate."""
-        time.sleep(0.02)
-        os.utime(self.at("crates", name, "src", "lib.rt"))
-        time.sleep(0.02)
+        """Changes a file of a crate, and leaves it the time that it had: what is proved is known by contents."""
+        path = self.at("crates", name, "src", "lib.rt")
+        times = os.stat(path)
+        with open(path, "a", encoding="utf-8") as file:
+            file.write("// edited\n")
+        os.utime(path, ns=(times.st_atime_ns, times.st_mtime_ns))
 
 
 def main():
@@ -142,7 +158,7 @@ def main():
         status, said, asked = tree.run("package/prove", "gs1_hub")
         is_so = status == 0 and {*asked} == (over["scan_core"] | {"scan_core"}) - kept and in_order(asked)
         expect("the run after it", is_so, (status, said, asked))
-        for kind, made in [([], "libgs1_c.a"), (["wasm64"], "gs1_c.wasm")]:
+        for kind, made in [([], "libgs1_c.a"), (["x86_64"], "x86_64/libgs1_c.a"), (["wasm64"], "wasm64/gs1_c.wasm")]:
             status, said, asked = tree.run("package/prove", "gs1_c", *kind)
             is_so = status == 0 and asked == ["gs1_c"] and os.path.exists(tree.at("crates", "gs1_c", "out", made))
             expect(made, is_so, (status, said, asked))
@@ -164,7 +180,7 @@ def main():
             expect(f"interrupted by {sign.name}", is_so, (ran.returncode, said, asked, lost))
         done = re.findall(r"(\w+): proved", said)
         with tree.start("package/prove", "gs1_hub", NAP="0.1") as one:
-            while (line := one.stdout.readline()) and "crates are proved before it" not in line:
+            while (line := one.stdout.readline()) and "proving" not in line:
                 pass
             status, said, _ = tree.run("package/prove", "gs1_hub")
             first = one.stdout.read()
@@ -188,6 +204,17 @@ def main():
         tree.write(os.path.join(tree.kit, "rt"), "#!/bin/sh\necho kit two\n")
         status, said, asked = tree.run("package/prove", "gs1_hub")
         expect("with another kit", status == 0 and sorted(asked) == sorted(hub), (status, said, asked))
+
+        # What rt proved in a gate of these very sources.
+        tree.edit("digits_core")
+        tree.gate(hub - {"gs1_hub"})
+        status, said, asked = tree.run("package/prove", "gs1_hub")
+        expect("after a gate", status == 0 and asked == ["gs1_hub"], (status, said, asked))
+        status, said, asked = tree.run("package/prove", "gs1_hub")
+        expect("after a gate, again", status == 0 and not asked, (status, said, asked))
+        tree.edit("digits_core")
+        status, said, asked = tree.run("package/prove", "gs1_hub")
+        expect("after a gate and an edit", status == 0 and sorted(asked) == sorted(hub), (status, said, asked))
     print(f"package/prove: {runs} runs, {wrong} wrong")
     return wrong > 0
 
