@@ -21,8 +21,9 @@ import datetime
 import enum
 import re
 from dataclasses import dataclass
+from functools import lru_cache
 from pathlib import Path
-from typing import TYPE_CHECKING, Any, List, NamedTuple, Optional, Sequence, Tuple, Union
+from typing import TYPE_CHECKING, Any, Dict, List, NamedTuple, Optional, Sequence, Tuple, Union
 
 if TYPE_CHECKING:
     from .picture import Picture
@@ -59,7 +60,8 @@ for _name in ("row_elements", "find", "dots_elements", "find_dots", "date", "sca
 class Refusal(ValueError):
     """A question that is refused: the number and the name say why, as docs/FAULTS.md lists them.
 
-    ``place`` is an offset or an index, from 0, where the fault has one.
+    ``place`` is an offset or an index, from 0, where the fault has one. ``cause`` and ``remedy`` are what the page says
+    of the number: why it comes, and what to do.
     """
 
     def __init__(self, number: int, name: str, place: Optional[int] = None) -> None:
@@ -68,9 +70,26 @@ class Refusal(ValueError):
         self.name = name
         self.place = place
 
+    @property
+    def cause(self) -> str:
+        return _remedies()[str(self.number)][0]
+
+    @property
+    def remedy(self) -> str:
+        return _remedies()[str(self.number)][1]
+
     def __str__(self) -> str:
         place = "" if self.place is None else f" {self.place}"
         return f"refused {self.number} {self.name}{place}"
+
+
+@lru_cache(maxsize=None)
+def _remedies() -> Dict[str, Tuple[str, str]]:
+    """The cause and the remedy of each number: python/build makes the file from docs/FAULTS.md."""
+    import json  # Not at every start: it takes a tenth of it.
+
+    told: Dict[str, Tuple[str, str]] = json.loads(Path(__file__).with_name("remedies.json").read_text("utf-8"))
+    return told
 
 
 class Kind(enum.Enum):
@@ -302,8 +321,9 @@ def read_picture(picture: Picture, year: int, *, level: Optional[int] = None) ->
     Needs numpy and Pillow: ``pip install noriladle[picture]``.
 
     :raises ImportError: numpy or Pillow is not there.
-    :raises OSError: the file is not there, or no image.
-    :raises Refusal: 17 ``TooWide`` of rows of more than 65,535 dots; 42 ``Words`` of a year out of range.
+    :raises OSError: the file is not there, or no JPEG, PNG, TIFF, PBM, PGM, PPM, BMP, GIF or WebP.
+    :raises Refusal: 17 ``TooWide`` of rows of more than 65,535 dots; 44 ``InputSize`` of a file's picture of more than
+        100,000,000; 42 ``Words`` of a year out of range.
     :raises TypeError: the dots are of another type.
     :raises ValueError: the array has another shape, or the level is out of range.
     """

@@ -7,7 +7,8 @@ from __future__ import annotations
 
 import math
 import os
-from typing import Any, List, Optional, Union
+import warnings
+from typing import Any, BinaryIO, List, Optional, Union
 
 try:
     import numpy
@@ -21,6 +22,12 @@ from ._found import Placed, in_reading_order
 from ._reader import Grey, Library, read_rows
 
 Picture = Union[Image.Image, str, "os.PathLike[str]", "numpy.ndarray[Any, Any]"]
+
+FORMATS = ("JPEG", "PNG", "TIFF", "PPM", "BMP", "GIF", "WEBP")
+"""The formats of files that are opened. Others are not, since Pillow runs other programs for some of them."""
+
+MOST_PIXELS = 100_000_000
+"""The most pixels of a file's picture: a small file may say that it has many more than there is memory for."""
 
 _RED, _GREEN, _BLUE = 77, 150, 29
 """The parts of colours in grey, of 256."""
@@ -58,8 +65,8 @@ def _symbol(placed: Placed, width: int, height: int) -> Symbol:
 def grey_of(picture: Picture) -> Grey:
     """The grey values of a picture's dots, rows first; what is clear is white."""
     if isinstance(picture, (str, os.PathLike)):
-        with Image.open(picture) as opened:
-            return grey_of(opened)
+        with opened(picture) as image:
+            return grey_of(image)
     pixels = numpy.asarray(_plain(picture) if isinstance(picture, Image.Image) else picture)
     if pixels.dtype == bool:
         pixels = pixels * numpy.uint8(255)
@@ -79,6 +86,26 @@ def grey_of(picture: Picture) -> Grey:
         light = (light * opaque + 255 * (255 - opaque)) // 255
     grey = light.astype(numpy.uint8)
     return grey
+
+
+def opened(file: Union[str, "os.PathLike[str]", BinaryIO], page: int = 0) -> Image.Image:
+    """The picture of a file, or one of its pages, from 0; its pixels are not read yet.
+
+    :raises OSError: the file is not there, or has none of the formats.
+    :raises Refusal: 44 ``InputSize`` of more pixels than are read.
+    """
+    with warnings.catch_warnings():
+        # The limit below is the one that counts.
+        warnings.simplefilter("ignore", Image.DecompressionBombWarning)
+        try:
+            image = Image.open(file, formats=FORMATS)
+            image.seek(page)
+        except Image.DecompressionBombError:
+            raise Refusal(44, "InputSize") from None
+    if image.width * image.height > MOST_PIXELS:
+        image.close()
+        raise Refusal(44, "InputSize")
+    return image
 
 
 def _plain(image: Image.Image) -> Union[Image.Image, "numpy.ndarray[Any, Any]"]:

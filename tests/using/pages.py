@@ -11,7 +11,9 @@ import subprocess
 import sys
 
 PROGRAM, FOLDER = os.path.abspath(sys.argv[1]), os.path.abspath(sys.argv[2])
-HEADINGS = {"Commands:", "Options:"}
+NAME = os.path.basename(PROGRAM)
+HEADINGS = {"Commands:", "Arguments:", "Options:"}
+EMPTY = os.path.join(FOLDER, "empty")
 OPTION = re.compile(r"(?<![\w-])(--?[a-zA-Z]+)")
 
 
@@ -42,7 +44,7 @@ def page_faults(name, text):
     for line in text.splitlines():
         line = squeezed(line.removeprefix("Usage: "))
         if line and line not in HEADINGS:
-            found = page.find(line, place if not line.startswith("gs1_hub ") else 0)
+            found = page.find(line, place if not line.startswith(f"{NAME} ") else 0)
             if found < 0:
                 yield f"{name}.1 lacks: {line}"
             else:
@@ -52,8 +54,8 @@ def page_faults(name, text):
 
 
 def bash_offers(*words):
-    script = f'. "{FOLDER}/gs1_hub.bash"; COMP_WORDS=("$@"); COMP_CWORD=$(($# - 1)); _gs1_hub; printf "%s\\n" "${{COMPREPLY[@]}}"'
-    return set(printed(["bash", "-c", script, "bash", "gs1_hub", *words]).split())
+    script = f'. "{FOLDER}/{NAME}.bash"; COMP_WORDS=("$@"); COMP_CWORD=$(($# - 1)); _{NAME}; printf "%s\\n" "${{COMPREPLY[@]}}"'
+    return set(printed(["bash", "-c", script, "bash", NAME, *words], cwd=EMPTY).split())
 
 
 ZSH = """
@@ -63,24 +65,24 @@ compadd() {{
     local -a hits; builtin compadd -A hits "$@"; local hit; for hit in $hits; do print -r -- "<<$hit>>"; done
 }}
 bindkey '^I' complete-word; zle -C complete-word complete-word _generic
-autoload -Uz _gs1_hub; compdef _gs1_hub gs1_hub; PS1='rea''dy> '
+autoload -Uz _{name}; compdef _{name} {name}; PS1='rea''dy> '
 """
 
 
 def zsh_offers(*words):
     """What zsh offers, typed at a terminal."""
     os.makedirs(f"{FOLDER}/zsh", exist_ok=True)
-    with open(f"{FOLDER}/gs1_hub.zsh", encoding="utf-8") as its, open(f"{FOLDER}/zsh/_gs1_hub", "w", encoding="utf-8") as copy:
+    with open(f"{FOLDER}/{NAME}.zsh", encoding="utf-8") as its, open(f"{FOLDER}/zsh/_{NAME}", "w", encoding="utf-8") as copy:
         copy.write(its.read())
     with open(f"{FOLDER}/zsh/start", "w", encoding="utf-8") as it:
-        it.write(ZSH.format(folder=f"{FOLDER}/zsh"))
+        it.write(ZSH.format(folder=f"{FOLDER}/zsh", name=NAME))
     child, terminal = pty.fork()
     if child == 0:
         os.environ.update(TERM="dumb", COLUMNS="200")
         os.execvp("zsh", ["zsh", "-f", "-i"])
     os.write(terminal, f"source {FOLDER}/zsh/start\n".encode())
     shown = read_until(terminal, b"ready> ")
-    os.write(terminal, (" ".join(["gs1_hub", *words]) + "\t").encode())
+    os.write(terminal, (" ".join([NAME, *words]) + "\t").encode())
     # The line is killed, and the next command says that all was shown.
     os.write(terminal, b"\x15print do''ne; exit\n")
     shown = read_until(terminal, b"done")
@@ -100,9 +102,10 @@ def read_until(terminal, end):
 
 
 def main():
-    texts = {"gs1_hub": printed([PROGRAM, "--help"])}
-    commands = commands_of(texts["gs1_hub"])
-    texts |= {f"gs1_hub-{it}": printed([PROGRAM, it, "--help"]) for it in commands}
+    texts = {NAME: printed([PROGRAM, "--help"])}
+    commands = commands_of(texts[NAME])
+    texts |= {f"{NAME}-{it}": printed([PROGRAM, it, "--help"]) for it in commands}
+    os.makedirs(EMPTY, exist_ok=True)
     faults = [it for name, text in texts.items() for it in page_faults(name, text)]
     made = {it for it in os.listdir(FOLDER) if it.endswith(".1")}
     faults += [f"{it} is no page of a command, or is not there" for it in made ^ {f"{name}.1" for name in texts}]
@@ -114,10 +117,10 @@ def main():
         if found != wanted:
             faults.append(f"{shell} offers {sorted(found)} for {words}, and not {sorted(wanted)}")
 
-    offers("bash", [""], bash_offers(""), commands | options_of(texts["gs1_hub"]))
+    offers("bash", [""], bash_offers(""), commands | options_of(texts[NAME]))
     offers("zsh", [""], zsh_offers(""), commands)
     for command in sorted(commands):
-        text = texts[f"gs1_hub-{command}"]
+        text = texts[f"{NAME}-{command}"]
         options = options_of(text)
         offers("bash", [command, ""], bash_offers(command, ""), options)
         offers("bash", [command, "--year"], bash_offers(command, "--year", ""), set())
@@ -125,7 +128,7 @@ def main():
         offers("bash", [command, "--year", "=", "2026"], bash_offers(command, "--year", "=", "2026", ""), options - {"--year"})
         offers("zsh", [command, "-"], {it.rstrip("=") for it in zsh_offers(command, "-")}, options)
     print("\n".join(faults), file=sys.stderr, end="\n" if faults else "")
-    print(f"pages: {len(texts)} manual pages, {asked} completions, {len(faults)} differ")
+    print(f"{NAME}: {len(texts)} manual pages, {asked} completions, {len(faults)} differ")
     sys.exit(1 if faults else 0)
 
 

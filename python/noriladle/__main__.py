@@ -1,0 +1,143 @@
+"""The command ``noriladle``, which is ``python3 -m noriladle`` too."""
+from __future__ import annotations
+
+import argparse
+import importlib
+import os
+import re
+import sys
+from typing import Any, List, NamedTuple, NoReturn, Optional, Sequence, Tuple
+
+from . import __version__
+from .commands import REFUSED, RIGHT, WRONG_WORDS, WrongWords, tell
+
+
+class Command(NamedTuple):
+    """A subcommand: its name, its line of the help, and the module that has its arguments and runs it."""
+
+    name: str
+    help: str
+    module: str
+
+
+COMMANDS = (
+    Command("labels", "Make labels of a list: names, prices and barcodes on label stock", "noriladle.commands.labels"),
+    Command("check", "Check a list of numbers, element strings and scanned texts", "noriladle.commands.check"),
+    Command("read", "Read the barcodes of photographs, scans and PDF files", "noriladle.commands.read"),
+)
+"""All subcommands, in the order of the help. A module is imported only when its command is asked for."""
+
+_ABOUT = "Make labels, check numbers and read pictures: GS1 barcodes for a shop"
+_AFTER = "noriladle COMMAND --help prints the options of a command and an example."
+
+
+class Parser(argparse.ArgumentParser):
+    """A parser whose help has the form of ``gs1_hub``'s, so that one script makes the manual pages of both."""
+
+    def __init__(self, prog: str, about: str, after: str = "", commands: Sequence[Command] = ()) -> None:
+        super().__init__(prog, description=about, epilog=after, allow_abbrev=False, add_help=False)
+        self.commands = commands
+        self.add_argument("-h", "--help", action="help", help="Print help")
+
+    def format_help(self) -> str:
+        """What the command is for, its usage, its arguments and options, and what else there is to say."""
+        words, options = self._get_positional_actions(), self._get_optional_actions()
+        usage = [self.prog, "COMMAND .."] if self.commands else [self.prog, "[OPTIONS]", *map(_shown, words)]
+        blocks = [self.description or "", f"Usage: {' '.join(usage)}"]
+        for heading, pairs in (("Commands", [(command.name, command.help) for command in self.commands]),
+                               ("Arguments", [(_shown(action), action.help or "") for action in words]),
+                               ("Options", [(_names(action), action.help or "") for action in options])):
+            if pairs:
+                blocks.append("\n".join([f"{heading}:", *_columns(pairs)]))
+        return "\n\n".join(filter(None, [*blocks, (self.epilog or "").strip()])) + "\n"
+
+    def error(self, message: str) -> NoReturn:
+        """Says what is wrong with the words, with the option that may have been meant, and ends."""
+        known = [name for action in self._actions for name in action.option_strings]
+        wrong = re.search(r"unrecognized arguments: (--?[\w-]+)", message)
+        meant = _meant(wrong[1], known) if wrong else ""
+        self.exit(WRONG_WORDS, f"{self.prog}: {message}{meant}; see {self.prog} --help\n")
+
+
+def _meant(word: str, known: Sequence[str]) -> str:
+    """A question for the word that may have been meant."""
+    import difflib  # Only of use here.
+
+    near = difflib.get_close_matches(word, known, 1)
+    return f" (did you mean {near[0]}?)" if near else ""
+
+
+def _shown(action: argparse.Action) -> str:
+    """An argument as the usage shows it."""
+    name = str(action.metavar)
+    return f"[{name}]" if action.nargs == "?" else f"{name}.." if action.nargs == "+" else name
+
+
+def _columns(pairs: Sequence[Tuple[str, str]]) -> List[str]:
+    """The lines below a heading, in two columns."""
+    wide = max(len(name) for name, _ in pairs)
+    return [f"  {name:<{wide}}  {about}" for name, about in pairs]
+
+
+def _names(action: argparse.Action) -> str:
+    """The names of an option, with its value."""
+    names = ", ".join(action.option_strings)
+    value = f" <{action.metavar}>" if action.metavar and action.nargs != 0 else ""
+    return f"{names if len(action.option_strings) > 1 or len(names) == 2 else '    ' + names}{value}"
+
+
+def parser_of(name: Optional[str] = None) -> Parser:
+    """The parser of the program, or of a subcommand, whose module is imported."""
+    if name is None:
+        parser = Parser("noriladle", _ABOUT, _AFTER, COMMANDS)
+        parser.add_argument("--version", action="version", version=f"noriladle {__version__}", help="Print version")
+        return parser
+    module = _module_of(name)
+    about, _, after = (module.__doc__ or "").partition("\n")
+    parser = Parser(f"noriladle {name}", about.rstrip("."), after)
+    module.add_arguments(parser)
+    return parser
+
+
+def _module_of(name: str) -> Any:
+    return importlib.import_module(next(command.module for command in COMMANDS if command.name == name))
+
+
+def main(words: Optional[Sequence[str]] = None) -> int:
+    """Runs the command of these words, or of the process's own, and gives its status: 0, 1 or 2."""
+    given = list(sys.argv[1:] if words is None else words)
+    try:
+        status = _run(given)
+        sys.stdout.flush()
+        return status
+    except SystemExit as ended:
+        return ended.code if isinstance(ended.code, int) else RIGHT if ended.code is None else REFUSED
+    except (WrongWords, ImportError) as wrong:
+        tell(f"noriladle: {wrong}")
+        return WRONG_WORDS
+    except BrokenPipeError:
+        # Whoever read the output has seen enough. What is left of it would be written, and fail again, at the end.
+        os.dup2(os.open(os.devnull, os.O_WRONLY), sys.stdout.fileno())
+        return REFUSED
+    except KeyboardInterrupt:
+        return 130
+    except OSError as error:
+        tell(f"noriladle: {f'{error.filename}: ' if error.filename else ''}{error.strerror or error}")
+        return REFUSED
+
+
+def _run(words: List[str]) -> int:
+    if not words:
+        sys.stderr.write(parser_of().format_help())
+        return WRONG_WORDS
+    names = [command.name for command in COMMANDS]
+    if words[0] in names:
+        status: int = _module_of(words[0]).run(parser_of(words[0]).parse_args(words[1:]))
+        return status
+    if words[0].startswith("-"):
+        parser_of().parse_args(words[:1])
+    raise WrongWords(f"there is no command {words[0]!r}{_meant(words[0], names)}; see noriladle --help")
+
+
+if __name__ == "__main__":
+    sys.exit(main())

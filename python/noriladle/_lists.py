@@ -1,0 +1,112 @@
+"""Lists as people save them: plain lines, or CSV files of any spreadsheet, as records with their lines' numbers."""
+from __future__ import annotations
+
+import csv
+import io
+import re
+from typing import List, NamedTuple, Sequence, Tuple
+
+LIMIT = 16_777_216
+"""The most bytes of a list, as of ``gs1_hub``'s input."""
+
+WHOLE_LINES = "\x1f"
+"""The delimiter of a list that has one cell a line: no text has it."""
+
+_MOST_CELL = 1_000_000
+_DELIMITERS = (WHOLE_LINES, ";", "\t", ",")
+_OTHER_FILES = (
+    (b"PK\x03\x04", "a spreadsheet's own file: save it as CSV"),
+    (b"\xd0\xcf\x11\xe0", "a spreadsheet's own file: save it as CSV"),
+    (b"%PDF-", "a PDF file: noriladle read takes it"),
+    (b"\x89PNG", "a picture: noriladle read takes it"),
+    (b"\xff\xd8\xff", "a picture: noriladle read takes it"),
+    (b"\x1f\x8b", "a compressed file: unpack it"),
+)
+
+
+class Fault(NamedTuple):
+    """What is wrong with a line of a list, in words; lines count from 1."""
+
+    line: int
+    said: str
+
+
+class Faults(ValueError):
+    """All that is wrong with a list."""
+
+    def __init__(self, faults: Sequence[Fault]) -> None:
+        super().__init__("; ".join(f"line {fault.line}: {fault.said}" for fault in faults))
+        self.faults = tuple(faults)
+
+
+class Record(NamedTuple):
+    """The cells of a line, or of several lines if a cell has line ends; the number is that of the first."""
+
+    line: int
+    cells: Sequence[str]
+
+
+class Sheet(NamedTuple):
+    """The records of a list whose cells are parted by a delimiter, and the lines that are none."""
+
+    delimiter: str
+    records: Sequence[Record]
+    faults: Sequence[Fault]
+
+
+def decoded(data: bytes) -> Tuple[str, str]:
+    """The text of a file and its encoding: UTF-8, UTF-16 by its mark, or else Windows' own of Western Europe.
+
+    :raises Faults: it is too long, or no text.
+    """
+    if len(data) > LIMIT:
+        raise Faults([Fault(1, f"the list has more than {LIMIT:,} bytes: split it")])
+    for magic, said in _OTHER_FILES:
+        if data.startswith(magic):
+            raise Faults([Fault(1, f"this is {said}")])
+    if data[:2] in (b"\xff\xfe", b"\xfe\xff"):
+        return data.decode("utf-16", "replace"), "utf-16"
+    if b"\0" in data:
+        line = 1 + data[:data.index(b"\0")].count(b"\n")
+        raise Faults([Fault(line, "there is a byte 0, so this is no text: save the list as CSV in UTF-8")])
+    try:
+        return data.decode("utf-8-sig"), "utf-8-sig"
+    except UnicodeDecodeError:
+        return data.decode("cp1252", "replace"), "cp1252"
+
+
+def sheets_of(text: str) -> List[Sheet]:
+    """The list by each delimiter that it may have: by the one that its first line tells, as ``sep=;``, or by each that
+    stands in it, after whole lines.
+
+    :raises Faults: it is empty.
+    """
+    told = re.match(r"sep=(.)[ \t]*(\r\n|\n|\r|$)", text)
+    if told:
+        sheets = [_sheet(text[told.end():], told[1], 2)]
+    else:
+        sheets = [_sheet(text, it, 1) for it in _DELIMITERS if it == WHOLE_LINES or it in text]
+    if not any(sheet.records or sheet.faults for sheet in sheets):
+        raise Faults([Fault(1, "the list is empty")])
+    return sheets
+
+
+def _sheet(text: str, delimiter: str, first: int) -> Sheet:
+    """The records that are not empty, of a text that begins with this line."""
+    csv.field_size_limit(_MOST_CELL)
+    reader = csv.reader(io.StringIO(text, newline=""), delimiter=delimiter, strict=True)
+    records: List[Record] = []
+    faults: List[Fault] = []
+    line = first
+    while True:
+        try:
+            cells = next(reader)
+        except StopIteration:
+            return Sheet(delimiter, records, faults)
+        except csv.Error as error:
+            said = f"this line is no CSV ({error}): a quotation mark is missing, or one is too many"
+            faults.append(Fault(line, said))
+            cells = []
+        if any(cell.strip() for cell in cells):
+            records.append(Record(line, cells))
+        line = first + reader.line_num

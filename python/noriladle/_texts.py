@@ -1,0 +1,143 @@
+"""Texts as people type and paste them: numbers, element strings as they are printed, and what scanners send."""
+from __future__ import annotations
+
+import re
+from typing import List, Tuple
+
+from . import Answer, Refusal, check_digit, read_gtin, read_scan
+
+_BRACKETED = {"(": re.compile(r"\((\d{2,4})\)([^()]+)"), "[": re.compile(r"\[(\d{2,4})\]([^][]+)")}
+_BLANKS = re.compile(r"[\s\xa0\u2007\u202f]+")
+_PUNCTUATION = re.compile(r"[\s\xa0\u2007\u202f\u2010-\u2015-]+")
+_LINK = re.compile(r"https?://", re.IGNORECASE)
+_ROUNDED = re.compile(r"\d([.,]\d+)?E\+?\d+", re.IGNORECASE)
+
+
+class Unreadable(ValueError):
+    """Why a text cannot be asked about at all, and what to do."""
+
+
+def read_text(text: str, year: int) -> Answer:
+    """What a text says: an element string with ``(01)`` or ``[01]`` around each Application Identifier, or with ``^`` or
+    byte 29 in it; what a scanner sends, which begins with ``]``; a GS1 Digital Link; or else a number.
+
+    :raises Refusal: as :func:`noriladle.read_scan`; of a number as :func:`noriladle.read_gtin`.
+    :raises Unreadable: the parentheses are not around Application Identifiers alone.
+    """
+    text = text.strip()
+    if text[:1] in _BRACKETED:
+        return read_scan(f"^{element_string(text)}", year)
+    if text[:1] == "]" or _LINK.match(text):
+        return read_scan(text, year)
+    if is_elements(text):
+        return read_scan(text if text[0] in "^\x1d" else f"^{text}", year)
+    digits = digits_of(text)
+    # Eight digits that begin with 0 are a GTIN-8 or a UPC-E: the library refuses to guess.
+    if len(digits) == 8 and digits[0] == "0" and digits.isascii() and digits.isdecimal():
+        return read_scan(digits, year)
+    return read_scan(f"^01{read_gtin(digits)}", year)
+
+
+def is_elements(text: str) -> bool:
+    """Whether a text is an element string: it has parentheses around its first Application Identifier, or a separator."""
+    return text[:1] in _BRACKETED or "^" in text or "\x1d" in text
+
+
+def looks_right(text: str) -> bool:
+    """Whether a cell is written like a text that is asked about, be it right or wrong."""
+    text = text.strip()
+    if text[:1] in _BRACKETED or text[:1] in ("]", "^", "\x1d"):
+        return bool(re.match(r"[(\[]\d\d|\]\w\d|[\^\x1d]\d\d", text))
+    digits = digits_of(text)
+    return bool(7 <= len(digits) <= 14 and digits.isdecimal() or _ROUNDED.fullmatch(digits) or _LINK.match(text))
+
+
+def digits_of(text: str) -> str:
+    """A number without the blanks and hyphens that people put into it."""
+    return _PUNCTUATION.sub("", text)
+
+
+def element_string(text: str) -> str:
+    """The element string of a text with parentheses or brackets around each Application Identifier, or else with ``^``
+    or byte 29 for the separator.
+
+    :raises Unreadable: there are parentheses elsewhere.
+    """
+    if text[:1] not in _BRACKETED:
+        return text.replace("^", "\x1d")
+    # The symbol has no separator that it does not need.
+    return "\x1d".join(f"{ai}{value}" for ai, value in _pairs(text))
+
+
+def _pairs(text: str) -> List[Tuple[str, str]]:
+    """The Application Identifiers of a text, each with its value; no value has a blank."""
+    plain, pattern = _BLANKS.sub("", text), _BRACKETED[text[0]]
+    if pattern.sub("", plain):
+        raise Unreadable("parentheses stand around Application Identifiers alone, as in (01)09501101530003(10)AB; if a value "
+                         "has some, write [01]09501101530003[10]A(B)" if text[0] == "(" else
+                         "brackets stand around Application Identifiers alone, as in [01]09501101530003[10]AB")
+    return pattern.findall(plain)
+
+
+def remedy_of(text: str, refusal: Refusal) -> str:
+    """What to do about this text: what its digits say, or else what docs/FAULTS.md has for the refusal."""
+    text = text.strip()
+    if text[:1] == "]" or _LINK.match(text):
+        return _remedy_of_scan(text, refusal)
+    if is_elements(text):
+        return _remedy_of_elements(text, refusal)
+    return _remedy_of_digits(digits_of(text), refusal)
+
+
+def _remedy_of_scan(text: str, refusal: Refusal) -> str:
+    if refusal.number == 40 and text[:1] == "]":
+        return f"{text[:3]} marks a barcode that says no GS1 number or element string; scan the GS1 barcode of the label"
+    if refusal.number == 40:
+        return "this is no GS1 Digital Link, as https://id.gs1.org/01/09501101530003 is"
+    digits = text[3:]
+    if refusal.number == 3 and digits.isdecimal() and len(digits) > 8:
+        return _remedy_of_digits(digits, refusal)
+    return refusal.remedy
+
+
+def _remedy_of_elements(text: str, refusal: Refusal) -> str:
+    """The remedy, with the element that it is about."""
+    if refusal.place is None:
+        return refusal.remedy
+    if text[:1] not in _BRACKETED:
+        plain = text[1:] if text[0] in "^\x1d" else text
+        return f"at {plain[refusal.place:refusal.place + 20]}: {refusal.remedy}".replace("\x1d", "^")
+    at = 0
+    for ai, value in _pairs(text):
+        if at == refusal.place:
+            return f"at {text[0]}{ai}{')' if text[0] == '(' else ']'}{value}: {_padded(ai, value) or refusal.remedy}"
+        at += len(ai) + len(value) + 1
+    return refusal.remedy
+
+
+def _padded(ai: str, value: str) -> str:
+    """What to do about a GTIN that was written without the zeros that AI 01 and 02 want."""
+    try:
+        gtin = read_gtin(value) if ai in ("01", "02") else value
+    except Refusal:
+        return ""
+    return f"a GTIN has 14 digits here: ({ai}){gtin}" if gtin != value else ""
+
+
+def _remedy_of_digits(digits: str, refusal: Refusal) -> str:
+    if _ROUNDED.fullmatch(digits):
+        return ("the spreadsheet has rounded it: format the column as a number without decimals, type the number again and "
+                "save the file")
+    if re.fullmatch(r"\d{8,14}[.,]0+", digits):
+        return f"a number has no decimals: write {re.split('[.,]', digits)[0]}"
+    is_number = digits.isascii() and digits.isdecimal()
+    if refusal.name == "CheckDigit":
+        return f"a digit is wrong; if it is the last one, {digits[:-1]}{check_digit(digits[:-1])} is right"
+    if refusal.name == "Kind" and len(digits) == 8:
+        return f"eight digits that begin with 0 may be a GTIN-8 or a UPC-E: write ]E4{digits} or ]E0{digits}"
+    for longer in (digits.zfill(length) for length in (8, 12, 13) if is_number and 5 < len(digits) < length):
+        if int(longer[-1]) == check_digit(longer[:-1]):
+            return f"a GTIN has 8, 12, 13 or 14 digits; a spreadsheet may have removed zeros: {longer} is right"
+    if is_number and len(digits) > 14:
+        return f"a GTIN has at most 14 digits; if this is an element string, write ^{digits}"
+    return "a GTIN has 8, 12, 13 or 14 digits" if refusal.name == "Length" else refusal.remedy

@@ -1,0 +1,101 @@
+"""The subcommands of ``noriladle``, a module each, and what they share.
+
+A module has a docstring, whose first line is the help's first line and whose rest stands below the options;
+``add_arguments``, which adds its arguments to a parser; and ``run``, which runs the command and gives its status.
+:mod:`noriladle.__main__` has the table of them, and imports a module only when its command is asked for.
+"""
+from __future__ import annotations
+
+import argparse
+import contextlib
+import datetime
+import os
+import sys
+import time
+from pathlib import Path
+from typing import Any, Dict, List, Sequence, Tuple
+
+from .. import Answer
+
+RIGHT, REFUSED, WRONG_WORDS = 0, 1, 2
+"""The statuses: all is well; something was refused, not found or not written; the words are wrong, or a file that they
+name cannot be read."""
+
+
+class WrongWords(Exception):
+    """What is wrong with the words, in one line that says what to do. The command ends with status 2."""
+
+
+def tell(said: str) -> None:
+    """Writes a line to standard error."""
+    print(said, file=sys.stderr, flush=True)
+
+
+def add_year(parser: argparse.ArgumentParser) -> None:
+    """Adds the option for the year that dates of two digits are read by."""
+    parser.add_argument("--year", type=_year, default=datetime.date.today().year, metavar="YEAR",
+                        help="Year that dates of two digits are read by, 1951 to 2149; this year")
+
+
+def _year(word: str) -> int:
+    if not (word.isascii() and word.isdecimal() and 1951 <= int(word) <= 2149):
+        raise argparse.ArgumentTypeError(f"{word!r} is no year from 1951 to 2149")
+    return int(word)
+
+
+def write_files(files: Sequence[Tuple[Path, bytes]]) -> None:
+    """Writes all files or none: each is written beside its place, and only then all are moved there. What is no regular
+    file, such as a pipe or a device, is written in its place.
+
+    :raises OSError: a file cannot be written.
+    """
+    moved: List[Tuple[Path, Path]] = []
+    try:
+        for path, data in files:
+            path = Path(os.path.realpath(path))
+            if path.exists() and not path.is_file():
+                path.write_bytes(data)
+                continue
+            beside = path.with_name(f".{path.name}.{os.getpid()}")
+            with open(beside, "xb") as file:
+                moved.append((beside, path))
+                file.write(data)
+        for beside, path in moved:
+            os.replace(beside, path)
+    except BaseException:
+        for beside, _ in moved:
+            with contextlib.suppress(FileNotFoundError):
+                beside.unlink()
+        raise
+
+
+class Progress:
+    """A line of progress at a terminal, after a second or at once; it is wiped away at the end."""
+
+    def __init__(self) -> None:
+        self._since = self._last = time.monotonic()
+        self._wide = 0
+
+    def __call__(self, said: str, at_once: bool = False) -> None:
+        """Shows what is being done, at most ten times a second."""
+        now = time.monotonic()
+        if not sys.stderr.isatty() or not at_once and (now - self._since < 1 or now - self._last < 0.1):
+            return
+        self._last = now
+        sys.stderr.write(f"\r{said:<{self._wide}}")
+        sys.stderr.flush()
+        self._wide = len(said)
+
+    def end(self) -> None:
+        """Wipes the line away."""
+        if self._wide:
+            sys.stderr.write(f"\r{'':<{self._wide}}\r")
+            sys.stderr.flush()
+            self._wide = 0
+
+
+def data_of(answer: Answer) -> Dict[str, Any]:
+    """An answer for ``--json``."""
+    elements = [{"ai": it.ai, "value": it.value, **({"date": it.date.isoformat()} if it.date else {}),
+                 **({"time": it.time.isoformat()} if it.time else {})} for it in answer.elements]
+    return {"identifier": answer.identifier, "gtin": answer.gtin, "elements": elements}

@@ -1,0 +1,53 @@
+"""What the commands that take a list share: its words, and its bytes."""
+from __future__ import annotations
+
+import argparse
+import sys
+from typing import Dict
+
+from .._columns import MEANINGS
+from .._lists import LIMIT
+from . import WrongWords, tell
+
+
+def add_list(parser: argparse.ArgumentParser) -> None:
+    """Adds the list, and the option that says what a column of it is."""
+    parser.add_argument("list", nargs="?", default="-", metavar="LIST", help="The list; standard input if left out or -")
+    parser.add_argument("--column", action="append", default=[], metavar="NAME=HEADING",
+                        help=f"Column of the {', '.join(MEANINGS[:-1])} or {MEANINGS[-1]}, by its heading or number")
+
+
+def columns_of(words: argparse.Namespace) -> Dict[str, str]:
+    """What the words say of the columns.
+
+    :raises WrongWords: a column is nothing that is known.
+    """
+    columns = {}
+    for word in words.column:
+        meaning, _, heading = (part.strip() for part in word.partition("="))
+        if meaning not in MEANINGS or not heading:
+            raise WrongWords(f"--column {word}: write one of {', '.join(MEANINGS)}, = and a heading, as in "
+                             "--column name=Bezeichnung")
+        columns[meaning] = heading
+    return columns
+
+
+def name_of(words: argparse.Namespace) -> str:
+    """The list's name for people."""
+    return "standard input" if words.list == "-" else str(words.list)
+
+
+def read_list(words: argparse.Namespace) -> bytes:
+    """What the list has: one byte more than it may have, if it is too long.
+
+    :raises WrongWords: it cannot be read.
+    """
+    if words.list == "-":
+        if sys.stdin.isatty():
+            tell("noriladle: type the list, and end it with Ctrl-D")
+        return sys.stdin.buffer.read(LIMIT + 1)
+    try:
+        with open(words.list, "rb") as file:
+            return file.read(LIMIT + 1)
+    except OSError as error:
+        raise WrongWords(f"{words.list}: {error.strerror}") from error

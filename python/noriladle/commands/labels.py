@@ -1,0 +1,191 @@
+"""Make labels of a list: names, prices and barcodes on label stock
+
+LIST is a CSV file of any spreadsheet. Its heading says which column is gtin (or ean, upc) or gs1 (element strings), name,
+price, copies, kind (ean13, upca, ean8, upce, itf14 or gs1128) and line 1, line 2, .. in English, German, French, Spanish,
+Italian, Dutch or Polish; a column of numbers without such a heading is found by its cells. If a line has a fault, each is
+reported with what to do, nothing is written, and the status is 1. The end of FILE's name says the form: .pdf, .svg, .png,
+or .zpl, .epl, .tspl for a label printer. Print a PDF file at 100 %.
+
+  $ noriladle labels prices.csv --stock L7160 -o labels.pdf
+"""
+from __future__ import annotations
+
+import argparse
+import sys
+from pathlib import Path
+from typing import TYPE_CHECKING, Callable, Dict, List, Sequence, Tuple
+
+from . import REFUSED, RIGHT, Progress, WrongWords, add_year, tell, write_files
+from ._lists import add_list, columns_of, name_of, read_list
+
+if TYPE_CHECKING:
+    from ..labels import Fault, Labels, LabelWarning
+
+FORMS = ("pdf", "svg", "png", "zpl", "epl", "tspl")
+_FOR_PRINTERS = FORMS[3:]
+_MOST_TOLD = 50
+
+
+def add_arguments(parser: argparse.ArgumentParser) -> None:
+    """Adds the arguments of ``noriladle labels``."""
+    parser.add_argument("-o", "--output", metavar="FILE", help="File to write, or - for standard output; labels.pdf")
+    parser.add_argument("--to", choices=FORMS, metavar="FORM", help="Form of the file, if its name does not say it")
+    parser.add_argument("--stock", default="3474", metavar="STOCK",
+                        help="Label stock by its number, or by measures, 3x8:70x37 on A4 or 57x32 on a roll; 3474")
+    parser.add_argument("--stocks", action="store_true", help="List the known numbers of stock, with their measures in mm")
+    parser.add_argument("--start", type=int, default=1, metavar="N", help="First free label on a sheet that was begun; 1")
+    parser.add_argument("--shift", type=_shift, default=(0.0, 0.0), metavar="X,Y",
+                        help="Move all labels right and down by so many mm; 0,0")
+    parser.add_argument("--dpi", type=int, choices=(203, 300, 600), metavar="DPI",
+                        help="The printer's dots an inch: 203, 300 or 600; 300, of label printers 203")
+    parser.add_argument("--module", type=_length, metavar="MM",
+                        help="Width of the narrowest bar; 0.33, of ITF-14 and GS1-128 0.495")
+    parser.add_argument("--bars", type=_length, metavar="MM", help="Height of the bars; the standard's, if there is room")
+    parser.add_argument("--bearers", action="store_true", help="Draw a bar above and below each ITF-14")
+    parser.add_argument("--turn", action="store_true", help="Turn the labels by a right angle on their stock")
+    parser.add_argument("--currency", default="", metavar="SIGN", help="Sign to put behind prices without one, such as €")
+    add_list(parser)
+    parser.add_argument("--font", metavar="TTF", help="TrueType file for the texts; Liberation Sans, or what is there")
+    parser.add_argument("--bold", metavar="TTF", help="TrueType file for names and prices")
+    add_year(parser)
+
+
+def _length(word: str) -> float:
+    try:
+        length = float(word.replace(",", "."))
+    except ValueError:
+        length = 0.0
+    if not 0.05 <= length <= 500:
+        raise argparse.ArgumentTypeError(f"{word!r} is no length in mm")
+    return length
+
+
+def _shift(word: str) -> Tuple[float, float]:
+    try:
+        across, down = (float(part) for part in word.split(","))
+    except ValueError:
+        across = down = 1000.0
+    if max(abs(across), abs(down)) > 20:
+        raise argparse.ArgumentTypeError(f"{word!r} is not two lengths of at most 20 mm, as 0.5,-1")
+    return across, down
+
+
+def run(words: argparse.Namespace) -> int:
+    """Writes the labels of a list, all or none."""
+    if words.stocks:
+        from ..labels import KNOWN
+        print("\n".join(f"{name}\t{text}" for name, text in KNOWN.items()))
+        return RIGHT
+    words.output = words.output or f"labels.{words.to or 'pdf'}"
+    form = _form(words)
+    from .. import labels as shop
+    columns, name = columns_of(words), name_of(words)
+    dpi = words.dpi or (203 if form in _FOR_PRINTERS else 300)
+    look = shop.Look(dpi, words.module, words.bars, words.bearers, words.turn)
+    progress = Progress()
+    try:
+        stock, fonts = shop.stock_of(words.stock), shop.fonts_of(words.font, words.bold)
+        prices = shop.read_list(read_list(words), words.year, columns)
+        if prices.note:
+            tell(f"{name}: {prices.note}")
+        made = shop.make(
+            prices, stock, words.year, look=look, start=words.start, currency=words.currency, fonts=fonts, shift=words.shift,
+            progress=lambda done, of: progress(f"drawing and checking: {100 * done // of} %"))
+        if not made.count:
+            raise shop.Faults([shop.Fault(1, "the list has no labels to print")])
+        progress(f"writing {made.sheets:,} pages")
+        files = _files(made, form, words)
+    except shop.Faults as error:
+        progress.end()
+        _tell_faults(name, error.faults)
+        return REFUSED
+    except ValueError as error:
+        progress.end()
+        raise WrongWords(str(error)) from error
+    progress.end()
+    if prices.encoding == "cp1252":
+        tell(f"{name}: warning: this is not UTF-8 and was read as Windows-1252: look at the accents")
+    _tell_warnings(name, made.warnings)
+    _write(words.output, files)
+    pages = "" if form in _FOR_PRINTERS else f" on {_count(made.sheets, 'page')}"
+    tell(f"{_count(made.count, 'label')}{pages}{_where(words.output, files)}")
+    return RIGHT
+
+
+def _where(output: str, files: Sequence[Tuple[Path, bytes]]) -> str:
+    """Where the labels are."""
+    if output == "-":
+        return ""
+    return f" in {files[0][0]}" if len(files) == 1 else f" in {files[0][0]} to {files[-1][0]}"
+
+
+def _count(number: int, thing: str) -> str:
+    return f"{number:,} {thing}{'' if number == 1 else 's'}"
+
+
+def _form(words: argparse.Namespace) -> str:
+    """What is to be written, by a word or by the end of the file's name.
+
+    :raises WrongWords: there is no such form, or no such folder, or a terminal would show it.
+    """
+    ending = Path(words.output).suffix[1:].lower()
+    form: str = words.to or ("pdf" if words.output == "-" else ending)
+    if form not in FORMS:
+        raise WrongWords(f"{words.output}: the end of the name says no form: write .{', .'.join(FORMS)}, or --to FORM")
+    if words.output == "-" and sys.stdout.isatty():
+        raise WrongWords(f"a terminal shows no {form.upper()}: write a file, as in -o labels.{form}")
+    if words.output != "-" and not Path(words.output).parent.is_dir():
+        raise WrongWords(f"{words.output}: there is no folder {Path(words.output).parent}")
+    return form
+
+
+def _files(made: Labels, form: str, words: argparse.Namespace) -> List[Tuple[Path, bytes]]:
+    """What is written of labels, file by file: those of a page each have its number.
+
+    :raises WrongWords: several files are to go to standard output.
+    """
+    title = "labels" if words.list == "-" else Path(words.list).stem
+    if form in ("svg", "png"):
+        pages = [text.encode() for text in made.svgs()] if form == "svg" else list(made.pngs())
+    else:
+        write: Dict[str, Callable[[], bytes]] = {"zpl": made.zpl, "epl": made.epl, "tspl": made.tspl}
+        pages = [made.pdf(title) if form == "pdf" else write[form]()]
+    path = Path(words.output)
+    if len(pages) == 1:
+        return [(path, pages[0])]
+    if words.output == "-":
+        raise WrongWords(f"{len(pages)} pages are {len(pages)} files: write them, as in -o labels.{form}")
+    wide = len(str(len(pages)))
+    return [(path.with_name(f"{path.stem}-{number:0{wide}}{path.suffix}"), data) for number, data in enumerate(pages, 1)]
+
+
+def _write(output: str, files: Sequence[Tuple[Path, bytes]]) -> None:
+    if output == "-":
+        sys.stdout.buffer.write(files[0][1])
+        return
+    try:
+        write_files(files)
+    except OSError as error:
+        raise OSError(error.errno, f"{error.strerror}; nothing was written", output) from error
+
+
+def _more(lines: Sequence[int]) -> str:
+    """How many further lines have the same."""
+    return f" (and {_count(len(lines) - 1, 'more line')})" if len(lines) > 1 else ""
+
+
+def _tell_faults(name: str, faults: Sequence[Fault]) -> None:
+    """Tells each fault, once if several lines have it."""
+    lines: Dict[str, List[int]] = {}
+    for line, said in faults:
+        lines.setdefault(said, []).append(line)
+    for said, places in list(lines.items())[:_MOST_TOLD]:
+        tell(f"{name}:{places[0]}: {said}{_more(places)}")
+    if len(lines) > _MOST_TOLD:
+        tell(f"{name}: and {_count(len(lines) - _MOST_TOLD, 'more fault')}; noriladle check prints all of the numbers")
+    tell(f"{name}: {_count(len(faults), 'line')} refused, so nothing was written")
+
+
+def _tell_warnings(name: str, warnings: Sequence[LabelWarning]) -> None:
+    for lines, said in warnings:
+        tell(f"{name}:{lines[0]}: warning: {said}{_more(lines)}")

@@ -1,0 +1,183 @@
+"""Read the barcodes of photographs, scans and PDF files
+
+A line for each barcode, with tabs between: the picture, the symbology identifier, the elements, and its place in pixels
+from the left and upper edge: left, top, right and bottom. A file of several pages has the number of the page behind its
+name; pages of a PDF file are drawn by pdftoppm with 300 pixels an inch. The status is 1 if a picture shows no barcode that
+can be read, and 2 if it cannot be opened.
+
+  $ noriladle read photo.jpg
+"""
+from __future__ import annotations
+
+import argparse
+import io
+import json
+import re
+import shutil
+import struct
+import sys
+import warnings
+import zlib
+from typing import TYPE_CHECKING, Any, Iterator, List, NamedTuple, Optional, Tuple
+
+from .. import Refusal, Symbol
+from . import REFUSED, RIGHT, WRONG_WORDS, Progress, add_year, data_of, tell
+
+if TYPE_CHECKING:
+    from PIL import Image
+
+DPI = 300
+"""So many pixels an inch the pages of PDF files are drawn with."""
+
+_PATIENCE = 60
+"""So many seconds pdftoppm may take for a page."""
+_MOST_PAGES, _MOST_BYTES = 10_000, 1_000_000_000
+_DAMAGES = (OSError, ValueError, SyntaxError, EOFError, IndexError, KeyError, TypeError, struct.error, zlib.error)
+"""What Pillow raises at files that are damaged."""
+_PHOTOS_OF_TELEPHONES = (b"ftypheic", b"ftypheix", b"ftyphevc", b"ftypmif1", b"ftypmsf1", b"ftypavif")
+
+
+def add_arguments(parser: argparse.ArgumentParser) -> None:
+    """Adds the arguments of ``noriladle read``."""
+    parser.add_argument("pictures", nargs="+", metavar="PICTURE",
+                        help="JPEG, PNG, TIFF, PBM, PGM, PPM, BMP, GIF, WebP or PDF; - is standard input")
+    parser.add_argument("--json", action="store_true", help="Print a JSON object for each barcode")
+    add_year(parser)
+
+
+class Page(NamedTuple):
+    """A page of a file, or a whole picture, which has no number."""
+
+    name: str
+    number: Optional[int]
+    image: "Image.Image"
+
+    def __str__(self) -> str:
+        return self.name if self.number is None else f"{self.name}:{self.number}"
+
+
+class Unopened(Exception):
+    """Why a file is not opened, in words."""
+
+
+def run(words: argparse.Namespace) -> int:
+    """Reads each picture, and prints a line of each barcode."""
+    from .. import picture  # Says what is to be installed, before any file is looked at.
+
+    # Pillow warns of damages that do not keep it from reading.
+    warnings.simplefilter("ignore")
+    status, progress, is_later = RIGHT, Progress(), False
+    for count, name in enumerate(words.pictures, 1):
+        try:
+            for page in _pages_of(name):
+                progress(f"reading {page} ({count} of {len(words.pictures)})", at_once=is_later)
+                is_later = True
+                symbols = picture.read(page.image, words.year)
+                progress.end()
+                for symbol in symbols:
+                    print(_told(page, symbol, words.json), flush=sys.stdout.isatty())
+                if not symbols:
+                    tell(f"{page}: no barcode was read; docs/PICTURES.md says what a picture needs")
+                    status = max(status, REFUSED)
+        except Refusal as refusal:
+            tell(f"{name}: {refusal}: a picture of more than {picture.MOST_PIXELS:,} pixels is not read: make it smaller")
+            status = max(status, REFUSED)
+        except Unopened as error:
+            progress.end()
+            tell(f"{name}: {error}")
+            status = WRONG_WORDS
+    return status
+
+
+def _told(page: Page, symbol: Symbol, as_json: bool) -> str:
+    """The line of a barcode."""
+    answer, box = symbol.answer, symbol.box
+    if not as_json:
+        return f"{page}\t{answer.identifier}\t{answer.text}\t{','.join(map(str, box))}"
+    told = {"file": page.name, **({} if page.number is None else {"page": page.number}), **data_of(answer),
+            "box": list(box), "corners": [list(corner) for corner in symbol.corners], "rows": symbol.rows}
+    return json.dumps(told, ensure_ascii=False)
+
+
+def _pages_of(name: str) -> Iterator[Page]:
+    """The pictures of a file.
+
+    :raises Refusal: 44 ``InputSize`` of too many pixels.
+    :raises Unopened: the file cannot be read, or is no picture.
+    """
+    try:
+        if name == "-":
+            data = sys.stdin.buffer.read(_MOST_BYTES + 1)
+        else:
+            with open(name, "rb") as file:
+                data = file.read(_MOST_BYTES + 1)
+    except OSError as error:
+        raise Unopened(error.strerror or str(error)) from error
+    if len(data) > _MOST_BYTES:
+        raise Unopened(f"the file has more than {_MOST_BYTES:,} bytes, and is not read")
+    if data[:1024].lstrip().startswith(b"%PDF-"):
+        yield from _pdf_pages(name, data)
+    elif data[4:12] in _PHOTOS_OF_TELEPHONES:
+        raise Unopened("this is a HEIC or AVIF photograph, which is not read: save it as JPEG")
+    else:
+        yield from _pictures(name, data)
+
+
+def _pictures(name: str, data: bytes) -> Iterator[Page]:
+    """The picture of a file, or the pages of a TIFF."""
+    from ..picture import opened
+
+    try:
+        with opened(io.BytesIO(data)) as image:
+            pages = getattr(image, "n_frames", 1) if image.format == "TIFF" else 1
+            for number in range(pages):
+                with opened(io.BytesIO(data), number) as frame:
+                    frame.load()
+                    yield Page(name, number + 1 if pages > 1 else None, frame)
+    except Refusal:
+        raise
+    except _DAMAGES as error:
+        is_known = type(error).__name__ != "UnidentifiedImageError"
+        raise Unopened("the picture is damaged, or cut" if is_known else
+                       "this is no picture that is read: JPEG, PNG, TIFF, PBM, PGM, PPM, BMP, GIF, WebP and PDF are") from error
+
+
+def _pdf_pages(name: str, data: bytes) -> Iterator[Page]:
+    """The pages of a PDF file, as pdftoppm draws them."""
+    from ..picture import MOST_PIXELS, opened
+
+    if not (shutil.which("pdftoppm") and shutil.which("pdfinfo")):
+        raise Unopened("pages of PDF files are drawn by pdftoppm: apt-get install poppler-utils")
+    for number, (width, height) in enumerate(_sizes(data), 1):
+        if width * height * (DPI / 72) ** 2 > MOST_PIXELS:
+            raise Refusal(44, "InputSize")
+        drawn = _run(["pdftoppm", "-r", str(DPI), "-gray", "-f", str(number), "-l", str(number), "-"], data, number)
+        try:
+            with opened(io.BytesIO(drawn)) as image:
+                yield Page(name, number, image)
+        except _DAMAGES as error:
+            raise Unopened(f"pdftoppm draws nothing of page {number}") from error
+
+
+def _sizes(data: bytes) -> List[Tuple[float, float]]:
+    """The widths and heights of the pages of a PDF file, in points."""
+    told = _run(["pdfinfo", "-f", "1", "-l", str(_MOST_PAGES), "-"], data, 0).decode("utf-8", "replace")
+    sizes = re.findall(r"^Page +\d+ size: +([\d.]+) x ([\d.]+) pts", told, re.MULTILINE)
+    return [(float(width), float(height)) for width, height in sizes]
+
+
+def _run(words: List[str], data: bytes, number: int) -> bytes:
+    """What a program of poppler's makes of a PDF file.
+
+    :raises Unopened: it fails, or takes too long.
+    """
+    import subprocess  # Not at every start.
+
+    try:
+        run = subprocess.run(words, input=data, stdout=subprocess.PIPE, stderr=subprocess.PIPE, timeout=_PATIENCE)
+    except subprocess.TimeoutExpired:
+        raise Unopened(f"page {number} takes {words[0]} more than {_PATIENCE} seconds") from None
+    if run.returncode:
+        lines: List[Any] = run.stderr.decode("utf-8", "replace").strip().splitlines()
+        raise Unopened(f"{words[0]} does not open it: {lines[-1] if lines else f'status {run.returncode}'}")
+    return run.stdout

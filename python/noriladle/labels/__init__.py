@@ -1,0 +1,237 @@
+"""Labels for a shop: names, prices, barcodes and their digits on label stock, as PDF, SVG, PNG or for a label printer.
+
+    >>> prices = read_list(b"gtin,name,price\\n9501101530003,Oat biscuits,1.95\\n", year=2026)
+    >>> labels = make(prices, stock_of("L7160"), year=2026)
+    >>> labels.pdf()[:5]
+    b'%PDF-'
+
+Nothing is made of a list that has a fault: :class:`Faults` names each, by its line. The proved library reads each label as
+it is drawn, and it must say what the list says.
+
+Needs reportlab and Pillow: ``pip install noriladle[labels]``, or Debian's python3-reportlab.
+"""
+from __future__ import annotations
+
+import re
+from dataclasses import dataclass, replace
+from typing import Callable, Dict, Iterator, List, Mapping, NamedTuple, Optional, Sequence, Tuple, TypeVar
+
+from PIL import Image
+
+from .. import Refusal, find
+from .._columns import table_of
+from .._lists import Fault, Faults
+from .._texts import remedy_of
+from ._articles import Article, articles_of
+from ._dots import epl_of, image_of, png_of, tspl_of, zpl_of
+from ._drawing import RESOLUTIONS, Cell, Drawing, Look, Warned, cell_of, rows_of
+from ._fonts import Fonts, fonts_of
+from ._layout import Item, Plan, drawn, module_of, plan_of
+from ._pages import Page, Placed, pdf_of, svg_of
+from ._stocks import KNOWN, Stock, stock_of
+from ._symbols import IDENTIFIERS, bars_of
+
+__all__ = ["KNOWN", "RESOLUTIONS", "Article", "Fault", "Faults", "Fonts", "LabelWarning", "Labels", "Look",
+           "MOST_LABELS", "PriceList", "Stock", "fonts_of", "make", "read_list", "stock_of"]
+
+MOST_LABELS = 100_000
+"""The most labels of a list, with all copies."""
+
+_Given = TypeVar("_Given")
+_Made = TypeVar("_Made")
+Progress = Callable[[int, int], None]
+"""What is told how many labels are done, of how many."""
+
+
+class PriceList(NamedTuple):
+    """A list as it was read, and what is wrong with its other lines."""
+
+    articles: Sequence[Article]
+    faults: Sequence[Fault] = ()
+    note: str = ""
+    """What was taken for what, if the headings do not say it."""
+    encoding: str = ""
+
+
+class LabelWarning(NamedTuple):
+    """What a person should know of the labels of some lines."""
+
+    lines: Tuple[int, ...]
+    """The first is the worst, and the one that is spoken of."""
+    said: str
+
+
+@dataclass(frozen=True)
+class Labels:
+    """Labels that are drawn, each once."""
+
+    drawings: Tuple[Tuple[Article, Drawing], ...]
+    stock: Stock
+    look: Look
+    start: int
+    """The cell of the first sheet that the first label is in, from 0."""
+    shift: Tuple[float, float] = (0.0, 0.0)
+    """So far to the right and down all labels are moved, in mm."""
+
+    @property
+    def warnings(self) -> List[LabelWarning]:
+        """What a person should know of these labels."""
+        told: Dict[str, List[Tuple[Article, Warned]]] = {}
+        for article, drawing in self.drawings:
+            for warned in drawing.warnings:
+                told.setdefault(warned.said, []).append((article, warned))
+        return [_warning(said, found) for said, found in told.items()]
+
+    @property
+    def count(self) -> int:
+        """How many labels there are, with all copies."""
+        return sum(article.copies for article, _ in self.drawings)
+
+    @property
+    def sheets(self) -> int:
+        """How many pages they fill."""
+        return -(-(self.start + self.count) // self.stock.cells) if self.count else 0
+
+    def pages(self) -> Iterator[Page]:
+        """The labels at their places, page by page."""
+        page: Page = []
+        cell = self.start
+        for article, drawing in self.drawings:
+            for _ in range(article.copies):
+                place = self.stock.place(cell)
+                left, top = (round((length + by) * self.look.dots) for length, by in zip(place, self.shift))
+                page.append(Placed(left, top, drawing))
+                cell += 1
+                if cell == self.stock.cells:
+                    yield page
+                    page, cell = [], 0
+        if page:
+            yield page
+
+    def pdf(self, title: str = "labels") -> bytes:
+        """All pages."""
+        return pdf_of(self.pages(), self.stock, self.look, title)
+
+    def svgs(self) -> Iterator[str]:
+        """Each page."""
+        return (svg_of(page, self.stock, self.look) for page in self.pages())
+
+    def pngs(self) -> Iterator[bytes]:
+        """Each page."""
+        return (png_of(page, self.stock, self.look) for page in self.pages())
+
+    def zpl(self) -> bytes:
+        """All labels, for a label printer that takes ZPL II and makes the copies itself."""
+        return b"".join(zpl_of(image, copies) for image, copies in self._images())
+
+    def epl(self) -> bytes:
+        """The same in EPL2."""
+        return b"".join(epl_of(image, self.look, copies) for image, copies in self._images())
+
+    def tspl(self) -> bytes:
+        """The same in TSPL."""
+        return b"".join(tspl_of(image, self.stock, copies) for image, copies in self._images())
+
+    def _images(self) -> Iterator[Tuple[Image.Image, int]]:
+        """The dots of each label that is printed, and how many copies it has."""
+        return ((image_of(drawing, self.look.turned), article.copies) for article, drawing in self.drawings if article.copies)
+
+
+def _warning(said: str, found: Sequence[Tuple[Article, Warned]]) -> LabelWarning:
+    """One warning for several labels, the worst of which comes first."""
+    ranked = sorted(found, key=lambda it: it[1].rank)
+    return LabelWarning(tuple(article.line for article, _ in ranked), said.format(*ranked[0][1].own))
+
+
+def read_list(data: bytes, year: int, columns: Optional[Mapping[str, str]] = None) -> PriceList:
+    """The articles of a CSV file, and what is wrong with its lines. ``columns`` names headings of one's own, as
+    ``{"name": "Ware"}``, or columns by their numbers from 1.
+
+    :raises Faults: nobody can say what its columns are.
+    """
+    table = table_of(data, year, columns)
+    articles, faults = articles_of(table, year)
+    return PriceList(articles, faults, table.note, table.encoding)
+
+
+def make(
+    prices: PriceList, stock: Stock, year: int, *, look: Look = Look(), start: int = 1, currency: str = "",
+    fonts: Optional[Fonts] = None, shift: Tuple[float, float] = (0.0, 0.0), progress: Progress = lambda done, of: None
+) -> Labels:
+    """The labels of a list, from a cell of the first sheet on, 1 being its first. The currency is put behind prices that are
+    numbers alone.
+
+    :raises Faults: lines of it have a fault, no symbol, no room, or characters that are not in the font.
+    :raises ValueError: the sheet has no such cell, or there are more than :data:`MOST_LABELS` labels.
+    """
+    if not 1 <= start <= stock.cells:
+        raise ValueError(f"the first label is to be in one of the cells 1 to {stock.cells}, and not in {start}")
+    if sum(article.copies for article in prices.articles) > MOST_LABELS:
+        raise ValueError(f"the list asks for more than {MOST_LABELS:,} labels: split it")
+    used, cell = fonts or fonts_of(), cell_of(stock, look)
+    articles = [_priced(article, currency) for article in prices.articles]
+    items, faults = _each(articles, articles, lambda article: _item(article, cell, used, look, year),
+                          lambda done, of: progress(done, 2 * of))
+    if faults or prices.faults:
+        raise Faults(sorted([*prices.faults, *faults]))
+    # Cases have other labels than what is sold.
+    plans = {is_retail: plan_of([item for item in items if item.is_retail is is_retail], cell, used, look)
+             for is_retail in (True, False)}
+    drawings, faults = _each(articles, items, lambda item: _checked(item, plans[item.is_retail], year),
+                             lambda done, of: progress(of + done, 2 * of))
+    if faults:
+        raise Faults(faults)
+    return Labels(tuple(zip(articles, drawings)), stock, look, start - 1, shift)
+
+
+def _priced(article: Article, currency: str) -> Article:
+    is_bare = bool(currency) and re.fullmatch(r"[\d.,' ]+", article.price)
+    return replace(article, price=f"{article.price}\xa0{currency}") if is_bare else article
+
+
+def _each(
+    articles: Sequence[Article], given: Sequence[_Given], call: Callable[[_Given], _Made], progress: Progress
+) -> Tuple[List[_Made], List[Fault]]:
+    """What is made for each article, and what is wrong with those for which it is not."""
+    made, faults = [], []
+    for done, (article, one) in enumerate(zip(articles, given), 1):
+        try:
+            made.append(call(one))
+        except ValueError as error:
+            faults.append(Fault(article.line, str(error)))
+        progress(done, len(articles))
+    return made, faults
+
+
+def _item(article: Article, cell: Cell, fonts: Fonts, look: Look, year: int) -> Item:
+    lacking = fonts.bold.lacks("".join((article.name, article.price, *article.lines)))
+    if lacking:
+        raise ValueError(f"{', '.join(map(repr, lacking[:5]))} cannot be set in {fonts.bold.name}: name another font by --font, or "
+                         "leave it out; combining signs and scripts from right to left are not set at all")
+    try:
+        bars = bars_of(article.kind, article.text, article.answer, year)
+    except Refusal as refusal:
+        raise ValueError(f"{article.text}: {refusal}: {remedy_of(article.text, refusal)}".replace("\x1d", "^")) from None
+    return Item(article, bars, module_of(bars, cell, look))
+
+
+def _checked(item: Item, plan: Plan, year: int) -> Drawing:
+    """The label of an article, whose rows have the symbol with its quiet zones, and say what the list says."""
+    drawing = drawn(item, plan)
+    for row in rows_of(drawing):
+        if not _has_symbol(row, item) or not _says(row, item, year):
+            raise ValueError("the drawn label does not say what the list says: this is a fault of noriladle, please report it")
+    return drawing
+
+
+def _has_symbol(row: Sequence[int], item: Item) -> bool:
+    """Whether a row begins with the symbol, and with as much light at its ends as it needs."""
+    wanted = tuple(width * item.module for width in item.bars.widths)
+    front = row[:len(wanted)]
+    return len(front) == len(wanted) and front[0] >= wanted[0] and front[1:-1] == wanted[1:-1] and front[-1] >= wanted[-1]
+
+
+def _says(row: Sequence[int], item: Item, year: int) -> bool:
+    """Whether the library reads just one symbol in a row, of this kind, and in it what the list says."""
+    answers = [found.answer for found in find(row, year)]
+    return [(it.identifier, it.elements) for it in answers] == [(IDENTIFIERS[item.bars.kind], item.article.answer.elements)]

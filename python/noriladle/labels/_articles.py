@@ -1,0 +1,135 @@
+"""The articles of a list: what is printed on a label, and as which kind of barcode."""
+from __future__ import annotations
+
+import re
+import unicodedata
+from dataclasses import dataclass
+from typing import List, Optional, Tuple
+
+from .. import Answer, Kind, Refusal
+from .._columns import Table
+from .._lists import Fault, Record
+from .._texts import Unreadable, digits_of, element_string, is_elements, read_text, remedy_of
+
+_BY_LENGTH = {8: Kind.EAN8, 12: Kind.UPCA, 13: Kind.EAN13, 14: Kind.ITF14}
+"""What a GTIN of so many digits is printed as, if the list says no kind."""
+
+_BY_IDENTIFIER = {"]E4": Kind.EAN8, "]I1": Kind.ITF14, **dict.fromkeys(("]C1", "]e0", "]d2", "]Q3", "]J1"), Kind.GS1128)}
+"""What a scanned text is printed as, if it has one of these identifiers."""
+
+MOST_COPIES = 1_000
+
+
+@dataclass(frozen=True)
+class Article:
+    """A line of a list that is to be a label."""
+
+    line: int
+    kind: Kind
+    text: str
+    """The GTIN in 14 digits, or the element string."""
+    answer: Answer
+    """What the text says."""
+    name: str = ""
+    price: str = ""
+    lines: Tuple[str, ...] = ()
+    copies: int = 1
+
+
+def articles_of(table: Table, year: int) -> Tuple[List[Article], List[Fault]]:
+    """The articles of a table, and what is wrong with its other lines."""
+    articles, faults = [], list(table.faults)
+    for record in table.records:
+        try:
+            articles.append(_article(table, record, year))
+        except ValueError as error:
+            faults.append(Fault(record.line, str(error)))
+    return articles, sorted(faults)
+
+
+def _article(table: Table, record: Record, year: int) -> Article:
+    """The article of a record; a cell that is missing is empty."""
+    gtin, elements = table.cell(record, "gtin").strip(), table.cell(record, "gs1").strip()
+    if gtin and elements:
+        raise ValueError("this line has a number and an element string: leave one out")
+    if not gtin and not elements:
+        raise ValueError("this line has no number")
+    text = gtin or (elements if is_elements(elements) or elements[0] == "]" else f"^{elements}")
+    kind, said, answer = _symbol(text, _kind(_plain(table.cell(record, "kind"))), year)
+    lines = tuple(_line(record.cells[place]) for place in table.places.get("line", ()) if place < len(record.cells))
+    name, price = _plain(table.cell(record, "name")), _line(table.cell(record, "price"))
+    copies = _copies(table.cell(record, "copies").strip())
+    return Article(record.line, kind, said, answer, name, price, tuple(filter(None, lines)), copies)
+
+
+def _symbol(text: str, kind: Optional[Kind], year: int) -> Tuple[Kind, str, Answer]:
+    """The kind of a text, what is printed, and what it says.
+
+    :raises ValueError: it is refused, with what to do.
+    """
+    digits = digits_of(text)
+    is_upce, is_ean8 = kind is Kind.UPCE and len(digits) == 8, kind is Kind.EAN8 and len(digits) == 8
+    asked = f"]E0{digits}" if is_upce else f"]E4{digits}" if is_ean8 else text
+    try:
+        answer = read_text(asked, year)
+    except Refusal as refusal:
+        raise ValueError(f"{_short(text)}: {refusal}: {remedy_of(text, refusal)}") from None
+    except Unreadable as error:
+        raise ValueError(f"{_short(text)}: {error}") from None
+    if answer.identifier in ("]Q1", "]d1") or text.lower().startswith("http"):
+        raise ValueError(f"{_short(text)}: a Digital Link stands in a QR code, which is not drawn: write its elements, as "
+                         f"{answer.text}")
+    usual = _usual_kind(asked, answer)
+    chosen = kind or usual
+    if chosen is Kind.GS1128:
+        return chosen, _elements(asked, answer) if usual is Kind.GS1128 else f"01{answer.gtin}", answer
+    if answer.gtin is None or len(answer.elements) > 1:
+        raise ValueError(f"{_short(text)}: this is not a GTIN alone, and so a gs1128: leave the kind out")
+    return chosen, answer.gtin, answer
+
+
+def _usual_kind(text: str, answer: Answer) -> Kind:
+    """What a text is printed as if the list says no kind."""
+    identifier = answer.identifier
+    if is_elements(text) and identifier is None:
+        return Kind.GS1128
+    digits = digits_of(text if identifier is None else text[3:])
+    # A scanner sends the eight digits of a UPC-E as it sends an EAN-13.
+    return Kind.UPCE if identifier == "]E0" and len(digits) == 8 else _BY_IDENTIFIER.get(identifier or "") or _BY_LENGTH[len(digits)]
+
+
+def _elements(text: str, answer: Answer) -> str:
+    """The element string of a text, without a separator at its ends."""
+    return element_string(text if answer.identifier is None else text[3:]).strip("\x1d")
+
+
+def _short(text: str) -> str:
+    """A text as a fault names it."""
+    plain = "".join(letter if letter.isprintable() else "^" if letter == "\x1d" else "?" for letter in text)
+    return plain if len(plain) <= 60 else f"{plain[:59]}…"
+
+
+def _kind(name: str) -> Optional[Kind]:
+    """The kind of a name, as ``ean13`` or ``EAN-13``; of none the usual one is taken."""
+    kinds = {kind.name: kind for kind in Kind}
+    short = re.sub(r"[\s-]", "", name).upper()
+    if short and short not in kinds:
+        raise ValueError(f"there is no kind {_short(name)!r}: it is one of {', '.join(kinds).lower()}, or empty")
+    return kinds.get(short)
+
+
+def _copies(cell: str) -> int:
+    """How many labels a line is to have."""
+    if cell and not (re.fullmatch(r"[0-9]{1,4}", cell) and int(cell) <= MOST_COPIES):
+        raise ValueError(f"{_short(cell)!r} is no number of copies: write 0 to {MOST_COPIES:,}, or nothing for 1")
+    return int(cell or 1)
+
+
+def _plain(cell: str) -> str:
+    """A cell with each letter in one character, and each white space as one blank; the ends of its lines stay."""
+    blanks = re.sub(r"[^\S\n\xa0]+", " ", unicodedata.normalize("NFC", cell).replace("\r", "\n"))
+    return re.sub(r"\s*\n\s*", "\n", blanks).strip()
+
+
+def _line(cell: str) -> str:
+    return _plain(cell).replace("\n", " ")

@@ -1,0 +1,192 @@
+"""The fonts of labels: how wide texts are in them, and how they fill lines."""
+from __future__ import annotations
+
+import os
+import re
+import unicodedata
+from dataclasses import dataclass, field
+from functools import lru_cache
+from pathlib import Path
+from typing import Dict, List, Mapping, NamedTuple, Optional, Sequence, Tuple
+
+try:
+    import reportlab
+    from reportlab.pdfbase import pdfmetrics
+    from reportlab.pdfbase.ttfonts import TTFError, TTFont
+except ImportError as error:
+    raise ImportError("labels need reportlab: apt-get install python3-reportlab, or pip install 'noriladle[labels]'") from error
+
+_FOLDERS = ("/usr/share/fonts", "/usr/local/share/fonts", "~/.local/share/fonts", "~/.fonts", "/Library/Fonts", "C:/Windows/Fonts",
+            str(Path(reportlab.__file__).with_name("fonts")))
+_USUAL = (("LiberationSans-Regular.ttf", "LiberationSans-Bold.ttf"), ("Arial.ttf", "Arial Bold.ttf"), ("arial.ttf", "arialbd.ttf"),
+          ("DejaVuSansCondensed.ttf", "DejaVuSansCondensed-Bold.ttf"), ("DejaVuSans.ttf", "DejaVuSans-Bold.ttf"), ("Vera.ttf", "VeraBd.ttf"))
+"""The regular and the bold font of the first pair that is there; the last one comes with reportlab."""
+
+_MOST_LETTERS = 300
+"""What is longer has no room on any label."""
+
+
+@dataclass(frozen=True)
+class Font:
+    """A TrueType font, by its file and its name in PDF files."""
+
+    path: Path
+    name: str
+    is_bold: bool
+    widths: Mapping[str, float] = field(hash=False, compare=False, repr=False)
+    """Of its characters, if its size is 1."""
+
+    def width(self, text: str, size: float = 1.0) -> float:
+        """How wide a text is in the unit of its size."""
+        return size * sum(map(self.widths.__getitem__, text))
+
+    def lacks(self, text: str) -> List[str]:
+        """The characters of a text that it does not have, or that are not set from left to right, one after another."""
+        known = pdfmetrics.getFont(self.name).face.charToGlyph
+        return sorted(letter for letter in set(text) - {"\n"} if ord(letter) not in known or _is_not_set(letter))
+
+
+class _Widths(Dict[str, float]):
+    """The widths of characters; any other is as wide as the sign for those that the font lacks."""
+
+    def __init__(self, widths: Mapping[int, float], other: float) -> None:
+        super().__init__((chr(code), width / 1000) for code, width in widths.items())
+        self.other = other / 1000
+
+    def __missing__(self, letter: str) -> float:
+        return self.other
+
+
+def _is_not_set(letter: str) -> bool:
+    return bool(unicodedata.combining(letter)) or unicodedata.bidirectional(letter) in ("R", "AL", "AN")
+
+
+class Fonts(NamedTuple):
+    """The fonts of labels."""
+
+    regular: Font
+    bold: Font
+
+
+PITCH = 1.12
+"""From line to line, in sizes."""
+
+
+class Block(NamedTuple):
+    """Lines of a text in one size."""
+
+    lines: Tuple[str, ...]
+    size: float
+    font: Font
+    is_cut: bool
+    """Whether something of the text is left out."""
+
+    @property
+    def height(self) -> float:
+        return len(self.lines) * self.size * PITCH
+
+    @property
+    def width(self) -> float:
+        return max((self.font.width(line, self.size) for line in self.lines), default=0.0)
+
+
+def fonts_of(regular: Optional[str] = None, bold: Optional[str] = None) -> Fonts:
+    """The fonts of these files; if there is no bold one, the regular one is both, and of none the first usual pair is taken.
+
+    :raises ValueError: a file is no TrueType font, or no usual pair is there.
+    """
+    paths = [Path(regular), Path(bold or regular)] if regular else _found()
+    try:
+        return Fonts(_loaded(paths[0], False), _loaded(Path(bold) if bold else paths[1], True))
+    except (TTFError, OSError) as error:
+        raise ValueError(f"this is no TrueType font: {error}") from error
+
+
+def _found() -> List[Path]:
+    there: Dict[str, Path] = {}
+    for folder in _FOLDERS:
+        for inside, _, names in os.walk(os.path.expanduser(folder)):
+            for name in names:
+                there.setdefault(name, Path(inside, name))
+    for pair in _USUAL:
+        if all(name in there for name in pair):
+            return [there[name] for name in pair]
+    raise ValueError("no font was found: apt-get install fonts-liberation, or name a regular and a bold one by --font")
+
+
+@lru_cache(maxsize=None)
+def _loaded(path: Path, is_bold: bool) -> Font:
+    font = TTFont(path.stem, str(path))
+    pdfmetrics.registerFont(font)
+    return Font(path, path.stem, is_bold, _Widths(font.face.charWidths, font.face.defaultWidth))
+
+
+@lru_cache(maxsize=4096)
+def fitted(font: Font, text: str, width: float, largest: float, smallest: float, most: int) -> Block:
+    """A text in few lines of a width: in one more only if it would else be smaller than three quarters of the largest size,
+    and in at most so many. What has no room in the smallest size is cut."""
+    is_long = len(text) > _MOST_LETTERS
+    words = _words(font, _UNITS.sub("\xa0", text[:_MOST_LETTERS]))
+    for count in range(1, most + 1) if not is_long else ():
+        size, least = largest, smallest if count == most else max(smallest, 0.75 * largest)
+        while size >= least:
+            lines, widest = _filled(words, width / size)
+            # What just fits may be rounded up.
+            if len(lines) <= count and widest <= width / size + 1e-6:
+                return Block(tuple(lines), size, font, False)
+            size *= 0.97
+    lines = [piece for line in _filled(words, width / smallest)[0] for piece in _broken(font, line, width / smallest)]
+    if len(lines) <= most and not is_long:
+        return Block(tuple(lines), smallest, font, False)
+    last = lines[most - 1]
+    while last and font.width(f"{last}…", smallest) > width:
+        last = last[:-1]
+    return Block((*lines[:most - 1], f"{last.rstrip()}…"), smallest, font, True)
+
+
+class _Word(NamedTuple):
+    """A word with the blanks behind it, how wide it is with and without them, and whether it begins a paragraph."""
+
+    text: str
+    wide: float
+    bare: float
+    is_first: bool
+
+
+_UNITS = re.compile(r"(?<=\d) (?=[^\s\d]{1,2}(?:\s|$))")
+"""The blank between a number and its unit, where no line ends."""
+_WORDS = re.compile(r"[^ \t-]*-+(?=\w)|[^ \t]+[ \t]*|[ \t]+")
+"""A hyphen ends a word too."""
+
+
+def _words(font: Font, text: str) -> List[_Word]:
+    """The words of a text; no pair of letters is set closer, so the width of a line is the sum of its words'."""
+    return [_Word(word, font.width(word), font.width(word.rstrip()), place == 0)
+            for line in text.splitlines() for place, word in enumerate(_WORDS.findall(line))]
+
+
+def _filled(words: Sequence[_Word], width: float) -> Tuple[List[str], float]:
+    """The lines of words, each of as many as have room, and how wide the widest is."""
+    lines: List[List[str]] = []
+    at = widest = 0.0
+    for word in words:
+        if not lines or word.is_first or at and at + word.bare > width:
+            lines.append([])
+            at = 0.0
+        lines[-1].append(word.text)
+        widest = max(widest, at + word.bare)
+        at += word.wide
+    return [line for line in ("".join(parts).rstrip() for parts in lines) if line], widest
+
+
+def _broken(font: Font, line: str, width: float) -> List[str]:
+    """A line in pieces that have room: of one that is a word too long."""
+    pieces, at = [""], 0.0
+    for letter in line:
+        wide = font.width(letter)
+        if pieces[-1] and at + wide > width:
+            pieces.append("")
+            at = 0.0
+        pieces[-1] += letter
+        at += wide
+    return pieces

@@ -1,0 +1,100 @@
+"""Label stock: where labels lie on a sheet, or one after another on a roll. Lengths are millimetres."""
+from __future__ import annotations
+
+import difflib
+import re
+from dataclasses import dataclass
+from typing import Tuple
+
+PAGES = {"a4": (210.0, 297.0), "letter": (215.9, 279.4)}
+
+SHEETS = {
+    "L7159": "3x8:63.5x33.9+2.54+0", "L7160": "3x7:63.5x38.1+2.54+0", "L7161": "3x6:63.5x46.6+2.54+0",
+    "L7162": "2x8:99.1x33.9+2.54+0", "L7163": "2x7:99.1x38.1+2.54+0", "L7165": "2x4:99.1x67.7+2.54+0",
+    "L7651": "5x13:38.1x21.2+2.54+0", "3474": "3x8:70x37", "3475": "3x8:70x36", "3652": "3x7:70x42.3",
+    "3424": "2x6:105x48", "3483": "2x2:105x148", "5160": "3x10:66.675x25.4+3.175+0@letter",
+    "5163": "2x5:101.6x50.8+4.7625+0@letter",
+}
+"""Sheets by the numbers of Avery and Avery Zweckform, which others use too: columns and rows of labels of a width and a
+height, with gaps between them, in the middle of a page."""
+
+ROLLS = {
+    "99010": "89x28", "99012": "89x36", "99014": "101x54", "11352": "54x25", "11354": "57x32",
+    "DK-11201": "90x29", "DK-11202": "100x62", "DK-11209": "62x29",
+}
+"""Rolls by the numbers of Dymo and Brother: the width and the height of a label."""
+
+KNOWN = {**SHEETS, **ROLLS}
+
+_MAKERS = re.compile(r"\b(avery|zweckform|dymo|brother)\b[\s-]*", re.IGNORECASE)
+_LENGTH = r"(\d{1,4}(?:\.\d{1,4})?)"
+_TEXT = re.compile(rf"(?:(\d{{1,2}})x(\d{{1,2}}):)?{_LENGTH}x{_LENGTH}(?:\+{_LENGTH}\+{_LENGTH})?(?:@(\w+))?")
+
+_UNPRINTED = 4.3
+"""So much of a sheet's edge most office printers leave white."""
+_LEAST, _MOST = 5.0, 1_000.0
+"""The sides of a label."""
+
+
+@dataclass(frozen=True)
+class Stock:
+    """Labels of one size in columns and rows, in the middle of a page; of a roll the page is the label."""
+
+    columns: int
+    rows: int
+    width: float
+    height: float
+    gaps: Tuple[float, float]
+    page: Tuple[float, float]
+
+    @property
+    def cells(self) -> int:
+        """How many labels a page has."""
+        return self.columns * self.rows
+
+    @property
+    def margins(self) -> Tuple[float, float]:
+        """The page left of the first column, and above the first row."""
+        wide = self.columns * self.width + (self.columns - 1) * self.gaps[0]
+        high = self.rows * self.height + (self.rows - 1) * self.gaps[1]
+        return (self.page[0] - wide) / 2, (self.page[1] - high) / 2
+
+    @property
+    def padding(self) -> Tuple[float, float]:
+        """So much of each label stays white at its sides, and above and below: the same on all labels of a sheet."""
+        own = min(5.0, max(1.2, 0.06 * self.height))
+        edge = _UNPRINTED if self.cells > 1 else 0.0
+        left, top = self.margins
+        return max(own, edge - left), max(own, edge - top)
+
+    def place(self, cell: int) -> Tuple[float, float]:
+        """The left and the upper edge of a cell; cells count row by row, from 0."""
+        row, column = divmod(cell, self.columns)
+        left, top = self.margins
+        return left + column * (self.width + self.gaps[0]), top + row * (self.height + self.gaps[1])
+
+
+def stock_of(name: str) -> Stock:
+    """The stock of a number, as ``L7160`` or ``Dymo 11354``, or of its measures: ``3x8:70x37`` of a sheet of A4,
+    ``5x13:38.1x21.2+2.54+0@letter`` with gaps on another page, and ``57x32`` of a roll.
+
+    :raises ValueError: it is none.
+    """
+    short = _MAKERS.sub("", name).strip().lower()
+    told = _TEXT.fullmatch({known.lower(): text for known, text in KNOWN.items()}.get(short, short.replace("×", "x")))
+    if told is None:
+        near = difflib.get_close_matches(short.upper(), KNOWN, 3, 0.5)
+        meant = f" (did you mean {' or '.join(near)}?)" if near else ""
+        raise ValueError(f"there is no stock {name!r}{meant}: --stocks lists those that are known; else write its measures in mm, "
+                         "as 3x8:70x37 (a sheet of A4), 5x13:38.1x21.2+2.54+0 (with gaps) or 57x32 (a roll)")
+    columns, rows, width, height, gap_x, gap_y, page = told.groups()
+    if page is not None and page not in PAGES:
+        raise ValueError(f"there is no page {page!r}: it is one of {', '.join(PAGES)}")
+    size = PAGES[page or "a4"] if columns else (float(width), float(height))
+    gaps = float(gap_x or 0), float(gap_y or 0)
+    stock = Stock(int(columns or 1), int(rows or 1), float(width), float(height), gaps, size)
+    if not stock.cells or min(stock.width, stock.height) < _LEAST or max(stock.page) > _MOST:
+        raise ValueError(f"the stock {name!r} has no labels of {_LEAST:g} to {_MOST:g} mm")
+    if min(stock.margins) < -0.01:
+        raise ValueError(f"the labels of {name!r} are larger than their page of {size[0]:g} x {size[1]:g} mm")
+    return stock

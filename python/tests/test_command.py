@@ -1,0 +1,111 @@
+"""The command ``noriladle``: its table of subcommands, its help, and what it says of wrong words."""
+import os
+import subprocess
+import sys
+
+import pytest
+
+from noriladle import __version__
+from noriladle import __main__ as command
+from noriladle.__main__ import COMMANDS, main, parser_of
+from noriladle.commands import WrongWords
+
+
+PATHS = {**os.environ, "PYTHONPATH": os.pathsep.join(sys.path)}
+
+
+def told(words, capsys):
+    """The status of a command, and what it wrote on standard output and on standard error."""
+    status = main(words)
+    out, err = capsys.readouterr()
+    return status, out, err
+
+
+def test_without_a_word_it_prints_its_help(capsys):
+    status, out, err = told([], capsys)
+    assert (status, out) == (2, "")
+    assert told(["--help"], capsys) == (0, err, "")
+    for it in COMMANDS:
+        assert f"  {it.name} " in err and it.help in err
+
+
+def test_version(capsys):
+    assert told(["--version"], capsys) == (0, f"noriladle {__version__}\n", "")
+
+
+@pytest.mark.parametrize("words, said", [
+    (["raed"], "noriladle: there is no command 'raed' (did you mean read?); see noriladle --help\n"),
+    (["quux"], "noriladle: there is no command 'quux'; see noriladle --help\n"),
+    (["--vresion"], "noriladle: unrecognized arguments: --vresion (did you mean --version?); see noriladle --help\n"),
+    (["read"], "noriladle read: the following arguments are required: PICTURE; see noriladle read --help\n"),
+    (["read", "a.png", "--jsn"],
+     "noriladle read: unrecognized arguments: --jsn (did you mean --json?); see noriladle read --help\n"),
+    (["read", "a.png", "--year", "1950"],
+     "noriladle read: argument --year: '1950' is no year from 1951 to 2149; see noriladle read --help\n"),
+])
+def test_wrong_words(words, said, capsys):
+    assert told(words, capsys) == (2, "", said)
+
+
+@pytest.mark.parametrize("name", [it.name for it in COMMANDS])
+def test_help_of_each_command(name, capsys):
+    status, out, err = told([name, "--help"], capsys)
+    assert (status, err) == (0, "")
+    assert f"Usage: noriladle {name}" in out and "\n  $ noriladle " in out
+    assert out.splitlines()[0] == next(it.help for it in COMMANDS if it.name == name)
+    assert not any(line.endswith(" None") for line in out.splitlines())
+
+
+@pytest.mark.parametrize("raised, status, said", [
+    (WrongWords("say it otherwise"), 2, "noriladle: say it otherwise\n"),
+    (ImportError("labels need reportlab"), 2, "noriladle: labels need reportlab\n"),
+    (OSError(28, "No space left on device"), 1, "noriladle: No space left on device\n"),
+    (FileNotFoundError(2, "No such file", "a.csv"), 1, "noriladle: a.csv: No such file\n"),
+    (KeyboardInterrupt(), 130, ""),
+    (SystemExit(2), 2, ""),
+    (SystemExit(None), 0, ""),
+])
+def test_what_a_command_raises(raised, status, said, capsys, monkeypatch):
+    def run(words):
+        raise raised
+    monkeypatch.setattr(command, "_run", run)
+    assert told(["read"], capsys) == (status, "", said)
+
+
+def test_each_command_is_imported_when_it_is_asked_for():
+    asked = ("import sys, noriladle.__main__ as it\n"
+             "print(sorted(name for name in sys.modules if name.startswith('noriladle.commands.')))\n"
+             "it.parser_of('read')\n"
+             "print('noriladle.commands.read' in sys.modules, 'numpy' in sys.modules)\n")
+    run = subprocess.run([sys.executable, "-c", asked], stdout=subprocess.PIPE, check=True, text=True, env=PATHS)
+    assert run.stdout.splitlines() == ["[]", "True False"]
+
+
+def test_a_closed_pipe_ends_it_quietly():
+    run = subprocess.run([sys.executable, "-m", "noriladle", "--help"], stdout=open("/dev/full", "w"),
+                         stderr=subprocess.PIPE, text=True, env=PATHS)
+    assert (run.returncode, run.stderr) == (1, "noriladle: No space left on device\n")
+    reader, writer = os.pipe()
+    os.close(reader)
+    run = subprocess.run([sys.executable, "-m", "noriladle", "--help"], stdout=writer, stderr=subprocess.PIPE, text=True,
+                         env=PATHS)
+    os.close(writer)
+    assert (run.returncode, run.stderr) == (1, "")
+
+
+def test_it_starts_soon():
+    """The processor's time of a start, since others may use the machine; the best of five."""
+    def start():
+        before = os.times()
+        subprocess.run([sys.executable, "-I", "-S", "-c", f"import sys; sys.path[:0] = {sys.path!r}\n"
+                        "from noriladle.__main__ import main\nsys.exit(main(['read', '--help']))"],
+                       stdout=subprocess.DEVNULL, check=True)
+        after = os.times()
+        return after.children_user + after.children_system - before.children_user - before.children_system
+    assert min(start() for _ in range(5)) < 0.15
+
+
+def test_all_options_are_explained():
+    for it in COMMANDS:
+        for action in parser_of(it.name)._actions:
+            assert action.help, (it.name, action)

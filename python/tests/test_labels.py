@@ -1,0 +1,286 @@
+"""Labels of lists: what is refused, what is drawn, and what the files say. Readers of other makes: tests/labels/run."""
+import io
+import re
+
+import pytest
+
+pytest.importorskip("reportlab")
+
+import noriladle
+from noriladle import Kind, Refusal, draw_label, labels
+from noriladle._texts import read_text
+from noriladle.labels import Faults, Look, make, read_list, stock_of
+from noriladle.labels._dots import _zpl_row
+from noriladle.labels._drawing import Box, Text
+from noriladle.labels._symbols import bars_of, upce_of
+from PIL import Image
+
+LIST = "ean;name;price;copies\n9501101530003;Müsli;1,95 €;\n96385074;Kaugummi;0,90 €;3\n012345000065;Cola;1,10 €;0\n".encode()
+YEAR = 2026
+
+
+def made(data=LIST, stock="L7160", **named):
+    return make(read_list(data, YEAR), stock_of(stock), YEAR, **named)
+
+
+def faults(data, stock="L7160", **named):
+    with pytest.raises(Faults) as raised:
+        made(data if isinstance(data, bytes) else data.encode(), stock, **named)
+    return [tuple(fault) for fault in raised.value.faults]
+
+
+# In mm, from memory: the makers' data sheets are to confirm them.
+@pytest.mark.parametrize("name, cells, first, last", [
+    ("L7160", 21, (7.21, 15.15), (139.29, 243.75)),
+    ("avery l7163", 14, (4.63, 15.15), (106.27, 243.75)),
+    ("L7651", 65, (4.67, 10.7), (167.23, 265.1)),
+    ("3474", 24, (0, 0.5), (140, 259.5)),
+    ("Avery Zweckform 3474", 24, (0, 0.5), (140, 259.5)),
+    ("5160", 30, (4.76, 12.7), (144.46, 241.3)),
+    ("2x7:99.1x38.1+2.54+0", 14, (4.63, 15.15), (106.27, 243.75)),
+    ("57x32", 1, (0, 0), (0, 0)),
+    ("Dymo 11354", 1, (0, 0), (0, 0)),
+])
+def test_stock(name, cells, first, last):
+    stock = stock_of(name)
+    assert stock.cells == cells
+    assert stock.place(0) == pytest.approx(first, abs=0.006) and stock.place(cells - 1) == pytest.approx(last, abs=0.006)
+
+
+@pytest.mark.parametrize("name, told", [
+    ("", "there is no stock ''"), ("L7999", "did you mean "), ("L716", "did you mean L7165 or L7163 or L7162?"), ("3x8", "no labels of 5"),
+    ("4x8:70x37", "larger than their page"), ("0x1:70x37", "no labels of 5 to 1000 mm"), ("3x8:70x37@a0", "there is no page 'a0'"),
+    ("3x8:1x1", "no labels"), ("70x37\n\n", None), ("2000x20", "no labels"),
+])
+def test_no_stock(name, told):
+    if told is None:
+        assert stock_of(name).cells == 1
+    else:
+        with pytest.raises(ValueError, match=re.escape(told)):
+            stock_of(name)
+
+
+@pytest.mark.parametrize("data, line, told", [
+    ("gtin\n4012345010375\n", 2, "4012345010374 is right"),
+    ("gtin\n\n\n\"4,01235E+12\"\n", 4, "the spreadsheet has rounded it"),
+    ("gtin\n12345000065\n", 2, "012345000065 is right"),
+    ("gtin,name\n,x\n", 2, "this line has no number"),
+    ("gtin,gs1\n96385074,(10)A\n", 2, "this line has a number and an element string"),
+    ("gtin,copies\n96385074,1001\n", 2, "'1001' is no number of copies: write 0 to 1,000"),
+    ("gtin,copies\n96385074,²\n", 2, "is no number of copies"),
+    ("gtin,kind\n96385074,qr\n", 2, "there is no kind 'qr'"),
+    ("gtin,kind\n9501101530003,ean8\n", 2, "refused 26 LabelKind 0: print it as another kind"),
+    ("gtin,kind\n(10)AB,ean13\n", 2, "this is not a GTIN alone"),
+    ("gtin,kind\n9501101530003,upce\n", 2, "refused 26 LabelKind 0: print it as another kind"),
+    ("gtin\n01234565\n", 2, "may be a GTIN-8 or a UPC-E"),
+    ("gtin,name\n96385074,\u4e2d\n", 2, "'中' cannot be set"),
+    ("gtin,name\n96385074,שלום\n", 2, "from right to left"), ("gtin,price\n96385074,\u0301\n", 2, "cannot be set"),
+    ("gs1\n(01)09501101530003(17)261331\n", 2, "refused 9 ValueDate 17: at (17)261331: write YYMMDD"),
+    ("gs1\n(01)09501101530003(10)A(B)C\n", 2, "parentheses stand around Application Identifiers alone"),
+    ("gtin\nhttps://id.gs1.org/01/09501101530003\n", 2, "a QR code, which is not drawn: write its elements, as (01)09501101530003"),
+    ('gtin,name\n96385074,"a\nb"\n1,c\n', 4, "1: refused 1 Length"),
+    ('gtin,name\n96385074,"a"b\n', 2, "this line is no CSV"),
+])
+def test_faults_of_lists(data, line, told):
+    told_lines = faults(data)
+    assert [number for number, _ in told_lines] == [line] and told in told_lines[0][1]
+
+
+def test_all_faults_are_told():
+    assert [line for line, _ in faults("gtin;name\n1;a\n96385074;b\n2;c\n")] == [2, 4]
+
+
+@pytest.mark.parametrize("cells, kind, text", [
+    ("9501101530003,", Kind.EAN13, "09501101530003"), ("012345000065,", Kind.UPCA, "00012345000065"),
+    ("96385074,", Kind.EAN8, "00000096385074"), ("09501101530003,", Kind.ITF14, "09501101530003"),
+    ("9501101530003,itf14", Kind.ITF14, "09501101530003"), ("012345000065,UPC-E", Kind.UPCE, "00012345000065"),
+    ("01234565,upce", Kind.UPCE, "00012345000065"), ("]E001234565,", Kind.UPCE, "00012345000065"),
+    ("]E496385074,", Kind.EAN8, "00000096385074"), ("]I109501101530003,", Kind.ITF14, "09501101530003"),
+    ("]E09501101530003,", Kind.EAN13, "09501101530003"), ("]E0012345000065,", Kind.UPCA, "00012345000065"),
+    ("(10)AB(17)261231,", Kind.GS1128, "10AB\x1d17261231"), ("]C110AB^17261231,", Kind.GS1128, "10AB\x1d17261231"),
+    ("^10AB^17261231,", Kind.GS1128, "10AB\x1d17261231"), ("[10]AB[17]261231,", Kind.GS1128, "10AB\x1d17261231"),
+    ("9501101530003,gs1128", Kind.GS1128, "0109501101530003"), ("(01)09501101530003,ean13", Kind.EAN13, "09501101530003"),
+])
+def test_kinds(cells, kind, text):
+    article, = read_list(f"gtin,kind\n{cells}\n".encode(), YEAR).articles
+    assert (article.kind, article.text) == (kind, text)
+
+
+def test_an_element_string_of_its_column_needs_no_mark():
+    article, = read_list(b"gs1\n010950110153000310AB\n", YEAR).articles
+    assert (article.kind, article.text) == (Kind.GS1128, "010950110153000310AB")
+
+
+def test_bars_that_have_no_room():
+    (line, told), = faults("gs1\n(01)09501101530003(17)261231(10)LOT7\n", "3474")
+    assert line == 2 and "needs 89.4 mm with its quiet zones" in told and "use labels of 92 mm or more" in told and "--turn" not in told
+    assert "--turn" in faults("gs1\n(01)09501101530003(17)261231(10)LOT7\n", "1x1:70x148")[0][1]
+    assert "--dpi 600" in faults("gtin\n9501101530003\n", "L7651")[0][1]
+    assert "are left for the bars" in faults("gtin,name\n9501101530003,x\n", "60x10")[0][1]
+
+
+def test_modules_are_whole_dots_next_to_what_is_wanted():
+    def dots(stock, **named):
+        (_, drawing), = made(b"gtin\n9501101530003\n", stock, look=Look(**named)).drawings
+        return min(box.width for box in drawing.boxes)
+    assert [dots("L7160", resolution=it) for it in (203, 300, 600)] == [3, 4, 8]  # 0.375, 0.339, 0.339 mm
+    assert [dots("L7160", resolution=600, module_mm=it) for it in (0.1, 0.3, 0.4)] == [7, 7, 9]
+    assert dots("L7651", resolution=600) == 7
+    assert dots("L7163", resolution=300, module_mm=2) == 7  # 0.593 mm: the largest up to 0.66.
+
+
+def test_warnings():
+    data = b"gtin,name\n9501101530003,x\n96385074,y\n9501101530003,z\n"
+    told = "the bars are {} mm high; the standard asks for {} mm, and lower bars are harder to hit: use higher labels"
+    assert [(it.lines, it.said) for it in made(data, "L7651", look=Look(600)).warnings] == [
+        ((2, 4, 3), told.format("12.0", "20.5"))]
+    assert not made(data, "L7163", look=Look(bars_mm=30)).warnings
+    (_, said), = made(f"gtin,name\n9501101530003,{'W' * 10_000}\n".encode(), "2x4:99.1x67.7").warnings
+    assert said.startswith("a text is cut, since the label has no room for it: WWWW") and len(said) < 300
+
+
+def test_a_price_that_shows_nothing_does_no_harm():
+    for sign in "\u200b\u200e\xad\u2060":
+        try:
+            assert made(f"gtin,price\n96385074,{sign}\n".encode(), "3474").count == 1
+        except Faults as error:
+            assert "cannot be set" in str(error)
+
+
+def test_one_long_price_does_not_make_all_small():
+    def size(extra):
+        drawings = made(f"gtin,price\n9501101530003,1.95\n96385074,2.95\n012345000065,{extra}\n".encode(), "3474").drawings
+        return max(text.size for text in drawings[0][1].texts)
+    assert size("3.95") == size("3.95" * 20)
+
+
+def test_prices_of_one_width_fill_their_column():
+    (_, drawing), *_ = made(b"gtin,price\n9501101530003,1.95\n012345000065,3.95\n", "3474").drawings
+    price = next(text for text in drawing.texts if text.text == "1.95")
+    assert price.wide > 0.99 * price.width
+
+
+def test_copies_and_the_first_cell():
+    pages = list(made(start=20).pages())
+    assert [[(placed.left, placed.top) for placed in page] for page in pages] == [[(865, 2879), (1645, 2879)], [(85, 179), (865, 179)]]
+    assert made(start=20).sheets == 2 and made().sheets == 1 and made().count == 4
+    moved = [(placed.left, placed.top) for placed in next(made(shift=(2.0, -1.0)).pages())]
+    assert moved[0] == (109, 167)
+    for start in (0, 22):
+        with pytest.raises(ValueError):
+            made(start=start)
+    with pytest.raises(ValueError, match="more than 100,000 labels"):
+        made(b"gtin,copies\n" + b"96385074,1000\n" * 101)
+
+
+@pytest.mark.parametrize("kind, text, digits", [
+    (Kind.EAN13, "9501101530003", "9501101530003"), (Kind.UPCA, "012345000065", "012345000065"), (Kind.EAN8, "96385074", "96385074"),
+    (Kind.UPCE, "012345000065", "01234565"), (Kind.UPCE, "012000003455", "01234505"), (Kind.UPCE, "012300000079", "01230739"),
+    (Kind.UPCE, "012340000091", "01234941"), (Kind.ITF14, "9501101530003", "09501101530003"),
+    (Kind.GS1128, "10A\x1d17261231", "(10)A(17)261231"),
+])
+def test_digits(kind, text, digits):
+    assert bars_of(kind, text, read_text(text, YEAR), YEAR).digits == digits
+
+
+def test_no_upce():
+    with pytest.raises(ValueError):
+        upce_of("123456789012")
+
+
+def test_quiet_zones_are_as_the_library_has_them():
+    for kind, text in ((Kind.EAN13, "9501101530003"), (Kind.UPCA, "012345000065"), (Kind.EAN8, "96385074"), (Kind.UPCE, "012345000065"),
+                       (Kind.ITF14, "9501101530003"), (Kind.GS1128, "^10A")):
+        wide = bars_of(kind, text.strip("^"), read_text(text, YEAR), YEAR).modules
+        draw_label(kind, text.strip("^"), YEAR, module=1, width=wide, height=3)
+        with pytest.raises(Refusal):
+            draw_label(kind, text.strip("^"), YEAR, module=1, width=wide - 1, height=3)
+
+
+def test_the_longest_symbol_has_room():
+    text = "91" + "a" * 46
+    assert bars_of(Kind.GS1128, text, read_text(f"^{text}", YEAR), YEAR).modules < 640
+
+
+def planted(monkeypatch, edit):
+    """The faults of a label whose drawing is changed before it is looked at."""
+    real = labels.drawn
+
+    def drawn(item, plan):
+        drawing = real(item, plan)
+        edit(drawing)
+        return drawing
+    monkeypatch.setattr(labels, "drawn", drawn)
+    return faults("gtin,name,price\n9501101530003,x,1.95\n")
+
+
+def moved(drawing):
+    drawing.boxes[7] = drawing.boxes[7]._replace(left=drawing.boxes[7].left + 1)
+
+
+def widened(drawing):
+    drawing.boxes[3] = drawing.boxes[3]._replace(width=drawing.boxes[3].width + 1)
+
+
+def left_out(drawing):
+    del drawing.boxes[11]
+
+
+def doubled(drawing):
+    drawing.boxes.append(Box(drawing.boxes[0].left - 20, *drawing.boxes[0][1:]))
+
+
+def shortened(drawing):
+    drawing.boxes[5] = drawing.boxes[5]._replace(height=drawing.boxes[5].height // 3)
+
+
+def text_in_the_quiet_zone(drawing):
+    drawing.texts.append(Text("9", drawing.texts[0].font, 40, drawing.boxes[-1].left + 10, drawing.bars[1] - 2, 100))
+
+
+@pytest.mark.parametrize("edit", [moved, widened, left_out, doubled, shortened, text_in_the_quiet_zone])
+def test_a_wrong_drawing_is_refused(monkeypatch, edit):
+    (line, told), = planted(monkeypatch, edit)
+    assert line == 2 and "does not say what the list says" in told
+
+
+def test_another_symbol_is_refused(monkeypatch):
+    monkeypatch.setattr(labels, "bars_of", lambda kind, text, answer, year: bars_of(kind, "4012345010008", answer, year))
+    (_, told), = faults("gtin\n9501101530003\n")
+    assert "does not say what the list says" in told
+
+
+def test_files():
+    it = made("gtin,name\n9501101530003,<&>^~_\\\n".encode(), "57x32")
+    assert it.pdf() == it.pdf() and it.pdf()[:5] == b"%PDF-"
+    assert "&lt;&amp;&gt;^~_\\</text>" in next(it.svgs())
+    assert Image.open(io.BytesIO(next(it.pngs()))).size == (673, 378)
+    many = made(stock="57x32")
+    assert re.findall(rb"\^PQ\d+", many.zpl()) == [b"^PQ1", b"^PQ3"]
+    assert re.findall(rb"\nP\d+", many.epl()) == [b"\nP1", b"\nP3"]
+    assert re.findall(rb"PRINT 1,\d+", many.tspl()) == [b"PRINT 1,1", b"PRINT 1,3"]
+
+
+@pytest.mark.parametrize("row, before, told", [  # ZPL II Programming Guide, appendix on the compression of graphics.
+    ("00", "ff", ","), ("ff", "ff", ":"), ("f0", "ff", "F,"), ("ff" * 10, "", "gF"), ("ffffff00", "", "LF,"), ("0aaaaa", "", "0KA"),
+    ("11" * 200, "", "z1"), ("11" * 213, "", "zgL1"), ("a1b2", "", "A1B2"), ("0000ff", "", "J0FF"),
+])
+def test_rows_of_zpl(row, before, told):
+    assert _zpl_row(bytes.fromhex(row), bytes.fromhex(before)) == told
+
+
+def test_doctest_of_the_module():
+    import doctest
+    assert doctest.testmod(labels) == (0, 3)
+
+
+def test_it_says_what_is_not_installed(monkeypatch, capsys):
+    import sys
+
+    from noriladle.__main__ import main
+    for name in [name for name in sys.modules if name.startswith("noriladle.labels")]:
+        monkeypatch.delitem(sys.modules, name)
+    monkeypatch.delattr(noriladle, "labels", raising=False)
+    monkeypatch.setitem(sys.modules, "reportlab", None)
+    assert main(["labels", "a.csv", "-o", "a.pdf"]) == 2
+    assert "labels need reportlab: apt-get install python3-reportlab" in capsys.readouterr().err

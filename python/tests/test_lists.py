@@ -1,0 +1,223 @@
+"""Lists as people save them, and what is found in them: the texts, the columns, and the remedies."""
+import json
+
+import pytest
+
+import noriladle
+from noriladle import Refusal
+from noriladle._columns import table_of
+from noriladle._lists import LIMIT, Faults
+from noriladle._texts import Unreadable, digits_of, element_string, looks_right, read_text, remedy_of
+
+OATS, RYE, GUM, COLA = "4012345010008", "4012345010374", "96385074", "012345000065"
+
+
+@pytest.mark.parametrize("text, identifier, said", [
+    (OATS, None, f"(01)0{OATS}"),
+    ("96385074", None, "(01)00000096385074"),
+    ("0 12345 00006 5", None, "(01)00012345000065"),
+    ("978-3-16-148410-0", None, "(01)09783161484100"),
+    ("04012345010008", None, "(01)04012345010008"),
+    ("(01)09501101530003(17)261231", None, "(01)09501101530003(17)261231"),
+    ("(01) 09501101530003 (10) AB", None, "(01)09501101530003(10)AB"),
+    ("[01]09501101530003[10]A(B)C", None, "(01)09501101530003(10)A(B)C"),
+    ("^10AB^17261231", None, "(10)AB(17)261231"),
+    ("10AB^17261231", None, "(10)AB(17)261231"),
+    ("10AB\x1d17261231", None, "(10)AB(17)261231"),
+    ("]C110AB\x1d17261231", "]C1", "(10)AB(17)261231"),
+    ("]E04012345010008", "]E0", f"(01)0{OATS}"),
+    ("]E001234565", "]E0", "(01)00012345000065"),
+    ("]E496385074", "]E4", "(01)00000096385074"),
+    ("]I104012345010008", "]I1", "(01)04012345010008"),
+    ("https://id.gs1.org/01/09501101530003/10/AB", None, "(01)09501101530003(10)AB"),
+])
+def test_reads_a_text(text, identifier, said):
+    answer = read_text(f" {text} ", 2026)
+    assert (answer.identifier, answer.text) == (identifier, said)
+
+
+@pytest.mark.parametrize("text, refused, remedy", [
+    ("4012345010375", (3, None), "a digit is wrong; if it is the last one, 4012345010374 is right"),
+    ("12345000065", (1, None), "a GTIN has 8, 12, 13 or 14 digits; a spreadsheet may have removed zeros: 012345000065 is right"),
+    ("4,01235E+12", (1, None), "the spreadsheet has rounded it"),
+    ("4.01235e+12", (1, None), "the spreadsheet has rounded it"),
+    ("010950110153000317261231", (1, None), "a GTIN has at most 14 digits; if this is an element string, write ^0109501101"),
+    ("4012345010008.0", (1, None), "a number has no decimals: write 4012345010008"),
+    ("123", (1, None), "a GTIN has 8, 12, 13 or 14 digits"),
+    ("", (1, None), "a GTIN has 8, 12, 13 or 14 digits"),
+    ("401234501000x", (2, 12), "take it out"),
+    ("01234565", (40, None), "eight digits that begin with 0 may be a GTIN-8 or a UPC-E: write ]E401234565 or ]E001234565"),
+    ("(01)09501101530003(17)261331", (9, 17), "at (17)261331: write YYMMDD"),
+    ("(01)9501101530003", (6, 0), "at (01)9501101530003: a GTIN has 14 digits here: (01)09501101530003"),
+    ("[10]AB[98765]1", None, "brackets stand around Application Identifiers alone"),
+    ("(10)A(B)C", None, "if a value has some, write [01]09501101530003[10]A(B)"),
+    ("10AB^17261331", (9, 5), "at 17261331: write YYMMDD"),
+    ("^10AB^17261331", (9, 5), "at 17261331: write YYMMDD"),
+    ("]E3abc", (40, None), "]E3 marks a barcode that says no GS1 number"),
+    ("]E04012345010375", (3, None), "a digit is wrong; if it is the last one, 4012345010374 is right"),
+    ("https://example.com/x", (40, None), "this is no GS1 Digital Link"),
+])
+def test_refuses_a_text_and_says_what_to_do(text, refused, remedy):
+    with pytest.raises(ValueError) as raised:
+        read_text(text, 2026)
+    fault = raised.value
+    if refused is None:
+        assert isinstance(fault, Unreadable) and remedy in str(fault)
+    else:
+        assert isinstance(fault, Refusal) and (fault.number, fault.place) == refused
+        assert remedy_of(text, fault).startswith(remedy)
+
+
+def test_never_guesses_an_element_string_of_digits():
+    for text in ("4012345010008;Haferkekse;2,90", "0109501101530003", "00123456789012345675"):
+        with pytest.raises(Refusal):
+            read_text(text, 2026)
+
+
+def test_each_refusal_has_a_cause_and_a_remedy():
+    for number in range(1, 45):
+        refusal = Refusal(number, "Name")
+        assert refusal.cause and refusal.remedy and not set("`|") & set(refusal.cause + refusal.remedy)
+    assert Refusal(4, "Empty").remedy == "type the text"
+    assert noriladle.Refusal(3, "CheckDigit").cause.startswith("a digit was misread or mistyped")
+
+
+def test_words_of_texts():
+    assert digits_of("978-3-16\xa0148410\u20110") == "9783161484100"
+    assert element_string("10AB^17261231") == "10AB\x1d17261231"
+    assert element_string("(10)AB(17)261231") == "10AB\x1d17261231"
+    assert [looks_right(text) for text in ("4012345010008", "1234567", "4,01235E+12", "(01)x", "]C1", "https://a", "^10A")] == [True] * 7
+    assert not any(map(looks_right, ("", "Haferkekse", "2,90", "123456", "(mild)", "]", "123456789012345")))
+
+
+def table(text, **named):
+    """The cells of the columns that are found in a list, line by line, and the note."""
+    found = table_of(text if isinstance(text, bytes) else text.encode(), 2026, **named)
+    meanings = [meaning for meaning in ("gtin", "gs1", "name", "price", "copies", "kind") if meaning in found.places]
+    return [(it.line, *(found.cell(it, meaning) for meaning in meanings)) for it in found.records], meanings, found.note
+
+
+@pytest.mark.parametrize("heading", [
+    "ean;name;price", "EAN-13;Item;Retail price", "GTIN;Bezeichnung;VK", "Strichcode;Artikelbezeichnung;Preis (EUR)",
+    "Code-barres;Libellé;Prix TTC", "Gencod;Désignation;Prix de vente", "Código de barras;Descripción;PVP",
+    "Codice a barre;Descrizione;Prezzo", "Streepjescode;Omschrijving;Verkoopprijs", "Kod kreskowy;Nazwa towaru;Cena brutto",
+    "EAN/UPC;Produktname;UVP", "\ufeffean;NAME;PRICE", '"ean";"name";"price"',
+])
+def test_headings_in_seven_languages(heading):
+    assert table(f"{heading}\n{OATS};Haferkekse;2,90\n") == ([(2, OATS, "Haferkekse", "2,90")], ["gtin", "name", "price"], "")
+
+
+def test_other_columns_by_their_headings():
+    rows, meanings, _ = table(f"Etiketten;Art;gs1;EAN;Zeile 1;Zeile 2\n3;;;{OATS};a;b\n1;;(10)AB;;c\n")
+    assert (rows, meanings) == ([(2, OATS, "", "3"), (3, "", "(10)AB", "1")], ["gtin", "gs1", "copies"])
+    assert table_of(f"ean;line 1;line2\n{OATS};a;b\n".encode(), 2026).places["line"] == [1, 2]
+
+
+def test_the_best_heading_of_a_name_is_taken():
+    assert table(f"EAN;Beschreibung;Artikel-Nr;Bezeichnung\n{OATS};lang;77;kurz\n")[0] == [(2, OATS, "kurz")]
+
+
+@pytest.mark.parametrize("text, wanted, note", [
+    (f"Artikelnummer;Bezeichnung;Preis\n{OATS};Haferkekse;2,90\n{RYE};Brot;3,59\n",
+     [(2, OATS, "Haferkekse", "2,90"), (3, RYE, "Brot", "3,59")],
+     "took 'Artikelnummer' for the gtin, 'Bezeichnung' for the name, 'Preis' for the price; if that is wrong, say it by --column"),
+    (f"{OATS};Haferkekse;2,90\n", [(1, OATS, "Haferkekse", "2,90")],
+     "took column 1 for the gtin, column 2 for the name, column 3 for the price; if that is wrong, say it by --column"),
+    (f"Haferkekse\t{OATS}\nBrot, dunkel, grob\t{RYE}\n", [(1, OATS, "Haferkekse"), (2, RYE, "Brot, dunkel, grob")],
+     "took column 2 for the gtin, column 1 for the name; if that is wrong, say it by --column"),
+    (f"10011234,{OATS},\"Kekse; mild\"\n10011235,{RYE},Brot\n", [(1, OATS, "Kekse; mild"), (2, RYE, "Brot")],
+     "took column 2 for the gtin, column 3 for the name; if that is wrong, say it by --column"),
+    (f"Nummern\n{OATS}\n", [(2, OATS)], "took 'Nummern' in line 1 for a heading"),
+    (f"{OATS}\n\n{RYE}\n", [(1, OATS), (3, RYE)], ""),
+    ("(10)A,B\n(10)C;D\n", [(1, "(10)A,B"), (2, "(10)C;D")], ""),
+    ("abc\n", [(1, "abc")], ""),
+])
+def test_columns_by_their_cells(text, wanted, note):
+    rows, _, told = table(text)
+    assert (rows, told) == (wanted, note)
+
+
+def test_titles_may_stand_above_the_heading():
+    assert table(f"Preisliste;;\nStand: 1.11.2026;;\n\nEAN;Bezeichnung;VK\n{OATS};Kekse;2,90\n") == (
+        [(5, OATS, "Kekse", "2,90")], ["gtin", "name", "price"], "took line 4 for the heading, and nothing above it")
+
+
+def test_a_line_with_a_number_is_no_heading():
+    rows = f"{OATS};Barcode scanner;99,00\n{RYE};Labels;1,10\n"
+    assert table(rows)[0] == [(1, OATS, "Barcode scanner", "99,00"), (2, RYE, "Labels", "1,10")]
+    assert table(f"EAN;Name\n{OATS};EAN reader\n{RYE};GTIN\n")[0] == [(2, OATS, "EAN reader"), (3, RYE, "GTIN")]
+
+
+def test_a_longer_heading_gives_way():
+    assert table(f"EAN Karton;EAN;Preis je kg;Preis\n{RYE};{OATS};9,99;2,90\n")[0] == [(2, OATS, "2,90")]
+
+
+def test_a_word_of_the_first_line_is_no_heading_beside_a_number():
+    assert table(f"{OATS};Etiketten;2,90\n{RYE};Text;1,10\n")[0] == [(1, OATS, "Etiketten", "2,90"), (2, RYE, "Text", "1,10")]
+    assert table(f"{OATS};Etiketten;2,90\n")[0] == [(1, OATS, "Etiketten", "2,90")]
+
+
+def test_a_bad_number_does_not_hide_its_column():
+    assert table("Nummer;Bezeichnung\n4012345010375;Kekse\n")[0] == [(2, "4012345010375", "Kekse")]
+    assert table("4012345010375;Kekse\n")[0] == [(1, "4012345010375", "Kekse")]
+
+
+def test_columns_that_are_asked_for():
+    rows = f"a;b;c\n{OATS};{RYE};x\n"
+    assert table(rows, columns={"gtin": "B", "name": "C"})[0] == [(2, RYE, "x")]
+    assert table(rows, columns={"gtin": "2", "name": "3"})[0] == [(2, RYE, "x")]
+    assert table(f"{OATS};{RYE};x\n", columns={"gtin": "2"})[0][0][:2] == (1, RYE)
+    assert table(f"EAN;EAN Karton\n{OATS};{RYE}\n", columns={"gtin": "EAN Karton"})[0] == [(2, RYE)]
+
+
+SAVED = [("kürbis", "2,90 €"), ("a\nb", "x;y")]
+
+
+@pytest.mark.parametrize("delimiter, encoding, end, first", [
+    (";", "utf-8", "\n", ""), (";", "utf-8-sig", "\r\n", ""), (";", "cp1252", "\r\n", ""), ("\t", "utf-16", "\r\n", ""),
+    (",", "utf-8", "\n", ""), (";", "cp1252", "\r\n", "sep=;\r\n"), (",", "utf-8", "\n", "sep=,\n"), (";", "utf-8", "\r", ""),
+])
+def test_files_of_spreadsheets(delimiter, encoding, end, first):
+    def quoted(cell):
+        return f'"{cell}"' if set(";,\t\n") & set(cell) else cell
+    rows = [("ean", "name", "price"), *((OATS, *cells) for cells in SAVED)]
+    text = first + "".join(end.join([delimiter.join(map(quoted, row)), ""]) for row in rows)
+    lines = [2 + bool(first), 3 + bool(first)]
+    assert table(text.encode(encoding))[0] == [(line, OATS, *cells) for line, cells in zip(lines, SAVED)]
+
+
+def test_one_damaged_line_is_one_fault():
+    found = table_of(f'ean;name\n{OATS};"a"b\n{RYE};c\n'.encode(), 2026)
+    assert [it.line for it in found.records] == [3] and [it.line for it in found.faults] == [2]
+    found = table_of(f'ean;name\n{OATS};a\n{RYE};"c\n{GUM};d\n'.encode(), 2026)
+    assert [it.line for it in found.records] == [2] and [it.line for it in found.faults] == [3]
+
+
+@pytest.mark.parametrize("data, line, told", [
+    (b"", 1, "the list is empty"), (b"\n \n", 1, "the list is empty"), (b"\xef\xbb\xbf", 1, "the list is empty"),
+    (b"PK\x03\x04...", 1, "save it as CSV"), (b"%PDF-1.4", 1, "noriladle read takes it"), (b"\x89PNG", 1, "a picture"),
+    (b"a\nb\0c\n", 2, "there is a byte 0"), (b"a" * (LIMIT + 1), 1, "more than 16,777,216 bytes"),
+    (b"Artikel;Preis\nKekse;2,90\n", 1, "--column gtin='Artikel'"),
+    (b"ean;gtin\n1;2\n", 1, "'ean' and 'gtin' are both gtin"),
+])
+def test_what_is_no_list(data, line, told):
+    with pytest.raises(Faults) as raised:
+        table_of(data, 2026)
+    fault, = raised.value.faults
+    assert fault.line == line and told in fault.said
+
+
+def test_a_column_that_is_not_there():
+    with pytest.raises(Faults, match="there is no column 4 for gtin: the list has 2"):
+        table_of(f"{OATS};a\n".encode(), 2026, {"gtin": "4"})
+
+
+def test_remedies_are_those_of_the_page():
+    import pathlib
+    page = pathlib.Path(__file__).parents[2] / "docs" / "FAULTS.md"
+    if page.exists():
+        told = json.loads(pathlib.Path(noriladle.__file__).with_name("remedies.json").read_text("utf-8"))
+        rows = [line.split(" | ") for line in page.read_text("utf-8").splitlines() if line.startswith("| ") and line[2].isdigit()]
+        for head, _, remedy in rows[:10]:
+            number = head.split()[1]
+            assert told[number][1] == remedy.rstrip(" |").replace("`", ""), number

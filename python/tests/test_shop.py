@@ -1,0 +1,356 @@
+"""The commands of a shop: ``noriladle labels``, ``check`` and ``read``, as they are typed."""
+import errno
+import io
+import json
+import os
+import resource
+import signal
+import struct
+import subprocess
+import sys
+import zlib
+
+import pytest
+
+from noriladle.__main__ import main
+from noriladle import commands
+from noriladle.commands import write_files
+
+LIST = "ean;name;price\n4012345010008;Haferkekse;2,90\n96385074;Kaugummi;0,90\n"
+
+
+@pytest.fixture
+def folder(tmp_path, monkeypatch):
+    monkeypatch.chdir(tmp_path)
+    return tmp_path
+
+
+def told(words, capsys):
+    """The status of a command, and the lines that it wrote on standard output and on standard error."""
+    status = main([*words, "--year", "2026"])
+    out, err = capsys.readouterr()
+    return status, out.splitlines(), err.splitlines()
+
+
+def save(name, text, encoding="utf-8"):
+    with open(name, "wb") as file:
+        file.write(text if isinstance(text, bytes) else text.encode(encoding))
+    return name
+
+
+# ---- check
+
+def test_check(folder, capsys):
+    save("a", "978-3-16-148410-0\n\n96385075\n(10)A\n]C110A\n^10A^17261231\n(10)A)\n")
+    assert told(["check", "a"], capsys) == (1, [
+        "1\t978-3-16-148410-0\t(01)09783161484100",
+        "3\t96385075\trefused 3 CheckDigit\ta digit is wrong; if it is the last one, 96385074 is right",
+        "4\t(10)A\t(10)A", "5\t]C110A\t]C1 (10)A", "6\t^10A^17261231\t(10)A(17)261231",
+        "7\t(10)A)\trefused\tparentheses stand around Application Identifiers alone, as in (01)09501101530003(10)AB; if a value has some, "
+        "write [01]09501101530003[10]A(B)"], [])
+    assert told(["check", "a", "--refused"], capsys)[1] == told(["check", "a"], capsys)[1][1:2] + told(["check", "a"], capsys)[1][5:]
+
+
+def test_check_of_a_list(folder, capsys):
+    save("a.csv", "Artikelnummer;Bezeichnung\n4012345010008;Haferkekse\n4012345010375;Brot\n\"x\"y\n")
+    status, out, err = told(["check", "a.csv"], capsys)
+    assert status == 1 and err == ["a.csv: took 'Artikelnummer' for the gtin, 'Bezeichnung' for the name; if that is wrong, say it by --column"]
+    assert out[:2] == ["2\t4012345010008\t(01)04012345010008",
+                       "3\t4012345010375\trefused 3 CheckDigit\ta digit is wrong; if it is the last one, 4012345010374 is right"]
+    assert out[2].startswith("4\t\trefused\tthis line is no CSV")
+
+
+def test_check_as_json(folder, capsys):
+    save("a", "]C110A\x1d17261231\n96385075\n(10)A)\n")
+    status, out, _ = told(["check", "a", "--json"], capsys)
+    assert status == 1
+    assert [json.loads(line) for line in out][:2] == [
+        {"line": 1, "text": "]C110A\x1d17261231", "identifier": "]C1", "gtin": None, "elements": [
+            {"ai": "10", "value": "A"}, {"ai": "17", "value": "261231", "date": "2026-12-31"}]},
+        {"line": 2, "text": "96385075", "refused": 3, "name": "CheckDigit", "place": None,
+         "remedy": "a digit is wrong; if it is the last one, 96385074 is right"}]
+    assert json.loads(out[2])["refused"] is None
+
+
+def test_check_of_standard_input(folder, capsys, monkeypatch):
+    monkeypatch.setattr("sys.stdin", io.TextIOWrapper(io.BytesIO(b"96385074\n")))
+    assert told(["check"], capsys) == (0, ["1\t96385074\t(01)00000096385074"], [])
+
+
+@pytest.mark.parametrize("command", [["check"], ["labels", "-o", "a.pdf"]])
+@pytest.mark.parametrize("data, status, said", [
+    (b"", 1, "a.csv:1: the list is empty"),
+    (b"PK\x03\x04", 1, "a.csv:1: this is a spreadsheet's own file: save it as CSV"),
+    (b"x\0", 1, "a.csv:1: there is a byte 0, so this is no text: save the list as CSV in UTF-8"),
+    (b"1" * 16_777_217, 1, "a.csv:1: the list has more than 16,777,216 bytes: split it"),
+])
+def test_what_is_no_list(command, data, status, said, folder, capsys):
+    save("a.csv", data)
+    found, out, err = told([*command, "a.csv"], capsys)
+    assert (found, out, err[0]) == (status, [], said)
+    assert os.listdir() == ["a.csv"]
+
+
+@pytest.mark.parametrize("words, said", [
+    (["check", "b.csv"], "noriladle: b.csv: No such file or directory"),
+    (["check", "."], "noriladle: .: Is a directory"),
+    (["check", "a.csv", "--column", "ean=x"], "noriladle: --column ean=x: write one of gtin, gs1, name, price, copies, kind, line, = and a "
+     "heading, as in --column name=Bezeichnung"),
+    (["labels", "b.csv"], "noriladle: b.csv: No such file or directory"),
+    (["labels", "a.csv", "-o", "no/a.pdf"], "noriladle: no/a.pdf: there is no folder no"),
+    (["labels", "a.csv", "-o", "a.doc"], "noriladle: a.doc: the end of the name says no form: write .pdf, .svg, .png, .zpl, .epl, .tspl, or "
+     "--to FORM"),
+    (["labels", "a.csv", "--stock", "L716"], "noriladle: there is no stock 'L716' (did you mean L7165 or L7163 or L7162?): --stocks lists "
+     "those that are known; else write its measures in mm, as 3x8:70x37 (a sheet of A4), 5x13:38.1x21.2+2.54+0 (with gaps) or 57x32 (a roll)"),
+    (["labels", "a.csv", "--start", "25"], "noriladle: the first label is to be in one of the cells 1 to 24, and not in 25"),
+    (["labels", "a.csv", "--font", "a.csv"], None),
+    (["labels", "a.csv", "--dpi", "301"], None),
+    (["labels", "a.csv", "--shift", "1"], None),
+    (["labels", "a.csv", "--bars", "high"], None),
+    (["read", "b.png"], "b.png: No such file or directory"),
+])
+def test_wrong_words(words, said, folder, capsys):
+    save("a.csv", LIST)
+    status, out, err = told(words, capsys)
+    assert (status, out, len(err)) == (2, [], 1) and (said is None or err == [said])
+    assert os.listdir() == ["a.csv"]
+
+
+# ---- labels
+
+@pytest.mark.parametrize("form, begins", [
+    ("pdf", b"%PDF-"), ("svg", b"<svg "), ("png", b"\x89PNG"), ("zpl", b"^XA"), ("epl", b"\nN\n"), ("tspl", b"SIZE 70 mm,37 mm")])
+def test_labels_in_each_form(form, begins, folder, capsys):
+    pytest.importorskip("reportlab")
+    save("a.csv", LIST)
+    status, out, err = told(["labels", "a.csv", "-o", f"b.{form}", "--currency", "€"], capsys)
+    pages = "" if form in ("zpl", "epl", "tspl") else " on 1 page"
+    assert (status, out, err[-1]) == (0, [], f"2 labels{pages} in b.{form}")
+    assert sorted(os.listdir()) == ["a.csv", f"b.{form}"]
+    with open(f"b.{form}", "rb") as file:
+        assert file.read().startswith(begins)
+
+
+def test_pages_of_pictures_are_files(folder, capsys):
+    pytest.importorskip("reportlab")
+    save("a.csv", LIST)
+    assert told(["labels", "a.csv", "-o", "b.png", "--stock", "57x32"], capsys)[2][-1] == "2 labels on 2 pages in b-1.png to b-2.png"
+    assert sorted(os.listdir()) == ["a.csv", "b-1.png", "b-2.png"]
+    assert told(["labels", "a.csv", "-o", "-", "--to", "png", "--stock", "57x32"], capsys)[0] == 2
+
+
+def test_a_list_of_excel(folder, capsys):
+    pytest.importorskip("reportlab")
+    save("a.csv", "sep=;\r\nEAN;Bezeichnung;VK\r\n9501101530003;Größe;12,99\r\n", "cp1252")
+    status, _, err = told(["labels", "a.csv", "-o", "a.svg", "--currency", "€"], capsys)
+    assert status == 0 and err[0] == "a.csv: warning: this is not UTF-8 and was read as Windows-1252: look at the accents"
+    with open("a.svg", encoding="utf-8") as file:
+        text = file.read()
+    assert ">Größe<" in text and ">12,99\xa0€<" in text
+
+
+def test_nothing_is_written_of_a_list_with_a_fault(folder, capsys):
+    pytest.importorskip("reportlab")
+    save("a.csv", "gtin\n96385074\n96385075\n96385075\n1\n")
+    assert told(["labels", "a.csv", "-o", "a.pdf"], capsys) == (1, [], [
+        "a.csv:3: 96385075: refused 3 CheckDigit: a digit is wrong; if it is the last one, 96385074 is right (and 1 more line)",
+        "a.csv:5: 1: refused 1 Length: a GTIN has 8, 12, 13 or 14 digits", "a.csv: 3 lines refused, so nothing was written"])
+    assert os.listdir() == ["a.csv"]
+
+
+def test_a_list_without_labels(folder, capsys):
+    pytest.importorskip("reportlab")
+    save("a.csv", "gtin,copies\n96385074,0\n")
+    assert told(["labels", "a.csv", "-o", "a.pdf"], capsys)[2][0] == "a.csv:1: the list has no labels to print"
+
+
+def test_of_many_faults_the_first_are_told(folder, capsys):
+    pytest.importorskip("reportlab")
+    save("a.csv", "gtin\n" + "".join(f"x{number}\n" for number in range(100)))
+    _, _, err = told(["labels", "a.csv", "-o", "a.pdf"], capsys)
+    assert len(err) == 52 and err[50:] == ["a.csv: and 50 more faults; noriladle check prints all of the numbers",
+                                           "a.csv: 100 lines refused, so nothing was written"]
+
+
+def test_stocks(capsys):
+    status, out, _ = told(["labels", "--stocks"], capsys)
+    assert status == 0 and "L7160\t3x7:63.5x38.1+2.54+0" in out and "11354\t57x32" in out
+
+
+def test_all_files_or_none_are_written(folder):
+    from pathlib import Path
+    save("b", "old")
+    # The third file has no folder.
+    with pytest.raises(OSError):
+        write_files([(Path("a"), b"1"), (Path("b"), b"2"), (Path("no/c"), b"3")])
+    assert os.listdir() == ["b"] and open("b").read() == "old"
+    # The second file is larger than a file may be.
+    before = resource.getrlimit(resource.RLIMIT_FSIZE)
+    signal.signal(signal.SIGXFSZ, signal.SIG_IGN)
+    resource.setrlimit(resource.RLIMIT_FSIZE, (1_000, before[1]))
+    try:
+        with pytest.raises(OSError) as raised:
+            write_files([(Path("a"), b"1"), (Path("b"), b"2" * 5_000)])
+    finally:
+        resource.setrlimit(resource.RLIMIT_FSIZE, before)
+    assert raised.value.errno == errno.EFBIG and os.listdir() == ["b"] and open("b").read() == "old"
+    write_files([(Path("a"), b"1"), (Path("b"), b"2")])
+    assert [open(name).read() for name in "ab"] == ["1", "2"] and sorted(os.listdir()) == ["a", "b"]
+
+
+def test_links_and_devices_stay_what_they_are(folder):
+    from pathlib import Path
+    save("a", "old")
+    os.symlink("a", "link")
+    os.symlink("/dev/null", "device")
+    write_files([(Path("link"), b"1"), (Path("device"), b"2")])
+    assert open("a").read() == "1" and os.path.islink("link") and os.path.islink("device")
+    os.mkdir("folder.pdf")
+    with pytest.raises(IsADirectoryError):
+        write_files([(Path("folder.pdf"), b"1")])
+
+
+def test_a_full_disk(folder):
+    pytest.importorskip("reportlab")
+    save("a.csv", LIST)
+    how = {"stderr": subprocess.PIPE, "text": True, "env": {**os.environ, "PYTHONPATH": os.pathsep.join(sys.path)}}
+    with open("/dev/full", "wb") as full:
+        done = subprocess.run([sys.executable, "-m", "noriladle", "labels", "a.csv", "--to", "pdf", "-o", "-"], stdout=full, **how)
+    assert done.returncode == 1 and done.stderr.endswith("No space left on device\n")
+    done = subprocess.run([sys.executable, "-m", "noriladle", "labels", "a.csv", "-o", "/proc/a.pdf"], **how)
+    assert done.returncode == 1 and done.stderr.splitlines()[-1].startswith("noriladle: /proc/a.pdf: ") and "nothing was written" in done.stderr
+
+
+# ---- read
+
+@pytest.fixture
+def picture(folder):
+    """A picture of an EAN-13, as Pillow's image."""
+    pytest.importorskip("numpy")
+    Image = pytest.importorskip("PIL.Image")
+    from noriladle import draw_label
+    data = draw_label("ean13", "9501101530003", 2026, width=400)
+    return Image.open(io.BytesIO(data)).convert("L")
+
+
+LINE = "]E0\t(01)09501101530003"
+
+
+@pytest.mark.parametrize("name", ["a.png", "a.jpg", "a.tif", "a.bmp", "a.gif", "a.webp", "a.pgm", "a.ppm"])
+def test_reads_each_format(name, picture, capsys):
+    picture.save(name)
+    status, out, err = told(["read", name], capsys)
+    assert (status, err) == (0, []) and [line.rsplit("\t", 1)[0] for line in out] == [f"{name}\t{LINE}"]
+    left, top, right, bottom = (int(it) for it in out[0].rsplit("\t", 1)[1].split(","))
+    # 11 light modules of two pixels, and 95 of the symbol.
+    assert abs(left - 22) < 3 and abs(right - 212) < 3 and top < 10 and bottom > 100
+
+
+def test_reads_the_pages_of_a_tiff(picture, capsys):
+    picture.save("a.tif", save_all=True, append_images=[picture.rotate(180), picture])
+    assert [line.rsplit("\t", 1)[0] for line in told(["read", "a.tif"], capsys)[1]] == [f"a.tif:{page}\t{LINE}" for page in (1, 2, 3)]
+
+
+def test_reads_a_pdf_file(picture, capsys):
+    picture.save("a.pdf", resolution=72)
+    status, out, err = told(["read", "a.pdf"], capsys)
+    assert (status, err) == (0, []) and out[0].startswith(f"a.pdf:1\t{LINE}\t")
+
+
+def test_read_as_json(picture, capsys):
+    picture.save("a.png")
+    status, out, _ = told(["read", "--json", "a.png"], capsys)
+    it = json.loads(out[0])
+    assert status == 0 and (it["file"], it["identifier"], it["gtin"]) == ("a.png", "]E0", "09501101530003")
+    assert it["elements"] == [{"ai": "01", "value": "09501101530003"}] and len(it["box"]) == 4 and len(it["corners"]) == 4 and it["rows"] > 50
+    assert "page" not in it
+
+
+def png(width, height):
+    """The head of a PNG that says it has so many pixels."""
+    def chunk(name, data):
+        return struct.pack(">I", len(data)) + name + data + struct.pack(">I", zlib.crc32(name + data))
+    return b"\x89PNG\r\n\x1a\n" + chunk(b"IHDR", struct.pack(">IIBBBBB", width, height, 8, 0, 0, 0, 0)) + chunk(b"IDAT", zlib.compress(b"\0" * 100))
+
+
+@pytest.mark.parametrize("data, status, said", [
+    (b"", 2, "this is no picture that is read"),
+    (b"text", 2, "this is no picture that is read"),
+    (b"%!PS-Adobe-3.0 EPSF-3.0\n%%BoundingBox: 0 0 100 100\nshowpage\n", 2, "this is no picture that is read"),
+    (b"%PDF-1.4\nnothing", 2, "pdfinfo does not open it: "),
+    (b"\0\0\0\x18ftypheic\0\0\0\0", 2, "this is a HEIC or AVIF photograph"),
+    (png(100, 100), 2, "the picture is damaged, or cut"),
+    (png(20_000, 20_000), 1, "refused 44 InputSize: a picture of more than 100,000,000 pixels is not read"),
+    (png(10_001, 10_000), 1, "refused 44 InputSize"),
+])
+def test_what_is_no_picture(data, status, said, picture, capsys):
+    save("a", data)
+    found, out, err = told(["read", "a"], capsys)
+    assert (found, out, len(err)) == (status, [], 1) and err[0].startswith(f"a: {said}")
+
+
+def test_no_other_program_runs_for_a_picture(picture, capsys, monkeypatch):
+    from PIL import EpsImagePlugin
+
+    def run(*_):
+        raise AssertionError("Ghostscript was asked for")
+    monkeypatch.setattr(EpsImagePlugin, "Ghostscript", run)
+    picture.convert("RGB").save("a.eps")
+    assert told(["read", "a.eps"], capsys)[0] == 2
+    import noriladle
+    with pytest.raises(OSError):
+        noriladle.read_picture("a.eps", 2026)
+
+
+def test_a_cut_picture_does_not_stop_the_others(picture, capsys):
+    picture.save("a.png")
+    with open("a.png", "rb") as file:
+        data = file.read()
+    for name, end in (("cut.png", len(data) // 2), ("head.png", 40)):
+        save(name, data[:end])
+    picture.crop((0, 0, 100, 20)).save("white.png")
+    status, out, err = told(["read", "cut.png", "a.png", "head.png", "white.png"], capsys)
+    assert status == 2 and [line.rsplit("\t", 1)[0] for line in out] == [f"a.png\t{LINE}"]
+    assert [line.partition(":")[0] for line in err] == ["cut.png", "head.png", "white.png"]
+    assert told(["read", "white.png"], capsys) == (1, [], ["white.png: no barcode was read; docs/PICTURES.md says what a picture needs"])
+
+
+def test_damaged_pictures_are_told(picture, capsys):
+    import random
+    chance = random.Random(1)
+    for name in ("a.png", "a.jpg", "a.tif", "a.gif", "a.bmp", "a.webp"):
+        picture.save(name)
+        with open(name, "rb") as file:
+            whole = file.read()
+        for _ in range(25):
+            data = bytearray(whole)
+            for _ in range(chance.randrange(1, 20)):
+                data[chance.randrange(len(data))] = chance.randrange(256)
+            save("b", bytes(data[:chance.choice([len(data), chance.randrange(len(data))])]))
+            status, out, err = told(["read", "b"], capsys)
+            assert status in (0, 1, 2) and len(out) + len(err) >= 1
+            assert all(line.split("\t")[2] == "(01)09501101530003" for line in out)
+
+
+def test_a_pdf_without_poppler(picture, capsys, monkeypatch):
+    picture.save("a.pdf")
+    monkeypatch.setattr("shutil.which", lambda name: None)
+    assert told(["read", "a.pdf"], capsys) == (2, [], ["a.pdf: pages of PDF files are drawn by pdftoppm: apt-get install poppler-utils"])
+
+
+def test_progress_is_for_terminals(monkeypatch, capsys):
+    progress = commands.Progress()
+    progress("half", at_once=True)
+    assert capsys.readouterr().err == ""
+    monkeypatch.setattr(sys.stderr, "isatty", lambda: True)
+    progress("half")  # A second has not gone by.
+    progress("one", at_once=True)
+    progress.end()
+    assert capsys.readouterr().err == "\rone\r   \r"
+
+
+def test_progress_from_the_second_page_on(picture, capsys, monkeypatch):
+    picture.save("a.tif", save_all=True, append_images=[picture])
+    monkeypatch.setattr(sys.stderr, "isatty", lambda: True)
+    assert main(["read", "a.tif"]) == 0
+    assert "reading a.tif:2 (1 of 1)" in capsys.readouterr().err

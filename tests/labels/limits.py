@@ -1,0 +1,59 @@
+"""What the commands may take: limits.py LISTS WORK. Time is that of the processor, since others may use the machine."""
+import os
+import random
+import resource
+import subprocess
+import sys
+
+WORK = sys.argv[2]
+FAULTS = []
+
+
+def checked(text):
+    return text + str(-sum(int(digit) * (3, 1)[at % 2] for at, digit in enumerate(reversed(text))) % 10)
+
+
+def measure(name, words, seconds, megabytes=0):
+    """Runs noriladle in a process of its own, which says what it took, and compares it with the limits; the best of three."""
+    best = (1e9, 1e9)
+    for _ in range(3):
+        done = subprocess.run([sys.executable, __file__, "", WORK, "run", *words], stdout=subprocess.DEVNULL, stderr=subprocess.PIPE)
+        took, most = done.stderr.decode().split()[-2:]
+        if done.returncode:
+            FAULTS.append(f"{name}: status {done.returncode}")
+        best = min(best, (float(took), float(most)))
+    is_wrong = best[0] > seconds or megabytes and best[1] > megabytes
+    print(f"{name}: {best[0]:.2f} s of {seconds}, {best[1]:.0f} MB{f' of {megabytes}' if megabytes else ''}")
+    if is_wrong:
+        FAULTS.append(f"{name}: {best}")
+
+
+def main():
+    chance = random.Random(1)
+    names = ["Haferkekse", "Roggenbrot 500 g", "Apfelsaft 1 l", "Blütenhonig aus der Lüneburger Heide, cremig, 500 g", "Öl"]
+    rows = [f"{checked(f'4012345{number:05}')};{chance.choice(names)} {number};{chance.randrange(20)},{chance.randrange(100):02} €\n"
+            for number in range(10_000)]
+    for count in (1_000, 10_000):
+        with open(os.path.join(WORK, f"{count}.csv"), "w", encoding="utf-8") as file:
+            file.writelines(["ean;name;price\n", *rows[:count]])
+    pdf = os.path.join(WORK, "many.pdf")
+    measure("start", ["--version"], 0.15)
+    measure("labels of 1,000 lines", ["labels", os.path.join(WORK, "1000.csv"), "-o", pdf], 2.5)
+    measure("labels of 10,000 lines", ["labels", os.path.join(WORK, "10000.csv"), "-o", pdf], 15, 200)
+    measure("check of 10,000 lines", ["check", os.path.join(WORK, "10000.csv")], 1)
+    print("\n".join(FAULTS), file=sys.stderr, end="\n" if FAULTS else "")
+    print(f"4 limits of time and memory, {len(FAULTS)} broken")
+    sys.exit(1 if FAULTS else 0)
+
+
+def run_once(words):
+    """Runs noriladle, and says on standard error the seconds of the processor and the megabytes that it took."""
+    done = subprocess.run([sys.executable, "-m", "noriladle", *words], stderr=subprocess.PIPE)
+    used = resource.getrusage(resource.RUSAGE_CHILDREN)
+    sys.stderr.write(f"{used.ru_utime + used.ru_stime} {used.ru_maxrss / 1024}\n")
+    sys.exit(done.returncode)
+
+
+if sys.argv[3:4] == ["run"]:
+    run_once(sys.argv[4:])
+main()
