@@ -11,6 +11,7 @@ import pathlib
 import subprocess
 import sys
 import sysconfig
+import zlib
 
 from setuptools import Distribution, setup
 from setuptools.command.build_py import build_py
@@ -32,7 +33,10 @@ def unpack() -> None:
     sums = {words[0]: words[1] for words in map(str.split, manifest.splitlines())}
     if name not in sums:
         sys.exit(f"noriladle: there is no library for {PROCESSOR}; its source builds one with the Rattle kit")
-    library = gzip.decompress((HERE / "release" / f"{name}.gz").read_bytes())
+    try:
+        library = gzip.decompress((HERE / "release" / f"{name}.gz").read_bytes())
+    except (OSError, EOFError, zlib.error):
+        library = b""
     if hashlib.sha256(library).hexdigest() != sums[name]:
         sys.exit(f"noriladle: release/{name}.gz is not the file that release/MANIFEST names; fetch the package again")
     LIBRARY.write_bytes(library)
