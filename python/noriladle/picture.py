@@ -29,6 +29,8 @@ FORMATS = ("JPEG", "PNG", "TIFF", "PPM", "BMP", "GIF", "WEBP")
 MOST_PIXELS = 100_000_000
 """The most pixels of a file's picture: a small file may say that it has many more than there is memory for."""
 
+_BAND = 64
+"""So many rows are made grey at a time."""
 _RED, _GREEN, _BLUE = 77, 150, 29
 """The parts of colours in grey, of 256."""
 
@@ -79,13 +81,21 @@ def grey_of(picture: Picture) -> Grey:
         return grey
     if pixels.ndim != 3 or pixels.shape[2] not in (3, 4):
         raise ValueError(f"a picture has rows of grey values, of RGB or of RGBA, and not the shape {pixels.shape}")
+    grey = numpy.empty(pixels.shape[:2], numpy.uint8)
+    # Row by row, or nearly so: the steps of a large picture would take several times its memory.
+    for top in range(0, len(pixels), _BAND):
+        grey[top:top + _BAND] = _light(pixels[top:top + _BAND])
+    return grey
+
+
+def _light(pixels: "numpy.ndarray[Any, Any]") -> "numpy.ndarray[Any, Any]":
+    """The grey values of pixels of RGB or RGBA."""
     red, green, blue = (pixels[..., i].astype(numpy.uint16) for i in range(3))
-    light = (red * _RED + green * _GREEN + blue * _BLUE) >> 8
+    light: numpy.ndarray[Any, Any] = (red * _RED + green * _GREEN + blue * _BLUE) >> 8
     if pixels.shape[2] == 4:
         opaque = pixels[..., 3].astype(numpy.uint16)
         light = (light * opaque + 255 * (255 - opaque)) // 255
-    grey = light.astype(numpy.uint8)
-    return grey
+    return light
 
 
 def opened(file: Union[str, "os.PathLike[str]", BinaryIO], page: int = 0) -> Image.Image:
