@@ -24,6 +24,10 @@ COMMANDS = (
     Command("labels", "Make labels of a list: names, prices and barcodes on label stock", "noriladle.commands.labels"),
     Command("check", "Check a list of numbers, element strings and scanned texts", "noriladle.commands.check"),
     Command("read", "Read the barcodes of photographs, scans and PDF files", "noriladle.commands.read"),
+    Command("gateway", "Give scanners and tills the answers of one hub, over sockets", "noriladle.commands.gateway"),
+    Command("scanner", "Read an ordinary scanner, and give its texts to a gateway or check them", "noriladle.commands.scanner"),
+    Command("worker", "Answer the rows of lanes that tills submit to Redis", "noriladle.commands.worker"),
+    Command("till", "Submit rows to Redis, and print their answers", "noriladle.commands.till"),
 )
 """All subcommands, in the order of the help. A module is imported only when its command is asked for."""
 

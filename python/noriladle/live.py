@@ -90,7 +90,14 @@ class Lane:
         :raises HubEnded: the hub has ended before it replied.
         :raises ValueError: a width is below 0, or a text has a line end.
         """
-        return await self._hub._ask(self.number, widths)
+        return await self.ask(widths)
+
+    def ask(self, widths: Widths) -> asyncio.Future[Reply]:
+        """Submits a row at once, and gives its reply to wait for, which may be cancelled as a call of :meth:`read`.
+
+        :raises ValueError: as :meth:`read`.
+        """
+        return self._hub._ask(self.number, widths)
 
     async def read_all(self, rows: Iterable[Widths], ahead: int = 256) -> AsyncIterator[Reply]:
         """The replies to rows, in their order. At most ``ahead`` rows (1 or more) are taken before their replies are.

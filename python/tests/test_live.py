@@ -75,6 +75,22 @@ def test_tells_elements_apart(text):
     run(test())
 
 
+@pytest.mark.parametrize("text, wanted", [
+    ("]E09501101530003", "1 - ]E0 (01)09501101530003"),
+    (b"]C110AB\x1d21C", "1 - ]C1 (10)AB(21)C"),
+    ("9501101530003", "1 - - (01)09501101530003"),
+    ("]E09501101530004", "1 - refused 3 CheckDigit"),
+])
+def test_reads_a_text_of_a_scanner(text, wanted):
+    """It takes no number from the rows beside it."""
+    async def test():
+        async with Hub(2, 1, 2026) as hub:
+            lane = hub.lane(1)
+            replies = [lane.ask(EAN13), lane.ask(text), lane.ask(EAN13)]
+            assert [str(await reply) for reply in replies] == [f"1 0 {READ}", wanted, f"1 1 {READ}"]
+    run(test())
+
+
 @pytest.mark.parametrize("widths, wanted", [
     ([100], "1 0 refused 19 Blank"),
     ([0, 65_535, 0], "1 0 refused 20 RunCount"),

@@ -27,7 +27,7 @@ from pathlib import Path
 from typing import Iterator, List, Tuple
 
 ROOT = Path(__file__).resolve().parents[2]
-COPIED = ("python", "examples/live", "tests/live", "bench/rows.py")
+COPIED = ("python", "examples/till", "tests/live", "tests/page/browser.py", "bench/rows.py")
 SECONDS = "100"
 EDIT = re.compile(r"edit: ([^\n]*)\ntest: ([^\n]*)\n(.*?)(?=\nedit: |\Z)", re.DOTALL)
 PAIR = re.compile(r"file: ([^\n]*)\nold: (.*?)\nnew: ?(.*?)(?=\nfile: |\s*\Z)", re.DOTALL)
@@ -61,7 +61,7 @@ class Edit:
             words = ["timeout", "-s", "INT", "-k", "10", SECONDS, sys.executable, "-m", "pytest", "-q", "-x", f"--basetemp={folder}/tmp"]
             paths = os.pathsep.join([f"{folder}/python", f"{folder}/tests/live"])
             ran = subprocess.run(
-                [*words, *shlex.split(self.test)], cwd=folder, env={**os.environ, "PYTHONPATH": paths}, stdin=subprocess.DEVNULL,
+                [*words, *shlex.split(self.test)], cwd=folder, env={**os.environ, "PYTHONPATH": paths, "SCANS": "6000"}, stdin=subprocess.DEVNULL,
                 capture_output=True, text=True,
             )
         found = ran.returncode == 1 and " failed" in ran.stdout or ran.returncode in (124, 137)

@@ -1,97 +1,21 @@
 """The gateway with the real program, and clients over TCP and a UNIX socket. Needs socat and pgrep."""
+import json
 import os
-import re
 import signal
 import socket
-import struct
 import subprocess
-import sys
 import threading
 import time
+import urllib.error
+import urllib.request
 
 import pytest
 
-from shop import EAN13, READ, ROOT, noise, random_lanes
+from counter import NORILADLE, ROW, Client, Gateway
+from shop import READ, noise, random_lanes
 
 LIMIT = 180
-ROW = EAN13.encode() + b"\n"
-TAKEN = b"closed: all 16 lanes are taken\n"
-
-
-class Client:
-    """A connection whose lines are read one by one."""
-
-    def __init__(self, address, family=socket.AF_INET):
-        self.socket = socket.socket(family)
-        self.socket.settimeout(20)
-        self.socket.connect(address)
-        self.lines = self.socket.makefile("rb")
-
-    def __enter__(self):
-        return self
-
-    def __exit__(self, *_):
-        # A socket stays open as long as its file does.
-        self.lines.close()
-        self.socket.close()
-
-    def send(self, text):
-        self.socket.sendall(text)
-
-    def ask(self, row):
-        self.send(row)
-        return self.lines.readline().decode()
-
-    def ends(self):
-        """What comes after the rows were sent, to the end."""
-        self.socket.shutdown(socket.SHUT_WR)
-        return self.lines.read().decode()
-
-    def reset(self):
-        """Ends the connection without a regular end."""
-        self.socket.setsockopt(socket.SOL_SOCKET, socket.SO_LINGER, struct.pack("ii", 1, 0))
-        self.__exit__()
-
-
-class Gateway:
-    """A gateway that runs on a free port, and on a socket in a folder."""
-
-    def __init__(self, folder, *words):
-        self.unix = str(folder / "hub")
-        command = [sys.executable, ROOT / "examples/live/gateway.py", "--year", "2026", "--port", "0", "--unix", self.unix]
-        self.process = subprocess.Popen([*command, *words], stderr=subprocess.PIPE, text=True)
-        self.port = int(re.fullmatch("port ([0-9]+)\n", self.process.stderr.readline())[1])
-
-    def __enter__(self):
-        return self
-
-    def __exit__(self, *_):
-        self.process.terminate()
-        assert self.process.communicate(timeout=20)[1] == "", "it wrote to standard error"
-
-    def connect(self):
-        return Client(("127.0.0.1", self.port))
-
-    def free_lane(self, wanted=f"0 {READ}\n"):
-        """A connection that has a lane, waited for, after its first row."""
-        until = time.monotonic() + 30
-        while time.monotonic() < until:
-            client = self.connect()
-            answer = client.ask(ROW)
-            if answer == wanted:
-                return client
-            client.__exit__()
-            assert answer.startswith("closed: all")
-            time.sleep(0.02)
-        pytest.fail("no lane came free")
-
-    def hub(self):
-        return int(subprocess.run(["pgrep", "-P", str(self.process.pid)], capture_output=True).stdout)
-
-    def most_memory(self):
-        """The most memory that it has had, in kB."""
-        with open(f"/proc/{self.process.pid}/status") as status:
-            return next(int(line.split()[1]) for line in status if line.startswith("VmHWM"))
+TAKEN = "closed: all 16 lanes are taken\n"
 
 
 @pytest.fixture
@@ -105,7 +29,7 @@ def gateway(tmp_path):
 
 @pytest.mark.parametrize("kind", ["TCP", "UNIX-CONNECT"])
 def test_socat(gateway, kind):
-    address = f"TCP:127.0.0.1:{gateway.port}" if kind == "TCP" else f"UNIX-CONNECT:{gateway.unix}"
+    address = f"TCP:127.0.0.1:{gateway.ports['port']}" if kind == "TCP" else f"UNIX-CONNECT:{gateway.unix}"
     rows = ROW + b"\n\r\n100\r\nno row\n" + ROW
     found = subprocess.run(["socat", "-t5", "-", address], input=rows, capture_output=True, check=True).stdout.decode()
     assert found == f"0 {READ}\n1 refused 19 Blank\n- refused 18 BadRuns\n2 {READ}\n"
@@ -135,7 +59,7 @@ def test_16_connections_and_the_17th(gateway):
     for _ in range(2):
         clients = [gateway.free_lane() for _ in range(16)]
         with gateway.connect() as late:
-            assert late.ends().encode() == TAKEN
+            assert late.ask(ROW) == TAKEN
         got = [""] * 16
 
         def one(lane):
@@ -166,7 +90,9 @@ def test_16_connections_and_the_17th(gateway):
     (b"9" * 65_535, "- refused 44 InputSize"),
     (b"x" * 10_000_000, "- refused 44 InputSize"),
     (b"70000", "- refused 17 TooWide"),
-], ids=["other lane", "quoted", "bytes", "http", "80 kB", "longest", "too long", "10 MB", "wide"])
+    (b"https://id.gs1.org/" + b"1/" * 10_000, "- refused 40 Kind"),
+    (b"]C191" + b"A" * 200, "- refused 11 TooLong"),
+], ids=["other lane", "quoted", "bytes", "http", "80 kB", "longest", "too long", "10 MB", "wide", "segments", "193 bytes"])
 def test_no_row(gateway, row, answer):
     with gateway.connect() as client:
         assert client.ask(ROW) == f"0 {READ}\n"
@@ -257,7 +183,200 @@ def test_the_hub_dies(tmp_path):
             assert client.lines.read() == b"closed: the hub has ended, status -9\n"
             client.__exit__()
         assert gateway.process.wait(10) == 1 and not os.path.exists(gateway.unix)
-        assert gateway.process.stderr.read() == "gateway.py: the hub has ended, status -9\n"
+        assert gateway.process.stderr.read().endswith("Z the hub has ended, status -9\n")
+
+
+def test_a_second_gateway_on_one_socket(tmp_path):
+    """It ends at once, and the first keeps its socket."""
+    with Gateway(tmp_path) as gateway:
+        ran = subprocess.run([*NORILADLE, "gateway", "--unix", gateway.unix], capture_output=True, text=True, timeout=20)
+        assert ran.returncode == 2
+        assert ran.stderr == f"noriladle: another gateway has {gateway.unix}; end it, or name another socket\n"
+        with gateway.unix_client() as client:
+            assert client.ask(ROW) == f"0 {READ}\n"
+
+
+def test_lanes_are_kept_for_the_unix_socket(tmp_path):
+    with Gateway(tmp_path, "--lanes", "3", "--kept", "1") as gateway:
+        clients = [gateway.free_lane(), gateway.free_lane()]
+        with gateway.connect() as late, gateway.unix_client() as client:
+            assert late.ask(ROW) == "closed: all 2 lanes for TCP are taken\n"
+            assert client.ask(ROW) == f"0 {READ}\n"
+        for client in clients:
+            client.__exit__()
+        gateway.free_lane().__exit__()
+
+
+def test_silent_connections_take_no_lane(gateway):
+    """Forty that say nothing, or half a line, and one that works."""
+    silent = [gateway.connect() for _ in range(40)]
+    for client in silent[:20]:
+        client.send(b"11 1")
+    gateway.free_lane().__exit__()
+    for client in silent:
+        client.__exit__()
+
+
+def test_too_many_connections(tmp_path):
+    with Gateway(tmp_path, "--connections", "3") as gateway:
+        time.sleep(1)  # The one that tried whether it is there has gone.
+        clients = [gateway.connect() for _ in range(3)]
+        for client in clients:
+            assert client.ask(ROW) == f"0 {READ}\n"
+        with gateway.connect() as late:
+            assert late.line() == "closed: there are 3 connections\n"
+        for client in clients:
+            client.__exit__()
+        gateway.free_lane().__exit__()
+
+
+def test_a_line_that_comes_byte_by_byte_is_no_sign_of_life(tmp_path):
+    """A client that sends a byte now and then does not keep its lane."""
+    with Gateway(tmp_path, "--idle", "0.5", "--lanes", "1") as gateway, gateway.connect() as client:
+        assert client.ask(ROW) == f"0 {READ}\n"
+        with pytest.raises(OSError):
+            for _ in range(50):
+                client.send(b"1")
+                time.sleep(0.1)
+
+
+def page(gateway, path):
+    """The status and the text of a page for operators."""
+    try:
+        with urllib.request.urlopen(f"http://127.0.0.1:{gateway.ports['metrics']}{path}", timeout=10) as answer:
+            return answer.status, answer.read().decode()
+    except urllib.error.HTTPError as refused:
+        return refused.code, refused.read().decode()
+
+
+def waits_for(gateway, line):
+    until = time.monotonic() + 20
+    while line not in page(gateway, "/metrics")[1].splitlines():
+        assert time.monotonic() < until, line
+        time.sleep(0.05)
+
+
+def test_health_and_metrics(tmp_path):
+    with Gateway(tmp_path, "--metrics", "0") as gateway:
+        with gateway.free_lane() as client:
+            assert client.ask(b"100\n") == "1 refused 19 Blank\n"
+            assert (page(gateway, "/healthz"), page(gateway, "/readyz")) == ((200, "ok\n"), (200, "ready\n"))
+            assert page(gateway, "/")[0] == 404
+            status, text = page(gateway, "/metrics")
+            values = dict(line.rsplit(" ", 1) for line in text.splitlines() if not line.startswith("#"))
+            assert status == 200 and values["noriladle_answers_total"] == "2" and values["noriladle_connections"] == "1"
+            assert values['noriladle_refusals_total{number="19"}'] == "1" and values["noriladle_lanes_free"] == "15"
+        # A till that has gone is counted no more.
+        with gateway.watch("till-1"):
+            waits_for(gateway, "noriladle_tills 1")
+        waits_for(gateway, "noriladle_tills 0")
+        for junk in (b"\r\n", b"x" * 10_000, b"GET\n", b""):
+            with Client(("127.0.0.1", gateway.ports["metrics"])) as client:
+                client.send(junk)
+                client.ends()
+        assert page(gateway, "/healthz") == (200, "ok\n")
+
+
+def test_log(tmp_path):
+    """A line for each connection, with its time and its peer, as text or as JSON."""
+    gateway = Gateway(tmp_path, "--log", "all", "--json")
+    with gateway.watch("till-1") as till, gateway.unix_client() as scanner:
+        assert scanner.ask(b"scan till-1\n") == "0 next\n"
+        scanner.send(b"0\nbad\n")
+        assert till.line() == "0 next\n"
+        assert scanner.line() == "closed: a scan is a number, a blank and a text\n"
+    gateway.process.terminate()
+    lines = [json.loads(line) for line in gateway.process.communicate(timeout=20)[1].splitlines()]
+    assert all(line["kind"] == "note" and line["time"].startswith("20") and line["peer"].startswith("pid-") for line in lines)
+    told = [(line["what"], line.get("lane"), line.get("why")) for line in lines]
+    assert {("till", "till-1", None), ("scanner", "till-1", None), ("closed", None, "a scan is a number, a blank and a text")} <= set(told)
+
+
+@pytest.mark.parametrize("text, wanted", [
+    ("lanez = 3\n", ":1: there is no option 'lanez' (did you mean lanes?)"),
+    ("# ours\n\nidle = -1\n", ":3: idle: '-1' is no number of seconds above 0"),
+    ("lanes = 17\n", ":1: lanes: '17' is no number from 1 to 16"),
+    ("lanes = [1]\n", ":1: lanes: it is one text or number"),
+    ("log = 'some'\n", ":1: log: 'some' is none of faults, all"),
+    ("json = 'yes'\n", ":1: json: it is true or false"),
+    ("origin = 'https://one.example'\n", ":1: origin: it is a list"),
+    ("lanes = 3\nlanes = 4\n", ": Cannot overwrite a value (at line 2"),
+    ("lanes = \n", ": Invalid value (at line 1"),
+    ("[gateway]\nlanes = 3\n", ":1: there is no option 'gateway'"),
+])
+def test_a_file_of_options_that_is_wrong(tmp_path, text, wanted):
+    file = tmp_path / "gateway.toml"
+    file.write_text(text)
+    ran = subprocess.run([*NORILADLE, "gateway", "--unix", str(tmp_path / "hub"), "--config", file], capture_output=True, text=True)
+    assert ran.returncode == 2 and ran.stderr.startswith(f"noriladle: {file}{wanted}"), ran.stderr
+
+
+def test_a_file_of_options(tmp_path):
+    """What stands in it holds unless a word says otherwise; a part of it can be changed at work."""
+    file = tmp_path / "gateway.toml"
+    file.write_text("lanes = 2\nidle = 30\nelements = true\nconnections = 5\n")
+    with Gateway(tmp_path, "--lanes", "1", "--config", str(file)) as gateway, gateway.connect() as client:
+        assert client.ask(ROW) == "0 ]E0 01=09501101530003\n"
+        with gateway.connect() as late:
+            assert late.ask(ROW) == "closed: all 1 lanes are taken\n"
+        file.write_text("idle = 0.5\nconnections = 5\nelements = true\n")
+        gateway.process.send_signal(signal.SIGHUP)
+        assert client.lines.read() == b"closed: nothing came or was taken for 0.5 seconds\n"
+
+
+def test_a_file_that_is_wrong_changes_nothing_at_work(tmp_path):
+    file = tmp_path / "gateway.toml"
+    file.write_text("idle = 30\n")
+    gateway = Gateway(tmp_path, "--config", str(file))
+    with gateway.connect() as client:
+        assert client.ask(ROW) == f"0 {READ}\n"
+        file.write_text("idle = 0\n")
+        gateway.process.send_signal(signal.SIGHUP)
+        assert f"{file}:1: idle: '0' is no number of seconds above 0" in gateway.process.stderr.readline()
+        assert client.ask(ROW) == f"1 {READ}\n"
+    gateway.__exit__()
+
+
+class Notified:
+    """A socket as systemd's, and what a service tells it."""
+
+    def __init__(self, folder):
+        self.path = str(folder / "notify")
+        self.socket = socket.socket(socket.AF_UNIX, socket.SOCK_DGRAM)
+        self.socket.bind(self.path)
+        self.socket.settimeout(20)
+
+    def next(self):
+        return self.socket.recv(4096).decode()
+
+
+def test_systemd_is_told(tmp_path, monkeypatch):
+    """When it is ready, that it lives, that it loads its options anew, and that it stops."""
+    systemd = Notified(tmp_path)
+    monkeypatch.setenv("NOTIFY_SOCKET", systemd.path)
+    monkeypatch.setenv("WATCHDOG_USEC", "600000")
+    with Gateway(tmp_path, "--config", "/dev/null") as gateway:
+        told = [systemd.next() for _ in range(5)]
+        assert sorted(set(told)) == ["READY=1", "WATCHDOG=1"]
+        gateway.process.send_signal(signal.SIGHUP)
+        told = [systemd.next() for _ in range(4)]
+        assert "RELOADING=1" in told and "READY=1" in told
+        # A hub that does not answer is no life.
+        os.kill(gateway.hub(), signal.SIGSTOP)
+        time.sleep(0.3)
+        systemd.socket.settimeout(0.1)
+        with pytest.raises(OSError):
+            while True:
+                systemd.next()
+        systemd.socket.settimeout(1)
+        with pytest.raises(OSError):
+            systemd.next()
+        os.kill(gateway.hub(), signal.SIGCONT)
+        assert systemd.next() == "WATCHDOG=1"
+        gateway.process.terminate()
+        systemd.socket.settimeout(20)
+        while systemd.next() != "STOPPING=1":
+            pass
 
 
 @pytest.mark.parametrize("number", [signal.SIGTERM, signal.SIGINT])
@@ -282,20 +401,21 @@ def test_a_socket_that_was_left(tmp_path):
 
 
 @pytest.mark.parametrize("words, status, wanted", [
-    ([], 2, "--port or --unix\n"),
-    (["--port", "0", "--lanes", "17"], 1, "gateway.py: 1 to 16 lanes"),
-    (["--port", "0", "--year", "1950"], 1, "gateway.py: 1 to 16 lanes and workers, a year from 1951"),
-    (["--unix", "no/such/folder/hub"], 1, "gateway.py: [Errno 2] No such file or directory\n"),
+    ([], 2, "noriladle: name a socket by --unix or --port\n"),
+    (["--port", "0", "--lanes", "17"], 2, "argument --lanes: '17' is no number from 1 to 16"),
+    (["--port", "0", "--year", "1950"], 2, "argument --year: '1950' is no year from 1951 to 2149"),
+    (["--port", "65536"], 2, "argument --port: '65536' is no port from 0 to 65535"),
+    (["--port", "0", "--idle", "0"], 2, "argument --idle: '0' is no number of seconds above 0"),
+    (["--unix", "no/such/folder/hub"], 1, "noriladle: no/such/folder/hub.lock: No such file or directory\n"),
 ])
 def test_words(words, status, wanted):
-    ran = subprocess.run([sys.executable, ROOT / "examples/live/gateway.py", *words], capture_output=True, text=True)
+    ran = subprocess.run([*NORILADLE, "gateway", *words], capture_output=True, text=True)
     assert ran.returncode == status and wanted in ran.stderr and "Traceback" not in ran.stderr
 
 
 def test_no_program():
-    ran = subprocess.run([sys.executable, ROOT / "examples/live/gateway.py", "--port", "0"], capture_output=True, text=True,
-                         env={**os.environ, "GS1_HUB": "no/such/program"})
-    assert (ran.returncode, ran.stderr) == (1, "gateway.py: [Errno 2] No such file or directory: 'no/such/program'\n")
+    ran = subprocess.run([*NORILADLE, "gateway", "--port", "0"], capture_output=True, text=True, env={**os.environ, "GS1_HUB": "no/such/program"})
+    assert (ran.returncode, ran.stderr) == (1, "noriladle: no/such/program: No such file or directory\n")
 
 
 def test_one_at_a_time(gateway):

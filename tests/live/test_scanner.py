@@ -1,20 +1,21 @@
-"""The scanner, whose device is a pty, or a pipe of a keyboard's events."""
+"""The scanner, whose device is a pty, or a pipe of a keyboard's events; texts are checked by the library."""
 import os
-import pty
-import select
+import re
+import stat
 import subprocess
 import sys
 import time
+from contextlib import contextmanager
+from pathlib import Path
 
 import pytest
 
-from shop import ROOT, noise
+from counter import NORILADLE, Scanner, Serial
+from noriladle._keys import EVENT, KEYS, Keyboard, events_of
+from noriladle.commands.scanner import _checked, digits_of
+from shop import noise
 
-sys.path.insert(0, str(ROOT / "examples/live"))
-from scanner import EVENT, KEYS, check  # noqa: E402
-
-LIMIT = 120
-SCRIPT = ROOT / "examples/live/scanner.py"
+LIMIT = 180
 TEXTS = [
     (b"]E09501101530003", "]E0 (01)09501101530003"),
     (b"]E00012345000065", "]E0 (01)00012345000065"),  # A UPC-A, of 13 digits.
@@ -36,9 +37,21 @@ TEXTS = [
     (b"]C191" + b"A" * 200, "refused 11 TooLong"),
     (b"]C0ABC", "refused 40 Kind"),  # Code 128 that is not GS1's.
     (b"]d1ABC", "refused 40 Kind"),
-    (b"]E001234565", "]E0 (01)00012345000065"),  # A UPC-E, in the digits of its symbol.
-    (b"]Q1https://id.gs1.org/01/09501101530003/10/AB", "]Q1 (01)09501101530003(10)AB"),
     (b"9501101530003", "- (01)09501101530003"),  # The identifier is not switched on.
+    (b"9501101530004", "refused 3 CheckDigit"),
+    (b"]E001234565", "]E0 (01)00012345000065"),  # A UPC-E, as scanners send it that do not expand it.
+    (b"01234565", "refused 40 Kind"),  # An EAN-8, or a UPC-E: nobody can say.
+    (b"96385074", "- (01)00000096385074"),
+    (b"^0109501101530003", "- (01)09501101530003"),  # FNC1 in first place.
+    (b"\x1d0109501101530003", "- (01)09501101530003"),
+    (b"]C1\x1d0109501101530003\x1d", "]C1 (01)09501101530003"),  # Byte 29 at both ends.
+    (b"]C110AB^21C", "]C1 (10)AB(21)C"),
+    (b"]Q1https://id.gs1.org/01/09501101530003/10/AB?17=261231", "]Q1 (01)09501101530003(10)AB(17)261231"),
+    (b"https://id.gs1.org/01/9501101530003", "- (01)09501101530003"),
+    (b"https://id.gs1.org/01/9501101530003/10/%4", "refused 40 Kind"),
+    (b"https://[2001:db8::1]:8080/01/09501101530003", "- (01)09501101530003"),
+    (b"https://id.gs1.org/01/09501101530003?10=A&10=B", "- (01)09501101530003(10)A(10)B"),
+    (b"https://id.gs1.org/01/09501101530003/10/\xc3\xa9", "refused 40 Kind"),
     (b"]", "refused 40 Kind"),
     (b"\xff\x00\x1b[2J", "refused 40 Kind"),
 ]
@@ -46,59 +59,15 @@ TEXTS = [
 
 @pytest.mark.parametrize("text, wanted", TEXTS)
 def test_check(text, wanted):
-    assert check(text, 2026) == wanted
+    assert _checked(text, 2026) == wanted
 
 
-class Scanner:
-    """The script on a device, and the lines that it prints."""
-
-    def __init__(self, device, *words):
-        self.process = subprocess.Popen(
-            [sys.executable, SCRIPT, device, "--year", "2026", *words], bufsize=0, stdout=subprocess.PIPE, stderr=subprocess.PIPE
-        )
-
-    def __enter__(self):
-        return self
-
-    def __exit__(self, *_):
-        self.process.kill()
-        self.process.communicate()
-
-    def line(self):
-        """The next line, or nothing where none comes."""
-        comes, _, _ = select.select([self.process.stdout], [], [], 10)
-        return self.process.stdout.readline().decode() if comes else ""
-
-    def most_memory(self):
-        """The most memory that it has had, in kB."""
-        with open(f"/proc/{self.process.pid}/status") as status:
-            return next(int(line.split()[1]) for line in status if line.startswith("VmHWM"))
-
-    def ended(self):
-        """What it prints after its last line, once the device is gone, on standard output and error, and its status."""
-        out, error = self.process.communicate(timeout=10)
-        return out.decode(), error.decode(), self.process.returncode
-
-
-class Serial(Scanner):
-    """The script on a pty, which it has made raw."""
-
-    def __init__(self):
-        self.ours, self.its = pty.openpty()
-        super().__init__(os.ttyname(self.its))
-        until = time.monotonic() + 10
-        # Before that the line discipline would change what is sent.
-        while b"-icanon" not in subprocess.run(["stty", "-a"], stdin=self.its, capture_output=True, check=True).stdout:
-            assert time.monotonic() < until
-            time.sleep(0.02)
-
-    def send(self, sent, size=7):
-        for place in range(0, len(sent), size):
-            os.write(self.ours, sent[place:place + size])
-
-    def unplug(self):
-        os.close(self.its)
-        os.close(self.ours)
+@pytest.mark.parametrize("gtin, digits", [
+    ("09501101530003", "9501101530003"), ("00000096385074", "96385074"), ("00012345000065", "0012345000065"),
+    ("19501101530000", "19501101530000"),
+])
+def test_digits_that_are_typed(gtin, digits):
+    assert digits_of(gtin) == digits
 
 
 @pytest.mark.parametrize("end", [b"\r", b"\n", b"\r\n"])
@@ -111,7 +80,7 @@ def test_a_serial_line(end):
         scanner.send(b"]E09501101530003")
         time.sleep(0.1)
         scanner.unplug()
-        assert scanner.ended() == ("", "", 0)
+        assert scanner.ended() == ("", f"{scanner.device}: unplugged\n", 0)
 
 
 def test_several_texts_at_once():
@@ -136,7 +105,7 @@ def test_10_mb_without_a_line_end():
 def test_noise():
     """Random bytes on a line: each text has its line, and the next text is read."""
     sent = noise(200_000)
-    texts = [text for text in sent.replace(b"\r", b"\n").split(b"\n") if text]
+    texts = [text for text in re.split(b"[\r\n\t]", sent) if text]
     with Serial() as scanner:
         scanner.send(sent, size=1_000)
         scanner.send(b"\r]E496385074\r")
@@ -146,18 +115,45 @@ def test_noise():
         scanner.unplug()
 
 
-CODES = {char: (code, shift) for code, both in KEYS.items() for shift, char in enumerate(both) if code != 96}
+def test_a_text_without_an_end():
+    """Two seconds after its last byte it is unread, and the next text is read."""
+    with Serial() as scanner:
+        scanner.send(b"]E09501101530003")
+        assert scanner.line() == "0 unread: no CR, LF, Tab or Enter came behind the text: set the scanner to send one\n"
+        scanner.send(b"]E496385074\t")
+        assert scanner.line() == "1 ]E4 (01)00000096385074\n"
 
 
-def events(text):
-    """The events of a keyboard that types a text, the separator as Ctrl-]."""
-    def key(code, value):
-        return EVENT.pack(0, 0, 4, 4, code) + EVENT.pack(0, 0, 1, code, value) + EVENT.pack(0, 0, 0, 0, 0)
+KEYBOARD = """
+import fcntl, sys
+from noriladle.__main__ import main
+# A pipe stands for the event device, and no pipe can be grabbed.
+real = fcntl.ioctl
+fcntl.ioctl = lambda device, request, *more: 0 if request == 0x40044590 else real(device, request, *more)
+sys.exit(main(["scanner", "--keyboard", *sys.argv[1:]]))
+"""
+
+
+@contextmanager
+def keyboard(folder, *words):
+    """The scanner's program on a keyboard, and the pipe of its events."""
+    device = str(folder / "event")
+    os.mkfifo(device)
+    with Scanner(device, *words, command=[sys.executable, "-c", KEYBOARD]) as scanner, open(device, "wb", buffering=0) as pipe:
+        yield scanner, pipe
+
+
+def key(code, value):
+    return EVENT.pack(0, 0, 4, 4, code) + EVENT.pack(0, 0, 1, code, value) + EVENT.pack(0, 0, 0, 0, 0)
+
+
+def strokes(text):
+    """The events of a keyboard that types a text, held keys among them; the separator as Ctrl-]."""
+    codes = {char: (code, shift) for code, both in KEYS.items() if code < 71 and code != 15 for shift, char in enumerate(both)}
     out = b""
     for char in text:
-        code, shifted = (27, False) if char == "\x1d" else CODES[char]
-        shifted = shifted and char not in " \r"
-        held = 29 if char == "\x1d" else 42 if shifted else None
+        code, shifted = (27, False) if char == "\x1d" else codes[char]
+        held = 29 if char == "\x1d" else 42 if shifted and char not in " \r" else None
         out += key(held, 1) if held else b""
         out += key(code, 1) + key(code, 2) + key(code, 0)
         out += key(held, 0) if held else b""
@@ -165,23 +161,102 @@ def events(text):
 
 
 def test_a_keyboard(tmp_path):
-    device = str(tmp_path / "event")
-    os.mkfifo(device)
     texts = [(text.decode(), wanted) for text, wanted in TEXTS if len(text) < 100 and all(byte == 29 or 32 <= byte < 127 for byte in text)]
-    with Scanner(device, "--keyboard") as scanner, open(device, "wb", buffering=0) as keyboard:
+    with keyboard(tmp_path) as (scanner, pipe):
         for number, (text, wanted) in enumerate(texts):
-            keyboard.write(events(text + "\r"))
+            pipe.write(strokes(text + "\r"))
             assert scanner.line() == f"{number} {wanted}\n"
-        keyboard.write(events("]C110AB") + EVENT.pack(0, 0, 1, 66, 1) + EVENT.pack(0, 0, 1, 66, 0) + events("21C\r"))
+        pipe.write(strokes("]C110AB") + key(66, 1) + key(66, 0) + strokes("21C\r"))
         assert scanner.line() == f"{len(texts)} ]C1 (10)AB(21)C\n"
-        keyboard.write(events("]E496385074"))
-        keyboard.close()
-        # A pipe is no event device, so that it cannot be taken alone.
-        out, error, status = scanner.ended()
-        assert (out, status) == ("", 0) and error.startswith(f"what {device} types goes elsewhere too: ")
+        # Half an event, and its rest.
+        sent = strokes("]E496385074\r")
+        pipe.write(sent[:1001])
+        time.sleep(0.1)
+        pipe.write(sent[1001:])
+        assert scanner.line() == f"{len(texts) + 1} ]E4 (01)00000096385074\n"
+        pipe.write(strokes("]E496385074"))
+        pipe.close()
+        assert scanner.ended() == ("", f"{tmp_path}/event: unplugged\n", 0)
 
 
-@pytest.mark.parametrize("words", [["no/such/device"], ["no/such/device", "--keyboard"], [str(SCRIPT)]])
+def by_numbers(text):
+    """The events of a scanner in ALT mode: each character by its number on the keypad."""
+    keypad = {"7": 71, "8": 72, "9": 73, "4": 75, "5": 76, "6": 77, "1": 79, "2": 80, "3": 81, "0": 82}
+    return b"".join(key(56, 1) + b"".join(key(keypad[digit], 1) + key(keypad[digit], 0) for digit in f"{ord(char):03}") + key(56, 0)
+                    for char in text)
+
+
+def test_a_keyboard_that_types_numbers(tmp_path):
+    """Whatever its country: with Alt and the keypad, and digits of the keypad alone."""
+    with keyboard(tmp_path) as (scanner, pipe):
+        pipe.write(by_numbers("]C110AB\x1d21C") + strokes("\r"))
+        assert scanner.line() == "0 ]C1 (10)AB(21)C\n"
+        pipe.write(b"".join(key(code, 1) + key(code, 0) for code in (73, 77, 81, 72, 76, 82, 71, 75, 96)))
+        assert scanner.line() == "1 - (01)00000096385074\n"
+
+
+def test_a_keyboard_of_another_country(tmp_path):
+    """That of Germany has ] by AltGr and 9: the answer says so, and the next text is read."""
+    with keyboard(tmp_path) as (scanner, pipe):
+        pipe.write(key(100, 1) + key(10, 1) + key(10, 0) + key(100, 0) + strokes("E496385074\r"))
+        assert scanner.line() == "0 unread: it types as a keyboard of another country: set the scanner to the United States, or to Alt and numbers\n"
+        pipe.write(strokes("]E496385074\r"))
+        assert scanner.line() == "1 ]E4 (01)00000096385074\n"
+
+
+def test_keys_that_were_lost(tmp_path):
+    """The kernel had no room for them, and says so: that text is unread, and the next is read."""
+    with keyboard(tmp_path) as (scanner, pipe):
+        pipe.write(strokes("]E4963") + EVENT.pack(0, 0, 0, 3, 0) + strokes("74\r]E496385074\r"))
+        assert scanner.line() == "0 unread: keys were lost: the machine was too busy\n"
+        assert scanner.line() == "1 ]E4 (01)00000096385074\n"
+
+
+def test_what_is_typed_is_read_back():
+    for text in ("9501101530003\r", "(01)09501101530003(10)a-Z/%\r", "\x1d^]\\`~\r"):
+        assert Keyboard().typed(events_of(text)) == text.encode()
+
+
+def test_a_device_that_cannot_be_taken_alone(tmp_path):
+    """What is no event device is not read, since what it types would go into a window too."""
+    os.mkfifo(tmp_path / "event")
+    with open(os.open(tmp_path / "event", os.O_RDWR), "wb"), Scanner(str(tmp_path / "event"), "--keyboard") as scanner:
+        assert scanner.ended() == ("", f"{tmp_path}/event: Inappropriate ioctl for device\n", 1)
+
+
+def test_a_keyboard_of_the_kernel(tmp_path):
+    """What is typed on a virtual keyboard is read, and goes nowhere else."""
+    path = Path("/dev/uinput")
+    if not (path.exists() and stat.S_ISCHR(path.stat().st_mode)):
+        # Of the kernel here `zgrep UINPUT /proc/config.gz` says that it has none.
+        pytest.skip("the kernel has no /dev/uinput")
+    device = os.open(path, os.O_WRONLY)
+    from noriladle._keys import make_keyboard
+    make_keyboard(device)
+    made = max(Path("/dev/input").glob("event*"), key=lambda it: it.stat().st_ctime)
+    with Scanner(str(made)) as scanner:
+        time.sleep(1)
+        os.write(device, events_of("]E496385074\r"))
+        assert scanner.line() == "0 ]E4 (01)00000096385074\n"
+        with open(made, "rb") as other:
+            os.set_blocking(other.fileno(), False)
+            os.write(device, events_of("]E496385074\r"))
+            assert scanner.line() == "1 ]E4 (01)00000096385074\n"
+            assert other.read() is None
+    os.close(device)
+
+
+def test_the_typing_keyboard_is_not_there(tmp_path):
+    if Path("/dev/uinput").exists():
+        pytest.skip("there is a /dev/uinput")
+    with Serial.__new__(Serial) as scanner:
+        ours, its = os.openpty()
+        scanner.process = subprocess.Popen([*NORILADLE, "scanner", os.ttyname(its), "--type", "gtin"], stdout=subprocess.PIPE, stderr=subprocess.PIPE)
+        assert scanner.ended() == ("", f"{os.ttyname(its)}: --type needs /dev/uinput (modprobe uinput): No such file or directory\n", 1)
+        os.close(ours), os.close(its)
+
+
+@pytest.mark.parametrize("words", [["no/such/device"], ["no/such/device", "--keyboard"], [__file__]])
 def test_no_device(words):
     with Scanner(*words) as scanner:
         out, error, status = scanner.ended()

@@ -1,0 +1,342 @@
+"""The connections of a gateway: each is a lane of rows, the scanner of a lane, or a till that watches one."""
+from __future__ import annotations
+
+import asyncio
+import contextlib
+import itertools
+import math
+import re
+import socket
+import struct
+import time
+from typing import AsyncIterator, Awaitable, Dict, Iterator, List, Optional, Protocol, Set, Tuple, Union
+
+from . import Answer, Refusal
+from ._scans import Scans, ScanLane, text_of
+from ._service import Log, Metrics
+from .live import Hub, HubEnded, Lane
+
+CUT = 65_536 + 1
+"""So much is kept of a line that has not ended: the hub refuses it as too long all the same."""
+
+_SCAN = re.compile(rb"(\d{1,18})(?:([ \t])(.*))?", re.DOTALL)
+
+UNREAD_LINES = 65_536
+"""A till that leaves more bytes of lines than this untaken is closed."""
+
+
+class Closed(Exception):
+    """Why a connection is closed by the gateway."""
+
+
+class Connection:
+    """A client: who it is, and since when nothing has come of it or was taken."""
+
+    def __init__(self, reader: asyncio.StreamReader, writer: asyncio.StreamWriter) -> None:
+        self.reader, self.writer = reader, writer
+        self.is_unix = writer.get_extra_info("socket").family == socket.AF_UNIX
+        self.peer = _peer(writer, self.is_unix)
+        self.task = asyncio.current_task()
+        self.closed = ""
+        self.is_patient = False
+        """Whether it may be silent for as long as it likes."""
+        self.since = 0.0
+        """When the last line had come whole or was answered; infinite while the gateway itself is what is waited for."""
+        self.waits()
+
+    def waits(self) -> None:
+        """From now on the client is waited for."""
+        self.since = time.monotonic()
+
+    def close(self, why: str) -> None:
+        """Ends the connection, which is told why."""
+        self.closed = self.closed or why
+        if self.task:
+            self.task.cancel()
+
+    async def turns(self) -> AsyncIterator[List[bytes]]:
+        """The lines that have come, as lists: those that have ended, but for blank ones."""
+        rest = b""
+        while chunk := await self.reader.read(CUT):
+            *ended, rest = (rest + chunk).split(b"\n")
+            rest = rest[:CUT]
+            lines = [line for line in ended if line.rstrip(b"\r")]
+            if lines:
+                self.waits()
+                yield lines
+
+
+def _peer(writer: asyncio.StreamWriter, is_unix: bool) -> str:
+    """Who it is: the process and the user at the other end of a UNIX socket, or the address."""
+    if is_unix:
+        sent = writer.get_extra_info("socket").getsockopt(socket.SOL_SOCKET, socket.SO_PEERCRED, struct.calcsize("3i"))
+        pid, user, _ = struct.unpack("3i", sent)
+        return f"pid-{pid}:uid-{user}"
+    return ":".join(map(str, (writer.get_extra_info("peername") or ("gone",))[:2]))
+
+
+class Role(Protocol):
+    """What a connection is for."""
+
+    def take(self, lines: List[bytes]) -> Awaitable[None]:
+        """Takes the lines that have come."""
+
+    def end(self) -> None:
+        """Its connection has ended."""
+
+
+class Rows:
+    """A lane of the client's own: each line gets an answer, with its number in this connection."""
+
+    def __init__(self, gateway: Gateway, connection: Connection) -> None:
+        self._gateway, self._connection = gateway, connection
+        self._lane = gateway.take_lane(connection.is_unix)
+        # The lane's own numbers go on from those of earlier connections.
+        self._numbers = itertools.count()
+
+    async def take(self, lines: List[bytes]) -> None:
+        """Answers all rows that have come, before more are read."""
+        answers: List[str] = []
+        gateway, connection = self._gateway, self._connection
+        connection.since = math.inf
+        gateway.began[self] = time.monotonic()
+        try:
+            async for reply in self._lane.read_all(lines):
+                number = "-" if reply.number is None else next(self._numbers)
+                answers.append(f"{number} {text_of(reply.answer, gateway.elements)}\n")
+                gateway.seen(reply.answer)
+        finally:
+            del gateway.began[self]
+            connection.writer.write("".join(answers).encode())
+        connection.waits()
+        await connection.writer.drain()
+        connection.waits()
+
+    def end(self) -> None:
+        self._gateway.give_lane(self._lane, self._connection.is_unix)
+
+
+class Scanner:
+    """The scanner of a lane. A line is the number of a scan, a blank and its text; or a number, a tab and why that scan
+    has no text; or the number of the next scan alone."""
+
+    def __init__(self, connection: Connection, lane: ScanLane) -> None:
+        if lane.scanner:
+            raise Closed(f"lane {lane.name} has a scanner")
+        self._lane = lane
+        self._tell = Teller(connection)
+        lane.scanner = self._tell
+        self._tell(f"{lane.next or 0} next\n")
+
+    async def take(self, lines: List[bytes]) -> None:
+        for line in lines:
+            found = _SCAN.fullmatch(line)
+            if not found:
+                raise Closed("a scan is a number, a blank and a text")
+            number, mark, text = int(found[1]), found[2], found[3]
+            try:
+                if mark:
+                    self._lane.scan(number, b"" if mark == b"\t" else text, _why(text) if mark == b"\t" else "")
+                else:
+                    self._lane.begin(number)
+            except ValueError as fault:
+                raise Closed(str(fault)) from fault
+
+    async def finish(self) -> None:
+        """Its client sends nothing more, and may wait for the answers still."""
+        while self._lane.under_way:
+            await asyncio.sleep(0.005)
+
+    def end(self) -> None:
+        self._lane.scanner = None
+
+
+def _why(text: bytes) -> str:
+    """What a scanner's program says of a scan without a text."""
+    return "".join(char for char in text[:200].decode("utf-8", "replace") if char.isprintable())
+
+
+class Till:
+    """A till that watches a lane. It sends nothing."""
+
+    def __init__(self, connection: Connection, lane: ScanLane) -> None:
+        self._lane = lane
+        self._tell = Teller(connection)
+        lane.watch(self._tell)
+
+    async def take(self, lines: List[bytes]) -> None:
+        if lines:
+            raise Closed("a till that watches a lane sends nothing more")
+
+    def end(self) -> None:
+        self._lane.watchers.discard(self._tell)
+
+
+class Teller:
+    """Writes lines to a connection, and closes one that does not take them."""
+
+    def __init__(self, connection: Connection) -> None:
+        self._connection = connection
+
+    def __call__(self, line: str) -> None:
+        writer = self._connection.writer
+        if writer.transport.get_write_buffer_size() > UNREAD_LINES:
+            self._connection.close("what was told is not taken")
+        else:
+            writer.write(line.encode())
+
+
+class Gateway:
+    """The connections of one hub. `idle` is how many seconds each may send nothing, or take nothing; `kept` is how many
+    lanes TCP connections leave to those over the UNIX socket; `most` is how many connections there may be."""
+
+    def __init__(self, hub: Hub, idle: float, elements: bool, kept: int, most: int, log: Log, metrics: Metrics) -> None:
+        self.hub, self.idle, self.elements, self.kept, self.most = hub, idle, elements, kept, most
+        self.log, self.metrics = log, metrics
+        self.free = [hub.lane(number) for number in range(hub.lanes)]
+        self.scans = Scans(hub, elements)
+        self.scans.seen = self.seen
+        self.began: Dict[Rows, float] = {}
+        """When the answers to what a client sent were begun."""
+        self.closed = ""
+        self._connections: Set[Connection] = set()
+        self._by_tcp = 0
+        self._name_metrics()
+
+    def _name_metrics(self) -> None:
+        of = self.metrics
+        of.counter("noriladle_answers_total", "Rows and texts that were answered, refusals among them.")
+        of.counter("noriladle_refusals_total", "Rows and texts that were refused, by the number of the refusal.")
+        of.counter("noriladle_unread_total", "Scans without an answer in their time.")
+        of.counter("noriladle_closed_total", "Connections that the gateway closed.")
+        of.gauge("noriladle_connections", "Connections.", lambda: len(self._connections))
+        of.gauge("noriladle_lanes_free", "Lanes that no connection has.", lambda: len(self.free))
+        of.gauge("noriladle_scanners", "Scanners.", lambda: sum(bool(it.scanner) for it in self.scans.lanes.values()))
+        of.gauge("noriladle_tills", "Tills.", lambda: sum(len(it.watchers) for it in self.scans.lanes.values()))
+        of.gauge("noriladle_under_way", "Scans, and turns of rows, without an answer yet.", lambda: len(list(self._since())))
+        of.gauge("noriladle_oldest_seconds", "How long the oldest of these has waited.", self._oldest)
+
+    def _since(self) -> Iterator[float]:
+        yield from self.began.values()
+        for lane in self.scans.lanes.values():
+            yield from lane.under_way
+
+    def _oldest(self) -> float:
+        now = time.monotonic()
+        return now - min(self._since(), default=now)
+
+    def seen(self, answer: Union[Answer, Refusal, None]) -> None:
+        """Counts an answer."""
+        if answer is None:
+            self.metrics.add("noriladle_unread_total")
+            return
+        self.metrics.add("noriladle_answers_total")
+        if isinstance(answer, Refusal):
+            self.metrics.add("noriladle_refusals_total", f'number="{answer.number}"')
+
+    def take_lane(self, is_unix: bool) -> Lane:
+        """A lane that no other connection has."""
+        if not self.free:
+            raise Closed(f"all {self.hub.lanes} lanes are taken")
+        if not is_unix and self._by_tcp >= self.hub.lanes - self.kept:
+            raise Closed(f"all {self.hub.lanes - self.kept} lanes for TCP are taken")
+        self._by_tcp += not is_unix
+        return self.free.pop(0)
+
+    def give_lane(self, lane: Lane, is_unix: bool) -> None:
+        """Gives a lane back."""
+        self._by_tcp -= not is_unix
+        self.free.append(lane)
+
+    async def connected(self, reader: asyncio.StreamReader, writer: asyncio.StreamWriter) -> None:
+        """Serves a connection to its end."""
+        connection = Connection(reader, writer)
+        why = ""
+        try:
+            if len(self._connections) >= self.most:
+                why = f"there are {self.most} connections"
+            else:
+                self._connections.add(connection)
+                self.log.note("connected", peer=connection.peer)
+                why = await self._serve(connection)
+            if why:
+                self.metrics.add("noriladle_closed_total")
+                writer.write(f"closed: {why}\n".encode())
+            writer.close()
+            await asyncio.wait_for(writer.wait_closed(), self.idle)
+        except (OSError, asyncio.TimeoutError, asyncio.CancelledError):
+            pass  # The client has gone, or does not take what is left.
+        finally:
+            self.log.note("closed", peer=connection.peer, why=why or connection.closed or "it went")
+            writer.transport.abort()
+            self._connections.discard(connection)
+
+    async def _serve(self, connection: Connection) -> str:
+        """Serves a connection; why it is closed, where the client did not end it."""
+        role: Optional[Role] = None
+        try:
+            async for lines in connection.turns():
+                if role is None:
+                    role, lines = self._begin(connection, lines)
+                await role.take(lines)
+            if isinstance(role, Scanner):
+                await role.finish()
+        except Closed as fault:
+            return str(fault)
+        except HubEnded as fault:
+            return str(fault)
+        except asyncio.CancelledError:
+            return connection.closed
+        finally:
+            if role:
+                role.end()
+        return ""
+
+    def _begin(self, connection: Connection, lines: List[bytes]) -> Tuple[Role, List[bytes]]:
+        """What the connection is for, by its first line; the lines that are left."""
+        word, _, name = lines[0].rstrip(b"\r").decode("ascii", "replace").partition(" ")
+        if word not in ("scan", "watch"):
+            return Rows(self, connection), lines
+        try:
+            lane = self.scans.lane(name)
+        except ValueError as fault:
+            raise Closed(str(fault)) from fault
+        role: Role
+        if word == "scan":
+            role = Scanner(connection, lane)
+        else:
+            role = Till(connection, lane)
+        connection.is_patient = True
+        self.log.note("scanner" if word == "scan" else "till", lane=name, peer=connection.peer)
+        return role, lines[1:]
+
+    async def sweep(self) -> None:
+        """Closes those of which nothing comes, or that take nothing, for too long."""
+        while True:
+            await asyncio.sleep(min(1.0, self.idle / 4))
+            least = time.monotonic() - self.idle
+            for connection in list(self._connections):
+                if connection.since < least and not connection.is_patient:
+                    connection.close(f"nothing came or was taken for {self.idle:g} seconds")
+
+    async def close(self, why: str) -> None:
+        """Closes all connections, within two seconds: first what is under way is answered, for a second at most."""
+        until = time.monotonic() + 1
+        while list(self._since()) and not why.startswith("the hub") and time.monotonic() < until:
+            await asyncio.sleep(0.01)
+        tasks = [connection.task for connection in self._connections if connection.task]
+        for connection in list(self._connections):
+            connection.close(why)
+        if tasks:
+            await asyncio.wait(tasks, timeout=1)
+
+
+def keep_alive(writer: asyncio.StreamWriter) -> None:
+    """A TCP connection whose other end is gone is noticed within a minute."""
+    its = writer.get_extra_info("socket")
+    if its.family != socket.AF_UNIX:
+        with contextlib.suppress(AttributeError, OSError):
+            its.setsockopt(socket.SOL_SOCKET, socket.SO_KEEPALIVE, 1)
+            its.setsockopt(socket.IPPROTO_TCP, socket.TCP_KEEPIDLE, 30)
+            its.setsockopt(socket.IPPROTO_TCP, socket.TCP_KEEPINTVL, 10)
+            its.setsockopt(socket.IPPROTO_TCP, socket.TCP_KEEPCNT, 3)

@@ -1,0 +1,278 @@
+"""What the services share: options from a file, log lines, what systemd is told, and health and metrics over HTTP."""
+from __future__ import annotations
+
+import argparse
+import asyncio
+import contextlib
+import datetime
+import difflib
+import json
+import os
+import re
+import socket
+import sys
+from typing import Any, Callable, Dict, Iterator, List, Optional, Sequence, Union
+
+if sys.version_info >= (3, 11):
+    import tomllib
+else:
+    import tomli as tomllib
+
+from .commands import WrongWords
+
+Loaded = Dict[str, object]
+"""The values of a file of options, by the names that :mod:`argparse` has for them."""
+
+
+class _Load(argparse.Action):
+    """Takes from a file of options what is not among the words."""
+
+    def __call__(
+        self, parser: argparse.ArgumentParser, words: argparse.Namespace, value: Union[str, Sequence[Any], None],
+        option: Optional[str] = None,
+    ) -> None:
+        path = str(value)
+        for name, loaded in load(parser, path).items():
+            if getattr(words, name, None) == parser.get_default(name):
+                setattr(words, name, loaded)
+        setattr(words, self.dest, path)
+        # What SIGHUP reads again.
+        words.load_again = lambda: load(parser, path)
+
+
+def add_config(parser: argparse.ArgumentParser) -> None:
+    """Adds the option that names a file of options."""
+    parser.add_argument("--config", action=_Load, metavar="FILE",
+                        help="Take options from a TOML file, each by its name; those among the words count more")
+
+
+def add_arguments(parser: argparse.ArgumentParser) -> None:
+    """Adds the options of a service that others connect to, or that works by itself."""
+    add_config(parser)
+    parser.add_argument("--log", choices=("faults", "all"), default="faults", metavar="WHAT",
+                        help="Log faults, or all: connections, takeovers and refused senders too; faults")
+    parser.add_argument("--json", action="store_true", help="Write log lines as JSON objects")
+    parser.add_argument("--metrics", type=port, metavar="PORT",
+                        help="Serve /healthz, /readyz and /metrics on this port of 127.0.0.1")
+
+
+def port(word: str) -> int:
+    """The number of a port."""
+    if not (word.isascii() and word.isdecimal() and int(word) <= 65_535):
+        raise argparse.ArgumentTypeError(f"{word!r} is no port from 0 to 65535")
+    return int(word)
+
+
+def seconds(word: str) -> float:
+    """A time above 0."""
+    try:
+        number = float(word)
+    except ValueError:
+        number = 0
+    if not 0 < number < 1e9:
+        raise argparse.ArgumentTypeError(f"{word!r} is no number of seconds above 0")
+    return number
+
+
+def count(least: int, most: int) -> Callable[[str], int]:
+    """Reads a whole number between two."""
+    def read(word: str) -> int:
+        if not (word.isascii() and word.isdecimal() and least <= int(word) <= most):
+            raise argparse.ArgumentTypeError(f"{word!r} is no number from {least} to {most}")
+        return int(word)
+    return read
+
+
+def load(parser: argparse.ArgumentParser, path: str) -> Loaded:
+    """The options of a file.
+
+    :raises WrongWords: it cannot be read, or a line of it is wrong, which is named.
+    """
+    try:
+        with open(path, encoding="utf-8") as file:
+            text = file.read()
+        found = tomllib.loads(text)
+    except OSError as fault:
+        raise WrongWords(f"{path}: {fault.strerror}") from fault
+    except ValueError as fault:  # Bytes that are no UTF-8, or no TOML.
+        raise WrongWords(f"{path}: {fault}") from fault
+    options = {name[2:]: action for action in parser._actions for name in action.option_strings
+               if name.startswith("--") and action.dest not in ("config", "help")}
+    tables = [name for name, value in parser._defaults.items() if isinstance(value, dict)]
+    loaded: Loaded = {}
+    for name, value in found.items():
+        line = _line_of(text, name)
+        if name in tables:
+            if not (isinstance(value, dict) and all(isinstance(it, str) for it in value.values())):
+                raise WrongWords(f"{path}:{line}: {name}: it is a table of texts")
+            loaded[name] = value
+            continue
+        if name not in options:
+            near = difflib.get_close_matches(name, options, 1)
+            meant = f" (did you mean {near[0]}?)" if near else f"; it takes {', '.join(sorted(options))}"
+            raise WrongWords(f"{path}:{line}: there is no option {name!r}{meant}")
+        try:
+            loaded[options[name].dest] = _value_of(options[name], value)
+        except (argparse.ArgumentTypeError, ValueError) as fault:
+            raise WrongWords(f"{path}:{line}: {name}: {fault}") from fault
+    return loaded
+
+
+def _line_of(text: str, name: str) -> int:
+    """The number of the line in which an option stands."""
+    found = re.search(rf"^\s*\[*[\"']?{re.escape(name)}[\"']?\s*[=\].]", text, re.MULTILINE)
+    return 1 + text.count("\n", 0, found.end()) if found else 1
+
+
+def _value_of(action: argparse.Action, value: object) -> object:
+    """A value of a file as the option takes it."""
+    if isinstance(action, argparse._StoreTrueAction):
+        if not isinstance(value, bool):
+            raise ValueError("it is true or false")
+        return value
+    if isinstance(action, argparse._AppendAction):
+        if not isinstance(value, list):
+            raise ValueError('it is a list, as ["one", "two"]')
+        return [_one(action, it) for it in value]
+    return _one(action, value)
+
+
+def _one(action: argparse.Action, value: object) -> object:
+    if isinstance(value, bool) or not isinstance(value, (str, int, float)):
+        raise ValueError("it is one text or number")
+    read = action.type if callable(action.type) else str
+    taken: object = read(str(value))
+    if action.choices is not None and taken not in action.choices:
+        raise ValueError(f"{value!r} is none of {', '.join(map(str, action.choices))}")
+    return taken
+
+
+class Log:
+    """Lines to standard error: what happened and of whom, each with its time, unless the journal gives it one."""
+
+    def __init__(self, what: str = "faults", as_json: bool = False) -> None:
+        self.all, self.json = what == "all", as_json
+        self._has_time = "JOURNAL_STREAM" in os.environ
+
+    def note(self, what: str, **of: object) -> None:
+        """What is no fault: a connection, a takeover, a sender that is refused."""
+        if self.all:
+            self._write("note", what, of)
+
+    def fault(self, what: str, **of: object) -> None:
+        """A fault that is ours."""
+        self._write("fault", what, of)
+
+    def _write(self, kind: str, what: str, of: Dict[str, object]) -> None:
+        time = datetime.datetime.now(datetime.timezone.utc).strftime("%Y-%m-%dT%H:%M:%S.%f")[:-3] + "Z"
+        if self.json:
+            line = json.dumps({"time": time, "kind": kind, "what": what, **of}, default=str)
+        else:
+            # The journal takes the level from such a mark.
+            mark = ("<3>" if kind == "fault" else "<6>") if self._has_time else f"{time} "
+            line = mark + " ".join([what, *(f"{name}={_quoted(value)}" for name, value in of.items())])
+        print(line, file=sys.stderr, flush=True)
+
+
+def _quoted(value: object) -> str:
+    """A value without a blank in it, or as a text between quotation marks."""
+    text = str(value)
+    return text if re.fullmatch(r"[!#-~]+", text) else json.dumps(text)
+
+
+def keep_buffers() -> None:
+    """Has the C library keep the buffers in which asyncio reads, of 256 kB each.
+
+    Else each read may map and unmap its buffer, which takes as long as all the rest of a row. The size from which on the
+    library maps memory grows to that of the greatest piece that was mapped and freed whole.
+    """
+    bytes(1 << 20)
+
+
+def notify(said: str) -> None:
+    """Tells systemd something, as ``READY=1``, where it waits for that."""
+    address = os.environ.get("NOTIFY_SOCKET", "")
+    if address:
+        with socket.socket(socket.AF_UNIX, socket.SOCK_DGRAM) as to, contextlib.suppress(OSError):
+            to.connect("\0" + address[1:] if address.startswith("@") else address)
+            to.sendall(said.encode())
+
+
+def watchdog() -> Optional[float]:
+    """How many seconds may pass between two signs of life that systemd wants; None where it wants none."""
+    word = os.environ.get("WATCHDOG_USEC", "")
+    mine = os.environ.get("WATCHDOG_PID", str(os.getpid())) == str(os.getpid())
+    return int(word) / 1e6 if word.isdecimal() and int(word) and mine else None
+
+
+async def keep_alive(is_well: Callable[[], Any]) -> None:
+    """Gives systemd its signs of life, each after a check that is awaited: one that hangs ends the service."""
+    most = watchdog()
+    while most:
+        await is_well()
+        notify("WATCHDOG=1")
+        await asyncio.sleep(most / 3)
+
+
+class Metrics:
+    """Numbers by their names and labels, as Prometheus reads them."""
+
+    def __init__(self) -> None:
+        self._about: Dict[str, str] = {}
+        self._values: Dict[str, Dict[str, Union[float, Callable[[], float]]]] = {}
+
+    def counter(self, name: str, about: str) -> None:
+        """Names a number that only grows."""
+        self._about[name], self._values[name] = f"# HELP {name} {about}\n# TYPE {name} counter", {}
+
+    def gauge(self, name: str, about: str, value: Callable[[], float]) -> None:
+        """Names a number that is asked for when it is read."""
+        self._about[name], self._values[name] = f"# HELP {name} {about}\n# TYPE {name} gauge", {"": value}
+
+    def add(self, name: str, labels: str = "", by: float = 1) -> None:
+        """Adds to a counter."""
+        values = self._values[name]
+        before = values.get(labels, 0)
+        values[labels] = by if callable(before) else before + by
+
+    def text(self) -> str:
+        """All of them, in the text format."""
+        return "".join(line + "\n" for line in self._lines())
+
+    def _lines(self) -> Iterator[str]:
+        for name, about in self._about.items():
+            yield about
+            for labels, value in (self._values[name] or {"": 0}).items():
+                number = value() if callable(value) else value
+                yield f"{name}{labels and '{' + labels + '}'} {number:g}" if number % 1 else \
+                    f"{name}{labels and '{' + labels + '}'} {number:.0f}"
+
+
+async def serve_health(where: int, is_ready: Callable[[], str], metrics: Metrics) -> asyncio.AbstractServer:
+    """Answers ``/healthz``, ``/readyz`` (503 with the reason while it is not) and ``/metrics`` on a port of this machine."""
+    async def connected(reader: asyncio.StreamReader, writer: asyncio.StreamWriter) -> None:
+        with contextlib.suppress(OSError, asyncio.TimeoutError, ValueError):
+            head = await asyncio.wait_for(reader.readuntil(b"\n"), 5)
+            status, body = _page(head.split(b" ")[1:2], is_ready, metrics)
+            writer.write(f"HTTP/1.1 {status}\r\nContent-Type: text/plain; charset=utf-8\r\nContent-Length: {len(body)}\r\n"
+                         "Connection: close\r\n\r\n".encode() + body)
+            await asyncio.wait_for(writer.drain(), 5)
+        writer.close()
+
+    async def guarded(reader: asyncio.StreamReader, writer: asyncio.StreamWriter) -> None:
+        with contextlib.suppress(asyncio.IncompleteReadError, asyncio.LimitOverrunError):
+            await connected(reader, writer)
+        writer.close()
+
+    return await asyncio.start_server(guarded, "127.0.0.1", where, limit=4096)
+
+
+def _page(path: List[bytes], is_ready: Callable[[], str], metrics: Metrics) -> Any:
+    why = is_ready()
+    if path == [b"/healthz"]:
+        return "200 OK", b"ok\n"
+    if path == [b"/readyz"]:
+        return ("503 Service Unavailable", f"{why}\n".encode()) if why else ("200 OK", b"ready\n")
+    if path == [b"/metrics"]:
+        return "200 OK", metrics.text().encode()
+    return "404 Not Found", b"/healthz, /readyz or /metrics\n"

@@ -1,0 +1,160 @@
+"""Give scanners and tills the answers of one hub, over sockets
+
+A connection to the socket says in its first line what it is for.
+
+  scan LANE     the scanner of a lane: noriladle scanner is one
+  watch LANE    a till: it gets a line for each scan of the lane, as 17 ]E0 (01)09501101530003 or 17 refused 3 CheckDigit;
+                18 next says that the next scan is 18, so that one before it of which nothing was told is lost
+  anything else is a row of widths or a text: the connection has a lane of its own, and gets a line for each line
+
+With --web a till may be a web page, and watches a lane by a WebSocket: ws://127.0.0.1:PORT/LANE.
+
+There is no password: the UNIX socket is for its owner and group, and whoever reaches a port is answered.
+
+  $ noriladle gateway --unix shop.sock
+"""
+from __future__ import annotations
+
+import argparse
+import asyncio
+import contextlib
+import fcntl
+import os
+import signal
+import sys
+from typing import List, Optional
+
+from .. import _service
+from .._gateway import Gateway, keep_alive
+from .._service import Log, Metrics, notify
+from ..live import Hub
+from . import REFUSED, RIGHT, WrongWords, add_year
+
+_AT_WORK = ("idle", "kept", "connections", "log", "json", "origin")
+"""The options that SIGHUP changes in a gateway that runs."""
+
+
+def add_arguments(parser: argparse.ArgumentParser) -> None:
+    """Adds the arguments of ``noriladle gateway``."""
+    parser.add_argument("--unix", metavar="PATH", help="Serve on a UNIX socket, for its owner and group alone")
+    parser.add_argument("--port", type=_service.port, metavar="PORT", help="Serve on a port of TCP; 0 is a free one, which is printed")
+    parser.add_argument("--host", default="127.0.0.1", metavar="HOST", help="Address of the port; 127.0.0.1")
+    parser.add_argument("--web", type=_service.port, metavar="PORT",
+                        help="Serve tills that are web pages on this port of 127.0.0.1; needs python3-websockets")
+    parser.add_argument("--origin", action="append", default=[], metavar="ORIGIN",
+                        help="Let pages of this origin watch, as https://till.example, beside those of this machine; may be repeated")
+    parser.add_argument("--lanes", type=_service.count(1, 16), default=16, metavar="N",
+                        help="Connections with a lane of their own, 1 to 16; 16")
+    parser.add_argument("--kept", type=_service.count(0, 16), default=4, metavar="N",
+                        help="Lanes that TCP connections leave to the UNIX socket; 4")
+    parser.add_argument("--connections", type=_service.count(1, 10_000), default=256, metavar="N", help="Connections at a time; 256")
+    parser.add_argument("--workers", type=_service.count(1, 16), default=2, metavar="N", help="Workers of the hub, 1 to 16; 2")
+    parser.add_argument("--idle", type=_service.seconds, default=60.0, metavar="SECONDS",
+                        help="Close a connection that sends no whole line, or takes nothing, for so long; 60")
+    parser.add_argument("--elements", action="store_true", help="Answer as gs1_hub live --elements writes elements")
+    add_year(parser)
+    _service.add_arguments(parser)
+
+
+def run(words: argparse.Namespace) -> int:
+    """Serves until it is told to stop, or the hub ends."""
+    if words.port is None and not words.unix:
+        raise WrongWords("name a socket by --unix or --port")
+    _service.keep_buffers()
+    with _taken(words.unix):
+        why = asyncio.run(_run(Hub(words.lanes, words.workers, words.year), words))
+    return REFUSED if why else RIGHT
+
+
+@contextlib.contextmanager
+def _taken(path: Optional[str]):  # type: ignore[no-untyped-def]
+    """Has a lock beside the socket, so that no second gateway takes its place."""
+    if not path:
+        yield
+        return
+    with open(f"{path}.lock", "w") as lock:
+        try:
+            fcntl.flock(lock, fcntl.LOCK_EX | fcntl.LOCK_NB)
+        except BlockingIOError:
+            raise WrongWords(f"another gateway has {path}; end it, or name another socket") from None
+        yield
+
+
+async def _run(hub: Hub, words: argparse.Namespace) -> str:
+    """Serves until it is told to stop, or the hub ends; how that ended, if it did."""
+    loop, metrics, log = asyncio.get_running_loop(), Metrics(), Log(words.log, words.json)
+    async with hub:
+        ended = asyncio.ensure_future(hub.ended())
+        for number in (signal.SIGTERM, signal.SIGINT):
+            loop.add_signal_handler(number, ended.cancel)
+        kept = words.kept if words.unix and words.port is not None else 0
+        gateway = Gateway(hub, words.idle, words.elements, min(kept, hub.lanes - 1), words.connections, log, metrics)
+        servers = await _listen(gateway, words, ended)
+        if words.config:
+            loop.add_signal_handler(signal.SIGHUP, _load_again, gateway, words)
+        helpers = [asyncio.ensure_future(gateway.sweep()), asyncio.ensure_future(_service.keep_alive(lambda: hub.lane(0).read("")))]
+        notify("READY=1")
+        await asyncio.wait([ended])
+        notify("STOPPING=1")
+        for server in servers:
+            server.close()
+        why = "" if ended.cancelled() else str(ended.result())
+        if why:
+            log.fault(why)
+        await gateway.close(why or "the gateway stops")
+        for helper in helpers:
+            helper.cancel()
+        if words.unix:
+            with contextlib.suppress(FileNotFoundError):
+                os.unlink(words.unix)
+    return why
+
+
+async def _listen(gateway: Gateway, words: argparse.Namespace, ended: asyncio.Future) -> List[asyncio.AbstractServer]:  # type: ignore[type-arg]
+    """Opens the sockets, of which that in the file system is for its owner and group alone."""
+    servers: List[asyncio.AbstractServer] = []
+
+    def connected(reader: asyncio.StreamReader, writer: asyncio.StreamWriter):  # type: ignore[no-untyped-def]
+        keep_alive(writer)
+        return gateway.connected(reader, writer)
+
+    if words.unix:
+        mask = os.umask(0o117)
+        servers.append(await asyncio.start_unix_server(connected, words.unix))
+        os.umask(mask)
+    if words.port is not None:
+        servers.append(_named("port", await asyncio.start_server(connected, words.host, words.port)))
+    if words.web is not None:
+        from .._web import serve
+        servers.append(_named("web", await serve(gateway.scans, words.web, words)))
+    if words.metrics is not None:
+        def is_ready() -> str:
+            return "the gateway stops" if ended.done() else ""
+        servers.append(_named("metrics", await _service.serve_health(words.metrics, is_ready, gateway.metrics)))
+    return servers
+
+
+def _named(name: str, server: asyncio.AbstractServer) -> asyncio.AbstractServer:
+    """Prints the port of a server, which may have been a free one."""
+    print(name, server.sockets[0].getsockname()[1], file=sys.stderr, flush=True)  # type: ignore[attr-defined]
+    return server
+
+
+def _load_again(gateway: Gateway, words: argparse.Namespace) -> None:
+    """Reads the file of options again, and takes what a gateway that runs can take."""
+    notify("RELOADING=1")
+    try:
+        loaded = words.load_again()
+    except WrongWords as fault:
+        gateway.log.fault(str(fault))
+        loaded = {}
+    for name, value in loaded.items():
+        if name in _AT_WORK:
+            setattr(words, name, value)
+        elif getattr(words, name) != value:
+            gateway.log.fault(f"{name} changes when the gateway is started again")
+    gateway.idle, gateway.most = words.idle, words.connections
+    gateway.kept = min(words.kept, gateway.hub.lanes - 1) if words.unix and words.port is not None else 0
+    gateway.log.all, gateway.log.json = words.log == "all", words.json
+    gateway.log.note("loaded", file=words.config)
+    notify("READY=1")

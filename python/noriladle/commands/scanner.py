@@ -1,0 +1,252 @@
+"""Read an ordinary scanner, and give its texts to a gateway or check them
+
+The scanner is one on a serial line, or one that types as a keyboard; it is to send CR, LF, Tab or Enter behind each
+text, and should send the symbology identifier before it (docs/SCANNERS.md). A line is printed for each text: its number,
+from 0, and what it says, or why it is refused or unread. It ends when the scanner is unplugged.
+
+With --gateway the tills that watch the lane are told; without it the text is checked here, to try a scanner out.
+
+  $ noriladle scanner /dev/ttyACM0
+"""
+from __future__ import annotations
+
+import argparse
+import os
+import re
+import select
+import signal
+import stat
+import termios
+import time
+import tty
+from typing import List, Optional
+
+from .. import Refusal, _service, read_scan
+from .._keys import EVENT, FOREIGN, LOST, Keyboard, events_of, grab, make_keyboard
+from .._link import Link
+from .._scans import is_name
+from .._service import notify
+from . import REFUSED, RIGHT, WrongWords, add_year, tell
+
+CUT = 1_024
+"""A longer text is cut to so many bytes: no symbol has as many, and it is refused all the same."""
+ENDLESS = 2.0
+"""A text that has not ended so many seconds after its last byte has no end."""
+PATIENCE = 3.0
+"""When the scanner is unplugged, so many seconds at most are left to tell the till what was lost."""
+
+_INPUT = 13  # The major number of event devices.
+_GTIN = re.compile(r"\S+ (?:\(01\)|01=)([0-9]{14})")
+_NO_END = "no CR, LF, Tab or Enter came behind the text: set the scanner to send one"
+_LOST = "keys were lost: the machine was too busy"
+_FOREIGN = "it types as a keyboard of another country: set the scanner to the United States, or to Alt and numbers"
+
+
+def add_arguments(parser: argparse.ArgumentParser) -> None:
+    """Adds the arguments of ``noriladle scanner``."""
+    parser.add_argument("device", metavar="DEVICE", help="A serial line, as /dev/ttyACM0, or an event device, as /dev/input/event5")
+    parser.add_argument("--gateway", metavar="PATH", help="Give the texts to the gateway at this UNIX socket")
+    parser.add_argument("--lane", metavar="NAME", help="Lane of the scanner; the name of the device, as ttyACM0")
+    parser.set_defaults(lanes={})  # A table of the file of options: the lanes of devices.
+    parser.add_argument("--keyboard", action="store_true", help="The device is one that types, whatever it is called")
+    parser.add_argument("--baud", type=_baud, default=9600, metavar="RATE", help="Bits a second of a serial line; 9600")
+    parser.add_argument("--type", choices=("gtin", "elements"), metavar="WHAT",
+                        help="Type the gtin, or the elements, of each text that is not refused, and Enter, as a keyboard")
+    add_year(parser)
+    _service.add_config(parser)
+
+
+def _baud(word: str) -> int:
+    if not (word.isdecimal() and hasattr(termios, f"B{word}")):
+        raise argparse.ArgumentTypeError(f"{word!r} is no rate of a serial line, as 9600 or 115200")
+    return int(word)
+
+
+def run(words: argparse.Namespace) -> int:
+    """Reads the scanner until it is unplugged, or the command is told to stop."""
+    lane = words.lane or _lane_of(words.device, words.lanes)
+    if not is_name(lane):
+        raise WrongWords(f"{lane!r} is no name of a lane: up to 64 letters, digits and . _ : -")
+    try:
+        device = os.open(words.device, os.O_RDONLY | os.O_NOCTTY | os.O_NONBLOCK)
+        is_keyboard = words.keyboard or os.major(os.fstat(device).st_rdev) == _INPUT
+        grab(device) if is_keyboard else _make_raw(device, words.baud)
+        typist = _open_typist() if words.type else None
+    except (OSError, termios.error) as fault:
+        tell(f"{words.device}: {fault.args[-1] if isinstance(fault, termios.error) else fault.strerror}")
+        return REFUSED
+    return _Scanner(words, device, Keyboard() if is_keyboard else None, lane, typist).run()
+
+
+def _lane_of(device: str, lanes: object) -> str:
+    """The lane of a device by the table of the file of options, whose names may be links to it; else its own name."""
+    assert isinstance(lanes, dict)
+    named = [lane for path, lane in lanes.items() if os.path.realpath(path) == os.path.realpath(device)]
+    return str(named[0]) if named else os.path.basename(device)
+
+
+def _make_raw(device: int, rate: int) -> None:
+    """Sets a serial line to this rate and 8 bits a byte, with no byte changed."""
+    if not stat.S_ISCHR(os.fstat(device).st_mode):
+        raise OSError(0, "this is no serial line")
+    tty.setraw(device)
+    mode = termios.tcgetattr(device)
+    mode[2] |= termios.CLOCAL | termios.CREAD
+    mode[4] = mode[5] = getattr(termios, f"B{rate}")
+    termios.tcsetattr(device, termios.TCSANOW, mode)
+
+
+def _open_typist() -> int:
+    try:
+        device = os.open("/dev/uinput", os.O_WRONLY)
+        make_keyboard(device)
+    except OSError as fault:
+        raise OSError(0, f"--type needs /dev/uinput (modprobe uinput): {fault.strerror}") from fault
+    return device
+
+
+class Texts:
+    """The texts of a scanner, of the pieces in which they come."""
+
+    def __init__(self) -> None:
+        self.rest = b""
+        self.since = 0.0
+        """When the last byte of the rest came."""
+
+    def take(self, piece: bytes) -> List[bytes]:
+        """The texts that have ended with one more piece."""
+        *ended, rest = re.split(b"[\r\n\t]", self.rest + piece)
+        self.rest, self.since = rest[:CUT], time.monotonic()
+        return [text[:CUT] for text in ended if text]
+
+    def is_endless(self) -> bool:
+        """Whether the rest has waited for its end too long; it is dropped then."""
+        if not self.rest or time.monotonic() < self.since + ENDLESS:
+            return False
+        self.rest = b""
+        return True
+
+
+class _Scanner:
+    """A scanner's device, and where its texts go."""
+
+    def __init__(self, words: argparse.Namespace, device: int, keyboard: Optional[Keyboard], lane: str, typist: Optional[int]) -> None:
+        self._words, self._device, self._keyboard, self._typist = words, device, keyboard, typist
+        self._texts = Texts()
+        self._number = 0
+        self._is_plugged, self._ended = True, 0.0
+        self._link = Link(words.gateway, lane, self._said, self._note) if words.gateway else None
+
+    def run(self) -> int:
+        """Serves until the scanner is unplugged or a signal comes, and then until what was scanned is answered."""
+        woken, wake = os.pipe()
+        os.set_blocking(wake, False)
+        signal.set_wakeup_fd(wake)
+        for number in (signal.SIGTERM, signal.SIGINT):
+            signal.signal(number, lambda *_: self._end())
+        alive = _service.watchdog()
+        notify("READY=1")
+        while self._is_plugged or (self._link and self._link.is_waiting and time.monotonic() < self._ended + PATIENCE):
+            self._wait(woken, (alive or 30) / 3)
+            if alive:
+                notify("WATCHDOG=1")
+        notify("STOPPING=1")
+        if self._link:
+            self._link.close()
+        return RIGHT
+
+    def _end(self) -> None:
+        self._is_plugged, self._ended = False, time.monotonic()
+
+    def _wait(self, woken: int, most: float) -> None:
+        """Waits for the device, the gateway, a signal or a time, and does what there is to do."""
+        if self._link:
+            self._link.step()
+        link, ends = self._link, select.poll()
+        ends.register(woken, select.POLLIN)
+        if self._is_plugged:
+            ends.register(self._device, select.POLLIN)
+        if link and link.socket:
+            ends.register(link.socket, select.POLLIN | (select.POLLOUT if link.wants_to_write else 0))
+        for end, events in ends.poll(max(0.0, self._until(most) - time.monotonic()) * 1000):
+            if end == self._device:
+                self._read()
+            elif link and link.socket and end == link.socket.fileno():
+                if events & select.POLLOUT:
+                    link.write()
+                if link.socket and events & ~select.POLLOUT:
+                    link.take_answers()
+        if self._texts.is_endless():
+            self._unread(_NO_END)
+
+    def _until(self, most: float) -> float:
+        steps = [time.monotonic() + most]
+        if self._link:
+            steps.append(self._link.next_step())
+        if self._texts.rest:
+            steps.append(self._texts.since + ENDLESS)
+        return min(steps)
+
+    def _read(self) -> None:
+        """Takes what has come of the device; none when it is unplugged."""
+        try:
+            some = os.read(self._device, 100 * EVENT.size)
+        except BlockingIOError:
+            return
+        except OSError:
+            some = b""
+        if not some:
+            self._end()
+            tell(f"{self._words.device}: unplugged")
+            return
+        for text in self._texts.take(self._keyboard.typed(some) if self._keyboard else some):
+            self._scan(text)
+
+    def _scan(self, text: bytes) -> None:
+        if self._keyboard and LOST.encode() in text:
+            self._unread(_LOST)
+        elif self._keyboard and FOREIGN.encode() in text:
+            self._unread(_FOREIGN)
+        elif self._link:
+            self._link.scan(text)
+        else:
+            self._said(self._number, _checked(text, self._words.year))
+            self._number += 1
+
+    def _unread(self, why: str) -> None:
+        if self._link:
+            self._link.unread(why)
+        else:
+            self._said(self._number, f"unread: {why}")
+            self._number += 1
+
+    def _said(self, number: int, said: str) -> None:
+        """Prints an answer, and types what it says."""
+        print(number, said, flush=True)
+        if self._typist is not None and not said.startswith(("refused ", "unread: ")):
+            _type(self._typist, self._words.type, said)
+
+    def _note(self, why: str) -> None:
+        tell(f"noriladle scanner: {why}")
+
+
+def _checked(text: bytes, year: int) -> str:
+    """What a text says, or why it is refused."""
+    try:
+        return str(read_scan(text, year))
+    except Refusal as refusal:
+        return str(refusal)
+
+
+def _type(device: int, what: str, said: str) -> None:
+    """Types what an answer says, if it has it, and Enter."""
+    found = _GTIN.match(said)
+    typed = said.partition(" ")[2] if what == "elements" else digits_of(found[1]) if found else ""
+    if typed:
+        os.write(device, events_of(f"{typed}\r"))
+
+
+def digits_of(gtin: str) -> str:
+    """The digits of a GTIN as tills look them up: 8 of a GTIN-8, else 13, or 14 if the first is not 0."""
+    return gtin[6:] if gtin.startswith("000000") else gtin[1:] if gtin.startswith("0") else gtin
+

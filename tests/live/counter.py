@@ -1,0 +1,192 @@
+"""The counter of a shop, for tests: a gateway, clients of its sockets, scanners on pseudo terminals and tills."""
+import os
+import pty
+import re
+import select
+import socket
+import struct
+import subprocess
+import sys
+import threading
+import time
+
+from shop import EAN13, READ, ROOT
+
+ROW = EAN13.encode() + b"\n"
+NORILADLE = [sys.executable, "-m", "noriladle"]
+
+
+class Client:
+    """A connection whose lines are read one by one."""
+
+    def __init__(self, address, family=socket.AF_INET):
+        self.socket = socket.socket(family)
+        self.socket.connect(address)
+        self.socket.settimeout(20)
+        self.lines = self.socket.makefile("rb")
+
+    def __enter__(self):
+        return self
+
+    def __exit__(self, *_):
+        # A socket stays open as long as its file does.
+        self.lines.close()
+        self.socket.close()
+
+    def send(self, text):
+        self.socket.sendall(text)
+
+    def line(self):
+        return self.lines.readline().decode()
+
+    def ask(self, row):
+        self.send(row)
+        return self.line()
+
+    def ends(self):
+        """What comes after the rows were sent, to the end."""
+        self.socket.shutdown(socket.SHUT_WR)
+        return self.lines.read().decode()
+
+    def reset(self):
+        """Ends the connection without a regular end."""
+        self.socket.setsockopt(socket.SOL_SOCKET, socket.SO_LINGER, struct.pack("ii", 1, 0))
+        self.__exit__()
+
+
+class Gateway:
+    """A gateway that runs on a free port, and on a socket in a folder; `said` are the lines that it logs."""
+
+    def __init__(self, folder, *words, port=True):
+        self.unix = str(folder / "hub")
+        ports = ["--port", "0"] if port else []
+        self.process = subprocess.Popen([*NORILADLE, "gateway", "--year", "2026", "--kept", "0", *ports, "--unix", self.unix, *words],
+                                        stderr=subprocess.PIPE, text=True)
+        self.ports = {}
+        for name in [word[2:] for word in ("--port", *words) if word in ("--port", "--web", "--metrics") and (word != "--port" or port)]:
+            line = self.process.stderr.readline()
+            found = re.fullmatch("([a-z]+) ([0-9]+)\n", line)
+            assert found, line + self.process.stderr.read()
+            self.ports[found[1]] = int(found[2])
+        until = time.monotonic() + 20
+        while not self.is_open():
+            assert self.process.poll() is None and time.monotonic() < until
+            time.sleep(0.02)
+
+    def is_open(self):
+        with socket.socket(socket.AF_UNIX) as tried:
+            return tried.connect_ex(self.unix) == 0
+
+    def __enter__(self):
+        return self
+
+    def __exit__(self, *_):
+        self.process.terminate()
+        assert self.process.communicate(timeout=20)[1] == "", "it wrote to standard error"
+
+    def connect(self):
+        return Client(("127.0.0.1", self.ports["port"]))
+
+    def unix_client(self):
+        return Client(self.unix, socket.AF_UNIX)
+
+    def watch(self, lane):
+        """A till of a lane."""
+        client = self.unix_client()
+        client.send(f"watch {lane}\n".encode())
+        return client
+
+    def free_lane(self, wanted=f"0 {READ}\n"):
+        """A connection that has a lane, waited for, after its first row."""
+        until = time.monotonic() + 30
+        while time.monotonic() < until:
+            client = self.connect()
+            answer = client.ask(ROW)
+            if answer == wanted:
+                return client
+            client.__exit__()
+            assert answer.startswith("closed: ")
+            time.sleep(0.02)
+        raise AssertionError("no lane came free")
+
+    def hub(self):
+        return int(subprocess.run(["pgrep", "-P", str(self.process.pid)], capture_output=True).stdout)
+
+    def most_memory(self):
+        return most_memory(self.process)
+
+
+def most_memory(process):
+    """The most memory that a process has had, in kB."""
+    with open(f"/proc/{process.pid}/status") as status:
+        return next(int(line.split()[1]) for line in status if line.startswith("VmHWM"))
+
+
+class Scanner:
+    """`noriladle scanner` on a device, and the lines that it prints."""
+
+    def __init__(self, device, *words, command=(*NORILADLE, "scanner")):
+        self.process = subprocess.Popen([*command, device, "--year", "2026", *words], bufsize=0, stdin=subprocess.DEVNULL,
+                                        stdout=subprocess.PIPE, stderr=subprocess.PIPE)
+
+    def __enter__(self):
+        return self
+
+    def __exit__(self, *_):
+        self.process.kill()
+        self.process.communicate()
+
+    def line(self, seconds=10):
+        """The next line, or nothing where none comes."""
+        comes, _, _ = select.select([self.process.stdout], [], [], seconds)
+        return self.process.stdout.readline().decode() if comes else ""
+
+    def most_memory(self):
+        return most_memory(self.process)
+
+    def ended(self):
+        """What it prints after its last line, once the device is gone, on standard output and error, and its status."""
+        out, error = self.process.communicate(timeout=10)
+        return out.decode(), error.decode(), self.process.returncode
+
+
+class Serial(Scanner):
+    """`noriladle scanner` on a pty, which it has made raw."""
+
+    def __init__(self, *words):
+        self.ours, self.its = pty.openpty()
+        self.device = os.ttyname(self.its)
+        super().__init__(self.device, *words)
+        until = time.monotonic() + 20
+        # Before that the line discipline would change what is sent.
+        while b"-icanon" not in subprocess.run(["stty", "-a"], stdin=self.its, capture_output=True, check=True).stdout:
+            assert time.monotonic() < until
+            time.sleep(0.02)
+
+    def send(self, sent, size=7):
+        for place in range(0, len(sent), size):
+            os.write(self.ours, sent[place:place + size])
+
+    def unplug(self):
+        os.close(self.its)
+        os.close(self.ours)
+
+
+class Till:
+    """examples/till/till.py, and the lines that it prints."""
+
+    def __init__(self, socket_path, lane):
+        self.process = subprocess.Popen([sys.executable, "-u", ROOT / "examples/till/till.py", socket_path, lane], stdout=subprocess.PIPE,
+                                        text=True)
+        self.lines = []
+        self._reading = threading.Thread(target=lambda: self.lines.extend(self.process.stdout))
+        self._reading.start()
+
+    def __enter__(self):
+        return self
+
+    def __exit__(self, *_):
+        self.process.kill()
+        self._reading.join()
+        self.process.wait()
+        self.process.stdout.close()

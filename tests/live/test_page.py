@@ -1,0 +1,134 @@
+"""A till that is a web page, in headless Chromium, with a simulated scanner. Needs chromium and python3-websockets."""
+import asyncio
+import functools
+import http.server
+import os
+import sys
+import threading
+import time
+
+import pytest
+import websockets
+
+from counter import Gateway, Serial
+from shop import ROOT
+
+sys.path.insert(0, str(ROOT / "tests/page"))
+from browser import Browser  # noqa: E402
+
+LIMIT = 200
+READY = "document.getElementById('state')?.textContent === 'ready'"
+SHOWN = "[...document.querySelectorAll('#sold tr')].map(row => [...row.cells].map(cell => cell.textContent).join('|'))"
+MESSAGE = "document.getElementById('message').textContent"
+
+
+@pytest.fixture
+def gateway(tmp_path):
+    with Gateway(tmp_path, "--web", "0", port=False) as it:
+        yield it
+
+
+class Quiet(http.server.SimpleHTTPRequestHandler):
+    def log_message(self, *_):
+        pass
+
+
+@pytest.fixture
+def page():
+    """The address of the page, on a server of this machine."""
+    with http.server.ThreadingHTTPServer(("127.0.0.1", 0), functools.partial(Quiet, directory=str(ROOT / "examples/till"))) as server:
+        threading.Thread(target=server.serve_forever, daemon=True).start()
+        yield f"http://127.0.0.1:{server.server_port}/till.html"
+        server.shutdown()
+
+
+def test_a_page_sells_what_is_scanned(gateway, page, tmp_path):
+    """Articles with their prices and the total; what is refused, has no price or is lost is said; and it goes on with the next gateway.
+
+    With PICTURE in the environment it leaves a picture of the page there."""
+    browser = Browser(f"{page}?port={gateway.ports['web']}&lane=till-1", width=760, height=560, started=READY)
+    try:
+        with Serial("--gateway", gateway.unix, "--lane", "till-1") as scanner:
+            def scan(text, message):
+                scanner.send(text + b"\r")
+                browser.until(f"{MESSAGE} === {message!r}", 10)
+
+            scan(b"]E09501101530003", "Oat biscuits 1.95")
+            scan(b"]E496385074", "Chewing gum 0.90")
+            scan(b"]C10109501101530034" + b"10LOT7", "Butter 2.95")
+            scan(b"]E09501101530044", "Scan again, please: refused 3 CheckDigit")
+            scan(b"]E09501101530041", "Honey 5.50")
+            scan(b"https://id.gs1.org/01/09501101530027", "Apple juice 1.60")
+            assert browser.value(SHOWN) == [
+                "Oat biscuits|09501101530003|1.95", "Chewing gum|00000096385074|0.90", "Butter|09501101530034|2.95",
+                "Honey|09501101530041|5.50", "Apple juice|09501101530027|1.60",
+            ]
+            assert browser.value("document.getElementById('total').textContent") == "12.90"
+            if "PICTURE" in os.environ:
+                browser.picture(os.environ["PICTURE"])
+            scan(b"]E04012345010008", "No price: 04012345010008")
+            # The gateway goes, and what is scanned meanwhile is lost; the page says so when the next one is there.
+            gateway.process.kill()
+            gateway.process.communicate()
+            browser.until(f"!({READY})")
+            scanner.send(b"]E496385074\r")
+            time.sleep(2.5)
+            port = gateway.ports["web"]
+            gateway.process = Gateway(tmp_path, "--web", str(port), port=False).process
+            browser.until("!!document.querySelector('#sold tr.lost')")
+            assert browser.value(SHOWN)[-1] == "Lost: 1. Scan again, please.||"
+            scan(b"]E496385074", "Chewing gum 0.90")
+            assert browser.value("document.getElementById('total').textContent") == "13.80"
+    finally:
+        browser.close()
+
+
+def told(gateway, path, **more):
+    """What a page of an origin is told first, or the reason why it is closed."""
+    async def ask():
+        async with websockets.connect(f"ws://127.0.0.1:{gateway.ports['web']}{path}", **more) as page:
+            try:
+                return await asyncio.wait_for(page.recv(), 1)
+            except asyncio.TimeoutError:
+                return "it waits"
+            except websockets.ConnectionClosed as closed:
+                return closed.reason
+    return asyncio.run(ask())
+
+
+@pytest.mark.parametrize("origin, wanted", [
+    (None, "it waits"), ("http://localhost:8000", "it waits"), ("https://127.0.0.1", "it waits"), ("file://", "no page of file:// may watch"),
+    ("https://evil.example", "no page of https://evil.example may watch"), ("null", "no page of null may watch"),
+    ("http://localhost.evil.example", "no page of http://localhost.evil.example may watch"),
+])
+def test_pages_of_others_may_not_watch(gateway, origin, wanted):
+    assert told(gateway, "/till-1", origin=origin) == wanted
+
+
+def test_pages_of_a_named_origin_may_watch(tmp_path):
+    with Gateway(tmp_path, "--web", "0", "--origin", "https://till.example", port=False) as gateway:
+        assert told(gateway, "/till-1", origin="https://till.example") == "it waits"
+        assert told(gateway, "/till-1", origin="https://tills.example") == "no page of https://tills.example may watch"
+
+
+@pytest.mark.parametrize("path", ["/", "/../hub", "/a%20b", "/" + "x" * 65])
+def test_no_name_of_a_lane(gateway, path):
+    assert told(gateway, path) == "a lane's name has up to 64 letters, digits and . _ : -"
+
+
+def test_a_page_that_takes_nothing_holds_up_no_other(gateway):
+    async def test():
+        slow = await websockets.connect(f"ws://127.0.0.1:{gateway.ports['web']}/till-1", max_queue=1)
+        quick = await websockets.connect(f"ws://127.0.0.1:{gateway.ports['web']}/till-1")
+        reader, writer = await asyncio.open_unix_connection(gateway.unix)
+        writer.write(b"scan till-1\n0\n")
+        assert await reader.readline() == b"0 next\n" and await quick.recv() == "0 next"
+        for begin in range(0, 30_000, 100):
+            writer.write(b"".join(b"%d ]E496385074\n" % number for number in range(begin, begin + 100)))
+            for number in range(begin, begin + 100):
+                assert await quick.recv() == f"{number} ]E4 (01)00000096385074"
+                await reader.readline()
+        for end in (slow, quick):
+            end.transport.abort()
+        writer.close()
+    asyncio.run(asyncio.wait_for(test(), 60))
