@@ -1,15 +1,21 @@
-"""Rows, workers and tills of a chain of shops, for the tests and the measurement of by_redis.py."""
+"""Rows, workers and tills of a chain of shops, for the tests and the measurement of noriladle.streams."""
 import asyncio
 import signal
 import subprocess
 import sys
 
-from shop import ROOT, SEED, random_lanes
+from noriladle import streams as keys
+from noriladle.streams import Till, Worker  # noqa: F401
+from shop import SEED, random_lanes
 
-SCRIPT = ROOT / "examples" / "live" / "by_redis.py"
-sys.path.insert(0, str(SCRIPT.parent))
-import by_redis  # noqa: E402
-from by_redis import Shop, Till, Worker  # noqa: E402, F401
+NORILADLE = [sys.executable, "-m", "noriladle"]
+
+
+
+def Shop(address, user=None, password=None):
+    """The streams at the address of a node, or at several."""
+    return keys.Shop([address] if isinstance(address, str) else address, user, password)
+
 
 LANES = [str(lane) for lane in range(8)]
 
@@ -22,11 +28,12 @@ def rows_of(count, seed=SEED, lanes=len(LANES)):
 
 
 class Workers:
-    """Processes of by_redis.py that have the same lanes, by name."""
+    """Processes of `noriladle worker` that have the same lanes, by name."""
 
-    def __init__(self, address, count, milliseconds=3000):
-        self.words = [sys.executable, str(SCRIPT), "work", address]
-        self.more = [*LANES, "--year", "2026", "--lease", str(milliseconds)]
+    def __init__(self, address, count, milliseconds=3000, more=()):
+        # One address, or several with commas between.
+        self.words = [*NORILADLE, "worker", *(word for one in address.split(",") for word in ("--redis", one))]
+        self.more = [*LANES, "--year", "2026", "--lease", str(milliseconds), "--log", "all", *more]
         self.names = [f"worker{number}" for number in range(count)]
         self.running = {}
 
@@ -40,7 +47,7 @@ class Workers:
             self.kill(name)
 
     def start(self, name):
-        self.running[name] = subprocess.Popen([*self.words, name, *self.more], stderr=subprocess.PIPE, text=True)
+        self.running[name] = subprocess.Popen([*self.words, "--name", name, *self.more], stderr=subprocess.PIPE, text=True)
 
     def kill(self, name):
         """Kills a worker, even one that sleeps, and gives what it said."""
@@ -60,7 +67,7 @@ class Workers:
     async def share(self, shop):
         """Waits until each has a lane."""
         while True:
-            holders = [await (await shop.node(by_redis.lease(lane))).get(by_redis.lease(lane)) for lane in LANES]
+            holders = [await (await shop.node(keys.lease(lane))).ask("GET", keys.lease(lane)) for lane in LANES]
             if set(holders) == set(self.running):
                 return holders
             await asyncio.sleep(0.1)
@@ -89,9 +96,10 @@ async def streams(address, lanes):
     """The IDs and answers that stand in the streams of answers, and the IDs in those of rows."""
     shop, said, names = Shop(address), {}, {}
     for lane in lanes:
-        node = await shop.node(by_redis.rows(lane))
-        said[lane] = [(name, entry["answer"]) for name, entry in await node.xrange(by_redis.answers(lane))]
-        names[lane] = [name for name, _ in await node.xrange(by_redis.rows(lane))]
+        node = await shop.node(keys.rows(lane))
+        entries = await node.ask("XRANGE", keys.answers(lane), "-", "+")
+        said[lane] = [(name, dict(zip(fields[::2], fields[1::2]))["answer"]) for name, fields in entries]
+        names[lane] = [name for name, _ in await node.ask("XRANGE", keys.rows(lane), "-", "+")]
     await shop.close()
     return said, names
 
@@ -102,5 +110,6 @@ def check(address, wanted, got):
     assert got == wanted
     said, names = asyncio.run(streams(address, wanted))
     for lane in wanted:
-        assert said[lane] == [(f"1-{number}", answer) for number, answer in wanted[lane]]
+        series = said[lane][0][0].partition("-")[0]
+        assert said[lane] == [(f"{series}-{number}", answer) for number, answer in wanted[lane]]
         assert names[lane] == [name for name, _ in said[lane]]

@@ -18,6 +18,7 @@ cluster-require-full-coverage no
 appendonly yes
 appendfsync always
 maxmemory-policy noeviction
+repl-diskless-sync-delay 0
 proto-max-bulk-len 1mb
 """
 
@@ -29,11 +30,12 @@ def ask(port, *words):
 
 
 class Cluster:
-    """Nodes of a cluster, by their ports; `more` are further lines of their configuration."""
+    """Nodes of a cluster, by their ports; `more` are further lines of their configuration. With `replicas` each has one."""
 
-    def __init__(self, nodes=3, more="", folders=None):
+    def __init__(self, nodes=3, more="", folders=None, replicas=False):
         self.root = Path(tempfile.mkdtemp(prefix="redis-"))
-        self.ports = free_ports(nodes)
+        self.ports = free_ports(2 * nodes if replicas else nodes)
+        self.masters = nodes
         self.folders = dict(zip(self.ports, folders or [self.root / str(port) for port in self.ports]))
         self.more, self.processes = more, {}
 
@@ -45,10 +47,15 @@ class Cluster:
         try:
             for i, port in enumerate(self.ports):
                 self.start(port)
-                first, end = (16384 * n // len(self.ports) for n in (i, i + 1))
-                assert ask(port, "CLUSTER", "ADDSLOTSRANGE", first, end - 1) == "OK"
+                first, end = (16384 * n // self.masters for n in (i, i + 1))
+                if i < self.masters:
+                    assert ask(port, "CLUSTER", "ADDSLOTSRANGE", first, end - 1) == "OK"
                 ask(port, "CLUSTER", "MEET", "127.0.0.1", self.ports[0])
             self.wait()
+            for master, replica in zip(self.ports, self.ports[self.masters:]):
+                assert ask(replica, "CLUSTER", "REPLICATE", ask(master, "CLUSTER", "MYID")) == "OK"
+            while not all(self.follows(replica) for replica in self.ports[self.masters:]):
+                time.sleep(0.1)
         except BaseException:
             self.__exit__()
             raise
@@ -78,6 +85,14 @@ class Cluster:
         while not all("cluster_state:ok" in ask(port, "CLUSTER", "INFO")
                       and ask(port, "CLUSTER", "NODES").count(" connected") == len(self.ports) for port in self.ports):
             time.sleep(0.1)
+
+    def role(self, port):
+        """Whether a node is a master or a slave; nothing where it does not answer."""
+        return ask(port, "ROLE").partition("\n")[0]
+
+    def follows(self, port):
+        """Whether a node is a replica that has what its master has."""
+        return "master_link_status:up" in ask(port, "INFO", "replication")
 
     def holder(self, key):
         """The port of the node that has a key."""

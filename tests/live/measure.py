@@ -2,7 +2,7 @@
 """Measures the running hub in Python and over Redis, and prints a line for each figure: measure.py [always | everysec]
 
 - noriladle.live: 100,000 rows of 16 lanes at once, each reply compared with `gs1_hub lanes`; then one row at a time.
-- gateway.py: rows one at a time over a UNIX socket.
+- noriladle gateway: rows one at a time over a UNIX socket; and texts from a scanner on a pseudo terminal to a till.
 - Over a Redis Cluster of three nodes, with one, two and three workers: 40,000 rows of 8 lanes at once, each answer
   compared; the processor time that a row took, in microseconds, by process; then rows one at a time, of one lane, and
   of 8 lanes beside each other.
@@ -13,7 +13,6 @@ Run it on a machine that does nothing else. It needs what tests/live/run needs, 
 """
 import asyncio
 import os
-import subprocess
 import sys
 import tempfile
 import time
@@ -22,8 +21,9 @@ from pathlib import Path
 
 from chain import LANES, Shop, Till, Workers, read_lanes, rows_of
 from cluster import Cluster
+from counter import Gateway, Serial
 from noriladle.live import Hub
-from shop import EAN13, READ, ROOT
+from shop import EAN13, READ
 
 TICK = os.sysconf("SC_CLK_TCK")
 ONCE = 100_000
@@ -63,21 +63,26 @@ async def measure_live():
 
 
 async def measure_gateway():
-    with tempfile.TemporaryDirectory() as folder:
-        words = [sys.executable, str(ROOT / "examples/live/gateway.py"), "--unix", f"{folder}/hub", "--year", "2026"]
-        with subprocess.Popen(words) as gateway:
-            while not os.path.exists(f"{folder}/hub"):
-                await asyncio.sleep(0.05)
-            reader, writer = await asyncio.open_unix_connection(f"{folder}/hub")
+    with tempfile.TemporaryDirectory() as folder, Gateway(Path(folder), port=False) as gateway:
+        reader, writer = await asyncio.open_unix_connection(gateway.unix)
 
-            async def read(widths):
-                writer.write(f"{widths}\n".encode())
-                assert (await reader.readline()).endswith(f" {READ}\n".encode())
+        async def read(widths):
+            writer.write(f"{widths}\n".encode())
+            assert (await reader.readline()).endswith(f" {READ}\n".encode())
 
-            alone = middle(await timed(read, [EAN13] * 5000, 1e6))
-            writer.close()
-            gateway.terminate()
-    print(f"gateway.py, one at a time: median {alone[0]:.0f} us, p99 {alone[1]:.0f} us", flush=True)
+        alone = middle(await timed(read, [EAN13] * 5000, 1e6))
+        writer.close()
+        print(f"noriladle gateway, one at a time: median {alone[0]:.0f} us, p99 {alone[1]:.0f} us", flush=True)
+        with Serial("--gateway", gateway.unix, "--lane", "till-1") as scanner, gateway.watch("till-1") as till:
+            assert till.line() == "0 next\n"
+
+            async def scan(text):
+                os.write(scanner.ours, text)
+                assert till.line().endswith(f" {READ}\n")
+                scanner.line()
+
+            alone = middle(await timed(scan, [b"]E09501101530003\r"] * 5000, 1e6))
+        print(f"scanner to till, one at a time: median {alone[0]:.0f} us, p99 {alone[1]:.0f} us", flush=True)
 
 
 def used(pid):

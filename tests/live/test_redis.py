@@ -13,7 +13,7 @@ import time
 
 import pytest
 
-from chain import LANES, Shop, Till, Worker, Workers, by_redis, check, read_lane, read_lanes, rows_of, streams
+from chain import LANES, Shop, Till, Worker, Workers, keys, check, read_lane, read_lanes, rows_of, streams
 from cluster import Cluster, ask
 from noriladle.live import Hub
 from shop import EAN13, READ, ROOT, SEED
@@ -130,7 +130,7 @@ def test_a_hub_is_killed():
         check(cluster.address, wanted, got)
         worker = workers.running.pop(name)
         assert worker.wait(timeout=10) == 1
-        assert worker.stderr.read().strip().endswith("HubEnded: the hub has ended, status -9")
+        assert worker.stderr.read().strip().endswith("Z the hub has ended, status -9")
 
 
 class Greedy(Worker):
@@ -188,11 +188,11 @@ def test_a_worker_sleeps_past_its_lease():
             async with Hub(1, 1, 2026) as hub:
                 gate = Gate(hub)
                 slow, quick = Worker(shop, "slow", ["3"], gate), Worker(shop, "quick", ["3"], hub)
-                await shop.append(by_redis.rows("3"), "widths", [(f"1-{number}", "100") for number in range(2)])
+                await shop.append(keys.rows("3"), "widths", [(f"1-{number}", "100") for number in range(2)])
                 sleeping = asyncio.create_task(slow._answer("3", "0-0"))
                 await asyncio.sleep(0.5)
-                await shop.append(by_redis.rows("3"), "widths", [(f"1-{number}", EAN13) for number in range(2, 4)])
-                await quick._answer("3", await shop.last(by_redis.answers("3")))
+                await shop.append(keys.rows("3"), "widths", [(f"1-{number}", EAN13) for number in range(2, 4)])
+                await quick._answer("3", await shop.last(keys.answers("3")))
                 gate.open.set()
                 await slow._answer("3", await sleeping)
             await shop.close()
@@ -231,8 +231,8 @@ def test_lanes_move_to_another_node():
         ended, moved = threading.Event(), []
 
         def move(lane):
-            slot = ask(cluster.ports[0], "CLUSTER", "KEYSLOT", by_redis.rows(lane))
-            old = cluster.holder(by_redis.rows(lane))
+            slot = ask(cluster.ports[0], "CLUSTER", "KEYSLOT", keys.rows(lane))
+            old = cluster.holder(keys.rows(lane))
             new = cluster.ports[(cluster.ports.index(old) + 1) % 3]
             ask(new, "CLUSTER", "SETSLOT", slot, "IMPORTING", names[old])
             ask(old, "CLUSTER", "SETSLOT", slot, "MIGRATING", names[new])
@@ -297,7 +297,8 @@ def test_rows_are_lost_while_nobody_asks():
         async def test():
             shop, got = Shop(cluster.address), []
             till = Till(shop, "3")
-            await shop.append(by_redis.answers("3"), "answer", [("1-0", READ)])
+            till.series = 1
+            await shop.append(keys.answers("3"), "answer", [("1-0", READ, keys.mark(EAN13))])
             async for number, answer in till.read_all([EAN13] * 20):
                 got.append((number, answer))
                 if number == 0:
@@ -325,7 +326,8 @@ def test_two_tills_on_a_lane():
             assert await one.read(EAN13) == READ
             with pytest.raises(LookupError, match="lane 3: another has submitted 1-0 or a row above"):
                 await two.read("100")
-            assert await Till(shop, "3").read("100") == "refused 19 Blank"
+            third = Till(shop, "3")
+            assert await third.read("100") == "refused 19 Blank" and third.series > 1
             with pytest.raises(LookupError, match="lane 3: another has submitted 1-1 or a row above"):
                 await one.read(EAN13)
             await shop.close()
@@ -336,9 +338,12 @@ def test_two_tills_on_a_lane():
 def test_the_page(tmp_path):
     """The commands of docs/LIVE.md print what it shows."""
     (tmp_path / "examples").symlink_to(ROOT / "examples")
+    (tmp_path / "noriladle").write_text(f'#!/bin/sh\nexec {sys.executable} -m noriladle "$@"\n')
+    (tmp_path / "noriladle").chmod(0o755)
     with open(ROOT / "docs" / "LIVE.md") as page:
         words = [sys.executable, ROOT / "tests" / "using" / "follow.py", "docs/LIVE.md"]
-        subprocess.run(words, stdin=page, cwd=tmp_path, check=True)
+        path = f"{tmp_path}{os.pathsep}{os.environ['PATH']}"
+        subprocess.run(words, stdin=page, cwd=tmp_path, check=True, env={**os.environ, "PATH": path})
 
 
 def test_a_row_alone():

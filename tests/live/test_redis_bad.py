@@ -1,23 +1,21 @@
-"""Bad input and full stores: what Redis, the workers and the tills of by_redis.py do."""
+"""Bad input and full stores: what Redis, `noriladle worker` and tills do."""
 import asyncio
 import os
-import re
 import socket
 import subprocess
-import sys
 import threading
 import time
 
 import pytest
-from redis.exceptions import NoPermissionError, RedisError
 
-from chain import LANES, SCRIPT, Shop, Till, Worker, Workers, by_redis, check, read_lane, read_lanes, rows_of, streams
+from chain import LANES, NORILADLE, Shop, Till, Worker, Workers, keys, check, read_lane, read_lanes, rows_of, streams
 from cluster import Cluster, ask
 from noriladle.live import Hub
-from shop import EAN13, READ, ROOT, noise
+from noriladle.streams import Fault
+from shop import EAN13, READ, noise
 
 LIMIT = 600
-ROWS = by_redis.rows("3")
+ROWS = keys.rows("3")
 NO_ROWS = {
     "": "18 BadRuns", "3,100": "39 Csv", "no row": "18 BadRuns", "5 3": "18 BadRuns", "70000": "17 TooWide",
     "1\n2": "18 BadRuns", "\u20ac": "18 BadRuns", "1 " * 40_000: "44 InputSize", "1 " * 5_000_000: "44 InputSize",
@@ -46,7 +44,7 @@ def test_what_is_no_row_has_one_answer_too():
 def test_no_answer_waits_for_a_later_row():
     """The command gets each row after the answer to the one before, and a blank line; the last has no line end."""
     with Cluster(nodes=1) as cluster, Workers(cluster.address, 1):
-        words = [sys.executable, SCRIPT, "till", cluster.address, "3"]
+        words = [*NORILADLE, "till", "--redis", cluster.address, "3"]
         with subprocess.Popen(words, stdin=subprocess.PIPE, stdout=subprocess.PIPE, text=True) as till:
             for number in range(20):
                 till.stdin.write(f"{EAN13}\r\n\n")
@@ -62,8 +60,8 @@ def test_a_foreign_row_is_told():
             shop = Shop(cluster.address)
             till = Till(shop, "3")
             assert await till.read(EAN13) == READ
-            await (await shop.node(ROWS)).xadd(ROWS, {"widths": "100"})
-            with pytest.raises(LookupError, match="lane 3: another has submitted 1-1 or a row above"):
+            await (await shop.node(ROWS)).ask("XADD", ROWS, "*", "widths", "100")
+            with pytest.raises(LookupError, match=f"lane 3: another has submitted {till.series}-1 or a row above"):
                 await till.read(EAN13)
             # The next till takes a series above.
             assert await Till(shop, "3").read(EAN13) == READ
@@ -76,9 +74,11 @@ def test_a_foreign_answer_is_told():
     with Cluster() as cluster:
         async def test():
             shop = Shop(cluster.address)
-            await shop.append(by_redis.answers("3"), "answer", [("7-0", READ)])
+            await shop.append(keys.answers("3"), "answer", [("7-0", READ)])
+            till = Till(shop, "3")
+            till.series = 6
             with pytest.raises(LookupError, match="lane 3: an answer to 7-0, which is not the next row"):
-                await Till(shop, "3").read(EAN13)
+                await till.read(EAN13)
             await shop.close()
 
         asyncio.run(test())
@@ -89,7 +89,7 @@ def test_all_or_none():
     with Cluster(nodes=1) as cluster:
         async def test():
             shop = Shop(cluster.address)
-            with pytest.raises((RedisError, OSError)):
+            with pytest.raises((Fault, OSError)):
                 await shop.append(ROWS, "widths", [("1-0", "100"), ("1-1", "1 " * 1_000_000), ("1-2", "100")])
             assert await shop.last(ROWS) == "0-0"
             assert await shop.append(ROWS, "widths", [("1-0", "100"), ("1-1", "100")]) == 0
@@ -102,16 +102,18 @@ def test_all_or_none():
 
 @pytest.mark.limit(40)
 def test_users_write_what_is_theirs():
-    """By the access control lists of docs/LIVE.md, for a till of lane 3 and for the workers."""
-    page = (ROOT / "docs" / "LIVE.md").read_text().replace("LANE", "3")
-    users = [line.split() for line in re.findall(r"^ACL SETUSER .*$", page, re.MULTILINE)]
-    assert [words[2] for words in users] == ["till.3", "worker"]
+    """By the lists of rights of `noriladle worker --acl`, for a till of lane 3 and for the workers; nobody else does anything."""
+    told = subprocess.run([*NORILADLE, "worker", "--acl", "3"], capture_output=True, text=True, check=True).stdout
+    lists = [line.split() for line in told.splitlines()]
+    users = {words[2]: words[4][1:] for words in lists if words[3] == "on"}
+    assert list(users) == ["worker", "till.3"] and lists[-1] == ["ACL", "SETUSER", "default", "off"]
     with Cluster() as cluster:
         for port in cluster.ports:
-            assert [ask(port, *words) for words in users] == ["OK", "OK"]
+            assert [ask(port, *words) for words in lists] == ["OK", "OK", "OK"]
+            assert ask(port, "PING") == "NOAUTH Authentication required."
 
         async def test():
-            till, worker = (Shop(cluster.address, words[2], words[4][1:]) for words in users)
+            worker, till = (Shop(cluster.address, *of) for of in users.items())
             async with Hub(1, 1, 2026) as hub:
                 one = Worker(worker, "one", ["3"], hub)
                 running = asyncio.create_task(one.run())
@@ -120,18 +122,22 @@ def test_users_write_what_is_theirs():
                 one.stop()
                 await running
             forbidden = [
-                till.append(by_redis.answers("3"), "answer", [("9-0", READ)]),
-                till.append(by_redis.rows("4"), "widths", [("9-0", EAN13)]),
-                till.read(by_redis.answers("4"), "0-0"),
+                till.append(keys.answers("3"), "answer", [("9-0", READ)]),
+                till.append(keys.rows("4"), "widths", [("9-0", EAN13)]),
+                till.read(keys.answers("4"), "0-0"),
                 Till(till, "4", series=1).read(EAN13),
-                worker.append(by_redis.rows("3"), "widths", [("9-0", EAN13)]),
-                Shop(cluster.address, "till.3", "wrong").last(by_redis.rows("3")),
+                worker.append(keys.rows("3"), "widths", [("9-0", EAN13)]),
+                Shop(cluster.address, "till.3", "wrong").last(keys.rows("3")),
             ]
             for call in forbidden[:-1]:
-                with pytest.raises(NoPermissionError):
+                with pytest.raises(Fault, match="^NOPERM"):
                     await call
-            with pytest.raises(RedisError):
+            with pytest.raises(Fault, match="^WRONGPASS"):
                 await forbidden[-1]
+            # Also what a worker does with entries that are too long to be read whole, and at its end.
+            assert await worker.read_cut(keys.rows("3"), "0-0")
+            node = await till.node(keys.rows("3"))
+            assert await node.ask("EVAL_RO", keys._LAST, 1, keys.rows("3")) == await till.last(keys.rows("3"))
             await till.close()
             await worker.close()
 
@@ -210,10 +216,13 @@ def test_what_has_no_answer_stays():
             async def answer_half():
                 while await shop.last(ROWS) != "1-599":
                     await asyncio.sleep(0.05)
-                await shop.append(by_redis.answers("3"), "answer", [(f"1-{number}", READ) for number in range(300)])
+                of = keys.mark(EAN13)
+                await shop.append(keys.answers("3"), "answer", [(f"1-{number}", READ, of) for number in range(300)])
 
             answering = asyncio.create_task(answer_half())
-            async for number, _ in Till(shop, "3", keep=0).read_all([EAN13] * 600):
+            till = Till(shop, "3", keep=0)
+            till.series = 1
+            async for number, _ in till.read_all([EAN13] * 600):
                 if number == 299:
                     break
             await answering

@@ -1,0 +1,62 @@
+"""Submit rows to Redis, and print their answers
+
+A row, or a text of a scanner, a line of standard input; a line of output is its number, from 0, and its answer. A lane
+has one till. The password of Redis is that of the environment's REDIS_PASSWORD.
+
+  $ noriladle till --redis 10.0.0.5:6379 north.0 < rows
+"""
+from __future__ import annotations
+
+import argparse
+import asyncio
+import os
+from typing import Iterator, List
+
+from .. import _service
+from .._redis import Fault
+from .._service import Log
+from ..streams import NoAnswer, Till
+from . import REFUSED, RIGHT, tell
+from .worker import add_redis, shop_of
+
+
+def add_arguments(parser: argparse.ArgumentParser) -> None:
+    """Adds the arguments of ``noriladle till``."""
+    parser.add_argument("lane", metavar="LANE", help="Lane of the till, a word such as north.3")
+    add_redis(parser)
+    parser.add_argument("--keep", type=_service.count(0, 10**9), metavar="N",
+                        help="About so many rows that were read stay in the streams; all")
+    parser.add_argument("--patience", type=_service.seconds, metavar="SECONDS",
+                        help="End with status 1 if no answer has come for so long; without it the till waits")
+
+
+def run(words: argparse.Namespace) -> int:
+    """Submits each line, and prints its answer."""
+    _service.keep_buffers()
+    try:
+        return asyncio.run(_run(words))
+    except (LookupError, NoAnswer, Fault) as fault:
+        tell(f"noriladle till: {fault}")
+        return REFUSED
+
+
+async def _run(words: argparse.Namespace) -> int:
+    """In turns, so that no answer waits for a later row: the rows that are there are submitted and answered."""
+    shop = shop_of(words, Log())
+    till = Till(shop, words.lane, keep=words.keep, patience=words.patience, note=Log().fault)
+    for lines in turns():
+        async for number, answer in till.read_all(line for line in lines if line):
+            print(number, answer, flush=True)
+    await shop.close()
+    return RIGHT
+
+
+def turns() -> Iterator[List[str]]:
+    """The lines of the standard input, as many as are there at each read; the last may have no end."""
+    rest = b""
+    while True:
+        some = os.read(0, 65_536)
+        *lines, rest = (rest + some).split(b"\n") if some else (rest, b"")
+        yield [line.decode("utf-8", "replace").rstrip("\r") for line in lines]
+        if not some:
+            return
