@@ -19,6 +19,7 @@ from __future__ import annotations
 import ctypes
 import datetime
 import enum
+import operator
 import re
 from dataclasses import dataclass
 from functools import lru_cache
@@ -248,7 +249,8 @@ def _bytes(text: Union[str, bytes]) -> bytes:
 
 
 def _u16(number: int) -> int:
-    """The number, or 0 in place of one that no answer allows."""
+    """The number, or 0 in place of one that no answer allows; what is no whole number is a TypeError."""
+    number = operator.index(number)
     return number if 0 <= number <= _MOST else 0
 
 

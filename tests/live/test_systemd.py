@@ -1,0 +1,188 @@
+"""The services under a real systemd, in a container of a clean Debian: started, reloaded, stopped, killed, and as their units confine them.
+
+Needs root, debootstrap and systemd-container; it is skipped where a container cannot be had, and the reason is told. The Debian is made
+once and kept in the folder that CONTAINER names in the environment, or made anew.
+"""
+import os
+import shutil
+import socket
+import subprocess
+import time
+from pathlib import Path
+
+import pytest
+
+from counter import ROW
+from shop import PROGRAM, READ, ROOT
+
+LIMIT = 500
+NEEDED = "systemd,systemd-sysv,dbus,python3,udev,procps,python3-hiredis"
+
+
+def install(root):
+    """Puts in what the packages have, by package/build's own list."""
+    modules = root / "usr/lib/python3/dist-packages/noriladle"
+    shutil.rmtree(modules, ignore_errors=True)
+    shutil.copytree(ROOT / "python/noriladle", modules, ignore=shutil.ignore_patterns("__pycache__"))
+    for file, into in [(ROOT / "package/noriladle", "usr/bin/noriladle"), (shutil.which(PROGRAM), "usr/bin/gs1_hub"),
+                       (ROOT / "package/noriladle.sysusers", "usr/lib/sysusers.d/noriladle.conf"),
+                       (ROOT / "package/70-noriladle-scanner.rules", "usr/lib/udev/rules.d/70-noriladle-scanner.rules"),
+                       *((unit, f"usr/lib/systemd/system/{unit.name}") for unit in (ROOT / "package/systemd").iterdir()),
+                       *((file, f"etc/noriladle/{file.name}") for file in (ROOT / "package/etc").iterdir() if file.name != "scanner.toml")]:
+        (root / into).parent.mkdir(parents=True, exist_ok=True)
+        shutil.copy(file, root / into)
+    for name in ("noriladle", "gs1_hub"):
+        (root / "usr/bin" / name).chmod(0o755)
+
+
+class Container:
+    """A Debian that systemd has started."""
+
+    def __init__(self, root):
+        self.root = root
+        words = ["systemd-nspawn", "--quiet", f"--directory={root}", "--boot", "--register=no", "--keep-unit", "--console=pipe"]
+        self.said = open(root.parent / "console", "wb+")
+        self.process = subprocess.Popen(words, stdin=subprocess.DEVNULL, stdout=self.said, stderr=self.said,
+                                        env={**os.environ, "SYSTEMD_NSPAWN_UNIFIED_HIERARCHY": "0"})
+        self.leader = None
+
+    def wait(self):
+        """Until it is up; the reason, if it does not come up."""
+        until = time.monotonic() + 60
+        while time.monotonic() < until and self.process.poll() is None:
+            children = Path(f"/proc/{self.process.pid}/task/{self.process.pid}/children").read_text().split()
+            if children:
+                self.leader = children[0]
+                state = self.run("systemctl", "is-system-running").stdout.strip()
+                if state in ("running", "degraded"):
+                    return ""
+            time.sleep(0.3)
+        self.said.seek(0)
+        return self.said.read().decode("utf-8", "replace")[-300:] or "it does not come up"
+
+    def run(self, *words, **more):
+        return subprocess.run(["nsenter", "-t", self.leader, "-a", "env", "-i", "PATH=/usr/sbin:/usr/bin:/sbin:/bin", *map(str, words)],
+                              capture_output=True, text=True, timeout=60, **more)
+
+    def shown(self, unit, name):
+        return self.run("systemctl", "show", "-P", name, unit).stdout.strip()
+
+    def end(self):
+        if self.leader:
+            self.run("systemctl", "poweroff")
+        try:
+            self.process.wait(30)
+        except subprocess.TimeoutExpired:
+            self.process.kill()
+            self.process.wait()
+        self.said.close()
+
+
+@pytest.fixture(scope="module")
+def container(tmp_path_factory):
+    if os.geteuid() or not shutil.which("systemd-nspawn") or not shutil.which("debootstrap"):
+        pytest.skip("a container needs root, debootstrap and systemd-container")
+    root = Path(os.environ.get("CONTAINER") or tmp_path_factory.mktemp("container") / "root")
+    if not (root / "usr/lib/systemd/systemd").exists():
+        ran = subprocess.run(["debootstrap", "--variant=minbase", f"--include={NEEDED}", "bookworm", root], capture_output=True, text=True)
+        if ran.returncode:
+            pytest.skip(f"debootstrap: {ran.stdout.splitlines()[-1:]}")
+    install(root)
+    it = Container(root)
+    why = it.wait()
+    if why:
+        it.end()
+        pytest.skip(f"no container: {why}")
+    assert it.run("systemd-sysusers", "noriladle.conf").returncode == 0
+    it.run("systemctl", "daemon-reload")
+    yield it
+    it.end()
+
+
+ASK = "import socket,sys; it=socket.socket(socket.AF_UNIX); it.connect('/run/noriladle/hub'); it.sendall(sys.argv[1].encode()+b'\\n'); " \
+      "print(it.makefile().readline(), end='')"
+
+
+def ask(container):
+    """What the gateway answers to a row."""
+    ran = container.run("python3", "-c", ASK, ROW.decode().strip())
+    return ran.stdout or ran.stderr
+
+
+def test_the_gateway(container):
+    """It is ready when systemctl returns; it is told to load its options, killed and started again, and stopped."""
+    unit = "noriladle-gateway"
+    ran = container.run("systemctl", "start", unit)
+    assert ran.returncode == 0, container.run("journalctl", "-u", unit, "--no-pager").stdout[-2000:]
+    assert ask(container) == f"0 {READ}\n"
+    assert container.shown(unit, "ActiveState") == "active" and container.shown(unit, "NRestarts") == "0"
+    assert container.run("stat", "-c", "%a %G", "/run/noriladle/hub").stdout == "660 noriladle\n"
+    pid = container.shown(unit, "MainPID")
+    assert container.run("systemctl", "reload", unit).returncode == 0
+    assert container.shown(unit, "MainPID") == pid and ask(container) == f"0 {READ}\n"
+    health = "import urllib.request as it; print(it.urlopen('http://127.0.0.1:4712/readyz').read().decode(), end='')"
+    assert container.run("python3", "-c", health).stdout == "ready\n"
+    # A second one on the same socket refuses.
+    second = container.run("noriladle", "gateway", "--unix", "/run/noriladle/hub")
+    assert second.returncode == 2 and "another gateway has /run/noriladle/hub" in second.stderr
+    # It runs as a user of its own, and may write nowhere.
+    assert container.run("ps", "-o", "user=", "-p", pid).stdout.strip() not in ("root", "")
+    container.run("kill", "-9", pid)
+    until = time.monotonic() + 20
+    while ask(container) != f"0 {READ}\n":
+        assert time.monotonic() < until
+        time.sleep(0.2)
+    assert container.shown(unit, "NRestarts") == "1"
+    # Its hub alone is stopped: the watchdog ends both.
+    hub = container.run("pgrep", "gs1_hub").stdout.split()[0]
+    container.run("kill", "-STOP", hub)
+    until = time.monotonic() + 60
+    while container.shown(unit, "NRestarts") != "2" or ask(container) != f"0 {READ}\n":
+        assert time.monotonic() < until
+        time.sleep(0.5)
+    begin = time.monotonic()
+    assert container.run("systemctl", "stop", unit).returncode == 0 and time.monotonic() - begin < 8
+    assert container.shown(unit, "Result") == "success" and not container.run("pgrep", "gs1_hub").stdout
+
+
+def test_a_wrong_file_of_options(container):
+    """The start fails, and the journal has the line."""
+    file = container.root / "etc/noriladle/gateway.toml"
+    before = file.read_text()
+    file.write_text(before + "lanez = 3\n")
+    assert container.run("systemctl", "start", "noriladle-gateway").returncode != 0
+    said = container.run("journalctl", "-u", "noriladle-gateway", "-o", "cat", "--no-pager").stdout
+    assert f"gateway.toml:{before.count(chr(10)) + 1}: there is no option 'lanez' (did you mean lanes?)" in said
+    container.run("systemctl", "stop", "noriladle-gateway")
+    container.run("systemctl", "reset-failed", "noriladle-gateway")
+    file.write_text(before)
+
+
+def test_a_scanner_without_its_file_is_left_alone(container):
+    assert container.run("systemctl", "start", "--no-block", "noriladle-scanner@dev-null").returncode == 0
+    time.sleep(1)
+    assert container.shown("noriladle-scanner@dev-null", "ActiveState") == "inactive"
+
+
+def test_a_worker(container):
+    """It has its rights and its node from the files of options, and leaves when it is told to stop."""
+    if not shutil.which("redis-server"):
+        pytest.skip("there is no redis-server")
+    with socket.socket() as free:
+        free.bind(("127.0.0.1", 0))
+        port = free.getsockname()[1]
+    folder = container.root.parent
+    with subprocess.Popen(["redis-server", "--port", str(port), "--save", "", "--dir", str(folder), "--requirepass", "open"],
+                          stdout=subprocess.DEVNULL) as node:
+        try:
+            # The container has the network of the machine.
+            (container.root / "etc/noriladle/worker.toml").write_text(f'redis = ["127.0.0.1:{port}"]\nlane = ["north.0"]\n')
+            (container.root / "etc/noriladle/worker.secret").write_text("REDIS_PASSWORD=open\n")
+            assert container.run("systemctl", "start", "noriladle-worker@1").returncode == 0
+            words = ["env", "REDIS_PASSWORD=open", "noriladle", "till", "--redis", f"127.0.0.1:{port}", "north.0", "--patience", "20"]
+            assert container.run(*words, input=ROW.decode()).stdout == f"0 {READ}\n"
+            begin = time.monotonic()
+            assert container.run("systemctl", "stop", "noriladle-worker@1").returncode == 0 and time.monotonic() - begin < 10
+            assert container.shown("noriladle-worker@1", "Result") == "success"
+        finally:
+            node.terminate()
