@@ -15,7 +15,7 @@ import pytest
 from counter import ROW
 from shop import PROGRAM, READ, ROOT
 
-LIMIT = 500
+LIMIT = 900
 NEEDED = "systemd,systemd-sysv,dbus,python3,udev,procps,python3-hiredis"
 
 
