@@ -8,8 +8,8 @@ from typing import Callable, Deque, List, NamedTuple, Optional
 
 from ._scans import SECONDS
 
-_BETWEEN = 0.1
-"""After so many seconds a gateway that is not there is looked for again."""
+_BETWEEN, _REFUSED = 0.1, 1.0
+"""After so many seconds a gateway that is not there is looked for again, and one that has refused the scanner."""
 
 Said = Callable[[int, str], None]
 """Takes the number of a scan, and its answer or why it has none."""
@@ -37,7 +37,7 @@ class Link:
         self._kept: Deque[_Scan] = deque()
         self._sent: Deque[_Scan] = deque()
         self._out = self._in = b""
-        self._again = 0.0
+        self._again, self._between = 0.0, _BETWEEN
         self._why = ""
 
     @property
@@ -126,7 +126,7 @@ class Link:
             self._tell(f"{self._path}: {fault.strerror}")
             return
         found.setblocking(False)
-        self.socket, self._in, self._out = found, b"", b""
+        self.socket, self._in, self._out, self._between = found, b"", b"", _BETWEEN
         self._write(f"scan {self._lane}\n".encode())
 
     def _tell(self, why: str) -> None:
@@ -137,6 +137,7 @@ class Link:
 
     def _answered(self, line: str) -> None:
         if line.startswith("closed: "):
+            self._between = _REFUSED
             self._tell(line[len("closed: "):])
             return
         word, _, said = line.partition(" ")
@@ -177,7 +178,7 @@ class Link:
         """The connection has ended: what was sent and has no answer is not sent again."""
         self.close()
         self._is_open = False
-        self._again = time.monotonic() + _BETWEEN
+        self._again = time.monotonic() + self._between
         self._give_up(why)
         self._tell(why)
 
