@@ -1,0 +1,2 @@
+pub mod RunFacts
+pub mod SaidFacts

@@ -1,0 +1,5 @@
+pub mod Pictures
+pub mod Places
+pub mod Rows
+pub mod Saids
+pub mod Told

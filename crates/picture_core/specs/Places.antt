@@ -1,0 +1,19 @@
+-- Places of a picture, whose y goes down.
+use Rattle.std.specs.Prelude.{ℕ, ◌+◌, ◌*◌, ◌/◌, ◌≤◌}
+use Rattle.picture_core.specs.declared.place.Place.{Place}
+use Rattle.picture_core.specs.declared.place.Corners.{Corners}
+
+-- going from a to b, p is on the right or straight ahead: the triangle of the three has no negative area
+abbrev pub IsRightOf : Place → Place → Place → Type 0
+IsRightOf a b p = a.y * b.x + b.y * p.x + p.y * a.x ≤ a.x * b.y + b.x * p.y + p.x * a.y
+
+-- the place is on the symbol with these corners: on the right of each side, going round clockwise
+pub record IsOn (c : Corners) (p : Place) : Type 0 where
+  pub top : IsRightOf c.upper_left c.upper_right p
+  pub right : IsRightOf c.upper_right c.lower_right p
+  pub bottom : IsRightOf c.lower_right c.lower_left p
+  pub left : IsRightOf c.lower_left c.upper_left p
+
+-- half way between two opposite corners
+abbrev pub middle : Corners → Place
+middle c = record { x = (c.upper_left.x + c.lower_right.x) / 2; y = (c.upper_left.y + c.lower_right.y) / 2 }

@@ -1,0 +1,41 @@
+//! The symbols that a picture shows, read from its grey values in integers, in memory that the caller lends.
+#![tactic(auto)]
+
+mod area;
+mod bands;
+mod bounds;
+mod edges;
+mod frame;
+mod grid;
+mod layout;
+mod level;
+mod line;
+mod look;
+mod order;
+mod own_row;
+mod patch;
+mod picture;
+mod place;
+mod read;
+mod reader;
+mod room;
+mod runs;
+mod said;
+mod shape;
+mod sharp;
+mod shown;
+mod straight;
+mod stripes;
+mod symbol;
+mod tally;
+mod telling;
+mod windows;
+
+pub use own_row::{OwnRow, OwnRows};
+pub use picture::Picture;
+pub use place::{Corners, Place};
+pub use read::{Reading, read_picture};
+pub use room::{Room, words_for};
+pub use said::{Refused, Said};
+pub use shown::{MOST, Shown};
+pub use symbol::Symbol;

@@ -1,0 +1,217 @@
+//! Looks at the patches of stripes of a picture.
+ghost use Rattle.std.specs.Prelude.{◌≡◌, length};
+
+use crate::area::{Area, Size};
+use crate::bounds::put_bounds;
+use crate::edges::{Ends, put_edges};
+use crate::grid::Grid;
+use crate::patch::{across, along, grid_over};
+use crate::reader::Reader;
+use crate::room::RowRoom;
+use crate::said::Furthest;
+use crate::sharp::{Blur, LARGE, SMALL, sharpen};
+use crate::shown::Shown;
+use crate::stripes::Blocks;
+use crate::symbol::Symbol;
+use crate::tally::{Seen, Tally};
+use crate::windows::{Row, read_windows};
+
+/// How a patch is looked at: how many lines a dot apart are taken in the mean, how many such rows at most, whether they go along the
+/// middles of the stripes, which blur is taken out, how far around the darkest and the lightest is looked for, and whether the bars
+/// are light and what is between them dark.
+#[derive(Clone, Copy)]
+pub(crate) struct Look {
+    pub(crate) lines: u32,
+    pub(crate) rows: u32,
+    pub(crate) is_aslant: bool,
+    pub(crate) blur: Option<Blur>,
+    pub(crate) around: usize,
+    pub(crate) is_inverted: bool,
+}
+
+/// The looks, each where those before found nothing.
+pub(crate) const LOOKS: [Look; 5] = [
+    Look {
+        lines: 1,
+        rows: 120,
+        is_aslant: false,
+        blur: None,
+        around: 4,
+        is_inverted: false,
+    },
+    Look {
+        lines: 3,
+        rows: 60,
+        is_aslant: true,
+        blur: None,
+        around: 4,
+        is_inverted: false,
+    },
+    Look {
+        lines: 9,
+        rows: 40,
+        is_aslant: true,
+        blur: Some(SMALL),
+        around: 12,
+        is_inverted: false,
+    },
+    Look {
+        lines: 3,
+        rows: 40,
+        is_aslant: true,
+        blur: None,
+        around: 4,
+        is_inverted: true,
+    },
+    Look {
+        lines: 9,
+        rows: 24,
+        is_aslant: true,
+        blur: Some(LARGE),
+        around: 12,
+        is_inverted: false,
+    },
+];
+
+/// The lightest value of a row, in 1/256 grey value.
+const WHITE: u32 = 65_280;
+
+/// Divides the sums of so many lines, and makes dark what is light where the look is so.
+fn make_means(sums: &mut [u32], look: &Look) {
+    for sum in sums.iter_mut() {
+        let mean = sum.checked_div(look.lines).unwrap_or(0);
+        *sum = if look.is_inverted {
+            WHITE.saturating_sub(mean)
+        } else {
+            mean
+        };
+    }
+}
+
+/// Puts the ends of the runs of a row of so many dots; how many.
+fn put_ends(
+    sums: &mut [u32],
+    look: &Look,
+    clear: &mut [u32],
+    blurred: &mut [u32],
+    low: &mut [u32],
+    high: &mut [u32],
+    ends: &mut [u32],
+) -> usize
+    requires clear { length clear.old ≡ length sums.old }
+    requires blurred { length blurred.old ≡ length sums.old }
+    requires low { length low.old ≡ length sums.old }
+    requires high { length high.old ≡ length sums.old }
+{
+    make_means(sums, look);
+    put_bounds(sums, look.around, low, high);
+    let mut made = Ends::none(ends);
+    match &look.blur {
+        Some(blur) => {
+            sharpen(sums, low, high, blur, clear, blurred);
+            put_edges(clear, low, high, &mut made);
+        }
+        None => put_edges(sums, low, high, &mut made),
+    }
+    made.count()
+}
+
+/// Notes what a row of a grid says; how many dots it took.
+fn read_row(
+    reader: &Reader,
+    grid: &Grid,
+    row: u32,
+    look: &Look,
+    room: &mut RowRoom,
+    tally: &mut Tally,
+    furthest: &mut Furthest,
+) -> usize {
+    let v = grid.v_of(row);
+    let (from, dots) = grid.add_lines(reader.picture, v, look.lines, room.sums);
+    if dots == 0
+        || dots > room.sums.len()
+        || dots > room.clear.len()
+        || dots > room.blurred.len()
+        || dots > room.low.len()
+        || dots > room.high.len()
+    {
+        return 0;
+    }
+    let count = put_ends(
+        &mut room.sums[..dots],
+        look,
+        &mut room.clear[..dots],
+        &mut room.blurred[..dots],
+        &mut room.low[..dots],
+        &mut room.high[..dots],
+        room.ends,
+    );
+    if count <= room.ends.len() {
+        let row = Row {
+            ends: &room.ends[..count],
+            u: from >> 8,
+            v,
+            step: grid.step,
+        };
+        read_windows(&row, reader.year, tally, furthest);
+    }
+    dots.saturating_mul(look.lines as usize)
+}
+
+/// The symbol that was seen.
+fn placed(seen: &mut Seen, grid: &Grid, size: Size) -> Option<Symbol> {
+    let said = seen.said.take()?;
+    let area = Area {
+        frame: grid.frame,
+        left: seen.left,
+        right: seen.right,
+        top: seen.first.saturating_sub(grid.step / 2) >> 8,
+        bottom: seen.last.saturating_add(grid.step / 2) >> 8,
+    };
+    Some(Symbol {
+        said,
+        rows: seen.rows,
+        corners: area.corners(size),
+        own_rows: None,
+        area,
+    })
+}
+
+/// Reads a patch, and adds what it shows to what is found; how many dots were taken.
+pub(crate) fn read_patch(
+    reader: &Reader,
+    blocks: &Blocks,
+    patch: &[u32],
+    look: &Look,
+    room: &mut RowRoom,
+    shown: &mut Shown,
+    furthest: &mut Furthest,
+) -> usize {
+    let stripes = across(blocks, patch);
+    let frame = if look.is_aslant {
+        along(blocks, patch, stripes)
+    } else {
+        stripes
+    };
+    let grid = grid_over(blocks, patch, frame, look.rows);
+    let mut tally = Tally::new();
+    let mut taken = 0usize;
+    for row in 0..grid.count {
+        taken = taken.saturating_add(read_row(
+            reader, &grid, row, look, room, &mut tally, furthest,
+        ));
+    }
+    let size = Size::of(reader.picture);
+    let sure = tally.sure(grid.step);
+    for (seen, is_sure) in tally.all_mut().iter_mut().zip(sure.iter()) {
+        if *is_sure {
+            if let Some(symbol) = placed(seen, &grid, size) {
+                shown.join(symbol, size);
+            }
+        }
+    }
+    if tally.is_short() {
+        shown.drop_more(1);
+    }
+    taken
+}

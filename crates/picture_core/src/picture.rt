@@ -1,0 +1,118 @@
+//! Grey dots.
+ghost use Rattle.std.specs.Prelude.{true, false, IfNone, OnSome, ◌≡◌, ◌+◌, ◌-◌, ◌*◌, ◌<◌, ◌≤◌, ℕ, IfSome, length};
+
+/// The grey values of a picture, row by row: 0 is black.
+#[derive(Clone, Copy)]
+pub struct Picture<'a> {
+    grey: &'a [u8],
+    width: usize,
+    height: usize,
+    /// How far a row begins behind the one above it.
+    stride: usize,
+    ghost rows_within: { (y : ℕ) → y < height → y * stride + width ≤ length grey.now },
+    ghost narrow: { width ≤ 65535 },
+    ghost low: { height ≤ 65535 },
+}
+
+/// Whether rows of so many dots, each so far behind the one above, stand in so many values.
+fn are_within(values: usize, width: usize, height: usize, stride: usize) -> bool
+    ensures within { result ≡ true → (y : ℕ) → y < height → y * stride + width ≤ values }
+    ensures beyond { result ≡ false → (0 < height) × (values < (height - 1) * stride + width) }
+{
+    let Some(above) = height.checked_sub(1) else {
+        return true;
+    };
+    match above.checked_mul(stride) {
+        Some(last) => last <= values && width <= values - last,
+        None => false,
+    }
+}
+
+impl<'a> Picture<'a> {
+    ghost use Rattle.picture_core.specs.Pictures.{IsPicture, IsPictureOf};
+    ghost use Rattle.picture_core.specs.Rows.{greys_of_row};
+
+    /// A picture of at most 65,535 dots a side, whose rows begin so far one behind the other, at least as far as they are wide, and
+    /// whose values are all there.
+    pub fn new(grey: &'a [u8], width: usize, height: usize, stride: usize) -> Option<Picture<'a>>
+        ensures picture { IfSome result (λ picture. IsPictureOf picture grey.now width height stride) }
+        ensures some { OnSome result (IsPicture (length grey.now) width height stride) }
+        ensures none { IfNone result (IsPicture (length grey.now) width height stride → ⊥) }
+    {
+        if width > 65535 || height > 65535 || stride < width {
+            return None;
+        }
+        if !are_within(grey.len(), width, height, stride) {
+            return None;
+        }
+        Some(Picture {
+            grey,
+            width,
+            height,
+            stride,
+        })
+    }
+
+    /// How many dots a row has.
+    pub fn width(&self) -> usize
+        ensures value { result ≡ self.now.width }
+        ensures narrow { result ≤ 65535 }
+    {
+        self.width
+    }
+
+    /// How many rows there are.
+    pub fn height(&self) -> usize
+        ensures value { result ≡ self.now.height }
+        ensures low { result ≤ 65535 }
+    {
+        self.height
+    }
+
+    /// A row, from the top.
+    pub fn row(&self, y: usize) -> &'a [u8]
+        requires { y < self.now.height }
+        ensures values { result.now ≡ greys_of_row self.now y }
+        ensures long { length result.now ≡ self.now.width }
+    {
+        let first = y * self.stride;
+        &self.grey[first..first + self.width]
+    }
+
+    /// The grey value at a place, in 1/65536 dot from the middle of the first one: from those of the four dots around it, in
+    /// 1/256; none where these are not all in the picture.
+    pub(crate) fn between(&self, x: u32, y: u32) -> Option<u32>
+        ensures { IfSome result (λ value. value ≤ 65280) }
+    {
+        let column = (x >> 16) as usize;
+        let row = (y >> 16) as usize;
+        if column + 1 >= self.width || row + 1 >= self.height {
+            return None;
+        }
+        let above = self.row(row);
+        let below = self.row(row + 1);
+        let right = x / 256 % 256;
+        let upper = mixed(
+            u32::from(above[column]),
+            u32::from(above[column + 1]),
+            right,
+        );
+        let lower = mixed(
+            u32::from(below[column]),
+            u32::from(below[column + 1]),
+            right,
+        );
+        Some(mixed(upper, lower, y / 256 % 256) / 256)
+    }
+}
+
+/// 256 times the value that is so many 256ths of the way from one to another.
+fn mixed(one: u32, other: u32, part: u32) -> u32
+    requires part { part < 256 }
+    requires one { one ≤ 65280 }
+    requires other { other ≤ 65280 }
+    ensures wide { result ≤ 256 * 65280 }
+    ensures narrow { one ≤ 255 → other ≤ 255 → result ≤ 65280 }
+{
+    one * (256 - part) + other * part
+}

@@ -1,0 +1,83 @@
+//! Places of a picture.
+ghost use Rattle.std.specs.Prelude.{◌≡◌, ◌+◌, ◌*◌, ◌/◌, ◌^◌, ◌<◌, ◌↔◌, IsTrue};
+
+/// The parts of a dot that places are told in.
+pub(crate) const UNIT: u32 = 256;
+
+/// The most dots of a side.
+const MOST_DOTS: u32 = 65_536;
+
+/// A place of a picture, in 1/256 dot from its left and from its top.
+#[derive(Clone, Copy)]
+pub struct Place {
+    pub x: u32,
+    pub y: u32,
+}
+
+/// The corners of a symbol, clockwise. Its upper left one is the one that is above left where its bars stand upright.
+#[derive(Clone, Copy)]
+pub struct Corners {
+    pub upper_left: Place,
+    pub upper_right: Place,
+    pub lower_right: Place,
+    pub lower_left: Place,
+}
+
+/// The product of two numbers of places.
+fn area(one: u32, other: u32) -> u128
+    ensures product { result ≡ one * other }
+    ensures small { result < 2 ^ 64 }
+{
+    u128::from(one) * u128::from(other)
+}
+
+/// Half way between two numbers.
+fn half_way(one: u32, other: u32) -> u32
+    ensures { result ≡ (one + other) / 2 }
+{
+    ((u64::from(one) + u64::from(other)) / 2) as u32
+}
+
+impl Place {
+    ghost use Rattle.picture_core.specs.Places.{IsRightOf};
+
+    /// The upper left corner of a dot.
+    pub(crate) fn of_dots(column: u32, row: u32) -> Place {
+        Place {
+            x: column.min(MOST_DOTS) * UNIT,
+            y: row.min(MOST_DOTS) * UNIT,
+        }
+    }
+
+    /// Whether this place is on the right or straight ahead, going from one place to another.
+    fn is_right_of(self, from: Place, to: Place) -> bool
+        ensures { IsTrue result ↔ IsRightOf from to self }
+    {
+        area(from.y, to.x) + area(to.y, self.x) + area(self.y, from.x)
+            <= area(from.x, to.y) + area(to.x, self.y) + area(self.x, from.y)
+    }
+}
+
+impl Corners {
+    ghost use Rattle.picture_core.specs.Places.{IsOn, middle};
+
+    /// Whether a place is on the symbol.
+    pub fn hold(&self, place: Place) -> bool
+        ensures { IsTrue result ↔ IsOn self.now place }
+    {
+        place.is_right_of(self.upper_left, self.upper_right)
+            && place.is_right_of(self.upper_right, self.lower_right)
+            && place.is_right_of(self.lower_right, self.lower_left)
+            && place.is_right_of(self.lower_left, self.upper_left)
+    }
+
+    /// Half way between two opposite corners.
+    pub fn middle(&self) -> Place
+        ensures { result ≡ middle self.now }
+    {
+        Place {
+            x: half_way(self.upper_left.x, self.lower_right.x),
+            y: half_way(self.upper_left.y, self.lower_right.y),
+        }
+    }
+}

@@ -1,0 +1,145 @@
+//! Reads pictures.
+ghost use Rattle.std.specs.Prelude.{◌≡◌, ◌≤◌, IfSome};
+ghost use Rattle.picture_core.specs.Saids.{IsRefusal};
+ghost use Rattle.picture_core.specs.Told.{IsReadingOf};
+
+use crate::bands::read_own_rows;
+use crate::level::level_of;
+use crate::look::{LOOKS, read_patch};
+use crate::order::put_in_order;
+use crate::patch::take_patch;
+use crate::picture::Picture;
+use crate::reader::Reader;
+use crate::room::{Room, RowRoom};
+use crate::said::{Furthest, Refused};
+use crate::shown::{MOST, Shown};
+use crate::stripes::Blocks;
+use crate::symbol::Symbol;
+use crate::telling::keep_told;
+use arrayvec::ArrayVec;
+use element_core::Year;
+
+/// The fewest blocks of a patch.
+const FEWEST_BLOCKS: usize = 6;
+
+/// How many dots looks take before no more look begins, beside as many as the picture has.
+const MOST_TAKEN: usize = 3_000_000;
+
+/// Leaves the blocks that are outside of what is found.
+fn leave_unknown(blocks: &mut Blocks, shown: &Shown) {
+    for number in 0..blocks.len() {
+        let spot = blocks.centre(number);
+        let mut is_known = false;
+        for symbol in shown.symbols.as_slice() {
+            if let Some(symbol) = symbol {
+                is_known |= symbol.area.is_near(spot);
+            }
+        }
+        if is_known {
+            blocks.clear(number);
+        }
+    }
+}
+
+/// Adds what the stripes of a picture show, outside of what is found.
+fn read_stripes(
+    reader: &Reader,
+    row: &mut RowRoom,
+    queue: &mut [u32],
+    blocks: &mut Blocks,
+    shown: &mut Shown,
+    furthest: &mut Furthest,
+) {
+    let picture = reader.picture;
+    let enough = picture.width() * picture.height() + MOST_TAKEN;
+    let mut taken = 0usize;
+    let mut number = 0u32;
+    for look in &LOOKS {
+        number = number.saturating_add(1);
+        leave_unknown(blocks, shown);
+        for first in 0..blocks.len() {
+            if taken >= enough || !blocks.is_left(first, number) {
+                continue;
+            }
+            let count = take_patch(blocks, first, number, queue);
+            if count >= FEWEST_BLOCKS && count <= queue.len() {
+                let patch = &queue[..count];
+                taken = taken.saturating_add(read_patch(
+                    reader, &*blocks, patch, look, row, shown, furthest,
+                ));
+            }
+        }
+    }
+}
+
+/// How a picture is read.
+#[derive(Clone, Copy)]
+pub struct Reading {
+    /// The year by which dates are read.
+    pub year: Year,
+    /// The grey value below which dots are dark. If there is none, the picture says it, and stripes are looked at that its own rows do
+    /// not read.
+    pub level: Option<u8>,
+}
+
+/// The level that is given, or else that of the picture.
+fn level_in(picture: &Picture, level: Option<u8>) -> u8
+    ensures { IfSome level (λ given. result ≡ given) }
+{
+    match level {
+        Some(level) => level,
+        None => level_of(picture),
+    }
+}
+
+/// If there is no symbol, why.
+fn refused_of(
+    symbols: &ArrayVec<Option<Symbol>, MOST>,
+    furthest: &Furthest,
+    year: Year,
+) -> Option<Refused>
+    ensures { IfSome result (λ refused. IsRefusal year refused.fault) }
+{
+    if symbols.is_empty() {
+        return furthest.refused_in(year);
+    }
+    None
+}
+
+/// Every symbol that a picture shows.
+pub fn read_picture(picture: &Picture, reading: Reading, room: &mut Room) -> Shown
+    requires { picture.now.width ≤ room.old.width }
+    ensures { IsReadingOf picture.now reading.level reading.year result }
+{
+    let level = level_in(picture, reading.level);
+    let reader = Reader {
+        picture: &*picture,
+        level,
+        year: reading.year,
+    };
+    let mut shown = Shown::none(level);
+    let mut furthest = Furthest::none();
+    read_own_rows(&reader, room.widths, &mut shown, &mut furthest);
+    if reading.level.is_none() {
+        let mut blocks = Blocks::of_picture(picture, room.cos, room.sin, room.taken);
+        read_stripes(
+            &reader,
+            &mut room.row,
+            room.queue,
+            &mut blocks,
+            &mut shown,
+            &mut furthest,
+        );
+    }
+    put_in_order(shown.symbols.as_mut_slice());
+    keep_told(
+        picture,
+        level,
+        reading.year,
+        &mut shown.symbols,
+        room.widths,
+    );
+    shown.level = level;
+    shown.refused = refused_of(&shown.symbols, &furthest, reading.year);
+    shown
+}

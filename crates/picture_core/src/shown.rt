@@ -1,0 +1,87 @@
+//! What a picture shows.
+ghost use Rattle.std.specs.Prelude.{◌≡◌, ◌<◌, ◌+◌, ◌++◌, ◌∷◌, [], Some};
+ghost use Rattle.arrayvec.specs.ArrayVec.{array_vec_len};
+
+use crate::area::Size;
+use crate::said::Refused;
+use crate::symbol::Symbol;
+use arrayvec::ArrayVec;
+
+/// The most symbols of a picture that are told.
+pub const MOST: usize = 192;
+
+/// What a picture shows.
+#[derive(Drop)]
+pub struct Shown {
+    /// The grey value below which the dots of the picture's own rows are dark.
+    pub level: u8,
+    /// Its symbols in the order of reading. Each place of the list has one.
+    pub symbols: ArrayVec<Option<Symbol>, MOST>,
+    /// How many more there was no room for, at least.
+    pub dropped: u32,
+    /// If there is no symbol, why: of the rows that were looked at the refusal that came furthest.
+    pub refused: Option<Refused>,
+}
+
+/// The place of a symbol that is the same or a part of it.
+fn place_of(all: &[Option<Symbol>], symbol: &Symbol) -> Option<usize> {
+    for (place, other) in all.iter().enumerate() {
+        if let Some(other) = other {
+            if symbol.is_also(other) {
+                return Some(place);
+            }
+        }
+    }
+    None
+}
+
+impl Shown {
+    pub(crate) fn none(level: u8) -> Shown {
+        Shown {
+            level,
+            symbols: ArrayVec::new(),
+            dropped: 0,
+            refused: None,
+        }
+    }
+
+    /// Counts symbols for which there was no room.
+    pub(crate) fn drop_more(&mut self, count: u32)
+        ensures { self.old.dropped + count < 4294967296 → self.new.dropped ≡ self.old.dropped + count }
+    {
+        self.dropped = self.dropped.saturating_add(count);
+    }
+
+    /// Adds a symbol, or counts it where there is no room for it.
+    pub(crate) fn push(&mut self, symbol: Symbol)
+        ensures room { array_vec_len self.old.symbols < 192 → self.new.symbols.items ≡ self.old.symbols.items ++ Some symbol ∷ [] }
+        ensures counted { self.old.dropped < 4294967295 → array_vec_len self.old.symbols ≡ 192 → self.new.dropped ≡ self.old.dropped + 1 }
+    {
+        if self.symbols.try_push(Some(symbol)).is_err() {
+            self.drop_more(1);
+        }
+    }
+
+    /// Adds a symbol, where it may be one of those that are found; where one of them says something else it stands.
+    pub(crate) fn join(&mut self, mut symbol: Symbol, size: Size) {
+        for other in self.symbols.as_slice() {
+            if let Some(other) = other {
+                if symbol.is_against(other) {
+                    return;
+                }
+            }
+        }
+        for _ in 0..MOST {
+            let Some(same) = place_of(self.symbols.as_slice(), &symbol) else {
+                break;
+            };
+            if same < self.symbols.len() {
+                if let Some(other) = self.symbols.remove(same) {
+                    symbol.take_in(&other);
+                }
+            }
+        }
+        symbol.corners = symbol.area.corners(size);
+        self.push(symbol);
+    }
+}

@@ -1,0 +1,38 @@
+//! Symbols that a picture shows, and where they stand.
+use crate::area::Area;
+use crate::own_row::OwnRows;
+use crate::place::Corners;
+use crate::said::Said;
+
+/// A symbol of a picture.
+#[derive(Drop)]
+pub struct Symbol {
+    /// Its carrier and its elements.
+    pub said: Said,
+    /// How many rows say so.
+    pub rows: u32,
+    /// Where it stands.
+    pub corners: Corners,
+    /// Two of the picture's own rows that show it, if it was found in these and nowhere else.
+    pub own_rows: Option<OwnRows>,
+    pub(crate) area: Area,
+}
+
+impl Symbol {
+    /// Whether the other is the same symbol, or a part of it.
+    pub(crate) fn is_also(&self, other: &Symbol) -> bool {
+        self.said.says_as(&other.said) && self.area.meets(&other.area)
+    }
+
+    /// Whether the other says something else of the same place.
+    pub(crate) fn is_against(&self, other: &Symbol) -> bool {
+        self.area.is_at(&other.area) && !self.said.says_as(&other.said)
+    }
+
+    /// Makes it as high as both are.
+    pub(crate) fn take_in(&mut self, other: &Symbol) {
+        self.area.take_in(&other.area);
+        self.rows = self.rows.saturating_add(other.rows);
+        self.own_rows = None;
+    }
+}

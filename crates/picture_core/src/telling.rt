@@ -1,0 +1,232 @@
+//! What is told: each symbol is looked up in the picture once more, and is told if all holds that is promised of it.
+ghost use Rattle.std.specs.Prelude.{◌≡◌, ◌⊎◌, IfSome, ◌<◌, ◌+◌, ◌*◌, ◌≤◌, ℕ, All, AllPairs, IsTrue, Option, Some, length, slice_index_or};
+ghost use Rattle.scan_core.specs.Row.{IsRow};
+ghost use Rattle.picture_core.specs.declared.symbol.Symbol.{Symbol};
+ghost use Rattle.picture_core.specs.Rows.{IsWindowAt, RowShows};
+ghost use Rattle.picture_core.specs.Told.{AreApart, AreApartIn, AreOwnRows, IsBoxOf, IsSymbolIn, IsSomeSymbolIn};
+
+use crate::own_row::{OwnRow, OwnRows};
+use crate::picture::Picture;
+use crate::place::Corners;
+use crate::runs::{dots_in, put_runs};
+use crate::said::{Furthest, Said};
+use crate::shown::MOST;
+use crate::symbol::Symbol;
+use arrayvec::ArrayVec;
+use element_core::Year;
+
+/// Whether a window of a row's runs is read as a symbol, and its bars begin and end at these dots.
+fn is_window_at(runs: &[u16], year: Year, said: &Said, at: OwnRow) -> bool
+    requires row { IsRow runs.now }
+    requires few { length runs.now ≤ 65537 }
+    ensures { IsTrue result → IsWindowAt runs.now year said.now.carrier said.now.elements at }
+{
+    let first = at.first as usize;
+    let count = at.count as usize;
+    if first % 2 != 0 || count % 2 != 1 || runs.len() < first + count {
+        return false;
+    }
+    let mut furthest = Furthest::none();
+    let Some(again) = Said::of_widths(&runs[first..first + count], year, &mut furthest) else {
+        return false;
+    };
+    if !again.says_as(said) {
+        return false;
+    }
+    let left = dots_in(&runs[..first + 1]);
+    let right = dots_in(&runs[..first + count - 1]);
+    if left != at.left || right != at.right {
+        return false;
+    }
+    true
+}
+
+/// Whether a row of the picture shows a symbol where it is said to.
+fn row_shows(
+    picture: &Picture,
+    level: u8,
+    year: Year,
+    said: &Said,
+    at: OwnRow,
+    widths: &mut [u16],
+) -> bool
+    requires { picture.now.width + 2 ≤ length widths.old }
+    ensures { IsTrue result → RowShows picture.now level year said.now.carrier said.now.elements at }
+{
+    let y = at.y as usize;
+    if y >= picture.height() {
+        return false;
+    }
+    let count = put_runs(picture.row(y), level, widths);
+    is_window_at(&widths[..count], year, said, at)
+}
+
+/// 256 times a number of dots.
+fn in_places(dots: u32) -> u64
+    ensures { result ≡ 256 * dots }
+{
+    256 * u64::from(dots)
+}
+
+/// Whether the corners are those of an upright box that the bars of a row stand in.
+fn is_box_of(corners: Corners, at: OwnRow) -> bool
+    ensures { IsTrue result → IsBoxOf corners at }
+{
+    let is_upright = corners.upper_right.y == corners.upper_left.y
+        && corners.lower_right.y == corners.lower_left.y
+        && corners.lower_left.x == corners.upper_left.x
+        && corners.lower_right.x == corners.upper_right.x;
+    is_upright
+        && u64::from(corners.upper_left.x) <= in_places(at.left)
+        && in_places(at.right) <= u64::from(corners.upper_right.x)
+        && u64::from(corners.upper_left.y) <= in_places(at.y)
+        && in_places(at.y) + 256 <= u64::from(corners.lower_left.y)
+}
+
+/// Whether a row comes before another, or there is one alone.
+fn are_enough(first: u32, last: u32, height: usize) -> bool
+    ensures { IsTrue result → (first < last) ⊎ (height ≡ 1) }
+{
+    first < last || height == 1
+}
+
+/// Whether so many rows say what a symbol says: two, or the only one.
+fn is_enough(rows: u32, height: usize) -> bool
+    ensures { IsTrue result → (2 ≤ rows) ⊎ (height ≡ 1) }
+{
+    2 <= rows || height == 1
+}
+
+/// Whether two rows of the picture show a symbol, or the one that it has.
+fn are_own_rows(
+    picture: &Picture,
+    level: u8,
+    year: Year,
+    symbol: &Symbol,
+    rows: OwnRows,
+    widths: &mut [u16],
+) -> bool
+    requires { picture.now.width + 2 ≤ length widths.old }
+    ensures { IsTrue result → AreOwnRows picture.now level year symbol.now rows }
+{
+    if !are_enough(rows.first.y, rows.last.y, picture.height()) {
+        return false;
+    }
+    if !is_box_of(symbol.corners, rows.first) || !is_box_of(symbol.corners, rows.last) {
+        return false;
+    }
+    if !row_shows(picture, level, year, &symbol.said, rows.first, widths) {
+        return false;
+    }
+    if !row_shows(picture, level, year, &symbol.said, rows.last, widths) {
+        return false;
+    }
+    true
+}
+
+/// Whether the rows of the picture that a symbol names, if it names any, show it.
+fn own_rows_show(
+    picture: &Picture,
+    level: u8,
+    year: Year,
+    symbol: &Symbol,
+    widths: &mut [u16],
+) -> bool
+    requires { picture.now.width + 2 ≤ length widths.old }
+    ensures { IsTrue result → IfSome symbol.now.own_rows (AreOwnRows picture.now level year symbol.now) }
+{
+    match symbol.own_rows {
+        Some(rows) => are_own_rows(picture, level, year, symbol, rows, widths),
+        None => true,
+    }
+}
+
+/// Whether all holds that is promised of a symbol.
+fn is_told(picture: &Picture, level: u8, year: Year, symbol: &Symbol, widths: &mut [u16]) -> bool
+    requires { picture.now.width + 2 ≤ length widths.old }
+    ensures { IsTrue result → IsSymbolIn picture.now level year symbol.now }
+{
+    if symbol.said.elements.year() != year {
+        return false;
+    }
+    if !is_enough(symbol.rows, picture.height()) {
+        return false;
+    }
+    if !symbol.corners.hold(symbol.corners.middle()) {
+        return false;
+    }
+    if !own_rows_show(picture, level, year, symbol, widths) {
+        return false;
+    }
+    true
+}
+
+/// Whether neither of two symbols has the middle of the other on it.
+fn are_apart(one: &Symbol, other: &Symbol) -> bool
+    ensures { IsTrue result → AreApart one.now other.now }
+{
+    !one.corners.hold(other.corners.middle()) && !other.corners.hold(one.corners.middle())
+}
+
+/// Whether a symbol stands apart from each of the first so many.
+fn is_apart(symbols: &[Option<Symbol>], count: usize, symbol: &Symbol) -> bool
+    requires { count ≤ length symbols.now }
+    ensures { IsTrue result → (k : ℕ) (d : Option Symbol) → k < count → AreApartIn (slice_index_or symbols.now k d) (Some symbol.now) }
+{
+    'symbols: for place in 0..count {
+        if let Some(other) = &symbols[place] {
+            if !are_apart(other, symbol) {
+                return false;
+            }
+        }
+    }
+    true
+}
+
+/// Whether the symbol behind the first so many may be told after them.
+fn may_be_told(
+    picture: &Picture,
+    level: u8,
+    year: Year,
+    symbols: &[Option<Symbol>],
+    count: usize,
+    widths: &mut [u16],
+) -> bool
+    requires room { picture.now.width + 2 ≤ length widths.old }
+    requires within { count < length symbols.now }
+    ensures told { IsTrue result → (d : Option Symbol) → IsSomeSymbolIn picture.now level year (slice_index_or symbols.now count d) }
+    ensures apart { IsTrue result → (k : ℕ) (d : Option Symbol) → k < count
+        → AreApartIn (slice_index_or symbols.now k d) (slice_index_or symbols.now count d) }
+{
+    match &symbols[count] {
+        Some(symbol) => {
+            is_told(picture, level, year, symbol, widths) && is_apart(symbols, count, symbol)
+        }
+        None => false,
+    }
+}
+
+/// Keeps the symbols that may be told, each after those before it.
+pub(crate) fn keep_told(
+    picture: &Picture,
+    level: u8,
+    year: Year,
+    symbols: &mut ArrayVec<Option<Symbol>, MOST>,
+    widths: &mut [u16],
+)
+    requires { picture.now.width + 2 ≤ length widths.old }
+    ensures told { All (IsSomeSymbolIn picture.now level year) symbols.new.items }
+    ensures apart { AllPairs AreApartIn symbols.new.items }
+{
+    let mut count = 0;
+    'symbols: for _ in 0..MOST {
+        if count < symbols.len() {
+            if may_be_told(picture, level, year, symbols.as_slice(), count, widths) {
+                count += 1;
+            } else {
+                symbols.remove(count);
+            }
+        }
+    }
+    symbols.truncate(count);
+}
