@@ -94,14 +94,17 @@ def is_answered_once(lane, till):
     """Whether a till was told of each scan once and in order, or that it was lost; how many were."""
     sold = [int(found[1]) for line in till.lines for found in [re.fullmatch(r"sold: \d+ \]C1 \(21\)(\d+)\n", line)] if found]
     lost = [found[1] for line in till.lines for found in [re.fullmatch(r"again, please: (\d+|some) scans were lost\n", line)] if found]
-    unread = sum(bool(re.fullmatch(r"again, please: \d+ unread: .*\n", line)) for line in till.lines)
+    # Half a text may be told as unread before its scanner is pulled out, on a machine that is slow.
+    halves = [line for line in till.lines if " unread: no CR, LF, Tab or Enter came behind the text" in line]
+    unread = [line for line in till.lines if re.fullmatch(r"again, please: \d+ unread: .*\n", line) and line not in halves]
+    assert len(halves) <= lane.plugged
     others = [line for line in till.lines if not re.match(r"sold: |again, please: |closed: the gateway stops", line)]
     assert not others, others[:3]
     assert all(one < two for one, two in zip(sold, sold[1:])), "an answer came twice, or out of order"
     assert set(sold) <= set(range(lane.sent))
     missing = lane.sent - len(sold)
     if "some" not in lost:
-        assert sum(map(int, lost)) + unread == missing, (lost, unread, missing)
+        assert sum(map(int, lost)) + len(unread) == missing, (lost, unread, missing)
     return missing
 
 
