@@ -3,6 +3,7 @@
 import os
 import subprocess
 import time
+import unittest
 
 import program
 from program import CommandTest
@@ -26,6 +27,7 @@ def ticks(process):
 
 
 class ReadersTest(CommandTest):
+    @unittest.skipIf(program.EMULATED, "an emulator has threads of its own")
     def test_workers_read_the_rows(self):
         given = f"0,11 {SYMBOL} 7\n".encode() * ROWS
         for workers in [1, 3]:
