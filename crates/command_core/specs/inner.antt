@@ -2,6 +2,7 @@
 pub mod Buffers
 pub mod Came
 pub mod Finish
+pub mod Lines
 pub mod Lived
 pub mod Meaning
 pub mod Replies

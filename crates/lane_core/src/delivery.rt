@@ -5,29 +5,24 @@ ghost use Rattle.scan_core.specs.Answers.{IsAnswer};
 use crate::job::{Job, Plain};
 use crate::ticket::Ticket;
 use element_core::Year;
-use scan_core::{Answer, Found, Runs, find_symbol};
+use scan_core::{Answer, Runs, read_row};
 use std::marker::Model;
 
-/// A row under its ticket, with what was found in it, which is all that its answer is made of.
+/// A row under its ticket that was read, and keeps what was found in it.
 #[derive(Debug, Drop)]
 pub struct Delivery {
     job: Job,
-    found: Found,
 }
 
 // Its size in bytes is paid at the queue of results, at its lane's place and at the ring.
-const _: () = prove!(size_of::<Delivery>() == 160);
+const _: () = prove!(size_of::<Delivery>() == 24);
 
 impl Model for Delivery {
     ghost use Rattle.lane_core.specs.declared.job.Plain.{Plain};
 
     ghost Value = { Plain };
 
-    ghost use Rattle.scan_core.specs.Reading.{IsFound};
-
     ghost view = { λ delivery. delivery.job };
-
-    ghost invariant = { λ delivery. IsFound delivery.job.widths delivery.found };
 }
 
 impl Delivery {
@@ -58,7 +53,7 @@ impl Delivery {
     pub fn answer(&self) -> Answer
         ensures { IsAnswer self.now.widths self.now.year result }
     {
-        self.found.answer(self.year())
+        read_row(&self.job.row, self.job.year)
     }
 }
 
@@ -66,6 +61,7 @@ impl Delivery {
 pub fn decode(job: Job) -> Delivery
     ensures { result ≡ job }
 {
-    let found = find_symbol(&job.row);
-    Delivery { job, found }
+    let mut job = job;
+    job.row.read();
+    Delivery { job }
 }

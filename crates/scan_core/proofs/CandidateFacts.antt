@@ -55,6 +55,14 @@ most_modules UpcE n N a = let e = a.1 in omega arith
 most_modules Itf14 n N a = let e = a.1 in omega arith
 most_modules Gs1128 n N a = let m = a.2 in let e = a.4 in omega arith
 
+-- no candidate has fewer than five modules
+pub least_modules : (c : Carrier) (n N : ℕ) → HasSize (kind_of c) n N → 5 ≤ N
+least_modules Ean13 n N a = let e = a.1 in omega arith
+least_modules Ean8 n N a = let e = a.1 in omega arith
+least_modules UpcE n N a = let e = a.1 in omega arith
+least_modules Itf14 n N a = let e = a.1 in omega arith
+least_modules Gs1128 n N a = let e = a.4 in omega arith
+
 -- a row with a candidate has runs of dark dots, and of dots at all
 pub candidate_dark : (runs : List ℕ) (c : Carrier) (N : ℕ) → IsRow runs → HasSize (kind_of c) (length (inner runs)) N → Contains (dots_of runs) true
 candidate_dark runs c N row h =

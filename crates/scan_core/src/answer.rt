@@ -116,13 +116,6 @@ pub(crate) fn found_in(widths: &[u16]) -> Found
     }
 }
 
-/// The symbol that the row shows, or why it is refused: what `read_row` finds before it makes the elements.
-pub fn find_symbol(runs: &Runs) -> Found
-    ensures { IsFound runs.now result }
-{
-    found_in(runs.widths())
-}
-
 /// What the row of these widths says.
 pub(crate) fn answer_in(widths: &[u16], year: Year) -> Answer
     requires { IsRow widths.now }
@@ -139,7 +132,10 @@ pub(crate) fn answer_in(widths: &[u16], year: Year) -> Answer
 pub fn read_row(runs: &Runs, year: Year) -> Answer
     ensures { IsAnswer runs.now year result }
 {
-    answer_in(runs.widths(), year)
+    match runs.found() {
+        Some(found) => found.answer(year),
+        None => answer_in(runs.widths(), year),
+    }
 }
 
 /// What the row of these widths in dots says, as `read_row` does, or why they are no row. No memory is

@@ -20,7 +20,7 @@ mod symbol;
 mod symbols;
 mod window;
 
-pub use answer::{Answer, find_symbol, read_row, read_widths};
+pub use answer::{Answer, read_row, read_widths};
 pub use carrier::Carrier;
 pub use dot_symbols::DotSymbols;
 pub use dots::read_dots;

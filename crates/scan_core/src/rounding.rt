@@ -1,6 +1,7 @@
 //! Widths in dots rounded to modules.
 ghost use Rattle.std.specs.Prelude.{◌≡◌, ◌+◌, ◌*◌, ◌<◌, ◌≤◌, ◌↔◌, ◌^◌, ◌%◌, IfNone, IfSome, IsTrue, ℕ, List, false, length, sum, true};
 ghost use Rattle.std.specs.List.{AllZip};
+ghost use Rattle.scan_core.specs.inner.Limits.{AreLimits, IsLeast, IsPast};
 ghost use Rattle.scan_core.specs.Row.{inner};
 ghost use Rattle.scan_core.specs.Showing.{IsQuiet, IsRun, Rounds};
 
@@ -31,40 +32,91 @@ pub(crate) fn is_quiet(widths: &[u16], total: u32, count: u16) -> bool
     least <= left && least <= right
 }
 
-/// 1 where `thirds` comes up to the threshold, and else 0.
-fn reaches(thirds: u32, threshold: u32) -> u8
-    ensures reached { threshold ≤ thirds → result ≡ 1 }
-    ensures below { thirds < threshold → result ≡ 0 }
-    ensures most { result ≤ 1 }
-{
-    u8::from(threshold <= thirds)
-}
-
-/// The number of modules, 1 to 4, that `thirds` is nearest to, where three times `total` is one module.
-fn nearest(thirds: u32, total: u32) -> u8
-    requires narrow { total ≤ 65535 }
-    ensures least { 1 ≤ result }
-    ensures most { result ≤ 4 }
-    ensures reached { 1 < result → 3 * (result * total) ≤ thirds + total }
-    ensures passed { result < 4 → thirds < 3 * (result * total) + 2 * total }
-{
-    1 + reaches(thirds, 5 * total) + reaches(thirds, 8 * total) + reaches(thirds, 11 * total)
-}
-
-/// The number of modules that a run of `width` dots is nearest to, where `total` dots are `count` modules,
-/// and whether it is so many.
+/// The widths in dots at which the number of modules of a run changes.
 ///
-/// In 32 bits, of factors of 16: `count` is at most 1,091, the modules of the longest symbol.
-fn modules_of(width: u16, total: u16, count: u16) -> (u8, bool)
+/// From the first four on a run is near to 1, 2, 3 and 4 modules or above, and from the others on past these.
+#[derive(Clone, Copy)]
+struct Limits {
+    one: u16,
+    two: u16,
+    three: u16,
+    four: u16,
+    past_one: u16,
+    past_two: u16,
+    past_three: u16,
+    past_four: u16,
+}
+
+/// The least width in dots that is so many thirds of a module, where `total` dots are `count` modules.
+fn least_width(thirds: u32, total: u32, count: u32) -> u16
+    requires thirds { thirds ≤ 13 }
+    requires narrow { total ≤ 65535 }
     requires short { count ≤ 1091 }
-    ensures found { result.1 ≡ true → IsRun count total width result.0 }
-    ensures none { result.1 ≡ false → (m : ℕ) → IsRun count total width m → ⊥ }
+    requires long { 5 ≤ count }
+    ensures { IsLeast count total thirds result }
+{
+    ((thirds * total + (3 * count - 1)) / (3 * count)) as u16
+}
+
+/// The least width in dots that is more than so many thirds of a module, where `total` dots are `count` modules.
+fn width_past(thirds: u32, total: u32, count: u32) -> u16
+    requires thirds { thirds ≤ 13 }
+    requires narrow { total ≤ 65535 }
+    requires short { count ≤ 1091 }
+    requires long { 5 ≤ count }
+    ensures { IsPast count total thirds result }
+{
+    (thirds * total / (3 * count) + 1) as u16
+}
+
+/// The limits where `total` dots are `count` modules: `count` is at most 1,091, the modules of the longest symbol.
+fn limits_of(total: u16, count: u16) -> Limits
+    requires short { count ≤ 1091 }
+    requires long { 5 ≤ count }
+    ensures { AreLimits count total result.one result.two result.three result.four
+        result.past_one result.past_two result.past_three result.past_four }
 {
     let total = u32::from(total);
-    let thirds = u32::from(width) * u32::from(3 * count);
-    let modules = nearest(thirds, total);
-    let is_near = thirds.abs_diff(u32::from(3 * modules) * total) <= total;
-    (modules, is_near)
+    let count = u32::from(count);
+    Limits {
+        one: least_width(2, total, count),
+        two: least_width(5, total, count),
+        three: least_width(8, total, count),
+        four: least_width(11, total, count),
+        past_one: width_past(4, total, count),
+        past_two: width_past(7, total, count),
+        past_three: width_past(10, total, count),
+        past_four: width_past(13, total, count),
+    }
+}
+
+/// 1 where the width comes up to the limit, and else 0.
+fn reaches(width: u16, limit: u16) -> u16
+    ensures reached { limit ≤ width → result ≡ 1 }
+    ensures below { width < limit → result ≡ 0 }
+    ensures most { result ≤ 1 }
+{
+    u16::from(limit <= width)
+}
+
+/// The number of modules that a run of `width` dots is nearest to, and whether it is so many.
+///
+/// It is where it comes up to as many limits above 1 module as it is past.
+fn modules_of(width: u16, limits: Limits) -> (u8, bool)
+    ensures found { (N W : ℕ) → 0 < W → AreLimits N W limits.one limits.two limits.three limits.four
+        limits.past_one limits.past_two limits.past_three limits.past_four → result.1 ≡ true → IsRun N W width result.0 }
+    ensures none { (N W : ℕ) → 0 < W → AreLimits N W limits.one limits.two limits.three limits.four
+        limits.past_one limits.past_two limits.past_three limits.past_four → result.1 ≡ false → (m : ℕ) → IsRun N W width m → ⊥ }
+{
+    let reached = reaches(width, limits.two)
+        + reaches(width, limits.three)
+        + reaches(width, limits.four);
+    let passed = reaches(width, limits.past_one)
+        + reaches(width, limits.past_two)
+        + reaches(width, limits.past_three)
+        + reaches(width, limits.past_four);
+    let is_near = (limits.one <= width) & (reached == passed);
+    (1 + reached as u8, is_near)
 }
 
 /// Puts the number of modules of each run into its place in `modules`, and answers whether each run has one.
@@ -73,13 +125,16 @@ fn modules_of(width: u16, total: u16, count: u16) -> (u8, bool)
 fn round_each(inner: &[u16], total: u16, count: u16, modules: &mut [u8]) -> bool
     requires places { length modules.old ≡ length inner.now }
     requires short { count ≤ 1091 }
+    requires long { 5 ≤ count }
+    requires dots { 0 < total }
     ensures places { length modules.new ≡ length inner.now }
     ensures found { result ≡ true → AllZip (IsRun count total) inner.now modules.new }
     ensures none { result ≡ false → (ms : List ℕ) → AllZip (IsRun count total) inner.now ms → ⊥ }
 {
+    let limits = limits_of(total, count);
     let mut each = true;
     'runs: for i in 0..inner.len() {
-        let (found, is_near) = modules_of(inner[i], total, count);
+        let (found, is_near) = modules_of(inner[i], limits);
         modules[i] = found;
         each &= is_near;
     }
@@ -92,6 +147,8 @@ pub(crate) fn round(inner: &[u16], total: u16, count: u16) -> Option<Modules>
     requires odd { length inner.now % 2 ≡ 1 }
     requires sum { total ≡ sum inner.now }
     requires short { count ≤ 1091 }
+    requires long { 5 ≤ count }
+    requires dots { 0 < total }
     ensures found { IfSome result (λ modules. Rounds inner.now count modules) }
     ensures none { IfNone result ((modules : List ℕ) → Rounds inner.now count modules → ⊥) }
 {

@@ -1,11 +1,14 @@
 //! Rows of dots.
-ghost use Rattle.std.specs.Prelude.{Err, None, Some, ◌≡◌, ◌≢◌, ◌<◌, ◌≤◌, ◌+◌, ◌*◌, ◌↔◌, IfErr, IfOk, IsErrOf, IsTrue, OnOk, length, nat_le, reverse, sum};
+ghost use Rattle.std.specs.Prelude.{Err, None, Some, ◌≡◌, ◌≢◌, ◌<◌, ◌≤◌, ◌+◌, ◌*◌, ◌↔◌, IfErr, IfOk, IfSome, IsErrOf, IsTrue, OnOk, length, nat_le, reverse, sum};
 ghost use Rattle.std.specs.List.{list_all};
 ghost use Rattle.scan_core.specs.Bits.{dots_at};
+ghost use Rattle.scan_core.specs.Reading.{IsFound};
 ghost use Rattle.scan_core.specs.Row.{IsRow, dots_of, inner, runs_fault};
 
+use crate::answer::found_in;
 use crate::cut::cut_into;
 use crate::fault::RunFault;
+use crate::found::Found;
 use std::alloc::Global;
 use std::marker::Model;
 
@@ -21,20 +24,30 @@ const MANY_RUNS: usize = 64;
 
 /// A row: the widths of its runs in dots, light and dark in turn, from the light end at its left to
 /// the one at its right. An end may be 0, each run between has a dot, and the row at most 65,535.
+///
+/// A row that was read keeps what was found in it, so that it is read once.
 #[derive(Debug, Drop)]
 pub struct Runs {
+    kept: Box<Kept>,
+}
+
+/// What a row keeps, in one place in memory, so that a row is moved as one address.
+#[derive(Debug, Drop)]
+struct Kept {
     widths: Vec<u16>,
+    found: Option<Found>,
 }
 
 impl Model for Runs {
     ghost use Rattle.std.specs.Prelude.{List, ℕ};
-    ghost use Rattle.scan_core.specs.Row.{IsRow};
 
     ghost Value = { List ℕ };
 
-    ghost view = { λ r. r.widths.items };
+    ghost use Rattle.scan_core.specs.inner.Kept.{IsKept};
 
-    ghost invariant = { λ r. IsRow r.widths.items };
+    ghost view = { λ r. r.kept.value.widths.items };
+
+    ghost invariant = { λ r. IsKept r.kept.value.widths.items r.kept.value.found };
 }
 
 /// The runs between the two light ends.
@@ -84,6 +97,24 @@ pub(crate) fn runs_fault(widths: &[u16]) -> Option<RunFault>
     None
 }
 
+/// The row of these widths, which is not read.
+fn boxed(alloc: Global, widths: Vec<u16>) -> Result<Runs, RunFault>
+    requires { IsRow widths.items }
+    ensures ok { IfOk result (λ r. r ≡ widths.items) }
+    ensures refused { IfErr result (λ f. f ≡ RunFault.NoMemory) }
+{
+    match Box::new(
+        alloc,
+        Kept {
+            widths,
+            found: None,
+        },
+    ) {
+        Ok(kept) => Ok(Runs { kept }),
+        Err(_) => Err(RunFault::NoMemory),
+    }
+}
+
 impl Runs {
     /// The row of these widths in dots, the first and the last light.
     ///
@@ -100,20 +131,20 @@ impl Runs {
         let Ok(widths) = widths.to_vec(alloc) else {
             return Err(RunFault::NoMemory);
         };
-        Ok(Runs { widths })
+        boxed(alloc, widths)
     }
 
-    /// The row that keeps these widths in dots, the first and the last light. It takes no memory.
+    /// The row that keeps these widths in dots, the first and the last light.
     ///
-    /// Of two faults the first is answered: `BadRuns`, then `TooWide`.
-    pub fn from_widths(widths: Vec<u16>) -> Result<Runs, RunFault>
+    /// Of several faults the first is answered: `BadRuns`, then `TooWide`, then `NoMemory`.
+    pub fn from_widths(alloc: Global, widths: Vec<u16>) -> Result<Runs, RunFault>
         ensures ok { IfOk result (λ r. r ≡ widths.items) }
         ensures taken { OnOk result (runs_fault widths.items ≡ None) }
-        ensures refused { IfErr result (λ f. runs_fault widths.items ≡ Some f) }
-        ensures memory { result ≢ Err RunFault.NoMemory }
+        ensures refused { IfErr result (λ f. f ≢ RunFault.NoMemory → runs_fault widths.items ≡ Some f) }
+        ensures late { IsErrOf result RunFault.NoMemory → runs_fault widths.items ≡ None }
     {
         match runs_fault(widths.as_slice()) {
-            None => Ok(Runs { widths }),
+            None => boxed(alloc, widths),
             Some(fault) => Err(fault),
         }
     }
@@ -139,7 +170,7 @@ impl Runs {
         if cut_into(bits, from, width, &mut widths).is_err() {
             return Err(RunFault::NoMemory);
         }
-        Ok(Runs { widths })
+        boxed(alloc, widths)
     }
 
     /// The widths in dots, the first and the last light.
@@ -147,13 +178,31 @@ impl Runs {
         ensures value { result.now ≡ self.now }
         ensures row { IsRow self.now }
     {
-        self.widths.as_slice()
+        self.kept.widths.as_slice()
     }
 
     /// Turns the row end for end.
     pub fn reverse(&mut self)
         ensures { self.new ≡ reverse self.old }
     {
-        self.widths.as_mut_slice().reverse();
+        let kept = &mut *self.kept;
+        kept.found = None;
+        kept.widths.as_mut_slice().reverse();
+    }
+
+    /// Reads the row, up to the symbol that it shows, and keeps what was found: `read_row` makes its answer of
+    /// that from then on.
+    pub fn read(&mut self)
+        ensures { self.new ≡ self.old }
+    {
+        let kept = &mut *self.kept;
+        kept.found = Some(found_in(kept.widths.as_slice()));
+    }
+
+    /// What was found in the row, where it was read.
+    pub(crate) fn found(&self) -> Option<&Found>
+        ensures { IfSome result (λ found. IsFound self.now found.now) }
+    {
+        self.kept.found.as_ref()
     }
 }

@@ -1,7 +1,9 @@
 -- What types, private contracts and proofs name beside `Rows`.
-use Rattle.std.specs.Prelude.{◌≡◌, ◌≢◌, ◌≤◌, ⊤, ℕ, Bool, false, true, List, [], length, map, string_bytes}
+use Rattle.std.specs.Prelude.{◌≡◌, ◌≢◌, ◌≤◌, ◌+◌, ◌++◌, ⊤, ℕ, Bool, false, true, List, [], length, map, string_bytes}
 use Rattle.lane_core.specs.declared.job.Plain.{Plain}
 use Rattle.command_core.specs.inner.Reports.{AreLinesOf}
+use Rattle.command_core.specs.live.Laws.{IsPlain, record_lines}
+use Rattle.command_core.specs.live.Text.{fields_in}
 use Rattle.record_core.specs.input.Reading.{HasRead}
 use Rattle.record_core.specs.input.Records.{AreItems, Fields, most_bytes, records_of, NamesFirst}
 use Rattle.record_core.specs.lanes.Feeds.{LaneRow, feeds_of, lanes_meaning}
@@ -17,18 +19,29 @@ abbrev pub is_ended : Course → Bool
 is_ended course.Ended = true
 is_ended _ = false
 
+-- the records of the lines of bytes
+abbrev pub rows_left : List ℕ → List Fields
+rows_left rest = map fields_in (record_lines rest)
+
 -- where the reading of the bytes stands after these records
-abbrev pub StandsAfter : Course → List ℕ → Records → List Fields → Type 0
-StandsAfter course.Open bytes r rows = HasRead bytes r rows
-StandsAfter course.Ended bytes r rows = rows ≡ records_of bytes
-StandsAfter course.Refused bytes r rows = ⊤
+abbrev pub StandsAfter : Course → List ℕ → Records → List ℕ → List Fields → Type 0
+StandsAfter course.Open bytes r rest rows = HasRead bytes r rows
+StandsAfter course.Plain bytes r rest rows = (records_of bytes ≡ rows ++ rows_left rest) × (length rows + length rest ≤ length bytes)
+StandsAfter course.Ended bytes r rest rows = rows ≡ records_of bytes
+StandsAfter course.Refused bytes r rest rows = ⊤
+
+-- the reading of the bytes may begin so
+abbrev pub StartsAs : List ℕ → Course → Type 0
+StartsAs bytes course.Open = ⊤
+StartsAs bytes course.Plain = IsPlain bytes
+StartsAs bytes _ = ⊥
 
 -- of the records, from the first on, these rows of each lane were given, and their deliveries brought
 pub record HasGiven (start s : Reading) (given : List (List (List ℕ))) (brought : List (List Plain)) : Type 0 where
   pub lanes : s.lanes ≡ start.lanes
   pub few : length start.bytes.now ≤ most_bytes
   pub rows : List Fields
-  pub stands : StandsAfter s.course start.bytes.now s.records rows
+  pub stands : StandsAfter s.course start.bytes.now s.records s.rest.now rows
   pub items : List LaneRow
   pub means : AreItems (lanes_meaning start.lanes) rows items
   pub fed : given ≡ feeds_of start.lanes items

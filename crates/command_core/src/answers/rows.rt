@@ -3,11 +3,12 @@ ghost use Rattle.std.specs.Prelude.{[], ◌≡◌, ◌≤◌, ◌∷◌, ◌↔�
 ghost use Rattle.std.specs.List.{concat};
 ghost use Rattle.hub_core.specs.Serving.{is_count};
 ghost use Rattle.command_core.specs.answers.Reports.{IsReport};
-ghost use Rattle.command_core.specs.inner.Rows.{RefusesBytes};
+ghost use Rattle.command_core.specs.inner.Rows.{RefusesBytes, StartsAs};
 ghost use Rattle.command_core.specs.answers.Rows.{RefusesRows};
 ghost use Rattle.record_core.specs.input.Records.{AreItems, Fields, Takes, records_of};
 ghost use Rattle.record_core.specs.lanes.Feeds.{LaneRow, feeds_of, lanes_meaning};
 
+use crate::answers::lines::{are_plain, next_line, read_line};
 use crate::answers::report::joined;
 use crate::answers::serving::{AnswerFault, fault_of, make_texts, push_answer_of};
 use digits_core::{Source, read_all};
@@ -34,6 +35,8 @@ pub enum RowsFault {
 enum Course {
     /// There may be more.
     Open,
+    /// There may be more, which are lines.
+    Plain,
     /// All were read.
     Ended,
     /// One was refused.
@@ -51,6 +54,8 @@ struct Reading<'a> {
     lanes: u8,
     bytes: &'a [u8],
     records: Records<'a>,
+    /// The bytes that are left of plain ones.
+    rest: &'a [u8],
     course: Course,
     texts: Vec<String>,
 }
@@ -68,19 +73,34 @@ impl<'a> Traffic for Reading<'a> {
 
     fn next(&mut self) -> Option<(u8, Runs)> {
         match self.course {
-            Course::Open => {}
-            Course::Ended | Course::Refused => return None,
-        }
-        match next_row(self.alloc, self.lanes, &mut self.records) {
-            Ok(Some(row)) => Some(row),
-            Ok(None) => {
-                self.course = Course::Ended;
-                None
-            }
-            Err(_) => {
-                self.course = Course::Refused;
-                None
-            }
+            Course::Open => match next_row(self.alloc, self.lanes, &mut self.records) {
+                Ok(Some(row)) => Some(row),
+                Ok(None) => {
+                    self.course = Course::Ended;
+                    None
+                }
+                Err(_) => {
+                    self.course = Course::Refused;
+                    None
+                }
+            },
+            Course::Plain => match next_line(self.rest) {
+                Some((line, rest)) => {
+                    self.rest = rest;
+                    match read_line(self.alloc, self.lanes, line) {
+                        Ok(row) => Some(row),
+                        Err(_) => {
+                            self.course = Course::Refused;
+                            None
+                        }
+                    }
+                }
+                None => {
+                    self.course = Course::Ended;
+                    None
+                }
+            },
+            Course::Ended | Course::Refused => None,
         }
     }
 
@@ -91,8 +111,19 @@ impl<'a> Traffic for Reading<'a> {
     fn wait(&mut self) -> Result<bool, Refused> {
         match self.course {
             Course::Ended => Ok(false),
-            Course::Open | Course::Refused => Err(Refused),
+            Course::Open | Course::Plain | Course::Refused => Err(Refused),
         }
+    }
+}
+
+/// How the reading of bytes begins.
+fn first_course(bytes: &[u8]) -> Course
+    ensures { StartsAs bytes.now result }
+{
+    if are_plain(bytes) {
+        Course::Plain
+    } else {
+        Course::Open
     }
 }
 
@@ -116,7 +147,8 @@ fn answer_each<R: Threads + Wait + Sync, G: Gate + Sync>(
         lanes,
         bytes,
         records: Records::new(alloc, bytes),
-        course: Course::Open,
+        rest: bytes,
+        course: first_course(bytes),
         texts: make_texts(alloc, lanes)?,
     };
     // A law, by which the clause follows: this call does nothing.

@@ -61,7 +61,7 @@ pub enum Record {
 }
 
 /// The fields of a line that has two.
-fn two_fields(line: &[u8]) -> Option<(&[u8], &[u8])>
+pub fn two_fields(line: &[u8]) -> Option<(&[u8], &[u8])>
     ensures some { IfSome result (λ p. fields_in line.now ≡ p.0.now ∷ p.1.now ∷ []) }
     ensures none { IfNone result (length (fields_in line.now) ≢ 2) }
 {
@@ -124,7 +124,7 @@ fn read_record(alloc: Global, lanes: u8, line: &[u8]) -> Result<Record, AllocErr
 }
 
 /// The line without a carriage return at its end.
-fn without_return(line: &[u8]) -> &[u8]
+pub fn without_return(line: &[u8]) -> &[u8]
     ensures { result.now ≡ without_return line.now }
 {
     match line.split_last() {

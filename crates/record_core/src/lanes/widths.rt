@@ -182,7 +182,7 @@ pub fn read_runs(alloc: Global, field: &[u8]) -> Result<Runs, RecordRefusal>
         → field_fault field.now ≡ Some f }
 {
     let (widths, is_wide) = read_widths(alloc, field)?;
-    match Runs::from_widths(widths) {
+    match Runs::from_widths(alloc, widths) {
         Ok(runs) => {
             if is_wide {
                 Err(RecordRefusal::Record(RecordFault::TooWide))
@@ -192,6 +192,6 @@ pub fn read_runs(alloc: Global, field: &[u8]) -> Result<Runs, RecordRefusal>
         }
         Err(RunFault::BadRuns) => Err(RecordRefusal::Record(RecordFault::BadRuns)),
         Err(RunFault::TooWide) => Err(RecordRefusal::Record(RecordFault::TooWide)),
-        Err(RunFault::NoMemory) => unreachable!(),
+        Err(RunFault::NoMemory) => Err(RecordRefusal::NoMemory),
     }
 }

@@ -1,7 +1,7 @@
 use Rattle.std.proofs.Common.{◌∙◌, ap, rules, sum, sym}
 use Rattle.scan_core.specs.Row.{inner}
 use Rattle.scan_core.specs.Showing.{IsQuiet, Rounds}
-use Rattle.scan_core.proofs.CandidateFacts.{most_modules}
+use Rattle.scan_core.proofs.CandidateFacts.{candidate_dots, least_modules, most_modules}
 use Rattle.scan_core.proofs.FoundFacts.{fails_pattern, fails_rounding, found_shows}
 use Rattle.scan_core.proofs.answer.try_candidate.Goals as goal
 
@@ -36,3 +36,9 @@ returns-in-None-clause-fails c =
     let rounds : Rounds (inner runs) N modules = rw c.inner.ensures at c.in-Some.ensures.found in
     let quiet : IsQuiet runs N = search rules in
     fails_pattern runs c.args.candidate.carrier N modules c.requires.counted quiet rounds c.requires.row c.in-None.ensures.none
+
+pub round-requires-clause-dots : goal.round-requires-clause-dots
+round-requires-clause-dots c = rw c.requires.sum (candidate_dots c.args.widths.now c.args.candidate.carrier c.args.candidate.count c.requires.row c.requires.counted)
+
+pub round-requires-clause-long : goal.round-requires-clause-long
+round-requires-clause-long c = least_modules c.args.candidate.carrier _ c.args.candidate.count c.requires.counted

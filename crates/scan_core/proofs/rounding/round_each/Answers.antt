@@ -11,6 +11,7 @@ runs-preserved c =
     record {
       places = length-set c.runs.modules c.runs.i c.modules_of-found.result.0 ∙ inv.places;
       found = one_more c.args.count c.args.total runs c.runs.modules c.runs.i c.modules_of-found.result.0 c.runs.each c.modules_of-found.result.1 low inv.places
-          inv.found c.modules_of-found.ensures.found;
-      none = none_more c.args.count c.args.total runs c.runs.i c.runs.each c.modules_of-found.result.1 low inv.none c.modules_of-found.ensures.none;
+          inv.found (c.modules_of-found.ensures.found c.args.count c.args.total c.requires.dots c.limits_of-limits.ensures);
+      none = none_more c.args.count c.args.total runs c.runs.i c.runs.each c.modules_of-found.result.1 low inv.none
+          (c.modules_of-found.ensures.none c.args.count c.args.total c.requires.dots c.limits_of-limits.ensures);
     }

@@ -1,7 +1,7 @@
 use Rattle.std.proofs.Common.{[], map, refl, string_bytes, subst, sym}
 use Rattle.hub_core.specs.Traffics.{IsKept}
 use Rattle.command_core.proofs.answers.ReportFacts.{no_lines}
-use Rattle.command_core.proofs.answers.RowFacts.{no_rows, reported}
+use Rattle.command_core.proofs.answers.RowFacts.{no_rows, reported, starts}
 use Rattle.command_core.proofs.answers.rows.answer_each.Goals as goal
 
 pub serve_traffic-requires-clause-fresh : goal.serve_traffic-requires-clause-fresh
@@ -9,7 +9,7 @@ serve_traffic-requires-clause-fresh g c κs within = record {
   lanes = refl;
   few = c.requires.few;
   rows = [];
-  stands = c.new.ensures;
+  stands = starts c.first_course.result c.args.bytes.now c.new.result c.first_course.ensures c.new.ensures;
   items = [];
   means = tt;
   fed = no_rows c.args.lanes;

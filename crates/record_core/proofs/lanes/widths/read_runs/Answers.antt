@@ -28,12 +28,12 @@ pub returns-in-Err-BadRuns-clause-refused : goal.returns-in-Err-BadRuns-clause-r
 returns-in-Err-BadRuns-clause-refused c = λ f same.
     let here : fault.BadRuns ≡ f = cc in
     let read = c.in_ok-widths.ensures in
-    let why : runs_fault c.in_ok-widths.widths.items ≡ Some run.BadRuns = c.in-Err-BadRuns.ensures.refused ∙ ap (λ x. Some x) c.in-Err-BadRuns.field-0-is in
+    let why : runs_fault c.in_ok-widths.widths.items ≡ Some run.BadRuns = c.in-Err-BadRuns.ensures.refused (λ e. let is = c.in-Err-BadRuns.field-0-is in cc) ∙ ap (λ x. Some x) c.in-Err-BadRuns.field-0-is in
     row_bad c.args.field.now c.in_ok-widths.widths.items read.words read.widths why ∙ ap (λ x. Some x) here
 
 pub returns-in-Err-TooWide-clause-refused : goal.returns-in-Err-TooWide-clause-refused
 returns-in-Err-TooWide-clause-refused c = λ f same.
     let here : fault.TooWide ≡ f = cc in
     let read = c.in_ok-widths.ensures in
-    let why : runs_fault c.in_ok-widths.widths.items ≡ Some run.TooWide = c.in-Err-TooWide.ensures.refused ∙ ap (λ x. Some x) c.in-Err-TooWide.field-0-is in
+    let why : runs_fault c.in_ok-widths.widths.items ≡ Some run.TooWide = c.in-Err-TooWide.ensures.refused (λ e. let is = c.in-Err-TooWide.field-0-is in cc) ∙ ap (λ x. Some x) c.in-Err-TooWide.field-0-is in
     row_wide c.args.field.now c.in_ok-widths.widths.items read.words read.widths why ∙ ap (λ x. Some x) here

@@ -3,5 +3,5 @@ use Rattle.scan_core.specs.Row.{runs_fault}
 use Rattle.scan_core.proofs.RowFacts.{row_of}
 use Rattle.scan_core.proofs.runs.Runs.from_widths.Goals as goal
 
-pub invariant_of-result : goal.invariant_of-result
-invariant_of-result c = row_of c.args.widths.items (c.in-None.ensures ∙ ap runs_fault c.as_slice.ensures.value)
+pub boxed-requires : goal.boxed-requires
+boxed-requires c = row_of c.args.widths.items (c.in-None.ensures ∙ ap runs_fault c.as_slice.ensures.value)
