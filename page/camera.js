@@ -1,4 +1,4 @@
-// Reads what a camera shows, until two frames agree.
+// Reads what a camera shows: until two frames agree, or one code after another.
 "use strict";
 
 // The milliseconds between two frames where the browser does not tell of them, and the most that it is waited for one.
@@ -6,27 +6,23 @@ const PAUSE = 30, LONGEST = 1000;
 
 let stream, starting = false;
 
-const CAMERA_PROBLEMS = {
-  NotAllowedError: "the camera is refused to this page: allow it in the browser's settings of the page",
-  NotFoundError: "there is no camera",
-  NotReadableError: "the camera is taken by another program",
-};
+const CAMERA_PROBLEMS = ["NotAllowedError", "NotFoundError", "NotReadableError"];
 
-function cameraProblem(error) {
-  return CAMERA_PROBLEMS[error.name] ?? `the camera does not start: ${error.name}`;
-}
+const cameraProblem = ({ name }) => CAMERA_PROBLEMS.includes(name) ? t(`camera${name}`) : t("cameraFails", name);
 
 function stopCamera() {
   for (const track of stream?.getTracks() ?? []) track.stop();
   stream = null;
-  at("video").hidden = true;
+  at("view").hidden = true;
   at("video").srcObject = null;
-  at("camera").textContent = "read by the camera";
+  at("camera-text").textContent = t("useCamera");
 }
 
 async function startCamera() {
+  at("read-fault").textContent = "";
   if (!navigator.mediaDevices?.getUserMedia) {
-    return say("told", "this browser keeps cameras from pages that are opened from a file: open the page from a server, as https", "remedy");
+    at("read-fault").textContent = t("cameraNoServer");
+    return;
   }
   // While a person is asked, the button asks no second time; it keeps the focus.
   if (starting) return;
@@ -34,7 +30,8 @@ async function startCamera() {
   try {
     stream = await navigator.mediaDevices.getUserMedia({ video: { facingMode: "environment", width: { ideal: 1280 } } });
   } catch (error) {
-    return say("told", cameraProblem(error), "remedy");
+    at("read-fault").textContent = cameraProblem(error);
+    return;
   } finally {
     starting = false;
   }
@@ -42,18 +39,18 @@ async function startCamera() {
   track.addEventListener("ended", () => {
     if (!stream) return;
     stopCamera();
-    say("told", "the camera is gone", "remedy");
+    at("read-fault").textContent = t("cameraGone");
   });
-  at("camera").textContent = "stop the camera";
+  at("camera-text").textContent = t("stopCamera");
   at("video").srcObject = stream;
-  at("video").hidden = false;
+  at("view").hidden = false;
   try {
     await at("video").play();
   } catch {
     // It was stopped before it began.
     return;
   }
-  say("told", "hold the label before the camera", "remedy");
+  say("cameraHold");
   await readFrames();
 }
 
@@ -62,7 +59,7 @@ function frameOf(video) {
   const canvas = new OffscreenCanvas(video.videoWidth, video.videoHeight);
   const pen = canvas.getContext("2d", { willReadFrequently: true });
   pen.drawImage(video, 0, 0);
-  return { ...greyOf(pen.getImageData(0, 0, canvas.width, canvas.height)), image: canvas, name: "camera", passing: true };
+  return { ...greyOf(pen.getImageData(0, 0, canvas.width, canvas.height)), image: canvas, name: "", passing: true };
 }
 
 // Waits for the next frame of the video, and says whether there is one; where the browser tells of none, for a while.
@@ -73,7 +70,8 @@ function nextFrame(video) {
   });
 }
 
-// Reads frame by frame; where two that follow each other show the same, the second is held and the camera ends.
+// Reads frame by frame; where two that follow each other show the same, the second is held and the camera ends; or its codes are kept,
+// and the camera goes on.
 async function readFrames() {
   const mine = stream;
   let before = "";
@@ -85,7 +83,10 @@ async function readFrames() {
     frame.level = levelOf(frame.grey);
     readPicture(frame);
     const says = frame.symbols.map(({ line }) => line).sort().join("\n");
-    if (says && says === before) return hold(frame);
+    if (says && says === before) {
+      if (!at("scan-on").checked) return hold(frame);
+      keep(frame);
+    }
     before = says;
   }
 }
@@ -93,21 +94,26 @@ async function readFrames() {
 function hold(frame) {
   stopCamera();
   takes++;
-  takePictures([frame]);
-  beep();
+  takePicture(frame);
+  beep(1760, 0.1);
 }
 
-// A tone of a tenth of a second.
-function beep() {
-  const audio = new AudioContext(), tone = audio.createOscillator();
-  tone.frequency.value = 1760;
-  tone.connect(audio.destination);
-  tone.start();
-  tone.stop(audio.currentTime + 0.1);
-  tone.addEventListener("ended", () => audio.close());
+// Puts what a frame shows before the codes of its series, each once.
+function keep({ symbols: seen }) {
+  const isOpen = pictures[0]?.series && pictures[0].stream === stream;
+  const series = isOpen ? pictures[0] : { series: true, name: "", symbols: [], stream }, before = new Set(series.symbols.map(({ line }) => line));
+  const added = seen.filter(({ line }) => !before.has(line)).map(({ line }) => ({ line }));
+  if (!added.length) return;
+  series.symbols = [...added.reverse(), ...series.symbols];
+  delete series.card;
+  if (!isOpen) pictures = [series, ...pictures];
+  tellRead();
+  beep(1760, 0.1);
+  navigator.vibrate?.(60);
 }
 
 function listenToCamera() {
   at("camera").addEventListener("click", () => { document.read = stream ? stopCamera() : startCamera(); });
   addEventListener("pagehide", stopCamera);
+  addEventListener("task", ({ detail }) => { if (detail !== "read" && stream) stopCamera(); });
 }

@@ -56,10 +56,9 @@ class Gs1 {
   line(bytes) { return String.fromCharCode(...bytes); }
 
   // The text's place and length; `^` stands for the separator.
-  put(text) {
-    const { written } = new TextEncoder().encodeInto(text.replaceAll("^", "\x1d"), this.bytes);
-    return [BigInt(this.input), BigInt(written)];
-  }
+  put(text) { return this.putAsIs(text.replaceAll("^", "\x1d")); }
+
+  putAsIs(text) { return [BigInt(this.input), BigInt(new TextEncoder().encodeInto(text, this.bytes).written)]; }
 
   // Puts the runs from `first` to `last`, both light, for a call: their place and how many they are. Run i goes from
   // `ends[i - 1]`, or 0, up to `ends[i]`, which is at most 65,535.

@@ -1,22 +1,5 @@
-// The page: its fields, what it says of refusals, and its start.
+// The start of the page: its module, its language and its tasks.
 "use strict";
-
-const at = (id) => document.getElementById(id);
-const number = (id) => Math.min(65535, Math.max(0, Math.trunc(Number(at(id).value)) || 0));
-let gs1;
-
-// What to do about a refusal, as docs/FAULTS.md says; of the words that the page asks with only the year can be wrong.
-const remedyOf = (line) => line === "refused 42 Words" ? "The year is to be from 1951 to 2149." : GS1_FAULTS[line.split(" ")[1]] ?? "";
-
-// Says a line, and at another place what to do about it where it is a refusal.
-function say(id, line, place, remedy = remedyOf) {
-  const refused = line.startsWith("refused");
-  at(id).classList.toggle("refused", refused);
-  at(place).textContent = refused ? remedy(line) : "";
-  at(id).textContent = line;
-}
-
-// ---- start
 
 function stop(problem) {
   at("problem").textContent = problem;
@@ -27,16 +10,63 @@ function stop(problem) {
 // The modules of page/build by the bits of their addresses, the one that was proved first.
 const modules = () => ({ 64: typeof GS1_WASM === "string" && GS1_WASM, 32: typeof GS1_WASM_32 === "string" && GS1_WASM_32 });
 
-async function start() {
-  const made = modules();
-  if (!made[64]) return stop("The module gs1.module.js is not beside this page: page/build makes it.");
-  const bits = [64, 32].find((width) => made[width] && Gs1.runs(width));
-  if (!bits) return stop(`This browser runs no WebAssembly${made[32] ? "" : " with 64-bit memory, and the page was built without the 32-bit module"}.`);
-  gs1 = await Gs1.load(Uint8Array.from(atob(made[bits]), (c) => c.charCodeAt(0)), bits);
-  for (const kind of Gs1.kinds) at("kind").add(new Option(kind));
-  for (const listen of [listenToDraw, listenToSheet, listenToRead, listenToCamera]) listen();
-  for (const form of document.forms) form.addEventListener("submit", (event) => event.preventDefault());
-  draw();
+// On a telephone the camera comes first.
+const isPhone = () => matchMedia("(max-width: 760px) and (pointer: coarse)").matches;
+const firstTask = () => TASKS.includes(location.hash.slice(1)) ? location.hash.slice(1) : memory.get("task") ?? (isPhone() ? "read" : "labels");
+
+function changeLanguage(chosen) {
+  speak(chosen);
+  fillStocks();
+  fillModules();
+  document.made = makeLabels();
+  check();
+  for (const one of pictures) delete one.card;
+  tellRead();
+  at("read-fault").textContent = at("list-fault").textContent = at("check-fault").textContent = "";
+  at("camera-text").textContent = t(stream ? "stopCamera" : "useCamera");
 }
 
-document.started = start().catch((error) => stop(`The page could not start: ${error}`));
+// All fields of the year are one.
+function changeYear({ target }) {
+  if (!target.checkValidity() || !target.value) return;
+  core.year = Number(target.value);
+  for (const field of document.querySelectorAll("[data-year]")) field.value = core.year;
+  document.made = makeLabels();
+  check();
+  for (const one of pictures) {
+    if (one.grey) readPicture(one);
+    delete one.card;
+  }
+  tellRead();
+}
+
+// Where the page is served it may be installed, and opens without the server. From a file it is whole as it is.
+function serve() {
+  if (!/^https?:$/.test(location.protocol) || !isSecureContext) return;
+  document.head.append(make("link", { rel: "manifest", href: "manifest.json" }));
+  navigator.serviceWorker?.register("worker.js");
+}
+
+async function start() {
+  at("old").remove();
+  fillLanguages(changeLanguage);
+  speak(memory.get("language") ?? navigator.language.slice(0, 2));
+  const built = modules();
+  if (!built[64]) return stop(t("noModule"));
+  const bits = [64, 32].find((width) => built[width] && Gs1.runs(width));
+  if (!bits || typeof CompressionStream !== "function" || typeof OffscreenCanvas !== "function" || !Array.prototype.toSorted) return stop(t("oldBrowser"));
+  gs1 = await Gs1.load(Uint8Array.from(atob(built[bits]), (c) => c.charCodeAt(0)), bits);
+  for (const listen of [listenToTabs, listenToLabels, listenToCheck, listenToRead, listenToCamera]) listen();
+  for (const form of document.forms) form.addEventListener("submit", (event) => event.preventDefault());
+  for (const field of document.querySelectorAll("[data-year]")) {
+    field.value = core.year;
+    field.addEventListener("input", changeYear);
+  }
+  changeLanguage(language);
+  at("own").hidden = at("stock").value !== "own";
+  showTask(firstTask());
+  serve();
+  await document.made;
+}
+
+document.started = start().catch((error) => stop(t("noStart", error)));

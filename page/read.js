@@ -1,133 +1,164 @@
-// Takes pictures, reads them, and shows what they say.
+// The task "read": photographs of labels, dropped, pasted, chosen or from the camera, and what they say.
 "use strict";
 
-// The pictures that were taken together, and the one that is shown.
-let pictures = [], picture;
+// The pictures that were taken, the newest first; a series of the camera is one of them, with no picture, its newest code first.
+let pictures = [], isTable = false;
 
-// The colour of the marks on a picture.
-const MARK = "#0a7d32";
+// What tells of a line's symbol, and the colours of the marks: dark on a light edge, to be seen on any picture.
+const MARK = "#0b6e4f", MARK_EDGE = "#ffffff";
 
-// What the symbology identifiers stand for (ISO/IEC 15424).
-const SYMBOLS = { "]E0": "EAN-13, UPC-A or UPC-E", "]E4": "EAN-8", "]C1": "GS1-128", "]I1": "ITF-14" };
-
-// What to do about a picture that shows no symbol, by the number of the refusal.
-const PICTURE_REMEDIES = {
-  13: "The bars are read, but their check character is wrong: the label is damaged, or the picture is blurred. Take it again, nearer and sharper.",
-  14: "This is a Code 128 symbol, but no GS1-128: print it with FNC1 first.",
-  19: "No bars are seen: take the label larger and in the middle of the picture, or move the slider.",
-  20: "There are bars, but no whole symbol: have all of the label in the picture, with white at both ends, and turn the picture so that the bars stand upright.",
-  21: "The light zone beside the bars is too narrow: leave white at both ends, as wide as five of the narrowest bars. A frame or a print beside the bars hides it.",
-  22: "The bars are blurred, or seen too much aslant: hold the camera still, nearer and straight above the label, or move the slider.",
-  23: "The bars are no whole symbol: have all of the label in the picture, with white at both ends, sharp and not covered, or turn the picture.",
-  24: "The digits do not pass their check: the label is damaged or printed wrong. Take the picture again, and if it stays compare the label with its number.",
-};
-
-const pictureRemedyOf = (line) => PICTURE_REMEDIES[line.split(" ")[1]] ?? remedyOf(line);
+// So many pictures are kept with what they say, and so many to be looked at; more than so many at once are first shown as a table.
+const MOST_PICTURES = 2000, MOST_SHOWN = 40, MOST_CARDS = 8;
 
 // The refusal that tells most: of the rows that came furthest, not those beside the symbol.
 function closest(refused) {
   const furthest = [4, 5, 6, 7, 8, 9, 10, 11, 13, 14, 15, 16, 24, 23, 22, 21, 17, 20, 18, 42, 19];
-  const rank = (line) => furthest.indexOf(Number(line.split(" ")[1]));
+  const rank = (line) => furthest.indexOf(refusalOf(line).number);
   return [...refused].sort((a, b) => rank(a[0]) - rank(b[0]) || b[1] - a[1])[0]?.[0] ?? "refused 19 Blank";
 }
 
-// Reads a picture: its symbols in the order of reading, and the refusal where it has none.
+// Reads a picture, the one place where a reader is asked: its symbols in the order of reading, and the refusal where it has none.
 function readPicture(taken) {
-  const from = performance.now(), reader = new Reader(gs1, number("year"));
-  const { symbols, refused } = reader.read(taken, taken.level, taken.own);
-  taken.symbols = inReadingOrder(symbols);
-  taken.refused = symbols.length ? null : closest(refused);
+  const from = performance.now(), reader = new Reader(gs1, core.year), { symbols: seen, refused } = reader.read(taken, taken.level, taken.own);
+  taken.symbols = inReadingOrder(seen);
+  taken.refused = seen.length ? null : closest(refused);
   if (taken.refused && !taken.own && !taken.passing && new Again(reader, taken).isCrowded()) taken.refused = "refused 21 QuietZone";
-  [taken.passed, taken.calls] = [performance.now() - from, reader.calls];
+  taken.passed = performance.now() - from;
 }
 
-function read() {
-  if (!picture) return;
-  readPicture(picture);
-  tell();
+// The elements of what the reader says of a symbol, `]C1 (01)..`; each is asked for again, and what does not come back the same is
+// shown as it was said.
+function elementsOfLine(line) {
+  const human = line.slice(4), text = human.replace(/^\((\d{2,4})\)/, "$1").replace(/\((\d{2,4})\)/g, "^$1");
+  return core.human(text) === `hri ${human}` ? told(pairsOf(core.elements(text))) : [{ ai: "", title: t("element"), value: human, meaning: "" }];
 }
 
-// Shows what all pictures say, and the one that is shown with its marks.
-function tell() {
-  const rows = pictures.flatMap(({ name, symbols, refused }) => symbols.length
-    ? symbols.map(({ line, rows: count }, i) => [i + 1, name, line, SYMBOLS[line.slice(0, 3)], count])
-    : [["", name, refused, pictureRemedyOf(refused), ""]]);
-  const count = pictures.reduce((sum, { symbols }) => sum + symbols.length, 0), one = pictures.length === 1;
-  at("found").tBodies[0].replaceChildren(...rows.map((cells) => {
-    const row = document.createElement("tr");
-    for (const cell of cells) row.insertCell().textContent = cell;
-    return row;
-  }));
-  at("results").hidden = one && !count;
-  if (one && !count) say("told", picture.refused, "remedy", pictureRemedyOf);
-  else if (one && count === 1) say("told", picture.symbols[0].line, "remedy");
-  else say("told", one ? `${count} symbols` : `${count} symbols in ${pictures.length} pictures`, "remedy");
-  mark(picture.symbols);
+// What stands under the bars, and what they are called.
+function shownOf(line) {
+  const mark = line.slice(0, 3), gtin = line.slice(8);
+  if (mark === "]E4") return { kind: "EAN-8", says: gtin.slice(6) };
+  if (mark === "]E0") return gtin.startsWith("00") ? { kind: "UPC", says: gtin.slice(2) } : { kind: "EAN-13", says: gtin.slice(1) };
+  return { kind: SCANNED[mark] ?? mark, says: mark === "]I1" ? gtin : line.slice(4) };
 }
 
-// What was found as lines of text, and as CSV (RFC 4180).
-const foundLines = () => pictures.flatMap(({ symbols }) => symbols.map(({ line }) => line.slice(4)));
+// ---- showing
 
-function foundCsv() {
-  // A table takes a cell that begins so for a formula.
-  const text = (word) => /^[=+\-@\t\r]/.test(word) ? `'${word}` : word;
-  const quoted = (word) => /[",\r\n]/.test(word) ? `"${word.replaceAll('"', '""')}"` : word;
-  const rows = pictures.flatMap(({ name, symbols }) => symbols.map(({ line }, i) => [name, String(i + 1), line.slice(0, 3), line.slice(4)]));
-  return [["picture", "number", "symbol", "text"], ...rows].map((row) => row.map(text).map(quoted).join(",") + "\r\n").join("");
+function tellRead() {
+  const count = pictures.reduce((sum, { symbols: seen }) => sum + seen.length, 0);
+  const shots = pictures.filter(({ series }) => !series).length;
+  at("told").textContent = !pictures.length ? "" : shots ? t("readCount", many("codeCount", count), many("pictureCount", shots)) : many("codeCount", count);
+  at("told").className = count ? "told right" : "told wrong";
+  at("read-tools").hidden = !count;
+  at("read-empty").hidden = pictures.length > 0;
+  at("read-views").hidden = pictures.length < 2;
+  for (const view of ["cards", "table"]) at(`view-${view}`).setAttribute("aria-pressed", (view === "table") === isTable);
+  at("pictures").hidden = isTable;
+  at("read-table").hidden = !isTable || !pictures.length;
+  if (isTable) at("read-rows").replaceChildren(...pictures.flatMap(rowsOfPicture));
+  else at("pictures").replaceChildren(...pictures.map((one) => one.card ??= cardOf(one)));
 }
 
-async function copyFound() {
-  try {
-    await navigator.clipboard.writeText(foundLines().join("\n"));
-    at("copied").textContent = "copied";
-  } catch {
-    at("copied").textContent = "this browser keeps the clipboard from pages: select the table and copy it";
-  }
-}
+const nameOf = ({ name, series }) => name || t(series ? "series" : "camera-picture");
 
-// The level is a person's own from then on.
-function level() {
-  if (!picture) return;
-  [picture.own, picture.level] = [true, number("level")];
-  read();
-}
-
-// Shows the picture, and around each symbol a frame with its number, which covers none of it.
-function mark(symbols) {
-  const canvas = at("picture"), pen = canvas.getContext("2d");
-  canvas.hidden = false;
-  if (picture.image) {
-    [canvas.width, canvas.height] = [picture.width, picture.height];
-    pen.drawImage(picture.image, 0, 0);
-  } else show(canvas, picture);
-  const size = Math.max(11, Math.round(picture.width / 64)), wide = Math.max(2, Math.round(size / 8));
-  pen.lineWidth = wide;
-  pen.font = `bold ${size}px sans-serif`;
-  [pen.textBaseline, pen.textAlign] = ["middle", "center"];
-  symbols.forEach((symbol, i) => {
-    const corners = symbol.corners(wide / 2);
-    pen.strokeStyle = MARK;
-    pen.beginPath();
-    for (const { x, y } of corners) pen.lineTo(x, y);
-    pen.closePath();
-    pen.stroke();
-    // The number stands left of the upper left corner, as wide as the picture has room there.
-    const { x, y } = corners.reduce((a, b) => a.x + a.y <= b.x + b.y ? a : b), tag = size * 1.2;
-    const across = Math.min(tag, Math.max(x, size * 0.6)), left = Math.max(0, x - across), top = Math.max(0, y);
-    pen.fillStyle = MARK;
-    pen.fillRect(left, top, across, tag);
-    pen.fillStyle = "white";
-    pen.fillText(i + 1, left + across / 2, top + tag / 2 + wide / 4, across);
+// The rows of a picture in the table: one for each of its symbols, or one that says what to do.
+function rowsOfPicture(picture) {
+  const name = () => make("th", { scope: "row" }, nameOf(picture));
+  if (!picture.symbols.length) return [make("tr", { class: "bad" }, name(), make("td", { colspan: 4 }, remedyText({ key: refusalOf(picture.refused).number })))];
+  return picture.symbols.map(({ line }, i) => {
+    const { kind, says } = shownOf(line), elements = elementsOfLine(line).filter(({ ai, meaning }) => meaning && ai !== "01");
+    return make("tr", {}, name(), make("td", {}, i + 1), make("td", { class: "mono value" }, says), make("td", {}, kind),
+      make("td", {}, elements.map(({ title, meaning }) => `${title} ${meaning}`).join(" · ")));
   });
 }
+
+function showTable(wanted) {
+  isTable = wanted;
+  tellRead();
+}
+
+function cardOf(picture) {
+  const list = picture.symbols.length ? make("ol", { class: "symbols" }, ...picture.symbols.map((symbol, i) => symbolItem(symbol, picture.series ? picture.symbols.length - i : i + 1)))
+    : make("div", { class: "remedy unread" }, icon("bad"), make("p", {}, remedyText({ key: refusalOf(picture.refused).number }), " ", make("span", { class: "code" }, faultName(picture))));
+  const name = make("p", { class: "name" }, nameOf(picture));
+  if (!picture.grey) return make("li", { class: "picture plain" }, make("div", { class: "said" }, name, list));
+  const canvas = make("canvas", { role: "img", "aria-label": t("pictureLabel", nameOf(picture), many("codeCount", picture.symbols.length)) });
+  mark(canvas, picture);
+  const level = make("input", { type: "range", min: 1, max: 255, value: picture.level, "aria-label": t("level") });
+  level.addEventListener("change", () => readAgain(picture, Number(level.value)));
+  const again = make("details", { class: "level" }, make("summary", {}, t("levelTitle")), make("label", {}, t("level"), level));
+  return make("li", { class: "picture" }, make("div", { class: "photo" }, canvas, name), make("div", { class: "said" }, list, again));
+}
+
+// Reads a picture with a person's own level, and shows it anew.
+function readAgain(picture, level) {
+  [picture.own, picture.level] = [true, level];
+  readPicture(picture);
+  const before = picture.card;
+  picture.card = cardOf(picture);
+  picture.card.querySelector("details").open = true;
+  before.replaceWith(picture.card);
+  picture.card.querySelector("input").focus();
+  tellRead();
+}
+
+function symbolItem({ line }, number) {
+  const { kind, says } = shownOf(line), elements = elementsOfLine(line);
+  const button = make("button", { type: "button", class: "small quiet", "aria-label": t("copyThis", says), onclick: () => { document.copied = copy(says); } }, icon("copy"));
+  const no = make("span", { class: "no", "aria-hidden": "true" }, number), text = make("strong", { class: "mono" }, says), name = make("span", { class: "kind" }, kind);
+  if (elements.length === 1) return make("li", {}, make("p", { class: "symbol" }, no, text, button, name));
+  return make("li", {}, make("p", { class: "symbol" }, no, name, button), make("p", { class: "mono long" }, says), elementsTable(elements));
+}
+
+// Draws the picture, and around each symbol a frame with its number, which covers none of it.
+function mark(canvas, picture) {
+  const pen = canvas.getContext("2d");
+  [canvas.width, canvas.height] = [picture.width, picture.height];
+  if (picture.image) pen.drawImage(picture.image, 0, 0);
+  else {
+    const image = new ImageData(picture.width, picture.height), pixels = new Uint32Array(image.data.buffer);
+    picture.grey.forEach((value, i) => { pixels[i] = (0xff000000 | value * 0x010101) >>> 0; });
+    pen.putImageData(image, 0, 0);
+  }
+  const size = Math.max(16, Math.round(picture.width / 30)), wide = Math.max(2, Math.round(size / 7));
+  pen.font = `bold ${size * 0.8}px sans-serif`;
+  [pen.textBaseline, pen.textAlign, pen.lineJoin] = ["middle", "center", "round"];
+  picture.symbols.forEach((symbol, i) => {
+    const corners = symbol.corners(wide);
+    for (const [colour, width] of [[MARK_EDGE, 2 * wide], [MARK, wide]]) {
+      [pen.strokeStyle, pen.lineWidth] = [colour, width];
+      pen.beginPath();
+      for (const { x, y } of corners) pen.lineTo(x, y);
+      pen.closePath();
+      pen.stroke();
+    }
+    const { x, y } = corners.reduce((a, b) => a.x + a.y <= b.x + b.y ? a : b), tag = size * 1.2, left = Math.max(0, x - tag / 2), top = Math.max(0, y - tag / 2);
+    pen.fillStyle = MARK;
+    pen.beginPath();
+    pen.arc(left + tag / 2, top + tag / 2, tag / 2, 0, 7);
+    pen.fill();
+    pen.fillStyle = "white";
+    pen.fillText(i + 1, left + tag / 2, top + tag / 2 + wide / 4);
+  });
+}
+
+// ---- as data
+
+const readRows = () => [[t("csvPicture"), t("csvNumber"), t("csvSymbol"), t("thAi"), t("thTitle"), t("thValue"), t("thMeaning")],
+  ...pictures.flatMap((one) => one.symbols.flatMap(({ line }, i) => elementsOfLine(line).map(({ ai, title, value, meaning }) => [nameOf(one), i + 1, shownOf(line).kind, ai, title, value, meaning])))];
+
+const readJson = () => JSON.stringify(pictures.map(({ name, symbols: seen, refused, series }) => ({ picture: name, camera: series,
+  ...(refused ? { fault: refusalOf(refused) } : {}), symbols: seen.map(({ line }) => ({ identifier: line.slice(0, 3), text: line.slice(4), kind: shownOf(line).kind, elements: asData(elementsOfLine(line)) })) })), null, 2);
+
+const readTexts = () => pictures.flatMap(({ symbols: seen }) => seen.map(({ line }) => shownOf(line).says)).join("\n");
+
+// ---- taking
 
 // A file as a picture; or nothing where it is none.
 async function pictureOf(file) {
   const pbm = pixelsOfPbm(new Uint8Array(await file.arrayBuffer()));
   if (pbm) return { ...pbm, image: null };
   try {
-    const image = await createImageBitmap(file);
-    const canvas = new OffscreenCanvas(image.width, image.height), pen = canvas.getContext("2d", { willReadFrequently: true });
+    const image = await createImageBitmap(file), canvas = new OffscreenCanvas(image.width, image.height), pen = canvas.getContext("2d", { willReadFrequently: true });
     pen.drawImage(image, 0, 0);
     return { ...greyOf(pen.getImageData(0, 0, image.width, image.height)), image };
   } catch {
@@ -135,75 +166,80 @@ async function pictureOf(file) {
   }
 }
 
-// Takes files as pictures, but where others were taken in the meantime. One that is no picture is told, and where none is one the
-// pictures before them stay.
 let takes = 0;
 
+// Takes files as pictures, one after another, and tells of those that are none; pictures that are taken later end it.
 async function take(...files) {
-  if (!files.length || !files[0]) return say("told", "there is no picture", "remedy");
+  if (!files.length || !files[0]) return say("noPicture");
+  at("read-fault").textContent = "";
+  showTask("read");
   if (stream) stopCamera();
-  const turn = ++takes, taken = [], others = [];
-  for (const file of files) {
+  const turn = ++takes, others = [], taken = [], before = pictures;
+  for (const [i, file] of files.entries()) {
+    say("reading", i + 1, files.length);
+    await new Promise((done) => requestAnimationFrame(() => setTimeout(done)));
     const one = await pictureOf(file);
     if (turn !== takes) return;
-    if (one) taken.push({ ...one, name: file.name ?? "" });
-    else others.push(file.name || "this");
+    if (one) taken.push(takePicture({ ...one, name: file.name ?? "", level: levelOf(one.grey) }, taken, before));
+    else others.push(file.name || "?");
   }
-  if (taken.length) takePictures(taken);
-  if (others.length === 1) say(taken.length ? "remedy" : "told", `${others[0]} is no picture that this browser opens`, "remedy");
-  else if (others.length) say(taken.length ? "remedy" : "told", `${others.join(", ")} are no pictures that this browser opens`, "remedy");
+  isTable = taken.length > MOST_CARDS || isTable && pictures.length > 1;
+  tellRead();
+  at("read-fault").textContent = others.length ? t("notPictures", others.join(", ")) : "";
 }
 
-// Reads pictures and shows the last one.
-function takePictures(taken) {
-  for (const one of taken) {
-    one.level = levelOf(one.grey);
-    readPicture(one);
-  }
-  [pictures, picture] = [taken, taken[taken.length - 1]];
-  at("level").value = picture.level;
-  at("copied").textContent = "";
-  tell();
+// Reads a picture and shows it behind those that were taken with it, and before all that were there.
+function takePicture(one, taken = [], before = pictures) {
+  readPicture(one);
+  pictures = [...taken, one, ...before].slice(0, MOST_PICTURES);
+  // Of the older ones what they say is kept alone.
+  for (const old of pictures.slice(MOST_SHOWN)) if (old.grey) { [old.grey, old.image] = [null, old.image?.close?.()]; delete old.card; }
+  tellRead();
+  return one;
 }
+
+const say = (key, ...values) => { at("told").className = "told"; at("told").textContent = t(key, ...values); };
 
 async function takeClipboard() {
-  const turn = ++takes;
   try {
-    const items = await navigator.clipboard.read();
-    if (turn !== takes) return;
-    for (const item of items) {
+    for (const item of await navigator.clipboard.read()) {
       const type = item.types.find((name) => name.startsWith("image/"));
       if (type) return await take(await item.getType(type));
     }
-    say("told", "the clipboard has no picture", "remedy");
+    say("noPictureClipboard");
   } catch {
-    say("told", "this browser keeps the clipboard from pages: paste with the keyboard", "remedy");
+    say("pasteByKeys");
   }
 }
 
+// Files go where they belong: pictures to be read, lists to the task that is shown.
+function takeFiles(files) {
+  const images = files.filter(({ type, name }) => type.startsWith("image/") || /\.(pbm|jpe?g|png|webp|heic)$/i.test(name));
+  if (images.length) return take(...images);
+  if (at("check").hidden) showTask("labels");
+  return at("labels").hidden ? takeTexts(files[0]) : takeList(files[0]);
+}
+
 function listenToRead() {
-  at("level").addEventListener("input", level);
-  at("year").addEventListener("input", () => {
-    pictures.forEach(readPicture);
-    if (picture) tell();
-  });
-  // So that the same file, changed since, can be chosen again.
-  at("file").addEventListener("click", () => { at("file").value = ""; });
   at("file").addEventListener("change", () => { document.taken = take(...at("file").files); });
-  at("copy").addEventListener("click", () => { document.copied = copyFound(); });
-  at("csv").addEventListener("click", () => save(new Blob([foundCsv()], { type: "text/csv" }), "found.csv"));
+  at("choose").addEventListener("click", () => { at("file").value = ""; at("file").click(); });
   at("paste").addEventListener("click", () => { document.taken = takeClipboard(); });
+  at("read-copy").addEventListener("click", () => { document.copied = copy(readTexts()); });
+  at("read-csv").addEventListener("click", () => save(csvOf(readRows()), "read.csv", "text/csv"));
+  at("read-json").addEventListener("click", () => save(readJson(), "read.json", "application/json"));
+  at("read-clear").addEventListener("click", () => { [pictures, isTable] = [[], false]; at("read-fault").textContent = ""; tellRead(); });
+  for (const view of ["cards", "table"]) at(`view-${view}`).addEventListener("click", () => showTable(view === "table"));
   addEventListener("paste", (event) => {
-    const file = [...event.clipboardData.files].find(({ type }) => type.startsWith("image/"));
-    if (file) document.taken = take(file);
+    const images = [...event.clipboardData.files].filter(({ type }) => type.startsWith("image/"));
+    if (images.length) document.taken = take(...images);
   });
   for (const name of ["dragover", "dragleave", "drop"]) {
     addEventListener(name, (event) => {
       // Text that is dropped goes where it was dropped.
       if (!event.dataTransfer.types.includes("Files")) return;
       event.preventDefault();
-      at("drop").classList.toggle("over", name === "dragover");
-      if (name === "drop") document.taken = take(...event.dataTransfer.files);
+      document.body.classList.toggle("over", name === "dragover");
+      if (name === "drop") document.taken = takeFiles([...event.dataTransfer.files]);
     });
   }
 }

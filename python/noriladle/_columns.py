@@ -8,38 +8,17 @@ from typing import Dict, List, Mapping, Optional, Sequence, Tuple
 
 from . import Refusal
 from ._lists import WHOLE_LINES, Fault, Faults, Record, Sheet, decoded, sheets_of
+from ._shop import said, shared
 from ._texts import Unreadable, looks_right, read_text
 
-_WORDS = {
-    "gtin": "gtin ean upc barcode eancode upccode gtincode eannumber barcodenumber ean13 ean8 gtin13 gtin14 upca"
-            " eannummer eannr gtinnummer strichcode strichcodenummer barcodenummer"
-            " codebarres codeabarres codebarre gencod gencode codeean"
-            " codigodebarras codigobarras codigoean codiceabarre codiceean codebarcode"
-            " streepjescode eancodes kodkreskowy kodean numerean",
-    "gs1": "gs1 gs1128 gs1text elementstring elements",
-    "name": "name item product productname itemname title articlename"
-            " artikelbezeichnung bezeichnung produkt produktname artikelname benennung artikel"
-            " designation libelle produit nom article nomproduit"
-            " producto nombre articulo denominacion prodotto nome articolo denominazione nomeprodotto"
-            " productnaam naam artikelomschrijving omschrijving"
-            " nazwa nazwaproduktu nazwatowaru produkt towar artykul"
-            " description beschreibung descripcion descrizione beschrijving opis text",
-    "price": "price retailprice sellingprice salesprice unitprice rrp msrp"
-             " preis vk vkpreis verkaufspreis ladenpreis uvp bruttopreis preisbrutto"
-             " prix prixttc prixdevente pvttc pvc precio pvp precioventa preciodeventa"
-             " prezzo prezzodivendita prezzovendita prijs verkoopprijs cena cenabrutto cenadetaliczna cenasprzedazy",
-    "copies": "copies labels etiketten anzahletiketten kopien exemplaires etiquettes nombredetiquettes copias etiquetas"
-              " copie etichette kopieen aantaletiketten etykiety liczbaetykiet",
-    "kind": "kind symbology barcodetype symbologie codeart barcodetyp",
-    "line": "line zeile ligne linea riga regel wiersz",
-}
+_WORDS: Dict[str, List[str]] = shared("headings")
 """The headings of each meaning, in English, German, French, Spanish, Italian, Dutch and Polish, without accents, blanks
 and signs. If several columns have one meaning, the word that stands first here is taken; a line may have a number."""
 
 MEANINGS = tuple(_WORDS)
 _KNOWN = {word: (meaning, rank)
-          for meaning, words in reversed(_WORDS.items()) for rank, word in enumerate(words.split())}
-_NUMBERS = set("n no nr num number nummer numero numer code id ref sku nummern kod codice codigo".split())
+          for meaning, words in reversed(_WORDS.items()) for rank, word in enumerate(words)}
+_NUMBERS = frozenset(shared("numbers"))
 """What makes a heading that begins with a word for the name one of article numbers."""
 _ONCE = ("gtin", "gs1", "copies", "kind")
 """What no list may have twice, since nobody can say which is meant."""
@@ -134,8 +113,7 @@ class _Look:
             # A heading that says more, such as EAN of the case, gives way to one that is a known word.
             if others and best[0] >= 0 and best[0] // _LONGER == others[0][0] // _LONGER:
                 first, second = (" ".join(self.first.cells[place].split()) for place in sorted((best[1], others[0][1])))
-                raise Faults([Fault(self.first.line, f"{first!r} and {second!r} are both {meaning}: leave one out, or say "
-                                    f"which it is, as in --column {meaning}='{first}'")])
+                raise Faults([Fault(self.first.line, f"{said('twice', first, second, meaning)}, as in --column {meaning}='{first}'")])
         return {meaning: [place for _, place in places] if meaning == "line" else [min(places)[1]]
                 for meaning, places in found.items()}
 
@@ -166,8 +144,7 @@ class _Look:
         asked = {meaning: [self._asked(meaning, int(word))] for meaning, word in self.asked.items()}
         is_found = not is_headed and not {"gtin", "gs1"} & asked.keys()
         if is_found and not self.looking and (self.wide > 1 or self.headed):
-            raise Faults([Fault(self.first.line, "no column is headed gtin, ean, upc or gs1, and none looks like GTINs: say which "
-                                f"it is, as in --column gtin='{' '.join(self.first.cells[0].split())}'")])
+            raise Faults([Fault(self.first.line, f"{said('noNumbers')}, as in --column gtin='{' '.join(self.first.cells[0].split())}'")])
         number = asked.get("gtin") or asked.get("gs1") or [self.number]
         has_heading = is_headed or self._has_heading(number[0])
         places = {**(self.headed if has_heading else {}), **asked, **({"gtin": number} if is_found else {})}

@@ -6,6 +6,8 @@ import io
 import re
 from typing import List, NamedTuple, Sequence, Tuple
 
+from ._shop import said
+
 LIMIT = 16_777_216
 """The most bytes of a list, as of ``gs1_hub``'s input."""
 
@@ -14,13 +16,10 @@ WHOLE_LINES = "\x1f"
 
 _MOST_CELL = 1_000_000
 _DELIMITERS = (WHOLE_LINES, ";", "\t", ",")
+_READ = ": noriladle read takes it"
 _OTHER_FILES = (
-    (b"PK\x03\x04", "a spreadsheet's own file: save it as CSV"),
-    (b"\xd0\xcf\x11\xe0", "a spreadsheet's own file: save it as CSV"),
-    (b"%PDF-", "a PDF file: noriladle read takes it"),
-    (b"\x89PNG", "a picture: noriladle read takes it"),
-    (b"\xff\xd8\xff", "a picture: noriladle read takes it"),
-    (b"\x1f\x8b", "a compressed file: unpack it"),
+    (b"PK\x03\x04", "spreadsheet", ""), (b"\xd0\xcf\x11\xe0", "spreadsheet", ""), (b"%PDF-", "pdf", _READ),
+    (b"\x89PNG", "picture", _READ), (b"\xff\xd8\xff", "picture", _READ), (b"\x1f\x8b", "packed", ""),
 )
 
 
@@ -60,15 +59,15 @@ def decoded(data: bytes) -> Tuple[str, str]:
     :raises Faults: it is too long, or no text.
     """
     if len(data) > LIMIT:
-        raise Faults([Fault(1, f"the list has more than {LIMIT:,} bytes: split it")])
-    for magic, said in _OTHER_FILES:
+        raise Faults([Fault(1, said("tooLarge", f"{LIMIT:,}"))])
+    for magic, name, way in _OTHER_FILES:
         if data.startswith(magic):
-            raise Faults([Fault(1, f"this is {said}")])
+            raise Faults([Fault(1, f"{said(name)}{way}")])
     if data[:2] in (b"\xff\xfe", b"\xfe\xff"):
         return data.decode("utf-16", "replace"), "utf-16"
     if b"\0" in data:
         line = 1 + data[:data.index(b"\0")].count(b"\n")
-        raise Faults([Fault(line, "there is a byte 0, so this is no text: save the list as CSV in UTF-8")])
+        raise Faults([Fault(line, said("noText"))])
     try:
         return data.decode("utf-8-sig"), "utf-8-sig"
     except UnicodeDecodeError:
@@ -87,7 +86,7 @@ def sheets_of(text: str) -> List[Sheet]:
     else:
         sheets = [_sheet(text, it, 1) for it in _DELIMITERS if it == WHOLE_LINES or it in text]
     if not any(sheet.records or sheet.faults for sheet in sheets):
-        raise Faults([Fault(1, "the list is empty")])
+        raise Faults([Fault(1, said("emptyList"))])
     return sheets
 
 
@@ -103,9 +102,8 @@ def _sheet(text: str, delimiter: str, first: int) -> Sheet:
             cells = next(reader)
         except StopIteration:
             return Sheet(delimiter, records, faults)
-        except csv.Error as error:
-            said = f"this line is no CSV ({error}): a quotation mark is missing, or one is too many"
-            faults.append(Fault(line, said))
+        except csv.Error:
+            faults.append(Fault(line, said("noCsv")))
             cells = []
         if any(cell.strip() for cell in cells):
             records.append(Record(line, cells))

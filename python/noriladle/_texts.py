@@ -5,12 +5,16 @@ import re
 from typing import List, Tuple
 
 from . import Answer, Refusal, check_digit, read_gtin, read_scan
+from ._shop import said
 
 _BRACKETED = {"(": re.compile(r"\((\d{2,4})\)([^()]+)"), "[": re.compile(r"\[(\d{2,4})\]([^][]+)")}
 _BLANKS = re.compile(r"[\s\xa0\u2007\u202f]+")
 _PUNCTUATION = re.compile(r"[\s\xa0\u2007\u202f\u2010-\u2015-]+")
 _LINK = re.compile(r"https?://", re.IGNORECASE)
 _ROUNDED = re.compile(r"\d([.,]\d+)?E\+?\d+", re.IGNORECASE)
+
+
+_WHITE = "".join(sign for sign in map(chr, range(0x3001)) if sign.isspace() and sign != "\x1d")
 
 
 class Unreadable(ValueError):
@@ -24,7 +28,7 @@ def read_text(text: str, year: int) -> Answer:
     :raises Refusal: as :func:`noriladle.read_scan`; of a number as :func:`noriladle.read_gtin`.
     :raises Unreadable: the parentheses are not around Application Identifiers alone.
     """
-    text = text.strip()
+    text = stripped(text)
     if text[:1] in _BRACKETED:
         return read_scan(f"^{element_string(text)}", year)
     if text[:1] == "]" or _LINK.match(text):
@@ -38,6 +42,11 @@ def read_text(text: str, year: int) -> Answer:
     return read_scan(f"^01{read_gtin(digits)}", year)
 
 
+def stripped(text: str) -> str:
+    """A text without white space at its ends. Byte 29 is none: it is the separator."""
+    return text.strip(_WHITE)
+
+
 def is_elements(text: str) -> bool:
     """Whether a text is an element string: it has parentheses around its first Application Identifier, or a separator."""
     return text[:1] in _BRACKETED or "^" in text or "\x1d" in text
@@ -45,7 +54,7 @@ def is_elements(text: str) -> bool:
 
 def looks_right(text: str) -> bool:
     """Whether a cell is written like a text that is asked about, be it right or wrong."""
-    text = text.strip()
+    text = stripped(text)
     if text[:1] in _BRACKETED or text[:1] in ("]", "^", "\x1d"):
         return bool(re.match(r"[(\[]\d\d|\]\w\d|[\^\x1d]\d\d", text))
     digits = digits_of(text)
@@ -73,15 +82,13 @@ def _pairs(text: str) -> List[Tuple[str, str]]:
     """The Application Identifiers of a text, each with its value; no value has a blank."""
     plain, pattern = _BLANKS.sub("", text), _BRACKETED[text[0]]
     if pattern.sub("", plain):
-        raise Unreadable("parentheses stand around Application Identifiers alone, as in (01)09501101530003(10)AB; if a value "
-                         "has some, write [01]09501101530003[10]A(B)" if text[0] == "(" else
-                         "brackets stand around Application Identifiers alone, as in [01]09501101530003[10]AB")
+        raise Unreadable(said("parentheses" if text[0] == "(" else "brackets"))
     return pattern.findall(plain)
 
 
 def remedy_of(text: str, refusal: Refusal) -> str:
-    """What to do about this text: what its digits say, or else what docs/FAULTS.md has for the refusal."""
-    text = text.strip()
+    """What to do about this text: what its digits say, or else what shop/en.json has for the refusal."""
+    text = stripped(text)
     if text[:1] == "]" or _LINK.match(text):
         return _remedy_of_scan(text, refusal)
     if is_elements(text):
@@ -91,28 +98,33 @@ def remedy_of(text: str, refusal: Refusal) -> str:
 
 def _remedy_of_scan(text: str, refusal: Refusal) -> str:
     if refusal.number == 40 and text[:1] == "]":
-        return f"{text[:3]} marks a barcode that says no GS1 number or element string; scan the GS1 barcode of the label"
+        return said("otherSymbol", text[:3])
     if refusal.number == 40:
-        return "this is no GS1 Digital Link, as https://id.gs1.org/01/09501101530003 is"
+        return said("noLink")
     digits = text[3:]
     if refusal.number == 3 and digits.isdecimal() and len(digits) > 8:
         return _remedy_of_digits(digits, refusal)
-    return refusal.remedy
+    return _usual_remedy(digits, refusal)
+
+
+def _usual_remedy(text: str, refusal: Refusal) -> str:
+    return said(refusal.number, "" if refusal.place is None else text[refusal.place:refusal.place + 1])
 
 
 def _remedy_of_elements(text: str, refusal: Refusal) -> str:
     """The remedy, with the element that it is about."""
+    remedy = _usual_remedy(text, refusal)
     if refusal.place is None:
-        return refusal.remedy
+        return remedy
     if text[:1] not in _BRACKETED:
         plain = text[1:] if text[0] in "^\x1d" else text
-        return f"at {plain[refusal.place:refusal.place + 20]}: {refusal.remedy}".replace("\x1d", "^")
+        return said("at", plain[refusal.place:refusal.place + 20].replace("\x1d", "^"), remedy)
     at = 0
     for ai, value in _pairs(text):
         if at == refusal.place:
-            return f"at {text[0]}{ai}{')' if text[0] == '(' else ']'}{value}: {_padded(ai, value) or refusal.remedy}"
+            return said("at", f"{text[0]}{ai}{')' if text[0] == '(' else ']'}{value}", _padded(ai, value) or remedy)
         at += len(ai) + len(value) + 1
-    return refusal.remedy
+    return remedy
 
 
 def _padded(ai: str, value: str) -> str:
@@ -121,23 +133,22 @@ def _padded(ai: str, value: str) -> str:
         gtin = read_gtin(value) if ai in ("01", "02") else value
     except Refusal:
         return ""
-    return f"a GTIN has 14 digits here: ({ai}){gtin}" if gtin != value else ""
+    return said("padded", ai, gtin) if gtin != value else ""
 
 
 def _remedy_of_digits(digits: str, refusal: Refusal) -> str:
     if _ROUNDED.fullmatch(digits):
-        return ("the spreadsheet has rounded it: format the column as a number without decimals, type the number again and "
-                "save the file")
+        return said("rounded")
     if re.fullmatch(r"\d{8,14}[.,]0+", digits):
-        return f"a number has no decimals: write {re.split('[.,]', digits)[0]}"
+        return said("decimals", re.split("[.,]", digits)[0])
     is_number = digits.isascii() and digits.isdecimal()
     if refusal.name == "CheckDigit":
-        return f"a digit is wrong; if it is the last one, {digits[:-1]}{check_digit(digits[:-1])} is right"
+        return said("checkDigit", f"{digits[:-1]}{check_digit(digits[:-1])}")
     if refusal.name == "Kind" and len(digits) == 8:
-        return f"eight digits that begin with 0 may be a GTIN-8 or a UPC-E: write ]E4{digits} or ]E0{digits}"
+        return said("eight", digits)
     for longer in (digits.zfill(length) for length in (8, 12, 13) if is_number and 5 < len(digits) < length):
         if int(longer[-1]) == check_digit(longer[:-1]):
-            return f"a GTIN has 8, 12, 13 or 14 digits; a spreadsheet may have removed zeros: {longer} is right"
+            return said("zeros", longer)
     if is_number and len(digits) > 14:
-        return f"a GTIN has at most 14 digits; if this is an element string, write ^{digits}"
-    return "a GTIN has 8, 12, 13 or 14 digits" if refusal.name == "Length" else refusal.remedy
+        return said("manyDigits", digits)
+    return _usual_remedy(digits, refusal)

@@ -45,7 +45,7 @@ def test_reads_a_text(text, identifier, said):
     ("4012345010008.0", (1, None), "a number has no decimals: write 4012345010008"),
     ("123", (1, None), "a GTIN has 8, 12, 13 or 14 digits"),
     ("", (1, None), "a GTIN has 8, 12, 13 or 14 digits"),
-    ("401234501000x", (2, 12), "take it out"),
+    ("401234501000x", (2, 12), "'x' is no digit: take it out"),
     ("01234565", (40, None), "eight digits that begin with 0 may be a GTIN-8 or a UPC-E: write ]E401234565 or ]E001234565"),
     ("(01)09501101530003(17)261331", (9, 17), "at (17)261331: write YYMMDD"),
     ("(01)9501101530003", (6, 0), "at (01)9501101530003: a GTIN has 14 digits here: (01)09501101530003"),
@@ -221,3 +221,19 @@ def test_remedies_are_those_of_the_page():
         for head, _, remedy in rows[:10]:
             number = head.split()[1]
             assert told[number][1] == remedy.rstrip(" |").replace("`", ""), number
+
+
+def test_each_number_has_a_text_in_each_language():
+    import pathlib
+    import re
+    repository = pathlib.Path(__file__).parents[2]
+    if (repository / "shop").exists():
+        languages = {path.stem: json.loads(path.read_text("utf-8")) for path in (repository / "shop").glob("??.json")}
+        numbers = set(re.findall(r"^\| (\d+) [A-Z]", (repository / "docs" / "FAULTS.md").read_text("utf-8"), re.MULTILINE))
+        assert {"en", "de"} <= languages.keys() and len(numbers) == 44
+        for name, told in languages.items():
+            assert numbers <= told["faults"].keys(), name
+            for part, texts in languages["en"].items():
+                assert told[part].keys() == texts.keys(), (name, part)
+                for key, text in texts.items():
+                    assert told[part][key].strip() and set(re.findall(r"{.}", told[part][key])) == set(re.findall(r"{.}", text)), (name, key)

@@ -1,4 +1,4 @@
-"""Headless Chromium, spoken to by its debugging pipe."""
+"""Headless Chromium, spoken to by its debugging pipe: by scripts, and as a person does, by keys, the mouse and files."""
 import base64
 import fcntl
 import itertools
@@ -15,7 +15,7 @@ class Browser:
     """A browser with one page open, of this size. It is ended and its profile removed by `close`."""
 
     def __init__(self, url, width=1000, height=1400, dark=False, started="document.readyState === 'complete' && !!document.started",
-                 switches=()):
+                 switches=(), mobile=False, language="en-GB"):
         to_read, self._to = os.pipe()
         self._of, to_write = os.pipe()
 
@@ -25,16 +25,22 @@ class Browser:
             os.dup2(read, 3), os.dup2(write, 4)
 
         self._profile = tempfile.mkdtemp()
-        words = ["chromium", "--headless", "--no-sandbox", "--disable-gpu", f"--user-data-dir={self._profile}",
+        words = ["chromium", "--headless", "--no-sandbox", "--disable-gpu", f"--user-data-dir={self._profile}", f"--lang={language}", f"--accept-lang={language}",
                  "--remote-debugging-pipe", *switches, "about:blank"]
         self._process = subprocess.Popen(words, preexec_fn=pipes, close_fds=False,
                                          stdout=subprocess.DEVNULL, stderr=subprocess.DEVNULL)
         os.close(to_read), os.close(to_write)
         self._left, self._numbers = b"", itertools.count(1)
+        # What the page asked for, and what its scripts complained of.
+        self.asked, self.complaints = [], []
         self._session = None
         target = self.call("Target.createTarget", url="about:blank")["targetId"]
         self._session = self.call("Target.attachToTarget", targetId=target, flatten=True)["sessionId"]
-        self.call("Emulation.setDeviceMetricsOverride", width=width, height=height, deviceScaleFactor=1, mobile=False)
+        self.call("Emulation.setDeviceMetricsOverride", width=width, height=height, deviceScaleFactor=1, mobile=mobile)
+        if mobile:
+            self.call("Emulation.setTouchEmulationEnabled", enabled=True)
+        for domain in ("Network", "Runtime", "Log"):
+            self.call(f"{domain}.enable")
         self.call("Emulation.setEmulatedMedia", features=[{"name": "prefers-color-scheme", "value": "dark" if dark else "light"}])
         self.go(url, started)
 
@@ -62,10 +68,21 @@ class Browser:
                 self._left += read
             line, self._left = self._left.split(b"\0", 1)
             answer = json.loads(line)
+            self._note(answer)
             if answer.get("id") == number:
                 if "error" in answer:
                     raise RuntimeError(answer["error"])
                 return answer["result"]
+
+    def _note(self, message):
+        """Keeps what an event tells."""
+        params = message.get("params", {})
+        if message.get("method") == "Network.requestWillBeSent":
+            self.asked.append(params["request"]["url"])
+        elif message.get("method") == "Runtime.exceptionThrown":
+            self.complaints.append(params["exceptionDetails"].get("exception", {}).get("description") or params["exceptionDetails"]["text"])
+        elif message.get("method") == "Log.entryAdded" and params["entry"]["level"] == "error":
+            self.complaints.append(params["entry"]["text"])
 
     def value(self, script):
         """The value of a script, awaited."""
@@ -88,6 +105,49 @@ class Browser:
         self.call("DOM.setFileInputFiles", files=[os.path.abspath(path) for path in paths], objectId=node)
         self.until("document.taken !== null")
         self.value("document.taken")
+
+    # ---- as a person does
+
+    def text(self, name):
+        """What an element says."""
+        return self.value(f"document.getElementById({json.dumps(name)}).innerText")
+
+    def click(self, selector):
+        """Presses the mouse, or a finger, in the middle of an element."""
+        place = self.value(f"""(() => {{
+            const one = document.querySelector({json.dumps(selector)});
+            one.scrollIntoView({{ block: 'center' }});
+            const {{ left, top, width, height }} = one.getBoundingClientRect();
+            return {{ x: left + width / 2, y: top + height / 2 }};
+        }})()""")
+        for kind in ("mousePressed", "mouseReleased"):
+            self.call("Input.dispatchMouseEvent", type=kind, button="left", clickCount=1, **place)
+
+    def fill(self, selector, text):
+        """Pastes a text in place of what a field has."""
+        self.value(f"document.querySelector({json.dumps(selector)}).select(), document.querySelector({json.dumps(selector)}).focus()")
+        self.call("Input.insertText", text=text)
+
+    def press(self, key, code=0, modifiers=0, when=None):
+        """Presses a key: Tab, Enter, an arrow or a sign; at a time, in seconds, unless it is now."""
+        code = code or {"Tab": 9, "Enter": 13, "ArrowRight": 39, "ArrowLeft": 37, "Home": 36, "End": 35, " ": 32}.get(key) or ord(key[0].upper())
+        text = {"Enter": "\r", " ": " "}.get(key, key if len(key) == 1 and not modifiers else None)
+        words = {"key": key, "code": {" ": "Space"}.get(key, key), "windowsVirtualKeyCode": code, "modifiers": modifiers, **({"timestamp": when} if when else {})}
+        self.call("Input.dispatchKeyEvent", type="keyDown" if text else "rawKeyDown", **words, **({"text": text} if text else {}))
+        self.call("Input.dispatchKeyEvent", type="keyUp", **words)
+
+    def files(self, selector, *paths):
+        """Chooses files in a dialog."""
+        node = self.call("Runtime.evaluate", expression=f"document.querySelector({json.dumps(selector)})")["result"]["objectId"]
+        self.call("DOM.setFileInputFiles", files=[os.path.abspath(path) for path in paths], objectId=node)
+
+    def downloads(self, folder):
+        """Where files are saved."""
+        self.call("Browser.setDownloadBehavior", behavior="allow", downloadPath=os.path.abspath(folder))
+
+    def printed(self, width, height):
+        """What the printer gets, as PDF; the page says the size of its paper."""
+        return base64.b64decode(self.call("Page.printToPDF", preferCSSPageSize=True, printBackground=True)["data"])
 
     def picture(self, path):
         """Leaves a picture of the page."""

@@ -2,7 +2,7 @@
 asserts the limits. Page and Python are to say the same of each picture, by the same numbers.
 
 Usage: photos.py WORK [GROUP...]. WORK is a folder for the pictures; with groups, these alone are read and no limit is asserted.
-Its last lines are the limits, each with what was seen.
+Its last lines are the limits, each with what was seen, and their counts.
 """
 import concurrent.futures
 import json
@@ -204,10 +204,11 @@ def main():
         none, numbers = without(page, symbols, work), other_numbers(page)
     finally:
         page.browser.close()
-    missed = 0
+    asked_for = missed = 0
     for asked, seen, holds in limits(*counts, none, numbers):
-        missed += not holds
+        asked_for, missed = asked_for + 1, missed + (not holds)
         print(f"{'holds' if holds else 'MISSED'}: {asked}: {seen}")
+    print(f"{counts[0]} and {none[0]} pictures, {asked_for} limits, {missed} missed")
     return 1 if missed else 0
 
 

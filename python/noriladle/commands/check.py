@@ -17,7 +17,7 @@ from typing import Any, Dict, Iterator, NamedTuple, Optional, Tuple
 from .. import Answer, Refusal
 from .._columns import Table, table_of
 from .._lists import Faults, Record
-from .._texts import Unreadable, is_elements, read_text, remedy_of
+from .._texts import Unreadable, is_elements, read_text, remedy_of, stripped
 from . import REFUSED, RIGHT, Progress, add_year, data_of, tell
 from ._lists import add_list, columns_of, name_of, read_list
 
@@ -77,7 +77,7 @@ def checked_lines(table: Table, year: int) -> Iterator[Checked]:
 
 def _texts(table: Table, record: Record) -> Iterator[str]:
     """The texts of a record: one, unless it has both a number and an element string."""
-    number, elements = table.cell(record, "gtin").strip(), table.cell(record, "gs1").strip()
+    number, elements = stripped(table.cell(record, "gtin")), stripped(table.cell(record, "gs1"))
     if number or not elements:
         yield number
     if elements:

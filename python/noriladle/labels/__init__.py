@@ -21,6 +21,7 @@ from PIL import Image
 from .. import Refusal, find
 from .._columns import table_of
 from .._lists import Fault, Faults
+from .._shop import said
 from .._texts import remedy_of
 from ._articles import Article, articles_of
 from ._dots import epl_of, image_of, png_of, tspl_of, zpl_of
@@ -79,8 +80,8 @@ class Labels:
         told: Dict[str, List[Tuple[Article, Warned]]] = {}
         for article, drawing in self.drawings:
             for warned in drawing.warnings:
-                told.setdefault(warned.said, []).append((article, warned))
-        return [_warning(said, found) for said, found in told.items()]
+                told.setdefault(warned.name, []).append((article, warned))
+        return [_warning(name, found) for name, found in told.items()]
 
     @property
     def count(self) -> int:
@@ -137,10 +138,10 @@ class Labels:
         return ((image_of(drawing, self.look.turned), article.copies) for article, drawing in self.drawings if article.copies)
 
 
-def _warning(said: str, found: Sequence[Tuple[Article, Warned]]) -> LabelWarning:
+def _warning(name: str, found: Sequence[Tuple[Article, Warned]]) -> LabelWarning:
     """One warning for several labels, the worst of which comes first."""
     ranked = sorted(found, key=lambda it: it[1].rank)
-    return LabelWarning(tuple(article.line for article, _ in ranked), said.format(*ranked[0][1].own))
+    return LabelWarning(tuple(article.line for article, _ in ranked), said(name, *ranked[0][1].own))
 
 
 def read_list(data: bytes, year: int, columns: Optional[Mapping[str, str]] = None) -> PriceList:
@@ -220,7 +221,7 @@ def _checked(item: Item, plan: Plan, year: int) -> Drawing:
     drawing = drawn(item, plan)
     for row in rows_of(drawing):
         if not _has_symbol(row, item) or not _says(row, item, year):
-            raise ValueError("the drawn label does not say what the list says: this is a fault of noriladle, please report it")
+            raise ValueError(said("misdrawn"))
     return drawing
 
 

@@ -9,7 +9,8 @@ from typing import List, Optional, Tuple
 from .. import Answer, Kind, Refusal
 from .._columns import Table
 from .._lists import Fault, Record
-from .._texts import Unreadable, digits_of, element_string, is_elements, read_text, remedy_of
+from .._shop import said
+from .._texts import Unreadable, digits_of, element_string, is_elements, read_text, remedy_of, stripped
 
 _BY_LENGTH = {8: Kind.EAN8, 12: Kind.UPCA, 13: Kind.EAN13, 14: Kind.ITF14}
 """What a GTIN of so many digits is printed as, if the list says no kind."""
@@ -49,17 +50,17 @@ def articles_of(table: Table, year: int) -> Tuple[List[Article], List[Fault]]:
 
 def _article(table: Table, record: Record, year: int) -> Article:
     """The article of a record; a cell that is missing is empty."""
-    gtin, elements = table.cell(record, "gtin").strip(), table.cell(record, "gs1").strip()
+    gtin, elements = stripped(table.cell(record, "gtin")), stripped(table.cell(record, "gs1"))
     if gtin and elements:
-        raise ValueError("this line has a number and an element string: leave one out")
+        raise ValueError(said("twoNumbers"))
     if not gtin and not elements:
-        raise ValueError("this line has no number")
+        raise ValueError(said("noNumber"))
     text = gtin or (elements if is_elements(elements) or elements[0] == "]" else f"^{elements}")
-    kind, said, answer = _symbol(text, _kind(_plain(table.cell(record, "kind"))), year)
+    kind, printed, answer = _symbol(text, _kind(_plain(table.cell(record, "kind"))), year)
     lines = tuple(_line(record.cells[place]) for place in table.places.get("line", ()) if place < len(record.cells))
     name, price = _plain(table.cell(record, "name")), _line(table.cell(record, "price"))
     copies = _copies(table.cell(record, "copies").strip())
-    return Article(record.line, kind, said, answer, name, price, tuple(filter(None, lines)), copies)
+    return Article(record.line, kind, printed, answer, name, price, tuple(filter(None, lines)), copies)
 
 
 def _symbol(text: str, kind: Optional[Kind], year: int) -> Tuple[Kind, str, Answer]:
@@ -68,7 +69,7 @@ def _symbol(text: str, kind: Optional[Kind], year: int) -> Tuple[Kind, str, Answ
     :raises ValueError: it is refused, with what to do.
     """
     digits = digits_of(text)
-    is_upce, is_ean8 = kind is Kind.UPCE and len(digits) == 8, kind is Kind.EAN8 and len(digits) == 8
+    is_upce, is_ean8 = (kind is it and len(digits) == 8 and digits.isdecimal() for it in (Kind.UPCE, Kind.EAN8))
     asked = f"]E0{digits}" if is_upce else f"]E4{digits}" if is_ean8 else text
     try:
         answer = read_text(asked, year)
@@ -77,14 +78,13 @@ def _symbol(text: str, kind: Optional[Kind], year: int) -> Tuple[Kind, str, Answ
     except Unreadable as error:
         raise ValueError(f"{_short(text)}: {error}") from None
     if answer.identifier in ("]Q1", "]d1") or text.lower().startswith("http"):
-        raise ValueError(f"{_short(text)}: a Digital Link stands in a QR code, which is not drawn: write its elements, as "
-                         f"{answer.text}")
+        raise ValueError(f"{_short(text)}: {said('link', answer.text)}")
     usual = _usual_kind(asked, answer)
     chosen = kind or usual
     if chosen is Kind.GS1128:
         return chosen, _elements(asked, answer) if usual is Kind.GS1128 else f"01{answer.gtin}", answer
     if answer.gtin is None or len(answer.elements) > 1:
-        raise ValueError(f"{_short(text)}: this is not a GTIN alone, and so a gs1128: leave the kind out")
+        raise ValueError(f"{_short(text)}: {said('notAlone')}")
     return chosen, answer.gtin, answer
 
 
@@ -114,14 +114,14 @@ def _kind(name: str) -> Optional[Kind]:
     kinds = {kind.name: kind for kind in Kind}
     short = re.sub(r"[\s-]", "", name).upper()
     if short and short not in kinds:
-        raise ValueError(f"there is no kind {_short(name)!r}: it is one of {', '.join(kinds).lower()}, or empty")
+        raise ValueError(said("noKind", _short(name), ", ".join(kinds).lower()))
     return kinds.get(short)
 
 
 def _copies(cell: str) -> int:
     """How many labels a line is to have."""
     if cell and not (re.fullmatch(r"[0-9]{1,4}", cell) and int(cell) <= MOST_COPIES):
-        raise ValueError(f"{_short(cell)!r} is no number of copies: write 0 to {MOST_COPIES:,}, or nothing for 1")
+        raise ValueError(said("copies", _short(cell), f"{MOST_COPIES:,}"))
     return int(cell or 1)
 
 

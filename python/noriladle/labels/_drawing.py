@@ -4,12 +4,13 @@ from __future__ import annotations
 import math
 import operator
 from dataclasses import dataclass, field
-from typing import Iterator, List, NamedTuple, Optional, Set, Tuple
+from typing import Dict, Iterator, List, NamedTuple, Optional, Set, Tuple
 
+from .._shop import shared
 from ._fonts import Font
 from ._stocks import Stock
 
-DOTS_IN_MM = {203: 8.0, 300: 300 / 25.4, 600: 600 / 25.4}
+DOTS_IN_MM: Dict[int, float] = {int(name): dots / 25.4 for name, dots in shared("dots").items()}
 RESOLUTIONS = tuple(DOTS_IN_MM)
 """Printers' dots an inch; one of 203 has eight in a millimetre."""
 
@@ -104,9 +105,9 @@ class Cell:
 
 
 class Warned(NamedTuple):
-    """What a person should know of a label: a sentence with ``{}`` for what is a label's own, and that."""
+    """What a person should know of a label, by its name in shop/en.json, and the values in it."""
 
-    said: str
+    name: str
     own: Tuple[str, ...]
     rank: float = 0.0
     """Of several labels the one with the least is told."""

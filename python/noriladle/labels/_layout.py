@@ -6,6 +6,7 @@ from dataclasses import dataclass
 from typing import Callable, List, NamedTuple, Sequence, Tuple
 
 from .. import Kind
+from .._shop import said
 from ._articles import Article
 from ._drawing import DOTS_IN_MM, RESOLUTIONS, Box, Cell, Drawing, Look, Text, Warned
 from ._fonts import PITCH, Block, Fonts, fitted
@@ -81,15 +82,14 @@ def _too_wide(bars: Bars, cell: Cell) -> str:
     """Says that no module has room, and what may be done."""
     module, finest = _allowed(bars, cell.dots)[0] / cell.dots, max(RESOLUTIONS)
     least, aside = _allowed(bars, DOTS_IN_MM[finest])[0] / DOTS_IN_MM[finest], cell.aside / cell.dots
-    ways = [f"use labels of {math.ceil(_needed(bars, module, aside))} mm or more"]
+    ways = [said("wider", math.ceil(_needed(bars, module, aside)))]
     if _needed(bars, least, aside) <= cell.width / cell.dots:
-        ways.append(f"use --dpi {finest} if the printer has it")
+        ways.append(f"{said('finer', finest)} (--dpi {finest})")
     if _needed(bars, module, cell.above / cell.dots) <= cell.high_mm:
         ways.append("turn it by --turn")
     if bars.kind is Kind.GS1128:
-        ways.append("print fewer elements")
-    return (f"the label is {cell.width / cell.dots:.1f} mm wide, and with modules of {module:.3f} mm the barcode needs"
-            f" {module * bars.modules:.1f} mm with its quiet zones: {'; or '.join(ways)}")
+        ways.append(said("fewer"))
+    return said("tooWide", f"{cell.width / cell.dots:.1f}", f"{module:.3f}", f"{module * bars.modules:.1f}", "; or ".join(ways))
 
 
 def plan_of(items: Sequence[Item], cell: Cell, fonts: Fonts, look: Look) -> Plan:
@@ -136,7 +136,7 @@ def _between(least: float, length: float, most: float) -> float:
 def _put(drawing: Drawing, block: Block, left: float, top: float, width: float, align: float = 0.0) -> float:
     """Puts a block below a height, and says where it ends."""
     if block.is_cut:
-        drawing.warnings.append(Warned("a text is cut, since the label has no room for it: {}", (" ".join(block.lines),)))
+        drawing.warnings.append(Warned("cut", (" ".join(block.lines),)))
     for number, line in enumerate(block.lines):
         base = top + (number * PITCH + 0.8) * block.size
         drawing.texts.append(Text(line, block.font, block.size, left, base, width, align))
@@ -172,7 +172,7 @@ def _price_column(drawing: Drawing, article: Article, plan: Plan, top: float) ->
     room = cell.bottom - top - sum(block.height for block in lines)
     price = fitted(plan.fonts.bold, article.price, width, min(plan.beside, room / PITCH), 2.6 * plan.dots, 1)
     if price.height > room:
-        raise ValueError("the price and the lines have no room beside the bars: use larger labels, or fewer lines")
+        raise ValueError(said("noPlace"))
     at = top + room - price.height
     for block in (price, *lines):
         at = _put(drawing, block, left, at, width, 1)
@@ -187,8 +187,7 @@ def _symbol(drawing: Drawing, item: Item, plan: Plan, left: int, top: float) -> 
     wanted = look.bars_mm * cell.dots if look.bars_mm else nominal
     high = math.floor(min(wanted, cell.bottom - under - top - 2 * bearer - _GAP_MM * cell.dots))
     if high < _LEAST_BARS_MM * cell.dots:
-        raise ValueError(f"only {max(0, high) / cell.dots:.1f} mm of height are left for the bars: use higher labels, or fewer "
-                         "lines")
+        raise ValueError(said("noHeight", f"{max(0, high) / cell.dots:.1f}"))
     first = math.floor(cell.bottom - under - bearer - high)
     drawing.bars = first, first + high
     start = left + bars.widths[0] * module
@@ -203,12 +202,9 @@ def _symbol(drawing: Drawing, item: Item, plan: Plan, left: int, top: float) -> 
 def _warn(drawing: Drawing, bars: Bars, size: float, high: float, nominal: float) -> None:
     """Says what the standard would have otherwise of modules of this size and bars of this height, in mm."""
     if high < nominal - 0.1:
-        said = "the bars are {} mm high; the standard asks for {} mm, and lower bars are harder to hit: use higher labels"
-        drawing.warnings.append(Warned(said, (f"{high:.1f}", f"{nominal:.1f}"), high / nominal))
+        drawing.warnings.append(Warned("low", (f"{high:.1f}", f"{nominal:.1f}"), high / nominal))
     if not bars.form.groups and size < _LOGISTIC_MM - 1e-6:
-        said = (f"the narrowest bars are {{}} mm wide; the standard asks for {_LOGISTIC_MM} mm on cases and pallets, since "
-                "narrower ones are read from near by only: use wider labels")
-        drawing.warnings.append(Warned(said, (f"{size:.3f}",), size))
+        drawing.warnings.append(Warned("narrow", (f"{size:.3f}", f"{_LOGISTIC_MM}"), size))
 
 
 _Digits = Tuple[float, Callable[[int, float], List[Text]]]

@@ -4,25 +4,18 @@ from __future__ import annotations
 import difflib
 import re
 from dataclasses import dataclass
-from typing import Tuple
+from typing import Dict, Tuple
 
-PAGES = {"a4": (210.0, 297.0), "letter": (215.9, 279.4)}
+from .._shop import shared
 
-SHEETS = {
-    "L7159": "3x8:63.5x33.9+2.54+0", "L7160": "3x7:63.5x38.1+2.54+0", "L7161": "3x6:63.5x46.6+2.54+0",
-    "L7162": "2x8:99.1x33.9+2.54+0", "L7163": "2x7:99.1x38.1+2.54+0", "L7165": "2x4:99.1x67.7+2.54+0",
-    "L7651": "5x13:38.1x21.2+2.54+0", "3474": "3x8:70x37", "3475": "3x8:70x36", "3652": "3x7:70x42.3",
-    "3424": "2x6:105x48", "3483": "2x2:105x148", "5160": "3x10:66.675x25.4+3.175+0@letter",
-    "5163": "2x5:101.6x50.8+4.7625+0@letter",
-}
+PAGES: Dict[str, Tuple[float, float]] = {name: (width, height) for name, (width, height) in shared("pages").items()}
+
+SHEETS: Dict[str, str] = shared("sheets")
 """Sheets by the numbers of Avery and Avery Zweckform, which others use too: columns and rows of labels of a width and a
 height, with gaps between them, in the middle of a page."""
 
-ROLLS = {
-    "99010": "89x28", "99012": "89x36", "99014": "101x54", "11352": "54x25", "11354": "57x32",
-    "DK-11201": "90x29", "DK-11202": "100x62", "DK-11209": "62x29",
-}
-"""Rolls by the numbers of Dymo and Brother: the width and the height of a label."""
+ROLLS: Dict[str, str] = shared("rolls")
+"""Rolls by the numbers of Dymo and Brother, or by the width and the height of a label."""
 
 KNOWN = {**SHEETS, **ROLLS}
 
@@ -30,9 +23,10 @@ _MAKERS = re.compile(r"\b(avery|zweckform|dymo|brother)\b[\s-]*", re.IGNORECASE)
 _LENGTH = r"(\d{1,4}(?:\.\d{1,4})?)"
 _TEXT = re.compile(rf"(?:(\d{{1,2}})x(\d{{1,2}}):)?{_LENGTH}x{_LENGTH}(?:\+{_LENGTH}\+{_LENGTH})?(?:@(\w+))?")
 
-_UNPRINTED = 4.3
+_UNPRINTED: float = shared("label")["unprinted"]
 """So much of a sheet's edge most office printers leave white."""
-_LEAST, _MOST = 5.0, 1_000.0
+_LEAST: float = shared("label")["least"]
+_MOST: float = shared("label")["most"]
 """The sides of a label."""
 
 

@@ -3,9 +3,10 @@ from __future__ import annotations
 
 import re
 from dataclasses import dataclass
-from typing import Dict, Iterator, NamedTuple, Tuple
+from typing import Any, Dict, Iterator, NamedTuple, Tuple
 
 from .. import Answer, Kind, draw_label
+from .._shop import shared
 
 _WIDEST = 640
 """More modules than any symbol has: a GS1-128 of 48 characters has 594 with its quiet zones."""
@@ -35,25 +36,18 @@ class Form(NamedTuple):
     groups: Tuple[Group, ...] = ()
 
 
-_RETAIL, _CASES = (0.264, 0.33, 0.66), (0.264, 0.495, 1.016)
-FORMS: Dict[Kind, Form] = {
-    Kind.EAN13: Form(7, _RETAIL, 22.85, ((0, 3), (45, 50), (92, 95)),
-                     (Group(0, 1, -10), Group(1, 6, 3), Group(7, 6, 50))),
-    Kind.UPCA: Form(9, _RETAIL, 22.85, ((0, 10), (45, 50), (85, 95)),
-                    (Group(0, 1, -7, 5), Group(1, 5, 10), Group(6, 5, 50), Group(11, 1, 97, 5))),
-    Kind.EAN8: Form(7, _RETAIL, 18.23, ((0, 3), (31, 36), (64, 67)), (Group(0, 4, 3), Group(4, 4, 36))),
-    Kind.UPCE: Form(7, _RETAIL, 22.85, ((0, 3), (45, 51)), (Group(0, 1, -7, 5), Group(1, 6, 3), Group(7, 1, 53, 5))),
-    Kind.GS1128: Form(10, _CASES, 31.75),
-    Kind.ITF14: Form(10, _CASES, 31.75),
-}
+
+def _form(told: Dict[str, Any]) -> Form:
+    least, wanted, most = shared("modules")[told["modules"]]
+    long = tuple((first, last) for first, last in told["long"])
+    return Form(told["quiet"], (least, wanted, most), told["high"], long, tuple(Group(*group) for group in told["groups"]))
 
 
-IDENTIFIERS = {Kind.EAN13: "]E0", Kind.UPCA: "]E0", Kind.UPCE: "]E0",
-               Kind.EAN8: "]E4", Kind.ITF14: "]I1", Kind.GS1128: "]C1"}
+_TOLD: Dict[Kind, Dict[str, Any]] = {Kind[name.upper()]: told for name, told in shared("forms").items()}
+FORMS: Dict[Kind, Form] = {kind: _form(told) for kind, told in _TOLD.items()}
+
+IDENTIFIERS: Dict[Kind, str] = {kind: told["identifier"] for kind, told in _TOLD.items()}
 """What a scanner says of a symbol of each kind (GS1 General Specifications, figure 5.1.3-1)."""
-
-_FIRST_DIGITS = {Kind.EAN13: 1, Kind.UPCA: 2, Kind.EAN8: 6, Kind.ITF14: 0}
-"""Which of the 14 digits of a GTIN is the first under the bars."""
 
 
 @dataclass(frozen=True)
@@ -102,7 +96,7 @@ def _digits(kind: Kind, answer: Answer) -> str:
     if kind is Kind.GS1128:
         return answer.text
     gtin = answer.gtin or ""
-    return upce_of(gtin[2:]) if kind is Kind.UPCE else gtin[_FIRST_DIGITS[kind]:]
+    return upce_of(gtin[2:]) if kind is Kind.UPCE else gtin[_TOLD[kind]["first"]:]
 
 
 def upce_of(gtin: str) -> str:

@@ -1,0 +1,153 @@
+// The task "check": what stands on a box, what a scanner sends or types, or a list of both, answered line by line.
+"use strict";
+
+const CHECK_EXAMPLES = {
+  box: "(01)09501101530003(17)261231(10)LOT7(3103)001250", scanner: "]C1010950110153000317261231^10AB12",
+  list: "4012345010008\n4012345010375\n978-3-16-148410-0\n12345000065\n(01)09501101530003(15)261301\n]E04012345010374\nhttps://id.gs1.org/01/09501101530003/10/LOT7?17=261231",
+};
+
+// The kinds of symbols by the identifiers of scanners (ISO/IEC 15424).
+const SCANNED = { "]E0": "EAN/UPC", "]E4": "EAN-8", "]C1": "GS1-128", "]I1": "ITF-14", "]e0": "GS1 DataBar", "]d2": "GS1 DataMatrix", "]Q3": "GS1 QR", "]J1": "GS1 DotCode",
+  "]Q1": "QR", "]d1": "DataMatrix" };
+
+const MOST_OPEN = 12, MOST_ANSWERS = 500;
+
+// Who types at least so many signs, each within so many milliseconds, is a scanner.
+const LEAST_SCANNED = 7, QUICK = 35;
+
+// The answers to the lines, and what was typed since the last end of a line, and since when.
+let answers = [], typing = { count: 0, since: 0 };
+
+// What a line is, and what it says; or its fault.
+function answerOf(text, line) {
+  const answer = { line, typed: text, kind: kindOf(text) }, said = readText(text);
+  // A scanner that takes the keyboard for an American one types ] as +.
+  if (/^\+[A-Za-z]\d/.test(text)) return { ...answer, kind: "scanner", fault: { key: "layout" } };
+  if (said.fault) return { ...answer, fault: said.fault };
+  if (said.refused) return { ...answer, fault: { ...remedyOf(text, said.refused), refused: said.refused } };
+  return { ...answer, elements: told(said.elements), isPlain: said.elements.length === 1 && said.elements[0].ai === "01" };
+}
+
+function kindOf(text) {
+  if (text[0] === "]") return SCANNED[text.slice(0, 3)] ?? "scanner";
+  if (LINK.test(text)) return "link";
+  if (isElements(text)) return "elements";
+  const { length } = digitsOf(text);
+  return KINDS_OF_LENGTH[length] && /^[0-9]+$/.test(digitsOf(text)) ? `GTIN-${length}` : "gtin";
+}
+
+// The answers to a text: of a table those to its columns of numbers.
+function answersTo(text) {
+  if (!text.trim()) return [];
+  try {
+    const table = tableOf(text), wrong = table.faults.map(({ line, fault }) => ({ line, typed: "", kind: "gtin", fault }));
+    return [...table.records.flatMap((record) => textsOf(table, record).map((one) => answerOf(one, record.line))), ...wrong].sort((a, b) => a.line - b.line);
+  } catch (error) {
+    if (!(error instanceof Faults)) throw error;
+    return error.faults.map(({ line, fault }) => ({ line, typed: "", kind: "gtin", fault }));
+  }
+}
+
+// The texts of a record: one, unless it has both a number and an element string.
+function textsOf(table, record) {
+  const [number, elements] = ["gtin", "gs1"].map((meaning) => stripped(cellIn(table, record, meaning)));
+  return [...(number || !elements ? [number] : []), ...(elements ? [isElements(elements) || elements[0] === "]" ? elements : `^${elements}`] : [])];
+}
+
+function check() {
+  answers = answersTo(at("texts").value);
+  const wrong = answers.filter(({ fault }) => fault).length, shown = scans() ? answers.toReversed() : answers;
+  at("check-told").replaceChildren(...toldParts([answers.length - wrong ? many("rightCount", answers.length - wrong) : "", "right"], [wrong ? many("wrongCount", wrong) : "", "wrong"]));
+  at("check-empty").hidden = at("examples").hidden = answers.length > 0;
+  at("check-clear").hidden = !at("texts").value;
+  at("check-tools").hidden = !answers.length;
+  at("answers").replaceChildren(...shown.slice(0, MOST_ANSWERS).map(answerItem));
+  at("answers-more").textContent = answers.length > MOST_ANSWERS ? t("answersMore", answers.length - MOST_ANSWERS) : "";
+}
+
+function answerItem(answer, i) {
+  const { line, typed, kind, fault, elements } = answer, isOne = answers.length === 1, shown = shortText(typed);
+  const head = make("p", { class: "answer-head" }, icon(fault ? "bad" : "good"), make("span", { class: "hidden" }, t(fault ? "isWrong" : "isRight")),
+    make("span", { class: "mono typed" }, shown), make("span", { class: "kind" }, isOne ? kindName(kind) : `${t("line", line)} · ${kindName(kind)}`));
+  const item = make("li", { class: fault ? "answer bad" : "answer good" }, head);
+  if (fault) item.append(make("p", { class: "remedy" }, remedyText(fault), " ", make("span", { class: "code" }, faultName(fault))), fixButton(answer) ?? "");
+  else if (isOne || !answer.isPlain && (answers.length <= MOST_OPEN || scans() && !i)) item.append(elementsTable(elements));
+  else if (!answer.isPlain) item.append(make("details", {}, make("summary", {}, elements.map(({ title, meaning, value }) => `${title} ${meaning || value}`).join(" · ")), elementsTable(elements)));
+  return item;
+}
+
+const kindName = (kind) => /^(elements|gtin|scanner|link)$/.test(kind) ? t(`kind-${kind}`) : kind;
+
+function fixButton({ line, typed, fault }) {
+  if (!fault.fix) return null;
+  return make("button", { type: "button", class: "small", onclick: () => {
+    const lines = at("texts").value.split("\n");
+    lines[line - 1] = lines[line - 1].replace(typed, () => fault.fix);
+    at("texts").value = lines.join("\n");
+    at("texts").focus();
+    check();
+  } }, t("useFix", fault.fix));
+}
+
+// ---- a scanner that types
+
+const scans = () => at("scans").checked;
+
+// Each key: many quick ones before an end of a line are a scanner's, whose answers come newest first, with a tone.
+function noteKey(event) {
+  // The separator, byte 29, comes as Ctrl+].
+  if (event.ctrlKey && (event.key === "]" || event.code === "BracketRight")) {
+    event.preventDefault();
+    at("texts").setRangeText("^", at("texts").selectionStart, at("texts").selectionEnd, "end");
+    typing.count++;
+  } else if (event.key === "Enter") endLine(event);
+  else if (event.key.length === 1 && !event.ctrlKey && !event.metaKey) typing = typing.count ? { ...typing, count: typing.count + 1 } : { count: 1, since: event.timeStamp };
+}
+
+function endLine(event) {
+  const isScanner = typing.count >= LEAST_SCANNED && event.timeStamp - typing.since < QUICK * typing.count;
+  typing = { count: 0, since: 0 };
+  if (isScanner) at("scans").checked = true;
+  // What the key types is there after it.
+  if (scans()) setTimeout(() => { check(); toneOf(answers.at(-1)); });
+}
+
+const toneOf = (answer) => answer && beep(answer.fault ? 330 : 1760, answer.fault ? 0.35 : 0.1);
+
+// ---- as data
+
+const checkedRows = () => [[t("csvLine"), t("csvTyped"), t("csvKind"), t("thAi"), t("thTitle"), t("thValue"), t("thMeaning"), t("csvFault")],
+  ...answers.flatMap(({ line, typed, kind, fault, elements }) => fault ? [[line, typed, kindName(kind), "", "", "", "", remedyText(fault)]]
+    : elements.map(({ ai, title, value, meaning }) => [line, typed, kindName(kind), ai, title, value, meaning, ""]))];
+
+const checkedJson = () => JSON.stringify(answers.map(({ line, typed, kind, fault, elements }) => ({ line, text: typed, kind,
+  ...(fault ? { fault: { ...(fault.refused ? refusalOf(fault.refused) : {}), remedy: remedyText(fault), fix: fault.fix } } : { elements: asData(elements) }) })), null, 2);
+
+// Elements as data: a day as it is written in all languages.
+const asData = (elements) => elements.map(({ ai, title, value, meaning }) => ({ ai, title, value, date: core.date(ai, value), meaning: meaning || undefined }));
+
+async function takeTexts(file) {
+  const text = await textOf(file, "check-fault");
+  if (text === null) return;
+  at("texts").value = text.replace(/\r\n?/g, "\n");
+  check();
+}
+
+function listenToCheck() {
+  let waiting;
+  at("texts").addEventListener("keydown", noteKey);
+  at("texts").addEventListener("input", () => {
+    at("check-fault").textContent = "";
+    clearTimeout(waiting);
+    waiting = setTimeout(check, 120);
+  });
+  at("scans").addEventListener("change", () => { check(); at("texts").focus(); });
+  for (const [name, text] of Object.entries(CHECK_EXAMPLES)) at(`try-${name}`).addEventListener("click", () => { at("texts").value = text; at("texts").focus(); check(); });
+  at("check-open").addEventListener("click", () => at("check-file").click());
+  at("check-file").addEventListener("change", () => { if (at("check-file").files[0]) document.taken = takeTexts(at("check-file").files[0]); at("check-file").value = ""; });
+  at("check-clear").addEventListener("click", () => { at("texts").value = ""; at("texts").focus(); check(); });
+  at("check-copy").addEventListener("click", () => { document.copied = copy(csvOf(checkedRows()).slice(1)); });
+  at("check-copy-json").addEventListener("click", () => { document.copied = copy(checkedJson()); });
+  at("check-csv").addEventListener("click", () => save(csvOf(checkedRows()), "checked.csv", "text/csv"));
+  at("check-json").addEventListener("click", () => save(checkedJson(), "checked.json", "application/json"));
+}

@@ -1,0 +1,366 @@
+// The task "labels": a price list becomes sheets of labels of the chosen stock, seen at once, printed or saved.
+"use strict";
+
+// What is chosen by hand of the columns, the sheet that is shown, what was made last, and how often something was.
+const shop = { chosen: {}, page: 0, made: null, turns: 0, zoom: "fit" };
+
+// The most labels of a list, and the columns that a person may put right.
+const MOST_LABELS = 10000, COLUMNS = ["gtin", "gs1", "name", "price", "line", "copies", "kind"];
+
+const MOST_FAULTS_SHOWN = 40, MOST_NAME_TOLD = 80, OUTPUTS = ["print", "pdf", "png", "svg", "zpl"];
+
+const pause = () => new Promise((done) => setTimeout(done));
+
+// ---- what is asked for
+
+function stockChosen() {
+  if (at("stock").value !== "own") return stockOf(STOCKS[at("stock").value]);
+  const [columns, rows, width, height, gapX, gapY] = ["columns", "rows", "width", "height", "gap-x", "gap-y"].map((id) => at(`own-${id}`).value.replace(",", ".") || "0");
+  return stockOf(`${columns}x${rows}:${width}x${height}+${gapX}+${gapY}`);
+}
+
+const dpiFor = (stock) => Number(at("dpi").value) || (stock.isRoll ? 203 : 300);
+
+const firstCell = (stock) => Math.min(stock.cells, Math.max(1, Math.trunc(Number(at("first").value)) || 1)) - 1;
+
+// ---- making
+
+// An article with its symbol and the dots of a module; or its fault.
+function itemOf(article, cell, module) {
+  if (article.fault) return article;
+  const symbol = symbolOf(article);
+  if (symbol.refused) return { ...article, fault: { ...remedyOf(article.text, symbol.refused), refused: symbol.refused } };
+  const dots = moduleOf(symbol, cell, module);
+  return dots ? { ...article, symbol, module: dots } : { ...article, fault: tooWide(symbol, cell) };
+}
+
+// The articles of the list, and what its columns are.
+function listRead() {
+  const text = at("list").value;
+  if (!text.trim()) return { articles: [], columns: null };
+  try {
+    const table = tableOf(text, shop.chosen);
+    return { articles: articlesOf(table), columns: table };
+  } catch (error) {
+    if (!(error instanceof Faults)) throw error;
+    const { first, wide } = error.look ?? {}, columns = first && { wide, headings: first.cells.map(oneBlank), places: {} };
+    return { articles: error.faults.map(({ line, fault }) => ({ line, typed: "", name: "", fault })), columns };
+  }
+}
+
+// Draws all labels, and in between lets the page be used. A later turn ends an earlier one.
+async function makeLabels() {
+  const turn = ++shop.turns, from = performance.now(), stock = stockChosen();
+  at("own-fault").textContent = stock ? "" : t("ownFault");
+  if (!stock) return;
+  const dpi = dpiFor(stock), cell = cellOf(stock, DOTS_IN_MM[dpi]), { articles, columns } = listRead();
+  const items = [], labels = [], faults = [], each = eachInTime(turn, from);
+  showColumns(columns);
+  if (!await each(articles, (article) => items.push(itemOf(article, cell, Number(at("module").value))))) return;
+  // Cases have other labels than what is sold.
+  const good = items.filter(({ fault }) => !fault), isCase = ({ symbol }) => !symbol.form.groups.length;
+  const plans = [false, true].map((isOne) => planOf(good.filter((item) => isCase(item) === isOne), cell));
+  shop.made = { stock, dpi, cell, labels, faults, isDone: false };
+  // What is half drawn is neither printed nor saved.
+  for (const id of OUTPUTS) at(id).disabled = true;
+  const drawn = (item) => {
+    const drawing = item.fault ? item : drawLabel(item, plans[Number(isCase(item))]);
+    if (drawing.fault) return faults.push({ ...item, fault: drawing.fault });
+    if (labels.length + item.copies > MOST_LABELS) return faults.push({ ...item, fault: { key: "manyLabels", values: [MOST_LABELS] } });
+    const before = labels.length;
+    for (let i = 0; i < item.copies; i++) labels.push(drawing);
+    // The first sheet is shown as soon as it is full.
+    if (before < stock.cells && labels.length >= stock.cells) showSheet();
+  };
+  if (!await each(items, drawn)) return;
+  shop.made.isDone = true;
+  shop.passed = performance.now() - from;
+  showLabels();
+}
+
+// Does something with each of a list, and tells how far it is; whether it was done with all of them.
+function eachInTime(turn, from) {
+  let last = from;
+  return async (list, work) => {
+    for (let i = 0; i < list.length; i++) {
+      work(list[i]);
+      if (performance.now() - last < 60) continue;
+      if (performance.now() - from > 300) at("labels-told").textContent = t("drawing", (i + 1).toLocaleString(language), list.length.toLocaleString(language));
+      await pause();
+      if (turn !== shop.turns) return false;
+      last = performance.now();
+    }
+    return true;
+  };
+}
+
+// ---- showing
+
+// The labels of a page, each at whole dots of it.
+function pageOf(number) {
+  const { stock, dpi, labels } = shop.made, dots = DOTS_IN_MM[dpi], first = firstCell(stock), page = [];
+  for (let cell = 0; cell < stock.cells; cell++) {
+    const drawing = labels[number * stock.cells + cell - first];
+    if (!drawing || number * stock.cells + cell < first) continue;
+    const { left, top } = stock.place(cell);
+    page.push({ left: Math.round(left * dots), top: Math.round(top * dots), drawing });
+  }
+  return page;
+}
+
+const pageCount = () => Math.ceil((firstCell(shop.made.stock) + shop.made.labels.length) / shop.made.stock.cells);
+const allPages = () => Array.from({ length: pageCount() }, (_, number) => pageOf(number));
+
+const svgElement = (text) => document.importNode(new DOMParser().parseFromString(text, "image/svg+xml").documentElement, true);
+
+// The edges of the labels, on the screen alone; those before the first free one are used up.
+function gridOf(stock, dots, used) {
+  return Array.from({ length: stock.cells }, (_, cell) => {
+    const { left, top } = stock.place(cell), [x, y, width, height] = [left, top, stock.width, stock.height].map((length) => places(length * dots));
+    return `<rect class="cell${cell < used ? " used" : ""}" data-cell="${cell}" x="${x}" y="${y}" width="${width}" height="${height}" rx="${places(1.5 * dots)}"/>`;
+  }).join("");
+}
+
+function showSheet() {
+  const { stock, dpi, labels } = shop.made, dots = DOTS_IN_MM[dpi], count = Math.max(1, pageCount());
+  shop.page = Math.min(shop.page, count - 1);
+  const used = shop.page ? 0 : firstCell(stock), sheet = svgElement(svgOfPage(pageOf(shop.page), stock, dots, gridOf(stock, dots, used)));
+  sheet.setAttribute("role", "img");
+  sheet.setAttribute("aria-label", labels.length ? t("sheetLabel", shop.page + 1, count, pageOf(shop.page).map(({ drawing: { item } }) => [item.name.slice(0, MOST_NAME_TOLD), item.price, item.text].filter(Boolean).join(" ")).join("; ")) : t("sheetEmpty"));
+  at("paper").replaceChildren(sheet);
+  at("paper").className = `${shop.zoom}${stock.isRoll ? " roll" : ""}`;
+  at("sheet-no").textContent = t("sheetNo", shop.page + 1, count);
+  at("back").disabled = !shop.page;
+  at("next").disabled = shop.page >= count - 1;
+  at("pager").hidden = count < 2;
+  at("empty").hidden = labels.length > 0;
+  at("sizes").textContent = stock.isRoll ? t("sizeRoll", mm(stock.width), mm(stock.height), dpi) : t("sizeSheet", mm(stock.width), mm(stock.height), PAGE_NAMES[stock.page.name] ?? stock.page.name, mm(stock.page.width), mm(stock.page.height), dpi);
+}
+
+const PAGE_NAMES = { a4: "A4", letter: "Letter" };
+
+const mm = (length) => length.toLocaleString(language, { maximumFractionDigits: 1 });
+
+function showLabels() {
+  const { labels, faults, stock } = shop.made, count = labels.length;
+  showSheet();
+  at("first").max = stock.cells;
+  at("first-field").hidden = stock.isRoll;
+  const sum = count ? `${many("labelCount", count)} ${stock.isRoll ? t("onRoll") : many("onSheets", pageCount())}` : "";
+  at("labels-told").replaceChildren(...toldParts([sum, ""], [faults.length ? many("leftOut", faults.length) : "", "wrong"], [sum || faults.length ? "" : t("noList"), "soft-told"]));
+  at("example").hidden = at("list").value.trim() !== "";
+  at("clear").hidden = !at("example").hidden;
+  for (const id of OUTPUTS) at(id).disabled = !count;
+  showFaults();
+  showWarnings();
+}
+
+function showFaults() {
+  const { faults } = shop.made;
+  at("faults").hidden = !faults.length;
+  at("faults-title").textContent = many("faultCount", faults.length);
+  at("fault-list").replaceChildren(...faults.slice(0, MOST_FAULTS_SHOWN).map(faultItem));
+  at("faults-more").textContent = faults.length > MOST_FAULTS_SHOWN ? t("faultsMore", faults.length - MOST_FAULTS_SHOWN) : "";
+}
+
+function faultItem({ line, typed, name, fault }) {
+  const use = fault.fix && make("button", { type: "button", class: "small", onclick: () => mend(line, typed, fault.fix) }, t("useFix", fault.fix)), shown = shortText(typed);
+  return make("li", {}, make("button", { type: "button", class: "line", onclick: () => goToLine(line) }, t("line", line)),
+    make("div", {}, make("p", { class: "typed" }, make("span", { class: "mono" }, shown || "–"), name ? ` ${shortText(name)}` : ""), make("p", {}, remedyText(fault), " ", make("span", { class: "code" }, faultName(fault))), use));
+}
+
+// Warnings that are the same are told once, with how many labels they are of and the worst of them.
+function showWarnings() {
+  const told = new Map();
+  for (const { warnings } of new Set(shop.made.labels)) {
+    for (const warning of warnings) {
+      const { count = 0, worst = warning } = told.get(warning.key) ?? {};
+      told.set(warning.key, { count: count + 1, worst: warning.rank < worst.rank ? warning : worst });
+    }
+  }
+  at("warnings").replaceChildren(...[...told.values()].map(({ count, worst }) => make("li", {}, `${many("labelCount", count)}: ${remedyText(worst)}`)));
+}
+
+// What the columns are, to be put right by hand.
+function showColumns(found) {
+  const { wide, headings, places } = found ?? { wide: 0, headings: [], places: {} }, nameOf = (place) => headings[place] || t("columnNo", place + 1);
+  at("columns").hidden = !wide;
+  for (const meaning of COLUMNS) {
+    const options = Array.from({ length: wide }, (_, place) => new Option(nameOf(place), place));
+    at(`column-${meaning}`).replaceChildren(new Option(t("none"), -1), ...options);
+    at(`column-${meaning}`).value = places[meaning]?.[0] ?? -1;
+  }
+  at("columns-told").textContent = COLUMNS.filter((meaning) => places[meaning]?.length).map((meaning) => `${t(`column-${meaning}`)} = ${places[meaning].map(nameOf).join(" + ")}`).join(", ");
+  if (wide && !places.gtin?.length && !places.gs1?.length) at("columns").open = true;
+}
+
+// ---- the list
+
+// Where a line begins and ends in the list.
+function spanOfLine(line) {
+  const text = at("list").value;
+  let from = 0;
+  for (let i = 1; i < line; i++) from = text.indexOf("\n", from) + 1;
+  const end = text.indexOf("\n", from);
+  return { from, end: end < 0 ? text.length : end };
+}
+
+function goToLine(line) {
+  const list = at("list"), { from, end } = spanOfLine(line);
+  list.focus();
+  list.setSelectionRange(from, end);
+  list.scrollTop = (line - 3) * parseFloat(getComputedStyle(list).lineHeight);
+}
+
+// Puts the right number in place of the wrong one.
+function mend(line, typed, right) {
+  const list = at("list"), { from } = spanOfLine(line), place = list.value.indexOf(typed, from);
+  if (place < 0) return goToLine(line);
+  list.setRangeText(right, place, place + typed.length, "end");
+  list.focus();
+  note(t("mended", line));
+  document.made = makeLabels();
+}
+
+// The text of a file; or nothing, and why is said there: what was typed stays.
+async function textOf(file, place) {
+  at(place).textContent = "";
+  try {
+    // One byte more says that there are too many.
+    return decoded(new Uint8Array(await file.slice(0, LIMIT + 1).arrayBuffer()));
+  } catch (error) {
+    at(place).textContent = error instanceof Faults ? `${file.name}: ${remedyText(error.faults[0].fault)}` : t("noFile", file.name);
+    return null;
+  }
+}
+
+async function takeList(file) {
+  const text = await textOf(file, "list-fault");
+  if (text === null) return;
+  setList(text);
+  note(t("taken", file.name));
+}
+
+function setList(text) {
+  at("list-fault").textContent = "";
+  // A text field has no other ends of lines.
+  at("list").value = text.replace(/\r\n?/g, "\n");
+  [shop.chosen, shop.page] = [{}, 0];
+  document.made = makeLabels();
+}
+
+// ---- printing and saving
+
+const paper = new CSSStyleSheet();
+
+// Puts all pages on paper: where a page has its size from.
+function preparePrint() {
+  document.body.classList.toggle("sheets", !at("labels").hidden);
+  document.adoptedStyleSheets = at("labels").hidden ? [] : [paper];
+  if (!shop.made?.isDone || at("labels").hidden) return;
+  const { stock, dpi } = shop.made;
+  paper.replaceSync(`@page { size: ${stock.page.width}mm ${stock.page.height}mm; margin: 0 }`);
+  at("printed").replaceChildren(...allPages().map((page) => svgElement(svgOfPage(page, stock, DOTS_IN_MM[dpi]))));
+}
+
+// The pages as files: one as it is, several in a ZIP.
+async function savePages(ending, type, bytesOf) {
+  const pages = allPages(), files = [];
+  for (const [i, page] of pages.entries()) {
+    note(t("saving", i + 1, pages.length));
+    files.push({ name: `labels-${String(i + 1).padStart(2, "0")}.${ending}`, bytes: await bytesOf(page) });
+    await pause();
+  }
+  if (files.length === 1) save(files[0].bytes, `labels.${ending}`, type);
+  else save(zipOf(files), `labels-${ending}.zip`, "application/zip");
+  note(t("saved"));
+}
+
+const SAVES = {
+  pdf: async ({ stock, dpi }) => { save(await pdfOf(allPages(), stock, DOTS_IN_MM[dpi]), "labels.pdf", "application/pdf"); note(t("saved")); },
+  svg: ({ stock, dpi }) => savePages("svg", "image/svg+xml", (page) => new TextEncoder().encode(svgOfPage(page, stock, DOTS_IN_MM[dpi]))),
+  png: ({ stock, dpi }) => savePages("png", "image/png", (page) => pngOfPage(page, stock, dpi)),
+  // One after another, each once with how many there are to be of it.
+  zpl: async ({ cell, labels }) => {
+    const drawings = [...new Set(labels)], parts = [];
+    for (const [i, drawing] of drawings.entries()) {
+      parts.push(zplOfLabel(drawing, cell, drawing.item.copies));
+      if (i % 20) continue;
+      note(t("savingLabel", i + 1, drawings.length));
+      await pause();
+    }
+    save(parts.join(""), "labels.zpl", "text/plain");
+    note(t("saved"));
+  },
+};
+
+// ---- start
+
+function fillStocks() {
+  const groups = { a4: make("optgroup"), letter: make("optgroup"), rolls: make("optgroup") }, chosen = at("stock").value || memory.get("stock");
+  for (const [name, text] of Object.entries(STOCKS)) {
+    const stock = stockOf(text), size = `${mm(stock.width)} × ${mm(stock.height)} mm`;
+    const label = !stock.isRoll ? t("stockOption", size, stock.cells, name) : name === text ? size : `${size} · ${name}`;
+    groups[stock.isRoll ? "rolls" : stock.page.name].append(new Option(label, name));
+  }
+  for (const [name, group] of Object.entries(groups)) group.label = t(`group-${name}`);
+  at("stock").replaceChildren(...Object.values(groups), new Option(t("ownSize"), "own"));
+  at("stock").value = STOCKS[chosen] || chosen === "own" ? chosen : "3474";
+}
+
+// The modules that a printer has, in whole dots.
+function fillModules() {
+  const stock = stockChosen(), dots = DOTS_IN_MM[stock ? dpiFor(stock) : 300], before = at("module").value;
+  const options = modulesAllowed({ form: { modules: SHOP.modules.cases } }, dots).map((module) => new Option(t("moduleOption", module, (module / dots).toLocaleString(language, { maximumFractionDigits: 3 })), module));
+  at("module").replaceChildren(new Option(t("automatic"), 0), ...options);
+  at("module").value = options.some(({ value }) => value === before) ? before : "0";
+}
+
+function changeStock() {
+  memory.set("stock", at("stock").value);
+  at("own").hidden = at("stock").value !== "own";
+  shop.page = 0;
+  fillModules();
+  document.made = makeLabels();
+}
+
+function listenToLabels() {
+  let waiting;
+  at("list").addEventListener("input", () => {
+    at("list-fault").textContent = "";
+    clearTimeout(waiting);
+    waiting = setTimeout(() => { document.made = makeLabels(); }, 120);
+  });
+  at("open").addEventListener("click", () => at("list-file").click());
+  at("list-file").addEventListener("change", () => { if (at("list-file").files[0]) document.taken = takeList(at("list-file").files[0]); at("list-file").value = ""; });
+  at("example").addEventListener("click", () => setList(t("exampleList")));
+  at("clear").addEventListener("click", () => { setList(""); at("list").focus(); });
+  at("stock").addEventListener("change", changeStock);
+  at("dpi").addEventListener("change", changeStock);
+  at("own").addEventListener("input", () => { document.made = makeLabels(); });
+  for (const id of ["first", "module"]) at(id).addEventListener("input", () => { document.made = makeLabels(); });
+  for (const meaning of COLUMNS) at(`column-${meaning}`).addEventListener("change", (event) => { shop.chosen[meaning] = Number(event.target.value); document.made = makeLabels(); });
+  at("back").addEventListener("click", () => { shop.page--; showSheet(); });
+  at("next").addEventListener("click", () => { shop.page++; showSheet(); });
+  for (const zoom of ["fit", "real"]) at(`zoom-${zoom}`).addEventListener("click", () => setZoom(zoom));
+  at("paper").addEventListener("click", ({ target }) => takeFirst(target.dataset.cell));
+  for (const [id, saving] of Object.entries(SAVES)) at(id).addEventListener("click", () => { document.saved = saving(shop.made); });
+  at("print").addEventListener("click", () => print());
+  addEventListener("beforeprint", preparePrint);
+  addEventListener("afterprint", () => at("printed").replaceChildren());
+}
+
+function setZoom(zoom) {
+  shop.zoom = zoom;
+  for (const one of ["fit", "real"]) at(`zoom-${one}`).setAttribute("aria-pressed", one === zoom);
+  showSheet();
+}
+
+// The cell of the first sheet that was tapped is the first free one.
+function takeFirst(cell) {
+  if (cell === undefined || shop.page || shop.made.stock.isRoll) return;
+  if (Number(cell) === firstCell(shop.made.stock)) return;
+  at("first").value = Number(cell) + 1;
+  note(t("firstNow", Number(cell) + 1));
+  document.made = makeLabels();
+}

@@ -1,0 +1,113 @@
+// Texts as people type and paste them: numbers, element strings as they are printed, and what scanners send. As
+// python/noriladle/_texts.py.
+"use strict";
+
+const BRACKETED = { "(": /\((\d{2,4})\)([^()]+)/g, "[": /\[(\d{2,4})\]([^\][]+)/g };
+const LINK = /^https?:\/\//i, ROUNDED = /^\p{Nd}([.,]\p{Nd}+)?E\+?\p{Nd}+$/iu;
+
+// White space as Python has it; and a cell without it at its ends.
+const WHITE = /(?:[^\S\ufeff]|[\x1c-\x1f\x85])+/g, WHITE_ENDS = RegExp(`^${WHITE.source}|${WHITE.source}$`, "g");
+const trimmed = (cell) => cell.replace(WHITE_ENDS, "");
+
+// A code without white space at its ends; the separator is none.
+const stripped = (text) => text.replace(/^(?:[^\S\ufeff]|[\x1c\x1e\x1f\x85])+|(?:[^\S\ufeff]|[\x1c\x1e\x1f\x85])+$/g, "");
+
+// A number without the blanks and hyphens that people put into it.
+const digitsOf = (text) => text.replace(/(?:[^\S\ufeff]|[\x1c-\x1f\x85\u2010-\u2015-])+/g, "");
+
+// Whether a text is an element string: it has parentheses around its first AI, or a separator.
+const isElements = (text) => text[0] in BRACKETED || /[\^\x1d]/.test(text);
+
+// Whether a cell is written like a text that is asked about, be it right or wrong.
+function looksRight(cell) {
+  const text = stripped(cell);
+  if (text && "([]^\x1d".includes(text[0])) return /^([([]\d\d|\]\w\d|[\^\x1d]\d\d)/.test(text);
+  const digits = digitsOf(text);
+  return /^\p{Nd}{7,14}$/u.test(digits) || ROUNDED.test(digits) || LINK.test(text);
+}
+
+// What a text says: the identifier that a scanner sent, and the elements; or the refusal; or the fault of a text that cannot be asked
+// about at all.
+function readText(typed) {
+  const text = stripped(typed);
+  if (text[0] in BRACKETED) {
+    const pairs = bracketedPairs(text);
+    return pairs ? scanned(`^${pairs.map(({ ai, value }) => ai + value).join("^")}`) : { fault: { key: text[0] === "(" ? "parentheses" : "brackets" } };
+  }
+  if (text[0] === "]" || LINK.test(text)) return scanned(text);
+  if (isElements(text)) return scanned(/^[\^\x1d]/.test(text) ? text : `^${text}`);
+  const digits = digitsOf(text);
+  // Eight digits that begin with 0 are a GTIN-8 or a UPC-E: the module refuses to guess.
+  if (/^0[0-9]{7}$/.test(digits)) return scanned(digits);
+  const said = core.gtin(digits);
+  return said.startsWith("refused") ? { refused: said } : scanned(`^01${said.slice(5)}`);
+}
+
+function scanned(text) {
+  const said = core.scan(text);
+  if (said.startsWith("refused")) return { refused: said };
+  const identifier = said.slice(0, said.indexOf(" "));
+  return { identifier: identifier === "-" ? "" : identifier, elements: pairsOf(said) };
+}
+
+// The AIs of a text with parentheses or brackets around each, with their values; or nothing where they stand elsewhere too.
+function bracketedPairs(text) {
+  const plain = text.replace(WHITE, ""), pattern = BRACKETED[text[0]];
+  return plain.replace(pattern, "") ? null : Array.from(plain.matchAll(pattern), ([, ai, value]) => ({ ai, value }));
+}
+
+// The element string of a text with parentheses or brackets around each AI, or with ^ for the separator.
+const elementString = (text) => text[0] in BRACKETED ? bracketedPairs(text).map(({ ai, value }) => ai + value).join("\x1d") : text.replaceAll("^", "\x1d");
+
+// What to do about a text that is refused: what its digits say, or else what is usual; and what would be right, where that is one thing.
+function remedyOf(typed, refused) {
+  const text = stripped(typed), refusal = refusalOf(refused);
+  if (text[0] === "]" || LINK.test(text)) return remedyOfScan(text, refusal);
+  return isElements(text) ? remedyOfElements(text, refusal) : remedyOfDigits(digitsOf(text), refusal);
+}
+
+const usualRemedy = (text, { number, place }) => ({ key: number, values: [Array.from(text)[place] ?? ""] });
+
+function remedyOfScan(text, refusal) {
+  if (refusal.number === 40) return text[0] === "]" ? { key: "otherSymbol", values: [text.slice(0, 3)] } : { key: "noLink" };
+  const digits = text.slice(3), isNumber = refusal.number === 3 && /^\d{9,}$/.test(digits);
+  if (!isNumber) return usualRemedy(digits, refusal);
+  const remedy = remedyOfDigits(digits, refusal);
+  return { ...remedy, fix: remedy.fix && text.slice(0, 3) + remedy.fix };
+}
+
+// The remedy, with the element that it is about.
+function remedyOfElements(text, refusal) {
+  const { place } = refusal, remedy = usualRemedy(text, refusal);
+  if (place === undefined) return remedy;
+  if (!(text[0] in BRACKETED)) {
+    const plain = /^[\^\x1d]/.test(text) ? text.slice(1) : text;
+    return { key: "at", values: [Array.from(plain).slice(place, place + 20).join("").replaceAll("\x1d", "^"), remedy] };
+  }
+  let at = 0;
+  for (const { ai, value } of bracketedPairs(text)) {
+    if (at === place) return { key: "at", values: [text[0] + ai + (text[0] === "(" ? ")" : "]") + value, padded(ai, value) ?? remedy] };
+    at += ai.length + value.length + 1;
+  }
+  return remedy;
+}
+
+// What to do about a GTIN that was written without the zeros that AI 01 and 02 want.
+function padded(ai, value) {
+  const said = ai === "01" || ai === "02" ? core.gtin(value) : "", gtin = said.slice(5);
+  return said.startsWith("gtin") && gtin !== value ? { key: "padded", values: [ai, gtin] } : null;
+}
+
+function remedyOfDigits(digits, refusal) {
+  const right = (key, fix) => ({ key, values: [fix], fix }), isNumber = /^[0-9]+$/.test(digits);
+  if (ROUNDED.test(digits)) return { key: "rounded" };
+  if (/^\p{Nd}{8,14}[.,]0+$/u.test(digits)) return right("decimals", digits.split(/[.,]/)[0]);
+  if (refusal.name === "CheckDigit") return right("checkDigit", digits.slice(0, -1) + core.digit(digits.slice(0, -1)));
+  if (refusal.name === "Kind" && digits.length === 8) return { key: "eight", values: [digits] };
+  for (const length of isNumber && digits.length > 5 ? [8, 12, 13] : []) {
+    const longer = digits.padStart(length, "0");
+    if (longer !== digits && longer.length === length && longer.at(-1) === core.digit(longer.slice(0, -1))) return right("zeros", longer);
+  }
+  if (isNumber && digits.length > 14) return { key: "manyDigits", values: [digits], fix: `^${digits}` };
+  return usualRemedy(digits, refusal);
+}

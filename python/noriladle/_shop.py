@@ -1,0 +1,27 @@
+"""What the page and the commands share: the forms of barcodes, label stock, headings of lists, and what to say of a fault.
+
+python/build puts the files of the repository's folder shop/ beside this module.
+"""
+from __future__ import annotations
+
+import json
+from functools import lru_cache
+from pathlib import Path
+from typing import Any, Dict
+
+
+@lru_cache(maxsize=None)
+def _file(name: str) -> Dict[str, Any]:
+    told: Dict[str, Any] = json.loads((Path(__file__).with_name("shop") / f"{name}.json").read_text("utf-8"))
+    return told
+
+
+def shared(name: str) -> Any:
+    """A part of shop/shop.json."""
+    return _file("shop")[name]
+
+
+def said(fault: object, *values: object) -> str:
+    """What to say of a fault, by its name or the number of its refusal, with these values in it."""
+    told: str = _file("en")["faults"][str(fault)]
+    return told.format(*values)

@@ -1,0 +1,43 @@
+"""What the tests of the page compare, and how often it was wrong; and how they take times."""
+import contextlib
+import json
+import os
+import sys
+
+counts = {"compared": 0, "wrong": 0}
+
+
+def same(what, got, wanted):
+    counts["compared"] += 1
+    if got != wanted:
+        counts["wrong"] += 1
+        print(f"wrong: {what}: {str(got)[:400]}, not {str(wanted)[:400]}", file=sys.stderr, flush=True)
+
+
+def ended():
+    """Prints the counts, and answers the status."""
+    print(f"{counts['compared']} compared, {counts['wrong']} wrong")
+    return counts["wrong"] != 0 or not counts["compared"]
+
+
+@contextlib.contextmanager
+def before_others():
+    """Runs what is started here before other work of the machine, where that is allowed, and else says by how much limits are to grow."""
+    try:
+        os.sched_setscheduler(0, os.SCHED_RR, os.sched_param(1))
+        yield 1
+    except PermissionError:
+        yield max(1, os.getloadavg()[0] / os.cpu_count())
+    finally:
+        os.sched_setscheduler(0, os.SCHED_OTHER, os.sched_param(0))
+
+
+def texts():
+    """The page's texts by language, as the repository has them."""
+    folder = os.path.join(os.path.dirname(os.path.dirname(os.path.dirname(os.path.abspath(__file__)))), "shop")
+    found = {}
+    for name in sorted(os.listdir(folder)):
+        if len(name) == 7:
+            with open(os.path.join(folder, name), encoding="utf-8") as file:
+                found[name[:2]] = json.load(file)
+    return found

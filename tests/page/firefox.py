@@ -1,0 +1,124 @@
+"""Headless Firefox, spoken to by its Marionette protocol, as a person does: by keys, the mouse and files."""
+import base64
+import json
+import os
+import shutil
+import socket
+import subprocess
+import tempfile
+import time
+
+KEYS = {"Tab": "\ue004", "Enter": "\ue007", "ArrowRight": "\ue014", "ArrowLeft": "\ue012"}
+
+
+class Firefox:
+    """A browser with one page open. It is ended and its profile removed by `close`."""
+
+    def __init__(self, url, width=1280, height=900, language="en-GB", folder="."):
+        self._profile = tempfile.mkdtemp()
+        with socket.create_server(("127.0.0.1", 0)) as free:
+            port = free.getsockname()[1]
+        settings = {"marionette.port": port, "intl.accept_languages": language, "browser.download.folderList": 2,
+                    "browser.download.dir": os.path.abspath(folder), "browser.download.always_ask_before_handling_new_types": False,
+                    "browser.helperApps.neverAsk.saveToDisk": "application/pdf,image/png,image/svg+xml,text/plain,text/csv,application/json,application/zip",
+                    "pdfjs.disabled": True, "browser.download.alwaysOpenPanel": False}
+        with open(os.path.join(self._profile, "user.js"), "w", encoding="utf-8") as file:
+            file.writelines(f"user_pref({json.dumps(name)}, {json.dumps(value)});\n" for name, value in settings.items())
+        self._process = subprocess.Popen(["firefox-esr", "--headless", "--marionette", "--no-remote", "--profile", self._profile],
+                                         stdout=subprocess.DEVNULL, stderr=subprocess.DEVNULL)
+        self._socket, self._left, self._number = self._connected(port), b"", 0
+        self._read()
+        self._call("WebDriver:NewSession", capabilities={"alwaysMatch": {"acceptInsecureCerts": False}})
+        self._call("WebDriver:SetTimeouts", script=120000, pageLoad=120000)
+        self._call("WebDriver:SetWindowRect", width=width, height=height)
+        self._call("WebDriver:Navigate", url=url)
+        self.until("document.readyState === 'complete' && !!document.started && !document.getElementById('old')")
+
+    def _connected(self, port):
+        limit = time.time() + 90
+        while True:
+            try:
+                return socket.create_connection(("127.0.0.1", port), timeout=180)
+            except OSError:
+                if time.time() > limit or self._process.poll() is not None:
+                    raise
+                time.sleep(0.2)
+
+    def _read(self):
+        """A message: its length, a colon, and JSON."""
+        while b":" not in self._left:
+            self._left += self._socket.recv(1 << 16)
+        size, self._left = self._left.split(b":", 1)
+        while len(self._left) < int(size):
+            self._left += self._socket.recv(1 << 20)
+        message, self._left = self._left[:int(size)], self._left[int(size):]
+        return json.loads(message)
+
+    def _call(self, command, **params):
+        self._number += 1
+        message = json.dumps([0, self._number, command, params]).encode()
+        self._socket.sendall(str(len(message)).encode() + b":" + message)
+        _, _, error, result = self._read()
+        if error:
+            raise RuntimeError(f"{command}: {error['error']}: {error['message']}")
+        return result
+
+    def value(self, script):
+        """The value of a script, awaited. It sees the page's elements, and not what its scripts declare."""
+        told = self._call("WebDriver:ExecuteAsyncScript", script=f"""const done = arguments[arguments.length - 1];
+            (async () => ({script}))().then((value) => done(value ?? null), (error) => done('error: ' + error));""", args=[])
+        return told["value"]
+
+    def until(self, script, seconds=60):
+        limit = time.time() + seconds
+        while not self.value(script):
+            if time.time() > limit:
+                raise TimeoutError(script)
+            time.sleep(0.05)
+
+    def _element(self, selector):
+        return next(iter(self._call("WebDriver:FindElement", using="css selector", value=selector)["value"].values()))
+
+    def text(self, name):
+        return self.value(f"document.getElementById({json.dumps(name)}).innerText")
+
+    def click(self, selector):
+        # What is fixed at the window's edges must not cover it.
+        self.value(f"document.querySelector({json.dumps(selector)}).scrollIntoView({{ block: 'center' }})")
+        self._call("WebDriver:ElementClick", id=self._element(selector))
+
+    def fill(self, selector, text):
+        self._call("WebDriver:ElementClear", id=self._element(selector))
+        self._call("WebDriver:ElementSendKeys", id=self._element(selector), text=text)
+
+    def press(self, key):
+        self._call("WebDriver:PerformActions", actions=[{"type": "key", "id": "keys", "actions": [
+            {"type": "keyDown", "value": KEYS.get(key, key)}, {"type": "keyUp", "value": KEYS.get(key, key)}]}])
+
+    def files(self, selector, *paths):
+        self._call("WebDriver:ElementSendKeys", id=self._element(selector), text="\n".join(map(os.path.abspath, paths)))
+
+    def downloads(self, folder):
+        """It was said when the browser was started."""
+
+    def printed(self, width, height):
+        """What the printer gets, as PDF, of a paper of this size in mm."""
+        page = {"width": width / 10, "height": height / 10}
+        told = self._call("WebDriver:Print", page=page, margin=dict.fromkeys(("top", "bottom", "left", "right"), 0), background=True, shrinkToFit=False)
+        return base64.b64decode(told["value"])
+
+    def picture(self, path):
+        """Leaves a picture of the page."""
+        told = self._call("WebDriver:TakeScreenshot", full=True)
+        with open(path, "wb") as file:
+            file.write(base64.b64decode(told["value"]))
+
+    def close(self):
+        try:
+            self._call("Marionette:Quit", flags=["eForceQuit"])
+            self._process.wait(30)
+        except (OSError, RuntimeError, subprocess.TimeoutExpired):
+            self._process.kill()
+            self._process.wait()
+        self._socket.close()
+        shutil.rmtree(self._profile, ignore_errors=True)

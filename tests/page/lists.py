@@ -1,0 +1,92 @@
+"""Lists as the page and `noriladle labels` take them: the same articles, and the same said of each faulty line.
+
+Usage: lists.py COUNT. Makes so many lists, most of them damaged, asks both, and prints what differs. Its last line is the counts.
+"""
+import base64
+import json
+import os
+import random
+import re
+import subprocess
+import sys
+
+ROOT = os.path.dirname(os.path.dirname(os.path.dirname(os.path.abspath(__file__))))
+sys.path.insert(0, os.path.join(ROOT, "python"))
+from noriladle._columns import table_of
+from noriladle._lists import Faults
+from noriladle.labels._articles import articles_of
+
+NUMBERS = ["4012345010008", "4012345010374", "96385074", "012345000065", "09501101530003", "978-3-16-148410-0", "4012345010375", "4,01235E+12",
+           "12345000065", "1234565", "01234565", "4012345010008.0", "123", "", "401234501000x", "0109501101530003", "٤٠١٢٣٤٥٠١٠٠٠٨",
+           "(01)09501101530003(17)261231(10)LOT7", "(01)9501101530003", "(01)09501101530003(17)261331", "[10]A(B)C", "(10)A(B)", "(98765)1",
+           "^10AB^17261231", "10AB\x1d17261231", "]C110AB^17261231", "]E04012345010008", "]E001234565", "]E04012345010375", "]E3abc",
+           "https://id.gs1.org/01/09501101530003", "https://example.com/x", "]Q1https://id.gs1.org/01/09501101530003"]
+NAMES = ["Haferkekse", "Rye bread", "Käse, jung", "Blütenhonig \"cremig\"", "EAN reader", "", "שלום", "🍎 Apfel", "x" * 400, "a\nb", "u\u0308ber"]
+PRICES = ["2,90", "2.90 €", "€ 1.10", "1,10 €/Stk", "", "12345,67", "CHF 3.50", "x"]
+HEADINGS = [["EAN", "GTIN", "Strichcode", "Code-barres", "Artikelnummer", "gs1", "EAN Karton", "Nummer", ""], ["Name", "Artikel", "Bezeichnung", "Libellé", "Towar", "x"],
+            ["Preis", "price", "Prix TTC", "Cena brutto", "VK (EUR)"], ["copies", "Etiketten", "Anzahl"], ["kind", "Art", "Codeart"], ["Zeile 1", "line2", "Text"]]
+OTHERS = [["1", "3", "", "0", "1001", "-1", "²"], ["", "ean13", "EAN-8", "upce", "qr", "gs1128", "itf14"], ["1 kg = 4,79 €", "", "neu"]]
+PIECES = ['"', ";", ",", "\t", "\r", "\n", "(01)", "^", "ü", "u\u0308", "9" * 30, "E+12", "€", " ", "\xa0", "-", "=" * 300, "\x1d", "copies", "2000", "{}", "<&>",
+          "]E0", "[10]", "https://", "\x1f", "sep=;\n", "gtin", "\0", "\ufeff", "ß", "ł", "²", "\u2007"]
+
+
+def listed(chance):
+    """A list as people may have one, with or without a heading, in one of the ways that it is saved."""
+    delimiter, end = chance.choice([";", "\t", ",", ";"]), chance.choice(["\n", "\r\n", "\n", "\r"])
+    columns = chance.choice([[0], [0, 1], [0, 1, 2], [1, 0, 2], [0, 1, 2, 3], [0, 1, 2, 3, 4, 5], [2, 1, 0], [0, 0, 1], [0, 1, 2, 2]])
+    cells = [NUMBERS if it == 0 else NAMES if it == 1 else PRICES if it == 2 else OTHERS[it - 3] for it in columns]
+    rows = [[chance.choice(it[:5] if it is NUMBERS and chance.random() < 0.6 else it) for it in cells] for _ in range(chance.randrange(1, 7))]
+    if chance.random() < 0.7:
+        rows.insert(0, [chance.choice(HEADINGS[it]) for it in columns])
+    if chance.random() < 0.1:
+        rows.insert(0, ["Preisliste"] + [""] * (len(columns) - 1))
+
+    def quoted(cell):
+        return '"' + cell.replace('"', '""') + '"' if set(cell) & {delimiter, '"', "\n", "\r"} or chance.random() < 0.1 else cell
+    text = "".join(delimiter.join(map(quoted, row)) + end for row in rows)
+    return f"sep={delimiter}{end}{text}" if chance.random() < 0.05 else text
+
+
+def made(count):
+    chance = random.Random(11)
+    for number in range(count):
+        text = listed(chance)
+        for _ in range(chance.choice([0, 0, 1, 2, 4])):
+            at = chance.randrange(len(text) + 1)
+            text = text[:at] + chance.choice(PIECES) + text[at:] if chance.random() < 0.7 else text[:at] + text[at + chance.randrange(1, 6):]
+        encoding = chance.choice(["utf-8", "utf-8", "utf-8-sig", "utf-16", "cp1252"])
+        data = text.encode(encoding, "replace")
+        if chance.random() < 0.05:
+            at = chance.randrange(len(data) + 1)
+            data = data[:at] + bytes([chance.randrange(256)]) + data[at:]
+        yield chance.choice([b"PK\x03\x04", b"%PDF-", b"\x89PNG", b"\x1f\x8b"]) + data if number % 500 == 7 else data
+
+
+def by_python(data):
+    """As the page's, without what speaks of the command's options."""
+    try:
+        articles, faults = articles_of(table_of(data, 2026), 2026)
+    except Faults as error:
+        articles, faults = [], error.faults
+    told = [[it.line, it.kind.name.lower(), it.text, it.name, it.price, list(it.lines), it.copies] for it in articles]
+    return {"articles": told, "faults": [[it.line, re.sub(r", as in --column .*|: noriladle read takes it$", "", it.said, flags=re.DOTALL)] for it in faults]}
+
+
+def main():
+    lists = list(made(int(sys.argv[1])))
+    asked = "".join(base64.b64encode(it).decode() + "\n" for it in lists)
+    told = subprocess.run(["node", f"{ROOT}/tests/page/lists.js"], input=asked.encode(), stdout=subprocess.PIPE, check=True).stdout.decode().split("\n")[:-1]
+    differ = good = faulty = 0
+    for data, line in zip(lists, told):
+        page, wanted = json.loads(line), by_python(data)
+        good, faulty = good + len(wanted["articles"]), faulty + len(wanted["faults"])
+        if page != wanted:
+            differ += 1
+            if differ <= 20:
+                print(f"differs: {data!r}\n  page   {page}\n  Python {wanted}", file=sys.stderr)
+    print(f"{len(told)} of {len(lists)} lists, {good} articles and {faulty} faulty lines: page and command differ in {differ}")
+    return differ != 0 or len(told) != len(lists) or good < len(lists) / 2 or faulty < len(lists) / 2
+
+
+if __name__ == "__main__":
+    sys.exit(main())
