@@ -7,11 +7,11 @@ import itertools
 import math
 import re
 import socket
-import struct
 import time
 from typing import AsyncIterator, Awaitable, Dict, Iterator, List, Optional, Protocol, Set, Tuple, Union
 
 from . import Answer, Refusal
+from ._rights import Rights, all_rights, name_of_token, unix_names
 from ._scans import Scans, ScanLane, text_of
 from ._service import Log, Metrics
 from .live import Hub, HubEnded, Lane
@@ -35,7 +35,8 @@ class Connection:
     def __init__(self, reader: asyncio.StreamReader, writer: asyncio.StreamWriter) -> None:
         self.reader, self.writer = reader, writer
         self.is_unix = writer.get_extra_info("socket").family == socket.AF_UNIX
-        self.peer = _peer(writer, self.is_unix)
+        self.peer, self.names = _peer(writer, self.is_unix)
+        self.asked = ("", "")
         self.task = asyncio.current_task()
         self.closed = ""
         self.is_patient = False
@@ -66,13 +67,27 @@ class Connection:
                 yield lines
 
 
-def _peer(writer: asyncio.StreamWriter, is_unix: bool) -> str:
-    """Who it is: the process and the user at the other end of a UNIX socket, or the address."""
+def _peer(writer: asyncio.StreamWriter, is_unix: bool) -> Tuple[str, Set[str]]:
+    """Who it is, as log lines tell it, and its names in a table of rights."""
     if is_unix:
-        sent = writer.get_extra_info("socket").getsockopt(socket.SOL_SOCKET, socket.SO_PEERCRED, struct.calcsize("3i"))
-        pid, user, _ = struct.unpack("3i", sent)
-        return f"pid-{pid}:uid-{user}"
-    return ":".join(map(str, (writer.get_extra_info("peername") or ("gone",))[:2]))
+        told, names = unix_names(writer.get_extra_info("socket"))
+    else:
+        told, names = ":".join(map(str, (writer.get_extra_info("peername") or ("gone",))[:2])), set()
+        subject = (writer.get_extra_info("peercert") or {}).get("subject", ())
+        names |= {f"certificate {value}" for part in subject for name, value in part if name == "commonName"}
+    return told, {"anyone", *names}
+
+
+class Client(Protocol):
+    """Whoever has a right: a connection or a page."""
+
+    names: Set[str]
+    """Its names in a table of rights."""
+    asked: Tuple[str, str]
+    """The right that it uses, as ``watch``, and in which lane; empty before it does."""
+
+    def close(self, why: str) -> None:
+        """Ends it."""
 
 
 class Role(Protocol):
@@ -190,15 +205,18 @@ class Gateway:
     """The connections of one hub. `idle` is how many seconds each may send nothing, or take nothing; `kept` is how many
     lanes TCP connections leave to those over the UNIX socket; `most` is how many connections there may be."""
 
-    def __init__(self, hub: Hub, idle: float, elements: bool, kept: int, most: int, log: Log, metrics: Metrics) -> None:
+    def __init__(
+        self, hub: Hub, idle: float, elements: bool, kept: int, most: int, log: Log, metrics: Metrics, rights: Rights = all_rights(),
+    ) -> None:
         self.hub, self.idle, self.elements, self.kept, self.most = hub, idle, elements, kept, most
-        self.log, self.metrics = log, metrics
+        self.log, self.metrics, self.rights = log, metrics, rights
         self.free = [hub.lane(number) for number in range(hub.lanes)]
         self.scans = Scans(hub, elements)
         self.scans.seen = self.seen
         self.began: Dict[Rows, float] = {}
         """When the answers to what a client sent were begun."""
         self.closed = ""
+        self.pages: Set[Client] = set()
         self._connections: Set[Connection] = set()
         self._by_tcp = 0
         self._name_metrics()
@@ -277,6 +295,9 @@ class Gateway:
         try:
             async for lines in connection.turns():
                 if role is None:
+                    lines = self._take_token(connection, lines)
+                    if not lines:
+                        continue
                     role, lines = self._begin(connection, lines)
                 await role.take(lines)
             if isinstance(role, Scanner):
@@ -292,11 +313,21 @@ class Gateway:
                 role.end()
         return ""
 
+    def _take_token(self, connection: Connection, lines: List[bytes]) -> List[bytes]:
+        """Takes the token from a first line that has one; the lines that are left."""
+        word, _, token = lines[0].rstrip(b"\r").partition(b" ")
+        if word != b"token":
+            return lines
+        self.add_token(connection, token.decode("utf-8", "replace"))
+        return lines[1:]
+
     def _begin(self, connection: Connection, lines: List[bytes]) -> Tuple[Role, List[bytes]]:
         """What the connection is for, by its first line; the lines that are left."""
         word, _, name = lines[0].rstrip(b"\r").decode("ascii", "replace").partition(" ")
         if word not in ("scan", "watch"):
+            self.let(connection, "rows")
             return Rows(self, connection), lines
+        self.let(connection, word, name)
         try:
             lane = self.scans.lane(name)
         except ValueError as fault:
@@ -309,6 +340,26 @@ class Gateway:
         connection.is_patient = True
         self.log.note("scanner" if word == "scan" else "till", lane=name, peer=connection.peer)
         return role, lines[1:]
+
+    def add_token(self, client: Client, token: str) -> None:
+        """Gives a client what its token has the right to."""
+        name = name_of_token(token)
+        if name not in self.rights:
+            raise Closed("this token has no rights")
+        client.names.add(name)
+
+    def let(self, client: Client, word: str, lane: str = "") -> None:
+        """Lets a client do what it has the right to."""
+        if not self.rights.grants(client.names, word, lane):
+            raise Closed(f"no right to {word} {lane}".rstrip())
+        client.asked = word, lane
+
+    def change_rights(self, rights: Rights) -> None:
+        """Has other rights from now on, and closes those that have lost theirs."""
+        self.rights = rights
+        for client in [*self._connections, *self.pages]:
+            if client.asked[0] and not rights.grants(client.names, *client.asked):
+                client.close(f"no right to {' '.join(client.asked)}".rstrip())
 
     async def sweep(self) -> None:
         """Closes those of which nothing comes, or that take nothing, for too long."""

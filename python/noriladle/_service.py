@@ -96,16 +96,15 @@ def load(parser: argparse.ArgumentParser, path: str) -> Loaded:
         raise WrongWords(f"{path}: {fault.strerror}") from fault
     except ValueError as fault:  # Bytes that are no UTF-8, or no TOML.
         raise WrongWords(f"{path}: {fault}") from fault
+    # What does something at once, as --help, is no option of a file.
     options = {name[2:]: action for action in parser._actions for name in action.option_strings
-               if name.startswith("--") and action.dest not in ("config", "help")}
+               if name.startswith("--") and action.dest != "config" and (action.nargs != 0 or isinstance(action, argparse._StoreTrueAction))}
     tables = [name for name, value in parser._defaults.items() if isinstance(value, dict)]
     loaded: Loaded = {}
     for name, value in found.items():
         line = _line_of(text, name)
         if name in tables:
-            if not (isinstance(value, dict) and all(isinstance(it, str) for it in value.values())):
-                raise WrongWords(f"{path}:{line}: {name}: it is a table of texts")
-            loaded[name] = value
+            loaded[name] = _table(parser, path, text, name, value)
             continue
         if name not in options:
             near = difflib.get_close_matches(name, options, 1)
@@ -116,6 +115,19 @@ def load(parser: argparse.ArgumentParser, path: str) -> Loaded:
         except (argparse.ArgumentTypeError, ValueError) as fault:
             raise WrongWords(f"{path}:{line}: {name}: {fault}") from fault
     return loaded
+
+
+def _table(parser: argparse.ArgumentParser, path: str, text: str, name: str, value: object) -> Dict[str, str]:
+    """A table of a file of options, as its default takes each entry."""
+    if not (isinstance(value, dict) and all(isinstance(it, str) for it in value.values())):
+        raise WrongWords(f"{path}:{_line_of(text, name)}: {name}: it is a table of texts")
+    table: Dict[str, str] = type(parser.get_default(name))()
+    for key, said in value.items():
+        try:
+            table[key] = said
+        except ValueError as fault:
+            raise WrongWords(f"{path}:{_line_of(text, key)}: {key}: {fault}") from fault
+    return table
 
 
 def _line_of(text: str, name: str) -> int:

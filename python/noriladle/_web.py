@@ -4,10 +4,11 @@ from __future__ import annotations
 import argparse
 import asyncio
 import re
-from typing import Any
-from urllib.parse import unquote, urlsplit
+from typing import Any, Set
+from urllib.parse import parse_qs, unquote, urlsplit
 
-from ._scans import Scans
+from ._gateway import Closed, Gateway
+from ._scans import ScanLane
 from .commands import WrongWords
 
 UNREAD = 256
@@ -16,8 +17,9 @@ UNREAD = 256
 _OF_THIS_MACHINE = re.compile(r"https?://(localhost|127\.0\.0\.1|\[::1\])(:\d+)?")
 
 
-async def serve(scans: Scans, port: int, words: argparse.Namespace) -> Any:
-    """Serves ``ws://127.0.0.1:PORT/LANE`` to pages of this machine, and to those of the origins in ``words``.
+async def serve(gateway: Gateway, port: int, words: argparse.Namespace) -> Any:
+    """Serves ``ws://127.0.0.1:PORT/LANE`` to pages of this machine, and to those of the origins in ``words``; a page that has a token
+    adds ``?token=TOKEN``.
 
     A browser tells the origin of the page, so that no page of somebody else watches what a till sells.
 
@@ -34,38 +36,62 @@ async def serve(scans: Scans, port: int, words: argparse.Namespace) -> Any:
         if origin and origin not in words.origin and not _OF_THIS_MACHINE.fullmatch(origin):
             await page.close(1008, f"no page of {origin} may watch"[:120])
             return
+        url = urlsplit(request.path)
+        client = _Page(page)
         try:
-            lane = scans.lane(unquote(urlsplit(request.path).path[1:]))
-        except ValueError as fault:
+            for token in parse_qs(url.query).get("token", []):
+                gateway.add_token(client, token)
+            name = unquote(url.path[1:])
+            gateway.let(client, "watch", name)
+            lane = gateway.scans.lane(name)
+        except (Closed, ValueError) as fault:
             await page.close(1008, str(fault)[:120])
             return
-        await _watch(page, lane)
+        gateway.pages.add(client)
+        try:
+            await client.watch(lane)
+        finally:
+            gateway.pages.discard(client)
 
     return await websockets.serve(connected, "127.0.0.1", port, compression=None, max_size=4096, ping_interval=10, ping_timeout=10)
 
 
-async def _watch(page: Any, lane: Any) -> None:
-    """Sends a page what its lane tells, until it goes or takes no more."""
-    lines: asyncio.Queue[str] = asyncio.Queue(UNREAD)
-    gone = asyncio.ensure_future(page.wait_closed())
+class _Page:
+    """A page that watches a lane."""
 
-    def told(line: str) -> None:
-        if lines.full():
-            gone.cancel()
-        else:
-            lines.put_nowait(line)
+    def __init__(self, page: Any) -> None:
+        self.names: Set[str] = {"anyone"}
+        self.asked = ("", "")
+        self._page = page
+        self._gone = asyncio.ensure_future(page.wait_closed())
+        self._why = ""
 
-    async def send() -> None:
-        while True:
-            await page.send((await lines.get()).rstrip("\n"))
+    def close(self, why: str) -> None:
+        """Ends it."""
+        self._why = self._why or why
+        self._gone.cancel()
 
-    lane.watch(told)
-    sending = asyncio.ensure_future(send())
-    try:
-        await asyncio.wait([gone, sending], return_when=asyncio.FIRST_COMPLETED)
-    finally:
-        lane.watchers.discard(told)
-        for task in (gone, sending):
-            task.cancel()
-        await asyncio.gather(gone, sending, return_exceptions=True)
-        await page.close(1008, "what was told is not taken")
+    async def watch(self, lane: ScanLane) -> None:
+        """Sends the page what its lane tells, until it goes or takes no more."""
+        lines: asyncio.Queue[str] = asyncio.Queue(UNREAD)
+
+        def told(line: str) -> None:
+            if lines.full():
+                self.close("what was told is not taken")
+            else:
+                lines.put_nowait(line)
+
+        async def send() -> None:
+            while True:
+                await self._page.send((await lines.get()).rstrip("\n"))
+
+        lane.watch(told)
+        sending = asyncio.ensure_future(send())
+        try:
+            await asyncio.wait([self._gone, sending], return_when=asyncio.FIRST_COMPLETED)
+        finally:
+            lane.watchers.discard(told)
+            for task in (self._gone, sending):
+                task.cancel()
+            await asyncio.gather(self._gone, sending, return_exceptions=True)
+            await self._page.close(1008, self._why)

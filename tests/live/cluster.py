@@ -1,4 +1,5 @@
-"""A Redis Cluster of masters on loopback, for tests, whose nodes are started, killed and started again."""
+"""A Redis Cluster for tests, on loopback or on machines of a network, whose nodes are started, killed and started again."""
+import os
 import random
 import shutil
 import socket
@@ -7,7 +8,7 @@ import tempfile
 import time
 from pathlib import Path
 
-CONFIGURATION = """bind 127.0.0.1
+CONFIGURATION = """bind {host}
 port {port}
 dir {folder}
 logfile {folder}/log
@@ -23,9 +24,9 @@ proto-max-bulk-len 1mb
 """
 
 
-def ask(port, *words):
+def ask(port, *words, host="127.0.0.1"):
     """A command to a node, and its reply as redis-cli prints it."""
-    command = ["redis-cli", "-p", str(port), *map(str, words)]
+    command = ["redis-cli", "-h", host, "-p", str(port), *map(str, words)]
     return subprocess.run(command, capture_output=True, text=True, timeout=10).stdout.strip()
 
 
@@ -41,7 +42,19 @@ class Cluster:
 
     @property
     def address(self):
-        return f"127.0.0.1:{self.ports[0]}"
+        return f"{self.host(self.ports[0])}:{self.ports[0]}"
+
+    def host(self, port):
+        """The address of a node's machine."""
+        return "127.0.0.1"
+
+    def ask(self, port, *words):
+        """A command to a node, asked on its machine."""
+        return ask(port, *words)
+
+    def run(self, port, words):
+        """Starts a program on a node's machine."""
+        return subprocess.Popen(words)
 
     def __enter__(self):
         try:
@@ -49,11 +62,11 @@ class Cluster:
                 self.start(port)
                 first, end = (16384 * n // self.masters for n in (i, i + 1))
                 if i < self.masters:
-                    assert ask(port, "CLUSTER", "ADDSLOTSRANGE", first, end - 1) == "OK"
-                ask(port, "CLUSTER", "MEET", "127.0.0.1", self.ports[0])
+                    assert self.ask(port, "CLUSTER", "ADDSLOTSRANGE", first, end - 1) == "OK"
+                self.ask(port, "CLUSTER", "MEET", self.host(self.ports[0]), self.ports[0])
             self.wait()
             for master, replica in zip(self.ports, self.ports[self.masters:]):
-                assert ask(replica, "CLUSTER", "REPLICATE", ask(master, "CLUSTER", "MYID")) == "OK"
+                assert self.ask(replica, "CLUSTER", "REPLICATE", self.ask(master, "CLUSTER", "MYID")) == "OK"
             while not all(self.follows(replica) for replica in self.ports[self.masters:]):
                 time.sleep(0.1)
         except BaseException:
@@ -70,9 +83,9 @@ class Cluster:
         """Starts a node, or starts it again, and waits until it answers."""
         folder = self.folders[port]
         folder.mkdir(exist_ok=True)
-        (folder / "configuration").write_text(CONFIGURATION.format(port=port, folder=folder) + self.more)
-        self.processes[port] = subprocess.Popen(["redis-server", str(folder / "configuration")])
-        while ask(port, "PING") != "PONG":
+        (folder / "configuration").write_text(CONFIGURATION.format(host=self.host(port), port=port, folder=folder) + self.more)
+        self.processes[port] = self.run(port, ["redis-server", str(folder / "configuration")])
+        while self.ask(port, "PING") != "PONG":
             assert self.processes[port].poll() is None, (folder / "log").read_text()[-500:]
             time.sleep(0.05)
 
@@ -82,21 +95,21 @@ class Cluster:
 
     def wait(self):
         """Until the nodes know of each other that they run: one that was started again says CLUSTERDOWN for a while."""
-        while not all("cluster_state:ok" in ask(port, "CLUSTER", "INFO")
-                      and ask(port, "CLUSTER", "NODES").count(" connected") == len(self.ports) for port in self.ports):
+        while not all("cluster_state:ok" in self.ask(port, "CLUSTER", "INFO")
+                      and self.ask(port, "CLUSTER", "NODES").count(" connected") == len(self.ports) for port in self.ports):
             time.sleep(0.1)
 
     def role(self, port):
         """Whether a node is a master or a slave; nothing where it does not answer."""
-        return ask(port, "ROLE").partition("\n")[0]
+        return self.ask(port, "ROLE").partition("\n")[0]
 
     def follows(self, port):
         """Whether a node is a replica that has what its master has."""
-        return "master_link_status:up" in ask(port, "INFO", "replication")
+        return "master_link_status:up" in self.ask(port, "INFO", "replication")
 
     def holder(self, key):
         """The port of the node that has a key."""
-        return next(port for port in self.ports if not ask(port, "EXISTS", key).startswith("MOVED"))
+        return next(port for port in self.ports if not self.ask(port, "EXISTS", key).startswith("MOVED"))
 
     def cut(self, port, most):
         """Kills a node, cuts up to so many bytes off the end of its file, and starts it again: it has lost what it had
@@ -107,6 +120,20 @@ class Cluster:
         with file.open("r+b") as kept:
             kept.truncate(size - min(size // 3, most))
         self.start(port)
+
+
+class Preloaded(Cluster):
+    """A node that has functions of C, which are built in a folder, in place of the system's."""
+
+    def __init__(self, folder, source, **environment):
+        super().__init__(nodes=1)
+        (folder / "preloaded.c").write_text(source)
+        library = folder / "preloaded.so"
+        subprocess.run(["gcc", "-shared", "-fPIC", "-O1", "-o", library, folder / "preloaded.c"], check=True)
+        self.environment = {**os.environ, "LD_PRELOAD": str(library), **environment}
+
+    def run(self, port, words):
+        return subprocess.Popen(words, env=self.environment)
 
 
 def free_ports(count):

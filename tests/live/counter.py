@@ -9,6 +9,7 @@ import subprocess
 import sys
 import threading
 import time
+import urllib.request
 
 from shop import EAN13, READ, ROOT
 
@@ -57,10 +58,10 @@ class Client:
 class Gateway:
     """A gateway that runs on a free port, and on a socket in a folder; `said` are the lines that it logs."""
 
-    def __init__(self, folder, *words, port=True):
+    def __init__(self, folder, *words, port=True, command=NORILADLE):
         self.unix = str(folder / "hub")
         ports = ["--port", "0"] if port else []
-        self.process = subprocess.Popen([*NORILADLE, "gateway", "--year", "2026", "--kept", "0", *ports, "--unix", self.unix, *words],
+        self.process = subprocess.Popen([*command, "gateway", "--year", "2026", "--kept", "0", *ports, "--unix", self.unix, *words],
                                         stderr=subprocess.PIPE, text=True)
         self.ports = {}
         for name in [word[2:] for word in ("--port", *words) if word in ("--port", "--web", "--metrics") and (word != "--port" or port)]:
@@ -109,6 +110,18 @@ class Gateway:
             time.sleep(0.02)
         raise AssertionError("no lane came free")
 
+    def numbers(self):
+        """What it serves for Prometheus, by name and labels."""
+        with urllib.request.urlopen(f"http://127.0.0.1:{self.ports['metrics']}/metrics", timeout=10) as told:
+            return dict(line.rsplit(" ", 1) for line in told.read().decode().splitlines() if not line.startswith("#"))
+
+    def waits_for(self, **wanted):
+        """Waits until numbers, without the first part of their names, are these."""
+        until = time.monotonic() + 20
+        while any(self.numbers()[f"noriladle_{name}"] != str(number) for name, number in wanted.items()):
+            assert time.monotonic() < until, wanted
+            time.sleep(0.05)
+
     def hub(self):
         return int(subprocess.run(["pgrep", "-P", str(self.process.pid)], capture_output=True).stdout)
 
@@ -153,10 +166,10 @@ class Scanner:
 class Serial(Scanner):
     """`noriladle scanner` on a pty, which it has made raw."""
 
-    def __init__(self, *words):
+    def __init__(self, *words, **how):
         self.ours, self.its = pty.openpty()
         self.device = os.ttyname(self.its)
-        super().__init__(self.device, *words)
+        super().__init__(self.device, *words, **how)
         until = time.monotonic() + 20
         # Before that the line discipline would change what is sent.
         while b"-icanon" not in subprocess.run(["stty", "-a"], stdin=self.its, capture_output=True, check=True).stdout:

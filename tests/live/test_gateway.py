@@ -265,27 +265,19 @@ def page(gateway, path):
         return refused.code, refused.read().decode()
 
 
-def waits_for(gateway, line):
-    until = time.monotonic() + 20
-    while line not in page(gateway, "/metrics")[1].splitlines():
-        assert time.monotonic() < until, line
-        time.sleep(0.05)
-
-
 def test_health_and_metrics(tmp_path):
     with Gateway(tmp_path, "--metrics", "0") as gateway:
         with gateway.free_lane() as client:
             assert client.ask(b"100\n") == "1 refused 19 Blank\n"
             assert (page(gateway, "/healthz"), page(gateway, "/readyz")) == ((200, "ok\n"), (200, "ready\n"))
             assert page(gateway, "/")[0] == 404
-            status, text = page(gateway, "/metrics")
-            values = dict(line.rsplit(" ", 1) for line in text.splitlines() if not line.startswith("#"))
-            assert status == 200 and values["noriladle_answers_total"] == "2" and values["noriladle_connections"] == "1"
+            values = gateway.numbers()
+            assert values["noriladle_answers_total"] == "2" and values["noriladle_connections"] == "1"
             assert values['noriladle_refusals_total{number="19"}'] == "1" and values["noriladle_lanes_free"] == "15"
         # A till that has gone is counted no more.
         with gateway.watch("till-1"):
-            waits_for(gateway, "noriladle_tills 1")
-        waits_for(gateway, "noriladle_tills 0")
+            gateway.waits_for(tills=1)
+        gateway.waits_for(tills=0)
         for junk in (b"\r\n", b"x" * 10_000, b"GET\n", b""):
             with Client(("127.0.0.1", gateway.ports["metrics"])) as client:
                 client.send(junk)
@@ -319,6 +311,13 @@ def test_log(tmp_path):
     ("lanes = 3\nlanes = 4\n", ": Cannot overwrite a value (at line 2"),
     ("lanes = \n", ": Invalid value (at line 1"),
     ("[gateway]\nlanes = 3\n", ":1: there is no option 'gateway'"),
+    ("token = 'abc'\n", ":1: there is no option 'token'"),
+    ("rights = 'all'\n", ":1: rights: it is a table of texts"),
+    ("[rights]\n'user anna' = 3\n", ":1: rights: it is a table of texts"),
+    ("[rights]\n\nanna = 'rows'\n", ":3: anna: who is \"anyone\", \"user NAME\""),
+    ("[rights]\n'token abc' = 'rows'\n", ":2: token abc: who is"),
+    ("[rights]\nanyone = 'rows, read till-1'\n", ":2: anyone: what is \"rows\", \"scan LANE\""),
+    ("[rights]\nanyone = ''\n", ":2: anyone: what is"),
 ])
 def test_a_file_of_options_that_is_wrong(tmp_path, text, wanted):
     file = tmp_path / "gateway.toml"

@@ -9,7 +9,7 @@ import time
 import pytest
 
 from chain import LANES, NORILADLE, Shop, Till, Worker, Workers, keys, check, read_lane, read_lanes, rows_of, streams
-from cluster import Cluster, ask
+from cluster import Cluster, Preloaded, ask
 from noriladle.live import Hub
 from noriladle.streams import Fault
 from shop import EAN13, READ, noise
@@ -273,3 +273,30 @@ def test_full_disk(small_disk, fsync):
         check(cluster.address, wanted, got)
         print(f"{fsync}: the node {seen[0]}; rows submitted again {again} times")
         assert seen == [{"always": "ended", "everysec": "refused"}[fsync]]
+
+
+SLOW = r"""
+#define _GNU_SOURCE
+#include <sys/syscall.h>
+#include <time.h>
+#include <unistd.h>
+int fdatasync(int file) {
+    static int calls;
+    struct timespec some = {0, 50000000}, long_time = {6, 0};
+    nanosleep(++calls % 40 ? &some : &long_time, 0);
+    return syscall(SYS_fdatasync, file);
+}
+"""
+"""Each sync takes 50 milliseconds, and one of 40 six seconds: longer than a till or a worker waits for a reply."""
+
+
+@pytest.mark.limit(240)
+def test_a_slow_disk(tmp_path):
+    """What was taken for lost is written all the same, and submitted again; the node keeps each row and answer once."""
+    asked, wanted = rows_of(8_000)
+    with Preloaded(tmp_path, SLOW) as cluster, Workers(cluster.address, 2) as workers:
+        got, again = asyncio.run(read_lanes(cluster.address, asked, most=64))
+        check(cluster.address, wanted, got)
+        workers.end()
+        print(f"rows submitted again {again} times")
+        assert again

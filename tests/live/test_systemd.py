@@ -145,6 +145,26 @@ def test_the_gateway(container):
     assert container.shown(unit, "Result") == "success" and not container.run("pgrep", "gs1_hub").stdout
 
 
+def test_rights(container):
+    """Within its confinement too the gateway knows the users and groups of its clients."""
+    unit, file = "noriladle-gateway", container.root / "etc/noriladle/gateway.toml"
+    before = file.read_text()
+    file.write_text(before + '[rights]\n"user daemon" = "rows"\n"group games" = "rows"\n')
+    assert container.run("systemctl", "start", unit).returncode == 0
+
+    def asked(user, group, more):
+        words = ["setpriv", f"--reuid={user}", f"--regid={group}", *more, "python3", "-c", ASK, ROW.decode().strip()]
+        ran = container.run(*words)
+        return ran.stdout or ran.stderr
+
+    assert asked("daemon", "noriladle", ["--clear-groups"]) == f"0 {READ}\n"
+    assert asked("bin", "noriladle", ["--clear-groups"]) == "closed: no right to rows\n"
+    assert asked("bin", "noriladle", ["--groups=games"]) == f"0 {READ}\n"
+    file.write_text(before)
+    container.run("systemctl", "restart", unit)
+    container.run("systemctl", "stop", unit)
+
+
 def test_a_wrong_file_of_options(container):
     """The start fails, and the journal has the line."""
     file = container.root / "etc/noriladle/gateway.toml"

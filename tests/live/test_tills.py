@@ -11,9 +11,8 @@ import urllib.request
 
 import pytest
 
-import cluster as clusters
 from chain import LANES, NORILADLE, Shop, Till, Worker, Workers, keys, rows_of
-from cluster import Cluster, ask, free_ports
+from cluster import Cluster, Preloaded, ask, free_ports
 from counter import most_memory
 from noriladle.live import Hub
 from noriladle.streams import NoAnswer
@@ -252,24 +251,13 @@ time_t time(time_t *now) {
 """Adds the seconds that stand in the file $SHIFT to the clock of a process."""
 
 
-class Shifted(Cluster):
+class Shifted(Preloaded):
     """A node whose clock steps."""
 
     def __init__(self, folder):
-        super().__init__(nodes=1)
         self.shift = folder / "shift"
         self.shift.write_bytes(struct.pack("q", 0))
-        (folder / "shift.c").write_text(SHIFT)
-        subprocess.run(["gcc", "-shared", "-fPIC", "-O1", "-o", folder / "shift.so", folder / "shift.c"], check=True)
-        self.environment = {**os.environ, "LD_PRELOAD": str(folder / "shift.so"), "SHIFT": str(self.shift)}
-
-    def start(self, port):
-        real = subprocess.Popen
-        clusters.subprocess.Popen = lambda words, **more: real(words, env=self.environment, **more)
-        try:
-            super().start(port)
-        finally:
-            clusters.subprocess.Popen = real
+        super().__init__(folder, SHIFT, SHIFT=str(self.shift))
 
     def step(self, seconds):
         with open(self.shift, "r+b") as file:

@@ -46,6 +46,8 @@ def test_what_a_unit_has(unit):
     assert any(line.startswith("WatchdogSec=") for line in lines) and any(line.startswith("TimeoutStopSec=") for line in lines)
     if "scanner" not in unit.name:  # A scanner's program has no other beside it.
         assert "KillMode=mixed" in lines
+    if "gateway" in unit.name:  # By the first it would see each other user as nobody, and by the second no other would reach its socket.
+        assert "PrivateUsers=yes" not in lines and "RuntimeDirectoryPreserve=restart" not in lines
 
 
 def test_rules():

@@ -21,7 +21,7 @@ import tempfile
 import time
 
 ROOT = pathlib.Path(__file__).resolve().parents[2]
-SCRIPTS = ["file", "program", "prove", "rattle", "sources", "stamp", "take"]
+SCRIPTS = ["file", "program", "prove", "prove.mk", "sources", "stamp", "take"]
 VERSION = (ROOT / "VERSION").read_text(encoding="ascii").strip()
 
 # Programs that say which they are. Long enough that gzip writes several blocks of the file.

@@ -24,7 +24,7 @@ sleep "${NAP:-0}"
 [ "$name" != "${FAILS:-}" ] || { echo "not proved"; exit 1; }
 case $out in *.rlib) mkdir -p "$out" ;; *) echo "$name" >"$out" ;; esac
 """
-SCRIPTS = ["prove", "program", "rattle", "sources", "stamp", "take"]
+SCRIPTS = ["prove", "prove.mk", "program", "sources", "stamp", "take"]
 LINK = """#!/bin/sh
 while [ $# -gt 0 ]; do
     case $1 in -o) printf '#!/bin/sh\\necho "ran $*"\\nexit 3\\n' >"$2" && chmod +x "$2" ;; esac

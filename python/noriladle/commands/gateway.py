@@ -9,7 +9,13 @@ A connection to the socket says in its first line what it is for.
 
 With --web a till may be a web page, and watches a lane by a WebSocket: ws://127.0.0.1:PORT/LANE.
 
-There is no password: the UNIX socket is for its owner and group, and whoever reaches a port is answered.
+Whoever reaches a socket may do all of that, unless the file of options has a table of rights, by users, groups, tokens and certificates:
+
+  [rights]
+  "group noriladle" = "scan *, watch *"
+  "token 15ab.." = "watch till-1"      # noriladle gateway --token makes one
+
+A client that has a token sends token TOKEN before its first line; a page adds ?token=TOKEN. With --cert and --key the port speaks TLS.
 
   $ noriladle gateway --unix shop.sock
 """
@@ -21,17 +27,21 @@ import contextlib
 import fcntl
 import os
 import signal
+import ssl
 import sys
-from typing import List, Optional
+from typing import Any, List, Optional
 
 from .. import _service
 from .._gateway import Gateway, keep_alive
+from .._rights import all_rights, new_token
 from .._service import Log, Metrics, notify
 from ..live import Hub
 from . import REFUSED, RIGHT, WrongWords, add_year
 
-_AT_WORK = ("idle", "kept", "connections", "log", "json", "origin")
+_AT_WORK = ("idle", "kept", "connections", "log", "json", "origin", "rights")
 """The options that SIGHUP changes in a gateway that runs."""
+HANDSHAKE = 5.0
+"""So many seconds a client has to begin TLS."""
 
 
 def add_arguments(parser: argparse.ArgumentParser) -> None:
@@ -39,6 +49,9 @@ def add_arguments(parser: argparse.ArgumentParser) -> None:
     parser.add_argument("--unix", metavar="PATH", help="Serve on a UNIX socket, for its owner and group alone")
     parser.add_argument("--port", type=_service.port, metavar="PORT", help="Serve on a port of TCP; 0 is a free one, which is printed")
     parser.add_argument("--host", default="127.0.0.1", metavar="HOST", help="Address of the port; 127.0.0.1")
+    parser.add_argument("--cert", metavar="FILE", help="Speak TLS on the port, with this certificate")
+    parser.add_argument("--key", metavar="FILE", help="Key of the certificate")
+    parser.add_argument("--ca", metavar="FILE", help="Take only clients on the port whose certificates are of these authorities")
     parser.add_argument("--web", type=_service.port, metavar="PORT",
                         help="Serve tills that are web pages on this port of 127.0.0.1; needs python3-websockets")
     parser.add_argument("--origin", action="append", default=[], metavar="ORIGIN",
@@ -52,18 +65,51 @@ def add_arguments(parser: argparse.ArgumentParser) -> None:
     parser.add_argument("--idle", type=_service.seconds, default=60.0, metavar="SECONDS",
                         help="Close a connection that sends no whole line, or takes nothing, for so long; 60")
     parser.add_argument("--elements", action="store_true", help="Answer as gs1_hub live --elements writes elements")
+    parser.add_argument("--token", action=_NewToken, help="Print a new token and its line for the table of rights, and end")
+    parser.set_defaults(rights=all_rights())  # A table of the file of options.
     add_year(parser)
     _service.add_arguments(parser)
+
+
+class _NewToken(argparse.Action):
+    """Prints a token, for its holder, and its line for the table of rights."""
+
+    def __init__(self, **words: Any) -> None:
+        super().__init__(nargs=0, **words)
+
+    def __call__(self, parser: argparse.ArgumentParser, *_: object) -> None:
+        token, name = new_token()
+        print(f'{token}\n"{name}" = "watch LANE"')
+        parser.exit()
 
 
 def run(words: argparse.Namespace) -> int:
     """Serves until it is told to stop, or the hub ends."""
     if words.port is None and not words.unix:
         raise WrongWords("name a socket by --unix or --port")
+    words.tls = _tls_of(words)
     _service.keep_buffers()
     with _taken(words.unix):
         why = asyncio.run(_run(Hub(words.lanes, words.workers, words.year), words))
     return REFUSED if why else RIGHT
+
+
+def _tls_of(words: argparse.Namespace) -> Optional[ssl.SSLContext]:
+    """What the port speaks TLS by, if it does."""
+    if not (words.cert and words.key):
+        if words.cert or words.key or words.ca:
+            raise WrongWords("--cert and --key belong together, and --ca to both")
+        return None
+    tls = ssl.create_default_context(ssl.Purpose.CLIENT_AUTH)
+    tls.minimum_version = ssl.TLSVersion.TLSv1_2
+    try:
+        tls.load_cert_chain(words.cert, words.key)
+        if words.ca:
+            tls.load_verify_locations(words.ca)
+            tls.verify_mode = ssl.CERT_REQUIRED
+    except OSError as fault:  # ssl.SSLError is one.
+        raise WrongWords(f"{words.cert}, {words.key}{words.ca and f' or {words.ca}' or ''}: {fault.strerror or fault}") from fault
+    return tls
 
 
 @contextlib.contextmanager
@@ -88,7 +134,7 @@ async def _run(hub: Hub, words: argparse.Namespace) -> str:
         for number in (signal.SIGTERM, signal.SIGINT):
             loop.add_signal_handler(number, ended.cancel)
         kept = words.kept if words.unix and words.port is not None else 0
-        gateway = Gateway(hub, words.idle, words.elements, min(kept, hub.lanes - 1), words.connections, log, metrics)
+        gateway = Gateway(hub, words.idle, words.elements, min(kept, hub.lanes - 1), words.connections, log, metrics, words.rights)
         servers = await _listen(gateway, words, ended)
         if words.config:
             loop.add_signal_handler(signal.SIGHUP, _load_again, gateway, words)
@@ -123,10 +169,11 @@ async def _listen(gateway: Gateway, words: argparse.Namespace, ended: asyncio.Fu
         servers.append(await asyncio.start_unix_server(connected, words.unix))
         os.umask(mask)
     if words.port is not None:
-        servers.append(_named("port", await asyncio.start_server(connected, words.host, words.port)))
+        servers.append(_named("port", await asyncio.start_server(
+            connected, words.host, words.port, ssl=words.tls, ssl_handshake_timeout=HANDSHAKE if words.tls else None)))
     if words.web is not None:
         from .._web import serve
-        servers.append(_named("web", await serve(gateway.scans, words.web, words)))
+        servers.append(_named("web", await serve(gateway, words.web, words)))
     if words.metrics is not None:
         def is_ready() -> str:
             return "the gateway stops" if ended.done() else ""
@@ -155,6 +202,13 @@ def _load_again(gateway: Gateway, words: argparse.Namespace) -> None:
             gateway.log.fault(f"{name} changes when the gateway is started again")
     gateway.idle, gateway.most = words.idle, words.connections
     gateway.kept = min(words.kept, gateway.hub.lanes - 1) if words.unix and words.port is not None else 0
+    gateway.change_rights(words.rights)
+    if words.tls:
+        # A new certificate may stand in its file.
+        try:
+            words.tls.load_cert_chain(words.cert, words.key)
+        except OSError as fault:
+            gateway.log.fault(f"{words.cert}: {fault.strerror or fault}")
     gateway.log.all, gateway.log.json = words.log == "all", words.json
     gateway.log.note("loaded", file=words.config)
     notify("READY=1")

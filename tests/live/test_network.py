@@ -1,0 +1,226 @@
+"""Nodes, workers, tills and a gateway on machines of their own, on a network that loses packets, is slow, or is cut. Needs root, iproute2 and
+the device /dev/net/tun; else these are skipped."""
+import asyncio
+import os
+import random
+import threading
+import time
+
+import pytest
+
+from chain import LANES, Shop, Till, Workers, check, rows_of, streams
+from cluster import Cluster, ask
+from counter import ROW, Client, Gateway
+from network import Network
+from shop import READ, SEED, random_lanes
+
+LIMIT = 600
+CUTS = 12
+
+pytestmark = pytest.mark.skipif(os.geteuid() != 0 or not os.path.exists("/dev/net/tun"), reason="only root makes machines of network namespaces")
+
+
+class Spread(Cluster):
+    """A cluster each node of which is on a machine of its own, one after the other."""
+
+    def __init__(self, network, nodes=3, **more):
+        super().__init__(nodes, "protected-mode no\n", **more)
+        self.network, self.machines = network, dict(zip(self.ports, network.names))
+
+    def host(self, port):
+        return self.network.addresses[self.machines[port]]
+
+    def ask(self, port, *words):
+        with self.network.inside(self.machines[port]):
+            return ask(port, *words, host=self.host(port))
+
+    def run(self, port, words):
+        with self.network.inside(self.machines[port]):
+            return super().run(port, words)
+
+    @property
+    def addresses(self):
+        return [f"{self.host(port)}:{port}" for port in self.ports]
+
+
+class Far(Workers):
+    """Workers each of which is on the machine of its name."""
+
+    def __init__(self, network, address, count):
+        super().__init__(address, count, milliseconds=1000)
+        self.network = network
+
+    def start(self, name):
+        with self.network.inside(name):
+            super().start(name)
+
+
+@pytest.mark.limit(240)
+@pytest.mark.parametrize("delay, loss", [(0.01, 0.03), (0.1, 0.005)])
+def test_packets_are_lost_and_machines_cut_off(delay, loss):
+    """Each machine for up to seven seconds, one after the other: nothing is lost, doubled or out of order."""
+    asked, wanted = rows_of(8_000)
+    names = ["one", "two", "three", "worker0", "worker1", "tills"]
+    with Network(*names) as network, Spread(network) as cluster, Far(network, cluster.address, 2) as workers:
+        network.worsen(delay, loss)
+        chance, done, cut = random.Random(SEED), threading.Event(), []
+
+        def cut_all():
+            for number in range(CUTS):
+                network.cut_off(names[number % len(names)])
+                cut.append(number)
+                done.wait(chance.uniform(0.2, 7 if number % 3 == 0 else 2))
+                network.cut_off()
+                done.wait(chance.uniform(0.5, 2))
+
+        async def test():
+            shop, got = Shop(cluster.addresses), {lane: [] for lane in LANES}
+
+            async def one(lane):
+                async for answer in Till(shop, lane, most=64).read_all(asked[lane]):
+                    got[lane].append(answer)
+                    # As long as machines are cut off there are rows left.
+                    while len(cut) < CUTS and len(got[lane]) > len(asked[lane]) * len(cut) / CUTS:
+                        await asyncio.sleep(0.01)
+
+            await asyncio.gather(*map(one, LANES))
+            await shop.close()
+            return got
+
+        cutting = threading.Thread(target=cut_all)
+        with network.inside("tills"):
+            cutting.start()
+            got = asyncio.run(test())
+            done.set()
+            cutting.join()
+            network.worsen(0, 0)
+            cluster.wait()
+            check(cluster.address, wanted, got)
+        workers.end()
+        print(f"{len(cut)} machines cut off, {network.told()}: 0 wrong, 0 doubled, 0 out of order")
+        assert len(cut) == CUTS
+
+
+REPLICATED = ["one", "two", "three", "again1", "again2", "again3", "worker0", "worker1", "tills"]
+
+
+async def read_on(addresses, asked, told, most=64):
+    """What a till of each lane gets; one that is told of a loss is followed by another, from the row without an answer."""
+    shop = Shop(addresses)
+
+    async def one(lane):
+        got = []
+        while len(got) < len(asked[lane]):
+            try:
+                async for _, answer in Till(shop, lane, most=most).read_all(asked[lane][len(got):]):
+                    got.append(answer)
+                    await asyncio.sleep(0.005)
+            except LookupError as fault:
+                told.append(str(fault))
+        return lane, got
+
+    got = dict(await asyncio.gather(*map(one, LANES)))
+    await shop.close()
+    return got
+
+
+def answers_of(wanted):
+    return {lane: [answer for _, answer in wanted[lane]] for lane in LANES}
+
+
+@pytest.mark.limit(90)
+def test_a_master_is_cut_off_for_good():
+    """No connection to it ends, and nobody there says anything; its replica takes over, and its lanes go on there."""
+    asked, wanted = rows_of(8_000)
+    with Network(*REPLICATED) as network, Spread(network, replicas=True) as cluster, Far(network, ",".join(cluster.addresses), 2):
+        cutting = threading.Timer(1, network.cut_off, ["one"])
+        begin, told = time.monotonic(), []
+        with network.inside("tills"):
+            cutting.start()
+            got = asyncio.run(read_on(cluster.addresses, asked, told))
+        assert got == answers_of(wanted)
+        print(f"\n{time.monotonic() - begin:.0f} seconds, {len(told)} losses told by a till; {network.told()}")
+
+
+@pytest.mark.limit(120)
+def test_a_network_in_two_halves():
+    """A master, a worker and the tills are on the smaller one: what the master takes meanwhile is lost when the halves meet."""
+    asked, wanted = rows_of(8_000)
+    with Network(*REPLICATED) as network, Spread(network, replicas=True) as cluster, Far(network, ",".join(cluster.addresses), 2):
+        done, told, halves = threading.Event(), [], 0
+
+        def cut():
+            nonlocal halves
+            for master in ("one", "two", "three"):
+                done.wait(1)
+                network.cut_off(master, "worker0", "tills")
+                halves += 1
+                done.wait(6)
+                network.cut_off()
+                done.wait(6)
+
+        cutting = threading.Thread(target=cut)
+        with network.inside("tills"):
+            cutting.start()
+            got = asyncio.run(read_on(cluster.addresses, asked, told))
+            done.set()
+            cutting.join()
+            cluster.wait()
+            _, names = asyncio.run(streams(cluster.address, LANES))
+        assert got == answers_of(wanted)
+        stand = sum(map(len, names.values()))
+        print(f"\n{halves} times in two halves, {len(told)} losses told by a till, {stand} of 8000 rows stand in the streams: 0 wrong; {network.told()}")
+        assert stand < 8_000
+
+
+@pytest.fixture
+def far(tmp_path):
+    """A gateway on one machine, and clients on another."""
+    with Network("shop", "till") as network:
+        with network.inside("shop"):
+            gateway = Gateway(tmp_path, "--host", network.addresses["shop"], "--metrics", "0", "--idle", "5")
+        with gateway:
+            yield network, gateway
+
+
+def connect(far):
+    network, gateway = far
+    with network.inside("till"):
+        return Client((network.addresses["shop"], gateway.ports["port"]))
+
+
+def test_a_gateway_far_away(far):
+    """Its answers come in order over a slow and lossy network, and after it was cut."""
+    network, gateway = far
+    asked, wanted = random_lanes(3_000, 1)
+    network.worsen(0.02, 0.03)
+    with connect(far) as client:
+        sending = threading.Thread(target=lambda: client.send("\n".join([*asked[0], ""]).encode()))
+        cutting = [threading.Timer(0.3, network.cut_off, ["till"]), threading.Timer(3, network.cut_off)]
+        for thread in (sending, *cutting):
+            thread.start()
+        lines = [client.line() for _ in asked[0]]
+        for thread in (sending, *cutting):
+            thread.join()
+    assert [line.rstrip("\n").split(" ", 1)[1] for line in lines] == [line.split(" ", 2)[2] for line in wanted[0]]
+    assert [line.split(" ", 1)[0] for line in lines] == [str(number) for number in range(len(lines))]
+    print(f"\n{network.told()}")
+
+
+@pytest.mark.limit(100)
+def test_clients_that_are_cut_off(far):
+    """A lane is free again after the idle time, and a till, which may be silent, is given up within a minute: no word of its end comes."""
+    network, gateway = far
+    with connect(far) as client, connect(far) as till:
+        assert client.ask(ROW) == f"0 {READ}\n"
+        till.send(b"watch till-1\n")
+        with network.inside("shop"):
+            gateway.waits_for(tills=1)
+            network.cut_off("till")
+            begin = time.monotonic()
+            gateway.waits_for(lanes_free=16)
+            lane = time.monotonic() - begin
+            while gateway.numbers()["noriladle_tills"] != "0":
+                assert time.monotonic() < begin + 75
+                time.sleep(0.5)
+        print(f"\na lane is free after {lane:.0f} seconds, a till is given up after {time.monotonic() - begin:.0f}")

@@ -1,0 +1,126 @@
+"""An earlier version beside this one, as they are while a shop is upgraded at work: workers and tills over Redis, gateways and scanners. Needs
+the history of the repository, from which the earlier one is taken; without it these are skipped."""
+import asyncio
+import os
+import shutil
+import signal
+import subprocess
+import threading
+import time
+
+import pytest
+
+from chain import LANES, NORILADLE, Shop, Workers, check, rows_of
+from cluster import Cluster
+from counter import Gateway, Serial, Till
+from shop import ROOT
+
+LIMIT = 240
+OLD = "9d2bd37"
+REPOSITORY = os.environ.get("REPOSITORY", str(ROOT))
+
+
+@pytest.fixture(scope="module")
+def old(tmp_path_factory):
+    """The command of the earlier version."""
+    folder = tmp_path_factory.mktemp("old")
+    packed = subprocess.run(["git", "-C", REPOSITORY, "archive", OLD, "python/noriladle"], capture_output=True)
+    if packed.returncode:
+        pytest.skip("there is no history of the repository")
+    subprocess.run(["tar", "-xf", "-", "-C", folder], input=packed.stdout, check=True)
+    for built in (ROOT / "python/noriladle").glob("*.so"):
+        shutil.copy(built, folder / "python/noriladle")
+    return ["env", f"PYTHONPATH={folder / 'python'}", *NORILADLE]
+
+
+class Feed(threading.Thread):
+    """`noriladle till`, of either version, that gets rows at an even pace; `got` is what it has printed in the end."""
+
+    def __init__(self, command, address, lane, texts):
+        super().__init__()
+        self.process = subprocess.Popen([*command, "till", "--redis", address, lane], stdin=subprocess.PIPE, stdout=subprocess.PIPE, text=True)
+        self.texts, self.got = texts, []
+        self.reading = threading.Thread(target=lambda: self.got.extend(self.process.stdout))
+        self.reading.start()
+        self.start()
+
+    def run(self):
+        with self.process.stdin as to:
+            for place in range(0, len(self.texts), 10):
+                to.write("".join(f"{text}\n" for text in self.texts[place:place + 10]))
+                to.flush()
+                time.sleep(0.15)
+
+    def answers(self):
+        self.join()
+        self.reading.join()
+        assert self.process.wait() == 0
+        self.process.stdout.close()
+        return [(int(number), said) for number, said in (line.rstrip("\n").split(" ", 1) for line in self.got)]
+
+
+@pytest.mark.limit(150)
+def test_workers_are_upgraded_one_after_the_other(old):
+    """And taken back again, while tills of both versions are at work."""
+    asked, wanted = rows_of(8_000)
+    with Cluster() as cluster:
+        workers = Workers(cluster.address, 2, milliseconds=1000)
+        versions = {"old": [*old, *workers.words[len(NORILADLE):]], "new": workers.words}
+        workers.words = versions["old"]
+
+        def exchange(name, version):
+            process = workers.running.pop(name)
+            process.send_signal(signal.SIGTERM)
+            assert process.wait(20) == 0
+            workers.words = versions[version]
+            workers.start(name)
+
+        async def share():
+            shop = Shop(cluster.address)
+            await workers.share(shop)
+            await shop.close()
+
+        with workers:
+            feeds = {lane: Feed(old if int(lane) % 2 else NORILADLE, cluster.address, lane, asked[lane]) for lane in LANES}
+            for name, version in [("worker0", "new"), ("worker1", "new"), ("worker0", "old")]:
+                asyncio.run(share())
+                time.sleep(2)
+                exchange(name, version)
+            asyncio.run(share())
+            assert all(feed.is_alive() for feed in feeds.values()), "the rows ended before the last exchange"
+            got = {lane: feed.answers() for lane, feed in feeds.items()}
+            check(cluster.address, wanted, got)
+            workers.end()
+
+
+@pytest.mark.limit(90)
+def test_a_gateway_is_upgraded(old, tmp_path):
+    """And taken back again, with a scanner and a till of each version: each scan is told once, or told as lost, in order."""
+    versions = {"old": old, "new": NORILADLE}
+    gateway = Gateway(tmp_path, "--metrics", "0", command=old)
+    scanners = {name: Serial("--gateway", gateway.unix, "--lane", name, command=[*command, "scanner"]) for name, command in versions.items()}
+    tills = {name: Till(gateway.unix, name) for name in versions}
+    try:
+        for version in ("new", "old", "new"):
+            gateway.waits_for(scanners=2, tills=2)
+            for _ in range(20):
+                for scanner in scanners.values():
+                    scanner.send(b"]E09501101530003\r\n")
+                time.sleep(0.03)
+            time.sleep(0.5)
+            gateway.__exit__()
+            gateway = Gateway(tmp_path, "--metrics", "0", command=versions[version])
+        gateway.waits_for(scanners=2, tills=2)
+        for scanner in scanners.values():
+            scanner.send(b"]E09501101530003\r\n")
+        until = time.monotonic() + 20
+        for name, till in tills.items():
+            while not till.lines or not till.lines[-1].startswith("sold: 60 "):
+                assert time.monotonic() < until, till.lines[-3:]
+                time.sleep(0.1)
+            told = [line for line in till.lines if line.startswith("sold: ")]
+            assert told == [f"sold: {number} ]E0 (01)09501101530003\n" for number in range(61)]
+    finally:
+        for it in [*scanners.values(), *tills.values()]:
+            it.__exit__()
+        gateway.__exit__()
