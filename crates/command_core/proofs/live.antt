@@ -4,6 +4,7 @@ pub mod EndFacts
 pub mod FieldsFacts
 pub mod GrowFacts
 pub mod KeepFacts
+pub mod LivedFacts
 pub mod LogFacts
 pub mod MeaningFacts
 pub mod MessageFacts

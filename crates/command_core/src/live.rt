@@ -5,6 +5,5 @@ pub mod input;
 pub mod laws;
 pub mod manner;
 pub mod place;
-pub mod progress;
 pub mod record;
 pub mod waiting;

@@ -3,6 +3,7 @@ use Rattle.std.specs.Prelude.{◌≡◌, ◌<◌, ◌==◌, ◌++◌, ℕ, Bool,
 use Rattle.std.specs.List.{list_all}
 use Rattle.std.specs.Vec.Iter.{into_iter_items}
 use Rattle.hub_core.specs.Serving.{are_short}
+use Rattle.hub_core.specs.Traffics.{HasRoom, with_more}
 use Rattle.hub_core.specs.declared.feeds.Feeds.{Feeds}
 
 -- the rows that are left of each lane, in their order
@@ -28,6 +29,10 @@ pub record AreGiven (feeds given rests : List (List (List ℕ))) : Type 0 where
   pub count : length given ≡ length rests
   pub all : appended given rests ≡ feeds
   pub short : are_short feeds ≡ true
+
+-- whatever feeds had these rows left, of which others were given, after this row of a lane they have those left
+abbrev pub GivesRow : ℕ × List ℕ → List (List (List ℕ)) → List (List (List ℕ)) → Type 0
+GivesRow r old new = (feeds given : List (List (List ℕ))) → AreGiven feeds given old → HasRoom r.0 given × AreGiven feeds (with_more r.0 r.1 given) new
 
 -- at first no row of the feeds was given
 abbrev pub GivenAtFirst : Type 0

@@ -1,5 +1,5 @@
 -- What a traffic gives and is brought, and the seats of a hub that serves it.
-use Rattle.std.specs.Prelude.{◌≡◌, ◌<◌, ◌++◌, ℕ, List, [], ◌∷◌, length, map, slice_set, slice_index_or, ⊤}
+use Rattle.std.specs.Prelude.{◌≡◌, ◌<◌, ◌++◌, ℕ, Bool, true, List, [], ◌∷◌, length, map, slice_set, slice_index_or, ⊤}
 use Rattle.lane_core.specs.declared.job.Plain.{Plain}
 use Rattle.hub_core.specs.Serving.{served}
 use Rattle.hub_core.specs.declared.ended.Ended.{Ended}
@@ -19,6 +19,47 @@ pub record IsNextOf (x : Plain) (given : List (List (List ℕ))) (brought : List
   pub owed : length (slice_index_or brought x.lane []) < length (slice_index_or given x.lane [])
   pub number : x.number ≡ length (slice_index_or brought x.lane [])
 
+-- as many were brought of each lane as were given
+abbrev pub IsEven : List (List (List ℕ)) → List (List Plain) → Type 0
+IsEven given brought = map (λ xs. length xs) brought ≡ map (λ xs. length xs) given
+
+-- ---- what led to a state
+
+-- how a traffic came from a first state to one: by giving these rows of each lane and by being brought these deliveries of each
+abbrev pub History : Type 0 → Type 1
+History T = T → T → List (List (List ℕ)) → List (List Plain) → Type 0
+
+-- some history has led to this state
+abbrev pub IsLed : {T : Type 0} → History T → T → Type 0
+IsLed {T} came s = (start : T) × (given : List (List (List ℕ))) × (brought : List (List Plain)) × came start s given brought
+
+-- in one of them this is a lane's next delivery
+abbrev pub Awaits : {T : Type 0} → History T → Plain → T → Type 0
+Awaits {T} came x s = (start : T) × (given : List (List (List ℕ))) × (brought : List (List Plain)) × came start s given brought × IsNextOf x given brought
+
+-- in one of them all that was given has come back
+abbrev pub IsOwedNothing : {T : Type 0} → History T → T → Type 0
+IsOwedNothing {T} came s = (start : T) × (given : List (List (List ℕ))) × (brought : List (List Plain)) × came start s given brought × IsEven given brought
+
+-- whatever led to the first state leads to the second
+abbrev pub Stays : {T : Type 0} → History T → T → T → Type 0
+Stays {T} came s t = (start : T) (given : List (List (List ℕ))) (brought : List (List Plain)) → came start s given brought → came start t given brought
+
+-- and so does whatever led to the first, if all that was given has come back
+abbrev pub StaysOwedNothing : {T : Type 0} → History T → T → T → Type 0
+StaysOwedNothing {T} came s t = (start : T) (given : List (List (List ℕ))) (brought : List (List Plain)) → came start s given brought → IsEven given brought
+    → came start t given brought
+
+-- whatever led to the first state leads to the second with this row of a lane more, which has a ticket left
+abbrev pub Gives : {T : Type 0} → History T → ℕ × List ℕ → T → T → Type 0
+Gives {T} came r s t = (start : T) (given : List (List (List ℕ))) (brought : List (List Plain)) → came start s given brought
+    → HasRoom r.0 given × came start t (with_more r.0 r.1 given) brought
+
+-- whatever led to the first state leads to the second with this delivery more, if it is its lane's next
+abbrev pub Brings : {T : Type 0} → History T → Plain → T → T → Type 0
+Brings {T} came x s t = (start : T) (given : List (List (List ℕ))) (brought : List (List Plain)) → came start s given brought → IsNextOf x given brought
+    → came start t given (with_more x.lane x brought)
+
 -- the traffic was brought all that it was to be brought
 abbrev pub IsKept : {W B : Type 0} → Ended W B → Type 0
 IsKept (Lost fault) = ⊥
@@ -26,10 +67,11 @@ IsKept Done = ⊤
 IsKept NoMemory = ⊤
 IsKept (Stopped fault) = ⊤
 
--- as many were brought of each lane as were given
-abbrev pub IsEven : List (List (List ℕ)) → List (List Plain) → Type 0
-IsEven given brought = map (λ xs. length xs) brought ≡ map (λ xs. length xs) given
-
 -- what was brought of each lane is the first of what its rows are served
 abbrev pub AreServedFirst : ℕ → List (List (List ℕ)) → List (List Plain) → Type 0
 AreServedFirst year given brought = (i : ℕ) → (rest : List Plain) × (slice_index_or brought i [] ++ rest ≡ slice_index_or (served year given) i [])
+
+-- how a traffic was served: what it was brought is the first of what is served for what it gave, and at a regular end all of that
+abbrev pub IsServed : {T W B : Type 0} → History T → (T → Bool) → ℕ → T → T → Ended W B → Type 0
+IsServed came has_ended year start now ended = (given : List (List (List ℕ))) × (brought : List (List Plain)) × came start now given brought
+    × AreServedFirst year given brought × (ended ≡ Done → (has_ended now ≡ true) × (brought ≡ served year given))

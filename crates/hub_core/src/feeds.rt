@@ -28,9 +28,8 @@ fn are_empty(rests: &[IntoIter<Runs>]) -> bool
 
 impl Feeds {
     ghost use Rattle.std.specs.Prelude.{◌≡◌, ◌<◌, ◌≤◌, [], ℕ, IfOk, IfSome, List, None, length, map, slice_index_or, true};
-    ghost use Rattle.hub_core.specs.Feeds.{AreGiven, IsTaken, are_given, rests_of};
+    ghost use Rattle.hub_core.specs.Feeds.{GivesRow, IsTaken, are_given, rests_of};
     ghost use Rattle.hub_core.specs.inner.Feeds.{NoneIsLeft};
-    ghost use Rattle.hub_core.specs.Traffics.{HasRoom, with_more};
 
     /// These rows of each lane.
     pub fn new(alloc: Global, rows: Vec<Vec<Runs>>) -> Result<Feeds, AllocError>
@@ -53,8 +52,7 @@ impl Feeds {
     /// The lane's next row.
     fn take_of(&mut self, lane: u8) -> Option<Runs>
         ensures some { IfSome result (λ row. IsTaken (rests_of self.old) lane row (rests_of self.new)) }
-        ensures given { IfSome result (λ row. (feeds given : List (List (List ℕ))) → AreGiven feeds given (rests_of self.old)
-            → HasRoom lane given × AreGiven feeds (with_more lane row given) (rests_of self.new)) }
+        ensures given { IfSome result (λ row. GivesRow (lane, row) (rests_of self.old) (rests_of self.new)) }
         ensures none { result ≡ None → rests_of self.new ≡ rests_of self.old }
         ensures left { result ≡ None → lane < length (rests_of self.old) → slice_index_or (rests_of self.old) lane [] ≡ [] }
     {
@@ -68,8 +66,7 @@ impl Feeds {
     /// The next row of this lane or one after it.
     fn take_from(&mut self, first: u8) -> Option<(u8, Runs)>
         ensures some { IfSome result (λ r. IsTaken (rests_of self.old) r.0 r.1 (rests_of self.new)) }
-        ensures given { IfSome result (λ r. (feeds given : List (List (List ℕ))) → AreGiven feeds given (rests_of self.old)
-            → HasRoom r.0 given × AreGiven feeds (with_more r.0 r.1 given) (rests_of self.new)) }
+        ensures given { IfSome result (λ r. GivesRow r (rests_of self.old) (rests_of self.new)) }
         ensures none { result ≡ None → rests_of self.new ≡ rests_of self.old }
         ensures left { result ≡ None → NoneIsLeft first 16 (rests_of self.old) }
     {
@@ -85,8 +82,7 @@ impl Feeds {
     /// The next row, and its lane. Of up to 16 lanes that have rows each has its turn.
     pub fn take(&mut self) -> Option<(u8, Runs)>
         ensures some { IfSome result (λ r. IsTaken (rests_of self.old) r.0 r.1 (rests_of self.new)) }
-        ensures given { IfSome result (λ r. (feeds given : List (List (List ℕ))) → AreGiven feeds given (rests_of self.old)
-            → HasRoom r.0 given × AreGiven feeds (with_more r.0 r.1 given) (rests_of self.new)) }
+        ensures given { IfSome result (λ r. GivesRow r (rests_of self.old) (rests_of self.new)) }
         ensures none { result ≡ None → rests_of self.new ≡ rests_of self.old }
         ensures left { result ≡ None → length (rests_of self.old) ≤ 16 → are_given (rests_of self.old) ≡ true }
     {

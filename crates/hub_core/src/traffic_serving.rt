@@ -1,15 +1,14 @@
 //! The serving of a traffic, from the making of its hub to the end of its threads.
 ghost use Rattle.std.specs.Prelude.{◌≡◌, ◌≢◌, ◌+◌, ◌≤◌, [], All, IfErr, IfOk, IfSome, List, None, Option, length, map, option_to_list, replicate, true, vec_capacity, vec_len, ℕ};
 ghost use Rattle.std.specs.List.{range_with_len};
-ghost use Rattle.lane_core.specs.declared.job.Plain.{Plain};
 ghost use Rattle.hub_core.specs.Fresh.{HasDoneNothing};
 ghost use Rattle.hub_core.specs.Hubs.{AreAllSeats, Holds, IsDelivererOf, IsWorkerOf, shape_of, year_of};
 ghost use Rattle.hub_core.specs.Lane.{ArePolledFirst};
 ghost use Rattle.hub_core.specs.Lanes.{as_lane, numbers_of};
-ghost use Rattle.hub_core.specs.Serving.{is_count, served};
-ghost use Rattle.hub_core.specs.Traffics.{AreServedFirst, IsKept};
-ghost use Rattle.hub_core.specs.inner.CallingThread.{AreSeats, WasServed};
-ghost use Rattle.hub_core.specs.inner.Traffics.{AreEven, Serves, given_to, polled_by_each};
+ghost use Rattle.hub_core.specs.Serving.{is_count};
+ghost use Rattle.hub_core.specs.Traffics.{IsKept, IsServed};
+ghost use Rattle.hub_core.specs.inner.CallingThread.{AreLeft, AreSeats, WasServed};
+ghost use Rattle.hub_core.specs.inner.Traffics.{Serves, given_to, polled_by_each};
 
 use crate::calling_thread::CallingThread;
 use crate::closed_lane::ClosedLane;
@@ -131,10 +130,9 @@ fn serve_seats<'e, R: Threads + Wait + Sync, G: Gate + Sync, T: Traffic + Drop>(
     gate: &'e G,
     signals: &'e Signals,
 ) -> Result<(Box<T>, Seats, Ended<T::WaitFault, T::BringFault>), Unstarted<Box<T>>>
-    requires seats { AreSeats hub.now seats.lanes.items seats.workers seats.deliverer seats.own None }
+    requires seats { AreSeats hub.now seats None }
     requires fresh { T.Came traffic.value traffic.value (given_to seats.lanes.items None) (polled_by_each seats.lanes.items) }
-    ensures served { IfOk result (λ v. IsKept v.2 → (held : Option (ℕ × List ℕ)) × AreSeats hub.now v.1.lanes.items v.1.workers v.1.deliverer v.1.own held × T.Came traffic.value v.0.value (given_to v.1.lanes.items held) (polled_by_each v.1.lanes.items)
-        × (v.2 ≡ Ended.Done → (T.has_ended v.0.value ≡ true) × AreEven v.1.lanes.items × (held ≡ None))) }
+    ensures served { IfOk result (λ v. IsKept v.2 → AreLeft T.Came T.has_ended hub.now traffic.value v.0.value v.1 v.2) }
     ensures refused { IfErr result (λ e. e.fault ≢ ServeFault.BadCount) }
     ensures untouched { IfErr result (λ e. e.input ≡ traffic) }
 {
@@ -190,7 +188,7 @@ fn serve_seats<'e, R: Threads + Wait + Sync, G: Gate + Sync, T: Traffic + Drop>(
 
 /// Takes all seats back, in room that was taken before.
 fn finish_all<R: Wait>(rt: &R, alloc: Global, hub: Hub, seats: Seats, room: Vec<ClosedLane>)
-    requires seats { (held : Option (ℕ × List ℕ)) × AreSeats hub seats.lanes.items seats.workers seats.deliverer seats.own held }
+    requires seats { (held : Option (ℕ × List ℕ)) × AreSeats hub seats held }
     requires room { (room.items ≡ []) × (vec_len room ≡ 0) × ((shape_of hub).lanes ≤ vec_capacity room) }
     ensures { ArePolledFirst (year_of hub) (map as_lane seats.lanes.items) }
 {
@@ -217,8 +215,7 @@ fn serve_boxed<R: Threads + Wait + Sync, G: Gate + Sync, T: Traffic + Drop>(
 ) -> Result<(Box<T>, Ended<T::WaitFault, T::BringFault>), Unstarted<Box<T>>>
     requires counts { (is_count lanes ≡ true) × (is_count workers ≡ true) }
     requires fresh { T.Came traffic.value traffic.value (replicate lanes []) (replicate lanes []) }
-    ensures served { IfOk result (λ v. IsKept v.1 → (given : List (List (List ℕ))) × (brought : List (List Plain)) × T.Came traffic.value v.0.value given brought × AreServedFirst year given brought
-        × (v.1 ≡ Ended.Done → (T.has_ended v.0.value ≡ true) × (brought ≡ served year given))) }
+    ensures served { IfOk result (λ v. IsKept v.1 → IsServed T.Came T.has_ended year traffic.value v.0.value v.1) }
     ensures refused { IfErr result (λ e. e.fault ≢ ServeFault.BadCount) }
     ensures untouched { IfErr result (λ e. e.input ≡ traffic) }
 {
@@ -268,8 +265,7 @@ pub fn serve_traffic<R: Threads + Wait + Sync, G: Gate + Sync, T: Traffic + Drop
 ) -> Result<(T, Ended<T::WaitFault, T::BringFault>), Unstarted<T>>
     requires counts { (is_count lanes ≡ true) × (is_count workers ≡ true) }
     requires fresh { T.Came traffic traffic (replicate lanes []) (replicate lanes []) }
-    ensures served { IfOk result (λ v. IsKept v.1 → (given : List (List (List ℕ))) × (brought : List (List Plain)) × T.Came traffic v.0 given brought × AreServedFirst year given brought
-        × (v.1 ≡ Ended.Done → (T.has_ended v.0 ≡ true) × (brought ≡ served year given))) }
+    ensures served { IfOk result (λ v. IsKept v.1 → IsServed T.Came T.has_ended year traffic v.0 v.1) }
     ensures refused { IfErr result (λ e. e.fault ≢ ServeFault.BadCount) }
     ensures untouched { IfErr result (λ e. e.input ≡ traffic) }
 {

@@ -1,6 +1,6 @@
 -- What goes over a wire: reads and writes in their order.
-use Rattle.std.specs.Prelude.{ℕ, List, [], map}
-use Rattle.std.specs.List.{flat_map}
+use Rattle.std.specs.Prelude.{◌≡◌, ◌++◌, ℕ, List, [], map}
+use Rattle.std.specs.List.{concat, flat_map}
 
 -- what a read gave, or what a write took
 pub data Event : Type 0 where
@@ -26,3 +26,17 @@ was_written events = flat_map bytes_written events
 -- these pieces were written, one after another
 abbrev pub writes_of : List (List ℕ) → List Event
 writes_of pieces = map (λ piece. Wrote piece) pieces
+
+-- ---- what a call did, where a history is known by a first state and the events since then
+
+-- whatever had led to the first state, with these events more it leads to the second
+abbrev pub Does : {W : Type 0} → (W → W → List Event → Type 0) → W → List Event → W → Type 0
+Does {W} did old more new = (start : W) (events : List Event) → did start old events → did start new (events ++ more)
+
+-- whatever had led to the first state leads to the second
+abbrev pub DoesNothing : {W : Type 0} → (W → W → List Event → Type 0) → W → W → Type 0
+DoesNothing {W} did old new = (start : W) (events : List Event) → did start old events → did start new events
+
+-- these bytes were written, in pieces
+abbrev pub Writes : {W : Type 0} → (W → W → List Event → Type 0) → W → List ℕ → W → Type 0
+Writes did old bytes new = (pieces : List (List ℕ)) × Does did old (writes_of pieces) new × (concat pieces ≡ bytes)

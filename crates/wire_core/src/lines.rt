@@ -1,6 +1,6 @@
 //! The lines of an input that comes in pieces.
 ghost use Rattle.std.specs.Prelude.{◌≡◌, ◌≤◌, ◌↔◌, ◌||◌, ◌<◌, nat_lt, drop, if◌then◌else◌, vec_capacity, ◌∷◌, ◌++◌, [], ℕ, List, None, Some, false, true, IfNone, IfOk, IfSome, OnErr, OnOk, IsErr, length};
-ghost use Rattle.wire_core.specs.Events.{Event};
+ghost use Rattle.wire_core.specs.Events.{Does, DoesNothing};
 ghost use Rattle.wire_core.specs.Events.Event.{Read};
 ghost use Rattle.wire_core.specs.Lines.{arrived, first_line, held_line, nothing_held, with_room, without_line};
 
@@ -80,9 +80,8 @@ fn read_behind<W: Wire>(
     requires room { 131073 ≤ vec_capacity bytes.old }
     requires chunk { length chunk.old.items ≡ 65536 }
     ensures ok { IfOk result (λ count. (more : List ℕ) × (length more ≡ count) × (bytes.new.items ≡ bytes.old.items ++ more)
-        × ((start : W) (events : List Event) → W.Did start wire.old events → W.Did start wire.new (events ++ Read more ∷ []))) }
-    ensures err { OnErr result ((bytes.new.items ≡ bytes.old.items)
-        × ((start : W) (events : List Event) → W.Did start wire.old events → W.Did start wire.new events)) }
+        × Does W.Did wire.old (Read more ∷ []) wire.new) }
+    ensures err { OnErr result ((bytes.new.items ≡ bytes.old.items) × DoesNothing W.Did wire.old wire.new) }
     ensures fault { W.read_failed wire.old ≡ false → (IsErr result ↔ (W.read_failed wire.new ≡ true)) }
     ensures write { W.write_failed wire.new ≡ W.write_failed wire.old }
     ensures end { IfOk result (λ count. count ≡ 0 → W.at_end wire.new) }
@@ -145,10 +144,8 @@ impl Lines {
 
     /// Reads what there is, where no line is held and the input has not ended.
     pub fn read<W: Wire>(&mut self, wire: &mut W) -> Result<(), Failed>
-        ensures ok { OnOk result ((bytes : List ℕ) × (self.new ≡ arrived self.old bytes)
-            × ((start : W) (events : List Event) → W.Did start wire.old events → W.Did start wire.new (events ++ Read bytes ∷ []))) }
-        ensures err { OnErr result ((self.new ≡ with_room self.old)
-            × ((start : W) (events : List Event) → W.Did start wire.old events → W.Did start wire.new events)) }
+        ensures ok { OnOk result ((bytes : List ℕ) × (self.new ≡ arrived self.old bytes) × Does W.Did wire.old (Read bytes ∷ []) wire.new) }
+        ensures err { OnErr result ((self.new ≡ with_room self.old) × DoesNothing W.Did wire.old wire.new) }
         ensures fault { W.read_failed wire.old ≡ false → (IsErr result ↔ (W.read_failed wire.new ≡ true)) }
         ensures write { W.write_failed wire.new ≡ W.write_failed wire.old }
         ensures end { OnOk result (self.new.has_ended ≡ true → W.at_end wire.new) }

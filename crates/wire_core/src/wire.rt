@@ -1,7 +1,6 @@
 //! A reader and a writer whose calls stand in one order.
 ghost use Rattle.std.specs.Prelude.{◌≡◌, ◌↔◌, ◌<◌, ◌≤◌, ◌∷◌, ◌++◌, [], ℕ, List, Bool, true, false, length, take, IfOk, OnOk, OnErr, IsErr};
-ghost use Rattle.std.specs.List.{concat};
-ghost use Rattle.wire_core.specs.Events.{Event, writes_of};
+ghost use Rattle.wire_core.specs.Events.{Does, DoesNothing, Event, Writes};
 ghost use Rattle.wire_core.specs.Events.Event.{Read, Wrote};
 
 use digits_core::Failed;
@@ -21,8 +20,8 @@ pub trait Wire {
     /// empty is the end. An interruption is a failure.
     fn read(&mut self, buf: &mut [u8]) -> Result<usize, Failed>
         ensures bound { IfOk result (λ n. n ≤ length buf.new) }
-        ensures did { IfOk result (λ n. (start : Self) (events : List Event) → Did start self.old events → Did start self.new (events ++ Read (take n buf.new) ∷ [])) }
-        ensures none { OnErr result ((start : Self) (events : List Event) → Did start self.old events → Did start self.new events) }
+        ensures did { IfOk result (λ n. Does Did self.old (Read (take n buf.new) ∷ []) self.new) }
+        ensures none { OnErr result (DoesNothing Did self.old self.new) }
         ensures ok { OnOk result (read_failed self.new ≡ read_failed self.old) }
         ensures err { OnErr result (read_failed self.new ≡ true) }
         ensures other { write_failed self.new ≡ write_failed self.old }
@@ -32,8 +31,8 @@ pub trait Wire {
     fn write(&mut self, bytes: &[u8]) -> Result<usize, Failed>
         ensures bound { IfOk result (λ n. n ≤ length bytes.now) }
         ensures some { IfOk result (λ n. 0 < length bytes.now → 0 < n) }
-        ensures did { IfOk result (λ n. (start : Self) (events : List Event) → Did start self.old events → Did start self.new (events ++ Wrote (take n bytes.now) ∷ [])) }
-        ensures none { OnErr result ((start : Self) (events : List Event) → Did start self.old events → Did start self.new events) }
+        ensures did { IfOk result (λ n. Does Did self.old (Wrote (take n bytes.now) ∷ []) self.new) }
+        ensures none { OnErr result (DoesNothing Did self.old self.new) }
         ensures ok { OnOk result (write_failed self.new ≡ write_failed self.old) }
         ensures err { OnErr result (write_failed self.new ≡ true) }
         ensures other { read_failed self.new ≡ read_failed self.old }
@@ -42,10 +41,8 @@ pub trait Wire {
 
 /// Writes all the bytes, in as many writes as it takes. After an `Err` a prefix of them went out.
 pub fn write_all<W: Wire>(wire: &mut W, bytes: &[u8]) -> Result<(), Failed>
-    ensures ok { OnOk result ((start : W) (events : List Event) → W.Did start wire.old events
-        → (pieces : List (List ℕ)) × W.Did start wire.new (events ++ writes_of pieces) × (concat pieces ≡ bytes.now)) }
-    ensures err { OnErr result ((start : W) (events : List Event) → W.Did start wire.old events
-        → (pieces : List (List ℕ)) × (rest : List ℕ) × W.Did start wire.new (events ++ writes_of pieces) × (concat pieces ++ rest ≡ bytes.now)) }
+    ensures ok { OnOk result (Writes W.Did wire.old bytes.now wire.new) }
+    ensures err { OnErr result ((done rest : List ℕ) × Writes W.Did wire.old done wire.new × (done ++ rest ≡ bytes.now)) }
     ensures fault { W.write_failed wire.old ≡ false → (IsErr result ↔ (W.write_failed wire.new ≡ true)) }
     ensures read { W.read_failed wire.new ≡ W.read_failed wire.old }
     ensures end { W.at_end wire.old → W.at_end wire.new }

@@ -21,7 +21,6 @@ use Rattle.command_core.specs.live.Answering.{AnswersBy, IsFrontBy, IsPromptBy}
 use Rattle.command_core.specs.inner.Came.{HasCome, IsInTurn, KeepsPlaces, TellsReply, WasGiven}
 use Rattle.command_core.specs.live.Replies.{Reply, replies_to}
 use Rattle.command_core.specs.live.Replies.Reply.{Row, Line}
-use Rattle.command_core.specs.inner.Stops.{TellsFaults}
 use Rattle.command_core.specs.live.Text.{AnsweredAll, IsReply, line_meant}
 use Rattle.command_core.specs.inner.Turns.{IsFresh}
 use Rattle.command_core.specs.inner.Lived.{EndsAs}
@@ -96,15 +95,6 @@ come_at_first f n lanes places h stopped count few fresh none held going = recor
     ended = λ is. (let e = ap (λ g. g.has_ended) held in let never : ⊥ = cc (e, is) in absurd never);
     answered = λ is. (let never : ⊥ = cc (going, is) in absurd never);
   };
-}
-
-pub told_at_first : (a b : Bool) (stopped : Option LiveFault) → stopped ≡ None → TellsFaults a a b b stopped
-told_at_first a b stopped none = record {
-  read_fault = λ first is. (let never : ⊥ = cc (none, is) in absurd never);
-  failed_read = λ first is. (let never : ⊥ = cc (first, is) in absurd never);
-  write_fault = λ first is. (let never : ⊥ = cc (none, is) in absurd never);
-  failed_write = λ first is. (let never : ⊥ = cc (first, is) in absurd never);
-  begun = λ is. (let never : ⊥ = cc (none, is) in never);
 }
 
 -- what a live input leaves of its wire where it has not begun

@@ -1,6 +1,5 @@
 -- How far a live input has come, by the reads and writes of its wire.
-use Rattle.std.proofs.Common.{inl, inr}
-use Rattle.std.proofs.Common.{All, Bool, List, None, Option, Some, [], append-nil, arith, false, length, refl, subst, sym, ℕ, ⊎_elim, ◌++◌, ◌∙◌, ◌∷◌, ◌≡◌}
+use Rattle.std.proofs.Common.{All, List, None, Option, Some, [], append-nil, arith, false, length, refl, subst, sym, ℕ, ⊎_elim, ◌++◌, ◌∙◌, ◌∷◌, ◌≡◌}
 use Rattle.std.specs.List.{AllZip, concat, slice_get}
 use Rattle.std.proofs.lemmas.List.Elements.{All-nil, All-weaker}
 use Rattle.lane_core.specs.declared.job.Plain.{Plain}
@@ -8,14 +7,13 @@ use Rattle.hub_core.specs.Traffics.{IsEven}
 use Rattle.wire_core.specs.Events.{Event, writes_of}
 use Rattle.wire_core.specs.Events.Event.{Read}
 use Rattle.wire_core.specs.Lines.{Held, arrived, held_line, with_room}
-use Rattle.command_core.specs.inner.Came.{HasCome, IsInTurn, IsProgressAt, IsReady, IsStoppedBy, KeepsPlaces, Stands, TellsPlace}
-use Rattle.command_core.specs.inner.Stops.{MayStillWrite, TellsEnd, TellsFaults}
+use Rattle.command_core.specs.inner.Came.{HasCome, IsInTurn, IsReady, KeepsPlaces, Stands, TellsPlace}
+use Rattle.command_core.specs.inner.Stops.{MayStillWrite}
 use Rattle.command_core.specs.inner.Turns.{IsEnded}
 use Rattle.command_core.specs.declared.live.fault.LiveFault.{LiveFault}
 use Rattle.command_core.specs.declared.live.fault.LiveFault.TheVariants.{NoMemory, ReadFault, WriteFault}
 use Rattle.command_core.specs.declared.live.manner.Manner.{Manner}
 use Rattle.command_core.specs.declared.live.place.Place.{Place}
-use Rattle.command_core.specs.declared.live.progress.Progress.{Progress}
 use Rattle.command_core.specs.declared.live.waiting.Waiting.{Waiting}
 use Rattle.command_core.proofs.live.CameFacts.{ready, turn_ended}
 use Rattle.command_core.proofs.live.KeepFacts.{has_read, has_room, stands_read, stands_stopped, wrote_all, wrote_some}
@@ -94,44 +92,3 @@ module _ (f : Manner) (events : List Event) (lanes : List Waiting) (places : Lis
             (has_room (length lanes) f given brought events h k none going);
         stands = stands_stopped (length lanes) f given brought events h stopped k none going c.stands;
       }
-
--- where memory is refused, no read or write has failed
-pub told_stopped : (a b c d : Bool) (old new : Option LiveFault) → IsStoppedBy old new → TellsFaults a b c d old → TellsFaults a b c d new
-told_stopped a b c d old new (inl same) t = subst (TellsFaults a b c d) (sym same) t
-told_stopped a b c d old new (inr by) t = record {
-  read_fault = λ _ is. (let never : ⊥ = cc (by.1, is) in absurd never);
-  failed_read = λ first is. (let was = t.failed_read first is in let none = by.0 in let never : ⊥ = cc (none, was) in absurd never);
-  write_fault = λ _ is. (let never : ⊥ = cc (by.1, is) in absurd never);
-  failed_write = λ first is. (let was = t.failed_write first is in let none = by.0 in let never : ⊥ = cc (none, was) in absurd never);
-  begun = λ is. (let never : ⊥ = cc (by.1, is) in never);
-}
-
--- so far a live input has come, which had this wire, this form and so many lanes at first
-abbrev Has : {W : Type 0} → (W → W → List Event → Type 0) → (W → Bool) → (W → Bool) → (W → Type 0) → W → Manner → ℕ → W → Manner → Progress → List (List (List ℕ))
-    → List (List Plain) → Type 0
-Has did read_failed write_failed at_end start first count wire f p given brought =
-    (events : List Event) × did start wire events × IsProgressAt f events p given brought × (f ≡ first)
-    × (length p.lanes.items ≡ count) × TellsFaults (read_failed start) (read_failed wire) (write_failed start) (write_failed wire) p.stopped
-    × TellsEnd p.lines (at_end wire)
-
--- further rows were taken of it, and its wire and its form stay
-pub took_on : {W : Type 0} (did : W → W → List Event → Type 0) (read_failed write_failed : W → Bool) (at_end : W → Type 0) (start : W) (first : Manner)
-    (count : ℕ) (wire now : W) (f form : Manner) (old new : Progress) (given more : List (List (List ℕ))) (brought : List (List Plain))
-    → now ≡ wire → form ≡ f → new.lines.has_ended ≡ old.lines.has_ended → Has did read_failed write_failed at_end start first count wire f old given brought
-    → ((events : List Event) → IsProgressAt f events old given brought → IsProgressAt f events new more brought)
-    → ((a b c d : Bool) → TellsFaults a b c d old.stopped → TellsFaults a b c d new.stopped)
-    → Has did read_failed write_failed at_end start first count now form new more brought
-took_on did read_failed write_failed at_end start first count wire now f form old new given more brought same_wire same_form same_end came on told =
-    let at = on came.0 came.2 in
-    let kept : Has did read_failed write_failed at_end start first count wire f new more brought = (
-      came.0,
-      came.1,
-      at,
-      came.3,
-      sym at.waiting.deliveries ∙ came.2.waiting.deliveries
-          ∙ came.4,
-      told _ _ _ _ came.5,
-      λ ended. came.6 (sym same_end ∙ ended),
-    ) in
-    subst (λ w. Has did read_failed write_failed at_end start first count w form new more brought) (sym same_wire)
-    (subst (λ g. Has did read_failed write_failed at_end start first count wire g new more brought) (sym same_form) kept)

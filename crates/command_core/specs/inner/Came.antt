@@ -1,13 +1,13 @@
 -- How far a live input has come.
-use Rattle.std.specs.Prelude.{◌≡◌, ◌<◌, ◌≤◌, ◌-◌, ◌+◌, ◌++◌, ◌⊎◌, Bool, true, false, ⊤, ℕ, All, List, [], ◌∷◌, Option, Some, None, Result, Ok, Err, length, slice_get, slice_index_or, slice_set, vec_capacity}
+use Rattle.std.specs.Prelude.{◌≡◌, ◌≢◌, ◌<◌, ◌≤◌, ◌-◌, ◌+◌, ◌++◌, ◌⊎◌, Bool, true, false, ⊤, ℕ, All, List, [], ◌∷◌, Option, Some, None, Result, Ok, Err, length, slice_get, slice_index_or, slice_set, vec_capacity}
 use Rattle.std.specs.List.{AllZip}
 use Rattle.scan_core.specs.Answers.{IsAnswer}
 use Rattle.scan_core.specs.declared.answer.Answer.{Answer}
 use Rattle.std.specs.declared.alloc.AllocError.{AllocError}
 use Rattle.lane_core.specs.declared.job.Plain.{Plain}
-use Rattle.hub_core.specs.Traffics.{HasRoom, with_more}
+use Rattle.hub_core.specs.Traffics.{Gives, History, Stays}
 use Rattle.wire_core.specs.Events.{Event, was_read, was_written}
-use Rattle.wire_core.specs.Lines.{Held, TakesLines}
+use Rattle.wire_core.specs.Lines.{Held, TakesLines, without_line}
 use Rattle.command_core.specs.live.Answering.{AnswersBy, IsFrontBy, IsPromptBy, whole_lines}
 use Rattle.command_core.specs.live.Replies.{Reply, unnumbered_line, replies_to}
 use Rattle.command_core.specs.inner.Replies.{numbers_after_lines}
@@ -17,14 +17,15 @@ use Rattle.command_core.specs.answers.Reports.{numbered_line}
 use Rattle.command_core.specs.live.Text.{HasEnded, IsTold, line_fault_text, line_meant}
 use Rattle.command_core.specs.declared.live.manner.Manner.{Manner}
 use Rattle.command_core.specs.declared.live.fault.LiveFault.{LiveFault}
-use Rattle.command_core.specs.declared.live.fault.LiveFault.TheVariants.{NoMemory, ReadFault, WriteFault}
+use Rattle.command_core.specs.declared.live.fault.LiveFault.TheVariants.{NoThread, ReadFault, WriteFault}
 use Rattle.command_core.specs.declared.live.place.Place.{Place}
 use Rattle.command_core.specs.declared.live.place.Place.TheVariants as place
-use Rattle.command_core.specs.declared.live.progress.Progress.{Progress}
-use Rattle.command_core.specs.declared.live.progress.Taken.{Taken}
-use Rattle.command_core.specs.declared.live.progress.Taken.TheVariants as take
+use Rattle.command_core.specs.declared.live.input.Live.{Live}
+use Rattle.command_core.specs.declared.live.input.Taken.{Taken}
+use Rattle.command_core.specs.declared.live.input.Taken.TheVariants as take
 use Rattle.command_core.specs.declared.live.record.LineFault.TheVariants as line_fault
 use Rattle.command_core.specs.declared.live.waiting.Waiting.{Waiting}
+use Rattle.command_core.specs.inner.Stops.{TellsFault}
 use Rattle.command_core.specs.inner.Turns.{IsOneMore, IsRoomier}
 
 -- ---- the lanes
@@ -120,15 +121,6 @@ pub record HasCome (f : Manner) (events : List Event) (lanes : List Waiting) (pl
   pub keeps : (stopped ≡ Some WriteFault → ⊥) → KeepsPlaces (length lanes) f given brought events places h
   pub stands : Stands (length lanes) f given brought events h stopped
 
-abbrev pub IsProgressAt : Manner → List Event → Progress → List (List (List ℕ)) → List (List Plain) → Type 0
-IsProgressAt f events p given brought = HasCome f events p.lanes.items p.places.items p.lines p.stopped given brought
-
--- what was taken was given
-abbrev pub Took : (List (List (List ℕ)) → List (List Plain) → Type 0) → List (List (List ℕ)) → List (List Plain) → Taken → Type 0
-Took C given brought (take.Row lane row) = HasRoom lane given × C (with_more lane row given) brought
-Took C given brought take.Line = C given brought
-Took C given brought take.Nothing = C given brought
-
 -- a row's place was kept, or that of its refusal where the lane has had all its numbers
 abbrev pub KeepsRow : ℕ → Result Bool AllocError → List Waiting → List Waiting → List Place → List Place → Type 0
 KeepsRow lane (Ok true) old new places more = (number : ℕ) × (w : Waiting) × (v : Waiting) × (slice_get old lane ≡ Some w) × (new ≡ slice_set old lane v)
@@ -138,6 +130,29 @@ KeepsRow lane (Ok false) old new places more = (w : Waiting) × (v : Waiting) ×
 KeepsRow lane (Err refused) old new places more = ((new ≡ old)
     ⊎ ((w : Waiting) × (v : Waiting) × (slice_get old lane ≡ Some w) × (new ≡ slice_set old lane v) × IsRoomier w v)) × (more ≡ places)
 
--- nothing has stopped it, but memory may have been refused now
-abbrev pub IsStoppedBy : Option LiveFault → Option LiveFault → Type 0
-IsStoppedBy old new = (new ≡ old) ⊎ ((old ≡ None) × (new ≡ Some NoMemory))
+-- ---- the whole
+
+-- from its start a live input has come this far: what its wire did, and why it has stopped
+pub record HasLived {W : Type 0} (did : W → W → List Event → Type 0) (read_failed write_failed : W → Bool) (at_end : W → Type 0) (start s : Live W)
+    (given : List (List (List ℕ))) (brought : List (List Plain)) : Type 0 where
+  pub events : List Event
+  pub were_done : did start.wire s.wire events
+  pub come : HasCome s.manner events s.lanes.items s.places.items s.lines s.stopped given brought
+  pub manner : s.manner ≡ start.manner
+  pub count : length s.lanes.items ≡ length start.lanes.items
+  pub read : TellsFault (read_failed start.wire) (read_failed s.wire) s.stopped ReadFault
+  pub write : TellsFault (write_failed start.wire) (write_failed s.wire) s.stopped WriteFault
+  pub begun : s.stopped ≢ Some NoThread
+  pub ended : s.lines.has_ended ≡ true → at_end s.wire
+
+-- what was taken was given
+abbrev pub TakesLine : {W : Type 0} → History (Live W) → Result Taken AllocError → Live W → Live W → Type 0
+TakesLine came (Ok (take.Row lane row)) s t = Gives came (lane, row) s t
+TakesLine came (Ok take.Line) s t = Stays came s t
+TakesLine came (Ok take.Nothing) s t = Stays came s t
+TakesLine came (Err refused) s t = Stays came s t
+
+-- with the line taken, unless memory was refused
+abbrev pub after_line : {W : Type 0} → Result Taken AllocError → Live W → Live W
+after_line (Ok taken) s = record s { lines = without_line s.lines }
+after_line (Err refused) s = s

@@ -1,30 +1,42 @@
-//! The traffic of a live input: the rows of the lines that come over a wire, and the lines that answer them.
-ghost use Rattle.std.specs.Prelude.{◌≡◌, [], Bool, IfErr, IfOk, List, Ok, OnOk, ℕ, false, length, replicate, true};
-ghost use Rattle.lane_core.specs.declared.job.Plain.{Plain};
-ghost use Rattle.hub_core.specs.Traffics.{IsEven};
-ghost use Rattle.wire_core.specs.Events.{Event};
-ghost use Rattle.command_core.specs.inner.Came.{IsProgressAt};
+//! A live input: the rows of the lines that come over a wire, and the lines that answer them.
+ghost use Rattle.std.specs.Prelude.{◌≡◌, [], IfErr, IfOk, Ok, OnOk, ℕ, false, length, replicate, true};
+ghost use Rattle.hub_core.specs.Traffics.{IsLed, IsOwedNothing, Stays, StaysOwedNothing};
+ghost use Rattle.command_core.specs.inner.Came.{TakesLine, after_line};
 ghost use Rattle.command_core.specs.inner.Finish.{is_finished};
-ghost use Rattle.command_core.specs.inner.Stops.{MayStillWrite, TellsEnd, TellsFaults};
-ghost use Rattle.command_core.specs.declared.live.manner.Manner.{Manner};
+ghost use Rattle.command_core.specs.inner.Meaning.{HoldsRecord};
+ghost use Rattle.command_core.specs.inner.Stops.{MayStillWrite};
 
 use crate::live::fault::{LiveFault, is_open};
 use crate::live::manner::Manner;
-use crate::live::place::push_places;
-use crate::live::progress::{Progress, TURN, Taken};
-use crate::live::waiting::end_turn;
+use crate::live::place::{Place, keep_row, push_places};
+use crate::live::record::{Record, next_record};
+use crate::live::waiting::{Waiting, end_turn, make_lanes};
 use hub_core::Traffic;
 use lane_core::Delivery;
 use scan_core::Runs;
-use std::alloc::Global;
+use std::alloc::{AllocError, Global};
 use std::convert::Infallible;
-use wire_core::{Wire, write_all};
+use wire_core::{Lines, Wire, write_all};
+
+/// How many records are answered in a turn, at most.
+const TURN: usize = 1_024;
 
 /// The live input has stopped; why, it tells itself.
 #[derive(Clone, Copy, Debug, PartialEq, Eq)]
 pub struct Stopped;
 
-/// A live input: a wire on which records come and their answers go.
+/// What was taken of what has come.
+#[derive(Debug, Drop)]
+pub enum Taken {
+    /// Nothing: no line has ended, the turn is full, or memory was refused.
+    Nothing,
+    /// A record that gets no ticket, or a line without one.
+    Line,
+    /// A row of a lane.
+    Row(u8, Runs),
+}
+
+/// A live input: a wire on which records come and their answers go, and how far it has come.
 #[derive(Drop)]
 pub struct Live<W> {
     /// The wire.
@@ -32,76 +44,14 @@ pub struct Live<W> {
     alloc: Global,
     manner: Manner,
     text: String,
-    progress: Progress,
-}
-
-/// Writes the lines of the turn, whose rows have all come back.
-fn write_turn<W: Wire>(
-    wire: &mut W,
-    text: &mut String,
-    manner: &Manner,
-    progress: &mut Progress,
-) -> Result<(), Stopped>
-    requires going { MayStillWrite progress.old.stopped }
-    requires even { (start : W) × (events : List Event) × (given : List (List (List ℕ))) × (brought : List (List Plain)) × W.Did start wire.old events × IsProgressAt manner.now events progress.old given brought × IsEven given brought }
-    ensures came { (start : W) (events : List Event) (given : List (List (List ℕ))) (brought : List (List Plain)) → W.Did start wire.old events → IsProgressAt manner.now events progress.old given brought → IsEven given brought
-        → (later : List Event) × W.Did start wire.new later × IsProgressAt manner.now later progress.new given brought }
-    ensures written { OnOk result (progress.new.places.items ≡ []) }
-    ensures still { OnOk result (progress.new.stopped ≡ progress.old.stopped) }
-    ensures lanes { length progress.new.lanes.items ≡ length progress.old.lanes.items }
-    ensures end { TellsEnd progress.old.lines (W.at_end wire.old) → TellsEnd progress.new.lines (W.at_end wire.new) }
-    ensures faults { (read write : Bool) → TellsFaults read (W.read_failed wire.old) write (W.write_failed wire.old) progress.old.stopped → TellsFaults read (W.read_failed wire.new) write (W.write_failed wire.new) progress.new.stopped }
-{
-    text.clear();
-    let Ok(()) = push_places(
-        text,
-        manner,
-        progress.lanes.as_slice(),
-        progress.places.as_slice(),
-    ) else {
-        progress.stopped = Some(LiveFault::NoMemory);
-        return Err(Stopped);
-    };
-    match write_all(wire, text.as_bytes()) {
-        Ok(()) => {
-            progress.places.clear();
-            end_turn(&mut progress.lanes);
-            Ok(())
-        }
-        Err(_) => {
-            progress.stopped = Some(LiveFault::WriteFault);
-            Err(Stopped)
-        }
-    }
-}
-
-/// Reads what there is, where all lines that have ended are answered. False at the end of the input.
-fn read_on<W: Wire>(wire: &mut W, progress: &mut Progress) -> Result<bool, Stopped>
-    requires answered { progress.old.places.items ≡ [] }
-    requires going { MayStillWrite progress.old.stopped }
-    ensures came { (start : W) (events : List Event) (manner : Manner) (given : List (List (List ℕ))) (brought : List (List Plain)) → W.Did start wire.old events → IsProgressAt manner events progress.old given brought
-        → (later : List Event) × W.Did start wire.new later × IsProgressAt manner later progress.new given brought }
-    ensures ended { result ≡ Ok false → is_finished progress.new ≡ true }
-    ensures lanes { progress.new.lanes ≡ progress.old.lanes }
-    ensures end { TellsEnd progress.old.lines (W.at_end wire.old) → TellsEnd progress.new.lines (W.at_end wire.new) }
-    ensures faults { (read write : Bool) → TellsFaults read (W.read_failed wire.old) write (W.write_failed wire.old) progress.old.stopped → TellsFaults read (W.read_failed wire.new) write (W.write_failed wire.new) progress.new.stopped }
-{
-    if progress.stopped.is_some() {
-        return Err(Stopped);
-    }
-    if progress.lines.line().is_some() {
-        return Ok(true);
-    }
-    if progress.lines.has_ended() {
-        return Ok(false);
-    }
-    match progress.lines.read(wire) {
-        Ok(()) => Ok(true),
-        Err(_) => {
-            progress.stopped = Some(LiveFault::ReadFault);
-            Err(Stopped)
-        }
-    }
+    /// The rows of each lane in this turn.
+    lanes: Vec<Waiting>,
+    /// The places of the turn's records.
+    places: Vec<Place>,
+    /// What is held of the input.
+    lines: Lines,
+    /// Why nothing more is taken.
+    stopped: Option<LiveFault>,
 }
 
 impl<W: Wire> Live<W> {
@@ -112,45 +62,166 @@ impl<W: Wire> Live<W> {
         ensures came { IfOk result (λ s. ⟦<Live<W> as Traffic>⟧.Came s s (replicate lanes []) (replicate lanes [])) }
         ensures wire { IfOk result (λ s. s.wire ≡ wire) }
         ensures manner { IfOk result (λ s. s.manner ≡ manner) }
-        ensures count { IfOk result (λ s. length s.progress.lanes.items ≡ lanes) }
+        ensures count { IfOk result (λ s. length s.lanes.items ≡ lanes) }
         ensures refused { IfErr result (λ w. w ≡ wire) }
     {
-        match Progress::new(alloc, lanes) {
-            Ok(progress) => Ok(Live {
-                wire,
-                alloc,
-                manner,
-                text: String::new(alloc),
-                progress,
-            }),
-            Err(_) => Err(wire),
-        }
+        let Ok(lanes) = make_lanes(alloc, lanes) else {
+            return Err(wire);
+        };
+        let Ok(lines) = Lines::new(alloc) else {
+            return Err(wire);
+        };
+        Ok(Live {
+            wire,
+            alloc,
+            manner,
+            text: String::new(alloc),
+            lanes,
+            places: Vec::new(alloc),
+            lines,
+            stopped: None,
+        })
     }
 
     /// Why it has stopped, if it has.
     pub fn stopped(&self) -> Option<LiveFault>
-        ensures { result ≡ self.now.progress.stopped }
+        ensures { result ≡ self.now.stopped }
     {
-        self.progress.stopped
+        self.stopped
+    }
+
+    /// Keeps the place of the record that is held, whose line is taken after it.
+    fn keep(&mut self, found: Record) -> Result<Taken, AllocError>
+        requires led { IsLed ⟦<Live<W> as Traffic>⟧.Came self.old }
+        requires found { (count : ℕ) × HoldsRecord (length self.old.lanes.items) self.old.lines count found }
+        ensures takes { TakesLine ⟦<Live<W> as Traffic>⟧.Came result self.old (after_line result self.new) }
+        ensures lines { self.new.lines ≡ self.old.lines }
+        ensures stopped { self.new.stopped ≡ self.old.stopped }
+    {
+        match found {
+            Record::Blank => Ok(Taken::Line),
+            Record::Message(lane, text) => {
+                self.places.push(Place::Message(lane, text))?;
+                Ok(Taken::Line)
+            }
+            Record::Refused(lane, fault) => {
+                self.places.push(Place::Refused(lane, fault))?;
+                Ok(Taken::Line)
+            }
+            Record::Row(lane, row) => {
+                match keep_row(&mut self.lanes, &mut self.places, lane) {
+                    Ok(true) => Ok(Taken::Row(lane, row)),
+                    Ok(false) => Ok(Taken::Line),
+                    Err(refused) => Err(refused),
+                }
+            }
+        }
+    }
+
+    /// TakesLine the next line, and keeps the place of its record.
+    fn take_line(&mut self) -> Result<Taken, AllocError>
+        requires { IsLed ⟦<Live<W> as Traffic>⟧.Came self.old }
+        ensures takes { TakesLine ⟦<Live<W> as Traffic>⟧.Came result self.old self.new }
+        ensures stopped { self.new.stopped ≡ self.old.stopped }
+    {
+        let lanes = self.lanes.len() as u8;
+        let Some((count, found)) = next_record(self.alloc, lanes, &self.lines)? else {
+            return Ok(Taken::Nothing);
+        };
+        match self.keep(found) {
+            Ok(taken) => {
+                self.lines.take_line(count);
+                Ok(taken)
+            }
+            Err(refused) => Err(refused),
+        }
+    }
+
+    /// TakesLine the next line, where nothing has stopped and the turn is not full.
+    fn take_next(&mut self) -> Taken
+        requires { IsLed ⟦<Live<W> as Traffic>⟧.Came self.old }
+        ensures { TakesLine ⟦<Live<W> as Traffic>⟧.Came (Ok result) self.old self.new }
+    {
+        if self.stopped.is_some() || self.places.len() >= TURN {
+            return Taken::Nothing;
+        }
+        match self.take_line() {
+            Ok(taken) => taken,
+            Err(_) => {
+                self.stopped = Some(LiveFault::NoMemory);
+                Taken::Nothing
+            }
+        }
+    }
+
+    /// Writes the lines of the turn, whose rows have all come back.
+    fn write_turn(&mut self) -> Result<(), Stopped>
+        requires going { MayStillWrite self.old.stopped }
+        requires back { IsOwedNothing ⟦<Live<W> as Traffic>⟧.Came self.old }
+        ensures came { StaysOwedNothing ⟦<Live<W> as Traffic>⟧.Came self.old self.new }
+        ensures written { OnOk result (self.new.places.items ≡ []) }
+        ensures still { OnOk result (self.new.stopped ≡ self.old.stopped) }
+    {
+        self.text.clear();
+        let Ok(()) = push_places(
+            &mut self.text,
+            &self.manner,
+            self.lanes.as_slice(),
+            self.places.as_slice(),
+        ) else {
+            self.stopped = Some(LiveFault::NoMemory);
+            return Err(Stopped);
+        };
+        match write_all(&mut self.wire, self.text.as_bytes()) {
+            Ok(()) => {
+                self.places.clear();
+                end_turn(&mut self.lanes);
+                Ok(())
+            }
+            Err(_) => {
+                self.stopped = Some(LiveFault::WriteFault);
+                Err(Stopped)
+            }
+        }
+    }
+
+    /// Reads what there is, where all lines that have ended are answered. False at the end of the input.
+    fn read_on(&mut self) -> Result<bool, Stopped>
+        requires answered { self.old.places.items ≡ [] }
+        requires going { MayStillWrite self.old.stopped }
+        ensures came { Stays ⟦<Live<W> as Traffic>⟧.Came self.old self.new }
+        ensures ended { result ≡ Ok false → is_finished self.new ≡ true }
+    {
+        if self.stopped.is_some() {
+            return Err(Stopped);
+        }
+        if self.lines.line().is_some() {
+            return Ok(true);
+        }
+        if self.lines.has_ended() {
+            return Ok(false);
+        }
+        match self.lines.read(&mut self.wire) {
+            Ok(()) => Ok(true),
+            Err(_) => {
+                self.stopped = Some(LiveFault::ReadFault);
+                Err(Stopped)
+            }
+        }
     }
 }
 
 impl<W: Wire> Traffic for Live<W> {
-    ghost use Rattle.std.specs.Prelude.{◌≡◌, List, length};
-    ghost use Rattle.wire_core.specs.Events.{Event};
-    ghost use Rattle.command_core.specs.inner.Came.{IsProgressAt};
+    ghost use Rattle.command_core.specs.inner.Came.{HasLived};
     ghost use Rattle.command_core.specs.inner.Finish.{is_finished};
-    ghost use Rattle.command_core.specs.inner.Stops.{TellsEnd, TellsFaults};
 
     type WaitFault = Stopped;
 
     type BringFault = Infallible;
 
-    ghost Came = { λ start s given brought. (events : List Event) × W.Did start.wire s.wire events × IsProgressAt s.manner events s.progress given brought × (s.manner ≡ start.manner)
-        × (length s.progress.lanes.items ≡ length start.progress.lanes.items) × TellsFaults (W.read_failed start.wire) (W.read_failed s.wire) (W.write_failed start.wire) (W.write_failed s.wire) s.progress.stopped
-        × TellsEnd s.progress.lines (W.at_end s.wire) };
+    ghost Came = { λ start s given brought. HasLived W.Did W.read_failed W.write_failed W.at_end start s given brought };
 
-    ghost has_ended = { λ s. is_finished s.progress };
+    ghost has_ended = { λ s. is_finished s };
 
     /// To wake a worker takes longer than to read a row that comes alone.
     fn lets_caller_read(&self) -> bool {
@@ -159,7 +230,7 @@ impl<W: Wire> Traffic for Live<W> {
 
     fn next(&mut self) -> Option<(u8, Runs)> {
         'lines: for _ in 0..TURN {
-            match self.progress.take_next(self.alloc) {
+            match self.take_next() {
                 Taken::Nothing => return None,
                 Taken::Line => {}
                 Taken::Row(lane, row) => return Some((lane, row)),
@@ -169,20 +240,16 @@ impl<W: Wire> Traffic for Live<W> {
     }
 
     fn bring(&mut self, delivery: Delivery) -> Result<(), Infallible> {
-        self.progress.bring(delivery);
+        let index = usize::from(delivery.ticket().lane);
+        self.lanes[index].deliveries.push_reserved(delivery);
         Ok(())
     }
 
     fn wait(&mut self) -> Result<bool, Stopped> {
-        if !is_open(self.progress.stopped) {
+        if !is_open(self.stopped) {
             return Err(Stopped);
         }
-        write_turn(
-            &mut self.wire,
-            &mut self.text,
-            &self.manner,
-            &mut self.progress,
-        )?;
-        read_on(&mut self.wire, &mut self.progress)
+        self.write_turn()?;
+        self.read_on()
     }
 }

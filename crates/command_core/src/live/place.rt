@@ -1,7 +1,8 @@
 //! The places of a turn's records, and their lines.
-ghost use Rattle.std.specs.Prelude.{◌≡◌, ◌++◌, [], All, List, ℕ, IfOk, OnOk, string_bytes};
+ghost use Rattle.std.specs.Prelude.{◌≡◌, ◌<◌, ◌≤◌, ◌+◌, ◌++◌, [], All, List, Some, ℕ, IfOk, OnOk, length, slice_get, string_bytes, vec_len};
 ghost use Rattle.std.specs.List.{AllZip, concat};
-ghost use Rattle.command_core.specs.inner.Came.{IsReady, TellsPlace};
+ghost use Rattle.command_core.specs.inner.Came.{IsReady, KeepsRow, TellsPlace};
+ghost use Rattle.command_core.specs.declared.live.waiting.Waiting.{Waiting};
 ghost use Rattle.command_core.specs.live.Replies.{unnumbered_line};
 ghost use Rattle.command_core.specs.live.Replies.Told.{Message};
 ghost use Rattle.command_core.specs.live.Text.{IsTold, line_fault_text};
@@ -9,7 +10,7 @@ ghost use Rattle.command_core.specs.live.Text.{IsTold, line_fault_text};
 use crate::answers::report::{push_line, push_number};
 use crate::live::manner::Manner;
 use crate::live::record::LineFault;
-use crate::live::waiting::Waiting;
+use crate::live::waiting::{Waiting, next_number};
 use message_core::message_line;
 use std::alloc::AllocError;
 use std::fmt::Write;
@@ -23,6 +24,30 @@ pub enum Place {
     Message(u8, Vec<u8>),
     /// Why it got no ticket, and the lane that it names.
     Refused(Option<u8>, LineFault),
+}
+
+/// Keeps the place of a row of this lane. False where the lane has had all its numbers, and the place is that of a
+/// refusal.
+pub fn keep_row(
+    lanes: &mut Vec<Waiting>,
+    places: &mut Vec<Place>,
+    lane: u8,
+) -> Result<bool, AllocError>
+    requires low { lane < vec_len lanes.old }
+    requires behind { (w : Waiting) → slice_get lanes.old.items lane ≡ Some w → w.first + length w.deliveries.items ≤ w.next }
+    ensures { KeepsRow lane result lanes.old.items lanes.new.items places.old.items places.new.items }
+{
+    places.reserve(1)?;
+    match next_number(lanes, lane)? {
+        Some(number) => {
+            places.push_reserved(Place::Row(lane, number));
+            Ok(true)
+        }
+        None => {
+            places.push_reserved(Place::Refused(Some(lane), LineFault::Spent));
+            Ok(false)
+        }
+    }
 }
 
 /// Appends the line of a refusal.

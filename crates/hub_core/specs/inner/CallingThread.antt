@@ -1,27 +1,24 @@
 -- What stays true of the calling thread in each of its steps.
 use Rattle.std.specs.Prelude.{◌≡◌, ◌≤◌, ◌+◌, ℕ, All, Bool, true, List, IfSome, None, Option, length, option_to_list, vec_capacity, vec_len}
-use Rattle.std.specs.declared.vec.Vec.{Vec}
-use Rattle.std.specs.declared.alloc.Global.{Global}
-use Rattle.lane_core.specs.declared.job.Plain.{Plain}
 use Rattle.hub_core.specs.Hubs.{IsDelivererOf, IsWorkerOf, shape_of}
+use Rattle.hub_core.specs.Traffics.{History}
 use Rattle.hub_core.specs.inner.Traffics.{AreEven, Serves, given_to, polled_by_each}
 use Rattle.hub_core.specs.declared.ended.Ended.{Ended}
 use Rattle.hub_core.specs.declared.ended.Ended.TheVariants.{Done}
 use Rattle.hub_core.specs.declared.hub.Hub.{Hub}
 use Rattle.hub_core.specs.declared.lane_seat.LaneSeat.{LaneSeat}
-use Rattle.hub_core.specs.declared.deliverer_seat.DelivererSeat.{DelivererSeat}
-use Rattle.hub_core.specs.declared.worker_seat.WorkerSeat.{WorkerSeat}
 use Rattle.hub_core.specs.declared.calling_thread.CallingThread.{CallingThread}
+use Rattle.hub_core.specs.declared.traffic_serving.Seats.{Seats}
 
 -- its seats are those of its hub, and its traffic has come from its start by giving their rows and by being brought what they polled
-pub record IsServing {T : Type 0} (Came : T → T → List (List (List ℕ)) → List (List Plain) → Type 0) (s : CallingThread T) : Type 0 where
+pub record IsServing {T : Type 0} (Came : History T) (s : CallingThread T) : Type 0 where
   pub lanes : Serves s.hub.now s.lanes.items s.held
   pub deliverer : IsDelivererOf s.hub.now s.deliverer
   pub own : IfSome s.own (IsWorkerOf s.hub.now)
   pub came : Came s.start.value s.traffic.value (given_to s.lanes.items s.held) (polled_by_each s.lanes.items)
 
 -- it serves the same traffic by the same hub, with as many seats
-pub record GoesOn {T : Type 0} (Came : T → T → List (List (List ℕ)) → List (List Plain) → Type 0) (s t : CallingThread T) : Type 0 where
+pub record GoesOn {T : Type 0} (Came : History T) (s t : CallingThread T) : Type 0 where
   pub hub : t.hub.now ≡ s.hub.now
   pub start : t.start.value ≡ s.start.value
   pub seats : length (option_to_list t.own) ≡ length (option_to_list s.own)
@@ -32,7 +29,7 @@ abbrev pub HasAllBack : {T : Type 0} → CallingThread T → Type 0
 HasAllBack s = AreEven s.lanes.items × (s.held ≡ None)
 
 -- by these lanes' seats the traffic has come from its start so far; at a regular end it gives nothing more, and all has come back
-pub record WasServed {T W B : Type 0} (Came : T → T → List (List (List ℕ)) → List (List Plain) → Type 0) (has_ended : T → Bool) (h : Hub) (start now : T)
+pub record WasServed {T W B : Type 0} (Came : History T) (has_ended : T → Bool) (h : Hub) (start now : T)
     (lanes : List LaneSeat) (ended : Ended W B) : Type 0 where
   pub held : Option (ℕ × List ℕ)
   pub serves : Serves h lanes held
@@ -40,11 +37,16 @@ pub record WasServed {T W B : Type 0} (Came : T → T → List (List (List ℕ))
   pub done : ended ≡ Done → (has_ended now ≡ true) × AreEven lanes × (held ≡ None)
 
 -- all seats of a hub: of the workers' one may be apart, and there is room for it
-pub record AreSeats (h : Hub) (lanes : List LaneSeat) (workers : Vec WorkerSeat Global) (d : DelivererSeat) (own : Option WorkerSeat) (held : Option (ℕ × List ℕ)) : Type 0
-  where
-    pub serves : Serves h lanes held
-    pub workers_are : All (IsWorkerOf h) workers.items
-    pub own_is : IfSome own (IsWorkerOf h)
-    pub deliverer : IsDelivererOf h d
-    pub count : vec_len workers + length (option_to_list own) ≡ (shape_of h).workers
-    pub room : vec_len workers + length (option_to_list own) ≤ vec_capacity workers
+pub record AreSeats (h : Hub) (s : Seats) (held : Option (ℕ × List ℕ)) : Type 0 where
+  pub serves : Serves h s.lanes.items held
+  pub workers_are : All (IsWorkerOf h) s.workers.items
+  pub own_is : IfSome s.own (IsWorkerOf h)
+  pub deliverer : IsDelivererOf h s.deliverer
+  pub count : vec_len s.workers + length (option_to_list s.own) ≡ (shape_of h).workers
+  pub room : vec_len s.workers + length (option_to_list s.own) ≤ vec_capacity s.workers
+
+-- all seats came back, by whose lanes the traffic has come from its start so far; at a regular end it gives nothing more, and all has come back
+abbrev pub AreLeft : {T W B : Type 0} → History T → (T → Bool) → Hub → T → T → Seats → Ended W B → Type 0
+AreLeft came has_ended h start now seats ended = (held : Option (ℕ × List ℕ)) × AreSeats h seats held
+    × came start now (given_to seats.lanes.items held) (polled_by_each seats.lanes.items)
+    × (ended ≡ Done → (has_ended now ≡ true) × AreEven seats.lanes.items × (held ≡ None))

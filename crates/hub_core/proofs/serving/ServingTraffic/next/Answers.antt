@@ -9,5 +9,5 @@ returns-clause-some c =
     (λ r more start given brought was. let both = more (rests_of start.feeds) given was.0 in (both.0, (both.1, was.1)))
 
 pub returns-clause-none : goal.returns-clause-none
-returns-clause-none c = λ start given brought was none.
+returns-clause-none c = λ none start given brought was.
     (subst (AreGiven (rests_of start.feeds) given) (sym (c.take.ensures.none none)) was.0, was.1)

@@ -1,14 +1,19 @@
-use Rattle.std.proofs.Common.{[], refl}
-use Rattle.command_core.proofs.live.EndFacts.{told_at_first}
+use Rattle.std.proofs.Common.{◌∙◌, None, [], ap, arith, refl, sym}
+use Rattle.wire_core.specs.Lines.{Held}
+use Rattle.command_core.proofs.live.EndFacts.{come_at_first}
+use Rattle.command_core.proofs.live.LivedFacts.{none_told_at_first}
 use Rattle.command_core.proofs.live.input.Live.new.Goals as goal
 
-pub returns-in-Ok-clause-came : goal.returns-in-Ok-clause-came
-returns-in-Ok-clause-came g c = (
-  [],
-  c.requires,
-  c.in-Ok.ensures.come c.args.manner,
-  refl,
-  refl,
-  told_at_first _ _ c.in-Ok.progress.stopped c.in-Ok.ensures.going,
-  λ ended. (let begun = c.in-Ok.ensures.begun in let never : ⊥ = cc (begun, ended) in absurd never),
-)
+pub returns-clause-came : goal.returns-clause-came
+returns-clause-came g c = record {
+  events = [];
+  were_done = c.requires;
+  come = come_at_first c.args.manner c.args.lanes c.in-Ok.lanes.items c.new-3.result.items c.in-Ok-new.lines None c.in-Ok.ensures.count
+      (omega (arith, c.ranges.lanes.fits)) c.in-Ok.ensures.each c.new-3.ensures.items c.in-Ok-new.ensures refl;
+  manner = refl;
+  count = refl;
+  read = none_told_at_first _ None _ refl;
+  write = none_told_at_first _ None _ refl;
+  begun = λ is. (let never : ⊥ = cc is in never);
+  ended = λ is. (let never = sym (ap (λ (h : Held). h.has_ended) c.in-Ok-new.ensures) ∙ is in let no : ⊥ = cc never in absurd no);
+}
