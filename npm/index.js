@@ -1,6 +1,6 @@
 // GS1 barcodes for Node and browsers: what the calls of the proved library answer, as values of JavaScript.
 import { MODULE } from "./module.js";
-import { Gs1 as Calls, Reader, greyOf, inReadingOrder, levelOf } from "./page.js";
+import { Gs1 as Calls, greyOf } from "./page.js";
 
 // What the module has room for.
 const MOST_WIDTHS = 131_072, MOST_BYTES = 262_144, MOST_U16 = 65_535;
@@ -38,17 +38,25 @@ class Answer {
   toString() { return `${this.identifier} ${this.text}`; }
 }
 
-// The page's calls, where a row's line has its elements as data: the page shows lines for people.
-class ElementCalls extends Calls {
-  row(ends, first, last, year) { return this.line(this.ask(this.calls.gs1_c_row_elements, ...this.putRuns(ends, first, last), year)); }
-
-  find(ends, count, year) {
-    return super.find(ends, count, year).map((found) => ({ ...found, line: this.row(ends, found.first, found.first + found.runs - 1, year) }));
-  }
-
-  widths(widths, year) {
-    this.words.set(widths);
-    return this.line(this.ask(this.calls.gs1_c_row_elements, BigInt(this.input), BigInt(widths.length), year));
+// The page's calls, and that of pictures.
+class PictureCalls extends Calls {
+  // The lines of a picture of grey values. It stands behind the room for an answer, and the memory that it is read in behind it.
+  picture({ width, height, grey }, year) {
+    const words = Number(this.calls.gs1_c_picture_room(width, height));
+    let end = this.output + this.room;
+    const [greyAt, wordsAt, widthsAt] = [grey.length, 4 * words, 2 * (width + 2)].map((bytes) => {
+      const at = end;
+      end += Math.ceil(bytes / 8) * 8;
+      return at;
+    });
+    const more = Math.ceil((end - this.calls.memory.buffer.byteLength) / 65536);
+    if (more > 0) {
+      this.grow(more);
+      this.look();
+    }
+    new Uint8Array(this.calls.memory.buffer, greyAt, grey.length).set(grey);
+    return this.line(this.ask(this.calls.gs1_c_picture, BigInt(greyAt), BigInt(grey.length), width, height, BigInt(width), 0, year,
+      BigInt(wordsAt), BigInt(words), BigInt(widthsAt), BigInt(width + 2)));
   }
 }
 
@@ -84,8 +92,21 @@ class Gs1 {
   }
 
   readPicture(pixels, year) {
-    const picture = greyOf(pixels), { symbols } = new Reader(this.#calls, u16(year)).read(picture, levelOf(picture.grey));
-    return inReadingOrder(symbols).map((symbol) => ({ answer: this.#answer(symbol.line, year), corners: symbol.corners(), rows: symbol.rows }));
+    const told = this.#calls.picture(greyOf(pixels), u16(year));
+    // Without a symbol the line has no end: it says why none was read, or refuses the picture.
+    if (!told.endsWith("\n")) {
+      if (/^refused (17|18|42|43) /.test(told)) accepted(told);
+      return [];
+    }
+    return told.split("\n").slice(0, -1).filter((line) => !line.startsWith("dropped ")).map((line) => this.#symbol(line, year));
+  }
+
+  // The symbol of a line: nine numbers, and what it says.
+  #symbol(line, year) {
+    const [, places, rows, said] = /^((?:\d+ ){8})(\d+) (.*)$/.exec(line);
+    const at = places.trim().split(" ").map((place) => Number(place) / 256);
+    const corners = [0, 2, 4, 6].map((i) => ({ x: at[i], y: at[i + 1] }));
+    return { answer: this.#answer(said, year), corners, rows: Number(rows) };
   }
 
   #ask(call, ...words) { return accepted(this.#calls.line(this.#calls.ask(this.#calls.calls[call], ...words))); }
@@ -128,5 +149,5 @@ class Gs1 {
 
 export async function load() {
   const { instance } = await WebAssembly.instantiate(Uint8Array.from(atob(MODULE), (letter) => letter.charCodeAt(0)), {});
-  return new Gs1(new ElementCalls(instance.exports, 32));
+  return new Gs1(new PictureCalls(instance.exports, 32));
 }

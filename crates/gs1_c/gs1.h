@@ -3,7 +3,7 @@
  * Each call answers with bytes, without an end mark, and returns how many they are. They stand at the front
  * of `out` where `room` is at least their number; else `out` is as it was, and the number says how much
  * room to bring. So a call with a `room` of 0 tells the size of its answer. A line has at most GS1_LINE
- * bytes, and one of gs1_find and gs1_find_dots at most GS1_FOUND. A question that is refused is answered by `refused`, a number, a name and, where it has one, a
+ * bytes, one of gs1_find and gs1_find_dots at most GS1_FOUND, and one of gs1_picture at most GS1_PLACED. A question that is refused is answered by `refused`, a number, a name and, where it has one, a
  * place, as `refused 2 NotDigit 12`; docs/FAULTS.md says what to do about each.
  *
  * No call takes memory, keeps anything, waits, prints or ends the program, so calls in several threads at a
@@ -28,6 +28,9 @@ extern "C" {
 /* The most bytes of the line of a symbol that gs1_find or gs1_find_dots found. */
 #define GS1_FOUND 304
 
+/* The most bytes of the line of a symbol that gs1_picture found. */
+#define GS1_PLACED 384
+
 /* The version of the library. */
 #define GS1_VERSION "1.1.0"
 
@@ -41,7 +44,7 @@ enum gs1_fault {
     GS1_FAULT_TOO_WIDE = 17, GS1_FAULT_BAD_RUNS = 18, GS1_FAULT_BLANK = 19, GS1_FAULT_RUN_COUNT = 20,
     GS1_FAULT_QUIET_ZONE = 21, GS1_FAULT_MODULES = 22, GS1_FAULT_PATTERN = 23,
     GS1_FAULT_SYMBOL_CHECK_DIGIT = 24, GS1_FAULT_BAD_GRID = 25, GS1_FAULT_LABEL_KIND = 26,
-    GS1_FAULT_LABEL_WIDTH = 27, GS1_FAULT_KIND = 40, GS1_FAULT_WORDS = 42
+    GS1_FAULT_LABEL_WIDTH = 27, GS1_FAULT_KIND = 40, GS1_FAULT_WORDS = 42, GS1_FAULT_NO_MEMORY = 43
 };
 
 /* The kinds of labels: GS1_GS1128 of an element string, the others of a GTIN. */
@@ -60,6 +63,9 @@ size_t gs1_c_gtin(const uint8_t *text, size_t length, uint8_t *out, size_t room)
 size_t gs1_c_digit(const uint8_t *text, size_t length, uint8_t *out, size_t room);
 size_t gs1_c_text(const uint8_t *text, size_t length, uint16_t year, uint8_t *out, size_t room);
 size_t gs1_c_text_elements(const uint8_t *text, size_t length, uint16_t year, uint8_t *out, size_t room);
+size_t gs1_c_picture_room(uint32_t width, uint32_t height);
+size_t gs1_c_picture(const uint8_t *grey, size_t values, uint32_t width, uint32_t height, size_t stride, uint8_t level, uint16_t year,
+                     uint32_t *words, size_t word_count, uint16_t *widths, size_t width_count, uint8_t *out, size_t room);
 size_t gs1_c_label(uint32_t kind, const uint8_t *text, size_t length, uint16_t year,
                    uint16_t module_dots, uint16_t width, uint16_t height, uint8_t *out, size_t room);
 
@@ -152,6 +158,36 @@ static inline size_t gs1_text(const uint8_t *text, size_t length, uint16_t year,
 /* The same with the elements as data, as gs1_row_elements: `data 10=AB<TAB>17=261231`. */
 static inline size_t gs1_text_elements(const uint8_t *text, size_t length, uint16_t year, uint8_t *out, size_t room) {
     return gs1_c_text_elements(GS1_SOME(const uint8_t *, text), length, year, GS1_SOME(uint8_t *, out), room);
+}
+
+/* How many words gs1_picture takes to read a picture of this size: 0.4 MB of 4,000 by 3,000 dots. 0 if a side has more than 65,535. */
+static inline size_t gs1_picture_room(uint32_t width, uint32_t height) {
+    size_t words = gs1_c_picture_room(width, height);
+    return words ? words + ((size_t)width + 3) / 2 : 0;
+}
+
+/* Every symbol that a picture shows, given as `values` grey values, 0 black: `height` rows of `width` dots, each `stride` values behind
+ * the one above. Dots below `level` are dark. A level of 0 stands for the picture's own, and then symbols are found at any angle, blurred,
+ * aslant, round a bottle and light on dark too.
+ *
+ * A symbol is a line with a line feed: the x and the y of its four corners, clockwise from the upper left one, in 1/256 dot from the
+ * upper left of the picture; how many rows show it; and what gs1_row_elements says of these, as
+ * `38400 20480 111360 20480 111360 51200 38400 51200 120 ]E0 01=09501101530003`. The lines stand in the order of reading. If more than 192
+ * were found, a line `dropped 3` at the end says how many were left out, at least. A picture without a symbol is answered by `none`, or by the
+ * refusal of the row that came furthest, as `refused 21 QuietZone`.
+ *
+ * `memory` has as many words as gs1_picture_room says; what stands there does not matter. Fewer are `refused 43 NoMemory`, a side of more
+ * than 65,535 dots `refused 17 TooWide`, and a stride below the width, or fewer values than the rows take, `refused 18 BadRuns`.
+ *
+ * It puts as many whole lines as there is room for, as gs1_find; the number returned is that of all of them. The call takes at most 128 kB
+ * of stack. */
+static inline size_t gs1_picture(const uint8_t *grey, size_t values, uint32_t width, uint32_t height, size_t stride, uint8_t level,
+                                 uint16_t year, uint32_t *memory, size_t words, uint8_t *out, size_t room) {
+    /* The widths of a row stand at the end of the memory. */
+    size_t last = ((size_t)width + 3) / 2 < words ? ((size_t)width + 3) / 2 : words;
+    uint32_t *some = GS1_SOME(uint32_t *, memory);
+    return gs1_c_picture(GS1_SOME(const uint8_t *, grey), values, width, height, stride, level, year, some, words - last,
+                         (uint16_t *)(some + (words - last)), 2 * last, GS1_SOME(uint8_t *, out), room);
 }
 
 /* A label as a PBM image (P4, netpbm's pbm(5)) of `width` by `height` dots, its modules `module_dots` wide:

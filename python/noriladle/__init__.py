@@ -46,6 +46,9 @@ _library.gs1_c_row_elements.argtypes = [ctypes.POINTER(_U16), _SIZE, _U16, _BYTE
 _library.gs1_c_find.argtypes = [ctypes.POINTER(_U16), _SIZE, _U16, _BYTES, _SIZE]
 _library.gs1_c_dots_elements.argtypes = [_BYTES, _SIZE, _U32, _U16, _BYTES, _SIZE]
 _library.gs1_c_find_dots.argtypes = [_BYTES, _SIZE, _U32, _U16, _BYTES, _SIZE]
+_library.gs1_c_picture.argtypes = [
+    ctypes.c_void_p, _SIZE, _U32, _U32, _SIZE, ctypes.c_uint8, _U16, ctypes.c_void_p, _SIZE, ctypes.c_void_p, _SIZE, _BYTES, _SIZE]
+_library.gs1_c_picture_room.argtypes = [_U32, _U32]
 _library.gs1_c_date.argtypes = [_BYTES, _SIZE, _U16, _BYTES, _SIZE]
 _library.gs1_c_scan.argtypes = [_BYTES, _SIZE, _U16, _BYTES, _SIZE]
 _library.gs1_c_gtin.argtypes = [_BYTES, _SIZE, _BYTES, _SIZE]
@@ -53,8 +56,8 @@ _library.gs1_c_digit.argtypes = [_BYTES, _SIZE, _BYTES, _SIZE]
 _library.gs1_c_text.argtypes = [_BYTES, _SIZE, _U16, _BYTES, _SIZE]
 _library.gs1_c_text_elements.argtypes = [_BYTES, _SIZE, _U16, _BYTES, _SIZE]
 _library.gs1_c_label.argtypes = [_U32, _BYTES, _SIZE, _U16, _U16, _U16, _U16, _BYTES, _SIZE]
-for _name in ("row_elements", "find", "dots_elements", "find_dots", "date", "scan", "gtin", "digit", "text",
-              "text_elements", "label"):
+for _name in ("row_elements", "find", "dots_elements", "find_dots", "picture", "picture_room", "date", "scan", "gtin", "digit",
+              "text", "text_elements", "label"):
     getattr(_library, f"gs1_c_{_name}").restype = _SIZE
 
 
@@ -176,9 +179,8 @@ class Symbol:
     """How many rows through the picture say so."""
 
 
-def _ask(call: Any, *words: Any) -> bytes:
-    """The answer to a question, as many bytes as it has."""
-    room = _LINE
+def _ask(call: Any, *words: Any, room: int = _LINE) -> bytes:
+    """The answer to a question, as many bytes as it has; it is asked again if they are more than there is room for."""
     while True:
         out = ctypes.create_string_buffer(room)
         length: int = call(*words, out, room)
@@ -319,19 +321,20 @@ def read_picture(picture: Picture, year: int, *, level: Optional[int] = None) ->
 
     Dots whose grey value is below the level, 1 to 255, are dark. Where none is given it is that which parts the
     picture's values best, and what rows of the picture do not read is looked for at any angle, by the light around.
+    At most 192 symbols are reported.
 
     Needs numpy and Pillow: ``pip install noriladle[picture]``.
 
     :raises ImportError: numpy or Pillow is not there.
     :raises OSError: the file is not there, or no JPEG, PNG, TIFF, PBM, PGM, PPM, BMP, GIF or WebP.
-    :raises Refusal: 17 ``TooWide`` of rows of more than 65,535 dots; 44 ``InputSize`` of a file's picture of more than
+    :raises Refusal: 17 ``TooWide`` of a side of more than 65,535 dots; 44 ``InputSize`` of a file's picture of more than
         100,000,000; 42 ``Words`` of a year out of range.
     :raises TypeError: the dots are of another type.
     :raises ValueError: the array has another shape, or the level is out of range.
     """
     from . import picture as pictures
 
-    return pictures.read(picture, year, level)
+    return pictures.read(picture, year, level).symbols
 
 
 def read_dots(dots: Union[bytes, bytearray, memoryview], width: int, year: int) -> Answer:

@@ -1,14 +1,10 @@
-"""The symbols of a picture, by the rows of :mod:`noriladle._reader` and the looks of :mod:`noriladle._again`.
-
-docs/PICTURES.md says how a picture is read. The page does the same in JavaScript: each module says which of its scripts
-has the same steps and numbers, and tests/page/run compares what both say of the same pictures.
-"""
+"""The symbols of a picture, which the library reads from its grey values: docs/PICTURES.md says how."""
 from __future__ import annotations
 
 import math
 import os
 import warnings
-from typing import Any, BinaryIO, List, Optional, Union
+from typing import Any, BinaryIO, List, NamedTuple, Optional, Tuple, Union
 
 try:
     import numpy
@@ -16,10 +12,7 @@ try:
 except ImportError as error:
     raise ImportError("read_picture needs numpy and Pillow: pip install 'noriladle[picture]'") from error
 
-from . import _MOST, Box, Refusal, Symbol
-from ._again import look_again
-from ._found import Placed, in_reading_order
-from ._reader import Grey, Library, read_rows
+from . import _MOST, Box, Refusal, Symbol, _answer_of, _ask, _library, _refusal, _u16
 
 Picture = Union[Image.Image, str, "os.PathLike[str]", "numpy.ndarray[Any, Any]"]
 
@@ -33,38 +26,58 @@ _BAND = 64
 """So many rows are made grey at a time."""
 _RED, _GREEN, _BLUE = 77, 150, 29
 """The parts of colours in grey, of 256."""
+_ROOM = 80_000
+"""Room for the lines of as many symbols as the library reports."""
+_UNIT = 256
+"""The library gives places in 1/256 pixel."""
+_OF_THE_CALL = (17, 18, 42, 43)
+"""The refusals of a picture that is not looked at; any other says why none of its rows was read."""
 
 
-def read(picture: Picture, year: int, level: Optional[int] = None) -> List[Symbol]:
-    """What :func:`noriladle.read_picture` answers."""
+class Shown(NamedTuple):
+    """What a picture shows."""
+
+    symbols: List[Symbol]
+    """In the order of reading."""
+    dropped: int
+    """How many more there was no room for, at least."""
+    reason: Optional[Refusal]
+    """Without a symbol, the refusal of the row that came furthest; none if no row was like a symbol."""
+
+
+def read(picture: Picture, year: int, level: Optional[int] = None) -> Shown:
+    """What a picture shows; the arguments are those of :func:`noriladle.read_picture`."""
     if level is not None and not 1 <= level <= 255:
         raise ValueError("the level is not 1 to 255")
-    grey = grey_of(picture)
+    grey = numpy.ascontiguousarray(grey_of(picture))
     height, width = grey.shape
-    if width > _MOST:
-        raise Refusal(17, "TooWide")
-    if not grey.size:
-        return []
-    library = Library(year)
-    shown = read_rows(library, grey, level_of(grey) if level is None else level)
-    # One row alone beside symbols of several is chance.
-    symbols = [symbol for symbol in shown if symbol.rows > 1]
-    if level is None:
-        symbols = look_again(library, grey, symbols)
-    return [_symbol(placed, width, height) for placed in in_reading_order(symbols or shown)]
+    words = numpy.empty(_library.gs1_c_picture_room(min(width, _MOST + 1), min(height, _MOST + 1)), numpy.uint32)
+    widths = numpy.empty(width + 2, numpy.uint16)
+    told = _ask(_library.gs1_c_picture, grey.ctypes.data, grey.size, min(width, _MOST + 1), min(height, _MOST + 1), width, level or 0, _u16(year),
+                words.ctypes.data, words.size, widths.ctypes.data, widths.size, room=_ROOM).decode("ascii")
+    if not told.endswith("\n"):
+        reason = _refusal(told)
+        if reason and reason.number in _OF_THE_CALL:
+            raise reason
+        return Shown([], 0, reason)
+    *lines, last = told.splitlines()
+    word, _, dropped = last.partition(" ")
+    if word != "dropped":
+        lines, dropped = [*lines, last], "0"
+    return Shown([_symbol(line, year, width, height) for line in lines], int(dropped), None)
 
 
-def _symbol(placed: Placed, width: int, height: int) -> Symbol:
-    """The symbol with its box in a picture of this size."""
-    xs, ys = placed.corners.real, placed.corners.imag
-    box = Box(
-        max(0, math.floor(xs.min())), max(0, math.floor(ys.min())),
-        min(width, math.ceil(xs.max())), min(height, math.ceil(ys.max())),
-    )
-    return Symbol(placed.answer, box, tuple(zip(xs.tolist(), ys.tolist())), placed.rows)
+def _symbol(line: str, year: int, width: int, height: int) -> Symbol:
+    """The symbol of a line, with its box in a picture of this size."""
+    *numbers, said = line.split(" ", 9)
+    places = [int(number) / _UNIT for number in numbers[:8]]
+    xs, ys = places[0::2], places[1::2]
+    corners: Tuple[Tuple[float, float], ...] = tuple(zip(xs, ys))
+    box = Box(math.floor(min(xs)), math.floor(min(ys)), min(width, math.ceil(max(xs))), min(height, math.ceil(max(ys))))
+    return Symbol(_answer_of(said, year), box, corners, int(numbers[8]))
 
 
-def grey_of(picture: Picture) -> Grey:
+def grey_of(picture: Picture) -> "numpy.ndarray[Any, Any]":
     """The grey values of a picture's dots, rows first; what is clear is white."""
     if isinstance(picture, (str, os.PathLike)):
         with opened(picture) as image:
@@ -77,8 +90,7 @@ def grey_of(picture: Picture) -> Grey:
     elif pixels.dtype != numpy.uint8:
         raise TypeError(f"a picture is of bool, uint8 or uint16, and not {pixels.dtype}")
     if pixels.ndim == 2:
-        grey: Grey = pixels
-        return grey
+        return pixels
     if pixels.ndim != 3 or pixels.shape[2] not in (3, 4):
         raise ValueError(f"a picture has rows of grey values, of RGB or of RGBA, and not the shape {pixels.shape}")
     grey = numpy.empty(pixels.shape[:2], numpy.uint8)
@@ -126,18 +138,3 @@ def _plain(image: Image.Image) -> Union[Image.Image, "numpy.ndarray[Any, Any]"]:
         # Pillow's modes of grey values of 16 bits.
         return numpy.asarray(image).astype(numpy.uint16)
     return image if image.mode in ("1", "L", "RGB", "RGBA") else image.convert("RGB")
-
-
-def level_of(grey: Grey) -> int:
-    """The grey value below which dots are dark: the one that parts the picture's values best (Otsu)."""
-    counts = numpy.array(Image.fromarray(grey).histogram(), float)
-    sums = counts * numpy.arange(256)
-    below, sum_below = counts.cumsum()[:-1], sums.cumsum()[:-1]
-    above, sum_above = counts.sum() - below, sums.sum() - sum_below
-    parted = (below > 0) & (above > 0)
-    if not parted.any():
-        return 128
-    apart = sum_below / numpy.maximum(below, 1) - sum_above / numpy.maximum(above, 1)
-    score = numpy.where(parted, below * above * apart * apart, 0)
-    best = numpy.flatnonzero(score == score.max())
-    return int((best[0] + best[-1]) >> 1) + 1

@@ -1,5 +1,6 @@
 mod DateFacts
 mod FoundFacts
 mod LineFacts
+mod PictureFacts
 mod PutFacts
 mod ToldFacts

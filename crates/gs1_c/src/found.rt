@@ -10,6 +10,7 @@ ghost use Rattle.scan_core.specs.declared.window.Window.{Window};
 
 use crate::answer::dots_in;
 use crate::buffer::put_refusal;
+use crate::line::{push, push_number, put_fitting};
 use arrayvec::ArrayVec;
 use digits_core::put_at;
 use element_core::Year;
@@ -18,25 +19,6 @@ use scan_core::{DotSymbols, SymbolSearch, Symbols, Window, row_or_fault, symbols
 
 /// More bytes than a line has: two numbers, an identifier and the elements, with what stands between.
 const MOST: usize = 400;
-
-/// Puts bytes at the end of a line.
-fn push(line: &mut ArrayVec<u8, MOST>, bytes: &[u8])
-    requires { length line.old.items + length bytes.now ≤ 400 }
-    ensures { line.new.items ≡ line.old.items ++ bytes.now }
-{
-    let _ = line.try_extend_from_slice(bytes);
-}
-
-/// Puts a number and a space at the end of a line.
-fn push_number(line: &mut ArrayVec<u8, MOST>, number: usize)
-    requires { length line.old.items + 41 ≤ 400 }
-    ensures put { line.new.items ≡ line.old.items ++ (decimal number ++ 32 ∷ []) }
-    ensures few { length line.new.items ≤ length line.old.items + 41 }
-{
-    let mut digits = Buffer::new();
-    push(line, digits.format(number).as_bytes());
-    push(line, b" ");
-}
 
 /// The line of a symbol.
 fn line_of(window: &Window) -> ArrayVec<u8, MOST>
@@ -51,20 +33,6 @@ fn line_of(window: &Window) -> ArrayVec<u8, MOST>
     push(&mut line, window.elements.hri().as_bytes());
     push(&mut line, b"\n");
     line
-}
-
-/// Puts a line into `out` from `at` on where it has room for it, and says where the line ends.
-fn put_fitting(line: &[u8], at: usize, out: &mut [u8]) -> usize
-    requires { at + length line.now < 2 ^ 64 }
-    ensures end { result ≡ at + length line.now }
-    ensures put { at + length line.now ≤ length out.old → out.new ≡ pasted out.old at line.now }
-    ensures unchanged { length out.old < at + length line.now → out.new ≡ out.old }
-{
-    let end = at + line.len();
-    if end <= out.len() {
-        put_at(line, at, out);
-    }
-    end
 }
 
 /// Puts a number and a space into `out` from `at` on, and says where they end.

@@ -6,13 +6,14 @@
 //! refused is answered by its refusal: `refused`, a number, a name and, where it has one, a place.
 #![tactic(auto)]
 
-ghost use Rattle.std.specs.Prelude.{List, ℕ, codes};
+ghost use Rattle.std.specs.Prelude.{◌≡◌, List, ℕ, codes, length};
 ghost use Rattle.digits_core.specs.Buffers.{IsPut};
 ghost use Rattle.element_core.specs.Lines.{IsDigitLine, gtin_line};
 ghost use Rattle.gs1_c.specs.Dates.{IsDateLine};
 ghost use Rattle.gs1_c.specs.Found.{AreDotSymbolsPut, AreSymbolsPut};
 ghost use Rattle.gs1_c.specs.Labels.{IsLabelBytes, one_cell};
 ghost use Rattle.gs1_c.specs.Lines.{IsDotsLine, IsRowLine, IsTextLine};
+ghost use Rattle.gs1_c.specs.Pictures.{ArePictureLinesPut, room_count};
 ghost use Rattle.gs1_c.specs.Scanned.{IsScanLine};
 
 mod answer;
@@ -20,6 +21,8 @@ mod buffer;
 mod dates;
 mod found;
 mod label;
+mod line;
+mod picture;
 #[cfg(test)]
 mod tests;
 
@@ -31,6 +34,8 @@ use element_core::{Form, Year, digit_line, elements_line, gtin_line};
 use found::{put_dot_symbols, put_symbols};
 use label::{kind_numbered, put_kind};
 use message_core::message_line;
+use picture::{given_level, put_picture};
+use picture_core::{Reading, words_for};
 use scan_core::read_widths;
 use sheet_core::Grid;
 
@@ -189,6 +194,56 @@ pub extern "C" fn gs1_c_find_dots(bits: &[u8], count: u32, year: u16, out: &mut 
         return put_refused(RefusalKind::Words, out);
     };
     put_dot_symbols(bits, count, year, out)
+}
+
+/// How many words `gs1_c_picture` takes to read a picture of this size: 6 for each dot of width and height together, and 4 for each
+/// block, of which 8 by 8 dots are one in small pictures and 32 by 32 in large ones. 0 if a side has more than 65,535 dots.
+#[unsafe(no_mangle)]
+pub extern "C" fn gs1_c_picture_room(width: u32, height: u32) -> usize
+    ensures { result ≡ room_count width height }
+{
+    if width > 65535 || height > 65535 {
+        return 0;
+    }
+    words_for(width as u16, height as u16)
+}
+
+/// Every symbol that a picture shows, given as grey values, 0 black, of `height` rows of `width` dots, each `stride` values
+/// behind the one above. Dots below the level are dark; with the level 0 the picture's own is taken, and symbols are looked for at
+/// any angle. The line of a symbol has the x and the y of its four corners, clockwise from the upper left one, in 1/256 dot from the
+/// picture's upper left; how many rows show it; and what `gs1_c_row_elements` says of these, as
+/// `38400 20480 111360 20480 111360 51200 38400 51200 120 ]E0 01=09501101530003`, with a line feed. They stand in the order of
+/// reading. If there was no room for more symbols a line `dropped 3` says how many were left out, at least.
+///
+/// A picture without a symbol is answered by `none`, or by the refusal of the row that came furthest, as `refused 21 QuietZone`. A
+/// side of more than 65,535 dots is `refused 17 TooWide`; a stride below the width, or fewer values than the rows take,
+/// `refused 18 BadRuns`; fewer words than `gs1_c_picture_room` says, or fewer than `width + 2` widths, `refused 43 NoMemory`.
+///
+/// The count is that of all lines, of which those stand in `out` that it has room for, as with `gs1_c_find`. The words and the
+/// widths are memory to read in: what stands there does not matter.
+#[unsafe(no_mangle)]
+pub extern "C" fn gs1_c_picture(
+    grey: &[u8],
+    width: u32,
+    height: u32,
+    stride: usize,
+    level: u8,
+    year: u16,
+    words: &mut [u32],
+    widths: &mut [u16],
+    out: &mut [u8],
+) -> usize
+    ensures { ArePictureLinesPut (record { values = grey.now; width = width; height = height; stride = stride }) level year
+        (length words.old) (length widths.old) out.old out.new result }
+{
+    let Some(year) = Year::new(year) else {
+        return put_refused(RefusalKind::Words, out);
+    };
+    let reading = Reading {
+        year,
+        level: given_level(level),
+    };
+    put_picture(grey, width, height, stride, reading, words, widths, out)
 }
 
 /// The image of a label as PBM (netpbm, pbm(5)), of `width` by `height` dots, with modules of

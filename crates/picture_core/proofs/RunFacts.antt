@@ -1,10 +1,10 @@
 -- The runs of a row's dots, dot by dot.
 use Rattle.std.proofs.Common.{◌≡◌, ◌∙◌, ℕ, ◌+◌, ◌<◌, ◌≤◌, Bool, true, false, not, List, [], ◌∷◌, ◌++◌, length, drop, get_or, set, take, replicate, ap, append_assoc, arith, refl, sym, subst}
-use Rattle.std.specs.Prelude.{map, nat_lt}
+use Rattle.std.specs.Prelude.{nat_lt}
 use Rattle.std.specs.List.{AllByRecursion}
 use Rattle.std.proofs.lemmas.List.{length-append, length-set, map-append, replicate_more, take_all, take_more, take_more_set}
 use Rattle.std.proofs.lemmas.List.Sums.{sum_by_push}
-use Rattle.scan_core.specs.Row.{dots_from, dots_of}
+use Rattle.scan_core.specs.Row.{dots_from}
 use Rattle.scan_core.specs.inner.Cutting.{IsRowOf}
 use Rattle.scan_core.proofs.CutFacts.{Cut, end_dark, end_light}
 use mathlib.Core.Bool.{beq}

@@ -1,6 +1,12 @@
 -- Pictures of grey values.
-use Rattle.std.specs.Prelude.{◌≡◌, ℕ, zero, suc, ◌+◌, ◌*◌, ◌/◌, ◌<◌, ◌≤◌, List, nat_le, if◌then◌else◌}
-use Rattle.picture_core.specs.declared.picture.Picture.{Picture}
+use Rattle.std.specs.Prelude.{ℕ, zero, suc, ◌+◌, ◌*◌, ◌/◌, ◌<◌, ◌≤◌, List, nat_le, if◌then◌else◌}
+
+-- a picture: the grey values that it stands in, how many dots a row has, how many rows there are, and how far each begins behind the one above
+pub record Greys : Type 0 where
+  pub values : List ℕ
+  pub width : ℕ
+  pub height : ℕ
+  pub stride : ℕ
 
 -- so many values hold a picture of this size, whose rows each begin so far behind the one above
 pub record IsPicture (values width height stride : ℕ) : Type 0 where
@@ -8,13 +14,6 @@ pub record IsPicture (values width height stride : ℕ) : Type 0 where
   pub low : height ≤ 65535
   pub apart : width ≤ stride
   pub within : (y : ℕ) → y < height → y * stride + width ≤ values
-
--- the picture of these values, of this size
-pub record IsPictureOf (picture : Picture) (grey : List ℕ) (width height stride : ℕ) : Type 0 where
-  pub values : picture.grey.now ≡ grey
-  pub wide : picture.width ≡ width
-  pub high : picture.height ≡ height
-  pub apart : picture.stride ≡ stride
 
 -- ---- the memory that a picture takes
 

@@ -1,5 +1,5 @@
 -- Places of a picture, whose y goes down.
-use Rattle.std.specs.Prelude.{ℕ, ◌+◌, ◌*◌, ◌/◌, ◌≤◌}
+use Rattle.std.specs.Prelude.{◌+◌, ◌*◌, ◌/◌, ◌≤◌}
 use Rattle.picture_core.specs.declared.place.Place.{Place}
 use Rattle.picture_core.specs.declared.place.Corners.{Corners}
 

@@ -4,12 +4,12 @@ use Rattle.element_core.specs.Elements.{Listing}
 use Rattle.scan_core.specs.Row.{IsRow, dots_of}
 use Rattle.scan_core.specs.Windows.{IsSymbolOf}
 use Rattle.scan_core.specs.declared.carrier.Carrier.{Carrier}
-use Rattle.picture_core.specs.declared.picture.Picture.{Picture}
+use Rattle.picture_core.specs.Pictures.{Greys}
 use Rattle.picture_core.specs.declared.own_row.OwnRow.{OwnRow}
 
 -- the grey values of row y of a picture
-abbrev pub greys_of_row : Picture → ℕ → List ℕ
-greys_of_row picture y = slice_range picture.grey.now (y * picture.stride) (y * picture.stride + picture.width)
+abbrev pub greys_of_row : Greys → ℕ → List ℕ
+greys_of_row picture y = slice_range picture.values (y * picture.stride) (y * picture.stride + picture.width)
 
 -- the dots of a row, each dark where its grey value is below the level
 abbrev pub dark_dots : ℕ → List ℕ → List Bool
@@ -22,7 +22,7 @@ pub record IsWindowAt (runs : List ℕ) (year : ℕ) (carrier : Carrier) (elemen
   pub right : at.right ≡ sum (take (at.first + at.count - 1) runs)
 
 -- row y of the picture shows this symbol: the runs of its dots have such a window
-pub record RowShows (picture : Picture) (level year : ℕ) (carrier : Carrier) (elements : Listing) (at : OwnRow) : Type 0 where
+pub record RowShows (picture : Greys) (level year : ℕ) (carrier : Carrier) (elements : Listing) (at : OwnRow) : Type 0 where
   pub runs : List ℕ
   pub within : at.y < picture.height
   pub row : IsRow runs

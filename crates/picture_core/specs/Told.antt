@@ -1,10 +1,10 @@
 -- What is told of a picture.
 use Rattle.std.specs.Prelude.{◌≡◌, ◌⊎◌, ℕ, ◌+◌, ◌*◌, ◌<◌, ◌≤◌, All, AllPairs, Option, IfSome, IsSomeAnd}
-use Rattle.picture_core.specs.declared.picture.Picture.{Picture}
 use Rattle.picture_core.specs.declared.own_row.OwnRow.{OwnRow}
 use Rattle.picture_core.specs.declared.own_row.OwnRows.{OwnRows}
 use Rattle.picture_core.specs.declared.place.Corners.{Corners}
 use Rattle.picture_core.specs.declared.symbol.Symbol.{Symbol}
+use Rattle.picture_core.specs.Pictures.{Greys}
 use Rattle.picture_core.specs.Places.{IsOn, middle}
 use Rattle.picture_core.specs.Rows.{RowShows}
 use Rattle.picture_core.specs.Saids.{IsRefusal, IsSaid}
@@ -22,7 +22,7 @@ pub record IsBoxOf (c : Corners) (at : OwnRow) : Type 0 where
   pub bottom : 256 * at.y + 256 ≤ c.lower_left.y
 
 -- two rows of the picture show the symbol, or the one row that it has
-pub record AreOwnRows (picture : Picture) (level year : ℕ) (s : Symbol) (rows : OwnRows) : Type 0 where
+pub record AreOwnRows (picture : Greys) (level year : ℕ) (s : Symbol) (rows : OwnRows) : Type 0 where
   pub first : RowShows picture level year s.said.carrier s.said.elements rows.first
   pub last : RowShows picture level year s.said.carrier s.said.elements rows.last
   pub two : (rows.first.y < rows.last.y) ⊎ (picture.height ≡ 1)
@@ -30,7 +30,7 @@ pub record AreOwnRows (picture : Picture) (level year : ℕ) (s : Symbol) (rows 
   pub last_box : IsBoxOf s.corners rows.last
 
 -- a symbol of the picture, under a level and a reference year
-pub record IsSymbolIn (picture : Picture) (level year : ℕ) (s : Symbol) : Type 0 where
+pub record IsSymbolIn (picture : Greys) (level year : ℕ) (s : Symbol) : Type 0 where
   pub said : IsSaid s.said.carrier s.said.elements
   pub dated : s.said.elements.year ≡ year
   pub rows : (2 ≤ s.rows) ⊎ (picture.height ≡ 1)
@@ -43,14 +43,14 @@ pub record AreApart (one other : Symbol) : Type 0 where
   pub here : IsOn other.corners (middle one.corners) → ⊥
 
 -- a place of the list, which has a symbol, one that is told
-abbrev pub IsSomeSymbolIn : Picture → ℕ → ℕ → Option Symbol → Type 0
+abbrev pub IsSomeSymbolIn : Greys → ℕ → ℕ → Option Symbol → Type 0
 IsSomeSymbolIn picture level year s = IsSomeAnd s (IsSymbolIn picture level year)
 
 abbrev pub AreApartIn : Option Symbol → Option Symbol → Type 0
 AreApartIn one other = IfSome one (λ s. IfSome other (AreApart s))
 
 -- what a picture shows, read at a level, if one is given, and under a reference year
-pub record IsReadingOf (picture : Picture) (level : Option ℕ) (year : ℕ) (shown : Shown) : Type 0 where
+pub record IsReadingOf (picture : Greys) (level : Option ℕ) (year : ℕ) (shown : Shown) : Type 0 where
   pub level_given : IfSome level (λ l. shown.level ≡ l)
   pub told : All (IsSomeSymbolIn picture shown.level year) shown.symbols.items
   pub apart : AllPairs AreApartIn shown.symbols.items

@@ -1,17 +1,29 @@
 //! Grey dots.
 ghost use Rattle.std.specs.Prelude.{true, false, IfNone, OnSome, ◌≡◌, ◌+◌, ◌-◌, ◌*◌, ◌<◌, ◌≤◌, ℕ, IfSome, length};
+ghost use Rattle.picture_core.specs.Pictures.{IsPicture};
+ghost use Rattle.picture_core.specs.Rows.{greys_of_row};
+
+use std::marker::Model;
 
 /// The grey values of a picture, row by row: 0 is black.
-#[derive(Clone, Copy)]
+#[derive(Drop)]
 pub struct Picture<'a> {
     grey: &'a [u8],
     width: usize,
     height: usize,
     /// How far a row begins behind the one above it.
     stride: usize,
-    ghost rows_within: { (y : ℕ) → y < height → y * stride + width ≤ length grey.now },
-    ghost narrow: { width ≤ 65535 },
-    ghost low: { height ≤ 65535 },
+}
+
+impl<'a> Model for Picture<'a> {
+    ghost use Rattle.std.specs.Prelude.{length};
+    ghost use Rattle.picture_core.specs.Pictures.{Greys, IsPicture};
+
+    ghost Value = { Greys };
+
+    ghost view = { λ p. record { values = p.grey.now; width = p.width; height = p.height; stride = p.stride } };
+
+    ghost invariant = { λ p. IsPicture (length p.grey.now) p.width p.height p.stride };
 }
 
 /// Whether rows of so many dots, each so far behind the one above, stand in so many values.
@@ -29,13 +41,10 @@ fn are_within(values: usize, width: usize, height: usize, stride: usize) -> bool
 }
 
 impl<'a> Picture<'a> {
-    ghost use Rattle.picture_core.specs.Pictures.{IsPicture, IsPictureOf};
-    ghost use Rattle.picture_core.specs.Rows.{greys_of_row};
-
     /// A picture of at most 65,535 dots a side, whose rows begin so far one behind the other, at least as far as they are wide, and
     /// whose values are all there.
     pub fn new(grey: &'a [u8], width: usize, height: usize, stride: usize) -> Option<Picture<'a>>
-        ensures picture { IfSome result (λ picture. IsPictureOf picture grey.now width height stride) }
+        ensures picture { IfSome result (λ picture. picture ≡ record { values = grey.now; width = width; height = height; stride = stride }) }
         ensures some { OnSome result (IsPicture (length grey.now) width height stride) }
         ensures none { IfNone result (IsPicture (length grey.now) width height stride → ⊥) }
     {
@@ -74,6 +83,7 @@ impl<'a> Picture<'a> {
         requires { y < self.now.height }
         ensures values { result.now ≡ greys_of_row self.now y }
         ensures long { length result.now ≡ self.now.width }
+        ensures few { length result.now ≤ 65535 }
     {
         let first = y * self.stride;
         &self.grey[first..first + self.width]
@@ -86,7 +96,7 @@ impl<'a> Picture<'a> {
     {
         let column = (x >> 16) as usize;
         let row = (y >> 16) as usize;
-        if column + 1 >= self.width || row + 1 >= self.height {
+        if column + 1 >= self.width() || row + 1 >= self.height() {
             return None;
         }
         let above = self.row(row);

@@ -55,6 +55,10 @@ fn read_stripes(
     let mut taken = 0usize;
     let mut number = 0u32;
     for look in &LOOKS {
+        // Where there is no room for more symbols, a look would count those again that the one before dropped.
+        if shown.dropped > 0 {
+            break;
+        }
         number = number.saturating_add(1);
         leave_unknown(blocks, shown);
         for first in 0..blocks.len() {
@@ -106,10 +110,10 @@ fn refused_of(
     None
 }
 
-/// Every symbol that a picture shows.
-pub fn read_picture(picture: &Picture, reading: Reading, room: &mut Room) -> Shown
+/// Puts every symbol that a picture shows into `shown`; what that held before does not matter.
+pub fn read_picture(picture: &Picture, reading: Reading, room: &mut Room, shown: &mut Shown)
     requires { picture.now.width ≤ room.old.width }
-    ensures { IsReadingOf picture.now reading.level reading.year result }
+    ensures { IsReadingOf picture.now reading.level reading.year shown.new }
 {
     let level = level_in(picture, reading.level);
     let reader = Reader {
@@ -117,9 +121,9 @@ pub fn read_picture(picture: &Picture, reading: Reading, room: &mut Room) -> Sho
         level,
         year: reading.year,
     };
-    let mut shown = Shown::none(level);
     let mut furthest = Furthest::none();
-    read_own_rows(&reader, room.widths, &mut shown, &mut furthest);
+    shown.clear();
+    read_own_rows(&reader, room.widths, shown, &mut furthest);
     if reading.level.is_none() {
         let mut blocks = Blocks::of_picture(picture, room.cos, room.sin, room.taken);
         read_stripes(
@@ -127,7 +131,7 @@ pub fn read_picture(picture: &Picture, reading: Reading, room: &mut Room) -> Sho
             &mut room.row,
             room.queue,
             &mut blocks,
-            &mut shown,
+            shown,
             &mut furthest,
         );
     }
@@ -141,5 +145,4 @@ pub fn read_picture(picture: &Picture, reading: Reading, room: &mut Room) -> Sho
     );
     shown.level = level;
     shown.refused = refused_of(&shown.symbols, &furthest, reading.year);
-    shown
 }

@@ -1,5 +1,5 @@
 //! The memory that the caller lends.
-ghost use Rattle.std.specs.Prelude.{◌≡◌, ◌+◌, ◌≤◌, IfNone, IfSome, length};
+ghost use Rattle.std.specs.Prelude.{◌≡◌, ◌+◌, ◌≤◌, IfNone, IfSome, OnSome, length};
 ghost use Rattle.picture_core.specs.Pictures.{IsRoom, word_count};
 
 use crate::layout::Layout;
@@ -47,6 +47,7 @@ impl<'a> Room<'a> {
         widths: &'a mut [u16],
     ) -> Option<Room<'a>>
         ensures wide { IfSome result (λ room. room.width ≡ width) }
+        ensures some { OnSome result (IsRoom width height (length words.old) (length widths.old)) }
         ensures none { IfNone result (IsRoom width height (length words.old) (length widths.old) → ⊥) }
     {
         if words.len() < words_for(width, height) || widths.len() < usize::from(width) + 2 {

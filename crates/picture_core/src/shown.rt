@@ -36,13 +36,21 @@ fn place_of(all: &[Option<Symbol>], symbol: &Symbol) -> Option<usize> {
 }
 
 impl Shown {
-    pub(crate) fn none(level: u8) -> Shown {
+    /// Room for what a picture shows, which takes some 70 kB.
+    pub fn new() -> Shown {
         Shown {
-            level,
+            level: 0,
             symbols: ArrayVec::new(),
             dropped: 0,
             refused: None,
         }
+    }
+
+    /// Takes out all that it holds.
+    pub(crate) fn clear(&mut self) {
+        self.symbols.clear();
+        self.dropped = 0;
+        self.refused = None;
     }
 
     /// Counts symbols for which there was no room.

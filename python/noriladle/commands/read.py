@@ -72,12 +72,15 @@ def run(words: argparse.Namespace) -> int:
             for page in _pages_of(name):
                 progress(f"reading {page} ({count} of {len(words.pictures)})", at_once=is_later)
                 is_later = True
-                symbols = picture.read(page.image, words.year)
+                shown = picture.read(page.image, words.year)
                 progress.end()
-                for symbol in symbols:
+                for symbol in shown.symbols:
                     print(_told(page, symbol, words.json), flush=sys.stdout.isatty())
-                if not symbols:
-                    tell(f"{page}: no barcode was read; docs/PICTURES.md says what a picture needs")
+                if shown.dropped:
+                    tell(f"{page}: it shows {shown.dropped} barcodes more, at least: cut the picture")
+                    status = max(status, REFUSED)
+                if not shown.symbols:
+                    tell(f"{page}: no barcode was read{_why(shown.reason)}; docs/PICTURES.md says what a picture needs")
                     status = max(status, REFUSED)
         except Refusal as refusal:
             tell(f"{name}: {refusal}: a picture of more than {picture.MOST_PIXELS:,} pixels is not read: make it smaller")
@@ -87,6 +90,11 @@ def run(words: argparse.Namespace) -> int:
             tell(f"{name}: {error}")
             status = WRONG_WORDS
     return status
+
+
+def _why(reason: Optional[Refusal]) -> str:
+    """Why the row that came furthest was not read."""
+    return f": {reason}: {reason.cause}" if reason else ""
 
 
 def _told(page: Page, symbol: Symbol, as_json: bool) -> str:

@@ -1,0 +1,195 @@
+/* Reads pictures from C: labels that gs1_label draws, upright and turned, and pictures that are none. Buffers end where memory ends, so
+ * that a byte read or written behind them ends the test, and the stack of each call is counted. */
+#define _GNU_SOURCE
+#include "gs1.h"
+#include <pthread.h>
+#include <stdio.h>
+#include <stdlib.h>
+#include <string.h>
+#include <sys/mman.h>
+
+enum { YEAR = 2026, MOST_STACK = 128000, STACK = 1024 * 1024, PAINT = 0xa5, PAGE = 4096 };
+
+static long checks, wrong;
+
+/* So many bytes of a mapping, the last ones before a page that nobody may touch. */
+struct lent {
+    uint8_t *mapping, *bytes;
+    size_t length;
+};
+
+static struct lent lend(size_t bytes) {
+    struct lent l = {.length = (bytes / PAGE + 3) * PAGE};
+    l.mapping = mmap(NULL, l.length, PROT_READ | PROT_WRITE, MAP_PRIVATE | MAP_ANONYMOUS, -1, 0);
+    if (l.mapping == MAP_FAILED || mprotect(l.mapping + l.length - PAGE, PAGE, PROT_NONE)) abort();
+    l.bytes = l.mapping + l.length - PAGE - bytes;
+    return l;
+}
+
+static void give_back(struct lent l) { munmap(l.mapping, l.length); }
+
+/* A question, and its answer. The memory is short of so many words, and the values of so many bytes. */
+struct asked {
+    const uint8_t *grey;
+    uint32_t width, height;
+    size_t stride, values, words, room;
+    uint8_t level;
+    uint16_t year;
+    size_t count, stack;
+    uint8_t *out;
+};
+
+static void ask(struct asked *q) {
+    struct lent grey = lend(q->values), memory = lend(4 * q->words), out = lend(q->room);
+    if (q->values) memcpy(grey.bytes, q->grey, q->values);
+    memset(memory.mapping, PAINT, memory.length - PAGE);
+    memset(out.mapping, '.', out.length - PAGE);
+    q->count = gs1_picture(grey.bytes, q->values, q->width, q->height, q->stride, q->level, q->year, (uint32_t *)(void *)memory.bytes, q->words,
+                           out.bytes, q->room);
+    for (uint8_t *before = memory.mapping; before < memory.bytes; before++) wrong += *before != PAINT;
+    for (uint8_t *before = out.mapping; before < out.bytes; before++) wrong += *before != '.';
+    wrong += q->values && memcmp(grey.bytes, q->grey, q->values);
+    memcpy(q->out, out.bytes, q->room);
+    give_back(grey), give_back(memory), give_back(out);
+}
+
+static void *ask_in_thread(void *q) {
+    ask(q);
+    return NULL;
+}
+
+/* Asks on a stack that is painted, and counts how much of it was written over. */
+static void ask_counting(struct asked *q) {
+    uint8_t *stack = mmap(NULL, STACK, PROT_READ | PROT_WRITE, MAP_PRIVATE | MAP_ANONYMOUS, -1, 0);
+    pthread_attr_t attributes;
+    pthread_t thread;
+    if (stack == MAP_FAILED) abort();
+    memset(stack, PAINT, STACK);
+    pthread_attr_init(&attributes);
+    if (pthread_attr_setstack(&attributes, stack, STACK) || pthread_create(&thread, &attributes, ask_in_thread, q)) abort();
+    pthread_join(thread, NULL);
+    size_t left = 0;
+    while (left < STACK && stack[left] == PAINT) left++;
+    q->stack = STACK - left;
+    munmap(stack, STACK);
+}
+
+static void want(const char *what, struct asked q, const char *wanted) {
+    uint8_t out[8192];
+    q.out = out;
+    q.room = q.room ? q.room : sizeof out;
+    q.year = q.year ? q.year : YEAR;
+    ask(&q);
+    size_t length = strlen(wanted);
+    if (q.count != length || memcmp(out, wanted, length)) {
+        wrong++;
+        printf("wrong: %s: %.*s\n", what, (int)(q.count < q.room ? q.count : q.room), (char *)out);
+    }
+    checks++;
+}
+
+/* Puts a label into a picture, its left upper corner at a place, turned by an angle whose cosine and sine are these. */
+static void draw(uint8_t *grey, int width, int height, enum gs1_kind kind, const char *text, int dots, int across, int down, int x, int y, double cos, double sin) {
+    static uint8_t image[1 << 20];
+    size_t length = gs1_label(kind, (const uint8_t *)text, strlen(text), YEAR, (uint16_t)dots, (uint16_t)across, (uint16_t)down, image, sizeof image);
+    size_t row = (size_t)(across + 7) / 8;
+    const uint8_t *bits = image + length - row * (size_t)down;
+    for (int v = 0; v < height; v++)
+        for (int u = 0; u < width; u++) {
+            int i = (int)((u - x) * cos + (v - y) * sin + 1000) - 1000, j = (int)((v - y) * cos - (u - x) * sin + 1000) - 1000;
+            if (i >= 0 && i < across && j >= 0 && j < down)
+                grey[v * width + u] = bits[(size_t)j * row + (size_t)i / 8] >> (7 - i % 8) & 1 ? 40 : 220;
+        }
+}
+
+static struct asked of(const uint8_t *grey, uint32_t width, uint32_t height) {
+    return (struct asked){.grey = grey, .width = width, .height = height, .stride = width, .values = (size_t)width * height,
+                          .words = gs1_picture_room(width, height)};
+}
+
+static void refuse(const uint8_t *grey) {
+    struct asked q = of(grey, 700, 300);
+    want("no dot", of(grey, 0, 0), "none");
+    want("no row", of(grey, 300, 0), "none");
+    want("rows of no dot", of(grey, 0, 300), "none");
+    want("one dot", of(grey, 1, 1), "none");
+    want("a level", (struct asked){.grey = grey, .width = 1, .height = 1, .stride = 1, .values = 1, .words = gs1_picture_room(1, 1), .level = 255}, "none");
+    want("too wide", (struct asked){.grey = grey, .width = 65536, .height = 1, .stride = 65536, .values = 65536, .words = 400000}, "refused 17 TooWide");
+    want("too high", (struct asked){.grey = grey, .width = 1, .height = 65536, .stride = 1, .values = 65536, .words = 400000}, "refused 17 TooWide");
+    want("far too wide", (struct asked){.grey = grey, .width = UINT32_MAX, .height = UINT32_MAX, .stride = SIZE_MAX}, "refused 17 TooWide");
+    q.values--;
+    want("a value short", q, "refused 18 BadRuns");
+    q.values = 0;
+    want("no values", q, "refused 18 BadRuns");
+    q = of(grey, 700, 300), q.stride = 699;
+    want("a stride below the width", q, "refused 18 BadRuns");
+    q.stride = SIZE_MAX;
+    want("a stride that is too long", q, "refused 18 BadRuns");
+    q = of(grey, 700, 300), q.words--;
+    want("a word short", q, "refused 43 NoMemory");
+    q.words = 0;
+    want("no words", q, "refused 43 NoMemory");
+    q = of(grey, 700, 300), q.year = 1950;
+    want("no year", q, "refused 42 Words");
+    checks++, wrong += gs1_picture_room(65536, 1) != 0 || gs1_picture_room(1, 65536) != 0 || gs1_picture_room(0, 0) == 0;
+}
+
+int main(void) {
+    static uint8_t grey[1200 * 1600], wide[65535 * 4];
+    size_t most = 0;
+    uint8_t out[8192];
+    memset(grey, 220, sizeof grey);
+    draw(grey, 700, 300, GS1_EAN13, "9501101530003", 3, 400, 140, 100, 80, 1, 0);
+    // The bars begin 11 modules to the right, and stand in all rows but a module's above and below.
+    want("a label", of(grey, 700, 300), "34048 21248 107008 21248 107008 55552 34048 55552 134 ]E0 01=09501101530003\n");
+    struct asked level = of(grey, 700, 300);
+    level.level = 128;
+    want("a label by a level", level, "34048 21248 107008 21248 107008 55552 34048 55552 134 ]E0 01=09501101530003\n");
+    level.level = 30;
+    want("a label by a level below it", level, "none");
+    level = of(grey, 700, 300), level.values = 700 * 299 + 690, level.width = 690;
+    want("as many values as are read", level, "34048 21248 107008 21248 107008 55552 34048 55552 134 ]E0 01=09501101530003\n");
+    refuse(grey);
+    memset(wide, 220, sizeof wide);
+    want("the widest", of(wide, 65535, 4), "none");
+    want("the highest", of(wide, 4, 65535), "none");
+
+    // 15 by 16 labels are more than are reported.
+    static uint8_t lines[80000];
+    memset(grey, 220, sizeof grey);
+    for (int i = 0; i < 240; i++) draw(grey, 1320, 576, GS1_EAN8, "96385074", 1, 88, 22, i % 15 * 88, i / 15 * 36, 1, 0);
+    struct asked many = of(grey, 1320, 576);
+    many.year = YEAR, many.out = lines, many.room = sizeof lines;
+    ask(&many);
+    size_t ends = 0;
+    for (size_t i = 0; i < many.count && i < sizeof lines; i++) ends += lines[i] == '\n';
+    checks++;
+    if (many.count > sizeof lines || ends != 193 || memcmp(lines + many.count - 11, "dropped 48\n", 11)) {
+        wrong++;
+        printf("wrong: %zu lines of 240 symbols, and %.11s", ends, (char *)lines + many.count - 11);
+    }
+
+    for (int turn = 0; turn < 12; turn++) {
+        static const double cos[] = {1, .99619, .90631, .70711, 0, -1}, sin[] = {0, .08716, .42262, .70711, 1, 0};
+        memset(grey, 220, sizeof grey);
+        for (int i = 0; i < 9; i++) {
+            int x = 200 + 420 * (i % 3) + (turn == 5) * 300, y = 100 + 320 * (i / 3) + (turn == 5) * 200;
+            draw(grey, 1600, 1200, (enum gs1_kind)(i % 3 == 2 ? GS1_GS1128 : GS1_EAN13), i % 3 == 2 ? "10AB\x1d" "21C" : "9501101530003", 2, 290, 120,
+                 turn == 4 || turn == 3 ? x + 150 : x, y, cos[turn % 6], sin[turn % 6]);
+        }
+        for (size_t i = 0; turn > 5 && i < sizeof grey; i++) grey[i] = (uint8_t)(grey[i] / 2 + (i * 2654435761u >> 13) % 60);
+        struct asked q = of(grey, 1600, 1200);
+        q.year = YEAR, q.out = out, q.room = sizeof out;
+        ask_counting(&q);
+        most = q.stack > most ? q.stack : most;
+        size_t lines = 0;
+        for (size_t i = 0; i < q.count && i < sizeof out; i++) lines += out[i] == '\n';
+        checks++;
+        if (q.count > sizeof out || (turn < 6 && lines < 6)) {
+            wrong++;
+            printf("wrong: %zu symbols of picture %d: %.*s\n", lines, turn, (int)q.count, (char *)out);
+        }
+    }
+    printf("%ld pictures read from C, %ld wrong; at most %zu bytes of stack, of %d\n", checks, wrong, most, MOST_STACK);
+    return wrong != 0 || most > MOST_STACK;
+}
