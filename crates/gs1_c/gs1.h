@@ -31,6 +31,13 @@ extern "C" {
 /* The most bytes of the line of a symbol that gs1_picture found. */
 #define GS1_PLACED 384
 
+/* More than the bytes of an answer of gs1_symbol. */
+#define GS1_SYMBOL 900
+
+/* Beside a year, as GS1_EVERY_AI | 2026: every Application Identifier of the GS1 General Specifications is
+ * read. A year alone reads those of the profile (docs/DECISIONS.md). */
+#define GS1_EVERY_AI 0x8000
+
 /* The version of the library. */
 #define GS1_VERSION "1.1.0"
 
@@ -68,6 +75,7 @@ size_t gs1_c_picture(const uint8_t *grey, size_t values, uint32_t width, uint32_
                      uint32_t *words, size_t word_count, uint16_t *widths, size_t width_count, uint8_t *out, size_t room);
 size_t gs1_c_label(uint32_t kind, const uint8_t *text, size_t length, uint16_t year,
                    uint16_t module_dots, uint16_t width, uint16_t height, uint8_t *out, size_t room);
+size_t gs1_c_symbol(uint32_t kind, const uint8_t *text, size_t length, uint16_t year, uint8_t *out, size_t room);
 
 /* Stands for a null pointer to no items. */
 static inline void *gs1_none(void) {
@@ -197,6 +205,15 @@ static inline size_t gs1_label(enum gs1_kind kind, const uint8_t *text, size_t l
                                uint16_t module_dots, uint16_t width, uint16_t height, uint8_t *out, size_t room) {
     return gs1_c_label((uint32_t)kind, GS1_SOME(const uint8_t *, text), length, year, module_dots, width, height,
                        GS1_SOME(uint8_t *, out), room);
+}
+
+/* The symbol of a label in modules, for programs that draw it: what stands under the bars, the quiet zones left
+ * and right, and a digit for the width of each run, a bar first and last, as `symbol 96385074 7 7 111...`. Under
+ * the bars stand the digits of the number as its kind writes them, of a UPC-E all eight, and of an element string
+ * its elements with each AI in parentheses. Refused as by gs1_label, but for 25 and 27. */
+static inline size_t gs1_symbol(enum gs1_kind kind, const uint8_t *text, size_t length, uint16_t year, uint8_t *out,
+                                size_t room) {
+    return gs1_c_symbol((uint32_t)kind, GS1_SOME(const uint8_t *, text), length, year, GS1_SOME(uint8_t *, out), room);
 }
 
 #ifdef __cplusplus

@@ -9,8 +9,11 @@ refused is raised as a :class:`Refusal`, with its number and its name.
     3
     >>> read_elements("10AB\\x1d17261231", year=2026)
     '(10)AB(17)261231'
-    >>> read_scan("]C110AB\\x1d17261231", year=2026).elements[1]
-    Element(ai='17', value='261231', date=datetime.date(2026, 12, 31), time=None)
+    >>> answer = read_scan("]C13103001250\\x1d17261231", year=2026)
+    >>> answer["17"].title, answer["17"].date
+    ('USE BY or EXPIRY', datetime.date(2026, 12, 31))
+    >>> answer["3103"].number, answer["3103"].unit
+    (Decimal('1.250'), 'kg')
     >>> read_scan("https://id.gs1.org/01/09501101530003/10/AB", year=2026).text
     '(01)09501101530003(10)AB'
 """
@@ -21,24 +24,36 @@ import datetime
 import enum
 import operator
 import re
-from dataclasses import dataclass
+from dataclasses import dataclass, field
+from decimal import Decimal
 from functools import lru_cache
 from pathlib import Path
-from typing import TYPE_CHECKING, Any, Dict, List, NamedTuple, Optional, Sequence, Tuple, Union
+from typing import TYPE_CHECKING, Any, Dict, Iterable, Iterator, List, Literal, NamedTuple, Optional, Sequence, Tuple, Union
+
+from . import _values
+from ._values import Association, Doubt, Place
 
 if TYPE_CHECKING:
     from .picture import Picture
 
 __all__ = [
-    "Answer", "Box", "Element", "Found", "Kind", "Refusal", "Symbol", "check_digit", "draw_label", "find",
-    "find_dots", "parse_elements", "read_dots", "read_elements", "read_gtin", "read_picture", "read_row", "read_scan",
+    "Ais", "Answer", "Association", "Box", "Doubt", "Element", "Found", "Kind", "LabelSymbol", "Place", "Refusal", "Symbol", "associations",
+    "check_digit", "compose", "doubts", "draw_label", "find", "find_dots", "label_symbol", "parse_elements", "read_dots", "read_elements",
+    "read_gtin", "read_picture", "read_row", "read_scan",
 ]
 
 __version__ = "1.1.0"
 
 _MOST = 65_535
 _LINE = 292
+_SYMBOL = 900
+_EVERY_AI = 0x8000
+# The symbology identifiers behind which an element string may stand.
+_ELEMENT_STRINGS = (b"]C1", b"]e0", b"]d2", b"]Q3", b"]J1")
 _LINE_OF_REFUSAL = re.compile(r"refused (\d+) (\w+)(?: (\d+))?")
+
+Ais = Literal["all", "profile"]
+"""Which Application Identifiers are read: every one of the GS1 General Specifications, or those of the profile."""
 
 _library = ctypes.CDLL(str(Path(__file__).with_name("libgs1.so")))
 _SIZE, _U16, _U32, _BYTES = ctypes.c_size_t, ctypes.c_uint16, ctypes.c_uint32, ctypes.c_char_p
@@ -55,9 +70,10 @@ _library.gs1_c_gtin.argtypes = [_BYTES, _SIZE, _BYTES, _SIZE]
 _library.gs1_c_digit.argtypes = [_BYTES, _SIZE, _BYTES, _SIZE]
 _library.gs1_c_text.argtypes = [_BYTES, _SIZE, _U16, _BYTES, _SIZE]
 _library.gs1_c_text_elements.argtypes = [_BYTES, _SIZE, _U16, _BYTES, _SIZE]
+_library.gs1_c_symbol.argtypes = [_U32, _BYTES, _SIZE, _U16, _BYTES, _SIZE]
 _library.gs1_c_label.argtypes = [_U32, _BYTES, _SIZE, _U16, _U16, _U16, _U16, _BYTES, _SIZE]
 for _name in ("row_elements", "find", "dots_elements", "find_dots", "picture", "picture_room", "date", "scan", "gtin", "digit",
-              "text", "text_elements", "label"):
+              "text", "text_elements", "label", "symbol"):
     getattr(_library, f"gs1_c_{_name}").restype = _SIZE
 
 
@@ -65,8 +81,18 @@ class Refusal(ValueError):
     """A question that is refused: the number and the name say why, as docs/FAULTS.md lists them.
 
     ``place`` is an offset or an index, from 0, where the fault has one. ``cause`` and ``remedy`` are what the page says
-    of the number: why it comes, and what to do.
+    of the number: why it comes, and what to do. ``before`` has the elements up to the place of an element string, and
+    ``ai`` the Application Identifier that stands there, if one does:
+
+        >>> try:
+        ...     parse_elements("10AB\\x1d17261331", year=2026)
+        ... except Refusal as refusal:
+        ...     print(refusal, refusal.before[0].value, refusal.ai)
+        refused 9 ValueDate 5 AB 17
     """
+
+    before: Tuple[Element, ...] = ()
+    ai: Optional[str] = None
 
     def __init__(self, number: int, name: str, place: Optional[int] = None) -> None:
         super().__init__(number, name, place)
@@ -117,12 +143,80 @@ class Element:
     """The day under the reference year, where the Application Identifier is one of a day; day 00 is the last of its
     month."""
     time: Optional[datetime.time] = None
-    """The time, where the Application Identifier is 7003 or 8008."""
+    """The time, where the Application Identifier is one of a time: 7003 or 8008 of the profile."""
+    until: Optional[datetime.date] = field(default=None, repr=False)
+    """The last of several days, of 7007 with two days."""
+
+    @property
+    def title(self) -> str:
+        """The data title of the standard, as ``USE BY or EXPIRY``; empty if there is none."""
+        row = _values.rows().get(self.ai)
+        return row.title if row else ""
+
+    @property
+    def number(self) -> Optional[Decimal]:
+        """The number of a measure, an amount, a price, a percentage or a temperature (310n to 369n, 390n to 395n, 433n).
+
+        >>> Element("3932", "978000195").number
+        Decimal('1.95')
+        """
+        return _values.number(self.ai, self.value)
+
+    @property
+    def unit(self) -> Optional[str]:
+        """The unit of a measure, as ``kg``; ``%`` of a percentage, ``°C`` or ``°F`` of a temperature.
+
+        >>> str(Element("4331", "001850-").number), Element("4331", "001850-").unit
+        ('-18.50', '°C')
+        """
+        return _values.unit(self.ai)
+
+    @property
+    def currency(self) -> Optional[str]:
+        """The currency of an amount or a price with one (391n and 393n), as ``EUR``; None of a code that is in no list.
+
+        >>> Element("3932", "978000195").currency
+        'EUR'
+        """
+        return _values.currency(self.ai, self.value)
+
+    @property
+    def countries(self) -> Tuple[str, ...]:
+        """The countries of a value, by their two letters (421 to 426, 4307, 4317 and 703n): those whose codes are in the list.
+
+        >>> Element("423", "276528").countries
+        ('DE', 'NL')
+        """
+        return _values.countries(self.ai, self.value)
+
+    @property
+    def place(self) -> Optional[Place]:
+        """The place that 4309 names.
+
+        >>> Element("4309", "14152186780061337830").place
+        Place(latitude=Decimal('51.5218678'), longitude=Decimal('6.1337830'))
+        """
+        return _values.place(self.ai, self.value)
+
+    def to_dict(self) -> Dict[str, Any]:
+        """What there is of the element, as JSON takes it: a day as ``2026-12-31``, a number as a text."""
+        told = {
+            "ai": self.ai, "title": self.title, "value": self.value, "date": self.date, "until": self.until,
+            "time": self.time, "number": self.number, "unit": self.unit, "currency": self.currency,
+        }
+        here: Dict[str, Any] = {
+            name: f"{it:f}" if isinstance(it, Decimal) else str(it) for name, it in told.items() if it is not None and it != ""
+        }
+        if self.countries:
+            here["countries"] = list(self.countries)
+        if self.place:
+            here["place"] = [str(it) for it in self.place]
+        return here
 
 
 @dataclass(frozen=True)
 class Answer:
-    """What a row, or a text from a scanner, says."""
+    """What a row, or a text from a scanner, says. It goes over its elements, and ``answer["17"]`` is that of an Application Identifier."""
 
     identifier: Optional[str]
     """The symbology identifier: ``]E0`` of EAN-13, UPC-A and UPC-E, ``]E4`` of EAN-8, ``]I1`` of ITF-14, ``]C1`` of
@@ -139,6 +233,33 @@ class Answer:
     def gtin(self) -> Optional[str]:
         """The 14 digits of the GTIN, where the first element is one."""
         return self.elements[0].value if self.elements[0].ai == "01" else None
+
+    def __getitem__(self, ai: str) -> Element:
+        """The first element with this Application Identifier.
+
+        :raises KeyError: there is none.
+        """
+        for element in self.elements:
+            if element.ai == ai:
+                return element
+        raise KeyError(ai)
+
+    def __iter__(self) -> Iterator[Element]:
+        return iter(self.elements)
+
+    def __contains__(self, ai: object) -> bool:
+        return any(element.ai == ai for element in self.elements)
+
+    def to_json(self) -> str:
+        """The answer as a JSON text.
+
+        >>> print(read_scan("]C110AB", year=2026).to_json())
+        {"identifier": "]C1", "elements": [{"ai": "10", "title": "BATCH/LOT", "value": "AB"}]}
+        """
+        import json  # Not at every start: it takes a tenth of it.
+
+        told = {"identifier": self.identifier, "elements": [element.to_dict() for element in self.elements]}
+        return json.dumps(told, ensure_ascii=False)
 
     def __str__(self) -> str:
         return f"{self.identifier or '-'} {self.text}"
@@ -198,6 +319,16 @@ def _refusal(line: str) -> Optional[Refusal]:
     return Refusal(int(number), name, None if place is None else int(place))
 
 
+def _with_before(refusal: Refusal, text: bytes, terms: int) -> Refusal:
+    """The refusal of an element string, with what stands before its place and the Application Identifier there."""
+    place = refusal.place
+    if place is not None and place <= len(text) and refusal.name != "Words":
+        refusal.ai = _values.ai_at(text[place:place + 4].decode("latin-1"))
+        if place > 0:
+            refusal.before = _parse(text[:place], terms)
+    return refusal
+
+
 def _line(answer: bytes) -> str:
     """The line of an answer, where it is no refusal."""
     line = answer.decode("ascii")
@@ -207,34 +338,52 @@ def _line(answer: bytes) -> str:
     return line
 
 
-def _answer(answer: bytes, year: int) -> Answer:
+def _line_of_elements(answer: bytes, text: bytes, terms: int) -> str:
+    """The line of an answer to an element string, where it is no refusal."""
+    try:
+        return _line(answer)
+    except Refusal as refusal:
+        raise _with_before(refusal, text, terms)
+
+
+def _answer(answer: bytes, terms: int) -> Answer:
     """The answer, where it is no refusal."""
-    return _answer_of(_line(answer), year)
+    return _answer_of(_line(answer), terms)
 
 
-def _answer_of(line: str, year: int) -> Answer:
+def _answer_of(line: str, terms: int) -> Answer:
     """The answer of a line that is no refusal: ``-`` stands for an identifier that was not sent."""
     identifier, _, elements = line.partition(" ")
-    return Answer(None if identifier == "-" else identifier, _elements(elements, year))
+    return Answer(None if identifier == "-" else identifier, _elements(elements, terms))
 
 
-def _elements(pairs: str, year: int) -> Tuple[Element, ...]:
+def _elements(pairs: str, terms: int) -> Tuple[Element, ...]:
     """The elements of pairs: no value has a tab."""
-    return tuple(_element(pair, year) for pair in pairs.split("\t"))
+    return tuple(_element(pair, terms) for pair in pairs.split("\t"))
 
 
-def _element(pair: str, year: int) -> Element:
+def _element(pair: str, terms: int) -> Element:
     """The element of a pair: no Application Identifier has an equals sign."""
     ai, _, value = pair.partition("=")
     # A value that names a day is all digits, 6 to 12 of them: the library is not asked of any other.
     if not (6 <= len(value) <= 12 and value.isdecimal()):
         return Element(ai, value)
-    words = _ask(_library.gs1_c_date, pair.encode("ascii"), len(pair), year).decode("ascii").split(" ")
+    words = _ask(_library.gs1_c_date, pair.encode("ascii"), len(pair), terms).decode("ascii").split(" ")
     # A hub of another version may tell elements that this library refuses.
     if words[0] != "date":
         return Element(ai, value)
     time = datetime.time.fromisoformat(words[2]) if len(words) == 3 else None
-    return Element(ai, value, datetime.date.fromisoformat(words[1]), time)
+    return Element(ai, value, _day(words[1]), time, _until(ai, value, terms))
+
+
+def _day(text: str) -> Optional[datetime.date]:
+    """The day of a text; none of the year 0000, which a date of Python's does not have."""
+    return None if text.startswith("0000") else datetime.date.fromisoformat(text)
+
+
+def _until(ai: str, value: str, terms: int) -> Optional[datetime.date]:
+    """The second day of 7007, read as another day of six digits is."""
+    return _element(f"17={value[6:]}", terms).date if ai == "7007" and len(value) == 12 else None
 
 
 def _places(lines: str) -> List[Tuple[int, int]]:
@@ -256,19 +405,29 @@ def _u16(number: int) -> int:
     return number if 0 <= number <= _MOST else 0
 
 
-def _ask_of_widths(call: Any, widths: Sequence[int], year: int) -> bytes:
+def _terms(year: int, ais: Ais) -> int:
+    """What the library reads by, as one number: 0, which it refuses, in place of a year out of range."""
+    year = operator.index(year)
+    if ais not in ("all", "profile"):
+        raise ValueError(f"ais is 'all' or 'profile', and not {ais!r}")
+    if not 1951 <= year <= 2149:
+        return 0
+    return _EVERY_AI | year if ais == "all" else year
+
+
+def _ask_of_widths(call: Any, widths: Sequence[int], terms: int) -> bytes:
     """What a call answers to widths."""
     if any(width < 0 for width in widths):
         raise ValueError("a width is below 0")
     row = (_U16 * len(widths))(*(min(width, _MOST) for width in widths))
-    answer = _ask(call, row, len(widths), _u16(year))
+    answer = _ask(call, row, len(widths), terms)
     # What is wrong with the year or the number of runs is told first.
     if any(width > _MOST for width in widths) and answer not in (b"refused 42 Words", b"refused 18 BadRuns"):
         raise Refusal(17, "TooWide")
     return answer
 
 
-def _ask_of_dots(call: Any, dots: Union[bytes, bytearray, memoryview], width: int, year: int) -> bytes:
+def _ask_of_dots(call: Any, dots: Union[bytes, bytearray, memoryview], width: int, terms: int) -> bytes:
     """What a call answers to packed dots."""
     if width < 0:
         raise ValueError("the width is below 0")
@@ -276,7 +435,7 @@ def _ask_of_dots(call: Any, dots: Union[bytes, bytearray, memoryview], width: in
     if width > 8 * len(packed):
         # As one dot of no byte, since the number may have more than 32 bits.
         packed, width = b"", 1
-    return _ask(call, packed, len(packed), min(width, _MOST + 1), _u16(year))
+    return _ask(call, packed, len(packed), min(width, _MOST + 1), terms)
 
 
 def _widths(dots: Union[bytes, bytearray, memoryview], width: int) -> List[int]:
@@ -287,7 +446,7 @@ def _widths(dots: Union[bytes, bytearray, memoryview], width: int) -> List[int]:
     return [light, *others] if len(others) % 2 == 0 else [light, *others, 0]
 
 
-def read_row(widths: Sequence[int], year: int) -> Answer:
+def read_row(widths: Sequence[int], year: int, *, ais: Ais = "all") -> Answer:
     """What a row of a scan says, given as the widths of its runs in dots.
 
     They are light and dark in turn, light first and last, in either direction. A date is read by the reference
@@ -296,10 +455,11 @@ def read_row(widths: Sequence[int], year: int) -> Answer:
     :raises Refusal: what is no row, or shows no symbol that says elements; 42 ``Words`` of a year out of range.
     :raises ValueError: a width is below 0.
     """
-    return _answer(_ask_of_widths(_library.gs1_c_row_elements, widths, year), year)
+    terms = _terms(year, ais)
+    return _answer(_ask_of_widths(_library.gs1_c_row_elements, widths, terms), terms)
 
 
-def find(widths: Sequence[int], year: int) -> List[Found]:
+def find(widths: Sequence[int], year: int, *, ais: Ais = "all") -> List[Found]:
     """Every symbol of a row of a scan, from the left: what stands beside or between them is passed over.
 
     The widths are those of :func:`read_row`. Each window of their runs that begins and ends with a light run and is
@@ -308,11 +468,11 @@ def find(widths: Sequence[int], year: int) -> List[Found]:
     :raises Refusal: 18 ``BadRuns`` and 17 ``TooWide`` of what is no row; 42 ``Words`` of a year out of range.
     :raises ValueError: a width is below 0.
     """
-    places = _places(_line(_ask_of_widths(_library.gs1_c_find, widths, year)))
-    return [Found(first, count, read_row(widths[first:first + count], year)) for first, count in places]
+    places = _places(_line(_ask_of_widths(_library.gs1_c_find, widths, _terms(year, ais))))
+    return [Found(first, count, read_row(widths[first:first + count], year, ais=ais)) for first, count in places]
 
 
-def read_picture(picture: Picture, year: int, *, level: Optional[int] = None) -> List[Symbol]:
+def read_picture(picture: Picture, year: int, *, level: Optional[int] = None, ais: Ais = "all") -> List[Symbol]:
     """Every symbol of a picture, in the order of reading: line by line, and from left to right.
 
     The picture is an image of Pillow's, the path of one (of a file with several, the first), or an array of rows of
@@ -334,10 +494,10 @@ def read_picture(picture: Picture, year: int, *, level: Optional[int] = None) ->
     """
     from . import picture as pictures
 
-    return pictures.read(picture, year, level).symbols
+    return pictures.read(picture, year, level, ais).symbols
 
 
-def read_dots(dots: Union[bytes, bytearray, memoryview], width: int, year: int) -> Answer:
+def read_dots(dots: Union[bytes, bytearray, memoryview], width: int, year: int, *, ais: Ais = "all") -> Answer:
     """What a row of ``width`` dots says, eight of them a byte, as a row of a PBM image has them.
 
     The first dot of a byte is its high bit, and 1 is dark; bits behind the last dot do not matter. A date is read by
@@ -347,10 +507,11 @@ def read_dots(dots: Union[bytes, bytearray, memoryview], width: int, year: int) 
         symbol that says elements; 42 ``Words`` of a year out of range.
     :raises ValueError: the width is below 0.
     """
-    return _answer(_ask_of_dots(_library.gs1_c_dots_elements, dots, width, year), year)
+    terms = _terms(year, ais)
+    return _answer(_ask_of_dots(_library.gs1_c_dots_elements, dots, width, terms), terms)
 
 
-def find_dots(dots: Union[bytes, bytearray, memoryview], width: int, year: int) -> List[Found]:
+def find_dots(dots: Union[bytes, bytearray, memoryview], width: int, year: int, *, ais: Ais = "all") -> List[Found]:
     """Every symbol of a row of ``width`` dots, given as :func:`read_dots` takes them: what :func:`find` finds in the
     widths of the row's runs, light first and last.
 
@@ -358,12 +519,12 @@ def find_dots(dots: Union[bytes, bytearray, memoryview], width: int, year: int) 
         a year out of range.
     :raises ValueError: the width is below 0.
     """
-    places = _places(_line(_ask_of_dots(_library.gs1_c_find_dots, dots, width, year)))
+    places = _places(_line(_ask_of_dots(_library.gs1_c_find_dots, dots, width, _terms(year, ais))))
     widths = _widths(dots, width) if places else []
-    return [Found(first, count, read_row(widths[first:first + count], year)) for first, count in places]
+    return [Found(first, count, read_row(widths[first:first + count], year, ais=ais)) for first, count in places]
 
 
-def read_scan(text: Union[str, bytes], year: int) -> Answer:
+def read_scan(text: Union[str, bytes], year: int, *, ais: Ais = "all") -> Answer:
     """What a text from a scanner says: a symbology identifier, and behind it what the symbol says.
 
     - ``]E0`` has the 12 or 13 digits of a GTIN or the 8 of a UPC-E, ``]E4`` 8 digits, ``]I1`` 14.
@@ -385,7 +546,13 @@ def read_scan(text: Union[str, bytes], year: int) -> Answer:
         elements; 42 ``Words`` of a year out of range.
     """
     said = _bytes(text)
-    return _answer(_ask(_library.gs1_c_scan, said, len(said), _u16(year)), year)
+    terms = _terms(year, ais)
+    answer = _ask(_library.gs1_c_scan, said, len(said), terms)
+    if said[:3] in _ELEMENT_STRINGS:
+        # The separator that stands first is not counted by places.
+        elements = re.sub(b"^\x1d", b"", said[3:].replace(b"^", b"\x1d"))
+        return _answer_of(_line_of_elements(answer, elements, terms), terms)
+    return _answer(answer, terms)
 
 
 def read_gtin(text: Union[str, bytes]) -> str:
@@ -406,27 +573,131 @@ def check_digit(text: Union[str, bytes]) -> int:
     return int(_line(_ask(_library.gs1_c_digit, digits, len(digits))).partition(" ")[2])
 
 
-def read_elements(text: Union[str, bytes], year: int) -> str:
+def read_elements(text: Union[str, bytes], year: int, *, ais: Ais = "all") -> str:
     """The elements of an element string, in which ``"\\x1d"`` is the separator, as ``(10)AB(17)261231``.
 
     :raises Refusal: its first fault, 4 ``Empty`` to 11 ``TooLong``; 42 ``Words`` of a year out of range.
     """
     elements = _bytes(text)
-    return _line(_ask(_library.gs1_c_text, elements, len(elements), _u16(year))).partition(" ")[2]
+    terms = _terms(year, ais)
+    answer = _ask(_library.gs1_c_text, elements, len(elements), terms)
+    return _line_of_elements(answer, elements, terms).partition(" ")[2]
 
 
-def parse_elements(text: Union[str, bytes], year: int) -> Tuple[Element, ...]:
+def parse_elements(text: Union[str, bytes], year: int, *, ais: Ais = "all") -> Tuple[Element, ...]:
     """The elements of an element string, in which ``"\\x1d"`` is the separator.
 
     :raises Refusal: as :func:`read_elements`.
     """
-    elements = _bytes(text)
-    pairs = _line(_ask(_library.gs1_c_text_elements, elements, len(elements), _u16(year))).partition(" ")[2]
-    return _elements(pairs, year)
+    return _parse(_bytes(text), _terms(year, ais))
+
+
+def _parse(text: bytes, terms: int) -> Tuple[Element, ...]:
+    """The elements of an element string."""
+    answer = _ask(_library.gs1_c_text_elements, text, len(text), terms)
+    return _elements(_line_of_elements(answer, text, terms).partition(" ")[2], terms)
+
+
+def compose(elements: Iterable[Union[Element, Tuple[str, str]]], year: Optional[int] = None) -> str:
+    """The element string of elements, or of pairs of an Application Identifier and a value, with the separator
+    ``"\\x1d"`` where it must stand.
+
+        >>> compose([("01", "09501101530003"), ("10", "AB"), ("17", "261231")], year=2026)
+        '010950110153000310AB\\x1d17261231'
+
+    The year is this one unless it is given.
+
+    :raises Refusal: the elements are none, 4 to 11, where a place is the index of the element; 42 ``Words`` of a year
+        out of range.
+    """
+    pairs = [(it.ai, it.value) if isinstance(it, Element) else (it[0], it[1]) for it in elements]
+    reference = datetime.date.today().year if year is None else year
+    text = ""
+    for at, (ai, value) in enumerate(pairs):
+        _check_pair(ai, value, reference, at)
+        text += ("\x1d" if at > 0 and _values.needs_separator(pairs[at - 1][0]) else "") + ai + value
+    parse_elements(text, reference)
+    return text
+
+
+def _check_pair(ai: str, value: str, year: int, at: int) -> None:
+    """Refuses what is no element, as the pair of an index."""
+    more = Refusal(7, "ValueCharacter", at) if "\x1d" in value else Refusal(6, "ValueLength", at)
+    try:
+        read = parse_elements(ai + value, year)
+    except Refusal as refusal:
+        # What stands behind the value of a pair is too much of it, and so is what needs a separator in a text.
+        if refusal.place or refusal.name in ("MissingSeparator", "TooLong"):
+            raise more from None
+        if refusal.name == "Words":
+            raise
+        raise (Refusal(5, "UnknownAi", at) if refusal.name == "Empty" else Refusal(refusal.number, refusal.name, at)) from None
+    if read[0].ai != ai:
+        raise Refusal(5, "UnknownAi", at)
+    if (read[0].value, len(read)) != (value, 1):
+        raise more
+
+
+def associations(elements: Iterable[Element]) -> List[Association]:
+    """What the standard asks of elements that stand together and is not so: a second look, by which nothing is refused.
+
+        >>> [str(it) for it in associations([Element("02", "09501101530003")])]
+        ['02 needs 37']
+        >>> [str(it) for it in associations([Element("01", "09501101530003"), Element("37", "5")])]
+        ['01 excludes 37', '37 needs 02 or 8026']
+    """
+    return _values.associations(element.ai for element in elements)
+
+
+def doubts(elements: Iterable[Element]) -> List[Doubt]:
+    """Codes of countries and currencies that are in no list, and the first digits of 401 if they are no GS1 Company
+    Prefix: a second look, by which nothing is refused, since these lists change.
+
+        >>> [str(it) for it in doubts([Element("422", "281")])]
+        ['422: 281 is no country']
+    """
+    return _values.doubts((element.ai, element.value) for element in elements)
+
+
+class LabelSymbol(NamedTuple):
+    """The symbol of a label in modules, for programs that draw it."""
+
+    text: str
+    """What stands under the bars: the digits of the number as its kind writes them, or the elements."""
+    quiet_left: int
+    """The nominal quiet zones (GS1 General Specifications, sections 5.2 to 5.4)."""
+    quiet_right: int
+    widths: Tuple[int, ...]
+    """Of the runs, a bar first and last."""
+
+
+def label_symbol(kind: Union[Kind, str], text: Union[str, bytes], year: int, *, ais: Ais = "all") -> LabelSymbol:
+    """The symbol of a label, in modules. The kind may be told by its name, as ``"ean13"``.
+
+        >>> symbol = label_symbol("upce", "00012345000065", year=2026)
+        >>> symbol.text, symbol.quiet_left, symbol.quiet_right, sum(symbol.widths)
+        ('01234565', 9, 7, 51)
+
+    :raises Refusal: 40 ``Kind`` of a name that is none, 42 ``Words`` of a year out of range, 1 to 11 of the text, and
+        26 ``LabelKind`` of a label that has no such symbol.
+    """
+    said = _bytes(text)
+    answer = _ask(_library.gs1_c_symbol, _kind(kind).value, said, len(said), _terms(year, ais), room=_SYMBOL)
+    _, under, left, right, widths = _line(answer).split(" ")
+    return LabelSymbol(under, int(left), int(right), tuple(map(int, widths)))
+
+
+def _kind(kind: Union[Kind, str]) -> Kind:
+    """The kind of this name."""
+    named = kind if isinstance(kind, Kind) else {known.name.lower(): known for known in Kind}.get(kind)
+    if named is None:
+        raise Refusal(40, "Kind")
+    return named
 
 
 def draw_label(
-    kind: Union[Kind, str], text: Union[str, bytes], year: int, *, module: int = 2, width: int = 480, height: int = 120
+    kind: Union[Kind, str], text: Union[str, bytes], year: int, *, module: int = 2, width: int = 480, height: int = 120,
+    ais: Ais = "all",
 ) -> bytes:
     """A label as the bytes of a PBM image, of ``width`` by ``height`` dots, its modules ``module`` dots wide.
 
@@ -437,14 +708,9 @@ def draw_label(
     :raises Refusal: 40 ``Kind`` of a name that is none, 42 ``Words`` of a year out of range, 25 ``BadGrid`` of the dots, 1 to 11 of the text, and
         26 ``LabelKind`` and 27 ``LabelWidth`` of a label that has no such symbol or does not fit.
     """
-    if not isinstance(kind, Kind):
-        named = {known.name.lower(): known for known in Kind}.get(kind)
-        if named is None:
-            raise Refusal(40, "Kind")
-        kind = named
     said = _bytes(text)
-    words = [_u16(number) for number in (year, module, width, height)]
-    image = _ask(_library.gs1_c_label, kind.value, said, len(said), *words)
+    words = [_u16(number) for number in (module, width, height)]
+    image = _ask(_library.gs1_c_label, _kind(kind).value, said, len(said), _terms(year, ais), *words)
     if not image.startswith(b"P4"):
         _line(image)
     return image

@@ -4,7 +4,7 @@ from __future__ import annotations
 import re
 from typing import List, Tuple
 
-from . import Answer, Refusal, check_digit, read_gtin, read_scan
+from . import Ais, Answer, Refusal, check_digit, read_gtin, read_scan
 from ._shop import said
 
 _BRACKETED = {"(": re.compile(r"\((\d{2,4})\)([^()]+)"), "[": re.compile(r"\[(\d{2,4})\]([^][]+)")}
@@ -21,7 +21,7 @@ class Unreadable(ValueError):
     """Why a text cannot be asked about at all, and what to do."""
 
 
-def read_text(text: str, year: int) -> Answer:
+def read_text(text: str, year: int, ais: Ais = "all") -> Answer:
     """What a text says: an element string with ``(01)`` or ``[01]`` around each Application Identifier, or with ``^`` or
     byte 29 in it; what a scanner sends, which begins with ``]``; a GS1 Digital Link; or else a number.
 
@@ -30,16 +30,16 @@ def read_text(text: str, year: int) -> Answer:
     """
     text = stripped(text)
     if text[:1] in _BRACKETED:
-        return read_scan(f"^{element_string(text)}", year)
+        return read_scan(f"^{element_string(text)}", year, ais=ais)
     if text[:1] == "]" or _LINK.match(text):
-        return read_scan(text, year)
+        return read_scan(text, year, ais=ais)
     if is_elements(text):
-        return read_scan(text if text[0] in "^\x1d" else f"^{text}", year)
+        return read_scan(text if text[0] in "^\x1d" else f"^{text}", year, ais=ais)
     digits = digits_of(text)
     # Eight digits that begin with 0 are a GTIN-8 or a UPC-E: the library refuses to guess.
     if len(digits) == 8 and digits[0] == "0" and digits.isascii() and digits.isdecimal():
-        return read_scan(digits, year)
-    return read_scan(f"^01{read_gtin(digits)}", year)
+        return read_scan(digits, year, ais=ais)
+    return read_scan(f"^01{read_gtin(digits)}", year, ais=ais)
 
 
 def stripped(text: str) -> str:

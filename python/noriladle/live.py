@@ -31,7 +31,7 @@ from dataclasses import dataclass
 from types import TracebackType
 from typing import AsyncIterator, Deque, Iterable, List, Optional, Sequence, Tuple, Type, Union, cast
 
-from . import Answer, Refusal, _answer_of, _bytes, _refusal
+from . import Ais, Answer, Refusal, _answer_of, _bytes, _refusal, _terms
 
 __all__ = ["Hub", "HubEnded", "Lane", "Reply", "Widths"]
 
@@ -121,7 +121,8 @@ class Lane:
 class Hub:
     """A hub of 1 to 16 lanes and 1 to 16 workers, which runs as long as the ``async with`` block.
 
-    ``year``, 1951 to 2149, is the one that dates of two digits are read by. At most ``most`` rows (1 or more) are in
+    ``year``, 1951 to 2149, is the one that dates of two digits are read by, and ``ais`` says which Application
+    Identifiers are read. At most ``most`` rows (1 or more) are in
     the process at a time; later ones wait for their turn, in the order of the calls. ``program`` is the path of
     ``gs1_hub``, or the words that start it; where none is given, it is that of the environment's ``GS1_HUB``, or the
     ``gs1_hub`` of the ``PATH``.
@@ -139,17 +140,18 @@ class Hub:
         workers: int,
         year: int,
         *,
+        ais: Ais = "all",
         program: Union[str, Sequence[str], None] = None,
         most: int = 1024,
     ) -> None:
         if not (1 <= lanes <= 16 and 1 <= workers <= 16 and 1951 <= year <= 2149 and most >= 1):
             raise ValueError("1 to 16 lanes and workers, a year from 1951 to 2149, and at least 1 row at a time")
         found = program or os.environ.get("GS1_HUB") or "gs1_hub"
-        options = f"live --elements --lanes {lanes} --workers {workers} --year {year}".split()
+        options = f"live --elements --lanes {lanes} --workers {workers} --year {year} --ais {ais}".split()
         self._words = [*([found] if isinstance(found, str) else found), *options]
         self.lanes = lanes
         self._most = most
-        self._year = year
+        self._terms = _terms(year, ais)
         self._is_entered = False
         self._process: Optional[_Process] = None
 
@@ -160,7 +162,7 @@ class Hub:
         try:
             # A session of its own, so that the Ctrl-C that ends the caller leaves the process to the end of the block.
             _, self._process = await asyncio.get_running_loop().subprocess_exec(
-                lambda: _Process(self.lanes, self._most, self._year), *self._words, start_new_session=True
+                lambda: _Process(self.lanes, self._most, self._terms), *self._words, start_new_session=True
             )
         except BaseException:
             self._is_entered = False
@@ -215,10 +217,10 @@ class _Process(asyncio.SubprocessProtocol):
     Rows wait only while it has ``most`` of them.
     """
 
-    def __init__(self, lanes: int, most: int, year: int) -> None:
+    def __init__(self, lanes: int, most: int, terms: int) -> None:
         self._loop = asyncio.get_running_loop()
         self._most = most
-        self._year = year
+        self._terms = terms
         self._numbers = [0] * lanes
         self._sent: Deque[Tuple[int, asyncio.Future[Reply]]] = deque()
         self._waiting: OrderedDict[asyncio.Future[Reply], Tuple[int, bytes]] = OrderedDict()
@@ -311,7 +313,7 @@ class _Process(asyncio.SubprocessProtocol):
         lane, number, text = line.decode("ascii").split(" ", 2)
         if lane not in ("-", str(asked)) or number not in ("-", str(self._numbers[asked])):
             raise ValueError("of another row")
-        answer = _refusal(text) or _answer_of(text, self._year)
+        answer = _refusal(text) or _answer_of(text, self._terms)
         # From here on nothing fails, so that no row is taken off without its reply.
         self._sent.popleft()
         if not reply.done():

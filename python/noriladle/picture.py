@@ -12,7 +12,7 @@ try:
 except ImportError as error:
     raise ImportError("read_picture needs numpy and Pillow: pip install 'noriladle[picture]'") from error
 
-from . import _MOST, Box, Refusal, Symbol, _answer_of, _ask, _library, _refusal, _u16
+from . import _MOST, Ais, Box, Refusal, Symbol, _answer_of, _ask, _library, _refusal, _terms
 
 Picture = Union[Image.Image, str, "os.PathLike[str]", "numpy.ndarray[Any, Any]"]
 
@@ -45,15 +45,16 @@ class Shown(NamedTuple):
     """Without a symbol, the refusal of the row that came furthest; none if no row was like a symbol."""
 
 
-def read(picture: Picture, year: int, level: Optional[int] = None) -> Shown:
+def read(picture: Picture, year: int, level: Optional[int] = None, ais: Ais = "all") -> Shown:
     """What a picture shows; the arguments are those of :func:`noriladle.read_picture`."""
     if level is not None and not 1 <= level <= 255:
         raise ValueError("the level is not 1 to 255")
+    terms = _terms(year, ais)
     grey = numpy.ascontiguousarray(grey_of(picture))
     height, width = grey.shape
     words = numpy.empty(_library.gs1_c_picture_room(min(width, _MOST + 1), min(height, _MOST + 1)), numpy.uint32)
     widths = numpy.empty(width + 2, numpy.uint16)
-    told = _ask(_library.gs1_c_picture, grey.ctypes.data, grey.size, min(width, _MOST + 1), min(height, _MOST + 1), width, level or 0, _u16(year),
+    told = _ask(_library.gs1_c_picture, grey.ctypes.data, grey.size, min(width, _MOST + 1), min(height, _MOST + 1), width, level or 0, terms,
                 words.ctypes.data, words.size, widths.ctypes.data, widths.size, room=_ROOM).decode("ascii")
     if not told.endswith("\n"):
         reason = _refusal(told)
@@ -64,17 +65,17 @@ def read(picture: Picture, year: int, level: Optional[int] = None) -> Shown:
     word, _, dropped = last.partition(" ")
     if word != "dropped":
         lines, dropped = [*lines, last], "0"
-    return Shown([_symbol(line, year, width, height) for line in lines], int(dropped), None)
+    return Shown([_symbol(line, terms, width, height) for line in lines], int(dropped), None)
 
 
-def _symbol(line: str, year: int, width: int, height: int) -> Symbol:
+def _symbol(line: str, terms: int, width: int, height: int) -> Symbol:
     """The symbol of a line, with its box in a picture of this size."""
     *numbers, said = line.split(" ", 9)
     places = [int(number) / _UNIT for number in numbers[:8]]
     xs, ys = places[0::2], places[1::2]
     corners: Tuple[Tuple[float, float], ...] = tuple(zip(xs, ys))
     box = Box(math.floor(min(xs)), math.floor(min(ys)), min(width, math.ceil(max(xs))), min(height, math.ceil(max(ys))))
-    return Symbol(_answer_of(said, year), box, corners, int(numbers[8]))
+    return Symbol(_answer_of(said, terms), box, corners, int(numbers[8]))
 
 
 def grey_of(picture: Picture) -> "numpy.ndarray[Any, Any]":

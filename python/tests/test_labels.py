@@ -8,11 +8,10 @@ pytest.importorskip("reportlab")
 
 import noriladle
 from noriladle import Kind, Refusal, draw_label, labels
-from noriladle._texts import read_text
 from noriladle.labels import Faults, Look, make, read_list, stock_of
 from noriladle.labels._dots import _zpl_row
 from noriladle.labels._drawing import Box, Text
-from noriladle.labels._symbols import bars_of, upce_of
+from noriladle.labels._symbols import bars_of
 from PIL import Image
 
 LIST = "ean;name;price;copies\n9501101530003;Müsli;1,95 €;\n96385074;Kaugummi;0,90 €;3\n012345000065;Cola;1,10 €;0\n".encode()
@@ -180,18 +179,19 @@ def test_copies_and_the_first_cell():
     (Kind.GS1128, "10A\x1d17261231", "(10)A(17)261231"),
 ])
 def test_digits(kind, text, digits):
-    assert bars_of(kind, text, read_text(text, YEAR), YEAR).digits == digits
+    assert bars_of(kind, text, YEAR).digits == digits
 
 
 def test_no_upce():
-    with pytest.raises(ValueError):
-        upce_of("123456789012")
+    with pytest.raises(Refusal) as info:
+        bars_of(Kind.UPCE, "9501101530003", YEAR)
+    assert info.value.name == "LabelKind"
 
 
 def test_quiet_zones_are_as_the_library_has_them():
     for kind, text in ((Kind.EAN13, "9501101530003"), (Kind.UPCA, "012345000065"), (Kind.EAN8, "96385074"), (Kind.UPCE, "012345000065"),
                        (Kind.ITF14, "9501101530003"), (Kind.GS1128, "^10A")):
-        wide = bars_of(kind, text.strip("^"), read_text(text, YEAR), YEAR).modules
+        wide = bars_of(kind, text.strip("^"), YEAR).modules
         draw_label(kind, text.strip("^"), YEAR, module=1, width=wide, height=3)
         with pytest.raises(Refusal):
             draw_label(kind, text.strip("^"), YEAR, module=1, width=wide - 1, height=3)
@@ -199,7 +199,7 @@ def test_quiet_zones_are_as_the_library_has_them():
 
 def test_the_longest_symbol_has_room():
     text = "91" + "a" * 46
-    assert bars_of(Kind.GS1128, text, read_text(f"^{text}", YEAR), YEAR).modules < 640
+    assert bars_of(Kind.GS1128, text, YEAR).modules < 640
 
 
 def planted(monkeypatch, edit):
@@ -245,7 +245,7 @@ def test_a_wrong_drawing_is_refused(monkeypatch, edit):
 
 
 def test_another_symbol_is_refused(monkeypatch):
-    monkeypatch.setattr(labels, "bars_of", lambda kind, text, answer, year: bars_of(kind, "4012345010008", answer, year))
+    monkeypatch.setattr(labels, "bars_of", lambda kind, text, year: bars_of(kind, "4012345010008", year))
     (_, told), = faults("gtin\n9501101530003\n")
     assert "does not say what the list says" in told
 

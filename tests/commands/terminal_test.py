@@ -55,6 +55,8 @@ WORDS = [
     ("check --year 2026 --year 2027", ["error: ", "'--year <YEAR>'", "multiple times"]),
     ("check --year", ["error: ", "'--year <YEAR>'"]),
     ("check --year 2026 more", ["error: ", "'more'"]),
+    ("check --year 2026 --ais every", ["error: ", "'every'", "'--ais <AIS>'", "profile, all"]),
+    ("check --year 2026 --ais all --ais all", ["error: ", "'--ais <AIS>'", "multiple times"]),
     ("lanes --lanes 17 --workers 1 --year 2026", ["error: ", "'17'", "'--lanes <COUNT>'", "1..=16"]),
     ("print --text=yes --year 2026", ["error: ", "'yes'", "'--text'"]),
 ]

@@ -10,6 +10,7 @@ with open(os.path.join(os.path.dirname(__file__), "..", "..", "VERSION"), encodi
     VERSION = f"gs1_hub {it.read().strip()} (rattle logic dac8208d650f15bf)\n"
 
 YEAR = "--year <YEAR> Year that 1951 to 2149"
+AIS = "--ais <AIS> AIs profile all GS1 General Specifications [default: profile] [possible values: profile, all]"
 WORKERS = "--workers <COUNT> threads 1 to 16"
 GRID = [
     "--module <DOTS> module 1 to 8 dots",
@@ -170,11 +171,11 @@ class WordsTest(CommandTest):
 
     def test_units_and_ranges(self):
         for command, options in [
-            ("check", [YEAR]),
-            ("lanes", ["--lanes <COUNT> lanes 1 to 16", WORKERS, YEAR]),
-            ("live", ["--lanes <COUNT> lanes 1 to 16", WORKERS, YEAR, "--elements element AI value"]),
-            ("print", [*GRID, YEAR, "--text line label"]),
-            ("scan", [*GRID, WORKERS, YEAR]),
+            ("check", [YEAR, AIS]),
+            ("lanes", ["--lanes <COUNT> lanes 1 to 16", WORKERS, YEAR, AIS]),
+            ("live", ["--lanes <COUNT> lanes 1 to 16", WORKERS, YEAR, AIS, "--elements element AI value"]),
+            ("print", [*GRID, YEAR, AIS, "--text line label"]),
+            ("scan", [*GRID, WORKERS, YEAR, AIS]),
         ]:
             lines = self.help_of(f"{command} --help").split("\n")
             for option in options:

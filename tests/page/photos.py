@@ -1,7 +1,7 @@
 """The page, zbarimg and ZXingReader on the same pictures: prints how many of each group they read, and asserts the limits.
 
 Usage: photos.py WORK [GROUP...]. WORK is a folder for the pictures; with groups, these alone are read and no limit is asserted.
-Its last lines are the limits, each with what was seen.
+Its last lines are the limits, each with what was seen, and their counts.
 """
 import concurrent.futures
 import json
@@ -126,10 +126,11 @@ def main():
         none = without(page, symbols, work)
     finally:
         page.browser.close()
-    missed = 0
+    asked_for = missed = 0
     for asked, seen, holds in limits(*counts, none):
-        missed += not holds
+        asked_for, missed = asked_for + 1, missed + (not holds)
         print(f"{'holds' if holds else 'MISSED'}: {asked}: {seen}")
+    print(f"{counts[0]} and {none[0]} pictures, {asked_for} limits, {missed} missed")
     return 1 if missed else 0
 
 

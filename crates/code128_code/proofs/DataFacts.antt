@@ -5,7 +5,7 @@ use Rattle.std.specs.List.{list_all}
 use Rattle.std.proofs.lemmas.Bool.{cases_Bool, and_parts, or_cases, eqb-true, leb-true, le-leb, both_ways}
 use Rattle.std.proofs.lemmas.List.{length-drop, take_all}
 use Rattle.std.proofs.Math.Bool.{or-true}
-use Rattle.element_core.specs.Elements.{begins_with_digits, is_character, is_digit, is_printable, is_text_byte}
+use Rattle.element_core.specs.Elements.{begins_with_digits, is_character, is_digit, is_printable, is_text_byte, is_value_byte}
 use Rattle.code128_code.specs.Characters.{fnc1}
 use Rattle.code128_code.specs.Coding.{data_values, digits_ahead, is_coded_byte, pair}
 use Rattle.code128_code.specs.inner.Steps.{coded_on, has_even_run}
@@ -101,11 +101,18 @@ character_coded b h =
       | inr x ↦ between_coded 97 122 b (omega arith) (omega arith) x
     ]
 
+value_byte_coded : (b : ℕ) → is_value_byte b ≡ true → (leb 32 b && leb b 127) ≡ true
+value_byte_coded b h =
+    elim (or_cases (is_character b) (eqb b 35) h) [
+      | inl x ↦ character_coded b x
+      | inr x ↦ let e = eqb-true b 35 x in rw e refl
+    ]
+
 byte_coded : (b : ℕ) → is_text_byte b ≡ true → is_coded_byte b ≡ true
 byte_coded b h =
-    elim (or_cases (eqb b 29) (is_character b) h) [
+    elim (or_cases (eqb b 29) (is_value_byte b) h) [
       | inl x ↦ rw x refl
-      | inr x ↦ rw (character_coded b x) (or-true (eqb b 29))
+      | inr x ↦ rw (value_byte_coded b x) (or-true (eqb b 29))
     ]
 
 bytes_coded : (text : List ℕ) → list_all is_text_byte text ≡ true → list_all is_coded_byte text ≡ true

@@ -1,4 +1,4 @@
-//! The value of a symbol character by its widths.
+//! The value of a symbol character by its widths. tables/lookups makes the table.
 ghost use Rattle.std.specs.Prelude.{◌≡◌, ◌≢◌, ◌<◌, ℕ, IfNone, IfSome};
 ghost use Rattle.ean_code.specs.Widths.{packed_widths};
 ghost use Rattle.code128_code.specs.Characters.{pattern};

@@ -16,6 +16,7 @@ use Rattle.message_core.proofs.SaidFacts.{one_elements_line}
 use Rattle.message_core.proofs.UpceFacts.{one_upce_line}
 use Rattle.record_core.specs.declared.check.answer.CheckKind.{CheckKind}
 use Rattle.record_core.specs.declared.check.answer.CheckKind.TheVariants as kind
+use Rattle.element_core.specs.Terms.{Terms}
 use Rattle.command_core.specs.commands.Checks.{OneCheck}
 
 -- the last digit adds itself to the weighted sum
@@ -38,7 +39,7 @@ digit_by text None a b h k =
     h.3 ∙ (ap (λ n. codes "digit " ++ decimal n) (digit_once (digits_of text) h.0 k.0 h.1 k.1 h.2 k.2) ∙ sym k.3)
 digit_by text (Some f) a b h k = h ∙ sym k
 
-module _ (one : OneListOrFault) (year : ℕ) where
+module _ (one : OneListOrFault) (year : Terms) where
   by_kind : (k : CheckKind) (text a b : List ℕ) → IsLineAs year k text a → IsLineAs year k text b → a ≡ b
   by_kind kind.Digit text a b h k = digit_by text (payload_fault text) a b h k
   by_kind kind.Gtin text a b h k = h ∙ sym k

@@ -14,9 +14,10 @@ use Rattle.sheet_core.specs.declared.label.Label.{Label}
 use Rattle.message_core.specs.Spellings.{spelled}
 use Rattle.record_core.specs.print.Labels.{IsElementLabel, IsGtinLabel, IsLabelAs, IsLabelBy, print_meaning}
 use Rattle.command_core.specs.Printed.{SaysElements}
+use Rattle.element_core.specs.Terms.{Terms}
 use Rattle.record_core.specs.input.Records.{AreItems, Fields}
 
-module _ (checked : GtinsAreChecked) (gtin : GtinReads) (canonical : CanonicalReads) (year : ℕ) where
+module _ (checked : GtinsAreChecked) (gtin : GtinReads) (canonical : CanonicalReads) (year : Terms) where
   -- the label of a GTIN, as whichever kind, says its element
   says_gtin : (k : GtinKind) (g : List ℕ) → IsElements year (gtin_text g) (gtin_entry g ∷ []) → SaysElements year (gtin_label k g)
   says_gtin gtin_kind.Ean13 g r = r

@@ -13,6 +13,7 @@ use Rattle.record_core.specs.lanes.Widths.{are_widths, field_fault, widths_in, w
 use Rattle.record_core.specs.declared.input.fault.RecordFault.{RecordFault}
 use Rattle.record_core.specs.declared.input.fault.RecordFault.TheVariants as fault
 use Rattle.command_core.specs.commands.Lanes.{OneLanes}
+use Rattle.element_core.specs.Terms.{Terms}
 use Rattle.record_core.proofs.Beside.{same_beside}
 
 -- where each record means one item at most, bytes mean one list of items
@@ -82,7 +83,7 @@ all_map P f each [] = tt
 all_map P f each (k ∷ ks) = (each k, all_map P f each ks)
 
 -- rows have one list of answers
-reads_once : OneAnswer → (year : ℕ) (rows : List (List ℕ)) (x y : List Answer) → AllByRecursion IsRow rows → Reads rows year x → Reads rows year y → x ≡ y
+reads_once : OneAnswer → (year : Terms) (rows : List (List ℕ)) (x y : List Answer) → AllByRecursion IsRow rows → Reads rows year x → Reads rows year y → x ≡ y
 reads_once one year rows x y are h k = same_where (λ runs answer. IsAnswer runs year answer) IsRow (λ runs a b is p q. one runs year a b is p q) rows x y are h
     k
 

@@ -17,9 +17,10 @@ use Rattle.record_core.specs.print.Labels.{IsElementLabel, IsLabelAs, IsLabelBy,
 use Rattle.command_core.specs.commands.Prints.{IsPrinted, OnePrint}
 use Rattle.words_core.specs.declared.commands.print.options.Output.{Output}
 use Rattle.words_core.specs.declared.commands.print.options.Output.TheVariants as output
+use Rattle.element_core.specs.Terms.{Terms}
 use Rattle.command_core.proofs.OnceFacts.{mean_once}
 
-module _ (one : OneListOrFault) (year : ℕ) where
+module _ (one : OneListOrFault) (year : Terms) where
   same_listing : (x y : Listing) → x.year ≡ y.year → x.list ≡ y.list → x ≡ y
   same_listing x y years lists = λ i. record { year = years i; list = lists i }
 

@@ -21,6 +21,7 @@ use Rattle.sheet_core.specs.pbm.Images.{images_of, pbm_of}
 use Rattle.record_core.specs.print.Labels.{label_list}
 use Rattle.command_core.specs.Columns.{AreColumns, HaveDots, column_cells, column_dots}
 use Rattle.command_core.specs.Printed.{AreScanned, PrintedAnswer, SaysElements, ScannedOnce, WrittenAnswer, cell_answer, column_answers, labels_answers, sheet_answers}
+use Rattle.element_core.specs.Terms.{Terms}
 use Rattle.record_core.proofs.Beside.{apart, below, beside, beside-flat_map, beside-map, map_beside, same_beside}
 
 -- the middle row of a cell goes through its bars
@@ -29,11 +30,11 @@ middle_row g high = and_from (nat_le g.dots (g.height / 2)) (nat_lt (g.height / 
     (lt-ltb (g.height / 2 + g.dots) g.height (omega arith))
 
 -- a row with these dots has this answer
-Answered : ℕ → List Bool → Answer → Type 0
+Answered : Terms → List Bool → Answer → Type 0
 Answered year shown answer = (runs : List ℕ) × (IsRow runs × (dots_of runs ≡ shown)) × IsAnswer runs year answer
 
 -- the rows of a column have these answers
-Column : Cells → List Bitmap → ℕ → ℕ → List Answer → Type 0
+Column : Cells → List Bitmap → Terms → ℕ → List Answer → Type 0
 Column g sheets year column answers = (rows : List (List ℕ)) × HaveDots rows (flat_map (column_dots g column) sheets) × Reads rows year answers
 
 -- the cells of a column are cells of the sheet
@@ -50,7 +51,7 @@ cells_within g column a zero k h = tt
 cells_within g column a (suc n) k h = (in_sheet g.columns g.rows a column (omega arith) k, cells_within g column (a + 1) n k (omega arith))
 
 -- a row with these dots has one answer
-module _ (rows : DotsDetermine) (one : OneAnswer) (year : ℕ) where
+module _ (rows : DotsDetermine) (one : OneAnswer) (year : Terms) where
   answered_once : (shown : List Bool) (x y : Answer) → Answered year shown x → Answered year shown y → x ≡ y
   unfolding Answered
   answered_once shown x y h k =
@@ -78,7 +79,7 @@ module _ (rows : DotsDetermine) (one : OneAnswer) (year : ℕ) where
       k in
       same_beside (Column g sheets year) (column_once g sheets) columns x y (all feeds x shown read) (all others y shown_too read_too)
 
-module _ (bars : BarRowsAnswer) (blank : EmptyCellsAreBlank) (make : DotsMakeRow) (labels : List Label) (g : Cells) (sheets : List Bitmap) (year : ℕ)
+module _ (bars : BarRowsAnswer) (blank : EmptyCellsAreBlank) (make : DotsMakeRow) (labels : List Label) (g : Cells) (sheets : List Bitmap) (year : Terms)
     (printed : ArePrinted labels g sheets)
     (say : AllByRecursion (SaysElements year) labels) where
   -- the middle row of a cell answers for its label

@@ -24,11 +24,12 @@ use Rattle.command_core.specs.commands.Prints.{IsPrinted}
 use Rattle.command_core.specs.commands.Scans.{AreImages, IsScan, OneScan}
 use Rattle.words_core.specs.declared.commands.print.options.Output.TheVariants as output
 use Rattle.words_core.specs.declared.commands.print.options.PrintOptions.{PrintOptions}
+use Rattle.element_core.specs.Terms.{Terms}
 use Rattle.words_core.specs.declared.commands.scan.options.ScanOptions.{ScanOptions}
 
 -- the labels of records say their elements
 abbrev LabelsSay : Type 0
-LabelsSay = (year : ℕ) (rows : List Fields) (labels : List Label) → AreItems (print_meaning year) rows labels → AllByRecursion (SaysElements year) labels
+LabelsSay = (year : Terms) (rows : List Fields) (labels : List Label) → AreItems (print_meaning year) rows labels → AllByRecursion (SaysElements year) labels
 
 -- a printed sheet has the grid's size
 pub sizes : (labels : List Label) (g : Cells) (sheets : List Bitmap) → ArePrinted labels g sheets → have_size g sheets ≡ true

@@ -15,6 +15,7 @@ use Rattle.words_core.specs.declared.commands.print.options.PrintOptions.{PrintO
 use Rattle.words_core.specs.declared.commands.scan.options.ScanOptions.{ScanOptions}
 use Rattle.record_core.specs.input.Records.{AreItems, Fields}
 use Rattle.command_core.specs.Columns.{AreColumns}
+use Rattle.element_core.specs.Terms.{Terms}
 use Rattle.command_core.specs.Printed.{AreScanned, cell_answer, column_answers, labels_answers, labels_report}
 
 -- what `print` writes of the labels of records as at most 4,096 images, for a scan in the same grid and year
@@ -46,7 +47,7 @@ PrintedIsScanned =
 -- the same by place: a column has an answer for each row of cells of each sheet, and that of row r of sheet i answers the label that was printed there
 abbrev pub AnswersByPlace : Type 0
 AnswersByPlace =
-    (g : Cells) (year : ℕ) (labels : List Label) (column : ℕ)
+    (g : Cells) (year : Terms) (labels : List Label) (column : ℕ)
     → (length (column_answers g year labels column) ≡ sheet_count g (length labels) * g.rows)
     × ((sheet row : ℕ) → sheet < sheet_count g (length labels) → row < g.rows
     → slice_get (column_answers g year labels column) (sheet * g.rows + row)

@@ -11,7 +11,7 @@ use Rattle.ean_code.specs.declared.number_sets.NumberSet.{NumberSet}
 use Rattle.ean_code.specs.declared.number_sets.NumberSet.TheVariants.{A, B}
 use Rattle.ean_code.specs.inner.NumberSets.{AreCharacters, character_digits, character_sets}
 use Rattle.ean_code.specs.NumberSets.{set_a, set_b, in_set, characters_in, left_widths, right_widths, left_part, right_part}
-use Rattle.ean_code.specs.Symbols.{normal_guard}
+use Rattle.ean_code.specs.Guards.{normal_guard}
 use Rattle.ean_code.proofs.Cells.{all_below, all_below-at, IsCode, cells, cells-flat_map, drop-cells}
 
 -- widths read as one number

@@ -6,9 +6,10 @@ use Rattle.ean_code.specs.declared.number_sets.Character.{Character}
 use Rattle.ean_code.specs.inner.NumberSets.{AreCharacters, character_digits, is_a}
 use Rattle.ean_code.specs.NumberSets.{left_widths, right_widths, right_part}
 use Rattle.ean_code.specs.inner.Parts.{AreFramed, AreFramedSix, AreHalves, AreSix}
-use Rattle.ean_code.specs.Symbols.{normal_guard, centre_guard, special_guard, two_halves}
+use Rattle.ean_code.specs.Guards.{normal_guard, centre_guard, special_guard}
+use Rattle.ean_code.specs.inner.Parts.{two_halves}
 use Rattle.ean_code.specs.Widths.{AreWidths}
-use Rattle.ean_code.proofs.Cells.{length-cells}
+use Rattle.ean_code.proofs.Cells.{halves_are, length-cells}
 use Rattle.ean_code.proofs.Characters.{left_char, left_code, right_code, right_digit}
 use Rattle.ean_code.proofs.Joined.{AreDigits-characters, rights-of_a, same_characters}
 
@@ -26,7 +27,7 @@ AllByRecursion-parts P (x ∷ xs) ys h = let rest = AllByRecursion-parts P xs ys
 -- either half has widths of a symbol's
 pub framed_valid : (half : ℕ) (ws l r : List ℕ) → AreFramed half ws l r → AreWidths ws → AreWidths l × AreWidths r
 framed_valid half ws l r h v =
-    let all : AreWidths (two_halves l r) = subst AreWidths h.shown v in
+    let all : AreWidths (normal_guard ++ (l ++ (centre_guard ++ (r ++ normal_guard)))) = subst AreWidths (h.shown ∙ halves_are l r) v in
     let one = AllByRecursion-parts _ normal_guard (l ++ (centre_guard ++ (r ++ normal_guard))) all in
     let two = AllByRecursion-parts _ l (centre_guard ++ (r ++ normal_guard)) one.1 in
     let three = AllByRecursion-parts _ centre_guard (r ++ normal_guard) two.1 in (two.0, (AllByRecursion-parts _ r normal_guard three.1).0)
@@ -46,7 +47,7 @@ framed_of n ws ls rs h = record {
 pub same_framed : (half : ℕ) (ws l r m q : List ℕ) → AreFramed half ws l r → AreFramed half ws m q → (l ≡ m) × (r ≡ q)
 same_framed half ws l r m q h k =
     let one = append_parts l (centre_guard ++ (r ++ normal_guard)) m (centre_guard ++ (q ++ normal_guard)) (h.left_count ∙ sym k.left_count)
-    (ap (drop 3) (sym h.shown ∙ k.shown)) in
+    (ap (drop 3) (sym (halves_are l r) ∙ sym h.shown ∙ k.shown ∙ halves_are m q)) in
     let two = append_parts r normal_guard q normal_guard (h.right_count ∙ sym k.right_count) (ap (drop 5) one.1) in (one.0, two.0)
 
 pub found_halves : (n : ℕ) (ws l r : List ℕ) (ls rs : List Character) → AreFramed (4 * n) ws l r → AreCharacters ls → flat_map left_widths ls ≡ l

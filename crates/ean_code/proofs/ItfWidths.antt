@@ -1,14 +1,14 @@
 -- ITF-14 symbols: their digits two by two, and their widths.
-use Rattle.std.proofs.Common.{◌≡◌, ◌⊎◌, inl, inr, ℕ, zero, suc, ◌+◌, ◌*◌, ◌%◌, ◌<◌, ◌≤◌, Bool, true, ◌||◌, ◌==◌, List, [], ◌∷◌, ◌++◌, length, refl, sym, ap, ap₂, subst, ◌∙◌, arith, eqb-true, get_or}
-use Rattle.std.specs.List.{flat_map, AllByRecursion, list_all}
+use Rattle.std.proofs.Common.{◌≡◌, ◌⊎◌, inl, inr, ℕ, zero, suc, ◌+◌, ◌*◌, ◌%◌, ◌<◌, Bool, true, ◌||◌, ◌==◌, List, [], ◌∷◌, ◌++◌, length, refl, sym, ap, ap₂, ◌∙◌, arith, eqb-true, get_or}
 use Rattle.std.proofs.lemmas.Bool.{and_parts, cases_eq, ne_eqb}
-use Rattle.std.proofs.lemmas.List.{length-append}
+use Rattle.std.specs.List.{flat_map, AllByRecursion, list_all}
 use Rattle.digits_core.specs.Digits.{AreDigits}
+use Rattle.ean_code.specs.TwoOfFive.{AreTwoWidths, five_widths, in_pairs, in_turn, itf_start, itf_stop, pair_widths}
+use Rattle.ean_code.specs.inner.TwoOfFive.{itf_widths}
+use Rattle.ean_code.specs.Widths.{AreWidths}
 use Rattle.ean_code.specs.declared.two_of_five.TheConstants.{BY_WIDTHS}
-use Rattle.ean_code.specs.TwoOfFive.{AreTwoWidths, five_widths, in_pairs, in_turn, itf_start, itf_stop, itf_widths, pair_widths}
 use Rattle.ean_code.specs.inner.TwoOfFive.{packed_five}
-use Rattle.ean_code.specs.Widths.{AreModules, AreWidths}
-use Rattle.ean_code.proofs.Cells.{all_below-at, AllByRecursion-append, IsCode, length-cells}
+use Rattle.ean_code.proofs.Cells.{all_below-at, AllByRecursion-append, IsCode}
 use Rattle.ean_code.proofs.PairFacts.{bars, digit_at_widths, length-five, spaces, split_pair}
 
 -- two digits
@@ -114,10 +114,3 @@ two_itf ds v =
 pub two_valid : (ws : List ℕ) → AreTwoWidths ws → AreWidths ws
 two_valid [] h = tt
 two_valid (w ∷ ws) h = (elim h.0 [ inl one ↦ (omega arith, omega arith) | inr three ↦ (omega arith, omega arith) ], two_valid ws h.1)
-
-pub itf_valid : (ds : List ℕ) → length ds ≡ 14 → AreDigits ds → AreModules (itf_widths ds)
-itf_valid ds e v =
-    let pairs = length-pairs ds (ap (λ n. n % 2) e) in
-    let tens = length-cells IsPair 10 pair_widths pair_of_ten pair_code (in_pairs ds) (pairs_valid ds v) in
-    let whole : length (itf_widths ds) ≡ 77 = (let a = length-append (flat_map pair_widths (in_pairs ds)) itf_stop in omega arith) in
-    (subst (λ k. k ≤ 595) (sym whole) (omega arith), ap (λ k. k % 2) whole, two_valid (itf_widths ds) (two_itf ds v))

@@ -3,18 +3,15 @@ use Rattle.std.proofs.Common.{◌≡◌, ℕ, List, refl, sym, ap, subst, ◌∙
 use Rattle.ean_code.specs.declared.reading.Spelled.TheVariants.{NoPattern, BadCheck, Found}
 use Rattle.ean_code.specs.Laws.{OneSpelled}
 use Rattle.ean_code.specs.Spelling.{IsGtinOf}
-use Rattle.ean_code.specs.Symbols.{IsNumberSymbol, Kind}
-use Rattle.ean_code.specs.Symbols.Kind.{Ean13, Ean8, UpcE, Itf14}
-use Rattle.ean_code.proofs.Readings.{shown_is}
+use Rattle.ean_code.specs.Symbols.{IsNumberSymbol}
+use Rattle.ean_code.specs.declared.kind.Kind.{Kind}
+use Rattle.ean_code.proofs.EachKind.{owed}
 
 same_digits : (kind : Kind) (ms ds es : List ℕ) → IsNumberSymbol kind ms ds → IsNumberSymbol kind ms es → ds ≡ es
-same_digits kind ms ds es a b = sym (shown_is kind ms ds a) ∙ shown_is kind ms es b
+same_digits kind ms ds es a b = sym ((owed kind).shown_is ms ds a) ∙ (owed kind).shown_is ms es b
 
 same_gtin : (kind : Kind) (ds gtin other : List ℕ) → IsGtinOf kind ds gtin → IsGtinOf kind ds other → gtin ≡ other
-same_gtin Ean13 ds gtin other a b = a ∙ sym b
-same_gtin Ean8 ds gtin other a b = a ∙ sym b
-same_gtin UpcE ds gtin other a b = a ∙ sym b
-same_gtin Itf14 ds gtin other a b = a ∙ sym b
+same_gtin kind ds gtin other a b = a ∙ sym b
 
 pub one_answer : OneSpelled
 one_answer kind ms NoPattern NoPattern a b = refl

@@ -1,9 +1,10 @@
 -- Digits and their texts, and the GTINs that they are.
-use Rattle.std.proofs.Common.{◌≡◌, ℕ, zero, suc, ◌+◌, ◌-◌, ◌%◌, List, [], ◌∷◌, ◌++◌, length, drop, replicate, refl, sym, ap, ap₂, subst, ◌∙◌, arith}
-use Rattle.std.proofs.lemmas.List.{append_assoc, drop_at, length-replicate, map-append}
+use Rattle.std.proofs.Common.{◌≡◌, ℕ, zero, suc, ◌+◌, ◌-◌, ◌%◌, ◌≤◌, List, [], ◌∷◌, ◌++◌, length, drop, replicate, refl, sym, ap, ap₂, subst, ◌∙◌, arith}
+use Rattle.std.proofs.lemmas.List.{append_assoc, drop_at, length-append, length-replicate, map-append}
 use Rattle.digits_core.specs.Digits.{AreDigits, AreAsciiDigits, IsChecked, ascii_of, digits_of, padded, weighted}
 use Rattle.ean_code.specs.inner.Parts.{IsTextOf}
-use Rattle.ean_code.specs.Symbols.{Kind, IsNumberSymbol}
+use Rattle.ean_code.specs.declared.kind.Kind.{Kind}
+use Rattle.ean_code.specs.Symbols.{IsNumberSymbol}
 
 pub ascii_valid : (ds : List ℕ) → AreDigits ds → AreAsciiDigits (ascii_of ds)
 ascii_valid [] h = tt
@@ -43,3 +44,6 @@ weighted-zeros (suc k) ds = let rest = weighted-zeros k ds in omega arith
 -- a number with zeros before it is checked only if it is
 pub checked_unpadded : (ds : List ℕ) → IsChecked (padded ds) → IsChecked ds
 checked_unpadded ds h = ap (λ n. n % 10) (sym (weighted-zeros (14 - length ds) ds)) ∙ h
+
+pub length-padded : (ds : List ℕ) → length ds ≤ 14 → length (padded ds) ≡ 14
+length-padded ds few = omega (arith, length-append {A = ℕ}, length-replicate {A = ℕ})

@@ -1,18 +1,16 @@
--- No EAN-13 or EAN-8 is one backwards: its first character would be of set B.
-use Rattle.std.proofs.Common.{◌≡◌, ℕ, ◌<◌, List, [], ◌∷◌, ◌++◌, length, take, drop, map, reverse, refl, sym, ap, subst, ◌∙◌, arith, get_or}
+-- EAN and UPC characters read backwards.
+use Rattle.std.proofs.Common.{◌≡◌, ℕ, ◌<◌, List, [], ◌∷◌, ◌++◌, length, map, reverse, refl, ap, subst, ◌∙◌, get_or}
+use Rattle.std.proofs.lemmas.List.{reverse-append, append_assoc, length-map, length-reverse}
 use Rattle.std.specs.List.{flat_map}
-use Rattle.std.proofs.lemmas.List.{length-take, length-drop, reverse-append, append_assoc, length-map, length-reverse}
 use Rattle.digits_core.specs.Digits.{AreDigits}
+use Rattle.ean_code.specs.NumberSets.{in_set, left_widths, right_widths, right_part}
+use Rattle.ean_code.specs.Guards.{normal_guard}
 use Rattle.ean_code.specs.declared.number_sets.Character.{Character}
 use Rattle.ean_code.specs.declared.number_sets.NumberSet.{NumberSet}
-use Rattle.ean_code.specs.declared.number_sets.NumberSet.TheVariants.{A, B}
+use Rattle.ean_code.specs.declared.number_sets.NumberSet.TheVariants.{B}
 use Rattle.ean_code.specs.inner.NumberSets.{AreCharacters, character_sets}
-use Rattle.ean_code.specs.NumberSets.{in_set, left_widths, right_widths, left_part, right_part, ean8_row, ean13_rows, row_of}
-use Rattle.ean_code.specs.Symbols.{normal_guard, centre_guard, IsNumberSymbol}
-use Rattle.ean_code.specs.Symbols.Kind.{Ean13, Ean8}
-use Rattle.ean_code.proofs.Cells.{all_below-at, cells, cells-flat_map, AllByRecursion-take, AllByRecursion-drop, AllByRecursion-reverse, reverse-flat_map, flat_map-along, map-along, same, same-true}
-use Rattle.ean_code.proofs.Characters.{left_char, same_set, same_set-true, left_code, lefts, lefts-drawn, sets-characters}
-use Rattle.ean_code.proofs.ParityRows.{length-row}
+use Rattle.ean_code.proofs.Cells.{all_below-at, cells, cells-flat_map, AllByRecursion-reverse, reverse-flat_map, flat_map-along, map-along, same, same-true}
+use Rattle.ean_code.proofs.Characters.{left_char, left_code, lefts}
 
 pub turned : (g l c r h : List ℕ) → reverse (g ++ (l ++ (c ++ (r ++ h)))) ≡ reverse h ++ (reverse r ++ (reverse c ++ (reverse l ++ reverse g)))
 turned g l c r h = simp (reverse-append, append_assoc)
@@ -45,49 +43,3 @@ first_set n ms = get_or (character_sets (lefts n ms)) 0 B
 pub first-backward : (ds : List ℕ) → get_or (character_sets (map (in_set B) ds)) 0 B ≡ B
 first-backward [] = refl
 first-backward (d ∷ ds) = refl
-
-pub begins_a : (d : ℕ) → d < 10 → get_or (row_of ean13_rows d) 0 B ≡ A
-begins_a d h = same_set-true _ _ (all_below-at (λ d. same_set (get_or (row_of ean13_rows d) 0 B) A) 10 refl d h)
-
-pub forward13 : (ms ds : List ℕ) → IsNumberSymbol Ean13 ms ds → first_set 6 ms ≡ A
-forward13 ms [] e = absurd (let none = e.count in omega arith)
-forward13 ms (d ∷ ds) e =
-    let twelve : length ds ≡ 12 = let all = e.count in omega arith in
-    let row : List NumberSet = row_of ean13_rows d in
-    let ll : length (take 6 ds) ≡ 6 = length-take 6 ds ∙ (omega arith) in
-    let six : length row ≡ 6 = length-row d e.valid.0 in
-    ap (first_set 6) e.widths
-    ∙ ap (λ cs. get_or (character_sets cs) 0 B) (lefts-drawn 6 row (take 6 ds) _ six ll (AllByRecursion-take _ 6 ds e.valid.1))
-    ∙ ap (λ r. get_or r 0 B) (sets-characters row (take 6 ds) (ll ∙ sym six))
-    ∙ begins_a d e.valid.0
-
-pub backward13 : (ms ds : List ℕ) → IsNumberSymbol Ean13 ms ds → first_set 6 (reverse ms) ≡ B
-backward13 ms [] e = absurd (let none = e.count in omega arith)
-backward13 ms (d ∷ ds) e =
-    let twelve : length ds ≡ 12 = let all = e.count in omega arith in
-    ap (λ m. first_set 6 (reverse m)) e.widths
-    ∙ ap (λ cs. get_or (character_sets cs) 0 B) (lefts-backward 6 normal_guard (left_part (row_of ean13_rows d) (take 6 ds)) centre_guard (drop 6 ds)
-    (length-drop 6 ds ∙ (omega arith)) (AllByRecursion-drop _ 6 ds e.valid.1))
-    ∙ first-backward (reverse (drop 6 ds))
-
-pub one_way13 : (ms ds es : List ℕ) → IsNumberSymbol Ean13 ms ds → IsNumberSymbol Ean13 (reverse ms) es → ⊥
-one_way13 ms ds es e f = let a = forward13 (reverse ms) es f in let b = backward13 ms ds e in cc
-
-pub forward8 : (ms ds : List ℕ) → IsNumberSymbol Ean8 ms ds → first_set 4 ms ≡ A
-forward8 ms ds e =
-    let all = e.count in
-    let ll : length (take 4 ds) ≡ 4 = length-take 4 ds ∙ (omega arith) in
-    ap (first_set 4) e.widths
-    ∙ ap (λ cs. get_or (character_sets cs) 0 B) (lefts-drawn 4 ean8_row (take 4 ds) _ refl ll (AllByRecursion-take _ 4 ds e.valid))
-    ∙ ap (λ r. get_or r 0 B) (sets-characters ean8_row (take 4 ds) ll)
-
-pub backward8 : (ms ds : List ℕ) → IsNumberSymbol Ean8 ms ds → first_set 4 (reverse ms) ≡ B
-backward8 ms ds e =
-    let all = e.count in
-    ap (λ m. first_set 4 (reverse m)) e.widths
-    ∙ ap (λ cs. get_or (character_sets cs) 0 B) (lefts-backward 4 normal_guard (left_part ean8_row (take 4 ds)) centre_guard (drop 4 ds)
-    (length-drop 4 ds ∙ (omega arith)) (AllByRecursion-drop _ 4 ds e.valid))
-    ∙ first-backward (reverse (drop 4 ds))
-
-pub one_way8 : (ms ds es : List ℕ) → IsNumberSymbol Ean8 ms ds → IsNumberSymbol Ean8 (reverse ms) es → ⊥
-one_way8 ms ds es e f = let a = forward8 (reverse ms) es f in let b = backward8 ms ds e in cc

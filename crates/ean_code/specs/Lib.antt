@@ -1,9 +1,12 @@
 pub use Rattle.digits_core.specs.Digits
 pub use Rattle.digits_core.specs.Upce
+pub mod Guards
 pub mod Laws
 pub mod NumberSets
 pub mod Spelling
+pub mod Structure
 pub mod Symbols
 pub mod TwoOfFive
 pub mod Widths
 pub mod inner
+pub mod symbologies

@@ -1,16 +1,16 @@
 -- The GTIN of a symbol, and what a reader answers.
-use Rattle.std.specs.Prelude.{◌≡◌, ℕ, List, [], ◌∷◌, ◌++◌, slice_index, take}
-use Rattle.digits_core.specs.Digits.{IsChecked, padded}
-use Rattle.digits_core.specs.Upce.{IsFirstUpceOf, upce_expanded}
-use Rattle.ean_code.specs.Symbols.{Kind, IsNumberSymbol}
-use Rattle.ean_code.specs.Symbols.Kind.{UpcE}
+use Rattle.std.specs.Prelude.{◌≡◌, ℕ, List, [], ◌∷◌, ◌++◌}
+use Rattle.digits_core.specs.Digits.{IsChecked}
+use Rattle.digits_core.specs.Upce.{IsFirstUpceOf}
+use Rattle.ean_code.specs.declared.kind.Kind.{Kind}
+use Rattle.ean_code.specs.Symbols.{IsNumberSymbol, structure_of}
+use Rattle.ean_code.specs.declared.kind.Kind.TheVariants.{UpcE}
 use Rattle.ean_code.specs.declared.reading.Spelled.{Spelled}
 use Rattle.ean_code.specs.declared.reading.Spelled.TheVariants.{NoPattern, BadCheck, Found}
 
 -- what the digits of a symbol of this kind stand for, a GTIN if it is checked; those of a UPC-E for the GTIN-12 that they are expanded to
 abbrev pub gtin_of : Kind → List ℕ → List ℕ
-gtin_of UpcE digits = padded (upce_expanded (take 6 digits) (slice_index digits 6))
-gtin_of _ digits = padded digits
+gtin_of kind digits = (structure_of kind).gtin digits
 
 -- the digits of a symbol of this kind stand for this GTIN, if it is checked
 abbrev pub IsGtinOf : Kind → List ℕ → List ℕ → Type 0

@@ -1,58 +1,50 @@
 -- The symbols of EAN, UPC and ITF-14 as lists of widths in modules, from a bar to a bar (ISO/IEC 15420 and 16390, symbol structure).
-use Rattle.std.specs.Prelude.{◌≡◌, ℕ, ◌<◌, ◌≤◌, List, [], ◌∷◌, ◌++◌, length, take, drop, slice_index}
+use Rattle.std.specs.Prelude.{◌≡◌, ℕ, ◌<◌, ◌≤◌, List, ◌++◌, codes, length}
 use Rattle.digits_core.specs.Digits.{AreDigits}
-use Rattle.ean_code.specs.NumberSets.{ean13_rows, ean8_row, upce_rows, row_of, left_part, right_part}
-use Rattle.ean_code.specs.TwoOfFive.{itf_widths}
+use Rattle.ean_code.specs.declared.kind.Kind.{Kind}
+use Rattle.ean_code.specs.declared.kind.Kind.TheVariants.{Ean13, Ean8, UpcE, Itf14}
+use Rattle.ean_code.specs.Structure.{Sample, Structure}
+use Rattle.ean_code.specs.symbologies.Ean13.{ean13, ean13_sample}
+use Rattle.ean_code.specs.symbologies.Ean8.{ean8, ean8_sample}
+use Rattle.ean_code.specs.symbologies.Itf14.{itf14, itf14_sample}
+use Rattle.ean_code.specs.symbologies.UpcE.{upce, upce_sample}
 
--- the guard patterns: the normal one, that of the centre, and the special one at the right of a UPC-E
-abbrev pub normal_guard : List ℕ
-normal_guard = 1 ∷ 1 ∷ 1 ∷ []
+-- the structure of a kind's symbols
+abbrev pub structure_of : Kind → Structure
+structure_of Ean13 = ean13
+structure_of Ean8 = ean8
+structure_of UpcE = upce
+structure_of Itf14 = itf14
 
-abbrev pub centre_guard : List ℕ
-centre_guard = 1 ∷ 1 ∷ 1 ∷ 1 ∷ 1 ∷ []
+-- what a reader sends before the text of a symbol (GS1 General Specifications, section 5.1.3)
+abbrev pub kind_identifier : Kind → List ℕ
+kind_identifier Ean13 = codes "]E0"
+kind_identifier Ean8 = codes "]E4"
+kind_identifier UpcE = codes "]E0"
+kind_identifier Itf14 = codes "]I1"
 
-abbrev pub special_guard : List ℕ
-special_guard = 1 ∷ 1 ∷ 1 ∷ 1 ∷ 1 ∷ 1 ∷ []
+-- a printed symbol of each kind
+abbrev pub sample_of : Kind → Sample
+sample_of Ean13 = ean13_sample
+sample_of Ean8 = ean8_sample
+sample_of UpcE = upce_sample
+sample_of Itf14 = itf14_sample
 
--- the kinds of symbol
-pub data Kind : Type 0 where
-  Ean13 : Kind
-  Ean8 : Kind
-  UpcE : Kind
-  Itf14 : Kind
-
--- how many digits a symbol shows: of a UPC-E the six and the check digit
+-- how many digits a symbol shows
 abbrev pub digit_count : Kind → ℕ
-digit_count Ean13 = 13
-digit_count Ean8 = 8
-digit_count UpcE = 7
-digit_count Itf14 = 14
+digit_count kind = (structure_of kind).digits
 
 -- how many widths a symbol has, of its bars and spaces
 abbrev pub width_count : Kind → ℕ
-width_count Ean13 = 59
-width_count Ean8 = 43
-width_count UpcE = 33
-width_count Itf14 = 77
+width_count kind = (structure_of kind).widths
 
--- how many modules wide a symbol is, of an ITF-14 with wide elements of three modules
+-- how many modules wide a symbol is
 abbrev pub module_count : Kind → ℕ
-module_count Ean13 = 95
-module_count Ean8 = 67
-module_count UpcE = 51
-module_count Itf14 = 135
+module_count kind = (structure_of kind).modules
 
--- the widths of a symbol that has these left and right of its centre guard pattern
-abbrev pub two_halves : List ℕ → List ℕ → List ℕ
-two_halves left right = normal_guard ++ (left ++ (centre_guard ++ (right ++ normal_guard)))
-
--- the widths of the symbol that shows these digits: guard patterns and characters in their order, or start, pairs and stop
+-- the widths of the symbol that shows these digits
 abbrev pub widths_of : Kind → List ℕ → List ℕ
-widths_of Ean13 ds = two_halves (left_part (row_of ean13_rows (slice_index ds 0)) (take 6 (drop 1 ds))) (right_part (drop 7 ds))
-widths_of Ean8 ds = two_halves (left_part ean8_row (take 4 ds)) (right_part (drop 4 ds))
-widths_of UpcE ds =
-    normal_guard ++ (left_part (row_of upce_rows (slice_index ds 6)) (take 6 ds) ++ special_guard)
-widths_of Itf14 ds = itf_widths ds
+widths_of kind ds = (structure_of kind).start ++ ((structure_of kind).inside ds ++ (structure_of kind).stop)
 
 -- the modules are the symbol of this kind that shows these digits
 pub record IsNumberSymbol (kind : Kind) (modules digits : List ℕ) : Type 0 where
@@ -60,10 +52,6 @@ pub record IsNumberSymbol (kind : Kind) (modules digits : List ℕ) : Type 0 whe
   pub valid : AreDigits digits
   pub widths : modules ≡ widths_of kind digits
 
--- the places, from 0, whose digits are characters under the check digit: not the first of an EAN-13 and the check digit of a UPC-E, which the
--- number sets alone show, nor the sixth of a UPC-E, which picks the line of its table
+-- the places, from 0, whose digits are characters under the check digit
 abbrev pub IsCheckedPlace : Kind → ℕ → Type 0
-IsCheckedPlace Ean13 k = (1 ≤ k) × (k < 13)
-IsCheckedPlace Ean8 k = k < 8
-IsCheckedPlace UpcE k = k < 5
-IsCheckedPlace Itf14 k = k < 14
+IsCheckedPlace kind k = ((structure_of kind).checked ≤ k) × (k < (structure_of kind).unchecked)

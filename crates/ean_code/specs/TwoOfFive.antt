@@ -1,6 +1,6 @@
 -- Interleaved 2 of 5, in which ITF-14 is drawn (ISO/IEC 16390, symbol character encodation; GS1 General Specifications, section 5.3). A narrow
 -- element is one module here and a wide one three; of five elements of a digit two are wide.
-use Rattle.std.specs.Prelude.{◌≡◌, ℕ, ◌⊎◌, List, [], ◌∷◌, ◌++◌, map, slice_index_or, codes}
+use Rattle.std.specs.Prelude.{◌≡◌, ℕ, ◌⊎◌, List, [], ◌∷◌, map, slice_index_or, codes}
 use Rattle.std.specs.List.{flat_map, zip, AllByRecursion}
 use Rattle.digits_core.specs.Digits.{digits_of}
 
@@ -35,10 +35,6 @@ itf_start = 1 ∷ 1 ∷ 1 ∷ 1 ∷ []
 -- the stop pattern
 abbrev pub itf_stop : List ℕ
 itf_stop = 3 ∷ 1 ∷ 1 ∷ []
-
--- the digits, an even number of them, between start and stop
-abbrev pub itf_widths : List ℕ → List ℕ
-itf_widths ds = itf_start ++ (flat_map pair_widths (in_pairs ds) ++ itf_stop)
 
 -- each is narrow or wide
 abbrev pub AreTwoWidths : List ℕ → Type 0

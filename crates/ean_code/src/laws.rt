@@ -1,6 +1,5 @@
 //! Laws of the symbols, each the contract of a function.
-ghost use Rattle.ean_code.specs.Laws.{KindIsOneWay, MeasuresOfKind, OneListOfDigits, OneSpelled, PrintedEan13, PrintedEan8, PrintedItf14, PrintedUpcE, ReplacedDigitIsUnchecked, TwoWidths};
-ghost use Rattle.ean_code.specs.Symbols.Kind.{Ean13, Ean8, Itf14, UpcE};
+ghost use Rattle.ean_code.specs.Laws.{EachGtinHasFourteen, EachKindIsOneWay, EachPrinted, EachReplacedDigitIsUnchecked, MeasuresOfKind, OneListOfDigits, OneSpelled, TwoWidths};
 
 /// A symbol shows one list of digits.
 pub fn one_list_of_digits()
@@ -18,29 +17,25 @@ pub fn measures_of_kind()
     ensures { MeasuresOfKind }
 {}
 
+/// The digits of a symbol stand for fourteen.
+pub fn gtins_have_fourteen()
+    ensures { EachGtinHasFourteen }
+{}
+
 /// No symbol is one of its kind when it is read backwards.
 pub fn kind_is_one_way()
-    ensures ean13 { KindIsOneWay Ean13 }
-    ensures ean8 { KindIsOneWay Ean8 }
-    ensures upce { KindIsOneWay UpcE }
-    ensures itf14 { KindIsOneWay Itf14 }
+    ensures { EachKindIsOneWay }
 {}
 
 /// The check digit shows that one character was replaced by another of its number set: any of an
 /// EAN-13 or EAN-8, and one of the first five of a UPC-E; and that one digit of an ITF-14 was.
 pub fn replaced_digit_is_unchecked()
-    ensures ean13 { ReplacedDigitIsUnchecked Ean13 }
-    ensures ean8 { ReplacedDigitIsUnchecked Ean8 }
-    ensures upce { ReplacedDigitIsUnchecked UpcE }
-    ensures itf14 { ReplacedDigitIsUnchecked Itf14 }
+    ensures { EachReplacedDigitIsUnchecked }
 {}
 
 /// The definitions draw symbols as they are printed.
 pub fn printed_symbols()
-    ensures ean13 { PrintedEan13 }
-    ensures ean8 { PrintedEan8 }
-    ensures upce { PrintedUpcE }
-    ensures itf14 { PrintedItf14 }
+    ensures { EachPrinted }
 {}
 
 /// Each element of an ITF-14 is one module or three.

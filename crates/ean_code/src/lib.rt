@@ -3,7 +3,7 @@
 #![tactic(auto)]
 
 mod drawing;
-mod itf;
+mod kind;
 mod laws;
 mod lookup;
 mod modules;
@@ -11,14 +11,18 @@ mod number_sets;
 mod parts;
 mod reading;
 mod rows;
+mod symbologies;
 mod two_of_five;
 
-pub use drawing::{ean8, ean13, upce};
-pub use itf::{itf14, read_itf14};
+pub use kind::Kind;
 pub use laws::{
-    kind_is_one_way, measures_of_kind, one_list_of_digits, one_spelled, printed_symbols,
-    replaced_digit_is_unchecked, two_widths,
+    gtins_have_fourteen, kind_is_one_way, measures_of_kind, one_list_of_digits, one_spelled,
+    printed_symbols, replaced_digit_is_unchecked, two_widths,
 };
 pub use lookup::character;
 pub use modules::Modules;
-pub use reading::{Spelled, read_ean8, read_ean13, read_upce};
+pub use reading::Spelled;
+pub use symbologies::ean8::{ean8, read_ean8};
+pub use symbologies::ean13::{ean13, read_ean13};
+pub use symbologies::itf14::{itf14, read_itf14};
+pub use symbologies::upce::{read_upce, upce};

@@ -1,4 +1,4 @@
-//! The character of a number set by its widths.
+//! The character of a number set by its widths. tables/lookups makes the table.
 ghost use Rattle.std.specs.Prelude.{◌≡◌, ◌≢◌, ◌<◌, ℕ, Bool, IfNone, IfSome};
 ghost use Rattle.ean_code.specs.NumberSets.{character_of, left_widths};
 ghost use Rattle.ean_code.specs.Widths.{packed_widths};

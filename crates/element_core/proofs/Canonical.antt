@@ -3,13 +3,14 @@ use Rattle.std.proofs.Common.{◌≡◌, ℕ, zero, suc, ◌+◌, ◌<◌, ◌�
 use Rattle.std.specs.Prelude.{is_some}
 use Rattle.std.proofs.lemmas.Bool.{cases_Bool, and_parts, not-true, ne_eqb, leb-true}
 use Rattle.std.proofs.lemmas.List.{append-nil, nil_from_length}
-use Rattle.element_core.specs.Table.{Row, ai_rows, first_digits_decide, predefined_length}
+use Rattle.element_core.specs.Terms.{Terms, rows_by}
+use Rattle.element_core.specs.Table.{Row, every_row, first_digits_decide, predefined_length}
 use Rattle.element_core.specs.inner.Table.{begins_with_digit}
 use Rattle.element_core.specs.Elements.{Entry, IsElement, separator_for, canonical, CanonicalReads}
 use Rattle.element_core.specs.inner.Elements.{AreElements}
 use Rattle.element_core.specs.Fronts.{Begins, ends_element, after_separator, ReadsFromLeft}
 use Rattle.element_core.proofs.TableLaws.{each_begins_with_digit, first_digits_decide as digits_decide}
-use Rattle.element_core.proofs.Look.{all_at}
+use Rattle.element_core.proofs.Look.{all_at, in_table}
 use Rattle.element_core.proofs.PieceLemmas.{from_left, to_pieces}
 use Rattle.element_core.proofs.Unique.{not_stuck, stuck_at_end, IsStuck}
 
@@ -22,11 +23,11 @@ kept (a ∷ ai) rest h =
     rw (ne_eqb a 29 ne) refl
 
 -- an element stands first in a canonical text, and so no separator does
-canonical_kept : (year : ℕ) (e : Entry) (es : List Entry) → AreElements year (e ∷ es) → after_separator (canonical (e ∷ es)) ≡ canonical (e ∷ es)
+canonical_kept : (year : Terms) (e : Entry) (es : List Entry) → AreElements year (e ∷ es) → after_separator (canonical (e ∷ es)) ≡ canonical (e ∷ es)
 canonical_kept year e [] are =
-    kept e.ai e.value (ap begins_with_digit are.0.1.ai ∙ all_at (λ row. begins_with_digit row.ai) ai_rows are.0.0 are.0.1.listed each_begins_with_digit)
+    kept e.ai e.value (ap begins_with_digit are.0.1.ai ∙ all_at (λ row. begins_with_digit row.ai) every_row are.0.0 (in_table year are.0.0 are.0.1.listed) each_begins_with_digit)
 canonical_kept year e (f ∷ es) are =
-    let digit = ap begins_with_digit are.0.1.ai ∙ all_at (λ row. begins_with_digit row.ai) ai_rows are.0.0 are.0.1.listed each_begins_with_digit in
+    let digit = ap begins_with_digit are.0.1.ai ∙ all_at (λ row. begins_with_digit row.ai) every_row are.0.0 (in_table year are.0.0 are.0.1.listed) each_begins_with_digit in
     let c = canonical (f ∷ es) in
     let parts : canonical (e ∷ f ∷ es) ≡ e.ai ++ (e.value ++ (separator_for e ++ c)) =
     append_assoc (e.ai ++ e.value) (separator_for e) c ∙ append_assoc e.ai e.value (separator_for e ++ c) in
@@ -37,15 +38,15 @@ decided r None h = sym (not-true r.predefined h)
 decided r (Some all) h = sym (and_parts _ _ (and_parts _ _ h).0).0
 
 -- the first two digits say whether an element is predefined
-pub is_some-predefined_length : (year : ℕ) (row : Row) (e : Entry) → IsElement ai_rows year row e → is_some (predefined_length e.ai) ≡ row.predefined
+pub is_some-predefined_length : (year : Terms) (row : Row) (e : Entry) → IsElement (rows_by year) year.year row e → is_some (predefined_length e.ai) ≡ row.predefined
 is_some-predefined_length year row e is = ap (λ (a : List ℕ). is_some (predefined_length a)) is.ai
-    ∙ decided row (predefined_length row.ai) (all_at (λ r. first_digits_decide r (predefined_length r.ai)) ai_rows row is.listed digits_decide)
+    ∙ decided row (predefined_length row.ai) (all_at (λ r. first_digits_decide r (predefined_length r.ai)) every_row row (in_table year row is.listed) digits_decide)
 
 pub or_true : (b : Bool) → (b || true) ≡ true
 or_true true = refl
 or_true false = refl
 
-pub canonical_reads : (year : ℕ) (es : List Entry) → AreElements year es → ReadsFromLeft year (canonical es) es []
+pub canonical_reads : (year : Terms) (es : List Entry) → AreElements year es → ReadsFromLeft year (canonical es) es []
 canonical_reads year [] are = refl
 canonical_reads year (e ∷ []) are = (
   [],
@@ -86,7 +87,7 @@ canonical_reads year (e ∷ f ∷ es) are =
       more,
     )
 
-pub elements_are : (year : ℕ) (text : List ℕ) (es : List Entry) (rest : List ℕ) → ReadsFromLeft year text es rest → AreElements year es
+pub elements_are : (year : Terms) (text : List ℕ) (es : List Entry) (rest : List ℕ) → ReadsFromLeft year text es rest → AreElements year es
 elements_are year text [] rest r = tt
 elements_are year text (e ∷ es) rest r = ((r.1.row, r.1.element), elements_are year r.0 es rest r.2)
 
@@ -109,7 +110,7 @@ cases_zero : (n : ℕ) → (n ≡ 0) ⊎ (0 < n)
 cases_zero zero = inl refl
 cases_zero (suc n) = inr (omega arith)
 
-nothing : (year : ℕ) (text : List ℕ) (e : Entry) (es : List Entry) (rest : List ℕ) → length text ≡ 0 → ReadsFromLeft year text (e ∷ es) rest → ⊥
+nothing : (year : Terms) (text : List ℕ) (e : Entry) (es : List Entry) (rest : List ℕ) → length text ≡ 0 → ReadsFromLeft year text (e ∷ es) rest → ⊥
 nothing year text e es rest z r = not_stuck year e text r.0 r.1 (subst (IsStuck year) (sym (nil_from_length text z)) (stuck_at_end year))
 
 pub rest_shorter : (after rest : List ℕ) → rest ≡ after_separator after → length rest ≤ length after
@@ -125,18 +126,18 @@ some_digit [] h = absurd cc
 some_digit (a ∷ ai) h = omega arith
 
 -- an element takes some of the text
-pub begins_shorter : (year : ℕ) (e : Entry) (text rest : List ℕ) → Begins year e text rest → length e.ai + length e.value + length rest ≤ length text
+pub begins_shorter : (year : Terms) (e : Entry) (text rest : List ℕ) → Begins year e text rest → length e.ai + length e.value + length rest ≤ length text
     × (0 < length e.ai)
 begins_shorter year e text rest b =
     let some = some_digit e.ai (ap begins_with_digit b.element.ai
-    ∙ all_at (λ row. begins_with_digit row.ai) ai_rows b.row b.element.listed each_begins_with_digit) in
+    ∙ all_at (λ row. begins_with_digit row.ai) every_row b.row (in_table year b.row b.element.listed) each_begins_with_digit) in
     (omega (arith, ap length b.text_is, length-append (e.ai ++ e.value) b.after, length-append e.ai e.value, rest_shorter b.after rest b.rest_is), some)
 
 -- a text that is read on is not empty
-some_left : (year : ℕ) (text : List ℕ) (e : Entry) (es : List Entry) (rest : List ℕ) → ReadsFromLeft year text (e ∷ es) rest → 0 < length text
+some_left : (year : Terms) (text : List ℕ) (e : Entry) (es : List Entry) (rest : List ℕ) → ReadsFromLeft year text (e ∷ es) rest → 0 < length text
 some_left year text e es rest r = let s = begins_shorter year e text r.0 r.1 in let t = s.0 in let u = s.1 in omega arith
 
-pub canonical_shorter : (year : ℕ) (text : List ℕ) (es : List Entry) (rest : List ℕ) → ReadsFromLeft year text es rest
+pub canonical_shorter : (year : Terms) (text : List ℕ) (es : List Entry) (rest : List ℕ) → ReadsFromLeft year text es rest
     → length (canonical es) + length rest ≤ length text
 canonical_shorter year text [] rest r = omega (arith, ap length r)
 canonical_shorter year text (e ∷ []) rest r =
@@ -160,7 +161,7 @@ canonical_shorter year text (e ∷ f ∷ es) rest r =
     )
 
 -- the canonical text of a list of elements is not empty
-canonical_some : (year : ℕ) (text : List ℕ) (es : List Entry) → 0 < length text → ReadsFromLeft year text es [] → 0 < length (canonical es)
+canonical_some : (year : Terms) (text : List ℕ) (es : List Entry) → 0 < length text → ReadsFromLeft year text es [] → 0 < length (canonical es)
 canonical_some year text es some r =
     elim (cases_zero (length (canonical es))) [
       | inl z ↦ absurd (no_elements es z some r)

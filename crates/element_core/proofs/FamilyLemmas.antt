@@ -6,7 +6,7 @@ use Rattle.std.proofs.lemmas.Bool.{cases_Bool, eqb-true, cases_lt, le-leb, lt-le
 use Rattle.std.proofs.lemmas.Bool.Decides.{nat_tests}
 use Rattle.std.proofs.lemmas.List.{length-take-le}
 use Rattle.element_core.specs.declared.family.AiFamily.{AiFamily}
-use Rattle.element_core.specs.Table.{Row, ais, rows_of, ai_rows, begins, row_at}
+use Rattle.element_core.specs.Table.{Row, ais, rows_of, every_row, begins, row_at}
 use Rattle.element_core.specs.inner.Table.{has_few_parts, is_short_ai}
 use Rattle.element_core.proofs.TableLaws.{each_has_few_parts, each_is_short}
 use Rattle.element_core.proofs.Look.{all_at, row_is}
@@ -161,11 +161,11 @@ in_family_within (a ∷ l) (z ∷ g) (b ∷ t) h = omega (arith, in_family_withi
 pub family_short : (f : AiFamily) (text : List ℕ) → Some (row_with f text) ≡ row_at text → length f.least.now ≤ length text → length f.least.now ≤ 4
 family_short f text e within =
     let row = row_with f text in
-    let k = leb-true (length row.ai) 4 (all_at is_short_ai ai_rows row (row_is row text (sym e)).0 each_is_short) in
+    let k = leb-true (length row.ai) 4 (all_at is_short_ai every_row row (row_is row text (sym e)).0 each_is_short) in
     omega (arith, length-take-le (length f.least.now) text within)
 
--- and its values two parts at most
-pub family_few : (f : AiFamily) (text : List ℕ) → Some (row_with f text) ≡ row_at text → length f.parts.now ≤ 2
+-- and its values five parts at most, and in the profile two
+pub family_few : (f : AiFamily) (text : List ℕ) → Some (row_with f text) ≡ row_at text → length f.parts.now ≤ cond f.profile 2 5
 family_few f text e =
     let row = row_with f text in
-    leb-true (length row.parts) 2 (all_at has_few_parts ai_rows row (row_is row text (sym e)).0 each_has_few_parts)
+    leb-true (length row.parts) (cond f.profile 2 5) (all_at has_few_parts every_row row (row_is row text (sym e)).0 each_has_few_parts)

@@ -5,10 +5,11 @@ use Rattle.std.proofs.lemmas.Bool.{and_parts, and_from, ne_eqb, cases_eq, not-tr
 use Rattle.std.proofs.lemmas.List.{take-append-drop, append-nil, nil_from_length, take_at}
 use Rattle.element_core.specs.declared.part.Part.{Part}
 use Rattle.element_core.specs.declared.part.PartFormat.{PartFormat}
-use Rattle.element_core.specs.declared.part.PartFormat.TheVariants.{Numeric, Alphanumeric, Date, DateAndTime}
+use Rattle.element_core.specs.declared.part.PartFormat.TheVariants.{Numeric, Alphanumeric, Component, Base64Url, Capitals, YesNo, Winding, Sex, Zero, Hyphen, Importer}
 use Rattle.element_core.specs.Table.{Row, least_of, greatest_of}
 use Rattle.element_core.specs.Elements.{belongs, has_characters, each_part, field_of, value_in}
 use Rattle.element_core.specs.Fronts.{ends_element}
+use Rattle.element_core.specs.Rules.{follows}
 
 -- no byte is a separator
 abbrev pub is_plain : List ℕ → Bool
@@ -17,8 +18,15 @@ is_plain v = list_all (λ b. not (eqb b 29)) v
 no_separator : (format : PartFormat) → belongs format 29 ≡ false
 no_separator Numeric = refl
 no_separator Alphanumeric = refl
-no_separator Date = refl
-no_separator DateAndTime = refl
+no_separator Component = refl
+no_separator Base64Url = refl
+no_separator Capitals = refl
+no_separator YesNo = refl
+no_separator Winding = refl
+no_separator Sex = refl
+no_separator Zero = refl
+no_separator Hyphen = refl
+no_separator Importer = refl
 
 belongs_plain : (format : PartFormat) (b : ℕ) → belongs format b ≡ true → not (eqb b 29) ≡ true
 belongs_plain format b h =
@@ -44,7 +52,7 @@ value_plain [] v le h = rw (nil_from_length v (omega arith)) refl
 value_plain (p ∷ parts) v le h =
     let q = and_parts (has_characters p (take p.greatest v)) (each_part has_characters parts (drop p.greatest v)) h in
     let short : length (drop p.greatest v) ≤ greatest_of parts = omega (arith, length-drop p.greatest v) in
-    let both = is_plain-append (take p.greatest v) (drop p.greatest v) (all_plain p.format (take p.greatest v) q.0)
+    let both = is_plain-append (take p.greatest v) (drop p.greatest v) (all_plain p.format (take p.greatest v) (and_parts (list_all (belongs p.format) (take p.greatest v)) (follows p.rule (take p.greatest v)) q.0).0)
     (value_plain parts (drop p.greatest v) short q.1) in
     subst (λ (w : List ℕ). is_plain w ≡ true) (take-append-drop p.greatest v) both
 

@@ -1,14 +1,15 @@
 -- The families of AIs by their first two digits.
-use Rattle.std.proofs.Common.{◌≡◌, ℕ, zero, suc, ◌+◌, ◌*◌, ◌<◌, ◌≤◌, Bool, true, false, leb, not, ◌&&◌, List, [], ◌∷◌, map, length, take, drop, get_or, Option, None, refl, sym, ap, subst, ◌∙◌, arith, inl, inr, length-append}
-use Rattle.std.specs.Prelude.{find, flat_map, filter}
+use Rattle.std.proofs.Common.{◌≡◌, ℕ, zero, suc, ◌+◌, ◌*◌, ◌<◌, ◌≤◌, Bool, true, false, leb, not, ◌&&◌, List, [], ◌∷◌, ◌++◌, cond, map, length, take, drop, get_or, Option, None, refl, sym, ap, subst, ◌∙◌, arith, inl, inr, length-append}
+use Rattle.std.specs.Prelude.{find, flat_map, filter, nat_lt}
+use Rattle.std.proofs.lemmas.List.{append-nil}
 use Rattle.std.specs.List.{list_all}
 use Rattle.std.proofs.lemmas.Bool.{cases_Bool, and_parts, and_from, leb-true, not-true, both_ways}
 use Rattle.element_core.specs.declared.family.AiFamily.{AiFamily}
 use Rattle.element_core.specs.declared.first_digits.TheConstants.{STARTS, ENDS}
-use Rattle.element_core.specs.Table.{Family, Row, rows_of, families, ai_rows, begins, row_at}
+use Rattle.element_core.specs.Table.{Family, Row, rows_of, families, first_families, last_families, every_row, begins, row_at}
 use Rattle.element_core.specs.inner.Table.{is_of_digits}
 use Rattle.element_core.specs.Elements.{is_digit}
-use Rattle.element_core.specs.inner.Families.{family_of, has_first_two, is_in_family, row_by, row_in}
+use Rattle.element_core.specs.inner.Families.{families_from, family_of, has_first_two, is_in_family, row_by, row_in}
 use Rattle.element_core.proofs.TableLaws.{each_is_of_digits}
 use Rattle.element_core.proofs.Look.{all_at, begins-split, row_is}
 use Rattle.element_core.proofs.FamilyLemmas.{or_else, find-append, find-map, find-ais, row_by_is}
@@ -50,7 +51,7 @@ rows_kept (f ∷ fs) t a b =
 -- the row of a text among the families of its first two digits
 row_by_digits : (fs : List AiFamily) (t : List ℕ) (a b : ℕ) → map family_of fs ≡ filter (has_first_two a b) families → row_by (a ∷ b ∷ t) fs
     ≡ row_at (a ∷ b ∷ t)
-unfolding ai_rows
+unfolding every_row
 row_by_digits fs t a b e =
     row_by_is fs (a ∷ b ∷ t)
     ∙ ap (λ (gs : List Family). find (λ row. begins row.ai (a ∷ b ∷ t)) (flat_map rows_of gs)) e
@@ -69,7 +70,7 @@ too_short text short =
       | inl none ↦ none
       | inr found ↦
           let r = row_is found.0 text found.1 in
-          let digits = and_parts (leb 2 (length found.0.ai)) (list_all is_digit found.0.ai) (all_at is_of_digits ai_rows found.0 r.0 each_is_of_digits) in
+          let digits = and_parts (leb 2 (length found.0.ai)) (list_all is_digit found.0.ai) (all_at is_of_digits every_row found.0 r.0 each_is_of_digits) in
           let two = leb-true 2 (length found.0.ai) digits.0 in
           absurd (omega (arith, ap length (begins-split found.0.ai text r.1), length-append found.0.ai (drop (length found.0.ai) text)))
     ]
@@ -141,25 +142,70 @@ all_below-at p (suc n) i h lt =
     ]
 
 abbrev place_test : ℕ → ℕ → Bool
-place_test a b = stand_between (has_first_two (a + 48) (b + 48)) (get_or STARTS (10 * a + b) 0) (get_or ENDS (10 * a + b) 0) families
+place_test a b =
+    stand_between (has_first_two (a + 48) (b + 48)) (get_or STARTS (10 * a + b) 0) (get_or ENDS (10 * a + b) 0) (families_from (a + 48))
 
 places_tested : all_below (λ a. all_below (place_test a) 10) 10 ≡ true
-unfolding families
+unfolding families first_families last_families
 places_tested = refl
 
-places : (a b : ℕ) → a < 10 → b < 10 → AreThere (has_first_two (a + 48) (b + 48)) (get_or STARTS (10 * a + b) 0) (get_or ENDS (10 * a + b) 0) families
-places a b la lb = are_there (has_first_two (a + 48) (b + 48)) (get_or STARTS (10 * a + b) 0) (get_or ENDS (10 * a + b) 0) families
+places : (a b : ℕ) → a < 10 → b < 10
+    → AreThere (has_first_two (a + 48) (b + 48)) (get_or STARTS (10 * a + b) 0) (get_or ENDS (10 * a + b) 0) (families_from (a + 48))
+places a b la lb = are_there (has_first_two (a + 48) (b + 48)) (get_or STARTS (10 * a + b) 0) (get_or ENDS (10 * a + b) 0) (families_from (a + 48))
     (all_below-at (place_test a) 10 b (all_below-at (λ x. all_below (place_test x) 10) 10 a places_tested la) lb)
 
 -- the same, as the code finds them
 pub places_as : (first second number s e a b : ℕ) → a < 10 → b < 10 → a + 48 ≡ first → b + 48 ≡ second → 10 * a + b ≡ number → get_or STARTS number 0 ≡ s
-    → get_or ENDS number 0 ≡ e → AreThere (has_first_two first second) s e families
+    → get_or ENDS number 0 ≡ e → AreThere (has_first_two first second) s e (families_from first)
 places_as first second number s e a b la lb first_is second_is number_is s_is e_is =
-    subst (λ (x : ℕ). AreThere (has_first_two x second) s e families) first_is
-    (subst (λ (x : ℕ). AreThere (has_first_two (a + 48) x) s e families) second_is
-    (subst (λ (x : ℕ). AreThere (has_first_two (a + 48) (b + 48)) s x families) e_is
-    (subst (λ (x : ℕ). AreThere (has_first_two (a + 48) (b + 48)) x (get_or ENDS number 0) families) s_is
-    (subst (λ (x : ℕ). AreThere (has_first_two (a + 48) (b + 48)) (get_or STARTS x 0) (get_or ENDS x 0) families) number_is (places a b la lb)))))
+    subst (λ (x : ℕ). AreThere (has_first_two x second) s e (families_from x)) first_is
+    (subst (λ (x : ℕ). AreThere (has_first_two (a + 48) x) s e (families_from (a + 48))) second_is
+    (subst (λ (x : ℕ). AreThere (has_first_two (a + 48) (b + 48)) s x (families_from (a + 48))) e_is
+    (subst (λ (x : ℕ). AreThere (has_first_two (a + 48) (b + 48)) x (get_or ENDS number 0) (families_from (a + 48))) s_is
+    (subst (λ (x : ℕ). AreThere (has_first_two (a + 48) (b + 48)) (get_or STARTS x 0) (get_or ENDS x 0) (families_from (a + 48))) number_is (places a b la lb)))))
+
+-- ---- the other part has none of this first digit
+
+filter_empty : (p : Family → Bool) (fs : List Family) → list_all (λ f. not (p f)) fs ≡ true → filter p fs ≡ []
+filter_empty p [] h = refl
+filter_empty p (f ∷ fs) h =
+    let q = and_parts (not (p f)) (list_all (λ g. not (p g)) fs) h in
+    rw (not-true (p f) q.0) (filter_empty p fs q.1)
+
+filter_both : (p : Family → Bool) (xs ys : List Family) → filter p (xs ++ ys) ≡ filter p xs ++ filter p ys
+filter_both p [] ys = refl
+filter_both p (x ∷ xs) ys =
+    elim (cases_Bool (p x)) [
+      | inl here ↦ rw here (ap (λ (gs : List Family). x ∷ gs) (filter_both p xs ys))
+      | inr other ↦ rw other (filter_both p xs ys)
+    ]
+
+abbrev part : Bool → List Family
+part early = cond early first_families last_families
+
+abbrev other_part : Bool → List Family
+other_part early = cond early last_families first_families
+
+in_part : (early : Bool) (p : Family → Bool) → list_all (λ f. not (p f)) (other_part early) ≡ true → filter p (part early) ≡ filter p families
+unfolding families
+in_part true p none = sym (filter_both p first_families last_families ∙ ap (λ gs. filter p first_families ++ gs) (filter_empty p last_families none)
+    ∙ append-nil (filter p first_families))
+in_part false p none = sym (filter_both p first_families last_families ∙ ap (λ gs. gs ++ filter p last_families) (filter_empty p first_families none))
+
+abbrev none_test : ℕ → ℕ → Bool
+none_test a b = list_all (λ f. not (has_first_two (a + 48) (b + 48) f)) (other_part (nat_lt (a + 48) 53))
+
+none_tested : all_below (λ a. all_below (none_test a) 10) 10 ≡ true
+unfolding families first_families last_families
+none_tested = refl
+
+pub in_part_as : (first second a b : ℕ) → a < 10 → b < 10 → a + 48 ≡ first → b + 48 ≡ second
+    → filter (has_first_two first second) (families_from first) ≡ filter (has_first_two first second) families
+in_part_as first second a b la lb first_is second_is =
+    subst (λ (x : ℕ). filter (has_first_two x second) (families_from x) ≡ filter (has_first_two x second) families) first_is
+    (subst (λ (y : ℕ). filter (has_first_two (a + 48) y) (families_from (a + 48)) ≡ filter (has_first_two (a + 48) y) families) second_is
+    (in_part (nat_lt (a + 48) 53) (has_first_two (a + 48) (b + 48))
+    (all_below-at (none_test a) 10 b (all_below-at (λ x. all_below (none_test x) 10) 10 a none_tested la) lb)))
 
 -- ---- other bytes than digits
 
@@ -193,7 +239,7 @@ digits_only (l ∷ m ∷ []) (g ∷ []) a b d i = absurd (let k : false ≡ true
 digits_only (l ∷ m ∷ []) (g ∷ h ∷ k ∷ gs) a b d i = absurd (let k : false ≡ true = d in cc)
 
 each_of_digits : list_all (λ f. digits_alone (take 2 f.least) (take 2 f.greatest)) families ≡ true
-unfolding families
+unfolding families first_families last_families
 each_of_digits = refl
 
 none_of : (a b : ℕ) → (((48 ≤ a × (a ≤ 57)) × (48 ≤ b × (b ≤ 57))) → ⊥) → (fs : List Family)

@@ -19,6 +19,7 @@ pub mod PairsApart
 pub mod GtinLemmas
 pub mod DayLaws
 pub mod Dated
+pub mod Accounts
 pub mod Before
 pub mod TimeLemmas
 pub mod Listed

@@ -4,7 +4,8 @@ use Rattle.std.specs.List.{list_all}
 use Rattle.std.proofs.lemmas.Bool.{and_parts, and_from}
 use Rattle.std.proofs.lemmas.List.{nil_from_length}
 use Rattle.std.proofs.lemmas.List.Elements.{All-from_recursion}
-use Rattle.element_core.specs.Table.{Row, ai_rows, row_at}
+use Rattle.element_core.specs.Terms.{Terms}
+use Rattle.element_core.specs.Table.{Row, every_row, row_at}
 use Rattle.element_core.specs.inner.Table.{begins_with_digit}
 use Rattle.element_core.specs.Elements.{Entry, IsElements, canonical, is_text_byte}
 use Rattle.element_core.specs.inner.Elements.{AreElements}
@@ -27,7 +28,7 @@ shown_shorter row text found =
     let r = row_is row text found in
     let tail = drop (length row.ai) text in
     let after = drop (length (shown_value row text)) tail in
-    let some = some_digit row.ai (all_at (λ s. begins_with_digit s.ai) ai_rows row r.0 each_begins_with_digit) in
+    let some = some_digit row.ai (all_at (λ s. begins_with_digit s.ai) every_row row r.0 each_begins_with_digit) in
     let parts = ap length (begins-split row.ai text r.1) ∙ length-append row.ai tail in
     let within = shown-within row tail in
     let rest = rest_shorter after (shown_rest row text) refl in
@@ -105,7 +106,7 @@ unfolding shown_elements
 shown_few text = in_few (length text) text
 
 -- what is read of a text is what it shows
-shown_read : (year : ℕ) (text : List ℕ) (es : List Entry) → ReadsFromLeft year text es [] → shown_elements text ≡ es
+shown_read : (year : Terms) (text : List ℕ) (es : List Entry) → ReadsFromLeft year text es [] → shown_elements text ≡ es
 shown_read year text [] r = shown_none text (ap row_at r ∙ none_begins_nothing)
 shown_read year text (e ∷ es) r =
     let s = shows year e text r.0 r.1 in
@@ -113,16 +114,16 @@ shown_read year text (e ∷ es) r =
     shown_first text s.row e r.0 s.row_is is ∙ ap (λ (fs : List Entry). e ∷ fs) (shown_read year r.0 es r.2)
 
 -- an element string shows its elements
-pub listed : (year : ℕ) (text : List ℕ) (es : List Entry) → IsElements year text es → shown_elements text ≡ es
+pub listed : (year : Terms) (text : List ℕ) (es : List Entry) → IsElements year text es → shown_elements text ≡ es
 listed year text es is = shown_read year text es (from_left year text es [] is.reads)
 
 -- a text that is read, and the canonical text of the elements that it shows
-pub record IsListed (year : ℕ) (text out : List ℕ) : Type 0 where
+pub record IsListed (year : Terms) (text out : List ℕ) : Type 0 where
   pub reads : IsElements year text (shown_elements out)
   pub canonical_text : out ≡ canonical (shown_elements out)
   pub elements : IsElements year out (shown_elements out)
 
-pub listed_as : (year : ℕ) (text out : List ℕ) (es : List Entry) → IsElements year text es → out ≡ canonical es → IsElements year out es
+pub listed_as : (year : Terms) (text out : List ℕ) (es : List Entry) → IsElements year text es → out ≡ canonical es → IsElements year out es
     → IsListed year text out
 listed_as year text out es reads out_is elements =
     let same : es ≡ shown_elements out = sym (listed year out es elements) in
@@ -140,7 +141,7 @@ all_parts q (x ∷ a) b h =
     (and_from (q x) (list_all q a) p.0 more.0, more.1)
 
 -- the AIs and the values of elements are ASCII
-pub elements_ascii : (year : ℕ) (es : List Entry) → AreElements year es → AreAscii es
+pub elements_ascii : (year : Terms) (es : List Entry) → AreElements year es → AreAscii es
 elements_ascii year [] are = tt
 elements_ascii year (e ∷ es) are =
     let p = all_parts is_text_byte e.ai e.value (element_letters year e are.0) in (

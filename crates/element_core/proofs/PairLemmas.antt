@@ -5,12 +5,13 @@ use Rattle.std.proofs.lemmas.List.{nil_from_length, append-nil, take-append-drop
 use Rattle.element_core.specs.declared.fault.ElementFault.{ElementFault}
 use Rattle.element_core.specs.declared.fault.ElementFault.TheVariants.{UnknownAi, ValueLength, TooLong}
 use Rattle.element_core.specs.declared.pairs.Pair.{Pair}
-use Rattle.element_core.specs.Table.{Row, ai_rows, row_at}
+use Rattle.element_core.specs.Terms.{Terms, rows_by, row_by_terms}
+use Rattle.element_core.specs.Table.{Row}
 use Rattle.element_core.specs.Elements.{Entry, IsElement, IsElements, ReadsElements, canonical}
 use Rattle.element_core.specs.inner.Elements.{AreElements}
 use Rattle.element_core.specs.inner.Growing.{last_gap, separator_if}
 use Rattle.element_core.specs.Pairs.{entry_of, entries_of, entry_fault, entry_fault_by, entries_fault, list_fault, or_else}
-use Rattle.element_core.proofs.Look.{begins-split, row_is}
+use Rattle.element_core.proofs.Look.{begins-split, read_row_is}
 use Rattle.element_core.proofs.Shown.{passes, no_fault_fits}
 use Rattle.element_core.proofs.PieceLemmas.{to_pieces}
 use Rattle.element_core.proofs.Canonical.{canonical_reads}
@@ -21,13 +22,13 @@ seen None = inl refl
 seen (Some x) = inr (x, refl)
 
 -- an entry without a fault is an element
-entry_valid : (year i : ℕ) (e : Entry) → entry_fault year i e ≡ None → (row : Row) × IsElement ai_rows year row e
+entry_valid : (year : Terms) (i : ℕ) (e : Entry) → entry_fault year i e ≡ None → (row : Row) × IsElement (rows_by year) year.year row e
 entry_valid year i e none =
-    elim (seen (row_at e.ai)) [
+    elim (seen (row_by_terms year e.ai)) [
       | inl unknown ↦ absurd (let k = ap (entry_fault_by year i e) unknown in let n = none in cc)
       | inr found ↦
           let row = found.0 in
-          let r = row_is row e.ai found.1 in
+          let r = read_row_is year row e.ai found.1 in
           let k : entry_fault_by year i e (Some row) ≡ None = sym (ap (entry_fault_by year i e) found.1) ∙ none in
           let p = passes (not (eqb (length e.ai) (length row.ai))) (UnknownAi i) _ k in
           let same = eqb-true (length e.ai) (length row.ai) (not-false _ p.0) in
@@ -38,7 +39,7 @@ entry_valid year i e none =
               listed = r.0;
               ai = ai ∙ ap (λ (t : List ℕ). row.ai ++ t) nothing ∙ append-nil row.ai;
               value =
-                  no_fault_fits year i (ValueLength i) row e.value p.1;
+                  no_fault_fits year.year i (ValueLength i) row e.value p.1;
             },
           )
     ]
@@ -47,7 +48,7 @@ pub or_else-none : (a b : Option ElementFault) → or_else a b ≡ None → (a �
 or_else-none None b e = (refl, e)
 or_else-none (Some f) b e = absurd cc
 
-pub entries_valid : (year i : ℕ) (es : List Entry) → entries_fault year i es ≡ None → AreElements year es
+pub entries_valid : (year : Terms) (i : ℕ) (es : List Entry) → entries_fault year i es ≡ None → AreElements year es
 entries_valid year i [] e = tt
 entries_valid year i (x ∷ es) e =
     let p = or_else-none (entry_fault year i x) (entries_fault year (i + 1) es) e in
@@ -92,13 +93,13 @@ adds out done rest all separate e all_is out_is gap_is =
           (canonical_grows (done ++ e ∷ []) rest);
     }
 
-pub too_long : (year : ℕ) (all : List Entry) → 0 < length all → entries_fault year 0 all ≡ None → 192 < length (canonical all) → list_fault year all
+pub too_long : (year : Terms) (all : List Entry) → 0 < length all → entries_fault year 0 all ≡ None → 192 < length (canonical all) → list_fault year all
     ≡ Some TooLong
 too_long year all some none long =
     let ne : length all ≡ 0 → ⊥ = λ e. omega arith in
     rw (ne_eqb (length all) 0 ne, none, lt-ltb 192 (length (canonical all)) long) refl
 
-pub fits : (year : ℕ) (all : List Entry) → 0 < length all → entries_fault year 0 all ≡ None → length (canonical all) ≤ 192 → list_fault year all ≡ None
+pub fits : (year : Terms) (all : List Entry) → 0 < length all → entries_fault year 0 all ≡ None → length (canonical all) ≤ 192 → list_fault year all ≡ None
 fits year all some none short =
     let ne : length all ≡ 0 → ⊥ = λ e. omega arith in
     rw (ne_eqb (length all) 0 ne, none, le-ltb 192 (length (canonical all)) short) refl
@@ -118,7 +119,7 @@ entries_more pairs i pair lt is =
     ap entries_of (take_more pairs i pair lt ∙ ap (λ (p : Pair). take i pairs ++ p ∷ []) (sym is)) ∙ map-append entry_of (take i pairs) (pair ∷ [])
 
 -- the canonical text of elements is their element string
-pub finished : (year : ℕ) (out : List ℕ) (es all : List Entry) → AreElements year all → es ≡ all → out ≡ canonical es → 0 < length all → length out ≤ 192
+pub finished : (year : Terms) (out : List ℕ) (es all : List Entry) → AreElements year all → es ≡ all → out ≡ canonical es → 0 < length all → length out ≤ 192
     → IsElements year out es
 finished year out es all are is out_is some short =
     let these = subst (AreElements year) (sym is) are in
@@ -127,5 +128,5 @@ finished year out es all are is out_is some short =
       some = omega (arith, ap length is, ap length out_is, few);
       fits = short;
       reads =
-          subst (λ (t : List ℕ). ReadsElements ai_rows year t es []) (sym out_is) (to_pieces year (canonical es) es [] (canonical_reads year es these));
+          subst (λ (t : List ℕ). ReadsElements (rows_by year) year.year t es []) (sym out_is) (to_pieces year (canonical es) es [] (canonical_reads year es these));
     }

@@ -2,6 +2,7 @@
 use Rattle.std.proofs.Common.{◌≡◌, ℕ, ◌+◌, ◌*◌, ◌≤◌, List, [], ◌∷◌, ◌++◌, length, sym, ap, arith, length-append}
 use Rattle.std.specs.Prelude.{flat_map}
 use Rattle.std.proofs.lemmas.List.{append-nil}
+use Rattle.element_core.specs.Terms.{Terms}
 use Rattle.element_core.specs.Elements.{Entry, IsElements, canonical, pair_text, pairs_text, separator_for}
 use Rattle.element_core.proofs.PieceLemmas.{from_left}
 use Rattle.element_core.proofs.Canonical.{elements_are}
@@ -29,7 +30,7 @@ pairs_length e (f ∷ es) =
       length-append (e.ai ++ e.value ++ separator_for e) (canonical (f ∷ es)),
     )
 
-pub pairs_fit : (year : ℕ) (text : List ℕ) (es : List Entry) → IsElements year text es → text ≡ canonical es → length (pairs_text es) ≤ 288
+pub pairs_fit : (year : Terms) (text : List ℕ) (es : List Entry) → IsElements year text es → text ≡ canonical es → length (pairs_text es) ≤ 288
 pairs_fit year text [] is text_is = omega arith
 pairs_fit year text (e ∷ es) is text_is =
     let fits = is.fits in

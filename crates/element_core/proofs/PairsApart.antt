@@ -3,12 +3,13 @@ use Rattle.std.proofs.Common.{◌≡◌, ℕ, Bool, true, eqb, not, List, [], �
 use Rattle.std.specs.List.{list_all, AllByRecursion}
 use Rattle.std.proofs.lemmas.Bool.{and_parts, eq-eqb, ne_eqb, cases_eq}
 use Rattle.std.proofs.lemmas.List.{append-nil}
-use Rattle.element_core.specs.Table.{Row, ai_rows}
+use Rattle.element_core.specs.Terms.{Terms, rows_by}
+use Rattle.element_core.specs.Table.{Row, every_row}
 use Rattle.element_core.specs.inner.Table.{is_of_digits}
-use Rattle.element_core.specs.Elements.{Entry, IsElement, is_digit, is_character, pair_text, pairs_text, PairsDiffer}
+use Rattle.element_core.specs.Elements.{Entry, IsElement, is_digit, is_value_byte, pair_text, pairs_text, PairsDiffer}
 use Rattle.element_core.specs.inner.Elements.{AreElements}
 use Rattle.element_core.proofs.TableLaws.{each_is_of_digits}
-use Rattle.element_core.proofs.Look.{all_at}
+use Rattle.element_core.proofs.Look.{all_at, in_table}
 use Rattle.element_core.proofs.PieceLemmas.{from_left}
 use Rattle.element_core.proofs.Canonical.{elements_are}
 use Rattle.element_core.proofs.Unique.{same_element}
@@ -53,23 +54,23 @@ digit_apart b h =
       | inr ne ↦ rw (ne_eqb b 61 ne) refl
     ]
 
-character_apart : (b : ℕ) → is_character b ≡ true → not (eqb b 9) ≡ true
-character_apart b h =
+value_byte_apart : (b : ℕ) → is_value_byte b ≡ true → not (eqb b 9) ≡ true
+value_byte_apart b h =
     elim (cases_eq b 9) [
       | inl e ↦ absurd (let f = rw e at h in cc)
       | inr ne ↦ rw (ne_eqb b 9 ne) refl
     ]
 
-element_apart : (year : ℕ) (e : Entry) (row : Row) → IsElement ai_rows year row e → IsApart e
+element_apart : (year : Terms) (e : Entry) (row : Row) → IsElement (rows_by year) year.year row e → IsApart e
 element_apart year e row is =
-    let digits = (and_parts _ (list_all is_digit row.ai) (all_at is_of_digits ai_rows row is.listed each_is_of_digits)).1 in
+    let digits = (and_parts _ (list_all is_digit row.ai) (all_at is_of_digits every_row row (in_table year row is.listed) each_is_of_digits)).1 in
     let fits = is.value in
     record {
       ai = ap (is_without 61) is.ai ∙ all_weaker is_digit (λ b. not (eqb b 61)) digit_apart row.ai digits;
-      value = all_weaker is_character (λ b. not (eqb b 9)) character_apart e.value (value_letters row.parts e.value fits.greatest fits.characters);
+      value = all_weaker is_value_byte (λ b. not (eqb b 9)) value_byte_apart e.value (value_letters row.parts e.value fits.greatest fits.characters);
     }
 
-each_apart : (year : ℕ) (es : List Entry) → AreElements year es → AllByRecursion IsApart es
+each_apart : (year : Terms) (es : List Entry) → AreElements year es → AllByRecursion IsApart es
 each_apart year [] are = tt
 each_apart year (e ∷ es) are = (element_apart year e are.0.0 are.0.1, each_apart year es are.1)
 

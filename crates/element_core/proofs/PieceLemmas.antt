@@ -2,7 +2,7 @@
 use Rattle.std.proofs.Common.{◌≡◌, ℕ, Bool, true, false, eqb, not, ◌||◌, List, [], ◌∷◌, ◌++◌, map, refl, sym, ap, subst, ◌∙◌, append_assoc, eqb-true, inl, inr, arith}
 use Rattle.std.specs.Prelude.{◌==◌, if◌then◌else◌, length, slice_index_or}
 use Rattle.std.proofs.lemmas.Bool.{cases_Bool, not-true}
-use Rattle.element_core.specs.Table.{ai_rows}
+use Rattle.element_core.specs.Terms.{Terms, rows_by}
 use Rattle.element_core.specs.Elements.{Entry, Piece, joined, IsPiece, ArePieces, ReadsElements}
 use Rattle.element_core.specs.Fronts.{ReadsFromLeft, ReadsPieces, ends_element, after_separator}
 
@@ -50,7 +50,7 @@ regroup : (ai value sep left rest : List ℕ) → ai ++ value ++ (sep ++ (left +
 regroup ai value sep left rest = simp append_assoc
 
 -- what is read from the left is joined pieces
-pub to_pieces : (year : ℕ) (text : List ℕ) (es : List Entry) (rest : List ℕ) → ReadsFromLeft year text es rest → ReadsElements ai_rows year text es rest
+pub to_pieces : (year : Terms) (text : List ℕ) (es : List Entry) (rest : List ℕ) → ReadsFromLeft year text es rest → ReadsElements (rows_by year) year.year text es rest
 to_pieces year text [] rest r = record { pieces = []; elements = refl; pieces_are = tt; text_is = r }
 to_pieces year text (e ∷ es) rest r =
     let b = r.1 in
@@ -59,7 +59,7 @@ to_pieces year text (e ∷ es) rest r =
     let left : after_separator b.after ≡ joined more.pieces ++ rest = sym b.rest_is ∙ more.text_is in
     let after : b.after ≡ separator (begins_with_separator b.after) ++ (joined more.pieces ++ rest) =
     parted b.after ∙ ap (λ (t : List ℕ). separator (begins_with_separator b.after) ++ t) left in
-    let first : IsPiece ai_rows year p (joined more.pieces ++ rest) = record {
+    let first : IsPiece (rows_by year) year.year p (joined more.pieces ++ rest) = record {
       row = b.row;
       element = b.element;
       ends = subst (λ (t : List ℕ). (b.row.predefined || (begins_with_separator b.after || is_empty t)) ≡ true) left
@@ -88,7 +88,7 @@ closed_by : (p separated : Bool) (left : List ℕ) → (p || (separated || is_em
 closed_by p true left h own = (or_last p, refl)
 closed_by p false left h own = (ended p left h, kept left own)
 
-from_pieces : (year : ℕ) (pieces : List Piece) (rest : List ℕ) → ArePieces ai_rows year pieces rest
+from_pieces : (year : Terms) (pieces : List Piece) (rest : List ℕ) → ArePieces (rows_by year) year.year pieces rest
     → ReadsFromLeft year (joined pieces ++ rest) (map (λ p. p.element) pieces) rest
 from_pieces year [] rest are = refl
 from_pieces year (p ∷ pieces) rest are =
@@ -110,7 +110,7 @@ from_pieces year (p ∷ pieces) rest are =
     )
 
 -- what joined pieces are is read from the left
-pub from_left : (year : ℕ) (text : List ℕ) (es : List Entry) (rest : List ℕ) → ReadsElements ai_rows year text es rest → ReadsFromLeft year text es rest
+pub from_left : (year : Terms) (text : List ℕ) (es : List Entry) (rest : List ℕ) → ReadsElements (rows_by year) year.year text es rest → ReadsFromLeft year text es rest
 from_left year text es rest j =
     subst (λ (t : List ℕ). ReadsFromLeft year t es rest) (sym j.text_is)
     (subst (λ (fs : List Entry). ReadsFromLeft year (joined j.pieces ++ rest) fs rest) (sym j.elements) (from_pieces year j.pieces rest j.pieces_are))

@@ -90,7 +90,7 @@ apart_from f r [] lies e = refl
 apart_from f r (g ∷ gs) lies e =
     let q = and_parts (are_apart f g) (list_all (are_apart f) gs) e in
     all_append (begin_apart r) (rows_of g) (flat_map rows_of gs)
-    (all_map (begin_apart r) (λ ai. record { ai = ai; parts = g.parts; predefined = g.predefined }) (ais g.least g.greatest)
+    (all_map (begin_apart r) (λ ai. record { ai = ai; parts = g.parts; predefined = g.predefined; profile = g.profile }) (ais g.least g.greatest)
     (all_ais (λ ai. not (begins r.ai ai || begins ai r.ai)) g.least g.greatest
     (λ ai in_g. differ f.least f.greatest g.least g.greatest r.ai ai q.0 lies in_g)))
     (apart_from f r gs lies q.1)
@@ -110,7 +110,7 @@ rows_apart (f ∷ fs) e =
     let p = and_parts (none_begins_another (rows_of f)) (list_all (are_apart f) fs && families_apart fs) e in
     let q = and_parts (list_all (are_apart f) fs) (families_apart fs) p.1 in
     none_append (rows_of f) (flat_map rows_of fs) p.0 (rows_apart fs q.1)
-    (all_map (λ r. list_all (begin_apart r) (flat_map rows_of fs)) (λ ai. record { ai = ai; parts = f.parts; predefined = f.predefined })
+    (all_map (λ r. list_all (begin_apart r) (flat_map rows_of fs)) (λ ai. record { ai = ai; parts = f.parts; predefined = f.predefined; profile = f.profile })
     (ais f.least f.greatest)
-    (all_ais (λ ai. list_all (begin_apart (record { ai = ai; parts = f.parts; predefined = f.predefined })) (flat_map rows_of fs)) f.least f.greatest
-    (λ ai lies. apart_from f (record { ai = ai; parts = f.parts; predefined = f.predefined }) fs lies q.0)))
+    (all_ais (λ ai. list_all (begin_apart (record { ai = ai; parts = f.parts; predefined = f.predefined; profile = f.profile })) (flat_map rows_of fs)) f.least f.greatest
+    (λ ai lies. apart_from f (record { ai = ai; parts = f.parts; predefined = f.predefined; profile = f.profile }) fs lies q.0)))

@@ -5,7 +5,7 @@ use Rattle.std.proofs.lemmas.Bool.{cases_lt, cases_eq, lt-ltb}
 use Rattle.std.proofs.lemmas.List.{nil_from_length}
 use Rattle.element_core.specs.declared.fault.ElementFault.{ElementFault}
 use Rattle.element_core.specs.declared.fault.ElementFault.TheVariants.{Empty, TooLong}
-use Rattle.element_core.specs.Table.{row_at}
+use Rattle.element_core.specs.Terms.{Terms, row_by_terms}
 use Rattle.element_core.specs.inner.Elements.{fault_at}
 use Rattle.element_core.specs.Elements.{Entry, IsElements, StopsWith, FirstFault, size_fault, fault_by, EachText}
 use Rattle.element_core.specs.Fronts.{ReadsFromLeft}
@@ -16,7 +16,7 @@ use Rattle.element_core.proofs.Canonical.{begins_shorter, canonical_shorter}
 use Rattle.element_core.proofs.Unique.{right_size}
 
 -- how far a text is read
-record ReadsTo (year whole : ℕ) (text : List ℕ) : Type 0 where
+record ReadsTo (year : Terms) (whole : ℕ) (text : List ℕ) : Type 0 where
   es : List Entry
   rest : List ℕ
   reads : ReadsFromLeft year text es rest
@@ -26,14 +26,14 @@ seen : {X : Type 0} (o : Option X) → (o ≡ None) ⊎ ((x : X) × (o ≡ Some 
 seen None = inl refl
 seen (Some x) = inr (x, refl)
 
-reads_to : (n year whole : ℕ) (text : List ℕ) → length text < n → ReadsTo year whole text
+reads_to : (n : ℕ) (year : Terms) (whole : ℕ) (text : List ℕ) → length text < n → ReadsTo year whole text
 reads_to zero year whole text lt = absurd (omega arith)
 reads_to (suc n) year whole text lt =
     elim (cases_eq (length text) 0) [
       | inl none ↦ record { es = []; rest = text; reads = refl; ends = inl none }
       | inr some ↦ elim (seen (fault_at year (whole - length text) text)) [
         | inr f ↦ record { es = []; rest = text; reads = refl; ends = inr (omega arith, f) }
-        | inl right ↦ elim (seen (row_at text)) [
+        | inl right ↦ elim (seen (row_by_terms year text)) [
           | inl unknown ↦ absurd (let e = ap (fault_by year (whole - length text) text) unknown in let r = right in cc)
           | inr row ↦
               let b = stands year (whole - length text) row.0 text row.1 right in
@@ -46,11 +46,11 @@ reads_to (suc n) year whole text lt =
       ]
     ]
 
-at_size : (year : ℕ) (text : List ℕ) (f : ElementFault) (o : Option ElementFault) → size_fault text ≡ o → MatchOption o (StopsWith year text f) (λ g. f ≡ g)
+at_size : (year : Terms) (text : List ℕ) (f : ElementFault) (o : Option ElementFault) → size_fault text ≡ o → MatchOption o (StopsWith year text f) (λ g. f ≡ g)
     → FirstFault year text f
 at_size year text f o e h = subst (λ (p : Option ElementFault). MatchOption p (StopsWith year text f) (λ g. f ≡ g)) (sym e) h
 
-answer : (year : ℕ) (text : List ℕ) → 0 < length text → length text ≤ 192 → ReadsTo year (length text) text → ((es : List Entry) × IsElements year text es)
+answer : (year : Terms) (text : List ℕ) → 0 < length text → length text ≤ 192 → ReadsTo year (length text) text → ((es : List Entry) × IsElements year text es)
     ⊎ ((f : ElementFault) × FirstFault year text f)
 answer year text some fits r =
     elim r.ends [

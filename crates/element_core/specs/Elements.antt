@@ -1,18 +1,20 @@
 -- Element strings: which texts they are, and the first fault of a text that is none
 -- (GS1 General Specifications, section 7.8).
 -- A text says one list of elements or has one first fault. A canonical text reads back as its elements.
-use Rattle.std.specs.Prelude.{◌≡◌, ◌⊎◌, ℕ, ◌+◌, ◌%◌, ◌<◌, ◌≤◌, Bool, true, false, ◌&&◌, ◌||◌, not, List, [], ◌∷◌, ◌++◌, length, take, drop, Option, Some, None, IsTrue, MatchOption, Contains, nat_lt, ◌==◌, if◌then◌else◌, is_some, flat_map, map, slice_index_or, codes}
+use Rattle.std.specs.Prelude.{◌≡◌, ◌⊎◌, ℕ, ◌+◌, ◌-◌, ◌%◌, ◌<◌, ◌≤◌, Bool, true, false, ◌&&◌, ◌||◌, not, List, [], ◌∷◌, ◌++◌, length, take, drop, Option, Some, None, IsTrue, MatchOption, Contains, nat_le, nat_lt, ◌==◌, if◌then◌else◌, is_some, flat_map, map, slice_index_or, codes}
 use Rattle.std.specs.Int.{is_in_range}
 use Rattle.std.specs.List.{list_all, join_with_byte}
 use Rattle.element_core.specs.declared.fault.ElementFault.{ElementFault}
 use Rattle.element_core.specs.declared.fault.ElementFault.TheVariants.{Empty, UnknownAi, ValueLength, ValueCharacter, ValueCheckDigit, ValueDate, MissingSeparator, TooLong}
 use Rattle.element_core.specs.declared.part.Part.{Part}
 use Rattle.element_core.specs.declared.part.PartFormat.{PartFormat}
-use Rattle.element_core.specs.declared.part.PartFormat.TheVariants.{Alphanumeric, Date, DateAndTime}
-use Rattle.digits_core.specs.Digits.{AreDigits, IsChecked, ascii_of, digits_of, weighted}
-use Rattle.element_core.specs.Days.{day_of}
-use Rattle.element_core.specs.Times.{exact_day_of, is_day_and_time, time_of}
-use Rattle.element_core.specs.Table.{Row, ai_rows, first_rows, row_at, least_of, greatest_of, predefined_length, is_dated, is_7003_or_8008, is_timed}
+use Rattle.element_core.specs.declared.part.PartFormat.TheVariants.{Numeric, Alphanumeric, Component, Base64Url, Capitals, YesNo, Winding, Sex, Zero, Hyphen, Importer}
+use Rattle.digits_core.specs.Digits.{AreDigits, IsChecked, ascii_of}
+use Rattle.element_core.specs.Checks.{is_checked_by}
+use Rattle.element_core.specs.Rules.{follows}
+use Rattle.element_core.specs.Terms.{Terms, every_ai, profile, rows_by, row_by_terms}
+use Rattle.element_core.specs.Times.{day_named_by, is_named, names_time, time_named_by}
+use Rattle.element_core.specs.Table.{Row, first_rows, row_at, least_of, greatest_of, predefined_length, is_dated, is_7003_or_8008}
 
 -- ---- values
 
@@ -24,28 +26,39 @@ is_digit b = is_in_range 48 57 b
 abbrev pub is_character : ℕ → Bool
 is_character b = is_in_range 33 34 b || is_in_range 37 63 b || is_in_range 65 90 b || (b == 95) || is_in_range 97 122 b
 
+-- a digit or a capital letter
+abbrev pub is_capital_or_digit : ℕ → Bool
+is_capital_or_digit b = is_digit b || is_in_range 65 90 b
+
+-- one of the 64 characters: - _ 0 to 9, A to Z and a to z
+abbrev pub is_of_64 : ℕ → Bool
+is_of_64 b = (b == 45) || (is_digit b || (is_in_range 65 90 b || ((b == 95) || is_in_range 97 122 b)))
+
 -- whether a part of this format may have the byte
 abbrev pub belongs : PartFormat → ℕ → Bool
+belongs Numeric b = is_digit b
 belongs Alphanumeric b = is_character b
-belongs _ b = is_digit b
+belongs Component b = (b == 35) || ((b == 45) || ((b == 47) || is_capital_or_digit b))
+belongs Base64Url b = (b == 61) || is_of_64 b
+belongs Capitals b = is_capital_or_digit b
+belongs YesNo b = is_in_range 48 49 b
+belongs Winding b = is_in_range 48 49 b || (b == 57)
+belongs Sex b = is_in_range 48 50 b || (b == 57)
+belongs Zero b = b == 48
+belongs Hyphen b = b == 45
+belongs Importer b = is_of_64 b
 
--- whether the length is even, where it is to be
-abbrev pub has_even_length : Part → List ℕ → Bool
-has_even_length part bytes = not part.even || (length bytes % 2 == 0)
+-- whether the bytes beyond the least are whole steps
+abbrev pub has_whole_steps : Part → List ℕ → Bool
+has_whole_steps part bytes = nat_le part.step 1 || ((length bytes - part.least) % part.step == 0)
 
--- whether each byte belongs to the part
+-- whether each byte belongs to the part, and the bytes are as its rule says
 abbrev pub has_characters : Part → List ℕ → Bool
-has_characters part bytes = list_all (belongs part.format) bytes
+has_characters part bytes = list_all (belongs part.format) bytes && follows part.rule bytes
 
--- whether the last digit is the check digit of the others, where it is to be (section 7.9)
+-- whether the characters that check others are right, where it has some
 abbrev pub has_check_digit : Part → List ℕ → Bool
-has_check_digit part bytes = not part.check || (weighted (digits_of bytes) % 10 == 0)
-
--- whether there is what bytes of this format name: a day (section 7.12), or a day and a time
-abbrev pub is_named : ℕ → PartFormat → List ℕ → Bool
-is_named year Date bytes = is_some (day_of bytes year)
-is_named year DateAndTime bytes = is_day_and_time bytes year
-is_named year _ bytes = true
+has_check_digit part bytes = is_checked_by part.check bytes
 
 -- whether each part of a value passes a test; every part but the last has one length alone
 abbrev pub each_part : (Part → List ℕ → Bool) → List Part → List ℕ → Bool
@@ -56,10 +69,10 @@ each_part test (p ∷ parts) value = test p (take p.greatest value) && each_part
 pub record IsValue (year : ℕ) (parts : List Part) (value : List ℕ) : Type 0 where
   pub least : least_of parts ≤ length value
   pub greatest : length value ≤ greatest_of parts
-  pub even : IsTrue (each_part has_even_length parts value)
+  pub steps : IsTrue (each_part has_whole_steps parts value)
   pub characters : IsTrue (each_part has_characters parts value)
   pub check_digits : IsTrue (each_part has_check_digit parts value)
-  pub dates : IsTrue (each_part (λ p. is_named year p.format) parts value)
+  pub dates : IsTrue (each_part (λ p. is_named year p.rule) parts value)
 
 -- ---- elements
 
@@ -117,8 +130,8 @@ pub record IsElementsBy (table : List Row) (year : ℕ) (text : List ℕ) (es : 
   pub reads : ReadsElements table year text es []
 
 -- the element string of this list
-abbrev pub IsElements : ℕ → List ℕ → List Entry → Type 0
-IsElements year text es = IsElementsBy ai_rows year text es
+abbrev pub IsElements : Terms → List ℕ → List Entry → Type 0
+IsElements terms text es = IsElementsBy (rows_by terms) terms.year text es
 
 -- ---- faults
 
@@ -136,33 +149,33 @@ abbrev pub row_fault : ℕ → ℕ → ElementFault → List Part → List ℕ �
 row_fault year place too_long parts value =
     if nat_lt (length value) (least_of parts) then Some (ValueLength place)
     else if nat_lt (greatest_of parts) (length value) then Some too_long
-    else if not (each_part has_even_length parts value) then Some (ValueLength place)
+    else if not (each_part has_whole_steps parts value) then Some (ValueLength place)
     else if not (each_part has_characters parts value) then Some (ValueCharacter place)
     else if not (each_part has_check_digit parts value) then Some (ValueCheckDigit place)
-    else if not (each_part (λ p. is_named year p.format) parts value) then Some (ValueDate place)
+    else if not (each_part (λ p. is_named year p.rule) parts value) then Some (ValueDate place)
     else None
 
 -- the fault at the beginning of a text, whose element stands at this place, by the row of its AI
-abbrev pub fault_by : ℕ → ℕ → List ℕ → Option Row → Option ElementFault
+abbrev pub fault_by : Terms → ℕ → List ℕ → Option Row → Option ElementFault
 fault_by year place text None = Some (UnknownAi place)
-fault_by year place text (Some row) = row_fault year place (MissingSeparator place) row.parts (value_in row (field_of (drop (length row.ai) text)))
+fault_by year place text (Some row) = row_fault year.year place (MissingSeparator place) row.parts (value_in row (field_of (drop (length row.ai) text)))
 
 -- elements, and then a fault
-pub record StopsWith (year : ℕ) (text : List ℕ) (f : ElementFault) : Type 0 where
+pub record StopsWith (year : Terms) (text : List ℕ) (f : ElementFault) : Type 0 where
   pub before : List Entry
   pub rest : List ℕ
-  pub reads : ReadsElements ai_rows year text before rest
+  pub reads : ReadsElements (rows_by year) year.year text before rest
   pub some : 0 < length rest
   pub place : ℕ
   pub place_is : place + length rest ≡ length text
-  pub fault : fault_by year place rest (row_at rest) ≡ Some f
+  pub fault : fault_by year place rest (row_by_terms year rest) ≡ Some f
 
 -- a text of too many bytes, or of none
 abbrev pub size_fault : List ℕ → Option ElementFault
 size_fault text = if nat_lt 192 (length text) then Some TooLong else if length text == 0 then Some Empty else None
 
 -- the first fault of a text: its size, or what stands after the elements that are read of it
-abbrev pub FirstFault : ℕ → List ℕ → ElementFault → Type 0
+abbrev pub FirstFault : Terms → List ℕ → ElementFault → Type 0
 FirstFault year text f = MatchOption (size_fault text) (StopsWith year text f) (λ g. f ≡ g)
 
 -- ---- the canonical text
@@ -177,30 +190,41 @@ canonical [] = []
 canonical (e ∷ []) = e.ai ++ e.value
 canonical (e ∷ f ∷ es) = e.ai ++ e.value ++ separator_for e ++ canonical (f ∷ es)
 
+-- the parts of a value, by the row of its AI
+abbrev pub parts_by : Option Row → List Part
+parts_by None = []
+parts_by (Some row) = row.parts
+
+-- the parts of a value with this AI
+abbrev pub parts_at : List ℕ → List Part
+parts_at ai = parts_by (row_at ai)
+
 -- the element of a GTIN: AI 01 and its 14 digits
 abbrev pub gtin_entry : List ℕ → Entry
 gtin_entry gtin = record { ai = codes "01"; value = ascii_of gtin }
 
--- the day that a value names, by the row of its AI
-abbrev pub day_by : ℕ → List ℕ → Option Row → Option (ℕ × ℕ × ℕ)
-day_by year value None = None
-day_by year value (Some row) =
-    if is_timed row.parts then exact_day_of (take 6 value) year
-    else if is_dated row.parts then day_of value year
-    else None
+-- the day that a value names, by its parts: one with a day stands alone
+abbrev pub day_by : ℕ → List ℕ → List Part → Option (ℕ × ℕ × ℕ)
+day_by year value (p ∷ []) = day_named_by p.rule value year
+day_by year value _ = None
 
 -- the day of an element, where its AI is one of a day
-abbrev pub entry_day : ℕ → Entry → Option (ℕ × ℕ × ℕ)
-entry_day year e = day_by year e.value (row_at e.ai)
+abbrev pub entry_day : Terms → Entry → Option (ℕ × ℕ × ℕ)
+entry_day year e = day_by year.year e.value (parts_at e.ai)
 
--- the hours, the minutes and the seconds that a value names, by the row of its AI
-abbrev pub time_by : List ℕ → Option Row → Option (List ℕ)
-time_by value None = None
-time_by value (Some row) = if is_timed row.parts then time_of (drop 6 value) else None
+-- the hours, the minutes and the seconds that a value names, by its parts
+abbrev pub time_by : List ℕ → List Part → Option (List ℕ)
+time_by value (p ∷ []) = time_named_by p.rule value
+time_by value _ = None
+
+-- whether a value of these parts and so many bytes names a time
+abbrev pub is_timed : List Part → ℕ → Bool
+is_timed (p ∷ []) count = names_time p.rule count
+is_timed _ count = false
 
 -- the hours, the minutes and the seconds of an element, where its AI is one of a time
 abbrev pub entry_time : Entry → Option (List ℕ)
-entry_time e = time_by e.value (row_at e.ai)
+entry_time e = time_by e.value (parts_at e.ai)
 
 -- "(", AI, ")", value of each
 abbrev pub hri : List Entry → List ℕ
@@ -218,19 +242,23 @@ pairs_text es = join_with_byte 9 (map pair_text es)
 
 -- a list of elements under its reference year
 pub record Listing : Type 0 where
-  pub year : ℕ
+  pub year : Terms
   pub list : List Entry
 
--- a separator or one of the 82 characters
+-- one of the 82 characters, or #, which is one of the 39
+abbrev pub is_value_byte : ℕ → Bool
+is_value_byte b = is_character b || (b == 35)
+
+-- a separator or a byte of a value
 abbrev pub is_text_byte : ℕ → Bool
-is_text_byte b = (b == 29) || is_character b
+is_text_byte b = (b == 29) || is_value_byte b
 
 -- a text that begins with two digits
 abbrev pub begins_with_digits : List ℕ → Bool
 begins_with_digits (a ∷ b ∷ text) = is_digit a && is_digit b
 begins_with_digits _ = false
 
--- a text of separators and characters alone, with two digits first
+-- a text of separators and bytes of values alone, with two digits first
 abbrev pub is_printable : List ℕ → Bool
 is_printable text = list_all is_text_byte text && begins_with_digits text
 
@@ -238,41 +266,50 @@ is_printable text = list_all is_text_byte text && begins_with_digits text
 
 -- a text is one list of elements, or has one first fault, and not both
 abbrev pub OneListOrFault : Type 0
-OneListOrFault = (year : ℕ) (text : List ℕ) →
+OneListOrFault = (year : Terms) (text : List ℕ) →
     ((es fs : List Entry) → IsElements year text es → IsElements year text fs → es ≡ fs)
     × ((f g : ElementFault) → FirstFault year text f → FirstFault year text g → f ≡ g)
     × ((es : List Entry) (f : ElementFault) → IsElements year text es → FirstFault year text f → ⊥)
 
 -- the canonical text of a list is an element string of the same list, and no longer
 abbrev pub CanonicalReads : Type 0
-CanonicalReads = (year : ℕ) (text : List ℕ) (es : List Entry) → IsElements year text es
+CanonicalReads = (year : Terms) (text : List ℕ) (es : List Entry) → IsElements year text es
     → IsElements year (canonical es) es × (length (canonical es) ≤ length text)
 
 -- different lists of elements have different pairs: no AI has the byte "=", and no value a tab
 abbrev pub PairsDiffer : Type 0
-PairsDiffer = (year other : ℕ) (text more : List ℕ) (es fs : List Entry) → IsElements year text es → IsElements other more fs
+PairsDiffer = (year other : Terms) (text more : List ℕ) (es fs : List Entry) → IsElements year text es → IsElements other more fs
     → pairs_text es ≡ pairs_text fs → es ≡ fs
 
 -- each text is a list of elements or has a first fault
 abbrev pub EachText : Type 0
-EachText = (year : ℕ) (text : List ℕ) →
+EachText = (year : Terms) (text : List ℕ) →
     ((es : List Entry) × IsElements year text es) ⊎ ((f : ElementFault) × FirstFault year text f)
 
 -- an element has a day exactly where its AI is one of a day
 abbrev pub DatedElements : Type 0
-DatedElements = (year : ℕ) (row : Row) (e : Entry) → IsElement ai_rows year row e
+DatedElements = (year : Terms) (row : Row) (e : Entry) → IsElement (rows_by year) year.year row e
     → is_some (entry_day year e) ≡ is_dated row.parts
 
--- an element has a time exactly where its AI is 7003 or 8008
+-- an element has a time exactly where its AI is one of a time
 abbrev pub TimedElements : Type 0
-TimedElements = (year : ℕ) (row : Row) (e : Entry) → IsElement ai_rows year row e
+TimedElements = (year : Terms) (row : Row) (e : Entry) → IsElement (rows_by year) year.year row e
+    → is_some (entry_time e) ≡ is_timed row.parts (length e.value)
+
+-- in the profile exactly where its AI is 7003 or 8008
+abbrev pub TimedInProfile : Type 0
+TimedInProfile = (year : ℕ) (row : Row) (e : Entry) → IsElement (rows_by (profile year)) year row e
     → is_some (entry_time e) ≡ is_7003_or_8008 row.ai
 
 -- each text that was read by the table of the first edition is read as the same list
 abbrev pub ReadAsBefore : Type 0
-ReadAsBefore = (year : ℕ) (text : List ℕ) (es : List Entry) → IsElementsBy first_rows year text es → IsElements year text es
+ReadAsBefore = (year : ℕ) (text : List ℕ) (es : List Entry) → IsElementsBy first_rows year text es → IsElements (profile year) text es
+
+-- what is read by the profile is read as the same list by every AI
+abbrev pub ProfileWithin : Type 0
+ProfileWithin = (year : ℕ) (text : List ℕ) (es : List Entry) → IsElements (profile year) text es → IsElements (every_ai year) text es
 
 -- the element of a GTIN is read back from its text, under each reference year
 abbrev pub GtinReads : Type 0
-GtinReads = (gtin : List ℕ) (year : ℕ) → length gtin ≡ 14 → AreDigits gtin → IsChecked gtin
+GtinReads = (gtin : List ℕ) (year : Terms) → length gtin ≡ 14 → AreDigits gtin → IsChecked gtin
     → IsElements year (canonical (gtin_entry gtin ∷ [])) (gtin_entry gtin ∷ [])

@@ -1,4 +1,5 @@
 pub use Rattle.digits_core.specs.Digits
+pub mod Checks
 pub mod Days
 pub mod Elements
 pub mod Faults
@@ -7,7 +8,9 @@ pub mod Lines
 pub mod Listings
 pub mod Pairs
 pub mod Rows
+pub mod Rules
 pub mod Shown
 pub mod Table
+pub mod Terms
 pub mod Times
 pub mod inner

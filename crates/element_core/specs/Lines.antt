@@ -9,6 +9,7 @@ use Rattle.digits_core.specs.Refusals.{refusal_text}
 use Rattle.digits_core.specs.declared.fault.DigitFault.{DigitFault}
 use Rattle.element_core.specs.Elements.{Entry, FirstFault, IsElements, hri, pairs_text}
 use Rattle.element_core.specs.Faults.{element_fault_text}
+use Rattle.element_core.specs.Terms.{Terms}
 use Rattle.element_core.specs.declared.fault.ElementFault.{ElementFault}
 use Rattle.element_core.specs.declared.form.Form.{Form}
 use Rattle.element_core.specs.declared.form.Form.TheVariants as form
@@ -46,7 +47,7 @@ abbrev pub IsDigitLine : List ℕ → List ℕ → Type 0
 IsDigitLine text line = IsDigitAnswer text (payload_fault text) line
 
 -- the line of an element string under a reference year: a word and what is said of its elements, or its first fault
-abbrev pub IsElementsLine : List ℕ → (List Entry → List ℕ) → ℕ → List ℕ → List ℕ → Type 0
+abbrev pub IsElementsLine : List ℕ → (List Entry → List ℕ) → Terms → List ℕ → List ℕ → Type 0
 IsElementsLine word said year text line =
     ((list : List Entry) × IsElements year text list × (line ≡ word ++ (32 ∷ said list)))
     ⊎ ((fault : ElementFault) × FirstFault year text fault × (line ≡ element_fault_text fault))

@@ -8,7 +8,7 @@ ghost use Rattle.jiff.specs.Words.{IsBetween, month_length};
 ghost use Rattle.element_core.specs.inner.Days.{AreSixDigits, day_named, is_six_digits};
 ghost use Rattle.element_core.specs.Days.{IsDay, day_in, day_of, full_year, two};
 
-use crate::year::Year;
+use crate::year::ReferenceYear;
 use jiff::civil::Date;
 
 /// The number of two ASCII digits.
@@ -54,8 +54,8 @@ fn day_or_last(first: Date, day: u8) -> i8
 }
 
 /// The day of a month, where day 0 is the last.
-fn day_in_month(year: u16, month: u8, day: u8) -> Option<Date>
-    requires year { IsInRange 1900 2200 year }
+pub(crate) fn day_in_month(year: u16, month: u8, day: u8) -> Option<Date>
+    requires year { year ≤ 9999 }
     requires month { month < 100 }
     requires day { day < 100 }
     ensures { IsDay result (day_in year month day) }
@@ -70,7 +70,7 @@ fn day_in_month(year: u16, month: u8, day: u8) -> Option<Date>
 }
 
 /// The day that six digits name: year, month and day, two digits each.
-pub(crate) fn named_day(six: &[u8], reference: Year) -> Option<Date>
+pub(crate) fn named_day(six: &[u8], reference: ReferenceYear) -> Option<Date>
     requires length { length six.now ≡ 6 }
     requires digits { AreSixDigits six.now }
     ensures { IsDay result (day_named six.now reference) }
@@ -96,7 +96,7 @@ pub(crate) fn is_six_digits(text: &[u8]) -> bool
 /// The day that a text of six digits, YYMMDD, names under the reference year, where day 00 is the
 /// last of its month: none where there is no such day, and of any other text
 /// (GS1 General Specifications, sections 3.4 and 7.12).
-pub(crate) fn date_of(text: &[u8], reference: Year) -> Option<Date>
+pub(crate) fn date_of(text: &[u8], reference: ReferenceYear) -> Option<Date>
     ensures day { IsDay result (day_of text.now reference) }
     ensures some { is_some result ≡ is_some (day_of text.now reference) }
 {

@@ -1,11 +1,12 @@
 //! Families of AIs, and the family of the AI at the front of a text.
 
-ghost use Rattle.std.specs.Prelude.{◌≡◌, option_map, length, IfSome, ◌≤◌};
+ghost use Rattle.std.specs.Prelude.{◌≡◌, ◌||◌, option_map, length, IfSome, ◌≤◌, if◌then◌else◌};
 ghost use Rattle.element_core.specs.Table.{row_at};
 ghost use Rattle.element_core.specs.inner.Families.{is_in_family, row_by, row_with};
 
 use crate::first_digits::families_with;
 use crate::part::Part;
+use crate::terms::Terms;
 
 /// AIs that differ in digits alone, each of whose digits lies between those of the least and the greatest.
 #[derive(Clone, Copy)]
@@ -14,10 +15,12 @@ pub struct AiFamily {
     pub least: &'static [u8],
     /// The greatest AI, as long as the least.
     pub greatest: &'static [u8],
-    /// The parts of the value, one or two.
+    /// The parts of the value, one to five.
     pub parts: &'static [Part],
     /// Whether the first two digits say how long an element is.
     pub predefined: bool,
+    /// Whether the AIs are of the profile.
+    pub profile: bool,
 }
 
 /// Whether the text begins with an AI of the family.
@@ -45,12 +48,20 @@ fn first_with(table: &[AiFamily], text: &[u8]) -> Option<AiFamily>
     None
 }
 
+/// Whether the AIs of a family are read by.
+pub(crate) fn is_read_by(terms: Terms, family: &AiFamily) -> bool
+    ensures { result ≡ (terms.every || family.now.profile) }
+{
+    terms.every() || family.profile
+}
+
 /// The family of the AI that the text begins with.
 pub(crate) fn family_at(text: &[u8]) -> Option<AiFamily>
     ensures row { option_map (λ f. row_with f text.now) result ≡ row_at text.now }
     ensures within { IfSome result (λ f. length f.least.now ≤ length text.now) }
     ensures short { IfSome result (λ f. length f.least.now ≤ 4) }
-    ensures few { IfSome result (λ f. length f.parts.now ≤ 2) }
+    ensures few { IfSome result (λ f. length f.parts.now ≤ 5) }
+    ensures two { IfSome result (λ f. length f.parts.now ≤ (if f.profile then 2 else 5)) }
 {
     match text {
         [first, second, ..] => first_with(families_with(*first, *second), text),

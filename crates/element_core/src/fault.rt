@@ -15,11 +15,12 @@ pub enum ElementFault {
     Empty,
     /// No AI of the table stands here.
     UnknownAi(usize),
-    /// The value is too short, or its length is odd where it is to be even; in a pair, any wrong length.
+    /// The value is too short, or its length is one between the least and the greatest that it may not
+    /// have; in a pair, any wrong length.
     ValueLength(usize),
-    /// The value has a byte that its part does not allow.
+    /// The value has a byte that its part does not allow, or breaks another rule of its part.
     ValueCharacter(usize),
-    /// The value's check digit is wrong.
+    /// The value's check digit is wrong, or its check characters are.
     ValueCheckDigit(usize),
     /// There is no such day or time as the value names.
     ValueDate(usize),

@@ -9,11 +9,11 @@ ghost use Rattle.element_core.specs.Table.{predefined_length, row_at};
 ghost use Rattle.element_core.specs.inner.Walks.{IsFrontOfText, elements_from};
 ghost use Rattle.element_core.specs.inner.Families.{family_of, row_with};
 
-use crate::family::{AiFamily, family_at};
+use crate::family::{AiFamily, family_at, is_read_by};
 use crate::fault::ElementFault;
+use crate::terms::Year;
 use crate::text::SEPARATOR;
 use crate::value::{greatest_length, row_fault};
-use crate::year::Year;
 
 /// An element and what is after it.
 #[derive(Clone, Copy)]
@@ -50,7 +50,7 @@ fn skip_separator(text: &[u8]) -> &[u8]
 
 /// How long the value is that stands at the front of the text.
 fn value_length(family: &AiFamily, text: &[u8]) -> usize
-    requires { length family.now.parts.now ≤ 2 }
+    requires { length family.now.parts.now ≤ 5 }
     ensures { result ≡ length (value_in (row_with family.now []) (field_of text.now)) }
 {
     let field = field_length(text);
@@ -64,7 +64,7 @@ fn value_length(family: &AiFamily, text: &[u8]) -> usize
 
 /// The value at the front of the text, and what is after it.
 fn value_of<'a>(family: &AiFamily, text: &'a [u8]) -> (&'a [u8], &'a [u8])
-    requires { length family.now.parts.now ≤ 2 }
+    requires { length family.now.parts.now ≤ 5 }
     ensures value { result.0.now ≡ value_in (row_with family.now []) (field_of text.now) }
     ensures after { result.1.now ≡ drop (length result.0.now) text.now }
 {
@@ -76,7 +76,7 @@ fn value_of<'a>(family: &AiFamily, text: &'a [u8]) -> (&'a [u8], &'a [u8])
 pub(crate) fn front_of(text: &[u8]) -> Option<Front<'_>>
     ensures front { MatchOption result (row_at text.now ≡ None) (λ f. IsFrontOfText text.now f) }
     ensures elements { shown_elements text.now ≡ elements_from result }
-    ensures few { IfSome result (λ f. length f.family.parts.now ≤ 2) }
+    ensures few { IfSome result (λ f. length f.family.parts.now ≤ 5) }
     ensures within { IfSome result (λ f. length f.ai.now + length f.value.now + length f.rest.now ≤ length text.now) }
     ensures some { IfSome result (λ f. 0 < length f.ai.now) }
 {
@@ -107,8 +107,17 @@ pub(crate) fn element_at<'a>(
     let Some(front) = front_of(text) else {
         return Err(ElementFault::UnknownAi(place));
     };
+    if !is_read_by(year, &front.family) {
+        return Err(ElementFault::UnknownAi(place));
+    }
     let too_long = ElementFault::MissingSeparator(place);
-    match row_fault(year, place, too_long, front.family.parts, front.value) {
+    match row_fault(
+        year.reference(),
+        place,
+        too_long,
+        front.family.parts,
+        front.value,
+    ) {
         Some(fault) => Err(fault),
         None => Ok(front),
     }

@@ -1,14 +1,19 @@
 //! Laws of the definitions: each function does nothing, and its contract is the law.
 
 ghost use Rattle.element_core.specs.Days.{DayZero, YearWindow};
-ghost use Rattle.element_core.specs.Table.{CountsFirstRows, NoAiBeginsAnother, FirstDigitsDecide, PartsHaveOneLength};
-ghost use Rattle.element_core.specs.Elements.{CanonicalReads, DatedElements, EachText, GtinReads, OneListOrFault, PairsDiffer, ReadAsBefore, TimedElements};
+ghost use Rattle.element_core.specs.Table.{CountsFirstRows, CountsRows, NoAiBeginsAnother, FirstDigitsDecide, PartsHaveOneLength};
+ghost use Rattle.element_core.specs.Elements.{CanonicalReads, DatedElements, EachText, GtinReads, OneListOrFault, PairsDiffer, ProfileWithin, ReadAsBefore, TimedElements, TimedInProfile};
 ghost use Rattle.element_core.specs.Pairs.{FaultlessPairs, PairLengths, PairsAsTexts, UnknownPairs};
 ghost use Rattle.element_core.specs.Fronts.{ReadsPieces};
 
 /// No AI of the table is the beginning of another.
 pub fn no_ai_begins_another()
     ensures { NoAiBeginsAnother }
+{}
+
+/// There are 536 AIs, and 407 of them are of the profile.
+pub fn counts_rows()
+    ensures { CountsRows }
 {}
 
 /// The first two digits of an AI say whether its length is predefined.
@@ -48,7 +53,7 @@ pub fn reads_pieces()
 {}
 
 /// Every part of a value but the last has one length. A part that names a day is the only part of
-/// its value, and has 6 digits, or 8, 10 or 12 where it names a time too.
+/// its value, and has the digits of its rule.
 pub fn parts_have_one_length()
     ensures { PartsHaveOneLength }
 {}
@@ -69,9 +74,10 @@ pub fn dated_elements()
     ensures { DatedElements }
 {}
 
-/// An element has a time exactly where its AI is 7003 or 8008.
+/// An element has a time exactly where its AI is one of a time. In the profile these are 7003 and 8008.
 pub fn timed_elements()
-    ensures { TimedElements }
+    ensures every { TimedElements }
+    ensures profile { TimedInProfile }
 {}
 
 /// Each text that was read by the table of the first edition, which has neither AI 7003 nor 8008
@@ -79,6 +85,11 @@ pub fn timed_elements()
 pub fn read_as_before()
     ensures lists { ReadAsBefore }
     ensures table { CountsFirstRows }
+{}
+
+/// What is read by the profile is read as the same list by every AI.
+pub fn profile_within()
+    ensures { ProfileWithin }
 {}
 
 /// Pairs have no fault exactly where they are the elements of their canonical text.

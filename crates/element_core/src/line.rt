@@ -7,7 +7,7 @@ ghost use Rattle.element_core.specs.Lines.{IsDigitLine, IsElementsLine, elements
 use crate::elements::Elements;
 use crate::form::Form;
 use crate::hri::push_bytes;
-use crate::year::Year;
+use crate::terms::Year;
 use arrayvec::ArrayString;
 use digits_core::{Gtin, Refusal, payload_digit};
 use std::fmt;

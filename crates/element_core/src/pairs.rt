@@ -4,11 +4,11 @@ ghost use Rattle.std.specs.Prelude.{◌≡◌, ◌<◌, ◌≤◌, length, None,
 ghost use Rattle.element_core.specs.Table.{predefined_length, row_at};
 ghost use Rattle.element_core.specs.Pairs.{entry_of, entries_of, entry_fault, entries_fault};
 
-use crate::family::family_at;
+use crate::family::{family_at, is_read_by};
 use crate::fault::ElementFault;
+use crate::terms::Year;
 use crate::text::Text;
 use crate::value::row_fault;
-use crate::year::Year;
 
 /// An AI and a value, which need not belong together.
 #[derive(Drop)]
@@ -28,10 +28,16 @@ fn pair_fault(year: Year, i: usize, pair: &Pair) -> Option<ElementFault>
     let Some(family) = family_at(ai) else {
         return Some(ElementFault::UnknownAi(i));
     };
-    if ai.len() != family.least.len() {
+    if ai.len() != family.least.len() || !is_read_by(year, &family) {
         return Some(ElementFault::UnknownAi(i));
     }
-    row_fault(year, i, ElementFault::ValueLength(i), family.parts, value)
+    row_fault(
+        year.reference(),
+        i,
+        ElementFault::ValueLength(i),
+        family.parts,
+        value,
+    )
 }
 
 /// The fault of the first faulty pair.

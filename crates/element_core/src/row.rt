@@ -1,7 +1,7 @@
 //! Rows of the table of AIs.
 
 ghost use Rattle.std.specs.Prelude.{◌≡◌, option_map};
-ghost use Rattle.element_core.specs.Table.{row_at};
+ghost use Rattle.element_core.specs.Terms.{profile_row_at};
 ghost use Rattle.element_core.specs.Rows.{table_row};
 
 use crate::family::family_at;
@@ -22,9 +22,12 @@ pub struct AiRow {
 
 /// The row of the AI that the bytes begin with: none where they begin with no AI of the table.
 pub fn ai_row(bytes: &[u8]) -> Option<AiRow>
-    ensures { option_map table_row result ≡ row_at bytes.now }
+    ensures { option_map table_row result ≡ profile_row_at bytes.now }
 {
     let family = family_at(bytes)?;
+    if !family.profile {
+        return None;
+    }
     let mut parts = ArrayVec::new();
     let _ = parts.try_extend_from_slice(family.parts);
     Some(AiRow {

@@ -1,25 +1,18 @@
-//! The days and times that element strings name together.
+//! The times that element strings name, and the days before them.
 
-ghost use Rattle.std.specs.Prelude.{◌≡◌, ◌+◌, ◌<◌, ◌≤◌, ◌∷◌, [], Some, None, take, drop, length, is_some, IsTrue};
+ghost use Rattle.std.specs.Prelude.{◌≡◌, ◌+◌, ◌*◌, ◌<◌, ◌≤◌, true, is_some, IsTrue};
+ghost use Rattle.element_core.specs.inner.Days.{is_eight_digits};
 ghost use Rattle.std.specs.List.{list_all};
 ghost use Rattle.std.specs.Char.{is_ascii_digit};
 ghost use Rattle.element_core.specs.Days.{IsDay, two};
-ghost use Rattle.element_core.specs.Times.{exact_day_of, is_day_and_time, is_time_text, time_in, time_of, two_or_zero};
+ghost use Rattle.element_core.specs.Times.{exact_day_of, is_time_text, long_day_of, time_in, time_of, two_or_zero};
 
-use crate::date::{are_digits, is_six_digits, named_day, two_digits};
-use crate::year::Year;
+use crate::date::{are_digits, day_in_month, is_six_digits, named_day, two_digits};
+use crate::year::ReferenceYear;
 use jiff::civil::Date;
 
-/// The first six bytes, and what is after them.
-fn split(text: &[u8]) -> (&[u8], &[u8])
-    ensures front { result.0.now ≡ take 6 text.now }
-    ensures rest { result.1.now ≡ drop 6 text.now }
-{
-    text.split_at(text.len().min(6))
-}
-
 /// The day that six digits name by its number under the reference year: none where it is 00.
-fn exact_date_of(text: &[u8], reference: Year) -> Option<Date>
+pub(crate) fn exact_date_of(text: &[u8], reference: ReferenceYear) -> Option<Date>
     ensures day { IsDay result (exact_day_of text.now reference) }
     ensures some { is_some result ≡ is_some (exact_day_of text.now reference) }
 {
@@ -30,6 +23,46 @@ fn exact_date_of(text: &[u8], reference: Year) -> Option<Date>
         return None;
     }
     named_day(text, reference)
+}
+
+/// Whether a text is eight ASCII digits.
+fn is_eight_digits(text: &[u8]) -> bool
+    ensures { result ≡ is_eight_digits text.now }
+{
+    text.len() == 8 && are_digits(text)
+}
+
+/// The number of two digits of eight.
+fn two_of(eight: &[u8], at: usize) -> u8
+    requires place { at ≤ 6 }
+    requires digits { is_eight_digits eight.now ≡ true }
+    ensures value { result ≡ two eight.now at }
+    ensures small { result < 100 }
+{
+    two_digits(eight[at], eight[at + 1])
+}
+
+/// The number of the first four digits of eight.
+fn year_of(eight: &[u8]) -> u16
+    requires { is_eight_digits eight.now ≡ true }
+    ensures value { result ≡ 100 * two eight.now 0 + two eight.now 2 }
+    ensures small { result ≤ 9999 }
+{
+    100 * u16::from(two_of(eight, 0)) + u16::from(two_of(eight, 2))
+}
+
+/// The day that eight digits name, the year by all its four: none where the day is 00.
+pub(crate) fn long_date_of(text: &[u8]) -> Option<Date>
+    ensures day { IsDay result (long_day_of text.now) }
+    ensures some { is_some result ≡ is_some (long_day_of text.now) }
+{
+    if !is_eight_digits(text) {
+        return None;
+    }
+    if two_of(text, 6) == 0 {
+        return None;
+    }
+    day_in_month(year_of(text), two_of(text, 4), two_of(text, 6))
 }
 
 /// The number of the two digits at a place, 0 where they are not written.
@@ -66,7 +99,7 @@ fn time_in(hours: u8, minutes: u8, seconds: u8) -> Option<[u8; 3]>
 /// The hours, the minutes and the seconds that a text of ASCII digits, HH, HHMM or HHMMSS, names:
 /// none where there is no such time, and of any other text
 /// (GS1 General Specifications, sections 3.8 and 3.9).
-fn time_of(text: &[u8]) -> Option<[u8; 3]>
+pub(crate) fn time_of(text: &[u8]) -> Option<[u8; 3]>
     ensures { result ≡ time_of text.now }
 {
     if !is_time_text(text) {
@@ -77,26 +110,4 @@ fn time_of(text: &[u8]) -> Option<[u8; 3]>
         two_or_zero(text, 2),
         two_or_zero(text, 4),
     )
-}
-
-/// The day of a value that names a day and a time.
-pub(crate) fn date_before_time(value: &[u8], reference: Year) -> Option<Date>
-    ensures day { IsDay result (exact_day_of (take 6 value.now) reference) }
-    ensures some { is_some result ≡ is_some (exact_day_of (take 6 value.now) reference) }
-{
-    exact_date_of(split(value).0, reference)
-}
-
-/// The time of a value that names a day and a time.
-pub(crate) fn time_after_date(value: &[u8]) -> Option<[u8; 3]>
-    ensures { result ≡ time_of (drop 6 value.now) }
-{
-    time_of(split(value).1)
-}
-
-/// Whether a text names a day and, after its six digits, a time.
-pub(crate) fn is_day_and_time(text: &[u8], reference: Year) -> bool
-    ensures { result ≡ is_day_and_time text.now reference }
-{
-    date_before_time(text, reference).is_some() && time_after_date(text).is_some()
 }

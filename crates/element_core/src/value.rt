@@ -1,86 +1,85 @@
 //! The tests of an element's value.
 
 ghost use Rattle.std.specs.Prelude.{◌≡◌, ◌≤◌, [], length, take, drop};
-ghost use Rattle.element_core.specs.Elements.{belongs, has_characters, has_check_digit, has_even_length, each_part, row_fault};
-ghost use Rattle.digits_core.specs.Digits.{digits_of, weighted};
+ghost use Rattle.std.specs.List.{list_all};
+ghost use Rattle.element_core.specs.Elements.{belongs, each_part, has_characters, has_whole_steps, is_capital_or_digit, is_of_64, row_fault};
 ghost use Rattle.element_core.specs.Table.{least_of, greatest_of};
 ghost use Rattle.element_core.specs.inner.PartTests.{has_date, passes, value_fault};
 
-use crate::date::date_of;
+use crate::checks::is_checked_by;
 use crate::fault::ElementFault;
+use crate::named::is_named;
 use crate::part::{Part, PartFormat};
-use crate::time::is_day_and_time;
-use crate::year::Year;
+use crate::rules::follows;
+use crate::year::ReferenceYear;
+
+/// Whether a byte is a digit or a capital letter.
+fn is_capital_or_digit(b: u8) -> bool
+    ensures { result ≡ is_capital_or_digit b }
+{
+    matches!(b, b'0'..=b'9' | b'A'..=b'Z')
+}
+
+/// Whether a byte is one of the 64 characters.
+fn is_of_64(b: u8) -> bool
+    ensures { result ≡ is_of_64 b }
+{
+    matches!(b, b'-' | b'0'..=b'9' | b'A'..=b'Z' | b'_' | b'a'..=b'z')
+}
 
 /// Whether a part of this format may have the byte.
 fn belongs(format: PartFormat, b: u8) -> bool
     ensures { result ≡ belongs format b }
 {
     match format {
+        PartFormat::Numeric => matches!(b, b'0'..=b'9'),
         PartFormat::Alphanumeric => {
             matches!(b, b'!'..=b'"' | b'%'..=b'?' | b'A'..=b'Z' | b'_' | b'a'..=b'z')
         }
-        PartFormat::Numeric | PartFormat::Date | PartFormat::DateAndTime => {
-            matches!(b, b'0'..=b'9')
-        }
+        PartFormat::Component => b == b'#' || b == b'-' || b == b'/' || is_capital_or_digit(b),
+        PartFormat::Base64Url => b == b'=' || is_of_64(b),
+        PartFormat::Capitals => is_capital_or_digit(b),
+        PartFormat::YesNo => matches!(b, b'0'..=b'1'),
+        PartFormat::Winding => matches!(b, b'0'..=b'1' | b'9'),
+        PartFormat::Sex => matches!(b, b'0'..=b'2' | b'9'),
+        PartFormat::Zero => b == b'0',
+        PartFormat::Hyphen => b == b'-',
+        PartFormat::Importer => is_of_64(b),
     }
 }
 
-/// Whether the length is even, where it is to be.
-fn has_even_length(part: &Part, bytes: &[u8]) -> bool
-    ensures { result ≡ has_even_length part.now bytes.now }
+/// Whether the bytes beyond the least are whole steps.
+fn has_whole_steps(part: &Part, bytes: &[u8]) -> bool
+    ensures { result ≡ has_whole_steps part.now bytes.now }
 {
-    !part.even || bytes.len() % 2 == 0
+    part.step <= 1
+        || bytes.len().saturating_sub(usize::from(part.least)) % usize::from(part.step) == 0
 }
 
-/// Whether each byte belongs to the part.
-fn has_characters(part: &Part, bytes: &[u8]) -> bool
-    ensures { result ≡ has_characters part.now bytes.now }
+/// Whether each byte belongs to the format.
+fn all_belong(format: PartFormat, bytes: &[u8]) -> bool
+    ensures { result ≡ list_all (belongs format) bytes.now }
 {
     for b in bytes {
-        if !belongs(part.format, *b) {
+        if !belongs(format, *b) {
             return false;
         }
     }
     true
 }
 
-/// The sum of the digits that the bytes show, each times its weight: 1 for the last, then 3 and 1
-/// in turn (GS1 General Specifications, section 7.9.1).
-fn weighted_sum(bytes: &[u8]) -> u32
-    requires { length bytes.now ≤ 255 }
-    ensures { result ≡ weighted (digits_of bytes.now) }
+/// Whether each byte belongs to the part, and the bytes are as its rule says.
+fn has_characters(part: &Part, bytes: &[u8]) -> bool
+    ensures { result ≡ has_characters part.now bytes.now }
 {
-    let mut sum = 0;
-    for (i, byte) in bytes.iter().enumerate() {
-        let digit = u32::from(byte.saturating_sub(b'0'));
-        sum += if (bytes.len() - i - 1) % 2 == 0 {
-            digit
-        } else {
-            3 * digit
-        };
-    }
-    sum
+    all_belong(part.format, bytes) && follows(part.rule, bytes)
 }
 
-/// Whether the last digit is the check digit of the others, where it is to be.
-fn has_check_digit(part: &Part, bytes: &[u8]) -> bool
-    requires { length bytes.now ≤ 255 }
-    ensures { result ≡ has_check_digit part.now bytes.now }
-{
-    !part.check || weighted_sum(bytes) % 10 == 0
-}
-
-/// Whether there is such a day and such a time, where the part names them.
-fn has_date(year: Year, part: &Part, bytes: &[u8]) -> bool
-    requires { length bytes.now ≤ 255 }
+/// Whether there are such days and such a time, where the part names them.
+fn has_date(year: ReferenceYear, part: &Part, bytes: &[u8]) -> bool
     ensures { result ≡ has_date year part.now bytes.now }
 {
-    match part.format {
-        PartFormat::Numeric | PartFormat::Alphanumeric => true,
-        PartFormat::Date => date_of(bytes, year).is_some(),
-        PartFormat::DateAndTime => is_day_and_time(bytes, year),
-    }
+    is_named(year, part.rule, bytes)
 }
 
 /// What belongs to the part, and what is after it.
@@ -100,14 +99,14 @@ fn split<'a>(part: &Part, value: &'a [u8]) -> (&'a [u8], &'a [u8])
 /// A test of each part of a value.
 #[derive(Clone, Copy)]
 pub enum PartTest {
-    /// Its length is even, where it is to be.
-    EvenLength,
-    /// It has the characters that it may have.
+    /// Its length is one that it may have between its least and its greatest.
+    WholeSteps,
+    /// It has the characters that it may have, as its rule says.
     Characters,
-    /// Its check digit is right.
+    /// Its check digit or its check characters are right.
     CheckDigit,
-    /// There are the day and the time that it is to name, under the reference year.
-    Dates(Year),
+    /// There are the days and the time that it is to name, under the reference year.
+    Dates(ReferenceYear),
 }
 
 /// Whether the bytes of a part pass a test.
@@ -116,9 +115,9 @@ fn passes(test: &PartTest, part: &Part, bytes: &[u8]) -> bool
     ensures { result ≡ passes test.now part.now bytes.now }
 {
     match test {
-        PartTest::EvenLength => has_even_length(part, bytes),
+        PartTest::WholeSteps => has_whole_steps(part, bytes),
         PartTest::Characters => has_characters(part, bytes),
-        PartTest::CheckDigit => has_check_digit(part, bytes),
+        PartTest::CheckDigit => is_checked_by(part.check, bytes),
         PartTest::Dates(year) => has_date(*year, part, bytes),
     }
 }
@@ -139,7 +138,12 @@ fn each_part(test: &PartTest, parts: &[Part], value: &[u8]) -> bool
 }
 
 /// The first test that a value of a right length fails.
-fn value_fault(year: Year, place: usize, parts: &[Part], value: &[u8]) -> Option<ElementFault>
+fn value_fault(
+    year: ReferenceYear,
+    place: usize,
+    parts: &[Part],
+    value: &[u8],
+) -> Option<ElementFault>
     ensures { result ≡ value_fault year place parts.now value.now }
 {
     if !each_part(&PartTest::Characters, parts, value) {
@@ -156,7 +160,7 @@ fn value_fault(year: Year, place: usize, parts: &[Part], value: &[u8]) -> Option
 
 /// The least number of bytes of a value.
 fn least_length(parts: &[Part]) -> usize
-    requires { length parts.now ≤ 2 }
+    requires { length parts.now ≤ 5 }
     ensures { result ≡ least_of parts.now }
 {
     let mut sum = 0;
@@ -168,7 +172,7 @@ fn least_length(parts: &[Part]) -> usize
 
 /// The greatest number of bytes of a value.
 pub(crate) fn greatest_length(parts: &[Part]) -> usize
-    requires { length parts.now ≤ 2 }
+    requires { length parts.now ≤ 5 }
     ensures { result ≡ greatest_of parts.now }
 {
     let mut sum = 0;
@@ -180,13 +184,13 @@ pub(crate) fn greatest_length(parts: &[Part]) -> usize
 
 /// The first test that a value fails, its length first, where `too_long` is the fault of one that is too long.
 pub(crate) fn row_fault(
-    year: Year,
+    year: ReferenceYear,
     place: usize,
     too_long: ElementFault,
     parts: &[Part],
     value: &[u8],
 ) -> Option<ElementFault>
-    requires { length parts.now ≤ 2 }
+    requires { length parts.now ≤ 5 }
     ensures { result ≡ row_fault year place too_long parts.now value.now }
 {
     if value.len() < least_length(parts) {
@@ -195,7 +199,7 @@ pub(crate) fn row_fault(
     if greatest_length(parts) < value.len() {
         return Some(too_long);
     }
-    if !each_part(&PartTest::EvenLength, parts, value) {
+    if !each_part(&PartTest::WholeSteps, parts, value) {
         return Some(ElementFault::ValueLength(place));
     }
     value_fault(year, place, parts, value)

@@ -6,11 +6,11 @@ use std::marker::Model;
 
 /// The year by which the two digits of a date stand for a whole one: 1951 to 2149.
 #[derive(Clone, Copy, Debug, PartialEq, Eq)]
-pub struct Year {
+pub struct ReferenceYear {
     number: u16,
 }
 
-impl Model for Year {
+impl Model for ReferenceYear {
     ghost use Rattle.std.specs.Prelude.{ℕ, ◌≤◌};
 
     ghost Value = { ℕ };
@@ -22,16 +22,16 @@ impl Model for Year {
     ghost inverse = { λ n. record { number = n } };
 }
 
-impl Year {
+impl ReferenceYear {
     /// The year of this number: none outside 1951 to 2149.
-    pub fn new(number: u16) -> Option<Year>
+    pub fn new(number: u16) -> Option<ReferenceYear>
         ensures some { IsSome result ↔ ((1951 ≤ number) × (number ≤ 2149)) }
         ensures value { IfSome result (λ year. year ≡ number) }
     {
         if number < 1951 || 2149 < number {
             return None;
         }
-        Some(Year { number })
+        Some(ReferenceYear { number })
     }
 
     /// The number, 1951 to 2149.

@@ -5,8 +5,9 @@ use Rattle.digits_core.specs.Digits.{ascii_of}
 use Rattle.element_core.specs.Elements.{Entry, entry_day, entry_time, size_fault}
 use Rattle.element_core.specs.Faults.{element_fault_text}
 use Rattle.element_core.specs.Pairs.{list_fault, or_else}
+use Rattle.element_core.specs.Terms.{Terms}
 use Rattle.element_core.specs.declared.fault.ElementFault.{ElementFault}
-use Rattle.gs1_c.specs.Lines.{IsInYear}
+use Rattle.gs1_c.specs.Lines.{IsLineUnder}
 
 -- what stands before the first `=` of a text
 abbrev pub before_equals : List ℕ → List ℕ
@@ -18,7 +19,7 @@ abbrev pub shown_pair : List ℕ → Entry
 shown_pair text = record { ai = before_equals text; value = drop (length (before_equals text) + 1) text }
 
 -- the first fault of such a text: its size, or that of the pair that it shows
-abbrev pub shown_fault : ℕ → List ℕ → Option ElementFault
+abbrev pub shown_fault : Terms → List ℕ → Option ElementFault
 shown_fault year text = or_else (size_fault text) (list_fault year (shown_pair text ∷ []))
 
 -- a number below 100, in two digits
@@ -40,10 +41,10 @@ dated_line (Some day) None = codes "date " ++ day_text day
 dated_line (Some day) (Some time) = (codes "date " ++ day_text day) ++ (32 ∷ time_text time)
 
 -- the line of an element by its fault: the day and the time that it names, or why it is none
-abbrev pub date_line_by : ℕ → Entry → Option ElementFault → List ℕ
-date_line_by year e None = dated_line (entry_day year e) (entry_time e)
-date_line_by year e (Some fault) = element_fault_text fault
+abbrev pub date_line_by : Terms → Entry → Option ElementFault → List ℕ
+date_line_by terms e None = dated_line (entry_day terms e) (entry_time e)
+date_line_by terms e (Some fault) = element_fault_text fault
 
 -- the line of the day and the time of the element that a text shows
 abbrev pub IsDateLine : ℕ → List ℕ → List ℕ → Type 0
-IsDateLine year text line = IsInYear year (λ it. it ≡ date_line_by year (shown_pair text) (shown_fault year text)) line
+IsDateLine number text line = IsLineUnder number (λ terms it. it ≡ date_line_by terms (shown_pair text) (shown_fault terms text)) line

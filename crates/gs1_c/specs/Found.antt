@@ -1,5 +1,5 @@
 -- The lines of the symbols of a row.
-use Rattle.std.specs.Prelude.{◌≡◌, ◌-◌, ◌⊎◌, nat_le, ℕ, List, [], ◌∷◌, ◌++◌, Option, Some, None, flat_map, length, map, if◌then◌else◌}
+use Rattle.std.specs.Prelude.{◌≡◌, ◌-◌, nat_le, ℕ, List, [], ◌∷◌, ◌++◌, Option, Some, None, flat_map, length, map, if◌then◌else◌}
 use Rattle.std.specs.Fmt.{decimal}
 use Rattle.digits_core.specs.Buffers.{IsPut, pasted}
 use Rattle.scan_core.specs.Faults.{run_fault_text}
@@ -10,7 +10,8 @@ use Rattle.scan_core.specs.Windows.{AreSymbolsOf}
 use Rattle.scan_core.specs.declared.answer.Answer.TheVariants.{Read}
 use Rattle.scan_core.specs.declared.fault.RunFault.{RunFault}
 use Rattle.scan_core.specs.declared.window.Window.{Window}
-use Rattle.gs1_c.specs.Lines.{IsYear, packed_fault, words_text}
+use Rattle.element_core.specs.Terms.{Terms}
+use Rattle.gs1_c.specs.Lines.{Under, packed_fault, terms_of, words_text}
 
 -- the line of a symbol: its window's first run, how many runs it has, and what they say
 abbrev pub symbol_line : Window → List ℕ
@@ -27,25 +28,24 @@ pub record ArePut (lines : List (List ℕ)) (old new : List ℕ) (count : ℕ) :
   pub front : new ≡ pasted old 0 (fitting (length old) lines)
 
 -- the lines of the symbols of widths by their fault, under a reference year; or why they are no row
-abbrev pub AreDatedSymbolsPut : ℕ → List ℕ → Option RunFault → List ℕ → List ℕ → ℕ → Type 0
+abbrev pub AreDatedSymbolsPut : Terms → List ℕ → Option RunFault → List ℕ → List ℕ → ℕ → Type 0
 AreDatedSymbolsPut year widths None old new count = (ws : List Window) × AreSymbolsOf widths year ws × ArePut (map symbol_line ws) old new count
 AreDatedSymbolsPut year widths (Some fault) old new count = IsPut (run_fault_text fault) old new count
 
--- the same of any year
+-- the same by the terms that a number says
 abbrev pub AreSymbolsPut : ℕ → List ℕ → List ℕ → List ℕ → ℕ → Type 0
-AreSymbolsPut year widths old new count =
-    ((IsYear year → ⊥) × IsPut words_text old new count) ⊎ (IsYear year × AreDatedSymbolsPut year widths (runs_fault widths) old new count)
+AreSymbolsPut number widths old new count =
+    Under (terms_of number) (IsPut words_text old new count) (λ terms. AreDatedSymbolsPut terms widths (runs_fault widths) old new count)
 
 -- ---- packed dots
 
 -- the lines of the symbols of the row whose dots these are, by their fault, under a reference year; or why they are no row
-abbrev pub ArePackedSymbolsPut : ℕ → List ℕ → ℕ → Option RunFault → List ℕ → List ℕ → ℕ → Type 0
+abbrev pub ArePackedSymbolsPut : Terms → List ℕ → ℕ → Option RunFault → List ℕ → List ℕ → ℕ → Type 0
 ArePackedSymbolsPut year bits dots None old new count =
     (runs : List ℕ) × IsRow runs × (dots_of runs ≡ dots_at bits 0 dots) × AreDatedSymbolsPut year runs None old new count
 ArePackedSymbolsPut year bits dots (Some fault) old new count = IsPut (run_fault_text fault) old new count
 
--- the same of any year
+-- the same by the terms that a number says
 abbrev pub AreDotSymbolsPut : ℕ → List ℕ → ℕ → List ℕ → List ℕ → ℕ → Type 0
-AreDotSymbolsPut year bits dots old new count =
-    ((IsYear year → ⊥) × IsPut words_text old new count)
-    ⊎ (IsYear year × ArePackedSymbolsPut year bits dots (packed_fault (length bits) dots) old new count)
+AreDotSymbolsPut number bits dots old new count =
+    Under (terms_of number) (IsPut words_text old new count) (λ terms. ArePackedSymbolsPut terms bits dots (packed_fault (length bits) dots) old new count)

@@ -4,4 +4,5 @@ pub mod Labels
 pub mod Lines
 pub mod Pictures
 pub mod Scanned
+pub mod Symbols
 pub mod inner

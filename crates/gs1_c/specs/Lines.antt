@@ -1,8 +1,9 @@
 -- The lines that the calls answer.
-use Rattle.std.specs.Prelude.{◌≡◌, ◌⊎◌, ◌≤◌, ◌*◌, nat_lt, ℕ, List, Option, Some, None, length, if◌then◌else◌}
+use Rattle.std.specs.Prelude.{◌≡◌, ◌-◌, ◌*◌, ◌&&◌, Bool, true, false, nat_le, nat_lt, ℕ, List, Option, Some, None, length, if◌then◌else◌}
 use Rattle.digits_core.specs.Refusals.{refusal_words}
 use Rattle.digits_core.specs.declared.refusal.RefusalKind.TheVariants as refusal
 use Rattle.element_core.specs.Lines.{IsElementsLine, elements_text}
+use Rattle.element_core.specs.Terms.{Terms}
 use Rattle.element_core.specs.declared.form.Form.{Form}
 use Rattle.scan_core.specs.Answers.{IsAnswer}
 use Rattle.scan_core.specs.Faults.{run_fault_text}
@@ -13,34 +14,43 @@ use Rattle.scan_core.specs.declared.answer.Answer.{Answer}
 use Rattle.scan_core.specs.declared.fault.RunFault.{RunFault}
 use Rattle.scan_core.specs.declared.fault.RunFault.TheVariants.{BadRuns, TooWide}
 
--- a reference year
-abbrev pub IsYear : ℕ → Type 0
-IsYear year = (1951 ≤ year) × (year ≤ 2149)
+-- a reference year, 1951 to 2149, and whether every AI is read
+abbrev pub year_terms : Bool → ℕ → Option Terms
+year_terms every year = if nat_le 1951 year && nat_le year 2149 then Some (record { year = year; every = every }) else None
 
--- the line of a year that is none
+-- what a number of 16 bits says: its highest bit that every AI is read, and the others the reference year, if they are one
+abbrev pub terms_of : ℕ → Option Terms
+terms_of number = if nat_lt number 32768 then year_terms false number else year_terms true (number - 32768)
+
+-- what holds by the terms, if there are some
+abbrev pub Under : Option Terms → Type 0 → (Terms → Type 0) → Type 0
+Under None Refused By = Refused
+Under (Some terms) Refused By = By terms
+
+-- the line of a number that says no terms
 abbrev pub words_text : List ℕ
 words_text = refusal_words refusal.Words
 
--- this line where the year is a reference year, and else the line of a year that is none
-abbrev pub IsInYear : ℕ → (List ℕ → Type 0) → List ℕ → Type 0
-IsInYear year IsLine line = ((IsYear year → ⊥) × (line ≡ words_text)) ⊎ (IsYear year × IsLine line)
+-- this line by the terms that a number says, and else the line of a number that says none
+abbrev pub IsLineUnder : ℕ → (Terms → List ℕ → Type 0) → List ℕ → Type 0
+IsLineUnder number IsLine line = Under (terms_of number) (line ≡ words_text) (λ terms. IsLine terms line)
 
 -- ---- element strings
 
 -- the line of an element string: a word and its elements in a form, or its first fault
 abbrev pub IsTextLine : List ℕ → Form → ℕ → List ℕ → List ℕ → Type 0
-IsTextLine word form year text line = IsInYear year (IsElementsLine word (elements_text form) year text) line
+IsTextLine word form number text line = IsLineUnder number (λ terms. IsElementsLine word (elements_text form) terms text) line
 
 -- ---- rows
 
 -- the line of widths by their fault, under a reference year: the answer to their row, or why they are none
-abbrev pub IsWidthsLine : Form → ℕ → List ℕ → Option RunFault → List ℕ → Type 0
+abbrev pub IsWidthsLine : Form → Terms → List ℕ → Option RunFault → List ℕ → Type 0
 IsWidthsLine form year widths None line = (a : Answer) × IsAnswer widths year a × (line ≡ said form a)
 IsWidthsLine form year widths (Some fault) line = line ≡ run_fault_text fault
 
 -- the line of widths, the elements in a form
 abbrev pub IsRowLine : Form → ℕ → List ℕ → List ℕ → Type 0
-IsRowLine form year widths line = IsInYear year (IsWidthsLine form year widths (runs_fault widths)) line
+IsRowLine form number widths line = IsLineUnder number (λ terms. IsWidthsLine form terms widths (runs_fault widths)) line
 
 -- ---- packed dots
 
@@ -49,14 +59,14 @@ abbrev pub packed_fault : ℕ → ℕ → Option RunFault
 packed_fault bytes count = if nat_lt (8 * bytes) count then Some BadRuns else if nat_lt 65535 count then Some TooWide else None
 
 -- the answer to the row whose dots these are, under a reference year
-abbrev pub IsPackedAnswer : ℕ → List ℕ → ℕ → Answer → Type 0
+abbrev pub IsPackedAnswer : Terms → List ℕ → ℕ → Answer → Type 0
 IsPackedAnswer year bits count a = (runs : List ℕ) × IsRow runs × (dots_of runs ≡ dots_at bits 0 count) × IsAnswer runs year a
 
 -- the line of so many packed dots by their fault, under a reference year
-abbrev pub IsPackedLine : Form → ℕ → List ℕ → ℕ → Option RunFault → List ℕ → Type 0
+abbrev pub IsPackedLine : Form → Terms → List ℕ → ℕ → Option RunFault → List ℕ → Type 0
 IsPackedLine form year bits count None line = (a : Answer) × IsPackedAnswer year bits count a × (line ≡ said form a)
 IsPackedLine form year bits count (Some fault) line = line ≡ run_fault_text fault
 
 -- the line of packed dots, the elements in a form
 abbrev pub IsDotsLine : Form → ℕ → List ℕ → ℕ → List ℕ → Type 0
-IsDotsLine form year bits count line = IsInYear year (IsPackedLine form year bits count (packed_fault (length bits) count)) line
+IsDotsLine form number bits count line = IsLineUnder number (λ terms. IsPackedLine form terms bits count (packed_fault (length bits) count)) line

@@ -14,7 +14,8 @@ use Rattle.picture_core.specs.declared.said.Refused.{Refused}
 use Rattle.picture_core.specs.declared.shown.Shown.{Shown}
 use Rattle.picture_core.specs.declared.symbol.Symbol.{Symbol}
 use Rattle.gs1_c.specs.Found.{ArePut}
-use Rattle.gs1_c.specs.Lines.{IsYear, words_text}
+use Rattle.element_core.specs.Terms.{Terms}
+use Rattle.gs1_c.specs.Lines.{Under, terms_of, words_text}
 
 -- ---- what is shown
 
@@ -69,20 +70,19 @@ IsPictureFault p words widths (Some NoMemory) =
     IsPicture (length p.values) p.width p.height p.stride × (IsRoom p.width p.height words widths → ⊥)
 
 -- the lines of what a picture shows, read at a level, if one is given, and under a reference year, by its fault
-abbrev pub AreFaultyLinesPut : Greys → Option ℕ → ℕ → Option RunFault → List ℕ → List ℕ → ℕ → Type 0
+abbrev pub AreFaultyLinesPut : Greys → Option ℕ → Terms → Option RunFault → List ℕ → List ℕ → ℕ → Type 0
 AreFaultyLinesPut p level year None old new count = (shown : Shown) × IsReadingOf p level year shown × AreShownPut shown old new count
 AreFaultyLinesPut p level year (Some fault) old new count = IsPut (run_fault_text fault) old new count
 
 -- the same in so many words and widths of memory
-abbrev pub AreReadLinesPut : Greys → Option ℕ → ℕ → ℕ → ℕ → List ℕ → List ℕ → ℕ → Type 0
+abbrev pub AreReadLinesPut : Greys → Option ℕ → Terms → ℕ → ℕ → List ℕ → List ℕ → ℕ → Type 0
 AreReadLinesPut p level year words widths old new count =
     (fault : Option RunFault) × IsPictureFault p words widths fault × AreFaultyLinesPut p level year fault old new count
 
--- the same of any year
+-- the same by the terms that a number says
 abbrev pub ArePictureLinesPut : Greys → ℕ → ℕ → ℕ → ℕ → List ℕ → List ℕ → ℕ → Type 0
-ArePictureLinesPut p level year words widths old new count =
-    ((IsYear year → ⊥) × IsPut words_text old new count)
-    ⊎ (IsYear year × AreReadLinesPut p (given_level level) year words widths old new count)
+ArePictureLinesPut p level number words widths old new count =
+    Under (terms_of number) (IsPut words_text old new count) (λ terms. AreReadLinesPut p (given_level level) terms words widths old new count)
 
 -- how many words a picture of this size takes; 0 of a side of more than 65,535 dots
 abbrev pub room_count : ℕ → ℕ → ℕ

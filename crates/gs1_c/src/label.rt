@@ -1,10 +1,11 @@
-//! Images of single labels.
-ghost use Rattle.std.specs.Prelude.{◌≡◌, List, ℕ};
+//! Labels of texts, and their images.
+ghost use Rattle.std.specs.Prelude.{◌≡◌, Err, IfErr, IfOk, List, Ok, ℕ};
 ghost use Rattle.digits_core.specs.Buffers.{IsPut};
-ghost use Rattle.gs1_c.specs.Labels.{IsKindPrinted, IsLabelAnswer, kind_numbered};
+ghost use Rattle.digits_core.specs.Refusals.{refusal_text};
+ghost use Rattle.gs1_c.specs.Labels.{IsKindSaid, IsLabelAnswer, IsLabelOf, kind_numbered};
 
 use crate::buffer::put_refusal;
-use digits_core::Gtin;
+use digits_core::{Gtin, Refusal};
 use element_core::{Elements, Year};
 use sheet_core::{Grid, GtinKind, Label, LabelKind, label_pbm};
 
@@ -23,6 +24,23 @@ pub fn kind_numbered(number: u32) -> Option<LabelKind>
     }
 }
 
+/// The label that a text makes as this kind, or why it makes none.
+pub fn label_of(kind: LabelKind, text: &[u8], terms: Year) -> Result<Label, Refusal>
+    ensures ok { IfOk result (λ label. IsLabelOf terms kind text.now (Ok label)) }
+    ensures err { IfErr result (λ r. IsLabelOf terms kind text.now (Err (refusal_text r.kind r.place))) }
+{
+    match kind {
+        LabelKind::Gtin(kind) => match Gtin::read(text) {
+            Ok(gtin) => Ok(Label::of_gtin(kind, gtin)),
+            Err(fault) => Err(fault.refusal()),
+        },
+        LabelKind::Gs1128 => match Elements::parse(text, terms) {
+            Ok(elements) => Ok(Label::Gs1128(elements)),
+            Err(fault) => Err(fault.refusal()),
+        },
+    }
+}
+
 /// Puts the image of a label in a grid of one cell, or why it is not printed.
 fn put_label(label: &Label, grid: Grid, out: &mut [u8]) -> usize
     requires columns { grid.columns ≡ 1 }
@@ -35,20 +53,14 @@ fn put_label(label: &Label, grid: Grid, out: &mut [u8]) -> usize
     }
 }
 
-/// The same of the label that a text makes as this kind.
-pub fn put_kind(kind: LabelKind, text: &[u8], year: Year, grid: Grid, out: &mut [u8]) -> usize
+/// Puts the image of the label that a text makes as this kind, or why it is not printed.
+pub fn put_image(kind: LabelKind, text: &[u8], terms: Year, grid: Grid, out: &mut [u8]) -> usize
     requires columns { grid.columns ≡ 1 }
     requires rows { grid.rows ≡ 1 }
-    ensures { (bytes : List ℕ) × IsKindPrinted year kind text.now grid bytes × IsPut bytes out.old out.new result }
+    ensures { (bytes : List ℕ) × IsKindSaid (λ label. IsLabelAnswer label grid) terms kind text.now bytes × IsPut bytes out.old out.new result }
 {
-    match kind {
-        LabelKind::Gtin(kind) => match Gtin::read(text) {
-            Ok(gtin) => put_label(&Label::of_gtin(kind, gtin), grid, out),
-            Err(fault) => put_refusal(fault.refusal(), out),
-        },
-        LabelKind::Gs1128 => match Elements::parse(text, year) {
-            Ok(elements) => put_label(&Label::Gs1128(elements), grid, out),
-            Err(fault) => put_refusal(fault.refusal(), out),
-        },
+    match label_of(kind, text, terms) {
+        Ok(label) => put_label(&label, grid, out),
+        Err(refusal) => put_refusal(refusal, out),
     }
 }

@@ -4,6 +4,9 @@
 //! Each call says how many bytes its line has. They stand at the front of `out` where it has room for
 //! all of them; else `out` is as it was, and the number says how much room to bring. A question that is
 //! refused is answered by its refusal: `refused`, a number, a name and, where it has one, a place.
+//!
+//! A `year` is the reference year of dates, 1951 to 2149. With its highest bit set, every Application Identifier
+//! is read, and else those of the profile. Any other number is `refused 42 Words`.
 #![tactic(auto)]
 
 ghost use Rattle.std.specs.Prelude.{◌≡◌, List, ℕ, codes, length};
@@ -15,6 +18,7 @@ ghost use Rattle.gs1_c.specs.Labels.{IsLabelBytes, one_cell};
 ghost use Rattle.gs1_c.specs.Lines.{IsDotsLine, IsRowLine, IsTextLine};
 ghost use Rattle.gs1_c.specs.Pictures.{ArePictureLinesPut, room_count};
 ghost use Rattle.gs1_c.specs.Scanned.{IsScanLine};
+ghost use Rattle.gs1_c.specs.Symbols.{IsSymbolLineBy};
 
 mod answer;
 mod buffer;
@@ -23,6 +27,8 @@ mod found;
 mod label;
 mod line;
 mod picture;
+mod symbol;
+mod terms;
 #[cfg(test)]
 mod tests;
 
@@ -30,14 +36,16 @@ use answer::{put_read, read_packed};
 use buffer::{put_line, put_refusal, put_refused};
 use dates::put_date;
 use digits_core::RefusalKind;
-use element_core::{Form, Year, digit_line, elements_line, gtin_line};
+use element_core::{Form, digit_line, elements_line, gtin_line};
 use found::{put_dot_symbols, put_symbols};
-use label::{kind_numbered, put_kind};
+use label::{kind_numbered, put_image};
 use message_core::message_line;
 use picture::{given_level, put_picture};
 use picture_core::{Reading, words_for};
 use scan_core::read_widths;
 use sheet_core::Grid;
+use symbol::put_symbol;
+use terms::terms_of;
 
 /// The GTIN, in 14 digits, of its 8, 12, 13 or 14 (GS1 General Specifications, section 7.9), as
 /// `gtin 09501101530003`; or why it is none.
@@ -64,10 +72,10 @@ pub extern "C" fn gs1_c_digit(text: &[u8], out: &mut [u8]) -> usize
 pub extern "C" fn gs1_c_text(text: &[u8], year: u16, out: &mut [u8]) -> usize
     ensures { (line : List ℕ) × IsTextLine (codes "hri") Form.HumanReadable year text.now line × IsPut line out.old out.new result }
 {
-    let Some(year) = Year::new(year) else {
+    let Some(terms) = terms_of(year) else {
         return put_refused(RefusalKind::Words, out);
     };
-    let line = elements_line("hri", Form::HumanReadable, text, year);
+    let line = elements_line("hri", Form::HumanReadable, text, terms);
     put_line(&line, out)
 }
 
@@ -79,10 +87,10 @@ pub extern "C" fn gs1_c_text(text: &[u8], year: u16, out: &mut [u8]) -> usize
 pub extern "C" fn gs1_c_row(widths: &[u16], year: u16, out: &mut [u8]) -> usize
     ensures { (line : List ℕ) × IsRowLine Form.HumanReadable year widths.now line × IsPut line out.old out.new result }
 {
-    let Some(year) = Year::new(year) else {
+    let Some(terms) = terms_of(year) else {
         return put_refused(RefusalKind::Words, out);
     };
-    put_read(&read_widths(widths, year), Form::HumanReadable, out)
+    put_read(&read_widths(widths, terms), Form::HumanReadable, out)
 }
 
 /// What a row says, as `gs1_c_row`, with the elements as data: of each its AI, `=` and its value, with a tab
@@ -91,10 +99,10 @@ pub extern "C" fn gs1_c_row(widths: &[u16], year: u16, out: &mut [u8]) -> usize
 pub extern "C" fn gs1_c_row_elements(widths: &[u16], year: u16, out: &mut [u8]) -> usize
     ensures { (line : List ℕ) × IsRowLine Form.Pairs year widths.now line × IsPut line out.old out.new result }
 {
-    let Some(year) = Year::new(year) else {
+    let Some(terms) = terms_of(year) else {
         return put_refused(RefusalKind::Words, out);
     };
-    put_read(&read_widths(widths, year), Form::Pairs, out)
+    put_read(&read_widths(widths, terms), Form::Pairs, out)
 }
 
 /// The elements of an element string, as `gs1_c_text`, as data: of each its AI, `=` and its value, with a tab
@@ -103,10 +111,10 @@ pub extern "C" fn gs1_c_row_elements(widths: &[u16], year: u16, out: &mut [u8]) 
 pub extern "C" fn gs1_c_text_elements(text: &[u8], year: u16, out: &mut [u8]) -> usize
     ensures { (line : List ℕ) × IsTextLine (codes "data") Form.Pairs year text.now line × IsPut line out.old out.new result }
 {
-    let Some(year) = Year::new(year) else {
+    let Some(terms) = terms_of(year) else {
         return put_refused(RefusalKind::Words, out);
     };
-    put_line(&elements_line("data", Form::Pairs, text, year), out)
+    put_line(&elements_line("data", Form::Pairs, text, terms), out)
 }
 
 /// The day and the time that an element names, given as its AI, `=` and its value, as `gs1_c_row_elements` has
@@ -117,10 +125,10 @@ pub extern "C" fn gs1_c_text_elements(text: &[u8], year: u16, out: &mut [u8]) ->
 pub extern "C" fn gs1_c_date(text: &[u8], year: u16, out: &mut [u8]) -> usize
     ensures { (line : List ℕ) × IsDateLine year text.now line × IsPut line out.old out.new result }
 {
-    let Some(year) = Year::new(year) else {
+    let Some(terms) = terms_of(year) else {
         return put_refused(RefusalKind::Words, out);
     };
-    put_date(text, year, out)
+    put_date(text, terms, out)
 }
 
 /// What a text says that a scanner sends: a symbology identifier (ISO/IEC 15424), and behind it the digits of a
@@ -135,10 +143,10 @@ pub extern "C" fn gs1_c_date(text: &[u8], year: u16, out: &mut [u8]) -> usize
 pub extern "C" fn gs1_c_scan(text: &[u8], year: u16, out: &mut [u8]) -> usize
     ensures { (line : List ℕ) × IsScanLine year text.now line × IsPut line out.old out.new result }
 {
-    let Some(year) = Year::new(year) else {
+    let Some(terms) = terms_of(year) else {
         return put_refused(RefusalKind::Words, out);
     };
-    put_line(&message_line(Form::Pairs, text, year), out)
+    put_line(&message_line(Form::Pairs, text, terms), out)
 }
 
 /// Every symbol of a row, given as `gs1_c_row` takes it: of each window of its runs that begins and ends
@@ -152,10 +160,10 @@ pub extern "C" fn gs1_c_scan(text: &[u8], year: u16, out: &mut [u8]) -> usize
 pub extern "C" fn gs1_c_find(widths: &[u16], year: u16, out: &mut [u8]) -> usize
     ensures { AreSymbolsPut year widths.now out.old out.new result }
 {
-    let Some(year) = Year::new(year) else {
+    let Some(terms) = terms_of(year) else {
         return put_refused(RefusalKind::Words, out);
     };
-    put_symbols(widths, year, out)
+    put_symbols(widths, terms, out)
 }
 
 /// What a row of `count` packed dots says, as `gs1_c_row` of its widths. A byte has its first dot in its
@@ -165,10 +173,10 @@ pub extern "C" fn gs1_c_find(widths: &[u16], year: u16, out: &mut [u8]) -> usize
 pub extern "C" fn gs1_c_dots(bits: &[u8], count: u32, year: u16, out: &mut [u8]) -> usize
     ensures { (line : List ℕ) × IsDotsLine Form.HumanReadable year bits.now count line × IsPut line out.old out.new result }
 {
-    let Some(year) = Year::new(year) else {
+    let Some(terms) = terms_of(year) else {
         return put_refused(RefusalKind::Words, out);
     };
-    put_read(&read_packed(bits, count, year), Form::HumanReadable, out)
+    put_read(&read_packed(bits, count, terms), Form::HumanReadable, out)
 }
 
 /// What a row of packed dots says, as `gs1_c_dots`, with the elements as data, as in `gs1_c_row_elements`.
@@ -176,10 +184,10 @@ pub extern "C" fn gs1_c_dots(bits: &[u8], count: u32, year: u16, out: &mut [u8])
 pub extern "C" fn gs1_c_dots_elements(bits: &[u8], count: u32, year: u16, out: &mut [u8]) -> usize
     ensures { (line : List ℕ) × IsDotsLine Form.Pairs year bits.now count line × IsPut line out.old out.new result }
 {
-    let Some(year) = Year::new(year) else {
+    let Some(terms) = terms_of(year) else {
         return put_refused(RefusalKind::Words, out);
     };
-    put_read(&read_packed(bits, count, year), Form::Pairs, out)
+    put_read(&read_packed(bits, count, terms), Form::Pairs, out)
 }
 
 /// Every symbol of a row of `count` packed dots, given as `gs1_c_dots` takes them: the lines of `gs1_c_find` of the
@@ -190,10 +198,10 @@ pub extern "C" fn gs1_c_dots_elements(bits: &[u8], count: u32, year: u16, out: &
 pub extern "C" fn gs1_c_find_dots(bits: &[u8], count: u32, year: u16, out: &mut [u8]) -> usize
     ensures { AreDotSymbolsPut year bits.now count out.old out.new result }
 {
-    let Some(year) = Year::new(year) else {
+    let Some(terms) = terms_of(year) else {
         return put_refused(RefusalKind::Words, out);
     };
-    put_dot_symbols(bits, count, year, out)
+    put_dot_symbols(bits, count, terms, out)
 }
 
 /// How many words `gs1_c_picture` takes to read a picture of this size: 6 for each dot of width and height together, and 4 for each
@@ -236,11 +244,11 @@ pub extern "C" fn gs1_c_picture(
     ensures { ArePictureLinesPut (record { values = grey.now; width = width; height = height; stride = stride }) level year
         (length words.old) (length widths.old) out.old out.new result }
 {
-    let Some(year) = Year::new(year) else {
+    let Some(terms) = terms_of(year) else {
         return put_refused(RefusalKind::Words, out);
     };
     let reading = Reading {
-        year,
+        year: terms,
         level: given_level(level),
     };
     put_picture(grey, width, height, stride, reading, words, widths, out)
@@ -269,11 +277,28 @@ pub extern "C" fn gs1_c_label(
     let Some(kind) = kind_numbered(kind) else {
         return put_refused(RefusalKind::Kind, out);
     };
-    let Some(year) = Year::new(year) else {
+    let Some(terms) = terms_of(year) else {
         return put_refused(RefusalKind::Words, out);
     };
     match Grid::new(module_dots, width, height, 1, 1) {
-        Ok(grid) => put_kind(kind, text, year, grid, out),
+        Ok(grid) => put_image(kind, text, terms, grid, out),
         Err(fault) => put_refusal(fault.refusal(), out),
+    }
+}
+
+/// The symbol of a label in modules, for programs that draw it: `symbol`, what stands under the bars, the nominal quiet zones left and
+/// right, and a digit for the width of each run, a bar first and last, as
+/// `symbol 96385074 7 7 1111412...`; or why there is none. The kinds are those of `gs1_c_label`.
+///
+/// Under the bars stand the digits of the number as its kind writes them, of a UPC-E all eight, and of an element string its
+/// elements with each AI in parentheses (GS1 General Specifications, sections 4.14 and 5.2 to 5.4).
+#[unsafe(no_mangle)]
+pub extern "C" fn gs1_c_symbol(kind: u32, text: &[u8], year: u16, out: &mut [u8]) -> usize
+    ensures { (line : List ℕ) × IsSymbolLineBy kind year text.now line × IsPut line out.old out.new result }
+{
+    match (kind_numbered(kind), terms_of(year)) {
+        (None, _) => put_refused(RefusalKind::Kind, out),
+        (_, None) => put_refused(RefusalKind::Words, out),
+        (Some(kind), Some(terms)) => put_symbol(kind, text, terms, out),
     }
 }

@@ -80,6 +80,10 @@ const CASES: &[(Asked, &[u8])] = &[
         b"refused 9 ValueDate 5",
     ),
     (Asked::Text(b"10AB", 1950), b"refused 42 Words"),
+    (Asked::Text(b"235AB", 2026), b"refused 5 UnknownAi 0"),
+    (Asked::Text(b"235AB", 0x8000 | 2026), b"hri (235)AB"),
+    (Asked::Text(b"10AB", 0x8000 | 1950), b"refused 42 Words"),
+    (Asked::Text(b"10AB", 0xFFFF), b"refused 42 Words"),
     (
         Asked::TextElements(b"10A\x1D17261231", 2026),
         b"data 10=A\t17=261231",

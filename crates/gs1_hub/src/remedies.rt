@@ -29,7 +29,8 @@ const REMEDIES: &[(RefusalKind, &str)] = &[
         RefusalKind::UnknownAi,
         "no AI of the table stands where one must, at the beginning or after an element: \
          parentheses, two separators, a digit too many in the value before, or an AI that is \
-         not supported: look at the text from the place on, and at the element before it",
+         not supported: look at the text from the place on, and at the element before it; --ais \
+         all accepts AIs beyond the profile",
     ),
     (
         RefusalKind::ValueLength,

@@ -9,6 +9,7 @@ use Rattle.lane_core.specs.Tickets.{is_ticket_of, numbered}
 use Rattle.hub_core.specs.declared.rule.Trace.{Trace}
 use Rattle.hub_core.specs.Rule.{trace}
 use Rattle.hub_core.specs.Serving.{numbered_rows}
+use Rattle.element_core.specs.Terms.{Terms}
 use Rattle.lane_core.proofs.GoodFacts.{numbered_more}
 
 -- what a lane's seat keeps, after a push
@@ -23,7 +24,7 @@ lane_more v w x lane issued is share none count order at number =
       ap (numbered lane 0) put ∙ numbered_more lane 0 v.pushed x order at (omega arith),
     )
 
-rows_more : (l n year : ℕ) (rows : List (List ℕ)) (row : List ℕ) → numbered_rows l n year (rows ++ row ∷ []) ≡ numbered_rows l n year rows
+rows_more : (l n : ℕ) (year : Terms) (rows : List (List ℕ)) (row : List ℕ) → numbered_rows l n year (rows ++ row ∷ []) ≡ numbered_rows l n year rows
     ++ plain_of l (n + length rows) year row ∷ []
 rows_more l n year [] row = let e : n ≡ n + 0 = omega arith in ap (λ m. plain_of l m year row ∷ []) e
 rows_more l n year (r ∷ rows) row =
@@ -31,7 +32,7 @@ rows_more l n year (r ∷ rows) row =
     ap (λ xs. plain_of l n year r ∷ xs) (rows_more l (n + 1) year rows row ∙ ap (λ m. numbered_rows l (n + 1) year rows ++ plain_of l m year row ∷ []) e)
 
 -- what was submitted are the rows, numbered, one more
-pub rows_and_one : (l year issued : ℕ) (xs ys : List Plain) (row : List ℕ) → xs ≡ numbered_rows l 0 year (map (λ x. x.widths) xs) → issued ≡ length xs → ys ≡ xs
+pub rows_and_one : (l : ℕ) (year : Terms) (issued : ℕ) (xs ys : List Plain) (row : List ℕ) → xs ≡ numbered_rows l 0 year (map (λ x. x.widths) xs) → issued ≡ length xs → ys ≡ xs
     ++ plain_of l issued year row ∷ []
     → ys ≡ numbered_rows l 0 year (map (λ x. x.widths) ys)
 rows_and_one l year issued xs ys row was count is =

@@ -16,6 +16,7 @@ use Rattle.hub_core.specs.Laws.{AreAnswersOf}
 use Rattle.hub_core.specs.Serving.{numbered_rows}
 use Rattle.lane_core.proofs.ListFacts.{get_back, get_map}
 use Rattle.hub_core.proofs.AnswerFacts.{rows_read}
+use Rattle.element_core.specs.Terms.{Terms}
 use Rattle.hub_core.proofs.SeatFacts.{all_at}
 
 abbrev pub a_lane : ℕ → List (List ℕ) → List Plain → Lane
@@ -67,7 +68,7 @@ first_of h ls first i v at =
     all_at (λ (lane : Lane). (rest : List Plain) × (lane.polled ++ rest ≡ deliveries lane.number (year_of h) lane.rows)) (map as_lane ls) i (as_lane v) first
     (get_map as_lane ls i v at)
 
-pub headline : (year : ℕ) (lanes : List Lane) (lists : List (List Plain)) (i : ℕ) (lane : Lane) (answers : List Answer)
+pub headline : (year : Terms) (lanes : List Lane) (lists : List (List Plain)) (i : ℕ) (lane : Lane) (answers : List Answer)
     → AreSettled year lanes lists → slice_get lanes i ≡ Some lane → AreAnswersOf (lane.polled ++ get_or lists lane.number []) answers
     → Reads lane.rows year answers
 headline year lanes lists i lane answers settled at all =

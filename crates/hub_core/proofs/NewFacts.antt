@@ -22,6 +22,7 @@ use Rattle.hub_core.specs.Serving.{is_count, numbered_rows}
 use Rattle.hub_core.specs.Shapes.{is_allowed}
 use Rattle.hub_core.specs.inner.Accounting.{Accounted}
 use Rattle.hub_core.proofs.InOrderFacts.{fresh_in_order}
+use Rattle.element_core.specs.Terms.{Terms}
 use Rattle.hub_core.proofs.WeightFacts.{empties_at, sum_empties}
 
 count_small : (n : ℕ) → is_count n ≡ true → n ≤ 16
@@ -132,5 +133,5 @@ same_ends made rings is = (
       ((refl, refl, refl, refl), refl),
 )
 
-pub no_rows : (l year : ℕ) (xs : List Plain) → xs ≡ [] → xs ≡ numbered_rows l 0 year (map (λ x. x.widths) xs)
+pub no_rows : (l : ℕ) (year : Terms) (xs : List Plain) → xs ≡ [] → xs ≡ numbered_rows l 0 year (map (λ x. x.widths) xs)
 no_rows l year xs is = is ∙ sym (ap (λ ys. numbered_rows l 0 year (map (λ (x : Plain). x.widths) ys)) is)

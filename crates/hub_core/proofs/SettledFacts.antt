@@ -6,9 +6,10 @@ use Rattle.lane_core.specs.Plain.{plain_of}
 use Rattle.lane_core.specs.declared.job.Plain.{Plain}
 use Rattle.hub_core.specs.Lane.{AreSettled, Lane, deliveries, next_ticket, with_row}
 use Rattle.hub_core.proofs.OrderFacts.{row_at, rows_long}
+use Rattle.element_core.specs.Terms.{Terms}
 use Rattle.hub_core.proofs.SeatFacts.{all_at}
 
-pub deliveries_by_place : (lane year : ℕ) (rows : List (List ℕ)) (k : ℕ) → (length (deliveries lane year rows) ≡ length rows)
+pub deliveries_by_place : (lane : ℕ) (year : Terms) (rows : List (List ℕ)) (k : ℕ) → (length (deliveries lane year rows) ≡ length rows)
     × (k < length rows → slice_get (deliveries lane year rows) k ≡ Some (plain_of lane k year (get_or rows k [])))
 deliveries_by_place lane year rows k = (rows_long lane 0 year rows, λ low. row_at lane 0 k k year rows (omega arith) low)
 
@@ -17,7 +18,7 @@ row_between : (xs : List (List ℕ)) (x : List ℕ) (ys : List (List ℕ)) → g
 row_between [] x ys = refl
 row_between (y ∷ xs) x ys = row_between xs x ys
 
-pub ticket_kept : (year : ℕ) (before lane : Lane) (row : List ℕ) (later : List (List ℕ)) (lanes : List Lane) (lists : List (List Plain)) (i : ℕ)
+pub ticket_kept : (year : Terms) (before lane : Lane) (row : List ℕ) (later : List (List ℕ)) (lanes : List Lane) (lists : List (List Plain)) (i : ℕ)
     → lane.number ≡ before.number → lane.rows ≡ (with_row before row).rows ++ later → AreSettled year lanes lists → slice_get lanes i ≡ Some lane
     → slice_get (lane.polled ++ get_or lists lane.number []) (next_ticket before).number
     ≡ Some (plain_of (next_ticket before).lane (next_ticket before).number year row)

@@ -22,6 +22,7 @@ use Rattle.hub_core.specs.declared.hub.Hub.{Hub}
 use Rattle.hub_core.specs.declared.lane_seat.LaneSeat.{LaneSeat}
 use Rattle.hub_core.proofs.ServeFacts.{lanes_counted}
 use Rattle.hub_core.proofs.OrderFacts.{rows_long}
+use Rattle.element_core.specs.Terms.{Terms}
 use Rattle.hub_core.proofs.NewFacts.{tail_all}
 
 pub if_none : (o : Option (ℕ × List ℕ)) (P : (ℕ × List ℕ) → Type 0) → o ≡ None → IfSome o P
@@ -50,7 +51,7 @@ step_more {X} f seats i s t x low at more =
 rows_same : (s t : LaneSeat) → submitted t ≡ submitted s → submitted_rows t ≡ submitted_rows s
 rows_same s t same = ap (λ (xs : List Plain). map (λ (x : Plain). x.widths) xs) same
 
-rows_more : (s t : LaneSeat) (l n y : ℕ) (row : List ℕ) → submitted t ≡ submitted s ++ plain_of l n y row ∷ [] → submitted_rows t ≡ submitted_rows s ++ row ∷ []
+rows_more : (s t : LaneSeat) (l n : ℕ) (y : Terms) (row : List ℕ) → submitted t ≡ submitted s ++ plain_of l n y row ∷ [] → submitted_rows t ≡ submitted_rows s ++ row ∷ []
 rows_more s t l n y row more = ap (λ (xs : List Plain). map (λ (x : Plain). x.widths) xs) more
     ∙ map-append (λ (x : Plain). x.widths) (submitted s) (plain_of l n y row ∷ [])
 
@@ -59,7 +60,7 @@ polled_same s t lane same = ap (λ l. kept l 0 (received t)) lane ∙ ap (λ xs.
 
 -- a row was submitted that was in hand
 pub came_more : (C : List (List (List ℕ)) → List (List Plain) → Type 0) (seats : List LaneSeat) (new : Option (ℕ × List ℕ)) (i lane : ℕ) (s t : LaneSeat)
-    (l n y : ℕ) (row : List ℕ)
+    (l n : ℕ) (y : Terms) (row : List ℕ)
     → new ≡ None → i ≡ lane → i < length seats → s ≡ get_or seats i s → lane_of t ≡ lane_of s → submitted t ≡ submitted s ++ plain_of l n y row ∷ []
     → received t ≡ received s
     → C (with_more lane row (map submitted_rows seats)) (map polled seats) → C (given_to (set seats i t) new) (polled_by_each (set seats i t))
@@ -211,7 +212,7 @@ none_left xs [] zs e same = sym (append-nil xs) ∙ e
 none_left xs (y ∷ ys) zs e same = absurd (omega (arith, ap length e, length-append xs (y ∷ ys)))
 
 -- each lane's polled list, from a lane on, where all was polled
-done_from : (m year : ℕ) (seats : List LaneSeat) (n : ℕ)
+done_from : (m : ℕ) (year : Terms) (seats : List LaneSeat) (n : ℕ)
     → map lane_of seats ≡ range_with_len m n
     → ((i : ℕ) (s : LaneSeat) → slice_get seats i ≡ Some s → (rest : List Plain) × (polled s ++ rest ≡ numbered_rows (lane_of s) 0 year (submitted_rows s)))
     → All (λ s. polled_count s ≡ issued_count s) seats
@@ -235,12 +236,12 @@ all_served h seats was first even = done_from 0 (year_of h) seats (shape_of h).l
 
 -- ---- at any end: the first of what the rows are served
 
-numbered_append : (l k y : ℕ) (xs ys : List (List ℕ)) → numbered_rows l k y (xs ++ ys) ≡ numbered_rows l k y xs ++ numbered_rows l (k + length xs) y ys
+numbered_append : (l k : ℕ) (y : Terms) (xs ys : List (List ℕ)) → numbered_rows l k y (xs ++ ys) ≡ numbered_rows l k y xs ++ numbered_rows l (k + length xs) y ys
 numbered_append l k y [] ys = ap (λ n. numbered_rows l n y ys) (omega arith)
 numbered_append l k y (x ∷ xs) ys = ap (λ v. plain_of l k y x ∷ v)
     (numbered_append l (k + 1) y xs ys ∙ ap (λ n. numbered_rows l (k + 1) y xs ++ numbered_rows l n y ys) (omega arith))
 
-served_at : (m year : ℕ) (feeds : List (List (List ℕ))) (i : ℕ) → i < length feeds → get_or (numbered_feeds m year feeds) i []
+served_at : (m : ℕ) (year : Terms) (feeds : List (List (List ℕ))) (i : ℕ) → i < length feeds → get_or (numbered_feeds m year feeds) i []
     ≡ numbered_rows (m + i) 0 year (get_or feeds i [])
 served_at m year [] i low = absurd (omega (arith, low))
 served_at m year (f ∷ fs) zero low = ap (λ n. numbered_rows n 0 year f) (omega arith)

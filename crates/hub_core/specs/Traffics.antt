@@ -3,6 +3,7 @@ use Rattle.std.specs.Prelude.{◌≡◌, ◌<◌, ◌++◌, ℕ, Bool, true, Lis
 use Rattle.lane_core.specs.declared.job.Plain.{Plain}
 use Rattle.hub_core.specs.Serving.{served}
 use Rattle.hub_core.specs.declared.ended.Ended.{Ended}
+use Rattle.element_core.specs.Terms.{Terms}
 use Rattle.hub_core.specs.declared.ended.Ended.TheVariants.{Done, Lost, NoMemory, Stopped}
 
 -- the lists with one more item at the end of the list of this place
@@ -68,10 +69,10 @@ IsKept NoMemory = ⊤
 IsKept (Stopped fault) = ⊤
 
 -- what was brought of each lane is the first of what its rows are served
-abbrev pub AreServedFirst : ℕ → List (List (List ℕ)) → List (List Plain) → Type 0
+abbrev pub AreServedFirst : Terms → List (List (List ℕ)) → List (List Plain) → Type 0
 AreServedFirst year given brought = (i : ℕ) → (rest : List Plain) × (slice_index_or brought i [] ++ rest ≡ slice_index_or (served year given) i [])
 
 -- how a traffic was served: what it was brought is the first of what is served for what it gave, and at a regular end all of that
-abbrev pub IsServed : {T W B : Type 0} → History T → (T → Bool) → ℕ → T → T → Ended W B → Type 0
+abbrev pub IsServed : {T W B : Type 0} → History T → (T → Bool) → Terms → T → T → Ended W B → Type 0
 IsServed came has_ended year start now ended = (given : List (List (List ℕ))) × (brought : List (List Plain)) × came start now given brought
     × AreServedFirst year given brought × (ended ≡ Done → (has_ended now ≡ true) × (brought ≡ served year given))

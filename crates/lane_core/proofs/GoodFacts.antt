@@ -1,7 +1,6 @@
 -- What holds of every state that a machine comes to, and that each event keeps it.
-use Rattle.std.proofs.Common.{◌≡◌, ◌≢◌, ⊎_elim, ℕ, ◌+◌, ◌≤◌, ◌==◌, ◌&&◌, not, nat_lt, Bool, true, false, zero, suc, List, [], ◌∷◌, ◌++◌, length, length-append, set, Option, Some, None, option_to_list, refl, sym, ap, ◌∙◌, arith}
-use Rattle.std.specs.List.{slice_get, list_all, sum_by}
-use Rattle.std.proofs.lemmas.List.Folds.{list_all-append}
+use Rattle.std.proofs.Common.{◌≡◌, ◌≢◌, ⊎_elim, ℕ, ◌+◌, ◌≤◌, ◌==◌, ◌&&◌, not, nat_lt, Bool, true, false, zero, suc, List, [], ◌∷◌, ◌++◌, length, length-append, set, Option, Some, None, option_to_list, refl, sym, ap, ◌∙◌, subst, arith}
+use Rattle.std.specs.List.{AllByRecursion, slice_get, sum_by}
 use Rattle.std.proofs.lemmas.Grind.{common_steps}
 use Rattle.std.proofs.lemmas.List.Sums.{sum_by-append, sum_by-le-sum_by}
 use Rattle.std.proofs.lemmas.Bool.{cases_eq, ne_eqb}
@@ -24,11 +23,16 @@ is_item x (Some y) = is_same x y
 abbrev pub is_own : State → Plain → Bool
 is_own s x = is_item x (slice_get (submitted_by s x.lane) x.number)
 
+-- of all and of one more
+all_with : (P : Plain → Type 0) (xs : List Plain) (x : Plain) → AllByRecursion P xs → P x → AllByRecursion P (xs ++ x ∷ [])
+all_with P [] x all one = (one, tt)
+all_with P (y ∷ xs) x all one = (all.0, all_with P xs x all.1 one)
+
 pub record Good (s : State) : Type 0 where
   pub one : (l k : ℕ) → times_under_way s l k + once (nat_lt k (handed_of s l)) ≡ once (nat_lt k (issued_of s l))
   pub few : (l : ℕ) → polled_of s l ≤ handed_of s l
   pub in_order : (l : ℕ) → numbered l 0 (submitted_by s l) ≡ true
-  pub same_year : (l : ℕ) → list_all (λ x. x.year == s.year) (submitted_by s l) ≡ true
+  pub same_year : (l : ℕ) → AllByRecursion (λ x. x.year ≡ s.year) (submitted_by s l)
   pub own : sum_under_way (λ x. once (not (is_own s x))) s ≡ 0
 
 -- where items only went from place to place
@@ -63,7 +67,7 @@ settled s l v w at submitted handed few good =
           (λ (e : m ≢ l). let x = lane_else 0 (λ u. u.polled) s.lanes l m w e in omega arith)
           (cases_eq m l);
       in_order = λ m. ap (numbered m 0) (sub m) ∙ good.in_order m;
-      same_year = λ m. ap (list_all (λ (x : Plain). x.year == s.year)) (sub m) ∙ good.same_year m;
+      same_year = λ m. subst (AllByRecursion (λ (x : Plain). x.year ≡ s.year)) (sym (sub m)) (good.same_year m);
       own = (λ i. sum_under_way (λ x. once (not (is_item x (slice_get (sub x.lane i) x.number)))) s) ∙ good.own;
     }
 
@@ -98,7 +102,7 @@ given s l v at waits good =
           (λ (e : m ≢ l). let h = lane_else 0 (λ u. u.handed) s.lanes l m w e in omega arith)
           (cases_eq m l);
       in_order = λ m. ap (numbered m 0) (sub m) ∙ good.in_order m;
-      same_year = λ m. ap (list_all (λ (x : Plain). x.year == s.year)) (sub m) ∙ good.same_year m;
+      same_year = λ m. subst (AllByRecursion (λ (x : Plain). x.year ≡ s.year)) (sym (sub m)) (good.same_year m);
       own =
           let fewer = sum_without l v.handed (λ x. once (not (is_own s x))) s.waiting in
           let none : sum_under_way (λ x. once (not (is_own s x))) (state s.year s.lanes s.jobs s.workers s.results (without l v.handed s.waiting)) ≡ 0 =
@@ -176,11 +180,9 @@ added s l v x at lane number year good =
           (cases_eq m l);
       same_year = λ m. ⊎_elim
           (λ (e : m ≡ l).
-          ap (list_all (λ (y : Plain). y.year == s.year)) (here m e).0
-          ∙ (list_all-append (λ (y : Plain). y.year == s.year) v.submitted (x ∷ [])
-          ∙ ((λ i. (ap (list_all (λ (y : Plain). y.year == s.year)) (sym (here m e).1) ∙ good.same_year m) i && ((year i == s.year) && true))
-          ∙ ap (λ b. true && (b && true)) (eq_self s.year))))
-          (λ (e : m ≢ l). ap (list_all (λ (y : Plain). y.year == s.year)) (else_ m e) ∙ good.same_year m)
+          subst (AllByRecursion (λ (y : Plain). y.year ≡ s.year)) (sym (here m e).0)
+          (all_with (λ y. y.year ≡ s.year) v.submitted x (subst (AllByRecursion (λ (y : Plain). y.year ≡ s.year)) (here m e).1 (good.same_year m)) year))
+          (λ (e : m ≢ l). subst (AllByRecursion (λ (y : Plain). y.year ≡ s.year)) (sym (else_ m e)) (good.same_year m))
           (cases_eq m l);
       own =
           let f : Plain → ℕ = λ y. once (not (is_own t y)) in

@@ -1,6 +1,6 @@
 -- What a lane has polled is the first of what it has submitted.
 use Rattle.std.proofs.Common.{◌≡◌, ℕ, ◌+◌, ◌≤◌, ◌==◌, ◌&&◌, not, nat_lt, true, zero, suc, List, [], ◌∷◌, ◌++◌, length, take, refl, sym, ap, ◌∙◌, arith}
-use Rattle.std.specs.List.{list_all}
+use Rattle.std.specs.List.{AllByRecursion}
 use Rattle.std.proofs.lemmas.Bool.Decides.{nat_tests}
 use Rattle.std.proofs.lemmas.Bool.{and_parts}
 use Rattle.std.proofs.lemmas.List.{length-take-le}
@@ -44,7 +44,7 @@ numbered-take l n (suc p) (x ∷ xs) e =
 
 pub polled_in_order : (s : State) (l : ℕ) → IsReached s →
     (numbered l 0 (submitted_by s l) ≡ true)
-    × (list_all (λ x. x.year == s.year) (submitted_by s l) ≡ true)
+    × AllByRecursion (λ x. x.year ≡ s.year) (submitted_by s l)
     × (numbered l 0 (polled_by s l) ≡ true)
     × (length (polled_by s l) ≡ polled_of s l)
 polled_in_order s l r =

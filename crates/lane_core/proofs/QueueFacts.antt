@@ -9,6 +9,7 @@ use Rattle.lane_core.specs.declared.job.Plain.{Plain}
 use Rattle.lane_core.specs.Plain.{plain_of}
 use Rattle.lane_core.specs.History.{Keeps, all_of, held_by, job_popped, job_pushed, result_popped, result_pushed}
 use Rattle.lane_core.specs.Machine.{LaneState, State, after, close, collect, hand, of_lane, or_same, poll, post, run, start, submit, take_job}
+use Rattle.element_core.specs.Terms.{Terms}
 use Rattle.lane_core.specs.Tickets.{is_among}
 
 -- in any lane's event neither queue changes, save that a submit pushes its job
@@ -117,7 +118,7 @@ run_queue q f g each s (e ∷ es) =
 keeps_from : (pushed popped held : List Plain) → pushed ≡ popped ++ held → Keeps pushed popped held
 keeps_from pushed popped held e = (e, λ h. ap (sum_by h) e ∙ sum_by-append h popped held)
 
-pub queues_keep : (lanes workers year : ℕ) (es : List Event) →
+pub queues_keep : (lanes workers : ℕ) (year : Terms) (es : List Event) →
     Keeps (all_of job_pushed (start lanes workers year) es) (all_of job_popped (start lanes workers year) es) (run (start lanes workers year) es).jobs
     × Keeps (all_of result_pushed (start lanes workers year) es) (all_of result_popped (start lanes workers year) es)
     (run (start lanes workers year) es).results

@@ -1,10 +1,11 @@
 -- A test of two items: what is the same as an item is that item. So lists with the same sum by every weight are permutations of each other.
-use Rattle.std.proofs.Common.{Bool, ◌≡◌, ⊎_elim, ℕ, ◌≤◌, ◌==◌, ◌&&◌, true, false, List, [], ◌∷◌, ◌++◌, refl, sym, ap, ◌∙◌, subst, arith}
+use Rattle.std.proofs.Common.{Bool, ◌≡◌, ⊎_elim, ℕ, ◌≤◌, ◌==◌, ◌&&◌, not, true, false, List, [], ◌∷◌, ◌++◌, refl, sym, ap, ◌∙◌, subst, arith}
 use Rattle.std.proofs.lemmas.Bool.{and_parts, cases_Bool, eqb-true}
 use Rattle.std.specs.List.{sum_by, count_by}
 use Rattle.std.specs.List.Sorted.{IsPermutation}
 use Rattle.std.proofs.lemmas.List.Sums.{sum_by-append, sum_by-cons}
 use Rattle.std.proofs.lemmas.List.Sorted.{IsPermutation-sym, IsPermutation-refl, IsPermutation-trans, IsPermutation-cons, IsPermutation-middle}
+use Rattle.element_core.specs.Terms.{Terms}
 use Rattle.lane_core.specs.declared.job.Plain.{Plain}
 use Rattle.lane_core.specs.Plain.{plain_of}
 use Rattle.lane_core.specs.Weights.{once}
@@ -16,8 +17,35 @@ same_widths [] (y ∷ ys) = false
 same_widths (x ∷ xs) [] = false
 same_widths (x ∷ xs) (y ∷ ys) = (x == y) && same_widths xs ys
 
+abbrev pub same_flag : Bool → Bool → Bool
+same_flag true b = b
+same_flag false b = not b
+
+abbrev pub same_terms : Terms → Terms → Bool
+same_terms x y = (x.year == y.year) && same_flag x.every y.every
+
+same_flag_self : (b : Bool) → same_flag b b ≡ true
+same_flag_self true = refl
+same_flag_self false = refl
+
+same_flag_from : (a b : Bool) → same_flag a b ≡ true → a ≡ b
+same_flag_from true true e = refl
+same_flag_from true false e = absurd (cc)
+same_flag_from false true e = absurd (cc)
+same_flag_from false false e = refl
+
+same_terms_self : (x : Terms) → same_terms x x ≡ true
+same_terms_self x = ap (λ b. b && same_flag x.every x.every) (eq_self x.year) ∙ same_flag_self x.every
+
+same_terms_from : (x y : Terms) → same_terms x y ≡ true → x ≡ y
+same_terms_from x y e =
+    let s = and_parts (x.year == y.year) (same_flag x.every y.every) e in
+    let a = eqb-true x.year y.year s.0 in
+    let b = same_flag_from x.every y.every s.1 in
+    λ i. record { year = a i; every = b i }
+
 abbrev pub is_same : Plain → Plain → Bool
-is_same x y = (x.number == y.number) && ((x.lane == y.lane) && ((x.year == y.year) && same_widths x.widths y.widths))
+is_same x y = (x.number == y.number) && ((x.lane == y.lane) && (same_terms x.year y.year && same_widths x.widths y.widths))
 
 same_widths_self : (xs : List ℕ) → same_widths xs xs ≡ true
 same_widths_self [] = refl
@@ -34,18 +62,18 @@ same_widths_from (x ∷ xs) (y ∷ ys) e =
     λ i. a i ∷ b i
 
 pub same_self : (x : Plain) → is_same x x ≡ true
-same_self x = ap (λ b. b && ((x.lane == x.lane) && ((x.year == x.year) && same_widths x.widths x.widths))) (eq_self x.number)
-    ∙ (ap (λ b. b && ((x.year == x.year) && same_widths x.widths x.widths)) (eq_self x.lane)
-    ∙ (ap (λ b. b && same_widths x.widths x.widths) (eq_self x.year) ∙ same_widths_self x.widths))
+same_self x = ap (λ b. b && ((x.lane == x.lane) && (same_terms x.year x.year && same_widths x.widths x.widths))) (eq_self x.number)
+    ∙ (ap (λ b. b && (same_terms x.year x.year && same_widths x.widths x.widths)) (eq_self x.lane)
+    ∙ (ap (λ b. b && same_widths x.widths x.widths) (same_terms_self x.year) ∙ same_widths_self x.widths))
 
 pub same_from : (x y : Plain) → is_same x y ≡ true → x ≡ y
 same_from x y e =
-    let s = and_parts (x.number == y.number) ((x.lane == y.lane) && ((x.year == y.year) && same_widths x.widths y.widths)) e in
-    let t = and_parts (x.lane == y.lane) ((x.year == y.year) && same_widths x.widths y.widths) s.1 in
-    let u = and_parts (x.year == y.year) (same_widths x.widths y.widths) t.1 in
+    let s = and_parts (x.number == y.number) ((x.lane == y.lane) && (same_terms x.year y.year && same_widths x.widths y.widths)) e in
+    let t = and_parts (x.lane == y.lane) (same_terms x.year y.year && same_widths x.widths y.widths) s.1 in
+    let u = and_parts (same_terms x.year y.year) (same_widths x.widths y.widths) t.1 in
     let a = eqb-true x.number y.number s.0 in
     let b = eqb-true x.lane y.lane t.0 in
-    let c = eqb-true x.year y.year u.0 in
+    let c = same_terms_from x.year y.year u.0 in
     let d = same_widths_from x.widths y.widths u.1 in
     λ i. plain_of (b i) (a i) (c i) (d i)
 

@@ -19,6 +19,7 @@ use Rattle.lane_core.proofs.ListFacts.{length_map}
 use Rattle.lane_core.proofs.SameFacts.{permutation_from}
 use Rattle.lane_core.proofs.StepFacts.{of_fresh, reached_good, reached_more}
 use Rattle.lane_core.proofs.WeightFacts.{is_below, not_among}
+use Rattle.element_core.specs.Terms.{Terms}
 use Rattle.lane_core.proofs.SiftFacts.{ticket_self}
 
 -- an event that is done, and one that is not
@@ -134,7 +135,7 @@ zeros (suc n) zero = refl
 zeros (suc n) (suc l) = zeros n l
 
 -- a new world
-pub start_shown : (lanes workers year : ℕ) → ShowsState (contents year (replicate lanes (lane_contents false 0 [] 0)) [] (replicate workers None) []
+pub start_shown : (lanes workers : ℕ) (year : Terms) → ShowsState (contents year (replicate lanes (lane_contents false 0 [] 0)) [] (replicate workers None) []
     (new_buffer lanes)) (start lanes workers year)
 start_shown lanes workers year =
     let fresh = lane_state [] false 0 0 in
@@ -149,6 +150,6 @@ start_shown lanes workers year =
       known = λ l k. ap (λ n. nat_lt k n || false) (zeros lanes l ∙ sym (of_fresh 0 (λ v. v.handed) fresh lanes l refl));
     }
 
-pub start_is_shown : (lanes workers year : ℕ) → IsShown (contents year (replicate lanes (lane_contents false 0 [] 0)) [] (replicate workers None) []
+pub start_is_shown : (lanes workers : ℕ) (year : Terms) → IsShown (contents year (replicate lanes (lane_contents false 0 [] 0)) [] (replicate workers None) []
     (new_buffer lanes))
 start_is_shown lanes workers year = (start lanes workers year, (lanes, workers, year, [], refl), start_shown lanes workers year)

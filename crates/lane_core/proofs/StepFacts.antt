@@ -1,6 +1,6 @@
 -- What each event keeps, and so each list of events.
-use Rattle.std.proofs.Common.{◌≡◌, ℕ, ◌+◌, ◌≤◌, ◌^◌, ◌==◌, ◌&&◌, not, nat_lt, cond, Bool, true, false, zero, suc, List, [], ◌∷◌, ◌++◌, length, replicate, Option, Some, None, refl, ap, ◌∙◌, subst, arith}
-use Rattle.std.specs.List.{slice_get, list_all}
+use Rattle.std.proofs.Common.{◌≡◌, ℕ, ◌+◌, ◌≤◌, ◌^◌, ◌==◌, ◌&&◌, not, nat_lt, cond, Bool, true, false, zero, suc, List, [], ◌∷◌, ◌++◌, length, replicate, Option, Some, None, refl, sym, ap, ◌∙◌, subst, arith}
+use Rattle.std.specs.List.{AllByRecursion, slice_get}
 use Rattle.std.proofs.lemmas.Bool.{ltb-true}
 use Rattle.lane_core.specs.declared.event.Event.{Event}
 use Rattle.lane_core.specs.declared.event.Event.TheVariants.{Submit, Take, Post, Collect, Hand, Poll, Close}
@@ -11,6 +11,7 @@ use Rattle.lane_core.specs.Weights.{once}
 use Rattle.lane_core.proofs.GoodFacts.{Good, added, given, is_own, moved, settled}
 use Rattle.lane_core.proofs.LaneFacts.{lane_was}
 use Rattle.lane_core.proofs.UnderWay.{collected_under_way, posted_under_way, taken_under_way}
+use Rattle.element_core.specs.Terms.{Terms}
 use Rattle.lane_core.proofs.WeightFacts.{none_in}
 
 by_test : (s t : State) (b : Bool) → Good s → (b ≡ true → Good t) → Good (or_same s (cond b (Some t) None))
@@ -77,7 +78,7 @@ of_fresh d f v zero l e = refl
 of_fresh d f v (suc n) zero e = e
 of_fresh d f v (suc n) (suc l) e = of_fresh d f v n l e
 
-start_good : (lanes workers year : ℕ) → Good (start lanes workers year)
+start_good : (lanes workers : ℕ) (year : Terms) → Good (start lanes workers year)
 start_good lanes workers year =
     let fresh = lane_state [] false 0 0 in
     let sub : (l : ℕ) → submitted_by (start lanes workers year) l ≡ [] = λ l. of_fresh [] (λ u. u.submitted) fresh lanes l refl in
@@ -89,7 +90,7 @@ start_good lanes workers year =
           let c = none_in (λ x. once (is_ticket_of l k x)) workers in omega arith;
       few = λ l. let a = of_fresh 0 (λ u. u.polled) fresh lanes l refl in omega arith;
       in_order = λ l. ap (numbered l 0) (sub l);
-      same_year = λ l. ap (list_all (λ (x : Plain). x.year == year)) (sub l);
+      same_year = λ l. subst (AllByRecursion (λ (x : Plain). x.year ≡ year)) (sym (sub l)) tt;
       own = let c = none_in (λ x. once (not (is_own (start lanes workers year) x))) workers in omega arith;
     }
 

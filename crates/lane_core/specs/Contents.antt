@@ -6,6 +6,7 @@ use Rattle.lane_core.specs.declared.event.Event.TheVariants.{Submit, Take, Post,
 use Rattle.lane_core.specs.declared.job.Plain.{Plain}
 use Rattle.lane_core.specs.ReorderBuffer.{ReorderBuffer, was_taken}
 use Rattle.lane_core.specs.Machine.{LaneState, State, IsReached, after, handed_of, step}
+use Rattle.element_core.specs.Terms.{Terms}
 use Rattle.lane_core.specs.Tickets.{is_among}
 
 -- of a lane: whether it is closed, how many tickets it has issued, what it was handed, and how much of that it has polled
@@ -17,7 +18,7 @@ pub record LaneContents : Type 0 where
 
 -- of all: the reference year, the lanes, the job queue, what each worker holds, the result queue, and the deliverer
 pub record Contents : Type 0 where
-  pub year : ℕ
+  pub year : Terms
   pub lanes : List LaneContents
   pub jobs : List Plain
   pub workers : List (Option Plain)
@@ -27,7 +28,7 @@ pub record Contents : Type 0 where
 abbrev pub lane_contents : Bool → ℕ → List Plain → ℕ → LaneContents
 lane_contents closed issued handed polled = record { closed = closed; issued = issued; handed = handed; polled = polled }
 
-abbrev pub contents : ℕ → List LaneContents → List Plain → List (Option Plain) → List Plain → ReorderBuffer → Contents
+abbrev pub contents : Terms → List LaneContents → List Plain → List (Option Plain) → List Plain → ReorderBuffer → Contents
 contents year lanes jobs workers results buffer = record { year = year; lanes = lanes; jobs = jobs; workers = workers; results = results; buffer = buffer }
 
 -- a lane keeps what it was handed: the first of what it has submitted

@@ -1,12 +1,13 @@
 -- What a machine's events have pushed on its queues and popped from them, and what they leave as it is.
-use Rattle.std.specs.Prelude.{◌≡◌, ◌==◌, ◌&&◌, ℕ, cond, not, nat_lt, true, is_some, List, [], ◌∷◌, ◌++◌, Option, None, Some, option_to_list, length, slice_get, take}
-use Rattle.std.specs.List.{list_all}
+use Rattle.std.specs.Prelude.{◌≡◌, ◌&&◌, ℕ, cond, not, nat_lt, true, is_some, List, [], ◌∷◌, ◌++◌, Option, None, Some, option_to_list, length, slice_get, take}
+use Rattle.std.specs.List.{AllByRecursion}
 use Rattle.lane_core.specs.declared.event.Event.{Event}
 use Rattle.lane_core.specs.declared.event.Event.TheVariants.{Submit, Take, Post, Collect, Hand, Poll, Close}
 use Rattle.lane_core.specs.declared.job.Plain.{Plain}
 use Rattle.lane_core.specs.Plain.{plain_of}
 use Rattle.lane_core.specs.Machine.{State, IsReached, after, handed_of, is_closed, issued_of, polled_by, polled_of, run, start, step, submitted_by}
 use Rattle.lane_core.specs.Tickets.{is_among, numbered}
+use Rattle.element_core.specs.Terms.{Terms}
 use Rattle.lane_core.specs.Weights.{OneForOne}
 
 -- these, where the event is done
@@ -67,7 +68,7 @@ Keeps pushed popped held = (pushed ≡ popped ++ held) × OneForOne pushed poppe
 
 -- both queues lose nothing and add nothing
 abbrev pub QueuesKeep : Type 0
-QueuesKeep = (lanes workers year : ℕ) (es : List Event) →
+QueuesKeep = (lanes workers : ℕ) (year : Terms) (es : List Event) →
     Keeps (all_of job_pushed (start lanes workers year) es) (all_of job_popped (start lanes workers year) es) (run (start lanes workers year) es).jobs
     × Keeps (all_of result_pushed (start lanes workers year) es) (all_of result_popped (start lanes workers year) es)
     (run (start lanes workers year) es).results
@@ -87,7 +88,7 @@ EventsAreDone = (s : State) (l w : ℕ) (row : List ℕ) →
 abbrev pub PolledInOrder : Type 0
 PolledInOrder = (s : State) (l : ℕ) → IsReached s →
     (numbered l 0 (submitted_by s l) ≡ true)
-    × (list_all (λ x. x.year == s.year) (submitted_by s l) ≡ true)
+    × AllByRecursion (λ x. x.year ≡ s.year) (submitted_by s l)
     × (numbered l 0 (polled_by s l) ≡ true)
     × (length (polled_by s l) ≡ polled_of s l)
 

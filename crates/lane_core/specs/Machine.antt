@@ -4,6 +4,7 @@ use Rattle.lane_core.specs.declared.event.Event.{Event}
 use Rattle.lane_core.specs.declared.event.Event.TheVariants.{Submit, Take, Post, Collect, Hand, Poll, Close}
 use Rattle.lane_core.specs.declared.job.Plain.{Plain}
 use Rattle.lane_core.specs.Plain.{plain_of}
+use Rattle.element_core.specs.Terms.{Terms}
 use Rattle.lane_core.specs.Tickets.{is_among, is_ticket_of}
 
 -- a lane: what it has submitted, whether it is closed, how many deliveries it has polled, and how many it was handed
@@ -15,7 +16,7 @@ pub record LaneState : Type 0 where
 
 -- the machine: its reference year, the lanes, the queued jobs, each worker's job, the queued results, and the set of deliveries that wait
 pub record State : Type 0 where
-  pub year : ℕ
+  pub year : Terms
   pub lanes : List LaneState
   pub jobs : List Plain
   pub workers : List (Option Plain)
@@ -25,11 +26,11 @@ pub record State : Type 0 where
 abbrev pub lane_state : List Plain → Bool → ℕ → ℕ → LaneState
 lane_state submitted closed polled handed = record { submitted = submitted; closed = closed; polled = polled; handed = handed }
 
-abbrev pub state : ℕ → List LaneState → List Plain → List (Option Plain) → List Plain → List Plain → State
+abbrev pub state : Terms → List LaneState → List Plain → List (Option Plain) → List Plain → List Plain → State
 state year lanes jobs workers results waiting = record { year = year; lanes = lanes; jobs = jobs; workers = workers; results = results; waiting = waiting }
 
 -- at first all is empty
-abbrev pub start : ℕ → ℕ → ℕ → State
+abbrev pub start : ℕ → ℕ → Terms → State
 start lanes workers year = state year (replicate lanes (lane_state [] false 0 0)) [] (replicate workers None) [] []
 
 -- without the first that is lane l's number k
@@ -107,7 +108,7 @@ run s (e ∷ es) = run (after s e) es
 
 -- some events lead there from the start
 abbrev pub IsReached : State → Type 0
-IsReached s = (lanes : ℕ) × (workers : ℕ) × (year : ℕ) × (es : List Event) × (run (start lanes workers year) es ≡ s)
+IsReached s = (lanes : ℕ) × (workers : ℕ) × (year : Terms) × (es : List Event) × (run (start lanes workers year) es ≡ s)
 
 -- what there is of a lane, or d where there is no such lane
 abbrev pub of_lane : {X : Type 0} → X → (LaneState → X) → Option LaneState → X

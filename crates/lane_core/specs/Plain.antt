@@ -1,7 +1,8 @@
 -- What a job and a delivery are, as numbers and lists of numbers.
 use Rattle.std.specs.Prelude.{ℕ, List}
+use Rattle.element_core.specs.Terms.{Terms}
 use Rattle.lane_core.specs.declared.job.Plain.{Plain}
 
 -- the item of this lane and number, with its reference year and its row's widths
-abbrev pub plain_of : ℕ → ℕ → ℕ → List ℕ → Plain
+abbrev pub plain_of : ℕ → ℕ → Terms → List ℕ → Plain
 plain_of lane number year widths = record { lane = lane; number = number; year = year; widths = widths }

@@ -12,8 +12,8 @@ pub struct Plain {
     pub lane: u8,
     /// The ticket's number.
     pub number: u32,
-    /// The reference year.
-    pub year: u16,
+    /// What it is read by.
+    pub year: Year,
     /// The row's widths in dots.
     pub widths: LinkedList<u16>,
 }

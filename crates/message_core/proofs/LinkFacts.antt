@@ -13,6 +13,7 @@ use Rattle.element_core.specs.Pairs.{list_fault}
 use Rattle.element_core.specs.declared.fault.ElementFault.{ElementFault}
 use Rattle.element_core.specs.declared.form.Form.{Form}
 use Rattle.message_core.specs.Keys.{place_by}
+use Rattle.element_core.specs.Terms.{Terms}
 use Rattle.message_core.specs.Links.{begins_any_case, entries_said, entries_said_by, fits, fits_all, fits_entry, follow_all, follow_by}
 
 -- ---- the scheme
@@ -71,7 +72,7 @@ fits_by es few all = and_true (nat_le (length es) 48) (fits_all es) (le-leb (len
 
 -- ---- lines
 
-module _ (word : List ℕ) (f : Form) (year : ℕ) (es : List Entry) (fit : fits es ≡ true) where
+module _ (word : List ℕ) (f : Form) (year : Terms) (es : List Entry) (fit : fits es ≡ true) where
   said_by : entries_said word f year es ≡ entries_said_by word f es (list_fault year es)
   said_by = ap (λ b. if b then entries_said_by word f es (list_fault year es) else refusal_words refusal.TooLong) fit
 

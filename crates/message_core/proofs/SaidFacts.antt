@@ -31,12 +31,13 @@ use Rattle.message_core.specs.declared.head.Head.{Head}
 use Rattle.message_core.specs.declared.head.Head.TheVariants as head
 use Rattle.message_core.specs.declared.symbology.Symbology.{Symbology}
 use Rattle.message_core.specs.declared.symbology.Symbology.TheVariants as symbology
+use Rattle.element_core.specs.Terms.{Terms}
 use Rattle.message_core.proofs.UpceFacts.{one_upce_line, upce_gtin}
 
 -- ---- one line
 
 module _ (one : OneListOrFault) where
-  pub one_elements_line : (word : List ℕ) (shown : List Entry → List ℕ) (year : ℕ) (text a b : List ℕ) → IsElementsLine word shown year text a
+  pub one_elements_line : (word : List ℕ) (shown : List Entry → List ℕ) (year : Terms) (text a b : List ℕ) → IsElementsLine word shown year text a
       → IsElementsLine word shown year text b → a ≡ b
   one_elements_line word shown year text a b (inl (es, read, line)) (inl (fs, also, other)) =
       line ∙ (ap (λ l. word ++ (32 ∷ shown l)) ((one year text).0 es fs read also) ∙ sym other)
@@ -49,11 +50,11 @@ module _ (one : OneListOrFault) where
   ean_upc_once word f said true x y h k = one_upce_line (λ gtin. word ++ (32 ∷ elements_text f (gtin_entry gtin ∷ []))) said x y h k
   ean_upc_once word f said false x y h k = h ∙ sym k
 
-  elements_once : (word : List ℕ) (f : Form) (year : ℕ) (said x y : List ℕ) → IsElementsLine word (elements_text f) year (spelled (without_separator said)) x
+  elements_once : (word : List ℕ) (f : Form) (year : Terms) (said x y : List ℕ) → IsElementsLine word (elements_text f) year (spelled (without_separator said)) x
       → IsElementsLine word (elements_text f) year (spelled (without_separator said)) y → x ≡ y
   elements_once word f year said x y h k = one_elements_line word (elements_text f) year (spelled (without_separator said)) x y h k
 
-  symbol_once : (s : Symbology) (f : Form) (year : ℕ) (said x y : List ℕ) → IsSymbolLine s f year said x → IsSymbolLine s f year said y → x ≡ y
+  symbol_once : (s : Symbology) (f : Form) (year : Terms) (said x y : List ℕ) → IsSymbolLine s f year said x → IsSymbolLine s f year said y → x ≡ y
   symbol_once symbology.EanUpc f year said x y h k = ean_upc_once (codes "]E0") f said (length said == 8) x y h k
   symbol_once symbology.Ean8 f year said x y h k = h ∙ sym k
   symbol_once symbology.Itf14 f year said x y h k = h ∙ sym k
@@ -65,7 +66,7 @@ module _ (one : OneListOrFault) where
   symbol_once symbology.LinkDataMatrix f year said x y h k = h ∙ sym k
   symbol_once symbology.LinkQrCode f year said x y h k = h ∙ sym k
 
-  head_once : (f : Form) (year : ℕ) (text : List ℕ) (o : Option Head) (x y : List ℕ) → IsHeadLine f year text o x → IsHeadLine f year text o y → x ≡ y
+  head_once : (f : Form) (year : Terms) (text : List ℕ) (o : Option Head) (x y : List ℕ) → IsHeadLine f year text o x → IsHeadLine f year text o y → x ≡ y
   head_once f year text (Some (head.Symbology s)) x y h k = symbol_once s f year (drop 3 text) x y h k
   head_once f year text (Some head.Separator) x y h k = elements_once (codes "-") f year text x y h k
   head_once f year text (Some head.Digits) x y h k = h ∙ sym k
@@ -108,7 +109,7 @@ record SaysList (L : Form → List ℕ → Type 0) (line : List ℕ) : Type 0 wh
   word : List ℕ
   plain : is_word word ≡ true
   es : List Entry
-  year : ℕ
+  year : Terms
   text : List ℕ
   list : IsElements year text es
   line_is : line ≡ word ++ (32 ∷ pairs_text es)
@@ -152,7 +153,7 @@ element_words (element.ValueDate place) = (codes "9 ValueDate" ++ (32 ∷ decima
 element_words (element.MissingSeparator place) = (codes "10 MissingSeparator" ++ (32 ∷ decimal place), refl)
 element_words element.TooLong = (codes "11 TooLong", refl)
 
-module _ (checked : GtinsAreChecked) (reads : GtinReads) (faultless : FaultlessPairs) (year : ℕ) (line : List ℕ) where
+module _ (checked : GtinsAreChecked) (reads : GtinReads) (faultless : FaultlessPairs) (year : Terms) (line : List ℕ) where
   module _ (word : List ℕ) (plain : is_word word ≡ true) where
     digits_refused : (f : DigitFault) → line ≡ digit_fault_text f → Tells (λ g x. x ≡ digit_fault_text f) line
     digits_refused f is = let w = digit_words f in inr (record { rest = w.0; line_is = is ∙ w.1; says = λ g. is })

@@ -11,6 +11,7 @@ use Rattle.digits_core.specs.Upce.{IsUpceOf}
 use Rattle.digits_core.proofs.DigitTexts.{none_if_digits}
 use Rattle.element_core.specs.Elements.{gtin_entry}
 use Rattle.message_core.specs.Laws.{MessageSays, UpceIsExpanded}
+use Rattle.element_core.specs.Terms.{Terms}
 use Rattle.message_core.specs.Upce.{system_fault, upce_fault}
 
 -- a digit is no blank
@@ -46,7 +47,7 @@ no_fault : (a b c d e f g : ℕ) → AreAsciiDigits (48 ∷ a ∷ b ∷ c ∷ d 
 no_fault a b c d e f g are =
     let text : List ℕ = 48 ∷ a ∷ b ∷ c ∷ d ∷ e ∷ f ∷ g ∷ [] in ap (λ o. system_fault text (not_digits o)) (none_if_digits text are)
 
-expanded : (year : ℕ) (six gtin : List ℕ) (check : ℕ) → length (digits_of six) ≡ 6 → AreAsciiDigits six → 48 ≤ check → check < 58
+expanded : (year : Terms) (six gtin : List ℕ) (check : ℕ) → length (digits_of six) ≡ 6 → AreAsciiDigits six → 48 ≤ check → check < 58
     → IsUpceOf (digits_of six) (check - 48) gtin → MessageSays year (codes "]E0" ++ (48 ∷ six) ++ check ∷ []) (codes "]E0") (gtin_entry gtin ∷ [])
 expanded year (a ∷ b ∷ c ∷ d ∷ e ∷ f ∷ []) gtin check six digits low high is = λ form.
     let said : List ℕ = a ∷ b ∷ c ∷ d ∷ e ∷ f ∷ check ∷ [] in

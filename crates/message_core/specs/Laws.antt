@@ -8,31 +8,32 @@ use Rattle.element_core.specs.declared.form.Form.{Form}
 use Rattle.element_core.specs.declared.form.Form.TheVariants.{Pairs}
 use Rattle.message_core.specs.Keys.{is_key, place_by}
 use Rattle.message_core.specs.Links.{key_part}
+use Rattle.element_core.specs.Terms.{Terms}
 use Rattle.message_core.specs.Messages.{IsMessageLine}
 
 -- ---- messages
 
 -- a message has one line
 abbrev pub OneMessageLine : Type 0
-OneMessageLine = (f : Form) (year : ℕ) (text line other : List ℕ) → IsMessageLine f year text line → IsMessageLine f year text other → line ≡ other
+OneMessageLine = (f : Form) (year : Terms) (text line other : List ℕ) → IsMessageLine f year text line → IsMessageLine f year text other → line ≡ other
 
 -- a message says these elements behind this word: each form of its line is these two
-abbrev pub MessageSays : ℕ → List ℕ → List ℕ → List Entry → Type 0
+abbrev pub MessageSays : Terms → List ℕ → List ℕ → List Entry → Type 0
 MessageSays year text word es = (f : Form) → IsMessageLine f year text (word ++ (32 ∷ elements_text f es))
 
 -- a message is refused by this line: it has no other form
-abbrev pub IsRefusedBy : ℕ → List ℕ → List ℕ → Type 0
+abbrev pub IsRefusedBy : Terms → List ℕ → List ℕ → Type 0
 IsRefusedBy year text line = (f : Form) → IsMessageLine f year text line
 
 -- messages with one line of pairs say the same elements behind the same word, or are refused alike
 abbrev pub PairsSayElements : Type 0
-PairsSayElements = (year : ℕ) (text more line : List ℕ) → IsMessageLine Pairs year text line → IsMessageLine Pairs year more line
+PairsSayElements = (year : Terms) (text more line : List ℕ) → IsMessageLine Pairs year text line → IsMessageLine Pairs year more line
     → ((word : List ℕ) × (es : List Entry) × (line ≡ word ++ (32 ∷ pairs_text es)) × MessageSays year text word es × MessageSays year more word es)
     ⊎ (IsRefusedBy year text line × IsRefusedBy year more line)
 
 -- behind `]E0` the digit 0, six digits and their check digit say the GTIN that they are a spelling of
 abbrev pub UpceIsExpanded : Type 0
-UpceIsExpanded = (year : ℕ) (six gtin : List ℕ) (check : ℕ) → AreAsciiDigits six → (48 ≤ check) × (check < 58) → IsUpceOf (digits_of six) (check - 48) gtin
+UpceIsExpanded = (year : Terms) (six gtin : List ℕ) (check : ℕ) → AreAsciiDigits six → (48 ≤ check) × (check < 58) → IsUpceOf (digits_of six) (check - 48) gtin
     → MessageSays year (codes "]E0" ++ (48 ∷ six) ++ check ∷ []) (codes "]E0") (gtin_entry gtin ∷ [])
 
 -- ---- Digital Links

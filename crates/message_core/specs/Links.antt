@@ -12,6 +12,7 @@ use Rattle.element_core.specs.Pairs.{list_fault}
 use Rattle.element_core.specs.declared.fault.ElementFault.{ElementFault}
 use Rattle.element_core.specs.declared.form.Form.{Form}
 use Rattle.message_core.specs.Coding.{decoded, is_coded}
+use Rattle.element_core.specs.Terms.{Terms}
 use Rattle.message_core.specs.Keys.{is_key, place_by}
 
 -- ---- the key in the path
@@ -157,14 +158,14 @@ abbrev pub entries_said_by : List ℕ → Form → List Entry → Option Element
 entries_said_by word f es None = word ++ (32 ∷ elements_text f es)
 entries_said_by word f es (Some fault) = element_fault_text fault
 
-abbrev pub entries_said : List ℕ → Form → ℕ → List Entry → List ℕ
+abbrev pub entries_said : List ℕ → Form → Terms → List Entry → List ℕ
 entries_said word f year es =
     if fits es then entries_said_by word f es (list_fault year es) else refusal_words refusal.TooLong
 
 -- the line of a URI: its elements as pairs, or why it has none
-abbrev pub link_said_by : List ℕ → Form → ℕ → Option (List Entry) → List ℕ
+abbrev pub link_said_by : List ℕ → Form → Terms → Option (List Entry) → List ℕ
 link_said_by word f year None = refusal_words refusal.Kind
 link_said_by word f year (Some es) = entries_said word f year es
 
-abbrev pub link_said : List ℕ → Form → ℕ → List ℕ → List ℕ
+abbrev pub link_said : List ℕ → Form → Terms → List ℕ → List ℕ
 link_said word f year text = link_said_by word f year (link_entries text)

@@ -19,6 +19,7 @@ use Rattle.message_core.specs.Upce.{IsUpceSaid}
 use Rattle.message_core.specs.declared.head.Head.{Head}
 use Rattle.message_core.specs.declared.head.Head.TheVariants as head
 use Rattle.message_core.specs.declared.symbology.Symbology.{Symbology}
+use Rattle.element_core.specs.Terms.{Terms}
 use Rattle.message_core.specs.declared.symbology.Symbology.TheVariants as symbology
 
 -- the line of the digits of a GTIN by their fault: a word and the element of AI 01, or why they are none
@@ -42,11 +43,11 @@ abbrev pub IsEanUpcSaid : List ℕ → Form → List ℕ → List ℕ → Type 0
 IsEanUpcSaid word f digits line = IsEanUpcBy (length digits == 8) word f digits line
 
 -- the line of an element string: a word and its elements, or its first fault
-abbrev pub IsSaidLine : List ℕ → Form → ℕ → List ℕ → List ℕ → Type 0
+abbrev pub IsSaidLine : List ℕ → Form → Terms → List ℕ → List ℕ → Type 0
 IsSaidLine word f year text line = IsElementsLine word (elements_text f) year (spelled (without_separator text)) line
 
 -- the line of what a symbol of a symbology says
-abbrev pub IsSymbolLine : Symbology → Form → ℕ → List ℕ → List ℕ → Type 0
+abbrev pub IsSymbolLine : Symbology → Form → Terms → List ℕ → List ℕ → Type 0
 IsSymbolLine symbology.EanUpc f year said line = IsEanUpcSaid (codes "]E0") f said line
 IsSymbolLine symbology.Ean8 f year said line = line ≡ sized_said (codes "]E4") f 8 said
 IsSymbolLine symbology.Itf14 f year said line = line ≡ sized_said (codes "]I1") f 14 said
@@ -55,7 +56,7 @@ IsSymbolLine symbology.LinkQrCode f year said line = line ≡ link_said (codes "
 IsSymbolLine s f year said line = IsSaidLine (identifier_of s) f year said line
 
 -- the line of a message by its head; `-` stands for an identifier that was not sent
-abbrev pub IsHeadLine : Form → ℕ → List ℕ → Option Head → List ℕ → Type 0
+abbrev pub IsHeadLine : Form → Terms → List ℕ → Option Head → List ℕ → Type 0
 IsHeadLine f year text (Some (head.Symbology s)) line = IsSymbolLine s f year (drop 3 text) line
 IsHeadLine f year text (Some head.Separator) line = IsSaidLine (codes "-") f year text line
 IsHeadLine f year text (Some head.Digits) line = line ≡ gtin_said (codes "-") f text
@@ -63,5 +64,5 @@ IsHeadLine f year text (Some head.Link) line = line ≡ link_said (codes "-") f 
 IsHeadLine f year text None line = line ≡ refusal_words refusal.Kind
 
 -- the line of a message, of which blanks at the end are passed over
-abbrev pub IsMessageLine : Form → ℕ → List ℕ → List ℕ → Type 0
+abbrev pub IsMessageLine : Form → Terms → List ℕ → List ℕ → Type 0
 IsMessageLine f year text line = (said : List ℕ) × IsTrimAsciiEnd text said × IsHeadLine f year said (head_of said) line

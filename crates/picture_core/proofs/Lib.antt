@@ -1,2 +1,4 @@
+pub mod KeptFacts
 pub mod RunFacts
 pub mod SaidFacts
+pub mod TermsFacts

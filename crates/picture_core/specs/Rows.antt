@@ -5,6 +5,7 @@ use Rattle.scan_core.specs.Row.{IsRow, dots_of}
 use Rattle.scan_core.specs.Windows.{IsSymbolOf}
 use Rattle.scan_core.specs.declared.carrier.Carrier.{Carrier}
 use Rattle.picture_core.specs.Pictures.{Greys}
+use Rattle.element_core.specs.Terms.{Terms}
 use Rattle.picture_core.specs.declared.own_row.OwnRow.{OwnRow}
 
 -- the grey values of row y of a picture
@@ -16,13 +17,13 @@ abbrev pub dark_dots : ℕ → List ℕ → List Bool
 dark_dots level greys = map (λ grey. nat_lt grey level) greys
 
 -- the runs have a window that is read as this symbol, and its bars begin and end at these dots
-pub record IsWindowAt (runs : List ℕ) (year : ℕ) (carrier : Carrier) (elements : Listing) (at : OwnRow) : Type 0 where
+pub record IsWindowAt (runs : List ℕ) (year : Terms) (carrier : Carrier) (elements : Listing) (at : OwnRow) : Type 0 where
   pub window : IsSymbolOf runs year (record { first = at.first; count = at.count; carrier = carrier; elements = elements })
   pub left : at.left ≡ sum (take (at.first + 1) runs)
   pub right : at.right ≡ sum (take (at.first + at.count - 1) runs)
 
 -- row y of the picture shows this symbol: the runs of its dots have such a window
-pub record RowShows (picture : Greys) (level year : ℕ) (carrier : Carrier) (elements : Listing) (at : OwnRow) : Type 0 where
+pub record RowShows (picture : Greys) (level : ℕ) (year : Terms) (carrier : Carrier) (elements : Listing) (at : OwnRow) : Type 0 where
   pub runs : List ℕ
   pub within : at.y < picture.height
   pub row : IsRow runs

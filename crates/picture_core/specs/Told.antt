@@ -8,6 +8,7 @@ use Rattle.picture_core.specs.Pictures.{Greys}
 use Rattle.picture_core.specs.Places.{IsOn, middle}
 use Rattle.picture_core.specs.Rows.{RowShows}
 use Rattle.picture_core.specs.Saids.{IsRefusal, IsSaid}
+use Rattle.element_core.specs.Terms.{Terms}
 use Rattle.picture_core.specs.declared.shown.Shown.{Shown}
 
 -- the corners, in 1/256 dot, are those of an upright box that the bars of a row stand in
@@ -22,7 +23,7 @@ pub record IsBoxOf (c : Corners) (at : OwnRow) : Type 0 where
   pub bottom : 256 * at.y + 256 ≤ c.lower_left.y
 
 -- two rows of the picture show the symbol, or the one row that it has
-pub record AreOwnRows (picture : Greys) (level year : ℕ) (s : Symbol) (rows : OwnRows) : Type 0 where
+pub record AreOwnRows (picture : Greys) (level : ℕ) (year : Terms) (s : Symbol) (rows : OwnRows) : Type 0 where
   pub first : RowShows picture level year s.said.carrier s.said.elements rows.first
   pub last : RowShows picture level year s.said.carrier s.said.elements rows.last
   pub two : (rows.first.y < rows.last.y) ⊎ (picture.height ≡ 1)
@@ -30,7 +31,7 @@ pub record AreOwnRows (picture : Greys) (level year : ℕ) (s : Symbol) (rows : 
   pub last_box : IsBoxOf s.corners rows.last
 
 -- a symbol of the picture, under a level and a reference year
-pub record IsSymbolIn (picture : Greys) (level year : ℕ) (s : Symbol) : Type 0 where
+pub record IsSymbolIn (picture : Greys) (level : ℕ) (year : Terms) (s : Symbol) : Type 0 where
   pub said : IsSaid s.said.carrier s.said.elements
   pub dated : s.said.elements.year ≡ year
   pub rows : (2 ≤ s.rows) ⊎ (picture.height ≡ 1)
@@ -43,14 +44,14 @@ pub record AreApart (one other : Symbol) : Type 0 where
   pub here : IsOn other.corners (middle one.corners) → ⊥
 
 -- a place of the list, which has a symbol, one that is told
-abbrev pub IsSomeSymbolIn : Greys → ℕ → ℕ → Option Symbol → Type 0
+abbrev pub IsSomeSymbolIn : Greys → ℕ → Terms → Option Symbol → Type 0
 IsSomeSymbolIn picture level year s = IsSomeAnd s (IsSymbolIn picture level year)
 
 abbrev pub AreApartIn : Option Symbol → Option Symbol → Type 0
 AreApartIn one other = IfSome one (λ s. IfSome other (AreApart s))
 
 -- what a picture shows, read at a level, if one is given, and under a reference year
-pub record IsReadingOf (picture : Greys) (level : Option ℕ) (year : ℕ) (shown : Shown) : Type 0 where
+pub record IsReadingOf (picture : Greys) (level : Option ℕ) (year : Terms) (shown : Shown) : Type 0 where
   pub level_given : IfSome level (λ l. shown.level ≡ l)
   pub told : All (IsSomeSymbolIn picture shown.level year) shown.symbols.items
   pub apart : AllPairs AreApartIn shown.symbols.items

@@ -11,6 +11,7 @@ use Rattle.message_core.specs.Messages.{IsMessageLine}
 use Rattle.record_core.specs.check.Checks.{IsLineAs}
 use Rattle.record_core.specs.lanes.Widths.{field_fault}
 use Rattle.record_core.specs.declared.check.answer.CheckKind.TheVariants.{Upce}
+use Rattle.element_core.specs.Terms.{Terms}
 use Rattle.record_core.specs.declared.input.fault.RecordFault.TheVariants.{BadRuns}
 
 -- no message is a row: a field that is one has no widths
@@ -19,7 +20,7 @@ MessagesAreNoRows = (text : List ℕ) → is_message text ≡ true → field_fau
 
 -- eight digits behind `]E0` are answered as `check` answers them as a UPC-E: with the same GTIN, or with the same refusal
 abbrev pub UpceAsChecked : Type 0
-UpceAsChecked = (f : Form) (year : ℕ) (digits line said : List ℕ) → length digits ≡ 8 → AreAsciiDigits digits → IsLineAs year Upce digits line
+UpceAsChecked = (f : Form) (year : Terms) (digits line said : List ℕ) → length digits ≡ 8 → AreAsciiDigits digits → IsLineAs year Upce digits line
     → IsMessageLine f year (codes "]E0" ++ digits) said
     → ((gtin : List ℕ) × (line ≡ line_of_gtin gtin) × (said ≡ codes "]E0 " ++ elements_text f (gtin_entry gtin ∷ [])))
     ⊎ ((fault : DigitFault) × (line ≡ digit_fault_text fault) × (said ≡ digit_fault_text fault))

@@ -18,6 +18,7 @@ use Rattle.scan_core.specs.Reading.{stage_fault}
 use Rattle.scan_core.proofs.CandidateFacts.{candidate_dark}
 use Rattle.scan_core.proofs.ContentFacts.{one_content, spelled_fault}
 use Rattle.scan_core.proofs.ShownFacts.{SymbolLaws, one_symbol}
+use Rattle.element_core.specs.Terms.{Terms}
 use Rattle.scan_core.proofs.StageFacts.{candidate_of, latest_once, never}
 
 -- what the row says where its symbol's content is read as this
@@ -27,14 +28,14 @@ answer_of carrier (Err fault) = Refused fault
 
 -- ---- an answer from a content
 
-refused_of : (runs : List ℕ) (year : ℕ) (c : Carrier) (fault : RowFault) → Tells runs c (Err fault) → IsRefused runs year fault
+refused_of : (runs : List ℕ) (year : Terms) (c : Carrier) (fault : RowFault) → Tells runs c (Err fault) → IsRefused runs year fault
 refused_of runs year c fault t =
     elim (spelled_fault (kind_of c) t.1 fault t.3) [
       | inl e ↦ subst (IsRefused runs year) (sym e) (c, subst (λ f. Tells runs c (Err f)) e t)
       | inr f ↦ subst (IsRefused runs year) (sym f.1) (c, subst (λ g. Tells runs c (Err g)) f.1 t)
     ]
 
-pub answer_from : (runs : List ℕ) (year : ℕ) (c : Carrier) (content : Result (List ℕ) RowFault) (read : Result Listing RowFault)
+pub answer_from : (runs : List ℕ) (year : Terms) (c : Carrier) (content : Result (List ℕ) RowFault) (read : Result Listing RowFault)
     → Tells runs c content → IsReadAs year content read → IsAnswer runs year (answer_of c read)
 answer_from runs year c (Ok text) (Ok listing) t i = (text, t, i.0, i.1)
 answer_from runs year c (Ok text) (Err fault) t i = subst (IsRefused runs year) (sym i.2) (c, text, t, i.1)
@@ -43,7 +44,7 @@ answer_from runs year c (Err fault) read t i =
 
 -- ---- one reading of a content
 
-one_read : OneListOrFault → (year : ℕ) (content : Result (List ℕ) RowFault) (r q : Result Listing RowFault)
+one_read : OneListOrFault → (year : Terms) (content : Result (List ℕ) RowFault) (r q : Result Listing RowFault)
     → IsReadAs year content r → IsReadAs year content q → r ≡ q
 one_read law year (Ok text) (Ok l) (Ok m) a b =
     ap Ok (ap₂ (λ y es. record { year = y; list = es }) (a.0 ∙ sym b.0) ((law year text).0 l.list m.list a.1 b.1))
@@ -54,7 +55,7 @@ one_read law year (Err fault) r q a b = a ∙ sym b
 
 -- ---- why a row has an answer
 
-data Reason (runs : List ℕ) (year : ℕ) : Answer → Type 0 where
+data Reason (runs : List ℕ) (year : Terms) : Answer → Type 0 where
   blank : (Contains (dots_of runs) true → ⊥) → Reason runs year (Refused Blank)
   uncounted :
       Contains (dots_of runs) true → (ComesTo every_carrier runs stages.QuietZone → ⊥) → Reason runs year (Refused RunCount)
@@ -63,7 +64,7 @@ data Reason (runs : List ℕ) (year : ℕ) : Answer → Type 0 where
       (c : Carrier) (content : Result (List ℕ) RowFault) (read : Result Listing RowFault) → Tells runs c content → IsReadAs year content read
       → Reason runs year (answer_of c read)
 
-reason : (runs : List ℕ) (year : ℕ) (x : Answer) → IsAnswer runs year x → Reason runs year x
+reason : (runs : List ℕ) (year : Terms) (x : Answer) → IsAnswer runs year x → Reason runs year x
 reason runs year (Read c listing) a = told c (Ok a.0) (Ok listing) a.1 (a.2, a.3)
 reason runs year (Refused Blank) a = blank a
 reason runs year (Refused RunCount) a = uncounted a.0 a.1
@@ -81,7 +82,7 @@ pub record ReadingLaws : Type 0 where
   pub codes : OneReading
   pub texts : OneListOrFault
 
-module _ (laws : ReadingLaws) (runs : List ℕ) (year : ℕ) (row : IsRow runs) where
+module _ (laws : ReadingLaws) (runs : List ℕ) (year : Terms) (row : IsRow runs) where
   -- two readings of the one symbol of the row
   same_told : (c d : Carrier) (x y : Result (List ℕ) RowFault) (r q : Result Listing RowFault)
       → Tells runs c x → IsReadAs year x r → Tells runs d y → IsReadAs year y q → answer_of c r ≡ answer_of d q
@@ -116,5 +117,5 @@ module _ (laws : ReadingLaws) (runs : List ℕ) (year : ℕ) (row : IsRow runs) 
   same_reason x y (told c content read t i) (told d other q u j) =
       same_told c d content other read q t i u j
 
-pub one_answer : ReadingLaws → (runs : List ℕ) (year : ℕ) (x y : Answer) → IsRow runs → IsAnswer runs year x → IsAnswer runs year y → x ≡ y
+pub one_answer : ReadingLaws → (runs : List ℕ) (year : Terms) (x y : Answer) → IsRow runs → IsAnswer runs year x → IsAnswer runs year y → x ≡ y
 one_answer laws runs year x y row a b = same_reason laws runs year row x y (reason runs year x a) (reason runs year y b)

@@ -3,7 +3,7 @@ use Rattle.std.proofs.Common.{◌≡◌, ◌⊎◌, ◌==◌, ◌%◌, ℕ, Bool
 use Rattle.digits_core.specs.Digits.{IsChecked, ascii_of, weighted}
 use Rattle.ean_code.specs.Laws.{OneListOfDigits}
 use Rattle.ean_code.specs.Spelling.{gtin_of}
-use Rattle.ean_code.specs.Symbols.{Kind}
+use Rattle.ean_code.specs.declared.kind.Kind.{Kind}
 use Rattle.code128_code.specs.Laws.{OneReading}
 use Rattle.code128_code.specs.Texts.{symbol_text}
 use Rattle.code128_code.specs.declared.fault.Code128Fault.{Code128Fault}

@@ -11,9 +11,10 @@ use Rattle.scan_core.specs.declared.answer.Answer.TheVariants.{Read, Refused}
 use Rattle.scan_core.specs.Row.{inner}
 use Rattle.scan_core.specs.Showing.{HasSize, kind_of}
 use Rattle.scan_core.specs.Answers.{ComesAs, ComesTo, IsAnswer, IsRefused, IsRefusedOf, every_carrier}
+use Rattle.element_core.specs.Terms.{Terms}
 use Rattle.scan_core.specs.BeforeItf14.{OtherRowsKeep, WasAnswer, earlier}
 
-module _ (runs : List ℕ) (year : ℕ) (other : length (inner runs) ≢ 77) where
+module _ (runs : List ℕ) (year : Terms) (other : length (inner runs) ≢ 77) where
   -- no candidate of such a row is ITF-14
   apart : (c : Carrier) (N : ℕ) → HasSize (kind_of c) (length (inner runs)) N → c ≢ Itf14
   apart c N h e = other (subst (λ d. HasSize (kind_of d) (length (inner runs)) N) e h).0

@@ -1,18 +1,16 @@
 -- The ends of symbols: a bar of two modules at most, and then a space of one.
-use Rattle.std.proofs.Common.{◌≡◌, ◌⊎◌, ℕ, ◌*◌, ◌<◌, ◌≤◌, List, [], ◌∷◌, ◌++◌, length, take, drop, reverse, Option, Some, None, arith, get_or, inl, inr, refl, subst, sym, suc, zero}
+use Rattle.std.proofs.Common.{◌≡◌, ◌⊎◌, ℕ, ◌*◌, ◌<◌, ◌≤◌, List, [], ◌∷◌, ◌++◌, length, reverse, Option, Some, None, arith, get_or, inl, inr, refl, subst, sym, suc, zero}
 use Rattle.std.proofs.Math.Nat.{le_of_mul-le-mul_right, mul-le-mul_right, mul_assoc}
 use Rattle.std.proofs.lemmas.Bool.{cases_eq}
-use Rattle.std.proofs.lemmas.List.{get_or_append_left, length-append, length-reverse, reverse-append, reverse-reverse}
+use Rattle.std.proofs.lemmas.List.{get_or_append_left, length-reverse, reverse-append, reverse-reverse}
 use Rattle.std.specs.List.{flat_map}
-use Rattle.ean_code.specs.NumberSets.{ean13_rows, ean8_row, left_part, right_part, row_of, upce_rows}
-use Rattle.ean_code.specs.Symbols.{Kind, IsNumberSymbol, centre_guard, normal_guard, special_guard}
-use Rattle.ean_code.specs.Symbols.Kind.{Ean13, Ean8, UpcE, Itf14}
-use Rattle.ean_code.specs.TwoOfFive.{in_pairs, itf_start, itf_stop, pair_widths}
+use Rattle.ean_code.specs.declared.kind.Kind.{Kind}
 use Rattle.code128_code.specs.Characters.{pattern, patterns, stop}
 use Rattle.code128_code.specs.Symbols.{characters_of}
 use Rattle.scan_core.specs.Showing.{IsRun, IsSymbol, Way, along}
 use Rattle.scan_core.specs.Showing.Way.{Forwards, Backwards}
 use Rattle.scan_core.specs.inner.Searches.{MayEnd}
+use Rattle.scan_core.proofs.KindFacts.{EndsNarrow, narrow_ends}
 
 -- the widths that a symbol begins with
 pub record BeginsNarrow (ms : List ℕ) : Type 0 where
@@ -29,47 +27,6 @@ ends_with xs ys long b =
     let at0 = get_or_append_left (reverse ys) (reverse xs) 0 0 (omega arith) in
     let at1 = get_or_append_left (reverse ys) (reverse xs) 0 1 (omega arith) in
     subst BeginsNarrow (sym same) (record { bar = omega arith; space = omega arith })
-
-longer : (xs ys : List ℕ) → 1 < length ys → 1 < length (xs ++ ys)
-longer xs ys h = omega (arith, length-append xs ys)
-
-halves_end : (left right : List ℕ) → BeginsNarrow (reverse (normal_guard ++ (left ++ (centre_guard ++ (right ++ normal_guard)))))
-halves_end left right =
-    let long : 1 < length normal_guard = omega arith in
-    let a = longer right normal_guard long in
-    let b = longer centre_guard (right ++ normal_guard) a in
-    let c = longer left (centre_guard ++ (right ++ normal_guard)) b in
-    let narrow : BeginsNarrow (reverse normal_guard) = record { bar = omega arith; space = omega arith } in
-    ends_with normal_guard (left ++ (centre_guard ++ (right ++ normal_guard))) c
-    (ends_with left (centre_guard ++ (right ++ normal_guard)) b (ends_with centre_guard (right ++ normal_guard) a (ends_with right normal_guard long narrow)))
-
--- each number's symbol begins and ends so
-number : (kind : Kind) (ms ds : List ℕ) → IsNumberSymbol kind ms ds → BeginsNarrow ms × BeginsNarrow (reverse ms)
-number Ean13 ms ds e = (
-  subst BeginsNarrow (sym e.widths) (record { bar = omega arith; space = omega arith }),
-  subst (λ ws. BeginsNarrow (reverse ws)) (sym e.widths) (halves_end (left_part (row_of ean13_rows (get_or ds 0 0)) (take 6 (drop 1 ds)))
-      (right_part (drop 7 ds))),
-)
-number Ean8 ms ds e = (
-  subst BeginsNarrow (sym e.widths) (record { bar = omega arith; space = omega arith }),
-  subst (λ ws. BeginsNarrow (reverse ws)) (sym e.widths) (halves_end (left_part ean8_row (take 4 ds)) (right_part (drop 4 ds))),
-)
-number UpcE ms ds e =
-    let left = left_part (row_of upce_rows (get_or ds 6 0)) (take 6 ds) in
-    let long : 1 < length special_guard = omega arith in
-    let narrow : BeginsNarrow (reverse special_guard) = record { bar = omega arith; space = omega arith } in (
-      subst BeginsNarrow (sym e.widths) (record { bar = omega arith; space = omega arith }),
-      subst (λ ws. BeginsNarrow (reverse ws)) (sym e.widths)
-          (ends_with normal_guard (left ++ special_guard) (longer left special_guard long) (ends_with left special_guard long narrow)),
-    )
-number Itf14 ms ds e =
-    let pairs = flat_map pair_widths (in_pairs ds) in
-    let long : 1 < length itf_stop = omega arith in
-    let narrow : BeginsNarrow (reverse itf_stop) = record { bar = omega arith; space = omega arith } in (
-      subst BeginsNarrow (sym e.widths) (record { bar = omega arith; space = omega arith }),
-      subst (λ ws. BeginsNarrow (reverse ws)) (sym e.widths)
-          (ends_with itf_start (pairs ++ itf_stop) (longer pairs itf_stop long) (ends_with pairs itf_stop long narrow)),
-    )
 
 -- each start character of Code 128 begins so
 
@@ -95,7 +52,10 @@ start_narrow s rest low high =
 
 -- each symbol begins and ends so
 each_symbol : (kind : Option Kind) (ms : List ℕ) → IsSymbol kind ms → BeginsNarrow ms × BeginsNarrow (reverse ms)
-each_symbol (Some kind) ms f = number kind ms f.0 f.1
+each_symbol (Some kind) ms f = let ends = narrow_ends kind ms f.0 f.1 in (narrow ms ends.0, narrow (reverse ms) ends.1)
+  where
+    narrow : (ws : List ℕ) → EndsNarrow ws → BeginsNarrow ws
+    narrow ws e = let bar = e.bar in let space = e.space in record { bar = omega arith; space = omega arith }
 each_symbol None ms f =
     let e = f.3 in
     let long : 1 < length stop = omega arith in

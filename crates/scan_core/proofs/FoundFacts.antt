@@ -1,7 +1,7 @@
 -- What a row is found to show as a candidate.
 use Rattle.std.proofs.Common.{◌≡◌, ℕ, List, length, Option, Some, None, refl, sym, ap, subst, ◌∙◌}
 use Rattle.ean_code.specs.Spelling.{gtin_of}
-use Rattle.ean_code.specs.Symbols.{Kind}
+use Rattle.ean_code.specs.declared.kind.Kind.{Kind}
 use Rattle.scan_core.specs.declared.symbol.Symbol.{Symbol}
 use Rattle.scan_core.specs.declared.symbol.Symbol.TheVariants.{Number, BadCheckDigit, Characters}
 use Rattle.scan_core.specs.Reading.{IsSymbolAs, ShowsSymbol}

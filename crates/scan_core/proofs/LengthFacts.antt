@@ -1,15 +1,15 @@
 -- The text of a symbol fits an element string, so no row is refused for its length.
-use Rattle.std.proofs.Common.{◌≡◌, ℕ, ◌+◌, ◌%◌, ◌≤◌, ◌==◌, nat_le, nat_lt, not, Bool, true, false, List, [], ◌∷◌, ◌++◌, length, drop, take, Option, Some, None, MatchOption, Result, Ok, Err, codes, refl, ap, ◌∙◌, arith, get_or, if◌then◌else◌}
+use Rattle.std.proofs.Common.{◌≡◌, ℕ, ◌+◌, ◌%◌, ◌≤◌, ◌==◌, nat_lt, not, Bool, true, false, List, [], ◌∷◌, ◌++◌, length, drop, Option, Some, None, MatchOption, Result, Ok, Err, codes, ap, ◌∙◌, arith, if◌then◌else◌}
 use Rattle.std.proofs.lemmas.Bool.Decides.{nat_tests}
-use Rattle.std.proofs.lemmas.List.{length-append, length-map, length-replicate}
-use Rattle.digits_core.specs.Digits.{ascii_of, padded, weighted}
-use Rattle.digits_core.specs.Upce.{upce_expanded}
-use Rattle.element_core.specs.Elements.{FirstFault, StopsWith, each_part, fault_by, field_of, has_characters, has_check_digit, has_even_length, is_named, value_in}
-use Rattle.element_core.specs.Table.{Row, greatest_of, least_of, row_at}
+use Rattle.std.proofs.lemmas.List.{length-append, length-map}
+use Rattle.digits_core.specs.Digits.{ascii_of, weighted}
+use Rattle.element_core.specs.Elements.{FirstFault, StopsWith, each_part, fault_by, field_of, has_characters, has_check_digit, has_whole_steps, value_in}
+use Rattle.element_core.specs.Times.{is_named}
+use Rattle.element_core.specs.Table.{Row, greatest_of, least_of}
 use Rattle.element_core.specs.declared.fault.ElementFault.TheVariants.{Empty, ValueLength, ValueCharacter, ValueCheckDigit, ValueDate, MissingSeparator, TooLong}
+use Rattle.ean_code.specs.Laws.{EachGtinHasFourteen}
 use Rattle.ean_code.specs.Spelling.{gtin_of}
-use Rattle.ean_code.specs.Symbols.{Kind, digit_count}
-use Rattle.ean_code.specs.Symbols.Kind.{Ean13 as KindEan13, Ean8 as KindEan8, UpcE as KindUpcE, Itf14 as KindItf14}
+use Rattle.ean_code.specs.declared.kind.Kind.{Kind}
 use Rattle.code128_code.specs.Laws.{SaidIsShort}
 use Rattle.code128_code.specs.Symbols.{mod103}
 use Rattle.code128_code.specs.Texts.{gs1_text, set_of, symbol_text, text_from}
@@ -17,52 +17,19 @@ use Rattle.code128_code.specs.declared.code_set.CodeSet.{CodeSet}
 use Rattle.code128_code.specs.declared.fault.Code128Fault.{Code128Fault}
 use Rattle.code128_code.specs.declared.fault.Code128Fault.TheVariants.{CheckCharacter, NotGs1}
 use Rattle.scan_core.specs.Answers.{Spells, row_text}
+use Rattle.element_core.specs.Terms.{Terms, row_by_terms}
 use Rattle.scan_core.specs.declared.fault.RowFault.TheVariants.{SymbolCheckDigit}
 
 -- ---- numbers
-
-one_length : (a b c : Bool) (w x y z : List ℕ) → length w ≡ 12 → length x ≡ 12 → length y ≡ 12 → length z ≡ 12
-    → length (if a then w else if b then x else if c then y else z) ≡ 12
-one_length true b c w x y z p q r s = p
-one_length false true c w x y z p q r s = q
-one_length false false true w x y z p q r s = r
-one_length false false false w x y z p q r s = s
-
-expanded_length : (six : List ℕ) (check : ℕ) → length (upce_expanded six check) ≡ 12
-expanded_length six check =
-    let d : ℕ → ℕ = λ k. get_or six k 0 in
-    one_length (nat_le (d 5) 2) (d 5 == 3) (d 5 == 4)
-    (0 ∷ d 0 ∷ d 1 ∷ d 5 ∷ 0 ∷ 0 ∷ 0 ∷ 0 ∷ d 2 ∷ d 3 ∷ d 4 ∷ check ∷ [])
-    (0 ∷ d 0 ∷ d 1 ∷ d 2 ∷ 0 ∷ 0 ∷ 0 ∷ 0 ∷ 0 ∷ d 3 ∷ d 4 ∷ check ∷ [])
-    (0 ∷ d 0 ∷ d 1 ∷ d 2 ∷ d 3 ∷ 0 ∷ 0 ∷ 0 ∷ 0 ∷ 0 ∷ d 4 ∷ check ∷ [])
-    (0 ∷ d 0 ∷ d 1 ∷ d 2 ∷ d 3 ∷ d 4 ∷ 0 ∷ 0 ∷ 0 ∷ 0 ∷ d 5 ∷ check ∷ [])
-    refl refl refl refl
-
-padded_length : (ds : List ℕ) → length ds ≤ 14 → length (padded ds) ≡ 14
-padded_length ds few = omega (arith, length-append {A = ℕ}, length-replicate {A = ℕ})
-
-gtin_length : (kind : Kind) (ds : List ℕ) → length ds ≤ 14 → length (gtin_of kind ds) ≡ 14
-gtin_length KindEan13 ds few = padded_length ds few
-gtin_length KindEan8 ds few = padded_length ds few
-gtin_length KindItf14 ds few = padded_length ds few
-gtin_length KindUpcE ds few =
-    let twelve = expanded_length (take 6 ds) (get_or ds 6 0) in
-    padded_length (upce_expanded (take 6 ds) (get_or ds 6 0)) (omega arith)
-
-few_digits : (kind : Kind) (ds : List ℕ) → length ds ≡ digit_count kind → length ds ≤ 14
-few_digits KindEan13 ds e = omega arith
-few_digits KindEan8 ds e = omega arith
-few_digits KindUpcE ds e = omega arith
-few_digits KindItf14 ds e = omega arith
 
 checked_is : (right : Bool) (text all : List ℕ) → Ok text ≡ (if right then Ok all else Err SymbolCheckDigit) → text ≡ all
 checked_is true text all e = cc
 checked_is false text all e = absurd cc
 
-number_fits : (kind : Kind) (ms text : List ℕ) → Spells (Some kind) ms (Ok text) → length text ≤ 192
-number_fits kind ms text a =
+number_fits : EachGtinHasFourteen → (kind : Kind) (ms text : List ℕ) → Spells (Some kind) ms (Ok text) → length text ≤ 192
+number_fits fourteen kind ms text a =
     let gtin : List ℕ = gtin_of kind a.0 in
-    let long : length gtin ≡ 14 = gtin_length kind a.0 (few_digits kind a.0 a.1.count) in
+    let long : length gtin ≡ 14 = fourteen kind a.0 a.1.count in
     let ascii : length (ascii_of gtin) ≡ 14 = length-map gtin (λ d. d + 48) ∙ long in
     let is : text ≡ codes "01" ++ ascii_of gtin = checked_is (weighted gtin % 10 == 0) text (codes "01" ++ ascii_of gtin) a.2 in
     let all : length text ≡ 16 = ap length is ∙ length-append (codes "01") (ascii_of gtin) ∙ (omega arith) in omega arith
@@ -83,9 +50,9 @@ row_ok : (text : List ℕ) (r : Result (List ℕ) Code128Fault) → Ok text ≡ 
 row_ok text (Ok u) e = cc
 row_ok text (Err f) e = absurd cc
 
-pub content_fits : SaidIsShort → (kind : Option Kind) (ms text : List ℕ) → Spells kind ms (Ok text) → length text ≤ 192
-content_fits law (Some kind) ms text a = number_fits kind ms text a
-content_fits law None ms text a =
+pub content_fits : SaidIsShort → EachGtinHasFourteen → (kind : Option Kind) (ms text : List ℕ) → Spells kind ms (Ok text) → length text ≤ 192
+content_fits law fourteen (Some kind) ms text a = number_fits fourteen kind ms text a
+content_fits law fourteen None ms text a =
     code_fits law (set_of a.0) a.1 text (a.2 == mod103 a.0 a.1) a.3.few (row_ok text (symbol_text a.0 a.1 a.2) a.4)
 
 -- ---- faults of a text that fits
@@ -102,13 +69,13 @@ not_long false false true true false e p h = cc
 not_long false false true true true false p h = cc
 not_long false false true true true true p h = cc
 
-fault_not_long : (year p : ℕ) (text : List ℕ) (row : Option Row) → fault_by year p text row ≡ Some TooLong → ⊥
+fault_not_long : (year : Terms) (p : ℕ) (text : List ℕ) (row : Option Row) → fault_by year p text row ≡ Some TooLong → ⊥
 fault_not_long year p text None h = cc
 fault_not_long year p text (Some row) h =
     let value = value_in row (field_of (drop (length row.ai) text)) in
-    not_long (nat_lt (length value) (least_of row.parts)) (nat_lt (greatest_of row.parts) (length value)) (each_part has_even_length row.parts value)
+    not_long (nat_lt (length value) (least_of row.parts)) (nat_lt (greatest_of row.parts) (length value)) (each_part has_whole_steps row.parts value)
     (each_part has_characters row.parts value)
-    (each_part has_check_digit row.parts value) (each_part (λ p. is_named year p.format) row.parts value) p h
+    (each_part has_check_digit row.parts value) (each_part (λ p. is_named year.year p.rule) row.parts value) p h
 
 sized : (a b : Bool) (P : Type 0) → a ≡ false → (P → ⊥)
     → MatchOption (if a then Some TooLong else if b then Some Empty else None) P (λ g. TooLong ≡ g) → ⊥
@@ -116,7 +83,7 @@ sized true b P e none h = absurd cc
 sized false true P e none h = cc
 sized false false P e none h = none h
 
-pub never_long : (year : ℕ) (text : List ℕ) → length text ≤ 192 → FirstFault year text TooLong → ⊥
+pub never_long : (year : Terms) (text : List ℕ) → length text ≤ 192 → FirstFault year text TooLong → ⊥
 never_long year text fits h =
     sized (nat_lt 192 (length text)) (length text == 0) (StopsWith year text TooLong) (grind (arith, nat_tests))
-    (λ s. fault_not_long year s.place s.rest (row_at s.rest) s.fault) h
+    (λ s. fault_not_long year s.place s.rest (row_by_terms year s.rest) s.fault) h

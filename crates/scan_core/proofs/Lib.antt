@@ -8,8 +8,8 @@ pub mod EarlierFacts
 pub mod EndFacts
 pub mod FirstFacts
 pub mod FoundFacts
+pub mod KindFacts
 pub mod LengthFacts
-pub mod OuterBars
 pub mod PartFacts
 pub mod RatioFacts
 pub mod ReplacedFacts

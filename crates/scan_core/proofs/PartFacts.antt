@@ -19,6 +19,7 @@ use Rattle.scan_core.specs.declared.dots.FirstRuns.{FirstRuns}
 use Rattle.scan_core.proofs.DotFacts.{colour, dots_determine, even_colour}
 use Rattle.scan_core.proofs.FirstFacts.{front_le}
 use Rattle.scan_core.proofs.RunsOfDots.{length-dots_from, runs_of_row}
+use Rattle.element_core.specs.Terms.{Terms}
 use Rattle.scan_core.proofs.WindowFacts.{IsRow-runs_in, length-runs_in, window_counts}
 
 -- ---- the symbols of so many runs of a row, from a light run on
@@ -34,7 +35,7 @@ runs_in-runs_in runs before n first count within =
     ∙ take-take count m (drop first (drop before runs)) (omega arith)
     ∙ ap (take count) (drop-drop first before runs)
 
-module _ (runs : List ℕ) (year before n : ℕ) (light : before % 2 ≡ 0) (within : before + n ≤ length runs) where
+module _ (runs : List ℕ) (year : Terms) (before n : ℕ) (light : before % 2 ≡ 0) (within : before + n ≤ length runs) where
   long : length (runs_in runs before n) ≡ n
   long = length-runs_in runs before n within
 
@@ -215,7 +216,7 @@ reach_end : (more : Bool) (before n all first count last : ℕ) → (more ≡ fa
 reach_end true before n all first count last whole cut early le few within some = let a = cut refl in let b = early refl in omega arith
 reach_end false before n all first count last whole cut early le few within some = let a = whole refl in omega arith
 
-module _ (bits : List ℕ) (width year : ℕ) (few : width ≤ 65535) (p : Part) (is : IsPart (dots_at bits 0 width) p) where
+module _ (bits : List ℕ) (width : ℕ) (year : Terms) (few : width ≤ 65535) (p : Part) (is : IsPart (dots_at bits 0 width) p) where
   abbrev runs : List ℕ
   runs = runs_of_dots (dots_at bits 0 width)
 

@@ -7,7 +7,7 @@ use Rattle.digits_core.specs.Digits.{AreDigits, IsChecked, ascii_of, padded}
 use Rattle.element_core.specs.Elements.{GtinReads, gtin_entry}
 use Rattle.ean_code.specs.Laws.{MeasuresOfKind, TwoWidths}
 use Rattle.ean_code.specs.Spelling.{IsGtinSymbol}
-use Rattle.ean_code.specs.Symbols.Kind.{Itf14 as KindItf14}
+use Rattle.ean_code.specs.declared.kind.Kind.TheVariants.{Itf14 as KindItf14}
 use Rattle.ean_code.specs.TwoOfFive.{AreTwoWidths}
 use Rattle.scan_core.specs.declared.carrier.Carrier.TheVariants.{Itf14}
 use Rattle.scan_core.specs.declared.answer.Answer.TheVariants.{Read}
@@ -17,6 +17,7 @@ use Rattle.scan_core.specs.Showing.Way.{Forwards, Backwards}
 use Rattle.scan_core.specs.Answers.{IsAnswer, checked_text}
 use Rattle.scan_core.proofs.ContentFacts.{checked_right}
 use Rattle.scan_core.specs.Ratios.{AreInRatio, EachRatioIsRead, drawn_row, element_dots}
+use Rattle.element_core.specs.Terms.{Terms}
 use Rattle.scan_core.proofs.TurnedFacts.{IsRow-reverse, turned_row}
 
 -- how many are wide
@@ -87,7 +88,7 @@ padded_gtin ds gtin long valid e =
     (subst (λ g. length g ≡ 14) same long, subst AreDigits same valid)
 
 module _ (two : TwoWidths) (measures : MeasuresOfKind) (reads : GtinReads) where
-  pub forwards : (gtin modules : List ℕ) (n w left right year : ℕ) → IsGtinSymbol KindItf14 gtin modules → IsChecked gtin → AreInRatio n w left right
+  pub forwards : (gtin modules : List ℕ) (n w left right : ℕ) (year : Terms) → IsGtinSymbol KindItf14 gtin modules → IsChecked gtin → AreInRatio n w left right
       → sum (drawn_row n w left right modules) ≤ 65535
       → IsRow (drawn_row n w left right modules)
       × IsAnswer (drawn_row n w left right modules) year (Read Itf14 (record { year = year; list = gtin_entry gtin ∷ [] }))

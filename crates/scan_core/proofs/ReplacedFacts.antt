@@ -4,7 +4,8 @@ use Rattle.std.proofs.lemmas.Bool.Decides.{nat_tests}
 use Rattle.std.specs.List.{AllByRecursion}
 use Rattle.std.proofs.lemmas.List.{length-set}
 use Rattle.digits_core.specs.Digits.{AreDigits, IsChecked}
-use Rattle.ean_code.specs.Symbols.{Kind, IsCheckedPlace, IsNumberSymbol, digit_count, widths_of}
+use Rattle.ean_code.specs.declared.kind.Kind.{Kind}
+use Rattle.ean_code.specs.Symbols.{IsCheckedPlace, IsNumberSymbol, digit_count, widths_of}
 use Rattle.ean_code.specs.Spelling.{IsGtinOf, gtin_of}
 use Rattle.ean_code.specs.Laws.{ReplacedDigitIsUnchecked}
 use Rattle.code128_code.specs.Symbols.{mod103}

@@ -1,26 +1,26 @@
 -- A row shows at most one symbol.
-use Rattle.std.proofs.Common.{◌≡◌, ℕ, ◌+◌, ◌<◌, List, [], ◌∷◌, length, reverse, sum, Option, Some, None, refl, sym, ap, subst, ◌∙◌, arith, get_or}
+use Rattle.std.proofs.Common.{◌≡◌, ℕ, ◌+◌, ◌%◌, ◌<◌, inl, inr, List, [], ◌∷◌, length, reverse, sum, Option, Some, None, refl, sym, ap, subst, ◌∙◌, arith, get_or}
+use Rattle.std.proofs.lemmas.Bool.{cases_eq}
 use Rattle.std.proofs.lemmas.List.{reverse-reverse}
 use Rattle.std.proofs.lemmas.List.Elements.{AllZip-get_or}
-use Rattle.ean_code.specs.Symbols.{Kind}
-use Rattle.ean_code.specs.Laws.{KindIsOneWay}
+use Rattle.ean_code.specs.declared.kind.Kind.{Kind}
+use Rattle.ean_code.specs.Symbols.{module_count, width_count}
+use Rattle.ean_code.specs.declared.kind.Kind.TheVariants.{Ean8 as KindEan8}
+use Rattle.ean_code.specs.Laws.{EachKindIsOneWay}
 use Rattle.code128_code.specs.Laws.{Measures, OneWay}
 use Rattle.scan_core.specs.declared.carrier.Carrier.{Carrier}
-use Rattle.scan_core.specs.declared.carrier.Carrier.TheVariants.{Ean13, Ean8, UpcE, Itf14, Gs1128}
+use Rattle.scan_core.specs.declared.carrier.Carrier.TheVariants.{Ean8, Gs1128}
 use Rattle.scan_core.specs.Row.{IsRow, inner}
 use Rattle.scan_core.specs.Showing.{HasSize, IsRun, IsSymbol, Rounds, Shows, Way, along, kind_of}
 use Rattle.scan_core.specs.Showing.Way.{Forwards, Backwards}
-use Rattle.scan_core.proofs.CandidateFacts.{candidate_dots}
-use Rattle.scan_core.proofs.OuterBars.{outer_bars}
+use Rattle.scan_core.proofs.CandidateFacts.{candidate_dots, one_gs1128}
+use Rattle.ean_code.proofs.AllKinds.{one_kind}
+use Rattle.scan_core.proofs.KindFacts.{apart, narrow_ends, one_carrier}
 use Rattle.scan_core.proofs.WayFacts.{one_lying, rounds_lying}
-
--- no symbol of a number is one backwards
-abbrev pub EachOneWay : Type 0
-EachOneWay = (kind : Kind) → KindIsOneWay kind
 
 -- what holds of the symbols of each carrier
 pub record SymbolLaws : Type 0 where
-  pub ean : EachOneWay
+  pub ean : EachKindIsOneWay
   pub code : OneWay
   pub measures : Measures
 
@@ -53,8 +53,8 @@ module _ (laws : SymbolLaws) where
 
   -- the first bar, either way
   bar_of_ean8 : (v : Way) (ms : List ℕ) → IsSymbol (kind_of Ean8) ms → get_or (along v ms) 0 0 ≡ 1
-  bar_of_ean8 Forwards ms f = (outer_bars ms f.0 f.1).0
-  bar_of_ean8 Backwards ms f = (outer_bars ms f.0 f.1).1
+  bar_of_ean8 Forwards ms f = (narrow_ends KindEan8 ms f.0 f.1).0.bar
+  bar_of_ean8 Backwards ms f = (narrow_ends KindEan8 ms f.0 f.1).1.bar
 
   bar_of_gs1128 : (v : Way) (ms : List ℕ) → IsSymbol (kind_of Gs1128) ms → get_or (along v ms) 0 0 ≡ 2
   bar_of_gs1128 Forwards ms f = (laws.measures f.0 f.2 f.1 ms f.3).first_bar
@@ -77,39 +77,36 @@ data Meet : Carrier → Carrier → ℕ → ℕ → Type 0 where
 met_at : (c : Carrier) (N M : ℕ) → N ≡ M → Meet c c N M
 met_at c N M e = subst (λ K. Meet c c N K) e same_carrier
 
+-- a number's kind among them that has 6k + 7 runs is that of EAN-8, k is 6, and it is 67 and 79 modules wide
+eight : (kind : Kind) (c : Carrier) (n N M : ℕ) → kind_of c ≡ Some kind → HasSize (Some kind) n N → HasSize (kind_of Gs1128) n M
+    → (c ≡ Ean8) × (N ≡ 67) × (M ≡ 79)
+eight kind c n N M e x y =
+    let runs = y.3 in
+    let wide = y.4 in
+    elim (cases_eq (width_count kind) 43) [
+      | inl is ↦
+          let same : kind ≡ KindEan8 = one_kind kind KindEan8 is in
+          let count : N ≡ 67 = x.1 ∙ ap module_count same in
+          let six = x.0 in
+          (one_carrier c Ean8 (e ∙ ap Some same), count, omega arith)
+      | inr other ↦ absurd (let no = apart kind other in let n_is = x.0 in let one : width_count kind % 6 ≡ 1 = omega arith in no one)
+    ]
+
 meet : (a b : Carrier) (n N M : ℕ) → HasSize (kind_of a) n N → HasSize (kind_of b) n M → Meet a b N M
-meet Ean13 Ean13 n N M x y = met_at Ean13 N M (omega arith)
-meet Ean8 Ean8 n N M x y = met_at Ean8 N M (omega arith)
-meet UpcE UpcE n N M x y = met_at UpcE N M (omega arith)
-meet Itf14 Itf14 n N M x y = met_at Itf14 N M (omega arith)
-meet Gs1128 Gs1128 n N M x y =
-    let i = x.3 in let j = y.3 in let p = x.4 in let q = y.4 in met_at Gs1128 N M (omega arith)
-meet Ean8 Gs1128 n N M x y =
-    let j = y.3 in let q = y.4 in let p = x.1 in let i = x.0 in
-    let a : 67 ≡ N = omega arith in let b : 79 ≡ M = omega arith in
-    subst (λ K. Meet Ean8 Gs1128 K M) a (subst (λ K. Meet Ean8 Gs1128 67 K) b ean_first)
-meet Gs1128 Ean8 n N M x y =
-    let j = x.3 in let q = x.4 in let p = y.1 in let i = y.0 in
-    let a : 79 ≡ N = omega arith in let b : 67 ≡ M = omega arith in
-    subst (λ K. Meet Gs1128 Ean8 K M) a (subst (λ K. Meet Gs1128 Ean8 79 K) b ean_second)
-meet Ean13 Ean8 n N M x y = absurd (omega arith)
-meet Ean13 UpcE n N M x y = absurd (omega arith)
-meet Ean13 Gs1128 n N M x y = absurd (let i = x.0 in let j = y.3 in omega arith)
-meet Ean8 Ean13 n N M x y = absurd (omega arith)
-meet Ean8 UpcE n N M x y = absurd (omega arith)
-meet UpcE Ean13 n N M x y = absurd (omega arith)
-meet UpcE Ean8 n N M x y = absurd (omega arith)
-meet UpcE Gs1128 n N M x y = absurd (let i = x.0 in let j = y.3 in omega arith)
-meet Gs1128 Ean13 n N M x y = absurd (let i = y.0 in let j = x.3 in omega arith)
-meet Gs1128 UpcE n N M x y = absurd (let i = y.0 in let j = x.3 in omega arith)
-meet Itf14 Ean13 n N M x y = absurd (omega arith)
-meet Itf14 Ean8 n N M x y = absurd (omega arith)
-meet Itf14 UpcE n N M x y = absurd (omega arith)
-meet Itf14 Gs1128 n N M x y = absurd (let i = x.0 in let j = y.3 in omega arith)
-meet Ean13 Itf14 n N M x y = absurd (omega arith)
-meet Ean8 Itf14 n N M x y = absurd (omega arith)
-meet UpcE Itf14 n N M x y = absurd (omega arith)
-meet Gs1128 Itf14 n N M x y = absurd (let i = y.0 in let j = x.3 in omega arith)
+meet a b n N M x y = by (kind_of a) (kind_of b) refl refl x y
+  where
+    alike : (c d : Carrier) (K L : ℕ) → c ≡ d → K ≡ L → Meet c d K L
+    alike c d K L e f = subst (λ d. Meet c d K L) e (met_at c K L f)
+
+    by : (k l : Option Kind) → kind_of a ≡ k → kind_of b ≡ l → HasSize k n N → HasSize l n M → Meet a b N M
+    by (Some k) (Some l) e f x y =
+        let same = one_kind k l (sym x.0 ∙ y.0) in
+        alike a b N M (one_carrier a b (e ∙ ap Some same ∙ sym f)) (x.1 ∙ ap module_count same ∙ sym y.1)
+    by (Some k) None e f x y =
+        let is = eight k a n N M e x y in rw (is.0, is.1, is.2, one_carrier b Gs1128 f) ean_first
+    by None (Some l) e f x y =
+        let is = eight l b n M N f y x in rw (is.0, is.1, is.2, one_carrier a Gs1128 e) ean_second
+    by None None e f x y = alike a b N M (one_carrier a b (e ∙ sym f)) (one_gs1128 n N M x y)
 
 settle : SymbolLaws → (a b : Carrier) (N M : ℕ) → Meet a b N M → (v w : Way) (runs ms ks : List ℕ) → 0 < sum runs
     → Rounds (along v runs) N ms → Rounds (along w runs) M ks → IsSymbol (kind_of a) ms → IsSymbol (kind_of b) ks → (a ≡ b) × (v ≡ w) × (ms ≡ ks)

@@ -11,12 +11,13 @@ use Rattle.scan_core.specs.Answers.{ComesTo, IsRefused, every_carrier}
 use Rattle.scan_core.specs.inner.Stages.{Fails, FailsAt, number_of}
 use Rattle.scan_core.specs.inner.Reading.{later}
 use Rattle.scan_core.specs.Reading.{stage_fault}
+use Rattle.element_core.specs.Terms.{Terms}
 use Rattle.scan_core.proofs.CandidateFacts.{one_fixed, one_gs1128, which}
 
 -- ---- a row is refused for one stage
 
 -- a row that is refused for a stage has a candidate
-pub candidate_of : (f : Stage) (runs : List ℕ) (year : ℕ) → IsRefused runs year (stage_fault f) → ComesTo every_carrier runs QuietZone
+pub candidate_of : (f : Stage) (runs : List ℕ) (year : Terms) → IsRefused runs year (stage_fault f) → ComesTo every_carrier runs QuietZone
 candidate_of QuietZone runs year a = a.0
 candidate_of Modules runs year a = (a.0.0, a.0.1, a.0.2.0)
 candidate_of Pattern runs year a = (a.0.0, a.0.1, a.0.2.0)
@@ -25,7 +26,7 @@ candidate_of Pattern runs year a = (a.0.0, a.0.1, a.0.2.0)
 quiet_too : (runs : List ℕ) → ComesTo every_carrier runs Pattern → ComesTo every_carrier runs Modules
 quiet_too runs a = (a.0, a.1, (a.2.0, a.2.1))
 
-pub latest_once : (f g : Stage) (runs : List ℕ) (year : ℕ) → IsRefused runs year (stage_fault f) → IsRefused runs year (stage_fault g) → f ≡ g
+pub latest_once : (f g : Stage) (runs : List ℕ) (year : Terms) → IsRefused runs year (stage_fault f) → IsRefused runs year (stage_fault g) → f ≡ g
 latest_once QuietZone QuietZone runs year a b = refl
 latest_once QuietZone Modules runs year a b = absurd (a.1 b.0)
 latest_once QuietZone Pattern runs year a b = absurd (a.1 (quiet_too runs b.0))
@@ -37,7 +38,7 @@ latest_once Pattern Modules runs year a b = absurd (b.1 a.0)
 latest_once Pattern Pattern runs year a b = refl
 
 -- such a row shows nothing
-pub never : (f : Stage) (runs : List ℕ) (year : ℕ) (c : Carrier) (w : Way) (ms : List ℕ) → Shows runs c w ms → IsRefused runs year (stage_fault f) → ⊥
+pub never : (f : Stage) (runs : List ℕ) (year : Terms) (c : Carrier) (w : Way) (ms : List ℕ) → Shows runs c w ms → IsRefused runs year (stage_fault f) → ⊥
 never QuietZone runs year c w ms s a = a.1 (c, s.N, (s.candidate, s.quiet))
 never Modules runs year c w ms s a = a.1 (c, s.N, (s.candidate, s.quiet, w, ms, s.rounds))
 never Pattern runs year c w ms s a = a.1 c w ms s
@@ -138,7 +139,7 @@ not_shown Modules runs c w ms s h = h.1 w ms s.rounds
 not_shown Pattern runs c w ms s h = h.2 w ms s.rounds s.form
 
 -- a row that fails at a stage is refused for it
-pub refused_at : (stage : Stage) (runs : List ℕ) (year : ℕ) → FailsAt runs stage → IsRefused runs year (stage_fault stage)
+pub refused_at : (stage : Stage) (runs : List ℕ) (year : Terms) → FailsAt runs stage → IsRefused runs year (stage_fault stage)
 refused_at QuietZone runs year a = (
   (a.carrier, a.N, a.candidate),
   λ m. let o = a.none_later m.0 m.1 m.2.0 in not_quiet runs m.0 m.1 o.0 o.1 o.2 m.2.1,

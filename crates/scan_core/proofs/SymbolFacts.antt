@@ -13,6 +13,7 @@ use Rattle.scan_core.specs.Answers.{IsAnswer}
 use Rattle.scan_core.specs.Laws.{OneAnswer}
 use Rattle.scan_core.specs.Windows.{AreInOrder, AreTold, ComesBefore, IsInside, IsLeft, IsSymbolOf, Search, SymbolsAreTold, TurnedSymbols, WholeRow, runs_in, turned}
 use Rattle.scan_core.proofs.TurnedFacts.{IsRow-reverse, turned_row}
+use Rattle.element_core.specs.Terms.{Terms}
 use Rattle.scan_core.proofs.WindowFacts.{IsRow-runs_in, length-runs_in, runs_in-at}
 
 -- ---- lists of windows
@@ -68,7 +69,7 @@ same_fields v w p q r s =
 carrier_of : (c d : Carrier) (l m : Listing) → Read c l ≡ Read d m → (c ≡ d) × (l ≡ m)
 carrier_of c d l m e = (cc, cc)
 
-module _ (once : OneAnswer) (runs : List ℕ) (year : ℕ) (row : IsRow runs) where
+module _ (once : OneAnswer) (runs : List ℕ) (year : Terms) (row : IsRow runs) where
   -- the search from a window on
   abbrev from : ℕ → ℕ → Search
   from first least = record { runs = runs; year = year; first = first; least = least }
@@ -145,7 +146,7 @@ module _ (once : OneAnswer) (runs : List ℕ) (year : ℕ) (row : IsRow runs) wh
         ]
       ]
 
-at_start : (runs : List ℕ) (year first : ℕ) (v : Window) → v.first ≡ first → IsLeft (record { runs = runs; year = year; first = 0; least = 0 }) v
+at_start : (runs : List ℕ) (year : Terms) (first : ℕ) (v : Window) → v.first ≡ first → IsLeft (record { runs = runs; year = year; first = 0; least = 0 }) v
 at_start runs year zero v e = inr (sym e, omega arith)
 at_start runs year (suc first) v e = inl (omega arith)
 
@@ -184,7 +185,7 @@ runs_in-reverse runs first count within =
     ∙ sym (runs_in-at runs first count (length (runs_in runs first count) - 1 - i) (omega arith))
     ∙ sym (get_or-reverse (runs_in runs first count) i 0 (omega arith)))
 
-module _ (runs : List ℕ) (year : ℕ) (row : IsRow runs) where
+module _ (runs : List ℕ) (year : Terms) (row : IsRow runs) where
   turned_symbol : (w : Window) → IsSymbolOf runs year w → IsSymbolOf (reverse runs) year (turned (length runs) w)
   turned_symbol w s =
       let n = length-reverse runs in

@@ -15,6 +15,7 @@ use Rattle.scan_core.specs.Showing.{HasSize, IsQuiet, Rounds, Shows, Way, along,
 use Rattle.scan_core.specs.Showing.Way.{Forwards, Backwards}
 use Rattle.scan_core.specs.Answers.{ComesTo, IsAnswer, IsRefused, Tells, every_carrier}
 use Rattle.scan_core.proofs.RowFacts.{each-push, has_dark, has_no_dark}
+use Rattle.element_core.specs.Terms.{Terms}
 use Rattle.scan_core.proofs.WayFacts.{sum-reverse}
 
 -- ---- rows
@@ -133,7 +134,7 @@ module _ (runs : List ℕ) (row : IsRow runs) where
   shows_back : (c : Carrier) (w : Way) (ms : List ℕ) → Shows (reverse runs) c w ms → Shows runs c (other_way w) ms
   shows_back c w ms s = subst (λ ws. Shows ws c (other_way w) ms) (reverse-reverse runs) (shows_turned (reverse runs) not_empty_turned c w ms s)
 
-  refused_turned : (year : ℕ) (f : RowFault) → IsRefused runs year f → IsRefused (reverse runs) year f
+  refused_turned : (year : Terms) (f : RowFault) → IsRefused runs year f → IsRefused (reverse runs) year f
   refused_turned year Blank light = λ dark.
       light (subst (λ ws. Contains (dots_of ws) true) (reverse-reverse runs) (dark_turned (reverse runs) (IsRow-reverse runs row) dark))
   refused_turned year RunCount a = (dark_turned runs row a.0, λ h. a.1 (comes_back stages.QuietZone h))
@@ -144,6 +145,6 @@ module _ (runs : List ℕ) (row : IsRow runs) where
   refused_turned year (Code128 fault) a = (a.0, tells_turned runs not_empty a.0 (Err (Code128 fault)) a.1)
   refused_turned year (Elements fault) a = (a.0, a.1, tells_turned runs not_empty a.0 (Ok a.1) a.2, a.3)
 
-  pub turned_row : (year : ℕ) (x : Answer) → IsAnswer runs year x → IsAnswer (reverse runs) year x
+  pub turned_row : (year : Terms) (x : Answer) → IsAnswer runs year x → IsAnswer (reverse runs) year x
   turned_row year (Read c listing) a = (a.0, tells_turned runs not_empty c (Ok a.0) a.1, a.2, a.3)
   turned_row year (Refused fault) a = refused_turned year fault a

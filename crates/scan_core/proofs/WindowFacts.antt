@@ -14,6 +14,7 @@ use Rattle.scan_core.specs.inner.Searches.{MayEnd}
 use Rattle.scan_core.specs.Windows.{IsSymbolOf, runs_in}
 use Rattle.scan_core.proofs.CandidateFacts.{candidate_dots, few_runs}
 use Rattle.scan_core.proofs.EndFacts.{lying_narrow, may_end}
+use Rattle.element_core.specs.Terms.{Terms}
 use Rattle.scan_core.proofs.WayFacts.{rounds_lying}
 
 pub each_at : (P : ℕ → Type 0) (ws : List ℕ) → AllByRecursion P ws → (i : ℕ) → i < length ws → P (get_or ws i 0)
@@ -124,7 +125,7 @@ ends_of ws c way ms row s =
 
 -- ---- the symbols of a row
 
-module _ (runs : List ℕ) (year : ℕ) (row : IsRow runs) (w : Window) (s : IsSymbolOf runs year w) where
+module _ (runs : List ℕ) (year : Terms) (row : IsRow runs) (w : Window) (s : IsSymbolOf runs year w) where
   pub window_row : IsRow (runs_in runs w.first w.count)
   window_row = IsRow-runs_in runs w.first w.count row s.within s.ends_light
 
@@ -186,7 +187,7 @@ module _ (runs : List ℕ) (year : ℕ) (row : IsRow runs) (w : Window) (s : IsS
       (omega arith, omega arith)
 
 -- a window is no symbol where a run between its ends is no narrower than its first
-pub none_past : (runs : List ℕ) (year : ℕ) → IsRow runs → (v : Window) → IsSymbolOf runs year v → (first i : ℕ) → v.first ≡ first → first < i
+pub none_past : (runs : List ℕ) (year : Terms) → IsRow runs → (v : Window) → IsSymbolOf runs year v → (first i : ℕ) → v.first ≡ first → first < i
     → i + 1 < first + v.count → get_or runs first 0 ≤ get_or runs i 0 → ⊥
 none_past runs year row v s first i same after before wide =
     let narrow = (window_narrow runs year row v s i (omega arith) (omega arith)).0 in

@@ -5,7 +5,8 @@ use Rattle.std.specs.List.{AllZip}
 use Rattle.digits_core.specs.Digits.{ascii_of, weighted}
 use Rattle.element_core.specs.Elements.{IsElements, FirstFault}
 use Rattle.ean_code.specs.Spelling.{gtin_of}
-use Rattle.ean_code.specs.Symbols.{IsNumberSymbol, Kind}
+use Rattle.ean_code.specs.Symbols.{IsNumberSymbol}
+use Rattle.ean_code.specs.declared.kind.Kind.{Kind}
 use Rattle.code128_code.specs.Symbols.{IsCode128Symbol}
 use Rattle.code128_code.specs.Texts.{symbol_text}
 use Rattle.code128_code.specs.declared.fault.Code128Fault.{Code128Fault}
@@ -17,6 +18,7 @@ use Rattle.scan_core.specs.declared.fault.RowFault.TheVariants.{Blank, RunCount,
 use Rattle.scan_core.specs.declared.answer.Answer.{Answer}
 use Rattle.scan_core.specs.declared.answer.Answer.TheVariants.{Read, Refused}
 use Rattle.scan_core.specs.Row.{dots_of, inner}
+use Rattle.element_core.specs.Terms.{Terms}
 use Rattle.scan_core.specs.Showing.{HasSize, IsQuiet, Rounds, Shows, Way, along, kind_of}
 
 -- ---- rows that show no symbol
@@ -59,7 +61,7 @@ Tells runs carrier content = (way : Way) × (modules : List ℕ) × Shows runs c
 -- ---- answers
 
 -- as symbols of these carriers alone the row is refused for this
-abbrev pub IsRefusedOf : {C : Type 0} → (C → Carrier) → List ℕ → ℕ → RowFault → Type 0
+abbrev pub IsRefusedOf : {C : Type 0} → (C → Carrier) → List ℕ → Terms → RowFault → Type 0
 IsRefusedOf carriers runs year Blank = Contains (dots_of runs) true → ⊥
 IsRefusedOf carriers runs year RunCount = Contains (dots_of runs) true × (ComesTo carriers runs stages.QuietZone → ⊥)
 IsRefusedOf carriers runs year QuietZone = ComesTo carriers runs stages.QuietZone × (ComesTo carriers runs stages.Modules → ⊥)
@@ -76,15 +78,15 @@ abbrev pub every_carrier : Carrier → Carrier
 every_carrier carrier = carrier
 
 -- the row is refused for this
-abbrev pub IsRefused : List ℕ → ℕ → RowFault → Type 0
+abbrev pub IsRefused : List ℕ → Terms → RowFault → Type 0
 IsRefused runs year fault = IsRefusedOf every_carrier runs year fault
 
 -- under this reference year the row says this
-abbrev pub IsAnswer : List ℕ → ℕ → Answer → Type 0
+abbrev pub IsAnswer : List ℕ → Terms → Answer → Type 0
 IsAnswer runs year (Read carrier listing) =
     (text : List ℕ) × Tells runs carrier (Ok text) × (listing.year ≡ year) × IsElements year text listing.list
 IsAnswer runs year (Refused fault) = IsRefused runs year fault
 
 -- the rows say these, each its own
-abbrev pub Reads : List (List ℕ) → ℕ → List Answer → Type 0
+abbrev pub Reads : List (List ℕ) → Terms → List Answer → Type 0
 Reads rows year answers = AllZip (λ runs answer. IsAnswer runs year answer) rows answers

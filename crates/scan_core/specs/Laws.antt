@@ -2,7 +2,8 @@
 use Rattle.std.specs.Prelude.{None, Some, ◌≡◌, ◌≢◌, ◌<◌, ◌≤◌, ◌↔◌, ℕ, Bool, List, length, reverse, sum, slice_index, slice_set}
 use Rattle.digits_core.specs.Digits.{AreDigits, IsChecked}
 use Rattle.ean_code.specs.Spelling.{IsGtinOf}
-use Rattle.ean_code.specs.Symbols.{Kind, IsCheckedPlace, digit_count, widths_of}
+use Rattle.ean_code.specs.declared.kind.Kind.{Kind}
+use Rattle.ean_code.specs.Symbols.{IsCheckedPlace, digit_count, widths_of}
 use Rattle.element_core.specs.declared.fault.ElementFault.TheVariants.{TooLong}
 use Rattle.code128_code.specs.Symbols.{IsCode128Symbol, characters_of, mod103}
 use Rattle.code128_code.specs.declared.fault.Code128Fault.TheVariants.{CheckCharacter}
@@ -13,6 +14,7 @@ use Rattle.scan_core.specs.declared.answer.Answer.{Answer}
 use Rattle.scan_core.specs.declared.answer.Answer.TheVariants.{Refused}
 use Rattle.scan_core.specs.Row.{IsRow, dots_of, runs_fault}
 use Rattle.scan_core.specs.Showing.{HasSize, IsSymbol, Shows, Way, kind_of}
+use Rattle.element_core.specs.Terms.{Terms}
 use Rattle.scan_core.specs.Answers.{IsAnswer}
 
 -- a row shows at most one symbol, and reads as it in one way
@@ -27,17 +29,17 @@ OneSymbol =
 -- a row has at most one answer
 abbrev pub OneAnswer : Type 0
 OneAnswer =
-    (runs : List ℕ) (year : ℕ) (x y : Answer) → IsRow runs → IsAnswer runs year x → IsAnswer runs year y → x ≡ y
+    (runs : List ℕ) (year : Terms) (x y : Answer) → IsRow runs → IsAnswer runs year x → IsAnswer runs year y → x ≡ y
 
 -- a row turned end for end has the same answer, be it elements or a refusal
 abbrev pub TurnedRow : Type 0
 TurnedRow =
-    (runs : List ℕ) (year : ℕ) (answer : Answer) → IsRow runs → IsAnswer runs year answer → IsAnswer (reverse runs) year answer
+    (runs : List ℕ) (year : Terms) (answer : Answer) → IsRow runs → IsAnswer runs year answer → IsAnswer (reverse runs) year answer
 
 -- a row that shows a number's symbol with one character at a checked place replaced by another of its number set is refused for its check digit
 abbrev pub ReplacementIsNoticed : Type 0
 ReplacementIsNoticed =
-    (carrier : Carrier) (kind : Kind) (digits gtin runs : List ℕ) (k d year : ℕ) (way : Way)
+    (carrier : Carrier) (kind : Kind) (digits gtin runs : List ℕ) (k d : ℕ) (year : Terms) (way : Way)
     → IsRow runs
     → kind_of carrier ≡ Some kind
     → length digits ≡ digit_count kind
@@ -54,7 +56,7 @@ ReplacementIsNoticed =
 -- its check character
 abbrev pub ReplacedCharacterIsNoticed : Type 0
 ReplacedCharacterIsNoticed =
-    (start other last k v year : ℕ) (values others modules replaced runs : List ℕ) (way : Way)
+    (start other last k v : ℕ) (year : Terms) (values others modules replaced runs : List ℕ) (way : Way)
     → IsRow runs
     → IsCode128Symbol start values (mod103 start values) modules
     → IsCode128Symbol other others last replaced
@@ -66,7 +68,7 @@ ReplacedCharacterIsNoticed =
 
 -- no row is refused for the length of its text
 abbrev pub NeverTooLong : Type 0
-NeverTooLong = (runs : List ℕ) (year : ℕ) → IsAnswer runs year (Refused (Elements TooLong)) → ⊥
+NeverTooLong = (runs : List ℕ) (year : Terms) → IsAnswer runs year (Refused (Elements TooLong)) → ⊥
 
 -- a symbol of a carrier has as many widths and modules as the carrier says
 abbrev pub SymbolMeasures : Type 0

@@ -1,5 +1,7 @@
 -- What a row says, as it stands in an output line.
-use Rattle.std.specs.Prelude.{ℕ, List, ◌∷◌, ◌++◌, codes}
+use Rattle.std.specs.Prelude.{ℕ, List, ◌∷◌, ◌++◌, Option, Some, None, codes}
+use Rattle.ean_code.specs.declared.kind.Kind.{Kind}
+use Rattle.ean_code.specs.Symbols.{kind_identifier}
 use Rattle.element_core.specs.Lines.{elements_text}
 use Rattle.element_core.specs.declared.form.Form.{Form}
 use Rattle.element_core.specs.declared.form.Form.TheVariants as form
@@ -7,15 +9,16 @@ use Rattle.scan_core.specs.Faults.{row_fault_text}
 use Rattle.scan_core.specs.declared.answer.Answer.{Answer}
 use Rattle.scan_core.specs.declared.answer.Answer.TheVariants as answer
 use Rattle.scan_core.specs.declared.carrier.Carrier.{Carrier}
-use Rattle.scan_core.specs.declared.carrier.Carrier.TheVariants as carrier
+use Rattle.scan_core.specs.Showing.{kind_of}
+
+-- the symbology identifier of a kind, or else of GS1-128
+abbrev pub identifier_by : Option Kind → List ℕ
+identifier_by (Some kind) = kind_identifier kind
+identifier_by None = codes "]C1"
 
 -- the symbology identifier of a carrier (GS1 General Specifications, section 5.1.3)
 abbrev pub identifier : Carrier → List ℕ
-identifier carrier.Ean13 = codes "]E0"
-identifier carrier.UpcE = codes "]E0"
-identifier carrier.Ean8 = codes "]E4"
-identifier carrier.Itf14 = codes "]I1"
-identifier carrier.Gs1128 = codes "]C1"
+identifier carrier = identifier_by (kind_of carrier)
 
 -- an answer, its elements in a form: the identifier and the elements, or why the row is refused
 abbrev pub said : Form → Answer → List ℕ

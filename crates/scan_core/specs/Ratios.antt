@@ -3,11 +3,12 @@ use Rattle.std.specs.Prelude.{◌==◌, ℕ, ◌*◌, ◌≤◌, List, [], ◌�
 use Rattle.digits_core.specs.Digits.{IsChecked}
 use Rattle.element_core.specs.Elements.{gtin_entry}
 use Rattle.ean_code.specs.Spelling.{IsGtinSymbol}
-use Rattle.ean_code.specs.Symbols.Kind.{Itf14 as KindItf14}
+use Rattle.ean_code.specs.declared.kind.Kind.TheVariants.{Itf14 as KindItf14}
 use Rattle.scan_core.specs.declared.carrier.Carrier.TheVariants.{Itf14}
 use Rattle.scan_core.specs.declared.answer.Answer.TheVariants.{Read}
 use Rattle.scan_core.specs.Row.{IsRow}
 use Rattle.scan_core.specs.Showing.{Way, along}
+use Rattle.element_core.specs.Terms.{Terms}
 use Rattle.scan_core.specs.Answers.{IsAnswer}
 
 -- an element's dots: n where it is narrow, of one module, and w where it is wide, of three
@@ -29,7 +30,7 @@ pub record AreInRatio (n w left right : ℕ) : Type 0 where
 -- the symbol of a checked GTIN drawn so, at most 65,535 dots in all, is a row, and is read from either end as an ITF-14 of that GTIN
 abbrev pub EachRatioIsRead : Type 0
 EachRatioIsRead =
-    (gtin modules : List ℕ) (n w left right year : ℕ) (way : Way)
+    (gtin modules : List ℕ) (n w left right : ℕ) (year : Terms) (way : Way)
     → IsGtinSymbol KindItf14 gtin modules
     → IsChecked gtin
     → AreInRatio n w left right

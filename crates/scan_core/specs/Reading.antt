@@ -1,7 +1,7 @@
 -- What the reader of a row comes by on its way to the answer.
 use Rattle.std.specs.Prelude.{⊤, ℕ, List, Option, Some, None}
 use Rattle.ean_code.specs.Spelling.{IsSpelled}
-use Rattle.ean_code.specs.Symbols.{Kind}
+use Rattle.ean_code.specs.declared.kind.Kind.{Kind}
 use Rattle.ean_code.specs.declared.reading.Spelled.TheVariants as spelled
 use Rattle.code128_code.specs.Symbols.{IsCode128Symbol}
 use Rattle.scan_core.specs.declared.carrier.Carrier.{Carrier}
@@ -14,6 +14,7 @@ use Rattle.scan_core.specs.declared.symbol.Symbol.{Symbol}
 use Rattle.scan_core.specs.declared.symbol.Symbol.TheVariants.{Number, BadCheckDigit, Characters}
 use Rattle.scan_core.specs.declared.found.Found.{Found}
 use Rattle.scan_core.specs.declared.found.Found.TheVariants as found
+use Rattle.element_core.specs.Terms.{Terms}
 use Rattle.scan_core.specs.Answers.{IsRefused}
 
 -- the fault of a row that fails at this stage
@@ -43,7 +44,7 @@ IsBeforeText fault = ⊤
 
 -- the row is refused for this before a text is read, whatever the year
 abbrev pub IsUnread : List ℕ → RowFault → Type 0
-IsUnread runs fault = IsBeforeText fault × ((year : ℕ) → IsRefused runs year fault)
+IsUnread runs fault = IsBeforeText fault × ((year : Terms) → IsRefused runs year fault)
 
 -- this is found in the row: the symbol that it shows, or why it shows none, or a wrong check digit
 abbrev pub IsFound : List ℕ → Found → Type 0

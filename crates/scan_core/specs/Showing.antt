@@ -1,8 +1,9 @@
 -- The symbol that a row shows (ISO/IEC 15420, 16390 and 15417; GS1 General Specifications, section 5).
 use Rattle.std.specs.Prelude.{◌≡◌, ℕ, ◌+◌, ◌-◌, ◌*◌, ◌≤◌, List, Option, Some, None, length, reverse, sum, slice_index}
 use Rattle.std.specs.List.{AllZip}
-use Rattle.ean_code.specs.Symbols.{IsNumberSymbol, Kind, module_count, width_count}
-use Rattle.ean_code.specs.Symbols.Kind.{Ean13 as KindEan13, Ean8 as KindEan8, UpcE as KindUpcE, Itf14 as KindItf14}
+use Rattle.ean_code.specs.Symbols.{IsNumberSymbol, module_count, width_count}
+use Rattle.ean_code.specs.declared.kind.Kind.{Kind}
+use Rattle.ean_code.specs.declared.kind.Kind.TheVariants.{Ean13 as KindEan13, Ean8 as KindEan8, UpcE as KindUpcE, Itf14 as KindItf14}
 use Rattle.code128_code.specs.Symbols.{IsCode128Symbol}
 use Rattle.scan_core.specs.declared.carrier.Carrier.{Carrier}
 use Rattle.scan_core.specs.declared.carrier.Carrier.TheVariants.{Ean13, Ean8, UpcE, Itf14, Gs1128}

@@ -6,6 +6,7 @@ use Rattle.scan_core.specs.declared.window.Window.{Window}
 use Rattle.scan_core.specs.declared.carrier.Carrier.{Carrier}
 use Rattle.element_core.specs.Elements.{Listing}
 use Rattle.scan_core.specs.Row.{IsRow}
+use Rattle.element_core.specs.Terms.{Terms}
 use Rattle.scan_core.specs.Answers.{IsAnswer}
 
 -- so many runs of a row, from one on
@@ -13,7 +14,7 @@ abbrev pub runs_in : List ℕ → ℕ → ℕ → List ℕ
 runs_in runs first count = take count (drop first runs)
 
 -- a window of the row, which begins and ends with a light run and is read as a row
-pub record IsSymbolOf (runs : List ℕ) (year : ℕ) (w : Window) : Type 0 where
+pub record IsSymbolOf (runs : List ℕ) (year : Terms) (w : Window) : Type 0 where
   pub begins_light : w.first % 2 ≡ 0
   pub ends_light : w.count % 2 ≡ 1
   pub within : w.first + w.count ≤ length runs
@@ -29,7 +30,7 @@ AreInOrder [] = Unit {0}
 AreInOrder (w ∷ ws) = AllByRecursion (ComesBefore w) ws × AreInOrder ws
 
 -- the symbols of the row: each that there is, from the left
-pub record AreSymbolsOf (runs : List ℕ) (year : ℕ) (ws : List Window) : Type 0 where
+pub record AreSymbolsOf (runs : List ℕ) (year : Terms) (ws : List Window) : Type 0 where
   pub each : AllByRecursion (IsSymbolOf runs year) ws
   pub every_one : (w : Window) → IsSymbolOf runs year w → Contains ws w
   pub in_order : AreInOrder ws
@@ -39,12 +40,12 @@ pub record AreSymbolsOf (runs : List ℕ) (year : ℕ) (ws : List Window) : Type
 -- what is left of a row to be searched: windows that begin after this first run, or at it with so many runs at least
 pub record Search : Type 0 where
   pub runs : List ℕ
-  pub year : ℕ
+  pub year : Terms
   pub first : ℕ
   pub least : ℕ
 
 -- all of a row
-abbrev pub search_of : List ℕ → ℕ → Search
+abbrev pub search_of : List ℕ → Terms → Search
 search_of runs year = record { runs = runs; year = year; first = 0; least = 0 }
 
 -- the window is not passed yet
@@ -74,11 +75,11 @@ AreTold s (w ∷ ws) = IsNext s w × AreTold (search_after s w) ws
 
 -- what the search of a row tells is its symbols, each that there is, from the left
 abbrev pub SymbolsAreTold : Type 0
-SymbolsAreTold = (runs : List ℕ) (year : ℕ) (ws : List Window) → IsRow runs → AreTold (search_of runs year) ws → AreSymbolsOf runs year ws
+SymbolsAreTold = (runs : List ℕ) (year : Terms) (ws : List Window) → IsRow runs → AreTold (search_of runs year) ws → AreSymbolsOf runs year ws
 
 -- a row that is read as a whole is a symbol of itself
 abbrev pub WholeRow : Type 0
-WholeRow = (runs : List ℕ) (year : ℕ) (carrier : Carrier) (elements : Listing) → IsRow runs → IsAnswer runs year (Read carrier elements)
+WholeRow = (runs : List ℕ) (year : Terms) (carrier : Carrier) (elements : Listing) → IsRow runs → IsAnswer runs year (Read carrier elements)
     → IsSymbolOf runs year (record { first = 0; count = length runs; carrier = carrier; elements = elements })
 
 -- the same window in a row of so many runs that is turned end for end
@@ -91,7 +92,7 @@ IsInside v w = (w.first < v.first) × (v.first + v.count < w.first + w.count)
 
 -- a row turned end for end has the same symbols; in reverse order, where none stands inside another
 pub record TurnedSymbols : Type 0 where
-  pub same : (runs : List ℕ) (year : ℕ) (w : Window) → IsRow runs → IsSymbolOf runs year w → IsSymbolOf (reverse runs) year (turned (length runs) w)
-  pub reversed : (runs : List ℕ) (year : ℕ) (ws : List Window) → IsRow runs → AreSymbolsOf runs year ws
+  pub same : (runs : List ℕ) (year : Terms) (w : Window) → IsRow runs → IsSymbolOf runs year w → IsSymbolOf (reverse runs) year (turned (length runs) w)
+  pub reversed : (runs : List ℕ) (year : Terms) (ws : List Window) → IsRow runs → AreSymbolsOf runs year ws
       → ((v w : Window) → Contains ws v → Contains ws w → IsInside v w → ⊥)
       → AreSymbolsOf (reverse runs) year (reverse (map (turned (length runs)) ws))

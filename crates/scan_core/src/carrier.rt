@@ -1,6 +1,8 @@
 //! The carriers that a row can show.
-ghost use Rattle.std.specs.Prelude.{◌≡◌, ◌≢◌, ℕ, IfNone, IfSome};
+ghost use Rattle.std.specs.Prelude.{Some, ◌≡◌, ◌≢◌, ℕ, IfNone, IfSome};
 ghost use Rattle.scan_core.specs.Showing.{HasSize, kind_of};
+
+use ean_code::Kind;
 
 /// A kind of symbol that a row can show.
 #[derive(Clone, Copy, Debug, PartialEq, Eq)]
@@ -18,6 +20,33 @@ pub enum Carrier {
     Gs1128,
 }
 
+impl Carrier {
+    /// The kind of its symbols, if they show a GTIN alone.
+    pub fn kind(self) -> Option<Kind>
+        ensures { result ≡ kind_of self }
+    {
+        match self {
+            Carrier::Ean13 => Some(Kind::Ean13),
+            Carrier::Ean8 => Some(Kind::Ean8),
+            Carrier::UpcE => Some(Kind::UpcE),
+            Carrier::Itf14 => Some(Kind::Itf14),
+            Carrier::Gs1128 => None,
+        }
+    }
+
+    /// The carrier whose symbols are of this kind.
+    fn of_kind(kind: Kind) -> Carrier
+        ensures { kind_of result ≡ Some kind }
+    {
+        match kind {
+            Kind::Ean13 => Carrier::Ean13,
+            Kind::Ean8 => Carrier::Ean8,
+            Kind::UpcE => Carrier::UpcE,
+            Kind::Itf14 => Carrier::Itf14,
+        }
+    }
+}
+
 /// A carrier whose symbols have as many runs as a row.
 #[derive(Clone, Copy)]
 pub(crate) struct Candidate {
@@ -32,25 +61,11 @@ pub(crate) fn fixed_candidate(run_count: usize) -> Option<Candidate>
     ensures fixed { IfSome result (λ c. c.carrier ≢ Carrier.Gs1128) }
     ensures none { IfNone result ((c : Carrier) (N : ℕ) → c ≢ Carrier.Gs1128 → HasSize (kind_of c) run_count N → ⊥) }
 {
-    match run_count {
-        33 => Some(Candidate {
-            carrier: Carrier::UpcE,
-            count: 51,
-        }),
-        43 => Some(Candidate {
-            carrier: Carrier::Ean8,
-            count: 67,
-        }),
-        59 => Some(Candidate {
-            carrier: Carrier::Ean13,
-            count: 95,
-        }),
-        77 => Some(Candidate {
-            carrier: Carrier::Itf14,
-            count: 135,
-        }),
-        _ => None,
-    }
+    let kind = Kind::of_width_count(run_count)?;
+    Some(Candidate {
+        carrier: Carrier::of_kind(kind),
+        count: kind.module_count(),
+    })
 }
 
 /// GS1-128, where its symbols have so many runs.

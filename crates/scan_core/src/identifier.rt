@@ -10,11 +10,9 @@ impl Carrier {
     pub fn identifier(self) -> &'static str
         ensures { result.now ≡ identifier self }
     {
-        match self {
-            Carrier::Ean13 | Carrier::UpcE => "]E0",
-            Carrier::Ean8 => "]E4",
-            Carrier::Itf14 => "]I1",
-            Carrier::Gs1128 => "]C1",
+        match self.kind() {
+            Some(kind) => kind.identifier(),
+            None => "]C1",
         }
     }
 }

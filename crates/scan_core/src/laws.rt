@@ -51,6 +51,7 @@ pub fn never_too_long()
     ensures { NeverTooLong }
 {
     code128_code::said_is_short();
+    ean_code::gtins_have_fourteen();
 }
 
 /// A symbol has as many widths, and as many modules in all, as its carrier says.

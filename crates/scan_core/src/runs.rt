@@ -43,11 +43,11 @@ impl Model for Runs {
 
     ghost Value = { List ℕ };
 
-    ghost use Rattle.scan_core.specs.inner.Kept.{IsKept};
+    ghost use Rattle.scan_core.specs.inner.Kept.{IsRowWith};
 
     ghost view = { λ r. r.kept.value.widths.items };
 
-    ghost invariant = { λ r. IsKept r.kept.value.widths.items r.kept.value.found };
+    ghost invariant = { λ r. IsRowWith r.kept.value.widths.items r.kept.value.found };
 }
 
 /// The runs between the two light ends.

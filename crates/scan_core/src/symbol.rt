@@ -1,7 +1,8 @@
 //! The symbol that modules are, and what it says.
 ghost use Rattle.std.specs.Prelude.{IfNone, IfSome, List, Some, ℕ};
 ghost use Rattle.ean_code.specs.Spelling.{IsSpelled};
-ghost use Rattle.ean_code.specs.Symbols.{IsNumberSymbol, Kind};
+ghost use Rattle.ean_code.specs.Symbols.{IsNumberSymbol};
+ghost use Rattle.ean_code.specs.declared.kind.Kind.{Kind};
 ghost use Rattle.scan_core.specs.Reading.{IsSymbolAs};
 ghost use Rattle.scan_core.specs.Showing.{IsSymbol, Way, along, kind_of};
 

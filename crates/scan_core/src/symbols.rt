@@ -4,6 +4,7 @@ ghost use Rattle.scan_core.specs.Row.{IsRow, runs_fault};
 ghost use Rattle.scan_core.specs.Showing.{HasSize, kind_of};
 ghost use Rattle.scan_core.specs.inner.Searches.{AreNoneShorter, HasRun, IsNextPlace, MayEnd};
 ghost use Rattle.scan_core.specs.Windows.{IsNext, IsOver, IsSymbolOf, search_after, search_of};
+ghost use Rattle.element_core.specs.Terms.{Terms};
 
 use crate::answer::{Answer, found_in};
 use crate::carrier::{Carrier, fixed_candidate, gs1128_candidate};
@@ -111,7 +112,7 @@ fn may_be_symbol(widths: &[u16], first: usize, count: usize) -> bool
     requires row { IsRow widths.now }
     requires many { 3 ≤ count }
     requires within { first + count ≤ length widths.now }
-    ensures { result ≡ false → (year : ℕ) (v : Window) → IsSymbolOf widths.now year v → v.first ≡ first → v.count ≡ count → ⊥ }
+    ensures { result ≡ false → (year : Terms) (v : Window) → IsSymbolOf widths.now year v → v.first ≡ first → v.count ≡ count → ⊥ }
 {
     let last = first + count - 1;
     may_end(widths[last], widths[last - 1], widths[last - 2]) && is_symbol_count(count - 2)
@@ -149,8 +150,8 @@ fn count_from(widths: &[u16], first: usize, least: usize) -> Option<usize>
     ensures odd { IfSome result (λ count. count % 2 ≡ 1) }
     ensures within { IfSome result (λ count. first + count ≤ length widths.now) }
     ensures least { IfSome result (λ count. least ≤ count) }
-    ensures shortest { IfSome result (λ count. (year : ℕ) → AreNoneShorter widths.now year first least count) }
-    ensures none { IfNone result ((year : ℕ) (v : Window) → IsSymbolOf widths.now year v → v.first ≡ first → least ≤ v.count → ⊥) }
+    ensures shortest { IfSome result (λ count. (year : Terms) → AreNoneShorter widths.now year first least count) }
+    ensures none { IfNone result ((year : Terms) (v : Window) → IsSymbolOf widths.now year v → v.first ≡ first → least ≤ v.count → ⊥) }
 {
     let left = widths[first];
     if widths.len() - first < least {
@@ -181,8 +182,8 @@ fn count_from(widths: &[u16], first: usize, least: usize) -> Option<usize>
 fn next_place(widths: &[u16], first: usize, least: usize) -> Option<Place>
     requires row { IsRow widths.now }
     requires light { first % 2 ≡ 0 }
-    ensures next { IfSome result (λ p. (year : ℕ) → IsNextPlace (record { runs = widths.now; year = year; first = first; least = least }) p) }
-    ensures over { IfNone result ((year : ℕ) → IsOver (record { runs = widths.now; year = year; first = first; least = least })) }
+    ensures next { IfSome result (λ p. (year : Terms) → IsNextPlace (record { runs = widths.now; year = year; first = first; least = least }) p) }
+    ensures over { IfNone result ((year : Terms) → IsOver (record { runs = widths.now; year = year; first = first; least = least })) }
 {
     let last = widths.len().checked_sub(LEAST_RUNS)?;
     let mut start = first;

@@ -2,7 +2,7 @@
 use Rattle.std.proofs.Common.{◌≡◌, ℕ, List, [], ◌∷◌, ◌++◌, Ok, Err, refl}
 use Rattle.std.specs.Prelude.{codes}
 use Rattle.ean_code.specs.Symbols.{widths_of}
-use Rattle.ean_code.specs.Symbols.Kind.{Ean13}
+use Rattle.ean_code.specs.declared.kind.Kind.TheVariants.{Ean13}
 use Rattle.scan_core.specs.Bits.{dots_at}
 use Rattle.sheet_core.specs.declared.fault.PbmFault.TheVariants.{NotP4, PbmHeader, PbmSize, Truncated}
 use Rattle.sheet_core.specs.Bitmaps.{Bitmap}

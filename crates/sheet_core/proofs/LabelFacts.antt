@@ -8,7 +8,7 @@ use Rattle.digits_core.specs.Digits.{padded}
 use Rattle.digits_core.specs.Upce.{IsFirstUpceOf, upce_expanded, upce_line}
 use Rattle.ean_code.specs.Spelling.{IsGtinSymbol, IsPrintedUpce, IsSpelled}
 use Rattle.ean_code.specs.declared.reading.Spelled.TheVariants.{Found}
-use Rattle.ean_code.specs.Symbols.Kind.{Ean13 as KindEan13, Ean8 as KindEan8, UpcE as KindUpcE, Itf14 as KindItf14}
+use Rattle.ean_code.specs.declared.kind.Kind.TheVariants.{Ean13 as KindEan13, Ean8 as KindEan8, UpcE as KindUpcE, Itf14 as KindItf14}
 use Rattle.sheet_core.specs.declared.label.Label.{Label}
 use Rattle.sheet_core.specs.declared.label.Label.TheVariants.{Ean13, UpcA, Ean8, UpcE, Itf14, Gs1128}
 use Rattle.sheet_core.specs.Grids.{Cells}

@@ -2,18 +2,20 @@
 use Rattle.std.proofs.lemmas.Slice.Zip.{AllZip-long}
 use Rattle.std.proofs.lemmas.List.Elements.{All-contains, All-replicate}
 use Rattle.std.specs.Prelude.{Contains}
-use Rattle.std.proofs.Common.{◌≡◌, ℕ, ◌+◌, ◌-◌, ◌*◌, ◌%◌, ◌<◌, ◌≤◌, true, List, [], ◌∷◌, ◌++◌, Ok, length, map, sum, refl, sym, ap, nat_le, nat_lt, subst, ◌∙◌, get_or, arith, replicate, false, Bool}
+use Rattle.std.proofs.Common.{◌≡◌, ℕ, ◌+◌, ◌-◌, ◌*◌, ◌%◌, ◌<◌, ◌≤◌, ◌==◌, true, List, [], ◌∷◌, ◌++◌, Ok, length, map, sum, refl, sym, ap, nat_le, nat_lt, subst, ◌∙◌, get_or, arith, eqb-true, Option, None, replicate, false, Bool}
 use Rattle.std.specs.List.{AllZip, AllByRecursion}
 use Rattle.std.specs.Prelude.{codes, Some}
 use Rattle.std.proofs.lemmas.List.{length-append, length-map, take_at, get_or_push}
 use Rattle.std.proofs.lemmas.Bool.{and_parts}
 use Rattle.std.proofs.lemmas.Bool.Decides.{nat_tests}
 use Rattle.std.proofs.lemmas.Option.{get_or_from_slice_get, slice_get_within, slice_get_past}
-use Rattle.ean_code.specs.Symbols.Kind.{Ean13 as KindEan13, Ean8 as KindEan8, UpcE as KindUpcE, Itf14 as KindItf14}
+use Rattle.ean_code.specs.declared.kind.Kind.TheVariants.{Ean13 as KindEan13, Ean8 as KindEan8, UpcE as KindUpcE, Itf14 as KindItf14}
 use Rattle.ean_code.specs.Widths.{AreWidths}
 use Rattle.digits_core.specs.Digits.{ascii_of}
 use Rattle.ean_code.specs.Spelling.{IsSpelled}
-use Rattle.ean_code.specs.Symbols.{Kind}
+use Rattle.ean_code.specs.declared.kind.Kind.{Kind}
+use Rattle.ean_code.specs.Symbols.{width_count}
+use Rattle.ean_code.proofs.AllKinds.{each_kind}
 use Rattle.ean_code.specs.declared.reading.Spelled.TheVariants.{Found}
 use Rattle.element_core.specs.Elements.{canonical}
 use Rattle.code128_code.specs.Coding.{data_values}
@@ -87,12 +89,9 @@ record Fit (c : Carrier) (ms : List ℕ) : Type 0 where
   widths : AreWidths ms
   form : IsSymbol (kind_of c) ms
 
-odd_count : (c : Carrier) (n N : ℕ) → HasSize (kind_of c) n N → n % 2 ≡ 1
-odd_count CarrierEan13 n N h = ap (λ k. k % 2) h.0
-odd_count CarrierEan8 n N h = ap (λ k. k % 2) h.0
-odd_count CarrierUpcE n N h = ap (λ k. k % 2) h.0
-odd_count CarrierItf14 n N h = ap (λ k. k % 2) h.0
-odd_count CarrierGs1128 n N h = let k : ℕ = h.0 in let e = h.3 in omega arith
+odd_count : (kind : Option Kind) (n N : ℕ) → HasSize kind n N → n % 2 ≡ 1
+odd_count (Some kind) n N h = ap (λ k. k % 2) h.0 ∙ eqb-true _ _ (each_kind (λ k. width_count k % 2 == 1) refl kind)
+odd_count None n N h = let k : ℕ = h.0 in let e = h.3 in omega arith
 
 -- the laws of how many widths and modules symbols have
 abbrev Measured : Type 0
@@ -100,7 +99,7 @@ Measured = SymbolMeasures × MeasuresOfKind
 
 fit_by : Measured → (c : Carrier) (ms : List ℕ) → IsSymbol (kind_of c) ms → AreWidths ms → Fit c ms
 fit_by measures c ms form widths = let m = measures.0 c ms form in
-    record { candidate = m; odd = odd_count c (length ms) (sum ms) m; widths = widths; form = form }
+    record { candidate = m; odd = odd_count (kind_of c) (length ms) (sum ms) m; widths = widths; form = form }
 
 fit : Measured → (label : Label) (ms : List ℕ) → IsLabelSymbol label ms → Fit (carrier_of label) ms
 fit measures (Ean13 g) ms h = fit_by measures CarrierEan13 ms (h.0, h.1) (measures.1 KindEan13 ms h.0 h.1).valid

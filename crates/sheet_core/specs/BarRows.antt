@@ -8,6 +8,7 @@ use Rattle.sheet_core.specs.Bitmaps.{Bitmap, cell_dots}
 use Rattle.sheet_core.specs.Drawing.{cell_count, is_bar_row}
 use Rattle.sheet_core.specs.Grids.{Cells}
 use Rattle.sheet_core.specs.Labels.{carrier_of}
+use Rattle.element_core.specs.Terms.{Terms}
 use Rattle.sheet_core.specs.declared.label.Label.{Label}
 
 -- a row through the bars of this label's cell, on one of the sheets of labels
@@ -24,5 +25,5 @@ pub record IsBarRow (labels : List Label) (g : Cells) (sheets : List Bitmap) (la
   pub dots : dots_of row ≡ cell_dots g bitmap cell y
 
 -- the answer of a label: its carrier, and the elements that its text says by a reference year
-abbrev pub label_answer : Label → ℕ → List Entry → Answer
+abbrev pub label_answer : Label → Terms → List Entry → Answer
 label_answer label year list = Read (carrier_of label) (record { year = year; list = list })

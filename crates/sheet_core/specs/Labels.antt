@@ -2,7 +2,7 @@
 use Rattle.std.specs.Prelude.{◌≡◌, ℕ, ◌++◌, ◌*◌, ◌+◌, ◌≤◌, List, [], ◌∷◌, codes, drop, length, sum}
 use Rattle.digits_core.specs.Digits.{ascii_of, padded}
 use Rattle.ean_code.specs.Spelling.{IsPrintedUpce, IsSpelled}
-use Rattle.ean_code.specs.Symbols.Kind.{Ean13 as KindEan13, Ean8 as KindEan8, Itf14 as KindItf14}
+use Rattle.ean_code.specs.declared.kind.Kind.TheVariants.{Ean13 as KindEan13, Ean8 as KindEan8, Itf14 as KindItf14}
 use Rattle.ean_code.specs.declared.reading.Spelled.TheVariants.{Found}
 use Rattle.element_core.specs.Elements.{Entry, Listing, canonical, gtin_entry}
 use Rattle.code128_code.specs.Characters.{start_c}

@@ -20,6 +20,7 @@ use Rattle.sheet_core.specs.Labels.{Drawn, FitsCell, IsDrawn, IsLabelSymbol, car
 use Rattle.sheet_core.specs.pbm.Grammar.{IsHeader, IsPbm}
 use Rattle.sheet_core.specs.pbm.Headers.{header_of}
 use Rattle.sheet_core.specs.pbm.Images.{images_of, pbm_of}
+use Rattle.element_core.specs.Terms.{Terms}
 use Rattle.sheet_core.specs.pbm.Refusals.{RefusesFile, RefusesHeader}
 
 -- what is drawn of a label is one symbol with its quiet zones
@@ -38,7 +39,7 @@ BarRowsShow =
 -- these elements, and nothing else
 abbrev pub BarRowsAnswer : Type 0
 BarRowsAnswer =
-    (labels : List Label) (g : Cells) (sheets : List Bitmap) (label : Label) (row : List ℕ) (year : ℕ) (list : List Entry) (said : Answer)
+    (labels : List Label) (g : Cells) (sheets : List Bitmap) (label : Label) (row : List ℕ) (year : Terms) (list : List Entry) (said : Answer)
     → ArePrinted labels g sheets
     → IsBarRow labels g sheets label row
     → IsElements year (label_text label) list
@@ -47,7 +48,7 @@ BarRowsAnswer =
 -- and so does each row with the dots of what is drawn of a label, on whatever sheet
 abbrev pub DrawnIsRead : Type 0
 DrawnIsRead =
-    (g : Cells) (label : Label) (s : Drawn) (row : List ℕ) (year : ℕ) (list : List Entry) (said : Answer)
+    (g : Cells) (label : Label) (s : Drawn) (row : List ℕ) (year : Terms) (list : List Entry) (said : Answer)
     → IsGrid g
     → IsDrawn label s
     → FitsCell g s
@@ -59,7 +60,7 @@ DrawnIsRead =
 -- each row of a cell of a printed sheet that has no label is refused as blank
 abbrev pub EmptyCellsAreBlank : Type 0
 EmptyCellsAreBlank =
-    (labels : List Label) (g : Cells) (sheets : List Bitmap) (i cell y : ℕ) (sheet : Bitmap) (runs : List ℕ) (year : ℕ)
+    (labels : List Label) (g : Cells) (sheets : List Bitmap) (i cell y : ℕ) (sheet : Bitmap) (runs : List ℕ) (year : Terms)
     → ArePrinted labels g sheets
     → slice_get sheets i ≡ Some sheet
     → cell < cell_count g

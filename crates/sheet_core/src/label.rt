@@ -2,7 +2,7 @@
 ghost use Rattle.std.specs.Prelude.{◌≡◌, ◌≤◌, ℕ, List, IfNone, IfSome, drop};
 ghost use Rattle.digits_core.specs.Digits.{padded};
 ghost use Rattle.ean_code.specs.Spelling.{IsSpelled};
-ghost use Rattle.ean_code.specs.Symbols.Kind.{Ean13, Ean8, Itf14};
+ghost use Rattle.ean_code.specs.declared.kind.Kind.TheVariants.{Ean13, Ean8, Itf14};
 ghost use Rattle.ean_code.specs.declared.reading.Spelled.TheVariants.{Found};
 ghost use Rattle.element_core.specs.Elements.{canonical};
 ghost use Rattle.sheet_core.specs.Labels.{Drawn, IsDrawn, IsLabelSymbol, IsPrintedGs1128, carrier_of, content_of, gtin_label, gtin_text, label_kind, label_text, lent};
@@ -176,8 +176,8 @@ impl Label {
         }
     }
 
-    /// What is drawn of the label, if it has a symbol.
-    pub(crate) fn symbol(&self) -> Option<Symbol>
+    /// What is drawn of the label, if it has a symbol (GS1 General Specifications, sections 5.2 to 5.4).
+    pub fn symbol(&self) -> Option<Symbol>
         ensures some { IfSome result (IsDrawn self.now) }
         ensures none { IfNone result ((s : Drawn) → IsDrawn self.now s → ⊥) }
     {

@@ -28,3 +28,4 @@ pub use pbm::read::read_pbm;
 pub use pbm::write::write_pbm;
 pub use print::{check_labels, print_sheets};
 pub use sheet::Sheet;
+pub use symbol::Symbol;

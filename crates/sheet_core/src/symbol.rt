@@ -1,5 +1,6 @@
 //! Symbols as they are drawn.
 ghost use Rattle.std.specs.Prelude.{◌≡◌, ◌≤◌, ◌+◌, ◌*◌, ◌↔◌, IsTrue, sum};
+ghost use Rattle.ean_code.specs.Widths.{AreModules};
 ghost use Rattle.sheet_core.specs.Labels.{FitsCell};
 
 use crate::grid::Grid;
@@ -8,7 +9,7 @@ use std::marker::Model;
 
 /// A symbol and its quiet zones, in modules.
 #[derive(Drop)]
-pub(crate) struct Symbol {
+pub struct Symbol {
     pub(crate) modules: Modules,
     pub(crate) quiet_left: u8,
     pub(crate) quiet_right: u8,
@@ -34,6 +35,28 @@ fn total(modules: &Modules) -> u32
 }
 
 impl Symbol {
+    /// The widths of its runs in modules, a bar first and last.
+    pub fn widths(&self) -> &[u8]
+        ensures value { result.now ≡ self.now.modules }
+        ensures valid { AreModules self.now.modules }
+    {
+        self.modules.widths()
+    }
+
+    /// How many light modules are left of it.
+    pub fn quiet_left(&self) -> u8
+        ensures { result ≡ self.now.quiet_left }
+    {
+        self.quiet_left
+    }
+
+    /// How many light modules are right of it.
+    pub fn quiet_right(&self) -> u8
+        ensures { result ≡ self.now.quiet_right }
+    {
+        self.quiet_right
+    }
+
     /// Whether the symbol and its quiet zones fit a cell.
     pub(crate) fn fits(&self, grid: &Grid) -> bool
         ensures { IsTrue result ↔ FitsCell grid.now self.now }

@@ -4,9 +4,11 @@ pub use Rattle.digits_core.specs.Digits.{AreAsciiDigits, AreDigits, IsChecked, d
 pub use Rattle.digits_core.specs.Upce.{IsUpceOf}
 pub use Rattle.element_core.specs.Elements.{Entry, IsElements, gtin_entry, pairs_text}
 pub use Rattle.element_core.specs.Lines.{line_text}
+pub use Rattle.element_core.specs.Terms.{Terms, every_ai, profile}
 pub use Rattle.message_core.specs.Laws.{IsRefusedBy, MessageSays}
 pub use Rattle.message_core.specs.Messages.{IsMessageLine}
-pub use Rattle.ean_code.specs.Symbols.{IsCheckedPlace, Kind, widths_of}
+pub use Rattle.ean_code.specs.Symbols.{IsCheckedPlace, widths_of}
+pub use Rattle.ean_code.specs.declared.kind.Kind.{Kind}
 pub use Rattle.code128_code.specs.Symbols.{IsCode128Symbol, characters_of, mod103}
 pub use Rattle.code128_code.specs.declared.fault.Code128Fault.TheVariants.{CheckCharacter}
 pub use Rattle.scan_core.specs.Answers.{IsAnswer, Reads}
@@ -51,7 +53,7 @@ abbrev pub ExactlyOne : {X : Type 0} → (X → Type 0) → Type 0
 ExactlyOne {X} P = (x : X) × P x × ((y : X) → P y → y ≡ x)
 
 -- the text is the element string of this list, or has this first fault
-abbrev pub Means : ℕ → List ℕ → Result (List Entry) ElementFault → Type 0
+abbrev pub Means : Terms → List ℕ → Result (List Entry) ElementFault → Type 0
 Means year text (Ok list) = IsElements year text list
 Means year text (Err fault) = FirstFault year text fault
 

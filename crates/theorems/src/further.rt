@@ -1,6 +1,6 @@
-//! Theorems more: a check digit, scanner texts, a drawn label without its sheet, and the call that the program makes.
+//! Theorems more: a check digit, the profile, scanner texts, a drawn label without its sheet, and the call that the program makes.
 ghost use Rattle.std.specs.Prelude.{◌≡◌, ◌⊎◌, ◌↔◌, ◌<◌, ◌≤◌, ◌-◌, ◌++◌, ◌∷◌, ℕ, [], IfOk, List, codes, length, map};
-ghost use Rattle.theorems.specs.Words.{AllZip, AreAnswersOf, AreAsciiDigits, Cells, Drawn, Entry, FitsCell, IsAnswer, IsChecked, IsDrawn, IsElements, IsGrid, IsMessageLine, IsRefusedBy, IsRow, IsUpceOf, Label, MessageSays, Pairs, Reads, Said, bar_dots, digits_of, dots_of, gtin_entry, label_answer, label_text, line_text, pairs_text, served};
+ghost use Rattle.theorems.specs.Words.{AllZip, AreAnswersOf, AreAsciiDigits, Cells, Drawn, Entry, FitsCell, IsAnswer, IsChecked, IsDrawn, IsElements, IsGrid, IsMessageLine, IsRefusedBy, IsRow, IsUpceOf, Label, MessageSays, Pairs, Reads, Said, Terms, bar_dots, digits_of, dots_of, every_ai, gtin_entry, label_answer, label_text, line_text, pairs_text, profile, served};
 
 use element_core::{Form, Line, Year};
 use hub_core::{Gate, ServeFault};
@@ -21,14 +21,21 @@ pub fn check_digit(payload: &[u8]) -> u8
     digits_core::check_digit(payload)
 }
 
+/// What the profile reads, every AI reads as the same elements.
+pub fn profile_within()
+    ensures { (year : ℕ) (text : List ℕ) (list : List Entry) → IsElements (profile year) text list → IsElements (every_ai year) text list }
+{
+    element_core::profile_within();
+}
+
 /// A scanner text has exactly one answer line. Texts with one line of pairs say the same elements, or are refused alike. The eight
 /// digits under a UPC-E symbol, behind `]E0`, say the GTIN that the symbol carries.
 pub fn message_line(form: Form, text: &[u8], year: Year) -> Line
     ensures one { (line : List ℕ) → IsMessageLine form year text.now line ↔ (line ≡ line_text result) }
-    ensures pairs { (year : ℕ) (text more line : List ℕ) → IsMessageLine Pairs year text line → IsMessageLine Pairs year more line
+    ensures pairs { (year : Terms) (text more line : List ℕ) → IsMessageLine Pairs year text line → IsMessageLine Pairs year more line
         → ((word : List ℕ) × (es : List Entry) × (line ≡ word ++ (32 ∷ pairs_text es)) × MessageSays year text word es × MessageSays year more word es)
         ⊎ (IsRefusedBy year text line × IsRefusedBy year more line) }
-    ensures upce { (year : ℕ) (six gtin : List ℕ) (check : ℕ) → AreAsciiDigits six → (48 ≤ check) × (check < 58) → IsUpceOf (digits_of six) (check - 48) gtin
+    ensures upce { (year : Terms) (six gtin : List ℕ) (check : ℕ) → AreAsciiDigits six → (48 ≤ check) × (check < 58) → IsUpceOf (digits_of six) (check - 48) gtin
         → MessageSays year (codes "]E0" ++ (48 ∷ six) ++ check ∷ []) (codes "]E0") (gtin_entry gtin ∷ []) }
 {
     message_core::one_message_line();
@@ -39,7 +46,7 @@ pub fn message_line(form: Form, text: &[u8], year: Year) -> Line
 
 /// A row with the dots of what is drawn of a label answers that label, and nothing else.
 pub fn a_drawn_label_is_read()
-    ensures { (g : Cells) (label : Label) (s : Drawn) (row : List ℕ) (year : ℕ) (list : List Entry) (said : Said)
+    ensures { (g : Cells) (label : Label) (s : Drawn) (row : List ℕ) (year : Terms) (list : List Entry) (said : Said)
         → IsGrid g → IsDrawn label s → FitsCell g s → IsRow row → dots_of row ≡ bar_dots g s → IsElements year (label_text label) list
         → IsAnswer row year said ↔ (said ≡ label_answer label year list) }
 {

@@ -2,12 +2,12 @@
 #![tactic(auto)]
 
 ghost use Rattle.std.specs.Prelude.{◌≡◌, ◌↔◌, ◌≤◌, ◌++◌, ℕ, [], All, IfOk, List, Ok, Some, length, map, reverse, slice_get, slice_index_or};
-ghost use Rattle.theorems.specs.Words.{AllByRecursion, AllZip, Answers, AreAllSeats, AreAnswersOf, AreDigits, AreItems, ArePrinted, AreScanned, AreSettled, AreSymbolsOf, AreTold, Bitmap, Carrier, Cells, CheckCharacter, Code128, Entry, ExactlyOne, Gs1128, HumanReadable, IsAnswer, IsBarRow, IsCheckedPlace, IsCode128Symbol, IsElements, IsPlain, IsReordered, IsRow, IsSymbolNumber, Kind, Label, Lane, LaneRow, Means, OneReplaced, Plain, Reads, Refused, Said, SaysElements, Shows, SymbolCheckDigit, Way, Window, as_lane, characters_of, feeds_of, fields_in, images_of, kind_of, label_answer, label_text, labels_answers, lanes_meaning, mod103, most_line, most_rows, pbm_of, pieces_of, record_lines, records_of, search_of, widths_of, year_of};
+ghost use Rattle.theorems.specs.Words.{AllByRecursion, AllZip, Answers, AreAllSeats, AreAnswersOf, AreDigits, AreItems, ArePrinted, AreScanned, AreSettled, AreSymbolsOf, AreTold, Bitmap, Carrier, Cells, CheckCharacter, Code128, Entry, ExactlyOne, Gs1128, HumanReadable, IsAnswer, IsBarRow, IsCheckedPlace, IsCode128Symbol, IsElements, IsPlain, IsReordered, IsRow, IsSymbolNumber, Kind, Label, Lane, LaneRow, Means, OneReplaced, Plain, Reads, Refused, Said, SaysElements, Shows, SymbolCheckDigit, Terms, Way, Window, as_lane, characters_of, feeds_of, fields_in, images_of, kind_of, label_answer, label_text, labels_answers, lanes_meaning, mod103, most_line, most_rows, pbm_of, pieces_of, record_lines, records_of, search_of, widths_of, year_of};
 
 mod further;
 
 use element_core::Year;
-pub use further::{Lists, a_drawn_label_is_read, check_digit, message_line, serve};
+pub use further::{Lists, a_drawn_label_is_read, check_digit, message_line, profile_within, serve};
 use hub_core::Unsettled;
 use scan_core::{Answer, Runs};
 use sheet_core::{Grid, Label, Sheet, SheetFault};
@@ -16,7 +16,7 @@ use std::sync::Wait;
 
 /// A text means exactly one thing: a list of elements, or its first fault.
 pub fn each_text_has_one_meaning()
-    ensures { (year : ℕ) (text : List ℕ) → ExactlyOne (Means year text) }
+    ensures { (year : Terms) (text : List ℕ) → ExactlyOne (Means year text) }
 {
     element_core::each_text();
     element_core::one_list_or_fault();
@@ -35,17 +35,17 @@ pub fn answer_of(row: &Runs, year: Year) -> Answer
 
 /// What a search of a row tells, until it tells no more, are all symbols that stand in it, from the left.
 pub fn all_symbols_are_found()
-    ensures { (row : List ℕ) (year : ℕ) (found : List Window) → IsRow row → AreTold (search_of row year) found → AreSymbolsOf row year found }
+    ensures { (row : List ℕ) (year : Terms) (found : List Window) → IsRow row → AreTold (search_of row year) found → AreSymbolsOf row year found }
 {
     scan_core::symbols_are_told();
 }
 
 /// A row that shows a symbol with one digit or character replaced, where it is checked, is refused for that.
 pub fn a_replaced_character_is_noticed()
-    ensures digit { (carrier : Carrier) (kind : Kind) (digits others row : List ℕ) (year : ℕ) (way : Way) → kind_of carrier ≡ Some kind
+    ensures digit { (carrier : Carrier) (kind : Kind) (digits others row : List ℕ) (year : Terms) (way : Way) → kind_of carrier ≡ Some kind
         → IsSymbolNumber kind digits → AreDigits others → (one : OneReplaced digits others) → IsCheckedPlace kind one.place
         → IsRow row → Shows row carrier way (widths_of kind others) → IsAnswer row year (Refused SymbolCheckDigit) }
-    ensures character { (start other last : ℕ) (values others right modules row : List ℕ) (year : ℕ) (way : Way) → IsCode128Symbol start values (mod103 start values) right
+    ensures character { (start other last : ℕ) (values others right modules row : List ℕ) (year : Terms) (way : Way) → IsCode128Symbol start values (mod103 start values) right
         → IsCode128Symbol other others last modules → OneReplaced (characters_of start values (mod103 start values)) (characters_of other others last)
         → IsRow row → Shows row Gs1128 way modules → IsAnswer row year (Refused (Code128 CheckCharacter)) }
 {
@@ -55,7 +55,7 @@ pub fn a_replaced_character_is_noticed()
 
 /// Each row through the bars of a printed label answers that label, and nothing else.
 pub fn print_sheets(alloc: Global, labels: &[Label], grid: Grid) -> Result<Vec<Sheet>, SheetFault>
-    ensures { IfOk result (λ sheets. (label : Label) (row : List ℕ) (year : ℕ) (list : List Entry) (said : Said)
+    ensures { IfOk result (λ sheets. (label : Label) (row : List ℕ) (year : Terms) (list : List Entry) (said : Said)
         → IsBarRow labels.now grid sheets.items label row → IsElements year (label_text label) list
         → IsAnswer row year said ↔ (said ≡ label_answer label year list)) }
 {
@@ -65,7 +65,7 @@ pub fn print_sheets(alloc: Global, labels: &[Label], grid: Grid) -> Result<Vec<S
 
 /// What is printed, written as images, read again and scanned in the same grid has the answers of its labels, cell by cell.
 pub fn what_print_writes_scan_reads()
-    ensures { (labels : List Label) (g : Cells) (printed sheets : List Bitmap) (year : ℕ) (answers : List (List Said))
+    ensures { (labels : List Label) (g : Cells) (printed sheets : List Bitmap) (year : Terms) (answers : List (List Said))
         → ArePrinted labels g printed → length printed ≤ 4096 → AllByRecursion (SaysElements year) labels
         → images_of (pbm_of printed) ≡ (Ok sheets, []) → AreScanned g sheets year answers → answers ≡ labels_answers g year labels }
 {
@@ -82,7 +82,7 @@ pub fn settle<R: Wait>(rt: &R, alloc: Global, all: Unsettled) -> Result<Lists, U
 
 /// The answers of what a settled lane polled, and then of its list, are the answers to its rows.
 pub fn a_settled_lane_is_answered()
-    ensures { (year : ℕ) (lanes : List Lane) (lists : List (List Plain)) (i : ℕ) (lane : Lane) (answers : List Said) → AreSettled year lanes lists
+    ensures { (year : Terms) (lanes : List Lane) (lists : List (List Plain)) (i : ℕ) (lane : Lane) (answers : List Said) → AreSettled year lanes lists
         → slice_get lanes i ≡ Some lane → AreAnswersOf (lane.polled ++ slice_index_or lists lane.number []) answers → Reads lane.rows year answers }
 {
     hub_core::headline();
@@ -91,7 +91,7 @@ pub fn a_settled_lane_is_answered()
 /// Of plain lines `live` answers each that means a row, in their order; lane by lane that is the report of `lanes`.
 pub fn live_answers_as_lanes_does()
     ensures records { (bytes : List ℕ) → IsPlain bytes → records_of bytes ≡ map fields_in (record_lines bytes) }
-    ensures report { (lanes year : ℕ) (bytes text : List ℕ) (rows : List LaneRow) → IsPlain bytes → All (λ line. length line ≤ most_line) (record_lines bytes)
+    ensures report { (lanes : ℕ) (year : Terms) (bytes text : List ℕ) (rows : List LaneRow) → IsPlain bytes → All (λ line. length line ≤ most_line) (record_lines bytes)
         → AreItems (lanes_meaning lanes) (records_of bytes) rows → All (λ feed. length feed ≤ most_rows) (feeds_of lanes rows)
         → Answers lanes HumanReadable year (pieces_of bytes) text → IsReordered lanes year rows text }
 {

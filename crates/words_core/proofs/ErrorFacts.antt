@@ -19,7 +19,8 @@ explained words e (fault.Help text) (inl h) k = absurd (elim k [
 explained words e (fault.Help text) (inr h) k = (kind_of e, h, k)
 explained words e fault.NoMemory h k = tt
 
--- by the command that was built
-pub explained_of : (a : App) (words : List Text) (e : Error) (f : WordsFault) → a ≡ hub_app → HasKind (fault_of a words) e → FaultOfKind (kind_of e) f
+-- by the command that was built, whose faults are those of the program
+pub explained_of : (a : App) (words : List Text) (e : Error) (f : WordsFault) → fault_of a words ≡ fault_of hub_app words
+    → HasKind (fault_of a words) e → FaultOfKind (kind_of e) f
     → Explains words f
-explained_of a words e f is h k = explained words e f (subst (λ x. HasKind (fault_of x words) e) is h) k
+explained_of a words e f is h k = explained words e f (subst (λ kinds. HasKind kinds e) is h) k

@@ -1,8 +1,10 @@
 pub mod Added
+pub mod AnyPlace
 pub mod AskedFacts
 pub mod ErrorFacts
 pub mod Flags
+pub mod HubFacts
 pub mod Matches
-pub mod NumberRows
+pub mod OptionRows
 pub mod TakenWords
 pub mod WalkKeeps

@@ -1,18 +1,17 @@
--- Words that `clap` takes give each number of their command, in its range.
-use Rattle.std.proofs.Common.{◌≡◌, ◌∙◌, ℕ, Bool, true, false, not, ◌&&◌, ◌||◌, ◌==◌, ◌++◌, List, [], ◌∷◌, Option, Some, None, refl, sym, ap, subst, cond, find, fold, map, bytes_eq, codes, is_some, nat_le, option_map}
+-- Words that `clap` takes give each option of their command.
+use Rattle.std.proofs.Common.{◌≡◌, ◌⊎◌, Bool, true, false, not, ◌&&◌, ◌||◌, ◌++◌, List, [], ◌∷◌, Option, Some, None, refl, sym, subst, inl, inr, find, fold, map, bytes_eq, is_some, option_map}
+use Rattle.std.specs.Bool.{⊤}
 use Rattle.std.specs.List.{AllByRecursion, list_all, list_any}
 use Rattle.std.specs.Option.{option_map_or}
-use Rattle.std.proofs.lemmas.Bool.{and_parts, eqb-true, leb-true}
+use Rattle.std.proofs.lemmas.Bool.{and_parts}
 use Rattle.clap.specs.Kinds.{Kinds, check_kinds, or_else}
 use Rattle.clap.specs.Takes.{is_given}
-use Rattle.clap.specs.Walk.{Held, Row, Rule, Text, answers_to, default_rows, finished, has_row, more_values, nothing_held, reading_by, rows_after, settled, walk, walk_from, with_default}
+use Rattle.clap.specs.Walk.{Held, Row, Rule, Text, answers_to, finished, has_row, nothing_held, rows_after, settled, walk, walk_from, with_default}
 use Rattle.clap.specs.Simple.{App, Shape, argument_words, built, built_leaf, entered, inherited, label_of, marked_built, names_of, new_app, rows_at, subcommand_of, with_leaf_noted}
 use Rattle.clap.specs.Faults.{check_fault, defaults_fault, entered_fault, fault_of, level_fault, settle_fault, walk_fault}
 use Rattle.clap.specs.declared.error.kind.ErrorKind.TheVariants as kind
-use Rattle.clap.specs.declared.parser.matches.ValueSource.TheVariants.{DefaultValue}
-use Rattle.words_core.specs.Arguments.{HasFlag}
 use Rattle.words_core.specs.commands.{hub_app}
-use Rattle.words_core.proofs.NumberRows.{GivesFlag, GivesNumber, HasNumberIn, Holds, Passed, at_end, flag, flag_keeps_flag, flag_keeps_number, given_flag, given_number, held_rows, help, help_keeps, no_kind, number, one_more, option_keeps_flag, option_keeps_number, passed_of, rows_hold}
+use Rattle.words_core.proofs.OptionRows.{Gives, Has, Holds, Opt, Passed, built_rule, has_default, has_of, held_rows, help, help_keeps, is_sound, name_of, no_kind, other_default, other_keeps, own_default, own_keeps, own_there, passed_of, plain_default, rows_hold, still_there}
 use Rattle.words_core.proofs.WalkKeeps.{Keeps, first_none, found_has, second_none}
 
 -- ---- the command that the words name
@@ -59,45 +58,103 @@ module _ (R : Text → List Row → Type 0) where
       let checking = second_none defaults checks (second_none settles (or_else defaults checks) settling) in
       in_subs b.subs b.top stop each entering (met b.top (finished b.top.rules end) (is_some (entered b stop)) refl refl checking)
 
--- ---- the numbers of a command
-
-abbrev pub Range : Type 0
-Range = Text × ℕ × ℕ
-
--- the options of these names and ranges
-abbrev pub numbers : List Range → List Rule
-numbers qs = map (λ q. number q.0 q.1 q.2) qs
-
--- a name has one range among them
-abbrev pub fits : Text → ℕ → ℕ → List Range → Bool
-fits name least most qs = list_all (λ q. nat_le 1 q.1 && (not (bytes_eq q.0 name) || (q.1 == least && q.2 == most))) qs
+-- ---- the options of a command
 
 all_append : {X : Type 0} (Q : X → Type 0) (xs ys : List X) → AllByRecursion Q xs → AllByRecursion Q ys → AllByRecursion Q (xs ++ ys)
 all_append Q [] ys h k = k
 all_append Q (x ∷ xs) ys h k = (h.0, all_append Q xs ys h.1 k)
 
-numbers_keep : (name : Text) (least most : ℕ) (qs : List Range) → fits name least most qs ≡ true
-    → AllByRecursion (Keeps false (Holds name (GivesNumber least most))) (numbers qs)
-numbers_keep name least most [] e = tt
-numbers_keep name least most (q ∷ qs) e =
-    let here = and_parts (nat_le 1 q.1 && (not (bytes_eq q.0 name) || (q.1 == least && q.2 == most))) (fits name least most qs) e in
-    let ends = and_parts (nat_le 1 q.1) (not (bytes_eq q.0 name) || (q.1 == least && q.2 == most)) here.0 in
-    (option_keeps_number q.0 q.1 q.2 name least most (leb-true 1 q.1 ends.0) (same (bytes_eq q.0 name) ends.1), numbers_keep name least most qs here.1)
-  where
-    same : (b : Bool) → (not b || (q.1 == least && q.2 == most)) ≡ true → b ≡ true → (q.1 ≡ least) × (q.2 ≡ most)
-    same true h is = let both = and_parts (q.1 == least) (q.2 == most) h in (eqb-true q.1 least both.0, eqb-true q.2 most both.1)
-    same false h is = cc is
+all_before : {X : Type 0} (Q : X → Type 0) (xs ys : List X) → AllByRecursion Q (xs ++ ys) → AllByRecursion Q xs
+all_before Q [] ys h = tt
+all_before Q (x ∷ xs) ys h = (h.0, all_before Q xs ys h.1)
 
-numbers_keep_flag : (name : Text) (qs : List Range) → list_all (λ q. not (bytes_eq q.0 name)) qs ≡ true
-    → AllByRecursion (Keeps false (Holds name GivesFlag)) (numbers qs)
-numbers_keep_flag name [] e = tt
-numbers_keep_flag name (q ∷ qs) e =
-    let here = and_parts (not (bytes_eq q.0 name)) (list_all (λ q. not (bytes_eq q.0 name)) qs) e in
-    (option_keeps_flag q.0 q.1 q.2 name (is_false (bytes_eq q.0 name) here.0), numbers_keep_flag name qs here.1)
-  where
-    is_false : (b : Bool) → not b ≡ true → b ≡ false
-    is_false true e = cc e
-    is_false false e = refl
+is_false : (b : Bool) → not b ≡ true → b ≡ false
+is_false true e = cc e
+is_false false e = refl
+
+-- the rules of a command with these options, as they are built
+abbrev pub rules_of : List Opt → List Rule
+rules_of os = map built_rule os ++ help ∷ []
+
+-- none of these has the option's name
+abbrev are_others : Opt → List Opt → Bool
+are_others o ps = list_all (λ p. not (bytes_eq (name_of p) (name_of o))) ps
+
+-- each is sound, and has a name of its own
+abbrev pub are_apart : List Opt → Bool
+are_apart [] = true
+are_apart (o ∷ os) = is_sound o && (are_others o os && (list_all (λ p. not (bytes_eq (name_of o) (name_of p))) os && are_apart os))
+
+-- the option stands among these, once
+abbrev StandsIn : Opt → List Opt → Type 0
+StandsIn o [] = ⊥
+StandsIn o (p ∷ ps) = ((o ≡ p) × (are_others o ps ≡ true)) ⊎ ((bytes_eq (name_of p) (name_of o) ≡ false) × StandsIn o ps)
+
+abbrev IsOf : List Opt → Opt → Type 0
+IsOf os o = (is_sound o ≡ true) × StandsIn o os
+
+one_before : (p : Opt) (ps os : List Opt) → list_all (λ o. not (bytes_eq (name_of p) (name_of o))) os ≡ true → AllByRecursion (IsOf ps) os
+    → AllByRecursion (IsOf (p ∷ ps)) os
+one_before p ps [] e h = tt
+one_before p ps (o ∷ os) e h =
+    let parts = and_parts (not (bytes_eq (name_of p) (name_of o))) (list_all (λ o. not (bytes_eq (name_of p) (name_of o))) os) e in
+    ((h.0.0, inr (is_false (bytes_eq (name_of p) (name_of o)) parts.0, h.0.1)), one_before p ps os parts.1 h.1)
+
+each_stands : (os : List Opt) → are_apart os ≡ true → AllByRecursion (IsOf os) os
+each_stands [] e = tt
+each_stands (o ∷ os) e =
+    let apart : Bool = list_all (λ p. not (bytes_eq (name_of o) (name_of p))) os in
+    let sound = and_parts (is_sound o) (are_others o os && (apart && are_apart os)) e in
+    let others = and_parts (are_others o os) (apart && are_apart os) sound.1 in
+    let rest = and_parts apart (are_apart os) others.1 in
+    ((sound.0, inl (refl, others.0)), one_before o os os rest.0 (each_stands os rest.1))
+
+-- what an option gives, each use among the others keeps
+module _ (o : Opt) (sound : is_sound o ≡ true) where
+  abbrev P : List Row → Type 0
+  P = Holds (name_of o) (Gives o)
+
+  others_keep : (ps : List Opt) → are_others o ps ≡ true → AllByRecursion (Keeps false P) (map built_rule ps)
+  others_keep [] e = tt
+  others_keep (p ∷ ps) e =
+      let parts = and_parts (not (bytes_eq (name_of p) (name_of o))) (are_others o ps) e in
+      (other_keeps o p (is_false (bytes_eq (name_of p) (name_of o)) parts.0), others_keep ps parts.1)
+
+  each_keeps : (ps : List Opt) → StandsIn o ps → AllByRecursion (Keeps false P) (map built_rule ps)
+  each_keeps [] h = absurd h
+  each_keeps (p ∷ ps) (inl h) = (subst (λ q. Keeps false P (built_rule q)) h.0 (own_keeps o sound), others_keep ps h.1)
+  each_keeps (p ∷ ps) (inr h) = (other_keeps o p h.0, each_keeps ps h.1)
+
+  -- and so do the defaults
+  others_default : (ps : List Opt) → are_others o ps ≡ true → (rows : List Row) → P rows → P (fold with_default rows (map built_rule ps))
+  others_default [] e rows h = h
+  others_default (p ∷ ps) e rows h =
+      let parts = and_parts (not (bytes_eq (name_of p) (name_of o))) (are_others o ps) e in
+      others_default ps parts.1 (with_default rows (built_rule p)) (other_default o p (is_false (bytes_eq (name_of p) (name_of o)) parts.0) rows h)
+
+  each_default : (ps : List Opt) → StandsIn o ps → (rows : List Row) → P rows → P (fold with_default rows (map built_rule ps))
+  each_default [] h rows g = absurd h
+  each_default (p ∷ ps) (inl h) rows g =
+      others_default ps h.1 (with_default rows (built_rule p)) (subst (λ q. P (with_default rows (built_rule q))) h.0 (own_default o sound rows g))
+  each_default (p ∷ ps) (inr h) rows g = each_default ps h.1 (with_default rows (built_rule p)) (other_default o p h.0 rows g)
+
+-- which leave a row under each name that has a default
+still : (name : Text) (ps : List Opt) (rows : List Row) → has_row name rows ≡ true → has_row name (fold with_default rows (map built_rule ps)) ≡ true
+still name [] rows e = e
+still name (p ∷ ps) rows e = still name ps (with_default rows (built_rule p)) (still_there p name rows e)
+
+comes : (o : Opt) → has_default o ≡ true → (ps : List Opt) → StandsIn o ps → (rows : List Row)
+    → has_row (name_of o) (fold with_default rows (map built_rule ps)) ≡ true
+comes o has [] h rows = absurd h
+comes o has (p ∷ ps) (inl h) rows =
+    still (name_of o) ps (with_default rows (built_rule p))
+    (subst (λ q. has_row (name_of o) (with_default rows (built_rule q)) ≡ true) h.0 (own_there o has rows))
+comes o has (p ∷ ps) (inr h) rows = comes o has ps h.1 (with_default rows (built_rule p))
+
+-- help has none
+with_help : (os : List Opt) (rows : List Row) → fold with_default rows (rules_of os) ≡ fold with_default rows (map built_rule os)
+with_help [] rows = plain_default rows help refl
+with_help (o ∷ os) rows = with_help os (with_default rows (built_rule o))
 
 -- what is required is given
 all_given : (rows : List Row) (c : List Rule) → list_any (λ a. a.required && not (is_given a.id rows)) c ≡ false
@@ -115,109 +172,48 @@ all_given rows (a ∷ c) e = (by a.required (is_given a.id rows) _ e, all_given 
     rest true false f e = cc e
     rest false d f e = e
 
--- ---- defaults
-
-plain_default : (rows : List Row) (a : Rule) → a.defaults ≡ [] → with_default rows a ≡ rows
-plain_default rows a none = go (has_row a.id rows) a.defaults none
-  where
-    go : (b : Bool) (values : List Text) → values ≡ [] → cond b rows (default_rows a.id (reading_by a) values rows) ≡ rows
-    go true values e = refl
-    go false [] e = refl
-    go false (v ∷ vs) e = cc e
-
-after_numbers : (qs : List Range) (tail : List Rule) (rows : List Row) → fold with_default rows (numbers qs ++ tail) ≡ fold with_default rows tail
-after_numbers [] tail rows = refl
-after_numbers (q ∷ qs) tail rows = ap (λ r. fold with_default r (numbers qs ++ tail)) (plain_default rows (number q.0 q.1 q.2) refl)
-    ∙ after_numbers qs tail rows
-
 -- ---- the commands
 
--- a command of this name with these arguments, as it is built
-abbrev pub shape : Text → List Rule → Shape
-shape name rules = record (built_leaf (inherited (with_leaf_noted (marked_built hub_app.top)) (new_app name).top)) { rules = rules }
+-- a command of this name with these options, as it is built
+abbrev pub shape : Text → List Opt → Shape
+shape name os = record (built_leaf (inherited (with_leaf_noted (marked_built hub_app.top)) (new_app name).top)) { rules = rules_of os }
 
-pub required : (name : Text) (rules : List Rule) (rows : List Row) → check_fault (shape name rules) rows false ≡ []
-    → AllByRecursion (λ a. a.required ≡ true → is_given a.id rows ≡ true) rules
-required name rules rows e = all_given rows rules (go (list_any (λ a. a.required && not (is_given a.id rows)) rules) e)
+required : (command : Text) (os : List Opt) (rows : List Row) → check_fault (shape command os) rows false ≡ []
+    → AllByRecursion (λ a. a.required ≡ true → is_given a.id rows ≡ true) (map built_rule os)
+required command os rows e =
+    all_before (λ a. a.required ≡ true → is_given a.id rows ≡ true) (map built_rule os) (help ∷ [])
+    (all_given rows (rules_of os) (go (list_any (λ a. a.required && not (is_given a.id rows)) (rules_of os)) e))
   where
     go : (b : Bool) → check_kinds false false b ≡ [] → b ≡ false
     go true f = absurd (no_kind kind.MissingRequiredArgument f)
     go false f = refl
 
--- a number of a command whose options are all numbers
-pub number_of : (command : Text) (qs : List Range) (words : List Text) → Passed (shape command (numbers qs ++ help ∷ [])) words → (name : Text) (least most : ℕ)
-    → fits name least most qs ≡ true → is_given name (rows_after (numbers qs ++ help ∷ []) [] words) ≡ true
-    → (n : ℕ) × HasNumberIn name least most (rows_after (numbers qs ++ help ∷ []) [] words) n
-number_of command qs words passed name least most one given =
-    let s : Shape = shape command (numbers qs ++ help ∷ []) in
-    let P : List Row → Type 0 = Holds name (GivesNumber least most) in
-    let each = all_append (Keeps false P) (numbers qs) (help ∷ []) (numbers_keep name least most qs one) (help_keeps P, tt) in
-    let held : P (held_rows s words) = rows_hold s words P each (λ r e. cc e) passed in
-    let same : rows_after (numbers qs ++ help ∷ []) [] words ≡ held_rows s words =
-    after_numbers qs (help ∷ []) (held_rows s words) ∙ plain_default (held_rows s words) help refl in
-    given_number name least most (rows_after (numbers qs ++ help ∷ []) [] words) (subst P (sym same) held) given
+-- the rows have each option
+abbrev pub HasAll : List Opt → List Row → Type 0
+HasAll [] rows = ⊤
+HasAll (o ∷ os) rows = Has o rows × HasAll os rows
 
--- ---- print, which has a flag too
+module _ (command : Text) (os : List Opt) (words : List Text) (passed : Passed (shape command os) words) where
+  abbrev end : List Row
+  end = rows_after (rules_of os) [] words
 
-abbrev default_row : Text → Row
-default_row name = record { id = name; values = codes "false" ∷ []; count = None; source = Some DefaultValue; reading = reading_by (flag name) }
-
-flag_default : (name : Text) (P : List Row → Type 0) (rows : List Row) → P rows → (has_row name rows ≡ false → P (rows ++ default_row name ∷ []))
-    → P (with_default rows (flag name))
-flag_default name P rows h new = go (has_row name rows) refl
-  where
-    go : (b : Bool) → has_row name rows ≡ b → P (cond b rows (default_rows name (reading_by (flag name)) (codes "false" ∷ []) rows))
-    go true t = h
-    go false t = subst P (sym (at_end name (more_values DefaultValue (codes "false" ∷ [])) (default_row name ∷ []) rows t)) (new t)
-
--- with the default the flag has a row
-has_last : (name : Text) (rows : List Row) (new : Row) → bytes_eq new.id name ≡ true → has_row name (rows ++ new ∷ []) ≡ true
-has_last name [] new e = rw e refl
-has_last name (r ∷ rs) new e = go (bytes_eq r.id name) (has_last name rs new e)
-  where
-    go : (b : Bool) → has_row name (rs ++ new ∷ []) ≡ true → (b || has_row name (rs ++ new ∷ [])) ≡ true
-    go true h = refl
-    go false h = h
-
-flag_there : (name : Text) (rows : List Row) → bytes_eq name name ≡ true → has_row name (with_default rows (flag name)) ≡ true
-flag_there name rows own = go (has_row name rows) refl
-  where
-    go : (b : Bool) → has_row name rows ≡ b → has_row name (cond b rows (default_rows name (reading_by (flag name)) (codes "false" ∷ []) rows)) ≡ true
-    go true t = t
-    go false t =
-        ap (has_row name) (at_end name (more_values DefaultValue (codes "false" ∷ [])) (default_row name ∷ []) rows t)
-        ∙ has_last name rows (default_row name) own
-
-module _ (command text : Text) (own : bytes_eq text text ≡ true) (qs : List Range) (words : List Text)
-    (passed : Passed (shape command (numbers qs ++ flag text ∷ help ∷ [])) words) where
-  with_text : rows_after (numbers qs ++ flag text ∷ help ∷ []) [] words
-      ≡ with_default (held_rows (shape command (numbers qs ++ flag text ∷ help ∷ [])) words) (flag text)
-  with_text =
-      let held : List Row = held_rows (shape command (numbers qs ++ flag text ∷ help ∷ [])) words in
-      after_numbers qs (flag text ∷ help ∷ []) held ∙ plain_default (with_default held (flag text)) help refl
-
-  pub number_beside : (name : Text) (least most : ℕ) → fits name least most qs ≡ true → bytes_eq text name ≡ false
-      → is_given name (rows_after (numbers qs ++ flag text ∷ help ∷ []) [] words) ≡ true → (n : ℕ)
-      × HasNumberIn name least most (rows_after (numbers qs ++ flag text ∷ help ∷ []) [] words) n
-  number_beside name least most one other given =
-      let s : Shape = shape command (numbers qs ++ flag text ∷ help ∷ []) in
-      let P : List Row → Type 0 = Holds name (GivesNumber least most) in
-      let each = all_append (Keeps false P) (numbers qs) (flag text ∷ help ∷ []) (numbers_keep name least most qs one)
-      (flag_keeps_number text name least most other, (help_keeps P, tt)) in
+  one_had : (o : Opt) → IsOf os o → ((built_rule o).required ≡ true → is_given (built_rule o).id end ≡ true) → Has o end
+  one_had o is given =
+      let s : Shape = shape command os in
+      let P : List Row → Type 0 = Holds (name_of o) (Gives o) in
+      let each = all_append (Keeps false P) (map built_rule os) (help ∷ []) (each_keeps o is.0 os is.1) (help_keeps P, tt) in
       let held : P (held_rows s words) = rows_hold s words P each (λ r e. cc e) passed in
-      let last : P (with_default (held_rows s words) (flag text)) =
-      flag_default text P (held_rows s words) held (λ none. one_more name (GivesNumber least most) (held_rows s words) (default_row text)
-      (λ is. absurd (let bad : false ≡ true = sym other ∙ is in cc bad)) held) in
-      given_number name least most (rows_after (numbers qs ++ flag text ∷ help ∷ []) [] words) (subst P (sym with_text) last) given
+      let same : end ≡ fold with_default (held_rows s words) (map built_rule os) = with_help os (held_rows s words) in
+      has_of o end (subst P (sym same) (each_default o is.0 os is.1 (held_rows s words) held)) given
+      (λ has. subst (λ rows. has_row (name_of o) rows ≡ true) (sym same) (comes o has os is.1 (held_rows s words)))
 
-  pub flag_beside : list_all (λ q. not (bytes_eq q.0 text)) qs ≡ true → (b : Bool) × HasFlag text (rows_after (numbers qs ++ flag text ∷ help ∷ []) [] words) b
-  flag_beside others =
-      let s : Shape = shape command (numbers qs ++ flag text ∷ help ∷ []) in
-      let P : List Row → Type 0 = Holds text GivesFlag in
-      let each = all_append (Keeps false P) (numbers qs) (flag text ∷ help ∷ []) (numbers_keep_flag text qs others)
-      (flag_keeps_flag text text, (help_keeps P, tt)) in
-      let held : P (held_rows s words) = rows_hold s words P each (λ r e. cc e) passed in
-      let last : P (with_default (held_rows s words) (flag text)) =
-      flag_default text P (held_rows s words) held (λ none. one_more text GivesFlag (held_rows s words) (default_row text) (λ is. (false, refl)) held) in
-      given_flag text (rows_after (numbers qs ++ flag text ∷ help ∷ []) [] words) (subst P (sym with_text) last)
-      (ap (has_row text) with_text ∙ flag_there text (held_rows s words) own)
+  each_had : (ps : List Opt) → AllByRecursion (IsOf os) ps
+      → AllByRecursion (λ a. a.required ≡ true → is_given a.id end ≡ true) (map built_rule ps) → HasAll ps end
+  each_had [] are given = tt
+  each_had (p ∷ ps) are given = (one_had p are.0 given.0, each_had ps are.1 given.1)
+
+-- words which pass give each option of their command
+pub all_had : (command : Text) (os : List Opt) → are_apart os ≡ true → (words : List Text) → Passed (shape command os) words
+    → HasAll os (rows_after (rules_of os) [] words)
+all_had command os apart words passed =
+    each_had command os words passed os (each_stands os apart) (required command os (rows_after (rules_of os) [] words) passed.checked)

@@ -1,12 +1,14 @@
 -- The arguments that commands share: the rules that `clap` is told of, and what its matches have under their names.
 use Rattle.std.specs.Prelude.{◌≡◌, ℕ, pos, Bool, List, [], ◌∷◌, Some, true, false, codes}
 use Rattle.std.specs.Int.{IsInRange}
+use Rattle.std.specs.Borrow.{Bor}
 use Rattle.std.specs.Str.Parse.{IsNumeral, digits_value, without_leading_plus}
-use Rattle.clap.specs.Words.{App, Row, Rule, Text, new_rule, one_of, with_rule}
+use Rattle.clap.specs.Words.{App, Row, Rule, Text, first_of, new_rule, one_of, with_rule}
 use Rattle.clap.specs.declared.builder.ArgAction.TheVariants.{Set, SetTrue}
 use Rattle.clap.specs.declared.builder.value_parser.ValueParser.TheVariants as vp
 use Rattle.words_core.specs.Numbers.{AreGridNumbers, most_columns, most_dots, most_grid_rows, most_height, most_width}
 use Rattle.words_core.specs.declared.grid_options.GridOptions.{GridOptions}
+use Rattle.element_core.specs.Terms.{Terms}
 use Rattle.element_core.specs.declared.form.Form.{Form}
 use Rattle.element_core.specs.declared.form.Form.TheVariants as form
 
@@ -52,6 +54,24 @@ flag_rule name = record (new_rule name) {
   action = Some SetTrue;
 }
 
+-- texts to choose from, which a program holds somewhere in memory
+abbrev pub Choices : Type 0
+Choices = Bor (List (Bor Text))
+
+-- a value at a place that is of no account
+abbrev pub placed : {X : Type 0} → X → Bor X
+placed x = record { ref_ptr = (0, 0); now = x }
+
+-- `--name C`, one of these choices, which may be left out: then `usual` is chosen
+abbrev pub choice_rule : Text → Choices → Text → Rule
+choice_rule name choices usual = record (new_rule name) {
+  long = Some name;
+  action = Some Set;
+  value_names = 1;
+  defaults = usual ∷ [];
+  parser = Some (vp.Names choices);
+}
+
 -- `--year Y`, the reference year of dates
 abbrev pub year_rule : Rule
 year_rule = number_rule (codes "year") first_year last_year
@@ -64,9 +84,25 @@ workers_rule = number_rule (codes "workers") 1 most_workers
 abbrev pub lanes_rule : Rule
 lanes_rule = number_rule (codes "lanes") 1 most_lanes
 
--- `--lanes N --workers K --year Y`, of a command over rows of lanes
-abbrev pub lane_row_rules : List Rule
-lane_row_rules = lanes_rule ∷ workers_rule ∷ year_rule ∷ []
+-- what `--ais` chooses: every AI, or those of the profile
+abbrev pub ais_text : Bool → Text
+ais_text false = codes "profile"
+ais_text true = codes "all"
+
+abbrev pub ais_choices : Choices
+ais_choices = placed (placed (ais_text false) ∷ placed (ais_text true) ∷ [])
+
+-- `--ais A`, where the profile is usual
+abbrev pub ais_rule : Choices → Rule
+ais_rule choices = choice_rule (codes "ais") choices (ais_text false)
+
+-- `--year Y [--ais A]`, what element strings are read by
+abbrev pub terms_rules : Choices → List Rule
+terms_rules choices = year_rule ∷ ais_rule choices ∷ []
+
+-- `--lanes N --workers K --year Y [--ais A]`, of a command over rows of lanes
+abbrev pub lane_row_rules : Choices → List Rule
+lane_row_rules choices = lanes_rule ∷ workers_rule ∷ terms_rules choices
 
 -- `--module M --width W --height H`, in dots
 abbrev pub module_rule : Rule
@@ -104,6 +140,14 @@ HasNumber name rows n = (t : Text) × (one_of name rows ≡ Some t)
 -- and this reference year
 abbrev pub HasYear : List Row → ℕ → Type 0
 HasYear rows year = HasNumber (codes "year") rows year × IsReferenceYear year
+
+-- and this choice of AIs
+abbrev pub HasAis : List Row → Bool → Type 0
+HasAis rows every = first_of (codes "ais") rows ≡ Some (ais_text every)
+
+-- what element strings are read by
+abbrev pub HasTerms : List Row → Terms → Type 0
+HasTerms rows terms = HasYear rows terms.year × HasAis rows terms.every
 
 -- so many workers
 abbrev pub HasWorkers : List Row → ℕ → Type 0

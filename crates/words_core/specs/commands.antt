@@ -6,7 +6,7 @@ pub mod Prints
 pub mod Scans
 use Rattle.std.specs.Prelude.{◌≡◌, ◌∷◌, [], Err, Ok, Result, true, List, codes}
 use Rattle.clap.specs.Words.{App, Row, Text, new_app, with_subcommand}
-use Rattle.words_core.specs.Arguments.{HasYear}
+use Rattle.words_core.specs.Arguments.{Choices, HasTerms, ais_choices}
 use Rattle.words_core.specs.commands.Checks.{check_app}
 use Rattle.words_core.specs.commands.Lanes.{HasLanes, lanes_app}
 use Rattle.words_core.specs.commands.Lives.{HasLive, live_app}
@@ -28,17 +28,21 @@ abbrev pub with_commands : App → List App → App
 with_commands a [] = a
 with_commands a (c ∷ cs) = with_commands (with_subcommand a c.top) cs
 
--- the commands
-abbrev pub hub_commands : List App
-hub_commands = check_app ∷ print_app ∷ lanes_app ∷ scan_app ∷ live_app ∷ []
+-- the commands, of which `--ais` has these choices
+abbrev pub hub_commands : Choices → List App
+hub_commands choices = check_app choices ∷ print_app choices ∷ lanes_app choices ∷ scan_app choices ∷ live_app choices ∷ []
+
+-- the program with these commands
+abbrev pub hub_of : Choices → App
+hub_of choices = with_commands hub_top (hub_commands choices)
 
 -- the program with its commands
 abbrev pub hub_app : App
-hub_app = with_commands hub_top hub_commands
+hub_app = hub_of ais_choices
 
 -- the command of this name, with its numbers
 abbrev pub AsksIn : Text → List Row → Asked → Type 0
-AsksIn name rows (asked.Check year) = (name ≡ codes "check") × HasYear rows year
+AsksIn name rows (asked.Check year) = (name ≡ codes "check") × HasTerms rows year
 AsksIn name rows (asked.Print o) = (name ≡ codes "print") × HasPrint rows o
 AsksIn name rows (asked.Lanes o) = (name ≡ codes "lanes") × HasLanes rows o
 AsksIn name rows (asked.Scan o) = (name ≡ codes "scan") × HasScan rows o

@@ -1,16 +1,17 @@
 //! The arguments that commands share: as `clap` is told of them, and as they are read of its matches.
 ghost use Rattle.std.specs.Prelude.{◌<◌, ◌≡◌, ◌^◌, Bool, ℕ, IfNone, IfSome, false};
+ghost use Rattle.element_core.specs.Terms.{Terms};
 ghost use Rattle.clap.specs.Words.{app_of, found_of, new_app, rows_of, rule_of};
 ghost use Rattle.clap.specs.declared.builder.command.Command.TheViews.{out-Command};
 ghost use Rattle.words_core.specs.declared.grid_options.GridOptions.{GridOptions};
-ghost use Rattle.words_core.specs.Arguments.{HasFlag, HasGrid, HasNumber, HasYear, columns_rule, flag_rule, height_rule, lanes_rule, module_rule, number_rule, rows_rule, width_rule, workers_rule, year_rule};
+ghost use Rattle.words_core.specs.Arguments.{HasAis, HasFlag, HasGrid, HasNumber, HasTerms, ais_rule, choice_rule, columns_rule, flag_rule, height_rule, lanes_rule, module_rule, number_rule, rows_rule, width_rule, workers_rule, year_rule};
 
 use crate::grid_options::{
     GridOptions, MOST_COLUMNS, MOST_HEIGHT, MOST_MODULE_DOTS, MOST_ROWS, MOST_WIDTH,
 };
 use clap::builder::ValueParser;
 use clap::{Arg, ArgAction, ArgMatches, Command};
-use element_core::Year;
+use element_core::Terms;
 use std::alloc::Global;
 
 /// How many lanes there are at most.
@@ -24,6 +25,12 @@ pub const FIRST_YEAR: u16 = 1951;
 
 /// The last year that is a reference year.
 pub const LAST_YEAR: u16 = 2149;
+
+/// What `--ais` chooses if it is left out.
+const PROFILE: &str = "profile";
+
+/// What `--ais` takes.
+pub const AIS_CHOICES: &[&str] = &[PROFILE, "all"];
 
 /// The option `--module`.
 const MODULE: &str = "Width of a module, the narrowest bar, 1 to 8 dots";
@@ -49,6 +56,9 @@ const WORKERS: &str = "How many threads read rows beside each other, 1 to 16";
 /// The option `--year`.
 const YEAR: &str =
     "Year that dates of two digits are read by, 1951 to 2149, such as the year of today";
+
+/// The option `--ais`.
+const AIS: &str = "Accept the AIs of the profile, or all of the GS1 General Specifications";
 
 /// The command of this name, before it has arguments. The help says `about` of it, and ends with `example`.
 pub fn command<'a>(alloc: Global, name: &'a str, about: &'a str, example: &'a str) -> Command<'a>
@@ -89,6 +99,28 @@ pub fn flag<'a>(alloc: Global, name: &'a str, help: &'a str) -> Arg<'a>
     Arg::new(alloc, name)
         .long(name)
         .action(ArgAction::SetTrue)
+        .help(help)
+}
+
+/// The option `--name`, which takes one of these choices and may be left out: then `usual` is chosen. The help calls
+/// the choice `value`, and says `help` of it.
+pub fn choice<'a>(
+    alloc: Global,
+    name: &'a str,
+    choices: &'a [&'a str],
+    usual: &'a str,
+    value: &'a str,
+    help: &'a str,
+) -> Arg<'a>
+    ensures rule { rule_of result ≡ choice_rule name.now choices.entry usual.now }
+    ensures own { result.global ≡ false }
+{
+    Arg::new(alloc, name)
+        .long(name)
+        .action(ArgAction::Set)
+        .value_parser(ValueParser::Names(choices))
+        .default_value(usual)
+        .value_name(value)
         .help(help)
 }
 
@@ -158,6 +190,14 @@ pub fn year<'a>(alloc: Global) -> Arg<'a>
     number(alloc, "year", FIRST_YEAR, LAST_YEAR, "YEAR", YEAR)
 }
 
+/// The option `--ais`, which AIs are accepted.
+pub fn ais<'a>(alloc: Global, choices: &'a [&'a str]) -> Arg<'a>
+    ensures rule { rule_of result ≡ ais_rule choices.entry }
+    ensures own { result.global ≡ false }
+{
+    choice(alloc, "ais", choices, PROFILE, "AIS", AIS)
+}
+
 /// The number under this name.
 pub fn number_named(matches: &ArgMatches<'_>, name: &str) -> Option<u16>
     ensures some { IfSome result (HasNumber name.now (rows_of (found_of matches.now))) }
@@ -198,10 +238,27 @@ pub fn flag_named(matches: &ArgMatches<'_>, name: &str) -> Option<bool>
     matches.get_one::<bool>(name)
 }
 
-/// The reference year.
-pub fn year_named(matches: &ArgMatches<'_>) -> Option<Year>
-    ensures some { IfSome result (HasYear (rows_of (found_of matches.now))) }
-    ensures none { IfNone result ((y : ℕ) → HasYear (rows_of (found_of matches.now)) y → ⊥) }
+/// Whether every AI is accepted, and not those of the profile alone.
+fn every_ai_named(matches: &ArgMatches<'_>) -> Option<bool>
+    ensures some { IfSome result (HasAis (rows_of (found_of matches.now))) }
+    ensures none { IfNone result ((b : Bool) → HasAis (rows_of (found_of matches.now)) b → ⊥) }
 {
-    Year::new(number_named(matches, "year")?)
+    match matches.get_str("ais")? {
+        "profile" => Some(false),
+        "all" => Some(true),
+        _ => None,
+    }
+}
+
+/// The reference year, and which AIs are accepted.
+pub fn terms_named(matches: &ArgMatches<'_>) -> Option<Terms>
+    ensures some { IfSome result (HasTerms (rows_of (found_of matches.now))) }
+    ensures none { IfNone result ((t : Terms) → HasTerms (rows_of (found_of matches.now)) t → ⊥) }
+{
+    let profile = Terms::new(number_named(matches, "year")?)?;
+    if every_ai_named(matches)? {
+        Some(profile.with_every_ai())
+    } else {
+        Some(profile)
+    }
 }

@@ -2,7 +2,8 @@
 ghost use Rattle.std.specs.Prelude.{◌≡◌, IfNone, IfOk, IfSome, List, Ok, map};
 ghost use Rattle.clap.specs.Words.{AddsInTurn, AddsSubcommand, app_of, found_of, rows_of};
 ghost use Rattle.clap.specs.declared.builder.command.Command.{Command};
-ghost use Rattle.words_core.specs.commands.{AsksIn, batch_of, hub_app, hub_top};
+ghost use Rattle.words_core.specs.commands.{AsksIn, batch_of, hub_top};
+ghost use Rattle.words_core.specs.inner.Asking.{AreAisChoices, IsHub};
 ghost use Rattle.words_core.specs.declared.commands.Asked.{Asked};
 ghost use Rattle.words_core.specs.declared.commands.Batch.{Batch};
 
@@ -12,7 +13,7 @@ pub mod live;
 pub mod print;
 pub mod scan;
 
-use crate::arguments::year_named;
+use crate::arguments::terms_named;
 use crate::commands::check::check_words;
 use crate::commands::lanes::lanes_words;
 use crate::commands::lanes::options::LaneOptions;
@@ -30,7 +31,7 @@ use std::alloc::{AllocError, Global};
 /// What the words ask for.
 #[derive(Clone, Copy, Debug, PartialEq, Eq)]
 pub enum Asked {
-    /// Texts are to be checked, dates under this reference year.
+    /// Texts are to be checked, by this reference year and these AIs.
     Check(Year),
     /// Labels are to be printed.
     Print(PrintOptions),
@@ -45,7 +46,7 @@ pub enum Asked {
 /// A command over its whole input, of which it writes nothing before it has read all.
 #[derive(Clone, Copy, Debug, PartialEq, Eq)]
 pub enum Batch {
-    /// Texts are to be checked, dates under this reference year.
+    /// Texts are to be checked, by this reference year and these AIs.
     Check(Year),
     /// Labels are to be printed.
     Print(PrintOptions),
@@ -97,16 +98,17 @@ fn with_commands<'a>(
     Ok(whole)
 }
 
-/// The program with its commands, as `clap` reads their words.
-pub fn hub_words<'a>(alloc: Global) -> Result<Command<'a>, AllocError>
-    ensures { IfOk result (λ c. app_of c ≡ hub_app) }
+/// The program with its commands, as `clap` reads their words, where `--ais` takes these choices.
+pub fn hub_words<'a>(alloc: Global, choices: &'a [&'a str]) -> Result<Command<'a>, AllocError>
+    requires { AreAisChoices choices }
+    ensures { IfOk result (λ c. IsHub (app_of c)) }
 {
     let commands = [
-        check_words(alloc),
-        print_words(alloc),
-        lanes_words(alloc),
-        scan_words(alloc),
-        live_words(alloc),
+        check_words(alloc, choices),
+        print_words(alloc, choices),
+        lanes_words(alloc, choices),
+        scan_words(alloc, choices),
+        live_words(alloc, choices),
     ];
     with_commands(program(alloc), commands)
 }
@@ -118,7 +120,7 @@ pub fn asked_by(name: &str, matches: &ArgMatches<'_>) -> Option<Asked>
         → AsksIn name.now (rows_of (found_of matches.now)) a → ⊥) }
 {
     match name {
-        "check" => year_named(matches).map(Asked::Check),
+        "check" => terms_named(matches).map(Asked::Check),
         "print" => print::options_named(matches).map(Asked::Print),
         "lanes" => lanes::options_named(matches).map(Asked::Lanes),
         "scan" => scan::options_named(matches).map(Asked::Scan),

@@ -6,6 +6,7 @@ ghost use Rattle.words_core.specs.inner.Asking.{FaultOfKind};
 ghost use Rattle.words_core.specs.Faults.{words_fault_text};
 ghost use Rattle.words_core.specs.declared.commands.Asked.{Asked};
 
+use crate::arguments::AIS_CHOICES;
 use crate::commands::{Asked, asked_by, hub_words};
 use clap::error::ErrorKind;
 use clap::{ArgMatches, Error};
@@ -64,7 +65,7 @@ pub fn read_words(alloc: Global, words: &[String]) -> Result<Asked, WordsFault>
     ensures asked { IfOk result (WordsAsk (map string_bytes words.now)) }
     ensures refused { IfErr result (Explains (map string_bytes words.now)) }
 {
-    let Ok(hub) = hub_words(alloc) else {
+    let Ok(hub) = hub_words(alloc, AIS_CHOICES) else {
         return Err(WordsFault::NoMemory);
     };
     let matches = match hub.try_get_matches_from(words) {
@@ -83,7 +84,7 @@ pub fn read_words(alloc: Global, words: &[String]) -> Result<Asked, WordsFault>
 pub fn sentence(alloc: Global, words: &[String]) -> Option<String>
     ensures { IfSome result (λ text. AreFaulty (map string_bytes words.now)) }
 {
-    let Ok(hub) = hub_words(alloc) else {
+    let Ok(hub) = hub_words(alloc, AIS_CHOICES) else {
         return None;
     };
     let Err(error) = hub.try_get_matches_from(words) else {

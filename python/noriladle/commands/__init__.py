@@ -37,6 +37,12 @@ def add_year(parser: argparse.ArgumentParser) -> None:
                         help="Year that dates of two digits are read by, 1951 to 2149; this year")
 
 
+def add_ais(parser: argparse.ArgumentParser) -> None:
+    """Adds the option for which Application Identifiers are read."""
+    parser.add_argument("--ais", choices=["all", "profile"], default="all",
+                        help="Which Application Identifiers are read: every one (the default), or those of the profile")
+
+
 def _year(word: str) -> int:
     if not (word.isascii() and word.isdecimal() and 1951 <= int(word) <= 2149):
         raise argparse.ArgumentTypeError(f"{word!r} is no year from 1951 to 2149")

@@ -14,11 +14,11 @@ import json
 import sys
 from typing import Any, Dict, Iterator, NamedTuple, Optional, Tuple
 
-from .. import Answer, Refusal
+from .. import Ais, Answer, Refusal
 from .._columns import Table, table_of
 from .._lists import Faults, Record
 from .._texts import Unreadable, is_elements, read_text, remedy_of, stripped
-from . import REFUSED, RIGHT, Progress, add_year, data_of, tell
+from . import REFUSED, RIGHT, Progress, add_ais, add_year, data_of, tell
 from ._lists import add_list, columns_of, name_of, read_list
 
 
@@ -28,6 +28,7 @@ def add_arguments(parser: argparse.ArgumentParser) -> None:
     parser.add_argument("--refused", action="store_true", help="Print only the lines that are refused")
     parser.add_argument("--json", action="store_true", help="Print a JSON object for each line")
     add_year(parser)
+    add_ais(parser)
 
 
 class Checked(NamedTuple):
@@ -52,7 +53,7 @@ def run(words: argparse.Namespace) -> int:
     if table.note:
         tell(f"{name}: {table.note}")
     status, progress = RIGHT, Progress()
-    for checked in checked_lines(table, words.year):
+    for checked in checked_lines(table, words.year, words.ais):
         if not sys.stdout.isatty():
             progress(f"checking line {checked.line:,}")
         if not checked.answer:
@@ -63,7 +64,7 @@ def run(words: argparse.Namespace) -> int:
     return status
 
 
-def checked_lines(table: Table, year: int) -> Iterator[Checked]:
+def checked_lines(table: Table, year: int, ais: Ais = "all") -> Iterator[Checked]:
     """What each text of a table says, line by line."""
     records = {record.line: record for record in table.records}
     faults = {fault.line: fault for fault in table.faults}
@@ -72,7 +73,7 @@ def checked_lines(table: Table, year: int) -> Iterator[Checked]:
             yield Checked(line, "", None, None, faults[line].said)
         else:
             for text in _texts(table, records[line]):
-                yield _checked(line, text, year)
+                yield _checked(line, text, year, ais)
 
 
 def _texts(table: Table, record: Record) -> Iterator[str]:
@@ -84,9 +85,9 @@ def _texts(table: Table, record: Record) -> Iterator[str]:
         yield elements if is_elements(elements) or elements[0] == "]" else f"^{elements}"
 
 
-def _checked(line: int, text: str, year: int) -> Checked:
+def _checked(line: int, text: str, year: int, ais: Ais) -> Checked:
     try:
-        return Checked(line, text, read_text(text, year))
+        return Checked(line, text, read_text(text, year, ais))
     except Refusal as refusal:
         return Checked(line, text, None, refusal, remedy_of(text, refusal))
     except Unreadable as error:

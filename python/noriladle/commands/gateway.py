@@ -36,7 +36,7 @@ from .._gateway import Gateway, keep_alive
 from .._rights import all_rights, new_token
 from .._service import Log, Metrics, notify
 from ..live import Hub
-from . import REFUSED, RIGHT, WrongWords, add_year
+from . import REFUSED, RIGHT, WrongWords, add_ais, add_year
 
 _AT_WORK = ("idle", "kept", "connections", "log", "json", "origin", "rights")
 """The options that SIGHUP changes in a gateway that runs."""
@@ -68,6 +68,7 @@ def add_arguments(parser: argparse.ArgumentParser) -> None:
     parser.add_argument("--token", action=_NewToken, help="Print a new token and its line for the table of rights, and end")
     parser.set_defaults(rights=all_rights())  # A table of the file of options.
     add_year(parser)
+    add_ais(parser)
     _service.add_arguments(parser)
 
 
@@ -90,7 +91,7 @@ def run(words: argparse.Namespace) -> int:
     words.tls = _tls_of(words)
     _service.keep_buffers()
     with _taken(words.unix):
-        why = asyncio.run(_run(Hub(words.lanes, words.workers, words.year), words))
+        why = asyncio.run(_run(Hub(words.lanes, words.workers, words.year, ais=words.ais), words))
     return REFUSED if why else RIGHT
 
 

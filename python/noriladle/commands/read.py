@@ -21,7 +21,7 @@ import zlib
 from typing import TYPE_CHECKING, Any, Iterator, List, NamedTuple, Optional, Tuple
 
 from .. import Refusal, Symbol
-from . import REFUSED, RIGHT, WRONG_WORDS, Progress, add_year, data_of, tell
+from . import REFUSED, RIGHT, WRONG_WORDS, Progress, add_ais, add_year, data_of, tell
 
 if TYPE_CHECKING:
     from PIL import Image
@@ -43,6 +43,7 @@ def add_arguments(parser: argparse.ArgumentParser) -> None:
                         help="JPEG, PNG, TIFF, PBM, PGM, PPM, BMP, GIF, WebP or PDF; - is standard input")
     parser.add_argument("--json", action="store_true", help="Print a JSON object for each barcode")
     add_year(parser)
+    add_ais(parser)
 
 
 class Page(NamedTuple):
@@ -72,7 +73,7 @@ def run(words: argparse.Namespace) -> int:
             for page in _pages_of(name):
                 progress(f"reading {page} ({count} of {len(words.pictures)})", at_once=is_later)
                 is_later = True
-                shown = picture.read(page.image, words.year)
+                shown = picture.read(page.image, words.year, ais=words.ais)
                 progress.end()
                 for symbol in shown.symbols:
                     print(_told(page, symbol, words.json), flush=sys.stdout.isatty())

@@ -21,12 +21,12 @@ import time
 import tty
 from typing import List, Optional
 
-from .. import Refusal, _service, read_scan
+from .. import Ais, Refusal, _service, read_scan
 from .._keys import EVENT, FOREIGN, LOST, Keyboard, events_of, grab, make_keyboard
 from .._link import Link
 from .._scans import is_name
 from .._service import notify
-from . import REFUSED, RIGHT, WrongWords, add_year, tell
+from . import REFUSED, RIGHT, WrongWords, add_ais, add_year, tell
 
 CUT = 1_024
 """A longer text is cut to so many bytes: no symbol has as many, and it is refused all the same."""
@@ -53,6 +53,7 @@ def add_arguments(parser: argparse.ArgumentParser) -> None:
     parser.add_argument("--type", choices=("gtin", "elements"), metavar="WHAT",
                         help="Type the gtin, or the elements, of each text that is not refused, and Enter, as a keyboard")
     add_year(parser)
+    add_ais(parser)
     _service.add_config(parser)
 
 
@@ -210,7 +211,7 @@ class _Scanner:
         elif self._link:
             self._link.scan(text)
         else:
-            self._said(self._number, _checked(text, self._words.year))
+            self._said(self._number, _checked(text, self._words.year, self._words.ais))
             self._number += 1
 
     def _unread(self, why: str) -> None:
@@ -230,10 +231,10 @@ class _Scanner:
         tell(f"noriladle scanner: {why}")
 
 
-def _checked(text: bytes, year: int) -> str:
+def _checked(text: bytes, year: int, ais: Ais) -> str:
     """What a text says, or why it is refused."""
     try:
-        return str(read_scan(text, year))
+        return str(read_scan(text, year, ais=ais))
     except Refusal as refusal:
         return str(refusal)
 

@@ -22,7 +22,7 @@ from .. import _service
 from .._service import Log, Metrics, notify
 from ..live import Hub, HubEnded
 from ..streams import Shop, Spent, Worker
-from . import REFUSED, RIGHT, WrongWords, add_year
+from . import REFUSED, RIGHT, WrongWords, add_ais, add_year
 
 _RIGHTS = (
     "ACL SETUSER worker on >SECRET +cluster|slots +time +multi +exec (+xread %R~shop:*:rows) (+xinfo|stream %R~shop:*:answers) "
@@ -78,6 +78,7 @@ def add_arguments(parser: argparse.ArgumentParser) -> None:
                         help="How long a lane stays with a worker that has died; 3000")
     parser.add_argument("--acl", action="store_true", help="Print the lists of rights for Redis, for these lanes, and end")
     add_year(parser)
+    add_ais(parser)
     _service.add_arguments(parser)
 
 
@@ -151,7 +152,7 @@ class _Work:
 
     async def _work(self) -> None:
         words = self._words
-        async with Hub(lanes=len(self._lanes), workers=words.workers, year=words.year) as hub:
+        async with Hub(lanes=len(self._lanes), workers=words.workers, year=words.year, ais=words.ais) as hub:
             self._metrics.add("noriladle_hubs_total")
             worker = Worker(self._shop, words.name, self._lanes, hub, words.lease, self._seen,
                             lambda what, lane: self._log.note(what, lane=lane, worker=words.name))

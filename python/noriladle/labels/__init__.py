@@ -210,7 +210,7 @@ def _item(article: Article, cell: Cell, fonts: Fonts, look: Look, year: int) -> 
         raise ValueError(f"{', '.join(map(repr, lacking[:5]))} cannot be set in {fonts.bold.name}: name another font by --font, or "
                          "leave it out; combining signs and scripts from right to left are not set at all")
     try:
-        bars = bars_of(article.kind, article.text, article.answer, year)
+        bars = bars_of(article.kind, article.text, year)
     except Refusal as refusal:
         raise ValueError(f"{article.text}: {refusal}: {remedy_of(article.text, refusal)}".replace("\x1d", "^")) from None
     return Item(article, bars, module_of(bars, cell, look))

@@ -2,7 +2,7 @@
 
 use crate::tests::equal::is_equal;
 use crate::tests::rows::year_of;
-use element_core::{Elements, Pair, Part, PartFormat, Text, ai_row};
+use element_core::{Check, Elements, Pair, Part, PartFormat, Rule, Text, ai_row};
 use std::alloc::Global;
 use std::process::Abort;
 use std::test::Fail;
@@ -105,8 +105,9 @@ fn the_row_of_an_ai_has_its_parts(rt: HostRuntime) -> Result<(), Fail> {
         format: PartFormat::Numeric,
         least: 14,
         greatest: 14,
-        check: true,
-        even: false,
+        step: 1,
+        check: Check::Digit,
+        rule: Rule::Free,
     };
     has_parts(&rt, "0109501101530003", true, &[gtin])
 }
@@ -117,15 +118,17 @@ fn the_row_of_an_ai_has_two_parts(rt: HostRuntime) -> Result<(), Fail> {
         format: PartFormat::Numeric,
         least: 13,
         greatest: 13,
-        check: true,
-        even: false,
+        step: 1,
+        check: Check::Digit,
+        rule: Rule::Free,
     };
     let serial = Part {
         format: PartFormat::Alphanumeric,
         least: 0,
         greatest: 17,
-        check: false,
-        even: false,
+        step: 1,
+        check: Check::Unchecked,
+        rule: Rule::Free,
     };
     has_parts(&rt, "253", false, &[number, serial])
 }
@@ -133,11 +136,12 @@ fn the_row_of_an_ai_has_two_parts(rt: HostRuntime) -> Result<(), Fail> {
 #[test]
 fn the_row_of_an_ai_has_a_date_and_time(rt: HostRuntime) -> Result<(), Fail> {
     let produced = Part {
-        format: PartFormat::DateAndTime,
+        format: PartFormat::Numeric,
         least: 8,
         greatest: 12,
-        check: false,
-        even: true,
+        step: 2,
+        check: Check::Unchecked,
+        rule: Rule::DayAndTime,
     };
     has_parts(&rt, "8008", false, &[produced])
 }

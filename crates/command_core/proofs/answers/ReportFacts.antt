@@ -12,6 +12,7 @@ use Rattle.hub_core.specs.Laws.{AreAnswersOf}
 use Rattle.hub_core.specs.Traffics.{with_more}
 use Rattle.command_core.specs.inner.Reports.{AreLinesOf, lane_lines}
 use Rattle.command_core.specs.answers.Reports.{IsReport, lanes_from, line_of, lines_from}
+use Rattle.element_core.specs.Terms.{Terms}
 use Rattle.record_core.proofs.Beside.{zip_more}
 
 -- one more line
@@ -105,7 +106,7 @@ none_from first (suc n) = let rest = none_from (first + 1) n in ([] ∷ rest.0, 
 pub no_lines : (n : ℕ) (texts : List (List ℕ)) → texts ≡ replicate n [] → AreLinesOf (replicate n []) texts
 no_lines n texts is = let none = none_from 0 n in (none.0, none.1, is ∙ none.2)
 
-rowless_from : {V : Type 0} (f : V → List (List ℕ)) (year first : ℕ) (vs : List V) → All (λ v. f v ≡ []) vs
+rowless_from : {V : Type 0} (f : V → List (List ℕ)) (year : Terms) (first : ℕ) (vs : List V) → All (λ v. f v ≡ []) vs
     → (answers : List (List Answer)) × AllZip (λ rows read. Reads rows year read) (map f vs) answers × ([] ≡ lanes_from first answers)
 rowless_from f year first [] none = ([], tt, refl)
 rowless_from {V} f year first (v ∷ vs) none =
@@ -115,7 +116,7 @@ rowless_from {V} f year first (v ∷ vs) none =
     ([] ∷ rest.0, (rw here tt, rest.1), rest.2)
 
 -- the report of no rows
-pub rowless : {V : Type 0} (f : V → List (List ℕ)) (year : ℕ) (vs : List V) (text : List ℕ) → All (λ v. f v ≡ []) vs → text ≡ [] → IsReport year (map f vs) text
+pub rowless : {V : Type 0} (f : V → List (List ℕ)) (year : Terms) (vs : List V) (text : List ℕ) → All (λ v. f v ≡ []) vs → text ≡ [] → IsReport year (map f vs) text
 rowless f year vs text none is = let all = rowless_from f year 0 vs none in (all.0, all.1, is ∙ all.2)
 
 -- texts joined, and one more

@@ -26,6 +26,7 @@ use Rattle.command_core.proofs.answers.ReportFacts.{lanes_joined, rowless}
 use Rattle.record_core.proofs.ReadFacts.{read_few}
 use Rattle.command_core.proofs.answers.FeedCounts.{feed_short}
 use Rattle.command_core.proofs.answers.FeedFacts.{feeds_more}
+use Rattle.element_core.specs.Terms.{Terms}
 use Rattle.record_core.proofs.Beside.{zip_more}
 
 -- of no records no lane has a row
@@ -41,7 +42,7 @@ none [] = let P : ℕ → Type 0 = λ lane. feed_of lane [] ≡ [] in All-nil P
 none (k ∷ ks) = let P : ℕ → Type 0 = λ lane. feed_of lane [] ≡ [] in All-cons P k ks refl (none ks)
 
 -- and the report is empty
-pub no_report : (year lanes : ℕ) (text : List ℕ) → text ≡ [] → IsReport year (feeds_of lanes []) text
+pub no_report : (year : Terms) (lanes : ℕ) (text : List ℕ) → text ≡ [] → IsReport year (feeds_of lanes []) text
 no_report year lanes text is =
     rowless (λ lane. feed_of lane []) year (range_with_len 0 lanes) text (none (range_with_len 0 lanes)) is
 
@@ -145,7 +146,7 @@ all_read course.Plain bytes r rest rows is stands = cc is
 all_read course.Refused bytes r rest rows is stands = cc is
 
 -- once all were read and brought, the texts are the report
-pub reported : (year : ℕ) (start s : Reading) (given : List (List (List ℕ))) (brought : List (List Plain)) → AnswersAreRead → HasGiven start s given brought
+pub reported : (year : Terms) (start s : Reading) (given : List (List (List ℕ))) (brought : List (List Plain)) → AnswersAreRead → HasGiven start s given brought
     → is_ended s.course ≡ true → brought ≡ served year given
     → (items : List LaneRow) × AreItems (lanes_meaning start.lanes) (records_of start.bytes.now) items
     × IsReport year (feeds_of start.lanes items) (concat (map string_bytes s.texts.items))

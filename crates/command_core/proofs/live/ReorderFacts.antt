@@ -24,6 +24,7 @@ use Rattle.element_core.specs.declared.form.Form.TheVariants as form
 use Rattle.command_core.specs.declared.live.record.LineFault.TheVariants as line_fault
 use Rattle.command_core.proofs.live.CsvFacts.{lines_are_records}
 use Rattle.command_core.proofs.live.MessageFacts.{row_line}
+use Rattle.element_core.specs.Terms.{Terms}
 use Rattle.command_core.proofs.live.ReplyFacts.{later_other, later_same}
 
 -- ---- what the lines mean
@@ -107,7 +108,7 @@ abbrev Fits : ℕ → Numbers → List LaneRow → Type 0
 Fits lanes next rows = (l : ℕ) → l < lanes → next l + length (feed_of l rows) ≤ most_rows
 
 -- the lines of rows from these numbers on, and the answers in them
-record AreOrdered (year : ℕ) (next : Numbers) (rows : List LaneRow) (texts : List (List ℕ)) : Type 0 where
+record AreOrdered (year : Terms) (next : Numbers) (rows : List LaneRow) (texts : List (List ℕ)) : Type 0 where
   lines : List LaneLine
   answers : List (ℕ × Answer)
   whole : texts ≡ map (λ line. line.1) lines
@@ -127,7 +128,7 @@ fits_rest lanes next row rows low fits = (
 )
 
 -- the answer of a row before those of the rows after it
-reads_first : (year : ℕ) (row : LaneRow) (rows : List LaneRow) (a : Answer) (answers : List (ℕ × Answer)) → IsAnswer row.1 year a
+reads_first : (year : Terms) (row : LaneRow) (rows : List LaneRow) (a : Answer) (answers : List (ℕ × Answer)) → IsAnswer row.1 year a
     → (l : ℕ) → Reads (feed_of l rows) year (of_lane l answers) → Reads (feed_of l (row ∷ rows)) year (of_lane l ((row.0, a) ∷ answers))
 reads_first year row rows a answers is l reads = ⊎_elim
     (λ (e : l ≡ row.0). subst (λ read. Reads (feed_of l (row ∷ rows)) year read) (sym (of_lane_first l (row.0, a) answers e))
@@ -150,7 +151,7 @@ numbered_first next lane text a lines answers is l later = ⊎_elim
     ∙ ap (lines_from l (next l)) (sym (of_lane_later l (lane, a) answers e)))
     (cases_eq l lane)
 
-module _ (lanes year : ℕ) where
+module _ (lanes : ℕ) (year : Terms) where
   -- what is written for rows
   ordered : (rows : List LaneRow) (next : Numbers) (texts : List (List ℕ)) → All (λ row. row.0 < lanes) rows → Fits lanes next rows
       → AllZip (IsReply year form.HumanReadable) (replies_from next (meants rows)) texts → AreOrdered year next rows texts

@@ -6,6 +6,7 @@ use Rattle.scan_core.specs.Answers.{Reads}
 use Rattle.scan_core.specs.Lines.{said}
 use Rattle.scan_core.specs.declared.answer.Answer.{Answer}
 use Rattle.element_core.specs.declared.form.Form.{Form}
+use Rattle.element_core.specs.Terms.{Terms}
 use Rattle.element_core.specs.declared.form.Form.TheVariants as form
 
 -- the line of an answer: the lane, the number of the row in its lane, the answer and a line feed
@@ -31,6 +32,6 @@ abbrev pub report : List (List Answer) → List ℕ
 report = lanes_from 0
 
 -- the text is the report of the answers to these rows under the reference year
-abbrev pub IsReport : ℕ → List (List (List ℕ)) → List ℕ → Type 0
+abbrev pub IsReport : Terms → List (List (List ℕ)) → List ℕ → Type 0
 IsReport year feeds text =
     (answers : List (List Answer)) × AllZip (λ rows read. Reads rows year read) feeds answers × (text ≡ report answers)

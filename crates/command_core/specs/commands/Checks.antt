@@ -1,10 +1,11 @@
 -- The command `check`.
 use Rattle.std.specs.Prelude.{◌≡◌, ℕ}
 use Rattle.record_core.specs.check.Checks.{check_meaning, check_report}
+use Rattle.element_core.specs.Terms.{Terms}
 use Rattle.command_core.specs.Runs.{Command, RefusesRecords, WritesOnce, WritesRecords}
 
 -- a line for each record, under the reference year
-abbrev pub check_command : ℕ → Command
+abbrev pub check_command : Terms → Command
 check_command year = record {
   writes = WritesRecords (check_meaning year) (λ answers text. text ≡ check_report answers);
   refuses =
@@ -13,4 +14,4 @@ check_command year = record {
 
 -- of the same bytes it writes one text at most
 abbrev pub OneCheck : Type 0
-OneCheck = (year : ℕ) → WritesOnce (check_command year)
+OneCheck = (year : Terms) → WritesOnce (check_command year)

@@ -10,6 +10,7 @@ use Rattle.record_core.specs.input.Records.{AreItems, records_of}
 use Rattle.record_core.specs.lanes.Feeds.{LaneRow, feeds_of, lanes_meaning}
 use Rattle.command_core.specs.live.Replies.{most_rows}
 use Rattle.command_core.specs.live.Text.{Answers, fields_in, without_return}
+use Rattle.element_core.specs.Terms.{Terms}
 use Rattle.element_core.specs.declared.form.Form.TheVariants as form
 
 -- ---- the lines of a plain text
@@ -44,7 +45,7 @@ abbrev pub LaneLine : Type 0
 LaneLine = ℕ × List ℕ
 
 -- the line of an answer of the row, in its lane and under some number
-abbrev pub IsLaneRowLine : ℕ → LaneRow → LaneLine → Type 0
+abbrev pub IsLaneRowLine : Terms → LaneRow → LaneLine → Type 0
 IsLaneRowLine year row line = (line.0 ≡ row.0) × (number : ℕ) × (a : Answer) × IsAnswer row.1 year a × (line.1 ≡ line_of row.0 number a)
 
 -- the lines of each lane, lane by lane
@@ -52,7 +53,7 @@ abbrev pub lane_by_lane : ℕ → List LaneLine → List ℕ
 lane_by_lane lanes lines = concat (map concat (feeds_of lanes lines))
 
 -- the text has a line for each row, in the order of the rows, and lane by lane these lines are the report that `lanes` writes of the rows
-pub record IsReordered (lanes year : ℕ) (rows : List LaneRow) (text : List ℕ) : Type 0 where
+pub record IsReordered (lanes : ℕ) (year : Terms) (rows : List LaneRow) (text : List ℕ) : Type 0 where
   pub lines : List LaneLine
   pub whole : text ≡ concat (map (λ line. line.1) lines)
   pub each : AllZip (IsLaneRowLine year) rows lines
@@ -61,7 +62,7 @@ pub record IsReordered (lanes year : ℕ) (rows : List LaneRow) (text : List ℕ
 -- Where each record of a plain text means a row, no line is too long and no lane has more rows than numbers, the answers of `live` to its lines
 -- are those of `lanes` in the order of the records.
 abbrev pub LinesAreReport : Type 0
-LinesAreReport = (lanes year : ℕ) (bytes text : List ℕ) (rows : List LaneRow)
+LinesAreReport = (lanes : ℕ) (year : Terms) (bytes text : List ℕ) (rows : List LaneRow)
     → IsPlain bytes → All (λ line. length line ≤ most_line) (record_lines bytes)
     → AreItems (lanes_meaning lanes) (records_of bytes) rows → All (λ feed. length feed ≤ most_rows) (feeds_of lanes rows)
     → Answers lanes form.HumanReadable year (pieces_of bytes) text → IsReordered lanes year rows text

@@ -23,6 +23,7 @@ use Rattle.record_core.specs.declared.input.fault.RecordFault.{RecordFault}
 use Rattle.record_core.specs.declared.input.fault.RecordFault.TheVariants as fault
 use Rattle.command_core.specs.declared.live.record.LineFault.{LineFault}
 use Rattle.command_core.specs.declared.live.record.LineFault.TheVariants as line_fault
+use Rattle.element_core.specs.Terms.{Terms}
 use Rattle.element_core.specs.declared.form.Form.{Form}
 
 -- ---- lines
@@ -80,25 +81,25 @@ line_meant lanes line = text_meant lanes (without_return line)
 -- ---- the text
 
 -- what is told in the place of a row
-abbrev pub IsTold : ℕ → Form → Told → List ℕ → Type 0
+abbrev pub IsTold : Terms → Form → Told → List ℕ → Type 0
 IsTold year f (Refusal line) text = text ≡ line
 IsTold year f (Message lane said) text = (words : List ℕ) × IsMessageLine f year said words × (text ≡ unnumbered_line (Some lane) words)
 
 -- a row has the line of its answer
-abbrev pub IsReply : ℕ → Form → Reply → List ℕ → Type 0
+abbrev pub IsReply : Terms → Form → Reply → List ℕ → Type 0
 IsReply year f (Row lane number widths) text = (a : Answer) × IsAnswer widths year a × (text ≡ numbered_line f lane number a)
 IsReply year f (Line told) text = IsTold year f told text
 
 -- the text answers these lines
-abbrev pub Answers : ℕ → Form → ℕ → List (List ℕ) → List ℕ → Type 0
+abbrev pub Answers : ℕ → Form → Terms → List (List ℕ) → List ℕ → Type 0
 Answers lanes f year lines text = AnswersBy (IsReply year f) (replies_to (line_meant lanes) lines) text
 
 -- at each read the lines of all records that had ended were written, and nothing else
-abbrev pub IsPrompt : ℕ → Form → ℕ → List Event → Type 0
+abbrev pub IsPrompt : ℕ → Form → Terms → List Event → Type 0
 IsPrompt lanes f year events = IsPromptBy (IsReply year f) (replies_to (line_meant lanes)) events
 
 -- at each moment what was written is the first of the lines of what was read
-abbrev pub IsFront : ℕ → Form → ℕ → List Event → Type 0
+abbrev pub IsFront : ℕ → Form → Terms → List Event → Type 0
 IsFront lanes f year events = IsFrontBy (IsReply year f) (replies_to (line_meant lanes)) events
 
 -- the last read gave nothing: the input has ended
@@ -106,9 +107,9 @@ abbrev pub HasEnded : List Event → Type 0
 HasEnded events = (before : List Event) × (after : List Event) × (events ≡ before ++ Read [] ∷ after) × (was_read after ≡ [])
 
 -- all that was read was answered, and the input has ended
-abbrev pub AnsweredAll : ℕ → Form → ℕ → List Event → Type 0
+abbrev pub AnsweredAll : ℕ → Form → Terms → List Event → Type 0
 AnsweredAll lanes f year events = Answers lanes f year (pieces_of (was_read events)) (was_written events) × HasEnded events
 
 -- all lines that had ended were answered
-abbrev pub AnsweredWhole : ℕ → Form → ℕ → List Event → Type 0
+abbrev pub AnsweredWhole : ℕ → Form → Terms → List Event → Type 0
 AnsweredWhole lanes f year events = Answers lanes f year (whole_lines (was_read events)) (was_written events)

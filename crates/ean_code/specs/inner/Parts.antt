@@ -5,8 +5,14 @@ use Rattle.digits_core.specs.Digits.{AreAsciiDigits, AreDigits, digits_of}
 use Rattle.ean_code.specs.declared.number_sets.Character.{Character}
 use Rattle.ean_code.specs.inner.NumberSets.{AreCharacters}
 use Rattle.ean_code.specs.NumberSets.{left_widths, right_part}
-use Rattle.ean_code.specs.Symbols.{Kind, IsNumberSymbol, normal_guard, special_guard, two_halves}
+use Rattle.ean_code.specs.declared.kind.Kind.{Kind}
+use Rattle.ean_code.specs.Symbols.{IsNumberSymbol}
+use Rattle.ean_code.specs.Guards.{normal_guard, special_guard, centre_guard}
 use Rattle.ean_code.specs.TwoOfFive.{itf_start, itf_stop}
+
+-- the widths of a symbol that has these left and right of its centre guard pattern
+abbrev pub two_halves : List ℕ → List ℕ → List ℕ
+two_halves left right = normal_guard ++ ((left ++ (centre_guard ++ right)) ++ normal_guard)
 
 -- so many widths left of a centre guard pattern, and as many right of it, are these
 pub record AreFramed (half : ℕ) (widths left right : List ℕ) : Type 0 where

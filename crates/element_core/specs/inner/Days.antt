@@ -13,6 +13,10 @@ AreSixDigits text = (k : ℕ) → k < 6 → IsInRange 48 57 (slice_index text k)
 abbrev pub day_named : List ℕ → ℕ → Option (ℕ × ℕ × ℕ)
 day_named six reference = day_in (full_year reference (two six 0)) (two six 2) (two six 4)
 
+-- whether a text is eight ASCII digits
+abbrev pub is_eight_digits : List ℕ → Bool
+is_eight_digits text = (length text == 8) && list_all is_ascii_digit text
+
 -- whether a text is six ASCII digits
 abbrev pub is_six_digits : List ℕ → Bool
 is_six_digits text = (length text == 6) && list_all is_ascii_digit text

@@ -1,15 +1,15 @@
 -- Families of AIs as the code keeps them.
-use Rattle.std.specs.Prelude.{ℕ, Bool, true, false, ◌&&◌, List, [], ◌∷◌, length, take, nat_le, Option, Some, None, if◌then◌else◌}
+use Rattle.std.specs.Prelude.{ℕ, Bool, true, false, ◌&&◌, List, [], ◌∷◌, length, take, nat_le, nat_lt, Option, Some, None, if◌then◌else◌}
 use Rattle.element_core.specs.declared.family.AiFamily.{AiFamily}
-use Rattle.element_core.specs.Table.{Family, Row}
+use Rattle.element_core.specs.Table.{Family, Row, first_families, last_families}
 
 -- the row of an AI of the family
 abbrev pub row_in : Family → List ℕ → Row
-row_in f ai = record { ai = ai; parts = f.parts; predefined = f.predefined }
+row_in f ai = record { ai = ai; parts = f.parts; predefined = f.predefined; profile = f.profile }
 
 -- the family as the table has it
 abbrev pub family_of : AiFamily → Family
-family_of f = record { least = f.least.now; greatest = f.greatest.now; parts = f.parts.now; predefined = f.predefined }
+family_of f = record { least = f.least.now; greatest = f.greatest.now; parts = f.parts.now; predefined = f.predefined; profile = f.profile }
 
 -- whether the text begins with an AI each of whose digits lies between those of the two
 abbrev pub is_in_family : List ℕ → List ℕ → List ℕ → Bool
@@ -30,3 +30,7 @@ row_by text (f ∷ fs) = if is_in_family f.least.now f.greatest.now text then So
 -- whether an AI of the family begins with these two digits
 abbrev pub has_first_two : ℕ → ℕ → Family → Bool
 has_first_two first second f = is_in_family (take 2 f.least) (take 2 f.greatest) (first ∷ second ∷ [])
+
+-- the families among which those of this first byte are
+abbrev pub families_from : ℕ → List Family
+families_from first = if nat_lt first 53 then first_families else last_families

@@ -4,12 +4,13 @@ use Rattle.element_core.specs.declared.fault.ElementFault.{ElementFault}
 use Rattle.element_core.specs.declared.fault.ElementFault.TheVariants.{ValueCharacter, ValueCheckDigit, ValueDate}
 use Rattle.element_core.specs.declared.part.Part.{Part}
 use Rattle.element_core.specs.declared.value.PartTest.{PartTest}
-use Rattle.element_core.specs.declared.value.PartTest.TheVariants.{EvenLength, Characters, CheckDigit, Dates}
-use Rattle.element_core.specs.Elements.{each_part, has_characters, has_check_digit, has_even_length, is_named}
+use Rattle.element_core.specs.declared.value.PartTest.TheVariants.{WholeSteps, Characters, CheckDigit, Dates}
+use Rattle.element_core.specs.Elements.{each_part, has_characters, has_check_digit, has_whole_steps}
+use Rattle.element_core.specs.Times.{is_named}
 
--- whether there is such a day and such a time, where the part names them
+-- whether there are such days and such a time, where the part names them
 abbrev pub has_date : ℕ → Part → List ℕ → Bool
-has_date year part bytes = is_named year part.format bytes
+has_date year part bytes = is_named year part.rule bytes
 
 -- the first test that a value of a right length fails
 abbrev pub value_fault : ℕ → ℕ → List Part → List ℕ → Option ElementFault
@@ -21,7 +22,7 @@ value_fault year place parts value =
 
 -- whether the bytes of a part pass a test
 abbrev pub passes : PartTest → Part → List ℕ → Bool
-passes EvenLength part bytes = has_even_length part bytes
+passes WholeSteps part bytes = has_whole_steps part bytes
 passes Characters part bytes = has_characters part bytes
 passes CheckDigit part bytes = has_check_digit part bytes
 passes (Dates year) part bytes = has_date year part bytes

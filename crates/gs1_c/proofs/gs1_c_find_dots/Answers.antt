@@ -1,6 +1,7 @@
-use Rattle.std.proofs.Common.{inr, length, refl, subst}
+use Rattle.std.proofs.Common.{length}
 use Rattle.gs1_c.specs.Found.{ArePackedSymbolsPut}
 use Rattle.gs1_c.specs.Lines.{packed_fault}
+use Rattle.gs1_c.proofs.LineFacts.{under}
 use Rattle.gs1_c.proofs.gs1_c_find_dots.Goals as goal
 
 pub returns : goal.returns
@@ -9,5 +10,4 @@ returns c =
     let count = c.args.count in
     let fault = packed_fault (length bits) count in
     let put = c.put_dot_symbols in
-    let year = c.in-Some.ensures in
-    inr (year.some.0 refl, subst (λ y. ArePackedSymbolsPut y bits count fault c.args.out.now put.new.out put.result) year.value put.ensures)
+    under _ c.in-Some.terms _ (λ t. ArePackedSymbolsPut t bits count fault c.args.out.now put.new.out put.result) c.in-Some.ensures put.ensures

@@ -6,6 +6,7 @@ use Rattle.element_core.specs.Lines.{line_text}
 use Rattle.element_core.specs.declared.line.Line.{Line}
 use Rattle.record_core.specs.check.Checks.{IsLineAs, check_kind_named, check_meaning, check_report}
 use Rattle.record_core.specs.input.Records.{Fields}
+use Rattle.element_core.specs.Terms.{Terms}
 use Rattle.record_core.specs.declared.check.answer.CheckKind.{CheckKind}
 
 abbrev ended : Line → List ℕ
@@ -18,7 +19,7 @@ lines_more (b ∷ answers) a =
     ap (λ t. ended b ++ t) (lines_more answers a) ∙ sym (append_assoc (ended b) (flat_map ended answers) (ended a))
 
 -- a line by the kind is what the record means
-pub line_by_kind : (year : ℕ) (fields : Fields) (name text : List ℕ) (kind : CheckKind) (a : Line) → fields ≡ name ∷ text ∷ [] → Some kind
+pub line_by_kind : (year : Terms) (fields : Fields) (name text : List ℕ) (kind : CheckKind) (a : Line) → fields ≡ name ∷ text ∷ [] → Some kind
     ≡ check_kind_named name
     → IsLineAs year kind text (line_text a) → check_meaning year fields (Ok a)
 line_by_kind year fields name text kind a are is answers = rw (are, ← is) answers

@@ -10,6 +10,7 @@ use Rattle.record_core.specs.input.Records.{Meaning}
 use Rattle.record_core.specs.declared.check.answer.CheckKind.{CheckKind}
 use Rattle.record_core.specs.declared.check.answer.CheckKind.TheVariants as kind
 use Rattle.record_core.specs.declared.input.fault.RecordFault.{RecordFault}
+use Rattle.element_core.specs.Terms.{Terms}
 use Rattle.record_core.specs.declared.input.fault.RecordFault.TheVariants as fault
 
 -- the kind of this name
@@ -24,20 +25,20 @@ check_kind_named name =
 -- ---- lines
 
 -- the line of a text, as one of this kind
-abbrev pub IsLineAs : ℕ → CheckKind → List ℕ → List ℕ → Type 0
+abbrev pub IsLineAs : Terms → CheckKind → List ℕ → List ℕ → Type 0
 IsLineAs year kind.Digit text line = IsDigitLine text line
 IsLineAs year kind.Gtin text line = line ≡ gtin_line text
 IsLineAs year kind.Upce text line = IsUpceLine line_of_gtin text line
 IsLineAs year kind.Text text line = IsElementsLine (codes "hri") hri year (spelled text) line
 
 -- the same by the name of the kind
-abbrev pub IsLineBy : ℕ → Option CheckKind → List ℕ → Result Line RecordFault → Type 0
+abbrev pub IsLineBy : Terms → Option CheckKind → List ℕ → Result Line RecordFault → Type 0
 IsLineBy year (Some kind) text (Ok l) = IsLineAs year kind text (line_text l)
 IsLineBy year (Some kind) text (Err f) = ⊥
 IsLineBy year None text r = r ≡ Err fault.Kind
 
 -- what a record means: the line of its text, or its fault: the number of its fields, then its kind
-abbrev pub check_meaning : ℕ → Meaning Line
+abbrev pub check_meaning : Terms → Meaning Line
 check_meaning year (name ∷ text ∷ []) r = IsLineBy year (check_kind_named name) text r
 check_meaning year _ r = r ≡ Err fault.Csv
 

@@ -16,6 +16,7 @@ use Rattle.sheet_core.specs.declared.label.Label.TheVariants as label
 use Rattle.message_core.specs.Spellings.{spelled}
 use Rattle.record_core.specs.input.Records.{Meaning}
 use Rattle.record_core.specs.declared.input.fault.RecordFault.{RecordFault}
+use Rattle.element_core.specs.Terms.{Terms}
 use Rattle.record_core.specs.declared.input.fault.RecordFault.TheVariants as fault
 
 -- a fault of digits, as the record's
@@ -31,22 +32,22 @@ IsGtinLabel kind text (Ok l) = (gtin_fault text ≡ None) × (l ≡ gtin_label k
 IsGtinLabel kind text (Err f) = of_digits (gtin_fault text) ≡ Some f
 
 -- the label of the elements that a text says (section 7.8), or their first fault
-abbrev pub IsElementLabel : ℕ → List ℕ → Result Label RecordFault → Type 0
+abbrev pub IsElementLabel : Terms → List ℕ → Result Label RecordFault → Type 0
 IsElementLabel year text (Ok l) = (es : Listing) × (l ≡ label.Gs1128 es) × (es.year ≡ year) × IsElements year text es.list
 IsElementLabel year text (Err f) = (e : ElementFault) × (f ≡ fault.Elements e) × FirstFault year text e
 
 -- the label of a field, as one of this kind, or its fault
-abbrev pub IsLabelAs : ℕ → LabelKind → List ℕ → Result Label RecordFault → Type 0
+abbrev pub IsLabelAs : Terms → LabelKind → List ℕ → Result Label RecordFault → Type 0
 IsLabelAs year (kind.Gtin k) field r = IsGtinLabel k field r
 IsLabelAs year kind.Gs1128 field r = IsElementLabel year (spelled field) r
 
 -- the same by the name of the kind
-abbrev pub IsLabelBy : ℕ → Option LabelKind → List ℕ → Result Label RecordFault → Type 0
+abbrev pub IsLabelBy : Terms → Option LabelKind → List ℕ → Result Label RecordFault → Type 0
 IsLabelBy year (Some kind) field r = IsLabelAs year kind field r
 IsLabelBy year None field r = r ≡ Err fault.Kind
 
 -- what a record means: a label, or its fault: the number of its fields, then its kind, then its second field
-abbrev pub print_meaning : ℕ → Meaning Label
+abbrev pub print_meaning : Terms → Meaning Label
 print_meaning year (name ∷ field ∷ []) r = IsLabelBy year (kind_named name) field r
 print_meaning year _ r = r ≡ Err fault.Csv
 

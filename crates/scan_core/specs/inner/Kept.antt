@@ -10,5 +10,5 @@ IsFoundIf widths None = ⊤
 IsFoundIf widths (Some found) = IsFound widths found
 
 -- the widths are a row, and what is kept beside them was found in it
-abbrev pub IsKept : List ℕ → Option Found → Type 0
-IsKept widths found = IsRow widths × IsFoundIf widths found
+abbrev pub IsRowWith : List ℕ → Option Found → Type 0
+IsRowWith widths found = IsRow widths × IsFoundIf widths found

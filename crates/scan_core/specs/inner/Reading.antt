@@ -1,6 +1,7 @@
 -- What types, private contracts and proofs name beside `Reading`.
 use Rattle.std.specs.Prelude.{◌≡◌, ℕ, List, ◌++◌, Result, Ok, Err, codes, nat_lt, if◌then◌else◌}
 use Rattle.digits_core.specs.Digits.{ascii_of}
+use Rattle.element_core.specs.Terms.{Terms}
 use Rattle.element_core.specs.Elements.{IsElements, FirstFault, Listing}
 use Rattle.element_core.specs.declared.fault.ElementFault.{ElementFault}
 use Rattle.code128_code.specs.Texts.{symbol_text}
@@ -32,7 +33,7 @@ symbol_content BadCheckDigit = Err SymbolCheckDigit
 symbol_content (Characters values) = text_in values
 
 -- under this reference year these are the elements of what is spelled, or this is the fault
-abbrev pub IsReadAs : ℕ → Result (List ℕ) RowFault → Result Listing RowFault → Type 0
+abbrev pub IsReadAs : Terms → Result (List ℕ) RowFault → Result Listing RowFault → Type 0
 IsReadAs year (Ok text) (Ok listing) = (listing.year ≡ year) × IsElements year text listing.list
 IsReadAs year (Ok text) (Err fault) = (first : ElementFault) × FirstFault year text first × (fault ≡ Elements first)
 IsReadAs year (Err fault) read = read ≡ Err fault

@@ -4,6 +4,7 @@ use Rattle.scan_core.specs.declared.window.Window.{Window}
 use Rattle.scan_core.specs.declared.symbols.Place.{Place}
 use Rattle.scan_core.specs.declared.symbols.Symbols.TheInside.{Inside}
 use Rattle.scan_core.specs.Row.{IsRow}
+use Rattle.element_core.specs.Terms.{Terms}
 use Rattle.scan_core.specs.Windows.{IsLeft, IsSymbolOf, Search}
 
 -- the widths are a row, and the search goes on at a light run
@@ -16,7 +17,7 @@ abbrev pub HasRun : List ℕ → ℕ → ℕ → ℕ → Type 0
 HasRun runs first count width = (i : ℕ) × (first < i) × (i + 1 < first + count) × (width ≤ slice_index runs i)
 
 -- of the windows that begin with this run and have so many runs at least, none with fewer than so many is read
-abbrev pub AreNoneShorter : List ℕ → ℕ → ℕ → ℕ → ℕ → Type 0
+abbrev pub AreNoneShorter : List ℕ → Terms → ℕ → ℕ → ℕ → Type 0
 AreNoneShorter runs year first least count = (v : Window) → IsSymbolOf runs year v → v.first ≡ first → least ≤ v.count → v.count < count → ⊥
 
 -- a light end and the two runs next to it, where it is five modules at least, the dark run two at most and the light one a single one, each to

@@ -1,13 +1,13 @@
 -- The words of the command `live`.
 use Rattle.std.specs.Prelude.{◌++◌, ◌∷◌, [], List, codes}
 use Rattle.clap.specs.Words.{App, Row, new_app}
-use Rattle.words_core.specs.Arguments.{HasFlag, asks_elements, flag_rule, lane_row_rules, with_rules}
+use Rattle.words_core.specs.Arguments.{Choices, HasFlag, asks_elements, flag_rule, lane_row_rules, with_rules}
 use Rattle.words_core.specs.commands.Lanes.{HasLanes}
 use Rattle.words_core.specs.declared.commands.live.options.LiveOptions.{LiveOptions}
 
--- `live --lanes N --workers K --year Y [--elements]`
-abbrev pub live_app : App
-live_app = with_rules (new_app (codes "live")) (lane_row_rules ++ flag_rule (codes "elements") ∷ [])
+-- `live --lanes N --workers K --year Y [--ais A] [--elements]`
+abbrev pub live_app : Choices → App
+live_app choices = with_rules (new_app (codes "live")) (lane_row_rules choices ++ flag_rule (codes "elements") ∷ [])
 
 -- its options among the matches: those of `lanes`, and whether the flag is set
 abbrev pub HasLive : List Row → LiveOptions → Type 0

@@ -1,14 +1,14 @@
 -- The words of the command `print`.
 use Rattle.std.specs.Prelude.{◌++◌, ◌∷◌, [], Bool, true, false, List, codes}
 use Rattle.clap.specs.Words.{App, Row, new_app}
-use Rattle.words_core.specs.Arguments.{HasFlag, HasGrid, HasYear, flag_rule, grid_rules, with_rules, year_rule}
+use Rattle.words_core.specs.Arguments.{Choices, HasFlag, HasGrid, HasTerms, flag_rule, grid_rules, terms_rules, with_rules}
 use Rattle.words_core.specs.declared.commands.print.options.Output.{Output}
 use Rattle.words_core.specs.declared.commands.print.options.Output.TheVariants as output
 use Rattle.words_core.specs.declared.commands.print.options.PrintOptions.{PrintOptions}
 
--- `print --module M --width W --height H --columns C --rows R --year Y [--text]`
-abbrev pub print_app : App
-print_app = with_rules (new_app (codes "print")) (grid_rules ++ year_rule ∷ flag_rule (codes "text") ∷ [])
+-- `print --module M --width W --height H --columns C --rows R --year Y [--ais A] [--text]`
+abbrev pub print_app : Choices → App
+print_app choices = with_rules (new_app (codes "print")) (grid_rules ++ terms_rules choices ++ flag_rule (codes "text") ∷ [])
 
 -- lines are asked for by a flag, else it is images
 abbrev pub asks_lines : Output → Bool
@@ -20,4 +20,4 @@ HasOutput rows o = HasFlag (codes "text") rows (asks_lines o)
 
 -- its options among the matches, each in its range
 abbrev pub HasPrint : List Row → PrintOptions → Type 0
-HasPrint rows o = HasGrid rows o.grid × HasYear rows o.year × HasOutput rows o.output
+HasPrint rows o = HasGrid rows o.grid × HasTerms rows o.year × HasOutput rows o.output

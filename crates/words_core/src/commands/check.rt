@@ -4,7 +4,7 @@ ghost use Rattle.clap.specs.Words.{app_of};
 ghost use Rattle.clap.specs.declared.builder.command.Command.TheViews.{out-Command};
 ghost use Rattle.words_core.specs.commands.Checks.{check_app};
 
-use crate::arguments::{command, year};
+use crate::arguments::{ais, command, year};
 use clap::Command;
 use std::alloc::{AllocError, Global};
 
@@ -28,10 +28,11 @@ Example:
   $ echo gtin,9501101530003 | gs1_hub check --year 2026
   gtin 09501101530003";
 
-/// The words of the command `check`, as `clap` reads them.
-pub fn check_words<'a>(alloc: Global) -> Result<Command<'a>, AllocError>
-    ensures app { IfOk result (λ c. app_of c ≡ check_app) }
+/// The words of the command `check`, as `clap` reads them, where `--ais` takes these choices.
+pub fn check_words<'a>(alloc: Global, choices: &'a [&'a str]) -> Result<Command<'a>, AllocError>
+    ensures app { IfOk result (λ c. app_of c ≡ check_app choices.entry) }
     ensures own { IfOk result (λ c. (out-Command c).has_globals ≡ false) }
 {
-    command(alloc, "check", ABOUT, EXAMPLE).arg(year(alloc))
+    let options = vec![in alloc; year(alloc), ais(alloc, choices)]?;
+    command(alloc, "check", ABOUT, EXAMPLE).args(options)
 }

@@ -7,7 +7,7 @@ ghost use Rattle.words_core.specs.declared.commands.lanes.options.LaneOptions.{L
 
 pub mod options;
 
-use crate::arguments::{byte_named, command, lane_count, number_named, workers, year};
+use crate::arguments::{ais, byte_named, command, lane_count, terms_named, workers, year};
 use crate::commands::lanes::options::LaneOptions;
 use clap::{ArgMatches, Command};
 use std::alloc::{AllocError, Global};
@@ -32,18 +32,23 @@ pub fn options_named(matches: &ArgMatches<'_>) -> Option<LaneOptions>
     ensures none { IfNone result ((o : LaneOptions)
         → HasLanes (rows_of (found_of matches.now)) o → ⊥) }
 {
-    LaneOptions::new(
+    LaneOptions::by(
         byte_named(matches, "lanes")?,
         byte_named(matches, "workers")?,
-        number_named(matches, "year")?,
+        terms_named(matches)?,
     )
 }
 
-/// The words of the command `lanes`, as `clap` reads them.
-pub fn lanes_words<'a>(alloc: Global) -> Result<Command<'a>, AllocError>
-    ensures app { IfOk result (λ c. app_of c ≡ lanes_app) }
+/// The words of the command `lanes`, as `clap` reads them, where `--ais` takes these choices.
+pub fn lanes_words<'a>(alloc: Global, choices: &'a [&'a str]) -> Result<Command<'a>, AllocError>
+    ensures app { IfOk result (λ c. app_of c ≡ lanes_app choices.entry) }
     ensures own { IfOk result (λ c. (out-Command c).has_globals ≡ false) }
 {
-    let options = vec![in alloc; lane_count(alloc), workers(alloc), year(alloc)]?;
+    let options = vec![in alloc;
+        lane_count(alloc),
+        workers(alloc),
+        year(alloc),
+        ais(alloc, choices),
+    ]?;
     command(alloc, "lanes", ABOUT, EXAMPLE).args(options)
 }

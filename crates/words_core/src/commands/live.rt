@@ -7,7 +7,7 @@ ghost use Rattle.words_core.specs.declared.commands.live.options.LiveOptions.{Li
 
 pub mod options;
 
-use crate::arguments::{command, flag, flag_named, lane_count, workers, year};
+use crate::arguments::{ais, command, flag, flag_named, lane_count, workers, year};
 use crate::commands::lanes;
 use crate::commands::live::options::LiveOptions;
 use clap::{ArgMatches, Command};
@@ -47,15 +47,16 @@ pub fn options_named(matches: &ArgMatches<'_>) -> Option<LiveOptions>
     Some(LiveOptions::new(rows, flag_named(matches, "elements")?))
 }
 
-/// The words of the command `live`, as `clap` reads them.
-pub fn live_words<'a>(alloc: Global) -> Result<Command<'a>, AllocError>
-    ensures app { IfOk result (λ c. app_of c ≡ live_app) }
+/// The words of the command `live`, as `clap` reads them, where `--ais` takes these choices.
+pub fn live_words<'a>(alloc: Global, choices: &'a [&'a str]) -> Result<Command<'a>, AllocError>
+    ensures app { IfOk result (λ c. app_of c ≡ live_app choices.entry) }
     ensures own { IfOk result (λ c. (out-Command c).has_globals ≡ false) }
 {
     let options = vec![in alloc;
         lane_count(alloc),
         workers(alloc),
         year(alloc),
+        ais(alloc, choices),
         flag(alloc, "elements", ELEMENTS),
     ]?;
     command(alloc, "live", ABOUT, EXAMPLE).args(options)

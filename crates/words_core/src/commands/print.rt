@@ -8,7 +8,7 @@ ghost use Rattle.words_core.specs.declared.commands.print.options.PrintOptions.{
 pub mod options;
 
 use crate::arguments::{
-    columns, command, flag, flag_named, grid_named, height, module_width, number_named, rows,
+    ais, columns, command, flag, flag_named, grid_named, height, module_width, rows, terms_named,
     width, year,
 };
 use crate::commands::print::options::PrintOptions;
@@ -40,9 +40,9 @@ Example:
 /// The flag `--text`.
 const TEXT: &str = "Print a line for each label in place of images";
 
-/// The words of the command `print`, as `clap` reads them.
-pub fn print_words<'a>(alloc: Global) -> Result<Command<'a>, AllocError>
-    ensures app { IfOk result (λ c. app_of c ≡ print_app) }
+/// The words of the command `print`, as `clap` reads them, where `--ais` takes these choices.
+pub fn print_words<'a>(alloc: Global, choices: &'a [&'a str]) -> Result<Command<'a>, AllocError>
+    ensures app { IfOk result (λ c. app_of c ≡ print_app choices.entry) }
     ensures own { IfOk result (λ c. (out-Command c).has_globals ≡ false) }
 {
     let options = vec![in alloc;
@@ -52,6 +52,7 @@ pub fn print_words<'a>(alloc: Global) -> Result<Command<'a>, AllocError>
         columns(alloc),
         rows(alloc),
         year(alloc),
+        ais(alloc, choices),
         flag(alloc, "text", TEXT),
     ]?;
     command(alloc, "print", ABOUT, EXAMPLE).args(options)
@@ -63,9 +64,9 @@ pub fn options_named(matches: &ArgMatches<'_>) -> Option<PrintOptions>
     ensures none { IfNone result ((o : PrintOptions)
         → HasPrint (rows_of (found_of matches.now)) o → ⊥) }
 {
-    PrintOptions::in_grid(
+    Some(PrintOptions::in_grid(
         grid_named(matches)?,
-        number_named(matches, "year")?,
+        terms_named(matches)?,
         flag_named(matches, "text")?,
-    )
+    ))
 }

@@ -8,7 +8,7 @@ ghost use Rattle.words_core.specs.declared.commands.scan.options.ScanOptions.{Sc
 pub mod options;
 
 use crate::arguments::{
-    byte_named, columns, command, grid_named, height, module_width, number_named, rows, width,
+    ais, byte_named, columns, command, grid_named, height, module_width, rows, terms_named, width,
     workers, year,
 };
 use crate::commands::scan::options::ScanOptions;
@@ -30,9 +30,9 @@ Example, with the label.pbm that the example of `gs1_hub print --help` makes:
   $ gs1_hub scan --module 2 --width 240 --height 120 --columns 1 --rows 1 --workers 1 --year 2026 < label.pbm
   0 0 ]E0 (01)09501101530003";
 
-/// The words of the command `scan`, as `clap` reads them.
-pub fn scan_words<'a>(alloc: Global) -> Result<Command<'a>, AllocError>
-    ensures app { IfOk result (λ c. app_of c ≡ scan_app) }
+/// The words of the command `scan`, as `clap` reads them, where `--ais` takes these choices.
+pub fn scan_words<'a>(alloc: Global, choices: &'a [&'a str]) -> Result<Command<'a>, AllocError>
+    ensures app { IfOk result (λ c. app_of c ≡ scan_app choices.entry) }
     ensures own { IfOk result (λ c. (out-Command c).has_globals ≡ false) }
 {
     let options = vec![in alloc;
@@ -43,6 +43,7 @@ pub fn scan_words<'a>(alloc: Global) -> Result<Command<'a>, AllocError>
         rows(alloc),
         workers(alloc),
         year(alloc),
+        ais(alloc, choices),
     ]?;
     command(alloc, "scan", ABOUT, EXAMPLE).args(options)
 }
@@ -56,6 +57,6 @@ pub fn options_named(matches: &ArgMatches<'_>) -> Option<ScanOptions>
     ScanOptions::in_grid(
         grid_named(matches)?,
         byte_named(matches, "workers")?,
-        number_named(matches, "year")?,
+        terms_named(matches)?,
     )
 }

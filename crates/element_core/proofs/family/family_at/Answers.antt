@@ -1,4 +1,4 @@
-use Rattle.std.proofs.Common.{◌≡◌, ◌≤◌, ◌∙◌, ℕ, List, Option, Some, None, length, sym}
+use Rattle.std.proofs.Common.{true, false, arith, ◌≡◌, ◌≤◌, ◌∙◌, cond, ℕ, List, Option, Some, None, length, sym}
 use Rattle.std.specs.Prelude.{option_map, IfSome}
 use Rattle.element_core.specs.declared.family.AiFamily.{AiFamily}
 use Rattle.element_core.specs.Table.{row_at}
@@ -22,9 +22,16 @@ short (Some f) text e w = family_short f text e w
 pub returns-in-len2-up-clause-short : goal.returns-in-len2-up-clause-short
 returns-in-len2-up-clause-short c = short c.first_with.result c.args.text.now (returns-in-len2-up-clause-row c) c.first_with.ensures.within
 
-few : (r : Option AiFamily) (text : List ℕ) → option_map (λ f. row_with f text) r ≡ row_at text → IfSome r (λ f. length f.parts.now ≤ 2)
-few None text e = tt
-few (Some f) text e = family_few f text e
+two : (r : Option AiFamily) (text : List ℕ) → option_map (λ f. row_with f text) r ≡ row_at text → IfSome r (λ f. length f.parts.now ≤ cond f.profile 2 5)
+two None text e = tt
+two (Some f) text e = family_few f text e
+
+pub returns-in-len2-up-clause-two : goal.returns-in-len2-up-clause-two
+returns-in-len2-up-clause-two c = two c.first_with.result c.args.text.now (returns-in-len2-up-clause-row c)
+
+at_most_five : (r : Option AiFamily) → IfSome r (λ f. length f.parts.now ≤ cond f.profile 2 5) → IfSome r (λ f. length f.parts.now ≤ 5)
+at_most_five None t = tt
+at_most_five (Some f) t = elim f.profile as (λ p. length f.parts.now ≤ cond p 2 5 → length f.parts.now ≤ 5) [ true ↦ λ k. omega arith | false ↦ λ k. k ] t
 
 pub returns-in-len2-up-clause-few : goal.returns-in-len2-up-clause-few
-returns-in-len2-up-clause-few c = few c.first_with.result c.args.text.now (returns-in-len2-up-clause-row c)
+returns-in-len2-up-clause-few c = at_most_five c.first_with.result (returns-in-len2-up-clause-two c)

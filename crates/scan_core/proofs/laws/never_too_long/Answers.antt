@@ -6,4 +6,4 @@ pub returns : goal.returns
 returns c = λ runs year refused.
     let text = refused.1 in
     let told = refused.2 in
-    never_long year text (content_fits c.said_is_short.ensures (kind_of refused.0) told.1 text told.3) refused.3
+    never_long year text (content_fits c.said_is_short.ensures c.gtins_have_fourteen.ensures (kind_of refused.0) told.1 text told.3) refused.3

@@ -1,18 +1,10 @@
-use Rattle.ean_code.specs.Symbols.Kind.{Ean13, Ean8, UpcE, Itf14}
 use Rattle.scan_core.proofs.AnswerFacts.{one_answer as law}
-use Rattle.scan_core.proofs.ShownFacts.{EachOneWay}
 use Rattle.scan_core.proofs.laws.one_answer.Goals as goal
-
-each_way : (c : goal.After-one_list_or_fault) → EachOneWay
-each_way c Ean13 = c.kind_is_one_way.ensures.ean13
-each_way c Ean8 = c.kind_is_one_way.ensures.ean8
-each_way c UpcE = c.kind_is_one_way.ensures.upce
-each_way c Itf14 = c.kind_is_one_way.ensures.itf14
 
 pub returns : goal.returns
 returns c =
     law (record {
-      symbols = record { ean = each_way c; code = c.one_way.ensures; measures = c.measures.ensures };
+      symbols = record { ean = c.kind_is_one_way.ensures; code = c.one_way.ensures; measures = c.measures.ensures };
       numbers = c.one_list_of_digits.ensures;
       codes = c.one_reading.ensures;
       texts = c.one_list_or_fault.ensures;

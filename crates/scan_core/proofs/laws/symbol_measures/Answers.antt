@@ -1,6 +1,6 @@
 use Rattle.std.proofs.Common.{ℕ, List, Option, Some, None, length, sum}
 use Rattle.ean_code.specs.Laws.{MeasuresOfKind}
-use Rattle.ean_code.specs.Symbols.{Kind}
+use Rattle.ean_code.specs.declared.kind.Kind.{Kind}
 use Rattle.code128_code.specs.Laws.{Measures}
 use Rattle.scan_core.specs.Showing.{HasSize, IsSymbol, kind_of}
 use Rattle.scan_core.proofs.ShownFacts.{code_measures}

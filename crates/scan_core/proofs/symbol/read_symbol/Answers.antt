@@ -1,4 +1,4 @@
-use Rattle.ean_code.specs.Symbols.Kind.{Ean13, Ean8, UpcE, Itf14}
+use Rattle.ean_code.specs.declared.kind.Kind.TheVariants.{Ean13, Ean8, UpcE, Itf14}
 use Rattle.scan_core.proofs.symbol.read_symbol.Goals as goal
 
 pub returns-in-Ean13-clause-found : goal.returns-in-Ean13-clause-found

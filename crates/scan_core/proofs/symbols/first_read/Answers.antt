@@ -9,6 +9,7 @@ use Rattle.scan_core.specs.declared.fault.RowFault.{RowFault}
 use Rattle.scan_core.proofs.RowFacts.{row_short}
 use Rattle.scan_core.proofs.SearchFacts.{at_place, behind_here}
 use Rattle.scan_core.proofs.WindowFacts.{IsRow-runs_in}
+use Rattle.element_core.specs.Terms.{Terms}
 use Rattle.scan_core.proofs.symbols.first_read.Goals as goal
 
 sliced : (first count : ℕ) (runs : List ℕ) → take (first + count - first) (drop first runs) ≡ runs_in runs first count
@@ -75,7 +76,7 @@ pub next_place-requires-clause-light : goal.next_place-requires-clause-light
 next_place-requires-clause-light c = c.places.invariant.begins_light
 
 -- a window that is refused is no symbol
-not_read : (runs : List ℕ) (year first count : ℕ) (fault : RowFault) → OneAnswer → IsRow runs → count % 2 ≡ 1 → first + count ≤ length runs
+not_read : (runs : List ℕ) (year : Terms) (first count : ℕ) (fault : RowFault) → OneAnswer → IsRow runs → count % 2 ≡ 1 → first + count ≤ length runs
     → IsAnswer (take (first + count - first) (drop first runs)) year (Refused fault)
     → (v : Window) → IsSymbolOf runs year v → v.first ≡ first → v.count ≡ count → ⊥
 not_read runs year first count fault one whole odd within answer v s begins many =

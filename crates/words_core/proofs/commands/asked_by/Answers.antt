@@ -1,6 +1,7 @@
 use Rattle.std.proofs.Common.{◌≡◌, ◌∙◌, List, ap, arith, codes, slice_index, sym, ℕ}
 use Rattle.clap.specs.Words.{Row, Text, found_of, rows_of}
-use Rattle.words_core.specs.Arguments.{HasYear}
+use Rattle.element_core.specs.Terms.{Terms}
+use Rattle.words_core.specs.Arguments.{HasTerms}
 use Rattle.words_core.specs.commands.{AsksIn}
 use Rattle.words_core.specs.commands.Lanes.{HasLanes}
 use Rattle.words_core.specs.commands.Lives.{HasLive}
@@ -31,7 +32,7 @@ goes_on name rows (asked.Lanes o) h = ap second h.0
 goes_on name rows (asked.Scan o) h = ap second h.0
 goes_on name rows (asked.Live o) h = ap second h.0
 
-no_check : (name : Text) (rows : List Row) → name ≡ codes "check" → ((o : ℕ) → HasYear rows o → ⊥) → (a : Asked) → AsksIn name rows a → ⊥
+no_check : (name : Text) (rows : List Row) → name ≡ codes "check" → ((o : Terms) → HasTerms rows o → ⊥) → (a : Asked) → AsksIn name rows a → ⊥
 no_check name rows is none a h = go a h (sym (ap second is) ∙ goes_on name rows a h)
   where
     go : (a : Asked) → AsksIn name rows a → 104 ≡ letter a → ⊥
@@ -72,7 +73,7 @@ no_live name rows is none a h = go a h (sym (ap second is) ∙ goes_on name rows
     go (asked.Live o) h e = none o h.1
 
 pub returns-in-check-clause-none : goal.returns-in-check-clause-none
-returns-in-check-clause-none c = none_after c.year_named.result c.map.result _ _ c.map.ensures.variant c.year_named.ensures.none
+returns-in-check-clause-none c = none_after c.terms_named.result c.map.result _ _ c.map.ensures.variant c.terms_named.ensures.none
     (no_check c.args.name.now (rows_of (found_of c.args.matches.now)) c.in-check.is)
 
 pub returns-in-lanes-clause-none : goal.returns-in-lanes-clause-none

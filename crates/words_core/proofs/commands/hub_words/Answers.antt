@@ -26,14 +26,20 @@ added program whole (m ∷ ms) (a ∷ apps) h adds =
 
 pub returns : goal.returns
 returns c =
+    let choices = c.args.choices in
     let check = c.check_words.ensures in
     let print = c.print_words.ensures in
     let lanes = c.lanes_words.ensures in
     let scan = c.scan_words.ensures in
     let live = c.live_words.ensures in
     let each : AreMade (c.check_words.result ∷ c.print_words.result ∷ c.lanes_words.result ∷ c.scan_words.result
-    ∷ c.live_words.result ∷ []) hub_commands =
+    ∷ c.live_words.result ∷ []) (hub_commands choices) =
     (check.app, check.own, (print.app, print.own, (lanes.app, lanes.own, (scan.app, scan.own, (live.app, live.own, tt))))) in
     IfOk-weaker c.with_commands.result _ _
-    (λ whole h. added _ whole h.0 hub_commands (subst (λ l. AreMade l hub_commands) h.1 each) h.2 ∙ ap (λ a. with_commands a hub_commands) c.program.ensures)
+    (λ whole h. (
+      choices,
+      c.requires,
+      added _ whole h.0 (hub_commands choices) (subst (λ l. AreMade l (hub_commands choices)) h.1 each) h.2
+          ∙ ap (λ a. with_commands a (hub_commands choices)) c.program.ensures,
+    ))
     c.with_commands.ensures

@@ -1,8 +1,9 @@
-use Rattle.std.proofs.Common.{◌≡◌, ◌∙◌, Option, Some, None, inl, inr, ap, map, string_bytes, IfSome}
-use Rattle.clap.specs.Words.{app_of, is_simple_and_free}
-use Rattle.words_core.specs.commands.{hub_app}
+use Rattle.std.proofs.Common.{◌∙◌, List, Option, Some, None, inl, inr, map, string_bytes, IfSome}
+use Rattle.clap.specs.Words.{App, Text, app_of}
+use Rattle.words_core.specs.inner.Asking.{IsHub}
 use Rattle.words_core.specs.declared.words.WordsFault.TheVariants as fault
 use Rattle.words_core.proofs.ErrorFacts.{explained_of}
+use Rattle.words_core.proofs.HubFacts.{hub_fault, hub_free}
 use Rattle.words_core.proofs.words.sentence.Goals as goal
 
 if_some : {T P : Type 0} (o : Option T) → P → IfSome o (λ x. P)
@@ -11,11 +12,12 @@ if_some None p = tt
 
 pub returns : goal.returns
 returns c =
-    let is : app_of c.in-Ok.hub ≡ hub_app = c.in-Ok.ensures in
+    let a : App = app_of c.in-Ok.hub in
+    let is : IsHub a = c.in-Ok.ensures in
+    let words : List Text = map string_bytes c.args.words.now in
     let same = c.kind.ensures in
     let no = c.in_default-kind in
-    if_some c.ok.result (explained_of (app_of c.in-Ok.hub) (map string_bytes c.args.words.now) c.in-Err.error fault.Words is
-    (c.in-Err.ensures.kinds (ap is_simple_and_free is)) (
+    if_some c.ok.result (explained_of a words c.in-Err.error fault.Words (hub_fault a is words) (c.in-Err.ensures.kinds (hub_free a is)) (
       (λ e. no.not-OutOfMemory (same ∙ e)),
       (λ request. elim request [
         | inl help ↦ no.not-DisplayHelp (same ∙ help)

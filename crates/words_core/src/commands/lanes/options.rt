@@ -1,9 +1,10 @@
 //! The options of the command `lanes`, and the numbers that it takes.
 ghost use Rattle.std.specs.Prelude.{◌≡◌, ◌↔◌, IfSome, IsSome};
+ghost use Rattle.element_core.specs.Terms.{profile};
 ghost use Rattle.words_core.specs.Arguments.{IsLaneCount, IsReferenceYear, IsWorkerCount};
 
 use crate::arguments::{MOST_LANES, MOST_WORKERS};
-use element_core::Year;
+use element_core::{Terms, Year};
 
 /// The options of the command `lanes`.
 #[derive(Clone, Copy, Debug, PartialEq, Eq)]
@@ -12,28 +13,36 @@ pub struct LaneOptions {
     pub lanes: u8,
     /// How many workers read rows, 1 to 16.
     pub workers: u8,
-    /// The year that dates of two digits are read by.
+    /// The year that dates of two digits are read by, and which AIs are accepted.
     pub year: Year,
     ghost some_lanes: { IsLaneCount lanes },
     ghost some_workers: { IsWorkerCount workers },
 }
 
 impl LaneOptions {
-    /// These numbers, or none where one of them lies outside its range.
+    /// These numbers and the AIs of the profile, or none where one number lies outside its range.
     pub fn new(lanes: u8, workers: u8, year: u16) -> Option<LaneOptions>
         ensures taken { IsSome result
             ↔ (IsLaneCount lanes × IsWorkerCount workers × IsReferenceYear year) }
         ensures numbers { IfSome result (λ o. (o.lanes ≡ lanes) × (o.workers ≡ workers)
-            × (o.year ≡ year)) }
+            × (o.year ≡ profile year)) }
+    {
+        LaneOptions::by(lanes, workers, Year::new(year)?)
+    }
+
+    /// These numbers by these terms, or none where a number lies outside its range.
+    pub(crate) fn by(lanes: u8, workers: u8, terms: Terms) -> Option<LaneOptions>
+        ensures taken { IsSome result ↔ (IsLaneCount lanes × IsWorkerCount workers) }
+        ensures numbers { IfSome result (λ o. (o.lanes ≡ lanes) × (o.workers ≡ workers)
+            × (o.year ≡ terms)) }
     {
         if !(1..=MOST_LANES).contains(&lanes) || !(1..=MOST_WORKERS).contains(&workers) {
             return None;
         }
-        let year = Year::new(year)?;
         Some(LaneOptions {
             lanes,
             workers,
-            year,
+            year: terms,
         })
     }
 }

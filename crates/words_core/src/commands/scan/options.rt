@@ -1,12 +1,13 @@
 //! The options of the command `scan`, and the numbers that it takes.
 ghost use Rattle.std.specs.Prelude.{◌≡◌, ◌↔◌, IfSome, IsSome};
+ghost use Rattle.element_core.specs.Terms.{profile};
 ghost use Rattle.words_core.specs.Arguments.{IsReferenceYear, IsWorkerCount};
 ghost use Rattle.words_core.specs.Grids.{HasNumbers};
 ghost use Rattle.words_core.specs.Numbers.{AreGridNumbers};
 
 use crate::arguments::MOST_WORKERS;
 use crate::grid_options::GridOptions;
-use element_core::Year;
+use element_core::{Terms, Year};
 
 /// The options of the command `scan`.
 #[derive(Clone, Copy, Debug, PartialEq, Eq)]
@@ -15,14 +16,14 @@ pub struct ScanOptions {
     pub grid: GridOptions,
     /// How many workers read rows, 1 to 16.
     pub workers: u8,
-    /// The year that dates of two digits are read by.
+    /// The year that dates of two digits are read by, and which AIs are accepted.
     pub year: Year,
     ghost some_workers: { IsWorkerCount workers },
 }
 
 impl ScanOptions {
-    /// These numbers, or none where one of them alone lies outside its range. What they may be
-    /// together is for the grid that is made of them.
+    /// These numbers and the AIs of the profile, or none where one number alone lies outside its range.
+    /// What they may be together is for the grid that is made of them.
     pub fn new(
         module_dots: u16,
         width: u16,
@@ -35,25 +36,24 @@ impl ScanOptions {
         ensures taken { IsSome result ↔ (AreGridNumbers module_dots width height columns rows
             × IsWorkerCount workers × IsReferenceYear year) }
         ensures grid { IfSome result (λ o. HasNumbers module_dots width height columns rows o.grid) }
-        ensures rest { IfSome result (λ o. (o.workers ≡ workers) × (o.year ≡ year)) }
+        ensures rest { IfSome result (λ o. (o.workers ≡ workers) × (o.year ≡ profile year)) }
     {
         let grid = GridOptions::new(module_dots, width, height, columns, rows)?;
-        ScanOptions::in_grid(grid, workers, year)
+        ScanOptions::in_grid(grid, workers, Year::new(year)?)
     }
 
-    /// The options in this grid, or none where one number alone lies outside its range.
-    pub(crate) fn in_grid(grid: GridOptions, workers: u8, year: u16) -> Option<ScanOptions>
-        ensures taken { IsSome result ↔ (IsWorkerCount workers × IsReferenceYear year) }
-        ensures numbers { IfSome result (λ o. (o.grid ≡ grid) × (o.workers ≡ workers) × (o.year ≡ year)) }
+    /// The options in this grid by these terms, or none where so many workers are not taken.
+    pub(crate) fn in_grid(grid: GridOptions, workers: u8, terms: Terms) -> Option<ScanOptions>
+        ensures taken { IsSome result ↔ IsWorkerCount workers }
+        ensures numbers { IfSome result (λ o. (o.grid ≡ grid) × (o.workers ≡ workers) × (o.year ≡ terms)) }
     {
         if !(1..=MOST_WORKERS).contains(&workers) {
             return None;
         }
-        let year = Year::new(year)?;
         Some(ScanOptions {
             grid,
             workers,
-            year,
+            year: terms,
         })
     }
 }

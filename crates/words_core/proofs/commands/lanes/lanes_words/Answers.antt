@@ -1,5 +1,5 @@
 use Rattle.std.proofs.Common.{◌∷◌, [], List}
-use Rattle.words_core.specs.Arguments.{lanes_rule, workers_rule, year_rule}
+use Rattle.words_core.specs.Arguments.{ais_rule, lanes_rule, workers_rule, year_rule}
 use Rattle.words_core.proofs.Added.{Ruled, with_added}
 use Rattle.words_core.proofs.commands.lanes.lanes_words.Goals as goal
 
@@ -9,5 +9,6 @@ returns-clause-app c =
     (c.lane_count.result, lanes_rule, c.lane_count.ensures.rule, c.lane_count.ensures.own)
     ∷ (c.workers.result, workers_rule, c.workers.ensures.rule, c.workers.ensures.own)
     ∷ (c.year.result, year_rule, c.year.ensures.rule, c.year.ensures.own)
+    ∷ (c.ais.result, ais_rule c.args.choices, c.ais.ensures.rule, c.ais.ensures.own)
     ∷ [] in
     with_added c.command.result _ ruled _ c.args-2.result c.args-2.ensures c.in_ok-options.ensures.items c.command.ensures.app

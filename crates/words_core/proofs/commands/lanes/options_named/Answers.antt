@@ -1,6 +1,6 @@
 use Rattle.std.proofs.Common.{List, arith, codes, subst, sym}
 use Rattle.clap.specs.Words.{Row, found_of, rows_of}
-use Rattle.words_core.specs.Arguments.{HasNumber, IsReferenceYear}
+use Rattle.words_core.specs.Arguments.{HasNumber, HasTerms}
 use Rattle.words_core.proofs.Matches.{in_none, some_with}
 use Rattle.words_core.proofs.commands.lanes.options_named.Goals as goal
 
@@ -11,16 +11,16 @@ pub returns-in_err-byte_named-2-clause-none : goal.returns-in_err-byte_named-2-c
 returns-in_err-byte_named-2-clause-none c = in_none c.from_residual-in_err-byte_named-2.result _
     (λ o h. c.in_err-byte_named-2.ensures.none o.workers (omega (arith, o.some_workers.1)) h.2.0)
 
-pub returns-in_err-number_named-clause-none : goal.returns-in_err-number_named-clause-none
-returns-in_err-number_named-clause-none c = in_none c.from_residual-in_err-number_named.result _
-    (λ o h. c.in_err-number_named.ensures.none o.year (omega (arith, h.3.1.1)) h.3.0)
+pub returns-in_err-terms_named-clause-none : goal.returns-in_err-terms_named-clause-none
+returns-in_err-terms_named-clause-none c = in_none c.from_residual-in_err-terms_named.result _
+    (λ o h. c.in_err-terms_named.ensures.none o.year h.3)
 
 pub returns-clause-some : goal.returns-clause-some
 returns-clause-some c =
     let rows : List Row = rows_of (found_of c.args.matches.now) in
-    some_with c.new.result c.new.ensures.numbers c.new.ensures.taken.0 (λ o has taken. (
+    some_with c.by.result c.by.ensures.numbers c.by.ensures.taken.0 (λ o has taken. (
       subst (HasNumber (codes "lanes") rows) (sym has.0) c.in_ok-byte_named.ensures.some,
       o.some_lanes,
       (subst (HasNumber (codes "workers") rows) (sym has.1) c.in_ok-byte_named-2.ensures.some, o.some_workers),
-      (subst (HasNumber (codes "year") rows) (sym has.2) c.in_ok-number_named.ensures.some, subst IsReferenceYear (sym has.2) taken.2),
+      subst (HasTerms rows) (sym has.2) c.in_ok-terms_named.ensures.some,
     ))

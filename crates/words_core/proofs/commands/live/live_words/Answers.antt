@@ -1,5 +1,5 @@
 use Rattle.std.proofs.Common.{◌∷◌, [], List, codes}
-use Rattle.words_core.specs.Arguments.{flag_rule, lanes_rule, workers_rule, year_rule}
+use Rattle.words_core.specs.Arguments.{ais_rule, flag_rule, lanes_rule, workers_rule, year_rule}
 use Rattle.words_core.proofs.Added.{Ruled, with_added}
 use Rattle.words_core.proofs.commands.live.live_words.Goals as goal
 
@@ -9,6 +9,7 @@ returns-clause-app c =
     (c.lane_count.result, lanes_rule, c.lane_count.ensures.rule, c.lane_count.ensures.own)
     ∷ (c.workers.result, workers_rule, c.workers.ensures.rule, c.workers.ensures.own)
     ∷ (c.year.result, year_rule, c.year.ensures.rule, c.year.ensures.own)
+    ∷ (c.ais.result, ais_rule c.args.choices, c.ais.ensures.rule, c.ais.ensures.own)
     ∷ (c.flag.result, flag_rule (codes "elements"), c.flag.ensures.rule, c.flag.ensures.own)
     ∷ [] in
     with_added c.command.result _ ruled _ c.args-2.result c.args-2.ensures c.in_ok-options.ensures.items c.command.ensures.app

@@ -9,6 +9,6 @@ pub returns-in_err-byte_named-clause-none : goal.returns-in_err-byte_named-claus
 returns-in_err-byte_named-clause-none c = in_none c.from_residual-in_err-byte_named.result _
     (λ o h. c.in_err-byte_named.ensures.none o.workers (omega (arith, o.some_workers.1)) h.1.0)
 
-pub returns-in_err-number_named-clause-none : goal.returns-in_err-number_named-clause-none
-returns-in_err-number_named-clause-none c = in_none c.from_residual-in_err-number_named.result _
-    (λ o h. c.in_err-number_named.ensures.none o.year (omega (arith, h.2.1.1)) h.2.0)
+pub returns-in_err-terms_named-clause-none : goal.returns-in_err-terms_named-clause-none
+returns-in_err-terms_named-clause-none c = in_none c.from_residual-in_err-terms_named.result _
+    (λ o h. c.in_err-terms_named.ensures.none o.year h.2)

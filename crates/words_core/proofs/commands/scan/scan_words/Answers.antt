@@ -1,5 +1,5 @@
 use Rattle.std.proofs.Common.{◌∷◌, [], List}
-use Rattle.words_core.specs.Arguments.{columns_rule, height_rule, module_rule, rows_rule, width_rule, workers_rule, year_rule}
+use Rattle.words_core.specs.Arguments.{ais_rule, columns_rule, height_rule, module_rule, rows_rule, width_rule, workers_rule, year_rule}
 use Rattle.words_core.proofs.Added.{Ruled, with_added}
 use Rattle.words_core.proofs.commands.scan.scan_words.Goals as goal
 
@@ -13,5 +13,6 @@ returns-clause-app c =
     ∷ (c.rows.result, rows_rule, c.rows.ensures.rule, c.rows.ensures.own)
     ∷ (c.workers.result, workers_rule, c.workers.ensures.rule, c.workers.ensures.own)
     ∷ (c.year.result, year_rule, c.year.ensures.rule, c.year.ensures.own)
+    ∷ (c.ais.result, ais_rule c.args.choices, c.ais.ensures.rule, c.ais.ensures.own)
     ∷ [] in
     with_added c.command.result _ ruled _ c.args-2.result c.args-2.ensures c.in_ok-options.ensures.items c.command.ensures.app

@@ -1,0 +1,12 @@
+-- The guard patterns of EAN and UPC (ISO/IEC 15420, symbol structure).
+use Rattle.std.specs.Prelude.{ℕ, List, [], ◌∷◌}
+
+-- the normal one, that of the centre, and the special one at the right of a UPC-E
+abbrev pub normal_guard : List ℕ
+normal_guard = 1 ∷ 1 ∷ 1 ∷ []
+
+abbrev pub centre_guard : List ℕ
+centre_guard = 1 ∷ 1 ∷ 1 ∷ 1 ∷ 1 ∷ []
+
+abbrev pub special_guard : List ℕ
+special_guard = 1 ∷ 1 ∷ 1 ∷ 1 ∷ 1 ∷ 1 ∷ []

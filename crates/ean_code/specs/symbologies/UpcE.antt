@@ -1,0 +1,29 @@
+-- UPC-E (ISO/IEC 15420, symbol structure): six digits and the check digit, which stand for the GTIN-12 that they are expanded to. The number sets
+-- alone show the check digit, and the sixth picks the line of the table, so these are no checked places.
+use Rattle.std.specs.Prelude.{[], ◌∷◌, ◌++◌, take, slice_index}
+use Rattle.std.specs.List.{concat}
+use Rattle.digits_core.specs.Digits.{padded}
+use Rattle.digits_core.specs.Upce.{upce_expanded}
+use Rattle.ean_code.specs.Guards.{normal_guard, special_guard}
+use Rattle.ean_code.specs.NumberSets.{left_part, row_of, upce_rows}
+use Rattle.ean_code.specs.Structure.{Sample, Structure}
+
+abbrev pub upce : Structure
+upce = record {
+  digits = 7;
+  widths = 33;
+  modules = 51;
+  start = normal_guard;
+  inside = λ ds. left_part (row_of upce_rows (slice_index ds 6)) (take 6 ds);
+  stop = special_guard;
+  gtin = λ ds. padded (upce_expanded (take 6 ds) (slice_index ds 6));
+  checked = 0;
+  unchecked = 5;
+}
+
+abbrev pub upce_sample : Sample
+upce_sample = record {
+  digits = 1 ∷ 2 ∷ 3 ∷ 4 ∷ 5 ∷ 6 ∷ 5 ∷ [];
+  widths = normal_guard ++ (concat ((1 ∷ 2 ∷ 2 ∷ 2 ∷ []) ∷ (2 ∷ 1 ∷ 2 ∷ 2 ∷ []) ∷ (1 ∷ 4 ∷ 1 ∷ 1 ∷ []) ∷ (2 ∷ 3 ∷ 1 ∷ 1 ∷ []) ∷ (1 ∷ 3 ∷ 2 ∷ 1 ∷ []) ∷
+      (1 ∷ 1 ∷ 1 ∷ 4 ∷ []) ∷ []) ++ special_guard);
+}

@@ -1,0 +1,189 @@
+"""What the values of Application Identifiers say: numbers, units, codes and places."""
+from __future__ import annotations
+
+from decimal import Decimal
+from functools import lru_cache
+from typing import Dict, Iterable, Iterator, List, NamedTuple, Optional, Sequence, Tuple
+
+from ._ais import COUNTRIES, CURRENCIES, ROWS
+
+
+class Row(NamedTuple):
+    """What the table says of an Application Identifier."""
+
+    predefined: bool
+    title: str
+    associations: str
+
+
+class Place(NamedTuple):
+    """A place on the Earth, in degrees: north and east are above 0."""
+
+    latitude: Decimal
+    longitude: Decimal
+
+
+class Association(NamedTuple):
+    """What the standard asks of the elements beside one, and is not so."""
+
+    ai: str
+    """The Application Identifier of the element."""
+    needs: Tuple[str, ...]
+    """It needs one of these, where ``n`` stands for any digit; none if it excludes one."""
+    excludes: str
+    """It excludes this one, which is there; empty if it needs one."""
+
+    def __str__(self) -> str:
+        return f"{self.ai} excludes {self.excludes}" if self.excludes else f"{self.ai} needs {' or '.join(self.needs)}"
+
+
+class Doubt(NamedTuple):
+    """A code of an element that is in no list."""
+
+    ai: str
+    """The Application Identifier of the element."""
+    code: str
+    """What is in no list."""
+    said: str
+    """What it is to be, as ``country``."""
+
+    def __str__(self) -> str:
+        return f"{self.ai}: {self.code} is no {self.said}"
+
+
+@lru_cache(maxsize=None)
+def rows() -> Dict[str, Row]:
+    """The table, by its Application Identifiers."""
+    table = {}
+    for least, greatest, predefined, title, associations in ROWS:
+        for ai in range(int(least), int(greatest) + 1):
+            name = f"{ai:0{len(least)}d}"
+            # Of AIs from one to another each digit lies between those of the two.
+            if all(low <= digit <= high for low, digit, high in zip(least, name, greatest)):
+                table[name] = Row(predefined, title, associations)
+    return table
+
+
+def ai_at(text: str) -> Optional[str]:
+    """The Application Identifier that a text begins with: none begins another."""
+    return next((text[:count] for count in (2, 3, 4) if text[:count] in rows()), None)
+
+
+@lru_cache(maxsize=None)
+def _letters(packed: str, count: int) -> Dict[str, str]:
+    return {code[:3]: code[3:] for code in packed.split()}
+
+
+def _country(number: str) -> Optional[str]:
+    return _letters(COUNTRIES, 2).get(number)
+
+
+def _is_measure(ai: str) -> bool:
+    return len(ai) == 4 and ai[0] == "3" and ai[1] in "123456"
+
+
+def _scaled(digits: str, decimals: int) -> Decimal:
+    return Decimal(int(digits)).scaleb(-decimals)
+
+
+def number(ai: str, value: str) -> Optional[Decimal]:
+    """The number of a measure, an amount, a price, a percentage or a temperature."""
+    if _is_measure(ai) or ai[:3] in ("390", "392", "394", "395"):
+        return _scaled(value, int(ai[3]))
+    if ai[:3] in ("391", "393"):
+        return _scaled(value[3:], int(ai[3]))
+    if ai[:3] == "433":
+        degrees = _scaled(value[:6], 2)
+        return -degrees if value.endswith("-") else degrees
+    return None
+
+
+def unit(ai: str) -> Optional[str]:
+    """The unit of such a number, as ``kg``."""
+    if ai[:3] == "337":
+        return "kg/m²"
+    if _is_measure(ai):
+        return rows()[ai].title.rpartition("(")[2].partition(")")[0].rstrip(".")
+    if ai[:3] == "394":
+        return "%"
+    if ai[:3] == "433":
+        return "°C" if ai[3] in "13" else "°F"
+    return None
+
+
+def currency(ai: str, value: str) -> Optional[str]:
+    """The currency of an amount or a price, as ``EUR``."""
+    return _letters(CURRENCIES, 3).get(value[:3]) if ai[:3] in ("391", "393") and len(ai) == 4 else None
+
+
+def country_codes(ai: str, value: str) -> List[str]:
+    """The codes of countries in a value, in digits or in letters."""
+    if ai in ("421", "422", "424", "426") or (ai[:3] == "703" and len(ai) == 4):
+        return [value[:3]]
+    if ai in ("423", "425"):
+        return [value[at:at + 3] for at in range(0, len(value), 3)]
+    return [value] if ai in ("4307", "4317") else []
+
+
+def countries(ai: str, value: str) -> Tuple[str, ...]:
+    """The countries of a value, as ``("DE", "FR")``: those whose codes are known."""
+    known = set(_letters(COUNTRIES, 2).values())
+    letters = (_country(code) or code for code in country_codes(ai, value))
+    return tuple(code for code in letters if code in known)
+
+
+def place(ai: str, value: str) -> Optional[Place]:
+    """The place that a value names, in ten millionths of a degree from the South Pole and to the east."""
+    if ai != "4309":
+        return None
+    east = _scaled(value[10:], 7)
+    return Place(_scaled(value[:10], 7) - 90, east - 360 if east > 180 else east)
+
+
+def needs_separator(ai: str) -> bool:
+    """Whether a separator stands after an element that is not the last."""
+    row = rows().get(ai)
+    return row is None or not row.predefined
+
+
+def _is_like(ai: str, pattern: str) -> bool:
+    return len(ai) == len(pattern) and all(want in ("n", digit) for digit, want in zip(ai, pattern))
+
+
+def _broken(ai: str, rule: str, others: Sequence[str]) -> Iterator[Association]:
+    """What a rule of an Application Identifier asks and is not so."""
+    kind, _, patterns = rule.partition("=")
+    if kind == "req":
+        if not any(_is_like(other, pattern) for other in others for pattern in patterns.split(",")):
+            yield Association(ai, tuple(patterns.split(",")), "")
+    else:
+        for other in others:
+            if any(_is_like(other, pattern) for pattern in patterns.split(",")):
+                yield Association(ai, (), other)
+
+
+def associations(ais: Iterable[str]) -> List[Association]:
+    """What the standard asks of a list and is not so."""
+    listed = list(dict.fromkeys(ais))
+    return [
+        it
+        for ai in listed
+        for rule in (rows()[ai].associations.split() if ai in rows() else ())
+        for it in _broken(ai, rule, [other for other in listed if other != ai])
+    ]
+
+
+def doubts(elements: Iterable[Tuple[str, str]]) -> List[Doubt]:
+    """Codes that are in no list."""
+    told: List[Doubt] = []
+    known = set(_letters(COUNTRIES, 2).values())
+    for ai, value in elements:
+        for code in country_codes(ai, value):
+            # 999 stands for several countries, of a processor alone.
+            if not (code in known or _country(code) or (code == "999" and ai[:3] == "703")):
+                told.append(Doubt(ai, code, "country"))
+        if ai[:3] in ("391", "393") and len(ai) == 4 and currency(ai, value) is None:
+            told.append(Doubt(ai, value[:3], "currency"))
+        if ai == "401" and not (len(value) >= 4 and value[:4].isdecimal()):
+            told.append(Doubt(ai, value[:4], "GS1 Company Prefix"))
+    return told

@@ -1,0 +1,166 @@
+"""What values say as data, and second looks at lists. Expected values are the standard's examples and codes by hand."""
+import datetime
+import json
+from decimal import Decimal
+
+import pytest
+
+from noriladle import Answer, Element, Refusal, associations, compose, doubts, draw_label, parse_elements, read_elements, read_scan
+
+YEAR = 2026
+
+
+@pytest.mark.parametrize("ai, value, number, unit, currency", [
+    ("3103", "001250", "1.250", "kg", None),
+    ("3100", "000002", "2", "kg", None),
+    ("3115", "012345", "0.12345", "m", None),
+    ("3142", "000250", "2.50", "m²", None),
+    ("3201", "000015", "1.5", "lb", None),
+    ("3302", "001250", "12.50", "kg", None),
+    ("3361", "000012", "1.2", "m³", None),
+    ("3372", "000250", "2.50", "kg/m²", None),
+    ("3560", "000001", "1", "t oz", None),
+    ("3610", "000003", "3", "gal", None),
+    ("3695", "100000", "1.00000", "yd³", None),
+    ("3902", "1995", "19.95", None, None),
+    ("3912", "978001995", "19.95", None, "EUR"),
+    ("3920", "5", "5", None, None),
+    ("3933", "8401", "0.001", None, "USD"),
+    ("3930", "0010", "0", None, None),
+    ("3941", "0155", "15.5", "%", None),
+    ("3952", "000199", "1.99", None, None),
+    ("4330", "009860", "98.60", "°F", None),
+    ("4331", "001850-", "-18.50", "°C", None),
+    ("10", "123456", None, None, None),
+    ("37", "12", None, None, None),
+    ("310", "123456", None, None, None),
+    ("400", "978", None, None, None),
+])
+def test_numbers(ai, value, number, unit, currency):
+    element = Element(ai, value)
+    assert (element.number, element.unit, element.currency) == (number and Decimal(number), unit, currency)
+    # A Decimal keeps its last zeros.
+    assert number is None or str(element.number) == number
+
+
+@pytest.mark.parametrize("ai, value, countries", [
+    ("421", "2761AB", ("DE",)), ("422", "528", ("NL",)), ("423", "276528056", ("DE", "NL", "BE")), ("424", "840", ("US",)),
+    ("425", "040", ("AT",)), ("426", "756", ("CH",)), ("4307", "FR", ("FR",)), ("4317", "GB", ("GB",)), ("7031", "276ABC", ("DE",)),
+    ("422", "281", ()), ("4307", "ZZ", ()), ("7030", "999A", ()), ("427", "BY", ()), ("703", "276", ()),
+])
+def test_countries(ai, value, countries):
+    assert Element(ai, value).countries == countries
+
+
+@pytest.mark.parametrize("ai, title", [
+    ("00", "SSCC"), ("17", "USE BY or EXPIRY"), ("3103", "NET WEIGHT (kg)"), ("95", "INTERNAL"), ("7239", "CERT # s"), ("8110", ""), ("04", ""),
+])
+def test_titles(ai, title):
+    assert Element(ai, "1").title == title
+
+
+def test_a_place():
+    place = Element("4309", "05620000003500000000").place
+    assert place == (Decimal("-33.8"), Decimal("-10")) and Element("01", "09501101530003").place is None
+
+
+def test_answers_are_looked_up():
+    answer = read_scan("]C10109501101530003310300125017261231", YEAR)
+    assert answer["17"].date == datetime.date(2026, 12, 31) and answer["3103"].number == Decimal("1.250")
+    assert [it.ai for it in answer] == ["01", "3103", "17"] and "01" in answer and "10" not in answer
+    with pytest.raises(KeyError):
+        answer["10"]
+    assert json.loads(answer.to_json()) == {"identifier": "]C1", "elements": [
+        {"ai": "01", "title": "GTIN", "value": "09501101530003"},
+        {"ai": "3103", "title": "NET WEIGHT (kg)", "value": "001250", "number": "1.250", "unit": "kg"},
+        {"ai": "17", "title": "USE BY or EXPIRY", "value": "261231", "date": "2026-12-31"},
+    ]}
+    told = Answer(None, (Element("423", "276528"), Element("4309", "05620000003500000000"))).to_json()
+    assert json.loads(told)["elements"][0]["countries"] == ["DE", "NL"] and json.loads(told)["elements"][1]["place"] == ["-33.8000000", "-10.0000000"]
+
+
+@pytest.mark.parametrize("pairs, text", [
+    ([("01", "09501101530003"), ("10", "AB"), ("17", "261231")], "010950110153000310AB\x1d17261231"),
+    ([("10", "AB"), ("01", "09501101530003")], "10AB\x1d0109501101530003"),
+    ([Element("10", "AB")], "10AB"),
+    ([("20", "11"), ("422", "276"), ("20", "12")], "2011422276\x1d2012"),
+])
+def test_composed(pairs, text):
+    assert compose(pairs, YEAR) == text
+    assert [(it.ai, it.value) for it in parse_elements(text, YEAR)] == [tuple(it)[:2] if isinstance(it, tuple) else (it.ai, it.value) for it in pairs]
+
+
+@pytest.mark.parametrize("pairs, told", [
+    ([], "refused 4 Empty"),
+    ([("10", "AB"), ("17", "261331")], "refused 9 ValueDate 1"),
+    ([("10", "AB"), ("04", "1"), ("10", "C")], "refused 5 UnknownAi 1"),
+    ([("01", "0950110153000")], "refused 6 ValueLength 0"),
+    ([("01", "09501101530003"), ("20", "113"), ("10", "A")], "refused 6 ValueLength 1"),
+    ([("17", "2612311"), ("10", "A")], "refused 6 ValueLength 0"),
+    ([("10", "A\x1d17261231")], "refused 7 ValueCharacter 0"),
+    ([("10", "A\x1d")], "refused 7 ValueCharacter 0"),
+    ([("20", "11"), ("1", "0AB")], "refused 5 UnknownAi 1"),
+    ([("", "")], "refused 5 UnknownAi 0"),
+    ([("10", "A" * 21)], "refused 6 ValueLength 0"),
+    ([("10", "A" * 191)], "refused 6 ValueLength 0"),
+    ([("91", "A" * 90), ("92", "A" * 90), ("93", "A" * 9)], "refused 11 TooLong"),
+])
+def test_not_composed(pairs, told):
+    with pytest.raises(Refusal) as raised:
+        compose(pairs, YEAR)
+    assert str(raised.value) == told
+
+
+@pytest.mark.parametrize("text, ais, ai", [
+    ("0109501101530003" + "17261331", ["01"], "17"),
+    ("10AB\x1d04", ["10"], None),
+    ("17261331", [], "17"),
+    ("10AB\x1d3103", ["10"], "3103"),
+    ("", [], None),
+])
+@pytest.mark.parametrize("read", [read_elements, parse_elements])
+def test_what_stands_before_a_fault(read, text, ais, ai):
+    with pytest.raises(Refusal) as raised:
+        read(text, YEAR)
+    assert ([it.ai for it in raised.value.before], raised.value.ai) == (ais, ai)
+    assert raised.value.remedy
+
+
+@pytest.mark.parametrize("text, ais, ai", [
+    ("]C110AB^17261331", ["10"], "17"), ("]C1^10AB^17261331", ["10"], "17"), ("]C1^10A^^", ["10"], None), ("]d210AB\x1d17261331", ["10"], "17"), ("]Q304", [], None), ("]E09501101530004", [], None),
+    ("https://id.gs1.org/01/09501101530003/10/AB?17=261331", [], None),
+])
+def test_what_stands_before_a_fault_of_a_scan(text, ais, ai):
+    with pytest.raises(Refusal) as raised:
+        read_scan(text, YEAR)
+    assert ([it.ai for it in raised.value.before], raised.value.ai) == (ais, ai)
+
+
+@pytest.mark.parametrize("ais, told", [
+    (["01", "10", "17"], []),
+    (["02", "37"], []),
+    (["02"], ["02 needs 37"]),
+    (["01", "37"], ["01 excludes 37", "37 needs 02 or 8026"]),
+    (["01", "3103", "3102"], ["3103 excludes 3102", "3102 excludes 3103"]),
+    (["01", "250", "21"], []),
+    (["01", "250"], ["250 needs 21"]),
+    (["254"], ["254 needs 414"]),
+    (["01", "3922"], ["3922 needs 30 or 31nn or 32nn or 35nn or 36nn"]),
+    (["01", "3922", "3103"], []),
+    (["8020"], ["8020 needs 415"]),
+    (["415", "8020"], []),
+    (["99", "99"], []),
+    (["04"], []),
+])
+def test_associations(ais, told):
+    assert [str(it) for it in associations(Element(ai, "1") for ai in ais)] == told
+
+
+@pytest.mark.parametrize("ai, value, told", [
+    ("422", "276", []), ("422", "281", ["422: 281 is no country"]), ("423", "276281", ["423: 281 is no country"]),
+    ("4307", "DE", []), ("4307", "ZZ", ["4307: ZZ is no country"]), ("7030", "999A", []), ("7030", "281A", ["7030: 281 is no country"]),
+    ("3912", "9781", []), ("3912", "0011", ["3912: 001 is no currency"]), ("401", "9521A", []), ("401", "A1", ["401: A1 is no GS1 Company Prefix"]),
+    ("01", "09501101530003", []),
+])
+def test_doubts(ai, value, told):
+    assert [str(it) for it in doubts([Element(ai, value)])] == told
