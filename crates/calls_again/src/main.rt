@@ -7,7 +7,7 @@ ghost use Rattle.lane_core.specs.ReorderBuffer.{lanes_of};
 
 use digits_core::{Gtin, Sink, ToWriter};
 use element_core::Year;
-use fakes::{Holding, Station};
+use fakes::{Holding, OpenHub};
 use hub_core::{Collected, ServeFault, Shape, serve};
 use lane_core::{Deliverer, Delivery, Event, Job, TakeFault, Ticket, World, decode};
 use scan_core::Runs;
@@ -149,7 +149,7 @@ fn run_deliverer(alloc: Global, year: Year) -> Option<(u32, [Option<u32>; 4])> {
 }
 
 /// What becomes of the next delivery of a hub. Where memory was refused it stays in hand, and it may be collected again.
-fn collect<R: Wait>(rt: &R, hub: &mut Station, again: bool) -> Collected {
+fn collect<R: Wait>(rt: &R, hub: &mut OpenHub, again: bool) -> Collected {
     match hub.collect(rt) {
         Collected::NoMemory if again => hub.collect(rt),
         other => other,
@@ -159,7 +159,7 @@ fn collect<R: Wait>(rt: &R, hub: &mut Station, again: bool) -> Collected {
 /// Sends three rows through a hub, of which number 0 is collected, number 1 stays in a worker's hand, and number 2 is
 /// posted, so that it comes before its lane's next and room is to be made for it. What became of it when it was
 /// collected; none where memory was refused to a row.
-fn send<R: Wait>(rt: &R, alloc: Global, hub: &mut Station, again: bool) -> Option<Collected> {
+fn send<R: Wait>(rt: &R, alloc: Global, hub: &mut OpenHub, again: bool) -> Option<Collected> {
     hub.offer(rt, 0, row(alloc, EAN13)?).ok()?.ok()?;
     hub.work(rt, 0).ok()?;
     hub.offer(rt, 0, row(alloc, EAN8)?).ok()?.ok()?;
@@ -181,7 +181,7 @@ fn try_hub<R: Wait>(rt: &R, alloc: Global, again: bool) -> Option<(Collected, us
         capacity: 1,
         limit: 3,
     };
-    let mut hub = Station::new(rt, alloc, shape).ok()?;
+    let mut hub = OpenHub::new(rt, alloc, shape).ok()?;
     let collected = send(rt, alloc, &mut hub, again)?;
     let settled = match hub.close(alloc).ok()?.settle(rt, alloc) {
         Ok(lists) => lists.first().map_or(0, |list| list.len()),

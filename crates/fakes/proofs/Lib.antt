@@ -1,1 +1,1 @@
-pub mod StationFacts
+pub mod OpenHubFacts

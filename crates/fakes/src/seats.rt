@@ -33,7 +33,7 @@ impl From<AllocError> for StationFault {
 
 /// A hub and all its seats.
 #[derive(Drop)]
-pub struct Station {
+pub struct OpenHub {
     hub: Hub,
     lanes: Vec<LaneSeat>,
     workers: Vec<WorkerSeat>,
@@ -73,9 +73,9 @@ fn close_all(alloc: Global, lanes: Vec<LaneSeat>) -> Result<Vec<ClosedLane>, Sta
     Ok(closed)
 }
 
-impl Station {
+impl OpenHub {
     /// A station of this shape, for 2026.
-    pub fn new<R: Wait>(rt: &R, alloc: Global, shape: Shape) -> Result<Station, StationFault> {
+    pub fn new<R: Wait>(rt: &R, alloc: Global, shape: Shape) -> Result<OpenHub, StationFault> {
         let year = Year::new(2026).ok_or(StationFault::Refused)?;
         match Hub::new(rt, alloc, shape, year) {
             Ok(parts) => {
@@ -85,7 +85,7 @@ impl Station {
                     workers,
                     deliverer,
                 } = parts;
-                Ok(Station {
+                Ok(OpenHub {
                     hub,
                     lanes,
                     workers,
@@ -174,8 +174,8 @@ impl Station {
         alloc: Global,
         gate: &LaneGate,
         (free, held): (u8, u8),
-    ) -> Result<(Station, Option<Delivery>, bool), StationFault> {
-        let Station {
+    ) -> Result<(OpenHub, Option<Delivery>, bool), StationFault> {
+        let OpenHub {
             hub,
             lanes,
             workers,
@@ -206,7 +206,7 @@ impl Station {
         };
         match run_workers(rt, alloc, shared, workers, gate, &signals, lanes, task) {
             Ok((workers, (lanes, deliverer, polled, is_held))) => {
-                let station = Station {
+                let station = OpenHub {
                     hub,
                     lanes,
                     workers,
@@ -220,7 +220,7 @@ impl Station {
 
     /// The station with all its lanes closed.
     pub fn close(self, alloc: Global) -> Result<Closed, StationFault> {
-        let Station {
+        let OpenHub {
             hub,
             lanes,
             workers,

@@ -6,9 +6,11 @@ ghost use Rattle.std.specs.Process.{exit_status};
 ghost use Rattle.gs1_hub.specs.inner.Endings.{TookHelp, status_of, words_status};
 
 mod help;
+mod patient;
 mod remedies;
 
 use crate::help::write_help;
+use crate::patient::Patient;
 use crate::remedies::remedy;
 use command_core::{CommandFault, run_buffered, run_live};
 use digits_core::{FromReader, Sink, Source, ToWriter};
@@ -18,6 +20,7 @@ use std::io::{self, Input, IsTerminal};
 use std::process::ExitCode;
 use std::sync::Wait;
 use std::thread::Threads;
+use std::time::Clock;
 use wire_core::Wired;
 use words_core::{Asked, Batch, LiveOptions, WordsFault, read_words, sentence};
 
@@ -89,20 +92,21 @@ fn run_over<R: Threads + Wait + Sync + AllocGlobal, S: Source, W: Sink + Drop>(
 }
 
 /// Runs a command over standard input as a whole, with buffers before it and before standard output.
-fn run_over_input<R: Threads + Wait + Sync + Input + Print + AllocGlobal>(
+fn run_over_input<R: Threads + Wait + Sync + Clock + Input + Print + AllocGlobal>(
     rt: &R,
     batch: Batch,
 ) -> Result<(), CommandFault> {
-    let Ok(reader) = io::BufReader::new(rt.alloc(), rt.reader()) else {
+    let Ok(reader) = io::BufReader::new(rt.alloc(), Patient::new(rt, rt.reader())) else {
         return Err(CommandFault::NoMemory);
     };
     let mut source = FromReader::new(reader);
-    run_over(rt, batch, &mut source, ToWriter::new(io::writer(rt)))
+    let sink = ToWriter::new(Patient::new(rt, io::writer(rt)));
+    run_over(rt, batch, &mut source, sink)
 }
 
 /// Runs `live` on standard input and output without buffers, so that a read gives what is there and an answer
 /// goes out at once.
-fn run_as_input_comes<R: Threads + Wait + Sync + Input + Print + AllocGlobal>(
+fn run_as_input_comes<R: Threads + Wait + Sync + Clock + Input + Print + AllocGlobal>(
     rt: &R,
     options: LiveOptions,
 ) -> Result<(), CommandFault> {
@@ -110,13 +114,14 @@ fn run_as_input_comes<R: Threads + Wait + Sync + Input + Print + AllocGlobal>(
     let Ok(reader) = Box::new(rt.alloc(), rt.reader()) else {
         return Err(CommandFault::NoMemory);
     };
-    let wire = Wired::new(FromReader::new(reader), ToWriter::new(io::writer(rt)));
+    let source = FromReader::new(Patient::new(rt, reader));
+    let wire = Wired::new(source, ToWriter::new(Patient::new(rt, io::writer(rt))));
     let (_, ended) = run_live(rt, rt.alloc(), options, wire, &OpenGate);
     ended
 }
 
 /// Runs what the words ask for, or tells at a terminal, after the refusal, what clap says of them.
-fn answer_words<R: Threads + Wait + Sync + Input + Print + Eprint + AllocGlobal>(
+fn answer_words<R: Threads + Wait + Sync + Clock + Input + Print + Eprint + AllocGlobal>(
     rt: &R,
     words: &[String],
     terminal: bool,

@@ -3,7 +3,7 @@ use Rattle.std.proofs.Common.{◌≡◌, ◌≢◌, ℕ, ◌+◌, ◌<◌, ◌&&
 use Rattle.std.specs.List.{list_all, sum_by}
 use Rattle.std.proofs.lemmas.List.Sums.{fold_push, sum_by-append, sum_by-set}
 use Rattle.std.proofs.lemmas.List.Folds.{list_any-append}
-use Rattle.hub_core.proofs.LaneFacts.{ticket_parts}
+use Rattle.hub_core.proofs.LanesGrow.{ticket_parts}
 use Rattle.lane_core.specs.declared.job.Plain.{Plain}
 use Rattle.lane_core.specs.ReorderBuffer.{ReorderBuffer, GivesNext, TakesIn, is_new, lanes_of, next_of, was_taken}
 use Rattle.lane_core.specs.Settling.{sift, sifted}

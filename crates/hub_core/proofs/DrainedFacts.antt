@@ -8,7 +8,7 @@ use Rattle.std.proofs.lemmas.List.Sums.{sum_by-append}
 use Rattle.lane_core.specs.declared.job.Plain.{Plain}
 use Rattle.lane_core.specs.Weights.{once}
 use Rattle.hub_core.specs.inner.DrainedLists.{DrainsInto, Listed}
-use Rattle.hub_core.proofs.WeightFacts.{one_more}
+use Rattle.hub_core.proofs.SumsOfChanged.{one_more}
 
 -- what a list has at a place
 pub same_some : {X : Type 0} (x y : X) (xs : List X) (l : ℕ) → slice_get xs l ≡ Some x → slice_get xs l ≡ Some y → x ≡ y

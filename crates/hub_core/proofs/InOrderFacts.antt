@@ -10,7 +10,7 @@ use Rattle.lane_core.specs.Weights.{once}
 use Rattle.lane_core.proofs.GoodFacts.{numbered_more}
 use Rattle.lane_core.proofs.SlotFacts.{or_false}
 use Rattle.hub_core.specs.inner.Accounting.{GivenInOrder}
-use Rattle.hub_core.proofs.WeightFacts.{empties_at}
+use Rattle.hub_core.proofs.SumsOfChanged.{empties_at}
 use Rattle.hub_core.proofs.OrderFacts.{below_one_more, other_lane, same_lane}
 
 -- a ticket is among those that it is found of

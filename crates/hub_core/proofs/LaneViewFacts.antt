@@ -15,7 +15,7 @@ use Rattle.hub_core.specs.Lanes.{as_lane, lane_of, polled, submitted, submitted_
 use Rattle.hub_core.specs.Laws.{AreAnswersOf}
 use Rattle.hub_core.specs.Serving.{numbered_rows}
 use Rattle.lane_core.proofs.ListFacts.{get_back, get_map}
-use Rattle.hub_core.proofs.AnswerFacts.{rows_read}
+use Rattle.hub_core.proofs.ServedAreRead.{rows_read}
 use Rattle.element_core.specs.Terms.{Terms}
 use Rattle.hub_core.proofs.SeatFacts.{all_at}
 

@@ -23,7 +23,7 @@ use Rattle.hub_core.specs.Shapes.{is_allowed}
 use Rattle.hub_core.specs.inner.Accounting.{Accounted}
 use Rattle.hub_core.proofs.InOrderFacts.{fresh_in_order}
 use Rattle.element_core.specs.Terms.{Terms}
-use Rattle.hub_core.proofs.WeightFacts.{empties_at, sum_empties}
+use Rattle.hub_core.proofs.SumsOfChanged.{empties_at, sum_empties}
 
 count_small : (n : ℕ) → is_count n ≡ true → n ≤ 16
 count_small n e = let s = and_parts (nat_le 1 n) (nat_le n 16) e in le_from n s.1

@@ -7,7 +7,7 @@ use Rattle.std.proofs.lemmas.List.Sums.{sum_by-cons}
 use Rattle.lane_core.specs.Weights.{once}
 use Rattle.lane_core.proofs.ClaimFacts.{none_by}
 use Rattle.hub_core.specs.Hubs.{HasEach}
-use Rattle.hub_core.proofs.WeightFacts.{sum_by-map}
+use Rattle.hub_core.proofs.SumsOfChanged.{sum_by-map}
 
 -- what a number counts for is that of m or that of another
 split_by : (F : ℕ → ℕ) (m k : ℕ) → F k ≡ cond (k == m) (F m) 0 + cond (k == m) 0 (F k)

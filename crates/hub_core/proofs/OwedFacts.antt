@@ -21,7 +21,7 @@ use Rattle.lane_core.proofs.ListFacts.{get_back, get_map}
 use Rattle.hub_core.proofs.NumberFacts.{by_place, sum_ones}
 use Rattle.hub_core.proofs.SeatFacts.{Whole, by_seat, one_lane, sum_same}
 use Rattle.hub_core.proofs.SortFacts.{all_same}
-use Rattle.hub_core.proofs.WeightFacts.{sum_by-map}
+use Rattle.hub_core.proofs.SumsOfChanged.{sum_by-map}
 
 is_there : {X : Type 0} (xs : List X) (i : ℕ) → i < length xs → (x : X) × (slice_get xs i ≡ Some x)
 is_there [] i low = absurd (omega arith)

@@ -28,7 +28,7 @@ use Rattle.hub_core.specs.Workers.{job_in_hand, posted, taken}
 use Rattle.hub_core.specs.inner.Workers.{jobs_in_hand}
 use Rattle.hub_core.proofs.UnpolledFacts.{at_least}
 use Rattle.hub_core.proofs.NumberFacts.{by_place, sum_each}
-use Rattle.hub_core.proofs.WeightFacts.{sum_by-map}
+use Rattle.hub_core.proofs.SumsOfChanged.{sum_by-map}
 
 pub all_at : {X : Type 0} (P : X → Type 0) (xs : List X) (i : ℕ) (x : X) → All P xs → slice_get xs i ≡ Some x → P x
 all_at P xs i x all e = subst P (get_or_from_slice_get xs i x x e) (all i x (slice_get_within xs i x e))

@@ -1,10 +1,10 @@
 -- What each lane is given: its rows, under the tickets that were told.
-use Rattle.std.proofs.Common.{◌≡◌, ◌<◌, ◌+◌, ◌++◌, ◌∷◌, ℕ, suc, List, [], Some, ap, arith, get_or, length, length-append, refl, ◌∙◌}
+use Rattle.std.proofs.Common.{◌≡◌, ◌<◌, ◌+◌, ◌++◌, ◌∷◌, ℕ, suc, List, [], Some, ap, arith, get_or, length, length-append, refl, sym, ◌∙◌}
 use Rattle.std.specs.List.{slice_get}
 use Rattle.std.proofs.lemmas.List.{append_assoc}
 use Rattle.lane_core.specs.Plain.{plain_of}
 use Rattle.lane_core.specs.declared.job.Plain.{Plain}
-use Rattle.hub_core.specs.Lane.{AreSettled, Lane, deliveries, next_ticket, with_row}
+use Rattle.hub_core.specs.Lane.{ArePolledFirst, AreSettled, Lane, deliveries, next_ticket, with_row}
 use Rattle.hub_core.proofs.OrderFacts.{row_at, rows_long}
 use Rattle.element_core.specs.Terms.{Terms}
 use Rattle.hub_core.proofs.SeatFacts.{all_at}
@@ -30,3 +30,15 @@ ticket_kept year before lane row later lanes lists i number rows settled at =
     let found = row_at lane.number 0 k k year lane.rows (omega arith) (omega arith) in
     let here : get_or lane.rows k [] ≡ row = ap (λ (xs : List (List ℕ)). get_or xs k []) all ∙ row_between before.rows row later in
     ap (λ xs. slice_get xs k) is ∙ (found ∙ (λ j. Some (plain_of (number j) k year (here j))))
+
+pub settled_first : (year : Terms) (lanes : List Lane) (lists : List (List Plain)) → AreSettled year lanes lists → ArePolledFirst year lanes
+settled_first year lanes lists settled k d less = (get_or lists (get_or lanes k d).number [], settled k d less)
+
+pub earlier_first : (year : Terms) (before lane : Lane) (later : List Plain) (lanes : List Lane) (i : ℕ) → lane.polled ≡ before.polled ++ later
+    → ArePolledFirst year lanes → slice_get lanes i ≡ Some lane
+    → (rest : List Plain) × (before.polled ++ rest ≡ deliveries lane.number year lane.rows)
+earlier_first year before lane later lanes i polled first at =
+    let is = all_at (λ (l : Lane). (rest : List Plain) × (l.polled ++ rest ≡ deliveries l.number year l.rows)) lanes i lane first at in (
+      later ++ is.0,
+      sym (append_assoc before.polled later is.0) ∙ (ap (λ (xs : List Plain). xs ++ is.0) (sym polled) ∙ is.1),
+    )

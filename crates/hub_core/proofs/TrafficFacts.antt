@@ -1,5 +1,5 @@
 -- The seats of a hub that serves a traffic, one of which has taken a step.
-use Rattle.std.proofs.Common.{◌≡◌, ◌≢◌, ⊎_elim, ℕ, ◌<◌, ◌≤◌, ◌+◌, ◌++◌, List, [], ◌∷◌, zero, suc, All, IfSome, Option, Some, None, drop, get_or, length, length-append, map, replicate, set, refl, sym, ap, ◌∙◌, append-nil, append_assoc, subst, arith}
+use Rattle.std.proofs.Common.{◌≡◌, ◌≢◌, ⊎_elim, ℕ, ◌<◌, ◌≤◌, ◌+◌, ◌++◌, List, [], ◌∷◌, zero, suc, All, IfSome, Option, Some, None, option_to_list, drop, get_or, length, length-append, map, replicate, set, refl, sym, ap, ◌∙◌, append-nil, append_assoc, subst, arith}
 use Rattle.std.specs.List.{range_with_len, slice_get}
 use Rattle.std.proofs.Math.Seq.{map-set_same}
 use Rattle.std.proofs.lemmas.Bool.{cases_eq, cases_lt}
@@ -16,8 +16,12 @@ use Rattle.hub_core.specs.Hubs.{IsLaneOf, shape_of, year_of}
 use Rattle.hub_core.specs.Lanes.{issued_count, lane_of, numbers_of, polled, polled_count, received, submitted, submitted_rows}
 use Rattle.hub_core.specs.Serving.{numbered_feeds, numbered_rows, served}
 use Rattle.hub_core.proofs.LaneViewFacts.{PolledFirst}
-use Rattle.hub_core.specs.inner.Traffics.{AreEven, Serves, given_to, polled_by_each, with_held}
-use Rattle.hub_core.specs.Traffics.{AreServedFirst, HasRoom, IsEven, IsNextOf, with_more}
+use Rattle.hub_core.specs.inner.Traffics.{HavePolledAll, Serves, given_to, polled_by_each, with_held}
+use Rattle.hub_core.specs.Traffics.{AreFirstOf, AreServedFirst, HasRoom, History, IfLost, IsAllBrought, IsNextOf, with_more}
+use Rattle.hub_core.specs.inner.CallingThread.{AreLeftLost, GoesOn, HasLost, KeepsSeats, WasLost}
+use Rattle.hub_core.specs.declared.calling_thread.CallingThread.{CallingThread}
+use Rattle.hub_core.specs.declared.ended.Ended.{Ended}
+use Rattle.hub_core.specs.declared.ended.Ended.TheVariants.{Done, Lost, NoMemory, Stopped}
 use Rattle.hub_core.specs.declared.hub.Hub.{Hub}
 use Rattle.hub_core.specs.declared.lane_seat.LaneSeat.{LaneSeat}
 use Rattle.hub_core.proofs.ServeFacts.{lanes_counted}
@@ -157,14 +161,14 @@ next_of h seats held i s t x was low at same lane number more room =
     }
 
 -- lanes that have polled all that they issued were brought as many as they were given
-even_lanes : (seats : List LaneSeat) → AreEven seats → IsEven (map submitted_rows seats) (map polled seats)
+even_lanes : (seats : List LaneSeat) → HavePolledAll seats → IsAllBrought (map submitted_rows seats) (map polled seats)
 even_lanes [] even = refl
 even_lanes (s ∷ seats) even =
     let here : length (polled s) ≡ length (submitted_rows s) = even 0 s (omega arith) ∙ sym (length-map (submitted s) (λ (x : Plain). x.widths)) in
     let rest = even_lanes seats (λ k d low. even (suc k) d (omega (arith, low))) in
     (λ j. here j ∷ rest j)
 
-pub even_given : (seats : List LaneSeat) → AreEven seats → IsEven (given_to seats None) (polled_by_each seats)
+pub even_given : (seats : List LaneSeat) → HavePolledAll seats → IsAllBrought (given_to seats None) (polled_by_each seats)
 even_given seats even = even_lanes seats even
 
 -- a seat of the hub, by its place
@@ -230,7 +234,7 @@ done_from m year (s ∷ seats) (suc n) numbers owed even =
     (tail_all (λ (v : LaneSeat). polled_count v ≡ issued_count v) s seats even) in
     (λ j. here j ∷ rest j)
 
-pub all_served : (h : Hub) (seats : List LaneSeat) → Serves h seats None → PolledFirst h seats → AreEven seats → polled_by_each seats
+pub all_served : (h : Hub) (seats : List LaneSeat) → Serves h seats None → PolledFirst h seats → HavePolledAll seats → polled_by_each seats
     ≡ served (year_of h) (given_to seats None)
 all_served h seats was first even = done_from 0 (year_of h) seats (shape_of h).lanes was.numbers first even
 
@@ -302,3 +306,67 @@ served_first h seats held was first i = ⊎_elim
     let rest = get_or (served (year_of h) (given_to seats held)) i [] in
     (rest, ap (λ (v : List Plain). v ++ rest) (get_or_past (polled_by_each seats) i [] (omega (arith, past, length-map seats polled)))))
     (cases_lt i (length seats))
+
+-- ---- a delivery that was polled and not brought
+
+pub first_more : (lists : List (List Plain)) (k : ℕ) (x : Plain) → k < length lists → AreFirstOf lists (with_more k x lists)
+first_more lists k x low i = ⊎_elim
+    (λ (e : i ≡ k). (x ∷ [], ap (λ n. get_or lists n [] ++ x ∷ []) e ∙ sym (get_or-set_at lists k i (get_or lists k [] ++ x ∷ []) [] e low)))
+    (λ (e : i ≢ k). ([], append-nil (get_or lists i []) ∙ sym (get_or-set_other lists k i (get_or lists k [] ++ x ∷ []) [] e)))
+    (cases_eq i k)
+
+pub first_of_first : (lists more wholes : List (List Plain)) → AreFirstOf lists more → AreFirstOf more wholes → AreFirstOf lists wholes
+first_of_first lists more wholes a b i =
+    let p = a i in
+    let q = b i in
+    (p.0 ++ q.0, sym (append_assoc (get_or lists i []) p.0 q.0) ∙ (ap (λ (v : List Plain). v ++ q.0) p.1 ∙ q.1))
+
+pub polled_more : (seats : List LaneSeat) (i : ℕ) (s t : LaneSeat) (x : Plain) → i < length seats → s ≡ get_or seats i s → polled t ≡ polled s ++ x ∷ []
+    → AreFirstOf (polled_by_each seats) (polled_by_each (set seats i t))
+polled_more seats i s t x low at more = subst (λ v. AreFirstOf (polled_by_each seats) v) (sym (step_more polled seats i s t x low at more))
+    (first_more (polled_by_each seats) i x (omega (arith, low, length-map seats polled)))
+
+pub rows_same_given : (seats : List LaneSeat) (held : Option (ℕ × List ℕ)) (i : ℕ) (s t : LaneSeat) → s ≡ get_or seats i s → submitted t ≡ submitted s
+    → given_to seats held ≡ given_to (set seats i t) held
+rows_same_given seats held i s t at same = ap (with_held held) (sym (step_same submitted_rows seats i s t at (rows_same s t same)))
+
+pub if_lost : {W B : Type 0} (e : Ended W B) (P Q : Type 0) → (P → Q) → IfLost e P → IfLost e Q
+if_lost (Lost fault) P Q f p = f p
+if_lost Done P Q f p = tt
+if_lost NoMemory P Q f p = tt
+if_lost (Stopped fault) P Q f p = tt
+
+-- ---- the calling thread's steps one after another
+
+pub keeps_seats : {T : Type 0} (Came : History T) (s t : CallingThread T) → GoesOn Came s t → KeepsSeats s t
+keeps_seats Came s t goes = record {
+  hub = goes.hub;
+  start = goes.start;
+  seats = goes.seats;
+  lanes = goes.serves.lanes;
+  deliverer = goes.serves.deliverer;
+  own = goes.serves.own;
+}
+
+-- whatever is lost later was lost since an earlier step of the same thread
+pub lost_since : {T : Type 0} (Came : History T) (Leaves : T → T → Type 0) (s t u : CallingThread T) → t.hub.now ≡ s.hub.now → t.start.value ≡ s.start.value
+    → length (option_to_list t.own) ≡ length (option_to_list s.own) → HasLost Came Leaves t u → HasLost Came Leaves s u
+lost_since Came Leaves s t u hub start seats lost = record {
+  keeps = record {
+    hub = lost.keeps.hub ∙ hub;
+    start = lost.keeps.start ∙ start;
+    seats = lost.keeps.seats ∙ seats;
+    lanes = lost.keeps.lanes;
+    deliverer = lost.keeps.deliverer;
+    own = lost.keeps.own;
+  };
+  lost = lost.lost;
+}
+
+pub left_lost : {T : Type 0} (Came : History T) (Leaves : T → T → Type 0) (s t : CallingThread T) (h : Hub) (start : T) → s.hub.now ≡ h
+    → s.start.value ≡ start → HasLost Came Leaves s t → AreLeftLost Came Leaves h start t.traffic.value t.lanes.items
+left_lost Came Leaves s t h start hub is lost = (
+  t.held,
+  subst (λ x. Serves x t.lanes.items t.held) (lost.keeps.hub ∙ hub) lost.keeps.lanes,
+  subst (λ v. WasLost Came Leaves v t.traffic.value t.lanes.items t.held) (lost.keeps.start ∙ is) lost.lost,
+)

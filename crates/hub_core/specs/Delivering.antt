@@ -29,6 +29,10 @@ buffer_of s = s.deliverer
 abbrev pub lane_count : DelivererSeat → ℕ
 lane_count s = lanes_of (buffer_of s)
 
+-- what each lane was handed
+abbrev pub all_handed : DelivererSeat → List (List Plain)
+all_handed s = all_sent s.rings.items
+
 -- what lane l was handed
 abbrev pub handed : DelivererSeat → ℕ → List Plain
 handed s l = slice_index_or (all_sent s.rings.items) l []

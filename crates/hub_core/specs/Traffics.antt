@@ -21,8 +21,8 @@ pub record IsNextOf (x : Plain) (given : List (List (List ℕ))) (brought : List
   pub number : x.number ≡ length (slice_index_or brought x.lane [])
 
 -- as many were brought of each lane as were given
-abbrev pub IsEven : List (List (List ℕ)) → List (List Plain) → Type 0
-IsEven given brought = map (λ xs. length xs) brought ≡ map (λ xs. length xs) given
+abbrev pub IsAllBrought : List (List (List ℕ)) → List (List Plain) → Type 0
+IsAllBrought given brought = map (λ xs. length xs) brought ≡ map (λ xs. length xs) given
 
 -- ---- what led to a state
 
@@ -40,7 +40,7 @@ Awaits {T} came x s = (start : T) × (given : List (List (List ℕ))) × (brough
 
 -- in one of them all that was given has come back
 abbrev pub IsOwedNothing : {T : Type 0} → History T → T → Type 0
-IsOwedNothing {T} came s = (start : T) × (given : List (List (List ℕ))) × (brought : List (List Plain)) × came start s given brought × IsEven given brought
+IsOwedNothing {T} came s = (start : T) × (given : List (List (List ℕ))) × (brought : List (List Plain)) × came start s given brought × IsAllBrought given brought
 
 -- whatever led to the first state leads to the second
 abbrev pub Stays : {T : Type 0} → History T → T → T → Type 0
@@ -48,7 +48,7 @@ Stays {T} came s t = (start : T) (given : List (List (List ℕ))) (brought : Lis
 
 -- and so does whatever led to the first, if all that was given has come back
 abbrev pub StaysOwedNothing : {T : Type 0} → History T → T → T → Type 0
-StaysOwedNothing {T} came s t = (start : T) (given : List (List (List ℕ))) (brought : List (List Plain)) → came start s given brought → IsEven given brought
+StaysOwedNothing {T} came s t = (start : T) (given : List (List (List ℕ))) (brought : List (List Plain)) → came start s given brought → IsAllBrought given brought
     → came start t given brought
 
 -- whatever led to the first state leads to the second with this row of a lane more, which has a ticket left
@@ -68,11 +68,27 @@ IsKept Done = ⊤
 IsKept NoMemory = ⊤
 IsKept (Stopped fault) = ⊤
 
+-- each of these lists is the first of the list of its place
+abbrev pub AreFirstOf : List (List Plain) → List (List Plain) → Type 0
+AreFirstOf lists wholes = (i : ℕ) → (rest : List Plain) × (slice_index_or lists i [] ++ rest ≡ slice_index_or wholes i [])
+
 -- what was brought of each lane is the first of what its rows are served
 abbrev pub AreServedFirst : Terms → List (List (List ℕ)) → List (List Plain) → Type 0
-AreServedFirst year given brought = (i : ℕ) → (rest : List Plain) × (slice_index_or brought i [] ++ rest ≡ slice_index_or (served year given) i [])
+AreServedFirst year given brought = AreFirstOf brought (served year given)
 
 -- how a traffic was served: what it was brought is the first of what is served for what it gave, and at a regular end all of that
 abbrev pub IsServed : {T W B : Type 0} → History T → (T → Bool) → Terms → T → T → Ended W B → Type 0
 IsServed came has_ended year start now ended = (given : List (List (List ℕ))) × (brought : List (List Plain)) × came start now given brought
     × AreServedFirst year given brought × (ended ≡ Done → (has_ended now ≡ true) × (brought ≡ served year given))
+
+-- P, if a delivery was lost
+abbrev pub IfLost : {W B : Type 0} → Ended W B → Type 0 → Type 0
+IfLost (Lost fault) P = P
+IfLost Done P = ⊤
+IfLost NoMemory P = ⊤
+IfLost (Stopped fault) P = ⊤
+
+-- how a traffic was served that has lost a delivery: it had given rows and been brought the first of what is served for them, and is what its `bring` left then
+abbrev pub IsServedUpTo : {T : Type 0} → History T → (T → T → Type 0) → Terms → T → T → Type 0
+IsServedUpTo {T} came leaves year start now = (before : T) × (given : List (List (List ℕ))) × (brought : List (List Plain)) × came start before given brought
+    × AreServedFirst year given brought × leaves before now

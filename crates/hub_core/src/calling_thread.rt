@@ -7,7 +7,7 @@ use crate::fault::SubmitFault;
 use crate::gate::OpenGate;
 use crate::hub::Hub;
 use crate::lane_seat::LaneSeat;
-use crate::pace::Pace;
+use crate::pace::{Pace, ROWS_A_WORKER};
 use crate::traffic::Traffic;
 use crate::worker_seat::{Worked, WorkerSeat};
 use scan_core::Runs;
@@ -20,16 +20,13 @@ const IN_A_TURN: u32 = 16;
 /// How many deliveries are collected where the calling thread has slept: all that were posted meanwhile.
 const AFTER_A_SLEEP: u32 = 64;
 
-/// More rows than these that are under way after that are work for one worker more.
-const ROWS_A_WORKER: u32 = 16;
-
 /// What a turn leaves to do.
 #[derive(Clone, Copy)]
 enum Turn {
     /// The next turn.
     GoesOn,
     /// All that was given has come back, and nothing more is there.
-    Even,
+    AllBack,
     /// Memory was refused.
     NoMemory,
 }
@@ -53,11 +50,11 @@ pub(crate) struct CallingThread<'a, T> {
 }
 
 impl<'a, T: Traffic> CallingThread<'a, T> {
-    ghost use Rattle.std.specs.Prelude.{◌≡◌, ◌<◌, IfOk, IfSome, None, Ok, false, true, vec_len};
+    ghost use Rattle.std.specs.Prelude.{◌≡◌, ◌<◌, IfOk, IfSome, None, Ok, OnErr, false, true, vec_len};
     ghost use Rattle.hub_core.specs.Hubs.{IsDelivererOf, IsWorkerOf};
     ghost use Rattle.hub_core.specs.inner.Traffics.{Serves, given_to, polled_by_each};
-    ghost use Rattle.hub_core.specs.Traffics.{IsKept};
-    ghost use Rattle.hub_core.specs.inner.CallingThread.{GoesOn, HasAllBack, IsServing};
+    ghost use Rattle.hub_core.specs.Traffics.{IfLost, IsKept};
+    ghost use Rattle.hub_core.specs.inner.CallingThread.{GoesOn, HasAllBack, HasLost, IsServing, KeepsSeats};
 
     /// A thread that has done nothing.
     pub(crate) fn new(
@@ -133,7 +130,8 @@ impl<'a, T: Traffic> CallingThread<'a, T> {
     fn bring_next(&mut self, index: usize) -> Result<(), T::BringFault>
         requires serves { IsServing T.Came self.old }
         requires lane { index < vec_len self.old.lanes }
-        ensures { IfOk result (λ _. GoesOn T.Came self.old self.new) }
+        ensures goes { IfOk result (λ _. GoesOn T.Came self.old self.new) }
+        ensures lost { OnErr result (HasLost T.Came T.Leaves self.old self.new) }
     {
         match self.lanes[index].poll() {
             Some(delivery) => self.traffic.bring(delivery),
@@ -142,9 +140,10 @@ impl<'a, T: Traffic> CallingThread<'a, T> {
     }
 
     /// Hands the lane its next numbers, and brings each at once.
-    fn pass_on(&mut self, lane: u8) -> Result<(), T::BringFault>
+    fn bring_all(&mut self, lane: u8) -> Result<(), T::BringFault>
         requires { IsServing T.Came self.old }
-        ensures { IfOk result (λ _. GoesOn T.Came self.old self.new) }
+        ensures goes { IfOk result (λ _. GoesOn T.Came self.old self.new) }
+        ensures lost { OnErr result (HasLost T.Came T.Leaves self.old self.new) }
     {
         let index = usize::from(lane);
         if index >= self.lanes.len() {
@@ -162,7 +161,8 @@ impl<'a, T: Traffic> CallingThread<'a, T> {
     /// Collects what was posted, so many at most, and passes each on.
     fn collect_some<R: Wait>(&mut self, rt: &R, most: u32) -> Result<CollectedByLane, T::BringFault>
         requires { IsServing T.Came self.old }
-        ensures { IfOk result (λ _. GoesOn T.Came self.old self.new) }
+        ensures goes { IfOk result (λ _. GoesOn T.Came self.old self.new) }
+        ensures lost { OnErr result (HasLost T.Came T.Leaves self.old self.new) }
     {
         let mut collected = CollectedByLane::Nothing;
         for _i in 0..most {
@@ -170,7 +170,7 @@ impl<'a, T: Traffic> CallingThread<'a, T> {
             let CollectedByLane::Taken(lane) = collected else {
                 break;
             };
-            self.pass_on(lane)?;
+            self.bring_all(lane)?;
         }
         Ok(collected)
     }
@@ -213,8 +213,9 @@ impl<'a, T: Traffic> CallingThread<'a, T> {
     /// delivery.
     fn take_turn<R: Wait>(&mut self, rt: &R) -> Result<Turn, T::BringFault>
         requires { IsServing T.Came self.old }
-        ensures serves { IfOk result (λ _. GoesOn T.Came self.old self.new) }
-        ensures even { result ≡ Ok Turn.Even → HasAllBack self.new }
+        ensures goes { IfOk result (λ _. GoesOn T.Came self.old self.new) }
+        ensures lost { OnErr result (HasLost T.Came T.Leaves self.old self.new) }
+        ensures back { result ≡ Ok Turn.AllBack → HasAllBack self.new }
     {
         let seen = self.pace.signals_seen();
         let has_slept = self.pace.take_slept();
@@ -222,19 +223,19 @@ impl<'a, T: Traffic> CallingThread<'a, T> {
         if collected == CollectedByLane::NoMemory {
             return Ok(Turn::NoMemory);
         }
-        self.pace.tell_of_places();
+        self.pace.wake_for_places();
         if has_slept && self.has_many_under_way() {
             self.pace.wake_one_more();
         }
         let are_more = self.submit_some(rt);
         let is_idle = collected == CollectedByLane::Nothing && !are_more;
         let has_posted = self.read_row(rt, is_idle);
-        self.pace.tell_of_rows(are_more);
+        self.pace.wake_for_rows(are_more);
         if !is_idle || has_posted {
             return Ok(Turn::GoesOn);
         }
         if self.has_all_back() {
-            return Ok(Turn::Even);
+            return Ok(Turn::AllBack);
         }
         self.pace.wait(rt, seen);
         Ok(Turn::GoesOn)
@@ -256,7 +257,9 @@ impl<'a, T: Traffic> CallingThread<'a, T> {
         rt: &R,
     ) -> (CallingThread<'a, T>, Ended<T::WaitFault, T::BringFault>)
         requires { IsServing T.Came self }
+        ensures seats { KeepsSeats self.entry result.0 }
         ensures serves { IsKept result.1 → GoesOn T.Came self.entry result.0 }
+        ensures lost { IfLost result.1 (HasLost T.Came T.Leaves self.entry result.0) }
         ensures ended { result.1 ≡ Ended.Done → (T.has_ended result.0.traffic.value ≡ true) × HasAllBack result.0 }
     {
         let mut thread = self;
@@ -264,7 +267,7 @@ impl<'a, T: Traffic> CallingThread<'a, T> {
             match thread.take_turn(rt) {
                 Ok(Turn::GoesOn) => {}
                 Ok(Turn::NoMemory) => return (thread, Ended::NoMemory),
-                Ok(Turn::Even) => match thread.wait_for_more() {
+                Ok(Turn::AllBack) => match thread.wait_for_more() {
                     Ok(true) => {}
                     Ok(false) => return (thread, Ended::Done),
                     Err(fault) => return (thread, Ended::Stopped(fault)),

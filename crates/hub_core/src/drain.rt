@@ -4,7 +4,8 @@ ghost use Rattle.std.specs.List.{flat_map, sum_by};
 ghost use Rattle.crossbeam_queue.specs.Passes.{view, IsPassOf};
 ghost use Rattle.rtrb.specs.Ring.{sent, received, IsPair, SameProducer};
 ghost use Rattle.lane_core.specs.declared.job.Plain.{Plain};
-ghost use Rattle.hub_core.specs.inner.DrainedLists.{DrainsInto};
+ghost use Rattle.lane_core.specs.Weights.{OneForOne};
+ghost use Rattle.hub_core.specs.inner.DrainedLists.{Drains, DrainsInto};
 ghost use Rattle.hub_core.specs.inner.Fresh.{IsPairedIn};
 ghost use Rattle.hub_core.specs.Hubs.{AreAllSeats, IsWorkerOf};
 ghost use Rattle.hub_core.specs.Lanes.{numbers_of, submitted};
@@ -66,7 +67,7 @@ pub(crate) fn place_queue<T: Queued, R: Wait>(
     lists: &mut Vec<Vec<Delivery>>,
 )
     requires { IsPassOf queue.now all.old × (shares_of all.old ≡ 1024) }
-    ensures drains { (xs : List Plain) × DrainsInto lists.old.items lists.new.items xs × ((h : Plain → ℕ) → sum_by h (pushed_by all.old) ≡ sum_by h (popped_by all.old) + sum_by h xs) }
+    ensures drains { Drains lists.old.items lists.new.items (OneForOne (pushed_by all.old) (popped_by all.old)) }
 {
     for _ in rt.forever() {
         let Some(item) = queue.pop_as::<Pops, R>(rt, all) else {
@@ -78,7 +79,7 @@ pub(crate) fn place_queue<T: Queued, R: Wait>(
 
 /// Takes out what waits.
 pub(crate) fn place_waiting(deliverer: &mut Deliverer, lists: &mut Vec<Vec<Delivery>>)
-    ensures drains { (xs : List Plain) × DrainsInto lists.old.items lists.new.items xs × ((h : Plain → ℕ) → sum_by h deliverer.old.waiting ≡ sum_by h xs) }
+    ensures drains { Drains lists.old.items lists.new.items (λ xs. (h : Plain → ℕ) → sum_by h deliverer.old.waiting ≡ sum_by h xs) }
 {
     while let Some(delivery) = deliverer.take_any() {
         place(lists, delivery);
@@ -93,7 +94,7 @@ fn place_rest(
 )
     requires { IsPair producer.old consumer.old }
     ensures same { SameProducer producer.old producer.new × (sent producer.new ≡ sent producer.old) }
-    ensures drains { (xs : List Plain) × DrainsInto lists.old.items lists.new.items xs × (received consumer.old ++ xs ≡ sent producer.old) }
+    ensures drains { Drains lists.old.items lists.new.items (λ xs. received consumer.old ++ xs ≡ sent producer.old) }
 {
     let left = consumer.slots_beside(producer);
     for _i in 0..left {
@@ -113,7 +114,7 @@ pub(crate) fn place_rings(
     requires rings { All (IsPairedIn rings.old.items) lanes.items }
     ensures same { IsPassOf hub.now.jobs all_jobs.new }
     ensures jobs { view all_jobs.new ≡ trace (shares_of all_jobs.old + length lanes.items) (pushed_by all_jobs.old ++ flat_map submitted lanes.items) (popped_by all_jobs.old) }
-    ensures drains { (xs : List Plain) × DrainsInto lists.old.items lists.new.items xs × ((h : Plain → ℕ) → sum_by h xs + all_received h lanes.items ≡ to_lanes h rings.old.items (numbers_of lanes.items)) }
+    ensures drains { Drains lists.old.items lists.new.items (λ xs. (h : Plain → ℕ) → sum_by h xs + all_received h lanes.items ≡ to_lanes h rings.old.items (numbers_of lanes.items)) }
     ensures received { AreFromFirst rings.old.items lanes.items }
 {
     for closed in lanes {

@@ -12,15 +12,3 @@ pub enum Ended<W, B> {
     /// The traffic could not be brought a delivery, which is lost.
     Lost(B),
 }
-
-impl<W, B> Ended<W, B> {
-    ghost use Rattle.std.specs.Prelude.{◌≡◌, ◌↔◌, false};
-    ghost use Rattle.hub_core.specs.Traffics.{IsKept};
-
-    /// Whether a delivery was lost.
-    pub(crate) fn is_lost(&self) -> bool
-        ensures { IsKept self.now ↔ (result ≡ false) }
-    {
-        matches!(self, Ended::Lost(_))
-    }
-}

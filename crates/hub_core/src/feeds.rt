@@ -50,7 +50,7 @@ impl Feeds {
     }
 
     /// The lane's next row.
-    fn take_of(&mut self, lane: u8) -> Option<Runs>
+    fn next_of_lane(&mut self, lane: u8) -> Option<Runs>
         ensures some { IfSome result (λ row. IsTaken (rests_of self.old) lane row (rests_of self.new)) }
         ensures given { IfSome result (λ row. GivesRow (lane, row) (rests_of self.old) (rests_of self.new)) }
         ensures none { result ≡ None → rests_of self.new ≡ rests_of self.old }
@@ -64,14 +64,14 @@ impl Feeds {
     }
 
     /// The next row of this lane or one after it.
-    fn take_from(&mut self, first: u8) -> Option<(u8, Runs)>
+    fn next_from(&mut self, first: u8) -> Option<(u8, Runs)>
         ensures some { IfSome result (λ r. IsTaken (rests_of self.old) r.0 r.1 (rests_of self.new)) }
         ensures given { IfSome result (λ r. GivesRow r (rests_of self.old) (rests_of self.new)) }
         ensures none { result ≡ None → rests_of self.new ≡ rests_of self.old }
         ensures left { result ≡ None → NoneIsLeft first 16 (rests_of self.old) }
     {
         for lane in first..MOST_LANES {
-            if let Some(row) = self.take_of(lane) {
+            if let Some(row) = self.next_of_lane(lane) {
                 self.turn = lane + 1;
                 return Some((lane, row));
             }
@@ -86,9 +86,9 @@ impl Feeds {
         ensures none { result ≡ None → rests_of self.new ≡ rests_of self.old }
         ensures left { result ≡ None → length (rests_of self.old) ≤ 16 → are_given (rests_of self.old) ≡ true }
     {
-        match self.take_from(self.turn) {
+        match self.next_from(self.turn) {
             Some(row) => Some(row),
-            None => self.take_from(0),
+            None => self.next_from(0),
         }
     }
 }

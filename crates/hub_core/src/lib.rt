@@ -10,7 +10,7 @@ mod ended;
 mod fault;
 mod feeds;
 mod gate;
-mod hand;
+mod held;
 mod hub;
 mod lane_seat;
 mod laws;
@@ -37,7 +37,8 @@ pub use gate::{Gate, OpenGate};
 pub use hub::Hub;
 pub use lane_seat::LaneSeat;
 pub use laws::{
-    answers_are_read, deliveries_by_place, headline, served_by_place, tickets_are_kept,
+    answers_are_read, deliverer_keeps_all, deliveries_by_place, headline, polled_first,
+    served_by_place, tickets_are_kept, worker_keeps_all,
 };
 pub use parts::Parts;
 pub use rule::{OneForOne, Trace};

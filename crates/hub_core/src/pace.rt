@@ -1,6 +1,6 @@
 //! When the calling thread wakes workers, and how it waits for deliveries. No claim rests on it.
 
-use crate::signals::{REST, Signals};
+use crate::signals::Signals;
 use std::mem;
 use std::sync::Wait;
 
@@ -10,6 +10,18 @@ const WAKE_FOR: u32 = 32;
 /// How often the calling thread looks for a delivery before it sleeps, for some microseconds. It is worth more
 /// looks than a worker's: while it sleeps no row is submitted.
 const LOOKS: u32 = 5_000;
+
+/// How often a worker looks at a signal before it sleeps: to sleep and be woken takes longer.
+pub(crate) const WORKER_LOOKS: u32 = 100;
+
+/// How many microseconds a thread sleeps at most before it looks again for what it was told of.
+pub(crate) const REST: u64 = 1_000_000;
+
+/// How many deliveries a worker posts before it tells the calling thread of them.
+pub(crate) const NOTIFIED_TOGETHER: u32 = 16;
+
+/// If more rows than these are under way after the calling thread has slept, there is work for one more worker.
+pub(crate) const ROWS_A_WORKER: u32 = 16;
 
 /// How many microseconds the calling thread waits for a delivery before it wakes a further worker, and
 /// twice as many the next time where there is no further one.
@@ -28,7 +40,7 @@ pub(crate) struct Pace<'a> {
     /// How many of them may be held, fewer than all.
     held: u8,
     /// How many rows were queued since the workers were told.
-    untold: u32,
+    unannounced: u32,
     /// How many microseconds it waits at most.
     nap: u64,
     /// Whether it has slept since `take_slept` was last called.
@@ -42,7 +54,7 @@ impl<'a> Pace<'a> {
             signals,
             workers,
             held: 0,
-            untold: 0,
+            unannounced: 0,
             nap: PATIENCE,
             has_slept: false,
         }
@@ -50,19 +62,19 @@ impl<'a> Pace<'a> {
 
     /// Counts a row that was queued.
     pub(crate) fn count_queued(&mut self) {
-        self.untold = self.untold.saturating_add(1);
+        self.unannounced = self.unannounced.saturating_add(1);
     }
 
     /// Counts a row that the calling thread has read: the workers need not be told of one.
     pub(crate) fn count_read(&mut self) {
-        self.untold = self.untold.saturating_sub(1);
+        self.unannounced = self.unannounced.saturating_sub(1);
     }
 
     /// Tells the workers of the rows that were queued: of a few only where no more come for now. One is woken
     /// where all sleep that are not held: a worker that is awake looks for rows until it finds none.
-    pub(crate) fn tell_of_rows(&mut self, are_more: bool) {
-        if self.untold >= WAKE_FOR || (self.untold > 0 && !are_more) {
-            self.untold = 0;
+    pub(crate) fn wake_for_rows(&mut self, are_more: bool) {
+        if self.unannounced >= WAKE_FOR || (self.unannounced > 0 && !are_more) {
+            self.unannounced = 0;
             if self.signals.jobs.sleepers() >= u64::from(self.workers) {
                 self.held = 0;
             }
@@ -72,7 +84,7 @@ impl<'a> Pace<'a> {
     }
 
     /// Tells the workers that there are places for deliveries.
-    pub(crate) fn tell_of_places(&self) {
+    pub(crate) fn wake_for_places(&self) {
         self.signals.places.notify_all();
     }
 

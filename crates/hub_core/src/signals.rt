@@ -1,15 +1,10 @@
 //! How a thread that finds nothing to do sleeps, and how another wakes it. No claim rests on it.
 
+use crate::pace::{REST, WORKER_LOOKS};
 use std::hint;
 use std::sync::Wait;
 use std::sync::atomic::{AtomicU64, Ordering};
 use std::time::Duration;
-
-/// How often a worker looks at a signal before it sleeps: to sleep and be woken takes longer.
-const LOOKS: u32 = 100;
-
-/// How many microseconds a thread sleeps at most before it looks again for what it was told of.
-pub(crate) const REST: u64 = 1_000_000;
 
 /// A thread sleeps while the low 32 bits of a word are what they were.
 const WORDS: u64 = 4_294_967_296;
@@ -67,7 +62,7 @@ impl Signal {
 
     /// Waits until it is given again, for a second at most.
     pub(crate) fn rest<R: Wait>(&self, rt: &R, seen: u64) {
-        self.wait(rt, seen, LOOKS, REST);
+        self.wait(rt, seen, WORKER_LOOKS, REST);
     }
 
     /// Gives it, and wakes no thread.

@@ -1,13 +1,13 @@
 //! The serving of a traffic, from the making of its hub to the end of its threads.
-ghost use Rattle.std.specs.Prelude.{◌≡◌, ◌≢◌, ◌+◌, ◌≤◌, [], All, IfErr, IfOk, IfSome, List, None, Option, length, map, option_to_list, replicate, true, vec_capacity, vec_len, ℕ};
+ghost use Rattle.std.specs.Prelude.{◌≡◌, ◌≢◌, ◌+◌, ◌≤◌, [], All, IfErr, IfOk, IfSome, List, None, Option, length, map, option_to_list, replicate, vec_capacity, vec_len, ℕ};
 ghost use Rattle.std.specs.List.{range_with_len};
 ghost use Rattle.hub_core.specs.Fresh.{HasDoneNothing};
 ghost use Rattle.hub_core.specs.Hubs.{AreAllSeats, Holds, IsDelivererOf, IsWorkerOf, shape_of, year_of};
 ghost use Rattle.hub_core.specs.Lane.{ArePolledFirst};
 ghost use Rattle.hub_core.specs.Lanes.{as_lane, numbers_of};
-ghost use Rattle.hub_core.specs.Serving.{is_count};
-ghost use Rattle.hub_core.specs.Traffics.{IsKept, IsServed};
-ghost use Rattle.hub_core.specs.inner.CallingThread.{AreLeft, AreSeats, WasServed};
+ghost use Rattle.hub_core.specs.Serving.{AreSeatCounts};
+ghost use Rattle.hub_core.specs.Traffics.{IfLost, IsKept, IsServed, IsServedUpTo};
+ghost use Rattle.hub_core.specs.inner.CallingThread.{AreLeftLost, AreSeats, WasServed};
 ghost use Rattle.hub_core.specs.inner.Traffics.{Serves, given_to, polled_by_each};
 
 use crate::calling_thread::CallingThread;
@@ -44,7 +44,7 @@ fn new_hub<R: Wait>(
     workers: u8,
     year: Year,
 ) -> Result<Parts, ServeFault>
-    requires counts { (is_count lanes ≡ true) × (is_count workers ≡ true) }
+    requires counts { AreSeatCounts lanes workers }
     ensures shape { IfOk result (λ p. ((shape_of p.hub).lanes ≡ lanes) × ((shape_of p.hub).limit ≡ 4294967295) × (year_of p.hub ≡ year) × ((shape_of p.hub).workers ≡ workers)) }
     ensures lanes { IfOk result (λ p. numbers_of p.lanes.items ≡ range_with_len 0 lanes) }
     ensures seats { IfOk result (λ p. AreAllSeats p.hub p.lanes.items p.workers.items p.deliverer) }
@@ -132,7 +132,9 @@ fn serve_seats<'e, R: Threads + Wait + Sync, G: Gate + Sync, T: Traffic + Drop>(
 ) -> Result<(Box<T>, Seats, Ended<T::WaitFault, T::BringFault>), Unstarted<Box<T>>>
     requires seats { AreSeats hub.now seats None }
     requires fresh { T.Came traffic.value traffic.value (given_to seats.lanes.items None) (polled_by_each seats.lanes.items) }
-    ensures served { IfOk result (λ v. IsKept v.2 → AreLeft T.Came T.has_ended hub.now traffic.value v.0.value v.1 v.2) }
+    ensures seats { IfOk result (λ v. (held : Option (ℕ × List ℕ)) × AreSeats hub.now v.1 held) }
+    ensures served { IfOk result (λ v. IsKept v.2 → WasServed T.Came T.has_ended hub.now traffic.value v.0.value v.1.lanes.items v.2) }
+    ensures lost { IfOk result (λ v. IfLost v.2 (AreLeftLost T.Came T.Leaves hub.now traffic.value v.0.value v.1.lanes.items)) }
     ensures refused { IfErr result (λ e. e.fault ≢ ServeFault.BadCount) }
     ensures untouched { IfErr result (λ e. e.input ≡ traffic) }
 {
@@ -145,8 +147,10 @@ fn serve_seats<'e, R: Threads + Wait + Sync, G: Gate + Sync, T: Traffic + Drop>(
     let threads = workers.len() as u8;
     let task = move |traffic: Box<T>| -> (Left<T>, Ended<T::WaitFault, T::BringFault>)
         requires { Serves hub.now lanes.items None × IsDelivererOf hub.now deliverer × IfSome own (IsWorkerOf hub.now) × T.Came traffic.value traffic.value (given_to lanes.items None) (polled_by_each lanes.items) }
-        ensures seats { IsKept result.1 → IsDelivererOf hub.entry.now result.0.deliverer × IfSome result.0.own (IsWorkerOf hub.entry.now) × (length (option_to_list result.0.own) ≡ length (option_to_list own)) }
+        ensures seats { IsDelivererOf hub.entry.now result.0.deliverer × IfSome result.0.own (IsWorkerOf hub.entry.now) × (length (option_to_list result.0.own) ≡ length (option_to_list own)) }
+        ensures lanes { (held : Option (ℕ × List ℕ)) × Serves hub.entry.now result.0.lanes.items held }
         ensures served { IsKept result.1 → WasServed T.Came T.has_ended hub.entry.now traffic.value result.0.traffic.value result.0.lanes.items result.1 }
+        ensures lost { IfLost result.1 (AreLeftLost T.Came T.Leaves hub.entry.now traffic.value result.0.traffic.value result.0.lanes.items) }
     {
         let pace = Pace::new(signals, threads);
         let thread = CallingThread::new(hub, lanes, deliverer, own, traffic, pace);
@@ -213,9 +217,10 @@ fn serve_boxed<R: Threads + Wait + Sync, G: Gate + Sync, T: Traffic + Drop>(
     year: Year,
     gate: &G,
 ) -> Result<(Box<T>, Ended<T::WaitFault, T::BringFault>), Unstarted<Box<T>>>
-    requires counts { (is_count lanes ≡ true) × (is_count workers ≡ true) }
+    requires counts { AreSeatCounts lanes workers }
     requires fresh { T.Came traffic.value traffic.value (replicate lanes []) (replicate lanes []) }
     ensures served { IfOk result (λ v. IsKept v.1 → IsServed T.Came T.has_ended year traffic.value v.0.value v.1) }
+    ensures lost { IfOk result (λ v. IfLost v.1 (IsServedUpTo T.Came T.Leaves year traffic.value v.0.value)) }
     ensures refused { IfErr result (λ e. e.fault ≢ ServeFault.BadCount) }
     ensures untouched { IfErr result (λ e. e.input ≡ traffic) }
 {
@@ -241,9 +246,6 @@ fn serve_boxed<R: Threads + Wait + Sync, G: Gate + Sync, T: Traffic + Drop>(
     };
     let signals = Signals::new();
     let (traffic, seats, ended) = serve_seats(rt, alloc, &hub, seats, traffic, gate, &signals)?;
-    if ended.is_lost() {
-        return Ok((traffic, ended));
-    }
     finish_all(rt, alloc, hub, seats, room);
     Ok((traffic, ended))
 }
@@ -263,9 +265,10 @@ pub fn serve_traffic<R: Threads + Wait + Sync, G: Gate + Sync, T: Traffic + Drop
     year: Year,
     gate: &G,
 ) -> Result<(T, Ended<T::WaitFault, T::BringFault>), Unstarted<T>>
-    requires counts { (is_count lanes ≡ true) × (is_count workers ≡ true) }
+    requires counts { AreSeatCounts lanes workers }
     requires fresh { T.Came traffic traffic (replicate lanes []) (replicate lanes []) }
     ensures served { IfOk result (λ v. IsKept v.1 → IsServed T.Came T.has_ended year traffic v.0 v.1) }
+    ensures lost { IfOk result (λ v. IfLost v.1 (IsServedUpTo T.Came T.Leaves year traffic v.0)) }
     ensures refused { IfErr result (λ e. e.fault ≢ ServeFault.BadCount) }
     ensures untouched { IfErr result (λ e. e.input ≡ traffic) }
 {

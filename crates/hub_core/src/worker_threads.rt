@@ -1,19 +1,18 @@
 //! A thread for each worker's seat.
 ghost use Rattle.std.specs.Prelude.{◌≡◌, ◌≢◌, [], ◌≤◌, ◌<◌, All, IfOk, IfErr, ◌+◌, true, vec_len, vec_capacity};
 ghost use Rattle.hub_core.specs.Hubs.{IsWorkerOf};
+ghost use Rattle.hub_core.specs.Workers.{AreBack};
 
 use crate::fault::{ServeFault, Unstarted};
 use crate::gate::Gate;
 use crate::hub::Hub;
+use crate::pace::NOTIFIED_TOGETHER;
 use crate::signals::Signals;
 use crate::worker_seat::{Worked, WorkerSeat};
 use std::alloc::Global;
 use std::sync::Wait;
 use std::thread;
 use std::thread::{Promise, PromisedHandle, Scope, Threads};
-
-/// How many deliveries a worker posts before it tells the calling thread of them.
-const NOTIFIED_TOGETHER: u32 = 16;
 
 /// A worker's seat comes back as one of this hub.
 #[derive(Clone, Copy)]
@@ -25,10 +24,10 @@ impl<'a> Promise<WorkerSeat> for OfHub<'a> {
     ghost kept_by = { λ p r. IsWorkerOf p.0.now r };
 }
 
-/// Tells the calling thread of the deliveries that it was not told of, where there are so many.
-fn tell_of(signals: &Signals, untold: &mut u32, least: u32) {
-    if *untold >= least {
-        *untold = 0;
+/// Wakes the calling thread for the deliveries that it was not told of, if there are as many as `least`.
+fn wake_caller(signals: &Signals, unannounced: &mut u32, least: u32) {
+    if *unannounced >= least {
+        *unannounced = 0;
         signals.deliveries.notify_one();
     }
 }
@@ -45,7 +44,7 @@ fn run_worker<R: Wait, G: Gate>(
     ensures { IsWorkerOf hub.now result }
 {
     let mut seat = seat;
-    let mut untold: u32 = 0;
+    let mut unannounced: u32 = 0;
     let jobs_signal = signals.jobs.of_next_worker();
     for _ in rt.forever() {
         let jobs = jobs_signal.given();
@@ -53,16 +52,16 @@ fn run_worker<R: Wait, G: Gate>(
         let is_last = signals.is_stop_requested();
         match hub.work(rt, &mut seat, gate) {
             Worked::Posted => {
-                untold = untold.saturating_add(1);
-                tell_of(signals, &mut untold, NOTIFIED_TOGETHER);
+                unannounced = unannounced.saturating_add(1);
+                wake_caller(signals, &mut unannounced, NOTIFIED_TOGETHER);
             }
             _ if is_last => break,
             Worked::Nothing => {
-                tell_of(signals, &mut untold, 1);
+                wake_caller(signals, &mut unannounced, 1);
                 jobs_signal.rest(rt, jobs);
             }
             Worked::Held => {
-                tell_of(signals, &mut untold, 1);
+                wake_caller(signals, &mut unannounced, 1);
                 signals.places.rest(rt, places);
             }
         }
@@ -144,7 +143,7 @@ pub fn run_workers<
     task: F,
 ) -> Result<(Vec<WorkerSeat>, T), Unstarted<I>>
     requires { All (IsWorkerOf hub.now) seats.items × F.pre task input }
-    ensures seats { IfOk result (λ v. All (IsWorkerOf hub.now) v.0.items × (vec_len v.0 ≡ vec_len seats) × (vec_capacity v.0 ≡ vec_capacity seats)) }
+    ensures seats { IfOk result (λ v. AreBack hub.now seats v.0) }
     ensures task { IfOk result (λ v. F.post task input v.1) }
     ensures refused { IfErr result (λ e. e.fault ≢ ServeFault.BadCount) }
     ensures untouched { IfErr result (λ e. e.input ≡ input) }
@@ -157,7 +156,7 @@ pub fn run_workers<
         rt,
         |scope| -> Result<(Vec<WorkerSeat>, T), Unstarted<I>>
             requires { All (IsWorkerOf hub.now) seats.items × F.pre task input × (back.items ≡ []) × (vec_len back ≡ 0) × (vec_capacity back ≡ vec_capacity seats) }
-            ensures seats { IfOk result (λ v. All (IsWorkerOf hub.entry.now) v.0.items × (vec_len v.0 ≡ vec_len seats) × (vec_capacity v.0 ≡ vec_capacity seats)) }
+            ensures seats { IfOk result (λ v. AreBack hub.entry.now seats v.0) }
             ensures task { IfOk result (λ v. F.post task input v.1) }
             ensures refused { IfErr result (λ e. e.fault ≢ ServeFault.BadCount) }
             ensures untouched { IfErr result (λ e. e.input ≡ input) }

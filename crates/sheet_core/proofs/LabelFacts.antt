@@ -6,13 +6,20 @@ use Rattle.std.proofs.lemmas.Bool.{cases_lt, cases_eq, ne_eqb, le-leb, lt-leb}
 use Rattle.std.proofs.lemmas.List.{drop_at, get_or_push, length-replicate, take_at}
 use Rattle.digits_core.specs.Digits.{padded}
 use Rattle.digits_core.specs.Upce.{IsFirstUpceOf, upce_expanded, upce_line}
-use Rattle.ean_code.specs.Spelling.{IsGtinSymbol, IsPrintedUpce, IsSpelled}
+use Rattle.ean_code.specs.Spelling.{IsGtinSymbol, IsPrintedUpce, IsSpelled, gtin_of}
+use Rattle.ean_code.specs.Symbols.{digit_count, widths_of}
+use Rattle.ean_code.specs.declared.kind.Kind.{Kind}
 use Rattle.ean_code.specs.declared.reading.Spelled.TheVariants.{Found}
 use Rattle.ean_code.specs.declared.kind.Kind.TheVariants.{Ean13 as KindEan13, Ean8 as KindEan8, UpcE as KindUpcE, Itf14 as KindItf14}
+use Rattle.element_core.specs.Elements.{canonical}
+use Rattle.scan_core.specs.Showing.{kind_of}
+use Rattle.sheet_core.specs.declared.kind.GtinKind.{GtinKind}
+use Rattle.sheet_core.specs.declared.kind.GtinKind.TheVariants as kind
 use Rattle.sheet_core.specs.declared.label.Label.{Label}
 use Rattle.sheet_core.specs.declared.label.Label.TheVariants.{Ean13, UpcA, Ean8, UpcE, Itf14, Gs1128}
 use Rattle.sheet_core.specs.Grids.{Cells}
-use Rattle.sheet_core.specs.Labels.{Drawn, FitsCell, IsDrawn, IsLabelSymbol, IsPrintable}
+use Rattle.sheet_core.specs.Labels.{Content, Drawn, FitsCell, IsDrawn, IsLabelSymbol, IsPrintable, IsPrintedGs1128, carrier_of, content_of, gtin_label}
+use Rattle.sheet_core.specs.Labels.Content.{OfElements, OfGtin}
 
 -- the digits of a padded number
 unpadded : (n : ℕ) (ds : List ℕ) → length ds ≡ n → drop (14 - n) (padded ds) ≡ ds
@@ -21,17 +28,12 @@ unpadded n ds e = drop_at (replicate (14 - length ds) 0) ds (14 - n) (length-rep
 same_padded : (n : ℕ) (g ds es : List ℕ) → length ds ≡ n → length es ≡ n → g ≡ padded ds → g ≡ padded es → ds ≡ es
 same_padded n g ds es d e p q = sym (unpadded n ds d) ∙ ap (drop (14 - n)) (sym p ∙ q) ∙ unpadded n es e
 
-same_ean13 : (g ms ns : List ℕ) → IsSpelled KindEan13 ms (Found g) → IsSpelled KindEan13 ns (Found g) → ms ≡ ns
-same_ean13 g ms ns h k =
-    let same = same_padded 13 g h.0 k.0 h.1.count k.1.count h.2 k.2 in let a = h.1.widths in let b = k.1.widths in cc
-
-same_ean8 : (g ms ns : List ℕ) → IsSpelled KindEan8 ms (Found g) → IsSpelled KindEan8 ns (Found g) → ms ≡ ns
-same_ean8 g ms ns h k =
-    let same = same_padded 8 g h.0 k.0 h.1.count k.1.count h.2 k.2 in let a = h.1.widths in let b = k.1.widths in cc
-
-same_itf14 : (g ms ns : List ℕ) → IsSpelled KindItf14 ms (Found g) → IsSpelled KindItf14 ns (Found g) → ms ≡ ns
-same_itf14 g ms ns h k =
-    let same = same_padded 14 g h.0 k.0 h.1.count k.1.count h.2 k.2 in let a = h.1.widths in let b = k.1.widths in cc
+-- a symbol whose digits stand for a GTIN as they are is fixed by the GTIN
+same_spelled : (kind : Kind) → ((ds : List ℕ) → gtin_of kind ds ≡ padded ds) → (g ms ns : List ℕ) → IsSpelled kind ms (Found g) → IsSpelled kind ns (Found g)
+    → ms ≡ ns
+same_spelled kind as_it_is g ms ns h k =
+    let same = same_padded (digit_count kind) g h.0 k.0 h.1.count k.1.count (h.2 ∙ as_it_is h.0) (k.2 ∙ as_it_is k.0) in
+    h.1.widths ∙ ap (widths_of kind) same ∙ sym k.1.widths
 
 -- the line of the table by the sixth digit, and what its six digits stand for
 line_of : (a b c d e f x : ℕ)
@@ -135,11 +137,11 @@ same_upce g ms ns h k =
     let same = same_first g h.0 k.0 h.1 k.1 h.2 k.2 in let a = h.3.widths in let b = k.3.widths in cc
 
 pub same_symbol : (label : Label) (ms ns : List ℕ) → IsLabelSymbol label ms → IsLabelSymbol label ns → ms ≡ ns
-same_symbol (Ean13 g) ms ns h k = same_ean13 g ms ns h k
-same_symbol (UpcA g) ms ns h k = same_ean13 g ms ns h.1 k.1
-same_symbol (Ean8 g) ms ns h k = same_ean8 g ms ns h k
+same_symbol (Ean13 g) ms ns h k = same_spelled KindEan13 (λ ds. refl) g ms ns h k
+same_symbol (UpcA g) ms ns h k = same_spelled KindEan13 (λ ds. refl) g ms ns h.1 k.1
+same_symbol (Ean8 g) ms ns h k = same_spelled KindEan8 (λ ds. refl) g ms ns h k
 same_symbol (UpcE g) ms ns h k = same_upce g ms ns h k
-same_symbol (Itf14 g) ms ns h k = same_itf14 g ms ns h k
+same_symbol (Itf14 g) ms ns h k = same_spelled KindItf14 (λ ds. refl) g ms ns h k
 same_symbol (Gs1128 l) ms ns h k = h.drawn.widths ∙ sym k.drawn.widths
 
 pub same_drawn : (label : Label) (s t : Drawn) → IsDrawn label s → IsDrawn label t → s ≡ t
@@ -158,6 +160,31 @@ symbol_of_upce g ms h =
     let front : take 6 (six ++ x ∷ []) ≡ six = take_at six (x ∷ []) 6 (s.six_digits) in
     let last : get_or (six ++ x ∷ []) 6 0 ≡ x = get_or_push six x 0 6 s.six_digits in
     (six ++ x ∷ [], h.3, s.number ∙ sym (ap₂ (λ xs c. padded (upce_expanded xs c)) front last))
+
+-- ---- what labels say
+
+-- a symbol by its kind, if it has one, and what it says
+abbrev pub IsSymbolOf : Option Kind → Content → List ℕ → Type 0
+IsSymbolOf (Some kind) (OfGtin gtin) modules = IsSpelled kind modules (Found gtin)
+IsSymbolOf None (OfElements listing) modules = IsPrintedGs1128 (canonical listing.list) modules
+IsSymbolOf _ _ modules = ⊥
+
+-- a label's symbol is one of its carrier and says its content
+pub by_carrier : (label : Label) (ms : List ℕ) → IsLabelSymbol label ms → IsSymbolOf (kind_of (carrier_of label)) (content_of label) ms
+by_carrier (Ean13 g) ms h = h
+by_carrier (UpcA g) ms h = h.1
+by_carrier (Ean8 g) ms h = h
+by_carrier (UpcE g) ms h = let s = symbol_of_upce g ms h in (s.0, s.1, s.2, h.2.spelling.checked)
+by_carrier (Itf14 g) ms h = h
+by_carrier (Gs1128 l) ms h = h
+
+-- the label of a GTIN says it
+pub content_back : (kind : GtinKind) (gtin : List ℕ) → content_of (gtin_label kind gtin) ≡ OfGtin gtin
+content_back kind.Ean13 gtin = refl
+content_back kind.UpcA gtin = refl
+content_back kind.Ean8 gtin = refl
+content_back kind.UpcE gtin = refl
+content_back kind.Itf14 gtin = refl
 
 -- ---- lists of labels
 

@@ -1,3 +1,4 @@
+pub mod AllLabelKinds
 pub mod BandFacts
 pub mod ByteFacts
 pub mod CellFacts

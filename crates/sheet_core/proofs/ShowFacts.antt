@@ -9,7 +9,6 @@ use Rattle.std.proofs.lemmas.List.{length-append, length-map, take_at, get_or_pu
 use Rattle.std.proofs.lemmas.Bool.{and_parts}
 use Rattle.std.proofs.lemmas.Bool.Decides.{nat_tests}
 use Rattle.std.proofs.lemmas.Option.{get_or_from_slice_get, slice_get_within, slice_get_past}
-use Rattle.ean_code.specs.declared.kind.Kind.TheVariants.{Ean13 as KindEan13, Ean8 as KindEan8, UpcE as KindUpcE, Itf14 as KindItf14}
 use Rattle.ean_code.specs.Widths.{AreWidths}
 use Rattle.digits_core.specs.Digits.{ascii_of}
 use Rattle.ean_code.specs.Spelling.{IsSpelled}
@@ -22,7 +21,6 @@ use Rattle.code128_code.specs.Coding.{data_values}
 use Rattle.code128_code.specs.Laws.{ModulesSay}
 use Rattle.code128_code.specs.Symbols.{mod103}
 use Rattle.scan_core.specs.declared.carrier.Carrier.{Carrier}
-use Rattle.scan_core.specs.declared.carrier.Carrier.TheVariants.{Ean13 as CarrierEan13, Ean8 as CarrierEan8, UpcE as CarrierUpcE, Itf14 as CarrierItf14, Gs1128 as CarrierGs1128}
 use Rattle.ean_code.specs.Laws.{MeasuresOfKind}
 use Rattle.scan_core.specs.Laws.{DotsDetermine, OneAnswer, SymbolMeasures}
 use Rattle.scan_core.specs.Row.{IsRow, dots_of, inner}
@@ -30,16 +28,18 @@ use Rattle.scan_core.specs.Answers.{IsAnswer, Spells, checked_text, row_text}
 use Rattle.scan_core.specs.Showing.{HasSize, IsQuiet, IsRun, IsSymbol, Rounds, Shows, kind_of}
 use Rattle.scan_core.specs.Showing.Way.{Forwards}
 use Rattle.sheet_core.specs.declared.label.Label.{Label}
-use Rattle.sheet_core.specs.declared.label.Label.TheVariants.{Ean13, UpcA, Ean8, UpcE, Itf14, Gs1128}
 use Rattle.sheet_core.specs.Drawing.{ArePrinted, bar_dots, cell_count, is_bar_row}
 use Rattle.sheet_core.specs.BarRows.{IsBarRow, label_answer}
 use Rattle.sheet_core.specs.Bitmaps.{Bitmap}
 use Rattle.sheet_core.specs.Grids.{Cells, IsGrid}
-use Rattle.sheet_core.specs.Labels.{Drawn, FitsCell, IsDrawn, IsLabelSymbol, carrier_of, label_text}
+use Rattle.sheet_core.specs.Kinds.{symbology_of}
+use Rattle.sheet_core.specs.Labels.{Content, Drawn, FitsCell, IsDrawn, IsLabelSymbol, carrier_of, content_of, content_text, label_kind, label_text}
+use Rattle.sheet_core.specs.Labels.Content.{OfElements, OfGtin}
 use Rattle.sheet_core.specs.Laws.{BarRowsAnswer, BarRowsShow, DrawnIsRead, EmptyCellsAreBlank}
+use Rattle.sheet_core.proofs.AllLabelKinds.{each_label_kind}
 use Rattle.sheet_core.proofs.CellFacts.{cell_runs, printed_runs, reach, sum-cell_runs, sum-wider}
 use Rattle.sheet_core.proofs.CornerFacts.{empty_row, label_row}
-use Rattle.sheet_core.proofs.LabelFacts.{all_at, drawn_at, symbol_of_upce}
+use Rattle.sheet_core.proofs.LabelFacts.{IsSymbolOf, all_at, by_carrier, drawn_at}
 use Rattle.sheet_core.proofs.WidthFacts.{code128_widths}
 
 exact : (N k m : ℕ) → 1 ≤ m → m ≤ 4 → IsRun N (k * N) (k * m) m
@@ -97,28 +97,31 @@ odd_count None n N h = let k : ℕ = h.0 in let e = h.3 in omega arith
 abbrev Measured : Type 0
 Measured = SymbolMeasures × MeasuresOfKind
 
-fit_by : Measured → (c : Carrier) (ms : List ℕ) → IsSymbol (kind_of c) ms → AreWidths ms → Fit c ms
-fit_by measures c ms form widths = let m = measures.0 c ms form in
-    record { candidate = m; odd = odd_count (kind_of c) (length ms) (sum ms) m; widths = widths; form = form }
+-- what has a symbol's form and widths
+formed : MeasuresOfKind → (kind : Option Kind) (content : Content) (ms : List ℕ) → IsSymbolOf kind content ms → IsSymbol kind ms × AreWidths ms
+formed measures (Some kind) (OfGtin gtin) ms h = ((h.0, h.1), (measures kind ms h.0 h.1).valid)
+formed measures (Some kind) (OfElements listing) ms h = absurd h
+formed measures None (OfGtin gtin) ms h = absurd h
+formed measures None (OfElements listing) ms h =
+    let text : List ℕ = canonical listing.list in
+    let values : List ℕ = data_values text in
+    ((105, values, mod103 105 values, h.drawn), code128_widths 105 (mod103 105 values) values ms h.drawn)
 
 fit : Measured → (label : Label) (ms : List ℕ) → IsLabelSymbol label ms → Fit (carrier_of label) ms
-fit measures (Ean13 g) ms h = fit_by measures CarrierEan13 ms (h.0, h.1) (measures.1 KindEan13 ms h.0 h.1).valid
-fit measures (UpcA g) ms h = fit_by measures CarrierEan13 ms (h.1.0, h.1.1) (measures.1 KindEan13 ms h.1.0 h.1.1).valid
-fit measures (Ean8 g) ms h = fit_by measures CarrierEan8 ms (h.0, h.1) (measures.1 KindEan8 ms h.0 h.1).valid
-fit measures (UpcE g) ms h = fit_by measures CarrierUpcE ms (h.0 ++ h.1 ∷ [], h.3) (measures.1 KindUpcE ms (h.0 ++ h.1 ∷ []) h.3).valid
-fit measures (Itf14 g) ms h = fit_by measures CarrierItf14 ms (h.0, h.1) (measures.1 KindItf14 ms h.0 h.1).valid
-fit measures (Gs1128 l) ms h =
-    let text : List ℕ = canonical l.list in
-    let values : List ℕ = data_values text in
-    fit_by measures CarrierGs1128 ms (105, values, mod103 105 values, h.drawn) (code128_widths 105 (mod103 105 values) values ms h.drawn)
+fit measures label ms h =
+    let c : Carrier = carrier_of label in
+    let f = formed measures.1 (kind_of c) (content_of label) ms (by_carrier label ms h) in
+    let m = measures.0 c ms f.0 in
+    record { candidate = m; odd = odd_count (kind_of c) (length ms) (sum ms) m; widths = f.1; form = f.0 }
 
+-- quiet zones are at least five modules
 zones : (label : Label) (s : Drawn) → IsDrawn label s → (5 ≤ s.quiet_left) × (5 ≤ s.quiet_right)
-zones (Ean13 g) s h = let l = h.left in let r = h.right in (omega arith, omega arith)
-zones (UpcA g) s h = let l = h.left in let r = h.right in (omega arith, omega arith)
-zones (Ean8 g) s h = let l = h.left in let r = h.right in (omega arith, omega arith)
-zones (UpcE g) s h = let l = h.left in let r = h.right in (omega arith, omega arith)
-zones (Itf14 g) s h = let l = h.left in let r = h.right in (omega arith, omega arith)
-zones (Gs1128 l) s h = let a = h.left in let r = h.right in (omega arith, omega arith)
+zones label s h =
+    let left : nat_le 5 (symbology_of (label_kind label)).quiet_left ≡ true =
+    each_label_kind (λ k. nat_le 5 (symbology_of k).quiet_left) refl (label_kind label) in
+    let right : nat_le 5 (symbology_of (label_kind label)).quiet_right ≡ true =
+    each_label_kind (λ k. nat_le 5 (symbology_of k).quiet_right) refl (label_kind label) in
+    let l = h.left in let r = h.right in (grind (arith, nat_tests), grind (arith, nat_tests))
 
 -- runs of an odd number of widths, each with a dot, in a cell
 cell_row : (g : Cells) (s : Drawn) → 0 < g.dots → g.width ≤ 4096 → length s.modules % 2 ≡ 1 → AreWidths s.modules → FitsCell g s → IsRow (cell_runs g s)
@@ -198,17 +201,19 @@ found_spells kind ms gtin a =
     let right : Ok (codes "01" ++ ascii_of gtin) ≡ checked_text gtin = rw a.3 refl in
     (a.0, a.1, right ∙ ap checked_text a.2)
 
--- a label's symbol spells its text
-spelled : ModulesSay → (label : Label) (ms : List ℕ) → IsLabelSymbol label ms → Spells (kind_of (carrier_of label)) ms (Ok (label_text label))
-spelled say (Ean13 g) ms h = found_spells KindEan13 ms g h
-spelled say (UpcA g) ms h = found_spells KindEan13 ms g h.1
-spelled say (Ean8 g) ms h = found_spells KindEan8 ms g h
-spelled say (UpcE g) ms h = let s = symbol_of_upce g ms h in found_spells KindUpcE ms g (s.0, s.1, s.2, h.2.spelling.checked)
-spelled say (Itf14 g) ms h = found_spells KindItf14 ms g h
-spelled say (Gs1128 l) ms h =
-    let text : List ℕ = canonical l.list in
+-- a symbol that says a content spells its text
+content_spelled : ModulesSay → (kind : Option Kind) (content : Content) (ms : List ℕ) → IsSymbolOf kind content ms → Spells kind ms (Ok (content_text content))
+content_spelled say (Some kind) (OfGtin gtin) ms h = found_spells kind ms gtin h
+content_spelled say (Some kind) (OfElements listing) ms h = absurd h
+content_spelled say None (OfGtin gtin) ms h = absurd h
+content_spelled say None (OfElements listing) ms h =
+    let text : List ℕ = canonical listing.list in
     let values : List ℕ = data_values text in
     (105, values, mod103 105 values, h.drawn, ap row_text (sym ((say 105 (mod103 105 values) values ms text h.drawn).1 h.says)))
+
+-- a label's symbol spells its text
+spelled : ModulesSay → (label : Label) (ms : List ℕ) → IsLabelSymbol label ms → Spells (kind_of (carrier_of label)) ms (Ok (label_text label))
+spelled say label ms h = content_spelled say (kind_of (carrier_of label)) (content_of label) ms (by_carrier label ms h)
 
 pub drawn_is_read : DotsDetermine → Measured → ModulesSay → OneAnswer → DrawnIsRead
 drawn_is_read one_row measures say one g label s row year list said grid drawn fits is dots elements =

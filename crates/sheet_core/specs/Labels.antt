@@ -25,28 +25,25 @@ use Rattle.sheet_core.specs.Kinds.{symbology_of}
 abbrev pub gtin_text : List ℕ → List ℕ
 gtin_text gtin = codes "01" ++ ascii_of gtin
 
--- the kind of a label
-abbrev pub label_kind : Label → LabelKind
-label_kind (Ean13 gtin) = Gtin kind.Ean13
-label_kind (UpcA gtin) = Gtin kind.UpcA
-label_kind (Ean8 gtin) = Gtin kind.Ean8
-label_kind (UpcE gtin) = Gtin kind.UpcE
-label_kind (Itf14 gtin) = Gtin kind.Itf14
-label_kind (Gs1128 listing) = KindGs1128
-
 -- what a label says: the element of a GTIN, or a list of elements
 pub data Content : Type 0 where
   OfGtin : List ℕ → Content
   OfElements : Listing → Content
 
--- the content of a label
+-- a label taken apart: its kind and its content
+abbrev pub parts_of : Label → LabelKind × Content
+parts_of (Ean13 gtin) = (Gtin kind.Ean13, OfGtin gtin)
+parts_of (UpcA gtin) = (Gtin kind.UpcA, OfGtin gtin)
+parts_of (Ean8 gtin) = (Gtin kind.Ean8, OfGtin gtin)
+parts_of (UpcE gtin) = (Gtin kind.UpcE, OfGtin gtin)
+parts_of (Itf14 gtin) = (Gtin kind.Itf14, OfGtin gtin)
+parts_of (Gs1128 listing) = (KindGs1128, OfElements listing)
+
+abbrev pub label_kind : Label → LabelKind
+label_kind label = (parts_of label).0
+
 abbrev pub content_of : Label → Content
-content_of (Ean13 gtin) = OfGtin gtin
-content_of (UpcA gtin) = OfGtin gtin
-content_of (Ean8 gtin) = OfGtin gtin
-content_of (UpcE gtin) = OfGtin gtin
-content_of (Itf14 gtin) = OfGtin gtin
-content_of (Gs1128 listing) = OfElements listing
+content_of label = (parts_of label).1
 
 -- the label of a GTIN
 abbrev pub gtin_label : GtinKind → List ℕ → Label

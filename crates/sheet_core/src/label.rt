@@ -116,32 +116,33 @@ impl Label {
         }
     }
 
+    /// Its kind, and what it says.
+    fn parts(&self) -> (LabelKind, Content<'_>)
+        ensures kind { result.0 ≡ label_kind self.now }
+        ensures content { lent result.1 ≡ content_of self.now }
+    {
+        match self {
+            Label::Ean13(gtin) => (LabelKind::Gtin(GtinKind::Ean13), Content::Gtin(gtin)),
+            Label::UpcA(gtin) => (LabelKind::Gtin(GtinKind::UpcA), Content::Gtin(gtin)),
+            Label::Ean8(gtin) => (LabelKind::Gtin(GtinKind::Ean8), Content::Gtin(gtin)),
+            Label::UpcE(gtin) => (LabelKind::Gtin(GtinKind::UpcE), Content::Gtin(gtin)),
+            Label::Itf14(gtin) => (LabelKind::Gtin(GtinKind::Itf14), Content::Gtin(gtin)),
+            Label::Gs1128(elements) => (LabelKind::Gs1128, Content::Elements(elements)),
+        }
+    }
+
     /// Its kind.
     pub fn kind(&self) -> LabelKind
         ensures { result ≡ label_kind self.now }
     {
-        match self {
-            Label::Ean13(_) => LabelKind::Gtin(GtinKind::Ean13),
-            Label::UpcA(_) => LabelKind::Gtin(GtinKind::UpcA),
-            Label::Ean8(_) => LabelKind::Gtin(GtinKind::Ean8),
-            Label::UpcE(_) => LabelKind::Gtin(GtinKind::UpcE),
-            Label::Itf14(_) => LabelKind::Gtin(GtinKind::Itf14),
-            Label::Gs1128(_) => LabelKind::Gs1128,
-        }
+        self.parts().0
     }
 
     /// What it says.
     pub fn content(&self) -> Content<'_>
         ensures { lent result ≡ content_of self.now }
     {
-        match self {
-            Label::Ean13(gtin)
-            | Label::UpcA(gtin)
-            | Label::Ean8(gtin)
-            | Label::UpcE(gtin)
-            | Label::Itf14(gtin) => Content::Gtin(gtin),
-            Label::Gs1128(elements) => Content::Elements(elements),
-        }
+        self.parts().1
     }
 
     /// What the label says, as an element string (GS1 General Specifications, section 7.8).

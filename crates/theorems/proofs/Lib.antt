@@ -1,1 +1,1 @@
-pub mod TextFacts
+pub mod OneMeaning

@@ -42,7 +42,7 @@ pub use Rattle.command_core.specs.live.Replies.{most_rows}
 pub use Rattle.command_core.specs.live.Text.{Answers, fields_in}
 pub use Rattle.element_core.specs.declared.form.Form.TheVariants.{HumanReadable, Pairs}
 pub use Rattle.command_core.specs.Printed.{AreScanned, SaysElements, labels_answers}
-use Rattle.std.specs.Prelude.{◌≡◌, ◌≢◌, ◌<◌, ℕ, List, Result, Ok, Err, length, slice_index, slice_set}
+use Rattle.std.specs.Prelude.{◌≡◌, ◌≢◌, ◌<◌, ◌≤◌, ◌⊎◌, ◌++◌, ◌∷◌, [], ℕ, List, Result, Ok, Err, Some, length, slice_index, slice_index_or, slice_set}
 use Rattle.ean_code.specs.Spelling.{IsGtinOf}
 use Rattle.ean_code.specs.Symbols.{digit_count}
 use Rattle.element_core.specs.Elements.{FirstFault}
@@ -72,3 +72,60 @@ pub record OneReplaced (old new : List ℕ) : Type 0 where
   pub within : place < length old
   pub other : item ≢ slice_index old place
   pub new_is : new ≡ slice_set old place item
+
+-- the row shows a symbol of digits, one of which was replaced at a checked place
+pub record ShowsReplacedDigit (row : List ℕ) : Type 0 where
+  pub carrier : Carrier
+  pub kind : Kind
+  pub way : Way
+  pub digits : List ℕ
+  pub others : List ℕ
+  pub kind_is : kind_of carrier ≡ Some kind
+  pub number : IsSymbolNumber kind digits
+  pub digits_are : AreDigits others
+  pub one : OneReplaced digits others
+  pub checked : IsCheckedPlace kind one.place
+  pub shows : Shows row carrier way (widths_of kind others)
+
+-- the row shows a symbol in which one character of a GS1-128 symbol was replaced
+pub record ShowsReplacedCharacter (row : List ℕ) : Type 0 where
+  pub way : Way
+  pub start : ℕ
+  pub values : List ℕ
+  pub right : List ℕ
+  pub other : ℕ
+  pub others : List ℕ
+  pub last : ℕ
+  pub modules : List ℕ
+  pub symbol : IsCode128Symbol start values (mod103 start values) right
+  pub spelled : IsCode128Symbol other others last modules
+  pub one : OneReplaced (characters_of start values (mod103 start values)) (characters_of other others last)
+  pub shows : Shows row Gs1128 way modules
+
+-- labels were printed in a grid, written as images, read again and scanned in the same grid, with these answers
+pub record ArePrintedAndScanned (labels : List Label) (g : Cells) (year : Terms) (answers : List (List Said)) : Type 0 where
+  pub printed : List Bitmap
+  pub sheets : List Bitmap
+  pub are_printed : ArePrinted labels g printed
+  pub few : length printed ≤ 4096
+  pub read : images_of (pbm_of printed) ≡ (Ok sheets, [])
+  pub scanned : AreScanned g sheets year answers
+
+-- the row has the dots of what is drawn of the label in a cell
+pub record ShowsDrawn (g : Cells) (label : Label) (row : List ℕ) : Type 0 where
+  pub drawn : Drawn
+  pub grid : IsGrid g
+  pub is_drawn : IsDrawn label drawn
+  pub fits : FitsCell g drawn
+  pub row_is : IsRow row
+  pub dots : dots_of row ≡ bar_dots g drawn
+
+-- of one line, two texts say the same elements, or are refused alike
+abbrev pub AreAlike : Terms → List ℕ → List ℕ → List ℕ → Type 0
+AreAlike year text more line =
+    ((word : List ℕ) × (es : List Entry) × (line ≡ word ++ (32 ∷ pairs_text es)) × MessageSays year text word es × MessageSays year more word es)
+    ⊎ (IsRefusedBy year text line × IsRefusedBy year more line)
+
+-- these are the answers of what a lane has polled, and then of its list
+abbrev pub AnswerLane : Lane → List (List Plain) → List Said → Type 0
+AnswerLane lane lists said = AreAnswersOf (lane.polled ++ slice_index_or lists lane.number []) said

@@ -1,6 +1,6 @@
 //! Theorems more: a check digit, the profile, scanner texts, a drawn label without its sheet, and the call that the program makes.
-ghost use Rattle.std.specs.Prelude.{◌≡◌, ◌⊎◌, ◌↔◌, ◌<◌, ◌≤◌, ◌-◌, ◌++◌, ◌∷◌, ℕ, [], IfOk, List, codes, length, map};
-ghost use Rattle.theorems.specs.Words.{AllZip, AreAnswersOf, AreAsciiDigits, Cells, Drawn, Entry, FitsCell, IsAnswer, IsChecked, IsDrawn, IsElements, IsGrid, IsMessageLine, IsRefusedBy, IsRow, IsUpceOf, Label, MessageSays, Pairs, Reads, Said, Terms, bar_dots, digits_of, dots_of, every_ai, gtin_entry, label_answer, label_text, line_text, pairs_text, profile, served};
+ghost use Rattle.std.specs.Prelude.{◌≡◌, ◌↔◌, ◌<◌, ◌≤◌, ◌-◌, ◌++◌, ◌∷◌, ℕ, [], IfOk, List, codes, length, map};
+ghost use Rattle.theorems.specs.Words.{AllZip, AreAlike, AreAnswersOf, AreAsciiDigits, Cells, Entry, IsAnswer, IsChecked, IsElements, IsMessageLine, IsUpceOf, Label, MessageSays, Pairs, Reads, Said, ShowsDrawn, Terms, digits_of, every_ai, gtin_entry, label_answer, label_text, line_text, profile, served};
 
 use element_core::{Form, Line, Year};
 use hub_core::{Gate, ServeFault};
@@ -33,8 +33,7 @@ pub fn profile_within()
 pub fn message_line(form: Form, text: &[u8], year: Year) -> Line
     ensures one { (line : List ℕ) → IsMessageLine form year text.now line ↔ (line ≡ line_text result) }
     ensures pairs { (year : Terms) (text more line : List ℕ) → IsMessageLine Pairs year text line → IsMessageLine Pairs year more line
-        → ((word : List ℕ) × (es : List Entry) × (line ≡ word ++ (32 ∷ pairs_text es)) × MessageSays year text word es × MessageSays year more word es)
-        ⊎ (IsRefusedBy year text line × IsRefusedBy year more line) }
+        → AreAlike year text more line }
     ensures upce { (year : Terms) (six gtin : List ℕ) (check : ℕ) → AreAsciiDigits six → (48 ≤ check) × (check < 58) → IsUpceOf (digits_of six) (check - 48) gtin
         → MessageSays year (codes "]E0" ++ (48 ∷ six) ++ check ∷ []) (codes "]E0") (gtin_entry gtin ∷ []) }
 {
@@ -46,9 +45,8 @@ pub fn message_line(form: Form, text: &[u8], year: Year) -> Line
 
 /// A row with the dots of what is drawn of a label answers that label, and nothing else.
 pub fn a_drawn_label_is_read()
-    ensures { (g : Cells) (label : Label) (s : Drawn) (row : List ℕ) (year : Terms) (list : List Entry) (said : Said)
-        → IsGrid g → IsDrawn label s → FitsCell g s → IsRow row → dots_of row ≡ bar_dots g s → IsElements year (label_text label) list
-        → IsAnswer row year said ↔ (said ≡ label_answer label year list) }
+    ensures { (g : Cells) (label : Label) (row : List ℕ) (year : Terms) (list : List Entry) (said : Said) → ShowsDrawn g label row
+        → IsElements year (label_text label) list → IsAnswer row year said ↔ (said ≡ label_answer label year list) }
 {
     sheet_core::drawn_is_read();
 }

@@ -1,8 +1,8 @@
 //! What is proved of the product, a sentence and a contract for each: begin reading here.
 #![tactic(auto)]
 
-ghost use Rattle.std.specs.Prelude.{◌≡◌, ◌↔◌, ◌≤◌, ◌++◌, ℕ, [], All, IfOk, List, Ok, Some, length, map, reverse, slice_get, slice_index_or};
-ghost use Rattle.theorems.specs.Words.{AllByRecursion, AllZip, Answers, AreAllSeats, AreAnswersOf, AreDigits, AreItems, ArePrinted, AreScanned, AreSettled, AreSymbolsOf, AreTold, Bitmap, Carrier, Cells, CheckCharacter, Code128, Entry, ExactlyOne, Gs1128, HumanReadable, IsAnswer, IsBarRow, IsCheckedPlace, IsCode128Symbol, IsElements, IsPlain, IsReordered, IsRow, IsSymbolNumber, Kind, Label, Lane, LaneRow, Means, OneReplaced, Plain, Reads, Refused, Said, SaysElements, Shows, SymbolCheckDigit, Terms, Way, Window, as_lane, characters_of, feeds_of, fields_in, images_of, kind_of, label_answer, label_text, labels_answers, lanes_meaning, mod103, most_line, most_rows, pbm_of, pieces_of, record_lines, records_of, search_of, widths_of, year_of};
+ghost use Rattle.std.specs.Prelude.{◌≡◌, ◌↔◌, ◌≤◌, ℕ, All, IfOk, List, Some, length, map, reverse, slice_get};
+ghost use Rattle.theorems.specs.Words.{AllByRecursion, AnswerLane, Answers, AreAllSeats, AreItems, ArePrintedAndScanned, AreSettled, AreSymbolsOf, AreTold, Cells, CheckCharacter, Code128, Entry, ExactlyOne, HumanReadable, IsAnswer, IsBarRow, IsElements, IsPlain, IsReordered, IsRow, Label, Lane, LaneRow, Means, Plain, Reads, Refused, Said, SaysElements, ShowsReplacedCharacter, ShowsReplacedDigit, SymbolCheckDigit, Terms, Window, as_lane, feeds_of, fields_in, label_answer, label_text, labels_answers, lanes_meaning, most_line, most_rows, pieces_of, record_lines, records_of, search_of, year_of};
 
 mod further;
 
@@ -42,12 +42,8 @@ pub fn all_symbols_are_found()
 
 /// A row that shows a symbol with one digit or character replaced, where it is checked, is refused for that.
 pub fn a_replaced_character_is_noticed()
-    ensures digit { (carrier : Carrier) (kind : Kind) (digits others row : List ℕ) (year : Terms) (way : Way) → kind_of carrier ≡ Some kind
-        → IsSymbolNumber kind digits → AreDigits others → (one : OneReplaced digits others) → IsCheckedPlace kind one.place
-        → IsRow row → Shows row carrier way (widths_of kind others) → IsAnswer row year (Refused SymbolCheckDigit) }
-    ensures character { (start other last : ℕ) (values others right modules row : List ℕ) (year : Terms) (way : Way) → IsCode128Symbol start values (mod103 start values) right
-        → IsCode128Symbol other others last modules → OneReplaced (characters_of start values (mod103 start values)) (characters_of other others last)
-        → IsRow row → Shows row Gs1128 way modules → IsAnswer row year (Refused (Code128 CheckCharacter)) }
+    ensures digit { (row : List ℕ) (year : Terms) → IsRow row → ShowsReplacedDigit row → IsAnswer row year (Refused SymbolCheckDigit) }
+    ensures character { (row : List ℕ) (year : Terms) → IsRow row → ShowsReplacedCharacter row → IsAnswer row year (Refused (Code128 CheckCharacter)) }
 {
     scan_core::replacement_is_noticed();
     scan_core::replaced_character_is_noticed();
@@ -65,9 +61,8 @@ pub fn print_sheets(alloc: Global, labels: &[Label], grid: Grid) -> Result<Vec<S
 
 /// What is printed, written as images, read again and scanned in the same grid has the answers of its labels, cell by cell.
 pub fn what_print_writes_scan_reads()
-    ensures { (labels : List Label) (g : Cells) (printed sheets : List Bitmap) (year : Terms) (answers : List (List Said))
-        → ArePrinted labels g printed → length printed ≤ 4096 → AllByRecursion (SaysElements year) labels
-        → images_of (pbm_of printed) ≡ (Ok sheets, []) → AreScanned g sheets year answers → answers ≡ labels_answers g year labels }
+    ensures { (labels : List Label) (g : Cells) (year : Terms) (answers : List (List Said)) → AllByRecursion (SaysElements year) labels
+        → ArePrintedAndScanned labels g year answers → answers ≡ labels_answers g year labels }
 {
     command_core::written_answer();
 }
@@ -82,8 +77,8 @@ pub fn settle<R: Wait>(rt: &R, alloc: Global, all: Unsettled) -> Result<Lists, U
 
 /// The answers of what a settled lane polled, and then of its list, are the answers to its rows.
 pub fn a_settled_lane_is_answered()
-    ensures { (year : Terms) (lanes : List Lane) (lists : List (List Plain)) (i : ℕ) (lane : Lane) (answers : List Said) → AreSettled year lanes lists
-        → slice_get lanes i ≡ Some lane → AreAnswersOf (lane.polled ++ slice_index_or lists lane.number []) answers → Reads lane.rows year answers }
+    ensures { (year : Terms) (lanes : List Lane) (lists : List (List Plain)) (i : ℕ) (lane : Lane) (said : List Said) → AreSettled year lanes lists
+        → slice_get lanes i ≡ Some lane → AnswerLane lane lists said → Reads lane.rows year said }
 {
     hub_core::headline();
 }

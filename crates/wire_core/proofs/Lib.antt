@@ -1,3 +1,3 @@
 pub mod EventFacts
-pub mod LineFacts
+pub mod LineFeeds
 pub mod PieceFacts

@@ -2,7 +2,7 @@
 
 use crate::tests::equal::{is_equal, is_true};
 use crate::tests::rows::{EAN8, EAN13, row};
-use fakes::{Closed, LaneGate, Station, is_answer};
+use fakes::{Closed, LaneGate, OpenHub, is_answer};
 use hub_core::Shape;
 use scan_core::Carrier;
 use std::process::Abort;
@@ -26,7 +26,7 @@ fn settles_the_held<R: Wait + AllocGlobal + Abort>(
 }
 
 /// The two lanes submit a row each.
-fn submit_two<R: Wait + AllocGlobal>(rt: &R, hub: &mut Station) -> Result<(), Fail> {
+fn submit_two<R: Wait + AllocGlobal>(rt: &R, hub: &mut OpenHub) -> Result<(), Fail> {
     let alloc = rt.alloc();
     hub.submit(rt, alloc, 0, row(alloc, EAN13)?)?;
     hub.submit(rt, alloc, 1, row(alloc, EAN8)?)?;
@@ -34,7 +34,7 @@ fn submit_two<R: Wait + AllocGlobal>(rt: &R, hub: &mut Station) -> Result<(), Fa
 }
 
 /// A hub of two lanes and two workers, each lane with a row: an EAN-13, and an EAN-8.
-fn with_two_rows<R: Wait + AllocGlobal>(rt: &R) -> Result<Station, Fail> {
+fn with_two_rows<R: Wait + AllocGlobal>(rt: &R) -> Result<OpenHub, Fail> {
     let alloc = rt.alloc();
     let shape = Shape {
         lanes: 2,
@@ -42,7 +42,7 @@ fn with_two_rows<R: Wait + AllocGlobal>(rt: &R) -> Result<Station, Fail> {
         capacity: 2,
         limit: 1,
     };
-    let mut hub = Station::new(rt, alloc, shape)?;
+    let mut hub = OpenHub::new(rt, alloc, shape)?;
     submit_two(rt, &mut hub)?;
     Ok(hub)
 }

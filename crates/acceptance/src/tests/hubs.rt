@@ -3,7 +3,7 @@
 use crate::tests::equal::{is_equal, is_true};
 use crate::tests::rows::{EAN8, EAN13, GS1_128, row, year_of};
 use element_core::Year;
-use fakes::{Closed, Station, is_answer};
+use fakes::{Closed, OpenHub, is_answer};
 use hub_core::{Collected, Handed, Hub, HubFault, Shape, SubmitFault, Worked};
 use lane_core::{Delivery, Ticket};
 use scan_core::{Carrier, Runs};
@@ -52,7 +52,7 @@ enum Step {
 /// That a lane that submits a row is answered by this: the ticket, or the line of the refusal.
 fn submits<R: Wait + AllocGlobal + Abort>(
     rt: &R,
-    hub: &mut Station,
+    hub: &mut OpenHub,
     lane: usize,
     widths: &[u16],
     told: &str,
@@ -66,7 +66,7 @@ fn submits<R: Wait + AllocGlobal + Abort>(
 /// That a lane polls the delivery of this number and this carrier.
 fn polls<R: Abort>(
     rt: &R,
-    hub: &mut Station,
+    hub: &mut OpenHub,
     lane: u8,
     number: u32,
     carrier: Carrier,
@@ -77,7 +77,7 @@ fn polls<R: Abort>(
 }
 
 /// That a step has its answer.
-fn take<R: Wait + AllocGlobal + Abort>(rt: &R, hub: &mut Station, step: &Step) -> Result<(), Fail> {
+fn take<R: Wait + AllocGlobal + Abort>(rt: &R, hub: &mut OpenHub, step: &Step) -> Result<(), Fail> {
     match step {
         Step::Submit(lane, widths, told) => submits(rt, hub, *lane, widths, told)?,
         Step::Work(worker, told) => is_equal(rt, hub.work(rt, *worker)?, *told),
@@ -95,7 +95,7 @@ fn take<R: Wait + AllocGlobal + Abort>(rt: &R, hub: &mut Station, step: &Step) -
 /// That each step has its answer, in turn.
 fn follow<R: Wait + AllocGlobal + Abort>(
     rt: &R,
-    hub: &mut Station,
+    hub: &mut OpenHub,
     steps: &[Step],
 ) -> Result<(), Fail> {
     for step in steps {
@@ -109,8 +109,8 @@ fn after<R: Wait + AllocGlobal + Abort>(
     rt: &R,
     shape: Shape,
     steps: &[Step],
-) -> Result<Station, Fail> {
-    let mut hub = Station::new(rt, rt.alloc(), shape)?;
+) -> Result<OpenHub, Fail> {
+    let mut hub = OpenHub::new(rt, rt.alloc(), shape)?;
     follow(rt, &mut hub, steps)?;
     Ok(hub)
 }
@@ -151,7 +151,7 @@ fn settles<R: Wait + AllocGlobal + Abort>(
 /// That a hub is settled, once it is closed, as `settles` says.
 fn is_settled<R: Wait + AllocGlobal + Abort>(
     rt: &R,
-    hub: Station,
+    hub: OpenHub,
     lanes: u8,
     first: u32,
     carriers: &[Carrier],
@@ -246,7 +246,7 @@ fn settles_what_no_lane_has_polled(rt: HostRuntime) -> Result<(), Fail> {
 /// Each lane submits the row, and the workers work.
 fn submit_to_each<R: Wait + AllocGlobal>(
     rt: &R,
-    hub: &mut Station,
+    hub: &mut OpenHub,
     count: u8,
     widths: &[u16],
 ) -> Result<(), Fail> {
@@ -261,7 +261,7 @@ fn submit_to_each<R: Wait + AllocGlobal>(
 /// That so many deliveries are collected.
 fn collects<R: Wait + AllocGlobal + Abort>(
     rt: &R,
-    hub: &mut Station,
+    hub: &mut OpenHub,
     count: u32,
 ) -> Result<(), Fail> {
     for _ in 0..count {
@@ -273,7 +273,7 @@ fn collects<R: Wait + AllocGlobal + Abort>(
 /// That each lane is handed its first delivery and polls it.
 fn polls_of_each<R: Wait + AllocGlobal + Abort>(
     rt: &R,
-    hub: &mut Station,
+    hub: &mut OpenHub,
     count: u8,
 ) -> Result<(), Fail> {
     for lane in 0..count {
@@ -286,7 +286,7 @@ fn polls_of_each<R: Wait + AllocGlobal + Abort>(
 /// That two deliveries for each lane are collected, and each lane polls its first.
 fn delivers_to_each<R: Wait + AllocGlobal + Abort>(
     rt: &R,
-    hub: &mut Station,
+    hub: &mut OpenHub,
     count: u8,
 ) -> Result<(), Fail> {
     collects(rt, hub, 2 * u32::from(count))?;
@@ -294,8 +294,8 @@ fn delivers_to_each<R: Wait + AllocGlobal + Abort>(
 }
 
 /// A hub of so many lanes and workers, each lane with three rows.
-fn with_three_of_each<R: Wait + AllocGlobal + Abort>(rt: &R, count: u8) -> Result<Station, Fail> {
-    let mut hub = Station::new(rt, rt.alloc(), shape(count, 64, 3))?;
+fn with_three_of_each<R: Wait + AllocGlobal + Abort>(rt: &R, count: u8) -> Result<OpenHub, Fail> {
+    let mut hub = OpenHub::new(rt, rt.alloc(), shape(count, 64, 3))?;
     for widths in [EAN13, EAN8, GS1_128] {
         submit_to_each(rt, &mut hub, count, widths)?;
     }
@@ -320,7 +320,7 @@ fn hubs_of_each_size_answer_each_lane(rt: HostRuntime) -> Result<(), Fail> {
 
 /// One round of the largest hub: every worker works once, one delivery is collected, and each lane is
 /// handed one.
-fn turn<R: Wait>(rt: &R, hub: &mut Station) -> Result<(), Fail> {
+fn turn<R: Wait>(rt: &R, hub: &mut OpenHub) -> Result<(), Fail> {
     for worker in 0..MOST {
         hub.work(rt, usize::from(worker))?;
     }
@@ -335,7 +335,7 @@ fn turn<R: Wait>(rt: &R, hub: &mut Station) -> Result<(), Fail> {
 /// many rounds that were.
 fn submitted<R: Wait>(
     rt: &R,
-    hub: &mut Station,
+    hub: &mut OpenHub,
     lane: u8,
     mut row: Runs,
 ) -> Result<(Ticket, u32), Fail> {
@@ -354,7 +354,7 @@ fn submitted<R: Wait>(
 /// at once.
 fn submits_three_of_each<R: Wait + AllocGlobal + Abort>(
     rt: &R,
-    hub: &mut Station,
+    hub: &mut OpenHub,
 ) -> Result<(), Fail> {
     let alloc = rt.alloc();
     let rows: &[(u32, &[u16])] = &[(0, EAN13), (1, EAN8), (2, GS1_128)];
@@ -369,8 +369,8 @@ fn submits_three_of_each<R: Wait + AllocGlobal + Abort>(
 }
 
 /// The largest hub with the smallest queues, each lane with its three tickets.
-fn with_the_smallest_queues<R: Wait + AllocGlobal + Abort>(rt: &R) -> Result<Station, Fail> {
-    let mut hub = Station::new(rt, rt.alloc(), shape(MOST, 1, 3))?;
+fn with_the_smallest_queues<R: Wait + AllocGlobal + Abort>(rt: &R) -> Result<OpenHub, Fail> {
+    let mut hub = OpenHub::new(rt, rt.alloc(), shape(MOST, 1, 3))?;
     submits_three_of_each(rt, &mut hub)?;
     Ok(hub)
 }
@@ -382,7 +382,7 @@ fn the_largest_hub_with_the_smallest_queues_answers_each_row(rt: HostRuntime) ->
 }
 
 /// That each lane of the largest hub is spent.
-fn are_spent<R: Wait + AllocGlobal + Abort>(rt: &R, hub: &mut Station) -> Result<(), Fail> {
+fn are_spent<R: Wait + AllocGlobal + Abort>(rt: &R, hub: &mut OpenHub) -> Result<(), Fail> {
     for lane in 0..MOST {
         submits(rt, hub, usize::from(lane), EAN13, "refused 35 Spent 61")?;
     }
@@ -480,7 +480,7 @@ fn shapes_have_limits(rt: HostRuntime) -> Result<(), Fail> {
 
 #[test]
 fn the_largest_shape_has_a_hub(rt: HostRuntime) -> Result<(), Fail> {
-    Station::new(&rt, rt.alloc(), shape(16, 1_024, u32::MAX))?;
+    OpenHub::new(&rt, rt.alloc(), shape(16, 1_024, u32::MAX))?;
     Ok(())
 }
 

@@ -29,5 +29,5 @@ pub record Serves (h : Hub) (seats : List LaneSeat) (held : Option (ℕ × List 
   pub room : IfSome held (λ r. HasRoom r.0 (map submitted_rows seats))
 
 -- each ticket that was issued was polled
-abbrev pub AreEven : List LaneSeat → Type 0
-AreEven seats = All (λ s. polled_count s ≡ issued_count s) seats
+abbrev pub HavePolledAll : List LaneSeat → Type 0
+HavePolledAll seats = All (λ s. polled_count s ≡ issued_count s) seats

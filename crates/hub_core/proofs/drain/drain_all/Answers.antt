@@ -9,7 +9,7 @@ use Rattle.hub_core.specs.declared.lane_seat.LaneSeat.{LaneSeat}
 use Rattle.hub_core.specs.declared.rule.Trace.{Trace}
 use Rattle.hub_core.proofs.DrainedFacts.{drained_then}
 use Rattle.hub_core.proofs.NumberFacts.{each_counted}
-use Rattle.hub_core.proofs.PairFacts.{all_paired, all_rings}
+use Rattle.hub_core.proofs.RingsAreDrained.{all_paired, all_rings}
 use Rattle.hub_core.proofs.DrainFacts.{sum_joined, jobs_whole, results_whole}
 use Rattle.hub_core.proofs.drain.drain_all.Goals as goal
 

@@ -8,7 +8,7 @@ use Rattle.hub_core.specs.inner.Fresh.{IsPairedIn}
 use Rattle.hub_core.specs.Lanes.{lane_of}
 use Rattle.hub_core.specs.inner.Draining.{AreFromFirst}
 use Rattle.hub_core.proofs.DrainedFacts.{drained_none}
-use Rattle.hub_core.proofs.PairFacts.{HasJobs, RingDrained, ends_more, ends_same, from_first, lane_jobs, none_left, pair_now, ring_drained, sent_now}
+use Rattle.hub_core.proofs.RingsAreDrained.{HasJobs, RingDrained, ends_more, ends_same, from_first, lane_jobs, none_left, pair_now, ring_drained, sent_now}
 use Rattle.hub_core.proofs.RingFacts.{sent_same}
 use Rattle.hub_core.proofs.RuleFacts.{merges}
 use Rattle.hub_core.proofs.drain.place_rings.Goals as goal

@@ -10,7 +10,7 @@ use Rattle.hub_core.specs.Passes.{shares_of, pushed_by, popped_by}
 use Rattle.hub_core.specs.inner.Draining.{AreFromFirst, all_received, to_lanes}
 use Rattle.hub_core.specs.Rings.{all_sent}
 use Rattle.hub_core.specs.Rule.{trace}
-use Rattle.hub_core.proofs.PairFacts.{AreSameEnds}
+use Rattle.hub_core.proofs.RingsAreDrained.{AreSameEnds}
 use Rattle.hub_core.proofs.drain.place_rings.Given as goal
 
 abbrev pub invariant-loop-closed : goal.invariant-loop-closed

@@ -1,5 +1,5 @@
 use Rattle.std.proofs.Common.{length, refl}
-use Rattle.hub_core.proofs.FeedFacts.{all_given, none_given}
+use Rattle.hub_core.proofs.RowsAreGiven.{all_given, none_given}
 use Rattle.hub_core.proofs.feeds.feeds_are_given.Goals as goal
 
 pub returns-clause-first : goal.returns-clause-first

@@ -28,4 +28,4 @@ finish-requires g c =
     }
 
 pub returns : goal.returns
-returns g c = subst (λ seats. ArePolledFirst (year_of c.args.hub) (map as_lane seats)) c.close_all-closed.ensures c.finish.ensures
+returns g c = subst (λ seats. ArePolledFirst (year_of c.args.hub) (map as_lane seats)) c.close_all-closed.ensures c.finish.ensures.polled

@@ -3,9 +3,10 @@ use Rattle.hub_core.specs.Hubs.{year_of}
 use Rattle.hub_core.specs.Serving.{served}
 use Rattle.hub_core.proofs.LaneViewFacts.{PolledFirst, first_of}
 use Rattle.hub_core.specs.Traffics.{AreServedFirst}
+use Rattle.hub_core.specs.inner.CallingThread.{AreLeftLost}
 use Rattle.hub_core.specs.inner.Traffics.{Serves, given_to, polled_by_each}
 use Rattle.hub_core.proofs.ServeFacts.{lanes_counted}
-use Rattle.hub_core.proofs.TrafficFacts.{all_served, came_fresh, seats_counted, serves_fresh, served_first}
+use Rattle.hub_core.proofs.TrafficFacts.{all_served, came_fresh, first_of_first, if_lost, serves_fresh, served_first}
 use Rattle.hub_core.proofs.traffic_serving.serve_boxed.Goals as goal
 
 pub serve_seats-requires-clause-seats : goal.serve_seats-requires-clause-seats
@@ -43,12 +44,32 @@ returns-clause-served g c =
     let done = c.in_ok-traffic.ensures.served kept in
     let first : PolledFirst hub seats = first_of hub _ c.finish_all.ensures in
     let year : year_of hub ≡ c.args.year = c.in-Ok-new_hub.ensures.shape.2 in (
-      given_to seats done.0,
+      given_to seats done.held,
       polled_by_each seats,
-      done.2,
-      subst (λ y. AreServedFirst y (given_to seats done.0) (polled_by_each seats)) year (served_first hub seats done.0 done.1.serves first),
+      done.came,
+      subst (λ y. AreServedFirst y (given_to seats done.held) (polled_by_each seats)) year (served_first hub seats done.held done.serves first),
       λ ended.
-          let end = done.3 ended in
-          let all = all_served hub seats (subst (λ o. Serves hub seats o) end.2 done.1.serves) first end.1 in
+          let end = done.done ended in
+          let all = all_served hub seats (subst (λ o. Serves hub seats o) end.2 done.serves) first end.1 in
           (end.0, subst (λ o. polled_by_each seats ≡ served c.args.year (given_to seats o)) (sym end.2) (all ∙ ap (λ y. served y (given_to seats None)) year)),
     )
+
+pub returns-clause-lost : goal.returns-clause-lost
+returns-clause-lost g c =
+    let hub = c.in-Ok-new_hub.parts.hub in
+    let seats = c.in_ok-traffic.seats.lanes.items in
+    let first : PolledFirst hub seats = first_of hub _ c.finish_all.ensures in
+    let year : year_of hub ≡ c.args.year = c.in-Ok-new_hub.ensures.shape.2 in
+    if_lost _ _ _
+    (λ (lost : AreLeftLost g.T.Traffic.Came g.T.Traffic.Leaves hub c.args.traffic.value c.in_ok-traffic.traffic.value seats).
+    let was = lost.2 in
+    let given = given_to seats lost.0 in (
+      was.before,
+      given,
+      was.brought,
+      was.came,
+      first_of_first was.brought (polled_by_each seats) (served c.args.year given) was.first
+          (subst (λ y. AreServedFirst y given (polled_by_each seats)) year (served_first hub seats lost.0 lost.1 first)),
+      was.left,
+    ))
+    c.in_ok-traffic.ensures.lost

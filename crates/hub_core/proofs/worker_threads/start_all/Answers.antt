@@ -12,7 +12,7 @@ use mir.Syntax.{named}
 use Rattle.hub_core.specs.contracts.hub.Hub as hub
 use Rattle.hub_core.specs.contracts.signals.Signals as signals
 use Rattle.hub_core.specs.contracts.worker_seat.WorkerSeat as seats
-use Rattle.hub_core.proofs.HubFacts.{hub_sync}
+use Rattle.hub_core.proofs.HubIsShared.{hub_sync}
 use Rattle.hub_core.proofs.worker_seat.WorkerSeat.TheSendSync as seat
 use Rattle.hub_core.proofs.worker_threads.start_all.Goals as goal
 

@@ -1,6 +1,6 @@
 use Rattle.std.proofs.Common.{arith}
 use Rattle.std.proofs.lemmas.Grind.{common_steps}
-use Rattle.wire_core.proofs.LineFacts.{feed_at, no_feed}
+use Rattle.wire_core.proofs.LineFeeds.{feed_at, no_feed}
 use Rattle.wire_core.proofs.lines.first_line.Goals as goal
 
 pub returns-in-Some-clause-some : goal.returns-in-Some-clause-some

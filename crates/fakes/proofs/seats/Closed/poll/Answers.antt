@@ -1,7 +1,7 @@
 use Rattle.std.proofs.Common.{◌<◌, length, subst, sym, ap, ◌∙◌, arith}
 use Rattle.hub_core.specs.Hubs.{IsLaneOf}
 use Rattle.hub_core.specs.Lanes.{lane_of}
-use Rattle.fakes.proofs.StationFacts.{lane_used}
+use Rattle.fakes.proofs.OpenHubFacts.{lane_used}
 use Rattle.fakes.proofs.seats.Closed.poll.Goals as goal
 
 pub invariant_of-self : goal.invariant_of-self

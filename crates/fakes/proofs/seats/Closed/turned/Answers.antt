@@ -1,6 +1,6 @@
 use Rattle.std.proofs.Common.{reverse, subst, sym}
 use Rattle.hub_core.specs.Hubs.{AreAllSeats}
-use Rattle.fakes.proofs.StationFacts.{seats_turned}
+use Rattle.fakes.proofs.OpenHubFacts.{seats_turned}
 use Rattle.fakes.proofs.seats.Closed.turned.Goals as goal
 
 pub invariant_of-self : goal.invariant_of-self

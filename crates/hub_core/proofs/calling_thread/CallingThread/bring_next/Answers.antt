@@ -1,8 +1,8 @@
-use Rattle.std.proofs.Common.{◌<◌, ◌∙◌, arith, length, refl, set, sym}
-use Rattle.std.proofs.lemmas.Result.{IfOk-weaker}
+use Rattle.std.proofs.Common.{◌<◌, ◌∙◌, arith, length, refl, set, subst, sym}
+use Rattle.std.proofs.lemmas.Result.{IfOk-weaker, on_err_weaker}
 use Rattle.hub_core.specs.Traffics.{IsNextOf}
 use Rattle.hub_core.specs.inner.Traffics.{Serves, given_to, polled_by_each}
-use Rattle.hub_core.proofs.TrafficFacts.{came_brought, came_same, lane_at, next_of, room_same, seat_at, step_serves}
+use Rattle.hub_core.proofs.TrafficFacts.{came_brought, came_same, lane_at, next_of, polled_more, room_same, rows_same_given, seat_at, step_serves}
 use Rattle.hub_core.proofs.calling_thread.CallingThread.bring_next.Goals as goal
 use Rattle.hub_core.proofs.calling_thread.CallingThread.bring_next.Goals.{After-poll, In-Some}
 
@@ -39,12 +39,12 @@ bring-requires g c =
       is_next g (goal.at.bring-requires g c).In-Some,
     )
 
-pub returns-in-Some : goal.returns-in-Some
-returns-in-Some g c =
+pub returns-in-Some-clause-goes : goal.returns-in-Some-clause-goes
+returns-in-Some-clause-goes g c =
     let s = c.args.self.now in
     let seats = s.lanes.items in
     let is = c.requires.serves in
-    let d = (goal.at.returns-in-Some g c).After-poll in
+    let d = (goal.at.returns-in-Some-clause-goes g c).After-poll in
     let at = c.index_mut.ensures.value in
     let polls = c.in-Some.ensures.polls in
     let lane = lane_at s.hub.now seats s.held c.args.index c.index_mut.result.now is.lanes (low g d) at in
@@ -60,13 +60,41 @@ returns-in-Some g c =
         came = came_brought (g.T.Traffic.Came s.start.value c.bring.new.self) seats s.held c.args.index c.in-Some.delivery.lane c.index_mut.result.now
             c.poll.new.self c.in-Some.delivery (lane ∙ sym polls.0) (low g d) at c.poll.ensures.submitted polls.2
             (bring s.start.value (given_to seats s.held) (polled_by_each seats) (rw c.deref_mut.ensures.value is.came)
-            (is_next g (goal.at.returns-in-Some g c).In-Some));
+            (is_next g (goal.at.returns-in-Some-clause-goes g c).In-Some));
       };
     })
-    c.bring.ensures
+    c.bring.ensures.brings
 
-pub returns-in-None : goal.returns-in-None
-returns-in-None g c =
+pub returns-in-Some-clause-lost : goal.returns-in-Some-clause-lost
+returns-in-Some-clause-lost g c =
+    let s = c.args.self.now in
+    let seats = s.lanes.items in
+    let is = c.requires.serves in
+    let d = (goal.at.returns-in-Some-clause-lost g c).After-poll in
+    let at = c.index_mut.ensures.value in
+    on_err_weaker c.bring.result
+    (λ leaves. record {
+      keeps = record {
+        hub = refl;
+        start = refl;
+        seats = refl;
+        lanes = still_serves g d;
+        deliverer = is.deliverer;
+        own = is.own;
+      };
+      lost = record {
+        before = s.traffic.value;
+        brought = polled_by_each seats;
+        came = subst (λ given. g.T.Traffic.Came s.start.value s.traffic.value given (polled_by_each seats))
+            (rows_same_given seats s.held c.args.index c.index_mut.result.now c.poll.new.self at c.poll.ensures.submitted) is.came;
+        first = polled_more seats c.args.index c.index_mut.result.now c.poll.new.self c.in-Some.delivery (low g d) at c.in-Some.ensures.polls.2;
+        left = rw (← c.deref_mut.ensures.value) leaves;
+      };
+    })
+    c.bring.ensures.leaves
+
+pub returns-in-None-clause-goes : goal.returns-in-None-clause-goes
+returns-in-None-clause-goes g c =
     let s = c.args.self.now in
     let is = c.requires.serves in
     record {
@@ -74,7 +102,7 @@ returns-in-None g c =
       start = refl;
       seats = refl;
       serves = record {
-        lanes = still_serves g (goal.at.returns-in-None g c).After-poll;
+        lanes = still_serves g (goal.at.returns-in-None-clause-goes g c).After-poll;
         deliverer = is.deliverer;
         own = is.own;
         came = came_same (g.T.Traffic.Came s.start.value s.traffic.value) s.lanes.items s.held c.args.index c.index_mut.result.now c.poll.new.self

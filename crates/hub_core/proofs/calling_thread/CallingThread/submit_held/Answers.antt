@@ -1,9 +1,9 @@
-use Rattle.std.proofs.Common.{◌≡◌, ◌<◌, ◌∙◌, IfSome, Option, Some, List, ℕ, ap, arith, length, map, refl, set, subst, sym}
+use Rattle.std.proofs.Common.{◌≡◌, ◌<◌, ◌∙◌, IfSome, Some, arith, length, map, refl, set, subst, sym}
 use Rattle.std.proofs.lemmas.List.{length-map}
-use Rattle.hub_core.specs.Lanes.{polled, submitted_rows}
+use Rattle.hub_core.specs.Lanes.{submitted_rows}
 use Rattle.hub_core.specs.Traffics.{HasRoom}
 use Rattle.hub_core.specs.inner.Traffics.{polled_by_each, with_held}
-use Rattle.hub_core.proofs.TrafficFacts.{came_full, came_more, if_none, room_same, seat_at, step_serves}
+use Rattle.hub_core.proofs.TrafficFacts.{came_full, came_more, if_none, room_same, step_serves}
 use Rattle.hub_core.proofs.calling_thread.CallingThread.submit_held.Goals as goal
 use Rattle.hub_core.proofs.calling_thread.CallingThread.submit_held.Goals.{After-submit}
 

@@ -7,7 +7,7 @@ use Rattle.lane_core.specs.declared.job.Plain.{Plain}
 use Rattle.hub_core.specs.Passes.{popped_by}
 use Rattle.hub_core.specs.Rings.{PushEnd, all_sent}
 use Rattle.hub_core.specs.inner.Accounting.{Accounted}
-use Rattle.hub_core.proofs.NextFacts.{is_there}
+use Rattle.hub_core.proofs.NextIsThere.{is_there}
 use Rattle.hub_core.proofs.RingFacts.{ends_set, got_set, same_ring, sent_more, sent_same}
 use Rattle.hub_core.proofs.AccountingFacts.{given_else, given_now, handed_one}
 use Rattle.hub_core.proofs.deliverer_seat.DelivererSeat.hand.Goals as goal

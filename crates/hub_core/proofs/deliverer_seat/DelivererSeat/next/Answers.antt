@@ -1,7 +1,7 @@
 use Rattle.std.proofs.Common.{◌∙◌, sym, option_to_list}
 use Rattle.hub_core.specs.Passes.{popped_by}
 use Rattle.hub_core.specs.Rings.{all_sent}
-use Rattle.hub_core.proofs.NextFacts.{next_is, with_number}
+use Rattle.hub_core.proofs.NextIsThere.{next_is, with_number}
 use Rattle.hub_core.proofs.deliverer_seat.DelivererSeat.next.Goals as goal
 
 pub returns-clause-some : goal.returns-clause-some

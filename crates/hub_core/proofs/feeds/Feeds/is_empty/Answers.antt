@@ -1,7 +1,7 @@
 use Rattle.std.proofs.Common.{◌∙◌, ◌==◌, ap, sym}
 use Rattle.std.specs.List.{list_all}
 use Rattle.std.specs.Vec.Iter.{into_iter_items, into_iter_len}
-use Rattle.hub_core.proofs.FeedFacts.{given_by}
+use Rattle.hub_core.proofs.RowsAreGiven.{given_by}
 use Rattle.hub_core.proofs.feeds.Feeds.is_empty.Goals as goal
 
 pub returns : goal.returns

@@ -1,6 +1,6 @@
 use Rattle.std.proofs.Common.{rules}
 use Rattle.std.specs.Vec.Iter.{into_iter_items}
-use Rattle.hub_core.proofs.FeedFacts.{rests_more}
+use Rattle.hub_core.proofs.RowsAreGiven.{rests_more}
 use Rattle.hub_core.proofs.feeds.Feeds.new.Goals as goal
 
 pub loop-feed-preserved : goal.loop-feed-preserved

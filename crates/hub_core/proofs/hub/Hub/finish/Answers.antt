@@ -6,8 +6,8 @@ use Rattle.hub_core.specs.Hubs.{IsLaneOf}
 use Rattle.hub_core.specs.Lanes.{lane_of, received, submitted}
 use Rattle.hub_core.specs.Rings.{all_sent}
 use Rattle.hub_core.specs.declared.lane_seat.LaneSeat.{LaneSeat}
-use Rattle.hub_core.proofs.LaneViewFacts.{polled_first}
-use Rattle.hub_core.proofs.SeatFacts.{all_at, whole_from}
+use Rattle.hub_core.proofs.LaneViewFacts.{PolledFirst, polled_first}
+use Rattle.hub_core.proofs.SeatFacts.{all_at, all_polled, nothing_lost, stands_for, state_of, whole_from}
 use Rattle.hub_core.proofs.hub.Hub.finish.Goals as goal
 
 pub drain_all-requires : goal.drain_all-requires
@@ -15,11 +15,13 @@ drain_all-requires g c = c.requires
 
 pub returns : goal.returns
 returns g c =
+    let h = c.args.self in
     let ls = c.args.lanes.items in
+    let ws = c.args.workers.items in
     let d = c.args.deliverer in
     let p = c.drain_all.ensures in
-    let whole = whole_from c.args.self ls c.args.workers.items d p.0 p.1 p.2 c.all_found.ensures c.received_first.ensures c.kept_whole.ensures c.requires p.3 in
-    polled_first c.args.self ls (λ i v e.
+    let whole = whole_from h ls ws d p.0 p.1 p.2 c.all_found.ensures c.received_first.ensures c.kept_whole.ensures c.requires p.3 in
+    let first : PolledFirst h ls = λ i v e.
     let front = all_at (λ (s : LaneSeat). (left : List Plain) × (received s ++ left ≡ get_or (all_sent d.rings.items) (lane_of s) [])) ls i v p.3.first e in
     let n = length (handed d (lane_of v)) in
     let rest = drop n (submitted v) in (
@@ -27,5 +29,15 @@ returns g c =
       ap (λ (xs : List Plain). xs ++ (front.0 ++ rest)) (whole.polled i v e).0
           ∙ (sym (append_assoc (received v) front.0 rest)
           ∙ (ap (λ (xs : List Plain). xs ++ rest) (front.1 ∙ sym (whole.handed i v e))
-          ∙ (take-append-drop n (submitted v) ∙ (all_at (IsLaneOf c.args.self) ls i v c.requires.lanes e).rows))),
-    ))
+          ∙ (take-append-drop n (submitted v) ∙ (all_at (IsLaneOf h) ls i v c.requires.lanes e).rows))),
+    ) in
+    record {
+      polled = polled_first h ls first;
+      state = (
+        state_of h ls ws d p.0 p.1,
+        stands_for h ls ws d p.0 p.1 p.2 c.requires p.3 whole,
+        c.lost_is_none.ensures (state_of h ls ws d p.0 p.1) (nothing_lost h ls ws d p.0 p.1 whole),
+      );
+      none_dropped = all_polled ls ws d p.0 p.1 whole;
+      none_aside = whole.aside;
+    }

@@ -7,7 +7,7 @@ use Rattle.lane_core.specs.declared.job.Plain.{Plain}
 use Rattle.hub_core.specs.declared.rule.Trace.{Trace}
 use Rattle.hub_core.specs.Lanes.{as_lane, polled}
 use Rattle.hub_core.proofs.RuleFacts.{puts}
-use Rattle.hub_core.proofs.LaneFacts.{lane_more, rows_and_one}
+use Rattle.hub_core.proofs.LanesGrow.{lane_more, rows_and_one}
 use Rattle.hub_core.proofs.LaneViewFacts.{a_lane}
 use Rattle.hub_core.proofs.hub.Hub.submit.Goals as goal
 

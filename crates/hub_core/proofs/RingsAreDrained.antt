@@ -1,0 +1,129 @@
+-- The rings of a hub, drained one by one.
+use Rattle.std.proofs.Common.{◌≡◌, ⊎_elim, ℕ, ◌+◌, ◌<◌, List, [], ◌∷◌, ◌++◌, get_or, length, length-append, set, Some, refl, sym, ap, ◌∙◌, subst, arith, append_assoc, append-nil}
+use Rattle.std.specs.List.{slice_get, All, flat_map, sum_by}
+use Rattle.std.proofs.lemmas.List.{get_or-map, length-map, length-set}
+use Rattle.std.proofs.lemmas.List.Elements.{All-push, All-weaker}
+use Rattle.std.proofs.lemmas.Option.{slice_get-get_or}
+use Rattle.std.proofs.lemmas.List.Sums.{sum_by-append}
+use Rattle.crossbeam_queue.specs.Passes.{view}
+use Rattle.rtrb.specs.Ring.{IsPair, SameProducer, sent}
+use Rattle.lane_core.specs.declared.job.Plain.{Plain}
+use Rattle.hub_core.specs.declared.deliverer_seat.DelivererSeat.{DelivererSeat}
+use Rattle.hub_core.specs.declared.hub.Hub.{Hub}
+use Rattle.hub_core.specs.declared.lane_seat.LaneSeat.{LaneSeat}
+use Rattle.hub_core.specs.declared.rule.Trace.{Trace}
+use Rattle.hub_core.specs.inner.DrainedLists.{DrainsInto, Listed}
+use Rattle.hub_core.specs.inner.Fresh.{IsPairedIn}
+use Rattle.hub_core.specs.Hubs.{ArePushEnds, IsDelivererOf, IsLaneOf, shape_of}
+use Rattle.hub_core.specs.Lanes.{lane_of, numbers_of, received, submitted}
+use Rattle.hub_core.specs.inner.Draining.{AreFromFirst, all_received, to_lanes}
+use Rattle.hub_core.specs.Rings.{PushEnd, all_sent}
+use Rattle.hub_core.specs.Rule.{trace}
+use Rattle.hub_core.proofs.DrainedFacts.{drained_then, same_some}
+use Rattle.hub_core.proofs.DrainFacts.{flat_map_more, trace_is}
+use Rattle.hub_core.proofs.RingFacts.{get_set, same_ring}
+use Rattle.hub_core.proofs.SumsOfChanged.{sum_by-map}
+
+-- the ends are those that they were
+pub record AreSameEnds (old new : List PushEnd) : Type 0 where
+  pub long : length new ≡ length old
+  pub each : (l : ℕ) (r t : PushEnd) → slice_get old l ≡ Some r → slice_get new l ≡ Some t → SameProducer r t
+
+same_self : (r : PushEnd) → SameProducer r r
+same_self r = ((refl, refl, refl, refl), refl)
+
+pub ends_same : (rings : List PushEnd) → AreSameEnds rings rings
+ends_same rings = record { long = refl; each = λ l r t e f. subst (λ (u : PushEnd). SameProducer r u) (same_some r t rings l e f) (same_self r) }
+
+-- one of the rings was drained
+pub ends_more : (old now : List PushEnd) (l : ℕ) (r t : PushEnd) → AreSameEnds old now → r ≡ get_or now l r → l < length now → SameProducer r t
+    → AreSameEnds old (set now l t)
+ends_more old now l r t ends at less same = record {
+  long = length-set now l t ∙ ends.long;
+  each = λ k b u eb eu. ⊎_elim
+      (λ (g : (k ≡ l) × (t ≡ u)). subst (λ (v : PushEnd). SameProducer b v) g.1
+      (same_ring b r t (ends.each k b r eb (ap (slice_get now) g.0 ∙ (slice_get-get_or now l r less ∙ ap Some (sym at)))) same))
+      (λ g. ends.each k b u eb g) (get_set now l k t u eu);
+}
+
+-- the lane's ring is still that of its number
+pub pair_now : (old now : List PushEnd) (s : LaneSeat) (t : PushEnd) → IsPairedIn old s → AreSameEnds old now → t ≡ get_or now (lane_of s) t → IsPair t s.ring
+pair_now old now s t paired ends at =
+    let low : lane_of s < length now = omega (arith, paired.0, ends.long) in
+    let r = get_or old (lane_of s) t in
+    let was = slice_get-get_or old (lane_of s) t paired.0 in
+    let is = slice_get-get_or now (lane_of s) t low ∙ ap Some (sym at) in
+    let p = paired.1 r was in
+    let q = (ends.each (lane_of s) r t was is).0 in
+    (p.0 ∙ sym q.0, p.1 ∙ sym q.1, p.2 ∙ sym q.2, p.3 ∙ sym q.3)
+
+-- the lanes' passes were joined to b
+abbrev pub HasJobs : Trace → Trace → List LaneSeat → Type 0
+HasJobs b w ss = w ≡ trace (b.shares + length ss) (b.pushed ++ flat_map submitted ss) b.popped
+
+pub lane_jobs : (b v w : Trace) (ss : List LaneSeat) (s : LaneSeat)
+    → HasJobs b v ss
+    → w ≡ trace (v.shares + (view s.pass).shares) (v.pushed ++ (view s.pass).pushed) (v.popped ++ (view s.pass).popped)
+    → HasJobs b w (ss ++ s ∷ [])
+lane_jobs b v w ss s was is =
+    is ∙ trace_is _ _ _ _ _ _
+    (let e = ap (λ (h : Trace). h.shares) was in let f = s.share in omega (arith, length-append ss (s ∷ [])))
+    (ap (λ (h : Trace). h.pushed ++ submitted s) was ∙ (append_assoc b.pushed (flat_map submitted ss) (submitted s)
+    ∙ ap (λ l. b.pushed ++ l) (sym (flat_map_more submitted ss s))))
+    (ap (λ l. v.popped ++ l) s.pushes_only ∙ (append-nil v.popped ∙ ap (λ (h : Trace). h.popped) was))
+
+-- what the lane's ring was sent
+pub sent_now : (old now : List PushEnd) (s : LaneSeat) (t : PushEnd) → all_sent now ≡ all_sent old → t ≡ get_or now (lane_of s) t → lane_of s < length now
+    → sent t ≡ get_or (all_sent old) (lane_of s) []
+sent_now old now s t same at low =
+    sym (get_or-map (λ (r : PushEnd). sent r) now (lane_of s) t [] low ∙ ap (λ (r : PushEnd). sent r) (sym at)) ∙ ap (λ xs. get_or xs (lane_of s) []) same
+
+-- what these lanes had left in their rings was placed
+abbrev pub RingDrained : List Listed → List Listed → List PushEnd → List LaneSeat → Type 0
+RingDrained t u rings ss = (xs : List Plain) × DrainsInto t u xs × ((h : Plain → ℕ) → sum_by h xs + all_received h ss ≡ to_lanes h rings (numbers_of ss))
+
+pub ring_drained : (t u u' : List Listed) (rings : List PushEnd) (ss : List LaneSeat) (s : LaneSeat) (xs ys : List Plain) → DrainsInto t u xs
+    → DrainsInto u u' ys
+    → ((h : Plain → ℕ) → sum_by h xs + all_received h ss ≡ to_lanes h rings (numbers_of ss)) → received s ++ ys ≡ get_or (all_sent rings) (lane_of s) []
+    → RingDrained t u' rings (ss ++ s ∷ [])
+ring_drained t u u' rings ss s xs ys drained more was left = (
+  xs ++ ys,
+  drained_then t u u' xs ys drained more,
+  λ h.
+      let g : ℕ → ℕ = λ l. sum_by h (get_or (all_sent rings) l []) in
+      let a = sum_by-append (λ (v : LaneSeat). sum_by h (received v)) ss (s ∷ []) in
+      let b = sum_by-map g lane_of (ss ++ s ∷ []) in
+      let c = sum_by-append (λ (v : LaneSeat). g (lane_of v)) ss (s ∷ []) in
+      let d = sum_by-map g lane_of ss in
+      let e = ap (sum_by h) left in
+      let f = sum_by-append h (received s) ys in
+      omega (arith, was h, sum_by-append h xs ys),
+)
+
+-- what came out of its ring is the first of what it was sent
+pub from_first : (rings : List PushEnd) (ss : List LaneSeat) (s : LaneSeat) (ys : List Plain) → AreFromFirst rings ss → received s ++ ys
+    ≡ get_or (all_sent rings) (lane_of s) [] → AreFromFirst rings (ss ++ s ∷ [])
+from_first rings ss s ys was left = All-push (λ (v : LaneSeat). (zs : List Plain) × (received v ++ zs ≡ get_or (all_sent rings) (lane_of v) [])) ss s was
+    (ys, left)
+
+-- each lane's ring is that of its number
+pub all_paired : (h : Hub) (rings : List PushEnd) (ss : List LaneSeat) → ArePushEnds h rings → length rings ≡ (shape_of h).lanes → All (IsLaneOf h) ss
+    → All (IsPairedIn rings) ss
+all_paired h rings ss ends long each = All-weaker (IsLaneOf h) (IsPairedIn rings) (λ s of_hub. (
+  let low = of_hub.lane in omega arith,
+  λ t e.
+      let low : lane_of s < length h.rings.value.items = let less = of_hub.lane in let same = ends.0 in omega arith in
+      let r = get_or h.rings.value.items (lane_of s) t in
+      let was = slice_get-get_or h.rings.value.items (lane_of s) t low in
+      let p = of_hub.ring r was in
+      let q = (ends.1 (lane_of s) r t was e).0 in
+      (p.0 ∙ sym q.0, p.1 ∙ sym q.1, p.2 ∙ sym q.2, p.3 ∙ sym q.3),
+)) ss each
+
+-- a ring for each lane
+pub all_rings : (h : Hub) (d : DelivererSeat) → IsDelivererOf h d → length d.rings.items ≡ (shape_of h).lanes
+all_rings h d of_hub = sym (length-map d.rings.items (λ (r : PushEnd). sent r)) ∙ (d.accounted.giving.lanes ∙ of_hub.lanes)
+
+pub none_left : {X : Type 0} (xs ys all : List X) → length ys ≡ 0 → xs ++ ys ≡ all → xs ≡ all
+none_left xs [] all none is = sym (append-nil xs) ∙ is
+none_left xs (y ∷ ys) all none is = absurd (omega arith)
