@@ -5,32 +5,26 @@ use Rattle.digits_core.specs.Digits.{digits_of, padded}
 use Rattle.digits_core.specs.Laws.{GtinsAreChecked}
 use Rattle.element_core.specs.Elements.{CanonicalReads, GtinReads, IsElements, gtin_entry}
 use Rattle.sheet_core.specs.Kinds.{kind_named}
-use Rattle.sheet_core.specs.Labels.{gtin_label, gtin_text}
+use Rattle.sheet_core.specs.Labels.{Content, content_list, content_text, gtin_text}
 use Rattle.sheet_core.specs.declared.kind.GtinKind.{GtinKind}
-use Rattle.sheet_core.specs.declared.kind.GtinKind.TheVariants as gtin_kind
 use Rattle.sheet_core.specs.declared.kind.LabelKind.{LabelKind}
 use Rattle.sheet_core.specs.declared.kind.LabelKind.TheVariants as kind
 use Rattle.sheet_core.specs.declared.label.Label.{Label}
 use Rattle.message_core.specs.Spellings.{spelled}
 use Rattle.record_core.specs.print.Labels.{IsElementLabel, IsGtinLabel, IsLabelAs, IsLabelBy, print_meaning}
+use Rattle.sheet_core.proofs.LabelFacts.{content_back}
 use Rattle.command_core.specs.Printed.{SaysElements}
 use Rattle.element_core.specs.Terms.{Terms}
 use Rattle.record_core.specs.input.Records.{AreItems, Fields}
 
 module _ (checked : GtinsAreChecked) (gtin : GtinReads) (canonical : CanonicalReads) (year : Terms) where
   -- the label of a GTIN, as whichever kind, says its element
-  says_gtin : (k : GtinKind) (g : List ℕ) → IsElements year (gtin_text g) (gtin_entry g ∷ []) → SaysElements year (gtin_label k g)
-  says_gtin gtin_kind.Ean13 g r = r
-  says_gtin gtin_kind.UpcA g r = r
-  says_gtin gtin_kind.Ean8 g r = r
-  says_gtin gtin_kind.UpcE g r = r
-  says_gtin gtin_kind.Itf14 g r = r
-
   of_gtin : (k : GtinKind) (text : List ℕ) (l : Label) → IsGtinLabel k text (Ok l) → SaysElements year l
   of_gtin k text l h =
       let g : List ℕ = padded (digits_of text) in
       let is = checked text h.0 in
-      subst (SaysElements year) (sym h.1) (says_gtin k g (gtin g year is.0 is.1 is.2))
+      let said : IsElements year (gtin_text g) (gtin_entry g ∷ []) = gtin g year is.0 is.1 is.2 in
+      subst (SaysElements year) (sym h.1) (subst (λ (c : Content). IsElements year (content_text c) (content_list c)) (sym (content_back k g)) said)
 
   of_elements : (text : List ℕ) (l : Label) → IsElementLabel year text (Ok l) → SaysElements year l
   of_elements text l h = subst (SaysElements year) (sym h.1) (canonical year text h.0.list h.3).0

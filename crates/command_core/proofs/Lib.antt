@@ -1,12 +1,12 @@
-pub mod BufferFacts
+pub mod BufferedIsTaken
 pub mod CheckOnce
 pub mod ColumnCounts
 pub mod ColumnFacts
 pub mod CommandFacts
-pub mod CountFacts
+pub mod FewEnough
 pub mod LabelReadings
 pub mod OnceFacts
-pub mod PlaceFacts
+pub mod ColumnsByPlace
 pub mod PrintOnce
 pub mod PrintedFacts
 pub mod ScannedFacts

@@ -1,5 +1,5 @@
 pub mod FeedCounts
-pub mod FeedFacts
-pub mod LineFacts
+pub mod FeedsGrow
+pub mod PlainLines
 pub mod ReportFacts
-pub mod RowFacts
+pub mod RowsAsRead

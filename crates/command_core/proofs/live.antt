@@ -1,6 +1,6 @@
 pub mod CameFacts
 pub mod CsvFacts
-pub mod EndFacts
+pub mod LiveEnds
 pub mod FieldsFacts
 pub mod GrowFacts
 pub mod KeepFacts

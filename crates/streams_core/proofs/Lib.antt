@@ -1,2 +1,3 @@
 pub mod LaneFacts
 pub mod StreamFacts
+pub mod TillFacts

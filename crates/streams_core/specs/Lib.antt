@@ -1,3 +1,4 @@
 pub mod Laws
 pub mod Machine
 pub mod Streams
+pub mod Tills

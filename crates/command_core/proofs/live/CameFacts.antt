@@ -8,7 +8,7 @@ use Rattle.std.proofs.lemmas.List.Elements.{All-push, All-weaker}
 use Rattle.std.proofs.lemmas.Option.{slice_get-get_or, slice_get_within}
 use Rattle.std.specs.declared.alloc.AllocError.{AllocError}
 use Rattle.lane_core.specs.declared.job.Plain.{Plain}
-use Rattle.hub_core.specs.Traffics.{HasRoom, IsEven, with_more}
+use Rattle.hub_core.specs.Traffics.{HasRoom, IsAllBrought, with_more}
 use Rattle.wire_core.specs.Events.{Event}
 use Rattle.wire_core.specs.Lines.{Held, without_line}
 use Rattle.command_core.specs.inner.Came.{AreWaiting, HasCome, IsInTurn, IsReady, IsWaiting, KeepsPlaces, KeepsRow, Stands}
@@ -154,13 +154,13 @@ brought_more given brought lanes lane w v x at first next ds room owed a =
     }
 
 -- as many were brought of each lane as were given
-even_at : (given : List (List (List ℕ))) (brought : List (List Plain)) (l : ℕ) → IsEven given brought → l < length given → l < length brought
+even_at : (given : List (List (List ℕ))) (brought : List (List Plain)) (l : ℕ) → IsAllBrought given brought → l < length given → l < length brought
     → length (get_or brought l []) ≡ length (get_or given l [])
 even_at given brought l even low high =
     sym (get_or-map (λ xs. length xs) brought l [] 0 high) ∙ ap (λ ns. get_or ns l 0) even ∙ get_or-map (λ xs. length xs) given l [] 0 low
 
 -- then each place of the turn has its delivery
-pub ready : (given : List (List (List ℕ))) (brought : List (List Plain)) (lanes : List Waiting) → AreWaiting given brought lanes → IsEven given brought
+pub ready : (given : List (List (List ℕ))) (brought : List (List Plain)) (lanes : List Waiting) → AreWaiting given brought lanes → IsAllBrought given brought
     → (p : Place) → IsInTurn lanes p → IsReady lanes p
 ready given brought lanes a even (place.Row l number) is =
     let w = is.0 in
@@ -171,7 +171,7 @@ ready given brought lanes a even (place.Message l text) is = tt
 ready given brought lanes a even (place.Refused l fault) is = tt
 
 -- the turn has ended
-pub turn_ended : (given : List (List (List ℕ))) (brought : List (List Plain)) (lanes new : List Waiting) → AreWaiting given brought lanes → IsEven given brought
+pub turn_ended : (given : List (List (List ℕ))) (brought : List (List Plain)) (lanes new : List Waiting) → AreWaiting given brought lanes → IsAllBrought given brought
     → length new ≡ length lanes
     → ((k : ℕ) (w : Waiting) → slice_get new k ≡ Some w → (v : Waiting) × (slice_get lanes k ≡ Some v) × IsEnded v w) → AreWaiting given brought new
 turn_ended given brought lanes new a even count each = record {

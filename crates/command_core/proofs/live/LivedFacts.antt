@@ -11,7 +11,7 @@ use Rattle.command_core.specs.inner.Stops.{TellsFault}
 use Rattle.command_core.specs.declared.live.fault.LiveFault.{LiveFault}
 use Rattle.command_core.specs.declared.live.fault.LiveFault.TheVariants.{NoMemory, NoThread, ReadFault, WriteFault}
 use Rattle.command_core.specs.declared.live.input.Live.{Live}
-use Rattle.command_core.specs.declared.live.input.Taken.{Taken}
+use Rattle.command_core.specs.declared.live.input.NextLine.{NextLine}
 use Rattle.command_core.specs.declared.live.manner.Manner.{Manner}
 use Rattle.command_core.proofs.live.CameFacts.{came_refusal}
 
@@ -96,7 +96,7 @@ took_nothing s none = λ start given brought l. record {
   ended = l.ended;
 }
 
-pub refused_line : {W : Type 0} (came : History (Live W)) (r : Result Taken AllocError) (s t : Live W) → IsErr r → Stays came s t
+pub refused_line : {W : Type 0} (came : History (Live W)) (r : Result NextLine AllocError) (s t : Live W) → IsErr r → Stays came s t
     → TakesLine came r s (after_line r t)
 refused_line came (Ok taken) s t failed same = absurd (false≢true failed)
 refused_line came (Err e) s t failed same = same

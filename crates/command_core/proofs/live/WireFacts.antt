@@ -3,7 +3,7 @@ use Rattle.std.proofs.Common.{All, List, None, Option, Some, [], append-nil, ari
 use Rattle.std.specs.List.{AllZip, concat, slice_get}
 use Rattle.std.proofs.lemmas.List.Elements.{All-nil, All-weaker}
 use Rattle.lane_core.specs.declared.job.Plain.{Plain}
-use Rattle.hub_core.specs.Traffics.{IsEven}
+use Rattle.hub_core.specs.Traffics.{IsAllBrought}
 use Rattle.wire_core.specs.Events.{Event, writes_of}
 use Rattle.wire_core.specs.Events.Event.{Read}
 use Rattle.wire_core.specs.Lines.{Held, arrived, held_line, with_room}
@@ -29,7 +29,7 @@ not_read_fault stopped opened is = ⊎_elim (λ (e : stopped ≡ None). (let nev
 module _ (f : Manner) (events : List Event) (lanes : List Waiting) (places : List Place) (h : Held) (stopped : Option LiveFault) (given : List (List (List ℕ)))
     (brought : List (List Plain)) where
   -- all rows of the turn have come back
-  pub all_ready : HasCome f events lanes places h stopped given brought → IsEven given brought → All (IsReady lanes) places
+  pub all_ready : HasCome f events lanes places h stopped given brought → IsAllBrought given brought → All (IsReady lanes) places
   all_ready c even = All-weaker (IsInTurn lanes) (IsReady lanes) (ready given brought lanes c.waiting even) places c.turn
 
   -- some of the turn's lines were written, and a write failed
@@ -47,7 +47,7 @@ module _ (f : Manner) (events : List Event) (lanes : List Waiting) (places : Lis
 
   -- all of them were
   pub wrote_turn : (texts pieces : List (List ℕ)) (new : List Waiting) (none : List Place) → HasCome f events lanes places h stopped given brought
-      → MayStillWrite stopped → IsEven given brought → AllZip (TellsPlace f lanes) places texts → concat pieces ≡ concat texts
+      → MayStillWrite stopped → IsAllBrought given brought → AllZip (TellsPlace f lanes) places texts → concat pieces ≡ concat texts
       → none ≡ [] → length new ≡ length lanes → ((k : ℕ) (w : Waiting) → slice_get new k ≡ Some w → (v : Waiting) × (slice_get lanes k ≡ Some v) × IsEnded v w)
       → HasCome f (events ++ writes_of pieces) new none h stopped given brought
   wrote_turn texts pieces new none c opened even says is empty count each =

@@ -21,8 +21,8 @@ use Rattle.command_core.specs.declared.live.fault.LiveFault.TheVariants.{NoThrea
 use Rattle.command_core.specs.declared.live.place.Place.{Place}
 use Rattle.command_core.specs.declared.live.place.Place.TheVariants as place
 use Rattle.command_core.specs.declared.live.input.Live.{Live}
-use Rattle.command_core.specs.declared.live.input.Taken.{Taken}
-use Rattle.command_core.specs.declared.live.input.Taken.TheVariants as take
+use Rattle.command_core.specs.declared.live.input.NextLine.{NextLine}
+use Rattle.command_core.specs.declared.live.input.NextLine.TheVariants as take
 use Rattle.command_core.specs.declared.live.record.LineFault.TheVariants as line_fault
 use Rattle.command_core.specs.declared.live.waiting.Waiting.{Waiting}
 use Rattle.command_core.specs.inner.Stops.{TellsFault}
@@ -146,13 +146,13 @@ pub record HasLived {W : Type 0} (did : W → W → List Event → Type 0) (read
   pub ended : s.lines.has_ended ≡ true → at_end s.wire
 
 -- what was taken was given
-abbrev pub TakesLine : {W : Type 0} → History (Live W) → Result Taken AllocError → Live W → Live W → Type 0
+abbrev pub TakesLine : {W : Type 0} → History (Live W) → Result NextLine AllocError → Live W → Live W → Type 0
 TakesLine came (Ok (take.Row lane row)) s t = Gives came (lane, row) s t
 TakesLine came (Ok take.Line) s t = Stays came s t
 TakesLine came (Ok take.Nothing) s t = Stays came s t
 TakesLine came (Err refused) s t = Stays came s t
 
 -- with the line taken, unless memory was refused
-abbrev pub after_line : {W : Type 0} → Result Taken AllocError → Live W → Live W
+abbrev pub after_line : {W : Type 0} → Result NextLine AllocError → Live W → Live W
 after_line (Ok taken) s = record s { lines = without_line s.lines }
 after_line (Err refused) s = s

@@ -1,6 +1,8 @@
 -- What types, private contracts and proofs name beside `Rows`.
 use Rattle.std.specs.Prelude.{◌≡◌, ◌≢◌, ◌≤◌, ◌+◌, ◌++◌, ⊤, ℕ, Bool, false, true, List, [], length, map, string_bytes}
 use Rattle.lane_core.specs.declared.job.Plain.{Plain}
+use Rattle.element_core.specs.Terms.{Terms}
+use Rattle.command_core.specs.answers.Reports.{IsReport}
 use Rattle.command_core.specs.inner.Reports.{AreLinesOf}
 use Rattle.command_core.specs.live.Laws.{IsPlain, record_lines}
 use Rattle.command_core.specs.live.Text.{fields_in}
@@ -10,7 +12,7 @@ use Rattle.record_core.specs.lanes.Feeds.{LaneRow, feeds_of, lanes_meaning}
 use Rattle.record_core.specs.declared.input.records.Records.{Records}
 use Rattle.command_core.specs.declared.answers.rows.Course.{Course}
 use Rattle.command_core.specs.declared.answers.rows.Course.TheVariants as course
-use Rattle.command_core.specs.declared.answers.rows.Reading.{Reading}
+use Rattle.command_core.specs.declared.answers.rows.RecordRows.{RecordRows}
 use Rattle.command_core.specs.declared.answers.rows.RowsFault.{RowsFault}
 use Rattle.command_core.specs.declared.answers.rows.RowsFault.TheVariants as rows
 
@@ -22,6 +24,10 @@ is_ended _ = false
 -- the records of the lines of bytes
 abbrev pub rows_left : List ℕ → List Fields
 rows_left rest = map fields_in (record_lines rest)
+
+-- the records mean items, and the text is the report of the rows that these are
+abbrev pub AnswersRecords : ℕ → Terms → List Fields → List ℕ → Type 0
+AnswersRecords lanes year records text = (items : List LaneRow) × AreItems (lanes_meaning lanes) records items × IsReport year (feeds_of lanes items) text
 
 -- where the reading of the bytes stands after these records
 abbrev pub StandsAfter : Course → List ℕ → Records → List ℕ → List Fields → Type 0
@@ -37,7 +43,7 @@ StartsAs bytes course.Plain = IsPlain bytes
 StartsAs bytes _ = ⊥
 
 -- of the records, from the first on, these rows of each lane were given, and their deliveries brought
-pub record HasGiven (start s : Reading) (given : List (List (List ℕ))) (brought : List (List Plain)) : Type 0 where
+pub record HasGiven (start s : RecordRows) (given : List (List (List ℕ))) (brought : List (List Plain)) : Type 0 where
   pub lanes : s.lanes ≡ start.lanes
   pub few : length start.bytes.now ≤ most_bytes
   pub rows : List Fields

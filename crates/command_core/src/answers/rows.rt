@@ -1,12 +1,12 @@
 //! The rows of records, which are read as workers answer them.
 ghost use Rattle.std.specs.Prelude.{[], ◌≡◌, ◌≤◌, ◌∷◌, ◌↔◌, List, Ok, false, length, map, true, IfErr, IfOk, IsErrOf, string_bytes};
 ghost use Rattle.std.specs.List.{concat};
-ghost use Rattle.hub_core.specs.Serving.{is_count};
+ghost use Rattle.hub_core.specs.Serving.{AreSeatCounts};
 ghost use Rattle.command_core.specs.answers.Reports.{IsReport};
-ghost use Rattle.command_core.specs.inner.Rows.{RefusesBytes, StartsAs};
+ghost use Rattle.command_core.specs.inner.Rows.{AnswersRecords, RefusesBytes, StartsAs};
 ghost use Rattle.command_core.specs.answers.Rows.{RefusesRows};
-ghost use Rattle.record_core.specs.input.Records.{AreItems, Fields, Takes, records_of};
-ghost use Rattle.record_core.specs.lanes.Feeds.{LaneRow, feeds_of, lanes_meaning};
+ghost use Rattle.record_core.specs.input.Records.{Fields, Takes, records_of};
+ghost use Rattle.record_core.specs.lanes.Feeds.{feeds_of, lanes_meaning};
 
 use crate::answers::lines::{are_plain, next_line, read_line};
 use crate::answers::report::joined;
@@ -49,7 +49,7 @@ struct Refused;
 
 /// The records that are left of an input, and the lines that answer the rows of the others.
 #[derive(Drop)]
-struct Reading<'a> {
+struct RecordRows<'a> {
     alloc: Global,
     lanes: u8,
     bytes: &'a [u8],
@@ -60,7 +60,8 @@ struct Reading<'a> {
     texts: Vec<String>,
 }
 
-impl<'a> Traffic for Reading<'a> {
+impl<'a> Traffic for RecordRows<'a> {
+    ghost use Rattle.std.specs.Prelude.{◌≡◌};
     ghost use Rattle.command_core.specs.inner.Rows.{HasGiven, is_ended};
 
     type WaitFault = Refused;
@@ -70,6 +71,8 @@ impl<'a> Traffic for Reading<'a> {
     ghost Came = { λ start s given brought. HasGiven start s given brought };
 
     ghost has_ended = { λ s. is_ended s.course };
+
+    ghost Leaves = { λ s t. t.course ≡ s.course };
 
     fn next(&mut self) -> Option<(u8, Runs)> {
         match self.course {
@@ -137,12 +140,11 @@ fn answer_each<R: Threads + Wait + Sync, G: Gate + Sync>(
     year: Year,
     gate: &G,
 ) -> Result<Vec<String>, AnswerFault>
-    requires counts { (is_count lanes ≡ true) × (is_count workers ≡ true) }
+    requires counts { AreSeatCounts lanes workers }
     requires few { length bytes.now ≤ INPUT_LIMIT }
-    ensures lines { IfOk result (λ texts. (items : List LaneRow) × AreItems (lanes_meaning lanes) (records_of bytes.now) items
-        × IsReport year (feeds_of lanes items) (concat (map string_bytes texts.items))) }
+    ensures lines { IfOk result (λ texts. AnswersRecords lanes year (records_of bytes.now) (concat (map string_bytes texts.items))) }
 {
-    let traffic = Reading {
+    let traffic = RecordRows {
         alloc,
         lanes,
         bytes,
@@ -181,10 +183,9 @@ fn answer_bytes<R: Threads + Wait + Sync, G: Gate + Sync>(
     year: Year,
     gate: &G,
 ) -> Result<String, RowsFault>
-    requires counts { (is_count lanes ≡ true) × (is_count workers ≡ true) }
+    requires counts { AreSeatCounts lanes workers }
     requires few { length bytes.now ≤ INPUT_LIMIT }
-    ensures lines { IfOk result (λ lines. (items : List LaneRow) × AreItems (lanes_meaning lanes) (records_of bytes.now) items
-        × IsReport year (feeds_of lanes items) (string_bytes lines)) }
+    ensures lines { IfOk result (λ lines. AnswersRecords lanes year (records_of bytes.now) (string_bytes lines)) }
     ensures refused { IfErr result (RefusesBytes lanes (records_of bytes.now)) }
 {
     let Ok(is_found) = has_record(alloc, bytes) else {
@@ -225,7 +226,7 @@ pub fn answer_records<R: Threads + Wait + Sync, S: Source, G: Gate + Sync>(
     source: &mut S,
     gate: &G,
 ) -> Result<String, RowsFault>
-    requires counts { (is_count lanes ≡ true) × (is_count workers ≡ true) }
+    requires counts { AreSeatCounts lanes workers }
     ensures report { IfOk result (λ lines. Takes (lanes_meaning lanes) (λ items. IsReport year (feeds_of lanes items) (string_bytes lines))
         (S.left source.old) (S.left source.new)) }
     ensures refused { IfErr result (RefusesRows lanes (S.left source.old) (S.left source.new)) }

@@ -1,7 +1,5 @@
 //! Rows that workers answer, and the report of the answers.
-ghost use Rattle.std.specs.Prelude.{[], ◌≡◌, ◌≢◌, ◌↔◌, ◌<◌, All, List, length, map, replicate, slice_index_or, true, vec_len, IfOk, IsErrOf, IsTrue, string_bytes};
-ghost use Rattle.lane_core.specs.declared.job.Plain.{Plain};
-ghost use Rattle.hub_core.specs.Traffics.{with_more};
+ghost use Rattle.std.specs.Prelude.{[], ◌≡◌, ◌≢◌, ◌↔◌, ◌<◌, All, List, map, replicate, true, vec_len, IfOk, IsErrOf, IsTrue, string_bytes};
 ghost use Rattle.std.specs.List.{AllZip};
 ghost use Rattle.scan_core.specs.Answers.{Reads};
 ghost use Rattle.scan_core.specs.declared.answer.Answer.{Answer};
@@ -9,7 +7,7 @@ ghost use Rattle.hub_core.specs.Feeds.{AreGiven, are_given, rests_of};
 ghost use Rattle.hub_core.specs.Serving.{are_counts};
 ghost use Rattle.hub_core.specs.declared.fault.ServeFault.{ServeFault};
 ghost use Rattle.command_core.specs.declared.answers.serving.AnswerFault.TheVariants.{NoMemory};
-ghost use Rattle.command_core.specs.inner.Reports.{AreLinesOf, lane_lines};
+ghost use Rattle.command_core.specs.inner.Reports.{AreLinesOf, TellsOf, lane_lines};
 ghost use Rattle.command_core.specs.answers.Reports.{IsReport};
 
 use crate::answers::report::{joined, push_line};
@@ -63,13 +61,13 @@ fn are_rowless(feeds: &[Vec<Runs>]) -> bool
 
 /// The rows that are left of each lane, and the lines that answer the others.
 #[derive(Drop)]
-struct Answering {
+struct AnsweredRows {
     feeds: Feeds,
     texts: Vec<String>,
 }
 
-impl Traffic for Answering {
-    ghost use Rattle.std.specs.Prelude.{map, string_bytes};
+impl Traffic for AnsweredRows {
+    ghost use Rattle.std.specs.Prelude.{◌≡◌, map, string_bytes};
     ghost use Rattle.hub_core.specs.Feeds.{AreGiven, are_given, rests_of};
     ghost use Rattle.command_core.specs.inner.Reports.{AreLinesOf};
 
@@ -80,6 +78,8 @@ impl Traffic for Answering {
     ghost Came = { λ start s given brought. AreGiven (rests_of start.feeds) given (rests_of s.feeds) × AreLinesOf brought (map string_bytes s.texts.items) };
 
     ghost has_ended = { λ s. are_given (rests_of s.feeds) };
+
+    ghost Leaves = { λ s t. rests_of t.feeds ≡ rests_of s.feeds };
 
     fn next(&mut self) -> Option<(u8, Runs)> {
         self.feeds.take()
@@ -97,8 +97,7 @@ impl Traffic for Answering {
 /// Appends the line that answers a delivery to the text of its lane.
 pub fn push_answer_of(texts: &mut Vec<String>, delivery: Delivery) -> Result<(), AllocError>
     requires { delivery.lane < vec_len texts.old }
-    ensures { IfOk result (λ _. (brought : List (List Plain)) → delivery.lane < length brought → delivery.number ≡ length (slice_index_or brought delivery.lane [])
-        → AreLinesOf brought (map string_bytes texts.old.items) → AreLinesOf (with_more delivery.lane delivery brought) (map string_bytes texts.new.items)) }
+    ensures { IfOk result (λ _. TellsOf delivery (map string_bytes texts.old.items) (map string_bytes texts.new.items)) }
 {
     let ticket = delivery.ticket();
     let index = usize::from(ticket.lane);
@@ -139,7 +138,7 @@ fn answer_each<R: Threads + Wait + Sync, G: Gate + Sync>(
 {
     let lanes = feeds.len() as u8;
     let texts = make_texts(alloc, lanes)?;
-    let traffic = Answering {
+    let traffic = AnsweredRows {
         feeds: Feeds::new(alloc, feeds)?,
         texts,
     };

@@ -1,6 +1,6 @@
 //! Records that are answered as they come.
-ghost use Rattle.std.specs.Prelude.{◌≡◌, ◌⊎◌, [], IsErrOf, true};
-ghost use Rattle.hub_core.specs.Serving.{is_count};
+ghost use Rattle.std.specs.Prelude.{◌≡◌, ◌⊎◌, [], IsErrOf};
+ghost use Rattle.hub_core.specs.Serving.{AreSeatCounts};
 ghost use Rattle.hub_core.specs.declared.fault.ServeFault.{ServeFault};
 ghost use Rattle.command_core.specs.inner.Lived.{EndsAs};
 ghost use Rattle.command_core.specs.live.Lived.{Lived};
@@ -66,7 +66,7 @@ pub fn answer_live<R: Threads + Wait + Sync, W: Wire + Drop, G: Gate + Sync>(
     wire: W,
     gate: &G,
 ) -> (W, Result<(), LiveFault>)
-    requires counts { (is_count terms.lanes ≡ true) × (is_count terms.workers ≡ true) }
+    requires counts { AreSeatCounts terms.lanes terms.workers }
     requires fresh { W.Did wire wire [] }
     ensures lived { Lived terms W.Did W.read_failed W.write_failed W.at_end wire result.0 result.1 }
     ensures untouched { IsErrOf result.1 LiveFault.NoThread → result.0 ≡ wire }

@@ -27,7 +27,7 @@ pub struct Stopped;
 
 /// What was taken of what has come.
 #[derive(Debug, Drop)]
-pub enum Taken {
+pub enum NextLine {
     /// Nothing: no line has ended, the turn is full, or memory was refused.
     Nothing,
     /// A record that gets no ticket, or a line without one.
@@ -91,7 +91,7 @@ impl<W: Wire> Live<W> {
     }
 
     /// Keeps the place of the record that is held, whose line is taken after it.
-    fn keep(&mut self, found: Record) -> Result<Taken, AllocError>
+    fn keep(&mut self, found: Record) -> Result<NextLine, AllocError>
         requires led { IsLed ⟦<Live<W> as Traffic>⟧.Came self.old }
         requires found { (count : ℕ) × HoldsRecord (length self.old.lanes.items) self.old.lines count found }
         ensures takes { TakesLine ⟦<Live<W> as Traffic>⟧.Came result self.old (after_line result self.new) }
@@ -99,34 +99,34 @@ impl<W: Wire> Live<W> {
         ensures stopped { self.new.stopped ≡ self.old.stopped }
     {
         match found {
-            Record::Blank => Ok(Taken::Line),
+            Record::Blank => Ok(NextLine::Line),
             Record::Message(lane, text) => {
                 self.places.push(Place::Message(lane, text))?;
-                Ok(Taken::Line)
+                Ok(NextLine::Line)
             }
             Record::Refused(lane, fault) => {
                 self.places.push(Place::Refused(lane, fault))?;
-                Ok(Taken::Line)
+                Ok(NextLine::Line)
             }
             Record::Row(lane, row) => {
                 match keep_row(&mut self.lanes, &mut self.places, lane) {
-                    Ok(true) => Ok(Taken::Row(lane, row)),
-                    Ok(false) => Ok(Taken::Line),
+                    Ok(true) => Ok(NextLine::Row(lane, row)),
+                    Ok(false) => Ok(NextLine::Line),
                     Err(refused) => Err(refused),
                 }
             }
         }
     }
 
-    /// TakesLine the next line, and keeps the place of its record.
-    fn take_line(&mut self) -> Result<Taken, AllocError>
+    /// Takes the next line, and keeps the place of its record.
+    fn take_line(&mut self) -> Result<NextLine, AllocError>
         requires { IsLed ⟦<Live<W> as Traffic>⟧.Came self.old }
         ensures takes { TakesLine ⟦<Live<W> as Traffic>⟧.Came result self.old self.new }
         ensures stopped { self.new.stopped ≡ self.old.stopped }
     {
         let lanes = self.lanes.len() as u8;
         let Some((count, found)) = next_record(self.alloc, lanes, &self.lines)? else {
-            return Ok(Taken::Nothing);
+            return Ok(NextLine::Nothing);
         };
         match self.keep(found) {
             Ok(taken) => {
@@ -137,19 +137,19 @@ impl<W: Wire> Live<W> {
         }
     }
 
-    /// TakesLine the next line, where nothing has stopped and the turn is not full.
-    fn take_next(&mut self) -> Taken
+    /// Takes the next line, where nothing has stopped and the turn is not full.
+    fn take_next(&mut self) -> NextLine
         requires { IsLed ⟦<Live<W> as Traffic>⟧.Came self.old }
         ensures { TakesLine ⟦<Live<W> as Traffic>⟧.Came (Ok result) self.old self.new }
     {
         if self.stopped.is_some() || self.places.len() >= TURN {
-            return Taken::Nothing;
+            return NextLine::Nothing;
         }
         match self.take_line() {
             Ok(taken) => taken,
             Err(_) => {
                 self.stopped = Some(LiveFault::NoMemory);
-                Taken::Nothing
+                NextLine::Nothing
             }
         }
     }
@@ -223,6 +223,8 @@ impl<W: Wire> Traffic for Live<W> {
 
     ghost has_ended = { λ s. is_finished s };
 
+    ghost Leaves = { λ s t. ⊥ };
+
     /// To wake a worker takes longer than to read a row that comes alone.
     fn lets_caller_read(&self) -> bool {
         true
@@ -231,9 +233,9 @@ impl<W: Wire> Traffic for Live<W> {
     fn next(&mut self) -> Option<(u8, Runs)> {
         'lines: for _ in 0..TURN {
             match self.take_next() {
-                Taken::Nothing => return None,
-                Taken::Line => {}
-                Taken::Row(lane, row) => return Some((lane, row)),
+                NextLine::Nothing => return None,
+                NextLine::Line => {}
+                NextLine::Row(lane, row) => return Some((lane, row)),
             }
         }
         None

@@ -3,7 +3,7 @@ use Rattle.std.proofs.KnownBytes.{Keeps-refl}
 use Rattle.digits_core.specs.Bytes.{TookFront}
 use Rattle.command_core.specs.inner.Buffers.{taken_and_waiting}
 use Rattle.command_core.specs.declared.fault.CommandFault.TheVariants as command
-use Rattle.command_core.proofs.BufferFacts.{may_fail, refused_as, took_front}
+use Rattle.command_core.proofs.BufferedIsTaken.{may_fail, refused_as, took_front}
 use Rattle.command_core.proofs.commands.run_and_flush.Goals as goal
 
 pub returns-in_err-run : goal.returns-in_err-run

@@ -1,4 +1,4 @@
-use Rattle.command_core.proofs.answers.LineFacts.{plain_of}
+use Rattle.command_core.proofs.answers.PlainLines.{plain_of}
 use Rattle.command_core.proofs.answers.lines.are_plain.Goals as goal
 
 pub returns-in-None : goal.returns-in-None

@@ -2,7 +2,7 @@ use Rattle.std.proofs.Common.{◌+◌, ◌∙◌, ap, sym, take}
 use Rattle.command_core.specs.inner.Lines.{with_line}
 use Rattle.command_core.specs.live.Laws.{record_lines}
 use Rattle.command_core.specs.live.Text.{without_return}
-use Rattle.command_core.proofs.answers.LineFacts.{first_line, last_line}
+use Rattle.command_core.proofs.answers.PlainLines.{first_line, last_line}
 use Rattle.command_core.proofs.live.FieldsFacts.{rest_all}
 use Rattle.command_core.proofs.answers.lines.cut_line.Goals as goal
 

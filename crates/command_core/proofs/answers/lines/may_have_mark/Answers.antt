@@ -1,5 +1,5 @@
 use Rattle.std.proofs.Common.{◌≡◌, length, rules}
-use Rattle.command_core.proofs.answers.LineFacts.{no_bytes, no_mark}
+use Rattle.command_core.proofs.answers.PlainLines.{no_bytes, no_mark}
 use Rattle.command_core.proofs.answers.lines.may_have_mark.Goals as goal
 
 pub returns-then-not-is_empty : goal.returns-then-not-is_empty

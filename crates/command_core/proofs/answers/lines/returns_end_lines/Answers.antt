@@ -1,6 +1,6 @@
 use Rattle.std.proofs.Common.{None, Some, arith, length-drop, subst}
 use Rattle.memchr.specs.Find.{IsFirstByte, is_byte}
-use Rattle.command_core.proofs.answers.LineFacts.{no_more_returns, one_more_return}
+use Rattle.command_core.proofs.answers.PlainLines.{no_more_returns, one_more_return}
 use Rattle.command_core.proofs.live.FieldsFacts.{rest_all}
 use Rattle.command_core.proofs.answers.lines.returns_end_lines.Goals as goal
 

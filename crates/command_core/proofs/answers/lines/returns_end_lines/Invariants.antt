@@ -1,5 +1,5 @@
 use Rattle.std.proofs.Common.{◌-◌, ◌≤◌, length}
-use Rattle.command_core.proofs.answers.LineFacts.{EndUpTo}
+use Rattle.command_core.proofs.answers.PlainLines.{EndUpTo}
 use Rattle.command_core.proofs.answers.lines.returns_end_lines.Given as goal
 
 abbrev pub invariant-each : goal.invariant-each

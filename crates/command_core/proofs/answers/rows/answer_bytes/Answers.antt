@@ -1,7 +1,7 @@
 use Rattle.std.proofs.Common.{Ok, [], ap, string_bytes, subst, sym}
 use Rattle.record_core.specs.input.Records.{AreItems}
 use Rattle.record_core.specs.lanes.Feeds.{lanes_meaning}
-use Rattle.command_core.proofs.answers.RowFacts.{no_report}
+use Rattle.command_core.proofs.answers.RowsAsRead.{no_report}
 use Rattle.command_core.proofs.answers.rows.answer_bytes.Goals as goal
 
 pub returns-then-not-is_found-clause-lines : goal.returns-then-not-is_found-clause-lines

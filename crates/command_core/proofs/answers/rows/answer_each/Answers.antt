@@ -1,7 +1,7 @@
 use Rattle.std.proofs.Common.{[], map, refl, string_bytes, subst, sym}
 use Rattle.hub_core.specs.Traffics.{IsKept}
 use Rattle.command_core.proofs.answers.ReportFacts.{no_lines}
-use Rattle.command_core.proofs.answers.RowFacts.{no_rows, reported, starts}
+use Rattle.command_core.proofs.answers.RowsAsRead.{no_rows, reported, starts}
 use Rattle.command_core.proofs.answers.rows.answer_each.Goals as goal
 
 pub serve_traffic-requires-clause-fresh : goal.serve_traffic-requires-clause-fresh

@@ -1,5 +1,5 @@
 use Rattle.std.proofs.Common.{arith, string_bytes}
-use Rattle.hub_core.proofs.FeedFacts.{empty_more}
+use Rattle.hub_core.proofs.RowsAreGiven.{empty_more}
 use Rattle.command_core.proofs.answers.serving.make_texts.Goals as goal
 
 pub loop-lane-preserved : goal.loop-lane-preserved

@@ -3,9 +3,9 @@ use Rattle.command_core.specs.answers.Reports.{IsReport}
 use Rattle.record_core.specs.lanes.Feeds.{feeds_of, lanes_meaning}
 use Rattle.command_core.specs.commands.Lanes.{lanes_command}
 use Rattle.command_core.specs.Faults.{of_rows}
-use Rattle.command_core.proofs.BufferFacts.{refused_as}
+use Rattle.command_core.proofs.BufferedIsTaken.{refused_as}
 use Rattle.command_core.proofs.CommandFacts.{read_told, records_cut, rows_not_cut, rows_not_read, rows_unanswered}
-use Rattle.command_core.proofs.CountFacts.{counted}
+use Rattle.command_core.proofs.FewEnough.{counted}
 use Rattle.command_core.proofs.commands.lanes.run_lanes.Goals as goal
 
 pub answer_records-requires-clause-counts : goal.answer_records-requires-clause-counts

@@ -1,4 +1,4 @@
-use Rattle.command_core.proofs.CountFacts.{counted}
+use Rattle.command_core.proofs.FewEnough.{counted}
 use Rattle.command_core.proofs.commands.live.run_live.Goals as goal
 
 pub answer_live-wire-requires-clause-counts : goal.answer_live-wire-requires-clause-counts

@@ -21,7 +21,7 @@ use Rattle.sheet_core.specs.declared.label.Label.{Label}
 use Rattle.command_core.specs.Faults.{failed_write, no_memory, of_prints, of_sheets}
 use Rattle.command_core.specs.commands.Prints.{IsPrinted, IsUnprinted}
 use Rattle.record_core.specs.print.Labels.{label_lines}
-use Rattle.command_core.proofs.BufferFacts.{refused_as}
+use Rattle.command_core.proofs.BufferedIsTaken.{refused_as}
 use Rattle.command_core.proofs.CommandFacts.{never_refused, not_cut, only_fault, told_fault}
 use Rattle.command_core.proofs.commands.print.write_labels.Goals as goal
 

@@ -9,7 +9,7 @@ use Rattle.command_core.specs.commands.Scans.{scan_command}
 use Rattle.command_core.specs.declared.fault.CommandFault.TheVariants as command
 use Rattle.command_core.proofs.CommandFacts.{columns_of, cut_run, images_cut, images_no_write, images_read, images_refused, images_unanswered, never_refused}
 use Rattle.command_core.proofs.CommandFacts.{no_read, no_write, refused_run, sized, written_run}
-use Rattle.command_core.proofs.CountFacts.{counts_hold}
+use Rattle.command_core.proofs.FewEnough.{counts_hold}
 use Rattle.command_core.proofs.commands.scan.run_scan.Goals as goal
 
 pub returns-in_err-grid : goal.returns-in_err-grid

@@ -9,7 +9,7 @@ use Rattle.command_core.specs.live.Text.{AnsweredAll, IsReply, line_meant}
 use Rattle.command_core.specs.live.Answering.{AnswersBy}
 use Rattle.command_core.specs.declared.live.manner.Manner.{Manner}
 use Rattle.command_core.specs.declared.live.fault.LiveFault.TheVariants as fault
-use Rattle.command_core.proofs.live.EndFacts.{all_answered, at_a_regular_end, finished, it_is_told, lived_nothing, none_lost, tells_reply, why_it_ended}
+use Rattle.command_core.proofs.live.LiveEnds.{all_answered, at_a_regular_end, finished, it_is_told, lived_nothing, none_lost, tells_reply, why_it_ended}
 use Rattle.command_core.proofs.live.LogFacts.{answers_weaker, front_weaker, prompt_weaker}
 use Rattle.command_core.proofs.live.answering.answer_live.Goals as goal
 

@@ -1,6 +1,6 @@
 use Rattle.std.proofs.Common.{◌∙◌, None, [], ap, arith, refl, sym}
 use Rattle.wire_core.specs.Lines.{Held}
-use Rattle.command_core.proofs.live.EndFacts.{come_at_first}
+use Rattle.command_core.proofs.live.LiveEnds.{come_at_first}
 use Rattle.command_core.proofs.live.LivedFacts.{none_told_at_first}
 use Rattle.command_core.proofs.live.input.Live.new.Goals as goal
 

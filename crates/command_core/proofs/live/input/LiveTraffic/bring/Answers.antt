@@ -21,8 +21,8 @@ push_reserved-requires g c =
     let i = at.each c.args.delivery.lane w got in
     omega (arith, next.owed, ap length i.whole, length-append i.written w.deliveries.items, i.first, i.next, i.room, w.deliveries.ok.0)
 
-pub returns : goal.returns
-returns g c = λ start given brought l next.
+pub returns-clause-brings : goal.returns-clause-brings
+returns-clause-brings g c = λ start given brought l next.
     let s = c.args.self.now in
     let lanes = s.lanes.items in
     let x = c.args.delivery in

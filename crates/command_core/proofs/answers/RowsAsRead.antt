@@ -20,12 +20,12 @@ use Rattle.record_core.specs.input.Records.{AreItems, Fields, records_of}
 use Rattle.record_core.specs.lanes.Feeds.{LaneRow, feed_of, feeds_of, lanes_meaning}
 use Rattle.command_core.specs.declared.answers.rows.Course.{Course}
 use Rattle.command_core.specs.declared.answers.rows.Course.TheVariants as course
-use Rattle.command_core.specs.declared.answers.rows.Reading.{Reading}
+use Rattle.command_core.specs.declared.answers.rows.RecordRows.{RecordRows}
 use Rattle.record_core.specs.declared.input.records.Records.{Records}
 use Rattle.command_core.proofs.answers.ReportFacts.{lanes_joined, rowless}
 use Rattle.record_core.proofs.ReadFacts.{read_few}
 use Rattle.command_core.proofs.answers.FeedCounts.{feed_short}
-use Rattle.command_core.proofs.answers.FeedFacts.{feeds_more}
+use Rattle.command_core.proofs.answers.FeedsGrow.{feeds_more}
 use Rattle.element_core.specs.Terms.{Terms}
 use Rattle.record_core.proofs.Beside.{zip_more}
 
@@ -47,7 +47,7 @@ no_report year lanes text is =
     rowless (λ lane. feed_of lane []) year (range_with_len 0 lanes) text (none (range_with_len 0 lanes)) is
 
 -- the row of one record more is given
-row_more : (start old new : Reading) (given : List (List (List ℕ))) (brought : List (List Plain)) (row : LaneRow)
+row_more : (start old new : RecordRows) (given : List (List (List ℕ))) (brought : List (List Plain)) (row : LaneRow)
     → new.lanes ≡ old.lanes → new.texts ≡ old.texts → row.0 < old.lanes
     → ((rows : List Fields) → StandsAfter old.course start.bytes.now old.records old.rest.now rows → (length rows ≤ length start.bytes.now + 1)
     × ((fields : Fields) × StandsAfter new.course start.bytes.now new.records new.rest.now (rows ++ fields ∷ []) × lanes_meaning old.lanes fields (Ok row)))
@@ -77,7 +77,7 @@ row_more start old new given brought row lanes texts low more was =
     )
 
 -- the row of the next record is given
-pub row_given : (start old new : Reading) (given : List (List (List ℕ))) (brought : List (List Plain)) (row : LaneRow)
+pub row_given : (start old new : RecordRows) (given : List (List (List ℕ))) (brought : List (List Plain)) (row : LaneRow)
     → old.course ≡ course.Open → new.course ≡ course.Open → new.lanes ≡ old.lanes → new.texts ≡ old.texts → row.0 < old.lanes
     → ((bytes : List ℕ) (rows : List Fields) → HasRead bytes old.records rows → (fields : Fields) × HasRead bytes new.records (rows ++ fields ∷ [])
     × lanes_meaning old.lanes fields (Ok row))
@@ -91,7 +91,7 @@ row_given start old new given brought row is stays lanes texts low more was =
     )) was
 
 -- the row of the next line is given
-pub line_given : (start old new : Reading) (given : List (List (List ℕ))) (brought : List (List Plain)) (row : LaneRow) (line : List ℕ)
+pub line_given : (start old new : RecordRows) (given : List (List (List ℕ))) (brought : List (List Plain)) (row : LaneRow) (line : List ℕ)
     → old.course ≡ course.Plain → new.course ≡ course.Plain → new.lanes ≡ old.lanes → new.texts ≡ old.texts → row.0 < old.lanes
     → record_lines old.rest.now ≡ line ∷ record_lines new.rest.now → length new.rest.now < length old.rest.now
     → lanes_meaning old.lanes (fields_in line) (Ok row)
@@ -109,7 +109,7 @@ line_given start old new given brought row line is stays lanes texts low lines l
     )) was
 
 -- where no row was read nothing was given
-pub none_given : (start old new : Reading) (given : List (List (List ℕ))) (brought : List (List Plain)) → new.lanes ≡ old.lanes
+pub none_given : (start old new : RecordRows) (given : List (List (List ℕ))) (brought : List (List Plain)) → new.lanes ≡ old.lanes
     → new.texts ≡ old.texts
     → ((rows : List Fields) → StandsAfter old.course start.bytes.now old.records old.rest.now rows
     → StandsAfter new.course start.bytes.now new.records new.rest.now rows)
@@ -146,7 +146,7 @@ all_read course.Plain bytes r rest rows is stands = cc is
 all_read course.Refused bytes r rest rows is stands = cc is
 
 -- once all were read and brought, the texts are the report
-pub reported : (year : Terms) (start s : Reading) (given : List (List (List ℕ))) (brought : List (List Plain)) → AnswersAreRead → HasGiven start s given brought
+pub reported : (year : Terms) (start s : RecordRows) (given : List (List (List ℕ))) (brought : List (List Plain)) → AnswersAreRead → HasGiven start s given brought
     → is_ended s.course ≡ true → brought ≡ served year given
     → (items : List LaneRow) × AreItems (lanes_meaning start.lanes) (records_of start.bytes.now) items
     × IsReport year (feeds_of start.lanes items) (concat (map string_bytes s.texts.items))

@@ -1,6 +1,6 @@
 use Rattle.std.proofs.Common.{refl}
-use Rattle.command_core.proofs.answers.RowFacts.{line_given, row_given}
-use Rattle.command_core.proofs.answers.rows.ReadingTraffic.next.Goals as goal
+use Rattle.command_core.proofs.answers.RowsAsRead.{line_given, row_given}
+use Rattle.command_core.proofs.answers.rows.RecordRowsTraffic.next.Goals as goal
 
 pub returns-in-Ok-Some-clause-some : goal.returns-in-Ok-Some-clause-some
 returns-in-Ok-Some-clause-some c = λ start given brought was.

@@ -1,7 +1,7 @@
 use Rattle.std.proofs.Common.{subst, sym}
 use Rattle.std.proofs.lemmas.Option.{IfSome_then}
 use Rattle.hub_core.specs.Feeds.{AreGiven, rests_of}
-use Rattle.command_core.proofs.answers.serving.AnsweringTraffic.next.Goals as goal
+use Rattle.command_core.proofs.answers.serving.AnsweredRowsTraffic.next.Goals as goal
 
 pub returns-clause-some : goal.returns-clause-some
 returns-clause-some c =
