@@ -210,7 +210,7 @@ class Element:
         if self.countries:
             here["countries"] = list(self.countries)
         if self.place:
-            here["place"] = [str(it) for it in self.place]
+            here["place"] = [f"{it:f}" for it in self.place]
         return here
 
 

@@ -5,7 +5,7 @@
     ...     till = Till(shop, "north.3")
     ...     return [await till.read(row) for row in rows]
 
-docs/LIVE.md has the rules that this keeps, why they are enough, and what they want of Redis. Needs python3-hiredis.
+docs/REDIS.md has the rules that this keeps, why they are enough, and what they want of Redis. Needs python3-hiredis.
 """
 from __future__ import annotations
 

@@ -3,10 +3,14 @@
 Needs apt-get install python3-pytest; the last line of a run with -s has the speed.
 """
 import asyncio
+import contextlib
+import fcntl
 import os
 import shutil
 import signal
+import subprocess
 import sys
+import threading
 import time
 from itertools import groupby
 from pathlib import Path
@@ -453,3 +457,51 @@ def test_a_reply_to_nothing():
         async with Hub(2, 1, 2026, program=["sh", "-c", "echo 0 0 ]E0 01=1; sleep 1000"]) as hub:
             assert str(await hub.ended()) == "the hub answered what was not asked: b'0 0 ]E0 01=1', status -9"
     run(test())
+
+
+@contextlib.contextmanager
+def without_waiting(*words):
+    """The program over pipes that somebody else has set not to wait: its process, its input and its output."""
+    theirs, ours = os.pipe()
+    back, out = os.pipe()
+    for end in (theirs, out):
+        fcntl.fcntl(end, fcntl.F_SETFL, fcntl.fcntl(end, fcntl.F_GETFL) | os.O_NONBLOCK)
+    with open(ours, "wb") as rows, open(back, "rb") as answers:
+        with subprocess.Popen([PROGRAM, *words], stdin=theirs, stdout=out, stderr=subprocess.PIPE) as process:
+            os.close(theirs)
+            os.close(out)
+            time.sleep(0.2)  # Nothing has come yet.
+            yield process, rows, answers
+            rows.close()
+            answers.close()
+            assert process.wait(20) == 0 and process.stderr.read() == b""
+
+
+def test_pipes_that_do_not_wait():
+    """A hub waits for its input, and for whoever reads its answers."""
+    count = 20_000
+    row = f"0,{EAN13}\n".encode()
+    with without_waiting("live", "--lanes", "1", "--workers", "2", "--year", "2026") as (process, rows, answers):
+        rows.write(row)
+        rows.flush()
+        assert answers.readline() == b"0 0 ]E0 (01)09501101530003\n"
+        writing = threading.Thread(target=lambda: (rows.write(row * count), rows.close()))
+        writing.start()
+        time.sleep(0.5)  # The pipe of the answers is full.
+        assert writing.is_alive() and process.poll() is None
+        for number in range(1, count + 1):
+            assert answers.readline() == f"0 {number} ]E0 (01)09501101530003\n".encode()
+        assert answers.read() == b""
+        writing.join()
+
+
+def test_a_command_over_pipes_that_do_not_wait():
+    count = 5_000
+    with without_waiting("lanes", "--lanes", "1", "--workers", "2", "--year", "2026") as (process, rows, answers):
+        for _ in range(count // 100):
+            rows.write(f"0,{EAN13}\n".encode() * 100)
+            rows.flush()
+            time.sleep(0.002)
+        rows.close()
+        time.sleep(0.3)
+        assert answers.read() == b"".join(f"0 {number} ]E0 (01)09501101530003\n".encode() for number in range(count))

@@ -87,9 +87,8 @@ GROUPS = {
     "light zones of 6 modules": (zones(6), Look()),
     "light zones of 2 modules": (zones(2), Look()),
 }
-NOT_HELD = ("light zones of 2 modules", "light falling to 0.1")
-"""Groups in which another may read more: half of the standard's light zones is asked for, and light that falls so steeply across an
-EAN-8 or a UPC-E is not followed yet (docs/PICTURES.md)."""
+NOT_HELD = ("light zones of 2 modules",)
+"""Groups in which another may read more: half of the standard's light zones is asked for (docs/PICTURES.md)."""
 
 
 def group(name, symbols, folder):

@@ -167,7 +167,7 @@ def limits(counts, sets, none, slow, library):
             yield f"{of}, more than {reader}", right, right[0] > right[1]
         yield f"{of}, pictures with something else read, none", count.wrong["library"], count.wrong["library"] == 0
     fewer = [name for name, count in counts.items() if name not in hostile.NOT_HELD and count.right["library"] < max(count.right.values())]
-    yield "groups in which another reads more, none but two", ", ".join(fewer) or 0, not fewer
+    yield "groups in which another reads more, none but light zones", ", ".join(fewer) or 0, not fewer
     yield f"symbols found in {none[0]} pictures without one, none", none[1], none[1] == 0 and none[0] >= WITHOUT
     yield f"the slowest of 12 million dots, at most {SLOWEST} s", f"{slow[0]:.2f} ({slow[1]})", slow[0] <= SLOWEST
     yield f"of {library.asked} pictures Python, C and Node answer alike, of all", "not all" if library.differing else "all", library.differing == 0 and library.asked > 3800

@@ -7,7 +7,7 @@ use crate::own_row::{OwnRow, OwnRows};
 use crate::place::{Corners, Place, UNIT};
 use crate::reader::Reader;
 use crate::runs::{are_alike, dots_before, is_dark_between, put_runs};
-use crate::said::{Furthest, Said, says_as};
+use crate::said::{Furthest, Said, note_row, says_as};
 use crate::shown::Shown;
 use crate::symbol::Symbol;
 use arrayvec::ArrayVec;
@@ -216,10 +216,12 @@ fn add_symbols(reader: &Reader, runs: &[u16], y: u32, bands: &mut Bands, furthes
         return;
     };
     let mut dropped = 0u32;
+    let mut is_read = false;
     for _ in 0..runs.len() {
         let Some(window) = search.next_symbol() else {
             break;
         };
+        is_read = true;
         let Some(at) = place_of(runs, y, &window) else {
             continue;
         };
@@ -233,6 +235,9 @@ fn add_symbols(reader: &Reader, runs: &[u16], y: u32, bands: &mut Bands, furthes
         }
     }
     bands.dropped = bands.dropped.max(dropped);
+    if !is_read {
+        note_row(runs, reader.year, furthest);
+    }
 }
 
 /// What the own rows of a picture show, by two rows at least, or by the one that it has.

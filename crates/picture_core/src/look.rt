@@ -17,8 +17,8 @@ use crate::tally::{Seen, Tally};
 use crate::windows::{Row, read_windows};
 
 /// How a patch is looked at: how many lines a dot apart are taken in the mean, how many such rows at most, whether they go along the
-/// middles of the stripes, which blur is taken out, how far around the darkest and the lightest is looked for, and whether the bars
-/// are light and what is between them dark.
+/// middles of the stripes, which blur is taken out, how far around the darkest and the lightest is looked for, whether on each side by
+/// itself, and whether the bars are light and what is between them dark.
 #[derive(Clone, Copy)]
 pub(crate) struct Look {
     pub(crate) lines: u32,
@@ -26,6 +26,7 @@ pub(crate) struct Look {
     pub(crate) is_aslant: bool,
     pub(crate) blur: Option<Blur>,
     pub(crate) around: usize,
+    pub(crate) is_by_sides: bool,
     pub(crate) is_inverted: bool,
 }
 
@@ -37,6 +38,7 @@ pub(crate) const LOOKS: [Look; 5] = [
         is_aslant: false,
         blur: None,
         around: 4,
+        is_by_sides: false,
         is_inverted: false,
     },
     Look {
@@ -45,6 +47,7 @@ pub(crate) const LOOKS: [Look; 5] = [
         is_aslant: true,
         blur: None,
         around: 4,
+        is_by_sides: true,
         is_inverted: false,
     },
     Look {
@@ -53,6 +56,7 @@ pub(crate) const LOOKS: [Look; 5] = [
         is_aslant: true,
         blur: Some(SMALL),
         around: 12,
+        is_by_sides: false,
         is_inverted: false,
     },
     Look {
@@ -61,6 +65,7 @@ pub(crate) const LOOKS: [Look; 5] = [
         is_aslant: true,
         blur: None,
         around: 4,
+        is_by_sides: false,
         is_inverted: true,
     },
     Look {
@@ -69,6 +74,7 @@ pub(crate) const LOOKS: [Look; 5] = [
         is_aslant: true,
         blur: Some(LARGE),
         around: 12,
+        is_by_sides: false,
         is_inverted: false,
     },
 ];
@@ -104,7 +110,7 @@ fn put_ends(
     requires high { length high.old ≡ length sums.old }
 {
     make_means(sums, look);
-    put_bounds(sums, look.around, low, high);
+    put_bounds(sums, look.around, look.is_by_sides, low, high);
     let mut made = Ends::none(ends);
     match &look.blur {
         Some(blur) => {

@@ -28,6 +28,9 @@ const MOST_TAKEN: usize = 3_000_000;
 /// Leaves the blocks that are outside of what is found.
 fn leave_unknown(blocks: &mut Blocks, shown: &Shown) {
     for number in 0..blocks.len() {
+        if !blocks.block(number).is_striped() {
+            continue;
+        }
         let spot = blocks.centre(number);
         let mut is_known = false;
         for symbol in shown.symbols.as_slice() {

@@ -109,6 +109,17 @@ impl Said {
     }
 }
 
+/// Notes why a whole row is refused, if it has as many runs as a symbol.
+pub(crate) fn note_row(widths: &[u16], year: Year, furthest: &mut Furthest) {
+    let mut whole = Furthest::none();
+    let _ = Said::of_widths(widths, year, &mut whole);
+    if let Some(refused) = whole.refused {
+        if tests_before(refused.fault) > tests_before(RowFault::RunCount) {
+            furthest.add(refused);
+        }
+    }
+}
+
 /// Whether both say the same, or both nothing.
 pub(crate) fn says_as(one: &Option<Said>, other: &Option<Said>) -> bool {
     match (one, other) {

@@ -16,7 +16,7 @@ pub(crate) struct Block {
 const PLAIN: Block = Block { cos: 0, sin: 0 };
 
 impl Block {
-    fn is_striped(self) -> bool {
+    pub(crate) fn is_striped(self) -> bool {
         self.cos != 0 || self.sin != 0
     }
 }

@@ -1,6 +1,6 @@
 //! Windows of a row that may be symbols.
 use crate::said::{Furthest, Said};
-use crate::shape::shapes_of;
+use crate::shape::{has_shape, shapes_of};
 use crate::straight::{Window, straightened};
 use crate::tally::{Sight, Tally};
 use element_core::Year;
@@ -113,10 +113,12 @@ fn try_from(row: &Row, first: usize, year: Year, furthest: &mut Furthest) -> Try
         if runs >= 25 && u64::from(inner) * 5 > u64::from(quiet) * u64::from(runs) * 3 {
             break;
         }
-        match try_window(row, first, runs, widest, year, furthest) {
-            Try::Read(said, last) => return Try::Read(said, last),
-            Try::Refused(last) => refused = Try::Refused(last),
-            Try::Nothing => {}
+        if has_shape(runs) {
+            match try_window(row, first, runs, widest, year, furthest) {
+                Try::Read(said, last) => return Try::Read(said, last),
+                Try::Refused(last) => refused = Try::Refused(last),
+                Try::Nothing => {}
+            }
         }
         widest = widest.max(width(row.ends, run + 1));
     }
