@@ -1,7 +1,7 @@
 """The module's answers to the lines of standard input, one a line: `rows` for the lines of `lanes`, `dots` for the same
 as packed dots, `finds` and `dotfinds` for the symbols of both, with an empty line behind those of a row, `check` for those of
-`check`, `dates` for the date of the one element of a year, a comma, its Application Identifier, `=` and its value. The year
-is else 2026."""
+`check`, `elements` for element strings of every AI, `titles` for the titles of AIs, `dates` for the date of the one element of a year,
+a comma, its Application Identifier, `=` and its value. The year is else 2026."""
 import sys
 
 import noriladle
@@ -10,7 +10,7 @@ YEAR = 2026
 CHECKS = {
     "digit": lambda text: f"digit {noriladle.check_digit(text)}",
     "gtin": lambda text: f"gtin {noriladle.read_gtin(text)}",
-    "text": lambda text: f"hri {noriladle.read_elements(text.replace('^', chr(29)), YEAR)}",
+    "text": lambda text: f"hri {noriladle.read_elements(text.replace('^', chr(29)), YEAR, ais='profile')}",
 }
 
 
@@ -37,7 +37,12 @@ def dated(year, pair):
 
 def answer(line):
     first, _, second = line.rstrip("\n").partition(",")
+    if sys.argv[1] == "titles":
+        return noriladle.Element(line.rstrip("\n"), "").title
     try:
+        if sys.argv[1] == "elements":
+            elements = noriladle.parse_elements(line.rstrip("\n").replace("^", chr(29)), YEAR, ais="all")
+            return "hri " + "".join(f"({it.ai}){it.value}" for it in elements)
         if sys.argv[1] == "dates":
             return dated(first, second)
         if sys.argv[1] == "check":

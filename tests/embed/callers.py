@@ -1,15 +1,16 @@
-"""The callers of docs/EMBED.md: each is written to a file, made and run as the page says, and what it prints is compared.
+"""The callers of docs/C.md and docs/PYTHON.md: each is written to a file, made and run as its page says, and what it prints is compared.
 
-Usage: callers.py PAGE FOLDER. A block of `c`, `cpp` or `python` is FOLDER/caller.c, .cpp or .py, and the block after it is a
+Usage: callers.py PAGE.. FOLDER. A block of `c`, `cpp` or `python` is FOLDER/caller.c, .cpp or .py, and the block after it is a
 command and its output. The last line is the counts, and the status is 0 where all are as the page has them.
 """
+import pathlib
 import re
 import subprocess
 import sys
 
-page, folder = sys.argv[1:]
-with open(page, encoding="utf-8") as it:
-    blocks = re.findall(r"^```(\w+)\n(.*?)^```\n+```\n\$ (.*?)\n(.*?)^```$", it.read(), re.MULTILINE | re.DOTALL)
+*pages, folder = sys.argv[1:]
+text = "".join(pathlib.Path(it).read_text(encoding="utf-8") for it in pages)
+blocks = re.findall(r"^```(\w+)\n(.*?)^```\n+```\n\$ (.*?)\n(.*?)^```$", text, re.MULTILINE | re.DOTALL)
 other = 0
 for language, source, command, wanted in blocks:
     ending = {"c": "c", "cpp": "cpp", "python": "py"}[language]
@@ -20,4 +21,4 @@ for language, source, command, wanted in blocks:
         other += 1
         print(f"{command}: status {ran.returncode}\n{ran.stdout}{ran.stderr}", file=sys.stderr)
 print(f"callers: {len(blocks)}, {other} differ")
-sys.exit(other != 0 or len(blocks) != 5)
+sys.exit(other != 0 or len(blocks) != 6)

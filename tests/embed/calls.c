@@ -1,7 +1,8 @@
 /* Calls the library from C. With no words: the worked cases, each into a buffer of every size from 0 to past
  * its answer. With a word: the answers to the lines of standard input, one a line, by the word: `rows` for the
  * lines of `lanes`, `dots` for the same as packed dots, `finds` and `dotfinds` for the symbols of both, with an empty line
- * behind those of a row, `check` for those of `check`, `dates` for a year, a comma and an element as a pair, `labels MODULE WIDTH HEIGHT`
+ * behind those of a row, `check` for those of `check`, `elements` for element strings of every AI, read element by element, `titles` for the
+ * titles of AIs, `dates` for a year, a comma and an element as a pair, `labels MODULE WIDTH HEIGHT`
  * for those of `print`, whose images are written with nothing between them. With `time COUNT`: the milliseconds of
  * so many calls on the rows of such lines, in turn: gs1_find of those that begin with `find`, and gs1_row of the
  * others. With `threads`: whether several threads that ask the rows of such lines at once get the answers of one. The
@@ -14,6 +15,10 @@
 #include <time.h>
 
 enum { YEAR = 2026, MOST_RUNS = 70000 };
+
+/* Names that older headers called: programs which were compiled with one find them still. */
+size_t gs1_c_dots(const uint8_t *bits, size_t bytes, uint32_t count, uint16_t year, uint8_t *out, size_t room);
+size_t gs1_c_find_dots(const uint8_t *bits, size_t bytes, uint32_t count, uint16_t year, uint8_t *out, size_t room);
 
 static long checks, wrong;
 
@@ -323,6 +328,78 @@ static void cases(void) {
     refused(GS1_GS1128, "10A#", YEAR, 1, 113, 3, "refused 7 ValueCharacter 0");
 }
 
+/* A call with null pointers, into a buffer and into none. */
+static uint8_t answer[GS1_LINE];
+
+static void none(const char *call, size_t unasked, size_t length, const char *wanted) {
+    checks++;
+    if (unasked != length || length != strlen(wanted) || memcmp(answer, wanted, length)) wrong++, printf("wrong: %s of null\n", call);
+    memset(answer, '.', sizeof answer);
+}
+
+#define NONE(wanted, call, ...) none(#call, call(__VA_ARGS__, NULL, n), call(__VA_ARGS__, answer, sizeof answer), wanted)
+
+/* Each call with null pointers: they stand for no items, whatever their counts. */
+static void nulls(void) {
+    for (uint32_t n = 0; n <= 100000; n += 50000) {
+        NONE("refused 18 BadRuns", gs1_row, NULL, n, YEAR);
+        NONE("refused 18 BadRuns", gs1_row_elements, NULL, n, YEAR);
+        NONE("refused 18 BadRuns", gs1_find, NULL, n, YEAR);
+        NONE(n ? "refused 18 BadRuns" : "refused 19 Blank", gs1_dots, NULL, n, YEAR);
+        NONE(n ? "refused 18 BadRuns" : "refused 19 Blank", gs1_dots_elements, NULL, n, YEAR);
+        NONE(n ? "refused 18 BadRuns" : "", gs1_find_dots, NULL, n, YEAR);
+        NONE("refused 4 Empty", gs1_date, NULL, n, YEAR);
+        NONE("refused 40 Kind", gs1_scan, NULL, n, YEAR);
+        NONE("refused 1 Length", gs1_gtin, NULL, n);
+        NONE("refused 1 Length", gs1_digit, NULL, n);
+        NONE("refused 4 Empty", gs1_text, NULL, n, YEAR);
+        NONE("refused 4 Empty", gs1_text_elements, NULL, n, GS1_EVERY_AI | YEAR);
+        NONE("refused 1 Length", gs1_label, GS1_EAN13, NULL, n, YEAR, 1, 113, 3);
+        NONE("refused 1 Length", gs1_symbol, GS1_EAN13, NULL, n, YEAR);
+        NONE("", gs1_title, NULL, n);
+        NONE("refused 43 NoMemory", gs1_picture, NULL, n, 0, 0, n, 0, YEAR, NULL, n);
+        struct gs1_bytes rest = {NULL, n};
+        struct gs1_element element;
+        checks += 4;
+        if (gs1_status(NULL, n) || gs1_next(&rest, &element) || gs1_next(NULL, &element) || gs1_next(&rest, NULL)) wrong++, puts("wrong: a line of null");
+    }
+}
+
+/* The elements of a line as the human-readable line has them; the line is a block of its own, so that the address sanitizer sees a byte past it. */
+static size_t walked(const void *line, size_t length, char *out) {
+    uint8_t *block = malloc(length + !length);
+    memcpy(block, line, length);
+    char *end = out;
+    struct gs1_bytes rest = {block, length};
+    struct gs1_element element;
+    while (gs1_next(&rest, &element))
+        end += sprintf(end, "(%.*s)%.*s", (int)element.ai.count, element.ai.at, (int)element.value.count, element.value.at);
+    free(block);
+    return (size_t)(end - out);
+}
+
+static void walk(const char *line, int status, const char *wanted) {
+    char got[4096];
+    size_t count = walked(line, strlen(line), got);
+    checks++;
+    if (gs1_status((const uint8_t *)line, strlen(line)) != status || count != strlen(wanted) || memcmp(got, wanted, count))
+        wrong++, printf("wrong: elements of %s\n", line);
+}
+
+static void walks(void) {
+    walk("]E0 01=09501101530003", 0, "(01)09501101530003");
+    walk("]C1 01=09501101530003\t10=A=B(17)\t17=261231", 0, "(01)09501101530003(10)A=B(17)(17)261231");
+    walk("- 8200==", 0, "(8200)=");
+    walk("5632 512 54272 512 54272 14848 5632 14848 56 ]E0 01=09501101530003\n1 2 ]E4 01=00000096385074\n", 0, "(01)09501101530003(01)00000096385074");
+    walk("", 0, "");
+    walk("none", 0, "");
+    walk("hri", 0, "");
+    walk("refused", 0, "");
+    walk("refused 3 CheckDigit", GS1_FAULT_CHECK_DIGIT, "");
+    walk("refused 9 ValueDate 17", GS1_FAULT_VALUE_DATE, "");
+    walk("refused 43 NoMemory", GS1_FAULT_NO_MEMORY, "");
+}
+
 /* Answers a question with as much room as it takes. */
 static void print(const struct asked *q, const char *end) {
     size_t length = ask(q, NULL, 0);
@@ -372,6 +449,28 @@ static void answer_check(char *words) {
     struct asked q = {.items = text, .count = strlen(text), .year = YEAR};
     q.call = !strcmp(words, "gtin") ? GTIN : !strcmp(words, "digit") ? DIGIT : TEXT;
     print(&q, "\n");
+}
+
+/* An element string by every AI: its human-readable line, put together of its elements as data. */
+static void answer_elements(char *text) {
+    for (char *c = text; *c; c++)
+        if (*c == '^') *c = 29;
+    uint8_t line[GS1_LINE];
+    char all[4096] = "hri ";
+    size_t length = gs1_text_elements((const uint8_t *)text, strlen(text), GS1_EVERY_AI | YEAR, line, sizeof line);
+    if (gs1_status(line, length)) {
+        printf("%.*s\n", (int)length, line);
+        return;
+    }
+    size_t count = 4 + walked(line, length, all + 4);
+    length = gs1_text((const uint8_t *)text, strlen(text), GS1_EVERY_AI | YEAR, line, sizeof line);
+    puts(length == count && !memcmp(line, all, length) ? all : "two answers");
+}
+
+/* The title of an AI. */
+static void answer_title(const char *ai) {
+    uint8_t title[GS1_TITLE];
+    printf("%.*s\n", (int)gs1_title((const uint8_t *)ai, strlen(ai), title, sizeof title), title);
 }
 
 static void answer_date(char *words) {
@@ -459,6 +558,8 @@ static int ask_at_once(void) {
 int main(int count, char **words) {
     if (count == 1) {
         cases();
+        nulls();
+        walks();
         printf("%ld calls, %ld cases wrong\n", checks, wrong);
         return wrong != 0;
     }
@@ -475,6 +576,8 @@ int main(int count, char **words) {
         else if (!strcmp(words[1], "dots")) answer_dots(input);
         else if (!strcmp(words[1], "dotfinds")) answer_dotfinds(input);
         else if (!strcmp(words[1], "check")) answer_check(input);
+        else if (!strcmp(words[1], "elements")) answer_elements(input);
+        else if (!strcmp(words[1], "titles")) answer_title(input);
         else if (!strcmp(words[1], "dates")) answer_date(input);
         else answer_label(input, words + 2);
     }

@@ -1,6 +1,9 @@
+mod AgainFacts
 mod DateFacts
 mod FoundFacts
 mod LineFacts
 mod PictureFacts
 mod PutFacts
+mod ShownFacts
+mod TitleFacts
 mod ToldFacts

@@ -4,5 +4,8 @@ pub mod Labels
 pub mod Lines
 pub mod Pictures
 pub mod Scanned
+pub mod Shown
+pub mod Status
 pub mod Symbols
+pub mod Titles
 pub mod inner

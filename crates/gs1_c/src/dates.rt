@@ -12,7 +12,7 @@ use jiff::civil::Date;
 const MOST: usize = 192;
 
 /// How many bytes stand before the first `=`.
-fn equals_at(text: &[u8]) -> usize
+pub fn equals_at(text: &[u8]) -> usize
     ensures value { result ≡ length (before_equals text.now) }
     ensures within { result ≤ length text.now }
 {

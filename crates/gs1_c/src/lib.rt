@@ -9,7 +9,7 @@
 //! is read, and else those of the profile. Any other number is `refused 42 Words`.
 #![tactic(auto)]
 
-ghost use Rattle.std.specs.Prelude.{◌≡◌, List, ℕ, codes, length};
+ghost use Rattle.std.specs.Prelude.{◌≡◌, [], IsTrue, List, ℕ, codes, length, not};
 ghost use Rattle.digits_core.specs.Buffers.{IsPut};
 ghost use Rattle.element_core.specs.Lines.{IsDigitLine, gtin_line};
 ghost use Rattle.gs1_c.specs.Dates.{IsDateLine};
@@ -18,7 +18,10 @@ ghost use Rattle.gs1_c.specs.Labels.{IsLabelBytes, one_cell};
 ghost use Rattle.gs1_c.specs.Lines.{IsDotsLine, IsRowLine, IsTextLine};
 ghost use Rattle.gs1_c.specs.Pictures.{ArePictureLinesPut, room_count};
 ghost use Rattle.gs1_c.specs.Scanned.{IsScanLine};
+ghost use Rattle.gs1_c.specs.Shown.{IsFirstElement, ShownAgain, line_elements};
+ghost use Rattle.gs1_c.specs.Status.{IsStatus};
 ghost use Rattle.gs1_c.specs.Symbols.{IsSymbolLineBy};
+ghost use Rattle.gs1_c.specs.Titles.{title_of};
 
 mod answer;
 mod buffer;
@@ -26,26 +29,32 @@ mod dates;
 mod found;
 mod label;
 mod line;
+mod next;
 mod picture;
+mod status;
 mod symbol;
 mod terms;
 #[cfg(test)]
 mod tests;
+mod titles;
 
 use answer::{put_read, read_packed};
-use buffer::{put_line, put_refusal, put_refused};
+use buffer::{put, put_line, put_refusal, put_refused};
 use dates::put_date;
 use digits_core::RefusalKind;
 use element_core::{Form, digit_line, elements_line, gtin_line};
 use found::{put_dot_symbols, put_symbols};
 use label::{kind_numbered, put_image};
 use message_core::message_line;
+use next::{ElementPlace, first_element};
 use picture::{given_level, put_picture};
 use picture_core::{Reading, words_for};
 use scan_core::read_widths;
 use sheet_core::Grid;
+use status::status_of;
 use symbol::put_symbol;
 use terms::terms_of;
+use titles::title_of;
 
 /// The GTIN, in 14 digits, of its 8, 12, 13 or 14 (GS1 General Specifications, section 7.9), as
 /// `gtin 09501101530003`; or why it is none.
@@ -301,4 +310,41 @@ pub extern "C" fn gs1_c_symbol(kind: u32, text: &[u8], year: u16, out: &mut [u8]
         (_, None) => put_refused(RefusalKind::Words, out),
         (Some(kind), Some(terms)) => put_symbol(kind, text, terms, out),
     }
+}
+
+/// The number of the refusal that a line says, as 2 of `refused 2 NotDigit 12`; 0 of a line that does not begin with `refused` and a space.
+#[unsafe(no_mangle)]
+pub extern "C" fn gs1_c_status(line: &[u8]) -> u32
+    ensures { IsStatus line.now result }
+{
+    status_of(line)
+}
+
+/// Finds the first element that a line of elements as data shows, and says whether it shows one: the first word with an `=`, of which
+/// spaces, tabs and line feeds are the ends. The others stand behind the place's end. If it shows none, the place stays as it was.
+#[unsafe(no_mangle)]
+pub extern "C" fn gs1_c_next(line: &[u8], place: &mut ElementPlace) -> bool
+    ensures some { IsTrue result → IsFirstElement line.now place.new }
+    ensures none { IsTrue (not result) → line_elements line.now ≡ [] }
+    ensures unchanged { IsTrue (not result) → place.new ≡ place.old }
+
+    // What is put as pairs behind a word without `=` is found again.
+    ensures again { ShownAgain }
+{
+    match first_element(line) {
+        Some(found) => {
+            *place = found;
+            true
+        }
+        None => false,
+    }
+}
+
+/// The data title of an AI, in UTF-8 (GS1 General Specifications, section 3.2), as `BATCH/LOT` of `10`; no bytes if there is no such AI, or
+/// if it has no title.
+#[unsafe(no_mangle)]
+pub extern "C" fn gs1_c_title(ai: &[u8], out: &mut [u8]) -> usize
+    ensures { IsPut (title_of ai.now) out.old out.new result }
+{
+    put(title_of(ai), out)
 }

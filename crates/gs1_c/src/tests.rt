@@ -1,9 +1,10 @@
 //! What each call puts, against values from outside.
 
+use crate::next::ElementPlace;
 use crate::{
     gs1_c_date, gs1_c_digit, gs1_c_dots, gs1_c_dots_elements, gs1_c_find, gs1_c_find_dots,
-    gs1_c_gtin, gs1_c_label, gs1_c_row, gs1_c_row_elements, gs1_c_scan, gs1_c_text,
-    gs1_c_text_elements,
+    gs1_c_gtin, gs1_c_label, gs1_c_next, gs1_c_row, gs1_c_row_elements, gs1_c_scan, gs1_c_status,
+    gs1_c_text, gs1_c_text_elements, gs1_c_title,
 };
 use std::process::Abort;
 
@@ -253,4 +254,84 @@ fn each_symbol_of_packed_dots_is_told(rt: HostRuntime) {
         let count = gs1_c_find_dots(bits, dots, year, &mut out);
         puts(&rt, out.get(..count), wanted);
     }
+}
+
+/// AIs and their titles in the GS1 General Specifications.
+const TITLES: &[(&[u8], &[u8])] = &[
+    (b"00", b"SSCC"),
+    (b"10", b"BATCH/LOT"),
+    (b"17", b"USE BY or EXPIRY"),
+    (b"240", b"ADDITIONAL ID"),
+    (b"3103", b"NET WEIGHT (kg)"),
+    (b"3160", b"NET VOLUME (m\xC2\xB3)"),
+    (b"37", b"COUNT"),
+    (b"400", b"ORDER NUMBER"),
+    (b"4309", b"SHIP TO GEO"),
+    (b"7003", b"EXPIRY TIME"),
+    (b"8005", b"PRICE PER UNIT"),
+    (b"99", b"INTERNAL"),
+    (b"", b""),
+    (b"1", b""),
+    (b"100", b""),
+    (b"3106", b""),
+    (b"9501", b""),
+];
+
+#[test]
+fn each_ai_has_its_title(rt: HostRuntime) {
+    let mut out = [0; 32];
+    for &(ai, title) in TITLES {
+        let count = gs1_c_title(ai, &mut out);
+        puts(&rt, out.get(..count), title);
+    }
+}
+
+/// Lines and the number of their refusal.
+const STATUSES: &[(&[u8], u32)] = &[
+    (b"", 0),
+    (b"]E0 01=09501101530003", 0),
+    (b"refused", 0),
+    (b"refused 1 Length", 1),
+    (b"refused 9 ValueDate 5", 9),
+    (b"refused 10 MissingSeparator 0", 10),
+    (b"refused 42 Words", 42),
+];
+
+#[test]
+fn each_line_has_its_status(rt: HostRuntime) {
+    for &(line, status) in STATUSES {
+        assert_eq!(rt; gs1_c_status(line), status);
+    }
+}
+
+/// Lines, and the AI, the value and the rest of their first element.
+const FIRST: &[(&[u8], [&[u8]; 3])] = &[
+    (b"]C1 10=A=B\t17=261231", [b"10", b"A=B", b"\t17=261231"]),
+    (b"\t17=261231", [b"17", b"261231", b""]),
+    (
+        b"5632 512 ]E0 01=09501101530003\n",
+        [b"01", b"09501101530003", b"\n"],
+    ),
+];
+
+#[test]
+fn each_line_has_its_first_element(rt: HostRuntime) {
+    for &(line, [ai, value, rest]) in FIRST {
+        let mut place = ElementPlace {
+            start: 0,
+            equals: 0,
+            end: 0,
+        };
+        assert!(rt; gs1_c_next(line, &mut place));
+        puts(&rt, line.get(place.start..place.equals), ai);
+        puts(&rt, line.get(place.equals + 1..place.end), value);
+        puts(&rt, line.get(place.end..), rest);
+    }
+    let mut none = ElementPlace {
+        start: 1,
+        equals: 2,
+        end: 3,
+    };
+    assert!(rt; !gs1_c_next(b"refused 3 CheckDigit", &mut none));
+    assert_eq!(rt; none.end, 3);
 }

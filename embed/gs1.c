@@ -1,0 +1,140 @@
+/* The calls of gs1.h: each passes what it was given on to the proved call of crates/gs1_c, which takes no null pointer. A null pointer
+ * stands for no items, whatever its count. */
+#include "gs1.h"
+
+/* Where an element stands in a line: its AI, the `=` behind it, and the end of its value. */
+struct gs1_c_place {
+    size_t start, equals, end;
+};
+
+size_t gs1_c_row(const uint16_t *widths, size_t count, uint16_t year, uint8_t *out, size_t room);
+size_t gs1_c_row_elements(const uint16_t *widths, size_t count, uint16_t year, uint8_t *out, size_t room);
+size_t gs1_c_find(const uint16_t *widths, size_t count, uint16_t year, uint8_t *out, size_t room);
+size_t gs1_c_dots(const uint8_t *bits, size_t bytes, uint32_t count, uint16_t year, uint8_t *out, size_t room);
+size_t gs1_c_dots_elements(const uint8_t *bits, size_t bytes, uint32_t count, uint16_t year, uint8_t *out, size_t room);
+size_t gs1_c_find_dots(const uint8_t *bits, size_t bytes, uint32_t count, uint16_t year, uint8_t *out, size_t room);
+size_t gs1_c_date(const uint8_t *text, size_t length, uint16_t year, uint8_t *out, size_t room);
+size_t gs1_c_scan(const uint8_t *text, size_t length, uint16_t year, uint8_t *out, size_t room);
+size_t gs1_c_gtin(const uint8_t *text, size_t length, uint8_t *out, size_t room);
+size_t gs1_c_digit(const uint8_t *text, size_t length, uint8_t *out, size_t room);
+size_t gs1_c_text(const uint8_t *text, size_t length, uint16_t year, uint8_t *out, size_t room);
+size_t gs1_c_text_elements(const uint8_t *text, size_t length, uint16_t year, uint8_t *out, size_t room);
+size_t gs1_c_picture_room(uint32_t width, uint32_t height);
+size_t gs1_c_picture(const uint8_t *grey, size_t values, uint32_t width, uint32_t height, size_t stride, uint8_t level, uint16_t year,
+                     uint32_t *words, size_t word_count, uint16_t *widths, size_t width_count, uint8_t *out, size_t room);
+size_t gs1_c_label(uint32_t kind, const uint8_t *text, size_t length, uint16_t year, uint16_t module_dots, uint16_t width,
+                   uint16_t height, uint8_t *out, size_t room);
+size_t gs1_c_symbol(uint32_t kind, const uint8_t *text, size_t length, uint16_t year, uint8_t *out, size_t room);
+size_t gs1_c_title(const uint8_t *ai, size_t length, uint8_t *out, size_t room);
+uint32_t gs1_c_status(const uint8_t *line, size_t length);
+_Bool gs1_c_next(const uint8_t *line, size_t length, struct gs1_c_place *place);
+
+/* No items, aligned for each type. Nothing is read or written there, since the count is 0. */
+static const uint64_t none;
+
+/* A pointer and its count, as the proved calls take them. */
+#define READ(type, items, count) (items) ? (items) : (const type *)&none, (items) ? (count) : 0
+#define WRITE(type, items, count) (items) ? (items) : (type *)&none, (items) ? (count) : 0
+#define OUT WRITE(uint8_t, out, room)
+
+/* How many bytes so many packed dots have. */
+static size_t bytes_of(uint32_t count) {
+    return (size_t)(((uint64_t)count + 7) / 8);
+}
+
+/* How many words of its memory gs1_picture takes for the widths of a row. */
+static size_t width_words(uint32_t width) {
+    return ((size_t)width + 3) / 2;
+}
+
+size_t gs1_row(const uint16_t *widths, size_t count, uint16_t year, uint8_t *out, size_t room) {
+    return gs1_c_row(READ(uint16_t, widths, count), year, OUT);
+}
+
+size_t gs1_row_elements(const uint16_t *widths, size_t count, uint16_t year, uint8_t *out, size_t room) {
+    return gs1_c_row_elements(READ(uint16_t, widths, count), year, OUT);
+}
+
+size_t gs1_find(const uint16_t *widths, size_t count, uint16_t year, uint8_t *out, size_t room) {
+    return gs1_c_find(READ(uint16_t, widths, count), year, OUT);
+}
+
+size_t gs1_dots(const uint8_t *bits, uint32_t count, uint16_t year, uint8_t *out, size_t room) {
+    return gs1_c_dots(READ(uint8_t, bits, bytes_of(count)), count, year, OUT);
+}
+
+size_t gs1_dots_elements(const uint8_t *bits, uint32_t count, uint16_t year, uint8_t *out, size_t room) {
+    return gs1_c_dots_elements(READ(uint8_t, bits, bytes_of(count)), count, year, OUT);
+}
+
+size_t gs1_find_dots(const uint8_t *bits, uint32_t count, uint16_t year, uint8_t *out, size_t room) {
+    return gs1_c_find_dots(READ(uint8_t, bits, bytes_of(count)), count, year, OUT);
+}
+
+size_t gs1_date(const uint8_t *text, size_t length, uint16_t year, uint8_t *out, size_t room) {
+    return gs1_c_date(READ(uint8_t, text, length), year, OUT);
+}
+
+size_t gs1_scan(const uint8_t *text, size_t length, uint16_t year, uint8_t *out, size_t room) {
+    return gs1_c_scan(READ(uint8_t, text, length), year, OUT);
+}
+
+size_t gs1_gtin(const uint8_t *text, size_t length, uint8_t *out, size_t room) {
+    return gs1_c_gtin(READ(uint8_t, text, length), OUT);
+}
+
+size_t gs1_digit(const uint8_t *text, size_t length, uint8_t *out, size_t room) {
+    return gs1_c_digit(READ(uint8_t, text, length), OUT);
+}
+
+size_t gs1_text(const uint8_t *text, size_t length, uint16_t year, uint8_t *out, size_t room) {
+    return gs1_c_text(READ(uint8_t, text, length), year, OUT);
+}
+
+size_t gs1_text_elements(const uint8_t *text, size_t length, uint16_t year, uint8_t *out, size_t room) {
+    return gs1_c_text_elements(READ(uint8_t, text, length), year, OUT);
+}
+
+size_t gs1_picture_room(uint32_t width, uint32_t height) {
+    size_t words = gs1_c_picture_room(width, height);
+    return words ? words + width_words(width) : 0;
+}
+
+size_t gs1_picture(const uint8_t *grey, size_t values, uint32_t width, uint32_t height, size_t stride, uint8_t level, uint16_t year,
+                   uint32_t *memory, size_t words, uint8_t *out, size_t room) {
+    /* The widths of a row stand at the end of the memory. */
+    uint32_t *some = memory ? memory : (uint32_t *)&none;
+    size_t all = memory ? words : 0;
+    size_t last = width_words(width) < all ? width_words(width) : all;
+    return gs1_c_picture(READ(uint8_t, grey, values), width, height, stride, level, year, some, all - last,
+                         (uint16_t *)(some + (all - last)), 2 * last, OUT);
+}
+
+size_t gs1_label(enum gs1_kind kind, const uint8_t *text, size_t length, uint16_t year, uint16_t module_dots, uint16_t width,
+                 uint16_t height, uint8_t *out, size_t room) {
+    return gs1_c_label((uint32_t)kind, READ(uint8_t, text, length), year, module_dots, width, height, OUT);
+}
+
+size_t gs1_symbol(enum gs1_kind kind, const uint8_t *text, size_t length, uint16_t year, uint8_t *out, size_t room) {
+    return gs1_c_symbol((uint32_t)kind, READ(uint8_t, text, length), year, OUT);
+}
+
+size_t gs1_title(const uint8_t *ai, size_t length, uint8_t *out, size_t room) {
+    return gs1_c_title(READ(uint8_t, ai, length), OUT);
+}
+
+int gs1_status(const uint8_t *line, size_t length) {
+    return (int)gs1_c_status(READ(uint8_t, line, length));
+}
+
+int gs1_next(struct gs1_bytes *rest, struct gs1_element *element) {
+    struct gs1_c_place place;
+    if (!rest || !element || !rest->at || !gs1_c_next(rest->at, rest->count, &place)) return 0;
+    element->ai.at = rest->at + place.start;
+    element->ai.count = place.equals - place.start;
+    element->value.at = rest->at + place.equals + 1;
+    element->value.count = place.end - place.equals - 1;
+    rest->at += place.end;
+    rest->count -= place.end;
+    return 1;
+}

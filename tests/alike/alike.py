@@ -1,0 +1,183 @@
+"""Asks C, Python, the npm package, the page's scripts and the program the same, and prints what differs.
+
+Usage: alike.py LINES PACKAGE PROGRAM WORK COUNT. LINES is the program of lines.c, PACKAGE the npm package and PROGRAM gs1_hub. Its last line is the
+counts.
+"""
+import importlib.machinery
+import importlib.util
+import json
+import os
+import random
+import subprocess
+import sys
+
+HERE = os.path.dirname(os.path.abspath(__file__))
+ROOT = os.path.dirname(os.path.dirname(HERE))
+sys.path.insert(0, os.path.join(ROOT, "python"))
+sys.dont_write_bytecode = True
+import noriladle
+
+LINES, PACKAGE, PROGRAM, WORK = sys.argv[1:5]
+COUNT = int(sys.argv[5])
+YEAR = 2026
+SEPARATOR = "\x1d"
+KINDS = [kind.name.lower() for kind in noriladle.Kind]
+DIGITS = {"ean13": (13, 12), "upca": (12,), "ean8": (8,), "upce": (12,), "itf14": (14, 13)}
+LETTERS = {"N": "0123456789", "X": "ABCabc019-./%&", "Y": "ABC0123-/#", "Z": "ABCabc019-_="}
+# Values of rules that random characters hardly keep.
+KNOWN = {
+    "iso3166": ["276", "528", "281"], "iso3166999": ["276", "999"], "iso4217": ["978", "840", "000"], "iso3166alpha2": ["DE", "NL", "ZZ"],
+    "posinseqslash": ["1/2", "9/3"], "hyphen": ["-"], "zero": ["0"], "yesno": ["0", "1"], "pieceoftotal": ["0102", "1201"], "hhmm": ["0000", "2359", "2400"],
+    "hh": ["23"], "mi": ["59"], "ss": ["00"], "latitude": ["1800000000", "0562000000"], "longitude": ["3600000000", "0035000000"],
+    "mediatype": ["01", "80"], "winding": ["0", "9"], "iso5218": ["1", "2"], "yymmdd": ["261231", "270229"], "yymmd0": ["261200", "261231", "261331"],
+    "yyyymmdd": ["20261231", "20261232"],
+}
+
+
+def table():
+    """The rows of tables/ais.tsv, and what takes a format apart."""
+    loader = importlib.machinery.SourceFileLoader("ais", os.path.join(ROOT, "tables", "ais"))
+    ais = importlib.util.module_from_spec(importlib.util.spec_from_loader("ais", loader))
+    sys.modules["ais"] = ais
+    loader.exec_module(ais)
+    return ais.read(os.path.join(ROOT, "tables", "ais.tsv")), ais.tokens
+
+
+ROWS, TOKENS = table()
+
+
+def checked(digits):
+    """Digits with the last of them made their check digit."""
+    total = sum(int(it) * (3, 1)[at % 2] for at, it in enumerate(reversed(digits[:-1])))
+    return digits[:-1] + str(-total % 10)
+
+
+def some(chance, letters, count):
+    return "".join(chance.choice(letters) for _ in range(count))
+
+
+def part(chance, letter, least, greatest, rules):
+    for rule in rules:
+        if rule in KNOWN:
+            return chance.choice(KNOWN[rule])
+    text = some(chance, LETTERS[letter], chance.choice([greatest, chance.randint(least, greatest)]))
+    return checked(text) if "csum" in rules else text
+
+
+def element(chance):
+    """An element of any AI, mostly a good one, and whether it is of a predefined length."""
+    row = chance.choice(ROWS)
+    value = "".join(part(chance, *it[1:]) for it in TOKENS(row.format) if not it[0] or chance.random() < 0.5)
+    if chance.random() < 0.1:
+        at = chance.randrange(len(value) + 1)
+        value = value[:at] + chance.choice(["", "0", "A", "*", "~"]) + value[at + chance.randrange(2):]
+    return chance.choice(row.ais()) + value, row.predefined
+
+
+def element_string(chance, most):
+    text = ""
+    for _ in range(chance.randint(1, most)):
+        one, predefined = element(chance)
+        text += one + ("" if predefined == (chance.random() < 0.97) else SEPARATOR)
+    return text.rstrip(SEPARATOR) if chance.random() < 0.9 else text
+
+
+def label(chance):
+    """A line that asks for the symbol of a label, and mostly gets it."""
+    kind = chance.choice(KINDS)
+    if kind == "gs1128":
+        return f"{KINDS.index(kind)} {element_string(chance, 2)}"
+    count = chance.choice(DIGITS[kind])
+    # Few numbers have a UPC-E.
+    body = f"0{some(chance, '0123456789', 2)}{chance.choice('012')}0000{some(chance, '0123456789', 3)}" if kind == "upce" else some(chance, "0123456789", count - 1)
+    digits = checked(body + "0")
+    if chance.random() < 0.08:
+        at = chance.randrange(len(digits))
+        digits = digits[:at] + chance.choice("0123456789 x") + digits[at + 1:]
+    return f"{KINDS.index(chance.choice(KINDS) if chance.random() < 0.05 else kind)} {digits}"
+
+
+def made():
+    chance = random.Random(17)
+    return [label(chance) for _ in range(COUNT)], ["- " + element_string(chance, 4) for _ in range(COUNT)]
+
+
+def pairs(elements):
+    return "\t".join(f"{it.ai}={it.value}" for it in elements)
+
+
+def as_json(it):
+    return json.dumps(it, ensure_ascii=False, separators=(",", ":"))
+
+
+def said_of(element):
+    """What Python says of an element; npm names the parts of a place."""
+    told = element.to_dict()
+    if "place" in told:
+        told["place"] = dict(zip(("latitude", "longitude"), told["place"]))
+    return told
+
+
+def by_python(line):
+    """The line that the C call gives, and what the values say."""
+    text = line[2:]
+    try:
+        if line[0] == "-":
+            elements = noriladle.parse_elements(text, YEAR)
+            return f"data {pairs(elements)}", as_json([said_of(it) for it in elements])
+        symbol = noriladle.label_symbol(KINDS[int(line[0])], text, YEAR)
+        return f"symbol {symbol.text} {symbol.quiet_left} {symbol.quiet_right} {''.join(map(str, symbol.widths))}", ""
+    except noriladle.Refusal as refusal:
+        return str(refusal), as_json([pairs(refusal.before), refusal.ai])
+
+
+def asked_of(words, lines):
+    done = subprocess.run(words, input="".join(f"{it}\n" for it in lines).encode("latin-1"), stdout=subprocess.PIPE, check=True)
+    return done.stdout.decode("utf-8").split("\n")[:-1]
+
+
+def by_program(texts):
+    """What `check` says of the texts; it answers with the elements as people read them."""
+    records = [f'text,"{it[2:]}"'.replace(SEPARATOR, "^") for it in texts]
+    return asked_of([PROGRAM, "check", "--year", str(YEAR), "--ais", "all"], records)
+
+
+def human(line):
+    """The line of the program for a line of elements."""
+    if line.startswith("refused"):
+        return line
+    return "hri " + "".join(f"({ai}){value}" for ai, _, value in (it.partition("=") for it in line[5:].split("\t")))
+
+
+class Count:
+    differing = 0
+
+    def compare(self, name, asked, wanted, got):
+        """Counts the lines that differ."""
+        wrong = [at for at in range(len(wanted)) if at >= len(got) or got[at] != wanted[at]] + list(range(len(wanted), len(got)))
+        self.differing += len(wrong)
+        for at in wrong[:3]:
+            print(f"differs: {asked[at:at + 1]!r}: {name} {got[at:at + 1]!r}, Python {wanted[at:at + 1]!r}", file=sys.stderr)
+        return len(wanted) - len(wrong)
+
+
+def main():
+    labels, texts = made()
+    lines, count = labels + texts, Count()
+    wanted, values = zip(*map(by_python, lines))
+    npm, told = zip(*(it.partition("\tvalues ")[::2] for it in asked_of(["node", f"{HERE}/npm.mjs", PACKAGE], lines)))
+    alike = {
+        "C": count.compare("C", lines, wanted, asked_of([LINES], lines)),
+        "npm": count.compare("npm", lines, wanted, npm),
+        "page": count.compare("page", lines, wanted, asked_of(["node", f"{HERE}/page.js"], lines)),
+        "program": count.compare("program", texts, [human(it) for it in wanted[COUNT:]], by_program(texts)),
+        "values": count.compare("values of npm", texts, values[COUNT:], told[COUNT:]),
+    }
+    drawn, read = (sum(not it.startswith("refused") for it in part) for part in (wanted[:COUNT], wanted[COUNT:]))
+    print(f"{len(labels)} labels, of which {drawn} have a symbol; {len(texts)} texts, of which {read} are read")
+    print(f"as Python answers: {', '.join(f'{name} {number}' for name, number in alike.items())}; {count.differing} differ")
+    return count.differing != 0 or not 0.5 < drawn / COUNT < 0.99 or not 0.2 < read / COUNT < 0.99
+
+
+if __name__ == "__main__":
+    sys.exit(main())

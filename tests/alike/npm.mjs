@@ -1,0 +1,26 @@
+// Answers lines from standard input as lines.c does, by the npm package, and says behind a tab and `values` what the values of elements say, as JSON.
+// Usage: node npm.mjs PACKAGE.
+import { readFileSync } from "node:fs";
+import { pathToFileURL } from "node:url";
+
+const { load, Refusal } = await import(pathToFileURL(`${process.argv[2]}/index.js`));
+const gs1 = await load(), kinds = ["ean13", "upca", "ean8", "upce", "gs1128", "itf14"];
+
+function answer(line) {
+  const text = line.slice(2);
+  try {
+    if (line[0] === "-") {
+      const elements = gs1.parseElements(text, 2026);
+      return `data ${elements.map(({ ai, value }) => `${ai}=${value}`).join("\t")}\tvalues ${JSON.stringify(elements)}`;
+    }
+    const { text: under, quietLeft, quietRight, widths } = gs1.labelSymbol(kinds[line[0]], text, 2026);
+    return `symbol ${under} ${quietLeft} ${quietRight} ${widths.join("")}`;
+  } catch (error) {
+    if (!(error instanceof Refusal)) throw error;
+    if (error.remedy.length < 5) throw new Error(`no remedy of ${error.message}`);
+    const before = error.before.map(({ ai, value }) => `${ai}=${value}`).join("\t");
+    return line[0] === "-" ? `${error.message}\tvalues ${JSON.stringify([before, error.ai ?? null])}` : error.message;
+  }
+}
+
+process.stdout.write(readFileSync(0, "latin1").split("\n").slice(0, -1).map((line) => `${answer(line)}\n`).join(""));

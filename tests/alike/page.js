@@ -1,0 +1,19 @@
+// Answers lines from standard input as lines.c does, by the page's scripts.
+"use strict";
+
+const fs = require("fs"), path = require("path"), vm = require("vm");
+const page = path.join(__dirname, "../../page");
+
+for (const name of "gs1.module gs1 ais values shop core symbol".split(" ")) vm.runInThisContext(fs.readFileSync(path.join(page, `${name}.js`), "utf8"), name);
+
+const inPage = vm.runInThisContext(`({
+  async load() { gs1 = await Gs1.load(Uint8Array.from(atob(GS1_WASM_32), (c) => c.charCodeAt(0)), 32); core.year = 2026; },
+  answer(line) {
+    const text = line.slice(2);
+    if (line[0] === "-") return core.scan("^" + text).replace(/^- /, "data ");
+    const { refused, digits, widths } = symbolOf({ kind: Gs1.kinds[line[0]], text, answer: { elements: [] } });
+    return refused ?? ["symbol", digits, widths[0], widths.at(-1), widths.slice(1, -1).join("")].join(" ");
+  },
+})`);
+
+inPage.load().then(() => process.stdout.write(fs.readFileSync(0, "latin1").split("\n").slice(0, -1).map((line) => `${inPage.answer(line)}\n`).join("")));
