@@ -1,9 +1,19 @@
 // GS1 barcodes for Node and browsers: what the calls of the proved library answer, as values of JavaScript.
+import { aiAt, associations, doubts, elementOf, needsSeparator } from "./elements.js";
 import { MODULE } from "./module.js";
-import { Gs1 as Calls, greyOf } from "./page.js";
+import { Gs1 as Calls, greyOf, pairsOf, symbolsShown } from "./page.js";
+import { REMEDIES } from "./remedies.js";
+
+export { associations, doubts };
 
 // What the module has room for.
 const MOST_WIDTHS = 131_072, MOST_BYTES = 262_144, MOST_U16 = 65_535;
+
+// The identifiers of scanners behind which an element string may stand.
+const ELEMENT_STRINGS = ["]C1", "]e0", "]d2", "]Q3", "]J1"];
+
+// The refusals of a picture that is not looked at; any other says why none of its rows was read.
+const OF_THE_CALL = [17, 18, 42, 43];
 
 export class Refusal extends Error {
   constructor(number, fault, place) {
@@ -12,52 +22,53 @@ export class Refusal extends Error {
     this.number = number;
     this.fault = fault;
     this.place = place;
+    this.before = [];
+    this.ai = undefined;
   }
+
+  get remedy() { return REMEDIES[this.number]; }
+}
+
+// The refusal that a line tells, or nothing.
+function refusalOf(line) {
+  const told = /^refused (\d+) (\w+)(?: (\d+))?$/.exec(line);
+  return told && new Refusal(Number(told[1]), told[2], told[3] === undefined ? undefined : Number(told[3]));
 }
 
 // A line that is no refusal.
 function accepted(line) {
-  const told = /^refused (\d+) (\w+)(?: (\d+))?$/.exec(line);
-  if (told) throw new Refusal(Number(told[1]), told[2], told[3] === undefined ? undefined : Number(told[3]));
+  const refusal = refusalOf(line);
+  if (refusal) throw refusal;
   return line;
 }
 
 // A number as a call takes it. What no call can take is 0, which each refuses.
 const u16 = (number) => (Number.isInteger(number) && number >= 0 && number <= MOST_U16 ? number : 0);
 
+// What the library reads by, as one number: 0, which it refuses, in place of a year out of range.
+function termsOf(year, { ais = "all" } = {}) {
+  if (ais !== "all" && ais !== "profile") throw new RangeError(`ais is "all" or "profile", and not ${ais}`);
+  if (!Number.isInteger(year) || year < 1951 || year > 2149) return 0;
+  return ais === "all" ? Calls.everyAi | year : year;
+}
+
 class Answer {
   constructor(identifier, elements) {
     this.identifier = identifier;
     this.elements = elements;
+    // The first element with an AI stands under it.
+    for (const element of elements) if (!Object.hasOwn(this, element.ai)) Object.defineProperty(this, element.ai, { value: element });
   }
 
   get text() { return this.elements.map(({ ai, value }) => `(${ai})${value}`).join(""); }
 
   get gtin() { return this.elements[0].ai === "01" ? this.elements[0].value : undefined; }
 
-  toString() { return `${this.identifier} ${this.text}`; }
-}
+  [Symbol.iterator]() { return this.elements[Symbol.iterator](); }
 
-// The page's calls, and that of pictures.
-class PictureCalls extends Calls {
-  // The lines of a picture of grey values. It stands behind the room for an answer, and the memory that it is read in behind it.
-  picture({ width, height, grey }, year) {
-    const words = Number(this.calls.gs1_c_picture_room(width, height));
-    let end = this.output + this.room;
-    const [greyAt, wordsAt, widthsAt] = [grey.length, 4 * words, 2 * (width + 2)].map((bytes) => {
-      const at = end;
-      end += Math.ceil(bytes / 8) * 8;
-      return at;
-    });
-    const more = Math.ceil((end - this.calls.memory.buffer.byteLength) / 65536);
-    if (more > 0) {
-      this.grow(more);
-      this.look();
-    }
-    new Uint8Array(this.calls.memory.buffer, greyAt, grey.length).set(grey);
-    return this.line(this.ask(this.calls.gs1_c_picture, BigInt(greyAt), BigInt(grey.length), width, height, BigInt(width), 0, year,
-      BigInt(wordsAt), BigInt(words), BigInt(widthsAt), BigInt(width + 2)));
-  }
+  toJSON() { return { identifier: this.identifier ?? null, elements: this.elements }; }
+
+  toString() { return `${this.identifier ?? "-"} ${this.text}`; }
 }
 
 class Gs1 {
@@ -65,55 +76,71 @@ class Gs1 {
 
   constructor(calls) { this.#calls = calls; }
 
-  readRow(widths, year) { return this.#answer(this.#askRow("gs1_c_row_elements", widths, year), year); }
+  readRow(widths, year, options) {
+    const terms = termsOf(year, options);
+    return this.#answer(this.#askRow("gs1_c_row_elements", widths, terms), terms);
+  }
 
-  find(widths, year) {
+  find(widths, year, options) {
     const row = Array.from(widths);
-    return this.#askRow("gs1_c_find", row, year).split("\n").slice(0, -1).map((line) => {
+    return this.#askRow("gs1_c_find", row, termsOf(year, options)).split("\n").slice(0, -1).map((line) => {
       const [first, count] = line.split(" ", 2).map(Number);
-      return { first, count, answer: this.readRow(row.slice(first, first + count), year) };
+      return { first, count, answer: this.readRow(row.slice(first, first + count), year, options) };
     });
   }
 
-  readScan(text, year) { return this.#answer(this.#ask("gs1_c_scan", ...this.#put(text), u16(year)), year); }
+  readScan(text, year, options) {
+    const terms = termsOf(year, options), bytes = bytesOf(text);
+    try {
+      return this.#answer(this.#ask("gs1_c_scan", ...this.#put(bytes), terms), terms);
+    } catch (error) {
+      if (!ELEMENT_STRINGS.includes(latin1(bytes.subarray(0, 3)))) throw error;
+      // The separator that stands first is not counted by places.
+      throw this.#withBefore(error, bytes.subarray([0x1d, 0x5e].includes(bytes[3]) ? 4 : 3).map((byte) => (byte === 0x5e ? 0x1d : byte)), terms);
+    }
+  }
 
-  parseElements(text, year) { return this.#elements(this.#ask("gs1_c_text_elements", ...this.#put(text), u16(year)).slice("text ".length), year); }
+  parseElements(text, year, options) { return this.#parse(bytesOf(text), termsOf(year, options)); }
 
-  readGtin(text) { return this.#ask("gs1_c_gtin", ...this.#put(text)).slice("gtin ".length); }
+  compose(elements, year = new Date().getFullYear()) {
+    const pairs = Array.from(elements, (it) => (Array.isArray(it) ? { ai: it[0], value: it[1] } : it));
+    const text = pairs.map(({ ai, value }, i) => {
+      this.#checkPair(ai, value, year, i);
+      return `${i && needsSeparator(pairs[i - 1].ai) ? "\x1d" : ""}${ai}${value}`;
+    }).join("");
+    this.parseElements(text, year);
+    return text;
+  }
 
-  checkDigit(text) { return Number(this.#ask("gs1_c_digit", ...this.#put(text)).slice("digit ".length)); }
+  readGtin(text) { return this.#ask("gs1_c_gtin", ...this.#put(bytesOf(text))).slice("gtin ".length); }
 
-  drawLabel(kind, text, { year, module = 1, width, height }) {
-    const dots = [year, module, width, height].map(u16);
-    const image = this.#calls.ask(this.#calls.calls.gs1_c_label, Calls.kinds.indexOf(kind), ...this.#put(text), ...dots);
+  checkDigit(text) { return Number(this.#ask("gs1_c_digit", ...this.#put(bytesOf(text))).slice("digit ".length)); }
+
+  labelSymbol(kind, text, year, options) {
+    const line = this.#ask("gs1_c_symbol", Calls.kinds.indexOf(kind), ...this.#put(bytesOf(text)), termsOf(year, options));
+    const [, under, left, right, widths] = line.split(" ");
+    return { text: under, quietLeft: Number(left), quietRight: Number(right), widths: Array.from(widths, Number) };
+  }
+
+  drawLabel(kind, text, { year, module = 1, width, height, ais }) {
+    const dots = [module, width, height].map(u16);
+    const image = this.#calls.ask(this.#calls.calls.gs1_c_label, Calls.kinds.indexOf(kind), ...this.#put(bytesOf(text)), termsOf(year, { ais }), ...dots);
     // An image begins with P4.
     if (image[0] !== 0x50) accepted(this.#calls.line(image));
     return image.slice();
   }
 
-  readPicture(pixels, year) {
-    const told = this.#calls.picture(greyOf(pixels), u16(year));
-    // Without a symbol the line has no end: it says why none was read, or refuses the picture.
-    if (!told.endsWith("\n")) {
-      if (/^refused (17|18|42|43) /.test(told)) accepted(told);
-      return [];
-    }
-    return told.split("\n").slice(0, -1).filter((line) => !line.startsWith("dropped ")).map((line) => this.#symbol(line, year));
+  readPicture(pixels, year, { level = 0, ais } = {}) {
+    if (!Number.isInteger(level) || level < 0 || level > 255) throw new RangeError("the level is not 1 to 255");
+    const terms = termsOf(year, { ais }), { symbols, reason } = symbolsShown(this.#calls.picture(greyOf(pixels), level, terms)), refusal = refusalOf(reason);
+    if (refusal && OF_THE_CALL.includes(refusal.number)) throw refusal;
+    return symbols.map(({ said, corners, rows }) => ({ answer: this.#answer(said, terms), corners, rows }));
   }
 
-  // The symbol of a line: nine numbers, and what it says.
-  #symbol(line, year) {
-    const [, places, rows, said] = /^((?:\d+ ){8})(\d+) (.*)$/.exec(line);
-    const at = places.trim().split(" ").map((place) => Number(place) / 256);
-    const corners = [0, 2, 4, 6].map((i) => ({ x: at[i], y: at[i + 1] }));
-    return { answer: this.#answer(said, year), corners, rows: Number(rows) };
-  }
-
-  #ask(call, ...words) { return accepted(this.#calls.line(this.#calls.ask(this.#calls.calls[call], ...words))); }
+  #ask(call, ...words) { return accepted(this.#calls.told(call, ...words)); }
 
   // Puts a text for a call: its place and its length.
-  #put(text) {
-    const bytes = typeof text === "string" ? new TextEncoder().encode(text) : text;
+  #put(bytes) {
     if (bytes.length > MOST_BYTES) throw new RangeError(`a text has at most ${MOST_BYTES} bytes`);
     this.#calls.bytes.set(bytes);
     return [BigInt(this.#calls.input), BigInt(bytes.length)];
@@ -121,33 +148,70 @@ class Gs1 {
 
   // Asks about the widths of a row. One above 65,535 is no u16, and is refused here, after what the call refuses first: the year and
   // the number of runs.
-  #askRow(call, widths, year) {
+  #askRow(call, widths, terms) {
     const row = Array.from(widths);
     if (row.length > MOST_WIDTHS) throw new RangeError(`a row has at most ${MOST_WIDTHS} runs`);
     if (row.some((width) => !Number.isInteger(width) || width < 0)) throw new RangeError("a width is a whole number from 0");
     this.#calls.words.set(row.map((width) => Math.min(width, MOST_U16)));
-    const line = this.#calls.line(this.#calls.ask(this.#calls.calls[call], BigInt(this.#calls.input), BigInt(row.length), u16(year)));
+    const line = this.#calls.told(call, BigInt(this.#calls.input), BigInt(row.length), terms);
     if (row.some((width) => width > MOST_U16) && !/^refused (42|18) /.test(line)) throw new Refusal(17, "TooWide");
     return accepted(line);
   }
 
-  // An identifier and elements, as a call writes them.
-  #answer(line, year) {
-    const at = line.indexOf(" ");
-    return new Answer(line.slice(0, at), this.#elements(line.slice(at + 1), year));
+  // An identifier and elements, as a call writes them; `-` stands for an identifier that was not sent.
+  #answer(line, terms) {
+    const at = line.indexOf(" "), identifier = line.slice(0, at);
+    return new Answer(identifier === "-" ? undefined : identifier, this.#elements(line.slice(at + 1), terms));
   }
 
-  #elements(pairs, year) { return pairs.split("\t").map((pair) => this.#element(pair, year)); }
+  #parse(bytes, terms) {
+    try {
+      return this.#elements(this.#ask("gs1_c_text_elements", ...this.#put(bytes), terms).slice("data ".length), terms);
+    } catch (error) {
+      throw this.#withBefore(error, bytes, terms);
+    }
+  }
 
-  #element(pair, year) {
-    const at = pair.indexOf("="), element = { ai: pair.slice(0, at), value: pair.slice(at + 1) };
-    const [told, date, time] = this.#calls.line(this.#calls.ask(this.#calls.calls.gs1_c_date, ...this.#put(pair), u16(year))).split(" ");
-    if (told !== "date") return element;
-    return time === undefined ? { ...element, date } : { ...element, date, time };
+  // The refusal of an element string, with what stands before its place and the AI there.
+  #withBefore(error, bytes, terms) {
+    if (!(error instanceof Refusal) || error.place === undefined || error.place > bytes.length) return error;
+    error.ai = aiAt(latin1(bytes.subarray(error.place, error.place + 4)));
+    if (error.place > 0) error.before = this.#parse(bytes.subarray(0, error.place), terms);
+    return error;
+  }
+
+  #elements(pairs, terms) { return pairsOf(pairs).map((pair) => Object.freeze(elementOf(pair, this.#dated(pair, terms)))); }
+
+  // The days and the time that an element names: its value is all digits then.
+  #dated({ ai, value }, terms) {
+    if (!/^\d{6,12}$/.test(value)) return {};
+    const [told, date, time] = this.#calls.told("gs1_c_date", ...this.#put(bytesOf(`${ai}=${value}`)), terms).split(" ");
+    if (told !== "date") return {};
+    // The second day of 7007 is read as another day of six digits is.
+    return { date, time, until: ai === "7007" && value.length === 12 ? this.#dated({ ai: "17", value: value.slice(6) }, terms).date : undefined };
+  }
+
+  // Refuses what is no element, as the pair of an index.
+  #checkPair(ai, value, year, at) {
+    const more = () => new Refusal(...(value.includes("\x1d") ? [7, "ValueCharacter"] : [6, "ValueLength"]), at);
+    let read;
+    try {
+      read = this.parseElements(ai + value, year);
+    } catch (error) {
+      if (!(error instanceof Refusal) || error.fault === "Words") throw error;
+      // What stands behind the value of a pair is too much of it, and so is what needs a separator in a text.
+      if (error.place || ["MissingSeparator", "TooLong"].includes(error.fault)) throw more();
+      throw error.fault === "Empty" ? new Refusal(5, "UnknownAi", at) : new Refusal(error.number, error.fault, at);
+    }
+    if (read[0].ai !== ai) throw new Refusal(5, "UnknownAi", at);
+    if (read.length !== 1 || read[0].value !== value) throw more();
   }
 }
 
+const bytesOf = (text) => (typeof text === "string" ? new TextEncoder().encode(text) : text);
+const latin1 = (bytes) => String.fromCharCode(...bytes);
+
 export async function load() {
   const { instance } = await WebAssembly.instantiate(Uint8Array.from(atob(MODULE), (letter) => letter.charCodeAt(0)), {});
-  return new Gs1(new PictureCalls(instance.exports, 32));
+  return new Gs1(new Calls(instance.exports, 32));
 }

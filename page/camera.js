@@ -59,7 +59,7 @@ function frameOf(video) {
   const canvas = new OffscreenCanvas(video.videoWidth, video.videoHeight);
   const pen = canvas.getContext("2d", { willReadFrequently: true });
   pen.drawImage(video, 0, 0);
-  return { ...greyOf(pen.getImageData(0, 0, canvas.width, canvas.height)), image: canvas, name: "", passing: true };
+  return { ...greyOf(pen.getImageData(0, 0, canvas.width, canvas.height)), image: canvas, name: "" };
 }
 
 // Waits for the next frame of the video, and says whether there is one; where the browser tells of none, for a while.
@@ -80,7 +80,6 @@ async function readFrames() {
     if (stream !== mine) return;
     if (!isNew) continue;
     const frame = frameOf(at("video"));
-    frame.level = levelOf(frame.grey);
     readPicture(frame);
     const says = frame.symbols.map(({ line }) => line).sort().join("\n");
     if (says && says === before) {
@@ -102,7 +101,7 @@ function hold(frame) {
 function keep({ symbols: seen }) {
   const isOpen = pictures[0]?.series && pictures[0].stream === stream;
   const series = isOpen ? pictures[0] : { series: true, name: "", symbols: [], stream }, before = new Set(series.symbols.map(({ line }) => line));
-  const added = seen.filter(({ line }) => !before.has(line)).map(({ line }) => ({ line }));
+  const added = seen.filter(({ line }) => !before.has(line));
   if (!added.length) return;
   series.symbols = [...added.reverse(), ...series.symbols];
   delete series.card;

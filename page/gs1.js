@@ -6,6 +6,9 @@
 class Gs1 {
   static kinds = ["ean13", "upca", "ean8", "upce", "gs1128", "itf14"];
 
+  // Beside a year: every Application Identifier is read.
+  static everyAi = 0x8000;
+
   // The first bytes of a module, and those of one that has a memory with addresses of 32 or of 64 bits.
   static header = [0, 0x61, 0x73, 0x6d, 1, 0, 0, 0];
   static memories = { 32: [5, 3, 1, 0, 0], 64: [5, 3, 1, 4, 0] };
@@ -55,40 +58,54 @@ class Gs1 {
 
   line(bytes) { return String.fromCharCode(...bytes); }
 
-  // The text's place and length; `^` stands for the separator.
-  put(text) { return this.putAsIs(text.replaceAll("^", "\x1d")); }
+  // The line that a call answers.
+  told(name, ...words) { return this.line(this.ask(this.calls[name], ...words)); }
 
-  putAsIs(text) { return [BigInt(this.input), BigInt(new TextEncoder().encodeInto(text, this.bytes).written)]; }
+  // A text's place and length.
+  put(text) { return [BigInt(this.input), BigInt(new TextEncoder().encodeInto(text, this.bytes).written)]; }
 
-  // Puts the runs from `first` to `last`, both light, for a call: their place and how many they are. Run i goes from
-  // `ends[i - 1]`, or 0, up to `ends[i]`, which is at most 65,535.
-  putRuns(ends, first, last) {
-    for (let i = first; i <= last; i++) this.words[i - first] = ends[i] - (i ? ends[i - 1] : 0);
-    return [BigInt(this.input), BigInt(last - first + 1)];
-  }
-
-  // What these runs say as a row.
-  row(ends, first, last, year) { return this.line(this.ask(this.calls.gs1_c_row, ...this.putRuns(ends, first, last), year)); }
-
-  // The symbols of a row of so many runs, from the left: the first run and how many runs each has, with its light ends, and its line.
-  find(ends, count, year) {
-    const lines = this.line(this.ask(this.calls.gs1_c_find, ...this.putRuns(ends, 0, count - 1), year));
+  // The symbols of a row, from the left: the first run, how many runs and the line of each. Run i goes from `ends[i - 1]`, or 0, up to
+  // `ends[i]`, which is at most 65,535; the first and the last one are light.
+  find(ends, terms) {
+    for (let i = 0; i < ends.length; i++) this.words[i] = ends[i] - (i ? ends[i - 1] : 0);
+    const lines = this.told("gs1_c_find", BigInt(this.input), BigInt(ends.length), terms);
     return Array.from(lines.matchAll(/(\d+) (\d+) (.*)\n/g), ([, first, runs, line]) => ({ first: Number(first), runs: Number(runs), line }));
   }
 
-  // What a row of these widths says, light first and last.
-  widths(widths, year) {
-    this.words.set(widths);
-    return this.line(this.ask(this.calls.gs1_c_row, BigInt(this.input), BigInt(widths.length), year));
-  }
-
-  gtin(text) { return this.line(this.ask(this.calls.gs1_c_gtin, ...this.put(text))); }
-
-  elements(text, year) { return this.line(this.ask(this.calls.gs1_c_text, ...this.put(text), year)); }
-
-  // The label's PBM image, or the line that refuses it.
-  label(kind, text, year, module, width, height) {
-    const image = this.ask(this.calls.gs1_c_label, Gs1.kinds.indexOf(kind), ...this.put(text), year, module, width, height);
-    return image[0] === 0x50 ? image.slice() : this.line(image);
+  // The lines of a picture of grey values, a level or 0 for its own. They stand behind the room for an answer, and the memory that the
+  // picture is read in behind them.
+  picture({ width, height, grey }, level, terms) {
+    const words = Number(this.calls.gs1_c_picture_room(width, height));
+    let end = this.output + this.room;
+    const [greyAt, wordsAt, widthsAt] = [grey.length, 4 * words, 2 * (width + 2)].map((bytes) => {
+      const at = end;
+      end += Math.ceil(bytes / 8) * 8;
+      return at;
+    });
+    const more = Math.ceil((end - this.calls.memory.buffer.byteLength) / 65536);
+    if (more > 0) {
+      this.grow(more);
+      this.look();
+    }
+    new Uint8Array(this.calls.memory.buffer, greyAt, grey.length).set(grey);
+    return this.told("gs1_c_picture", BigInt(greyAt), BigInt(grey.length), width, height, BigInt(width), level, terms,
+      BigInt(wordsAt), BigInt(words), BigInt(widthsAt), BigInt(width + 2));
   }
 }
+
+// The symbols that the lines of a picture tell, in the order of reading, each with its corners, how many rows show it and what it says;
+// or, of a picture without one, the line that says why.
+function symbolsShown(lines) {
+  if (!lines.endsWith("\n")) return { symbols: [], reason: lines };
+  const symbols = Array.from(lines.matchAll(/^((?:\d+ ){8})(\d+) (.*)$/gm), ([, places, rows, said]) => {
+    const at = places.trim().split(" ").map((place) => Number(place) / 256);
+    return { said, rows: Number(rows), corners: [0, 2, 4, 6].map((i) => ({ x: at[i], y: at[i + 1] })) };
+  });
+  return { symbols, reason: "" };
+}
+
+// The pairs of elements as data.
+const pairsOf = (pairs) => pairs.split("\t").map((pair) => {
+  const end = pair.indexOf("=");
+  return { ai: pair.slice(0, end), value: pair.slice(end + 1) };
+});

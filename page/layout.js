@@ -132,7 +132,7 @@ function retailDigits({ form, widths, digits }, module) {
 
 // Digits or elements in the middle, in as few lines as they fill; an element is parted only where it is too long.
 function otherDigits(symbol, module, { dots }) {
-  const wide = symbol.modules * module, text = symbol.digits || symbol.elements.map(({ ai, value }) => `(${ai})${value}`).join(" ");
+  const wide = symbol.modules * module, text = symbol.kind === "gs1128" ? symbol.elements.map(({ ai, value }) => `(${ai})${value}`).join(" ") : symbol.digits;
   const block = fittedText(text, false, wide, 3.4 * dots, 2.2 * dots, 3);
   return { under: 0.8 * dots + block.height, digits: (left, bottom) => block.lines.map((line, i) => (
     { text: line.replaceAll(" ", ""), size: block.size, left, base: bottom - block.height + (i * PITCH + 0.9) * block.size, width: wide, align: 0.5 })) };

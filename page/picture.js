@@ -1,4 +1,4 @@
-// Pictures: their dots, and which of these are dark.
+// Pictures: their grey values.
 "use strict";
 
 // White space and comments in the header of a PBM image (netpbm, pbm(5)), and the header.
@@ -46,23 +46,4 @@ function greyOf({ width, height, data }) {
     grey[i] = clear ? (value * (255 - clear) + 255 * clear) / 255 : value;
   }
   return { width, height, grey };
-}
-
-// The grey value below which dots are dark: the one that parts the picture's values best (Otsu).
-function levelOf(grey) {
-  const counts = new Float64Array(256);
-  for (let i = 0; i < grey.length; i++) counts[grey[i]]++;
-  let all = 0;
-  for (let v = 0; v < 256; v++) all += v * counts[v];
-  let below = 0, sum = 0, best = -1, first = 128, last = 128;
-  for (let v = 0; v < 255; v++) {
-    below += counts[v];
-    sum += v * counts[v];
-    const above = grey.length - below;
-    if (!below || !above) continue;
-    const apart = sum / below - (all - sum) / above, score = below * above * apart * apart;
-    if (score > best) [best, first] = [score, v];
-    if (score >= best) last = v;
-  }
-  return best < 0 ? 128 : ((first + last) >> 1) + 1;
 }

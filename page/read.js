@@ -10,28 +10,19 @@ const MARK = "#0b6e4f", MARK_EDGE = "#ffffff";
 // So many pictures are kept with what they say, and so many to be looked at; more than so many at once are first shown as a table.
 const MOST_PICTURES = 2000, MOST_SHOWN = 40, MOST_CARDS = 8;
 
-// The refusal that tells most: of the rows that came furthest, not those beside the symbol.
-function closest(refused) {
-  const furthest = [4, 5, 6, 7, 8, 9, 10, 11, 13, 14, 15, 16, 24, 23, 22, 21, 17, 20, 18, 42, 19];
-  const rank = (line) => furthest.indexOf(refusalOf(line).number);
-  return [...refused].sort((a, b) => rank(a[0]) - rank(b[0]) || b[1] - a[1])[0]?.[0] ?? "refused 19 Blank";
-}
-
-// Reads a picture, the one place where a reader is asked: its symbols in the order of reading, and the refusal where it has none.
+// Reads a picture, the one place where the module is asked: its symbols in the order of reading, and the refusal where it has none.
 function readPicture(taken) {
-  const from = performance.now(), reader = new Reader(gs1, core.year), { symbols: seen, refused } = reader.read(taken, taken.level, taken.own);
-  taken.symbols = inReadingOrder(seen);
-  taken.refused = seen.length ? null : closest(refused);
-  if (taken.refused && !taken.own && !taken.passing && new Again(reader, taken).isCrowded()) taken.refused = "refused 21 QuietZone";
+  const from = performance.now(), { symbols: seen, reason } = core.picture(taken, taken.level ?? 0);
+  taken.symbols = seen.map(({ said, corners, rows }) => {
+    const pairs = pairsOf(said.slice(4));
+    return { line: said.slice(0, 4) + pairs.map(({ ai, value }) => `(${ai})${value}`).join(""), pairs, corners, rows };
+  });
+  taken.refused = seen.length ? null : reason;
   taken.passed = performance.now() - from;
 }
 
-// The elements of what the reader says of a symbol, `]C1 (01)..`; each is asked for again, and what does not come back the same is
-// shown as it was said.
-function elementsOfLine(line) {
-  const human = line.slice(4), text = human.replace(/^\((\d{2,4})\)/, "$1").replace(/\((\d{2,4})\)/g, "^$1");
-  return core.human(text) === `hri ${human}` ? told(pairsOf(core.elements(text))) : [{ ai: "", title: t("element"), value: human, meaning: "" }];
-}
+// What to do about a picture without a symbol: `none` says that no row of it was like one.
+const unread = ({ refused }) => remedyText({ key: refused === "none" ? "noSymbol" : refusalOf(refused).number });
 
 // What stands under the bars, and what they are called.
 function shownOf(line) {
@@ -63,9 +54,9 @@ const nameOf = ({ name, series }) => name || t(series ? "series" : "camera-pictu
 // The rows of a picture in the table: one for each of its symbols, or one that says what to do.
 function rowsOfPicture(picture) {
   const name = () => make("th", { scope: "row" }, nameOf(picture));
-  if (!picture.symbols.length) return [make("tr", { class: "bad" }, name(), make("td", { colspan: 4 }, remedyText({ key: refusalOf(picture.refused).number })))];
-  return picture.symbols.map(({ line }, i) => {
-    const { kind, says } = shownOf(line), elements = elementsOfLine(line).filter(({ ai, meaning }) => meaning && ai !== "01");
+  if (!picture.symbols.length) return [make("tr", { class: "bad" }, name(), make("td", { colspan: 4 }, unread(picture)))];
+  return picture.symbols.map(({ line, pairs }, i) => {
+    const { kind, says } = shownOf(line), elements = told(pairs).filter(({ ai, meaning }) => meaning && ai !== "01");
     return make("tr", {}, name(), make("td", {}, i + 1), make("td", { class: "mono value" }, says), make("td", {}, kind),
       make("td", {}, elements.map(({ title, meaning }) => `${title} ${meaning}`).join(" · ")));
   });
@@ -78,12 +69,12 @@ function showTable(wanted) {
 
 function cardOf(picture) {
   const list = picture.symbols.length ? make("ol", { class: "symbols" }, ...picture.symbols.map((symbol, i) => symbolItem(symbol, picture.series ? picture.symbols.length - i : i + 1)))
-    : make("div", { class: "remedy unread" }, icon("bad"), make("p", {}, remedyText({ key: refusalOf(picture.refused).number }), " ", make("span", { class: "code" }, faultName(picture))));
+    : make("div", { class: "remedy unread" }, icon("bad"), make("p", {}, unread(picture), " ", make("span", { class: "code" }, faultName(picture))));
   const name = make("p", { class: "name" }, nameOf(picture));
   if (!picture.grey) return make("li", { class: "picture plain" }, make("div", { class: "said" }, name, list));
   const canvas = make("canvas", { role: "img", "aria-label": t("pictureLabel", nameOf(picture), many("codeCount", picture.symbols.length)) });
   mark(canvas, picture);
-  const level = make("input", { type: "range", min: 1, max: 255, value: picture.level, "aria-label": t("level") });
+  const level = make("input", { type: "range", min: 1, max: 255, value: picture.level ?? 128, "aria-label": t("level") });
   level.addEventListener("change", () => readAgain(picture, Number(level.value)));
   const again = make("details", { class: "level" }, make("summary", {}, t("levelTitle")), make("label", {}, t("level"), level));
   return make("li", { class: "picture" }, make("div", { class: "photo" }, canvas, name), make("div", { class: "said" }, list, again));
@@ -91,7 +82,7 @@ function cardOf(picture) {
 
 // Reads a picture with a person's own level, and shows it anew.
 function readAgain(picture, level) {
-  [picture.own, picture.level] = [true, level];
+  picture.level = level;
   readPicture(picture);
   const before = picture.card;
   picture.card = cardOf(picture);
@@ -101,12 +92,24 @@ function readAgain(picture, level) {
   tellRead();
 }
 
-function symbolItem({ line }, number) {
-  const { kind, says } = shownOf(line), elements = elementsOfLine(line);
+function symbolItem({ line, pairs }, number) {
+  const { kind, says } = shownOf(line), elements = told(pairs);
   const button = make("button", { type: "button", class: "small quiet", "aria-label": t("copyThis", says), onclick: () => { document.copied = copy(says); } }, icon("copy"));
   const no = make("span", { class: "no", "aria-hidden": "true" }, number), text = make("strong", { class: "mono" }, says), name = make("span", { class: "kind" }, kind);
   if (elements.length === 1) return make("li", {}, make("p", { class: "symbol" }, no, text, button, name));
   return make("li", {}, make("p", { class: "symbol" }, no, name, button), make("p", { class: "mono long" }, says), elementsTable(elements));
+}
+
+// Corners with a margin of so many dots around them.
+function widened(corners, margin) {
+  const [right, down] = [1, 2].map((i) => {
+    const [x, y] = [corners[i].x - corners[i - 1].x, corners[i].y - corners[i - 1].y], length = Math.hypot(x, y) || 1;
+    return { x: margin * x / length, y: margin * y / length };
+  });
+  return corners.map(({ x, y }, i) => {
+    const [along, across] = [i === 1 || i === 2 ? 1 : -1, i > 1 ? 1 : -1];
+    return { x: x + along * right.x + across * down.x, y: y + along * right.y + across * down.y };
+  });
 }
 
 // Draws the picture, and around each symbol a frame with its number, which covers none of it.
@@ -123,7 +126,7 @@ function mark(canvas, picture) {
   pen.font = `bold ${size * 0.8}px sans-serif`;
   [pen.textBaseline, pen.textAlign, pen.lineJoin] = ["middle", "center", "round"];
   picture.symbols.forEach((symbol, i) => {
-    const corners = symbol.corners(wide);
+    const corners = widened(symbol.corners, wide);
     for (const [colour, width] of [[MARK_EDGE, 2 * wide], [MARK, wide]]) {
       [pen.strokeStyle, pen.lineWidth] = [colour, width];
       pen.beginPath();
@@ -144,10 +147,10 @@ function mark(canvas, picture) {
 // ---- as data
 
 const readRows = () => [[t("csvPicture"), t("csvNumber"), t("csvSymbol"), t("thAi"), t("thTitle"), t("thValue"), t("thMeaning")],
-  ...pictures.flatMap((one) => one.symbols.flatMap(({ line }, i) => elementsOfLine(line).map(({ ai, title, value, meaning }) => [nameOf(one), i + 1, shownOf(line).kind, ai, title, value, meaning])))];
+  ...pictures.flatMap((one) => one.symbols.flatMap(({ line, pairs }, i) => told(pairs).map(({ ai, title, value, meaning }) => [nameOf(one), i + 1, shownOf(line).kind, ai, title, value, meaning])))];
 
 const readJson = () => JSON.stringify(pictures.map(({ name, symbols: seen, refused, series }) => ({ picture: name, camera: series,
-  ...(refused ? { fault: refusalOf(refused) } : {}), symbols: seen.map(({ line }) => ({ identifier: line.slice(0, 3), text: line.slice(4), kind: shownOf(line).kind, elements: asData(elementsOfLine(line)) })) })), null, 2);
+  ...(refused ? { fault: refused === "none" ? { name: refused } : refusalOf(refused) } : {}), symbols: seen.map(({ line, pairs }) => ({ identifier: line.slice(0, 3), text: line.slice(4), kind: shownOf(line).kind, elements: asData(told(pairs)) })) })), null, 2);
 
 const readTexts = () => pictures.flatMap(({ symbols: seen }) => seen.map(({ line }) => shownOf(line).says)).join("\n");
 
@@ -180,7 +183,7 @@ async function take(...files) {
     await new Promise((done) => requestAnimationFrame(() => setTimeout(done)));
     const one = await pictureOf(file);
     if (turn !== takes) return;
-    if (one) taken.push(takePicture({ ...one, name: file.name ?? "", level: levelOf(one.grey) }, taken, before));
+    if (one) taken.push(takePicture({ ...one, name: file.name ?? "" }, taken, before));
     else others.push(file.name || "?");
   }
   isTable = taken.length > MOST_CARDS || isTable && pictures.length > 1;

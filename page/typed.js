@@ -47,7 +47,7 @@ function scanned(text) {
   const said = core.scan(text);
   if (said.startsWith("refused")) return { refused: said };
   const identifier = said.slice(0, said.indexOf(" "));
-  return { identifier: identifier === "-" ? "" : identifier, elements: pairsOf(said) };
+  return { identifier: identifier === "-" ? "" : identifier, elements: pairsOf(said.slice(said.indexOf(" ") + 1)) };
 }
 
 // The AIs of a text with parentheses or brackets around each, with their values; or nothing where they stand elsewhere too.

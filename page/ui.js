@@ -146,7 +146,7 @@ function csvOf(rows) {
 // What an element is called; of weights, amounts and the like by its family.
 function titleOf(ai) {
   const titles = TEXTS[language].elements;
-  return titles[ai] ?? titles[ai.slice(0, 3)] ?? (/^9[1-9]$/.test(ai) ? titles["91-99"] : t("element"));
+  return titles[ai] ?? titles[ai.slice(0, 3)] ?? (/^9[1-9]$/.test(ai) ? titles["91-99"] : AIS.get(ai)?.title || t("element"));
 }
 
 // The elements with their titles and meanings.
@@ -176,4 +176,4 @@ function valueText(value) {
 const sentence = (text) => `${text[0]?.toLocaleUpperCase(language) ?? ""}${text.slice(1)}.`;
 
 const remedyText = (fault) => sentence(faultText(fault));
-const faultName = ({ refused }) => refused ? refused.replace(/^refused /, "") : "";
+const faultName = ({ refused }) => refused?.startsWith("refused ") ? refused.slice(8) : "";

@@ -20,6 +20,9 @@ from PIL import Image
 
 from wanted import gtin12, labels_of
 
+sys.path.insert(0, os.path.join(os.path.dirname(os.path.abspath(__file__)), "..", "commands"))
+from kinds import KINDS
+
 LISTS, WORK = sys.argv[1:]
 YEAR = "2026"
 POOL, READING = concurrent.futures.ThreadPoolExecutor(4), concurrent.futures.ThreadPoolExecutor(3)
@@ -34,7 +37,6 @@ SHEETS = {
     "3483": (2, 2, 105, 148, 0, 0, 210, 297), "5160": (3, 10, 66.675, 25.4, 3.175, 0, 215.9, 279.4),
     "2x10:90x27+5+1@letter": (2, 10, 90, 27, 5, 1, 215.9, 279.4),
 }
-MODULES = {"ean13": 95, "upca": 95, "ean8": 67, "upce": 51, "itf14": 135}
 
 
 def run(*words, data=b""):
@@ -283,7 +285,7 @@ def digits(title, stock, labels, start, dpi):
 
 def digits_fault(label, words, first, last, bottom):
     """What is wrong with the digits of a label."""
-    module = (last - first) / MODULES.get(label.kind, 100)
+    module = (last - first) / (KINDS[label.kind].modules if KINDS[label.kind].digits else 100)
     under = sorted((it for it in words if it[1] > bottom - module and it[0] > first - 12 * module and it[2] < last + 12 * module),
                    key=lambda it: (round(it[1]) if label.kind == "gs1128" else 0, it[0]))
     told = "".join(it[3] for it in under)

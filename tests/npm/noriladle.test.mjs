@@ -3,7 +3,7 @@ import assert from "node:assert/strict";
 import fs from "node:fs";
 import path from "node:path";
 import test from "node:test";
-import { load, Refusal } from "noriladle";
+import { associations, doubts, load, Refusal } from "noriladle";
 
 const gs1 = await load();
 const linesOf = (name) => fs.readFileSync(path.join(process.env.GIVEN, name), "latin1").split("\n").slice(0, -1);
@@ -24,13 +24,80 @@ function differing(records, wanted, answer) {
   return records.filter((record, i) => told(() => answer(record)) !== wanted[i]);
 }
 
+const thrown = (ask) => {
+  try {
+    return ask() && undefined;
+  } catch (error) {
+    return error;
+  }
+};
+
 test("the examples of the README", () => {
-  const elements = [{ ai: "10", value: "A" }, { ai: "17", value: "261231", date: "2026-12-31" }];
-  assert.deepEqual(gs1.readScan("]C110A\x1d17261231", 2026).elements, elements);
-  assert.deepEqual(gs1.parseElements("10A\x1d17261231", 2026), elements);
-  assert.equal(gs1.readGtin("9501101530003"), "09501101530003");
   assert.equal(gs1.checkDigit("950110153000"), 3);
-  assert.throws(() => gs1.readGtin("9501101530004"), (error) => error instanceof Refusal && error.number === 3 && error.fault === "CheckDigit");
+  assert.equal(gs1.readGtin("9501101530003"), "09501101530003");
+  const answer = gs1.readScan("]C13103001250\x1d17261231", 2026), day = { ai: "17", title: "USE BY or EXPIRY", value: "261231", date: "2026-12-31" };
+  assert.deepEqual([answer["3103"].number, answer["3103"].unit], ["1.250", "kg"]);
+  assert.deepEqual(answer["17"], day);
+  assert.equal(answer["01"], undefined);
+  assert.deepEqual([...answer], answer.elements);
+  assert.deepEqual(gs1.parseElements("10A\x1d17261231", 2026), [{ ai: "10", title: "BATCH/LOT", value: "A" }, day]);
+  const error = thrown(() => gs1.parseElements("10AB\x1d17261331", 2026));
+  assert.ok(error instanceof Refusal);
+  assert.deepEqual([error.message, error.before.map(({ value }) => value), error.ai], ["refused 9 ValueDate 5", ["AB"], "17"]);
+  assert.match(error.remedy, /^write YYMMDD, 00 for the last day of the month /);
+  assert.throws(() => gs1.readGtin("9501101530004"), { number: 3, fault: "CheckDigit", before: [], ai: undefined });
+});
+
+test("values as data", () => {
+  const said = (ai, value) => { const [{ ai: _, title, value: same, ...others }] = gs1.parseElements(ai + value, 2026); return [title, same === value, others]; };
+  for (const [ai, value, title, others] of [
+    ["3932", "978000195", "PRICE", { number: "1.95", currency: "EUR" }], ["3922", "7", "PRICE", { number: "0.07" }], ["4331", "001850-", "MAX TEMP C", { number: "-18.50", unit: "°C" }],
+    ["4330", "000000-", "MAX TEMP F", { number: "0.00", unit: "°F" }], ["3941", "0125", "PRCNT OFF", { number: "12.5", unit: "%" }], ["423", "276528", "COUNTRY - INITIAL PROCESS", { countries: ["DE", "NL"] }],
+    ["4309", "05620000003500000000", "SHIP TO GEO", { place: { latitude: "-33.8000000", longitude: "-10.0000000" } }],
+    ["7007", "261231270200", "HARVEST DATE", undefined], ["7007", "261231270131", "HARVEST DATE", { date: "2026-12-31", until: "2027-01-31" }],
+    ["7003", "2612312359", "EXPIRY TIME", { date: "2026-12-31", time: "23:59:00" }], ["3370", "001250", "KG PER m²", { number: "1250", unit: "kg/m²" }], ["99", "x", "INTERNAL", {}],
+  ]) {
+    if (others) assert.deepEqual(said(ai, value), [title, true, others]);
+    else assert.throws(() => said(ai, value), { number: 9 });
+  }
+  assert.equal(JSON.stringify(gs1.readScan("9501101530003", 2026)), '{"identifier":null,"elements":[{"ai":"01","title":"GTIN","value":"09501101530003"}]}');
+  assert.equal(String(gs1.readScan("9501101530003", 2026)), "- (01)09501101530003");
+});
+
+test("every Application Identifier, or those of the profile", () => {
+  assert.equal(gs1.readScan("]C1235ABC", 2026)["235"].title, "TPX");
+  const error = thrown(() => gs1.readScan("]C1^10AB^235ABC", 2026, { ais: "profile" }));
+  assert.deepEqual([error.message, error.before.map(({ ai, value }) => ai + value), error.ai], ["refused 5 UnknownAi 5", ["10AB"], "235"]);
+  assert.throws(() => gs1.drawLabel("gs1128", "235ABC", { year: 2026, width: 400, height: 3, ais: "profile" }), { number: 5 });
+  assert.throws(() => gs1.labelSymbol("gs1128", "235ABC", 2026, { ais: "profile" }), { number: 5 });
+  assert.throws(() => gs1.readScan("]C1235ABC", 2026, { ais: "some" }), RangeError);
+});
+
+test("element strings of elements", () => {
+  const pairs = [["01", "09501101530003"], ["10", "AB"], ["17", "261231"]];
+  assert.equal(gs1.compose(pairs, 2026), "010950110153000310AB\x1d17261231");
+  assert.equal(gs1.compose(gs1.parseElements(gs1.compose(pairs, 2026), 2026), 2026), "010950110153000310AB\x1d17261231");
+  for (const [wrong, message] of [[["01", "9501101530003"], "refused 6 ValueLength 1"], [["17", "261331"], "refused 9 ValueDate 1"], [["10", "A\x1d21B"], "refused 7 ValueCharacter 1"],
+    [["1", "0AB"], "refused 5 UnknownAi 1"], [["", ""], "refused 5 UnknownAi 1"], [["20", "123"], "refused 6 ValueLength 1"], [["09", "1"], "refused 5 UnknownAi 1"]]) {
+    assert.equal(thrown(() => gs1.compose([["10", "AB"], wrong], 2026)).message, message, String(wrong));
+  }
+  assert.throws(() => gs1.compose([["10", "AB"]], 1900), { number: 42 });
+});
+
+test("what is asked of elements that stand together", () => {
+  const texts = (found) => found.map(({ text }) => text);
+  assert.deepEqual(texts(associations([{ ai: "02" }])), ["02 needs 37"]);
+  assert.deepEqual(texts(associations([{ ai: "01" }, { ai: "37" }])), ["01 excludes 37", "37 needs 02 or 8026"]);
+  assert.deepEqual(texts(doubts([{ ai: "422", value: "281" }, { ai: "3932", value: "000195" }, { ai: "401", value: "AB" }, { ai: "7030", value: "999A" }])),
+    ["422: 281 is no country", "3932: 000 is no currency", "401: AB is no GS1 Company Prefix"]);
+});
+
+test("the symbol of a label in modules", () => {
+  const { text, quietLeft, quietRight, widths } = gs1.labelSymbol("upce", "00012345000065", 2026);
+  assert.deepEqual([text, quietLeft, quietRight, widths.length, widths.reduce((sum, width) => sum + width)], ["01234565", 9, 7, 33, 51]);
+  assert.equal(gs1.labelSymbol("gs1128", "10AB\x1d17261231", 2026).text, "(10)AB(17)261231");
+  assert.throws(() => gs1.labelSymbol("ean13", "9501101530004", 2026), { number: 3 });
+  assert.throws(() => gs1.labelSymbol("qr", "9501101530003", 2026), { number: 40 });
 });
 
 test("what no call can take", () => {
@@ -49,28 +116,32 @@ test("what no call can take", () => {
 test("20,000 rows as the program answers them", () => {
   const rows = linesOf("rows");
   assert.equal(rows.length, 20_000);
-  const wrong = differing(rows, linesOf("rows.wanted"), (row) => gs1.readRow(row.slice(row.indexOf(",") + 1).split(" ").map(Number), 2026));
-  assert.deepEqual(wrong.slice(0, 5), []);
+  for (const ais of ["profile", "all"]) {
+    const wrong = differing(rows, linesOf(`rows.${ais}`), (row) => gs1.readRow(row.slice(row.indexOf(",") + 1).split(" ").map(Number), 2026, { ais }));
+    assert.deepEqual(wrong.slice(0, 5), [], ais);
+  }
 });
 
 test("2,000 numbers and texts as the program answers them", () => {
   const asks = {
     gtin: (text) => `gtin ${gs1.readGtin(text)}`,
     digit: (text) => `digit ${gs1.checkDigit(text)}`,
-    text: (text) => `hri ${gs1.parseElements(text.replaceAll("^", "\x1d"), 2026).map(({ ai, value }) => `(${ai})${value}`).join("")}`,
+    text: (text, options) => `hri ${gs1.parseElements(text.replaceAll("^", "\x1d"), 2026, options).map(({ ai, value }) => `(${ai})${value}`).join("")}`,
   };
-  const wanted = linesOf("texts.wanted"), kept = { records: [], wanted: [] };
-  linesOf("texts").forEach((record, i) => {
-    if (!(record.slice(0, record.indexOf(",")) in asks)) return;
-    kept.records.push(record);
-    kept.wanted.push(wanted[i]);
-  });
-  assert.ok(kept.records.length > 1000);
-  const wrong = differing(kept.records, kept.wanted, (record) => {
-    const at = record.indexOf(","), field = record.slice(at + 1);
-    return asks[record.slice(0, at)](field.startsWith('"') ? field.slice(1, -1).replaceAll('""', '"') : field);
-  });
-  assert.deepEqual(wrong.slice(0, 5), []);
+  for (const options of [{ ais: "profile" }, {}]) {
+    const wanted = linesOf(`texts.${options.ais ?? "all"}`), kept = { records: [], wanted: [] };
+    linesOf("texts").forEach((record, i) => {
+      if (!(record.slice(0, record.indexOf(",")) in asks)) return;
+      kept.records.push(record);
+      kept.wanted.push(wanted[i]);
+    });
+    assert.ok(kept.records.length > 1000);
+    const wrong = differing(kept.records, kept.wanted, (record) => {
+      const at = record.indexOf(","), field = record.slice(at + 1);
+      return asks[record.slice(0, at)](field.startsWith('"') ? field.slice(1, -1).replaceAll('""', '"') : field, options);
+    });
+    assert.deepEqual(wrong.slice(0, 5), [], options.ais);
+  }
 });
 
 test("two symbols in a row", () => {
@@ -97,7 +168,11 @@ test("a label is drawn, and read as a picture, turned too", () => {
     const [symbol, ...others] = gs1.readPicture(picture, 2026);
     assert.equal(others.length, 0);
     assert.equal(symbol.answer.identifier, "]C1");
-    assert.deepEqual(symbol.answer.elements, [{ ai: "10", value: "A(01)" }, { ai: "17", value: "261231", date: "2026-12-31" }]);
+    assert.deepEqual(symbol.answer.elements.map(({ ai, value }) => ai + value), ["10A(01)", "17261231"]);
     assert.equal(symbol.corners.length, 4);
   }
+  assert.equal(gs1.readPicture({ width, height, data: upright }, 2026, { level: 99, ais: "profile" }).length, 1);
+  assert.equal(gs1.readPicture({ width: height, height: width, data: turned }, 2026, { level: 99 }).length, 0);
+  assert.throws(() => gs1.readPicture({ width, height, data: upright }, 2026, { level: 256 }), RangeError);
+  assert.throws(() => gs1.readPicture({ width, height, data: upright }, 1900), { number: 42 });
 });

@@ -1,5 +1,5 @@
-// The page's calls in Node, by the module whose memory has 32-bit addresses: answers a list of calls, as JSON. Each is a name of
-// Gs1's and its arguments; an image answers in base64. `read` reads a PBM image, in base64, as the page does.
+// The page's calls in Node, by the module whose memory has 32-bit addresses: answers a list of calls, as JSON. Each is a name and its
+// arguments: `gtin`, `elements` and `symbol` of a text, and `read`, which reads a PBM image, in base64, as the page does.
 "use strict";
 
 const fs = require("fs"), path = require("path"), vm = require("vm");
@@ -7,25 +7,22 @@ const page = path.join(__dirname, "../../page");
 const scripts = [...fs.readFileSync(path.join(page, "index.html"), "utf8").matchAll(/<script src="(.*?)">/g)].map((found) => found[1]);
 
 // Those that speak of the document are left out.
-for (const name of scripts.slice(0, scripts.indexOf("reader.js") + 1)) {
+for (const name of scripts.slice(0, scripts.indexOf("values.js") + 1)) {
   vm.runInThisContext(fs.readFileSync(path.join(page, name), "utf8"), name);
 }
 
 const inPage = vm.runInThisContext(`({
   runs: (bits) => Gs1.runs(bits),
   load: () => Gs1.load(Uint8Array.from(atob(GS1_WASM_32), (c) => c.charCodeAt(0)), 32),
-  read(gs1, image) {
-    const picture = pixelsOfPbm(image), { symbols } = new Reader(gs1, 2026).read(picture, levelOf(picture.grey));
-    return inReadingOrder(symbols).map(({ line }) => line);
-  },
+  gtin: (gs1, text) => gs1.told("gs1_c_gtin", ...gs1.put(text)),
+  elements: (gs1, text) => gs1.told("gs1_c_text", ...gs1.put(text), 2026),
+  symbol: (gs1, kind, text) => gs1.told("gs1_c_symbol", Gs1.kinds.indexOf(kind), ...gs1.put(text), 2026),
+  read: (gs1, image) => symbolsShown(gs1.picture(pixelsOfPbm(new Uint8Array(image)), 0, 2026)).symbols.map(({ said }) => said),
 })`);
 
 async function main() {
   const gs1 = await inPage.load(), calls = JSON.parse(fs.readFileSync(0, "utf8"));
-  const answers = calls.map(([name, ...words]) => {
-    const answer = name === "read" ? inPage.read(gs1, new Uint8Array(Buffer.from(words[0], "base64"))) : gs1[name](...words);
-    return answer instanceof Uint8Array ? Buffer.from(answer).toString("base64") : answer;
-  });
+  const answers = calls.map(([name, ...words]) => inPage[name](gs1, ...(name === "read" ? [Buffer.from(words[0], "base64")] : words)));
   console.log(JSON.stringify({ wide: inPage.runs(64), answers }));
 }
 

@@ -8,6 +8,7 @@ import functools
 import gzip
 import http.server
 import io
+import itertools
 import json
 import os
 import random
@@ -194,23 +195,31 @@ def remembers(page):
     page.value("document.querySelector('#languages [lang=en]').click(), showTask('labels'), document.made")
 
 
-# The AIs that are read (GS1 General Specifications, 3.2), the last digit of those with decimals left out.
-AIS = ["00", "01", "02", "10", "11", "12", "13", "15", "16", "17", "20", "21", "22", "30", "37", "240", "241", "250", "253", "254", *map(str, range(310, 317)),
-       *map(str, range(320, 338)), *map(str, range(340, 358)), *map(str, range(360, 370)), "390", "391", "392", "393", "400", "401", "402", "403",
-       *map(str, range(410, 418)), "420", "422", "7003", "8005", "8008", "8018", "8020", *map(str, range(90, 100))]
+def listed_ais():
+    """The AIs of tables/ais.tsv: from one to another that differ in digits alone."""
+    with open(f"{ROOT}/tables/ais.tsv", encoding="utf-8") as file:
+        ranges = [line.split("\t")[0].partition("-") for line in file.read().splitlines()[1:]]
+    for least, _, greatest in ranges:
+        digits = [range(int(low), int(high) + 1) for low, high in zip(least, greatest or least)]
+        yield from ("".join(map(str, ai)) for ai in itertools.product(*digits))
 
 
 def in_words(page):
     """Each AI has a title of its own in each language, and what it measures is said."""
+    ais = sorted(listed_ais())
+    same("the AIs of the page", page.value("[...AIS.keys()].sort()"), ais)
     for language in TEXTS:
+        titles = TEXTS[language]["elements"]
+        same(f"AIs without a title in {language}", [ai for ai in ais if not (titles.get(ai) or titles.get(ai[:3]) or re.fullmatch("9[1-9]", ai))], [])
         page.value(f"changeLanguage('{language}'), document.made")
-        titles = page.value(f"{json.dumps(AIS)}.map((ai) => titleOf(/^3[1-6]|^39/.test(ai) && ai.length === 3 ? `${{ai}}2` : ai))")
-        same(f"AIs without a title in {language}", [ai for ai, title in zip(AIS, titles) if not title or title == TEXTS[language]["page"]["element"]], [])
+        same(f"titles in {language}", page.value("['01', '3102', '7033', '4331', '97'].map(titleOf)"), [titles[key] for key in ("01", "310", "703", "4331", "91-99")])
     page.value("changeLanguage('en'), document.made")
     for element, wanted in {("3102", "001250"): "12.50 kg", ("3203", "001250"): "1.250 lb", ("3572", "001250"): "12.50 oz", ("3370", "000012"): "12 kg/m²", ("3690", "000012"): "12 yd³",
                             ("3922", "1095"): "10.95", ("3932", "9781095"): "10.95 EUR", ("3912", "7561095"): "10.95 CHF", ("422", "528"): "Netherlands", ("422", "000"): "",
                             ("30", "12"): "12 pieces", ("17", "261200"): "Dec 31, 2026", ("7003", "2612312359"): "Dec 31, 2026, 23:59:00", ("01", "00000096385074"): "EAN-8 96385074",
-                            ("02", "00012345000065"): "UPC-A 012345000065", ("10", "LOT7"): ""}.items():
+                            ("02", "00012345000065"): "UPC-A 012345000065", ("10", "LOT7"): "", ("4331", "001850-"): "-18.50 °C", ("3941", "0125"): "12.5 %", ("3953", "001250"): "1.250",
+                            ("423", "276528"): "Germany, Netherlands", ("4309", "05620000003500000000"): "-33.8000000, -10.0000000", ("7007", "261231270131"): "Dec 31, 2026 – Jan 31, 2027",
+                            ("7007", "261231"): "Dec 31, 2026", ("4326", "261231"): "Dec 31, 2026"}.items():
         same(f"{element} in words", page.value(f"meaningOfElement({{ ai: '{element[0]}', value: '{element[1]}' }})"), wanted)
 
 
@@ -285,17 +294,24 @@ def is_packed():
         page.close()
 
 
+def symbol_drawn(image):
+    """The left quiet zone and the widths of the bars of a label that is drawn, at a dot a module, in three rows of 640 dots."""
+    row = "".join(f"{byte:08b}" for byte in image[-160:-80])
+    light, *runs = (len(run) for run in re.findall("0+|1+", row))
+    return f"{light} {''.join(map(str, runs[:-1]))}"
+
+
 def runs_in_node():
     """The same calls by the 32-bit module in Node, compared with what the program answers."""
-    sizes = "--module 2 --width 480 --height 120".split()
     calls, wanted = [], []
-    for kind, text in LABELS:
-        image = answer("print", "--columns", "1", "--rows", "1", *sizes, "--year", "2026", text=f"{kind},{text}\n".encode())
-        calls.append(["label", kind, text, 2026, 2, 480, 120])
-        wanted.append(base64.b64encode(image).decode() if image.startswith(b"P4") else image.decode().strip().removeprefix("record 0: "))
+    for kind, typed in LABELS:
+        image = answer("print", *"--columns 1 --rows 1 --module 1 --width 640 --height 3 --year 2026".split(), text=f"{kind},{typed}\n".encode())
+        text = typed.replace("^", "\x1d")
+        calls.append(["symbol", kind, text])
+        wanted.append(symbol_drawn(image) if image.startswith(b"P4") else image.decode().strip().removeprefix("record 0: "))
         name, check = ("elements", "text") if kind == "gs1128" else ("gtin", "gtin")
-        calls.append([name, text, 2026] if name == "elements" else [name, text])
-        wanted.append(answer("check", "--year", "2026", text=f"{check},{text}\n".encode()).decode().strip())
+        calls.append([name, text])
+        wanted.append(answer("check", "--year", "2026", text=f"{check},{typed}\n".encode()).decode().strip())
     with open(f"{ROOT}/examples/labels.pbm", "rb") as file:
         image = file.read()
     calls.append(["read", base64.b64encode(image).decode()])
@@ -303,7 +319,12 @@ def runs_in_node():
     wanted.append(sorted(line.split(" ", 2)[2] for line in lines))
     done = subprocess.run(["node", f"{ROOT}/tests/page/calls.js"], input=json.dumps(calls).encode(), stdout=subprocess.PIPE, check=True)
     for call, got, want in zip(calls, json.loads(done.stdout)["answers"], wanted):
-        same(f"in Node, {call[:3]}", sorted(got) if isinstance(got, list) else got, want)
+        if call[0] == "symbol" and got.startswith("symbol"):
+            _, _, left, _, widths = got.split(" ")
+            got = f"{left} {widths}"
+        elif call[0] == "read":
+            got = sorted(re.sub("[ \t](\\w+)=", r" (\1)", it).replace(" (", "(").replace("(", " (", 1) for it in got)
+        same(f"in Node, {call[:3]}", got, want)
 
 
 # ---- the network

@@ -1,4 +1,5 @@
-"""The page, zbarimg and ZXingReader on the same pictures: prints how many of each group they read, and asserts the limits.
+"""The page, zbarimg and ZXingReader on the same pictures: prints how many of each group they read, and asserts the limits. What the page
+answers of each picture, Python answers too, byte for byte.
 
 Usage: photos.py WORK [GROUP...]. WORK is a folder for the pictures; with groups, these alone are read and no limit is asserted.
 Its last lines are the limits, each with what was seen, and their counts.
@@ -12,8 +13,10 @@ import pictures
 from browser import Browser
 
 ROOT = os.path.dirname(os.path.dirname(os.path.dirname(os.path.abspath(__file__))))
-sys.path.insert(0, os.path.join(ROOT, "tests", "pictures"))
+sys.path[:0] = [os.path.join(ROOT, "python"), os.path.join(ROOT, "tests", "pictures")]
+from noriladle import picture
 from others import OTHERS
+from read import lines_of
 
 READERS = ("page", *OTHERS)
 ALL_READ = ("mild photograph", "upright, turned by 90 degrees", "upright, turned by 270 degrees", "1.2 dots a module")
@@ -26,9 +29,10 @@ class Page:
     def __init__(self):
         self.browser = Browser(f"file://{ROOT}/page/index.html")
         self.browser.value("globalThis.chosen = document.createElement('input'), chosen.type = 'file', chosen.multiple = true, 0")
+        self.asked = self.differing = 0
 
     def symbols(self, paths):
-        """The symbols of each of the pictures; and the milliseconds that all took."""
+        """What each symbol of each of the pictures says; and the milliseconds that all took."""
         node = self.browser.call("Runtime.evaluate", expression="chosen")["result"]["objectId"]
         self.browser.call("DOM.setFileInputFiles", files=[os.path.abspath(path) for path in paths], objectId=node)
         told = json.loads(self.browser.value("""(async () => {
@@ -36,16 +40,24 @@ class Page:
             let passed = 0;
             for (const file of chosen.files) {
                 const taken = await pictureOf(file), from = performance.now();
-                const { symbols } = new Reader(gs1, 2026).read(taken, levelOf(taken.grey));
+                found.push(gs1.picture(taken, 0, Gs1.everyAi | 2026));
                 passed += performance.now() - from;
-                found.push(inReadingOrder(symbols).map((symbol) => {
-                    const corners = symbol.corners().map(({ x, y }) => [x, y]);
-                    return { line: symbol.line, rows: symbol.rows, corners };
-                }));
             }
             return JSON.stringify({ found, passed });
         })()"""))
-        return told["found"], told["passed"]
+        for path, lines in zip(paths, told["found"]):
+            self.asked += 1
+            wanted = lines_of(picture.read(picture.grey_of(path), 2026))
+            if lines.rstrip("\n") != wanted:
+                self.differing += 1
+                print(f"differs: {os.path.basename(path)}: page {lines!r}, Python {wanted!r}", file=sys.stderr)
+        return [said_in(lines) for lines in told["found"]], told["passed"]
+
+
+def said_in(lines):
+    """What each symbol of a picture says, in the words of pictures.Symbol.line: behind its eight places and its rows stand identifier and pairs."""
+    said = [line.split(" ", 10)[9:] for line in lines.splitlines() if line.count(" ") > 9]
+    return [f"{identifier} " + "".join(f"({ai}){value}" for ai, _, value in (it.partition("=") for it in pairs.split("\t"))) for identifier, pairs in said]
 
 
 def compare(page, name, symbols, work, pool):
@@ -58,8 +70,7 @@ def compare(page, name, symbols, work, pool):
         right[reader] += wanted in got
         wrong[reader] += any(read != wanted for read in got)
 
-    for (symbol, path), symbols_found in zip(made, found):
-        lines = [it["line"] for it in symbols_found]
+    for (symbol, path), lines in zip(made, found):
         note("page", symbol.line, lines)
         if any(line != symbol.line for line in lines):
             print(f"wrong: {os.path.basename(path)}: {lines}, not {symbol.line}", file=sys.stderr)
@@ -101,19 +112,20 @@ def without(page, symbols, work):
     return len(paths), found
 
 
-def limits(total, right, wrong, by_group, none):
+def limits(total, right, wrong, by_group, none, page):
     """What the page has to reach: what is asked, what was seen, and whether it holds."""
     yield "pictures, at least 1,800", total, total >= 1800
-    yield "read, at least 85 of 100", f"{100 * right['page'] / total:.1f}", right["page"] >= 0.85 * total
+    yield "read, at least 99.5 of 100", f"{100 * right['page'] / total:.2f}", right["page"] >= 0.995 * total
     for reader in OTHERS:
         yield f"read, more than by {reader}", f"{right['page']}, {right[reader]}", right["page"] > right[reader]
     for name in ALL_READ:
         read, count = by_group[name]
         yield f"{name}, all read", f"{read} of {count}", read == count
     read, count = by_group["usual photograph"]
-    yield "usual photograph, at least 80 of 100", f"{read} of {count}", read >= 0.8 * count
+    yield "usual photograph, at least 95 of 100", f"{read} of {count}", read >= 0.95 * count
     yield "pictures with a wrong answer, none", wrong["page"], wrong["page"] == 0
     yield f"symbols found in {none[0]} pictures without one, none", none[1], none[1] == 0 and none[0] >= WITHOUT
+    yield f"of {page.asked} pictures the page and Python answer alike, of all", "not all" if page.differing else "all", page.differing == 0 and page.asked >= 2800
 
 
 def main():
@@ -127,7 +139,7 @@ def main():
     finally:
         page.browser.close()
     asked_for = missed = 0
-    for asked, seen, holds in limits(*counts, none):
+    for asked, seen, holds in limits(*counts, none, page):
         asked_for, missed = asked_for + 1, missed + (not holds)
         print(f"{'holds' if holds else 'MISSED'}: {asked}: {seen}")
     print(f"{counts[0]} and {none[0]} pictures, {asked_for} limits, {missed} missed")

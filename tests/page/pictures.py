@@ -6,9 +6,13 @@ pixels of a picture; a picture is an array of grey values, rows first.
 import os
 import random
 import subprocess
+import sys
 
 import cv2
 import numpy
+
+sys.path.insert(0, os.path.join(os.path.dirname(os.path.abspath(__file__)), "..", "commands"))
+from kinds import KINDS
 
 PAPER, INK = 235, 25
 
@@ -25,8 +29,6 @@ TEXTS = {
     "gs1128": ["(01)09501101530003(17)261231", "(00)006141411234567890", "(01)09501101530003(10)AB12",
                "(17)261231(10)L4711", "(420)12345", "(01)00614141000036(3103)001750(15)270630(21)C7"],
 }
-IDENTIFIERS = {"ean13": "]E0", "upca": "]E0", "ean8": "]E4", "upce": "]E0", "itf14": "]I1", "gs1128": "]C1"}
-ZINT = {"ean13": "EANX", "upca": "UPCA", "ean8": "EANX", "upce": "UPCE", "itf14": "ITF14", "gs1128": "GS1_128"}
 
 
 def gtin12(upce):
@@ -47,13 +49,13 @@ class Symbol:
     def __init__(self, kind, text, path):
         self.kind = kind
         if kind == "gs1128":
-            self.line = f"{IDENTIFIERS[kind]} {text}"
+            self.line = f"{KINDS[kind].identifier} {text}"
             self.says = text.replace("(", "").replace(")", "")
         else:
             self.says = (gtin12(text) if kind == "upce" else text).zfill(14)
-            self.line = f"{IDENTIFIERS[kind]} (01){self.says}"
+            self.line = f"{KINDS[kind].identifier} (01){self.says}"
         data = text.replace("(", "[").replace(")", "]") if kind == "gs1128" else text[:-1]
-        self.image = drawn(ZINT[kind], data, path)
+        self.image = drawn(KINDS[kind].zint, data, path)
 
 
 def drawn(barcode, data, path, *words):

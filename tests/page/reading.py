@@ -1,6 +1,6 @@
 """What the page reads of pictures, of the clipboard and of a camera, in headless Chromium, compared with what the program answers.
 
-Usage: reading.py PROGRAM CALLS WORK. PROGRAM is gs1_hub, CALLS tests/embed/calls.c as it is built. Its last line is the counts.
+Usage: reading.py PROGRAM WORK. PROGRAM is gs1_hub. Its last line is the counts.
 """
 import base64
 import json
@@ -16,9 +16,11 @@ from browser import Browser
 from counts import before_others, ended, same, texts
 
 ROOT = os.path.dirname(os.path.dirname(os.path.dirname(os.path.abspath(__file__))))
-PROGRAM, CALLS, WORK = sys.argv[1:4]
+PROGRAM, WORK = sys.argv[1:3]
 GRID = "--columns 2 --rows 3 --module 2 --width 480 --height 120".split()
 TEXTS = texts()["en"]
+FRAME = 4
+"""So many milliseconds a frame of the camera may take."""
 
 
 def answer(*words, text=b""):
@@ -45,11 +47,6 @@ def choose(page, path):
 
 def answers(page):
     return [symbol["line"] for symbol in json.loads(page.value("JSON.stringify(pictures[0]?.symbols ?? [])"))]
-
-
-def asks(page):
-    """How often the module is asked for the newest picture."""
-    return page.value("(() => { const reader = new Reader(gs1, 2026), { level, own } = pictures[0]; reader.read(pictures[0], level, own); return reader.calls; })()")
 
 
 def said(number):
@@ -107,16 +104,16 @@ def reads(page):
     for name in ("labels.png", "labels.pbm"):
         choose(page, f"{ROOT}/examples/{name}")
         same(f"the symbols of {name}", sorted(answers(page)), wanted)
-    boxes = json.loads(page.value("JSON.stringify(pictures[0].symbols)"))
+    boxes = [symbol["corners"][0] for symbol in json.loads(page.value("JSON.stringify(pictures[0].symbols)"))]
     same("what is told of them", page.text("told"), "6 codes in 1 picture")
     marks = page.value("""(() => {
         const pen = document.querySelector('.photo canvas').getContext('2d'), [picture] = pictures, wide = Math.max(2, Math.round(Math.max(16, Math.round(picture.width / 30)) / 7));
         const colour = ({ x, y }) => pen.getImageData(Math.floor(x), Math.floor(y), 1, 1).data.join(), inside = ({ x, y }) => x >= 0 && y >= 0 && x < picture.width && y < picture.height;
         const middle = (a, b) => ({ x: (a.x + b.x) / 2, y: (a.y + b.y) / 2 });
-        return picture.symbols.flatMap((symbol) => symbol.corners(wide).map((corner, i, all) => middle(corner, all[(i + 1) % 4]))).filter(inside).map(colour).join(' ');
+        return picture.symbols.flatMap((symbol) => widened(symbol.corners, wide).map((corner, i, all) => middle(corner, all[(i + 1) % 4]))).filter(inside).map(colour).join(' ');
     })()""")
     same("the marks on the picture", set(marks.split()), {"11,110,79,255"})
-    order = [(box["box"]["top"] // 100, box["box"]["left"]) for box in boxes]
+    order = [(box["y"] // 100, box["x"]) for box in boxes]
     same("the marks in the order of reading", order, sorted(order))
     with open(f"{ROOT}/examples/labels.png", "rb") as file:
         blob = """Promise.resolve(new Blob([Uint8Array.from(atob('%s'), (c) => c.charCodeAt(0))], { type: 'image/png' }))""" % base64.b64encode(file.read()).decode()
@@ -159,15 +156,15 @@ def refuses(page):
     """Pictures without a symbol, each with what to do; and symbols in other grey values, borders and colours."""
     png(f"{WORK}/one.png", 1, 1, lambda y: b"\0")
     choose(page, f"{WORK}/one.png")
-    same("a picture of 1 by 1", (shown(page).split()[0], answers(page)), ("refused", []))
+    same("a picture of 1 by 1", (shown(page), answers(page)), ("none", []))
     with open(f"{WORK}/one.pbm", "wb") as file:
         file.write(b"P4 1 1\n\x80")
     choose(page, f"{WORK}/one.pbm")
-    same("an image of 1 by 1", (shown(page), answers(page)), ("refused 20 RunCount", []))
+    same("an image of 1 by 1", (shown(page), answers(page)), ("none", []))
     png(f"{WORK}/blank.png", 300, 20, lambda y: b"\xff" * 300)
     choose(page, f"{WORK}/blank.png")
-    same("a blank picture", shown(page), "refused 19 Blank")
-    same("what to do about it", said(19) in page.text("pictures"), True)
+    same("a blank picture", shown(page), "none")
+    same("what to do about it", said("noSymbol") in page.text("pictures"), True)
     row = symbol_row(2)
     png(f"{WORK}/turned.png", len(row), 9, lambda y: bytes(220 if light else 90 for light in row[::-1]))
     choose(page, f"{WORK}/turned.png")
@@ -182,7 +179,7 @@ def refuses(page):
     framed = [0] * 3 + row + [0] * 3 + row[::-1] + [0] * 3
     png(f"{WORK}/framed.png", len(framed), 9, lambda y: bytes(255 * light for light in framed))
     choose(page, f"{WORK}/framed.png")
-    places = page.value("pictures[0].symbols.map(({ line, box }) => [line, box.left, box.right].join(' ')).join()")
+    places = page.value("pictures[0].symbols.map(({ line, corners }) => [line, corners[0].x, corners[1].x].join(' ')).join()")
     same("two symbols in frames side by side, one turned", places,
          f"]E0 (01)09501101530003 {3 + 22} {3 + len(row) - 14},]E0 (01)09501101530003 {6 + len(row) + 14} {6 + 2 * len(row) - 22}")
     wrong = [0] * 3 + symbol_row(2, "1 1 3 2") + [0] * 3
@@ -203,16 +200,16 @@ def refuses(page):
     narrow = row[22 - 8:]
     png(f"{WORK}/narrow.png", len(narrow), 9, lambda y: bytes(255 * light for light in narrow) if y < 3 else b"\xff" * len(narrow))
     choose(page, f"{WORK}/narrow.png")
-    same("a quiet zone that is too narrow, above more rows that are blank", shown(page), "refused 21 QuietZone")
+    same("a quiet zone that is too narrow, above more rows that are blank", (shown(page), answers(page)), ("none", []))
     crowded = [255 * light for light in row[22 - 4:-14 + 4]]
     tall = [b"\xff" * 600] * 40 + [b"\xff" * 100 + bytes([0] * 20 + crowded + [0] * 20) + b"\xff" * 360] * 80 + [b"\xff" * 600] * 40
     png(f"{WORK}/crowded.png", 600, 160, lambda y: tall[y][:600])
     choose(page, f"{WORK}/crowded.png")
-    same("a symbol between frames two modules away", (shown(page), answers(page)), ("refused 21 QuietZone", []))
-    same("what to do about it", said(21) in page.text("pictures"), True)
+    same("a symbol between frames two modules away", (shown(page), answers(page)), ("none", []))
+    same("what to do about it", "white on both sides" in page.text("pictures"), True)
     png(f"{WORK}/greys.png", len(row), 9, lambda y: bytes(200 if light else 120 for light in row))
     choose(page, f"{WORK}/greys.png")
-    for level, wanted in ((100, "refused 19 Blank"), (121, "]E0 (01)09501101530003"), (200, "]E0 (01)09501101530003"), (201, "refused 20 RunCount")):
+    for level, wanted in ((100, "none"), (121, "]E0 (01)09501101530003"), (200, "]E0 (01)09501101530003"), (201, "none")):
         page.value(f"readAgain(pictures[0], {level})")
         same(f"two greys by the level {level}", shown(page), wanted)
     # The right one stands a little higher than the left one beside it, and a third one below both.
@@ -220,7 +217,7 @@ def refuses(page):
     png(f"{WORK}/beside.png", 2 * len(row), 200,
         lambda y: (light if 10 <= y < 90 or y >= 120 else blank) + (light if y < 80 else blank))
     choose(page, f"{WORK}/beside.png")
-    places = page.value("pictures[0].symbols.map(({ box }) => [box.left, box.top].join(' ')).join()")
+    places = page.value("pictures[0].symbols.map(({ corners: [{ x, y }] }) => `${x} ${y}`).join()")
     same("the order of reading", places, f"22 10,{22 + len(row)} 0,22 120")
 
 
@@ -276,9 +273,9 @@ def reads_by_camera(url):
         page.value("at('camera').click(), document.read")
         same("what the camera shows", (len(answers(page)), answers(page)[0] in lines), (1, True))
         same("the camera ends with it", page.value("[stream, at('view').hidden, at('camera-text').textContent].join()"), f",true,{TEXTS['page']['useCamera']}")
-        passed = quickest(page, 50)
-        beside_c(page, "a frame of 640 by 480 pixels", passed)
-        same("a frame of 640 by 480 in 50 ms", passed < 50, True)
+        passed = quickest(page, FRAME)
+        print(f"a frame of 640 by 480 pixels: {passed:.1f} ms")
+        same(f"a frame of 640 by 480 in {FRAME} ms", passed <= FRAME, True)
         page.value("at('read-clear').click(), at('scan-on').click(), globalThis.tones = 0, beep = () => { tones++; }, at('camera').click()")
         page.until("pictures[0]?.symbols.length === 3", 60)
         # All come again, since the film begins anew.
@@ -293,7 +290,8 @@ def reads_by_camera(url):
         page.value("at('scan-on').click(), at('camera').click()")
         same("the camera is stopped by its button", page.value("!stream && at('view').hidden"), True)
         same("what is saved of them", len(json.loads(page.value("readJson()"))[0]["symbols"]), 3)
-        page.value("at('scan-on').click(), at('camera').click(), new Promise((done) => setTimeout(done, 500))")
+        page.value("at('scan-on').click(), at('camera').click()")
+        page.until("!!stream && !at('view').hidden")
         page.value("stream.getVideoTracks()[0].dispatchEvent(new Event('ended'))")
         same("a camera that goes away", page.text("read-fault"), TEXTS["page"]["cameraGone"])
         page.value("Object.defineProperty(navigator, 'mediaDevices', { value: undefined, configurable: true }), at('camera').click(), document.read")
@@ -320,32 +318,9 @@ def quickest(page, limit):
     """The milliseconds of the quickest of at least five tries to read the picture, and of more where other work on the machine
     takes longer than the limit."""
     times = []
-    while len(times) < 5 or (min(times) >= limit and len(times) < 30):
+    while len(times) < 5 or (min(times) >= limit and len(times) < (30 if limit > 100 else 200)):
         times.append(page.value("readPicture(pictures[0]), pictures[0].passed"))
     return min(times)
-
-
-def beside_c(page, what, passed, height=None):
-    """Prints how long a picture took, and how long C takes for as many calls, by 64 of those that its first rows, or all, ask."""
-    calls = asks(page)
-    asked = page.value("""(() => {
-        const rows = [], { ask } = Gs1.prototype;
-        Gs1.prototype.ask = function (call, ...words) {
-            rows.push(`${call === this.calls.gs1_c_find ? 'find' : 'row'},${this.words.subarray(0, Number(words[1])).join(' ')}`);
-            return ask.call(this, call, ...words);
-        };
-        new Reader(gs1, 2026).read({ ...pictures[0], height: %s }, pictures[0].level, pictures[0].own);
-        Object.assign(Gs1.prototype, { ask });
-        return rows.join('\\n');
-    })()""" % (height or "pictures[0].height"))
-    lines = asked.splitlines()
-    with open(f"{WORK}/asked", "w") as file:
-        file.writelines(line + "\n" for line in lines[::-(-len(lines) // 64)])
-    # Few calls take too little time for the clock.
-    timed = max(calls, 20000)
-    done = subprocess.run([CALLS, "time", str(timed)], stdin=open(f"{WORK}/asked"), stdout=subprocess.PIPE, check=True)
-    alone = float(done.stdout) * calls / timed
-    print(f"{what}: {passed:.1f} ms for {calls} calls, which take {alone:.3g} ms from C: {passed / alone:.0f} times as long")
 
 
 def counts_symbols(page):
@@ -365,25 +340,26 @@ def counts_symbols(page):
     streak = light[:60] + bytes(40) + light[100:]
     png(f"{WORK}/streaks.png", len(row), 60, lambda y: streak if y % 7 in (2, 3) else light)
     choose(page, f"{WORK}/streaks.png")
-    same("a symbol with streaks", [(s["line"], s["box"]["top"], s["box"]["bottom"], s["rows"]) for s in json.loads(page.value("JSON.stringify(pictures[0].symbols)"))],
+    same("a symbol with streaks", [(s["line"], s["corners"][0]["y"], s["corners"][2]["y"], s["rows"]) for s in json.loads(page.value("JSON.stringify(pictures[0].symbols)"))],
          [("]E0 (01)09501101530003", 0, 58, 42)])
-    png(f"{WORK}/single.png", len(row), 9, lambda y: light if y in (2, 6) else b"\xff" * len(row))
-    choose(page, f"{WORK}/single.png")
-    same("two symbols of a row each", answers(page), ["]E0 (01)09501101530003"] * 2)
+    for height, wanted in ((1, ["]E0 (01)09501101530003"]), (9, [])):
+        png(f"{WORK}/single-{height}.png", len(row), height, lambda y: light if y == height // 2 else b"\xff" * len(row))
+        choose(page, f"{WORK}/single-{height}.png")
+        same(f"a symbol in one of {height} rows", answers(page), wanted)
 
     noise = random.Random(7)
     png(f"{WORK}/noise.png", 1000, 750, lambda y: bytes(noise.choices((0, 255), k=1000)))
     choose(page, f"{WORK}/noise.png")
-    same("noise", (shown(page).split()[0], answers(page)), ("refused", []))
+    same("noise", (shown(page), answers(page)), ("none", []))
     same("noise in a second", quickest(page, 1000) < 1000, True)
     png(f"{WORK}/fence.png", 640, 480, lambda y: (b"\0\0" + b"\xff" * 10) * 53 + b"\xff" * 4)
     choose(page, f"{WORK}/fence.png")
-    same("thin stripes, all alike", (shown(page), answers(page)), ("refused 20 RunCount", []))
+    same("thin stripes, all alike", (shown(page), answers(page)), ("none", []))
     same("thin stripes in two seconds", quickest(page, 2000) < 2000, True)
 
 
 def large(page):
-    """Large pictures, and how long they take beside as many calls from C."""
+    """Large pictures, and how long they take."""
     row = symbol_row(3)
     line = bytearray(b"\xff" * 4000)
     for at in (20, 1000, 2000, 3000):
@@ -394,14 +370,12 @@ def large(page):
     choose(page, f"{WORK}/large.png")
     same("the symbols of 4,000 by 3,000", answers(page), ["]E0 (01)09501101530003"] * 4)
     passed = quickest(page, 600)
-    calls = asks(page)
-    same("each row of it is read", calls >= 3000, True)
-    beside_c(page, "4,000 by 3,000 pixels", passed, 7)
+    print(f"4,000 by 3,000 pixels: {passed:.0f} ms")
     same("4,000 by 3,000 in 0.6 seconds", passed < 600, True)
     photograph(page)
     png(f"{WORK}/huge.png", 8000, 8000, lambda y: b"\xff" * 8000)
     choose(page, f"{WORK}/huge.png")
-    same("8,000 by 8,000", shown(page), "refused 19 Blank")
+    same("8,000 by 8,000", shown(page), "none")
     png(f"{WORK}/full.png", 8000, 8000, lambda y: shifted[y % 7] * 2)
     choose(page, f"{WORK}/full.png")
     same("the symbols of 8,000 by 8,000", answers(page), ["]E0 (01)09501101530003"] * 8)
@@ -432,9 +406,9 @@ def photograph(page):
         await take(new File([await canvas.convertToBlob({ type: 'image/jpeg', quality: 0.85 })], 'photograph.jpg'));
     })()""" % symbol_row(1))
     same("a photograph of 4,000 by 3,000", answers(page), ["]E0 (01)09501101530003"])
-    passed = quickest(page, 2000)
-    beside_c(page, "a photograph of 4,000 by 3,000 pixels", passed)
-    same("a photograph of 4,000 by 3,000 in two seconds", passed < 2000, True)
+    passed = quickest(page, 1000)
+    print(f"a photograph of 4,000 by 3,000 pixels: {passed:.0f} ms")
+    same("a photograph of 4,000 by 3,000 in a second", passed < 1000, True)
 
 
 def reads_odd_pictures(page):
