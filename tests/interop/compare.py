@@ -3,10 +3,14 @@
 Usage: compare.py PROGRAM FOLDER. The folder takes the images. The texts are the same at each run.
 """
 import concurrent.futures
+import os
 import random
 import re
 import subprocess
 import sys
+
+sys.path.insert(0, os.path.join(os.path.dirname(os.path.abspath(__file__)), "..", "commands"))
+from kinds import KINDS
 
 COUNT = 100
 MODULE = 2
@@ -138,24 +142,8 @@ def gs1128(chance):
                 says, "".join("(%s)%s" % (ai, value) for ai, fixed, value in elements))
 
 
-class Kind:
-    """A kind of label: the names that the program, zint and the readers have for it, the width of
-    its widest symbol with its quiet zones in modules, and how a text of it is made."""
-
-    def __init__(self, name, identifier, zint, zbar, zxing, modules, text):
-        self.name, self.identifier, self.zint = name, identifier, zint
-        self.zbar, self.zxing, self.modules, self.text = zbar, zxing, modules, text
-
-
-# A further kind is one line here; gtin(14) makes the texts of one that shows a GTIN-14.
-KINDS = [
-    Kind("ean13", "]E0", "EANX", "EAN-13", "EAN-13", 113, gtin(13, "123456789")),
-    Kind("upca", "]E0", "UPCA", "EAN-13", "UPC-A", 113, gtin(12)),
-    Kind("ean8", "]E4", "EANX", "EAN-8", "EAN-8", 81, gtin(8)),
-    Kind("upce", "]E0", "UPCE", "EAN-13", "UPC-E", 67, upce),
-    Kind("itf14", "]I1", "ITF14", "I2/5", "ITF", 155, gtin(14)),
-    Kind("gs1128", "]C1", "GS1_128", "CODE-128", "Code128", 594, gs1128),
-]
+# How a text of each kind is made; gtin(14) makes those of one that shows a GTIN-14.
+TEXTS = {"ean13": gtin(13, "123456789"), "upca": gtin(12), "ean8": gtin(8), "upce": upce, "itf14": gtin(14), "gs1128": gs1128}
 
 
 def run(words, data=b""):
@@ -168,9 +156,9 @@ def quoted(text):
 
 def number(kind, read):
     """What a reader read, where it is a number, as 14 digits; UPC-E is read as its eight."""
-    if kind.name == "gs1128":
+    if kind.word == "gs1128":
         return read
-    if kind.name == "upce" and len(read) == 8:
+    if kind.word == "upce" and len(read) == 8:
         read = gtin12(read)
     return read.zfill(14)
 
@@ -204,15 +192,15 @@ def by_zxing(kind, image):
 
 def printed(program, kind, texts, folder):
     """The sheets of the texts, one label each, as PNG files."""
-    records = "".join("%s,%s\n" % (kind.name, quoted(text.ours)) for text in texts)
-    sizes = ["--module", str(MODULE), "--width", str(MODULE * kind.modules), "--height", "100"]
+    records = "".join("%s,%s\n" % (kind.word, quoted(text.ours)) for text in texts)
+    sizes = ["--module", str(MODULE), "--width", str(MODULE * kind.wide), "--height", "100"]
     run_print = run([program, "print", *sizes, "--columns", "1", "--rows", "1", "--year", YEAR],
                     records.encode())
     if run_print.returncode != 0:
         sys.exit("print: " + run_print.stderr.decode())
     paths = []
     for i, image in enumerate(images_of(run_print.stdout)):
-        paths.append("%s/%s-%d.png" % (folder, kind.name, i))
+        paths.append("%s/%s-%d.png" % (folder, kind.word, i))
         with open(paths[-1], "wb") as file:
             file.write(run(["pnmtopng"], image).stdout)
     return paths
@@ -264,19 +252,19 @@ def compare(name, wanted, found):
 
 
 def try_kind(program, kind, folder, pool):
-    chance = random.Random(kind.name)
-    texts = [kind.text(chance) for _ in range(COUNT)]
+    chance = random.Random(kind.word)
+    texts = [TEXTS[kind.word](chance) for _ in range(COUNT)]
     paths = printed(program, kind, texts, folder)
-    yield compare("%s, printed, by zbarimg" % kind.name, [(kind.zbar, text.says) for text in texts],
+    yield compare("%s, printed, by zbarimg" % kind.word, [(kind.zbar, text.says) for text in texts],
                   list(pool.map(lambda path: by_zbarimg(kind, path), paths)))
-    yield compare("%s, printed, by ZXingReader" % kind.name,
+    yield compare("%s, printed, by ZXingReader" % kind.word,
                   [(kind.zxing, kind.identifier, text.says) for text in texts],
                   list(pool.map(lambda path: by_zxing(kind, path), paths)))
-    rows = list(pool.map(lambda i: drawn(kind, texts[i], "%s/zint-%s-%d.png" % (folder, kind.name, i)),
+    rows = list(pool.map(lambda i: drawn(kind, texts[i], "%s/zint-%s-%d.png" % (folder, kind.word, i)),
                          range(COUNT)))
     wanted = ["%s %s" % (kind.identifier, text.hri) for text in texts]
-    yield compare("%s, of zint, by lanes" % kind.name, wanted, answered(program, rows))
-    yield compare("%s, of zint and turned, by lanes" % kind.name, wanted,
+    yield compare("%s, of zint, by lanes" % kind.word, wanted, answered(program, rows))
+    yield compare("%s, of zint and turned, by lanes" % kind.word, wanted,
                   answered(program, [runs[::-1] for runs in rows]))
 
 
@@ -284,7 +272,7 @@ def main():
     program, folder = sys.argv[1:]
     right = tried = 0
     with concurrent.futures.ThreadPoolExecutor() as pool:
-        for kind in KINDS:
+        for kind in KINDS.values():
             for found, wanted in try_kind(program, kind, folder, pool):
                 right, tried = right + found, tried + wanted
     print("%d kinds: %d of %d" % (len(KINDS), right, tried))

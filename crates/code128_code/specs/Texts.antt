@@ -33,22 +33,13 @@ two_digits v = (48 + v / 10) ∷ (48 + v % 10) ∷ []
 -- what a value from 96 on means in code sets A and B, where one value changes to the other of the two
 abbrev pub special : ℕ → ℕ → CodeSet → Meaning
 special v change other =
-    if v == shift_value then Shift
-    else if v == code_c then Latch C
-    else if v == change then Latch other
-    else if v == fnc1 then Byte 29
-    else Function
+    if v == shift_value then Shift else if v == code_c then Latch C else if v == change then Latch other else if v == fnc1 then Byte 29 else Function
 
 -- what a value means in a code set; FNC1, value 102, is a separator
 abbrev pub meaning : CodeSet → ℕ → Meaning
 meaning A v = if nat_lt v 96 then Byte (byte_a v) else special v code_b B
 meaning B v = if nat_lt v 96 then Byte (byte_b v) else special v code_a A
-meaning C v =
-    if nat_lt v 100 then Digits v
-    else if v == code_b then Latch B
-    else if v == code_a then Latch A
-    else if v == fnc1 then Byte 29
-    else Function
+meaning C v = if nat_lt v 100 then Digits v else if v == code_b then Latch B else if v == code_a then Latch A else if v == fnc1 then Byte 29 else Function
 
 -- ---- lists of values
 

@@ -3,11 +3,11 @@ use Rattle.std.specs.Prelude.{◌≡◌, ℕ, ◌<◌, ◌≤◌, List, ◌++◌
 use Rattle.digits_core.specs.Digits.{AreDigits}
 use Rattle.ean_code.specs.declared.kind.Kind.{Kind}
 use Rattle.ean_code.specs.declared.kind.Kind.TheVariants.{Ean13, Ean8, UpcE, Itf14}
-use Rattle.ean_code.specs.Structure.{Sample, Structure}
-use Rattle.ean_code.specs.symbologies.Ean13.{ean13, ean13_sample}
-use Rattle.ean_code.specs.symbologies.Ean8.{ean8, ean8_sample}
-use Rattle.ean_code.specs.symbologies.Itf14.{itf14, itf14_sample}
-use Rattle.ean_code.specs.symbologies.UpcE.{upce, upce_sample}
+use Rattle.ean_code.specs.Structure.{CheckedPlaces, Sample, Structure}
+use Rattle.ean_code.specs.symbologies.Ean13.{ean13, ean13_checked, ean13_sample}
+use Rattle.ean_code.specs.symbologies.Ean8.{ean8, ean8_checked, ean8_sample}
+use Rattle.ean_code.specs.symbologies.Itf14.{itf14, itf14_checked, itf14_sample}
+use Rattle.ean_code.specs.symbologies.UpcE.{upce, upce_checked, upce_sample}
 
 -- the structure of a kind's symbols
 abbrev pub structure_of : Kind → Structure
@@ -30,15 +30,13 @@ sample_of Ean8 = ean8_sample
 sample_of UpcE = upce_sample
 sample_of Itf14 = itf14_sample
 
--- how many digits a symbol shows
+-- how many digits a symbol shows, how many widths it has, of its bars and spaces, and how many modules wide it is
 abbrev pub digit_count : Kind → ℕ
 digit_count kind = (structure_of kind).digits
 
--- how many widths a symbol has, of its bars and spaces
 abbrev pub width_count : Kind → ℕ
 width_count kind = (structure_of kind).widths
 
--- how many modules wide a symbol is
 abbrev pub module_count : Kind → ℕ
 module_count kind = (structure_of kind).modules
 
@@ -53,5 +51,11 @@ pub record IsNumberSymbol (kind : Kind) (modules digits : List ℕ) : Type 0 whe
   pub widths : modules ≡ widths_of kind digits
 
 -- the places, from 0, whose digits are characters under the check digit
+abbrev pub checked_of : Kind → CheckedPlaces
+checked_of Ean13 = ean13_checked
+checked_of Ean8 = ean8_checked
+checked_of UpcE = upce_checked
+checked_of Itf14 = itf14_checked
+
 abbrev pub IsCheckedPlace : Kind → ℕ → Type 0
-IsCheckedPlace kind k = ((structure_of kind).checked ≤ k) × (k < (structure_of kind).unchecked)
+IsCheckedPlace kind k = ((checked_of kind).first ≤ k) × (k < (checked_of kind).after)

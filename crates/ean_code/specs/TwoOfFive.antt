@@ -28,11 +28,10 @@ in_pairs (first ∷ second ∷ ds) = (first, second) ∷ in_pairs ds
 in_pairs (d ∷ []) = []
 in_pairs [] = []
 
--- the start pattern
+-- the start and the stop pattern
 abbrev pub itf_start : List ℕ
 itf_start = 1 ∷ 1 ∷ 1 ∷ 1 ∷ []
 
--- the stop pattern
 abbrev pub itf_stop : List ℕ
 itf_stop = 3 ∷ 1 ∷ 1 ∷ []
 
