@@ -1,12 +1,26 @@
-"""Runs a program, and measures its wall time, its processor time and its greatest memory."""
+"""Runs programs on inputs that scripts make, and measures their time and memory, as the programs of bench/ share it."""
+import contextlib
 import os
 import subprocess
 import sys
+import tempfile
 
-# Starts the program and writes its status, times and memory to a pipe. A process of its own, since a process has the
-# greatest memory of the one that started it as its own: this one has some 8 MiB, so less is not seen.
+HERE = os.path.dirname(os.path.abspath(__file__))
+ROOT = os.path.dirname(HERE)
+LANES, SEED = 4, 2026
+YEAR = ["--year", "2026"]
+# 128 labels on a sheet of 2,240 by 3,840 dots.
+GRID = "--module 2 --width 560 --height 120 --columns 4 --rows 32".split()
+
+# Starts the program before all others where it may, as `chrt -r 1` does, and writes its status, times and memory to a pipe. A
+# process of its own, since a process has the greatest memory of the one that started it as its own: this one has some 8 MiB, so
+# less is not seen.
 STARTER = """
 import os, sys, time
+try:
+    os.sched_setscheduler(0, os.SCHED_RR, os.sched_param(1))
+except OSError:
+    pass
 start = time.monotonic()
 _, status, usage = os.wait4(os.posix_spawn(sys.argv[2], sys.argv[2:], {}), 0)
 wall = time.monotonic() - start
@@ -24,3 +38,70 @@ def measure(words, source, sink, errors=None):
     with os.fdopen(ours) as told:
         status, wall, processor, memory = told.read().split()
     return int(status), float(wall), float(processor), int(memory) / 1024
+
+
+def in_turn(jobs, count):
+    """The wall times, processor times and peak memories of jobs, which are words and the path of an input, run in turn so many times."""
+    runs = {name: [] for name in jobs}
+    for _ in range(count):
+        for name, (words, path) in jobs.items():
+            with open(path, "rb") as source, open(os.devnull, "wb") as sink:
+                status, *figures = measure(words, source, sink)
+            if status != 0:
+                sys.exit(f"bench: {' '.join(words)} ended with status {status}")
+            runs[name].append(figures)
+    return {name: tuple(zip(*figures)) for name, figures in runs.items()}
+
+
+def built():
+    """The program, which is proved and built if it is not current; itself, so that no start of the script is measured."""
+    subprocess.run([os.path.join(ROOT, "gs1_hub"), "--help"], stdout=subprocess.DEVNULL, check=True)
+    return os.path.join(ROOT, "crates", "gs1_hub", "out", "gs1_hub")
+
+
+def lanes_of(program, command, workers):
+    return [program, command, "--lanes", str(LANES), "--workers", str(workers), *YEAR]
+
+
+def scan_of(program, workers):
+    return [program, "scan", *GRID, "--workers", str(workers), *YEAR]
+
+
+def print_of(program, *others):
+    return [program, "print", *GRID, *YEAR, *others]
+
+
+def kept(content):
+    """A file with this content."""
+    file = tempfile.NamedTemporaryFile()
+    file.write(content)
+    file.flush()
+    return file
+
+
+def made(maker, *arguments):
+    """What a maker of inputs prints."""
+    words = [sys.executable, os.path.join(HERE, maker), *map(str, arguments)]
+    return subprocess.run(words, stdout=subprocess.PIPE, check=True).stdout
+
+
+def output(words, path):
+    with open(path, "rb") as source:
+        return subprocess.run(words, stdin=source, stdout=subprocess.PIPE, check=True).stdout
+
+
+@contextlib.contextmanager
+def compiled(source, *words):
+    """The program of a file of bench/c."""
+    with tempfile.TemporaryDirectory() as folder:
+        program = os.path.join(folder, "program")
+        warnings = "-Wall -Wextra -Wno-missing-field-initializers -Wno-unused-function -Wno-maybe-uninitialized".split()
+        subprocess.run(["cc", "-O2", *warnings, "-pthread", "-o", program, os.path.join(HERE, "c", source), *words], check=True)
+        yield program
+
+
+def latency(sender, pause, command, lines):
+    """How long the command takes for each of the lines that bench/c/latency.c sends alone after a pause of so many microseconds: the
+    median and the 99th of 100, in microseconds."""
+    told = subprocess.run([*sender, str(pause), *command], input=b"".join(lines), stdout=subprocess.PIPE, check=True).stdout
+    return tuple(map(int, told.split()))

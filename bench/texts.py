@@ -6,12 +6,8 @@ and Digital Links with these, in turn; one in ten with a digit changed.
 import random
 import sys
 
+from labels import gtin
 from rows import check_digit, digits
-
-
-def gtin(random, count):
-    text = digits(random, count - 1)
-    return text + check_digit(text)
 
 
 def lot(random):

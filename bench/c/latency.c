@@ -1,7 +1,7 @@
 /* Sends lines to a command one at a time, each so many microseconds after the last was answered, and prints the median
    and the 99th of 100 of how long an answer takes, in microseconds: latency PAUSE COMMAND.. < LINES
 
-   A line has at most 65,536 bytes, and the command answers it by one line. */
+   A line has at most 65,536 bytes, and the command answers it by one line. There are at most 65,536 lines. */
 #include <stdio.h>
 #include <stdlib.h>
 #include <string.h>
@@ -49,8 +49,8 @@ int main(int argc, char **argv)
 {
     static char line[LONGEST + 2];
     int in[2], out[2], status;
-    size_t count = 0, room = 0;
-    double *taken = NULL;
+    static double taken[LONGEST];
+    size_t count = 0;
     if (argc < 3) {
         fputs("latency PAUSE COMMAND.. < LINES\n", stderr);
         return 64;
@@ -69,12 +69,7 @@ int main(int argc, char **argv)
         fail(argv[2]);
     }
     close(in[0]), close(out[1]);
-    while (fgets(line, sizeof line, stdin)) {
-        if (count == room) {
-            room = 2 * room + 1;
-            if (!(taken = realloc(taken, room * sizeof *taken)))
-                fail("realloc");
-        }
+    while (count < LONGEST && fgets(line, sizeof line, stdin)) {
         if (pause)
             usleep(pause);
         taken[count++] = answered(in[1], out[0], line, strlen(line));
