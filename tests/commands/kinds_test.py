@@ -1,5 +1,6 @@
 """The kinds of records: each that a command takes, and words that are nearly one, of the other command or of none."""
 
+from kinds import KINDS
 from program import CommandTest, ran
 from sheets import grid
 
@@ -13,14 +14,7 @@ CHECKED = {
     "upce": ("01234565", "gtin 00012345000065\n"),
     "text": ("422528", "hri (422)528\n"),
 }
-PRINTED = {
-    "ean13": ("9501101530003", "0 0 ean13 (01)09501101530003\n"),
-    "upca": ("012345000065", "0 0 upca (01)00012345000065\n"),
-    "ean8": ("96385074", "0 0 ean8 (01)00000096385074\n"),
-    "upce": ("012345000065", "0 0 upce (01)00012345000065\n"),
-    "gs1128": ("422528", "0 0 gs1128 (422)528\n"),
-    "itf14": ("19501101530000", "0 0 itf14 (01)19501101530000\n"),
-}
+PRINTED = {kind.word: (kind.sample, f"0 0 {kind.word} {kind.says}\n") for kind in KINDS.values()}
 
 # Words that no command takes.
 OTHERS = """
@@ -70,7 +64,7 @@ class KindsTest(CommandTest):
             ("00000000000000", ["ean13", "ean8", "itf14", "upca", "upce"]),
         ]:
             for kind in PRINTED:
-                if kind != "gs1128":
+                if KINDS[kind].digits:
                     with self.subTest(number=number, kind=kind):
                         line = f"0 0 {kind} (01){number}\n" if kind in kinds else "refused 26 LabelKind 0"
                         self.gives(PRINT, f"{kind},{number}\n", line)

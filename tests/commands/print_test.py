@@ -1,5 +1,6 @@
 """Labels that are printed: the bytes of their sheets, their lines, each refusal and their order."""
 
+from kinds import KINDS
 from program import Breaking, CommandTest, ran
 from sheets import HIGH, LOW, RECORD, grid, image
 
@@ -65,15 +66,10 @@ class PrintTest(CommandTest):
                     self.gives(grid(113, 3, 2, 2) + output, given, wanted)
 
     def test_the_narrowest_cells(self):
-        # The symbol and the quiet zones left and right of it, in modules.
-        for record, line, width in [
-            ("ean13,9501101530003", "ean13 (01)09501101530003", 11 + 95 + 7),
-            ("upca,012345000065", "upca (01)00012345000065", 9 + 95 + 9),
-            ("ean8,96385074", "ean8 (01)00000096385074", 7 + 67 + 7),
-            ("upce,012345000065", "upce (01)00012345000065", 9 + 51 + 7),
-            ("gs1128,422528", "gs1128 (422)528", 10 + 79 + 10),
-            ("itf14,09501101530003", "itf14 (01)09501101530003", 10 + 135 + 10),
-        ]:
+        # The GS1-128 has 79 modules, the others as many as each of their kind.
+        for kind in KINDS.values():
+            record, line = f"{kind.word},{kind.sample}", f"{kind.word} {kind.says}"
+            width = kind.left + (kind.modules if kind.digits else 79) + kind.right
             for module, dots, wanted in [
                 (1, width, f"0 0 {line}\n"),
                 (1, width - 1, "refused 27 LabelWidth 0"),
@@ -84,19 +80,13 @@ class PrintTest(CommandTest):
                     self.gives(grid(dots, 2 * module + 1, 1, 1, module) + " --text", record, wanted)
 
     def test_symbols_begin_after_their_left_quiet_zones(self):
-        for record, left in [
-            (RECORD, 11),
-            ("upca,012345000065", 9),
-            ("ean8,96385074", 7),
-            ("upce,012345000065", 9),
-            ("gs1128,422528", 10),
-            ("itf14,09501101530003", 10),
-        ]:
+        for kind in KINDS.values():
+            record = f"{kind.word},{kind.sample}"
             for module in [1, 3]:
                 with self.subTest(record, module=module):
                     it = ran(grid(480, 2 * module + 1, 1, 1, module), record.encode())
                     self.assertEqual(it.outcome()[::2], (0, ""))
-                    self.assertEqual(first_dark_dot(it.output, 480, module), left * module)
+                    self.assertEqual(first_dark_dot(it.output, 480, module), kind.left * module)
 
     def test_what_does_not_fit(self):
         ean13 = "0 0 ean13 (01)09501101530003\n"

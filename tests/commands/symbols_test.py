@@ -2,18 +2,15 @@
 
 import itertools
 
+from kinds import KINDS
 from rows import RowTest, runs
 from sheets import SymbolTest, dots_of
 from symbols import EAN8, EAN13, ITF14, OTHER_UPCE, UPCE
 
-# Light ends, left and right, in modules.
-ENDS = {"ean13": (11, 7), "upca": (9, 9), "ean8": (7, 7), "upce": (9, 7), "itf14": (10, 10)}
-
 
 def row(kind, groups):
     """The widths of a symbol between its light ends."""
-    left, right = ENDS[kind]
-    return [left, *runs(groups), right]
+    return [KINDS[kind].left, *runs(groups), KINDS[kind].right]
 
 
 def replaced(groups, place, group):
@@ -119,7 +116,7 @@ class ReadTest(RowTest):
 class PrintedTest(SymbolTest):
     def has_widths(self, kind, cases):
         """That records of a kind print with these widths in the narrowest cell."""
-        left, right = ENDS[kind]
+        left, right = KINDS[kind].left, KINDS[kind].right
         width = left + sum(runs(cases[0][1])) + right
         self.prints(width, [(f"{kind},{number}", dots_of(left, groups, width)) for number, groups in cases])
 

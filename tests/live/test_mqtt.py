@@ -1,4 +1,4 @@
-"""Devices that speak MQTT, joined to `live` by mosquitto's own clients, as docs/USING.md says. Needs mosquitto, mosquitto-clients."""
+"""Devices that speak MQTT, joined to `live` by mosquitto's own clients, as docs/HUB.md says. Needs mosquitto, mosquitto-clients."""
 import os
 import select
 import signal

@@ -336,12 +336,12 @@ def test_two_tills_on_a_lane():
 
 
 def test_the_page(tmp_path):
-    """The commands of docs/LIVE.md print what it shows."""
+    """The commands of docs/REDIS.md print what it shows."""
     (tmp_path / "examples").symlink_to(ROOT / "examples")
     (tmp_path / "noriladle").write_text(f'#!/bin/sh\nexec {sys.executable} -m noriladle "$@"\n')
     (tmp_path / "noriladle").chmod(0o755)
-    with open(ROOT / "docs" / "LIVE.md") as page:
-        words = [sys.executable, ROOT / "tests" / "using" / "follow.py", "docs/LIVE.md"]
+    with open(ROOT / "docs" / "REDIS.md") as page:
+        words = [sys.executable, ROOT / "tests" / "using" / "follow.py", "docs/REDIS.md"]
         path = f"{tmp_path}{os.pathsep}{os.environ['PATH']}"
         subprocess.run(words, stdin=page, cwd=tmp_path, check=True, env={**os.environ, "PATH": path})
 

@@ -59,7 +59,7 @@ TEXTS = [
 
 @pytest.mark.parametrize("text, wanted", TEXTS)
 def test_check(text, wanted):
-    assert _checked(text, 2026) == wanted
+    assert _checked(text, 2026, "all") == wanted
 
 
 @pytest.mark.parametrize("gtin, digits", [

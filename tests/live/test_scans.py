@@ -211,8 +211,9 @@ def test_no_gateway(tmp_path):
         assert 1.9 < time.monotonic() - begin < 4
         scanner.send(EAN8 + b"\r")
         with Gateway(tmp_path, port=False) as gateway, gateway.watch("till-1") as till:
-            told = [till.line(), till.line()] if scanner.line() == f"1 {GUM}\n" else []
-            assert told in ([], ["1 next\n", f"1 {GUM}\n"]) or told[0] == "2 next\n"
+            if scanner.line() == f"1 {GUM}\n":
+                first = till.line()
+                assert first == "2 next\n" or first == "1 next\n" and till.line() == f"1 {GUM}\n"
 
 
 def test_a_text_is_sent_once(tmp_path):
@@ -336,7 +337,7 @@ def test_a_message_that_is_cut_at_each_place(gateway, text):
             scanner.send(part + b"\r", size=100)
             said = till.line()
             # Parts without an identifier that are no text of a scanner are rows to the hub.
-            wanted = _checked(part, 2026)
+            wanted = _checked(part, 2026, "all")
             assert said == f"{number} {wanted}\n" or wanted == "refused 40 Kind" and re.fullmatch(rf"{number} refused \d+ .*\n", said), part
 
 

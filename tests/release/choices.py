@@ -50,7 +50,7 @@ class Tree:
         self.kit.mkdir(parents=True)
         for name, text in [("rattle", RATTLE), ("rattle-link", LINK), ("rt", "#!/bin/sh\necho kit logic 0\n")]:
             self.write(self.kit / name, text)
-        for name in ["gs1_hub", "VERSION", "embed/exports", *(f"package/{it}" for it in SCRIPTS)]:
+        for name in ["gs1_hub", "VERSION", "embed/archive", "embed/exports", "embed/gs1.c", *(f"package/{it}" for it in SCRIPTS)]:
             (self.folder / name).parent.mkdir(parents=True, exist_ok=True)
             shutil.copy(ROOT / name, self.folder / name)
         shutil.copytree(ROOT / "package" / "aarch64", self.folder / "package" / "aarch64")
