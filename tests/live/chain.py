@@ -3,6 +3,7 @@ import asyncio
 import signal
 import subprocess
 import sys
+import time
 
 from noriladle import streams as keys
 from noriladle.streams import Till, Worker  # noqa: F401
@@ -93,13 +94,22 @@ async def read_lane(address, lane, texts, **more):
 
 
 async def streams(address, lanes):
-    """The IDs and answers that stand in the streams of answers, and the IDs in those of rows."""
+    """The IDs and answers that stand in the streams of answers, and the IDs in those of rows. A silent node is asked for half a minute."""
     shop, said, names = Shop(address), {}, {}
+
+    async def entries(key):
+        until = time.monotonic() + 30
+        while True:
+            try:
+                return await (await shop.node(key)).ask("XRANGE", key, "-", "+")
+            except OSError as silence:
+                if time.monotonic() > until:
+                    raise
+                await shop.rest(silence)
+
     for lane in lanes:
-        node = await shop.node(keys.rows(lane))
-        entries = await node.ask("XRANGE", keys.answers(lane), "-", "+")
-        said[lane] = [(name, dict(zip(fields[::2], fields[1::2]))["answer"]) for name, fields in entries]
-        names[lane] = [name for name, _ in await node.ask("XRANGE", keys.rows(lane), "-", "+")]
+        said[lane] = [(name, dict(zip(fields[::2], fields[1::2]))["answer"]) for name, fields in await entries(keys.answers(lane))]
+        names[lane] = [name for name, _ in await entries(keys.rows(lane))]
     await shop.close()
     return said, names
 

@@ -3,6 +3,7 @@ the device /dev/net/tun; else these are skipped."""
 import asyncio
 import os
 import random
+import re
 import threading
 import time
 
@@ -41,6 +42,10 @@ class Spread(Cluster):
     @property
     def addresses(self):
         return [f"{self.host(port)}:{port}" for port in self.ports]
+
+    def taken(self, port):
+        """How many entries of streams a node has taken since it runs."""
+        return int(re.search("cmdstat_xadd:calls=([0-9]+)|$", self.ask(port, "INFO", "commandstats"))[1] or 0)
 
 
 class Far(Workers):
@@ -149,13 +154,20 @@ def test_a_network_in_two_halves():
     with Network(*REPLICATED) as network, Spread(network, replicas=True) as cluster, Far(network, ",".join(cluster.addresses), 2):
         done, told, halves = threading.Event(), [], 0
 
+        def wait_for(is_so):
+            """Until it is so, all rows are answered, or 20 seconds are over."""
+            end = time.monotonic() + 20
+            while not is_so() and time.monotonic() < end and not done.wait(0.1):
+                pass
+
         def cut():
             nonlocal halves
-            for master in ("one", "two", "three"):
-                done.wait(1)
-                network.cut_off(master, "worker0", "tills")
+            for master, replica in zip(cluster.ports, cluster.ports[cluster.masters:]):
+                before = cluster.taken(master)
+                wait_for(lambda: cluster.taken(master) > before)
+                network.cut_off(cluster.machines[master], "worker0", "tills")
                 halves += 1
-                done.wait(6)
+                wait_for(lambda: cluster.role(replica) == "master")
                 network.cut_off()
                 done.wait(6)
 
