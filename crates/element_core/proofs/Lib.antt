@@ -24,3 +24,4 @@ pub mod Before
 pub mod TimeLemmas
 pub mod Listed
 pub mod FirstDigits
+pub mod OnePart

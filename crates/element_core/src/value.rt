@@ -2,11 +2,12 @@
 
 ghost use Rattle.std.specs.Prelude.{◌≡◌, ◌≤◌, [], length, take, drop};
 ghost use Rattle.std.specs.List.{list_all};
-ghost use Rattle.element_core.specs.Elements.{belongs, each_part, has_characters, has_whole_steps, is_capital_or_digit, is_of_64, row_fault};
+ghost use Rattle.element_core.specs.Elements.{belongs, each_part, has_characters, has_whole_steps, is_capital_or_digit, is_character, is_of_64, row_fault};
 ghost use Rattle.element_core.specs.Table.{least_of, greatest_of};
-ghost use Rattle.element_core.specs.inner.PartTests.{has_date, passes, value_fault};
+ghost use Rattle.element_core.specs.inner.PartTests.{has_date, part_fault, passes, value_fault};
 
 use crate::checks::is_checked_by;
+use crate::date::are_digits;
 use crate::fault::ElementFault;
 use crate::named::is_named;
 use crate::part::{Part, PartFormat};
@@ -27,15 +28,20 @@ fn is_of_64(b: u8) -> bool
     matches!(b, b'-' | b'0'..=b'9' | b'A'..=b'Z' | b'_' | b'a'..=b'z')
 }
 
+/// Whether a byte is one of the 82 characters.
+fn is_character(b: u8) -> bool
+    ensures { result ≡ is_character b }
+{
+    matches!(b, b'!'..=b'"' | b'%'..=b'?' | b'A'..=b'Z' | b'_' | b'a'..=b'z')
+}
+
 /// Whether a part of this format may have the byte.
 fn belongs(format: PartFormat, b: u8) -> bool
     ensures { result ≡ belongs format b }
 {
     match format {
         PartFormat::Numeric => matches!(b, b'0'..=b'9'),
-        PartFormat::Alphanumeric => {
-            matches!(b, b'!'..=b'"' | b'%'..=b'?' | b'A'..=b'Z' | b'_' | b'a'..=b'z')
-        }
+        PartFormat::Alphanumeric => is_character(b),
         PartFormat::Component => b == b'#' || b == b'-' || b == b'/' || is_capital_or_digit(b),
         PartFormat::Base64Url => b == b'=' || is_of_64(b),
         PartFormat::Capitals => is_capital_or_digit(b),
@@ -56,8 +62,15 @@ fn has_whole_steps(part: &Part, bytes: &[u8]) -> bool
         || bytes.len().saturating_sub(usize::from(part.least)) % usize::from(part.step) == 0
 }
 
+/// Whether each byte is one of the 82 characters.
+fn are_characters(bytes: &[u8]) -> bool
+    ensures { result ≡ list_all is_character bytes.now }
+{
+    bytes.iter().all(|byte| is_character(*byte))
+}
+
 /// Whether each byte belongs to the format.
-fn all_belong(format: PartFormat, bytes: &[u8]) -> bool
+fn each_belongs(format: PartFormat, bytes: &[u8]) -> bool
     ensures { result ≡ list_all (belongs format) bytes.now }
 {
     for b in bytes {
@@ -66,6 +79,17 @@ fn all_belong(format: PartFormat, bytes: &[u8]) -> bool
         }
     }
     true
+}
+
+/// Whether each byte belongs to the format: the two that most parts have are tested without asking at each byte which it is.
+fn all_belong(format: PartFormat, bytes: &[u8]) -> bool
+    ensures { result ≡ list_all (belongs format) bytes.now }
+{
+    match format {
+        PartFormat::Numeric => are_digits(bytes),
+        PartFormat::Alphanumeric => are_characters(bytes),
+        _ => each_belongs(format, bytes),
+    }
 }
 
 /// Whether each byte belongs to the part, and the bytes are as its rule says.
@@ -182,6 +206,37 @@ pub(crate) fn greatest_length(parts: &[Part]) -> usize
     sum
 }
 
+/// The first test that a value of one part fails, as most have, where `too_long` is the fault of one that is too long.
+fn part_fault(
+    year: ReferenceYear,
+    place: usize,
+    too_long: ElementFault,
+    part: &Part,
+    value: &[u8],
+) -> Option<ElementFault>
+    ensures { result ≡ part_fault year place too_long part.now value.now }
+{
+    if value.len() < usize::from(part.least) {
+        return Some(ElementFault::ValueLength(place));
+    }
+    if usize::from(part.greatest) < value.len() {
+        return Some(too_long);
+    }
+    if !has_whole_steps(part, value) {
+        return Some(ElementFault::ValueLength(place));
+    }
+    if !has_characters(part, value) {
+        return Some(ElementFault::ValueCharacter(place));
+    }
+    if !is_checked_by(part.check, value) {
+        return Some(ElementFault::ValueCheckDigit(place));
+    }
+    if !has_date(year, part, value) {
+        return Some(ElementFault::ValueDate(place));
+    }
+    None
+}
+
 /// The first test that a value fails, its length first, where `too_long` is the fault of one that is too long.
 pub(crate) fn row_fault(
     year: ReferenceYear,
@@ -193,6 +248,9 @@ pub(crate) fn row_fault(
     requires { length parts.now ≤ 5 }
     ensures { result ≡ row_fault year place too_long parts.now value.now }
 {
+    if let [part] = parts {
+        return part_fault(year, place, too_long, part, value);
+    }
     if value.len() < least_length(parts) {
         return Some(ElementFault::ValueLength(place));
     }

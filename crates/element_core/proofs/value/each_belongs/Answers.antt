@@ -2,7 +2,7 @@ use Rattle.std.proofs.Common.{◌≡◌, ◌∙◌, ◌+◌, ◌<◌, ◌≤◌,
 use Rattle.std.specs.List.{list_all}
 use Rattle.std.proofs.lemmas.List.{drop_all, drop_more}
 use Rattle.element_core.specs.Elements.{belongs}
-use Rattle.element_core.proofs.value.all_belong.Goals as goal
+use Rattle.element_core.proofs.value.each_belongs.Goals as goal
 
 first : (p : ℕ → Bool) (bytes : List ℕ) (i : ℕ) → i < length bytes → (p (get_or bytes i 0) && list_all p (drop (i + 1) bytes)) ≡ list_all p (drop i bytes)
 first p bytes i lt = rw (drop_more bytes i 0 lt) refl
