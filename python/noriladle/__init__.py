@@ -115,7 +115,7 @@ class Refusal(ValueError):
 
 @lru_cache(maxsize=None)
 def _remedies() -> Dict[str, Tuple[str, str]]:
-    """The cause and the remedy of each number: python/build makes the file from docs/FAULTS.md."""
+    """The cause and the remedy of each number: tables/remedies makes the file."""
     import json  # Not at every start: it takes a tenth of it.
 
     told: Dict[str, Tuple[str, str]] = json.loads(Path(__file__).with_name("remedies.json").read_text("utf-8"))

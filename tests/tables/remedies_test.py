@@ -1,0 +1,90 @@
+"""The texts that tables/remedies writes of tables/remedies.tsv, that others are noticed, and what the script refuses."""
+
+import json
+import pathlib
+import shutil
+import subprocess
+import sys
+import tempfile
+import unittest
+
+ROOT = pathlib.Path(__file__).resolve().parents[2]
+FILES = ["docs/FAULTS.md", "shop/en.json", "shop/de.json", "crates/gs1_hub/src/remedies.rt"]
+# What is replaced in the table, by what, and what is said then.
+WRONG = [
+    ("type the text\ttype the text\t", "type the text\t-\t", "tables/remedies.tsv:11: a sentence is missing"),
+    ("\tgive the program more memory\t", "\t", "tables/remedies.tsv:53: not 6 fields, each with a text"),
+    ("scan at a lower resolution\t", "\t", "tables/remedies.tsv:7: not 6 fields, each with a text"),
+    ("make it smaller, or cut it\t-\t-", "make it smaller, or cut it\ta\tb", "tables/remedies.tsv:46: sentences stand in the first line of a number alone"),
+    ("text\t4 Empty\t", "text\tEmpty\t", "tables/remedies.tsv:11: no number and name: 'Empty'"),
+    ("row\t24 SymbolCheckDigit", "row\t45 SymbolCheckDigit", "tables/remedies.tsv: no line of 24"),
+    ("library\t", "machine\t", "docs/FAULTS.md: 11 tables of faults, not 10"),
+]
+
+
+def copied(folder):
+    """A copy of the files that the script reads and writes."""
+    copy = pathlib.Path(folder)
+    for file in [*FILES, "tables/remedies", "tables/remedies.tsv"]:
+        (copy / file).parent.mkdir(parents=True, exist_ok=True)
+        shutil.copy(ROOT / file, copy / file)
+    return copy
+
+
+class RemediesTest(unittest.TestCase):
+    def ran(self, root, *words):
+        return subprocess.run([sys.executable, root / "tables" / "remedies", *words], capture_output=True, text=True, check=False)
+
+    def replace(self, path, old, new):
+        text = path.read_text(encoding="utf-8")
+        self.assertTrue(old in text, old)
+        path.write_text(text.replace(old, new), encoding="utf-8")
+
+    def test_the_files_have_them(self):
+        said = self.ran(ROOT, "--check")
+        self.assertEqual((said.returncode, said.stdout, said.stderr), (0, "", ""))
+
+    def test_a_changed_remedy_is_noticed_and_written(self):
+        with tempfile.TemporaryDirectory() as name:
+            copy = copied(name)
+            table = copy / "tables" / "remedies.tsv"
+            self.replace(table, "type the text\ttype the text\tbitte den Text eintippen", "type `a` [text](START.md)\ttype \"a\" text\tbitte einen Text eintippen")
+            said = self.ran(copy, "--check")
+            self.assertEqual((said.returncode, [line.split(":")[0] for line in said.stdout.splitlines()]), (1, FILES))
+            self.assertEqual(self.ran(copy).returncode, 0)
+            said = self.ran(copy, "--check")
+            self.assertEqual((said.returncode, said.stdout), (0, ""))
+            self.assertIn("| 4 Empty | the field was left empty | type `a` [text](START.md) |", (copy / FILES[0]).read_text(encoding="utf-8"))
+            self.assertEqual([json.loads((copy / file).read_text(encoding="utf-8"))["faults"]["4"] for file in FILES[1:3]], ['type "a" text', "bitte einen Text eintippen"])
+            self.assertIn('"the field was left empty: type a text",', (copy / FILES[3]).read_text(encoding="utf-8"))
+
+    def test_each_file_is_compared(self):
+        for file in FILES:
+            with self.subTest(file), tempfile.TemporaryDirectory() as name:
+                copy = copied(name)
+                self.replace(copy / file, "eintippen" if "de." in file else "type the text", "other")
+                said = self.ran(copy, "--check")
+                self.assertEqual((said.returncode, said.stdout), (1, f"{file}: its remedies are not those of tables/remedies.tsv\n"))
+
+    def test_how_the_source_breaks_its_lines_is_free(self):
+        with tempfile.TemporaryDirectory() as name:
+            copy = copied(name)
+            self.replace(copy / FILES[3], "left empty: type", "left empty: \\\n         type")
+            self.assertEqual(self.ran(copy, "--check").returncode, 0)
+
+    def test_the_files_of_the_libraries(self):
+        with tempfile.TemporaryDirectory() as name:
+            folder = pathlib.Path(name)
+            for file in ["it.json", "it.js"]:
+                self.assertEqual(self.ran(ROOT, "--to", str(folder / file)).returncode, 0)
+            told = json.loads((folder / "it.json").read_text(encoding="utf-8"))
+            self.assertEqual((sorted(map(int, told)), told["4"]), (list(range(1, 45)), ["the field was left empty", "type the text"]))
+            self.assertIn('\n  "4": "type the text",\n', (folder / "it.js").read_text(encoding="utf-8"))
+
+    def test_what_is_refused(self):
+        for old, new, line in WRONG:
+            with self.subTest(old), tempfile.TemporaryDirectory() as name:
+                copy = copied(name)
+                self.replace(copy / "tables" / "remedies.tsv", old, new)
+                said = self.ran(copy, "--check")
+                self.assertEqual((said.returncode, said.stderr), (1, f"{line}\n"))
