@@ -21,7 +21,7 @@ class Command(NamedTuple):
 
 
 COMMANDS = (
-    Command("labels", "Make labels of a list: names, prices and barcodes on label stock", "noriladle.commands.labels"),
+    Command("labels", "Make labels from a list: names, prices and barcodes on label stock", "noriladle.commands.labels"),
     Command("check", "Check a list of numbers, element strings and scanned texts", "noriladle.commands.check"),
     Command("read", "Read the barcodes of photographs, scans and PDF files", "noriladle.commands.read"),
     Command("gateway", "Give scanners and tills the answers of one hub, over sockets", "noriladle.commands.gateway"),

@@ -43,14 +43,14 @@ class _Load(argparse.Action):
 def add_config(parser: argparse.ArgumentParser) -> None:
     """Adds the option that names a file of options."""
     parser.add_argument("--config", action=_Load, metavar="FILE",
-                        help="Take options from a TOML file, each by its name; those among the words count more")
+                        help="Take options from a TOML file, each by its name; an option on the command line wins")
 
 
 def add_arguments(parser: argparse.ArgumentParser) -> None:
     """Adds the options of a service that others connect to, or that works by itself."""
     add_config(parser)
     parser.add_argument("--log", choices=("faults", "all"), default="faults", metavar="WHAT",
-                        help="Log faults, or all: connections, takeovers and refused senders too; faults")
+                        help="Log faults, or all: connections, takeovers and refused senders too [default: faults]")
     parser.add_argument("--json", action="store_true", help="Write log lines as JSON objects")
     parser.add_argument("--metrics", type=port, metavar="PORT",
                         help="Serve /healthz, /readyz and /metrics on this port of 127.0.0.1")

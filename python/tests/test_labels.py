@@ -65,8 +65,8 @@ def test_no_stock(name, told):
     ("gtin\n12345000065\n", 2, "012345000065 is right"),
     ("gtin,name\n,x\n", 2, "this line has no number"),
     ("gtin,gs1\n96385074,(10)A\n", 2, "this line has a number and an element string"),
-    ("gtin,copies\n96385074,1001\n", 2, "'1001' is no number of copies: write 0 to 1,000"),
-    ("gtin,copies\n96385074,²\n", 2, "is no number of copies"),
+    ("gtin,copies\n96385074,1001\n", 2, "'1001' is not a number of copies: write 0 to 1,000"),
+    ("gtin,copies\n96385074,²\n", 2, "is not a number of copies"),
     ("gtin,kind\n96385074,qr\n", 2, "there is no kind 'qr'"),
     ("gtin,kind\n9501101530003,ean8\n", 2, "refused 26 LabelKind 0: print it as another kind"),
     ("gtin,kind\n(10)AB,ean13\n", 2, "this is not a GTIN alone"),
@@ -76,9 +76,9 @@ def test_no_stock(name, told):
     ("gtin,name\n96385074,שלום\n", 2, "from right to left"), ("gtin,price\n96385074,\u0301\n", 2, "cannot be set"),
     ("gs1\n(01)09501101530003(17)261331\n", 2, "refused 9 ValueDate 17: at (17)261331: write YYMMDD"),
     ("gs1\n(01)09501101530003(10)A(B)C\n", 2, "parentheses stand around Application Identifiers alone"),
-    ("gtin\nhttps://id.gs1.org/01/09501101530003\n", 2, "a QR code, which is not drawn: write its elements, as (01)09501101530003"),
+    ("gtin\nhttps://id.gs1.org/01/09501101530003\n", 2, "a QR code, which is not drawn here: write its elements, as (01)09501101530003"),
     ('gtin,name\n96385074,"a\nb"\n1,c\n', 4, "1: refused 1 Length"),
-    ('gtin,name\n96385074,"a"b\n', 2, "this line is no CSV"),
+    ('gtin,name\n96385074,"a"b\n', 2, "this line is not CSV"),
 ])
 def test_faults_of_lists(data, line, told):
     told_lines = faults(data)

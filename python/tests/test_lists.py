@@ -53,9 +53,9 @@ def test_reads_a_text(text, identifier, said):
     ("(10)A(B)C", None, "if a value has some, write [01]09501101530003[10]A(B)"),
     ("10AB^17261331", (9, 5), "at 17261331: write YYMMDD"),
     ("^10AB^17261331", (9, 5), "at 17261331: write YYMMDD"),
-    ("]E3abc", (40, None), "]E3 marks a barcode that says no GS1 number"),
+    ("]E3abc", (40, None), "]E3 marks a barcode without a GS1 number"),
     ("]E04012345010375", (3, None), "a digit is wrong; if it is the last one, 4012345010374 is right"),
-    ("https://example.com/x", (40, None), "this is no GS1 Digital Link"),
+    ("https://example.com/x", (40, None), "this is not a GS1 Digital Link"),
 ])
 def test_refuses_a_text_and_says_what_to_do(text, refused, remedy):
     with pytest.raises(ValueError) as raised:

@@ -57,7 +57,7 @@ def test_check_of_a_list(folder, capsys):
     assert status == 1 and err == ["a.csv: took 'Artikelnummer' for the gtin, 'Bezeichnung' for the name; if that is wrong, say it by --column"]
     assert out[:2] == ["2\t4012345010008\t(01)04012345010008",
                        "3\t4012345010375\trefused 3 CheckDigit\ta digit is wrong; if it is the last one, 4012345010374 is right"]
-    assert out[2].startswith("4\t\trefused\tthis line is no CSV")
+    assert out[2].startswith("4\t\trefused\tthis line is not CSV")
 
 
 def test_check_as_json(folder, capsys):
@@ -81,7 +81,7 @@ def test_check_of_standard_input(folder, capsys, monkeypatch):
 @pytest.mark.parametrize("data, status, said", [
     (b"", 1, "a.csv:1: the list is empty"),
     (b"PK\x03\x04", 1, "a.csv:1: this is a spreadsheet's own file: save it as CSV"),
-    (b"x\0", 1, "a.csv:1: there is a byte 0, so this is no text: save the list as CSV in UTF-8"),
+    (b"x\0", 1, "a.csv:1: there is a byte 0, so this is not text: save the list as CSV in UTF-8"),
     (b"1" * 16_777_217, 1, "a.csv:1: the list has more than 16,777,216 bytes: split it"),
 ])
 def test_what_is_no_list(command, data, status, said, folder, capsys):

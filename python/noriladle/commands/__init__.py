@@ -34,13 +34,13 @@ def tell(said: str) -> None:
 def add_year(parser: argparse.ArgumentParser) -> None:
     """Adds the option for the year that dates of two digits are read by."""
     parser.add_argument("--year", type=_year, default=datetime.date.today().year, metavar="YEAR",
-                        help="Year that dates of two digits are read by, 1951 to 2149; this year")
+                        help="Year that dates of two digits are read by, 1951 to 2149 [default: this year]")
 
 
 def add_ais(parser: argparse.ArgumentParser) -> None:
     """Adds the option for which Application Identifiers are read."""
-    parser.add_argument("--ais", choices=["all", "profile"], default="all",
-                        help="Which Application Identifiers are read: every one (the default), or those of the profile")
+    parser.add_argument("--ais", choices=["all", "profile"], default="all", metavar="AIS",
+                        help="Accept all AIs of the GS1 General Specifications, or those of the profile [default: all] [possible values: all, profile]")
 
 
 def _year(word: str) -> int:

@@ -1,15 +1,15 @@
 """Give scanners and tills the answers of one hub, over sockets
 
-A connection to the socket says in its first line what it is for.
+The first line of a connection says what it is for:
 
   scan LANE     the scanner of a lane: noriladle scanner is one
   watch LANE    a till: it gets a line for each scan of the lane, as 17 ]E0 (01)09501101530003 or 17 refused 3 CheckDigit;
-                18 next says that the next scan is 18, so that one before it of which nothing was told is lost
+                18 next says that the next scan is 18; if the till has no line for 17, that scan is lost
   anything else is a row of widths or a text: the connection has a lane of its own, and gets a line for each line
 
 With --web a till may be a web page, and watches a lane by a WebSocket: ws://127.0.0.1:PORT/LANE.
 
-Whoever reaches a socket may do all of that, unless the file of options has a table of rights, by users, groups, tokens and certificates:
+Whoever reaches a socket may do all of that, unless the option file has a table of rights, by users, groups, tokens and certificates:
 
   [rights]
   "group noriladle" = "scan *, watch *"
@@ -46,26 +46,26 @@ HANDSHAKE = 5.0
 
 def add_arguments(parser: argparse.ArgumentParser) -> None:
     """Adds the arguments of ``noriladle gateway``."""
-    parser.add_argument("--unix", metavar="PATH", help="Serve on a UNIX socket, for its owner and group alone")
-    parser.add_argument("--port", type=_service.port, metavar="PORT", help="Serve on a port of TCP; 0 is a free one, which is printed")
-    parser.add_argument("--host", default="127.0.0.1", metavar="HOST", help="Address of the port; 127.0.0.1")
+    parser.add_argument("--unix", metavar="PATH", help="Serve on a UNIX socket, for its owner and group only")
+    parser.add_argument("--port", type=_service.port, metavar="PORT", help="Serve on a TCP port; 0 picks a free one and prints it")
+    parser.add_argument("--host", default="127.0.0.1", metavar="HOST", help="Address of the port [default: 127.0.0.1]")
     parser.add_argument("--cert", metavar="FILE", help="Speak TLS on the port, with this certificate")
     parser.add_argument("--key", metavar="FILE", help="Key of the certificate")
-    parser.add_argument("--ca", metavar="FILE", help="Take only clients on the port whose certificates are of these authorities")
+    parser.add_argument("--ca", metavar="FILE", help="Accept only clients on the port with a certificate of these authorities")
     parser.add_argument("--web", type=_service.port, metavar="PORT",
                         help="Serve tills that are web pages on this port of 127.0.0.1; needs python3-websockets")
     parser.add_argument("--origin", action="append", default=[], metavar="ORIGIN",
-                        help="Let pages of this origin watch, as https://till.example, beside those of this machine; may be repeated")
+                        help="Also let pages of this origin watch, such as https://till.example; may be repeated")
     parser.add_argument("--lanes", type=_service.count(1, 16), default=16, metavar="N",
-                        help="Connections with a lane of their own, 1 to 16; 16")
+                        help="Connections with a lane of their own, 1 to 16 [default: 16]")
     parser.add_argument("--kept", type=_service.count(0, 16), default=4, metavar="N",
-                        help="Lanes that TCP connections leave to the UNIX socket; 4")
-    parser.add_argument("--connections", type=_service.count(1, 10_000), default=256, metavar="N", help="Connections at a time; 256")
-    parser.add_argument("--workers", type=_service.count(1, 16), default=2, metavar="N", help="Workers of the hub, 1 to 16; 2")
+                        help="Lanes that TCP connections leave to the UNIX socket [default: 4]")
+    parser.add_argument("--connections", type=_service.count(1, 10_000), default=256, metavar="N", help="Connections at a time [default: 256]")
+    parser.add_argument("--workers", type=_service.count(1, 16), default=2, metavar="N", help="Workers of the hub, 1 to 16 [default: 2]")
     parser.add_argument("--idle", type=_service.seconds, default=60.0, metavar="SECONDS",
-                        help="Close a connection that sends no whole line, or takes nothing, for so long; 60")
-    parser.add_argument("--elements", action="store_true", help="Answer as gs1_hub live --elements writes elements")
-    parser.add_argument("--token", action=_NewToken, help="Print a new token and its line for the table of rights, and end")
+                        help="Close a connection that sends no whole line, or takes nothing, for this long [default: 60]")
+    parser.add_argument("--elements", action="store_true", help="Write elements as gs1_hub live --elements does")
+    parser.add_argument("--token", action=_NewToken, help="Print a new token and its line for the table of rights, and exit")
     parser.set_defaults(rights=all_rights())  # A table of the file of options.
     add_year(parser)
     add_ais(parser)

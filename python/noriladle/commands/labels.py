@@ -1,10 +1,10 @@
-"""Make labels of a list: names, prices and barcodes on label stock
+"""Make labels from a list: names, prices and barcodes on label stock
 
-LIST is a CSV file of any spreadsheet. Its heading says which column is gtin (or ean, upc) or gs1 (element strings), name,
+LIST is a CSV file from any spreadsheet. Its headings say which column is gtin (or ean, upc) or gs1 (element strings), name,
 price, copies, kind (ean13, upca, ean8, upce, itf14 or gs1128) and line 1, line 2, .. in English, German, French, Spanish,
-Italian, Dutch or Polish; a column of numbers without such a heading is found by its cells. If a line has a fault, each is
-reported with what to do, nothing is written, and the status is 1. The end of FILE's name says the form: .pdf, .svg, .png,
-or .zpl, .epl, .tspl for a label printer. Print a PDF file at 100 %.
+Italian, Dutch or Polish; a column of numbers without such a heading is found by its cells. If lines have errors, each is
+reported with what to do, nothing is written, and the status is 1. The end of FILE's name says the format: .pdf, .svg,
+.png, or .zpl, .epl, .tspl for a label printer. Print a PDF file at 100 %.
 
   $ noriladle labels prices.csv --stock L7160 -o labels.pdf
 """
@@ -28,24 +28,24 @@ _MOST_TOLD = 50
 
 def add_arguments(parser: argparse.ArgumentParser) -> None:
     """Adds the arguments of ``noriladle labels``."""
-    parser.add_argument("-o", "--output", metavar="FILE", help="File to write, or - for standard output; labels.pdf")
-    parser.add_argument("--to", choices=FORMS, metavar="FORM", help="Form of the file, if its name does not say it")
+    parser.add_argument("-o", "--output", metavar="FILE", help="File to write, or - for standard output [default: labels.pdf]")
+    parser.add_argument("--to", choices=FORMS, metavar="FORM", help="Format of the file, if its name does not say it")
     parser.add_argument("--stock", default="3474", metavar="STOCK",
-                        help="Label stock by its number, or by measures, 3x8:70x37 on A4 or 57x32 on a roll; 3474")
+                        help="Label stock by its number, or by measures: 3x8:70x37 on A4, 57x32 on a roll [default: 3474]")
     parser.add_argument("--stocks", action="store_true", help="List the known numbers of stock, with their measures in mm")
-    parser.add_argument("--start", type=int, default=1, metavar="N", help="First free label on a sheet that was begun; 1")
+    parser.add_argument("--start", type=int, default=1, metavar="N", help="First free label of a sheet that is partly used [default: 1]")
     parser.add_argument("--shift", type=_shift, default=(0.0, 0.0), metavar="X,Y",
-                        help="Move all labels right and down by so many mm; 0,0")
+                        help="Move all labels right and down by this many mm [default: 0,0]")
     parser.add_argument("--dpi", type=int, choices=(203, 300, 600), metavar="DPI",
-                        help="The printer's dots an inch: 203, 300 or 600; 300, of label printers 203")
+                        help="The printer's dots an inch: 203, 300 or 600 [default: 300; label printers 203]")
     parser.add_argument("--module", type=_length, metavar="MM",
-                        help="Width of the narrowest bar; 0.33, of ITF-14 and GS1-128 0.495")
-    parser.add_argument("--bars", type=_length, metavar="MM", help="Height of the bars; the standard's, if there is room")
+                        help="Width of the narrowest bar [default: 0.33; ITF-14 and GS1-128 0.495]")
+    parser.add_argument("--bars", type=_length, metavar="MM", help="Height of the bars [default: the standard's, if there is room]")
     parser.add_argument("--bearers", action="store_true", help="Draw a bar above and below each ITF-14")
-    parser.add_argument("--turn", action="store_true", help="Turn the labels by a right angle on their stock")
+    parser.add_argument("--turn", action="store_true", help="Turn the labels by 90 degrees on their stock")
     parser.add_argument("--currency", default="", metavar="SIGN", help="Sign to put behind prices without one, such as €")
     add_list(parser)
-    parser.add_argument("--font", metavar="TTF", help="TrueType file for the texts; Liberation Sans, or what is there")
+    parser.add_argument("--font", metavar="TTF", help="TrueType file for the texts [default: Liberation Sans, or what is installed]")
     parser.add_argument("--bold", metavar="TTF", help="TrueType file for names and prices")
     add_year(parser)
 

@@ -44,14 +44,14 @@ _FOREIGN = "it types as a keyboard of another country: set the scanner to the Un
 
 def add_arguments(parser: argparse.ArgumentParser) -> None:
     """Adds the arguments of ``noriladle scanner``."""
-    parser.add_argument("device", metavar="DEVICE", help="A serial line, as /dev/ttyACM0, or an event device, as /dev/input/event5")
+    parser.add_argument("device", metavar="DEVICE", help="A serial line, such as /dev/ttyACM0, or an event device, such as /dev/input/event5")
     parser.add_argument("--gateway", metavar="PATH", help="Give the texts to the gateway at this UNIX socket")
-    parser.add_argument("--lane", metavar="NAME", help="Lane of the scanner; the name of the device, as ttyACM0")
+    parser.add_argument("--lane", metavar="NAME", help="Lane of the scanner [default: the device's name, such as ttyACM0]")
     parser.set_defaults(lanes={})  # A table of the file of options: the lanes of devices.
-    parser.add_argument("--keyboard", action="store_true", help="The device is one that types, whatever it is called")
-    parser.add_argument("--baud", type=_baud, default=9600, metavar="RATE", help="Bits a second of a serial line; 9600")
+    parser.add_argument("--keyboard", action="store_true", help="Take the device for a keyboard, whatever its name")
+    parser.add_argument("--baud", type=_baud, default=9600, metavar="RATE", help="Bits a second of a serial line [default: 9600]")
     parser.add_argument("--type", choices=("gtin", "elements"), metavar="WHAT",
-                        help="Type the gtin, or the elements, of each text that is not refused, and Enter, as a keyboard")
+                        help="Type the gtin or the elements of each text that is not refused, and Enter, as a keyboard does")
     add_year(parser)
     add_ais(parser)
     _service.add_config(parser)

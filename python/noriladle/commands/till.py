@@ -25,9 +25,9 @@ def add_arguments(parser: argparse.ArgumentParser) -> None:
     parser.add_argument("lane", metavar="LANE", help="Lane of the till, a word such as north.3")
     add_redis(parser)
     parser.add_argument("--keep", type=_service.count(0, 10**9), metavar="N",
-                        help="About so many rows that were read stay in the streams; all")
+                        help="Keep about this many rows in the streams after they are read [default: all]")
     parser.add_argument("--patience", type=_service.seconds, metavar="SECONDS",
-                        help="End with status 1 if no answer has come for so long; without it the till waits")
+                        help="Exit with status 1 if no answer comes for this long [default: wait]")
 
 
 def run(words: argparse.Namespace) -> int:

@@ -38,10 +38,10 @@ _RIGHTS = (
 def add_redis(parser: argparse.ArgumentParser) -> None:
     """Adds the options that say where Redis is."""
     parser.add_argument("--redis", action="append", default=[], metavar="HOST:PORT",
-                        help="A node of a Redis Cluster, or a Redis; may be repeated, so that one of them may be down")
-    parser.add_argument("--user", metavar="NAME", help="User of Redis, whose password is in REDIS_PASSWORD; that of REDIS_USER")
+                        help="A node of a Redis Cluster, or a single Redis; name several in case one is down")
+    parser.add_argument("--user", metavar="NAME", help="User of Redis, whose password is in REDIS_PASSWORD [default: REDIS_USER]")
     parser.add_argument("--tls", action="store_true", help="Speak TLS to Redis")
-    parser.add_argument("--ca", metavar="FILE", help="Certificates of authorities that Redis is trusted by; those of the system")
+    parser.add_argument("--ca", metavar="FILE", help="Certificates of the authorities to trust for Redis [default: those of the system]")
     parser.add_argument("--cert", metavar="FILE", help="Certificate of this client, for TLS")
     parser.add_argument("--key", metavar="FILE", help="Key of this client, for TLS")
 
@@ -70,13 +70,13 @@ def shop_of(words: argparse.Namespace, log: Log) -> Shop:
 def add_arguments(parser: argparse.ArgumentParser) -> None:
     """Adds the arguments of ``noriladle worker``."""
     parser.add_argument("lanes", nargs="*", default=[], metavar="LANE", help="Lanes, words such as north.3, at most 16")
-    parser.add_argument("--lane", action="append", default=[], metavar="LANE", help="One more lane; in the file of options a list")
+    parser.add_argument("--lane", action="append", default=[], metavar="LANE", help="One more lane; in an option file a list")
     add_redis(parser)
-    parser.add_argument("--name", default=socket.gethostname(), metavar="NAME", help="The worker's own name; that of the machine")
-    parser.add_argument("--workers", type=_service.count(1, 16), default=2, metavar="N", help="Workers of the hub, 1 to 16; 2")
+    parser.add_argument("--name", default=socket.gethostname(), metavar="NAME", help="The worker's own name [default: the machine's name]")
+    parser.add_argument("--workers", type=_service.count(1, 16), default=2, metavar="N", help="Workers of the hub, 1 to 16 [default: 2]")
     parser.add_argument("--lease", type=_service.count(100, 60_000), default=3000, metavar="MILLISECONDS",
-                        help="How long a lane stays with a worker that has died; 3000")
-    parser.add_argument("--acl", action="store_true", help="Print the lists of rights for Redis, for these lanes, and end")
+                        help="How long a lane stays with a worker that has died [default: 3000]")
+    parser.add_argument("--acl", action="store_true", help="Print Redis's access control lists for these lanes, and exit")
     add_year(parser)
     add_ais(parser)
     _service.add_arguments(parser)
