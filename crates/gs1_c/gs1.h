@@ -160,7 +160,7 @@ size_t gs1_picture_room(uint32_t width, uint32_t height);
  * `memory` has as many words as gs1_picture_room says; what stands there does not matter. Fewer are `refused 43 NoMemory`, a side of more
  * than 65,535 dots `refused 17 TooWide`, and a stride below the width, or fewer values than the rows take, `refused 18 BadRuns`.
  *
- * It puts as many whole lines as there is room for, as gs1_find; the number returned is that of all of them. The call takes at most 160 kB
+ * It puts as many whole lines as there is room for, as gs1_find; the number returned is that of all of them. The call takes at most 128 kB
  * of stack. */
 size_t gs1_picture(const uint8_t *grey, size_t values, uint32_t width, uint32_t height, size_t stride, uint8_t level,
                    uint16_t year, uint32_t *memory, size_t words, uint8_t *out, size_t room);

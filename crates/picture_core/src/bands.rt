@@ -140,7 +140,7 @@ impl Bands {
     }
 
     /// Shows all that are left.
-    fn end(mut self, reader: &Reader, shown: &mut Shown) {
+    fn end(&mut self, reader: &Reader, shown: &mut Shown) {
         for _ in 0..MOST_BANDS {
             if let Some(band) = self.all.pop() {
                 show(band, reader, shown);
@@ -240,7 +240,9 @@ fn add_symbols(reader: &Reader, runs: &[u16], y: u32, bands: &mut Bands, furthes
     }
 }
 
-/// What the own rows of a picture show, by two rows at least, or by the one that it has.
+/// What the own rows of a picture show, by two rows at least, or by the one that it has. Its bands are not on the stack while stripes
+/// are read.
+#[inline(never)]
 pub(crate) fn read_own_rows(
     reader: &Reader,
     widths: &mut [u16],

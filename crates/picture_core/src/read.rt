@@ -44,7 +44,8 @@ fn leave_unknown(blocks: &mut Blocks, shown: &Shown) {
     }
 }
 
-/// Adds what the stripes of a picture show, outside of what is found.
+/// Adds what the stripes of a picture show, outside of what is found. What was seen in a patch is on the stack here alone.
+#[inline(never)]
 fn read_stripes(
     reader: &Reader,
     row: &mut RowRoom,
