@@ -81,15 +81,14 @@ def test_tells_symbols_of_one_line_apart():
         assert symbol.answer.elements == noriladle.parse_elements(text, 2026)
 
 
-@pytest.mark.parametrize("degrees", [5, 30, 45, 90, 137, 180, 270, 301])
+@pytest.mark.parametrize("degrees", [0, 5, 10, 30, 45, 80, 90, 137, 180, 270, 301])
 def test_reads_a_turned_picture(degrees):
     image, corners = turned(degrees)
     symbol, = noriladle.read_picture(image, 2026)
     assert symbol.answer == READ
     assert symbol.rows >= 2
-    # The angle is that of the stripes to within five degrees, and the symbol is 285 dots wide.
     for corner in corners:
-        assert min(abs(corner - complex(x, y)) for x, y in symbol.corners) < 30
+        assert min(abs(corner - complex(x, y)) for x, y in symbol.corners) < 3
     left, top, right, bottom = symbol.box
     assert all(left <= x <= right and top <= y <= bottom for x, y in symbol.corners)
     assert 0 <= left < right <= image.width and 0 <= top < bottom <= image.height

@@ -102,6 +102,27 @@ static void draw(uint8_t *grey, int width, int height, enum gs1_kind kind, const
         }
 }
 
+/* The most that the corners of the one symbol of an answer are from those of the bars of a label that is drawn so, in dots; a million if
+ * there is no symbol, or more than one. The bars stand 11 modules from the left, and a module from above and from below. */
+static double astray(const char *answer, int dots, int down, int x, int y, double cos, double sin) {
+    static const int right[] = {0, 1, 1, 0}, low[] = {0, 0, 1, 1};
+    unsigned at[8];
+    if (sscanf(answer, "%u %u %u %u %u %u %u %u", at, at + 1, at + 2, at + 3, at + 4, at + 5, at + 6, at + 7) != 8 ||
+        strchr(answer, '\n') != answer + strlen(answer) - 1)
+        return 1e6;
+    double most = 0;
+    for (int i = 0; i < 4; i++) {
+        double u = dots * (11 + 95 * right[i]), v = low[i] ? down - dots : dots;
+        double across = at[2 * i] / 256.0 - (x + u * cos - v * sin), along = at[2 * i + 1] / 256.0 - (y + u * sin + v * cos);
+        double square = across * across + along * along;
+        most = square > most ? square : most;
+    }
+    // The root, to a tenth.
+    double root = 0;
+    while (root * root < most) root += 0.1;
+    return root;
+}
+
 static struct asked of(const uint8_t *grey, uint32_t width, uint32_t height) {
     return (struct asked){.grey = grey, .width = width, .height = height, .stride = width, .values = (size_t)width * height,
                           .words = gs1_picture_room(width, height)};
@@ -167,6 +188,24 @@ int main(void) {
     if (many.count > sizeof lines || ends != 193 || memcmp(lines + many.count - 11, "dropped 48\n", 11)) {
         wrong++;
         printf("wrong: %zu lines of 240 symbols, and %.11s", ends, (char *)lines + many.count - 11);
+    }
+
+    // The corners are those of the bars, however the label is turned: by 0, 10, 30, 45 and 80 degrees.
+    for (int turn = 0; turn < 5; turn++) {
+        static const double cos[] = {1, .98481, .86603, .70711, .17365}, sin[] = {0, .17365, .5, .70711, .98481};
+        int x = 300, y = 100;
+        memset(grey, 220, sizeof grey);
+        draw(grey, 700, 600, GS1_EAN13, "9501101530003", 3, 400, 140, x, y, cos[turn], sin[turn]);
+        struct asked q = of(grey, 700, 600);
+        q.year = YEAR, q.out = out, q.room = sizeof out - 1;
+        ask(&q);
+        out[q.count < q.room ? q.count : q.room] = 0;
+        double far = astray((char *)out, 3, 140, x, y, cos[turn], sin[turn]);
+        checks++;
+        if (far > 3) {
+            wrong++;
+            printf("wrong: corners %.1f dots from the bars, turned by cosine %.2f: %s\n", far, cos[turn], out);
+        }
     }
 
     for (int turn = 0; turn < 12; turn++) {

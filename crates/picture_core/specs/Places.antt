@@ -1,5 +1,6 @@
 -- Places of a picture, whose y goes down.
-use Rattle.std.specs.Prelude.{◌+◌, ◌*◌, ◌/◌, ◌≤◌}
+use Rattle.std.specs.Prelude.{ℕ, ◌+◌, ◌*◌, ◌/◌, ◌≤◌}
+use Rattle.picture_core.specs.declared.own_row.OwnRow.{OwnRow}
 use Rattle.picture_core.specs.declared.place.Place.{Place}
 use Rattle.picture_core.specs.declared.place.Corners.{Corners}
 
@@ -13,6 +14,17 @@ pub record IsOn (c : Corners) (p : Place) : Type 0 where
   pub right : IsRightOf c.upper_right c.lower_right p
   pub bottom : IsRightOf c.lower_right c.lower_left p
   pub left : IsRightOf c.lower_left c.upper_left p
+
+-- the upper left corner of a dot
+abbrev pub corner_of : ℕ → ℕ → Place
+corner_of column row = record { x = column * 256; y = row * 256 }
+
+-- the bars that a row shows, the whole height of its dots, are on the symbol with these corners
+pub record AreBarsOn (c : Corners) (at : OwnRow) : Type 0 where
+  pub upper_left : IsOn c (corner_of at.left at.y)
+  pub upper_right : IsOn c (corner_of at.right at.y)
+  pub lower_right : IsOn c (corner_of at.right (at.y + 1))
+  pub lower_left : IsOn c (corner_of at.left (at.y + 1))
 
 -- half way between two opposite corners
 abbrev pub middle : Corners → Place

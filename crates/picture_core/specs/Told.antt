@@ -1,34 +1,21 @@
 -- What is told of a picture.
 use Rattle.std.specs.Prelude.{◌≡◌, ◌⊎◌, ℕ, ◌+◌, ◌*◌, ◌<◌, ◌≤◌, All, AllPairs, Option, IfSome, IsSomeAnd}
-use Rattle.picture_core.specs.declared.own_row.OwnRow.{OwnRow}
 use Rattle.picture_core.specs.declared.own_row.OwnRows.{OwnRows}
-use Rattle.picture_core.specs.declared.place.Corners.{Corners}
 use Rattle.picture_core.specs.declared.symbol.Symbol.{Symbol}
 use Rattle.picture_core.specs.Pictures.{Greys}
-use Rattle.picture_core.specs.Places.{IsOn, middle}
+use Rattle.picture_core.specs.Places.{AreBarsOn, IsOn, middle}
 use Rattle.picture_core.specs.Rows.{RowShows}
 use Rattle.picture_core.specs.Saids.{IsRefusal, IsSaid}
 use Rattle.element_core.specs.Terms.{Terms}
 use Rattle.picture_core.specs.declared.shown.Shown.{Shown}
-
--- the corners, in 1/256 dot, are those of an upright box that the bars of a row stand in
-pub record IsBoxOf (c : Corners) (at : OwnRow) : Type 0 where
-  pub upper : c.upper_right.y ≡ c.upper_left.y
-  pub lower : c.lower_right.y ≡ c.lower_left.y
-  pub left_side : c.lower_left.x ≡ c.upper_left.x
-  pub right_side : c.lower_right.x ≡ c.upper_right.x
-  pub left : c.upper_left.x ≤ 256 * at.left
-  pub right : 256 * at.right ≤ c.upper_right.x
-  pub top : c.upper_left.y ≤ 256 * at.y
-  pub bottom : 256 * at.y + 256 ≤ c.lower_left.y
 
 -- two rows of the picture show the symbol, or the one row that it has
 pub record AreOwnRows (picture : Greys) (level : ℕ) (year : Terms) (s : Symbol) (rows : OwnRows) : Type 0 where
   pub first : RowShows picture level year s.said.carrier s.said.elements rows.first
   pub last : RowShows picture level year s.said.carrier s.said.elements rows.last
   pub two : (rows.first.y < rows.last.y) ⊎ (picture.height ≡ 1)
-  pub first_box : IsBoxOf s.corners rows.first
-  pub last_box : IsBoxOf s.corners rows.last
+  pub first_bars : AreBarsOn s.corners rows.first
+  pub last_bars : AreBarsOn s.corners rows.last
 
 -- a symbol of the picture, under a level and a reference year
 pub record IsSymbolIn (picture : Greys) (level : ℕ) (year : Terms) (s : Symbol) : Type 0 where

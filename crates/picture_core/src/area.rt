@@ -44,7 +44,30 @@ impl Size {
     }
 }
 
+/// What may be rounded off of a place on a frame, in 1/256 dot.
+const ROUNDED: i64 = 2;
+
 impl Area {
+    /// The least box on a frame that has all these places in it.
+    pub(crate) fn around(frame: Frame, spots: &[Spot]) -> Area {
+        let mut area = Area {
+            frame,
+            left: i64::MAX,
+            right: i64::MIN,
+            top: i64::MAX,
+            bottom: i64::MIN,
+        };
+        for spot in spots {
+            let u = frame.u_of(*spot);
+            let v = frame.v_of(*spot);
+            area.left = area.left.min(u.saturating_sub(ROUNDED));
+            area.right = area.right.max(u.saturating_add(ROUNDED));
+            area.top = area.top.min(v.saturating_sub(ROUNDED));
+            area.bottom = area.bottom.max(v.saturating_add(ROUNDED));
+        }
+        area
+    }
+
     fn holds(&self, spot: Spot, margin: i64) -> bool {
         let u = self.frame.u_of(spot);
         let v = self.frame.v_of(spot);

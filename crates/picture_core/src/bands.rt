@@ -1,10 +1,10 @@
 //! The symbols that the own rows of a picture show.
 ghost use Rattle.std.specs.Prelude.{◌+◌, ◌<◌, ◌≤◌, length};
 
-use crate::area::Area;
-use crate::frame::UPRIGHT;
+use crate::area::{Area, Size};
+use crate::frame::{Spot, UNIT, UPRIGHT};
+use crate::lean::Lean;
 use crate::own_row::{OwnRow, OwnRows};
-use crate::place::{Corners, Place, UNIT};
 use crate::reader::Reader;
 use crate::runs::{are_alike, dots_before, is_dark_between, put_runs};
 use crate::said::{Furthest, Said, note_row, says_as};
@@ -22,9 +22,41 @@ struct Band {
     /// The first row and the last one.
     first: OwnRow,
     last: OwnRow,
+    lean: Lean,
     rows: u32,
     /// How many rows say something else there.
     against: u32,
+}
+
+/// The middle of the bars of a row and how far down it is, in 1/16 dot.
+fn middle_of(at: OwnRow) -> i64 {
+    (i64::from(at.left) + i64::from(at.right)) * 8
+}
+
+fn place_in(at: OwnRow) -> i64 {
+    i64::from(at.y) * 16
+}
+
+/// Dots in 1/256 dot.
+fn in_units(dots: u32) -> i64 {
+    i64::from(dots) * UNIT
+}
+
+/// The corners of the bars of a row.
+fn spots_of(at: OwnRow) -> [Spot; 4] {
+    let left = in_units(at.left);
+    let right = in_units(at.right);
+    let top = in_units(at.y);
+    let bottom = in_units(at.y.saturating_add(1));
+    [
+        Spot { x: left, y: top },
+        Spot { x: right, y: top },
+        Spot {
+            x: right,
+            y: bottom,
+        },
+        Spot { x: left, y: bottom },
+    ]
 }
 
 /// The most rows, damaged ones, that a symbol may go unread and be the same: so many, or a quarter of its width.
@@ -43,6 +75,14 @@ impl Band {
         self.left = self.left.min(at.left);
         self.right = self.right.max(at.right);
         self.last = at;
+        self.lean.add(middle_of(at), place_in(at));
+        self.rows = self.rows.saturating_add(1);
+    }
+
+    /// The next row is as its last one.
+    fn repeat(&mut self) {
+        self.last.y = self.last.y.saturating_add(1);
+        self.lean.add(middle_of(self.last), place_in(self.last));
         self.rows = self.rows.saturating_add(1);
     }
 
@@ -58,26 +98,50 @@ impl Band {
             )
     }
 
-    /// Its box: the corners are those of the dots at its ends.
-    fn corners(&self) -> Corners {
-        let bottom = self.last.y.saturating_add(1);
-        Corners {
-            upper_left: Place::of_dots(self.left, self.first.y),
-            upper_right: Place::of_dots(self.right, self.first.y),
-            lower_right: Place::of_dots(self.right, bottom),
-            lower_left: Place::of_dots(self.left, bottom),
+    /// Its upright box: as far as the dots at its ends.
+    fn upright(&self) -> Area {
+        Area {
+            frame: UPRIGHT,
+            left: in_units(self.left),
+            right: in_units(self.right),
+            top: in_units(self.first.y),
+            bottom: in_units(self.last.y.saturating_add(1)),
         }
     }
 
+    /// Its box along the bars, where they lean so far that rows show it.
+    fn leaning(&self) -> Option<Area> {
+        let slope = self.lean.slope()?;
+        if slope == 0 {
+            return None;
+        }
+        let [a, b, c, d] = spots_of(self.first);
+        let [e, f, g, h] = spots_of(self.last);
+        let frame = UPRIGHT.sheared(slope.saturating_neg());
+        Some(Area::around(frame, &[a, b, c, d, e, f, g, h]))
+    }
+
+    /// Its box, whose corners in the picture have the bars of its first and of its last row between them.
+    fn area(&self, size: Size) -> Area {
+        if let Some(area) = self.leaning() {
+            let corners = area.corners(size);
+            if corners.hold_bars(self.first) && corners.hold_bars(self.last) {
+                return area;
+            }
+        }
+        self.upright()
+    }
+
     /// The symbol, if enough rows show it: two, or the only one, and four for each that says something else.
-    fn symbol(self, height: usize) -> Option<Symbol> {
-        let corners = self.corners();
+    fn symbol(self, height: usize, size: Size) -> Option<Symbol> {
+        let area = self.area(size);
         let Band {
             said,
             left: _,
             right: _,
             first,
             last,
+            lean: _,
             rows,
             against,
         } = self;
@@ -88,15 +152,9 @@ impl Band {
         Some(Symbol {
             said,
             rows,
-            corners,
+            corners: area.corners(size),
             own_rows: Some(OwnRows { first, last }),
-            area: Area {
-                frame: UPRIGHT,
-                left: i64::from(corners.upper_left.x),
-                right: i64::from(corners.upper_right.x),
-                top: i64::from(corners.upper_left.y),
-                bottom: i64::from(corners.lower_left.y),
-            },
+            area,
         })
     }
 }
@@ -117,8 +175,7 @@ impl Bands {
     fn repeat(&mut self, y: u32) {
         for band in self.all.as_mut_slice().iter_mut() {
             if band.last.y.saturating_add(1) == y {
-                band.last.y = y;
-                band.rows = band.rows.saturating_add(1);
+                band.repeat();
             }
         }
     }
@@ -178,6 +235,7 @@ impl Bands {
                 right: at.right,
                 first: at,
                 last: at,
+                lean: Lean::of_row(middle_of(at), place_in(at)),
                 rows: 1,
                 against,
             })
@@ -187,7 +245,7 @@ impl Bands {
 
 /// Shows a symbol, if enough rows do.
 fn show(band: Band, reader: &Reader, shown: &mut Shown) {
-    if let Some(symbol) = band.symbol(reader.picture.height()) {
+    if let Some(symbol) = band.symbol(reader.picture.height(), Size::of(reader.picture)) {
         shown.push(symbol);
     }
 }

@@ -8,6 +8,7 @@ mod edges;
 mod frame;
 mod grid;
 mod layout;
+mod lean;
 mod level;
 mod line;
 mod look;

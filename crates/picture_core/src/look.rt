@@ -4,6 +4,7 @@ ghost use Rattle.std.specs.Prelude.{◌≡◌, length};
 use crate::area::{Area, Size};
 use crate::bounds::put_bounds;
 use crate::edges::{Ends, put_edges};
+use crate::frame::{Frame, Spot};
 use crate::grid::Grid;
 use crate::patch::{across, along, grid_over};
 use crate::reader::Reader;
@@ -164,16 +165,26 @@ fn read_row(
     dots.saturating_mul(look.lines as usize)
 }
 
-/// The symbol that was seen.
-fn placed(seen: &mut Seen, grid: &Grid, size: Size) -> Option<Symbol> {
+/// The corners of what rows show, from the first of them to the last.
+fn spots_of(seen: &Seen, grid: &Grid) -> [Spot; 4] {
+    let top = seen.first.v.saturating_sub(grid.step / 2) >> 8;
+    let bottom = seen.last.v.saturating_add(grid.step / 2) >> 8;
+    [
+        grid.frame.spot_at(seen.first.left, top),
+        grid.frame.spot_at(seen.first.right, top),
+        grid.frame.spot_at(seen.last.right, bottom),
+        grid.frame.spot_at(seen.last.left, bottom),
+    ]
+}
+
+/// The symbol that was seen, in a box along its bars: as the rows show these, or else as the stripes go.
+fn placed(seen: &mut Seen, grid: &Grid, stripes: Frame, size: Size) -> Option<Symbol> {
     let said = seen.said.take()?;
-    let area = Area {
-        frame: grid.frame,
-        left: seen.left,
-        right: seen.right,
-        top: seen.first.saturating_sub(grid.step / 2) >> 8,
-        bottom: seen.last.saturating_add(grid.step / 2) >> 8,
+    let frame = match seen.lean.slope() {
+        Some(slope) => grid.frame.sheared(slope.saturating_neg()),
+        None => stripes,
     };
+    let area = Area::around(frame, &spots_of(seen, grid));
     Some(Symbol {
         said,
         rows: seen.rows,
@@ -211,7 +222,7 @@ pub(crate) fn read_patch(
     let sure = tally.sure(grid.step);
     for (seen, is_sure) in tally.all_mut().iter_mut().zip(sure.iter()) {
         if *is_sure {
-            if let Some(symbol) = placed(seen, &grid, size) {
+            if let Some(symbol) = placed(seen, &grid, stripes, size) {
                 shown.join(symbol, size);
             }
         }

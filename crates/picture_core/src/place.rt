@@ -1,6 +1,8 @@
 //! Places of a picture.
 ghost use Rattle.std.specs.Prelude.{◌≡◌, ◌+◌, ◌*◌, ◌/◌, ◌^◌, ◌<◌, ◌↔◌, IsTrue};
 
+use crate::own_row::OwnRow;
+
 /// The parts of a dot that places are told in.
 pub(crate) const UNIT: u32 = 256;
 
@@ -59,7 +61,7 @@ impl Place {
 }
 
 impl Corners {
-    ghost use Rattle.picture_core.specs.Places.{IsOn, middle};
+    ghost use Rattle.picture_core.specs.Places.{AreBarsOn, IsOn, corner_of, middle};
 
     /// Whether a place is on the symbol.
     pub fn hold(&self, place: Place) -> bool
@@ -69,6 +71,29 @@ impl Corners {
             && place.is_right_of(self.upper_right, self.lower_right)
             && place.is_right_of(self.lower_right, self.lower_left)
             && place.is_right_of(self.lower_left, self.upper_left)
+    }
+
+    /// Whether the upper left corner of a dot is on the symbol.
+    fn hold_corner(&self, column: u32, row: u32) -> bool
+        ensures { IsTrue result → IsOn self.now (corner_of column row) }
+    {
+        match (column.checked_mul(UNIT), row.checked_mul(UNIT)) {
+            (Some(x), Some(y)) => self.hold(Place { x, y }),
+            _ => false,
+        }
+    }
+
+    /// Whether the bars of a row are on the symbol.
+    pub(crate) fn hold_bars(&self, at: OwnRow) -> bool
+        ensures { IsTrue result → AreBarsOn self.now at }
+    {
+        let Some(below) = at.y.checked_add(1) else {
+            return false;
+        };
+        self.hold_corner(at.left, at.y)
+            && self.hold_corner(at.right, at.y)
+            && self.hold_corner(at.right, below)
+            && self.hold_corner(at.left, below)
     }
 
     /// Half way between two opposite corners.

@@ -1,4 +1,5 @@
 //! What rows say, put together by place.
+use crate::lean::Lean;
 use crate::said::{Said, says_as};
 use arrayvec::ArrayVec;
 
@@ -9,9 +10,10 @@ pub(crate) struct Seen {
     /// Its sides along the rows, in 1/256 dot.
     pub(crate) left: i64,
     pub(crate) right: i64,
-    /// Its first and its last row, in 1/65536 dot.
-    pub(crate) first: i64,
-    pub(crate) last: i64,
+    /// Where its first row and its last one show it.
+    pub(crate) first: Sight,
+    pub(crate) last: Sight,
+    pub(crate) lean: Lean,
     /// How far its sides may be from those of a row, beside an eighth of the row's width.
     near: i64,
     pub(crate) rows: u32,
@@ -27,8 +29,8 @@ pub(crate) struct Tally {
     is_short: bool,
 }
 
-/// Where a row shows a symbol.
-#[derive(Clone, Copy)]
+/// Where a row shows a symbol: its sides along the row, in 1/256 dot, and the row, in 1/65536 dot, with the step to the next one.
+#[derive(Clone, Copy, Default)]
 pub(crate) struct Sight {
     pub(crate) left: i64,
     pub(crate) right: i64,
@@ -36,12 +38,23 @@ pub(crate) struct Sight {
     pub(crate) step: i64,
 }
 
+impl Sight {
+    /// Its middle along the row and how far down the row is, in 1/16 dot.
+    fn middle(self) -> i64 {
+        self.left.saturating_add(self.right) >> 5
+    }
+
+    fn place(self) -> i64 {
+        self.v >> 12
+    }
+}
+
 impl Seen {
     fn goes_on(&self, said: &Option<Said>, sight: Sight) -> bool {
         let width = sight.right.saturating_sub(sight.left);
         let near = (width / 8).saturating_add(self.near);
         let gap = (width / 5).saturating_mul(256).saturating_add(sight.step);
-        sight.v.saturating_sub(self.last) <= gap
+        sight.v.saturating_sub(self.last.v) <= gap
             && self.left.saturating_sub(sight.left).saturating_abs() < near
             && self.right.saturating_sub(sight.right).saturating_abs() < near
             && says_as(&self.said, said)
@@ -50,7 +63,8 @@ impl Seen {
     fn add(&mut self, sight: Sight) {
         self.left = self.left.min(sight.left);
         self.right = self.right.max(sight.right);
-        self.last = sight.v;
+        self.last = sight;
+        self.lean.add(sight.middle(), sight.place());
         self.rows = self.rows.saturating_add(1);
     }
 
@@ -58,8 +72,8 @@ impl Seen {
     fn overlaps(&self, other: &Seen, apart: i64) -> bool {
         other.left < self.right
             && self.left < other.right
-            && other.first <= self.last.saturating_add(apart)
-            && self.first <= other.last.saturating_add(apart)
+            && other.first.v <= self.last.v.saturating_add(apart)
+            && self.first.v <= other.last.v.saturating_add(apart)
     }
 }
 
@@ -102,8 +116,9 @@ impl Tally {
             said,
             left: sight.left,
             right: sight.right,
-            first: sight.v,
-            last: sight.v,
+            first: sight,
+            last: sight,
+            lean: Lean::of_row(sight.middle(), sight.place()),
             near: sight.right.saturating_sub(sight.left) / 8,
             rows: 1,
         });

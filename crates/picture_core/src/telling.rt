@@ -3,11 +3,10 @@ ghost use Rattle.std.specs.Prelude.{◌≡◌, ◌⊎◌, IfSome, ◌<◌, ◌+�
 ghost use Rattle.scan_core.specs.Row.{IsRow};
 ghost use Rattle.picture_core.specs.declared.symbol.Symbol.{Symbol};
 ghost use Rattle.picture_core.specs.Rows.{IsWindowAt, RowShows};
-ghost use Rattle.picture_core.specs.Told.{AreApart, AreApartIn, AreOwnRows, IsBoxOf, IsSymbolIn, IsSomeSymbolIn};
+ghost use Rattle.picture_core.specs.Told.{AreApart, AreApartIn, AreOwnRows, IsSymbolIn, IsSomeSymbolIn};
 
 use crate::own_row::{OwnRow, OwnRows};
 use crate::picture::Picture;
-use crate::place::Corners;
 use crate::runs::{dots_in, put_runs};
 use crate::said::{Furthest, Said};
 use crate::shown::MOST;
@@ -61,28 +60,6 @@ fn row_shows(
     is_window_at(&widths[..count], year, said, at)
 }
 
-/// 256 times a number of dots.
-fn in_places(dots: u32) -> u64
-    ensures { result ≡ 256 * dots }
-{
-    256 * u64::from(dots)
-}
-
-/// Whether the corners are those of an upright box that the bars of a row stand in.
-fn is_box_of(corners: Corners, at: OwnRow) -> bool
-    ensures { IsTrue result → IsBoxOf corners at }
-{
-    let is_upright = corners.upper_right.y == corners.upper_left.y
-        && corners.lower_right.y == corners.lower_left.y
-        && corners.lower_left.x == corners.upper_left.x
-        && corners.lower_right.x == corners.upper_right.x;
-    is_upright
-        && u64::from(corners.upper_left.x) <= in_places(at.left)
-        && in_places(at.right) <= u64::from(corners.upper_right.x)
-        && u64::from(corners.upper_left.y) <= in_places(at.y)
-        && in_places(at.y) + 256 <= u64::from(corners.lower_left.y)
-}
-
 /// Whether a row comes before another, or there is one alone.
 fn are_enough(first: u32, last: u32, height: usize) -> bool
     ensures { IsTrue result → (first < last) ⊎ (height ≡ 1) }
@@ -112,7 +89,7 @@ fn are_own_rows(
     if !are_enough(rows.first.y, rows.last.y, picture.height()) {
         return false;
     }
-    if !is_box_of(symbol.corners, rows.first) || !is_box_of(symbol.corners, rows.last) {
+    if !symbol.corners.hold_bars(rows.first) || !symbol.corners.hold_bars(rows.last) {
         return false;
     }
     if !row_shows(picture, level, year, &symbol.said, rows.first, widths) {
