@@ -6,11 +6,11 @@
  * gs1_picture at most GS1_PLACED. An input that is refused is answered by `refused`, a number, a name and, if there is one, a place, as
  * `refused 2 NotDigit 12`: gs1_status reads the number, and docs/FAULTS.md says what to do about each.
  *
- * No call takes memory, keeps anything, waits, prints or ends the program, so several threads may call at a time.
+ * No call allocates memory, keeps state, waits, prints or ends the program, so several threads may call at a time.
  *
- * The caller owes, and nothing checks: each pointer reaches as many items as its count says, which are set, and is aligned for
- * its type; `out` overlaps no input; nothing else writes the inputs or uses `out` during the call. A null pointer stands for no items,
- * whatever its count. */
+ * What you must ensure, since nothing checks it: each pointer reaches as many items as its count says, which are set, and is aligned
+ * for its type; `out` overlaps no input; nothing else writes the inputs or uses `out` during the call. A null pointer stands for no
+ * items, whatever its count. */
 #ifndef GS1_H
 #define GS1_H
 
@@ -100,7 +100,7 @@ size_t gs1_row_elements(const uint16_t *widths, size_t count, uint16_t year, uin
 /* Every symbol of a row, from the left: a line of each window of its runs that begins and ends with a light
  * run and is read as a row, with its first run, how many runs it has and what gs1_row says of these, as
  * `0 61 ]E0 (01)09501101530003`, and a line feed at its end. A row with no symbol has no line. Unlike the other
- * calls it puts as many whole lines as there is room for; the number returned is that of all of them. */
+ * calls it writes as many whole lines as fit; the returned value is the size of all of them. */
 size_t gs1_find(const uint16_t *widths, size_t count, uint16_t year, uint8_t *out, size_t room);
 
 /* What gs1_row says of the row of `count` dots packed in bytes, as a row of PBM has them: the first dot of a
@@ -112,7 +112,7 @@ size_t gs1_dots(const uint8_t *bits, uint32_t count, uint16_t year, uint8_t *out
 size_t gs1_dots_elements(const uint8_t *bits, uint32_t count, uint16_t year, uint8_t *out, size_t room);
 
 /* Every symbol of the row of `count` packed dots, which are given as gs1_dots takes them: the lines of gs1_find of the
- * row's widths, of which it puts as many whole ones as there is room for; the number returned is that of all of them.
+ * row's widths, of which it writes as many whole ones as fit; the returned value is the size of all of them.
  * More than 65,535 dots are `refused 17 TooWide`. */
 size_t gs1_find_dots(const uint8_t *bits, uint32_t count, uint16_t year, uint8_t *out, size_t room);
 
@@ -122,13 +122,13 @@ size_t gs1_find_dots(const uint8_t *bits, uint32_t count, uint16_t year, uint8_t
  * no element is refused by its first fault, at place 0. */
 size_t gs1_date(const uint8_t *text, size_t length, uint16_t year, uint8_t *out, size_t room);
 
-/* What a text says that a scanner sends: a symbology identifier, and behind it the digits of a GTIN (`]E0` 12 or 13,
+/* What the text of a scanner says: a symbology identifier, and behind it the digits of a GTIN (`]E0` 12 or 13,
  * or the 8 of a UPC-E; `]E4` 8; `]I1` 14), an element string in which byte 29 or `^` is the separator (`]C1`, `]e0`,
  * `]d2`, `]Q3`, `]J1`), or a GS1 Digital Link (`]Q1`, `]d1`). Without an identifier it is an element string where it
  * begins with a separator, a GTIN where it begins with eight digits, and a Digital Link where it begins with `http://`
  * or `https://`; `-` stands for the identifier then. The identifier and the elements as data, as
  * `]C1 10=AB<TAB>17=261231`; a place is an offset behind the identifier and a separator there, or in a Digital Link the
- * index of the element. Blanks and ends of lines behind the text are passed over. Any other text is
+ * index of the element. Blanks and line ends after the text are skipped. Any other text is
  * `refused 40 Kind`. */
 size_t gs1_scan(const uint8_t *text, size_t length, uint16_t year, uint8_t *out, size_t room);
 
@@ -174,7 +174,7 @@ size_t gs1_label(enum gs1_kind kind, const uint8_t *text, size_t length, uint16_
 /* The symbol of a label in modules, for programs that draw it: what stands under the bars, the quiet zones left
  * and right, and a digit for the width of each run, a bar first and last, as `symbol 96385074 7 7 111...`. Under
  * the bars stand the digits of the number as its kind writes them, of a UPC-E all eight, and of an element string
- * its elements with each AI in parentheses. Refused as by gs1_label, but for 25 and 27. */
+ * its elements with each AI in parentheses. Refused as by gs1_label, except 25 and 27. */
 size_t gs1_symbol(enum gs1_kind kind, const uint8_t *text, size_t length, uint16_t year, uint8_t *out,
                   size_t room);
 

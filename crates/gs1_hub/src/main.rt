@@ -1,4 +1,4 @@
-//! The program: GS1 bar codes from the command line.
+//! The program: GS1 barcodes from the command line.
 #![tactic(auto)]
 
 ghost use Rattle.std.specs.Prelude.{◌≡◌, [], IfOk, IfSome, IsOk, OnOk, false};

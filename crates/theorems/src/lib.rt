@@ -14,7 +14,7 @@ use sheet_core::{Grid, Label, Sheet, SheetFault};
 use std::alloc::Global;
 use std::sync::Wait;
 
-/// A text means exactly one thing: a list of elements, or its first fault.
+/// A text has exactly one meaning: a list of elements, or its first fault.
 pub fn each_text_has_one_meaning()
     ensures { (year : Terms) (text : List ℕ) → ExactlyOne (Means year text) }
 {
@@ -22,7 +22,7 @@ pub fn each_text_has_one_meaning()
     element_core::one_list_or_fault();
 }
 
-/// A row has exactly one answer, and turned end for end it has the same.
+/// A row has exactly one answer, the same from either end.
 pub fn answer_of(row: &Runs, year: Year) -> Answer
     ensures one { (said : Said) → IsAnswer row.now year said ↔ (said ≡ result) }
     ensures turned { IsAnswer (reverse row.now) year result }
@@ -33,14 +33,14 @@ pub fn answer_of(row: &Runs, year: Year) -> Answer
     scan_core::read_row(row, year)
 }
 
-/// What a search of a row tells, until it tells no more, are all symbols that stand in it, from the left.
+/// A search finds every symbol of a row, from left to right.
 pub fn all_symbols_are_found()
     ensures { (row : List ℕ) (year : Terms) (found : List Window) → IsRow row → AreTold (search_of row year) found → AreSymbolsOf row year found }
 {
     scan_core::symbols_are_told();
 }
 
-/// A row that shows a symbol with one digit or character replaced, where it is checked, is refused for that.
+/// If one checked digit or character of a symbol is replaced, its row is refused for that.
 pub fn a_replaced_character_is_noticed()
     ensures digit { (row : List ℕ) (year : Terms) → IsRow row → ShowsReplacedDigit row → IsAnswer row year (Refused SymbolCheckDigit) }
     ensures character { (row : List ℕ) (year : Terms) → IsRow row → ShowsReplacedCharacter row → IsAnswer row year (Refused (Code128 CheckCharacter)) }
@@ -59,7 +59,7 @@ pub fn print_sheets(alloc: Global, labels: &[Label], grid: Grid) -> Result<Vec<S
     sheet_core::print_sheets(alloc, labels, grid)
 }
 
-/// What is printed, written as images, read again and scanned in the same grid has the answers of its labels, cell by cell.
+/// Labels that are printed, written as images, read again and scanned in the same grid have their answers, cell by cell.
 pub fn what_print_writes_scan_reads()
     ensures { (labels : List Label) (g : Cells) (year : Terms) (answers : List (List Said)) → AllByRecursion (SaysElements year) labels
         → ArePrintedAndScanned labels g year answers → answers ≡ labels_answers g year labels }
@@ -67,7 +67,7 @@ pub fn what_print_writes_scan_reads()
     command_core::written_answer();
 }
 
-/// Whatever the threads of 1 to 16 lanes and workers did, what each lane polled, and then its list, are the deliveries of its rows, in order and each once.
+/// Whatever the threads of 1 to 16 lanes and workers did: what a lane polled, followed by its list, are the deliveries of its rows, in order and each once.
 pub fn settle<R: Wait>(rt: &R, alloc: Global, all: Unsettled) -> Result<Lists, Unsettled>
     requires { AreAllSeats all.hub all.lanes.items all.workers.items all.deliverer }
     ensures { IfOk result (λ lists. AreSettled (year_of all.hub) (map as_lane all.lanes.items) (map (λ list. list.items) lists.items)) }
@@ -75,7 +75,7 @@ pub fn settle<R: Wait>(rt: &R, alloc: Global, all: Unsettled) -> Result<Lists, U
     hub_core::Hub::settle(all.hub, rt, alloc, all.lanes, all.workers, all.deliverer)
 }
 
-/// The answers of what a settled lane polled, and then of its list, are the answers to its rows.
+/// What a settled lane polled, followed by its list, has the answers to its rows.
 pub fn a_settled_lane_is_answered()
     ensures { (year : Terms) (lanes : List Lane) (lists : List (List Plain)) (i : ℕ) (lane : Lane) (said : List Said) → AreSettled year lanes lists
         → slice_get lanes i ≡ Some lane → AnswerLane lane lists said → Reads lane.rows year said }
@@ -83,7 +83,7 @@ pub fn a_settled_lane_is_answered()
     hub_core::headline();
 }
 
-/// Of plain lines `live` answers each that means a row, in their order; lane by lane that is the report of `lanes`.
+/// `live` answers each plain line that means a row, in order; sorted by lane, its answers are what `lanes` reports.
 pub fn live_answers_as_lanes_does()
     ensures records { (bytes : List ℕ) → IsPlain bytes → records_of bytes ≡ map fields_in (record_lines bytes) }
     ensures report { (lanes : ℕ) (year : Terms) (bytes text : List ℕ) (rows : List LaneRow) → IsPlain bytes → All (λ line. length line ≤ most_line) (record_lines bytes)

@@ -42,20 +42,19 @@ const WIDTH: &str = "Width of a cell, 1 to 4096 dots";
 const HEIGHT: &str = "Height of a cell, 1 to 1024 dots";
 
 /// The option `--columns`.
-const COLUMNS: &str = "Cells beside each other on a sheet, 1 to 16";
+const COLUMNS: &str = "Cells in a row of a sheet, 1 to 16";
 
 /// The option `--rows`.
-const ROWS: &str = "Cells above each other on a sheet, 1 to 64";
+const ROWS: &str = "Cells in a column of a sheet, 1 to 64";
 
 /// The option `--lanes`.
 const LANES: &str = "How many lanes there are, 1 to 16";
 
 /// The option `--workers`.
-const WORKERS: &str = "How many threads read rows beside each other, 1 to 16";
+const WORKERS: &str = "How many threads read rows, 1 to 16";
 
 /// The option `--year`.
-const YEAR: &str =
-    "Year that dates of two digits are read by, 1951 to 2149, such as the year of today";
+const YEAR: &str = "Reference year for years of two digits, 1951 to 2149, such as this year";
 
 /// The option `--ais`.
 const AIS: &str = "Accept the AIs of the profile, or all of the GS1 General Specifications";

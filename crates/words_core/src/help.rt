@@ -5,12 +5,12 @@
 pub const VERSION: &str = "1.1.0 (rattle logic dac8208d650f15bf)";
 
 /// What the program is for.
-pub const HUB: &str = "Checks, prints and scans GS1 bar codes";
+pub const HUB: &str = "Checks, prints and scans GS1 barcodes";
 
 /// How a label is printed and read back, and what the exit statuses mean.
 pub const HUB_EXAMPLE: &str = "\
 Each command reads standard input to its end and writes standard output; `live` answers line by line.
-`gs1_hub COMMAND --help` has its options, its input and an example.
+`gs1_hub COMMAND --help` prints its options, its input and an example.
 
 Print a label and read it back:
   $ echo ean13,9501101530003 > label.csv
@@ -19,6 +19,6 @@ Print a label and read it back:
   0 0 ]E0 (01)09501101530003
 The last line is the answer: the column, the cell in it, the symbology identifier and the elements.
 
-Exit status: 0 where it is done; 1 where the input or the output is refused, in one line on standard
-error; 2 where the words are not understood. A refusal is `refused`, a number and a name, and
-docs/FAULTS.md says what to do.";
+Exit status: 0 if it is done; 1 if the input or the output is refused, with one line on standard error;
+2 if the arguments are wrong. A refusal is `refused`, a number and a name, and docs/FAULTS.md says what
+to do.";

@@ -10,7 +10,7 @@ use std::alloc::{AllocError, Global};
 
 /// What `check` does.
 const ABOUT: &str =
-    "Answers each text: a check digit, a GTIN, the element strings, or why it is refused";
+    "Prints for each text its check digit, GTIN or element strings, or why it is refused";
 
 /// The input of `check`, its output and an example.
 const EXAMPLE: &str = "\
@@ -19,8 +19,8 @@ Input, one record a line, a kind, a comma and a text:
   gtin,9501101530003              a GTIN of 8, 12, 13 or 14 digits
   upce,01234565                   a UPC-E number of 8 digits, the first 0
   text,10AB^17261231              an element string of at most 192 bytes: each AI and its value, without
-                                  parentheses; ^ stands after a value of no fixed length that another
-                                  AI follows
+                                  parentheses; ^ ends a value of no fixed length if another AI
+                                  follows
 Output, a line for each record: `digit`, `gtin` or `hri` and the answer, or `refused`, a number, a name
 and the place in the text, from 0.
 

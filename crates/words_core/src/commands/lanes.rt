@@ -13,12 +13,12 @@ use clap::{ArgMatches, Command};
 use std::alloc::{AllocError, Global};
 
 /// What `lanes` does.
-const ABOUT: &str = "Answers scanned rows, lane by lane";
+const ABOUT: &str = "Reads scanned rows and prints what each says, lane by lane";
 
 /// The input of `lanes`, its output and an example.
 const EXAMPLE: &str = "\
-Input, one row a line: a lane from 0, a comma, and the widths of the row's runs in dots with one space
-between them, light first, then dark and light in turn, light last. A row has at most 65,535 dots.
+Input, one row a line: a lane, from 0, a comma, and the widths of the row's light and dark bars in dots,
+with one space between them. A row begins and ends with light, and has at most 65,535 dots.
 Output, lane by lane: the lane, the row's number in it, from 0, and the symbology identifier with the
 elements, or `refused`, a number and a name.
 

@@ -15,14 +15,14 @@ use std::alloc::{AllocError, Global};
 
 /// What `live` does.
 const ABOUT: &str =
-    "Answers scanned rows and scanner texts as they come, each before the next is read";
+    "Reads scanned rows and texts of scanners, and answers each before it reads the next";
 
 /// The input of `live`, its output and an example.
 const EXAMPLE: &str = "\
-Input, without an end or a limit of size, one record a line: a lane from 0, a comma, and either the widths
-of a row's runs in dots, as `lanes --help` says, or the text that a scanner sends. A text begins with ], ^,
+Input of any length, one record a line: a lane, from 0, a comma, and either the widths of a row's light
+and dark bars, as `lanes --help` says, or the text that a scanner sends. A text begins with ], ^,
 byte 29, eight digits, http:// or https://. A line has at most 65,536 bytes, and quotes have no meaning.
-Output, a line for each record in the order of the records, written before more input is waited for: the
+Output, a line for each record, in their order, written before the program waits for more input: the
 lane, the row's number in it, from 0, and the symbology identifier with the elements, or `refused`, a
 number and a name. A text has `-` in place of the number, and `-` in place of the identifier if none was
 sent. A record that is neither has `-` in place of its number, and of its lane if it names none.

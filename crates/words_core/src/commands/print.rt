@@ -24,12 +24,12 @@ Input, one label a line, a kind, a comma and a text:
   ean13,9501101530003             a GTIN of at most 13 digits; 113 modules wide
   upca,012345000065               a GTIN of at most 12 digits; 113 modules wide
   ean8,96385074                   a GTIN of 8 digits; 81 modules wide
-  upce,012345000065               the GTIN of which zeros are left out; 67 modules wide
+  upce,012345000065               a GTIN that has a UPC-E; 67 modules wide
   itf14,09501101530003            any GTIN, of 14 digits on the label; 155 modules wide
   gs1128,10AB^17261231            an element string of at most 48 characters, as `check` takes it;
                                   11 modules a character and 66 more at most
-Width and height are those of a cell, quiet zones included. The height is above twice the module, and
-a sheet has at most 16,384 dots a side. Labels fill the cells from left to right and from top to bottom.
+Width and height are those of a cell, with quiet zones. A cell is more than two modules high, and a
+sheet has at most 16,384 dots a side. Labels fill the cells from left to right and from top to bottom.
 Output: the images of the sheets, one after another, in the format PBM (P4), one bit a dot; with --text
 a line for each label: its sheet, its cell, its kind and its elements.
 
@@ -38,7 +38,7 @@ Example:
   $ gs1_hub print --module 2 --width 240 --height 120 --columns 1 --rows 1 --year 2026 < label.csv > label.pbm";
 
 /// The flag `--text`.
-const TEXT: &str = "Print a line for each label in place of images";
+const TEXT: &str = "Print a line for each label instead of images";
 
 /// The words of the command `print`, as `clap` reads them, where `--ais` takes these choices.
 pub fn print_words<'a>(alloc: Global, choices: &'a [&'a str]) -> Result<Command<'a>, AllocError>

@@ -16,12 +16,12 @@ use clap::{ArgMatches, Command};
 use std::alloc::{AllocError, Global};
 
 /// What `scan` does.
-const ABOUT: &str = "Reads PBM images of sheets, and answers what each cell says";
+const ABOUT: &str = "Reads PBM images of sheets and prints what each cell says";
 
 /// The input of `scan`, its output and an example.
 const EXAMPLE: &str = "\
 Input: images in the format PBM (P4), one after another, each as wide as the columns together and as
-high as the rows together: the numbers that the sheets were printed with.
+high as the rows together: give the options that the sheets were printed with.
 Output, column by column: the column, the number of the cell in it, from the top, sheet after sheet,
 from 0, and the symbology identifier with the elements, or `refused`, a number and a name. The middle
 row of each cell is read.
