@@ -1,12 +1,12 @@
 //! Reads sheets from PBM images.
-ghost use Rattle.std.specs.Prelude.{[], ◌≡◌, ◌∷◌, ◌≤◌, ◌<◌, ◌↔◌, true, false, Ok, Err, IfErr, IfOk, IsErrOf, IsTrue, OnOk, MatchOption, MatchResult, ◌*◌, ◌-◌, ◌%◌, ◌^◌, length};
+ghost use Rattle.std.specs.Prelude.{[], ◌≡◌, ◌∷◌, ◌++◌, List, ◌≤◌, ◌<◌, ◌↔◌, true, false, Ok, Err, IfErr, IfOk, IsErrOf, IsTrue, OnOk, MatchOption, MatchResult, ◌*◌, ◌-◌, ◌%◌, ◌^◌, length};
 ghost use Rattle.std.specs.Io.KnownBytes.{Consumes, IsAtEnd, Keeps};
-ghost use Rattle.sheet_core.specs.Bitmaps.{stride, pad};
+ghost use Rattle.sheet_core.specs.Bitmaps.{Bitmap, stride, pad};
 ghost use Rattle.sheet_core.specs.pbm.Headers.{header_of, is_size};
 ghost use Rattle.sheet_core.specs.inner.Images.{FailsFor, StopsBefore};
 ghost use Rattle.sheet_core.specs.pbm.Images.{ReadsBytes, image_of, images_of, unpadded};
 
-use crate::fault::PbmFault;
+use crate::fault::{NoMemory, PbmFault};
 use crate::pbm::header::step;
 use crate::pbm::state::{Size, State, Step};
 use crate::sheet::{Sheet, stride};
@@ -117,11 +117,74 @@ fn read_image<R: Source>(alloc: Global, reader: &mut R, first: u8) -> Result<She
     })
 }
 
-/// The sheets of all PBM images that the reader has (netpbm, pbm(5)), at most 4,096 of them, each with a
-/// header of at most 4,096 bytes. An empty input has none.
+/// What takes the sheets of images, one after another.
+pub trait SheetIntake {
+    /// What it makes of the sheets.
+    type Made;
+
+    // This is what it makes of these sheets.
+    ghost makes: { Self → List Bitmap → Self.Made → Type 0 };
+
+    /// Takes one more sheet.
+    fn take(&self, made: &mut Self::Made, sheet: Sheet) -> Result<(), NoMemory>
+        requires { (sheets : List Bitmap) × makes self.now sheets made.old }
+        ensures { OnOk result ((sheets : List Bitmap) → makes self.now sheets made.old
+            → makes self.now (sheets ++ sheet ∷ []) made.new) };
+}
+
+/// Hands the sheets of all PBM images that the reader has (netpbm, pbm(5)) to an intake, each before the next is
+/// read. At most 4,096 are taken, each with a header of at most 4,096 bytes. An empty input has none.
 ///
 /// The first byte that cannot be refuses the whole input, and none after it is read: `NotP4`, `PbmHeader` or
 /// `PbmSize`; an end within an image is `Truncated`. Memory is taken as bytes come.
+pub fn read_sheets<R: Source, I: SheetIntake>(
+    alloc: Global,
+    reader: &mut R,
+    intake: &I,
+    made: &mut I::Made,
+) -> Result<(), PbmFault>
+    requires { I.makes intake.now [] made.old }
+    ensures ok { OnOk result ((sheets : List Bitmap) × ReadsBytes images_of (R.left reader.old) (R.left reader.new) (Ok sheets)
+        × I.makes intake.now sheets made.new) }
+    ensures end { OnOk result (IsAtEnd (R.left reader.new)) }
+    ensures err { IfErr result (λ fault. ReadsBytes images_of (R.left reader.old) (R.left reader.new) (Err fault)) }
+    ensures fault { R.failed reader.old ≡ false
+        → (IsErrOf result PbmFault.ReadFault ↔ (R.failed reader.new ≡ true)) }
+{
+    for _ in 0..4096u16 {
+        let Some(first) = next(reader)? else {
+            return Ok(());
+        };
+        let sheet = read_image(alloc, reader, first)?;
+        match intake.take(made, sheet) {
+            Ok(()) => {}
+            Err(_) => return Err(PbmFault::NoMemory),
+        }
+    }
+    match next(reader)? {
+        None => Ok(()),
+        Some(_) => Err(PbmFault::PbmSize),
+    }
+}
+
+/// Keeps each sheet.
+#[derive(Clone, Copy)]
+struct AllSheets;
+
+impl SheetIntake for AllSheets {
+    type Made = Vec<Sheet>;
+
+    ghost makes = { λ intake sheets made. made.items ≡ sheets };
+
+    fn take(&self, made: &mut Vec<Sheet>, sheet: Sheet) -> Result<(), NoMemory> {
+        if made.push(sheet).is_err() {
+            return Err(NoMemory);
+        }
+        Ok(())
+    }
+}
+
+/// The sheets of all PBM images that the reader has, as `read_sheets` reads them.
 pub fn read_pbm<R: Source>(alloc: Global, reader: &mut R) -> Result<Vec<Sheet>, PbmFault>
     ensures ok { IfOk result (λ sheets. ReadsBytes images_of (R.left reader.old) (R.left reader.new) (Ok sheets.items)) }
     ensures end { OnOk result (IsAtEnd (R.left reader.new)) }
@@ -130,17 +193,6 @@ pub fn read_pbm<R: Source>(alloc: Global, reader: &mut R) -> Result<Vec<Sheet>, 
         → (IsErrOf result PbmFault.ReadFault ↔ (R.failed reader.new ≡ true)) }
 {
     let mut sheets = Vec::new(alloc);
-    for _ in 0..4096u16 {
-        let Some(first) = next(reader)? else {
-            return Ok(sheets);
-        };
-        let sheet = read_image(alloc, reader, first)?;
-        if sheets.push(sheet).is_err() {
-            return Err(PbmFault::NoMemory);
-        }
-    }
-    match next(reader)? {
-        None => Ok(sheets),
-        Some(_) => Err(PbmFault::PbmSize),
-    }
+    read_sheets(alloc, reader, &AllSheets, &mut sheets)?;
+    Ok(sheets)
 }

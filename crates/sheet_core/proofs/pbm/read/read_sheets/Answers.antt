@@ -1,16 +1,14 @@
-use Rattle.std.proofs.Common.{rules, true, ◌≡◌, ◌+◌, List, [], ◌∷◌, ◌++◌, Err, refl, sym, subst, ◌∙◌, arith}
+use Rattle.std.proofs.Common.{◌≡◌, ◌+◌, [], ◌∷◌, ◌++◌, Err, refl, sym, subst, ◌∙◌, arith}
 use Rattle.std.specs.Prelude.{IfErr}
-use Rattle.std.specs.Result.{is_ok}
-use Rattle.sheet_core.specs.Bitmaps.{Bitmap}
 use Rattle.sheet_core.specs.declared.fault.PbmFault.TheVariants.{ReadFault}
 use Rattle.sheet_core.specs.pbm.Images.{ReadsBytes, images_of}
 use Rattle.sheet_core.proofs.pbm.FileFacts.{Had, broken, ended, had_more, had_none, image_refused, not_kept, too_many}
 use Rattle.sheet_core.proofs.pbm.HeaderFacts.{at_none, at_some}
 use Rattle.sheet_core.proofs.pbm.ImageFacts.{err_is, image_wider}
-use Rattle.sheet_core.proofs.pbm.read.read_pbm.Goals as goal
+use Rattle.sheet_core.proofs.pbm.read.read_sheets.Goals as goal
 
 pub loop-init : goal.loop-init
-loop-init g c = record { had = had_none (g.R.Source.left c.args.reader.now) c.new-sheets.result.items c.new-sheets.ensures.items; same = search rules }
+loop-init g c = record { sheets = []; had = had_none (g.R.Source.left c.args.reader.now) [] refl; made = c.requires; same = refl }
 
 pub returns-in_err-first-clause-err : goal.returns-in_err-first-clause-err
 returns-in_err-first-clause-err g c =
@@ -21,8 +19,9 @@ returns-in_err-first-clause-err g c =
 
 pub returns-in_default-clause-ok : goal.returns-in_default-clause-ok
 returns-in_default-clause-ok g c =
+    let inv = c.loop.invariant in
     let end = at_none _ _ _ c.in_default.is c.in_ok-first.ensures.byte.1 in
-    ended _ _ _ _ _ c.loop.invariant.had end.0
+    (inv.sheets, ended _ _ _ _ _ inv.had end.0, inv.made)
 
 pub returns-in_err-sheet-clause-err : goal.returns-in_err-sheet-clause-err
 returns-in_err-sheet-clause-err g c =
@@ -33,24 +32,29 @@ returns-in_err-sheet-clause-err g c =
     subst (λ r. IfErr r (λ fault. ReadsBytes images_of (g.R.Source.left c.args.reader.now) (g.R.Source.left c.read_image.new.reader) (Err fault)))
     (sym (err_is c.from_residual-in_err-sheet.result fault e.0 e.1)) r
 
-pub returns-then-is_err-clause-err : goal.returns-then-is_err-clause-err
-returns-then-is_err-clause-err g c =
+pub take-requires : goal.take-requires
+take-requires g c = (c.loop.invariant.sheets, c.loop.invariant.made)
+
+pub returns-in-Err-clause-err : goal.returns-in-Err-clause-err
+returns-in-Err-clause-err g c =
+    let inv = c.loop.invariant in
     let first = at_some _ _ _ _ c.in-Some.is c.in_ok-first.ensures.byte.1 in
     let s = c.in_ok-sheet.sheet in
-    let sheets : List Bitmap = c.loop.sheets.items ++ s ∷ [] in
-    not_kept _ _ (c.loop.counter + 1) sheets
-    (had_more _ _ _ _ c.loop.counter c.loop.sheets.items sheets _ s c.loop.invariant.had c.loop-test.true first c.in_ok-sheet.ensures.read
+    not_kept _ _ (c.loop.counter + 1) (inv.sheets ++ s ∷ [])
+    (had_more _ _ _ _ c.loop.counter inv.sheets (inv.sheets ++ s ∷ []) _ s inv.had c.loop-test.true first c.in_ok-sheet.ensures.read
     (λ bytes rest e. image_wider bytes rest s e) refl)
 
 pub loop-preserved : goal.loop-preserved
 loop-preserved g c =
+    let inv = c.loop.invariant in
     let first = at_some _ _ _ _ c.in-Some.is c.in_ok-first.ensures.byte.1 in
     let s = c.in_ok-sheet.sheet in
-    let pushed : is_ok c.push.result ≡ true = search rules in
     record {
-      had = had_more _ _ _ _ c.loop.counter c.loop.sheets.items c.push.new.self.items _ s c.loop.invariant.had c.loop-test.true first c.in_ok-sheet.ensures.read
-          (λ bytes rest e. image_wider bytes rest s e) (rw pushed at c.push.ensures.items);
-      same = c.in_ok-sheet.ensures.failed ∙ c.in_ok-first.ensures.byte.0 ∙ c.loop.invariant.same;
+      sheets = inv.sheets ++ s ∷ [];
+      had = had_more _ _ _ _ c.loop.counter inv.sheets (inv.sheets ++ s ∷ []) _ s inv.had c.loop-test.true first c.in_ok-sheet.ensures.read
+          (λ bytes rest e. image_wider bytes rest s e) refl;
+      made = c.in-Ok.ensures inv.sheets inv.made;
+      same = c.in_ok-sheet.ensures.failed ∙ c.in_ok-first.ensures.byte.0 ∙ inv.same;
     }
 
 pub returns-in_err-next-clause-err : goal.returns-in_err-next-clause-err
@@ -62,12 +66,13 @@ returns-in_err-next-clause-err g c =
 
 pub returns-in-None-clause-ok : goal.returns-in-None-clause-ok
 returns-in-None-clause-ok g c =
+    let inv = c.loop.invariant in
     let end = at_none _ _ _ c.in-None.is c.in_ok-next.ensures.byte.1 in
-    ended _ _ _ _ _ c.loop.invariant.had end.0
+    (inv.sheets, ended _ _ _ _ _ inv.had end.0, inv.made)
 
 pub returns-in-Some-2-clause-err : goal.returns-in-Some-2-clause-err
 returns-in-Some-2-clause-err g c =
+    let inv = c.loop.invariant in
     let end : c.loop.counter ≡ 4096 = omega arith in
     let last = at_some _ _ _ _ c.in-Some-2.is c.in_ok-next.ensures.byte.1 in
-    too_many _ _ _ c.loop.sheets.items _ (subst (λ k. Had (g.R.Source.left c.args.reader.now) (g.R.Source.left c.loop.reader) k c.loop.sheets.items) end
-    c.loop.invariant.had) last
+    too_many _ _ _ inv.sheets _ (subst (λ k. Had (g.R.Source.left c.args.reader.now) (g.R.Source.left c.loop.reader) k inv.sheets) end inv.had) last
