@@ -1,12 +1,12 @@
 -- The rows of columns as they come.
-use Rattle.std.proofs.Common.{◌+◌, ◌++◌, ◌*◌, ◌/◌, ◌<◌, ◌≤◌, ◌==◌, ◌≡◌, ◌∙◌, ◌∷◌, Bool, Fits, List, [], ap, arith, get_or, length, map, suc, sym, take}
-use Rattle.std.proofs.Common.{true, w16, zero, ℕ}
+use Rattle.std.proofs.Common.{◌+◌, ◌++◌, ◌*◌, ◌/◌, ◌<◌, ◌≤◌, ◌==◌, ◌≡◌, ◌∙◌, ◌∷◌, Bool, Fits, List, [], ap, arith, map}
+use Rattle.std.proofs.Common.{true, w16, ℕ}
 use Rattle.std.proofs.lemmas.Bool.{and_parts, eqb-true}
 use Rattle.std.proofs.Math.Nat.{mul-le-mul_right}
 use Rattle.sheet_core.specs.Bitmaps.{Bitmap}
 use Rattle.sheet_core.specs.Grids.{Cells}
-use Rattle.std.specs.List.{AllZip, flat_map, range_with_len}
-use Rattle.std.proofs.lemmas.List.{append-nil, map-append, take_more}
+use Rattle.std.specs.List.{flat_map, range_with_len}
+use Rattle.std.proofs.lemmas.List.{append-nil, map-append}
 use Rattle.std.proofs.lemmas.Grind.{flat_map-append}
 use Rattle.std.proofs.lemmas.List.FromFn.{map-range_with_len_more}
 use Rattle.scan_core.specs.Row.{IsRow, dots_of}
@@ -56,27 +56,9 @@ one_more_cell dots cell rows n runs have is shown =
     rw longer (zip_more _ rows (map dots (map cell (range_with_len 0 n))) runs (dots (cell n)) have (is, shown))
 
 -- the rows of one more sheet
-pub one_more_sheet : {S : Type 0} (dots : S → List (List Bool)) (sheets : List S) (i : ℕ) (s : S) (rows more : List (List ℕ)) → i < length sheets
-    → s ≡ get_or sheets i s → HaveDots rows (flat_map dots (take i sheets)) → HaveDots more (dots s)
-    → HaveDots (rows ++ more) (flat_map dots (take (i + 1) sheets))
-one_more_sheet dots sheets i s rows more low is have added =
-    let longer : flat_map dots (take (i + 1) sheets) ≡ flat_map dots (take i sheets) ++ dots s =
-    ap (flat_map dots) (take_more sheets i s low ∙ ap (λ x. take i sheets ++ x ∷ []) (sym is))
-    ∙ flat_map-append dots (take i sheets) (s ∷ []) ∙ ap (λ t. flat_map dots (take i sheets) ++ t) (append-nil (dots s)) in
-    rw longer (beside-append _ rows more (flat_map dots (take i sheets)) (dots s) have added)
-
-range_more : (a n : ℕ) → range_with_len a (suc n) ≡ range_with_len a n ++ (a + n) ∷ []
-range_more a zero = ap (λ k. k ∷ []) (omega arith)
-range_more a (suc n) =
-    ap (λ t. a ∷ t) (range_more (a + 1) n ∙ ap (λ k. range_with_len (a + 1) n ++ k ∷ []) (omega arith))
-
-range_next : (n : ℕ) → range_with_len 0 (n + 1) ≡ range_with_len 0 n ++ n ∷ []
-range_next n =
-    let next : n + 1 ≡ suc n = omega arith in
-    ap (range_with_len 0) next ∙ range_more 0 n ∙ ap (λ k. range_with_len 0 n ++ k ∷ []) (omega arith)
-
--- the rows of one more column
-pub one_more_column : {V : Type 0} (R : List (List ℕ) → ℕ → Type 0) (f : V → List (List ℕ)) (feeds new : List V) (v : V) (n : ℕ) → new ≡ feeds ++ v ∷ []
-    → AllZip R (map f feeds) (range_with_len 0 n) → R (f v) n → AllZip R (map f new) (range_with_len 0 (n + 1))
-one_more_column R f feeds new v n is have added =
-    rw (is, map-append f feeds (v ∷ []), range_next n) (zip_more R (map f feeds) (range_with_len 0 n) (f v) n have added)
+pub one_more_sheet : {S : Type 0} (dots : S → List (List Bool)) (sheets : List S) (s : S) (rows new more : List (List ℕ))
+    → HaveDots rows (flat_map dots sheets) → HaveDots more (dots s) → new ≡ rows ++ more → HaveDots new (flat_map dots (sheets ++ s ∷ []))
+one_more_sheet dots sheets s rows new more have added is =
+    let longer : flat_map dots (sheets ++ s ∷ []) ≡ flat_map dots sheets ++ dots s =
+    flat_map-append dots sheets (s ∷ []) ∙ ap (λ t. flat_map dots sheets ++ t) (append-nil (dots s)) in
+    rw (is, longer) (beside-append _ rows more (flat_map dots sheets) (dots s) have added)

@@ -2,6 +2,7 @@ pub mod BufferedIsTaken
 pub mod CheckOnce
 pub mod ColumnCounts
 pub mod ColumnFacts
+pub mod ColumnsGrow
 pub mod CommandFacts
 pub mod FewEnough
 pub mod LabelReadings

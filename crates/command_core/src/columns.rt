@@ -1,23 +1,27 @@
 //! The rows that sheets give the lanes of their columns.
-ghost use Rattle.std.specs.Prelude.{◌≡◌, ◌<◌, ◌≤◌, ◌++◌, List, ℕ, true, IfOk, OnOk, length, map};
-ghost use Rattle.std.specs.List.{flat_map};
+ghost use Rattle.std.specs.Prelude.{[], ◌≡◌, ◌<◌, ◌↔◌, ◌++◌, ◌∷◌, List, ℕ, true, false, Ok, Err, IfErr, IfOk, IfSome, IsErrOf, MatchOption, OnOk, length, map, replicate};
+ghost use Rattle.std.specs.Io.KnownBytes.{IsAtEnd};
 ghost use Rattle.hub_core.specs.Serving.{are_short};
-ghost use Rattle.command_core.specs.Columns.{AreColumns, HaveDots, column_dots, has_size, have_size};
+ghost use Rattle.sheet_core.specs.Bitmaps.{Bitmap};
+ghost use Rattle.sheet_core.specs.declared.fault.PbmFault.{PbmFault};
+ghost use Rattle.sheet_core.specs.pbm.Images.{ReadsBytes, images_of};
+ghost use Rattle.command_core.specs.Columns.{AreColumns, HaveDots, IsKept, column_dots, has_size, have_size};
 
+use digits_core::Source;
 use scan_core::Runs;
-use sheet_core::{Grid, Sheet, grids_keep_limits};
+use sheet_core::{
+    Grid, NoMemory, PbmFault, Sheet, SheetIntake, files_are_read, grids_keep_limits, read_sheets,
+};
 use std::alloc::{AllocError, Global};
 
-/// Whether each sheet has the size of the grid.
-pub fn are_of_size(grid: Grid, sheets: &[Sheet]) -> bool
-    ensures { result ≡ have_size grid sheets.now }
+/// Whether a sheet has the size of the grid.
+fn is_of_size(grid: Grid, sheet: &Sheet) -> bool
+    ensures { result ≡ has_size grid sheet.now }
 {
     grids_keep_limits(&grid);
     let width = grid.columns() * grid.cell_width();
     let height = grid.rows() * grid.cell_height();
-    sheets
-        .iter()
-        .all(|sheet| sheet.width() == width && sheet.height() == height)
+    sheet.width() == width && sheet.height() == height
 }
 
 /// Appends the middle rows of a column's cells of a sheet, from the top.
@@ -44,40 +48,96 @@ fn push_column(
     Ok(())
 }
 
-/// The rows of a column, sheet after sheet.
-fn column_rows(
+/// Appends the rows of a sheet's columns, each to the rows of its column.
+fn push_columns(
     alloc: Global,
     grid: Grid,
-    column: u16,
-    sheets: &[Sheet],
-) -> Result<Vec<Runs>, AllocError>
-    requires column { column < grid.columns }
-    requires size { have_size grid sheets.now ≡ true }
-    ensures rows { IfOk result (λ v. HaveDots v.items (flat_map (column_dots grid column) sheets.now)) }
+    sheet: &Sheet,
+    feeds: &mut Vec<Vec<Runs>>,
+) -> Result<(), AllocError>
+    requires count { length feeds.old.items ≡ grid.columns }
+    requires size { has_size grid sheet.now ≡ true }
+    ensures added { OnOk result ((sheets : List Bitmap) → AreColumns grid sheets (map (λ feed. feed.items) feeds.old.items)
+        → AreColumns grid (sheets ++ sheet.now ∷ []) (map (λ feed. feed.items) feeds.new.items)) }
 {
-    let mut rows = Vec::new(alloc);
-    'sheets: for sheet in sheets {
-        push_column(alloc, grid, column, sheet, &mut rows)?;
+    for column in 0..grid.columns() {
+        push_column(alloc, grid, column, sheet, &mut feeds[usize::from(column)])?;
     }
-    Ok(rows)
+    Ok(())
 }
 
-/// The rows of each column of sheets that have the grid's size: column `c` is lane `c`.
-pub fn column_feeds(
+/// What is kept of sheets: the rows of each column, and whether each sheet had the grid's size.
+#[derive(Drop)]
+struct Kept {
+    feeds: Vec<Vec<Runs>>,
+    fit: bool,
+}
+
+/// Cuts the rows of sheets by a grid, and keeps no sheet.
+#[derive(Clone, Copy)]
+struct RowsByColumn {
     alloc: Global,
     grid: Grid,
-    sheets: &[Sheet],
-) -> Result<Vec<Vec<Runs>>, AllocError>
-    requires size { have_size grid sheets.now ≡ true }
-    requires few { length sheets.now ≤ 4096 }
-    ensures feeds { IfOk result (λ v. AreColumns grid sheets.now (map (λ feed. feed.items) v.items)) }
-    ensures count { IfOk result (λ v. length v.items ≡ grid.columns) }
-    ensures short { IfOk result (λ v. are_short (map (λ feed. feed.items) v.items) ≡ true) }
+}
+
+impl SheetIntake for RowsByColumn {
+    type Made = Kept;
+
+    ghost makes = { λ by sheets kept. IsKept by.grid sheets kept.fit (map (λ feed. feed.items) kept.feeds.items) };
+
+    fn take(&self, kept: &mut Kept, sheet: Sheet) -> Result<(), NoMemory> {
+        if !kept.fit {
+            return Ok(());
+        }
+        if !is_of_size(self.grid, &sheet) {
+            kept.fit = false;
+            return Ok(());
+        }
+        match push_columns(self.alloc, self.grid, &sheet, &mut kept.feeds) {
+            Ok(()) => Ok(()),
+            Err(AllocError) => Err(NoMemory),
+        }
+    }
+}
+
+/// So many feeds without a row.
+fn make_feeds(alloc: Global, columns: u16) -> Result<Vec<Vec<Runs>>, AllocError>
+    ensures { IfOk result (λ v. map (λ feed. feed.items) v.items ≡ replicate columns []) }
 {
-    grids_keep_limits(&grid);
-    let mut feeds = Vec::new(alloc);
-    'columns: for column in 0..grid.columns() {
-        feeds.push(column_rows(alloc, grid, column, sheets)?)?;
+    let mut feeds = Vec::with_capacity(alloc, usize::from(columns))?;
+    for _column in 0..columns {
+        feeds.push(Vec::new(alloc))?;
     }
     Ok(feeds)
+}
+
+/// The rows of each column of the images that a source gives: column `c` is lane `c`. None where an image has another
+/// size than the grid's. The rows of an image are cut before the next is read, and the image is not kept.
+pub fn read_columns<S: Source>(
+    alloc: Global,
+    grid: Grid,
+    source: &mut S,
+) -> Result<Option<Vec<Vec<Runs>>>, PbmFault>
+    ensures ok { IfOk result (λ columns. (sheets : List Bitmap) × ReadsBytes images_of (S.left source.old) (S.left source.new) (Ok sheets)
+        × MatchOption columns (have_size grid sheets ≡ false)
+        (λ v. (have_size grid sheets ≡ true) × AreColumns grid sheets (map (λ feed. feed.items) v.items))) }
+    ensures count { IfOk result (λ columns. IfSome columns (λ v. length v.items ≡ grid.columns)) }
+    ensures short { IfOk result (λ columns. IfSome columns (λ v. are_short (map (λ feed. feed.items) v.items) ≡ true)) }
+    ensures end { OnOk result (IsAtEnd (S.left source.new)) }
+    ensures err { IfErr result (λ fault. ReadsBytes images_of (S.left source.old) (S.left source.new) (Err fault)) }
+    ensures fault { S.failed source.old ≡ false
+        → (IsErrOf result PbmFault.ReadFault ↔ (S.failed source.new ≡ true)) }
+{
+    grids_keep_limits(&grid);
+    // The law by which there are few images, and so few rows.
+    files_are_read();
+    let Ok(feeds) = make_feeds(alloc, grid.columns()) else {
+        return Err(PbmFault::NoMemory);
+    };
+    let mut kept = Kept { feeds, fit: true };
+    read_sheets(alloc, source, &RowsByColumn { alloc, grid }, &mut kept)?;
+    if !kept.fit {
+        return Ok(None);
+    }
+    Ok(Some(kept.feeds))
 }

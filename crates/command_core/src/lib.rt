@@ -14,7 +14,7 @@ mod printed;
 
 pub use answers::rows::{RowsFault, answer_records};
 pub use answers::serving::{AnswerFault, answer_lines};
-pub use columns::{are_of_size, column_feeds};
+pub use columns::read_columns;
 pub use commands::check::{one_check, run_check};
 pub use commands::lanes::{one_lanes, run_lanes};
 pub use commands::live::run_live;

@@ -3,13 +3,12 @@ ghost use Rattle.command_core.specs.Runs.{Ran};
 ghost use Rattle.command_core.specs.commands.Scans.{OneScan, scan_command};
 
 use crate::answers::serving::answer_lines;
-use crate::columns::{are_of_size, column_feeds};
+use crate::columns::read_columns;
 use crate::fault::CommandFault;
 use crate::grid::grid_of;
 use crate::printed::scanned_once;
 use digits_core::{Sink, Source, write_all};
 use hub_core::Gate;
-use sheet_core::{files_are_read, read_pbm};
 use std::alloc::Global;
 use std::sync::Wait;
 use std::thread::Threads;
@@ -33,14 +32,9 @@ pub fn run_scan<R: Threads + Wait + Sync, S: Source, W: Sink, G: Gate + Sync>(
     ensures { Ran (scan_command options) S.left S.failed W.taken W.failed source.old source.new sink.old sink.new result }
 {
     let grid = grid_of(options.grid)?;
-    let sheets = read_pbm(alloc, source)?;
-    if !are_of_size(grid, sheets.as_slice()) {
+    let Some(feeds) = read_columns(alloc, grid, source)? else {
         return Err(CommandFault::PbmSize);
-    }
-    // The law by which there are few images, and so few rows.
-    files_are_read();
-    let feeds = column_feeds(alloc, grid, sheets.as_slice())?;
-    drop(sheets);
+    };
     let lines = answer_lines(rt, alloc, feeds, options.workers, options.year, gate)?;
     write_all(sink, lines.as_str().as_bytes())?;
     Ok(())
