@@ -2,8 +2,8 @@
 
 LIST is a CSV file with a heading or without, or has one text a line. A text is a GTIN, an element string as printed,
 (01)09501101530003(17)261231, or with ^ for the separator, ^10AB^17261231, or what a scanner sends, ]C110AB. Prints for
-each its line, itself, and what it says or why it is refused and what to do, with tabs between. The status is 1 if a line
-is refused.
+each its line's number, the text, and what it says, or why it is refused and what to do, with tabs between. The status is
+1 if a line is refused.
 
   $ noriladle check supplier.csv
 """

@@ -1,9 +1,9 @@
 """Read the barcodes of photographs, scans and PDF files
 
-A line for each barcode, with tabs between: the picture, the symbology identifier, the elements, and its place in pixels
-from the left and upper edge: left, top, right and bottom. A file of several pages has the number of the page behind its
-name; pages of a PDF file are drawn by pdftoppm with 300 pixels an inch. The status is 1 if a picture shows no barcode that
-can be read, and 2 if it cannot be opened.
+Prints a line for each barcode, with tabs between: the picture, the symbology identifier, the elements, and its place in
+pixels from the left and upper edge: left, top, right and bottom. A file of several pages has the number of the page
+behind its name; pdftoppm draws the pages of a PDF file with 300 pixels an inch. The status is 1 if a picture shows no
+barcode that can be read, and 2 if it cannot be opened.
 
   $ noriladle read photo.jpg
 """

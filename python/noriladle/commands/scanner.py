@@ -1,10 +1,10 @@
 """Read an ordinary scanner, and give its texts to a gateway or check them
 
-The scanner is one on a serial line, or one that types as a keyboard; it is to send CR, LF, Tab or Enter behind each
-text, and should send the symbology identifier before it (docs/SCANNERS.md). A line is printed for each text: its number,
-from 0, and what it says, or why it is refused or unread. It ends when the scanner is unplugged.
+The scanner is on a serial line, or types as a keyboard. It must send CR, LF, Tab or Enter after each text, and should send
+the symbology identifier before it (docs/SCANNERS.md). A line is printed for each text: its number, from 0, and what it
+says, or why it is refused or unread. The command ends when the scanner is unplugged.
 
-With --gateway the tills that watch the lane are told; without it the text is checked here, to try a scanner out.
+With --gateway the texts go to the tills that watch the lane; without it they are checked here, to try a scanner.
 
   $ noriladle scanner /dev/ttyACM0
 """

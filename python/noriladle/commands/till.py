@@ -1,7 +1,7 @@
 """Submit rows to Redis, and print their answers
 
-A row, or a text of a scanner, a line of standard input; a line of output is its number, from 0, and its answer. A lane
-has one till. The password of Redis is that of the environment's REDIS_PASSWORD.
+Each line of standard input is a row or the text of a scanner; each line of output is its number, from 0, and its answer.
+A lane has one till. The password of Redis is in the environment's REDIS_PASSWORD.
 
   $ noriladle till --redis 10.0.0.5:6379 north.0 < rows
 """

@@ -2,7 +2,7 @@
 
 Any number of workers may have the same lanes, at most 16 each: they share them, and take over those of one that ends. A
 till is noriladle till, or a program with noriladle.streams. docs/REDIS.md says what is promised and what Redis must
-keep, and docs/OPERATIONS.md how to run it. The password of Redis is that of the environment's REDIS_PASSWORD.
+keep, and docs/OPERATIONS.md how to run it. The password of Redis is in the environment's REDIS_PASSWORD.
 
   $ noriladle worker --redis 10.0.0.5:6379 --name one north.0 north.1
 """
