@@ -495,7 +495,10 @@ def test_what_an_operator_sees_of_a_worker():
 
         asyncio.run(test())
         assert (page("/healthz"), page("/readyz")) == ("ok\n", "ready\n")
-        values = dict(line.rsplit(" ", 1) for line in page("/metrics").splitlines() if not line.startswith("#"))
+        # The till has an answer before the worker has counted it.
+        values, end = {"noriladle_under_way": None}, time.monotonic() + 10
+        while values["noriladle_under_way"] != "0" and time.monotonic() < end:
+            values = dict(line.rsplit(" ", 1) for line in page("/metrics").splitlines() if not line.startswith("#"))
         assert values['noriladle_answers_total{lane="3"}'] == "3" and values['noriladle_refusals_total{number="19"}'] == "1"
         assert (values["noriladle_leases"], values["noriladle_under_way"], values["noriladle_hubs_total"]) == ("2", "0", "1")
         worker.terminate()
