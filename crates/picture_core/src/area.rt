@@ -44,8 +44,8 @@ impl Size {
     }
 }
 
-/// What may be rounded off of a place on a frame, in 1/256 dot.
-const ROUNDED: i64 = 2;
+/// More than is rounded off of a place on a frame, up to 8,192 dots away: a quarter of a dot.
+const ROUNDED: i64 = 64;
 
 impl Area {
     /// The least box on a frame that has all these places in it.
