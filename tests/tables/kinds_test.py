@@ -1,5 +1,6 @@
-"""The lists of kinds that tables/kinds writes of tables/kinds.tsv, and that another list is noticed."""
+"""The lists of kinds that tables/kinds writes of tables/kinds.tsv, that another list is noticed, and the places that it prints."""
 
+import contextlib
 import pathlib
 import shutil
 import subprocess
@@ -14,35 +15,75 @@ FILES = """
     crates/command_core/src/commands/print.rt
 """.split()
 
+# A seventh kind, and its form.
+JAN9 = "jan9\tJAN-9\t6\t]E9\t9\t70\t7\t7\tJAN9\tJAN-9\tJAN-9\t963850746\t(01)00000963850746\n"
+FORM = '  "forms": {\n    "jan9": {"identifier": ""},'
+
+
+def read(file):
+    return file.read_text(encoding="utf-8")
+
+
+def change(file, old, new):
+    file.write_text(read(file).replace(old, new), encoding="utf-8")
+
 
 class KindsTest(unittest.TestCase):
     def ran(self, root, *words):
-        return subprocess.run([sys.executable, root / "tables" / "kinds", *words], stdout=subprocess.PIPE, text=True, check=False)
+        return subprocess.run([sys.executable, root / "tables" / "kinds", *words], stdout=subprocess.PIPE, stderr=subprocess.PIPE, text=True, check=False)
 
-    def test_the_files_have_them(self):
-        said = self.ran(ROOT, "--check")
-        self.assertEqual((said.returncode, said.stdout), (0, ""))
-
-    def test_a_changed_kind_is_noticed_and_written(self):
+    @contextlib.contextmanager
+    def copied(self):
+        """A folder with the table and the files that have lists."""
         with tempfile.TemporaryDirectory() as name:
             copy = pathlib.Path(name)
             for file in FILES:
                 (copy / file).parent.mkdir(parents=True, exist_ok=True)
                 shutil.copy(ROOT / file, copy / file)
-            table = copy / "tables" / "kinds.tsv"
-            table.write_text(table.read_text(encoding="utf-8").replace("ean8\tEAN-8\t2\t]E4", "jan8\tJAN-8\t2\t]E3"), encoding="utf-8")
-            shop = copy / "shop" / "shop.json"
-            shop.write_text(shop.read_text(encoding="utf-8").replace('"ean8": {', '"jan8": {'), encoding="utf-8")
+            yield copy, copy / "tables" / "kinds.tsv", copy / "shop" / "shop.json"
+
+    def has_all(self, root):
+        said = self.ran(root, "--check")
+        self.assertEqual((said.returncode, said.stdout), (0, ""))
+
+    def test_the_files_have_them(self):
+        self.has_all(ROOT)
+
+    def test_a_changed_kind_is_noticed_and_written(self):
+        with self.copied() as (copy, table, shop):
+            change(table, "ean8\tEAN-8\t2\t]E4", "jan8\tJAN-8\t2\t]E3")
+            change(shop, '"ean8": {', '"jan8": {')
             said = self.ran(copy, "--check")
             differ = {line.split(":")[0] for line in said.stdout.splitlines()}
             self.assertEqual((said.returncode, differ), (1, {*FILES[3:]}))
             self.assertEqual(self.ran(copy).returncode, 0)
-            said = self.ran(copy, "--check")
-            self.assertEqual((said.returncode, said.stdout), (0, ""))
-            self.assertIn("GS1_JAN8 = 2", (copy / "crates" / "gs1_c" / "gs1.h").read_text(encoding="utf-8"))
-            self.assertIn('"jan8": {"identifier": "]E3"', shop.read_text(encoding="utf-8"))
+            self.has_all(copy)
+            self.assertIn("GS1_JAN8 = 2", read(copy / "crates" / "gs1_c" / "gs1.h"))
+            self.assertIn('"jan8": {"identifier": "]E3"', read(shop))
+
+    def test_nothing_is_written_if_a_kind_has_no_form(self):
+        with self.copied() as (copy, table, _):
+            table.write_text(read(table) + JAN9, encoding="utf-8")
+            before = [read(copy / file) for file in FILES]
+            said = self.ran(copy)
+            self.assertNotEqual(said.returncode, 0)
+            self.assertIn("shop/shop.json: 0 lists", said.stderr)
+            self.assertEqual([read(copy / file) for file in FILES], before)
 
     def test_places(self):
         said = self.ran(ROOT, "--places").stdout.splitlines()
         self.assertTrue(any(line.startswith("crates/sheet_core/src/kind.rt: ") for line in said))
         self.assertRegex(said[-1], r"^\d+ files, \d+ lines$")
+
+    def test_what_is_left_of_a_new_kind(self):
+        with self.copied() as (copy, table, shop):
+            table.write_text(read(table) + JAN9, encoding="utf-8")
+            change(shop, '  "forms": {', FORM)
+            for words in ["init -q", "add ."]:
+                subprocess.run(["git", *words.split()], cwd=copy, check=True)
+            self.assertIn("\npage/gs1.js: ", self.ran(copy, "--left").stdout)
+            self.assertEqual(self.ran(copy).returncode, 0)
+            said = self.ran(copy, "--left").stdout
+            self.assertNotIn("page/gs1.js: ", said)
+            # Its form stands away from that of the kind before.
+            self.assertIn("\nshop/shop.json: ", said)
