@@ -9,7 +9,7 @@ from sheets import LOW, RECORD, image
 with open(os.path.join(os.path.dirname(__file__), "..", "..", "VERSION"), encoding="utf-8") as it:
     VERSION = f"gs1_hub {it.read().strip()} (rattle logic dac8208d650f15bf)\n"
 
-YEAR = "--year <YEAR> Year that 1951 to 2149"
+YEAR = "--year <YEAR> Reference year 1951 to 2149"
 AIS = "--ais <AIS> AIs profile all GS1 General Specifications [default: profile] [possible values: profile, all]"
 WORKERS = "--workers <COUNT> threads 1 to 16"
 GRID = [

@@ -34,7 +34,7 @@ def tell(said: str) -> None:
 def add_year(parser: argparse.ArgumentParser) -> None:
     """Adds the option for the year that dates of two digits are read by."""
     parser.add_argument("--year", type=_year, default=datetime.date.today().year, metavar="YEAR",
-                        help="Year that dates of two digits are read by, 1951 to 2149 [default: this year]")
+                        help="Reference year for years of two digits, 1951 to 2149 [default: this year]")
 
 
 def add_ais(parser: argparse.ArgumentParser) -> None:
