@@ -200,7 +200,7 @@ def refuses(page):
     narrow = row[22 - 8:]
     png(f"{WORK}/narrow.png", len(narrow), 9, lambda y: bytes(255 * light for light in narrow) if y < 3 else b"\xff" * len(narrow))
     choose(page, f"{WORK}/narrow.png")
-    same("a quiet zone that is too narrow, above more rows that are blank", (shown(page), answers(page)), ("none", []))
+    same("a quiet zone that is too narrow, above more rows that are blank", (shown(page), answers(page)), ("refused 21 QuietZone", []))
     crowded = [255 * light for light in row[22 - 4:-14 + 4]]
     tall = [b"\xff" * 600] * 40 + [b"\xff" * 100 + bytes([0] * 20 + crowded + [0] * 20) + b"\xff" * 360] * 80 + [b"\xff" * 600] * 40
     png(f"{WORK}/crowded.png", 600, 160, lambda y: tall[y][:600])
@@ -350,7 +350,7 @@ def counts_symbols(page):
     noise = random.Random(7)
     png(f"{WORK}/noise.png", 1000, 750, lambda y: bytes(noise.choices((0, 255), k=1000)))
     choose(page, f"{WORK}/noise.png")
-    same("noise", (shown(page), answers(page)), ("none", []))
+    same("noise", (shown(page), answers(page)), ("refused 21 QuietZone", []))
     same("noise in a second", quickest(page, 1000) < 1000, True)
     png(f"{WORK}/fence.png", 640, 480, lambda y: (b"\0\0" + b"\xff" * 10) * 53 + b"\xff" * 4)
     choose(page, f"{WORK}/fence.png")

@@ -102,6 +102,8 @@ def labels(person, stocks):
         if not is_roll:
             browser.fill("#first", "2")
         sheets = person.page("onRoll") if is_roll else person.page("onSheets1")
+        # What stands there may be what was told of the stock before. (Firefox shows a test no promise of the page.)
+        browser.value("document.made?.then(() => true)")
         person.waits(f"labels on {stock}", "labels-told", f"{person.page('labelCount', COUNT)} {sheets}")
         wanted = f"noriladle {COUNT}, zbarimg {COUNT}"
         printed = browser.printed(wide, high)
