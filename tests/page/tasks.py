@@ -60,7 +60,7 @@ class Person:
         """What a button saves; the file is taken away."""
         path = os.path.join(self.folder, name)
         self.browser.click(button)
-        limit = time.time() + 90
+        limit = time.time() + 240
         while not (os.path.exists(path) and os.path.getsize(path)):
             if time.time() > limit:
                 raise TimeoutError(f"{self.name}: {path}")
