@@ -64,7 +64,9 @@ class Edit:
                 [*words, *shlex.split(self.test)], cwd=folder, env={**os.environ, "PYTHONPATH": paths, "SCANS": "6000", "REPOSITORY": str(ROOT)}, stdin=subprocess.DEVNULL,
                 capture_output=True, text=True,
             )
-        found = ran.returncode == 1 and " failed" in ran.stdout or ran.returncode in (124, 137)
+        # A test that passed, and then had an error, found at its end that a service wrote to standard error.
+        wrong = " failed" in ran.stdout or (" passed" in ran.stdout and " error" in ran.stdout)
+        found = ran.returncode == 1 and wrong or ran.returncode in (124, 137)
         print(f"{'found' if found else 'MISSED'}: {self.name}", flush=True)
         if not found:
             print(ran.stdout[-500:] + ran.stderr[-500:], file=sys.stderr)
