@@ -44,7 +44,7 @@ test("the examples of the README", () => {
   const error = thrown(() => gs1.parseElements("10AB\x1d17261331", 2026));
   assert.ok(error instanceof Refusal);
   assert.deepEqual([error.message, error.before.map(({ value }) => value), error.ai], ["refused 9 ValueDate 5", ["AB"], "17"]);
-  assert.match(error.remedy, /^write YYMMDD, 00 for the last day of the month /);
+  assert.match(error.remedy, /^write YYMMDD, with 00 for the last day of the month /);
   assert.throws(() => gs1.readGtin("9501101530004"), { number: 3, fault: "CheckDigit", before: [], ai: undefined });
 });
 
