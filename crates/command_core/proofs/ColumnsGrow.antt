@@ -9,7 +9,8 @@ use Rattle.std.proofs.lemmas.Slice.Zip.{AllZip-long}
 use Rattle.std.specs.List.{AllZip, flat_map, range_with_len}
 use Rattle.sheet_core.specs.Bitmaps.{Bitmap}
 use Rattle.sheet_core.specs.Grids.{Cells}
-use Rattle.command_core.specs.Columns.{AreColumns, HaveDots, IsKept, column_dots, has_size, have_size}
+use Rattle.command_core.specs.Columns.{AreColumns, HaveDots, column_dots, has_size, have_size}
+use Rattle.command_core.specs.inner.Cuts.{AreCut}
 use Rattle.command_core.proofs.ColumnFacts.{one_more_sheet}
 
 -- ---- items beside numbers in a row
@@ -109,26 +110,26 @@ up_to_next f g sheets s vs v w more i end is at low are shown added =
 
 -- ---- what is kept of sheets
 
-kept_more : (g : Cells) (sheets : List Bitmap) (s : Bitmap) (feeds new : List (List (List ℕ))) (fit fits now : Bool) → IsKept g sheets fit feeds
+kept_more : (g : Cells) (sheets : List Bitmap) (s : Bitmap) (feeds new : List (List (List ℕ))) (fit fits now : Bool) → AreCut g sheets fit feeds
     → fits ≡ has_size g s → now ≡ (fit && fits)
-    → (now ≡ true → AreColumns g sheets feeds → AreColumns g (sheets ++ s ∷ []) new) → IsKept g (sheets ++ s ∷ []) now new
+    → (now ≡ true → AreColumns g sheets feeds → AreColumns g (sheets ++ s ∷ []) new) → AreCut g (sheets ++ s ∷ []) now new
 kept_more g sheets s feeds new fit fits now was is all grown =
     (size_more g sheets s fit fits now was.0 is all, λ whole. grown whole (was.1 (and_parts fit fits (sym all ∙ whole)).0))
 
 -- a sheet after one of another size
-pub kept_unfit : (g : Cells) (sheets : List Bitmap) (s : Bitmap) (feeds new : List (List (List ℕ))) (fit : Bool) → IsKept g sheets fit feeds → fit ≡ false
-    → IsKept g (sheets ++ s ∷ []) fit new
+pub kept_unfit : (g : Cells) (sheets : List Bitmap) (s : Bitmap) (feeds new : List (List (List ℕ))) (fit : Bool) → AreCut g sheets fit feeds → fit ≡ false
+    → AreCut g (sheets ++ s ∷ []) fit new
 kept_unfit g sheets s feeds new true was is = absurd (false≢true (sym is))
 kept_unfit g sheets s feeds new false was is =
     kept_more g sheets s feeds new false (has_size g s) false was refl refl (λ whole. absurd (false≢true whole))
 
 -- a sheet of another size
-pub kept_other : (g : Cells) (sheets : List Bitmap) (s : Bitmap) (feeds new : List (List (List ℕ))) (fit : Bool) → IsKept g sheets fit feeds
-    → false ≡ has_size g s → IsKept g (sheets ++ s ∷ []) false new
+pub kept_other : (g : Cells) (sheets : List Bitmap) (s : Bitmap) (feeds new : List (List (List ℕ))) (fit : Bool) → AreCut g sheets fit feeds
+    → false ≡ has_size g s → AreCut g (sheets ++ s ∷ []) false new
 kept_other g sheets s feeds new true was is = kept_more g sheets s feeds new true false false was is refl (λ whole. absurd (false≢true whole))
 kept_other g sheets s feeds new false was is = kept_more g sheets s feeds new false false false was is refl (λ whole. absurd (false≢true whole))
 
 -- a sheet of the size
-pub kept_fit : (g : Cells) (sheets : List Bitmap) (s : Bitmap) (feeds new : List (List (List ℕ))) (fit : Bool) → IsKept g sheets fit feeds
-    → true ≡ has_size g s → (AreColumns g sheets feeds → AreColumns g (sheets ++ s ∷ []) new) → IsKept g (sheets ++ s ∷ []) fit new
+pub kept_fit : (g : Cells) (sheets : List Bitmap) (s : Bitmap) (feeds new : List (List (List ℕ))) (fit : Bool) → AreCut g sheets fit feeds
+    → true ≡ has_size g s → (AreColumns g sheets feeds → AreColumns g (sheets ++ s ∷ []) new) → AreCut g (sheets ++ s ∷ []) fit new
 kept_fit g sheets s feeds new fit was is grown = kept_more g sheets s feeds new fit true fit was is (sym (and_true fit)) (λ whole are. grown are)

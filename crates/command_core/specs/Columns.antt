@@ -1,5 +1,5 @@
 -- The rows of the columns of sheets.
-use Rattle.std.specs.Prelude.{true, ◌≡◌, ◌==◌, ◌&&◌, ◌+◌, ◌*◌, ◌/◌, ℕ, Bool, List, map}
+use Rattle.std.specs.Prelude.{◌≡◌, ◌==◌, ◌&&◌, ◌+◌, ◌*◌, ◌/◌, ℕ, Bool, List, map}
 use Rattle.std.specs.List.{AllZip, flat_map, list_all, range_with_len}
 use Rattle.scan_core.specs.Row.{IsRow, dots_of}
 use Rattle.sheet_core.specs.Bitmaps.{Bitmap, cell_dots}
@@ -28,7 +28,3 @@ HaveDots rows dots = AllZip (λ runs shown. IsRow runs × (dots_of runs ≡ show
 -- the rows of each column, sheet after sheet
 abbrev pub AreColumns : Cells → List Bitmap → List (List (List ℕ)) → Type 0
 AreColumns g sheets feeds = AllZip (λ rows column. HaveDots rows (flat_map (column_dots g column) sheets)) feeds (range_with_len 0 g.columns)
-
--- what is kept of sheets: whether each has the grid's size, and, while each has, the rows of their columns
-abbrev pub IsKept : Cells → List Bitmap → Bool → List (List (List ℕ)) → Type 0
-IsKept g sheets fit feeds = (fit ≡ have_size g sheets) × (fit ≡ true → AreColumns g sheets feeds)

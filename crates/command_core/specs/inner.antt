@@ -1,6 +1,7 @@
 -- Definitions for the inside of the crate: types, private contracts and proofs name them, and no public contract reaches them.
 pub mod Buffers
 pub mod Came
+pub mod Cuts
 pub mod Finish
 pub mod Lines
 pub mod Lived

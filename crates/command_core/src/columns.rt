@@ -5,7 +5,8 @@ ghost use Rattle.hub_core.specs.Serving.{are_short};
 ghost use Rattle.sheet_core.specs.Bitmaps.{Bitmap};
 ghost use Rattle.sheet_core.specs.declared.fault.PbmFault.{PbmFault};
 ghost use Rattle.sheet_core.specs.pbm.Images.{ReadsBytes, images_of};
-ghost use Rattle.command_core.specs.Columns.{AreColumns, HaveDots, IsKept, column_dots, has_size, have_size};
+ghost use Rattle.command_core.specs.Columns.{AreColumns, HaveDots, column_dots, has_size, have_size};
+ghost use Rattle.command_core.specs.inner.Cuts.{AreCut};
 
 use digits_core::Source;
 use scan_core::Runs;
@@ -83,7 +84,7 @@ struct RowsByColumn {
 impl SheetIntake for RowsByColumn {
     type Made = Kept;
 
-    ghost makes = { λ by sheets kept. IsKept by.grid sheets kept.fit (map (λ feed. feed.items) kept.feeds.items) };
+    ghost makes = { λ by sheets kept. AreCut by.grid sheets kept.fit (map (λ feed. feed.items) kept.feeds.items) };
 
     fn take(&self, kept: &mut Kept, sheet: Sheet) -> Result<(), NoMemory> {
         if !kept.fit {
