@@ -9,7 +9,7 @@ use Rattle.code128_code.specs.declared.meanings.Meaning.TheVariants.{Byte, Digit
 use Rattle.code128_code.specs.Coding.{digits_ahead, is_coded_byte, pair}
 use Rattle.code128_code.specs.inner.Steps.{coded_on, has_even_run}
 use Rattle.code128_code.specs.Texts.{before, meaning, text_from, two_digits}
-use Rattle.code128_code.proofs.SaidFacts.{plain_step}
+use Rattle.code128_code.proofs.ValuesSay.{plain_step}
 
 abbrev pub set_by : Bool → CodeSet
 set_by true = C

@@ -11,7 +11,7 @@ use Rattle.code128_code.specs.Coding.{data_values, digits_ahead, is_coded_byte, 
 use Rattle.code128_code.specs.inner.Steps.{coded_on, has_even_run}
 use Rattle.code128_code.specs.Symbols.{AreValues}
 use Rattle.code128_code.proofs.CodedFacts.{digit_is, on_is_short, run_is, two}
-use Rattle.code128_code.proofs.RunFacts.{coded_is}
+use Rattle.code128_code.proofs.RunsAreCoded.{coded_is}
 
 -- what is left from a place on
 pub rest_of : (xs : List ℕ) (n : ℕ) → take (length xs - n) (drop n xs) ≡ drop n xs

@@ -5,7 +5,7 @@ use Rattle.code128_code.specs.declared.fault.Code128Fault.TheVariants as faults
 use Rattle.code128_code.specs.Laws.{ModulesSay}
 use Rattle.code128_code.specs.Symbols.{IsCode128Symbol, mod103}
 use Rattle.code128_code.specs.Texts.{IsGs1Symbol, gs1_text, set_of, symbol_text, text_from}
-use Rattle.code128_code.proofs.SymbolFacts.{one_reading}
+use Rattle.code128_code.proofs.OneCharacterList.{one_reading}
 
 gs1_symbol : (s c : ℕ) (vs ms text : List ℕ) → IsCode128Symbol s vs c ms → c ≡ mod103 s vs → gs1_text (set_of s) vs ≡ Ok text → IsGs1Symbol ms text
 gs1_symbol s c [] ms text e right h = cc

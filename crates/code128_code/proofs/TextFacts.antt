@@ -11,7 +11,7 @@ use Rattle.code128_code.specs.Laws.{TextOrFault}
 use Rattle.code128_code.specs.inner.Steps.{text_by}
 use Rattle.code128_code.specs.Texts.{HasFault, Says, before, meaning, says, shifted_byte, two_digits}
 use Rattle.code128_code.specs.Texts.Says.{byte, digits, latch, nothing, shift}
-use Rattle.code128_code.proofs.SaidFacts.{before-before, before-ok, plain_step, shifted_step, step_is}
+use Rattle.code128_code.proofs.ValuesSay.{before-before, before-ok, plain_step, shifted_step, step_is}
 
 -- ---- a text
 

@@ -34,14 +34,14 @@ letter b = b - 32
 abbrev pub pair : ℕ → ℕ → ℕ
 pair a b = 10 * (a - 48) + (b - 48)
 
--- Digits where code set C is in use, before what follows in the code set that they leave: two are one value, and before a last one that is left
+-- Digits if code set C is in use, before what follows in the code set that they leave: two are one value, and before a last one that is left
 -- over the code set changes to B.
 abbrev pub digits_in_c : List ℕ → (CodeSet → List ℕ) → List ℕ
 digits_in_c [] after = after C
 digits_in_c (d ∷ []) after = code_b ∷ letter d ∷ after B
 digits_in_c (a ∷ b ∷ digits) after = pair a b ∷ digits_in_c digits after
 
--- Digits where code set B is in use: fewer than four are a value each. Before four or more the code set changes to C, where they are odd in number
+-- Digits if code set B is in use: fewer than four are a value each. Before four or more the code set changes to C, if they are odd in number
 -- after the first of them.
 abbrev pub digits_in_b : List ℕ → (CodeSet → List ℕ) → List ℕ
 digits_in_b [] after = after B
@@ -50,7 +50,7 @@ digits_in_b (d ∷ digits) after =
     else if length (d ∷ digits) % 2 == 0 then code_c ∷ digits_in_c (d ∷ digits) after
     else letter d ∷ code_c ∷ digits_in_c digits after
 
--- The values of runs where this code set, C or else B, is in use. A separator is FNC1 in both; before another byte that is no digit the code set
+-- The values of runs if this code set, C or else B, is in use. A separator is FNC1 in both; before another byte that is no digit the code set
 -- changes from C to B.
 abbrev pub coded_runs : CodeSet → List Run → List ℕ
 coded_runs set [] = []

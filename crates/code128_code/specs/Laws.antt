@@ -20,7 +20,7 @@ abbrev pub OneWay : Type 0
 OneWay = (start other check last : ℕ) (values others modules : List ℕ)
     → IsCode128Symbol start values check modules → IsCode128Symbol other others last (reverse modules) → ⊥
 
--- a symbol of so many start, data and check characters has so many widths, of so many modules in all, and its outer bars have two
+-- the widths and the modules of a symbol with this many start, data and check characters; its outer bars have two
 pub record HasMeasures (characters : ℕ) (modules : List ℕ) : Type 0 where
   pub least : 3 ≤ characters
   pub greatest : characters ≤ 98
@@ -34,7 +34,7 @@ abbrev pub Measures : Type 0
 Measures = (start check : ℕ) (values modules : List ℕ)
     → IsCode128Symbol start values check modules → HasMeasures (length values + 2) modules
 
--- where the check character is right, one start, data or check character replaced by another leaves a wrong one
+-- if the check character is right, one start, data or check character replaced by another leaves a wrong one
 abbrev pub ReplacedIsUnchecked : Type 0
 ReplacedIsUnchecked = (start other check last k v : ℕ) (values others modules replaced : List ℕ)
     → IsCode128Symbol start values check modules
@@ -68,7 +68,7 @@ CodedIsShort = (text : List ℕ) → 2 ≤ digits_ahead text → length (coded t
 abbrev pub SaidIsShort : Type 0
 SaidIsShort = (set : CodeSet) (values text : List ℕ) → text_from set values ≡ Ok text → length text ≤ 2 * length values
 
--- values have a text exactly where each has a meaning in turn; the fault is that of the first that has none
+-- values have a text exactly if each has a meaning in turn; the fault is that of the first that has none
 pub record TextOrFault (set : CodeSet) (values : List ℕ) : Type 0 where
   pub text : (text : List ℕ) → (text_from set values ≡ Ok text) ↔ ((to : CodeSet) × Says set values text to)
   pub fault : (fault : Code128Fault) → (text_from set values ≡ Err fault)

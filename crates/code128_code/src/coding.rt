@@ -70,7 +70,7 @@ fn takes_pair(in_c: bool, text: &[u8]) -> bool
     }
 }
 
-/// Changes to code set C, or else to B, where it is not in use.
+/// Changes to code set C, or else to B, if it is not in use.
 fn change_to(coder: &mut Coder, in_c: bool)
     requires room { array_vec_len coder.old.values < 96 }
     ensures values { coder.new.values.items ≡ coder.old.values.items ++ change coder.old.in_c in_c }

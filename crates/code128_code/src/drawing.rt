@@ -36,7 +36,7 @@ fn symbol(start: u8, values: &[u8], check: u8) -> Modules
 /// by a fixed rule that is not always the shortest, and the check character
 /// (GS1 General Specifications, section 5.4).
 ///
-/// The fault `TooManyCharacters` comes exactly where the canonical text has more than 48 bytes.
+/// The fault `TooManyCharacters` comes exactly if the canonical text has more than 48 bytes.
 pub fn encode(elements: &Elements) -> Result<Modules, TooManyCharacters>
     ensures drawn { IfOk result (λ m. let values = data_values (canonical elements.now.list)
         in IsCode128Symbol 105 values (mod103 105 values) m) }

@@ -22,7 +22,7 @@ pub enum Code128Fault {
 }
 
 impl Code128Fault {
-    /// The refusal that an output line tells.
+    /// The refusal that an output line reports.
     pub fn refusal(self) -> Refusal
         ensures { refusal_text result.kind result.place ≡ code128_fault_text self }
     {
@@ -50,7 +50,7 @@ impl fmt::Display for Code128Fault {
 pub struct TooManyCharacters;
 
 impl TooManyCharacters {
-    /// The refusal that an output line tells.
+    /// The refusal that an output line reports.
     pub fn refusal(self) -> Refusal
         ensures { refusal_text result.kind result.place ≡ refusal_words refusal.TooManyCharacters }
     {

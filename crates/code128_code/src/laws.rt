@@ -19,13 +19,13 @@ pub fn measures()
     ensures { Measures }
 {}
 
-/// Where the check character is right, one start, data or check character replaced by another
+/// If the check character is right, one start, data or check character replaced by another
 /// leaves a wrong one.
 pub fn replaced_is_unchecked()
     ensures { ReplacedIsUnchecked }
 {}
 
-/// A symbol's values say a text exactly where its modules are the GS1-128 symbol of that text.
+/// A symbol's values say a text exactly if its modules are the GS1-128 symbol of that text.
 pub fn modules_say()
     ensures { ModulesSay }
 {}

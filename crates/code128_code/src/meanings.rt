@@ -32,7 +32,7 @@ pub(crate) fn byte_of_a(value: u8) -> u8
     if value < 64 { value + 32 } else { value - 64 }
 }
 
-/// What a value from 96 on means in code sets A and B, where `change` changes to the other of the two.
+/// What a value from 96 on means in code sets A and B: `change` changes to the other of the two.
 fn special_meaning(value: u8, change: u8, other: CodeSet) -> Meaning
     ensures { result ≡ special value change other }
 {

@@ -1,7 +1,7 @@
 //! The values of a symbol.
 use arrayvec::ArrayVec;
 
-/// The values of a Code 128 symbol, in the ranges below where `values` read them.
+/// The values of a Code 128 symbol, in the ranges below if `values` read them.
 #[derive(Clone, Debug, Drop, PartialEq, Eq)]
 pub struct Values {
     /// The data values, 1 to 96 of them, each 0 to 102.

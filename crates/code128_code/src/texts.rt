@@ -127,7 +127,7 @@ fn is_gs1(values: &[u8]) -> bool
 /// The text of a GS1-128 symbol by its values: of those after the first, which is FNC1, at most 190
 /// bytes. A later FNC1 is a separator, byte 29 (GS1 General Specifications, section 5.4).
 ///
-/// The fault is `CheckCharacter` where the check character is wrong, then `NotGs1` where the first
+/// The fault is `CheckCharacter` if the check character is wrong, then `NotGs1` if the first
 /// value is not FNC1, then that of the first value from the left that means nothing in its code
 /// set: `FunctionCharacter` for FNC2, FNC3, FNC4 and for what is no data value, `CodeSet` for a
 /// SHIFT without a value 0 to 95 after it.

@@ -4,7 +4,7 @@ use Rattle.std.specs.Prelude.{◌==◌, if◌then◌else◌}
 use Rattle.std.proofs.lemmas.Bool.{cases_lt}
 use Rattle.digits_core.specs.Laws.{OneFirstSpelling}
 use Rattle.digits_core.specs.Upce.{upce_expanded, upce_line}
-use Rattle.digits_core.proofs.Lines.{first_line, second_line, third_line, fourth_line, line_of_first, line_of_second, line_of_third, line_of_fourth}
+use Rattle.digits_core.proofs.ZeroSuppression.{first_line, second_line, third_line, fourth_line, line_of_first, line_of_second, line_of_third, line_of_fourth}
 use Rattle.digits_core.proofs.Suppression.{expanded_shape, padded_twelve}
 
 -- the six digits that stand for twelve by a line

@@ -9,7 +9,7 @@ use Rattle.digits_core.specs.Digits.{AreAsciiDigits, IsChecked, digits_of, padde
 use Rattle.digits_core.specs.inner.Upce.{IsFirstSix, IsSix}
 use Rattle.digits_core.specs.Upce.{IsFirstUpceOf, IsUpceOf, upce_expanded, upce_line}
 use Rattle.digits_core.proofs.DigitTexts.{digit_at}
-use Rattle.digits_core.proofs.Lines.{first_line, second_line, third_line, fourth_line, line_of_first, line_of_second, line_of_third, line_of_fourth}
+use Rattle.digits_core.proofs.ZeroSuppression.{first_line, second_line, third_line, fourth_line, line_of_first, line_of_second, line_of_third, line_of_fourth}
 
 -- n bytes of the text from the i-th on are '0'
 abbrev pub HasZeros : ℕ → ℕ → List ℕ → Type 0

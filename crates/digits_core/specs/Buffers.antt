@@ -5,7 +5,7 @@ use Rattle.std.specs.Prelude.{◌≡◌, ◌≤◌, ◌<◌, ◌+◌, ◌++◌, 
 abbrev pub pasted : List ℕ → ℕ → List ℕ → List ℕ
 pasted old at bytes = take at old ++ (bytes ++ drop (at + length bytes) old)
 
--- the count is that of the bytes, which stand at the front of the buffer where it has room for all of them, and else it stays as it was
+-- the count is that of the bytes, which stand at the front of the buffer if it has room for all of them, and else it stays as it was
 pub record IsPut (bytes old new : List ℕ) (count : ℕ) : Type 0 where
   pub counted : count ≡ length bytes
   pub front : length bytes ≤ length old → new ≡ bytes ++ drop (length bytes) old

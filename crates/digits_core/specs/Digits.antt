@@ -25,7 +25,7 @@ pub ascii_of-digits_of : (text : List ℕ) → AreAsciiDigits text → ascii_of 
 ascii_of-digits_of [] h = refl
 ascii_of-digits_of (b ∷ text) h = ap₂ (λ c cs. c ∷ cs) (sub-add_cancel h.0.0) (ascii_of-digits_of text h.1)
 
--- the weight of a digit with so many after it: 1 for the last, then 3 and 1 in turn
+-- the weight of a digit with this many after it: 1 for the last, then 3 and 1 in turn
 abbrev pub weight : ℕ → ℕ
 weight after = 1 + 2 * (after % 2)
 

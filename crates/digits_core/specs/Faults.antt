@@ -7,7 +7,7 @@ use Rattle.digits_core.specs.declared.fault.DigitFault.TheVariants.{Length, NotD
 use Rattle.digits_core.specs.declared.source.InputFault.{InputFault}
 use Rattle.digits_core.specs.declared.source.InputFault.TheVariants.{ReadFault, InputSize, NoMemory}
 
--- `refused`, its number, its name and, where it has one, its place
+-- `refused`, its number, its name and, if it has one, its place
 abbrev pub digit_fault_text : DigitFault → List ℕ
 digit_fault_text Length = refusal_words refusal.Length
 digit_fault_text (NotDigit place) = refusal_text refusal.NotDigit (Some place)

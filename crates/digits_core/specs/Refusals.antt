@@ -51,7 +51,7 @@ refusal_words refusal.Words = codes "refused 42 Words"
 refusal_words refusal.NoMemory = codes "refused 43 NoMemory"
 refusal_words refusal.InputSize = codes "refused 44 InputSize"
 
--- its words and, where it has a place, a space and the digits of it
+-- its words and, if it has a place, a space and the digits of it
 abbrev pub refusal_text : RefusalKind → Option ℕ → List ℕ
 refusal_text kind None = refusal_words kind
 refusal_text kind (Some place) = refusal_words kind ++ (32 ∷ decimal place)

@@ -18,7 +18,7 @@ pub enum DigitFault {
 }
 
 impl DigitFault {
-    /// The refusal that an output line tells.
+    /// The refusal that an output line reports.
     pub fn refusal(self) -> Refusal
         ensures { refusal_text result.kind result.place ≡ digit_fault_text self }
     {

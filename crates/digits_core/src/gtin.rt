@@ -92,7 +92,7 @@ impl Gtin {
         self.digits
     }
 
-    /// The last `N` digits, in ASCII, where all before them are zeros.
+    /// The last `N` digits, in ASCII, if all before them are zeros.
     fn last_digits<const N: usize>(&self) -> Option<[u8; N]>
         requires { N ≤ 14 }
         ensures some { IsSome result ↔ (self.now ≡ padded (drop (14 - N) self.now)) }

@@ -161,7 +161,7 @@ impl fmt::Display for RefusalKind {
     }
 }
 
-/// A refusal, and its place where it has one.
+/// A refusal, and its place if it has one.
 #[derive(Clone, Copy, Debug, PartialEq, Eq)]
 pub struct Refusal {
     /// What is refused.

@@ -5,9 +5,9 @@ ghost use Rattle.digits_core.specs.Bytes.{TookFront};
 
 use crate::source::Failed;
 
-/// A writer that tells what it took and whether it has failed.
+/// A writer that knows what it took and whether it has failed.
 pub trait Sink {
-    // The bytes that it took, where they are known.
+    // The bytes that it took, if they are known.
     ghost taken: { Self → Option (List ℕ) };
     // An `Err` sets it for good, and nothing else does.
     ghost failed: { Self → Bool };

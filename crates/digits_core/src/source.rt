@@ -13,9 +13,9 @@ use std::fmt;
 #[derive(Clone, Copy, Debug, PartialEq, Eq)]
 pub struct Failed;
 
-/// A reader that tells what it will still give and whether it has failed.
+/// A reader that knows what it will still give and whether it has failed.
 pub trait Source {
-    // The bytes that reads will give from here on, where they are known.
+    // The bytes that reads will give from here on, if they are known.
     ghost left: { Self → Option (List ℕ) };
     // An `Err` sets it for good, and nothing else does.
     ghost failed: { Self → Bool };
@@ -45,7 +45,7 @@ pub enum InputFault {
 }
 
 impl InputFault {
-    /// The refusal that an output line tells.
+    /// The refusal that an output line reports.
     pub fn refusal(self) -> Refusal
         ensures { refusal_text result.kind result.place ≡ input_fault_text self }
     {

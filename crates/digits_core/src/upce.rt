@@ -83,7 +83,7 @@ fn suppressed(digits: [u8; 12]) -> Option<[u8; 6]>
 }
 
 /// The six digits and the check digit, in ASCII, that a UPC-E of this GTIN carries: by the first line of
-/// the zero-suppression table that has it, and none where no line has.
+/// the zero-suppression table that has it, and none if no line has.
 pub fn upce_suppress(gtin: &Gtin) -> Option<([u8; 6], u8)>
     ensures digits { IfSome result (λ spelled. AreAsciiDigits spelled.0) }
     ensures check { IfSome result (λ spelled. (48 ≤ spelled.1) × (spelled.1 < 58)) }

@@ -13,7 +13,7 @@ use Rattle.ean_code.proofs.Texts.{AreDigits-shown, shown_back}
 use Rattle.ean_code.proofs.symbologies.Ean13Facts.{owed as ean13}
 use Rattle.ean_code.proofs.symbologies.Ean8Facts.{owed as ean8}
 use Rattle.ean_code.proofs.symbologies.Itf14Facts.{owed as itf14}
-use Rattle.ean_code.proofs.symbologies.UpceFacts.{owed as upce}
+use Rattle.ean_code.proofs.symbologies.UpceReading.{owed as upce}
 
 -- the table of what they owe
 pub owed : (kind : Kind) → Owes kind

@@ -10,7 +10,7 @@ use Rattle.ean_code.specs.declared.kind.Kind.TheVariants.{UpcE}
 use Rattle.ean_code.proofs.Cells.{AllByRecursion-append, AllByRecursion-take}
 use Rattle.ean_code.proofs.Drawn.{digit_shown, part_shown}
 use Rattle.ean_code.proofs.Found.{last_of}
-use Rattle.ean_code.proofs.symbologies.UpceFacts.{last_small}
+use Rattle.ean_code.proofs.symbologies.UpceReading.{last_small}
 
 -- the digits of a symbol are a spelling of the checked GTIN that they stand for
 pub upce_of : (ws ds gtin : List ℕ) → IsNumberSymbol UpcE ws ds → IsGtinOf UpcE ds gtin → IsChecked gtin → IsUpceOf (take 6 ds) (get_or ds 6 0) gtin

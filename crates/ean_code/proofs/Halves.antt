@@ -35,7 +35,7 @@ framed_valid half ws l r h v =
 pub length-lefts : (cs : List Character) (n : ℕ) → AreCharacters cs → length cs ≡ n → length (flat_map left_widths cs) ≡ 4 * n
 length-lefts cs n v e = length-cells _ 4 left_widths left_char left_code cs v ∙ (omega arith)
 
--- the widths of so many characters on either side
+-- the widths of this many characters on either side
 pub framed_of : (n : ℕ) (ws : List ℕ) (ls : List Character) (rs : List ℕ) → AreHalves n ws ls rs
     → AreFramed (4 * n) ws (flat_map left_widths ls) (right_part rs)
 framed_of n ws ls rs h = record {

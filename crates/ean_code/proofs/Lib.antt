@@ -1,5 +1,6 @@
 pub mod AllKinds
 pub mod Cells
+pub mod CharacterTable
 pub mod Characters
 pub mod CountFacts
 pub mod Drawn
@@ -9,7 +10,6 @@ pub mod Found
 pub mod Halves
 pub mod ItfWidths
 pub mod Joined
-pub mod LookupFacts
 pub mod Options
 pub mod Owed
 pub mod PairFacts

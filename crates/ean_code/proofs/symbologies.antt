@@ -1,4 +1,4 @@
 pub mod Ean13Facts
 pub mod Ean8Facts
 pub mod Itf14Facts
-pub mod UpceFacts
+pub mod UpceReading

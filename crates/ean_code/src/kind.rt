@@ -21,7 +21,7 @@ pub enum Kind {
 }
 
 impl Kind {
-    /// The kind whose symbols have so many widths.
+    /// The kind whose symbols have this many widths.
     pub fn of_width_count(count: usize) -> Option<Kind>
         ensures found { IfSome result (λ kind. width_count kind ≡ count) }
         ensures none { IfNone result ((kind : Kind) → width_count kind ≢ count) }

@@ -11,7 +11,7 @@ pub fn one_spelled()
     ensures { OneSpelled }
 {}
 
-/// A symbol has widths of 1 to 4 modules, so many of them and so many modules together: an EAN-13 59
+/// A symbol has a fixed number of widths, each of 1 to 4 modules, and of modules together: an EAN-13 59
 /// of 95 modules, an EAN-8 43 of 67, a UPC-E 33 of 51, an ITF-14 77 of 135.
 pub fn measures_of_kind()
     ensures { MeasuresOfKind }

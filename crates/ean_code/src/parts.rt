@@ -22,7 +22,7 @@ pub(crate) fn are_of_a(characters: &[Character]) -> bool
     characters.iter().all(|character| character.set.is_a())
 }
 
-/// The widths left and right of the centre guard pattern, so many on either side.
+/// The widths left and right of the centre guard pattern, this many on either side.
 fn framed(widths: &[u8], half: usize) -> Option<(&[u8], &[u8])>
     requires { half ≤ 24 }
     ensures found { IfSome result (λ h. AreFramed half widths.now h.0.now h.1.now) }
@@ -47,7 +47,7 @@ fn framed(widths: &[u8], half: usize) -> Option<(&[u8], &[u8])>
     Some((left, right))
 }
 
-/// The characters left and right of the centre guard pattern, so many on either side.
+/// The characters left and right of the centre guard pattern, this many on either side.
 pub(crate) fn halves(
     widths: &[u8],
     count: usize,

@@ -33,7 +33,7 @@ pub(crate) fn push_digits(text: &mut ArrayVec<u8, 13>, characters: &[Character])
     }
 }
 
-/// What the ASCII digits of a symbol spell, as many as a GTIN may have: where there are none, that there
+/// What the ASCII digits of a symbol spell, as many as a GTIN may have: if there are none, that there
 /// is no symbol.
 pub(crate) fn spelled_by<const N: usize>(text: Option<ArrayVec<u8, N>>) -> Spelled
     requires digits { IfSome text (λ t. AreAsciiDigits t.items) }

@@ -40,7 +40,7 @@ fn widths_of(digit: u8) -> &'static [u8]
     &DIGITS[usize::from(digit)]
 }
 
-/// Of a width of 1 to 4 modules, 1 where it is 2 or 3, and else 0.
+/// Of a width of 1 to 4 modules, 1 if it is 2 or 3, and else 0.
 fn bit(width: u8) -> usize
     ensures value { result ≡ width / 2 % 2 }
     ensures low { result < 2 }

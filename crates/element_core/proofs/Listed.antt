@@ -44,7 +44,7 @@ in_some n text row found = ap (shown_by (shown_in n) text) found
 nothing_at : (text : List ℕ) → length text ≡ 0 → row_at text ≡ None
 nothing_at text none = ap row_at (nil_from_length text none) ∙ none_begins_nothing
 
--- so many at most or more: where the text is no longer, the elements are the same
+-- this many at most or more: where the text is no longer, the elements are the same
 in_more : (n m : ℕ) (text : List ℕ) → length text ≤ n → length text ≤ m → shown_in n text ≡ shown_in m text
 in_more zero m text p q = sym (in_none m text (nothing_at text (omega arith)))
 in_more (suc n) zero text p q = in_none (suc n) text (nothing_at text (omega arith))

@@ -15,7 +15,7 @@ character_value b =
     else if b == 95 then 55
     else b - 41
 
--- the weight of a character with so many after it: 2 for the last, then the next prime numbers
+-- the weight of a character with this many after it: 2 for the last, then the next prime numbers
 abbrev pub prime_weight : ℕ → ℕ
 prime_weight after = slice_index_or
     (2 ∷ 3 ∷ 5 ∷ 7 ∷ 11 ∷ 13 ∷ 17 ∷ 19 ∷ 23 ∷ 29 ∷ 31 ∷ 37 ∷ 41 ∷ 43 ∷ 47 ∷ 53 ∷ 59 ∷ 61 ∷ 67 ∷ 71 ∷ 73 ∷ 79 ∷ 83 ∷ []) after 0

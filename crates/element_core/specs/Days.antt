@@ -34,7 +34,7 @@ unfoldable pub day_of : List ℕ → ℕ → Option (ℕ × ℕ × ℕ)
 day_of text reference = if (length text == 6) && list_all is_ascii_digit text
     then day_in (full_year reference (two text 0)) (two text 2) (two text 4) else None
 
--- the date is that day, and there is none where the day is not
+-- the date is that day, and there is none if the day is not
 abbrev pub IsDay : Option Date → Option (ℕ × ℕ × ℕ) → Type 0
 IsDay None None = ⊤
 IsDay (Some d) (Some p) = (d.year ≡ pos p.0) × (d.month ≡ p.1) × (d.day ≡ p.2)

@@ -56,7 +56,7 @@ has_whole_steps part bytes = nat_le part.step 1 || ((length bytes - part.least) 
 abbrev pub has_characters : Part → List ℕ → Bool
 has_characters part bytes = list_all (belongs part.format) bytes && follows part.rule bytes
 
--- whether the characters that check others are right, where it has some
+-- whether the characters that check others are right, if it has some
 abbrev pub has_check_digit : Part → List ℕ → Bool
 has_check_digit part bytes = is_checked_by part.check bytes
 
@@ -180,7 +180,7 @@ FirstFault year text f = MatchOption (size_fault text) (StopsWith year text f) (
 
 -- ---- the canonical text
 
--- a separator, where the first two digits of the AI don't say how long the value is
+-- a separator, if the first two digits of the AI don't say how long the value is
 abbrev pub separator_for : Entry → List ℕ
 separator_for e = if is_some (predefined_length e.ai) then [] else 29 ∷ []
 
@@ -208,7 +208,7 @@ abbrev pub day_by : ℕ → List ℕ → List Part → Option (ℕ × ℕ × ℕ
 day_by year value (p ∷ []) = day_named_by p.rule value year
 day_by year value _ = None
 
--- the day of an element, where its AI is one of a day
+-- the day of an element, if its AI is one of a day
 abbrev pub entry_day : Terms → Entry → Option (ℕ × ℕ × ℕ)
 entry_day year e = day_by year.year e.value (parts_at e.ai)
 
@@ -217,12 +217,12 @@ abbrev pub time_by : List ℕ → List Part → Option (List ℕ)
 time_by value (p ∷ []) = time_named_by p.rule value
 time_by value _ = None
 
--- whether a value of these parts and so many bytes names a time
+-- whether a value of these parts and this many bytes names a time
 abbrev pub is_timed : List Part → ℕ → Bool
 is_timed (p ∷ []) count = names_time p.rule count
 is_timed _ count = false
 
--- the hours, the minutes and the seconds of an element, where its AI is one of a time
+-- the hours, the minutes and the seconds of an element, if its AI is one of a time
 abbrev pub entry_time : Entry → Option (List ℕ)
 entry_time e = time_by e.value (parts_at e.ai)
 
@@ -286,17 +286,17 @@ abbrev pub EachText : Type 0
 EachText = (year : Terms) (text : List ℕ) →
     ((es : List Entry) × IsElements year text es) ⊎ ((f : ElementFault) × FirstFault year text f)
 
--- an element has a day exactly where its AI is one of a day
+-- an element has a day exactly if its AI is one of a day
 abbrev pub DatedElements : Type 0
 DatedElements = (year : Terms) (row : Row) (e : Entry) → IsElement (rows_by year) year.year row e
     → is_some (entry_day year e) ≡ is_dated row.parts
 
--- an element has a time exactly where its AI is one of a time
+-- an element has a time exactly if its AI is one of a time
 abbrev pub TimedElements : Type 0
 TimedElements = (year : Terms) (row : Row) (e : Entry) → IsElement (rows_by year) year.year row e
     → is_some (entry_time e) ≡ is_timed row.parts (length e.value)
 
--- in the profile exactly where its AI is 7003 or 8008
+-- in the profile exactly if its AI is 7003 or 8008
 abbrev pub TimedInProfile : Type 0
 TimedInProfile = (year : ℕ) (row : Row) (e : Entry) → IsElement (rows_by (profile year)) year row e
     → is_some (entry_time e) ≡ is_7003_or_8008 row.ai

@@ -5,7 +5,7 @@ use Rattle.digits_core.specs.declared.refusal.RefusalKind.TheVariants as refusal
 use Rattle.element_core.specs.declared.fault.ElementFault.{ElementFault}
 use Rattle.element_core.specs.declared.fault.ElementFault.TheVariants.{Empty, UnknownAi, ValueLength, ValueCharacter, ValueCheckDigit, ValueDate, MissingSeparator, TooLong}
 
--- `refused`, its number, its name and, where it has one, its place
+-- `refused`, its number, its name and, if it has one, its place
 abbrev pub element_fault_text : ElementFault → List ℕ
 element_fault_text Empty = refusal_words refusal.Empty
 element_fault_text (UnknownAi place) = refusal_text refusal.UnknownAi (Some place)

@@ -45,7 +45,7 @@ list_fault year es =
 
 -- ---- laws
 
--- pairs have no fault exactly where they are the elements of their canonical text
+-- pairs have no fault exactly if they are the elements of their canonical text
 abbrev pub FaultlessPairs : Type 0
 FaultlessPairs = (year : Terms) (es : List Entry) → (list_fault year es ≡ None) ↔ IsElements year (canonical es) es
 
@@ -58,7 +58,7 @@ pub record HasRow (year : Terms) (e : Entry) (row : Row) : Type 0 where
 abbrev pub UnknownPairs : Type 0
 UnknownPairs = (year : Terms) (i : ℕ) (e : Entry) → ((row : Row) → HasRow year e row → ⊥) → entry_fault year i e ≡ Some (UnknownAi i)
 
--- a value that is too short, too long, or odd in length where that is to be even
+-- a value that is too short, too long, or odd in length if that is to be even
 abbrev pub IsOfWrongLength : List Part → List ℕ → Type 0
 IsOfWrongLength parts value = (length value < least_of parts) ⊎ ((greatest_of parts < length value) ⊎ IsTrue (not (each_part has_whole_steps parts value)))
 
@@ -67,7 +67,7 @@ abbrev pub PairLengths : Type 0
 PairLengths = (year : Terms) (i : ℕ) (row : Row) (e : Entry) → HasRow year e row → IsOfWrongLength row.parts e.value
     → entry_fault year i e ≡ Some (ValueLength i)
 
--- where it is neither too short nor too long a pair without a separator in its value has the fault of the text of AI and value
+-- if it is neither too short nor too long a pair without a separator in its value has the fault of the text of AI and value
 abbrev pub PairsAsTexts : Type 0
 PairsAsTexts = (year : Terms) (i : ℕ) (row : Row) (e : Entry) → HasRow year e row
     → least_of row.parts ≤ length e.value → length e.value ≤ greatest_of row.parts

@@ -16,12 +16,12 @@ shown_rest row text = after_separator (drop (length (shown_value row text)) (dro
 abbrev pub shown_entry : Row → List ℕ → Entry
 shown_entry row text = record { ai = row.ai; value = shown_value row text }
 
--- the element at the front and what is said of the rest; none where no AI of the table stands there
+-- the element at the front and what is said of the rest; none if no AI of the table stands there
 abbrev pub shown_by : (List ℕ → List Entry) → List ℕ → Option Row → List Entry
 shown_by more text None = []
 shown_by more text (Some row) = shown_entry row text ∷ more (shown_rest row text)
 
--- the first elements of a text, so many at most
+-- the first elements of a text, this many at most
 abbrev pub shown_in : ℕ → List ℕ → List Entry
 shown_in zero text = []
 shown_in (suc n) text = shown_by (shown_in n) text (row_at text)

@@ -30,7 +30,7 @@ pub record Family : Type 0 where
 abbrev pub n : ℕ → Part
 n count = record { format = Numeric; least = count; greatest = count; step = 1; check = Unchecked; rule = Free }
 
--- from so many digits to so many
+-- from the least number of digits to the most
 abbrev pub n_to : ℕ → ℕ → Part
 n_to least greatest = record { format = Numeric; least = least; greatest = greatest; step = 1; check = Unchecked; rule = Free }
 
@@ -38,7 +38,7 @@ n_to least greatest = record { format = Numeric; least = least; greatest = great
 abbrev pub n_check : ℕ → Part
 n_check count = record { format = Numeric; least = count; greatest = count; step = 1; check = Digit; rule = Free }
 
--- digits by a rule: this many; from so many to so many; and so many more at a time
+-- digits by a rule: this many; from the least to the most; and with a step between their numbers
 abbrev pub n_by : Rule → ℕ → Part
 n_by rule count = record { format = Numeric; least = count; greatest = count; step = 1; check = Unchecked; rule = rule }
 
@@ -58,7 +58,7 @@ n10_date_and_time = n_by DayAndTime 10
 abbrev pub n8_to_12_date_and_time : Part
 n8_to_12_date_and_time = n_in_steps DayAndTime 8 12 2
 
--- from so many of the 82 characters to so many, and by a rule
+-- from the least to the most of the 82 characters, and by a rule
 abbrev pub x_to : ℕ → ℕ → Part
 x_to least greatest = record { format = Alphanumeric; least = least; greatest = greatest; step = 1; check = Unchecked; rule = Free }
 
@@ -72,7 +72,7 @@ c_to format least greatest = record { format = format; least = least; greatest =
 abbrev pub c_checked : PartFormat → ℕ → ℕ → Check → Rule → Part
 c_checked format least greatest check rule = record { format = format; least = least; greatest = greatest; step = 1; check = check; rule = rule }
 
--- a family whose AIs need a separator after them, also where their length is fixed
+-- a family whose AIs need a separator after them, also if their length is fixed
 abbrev pub not_predefined : List ℕ → List ℕ → List Part → Family
 not_predefined least greatest parts = record { least = least; greatest = greatest; parts = parts; predefined = false; profile = true }
 
@@ -309,7 +309,7 @@ CountsFirstRows = length first_rows ≡ 405
 abbrev pub CountsRows : Type 0
 CountsRows = (length every_row ≡ 536) × (length ai_rows ≡ 407)
 
--- from so many digits to so many, so many more at a time
+-- from the least number of digits to the most, in steps of this
 abbrev pub has_digits : Part → ℕ → ℕ → ℕ → Bool
 has_digits p least greatest step = (p.least == least) && ((p.greatest == greatest) && (p.step == step))
 

@@ -6,11 +6,11 @@ use Rattle.element_core.specs.Days.{day_in, day_of, two}
 use Rattle.element_core.specs.declared.part.Rule.{Rule}
 use Rattle.element_core.specs.declared.part.Rule.TheVariants.{DayOrMonth, Day, DayAndTime, DayOrMonthAndTime, DayPerhapsTime, OneOrTwoDays, LongDay, LongDayAndTime}
 
--- the day that six digits name by its number: none where it is 00
+-- the day that six digits name by its number: none if it is 00
 abbrev pub exact_day_of : List ℕ → ℕ → Option (ℕ × ℕ × ℕ)
 exact_day_of six reference = if two six 4 == 0 then None else day_of six reference
 
--- the number of two ASCII digits, 0 where they are not written
+-- the number of two ASCII digits, 0 if they are not written
 abbrev pub two_or_zero : List ℕ → ℕ → ℕ
 two_or_zero text at = if nat_le (at + 2) (length text) then two text at else 0
 
@@ -27,7 +27,7 @@ time_in hours minutes seconds = if nat_lt hours 24 && (nat_lt minutes 60 && nat_
 unfoldable pub time_of : List ℕ → Option (List ℕ)
 time_of text = if is_time_text text then time_in (two_or_zero text 0) (two_or_zero text 2) (two_or_zero text 4) else None
 
--- the day that eight digits name, the year by all its four: none where the day is 00
+-- the day that eight digits name, the year by all its four: none if the day is 00
 unfoldable pub long_day_of : List ℕ → Option (ℕ × ℕ × ℕ)
 long_day_of text = if two text 6 == 0 then None
     else if (length text == 8) && list_all is_ascii_digit text then day_in (100 * two text 0 + two text 2) (two text 4) (two text 6)
@@ -47,7 +47,7 @@ names_day LongDay = true
 names_day LongDayAndTime = true
 names_day _ = false
 
--- whether a part of this rule and so many bytes names a time
+-- whether a part of this rule and this many bytes names a time
 abbrev pub names_time : Rule → ℕ → Bool
 names_time DayAndTime count = true
 names_time DayOrMonthAndTime count = true

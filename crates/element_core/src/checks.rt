@@ -43,7 +43,7 @@ static PRIMES: [u8; 23] = [
     2, 3, 5, 7, 11, 13, 17, 19, 23, 29, 31, 37, 41, 43, 47, 53, 59, 61, 67, 71, 73, 79, 83,
 ];
 
-/// The weight of a character with so many after it.
+/// The weight of a character with this many after it.
 fn prime_weight(after: usize) -> u32
     ensures value { result ≡ prime_weight after }
     ensures small { result ≤ 83 }

@@ -40,7 +40,7 @@ fn nearest_year(reference: u16, digits: u8) -> u16
     }
 }
 
-/// The number of a day of the month of `first`, where day 0 is the last.
+/// The number of a day of the month of `first`, with day 0 as the last.
 fn day_or_last(first: Date, day: u8) -> i8
     requires { day < 100 }
     ensures value { result ≡ pos (if day == 0 then month_length first else day) }
@@ -53,7 +53,7 @@ fn day_or_last(first: Date, day: u8) -> i8
     }
 }
 
-/// The day of a month, where day 0 is the last.
+/// The day of a month, with day 0 as the last.
 pub(crate) fn day_in_month(year: u16, month: u8, day: u8) -> Option<Date>
     requires year { year ≤ 9999 }
     requires month { month < 100 }
@@ -93,8 +93,8 @@ pub(crate) fn is_six_digits(text: &[u8]) -> bool
     text.len() == 6 && are_digits(text)
 }
 
-/// The day that a text of six digits, YYMMDD, names under the reference year, where day 00 is the
-/// last of its month: none where there is no such day, and of any other text
+/// The day that a text of six digits, YYMMDD, names under the reference year, with day 00 as the
+/// last of its month: none if there is no such day, and of any other text
 /// (GS1 General Specifications, sections 3.4 and 7.12).
 pub(crate) fn date_of(text: &[u8], reference: ReferenceYear) -> Option<Date>
     ensures day { IsDay result (day_of text.now reference) }

@@ -17,14 +17,14 @@ pub struct Element {
     pub ai: Text,
     /// The value, without a separator.
     pub value: Text,
-    /// The day that the value names, where the AI is one of a day.
+    /// The day that the value names, if the AI is one of a day.
     pub date: Option<Date>,
     /// The hours, the minutes and the seconds that the value names, those that are not written being
     /// 0: none of an AI that is not one of a time. In the profile these are 7003 and 8008.
     pub time: Option<[u8; 3]>,
 }
 
-/// The day of an element, where its AI is one of a day.
+/// The day of an element, if its AI is one of a day.
 pub(crate) fn day_of_element(ai: &[u8], value: &[u8], year: Year) -> Option<Date>
     ensures { IsDay result (entry_day year (record { ai = ai.now; value = value.now })) }
 {
@@ -34,7 +34,7 @@ pub(crate) fn day_of_element(ai: &[u8], value: &[u8], year: Year) -> Option<Date
     }
 }
 
-/// The hours, the minutes and the seconds of an element, where its AI is one of a time.
+/// The hours, the minutes and the seconds of an element, if its AI is one of a time.
 pub(crate) fn time_of_element(ai: &[u8], value: &[u8]) -> Option<[u8; 3]>
     ensures { result ≡ entry_time (record { ai = ai.now; value = value.now }) }
 {

@@ -177,7 +177,7 @@ impl Elements {
         line_of(self.text.as_slice())
     }
 
-    /// Puts the human-readable interpretation into `out` from `at` on where there is room for all of it;
+    /// Puts the human-readable interpretation into `out` from `at` on if there is room for all of it;
     /// else `out` is as it was. The answer is how many bytes it has, at most 288.
     pub fn put_hri(&self, at: usize, out: &mut [u8]) -> usize
         ensures count { result ≡ length (hri self.now.list) }
@@ -188,7 +188,7 @@ impl Elements {
         put_line(self.text.as_slice(), at, out)
     }
 
-    /// Puts the human-readable interpretation at the end of a text. Where there is no memory for it, the
+    /// Puts the human-readable interpretation at the end of a text. If there is no memory for it, the
     /// text stays as it was.
     pub fn push_hri(&self, line: &mut String) -> Result<(), AllocError>
         ensures ok { OnOk result (string_bytes line.new ≡ string_bytes line.old ++ hri self.now.list) }
@@ -208,7 +208,7 @@ impl Elements {
         pairs_of(self.text.as_slice())
     }
 
-    /// Puts the pairs into `out` from `at` on where there is room for all of them; else `out` is as it
+    /// Puts the pairs into `out` from `at` on if there is room for all of them; else `out` is as it
     /// was. The answer is how many bytes they have, at most 288.
     pub fn put_pairs(&self, at: usize, out: &mut [u8]) -> usize
         ensures count { result ≡ length (pairs_text self.now.list) }
@@ -224,7 +224,7 @@ impl Elements {
         bytes.len()
     }
 
-    /// Puts the pairs at the end of a text. Where there is no memory for them, the text stays as it was.
+    /// Puts the pairs at the end of a text. If there is no memory for them, the text stays as it was.
     pub fn push_pairs(&self, line: &mut String) -> Result<(), AllocError>
         ensures ok { OnOk result (string_bytes line.new ≡ string_bytes line.old ++ pairs_text self.now.list) }
         ensures err { OnErr result (string_bytes line.new ≡ string_bytes line.old) }

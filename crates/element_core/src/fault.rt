@@ -31,7 +31,7 @@ pub enum ElementFault {
 }
 
 impl ElementFault {
-    /// The refusal that an output line tells.
+    /// The refusal that an output line reports.
     pub fn refusal(self) -> Refusal
         ensures { refusal_text result.kind result.place ≡ element_fault_text self }
     {

@@ -22,7 +22,7 @@ static STARTS: [u8; 100] = [
     54, 55, 55, 55, 55, 55, 55, 55, 55, 55, // 9
 ];
 
-/// For each number of two digits the index after the last such family: where there is none, that of `STARTS`.
+/// For each number of two digits the index after the last such family: if there is none, that of `STARTS`.
 #[rattlefmt::skip]
 static ENDS: [u8; 100] = [
     1, 2, 2, 3, 0, 0, 0, 0, 0, 0, // 0
@@ -37,7 +37,7 @@ static ENDS: [u8; 100] = [
     55, 56, 56, 56, 56, 56, 56, 56, 56, 56, // 9
 ];
 
-/// The families that have AIs with these first two ASCII digits, in the table's order: none where one
+/// The families that have AIs with these first two ASCII digits, in the table's order: none if one
 /// of the bytes is no digit.
 pub(crate) fn families_with(first: u8, second: u8) -> &'static [AiFamily]
     ensures { map family_of result.now ≡ filter (has_first_two first second) families }

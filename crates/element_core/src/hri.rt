@@ -138,7 +138,7 @@ fn line_length(text: &[u8]) -> usize
     count
 }
 
-/// Puts the line of the elements that stand in a text into `out` from `at` on where it has room for it
+/// Puts the line of the elements that stand in a text into `out` from `at` on if it has room for it
 /// all, and says how many bytes the line has.
 pub(crate) fn put_line(text: &[u8], at: usize, out: &mut [u8]) -> usize
     requires short { length text.now ≤ 192 }
@@ -151,7 +151,7 @@ pub(crate) fn put_line(text: &[u8], at: usize, out: &mut [u8]) -> usize
 {
     if at <= out.len() {
         let room = out.len() - at;
-        // A line is measured first only where there is little room.
+        // A line is measured first only if there is little room.
         if text.len() + (text.len() + 1) / 4 * 2 <= room || line_length(text) <= room {
             return put_line_of(text, at, out) - at;
         }

@@ -69,12 +69,12 @@ pub fn day_zero()
     ensures { DayZero }
 {}
 
-/// An element has a date exactly where its AI is one of a day.
+/// An element has a date exactly if its AI is one of a day.
 pub fn dated_elements()
     ensures { DatedElements }
 {}
 
-/// An element has a time exactly where its AI is one of a time. In the profile these are 7003 and 8008.
+/// An element has a time exactly if its AI is one of a time. In the profile these are 7003 and 8008.
 pub fn timed_elements()
     ensures every { TimedElements }
     ensures profile { TimedInProfile }
@@ -92,7 +92,7 @@ pub fn profile_within()
     ensures { ProfileWithin }
 {}
 
-/// Pairs have no fault exactly where they are the elements of their canonical text.
+/// Pairs have no fault exactly if they are the elements of their canonical text.
 pub fn faultless_pairs()
     ensures { FaultlessPairs }
 {}

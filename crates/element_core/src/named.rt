@@ -90,7 +90,7 @@ fn names_day(rule: Rule) -> bool
     )
 }
 
-/// Whether a part of this rule and so many bytes names a time.
+/// Whether a part of this rule and this many bytes names a time.
 fn names_time(rule: Rule, count: usize) -> bool
     ensures { result ≡ names_time rule count }
 {

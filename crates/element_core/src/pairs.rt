@@ -52,7 +52,7 @@ pub(crate) fn first_fault(year: Year, pairs: &[Pair]) -> Option<ElementFault>
     None
 }
 
-/// Whether a separator stands after a pair with an AI of the table, where it is not the last.
+/// Whether a separator stands after a pair with an AI of the table, if it is not the last.
 pub(crate) fn needs_separator(ai: &[u8]) -> bool
     requires { IsSome (row_at ai.now) }
     ensures { result ≡ not (is_some (predefined_length ai.now)) }

@@ -48,13 +48,13 @@ pub enum Rule {
     /// Anything.
     #[default]
     Free,
-    /// A day, YYMMDD, where day 00 is the last of its month.
+    /// A day, YYMMDD: day 00 is the last of its month.
     DayOrMonth,
     /// A day, YYMMDD.
     Day,
     /// A day and a time: YYMMDDHH, YYMMDDHHMM or YYMMDDHHMMSS.
     DayAndTime,
-    /// A day and a time, YYMMDDHHMM, where day 00 is the last of its month.
+    /// A day and a time, YYMMDDHHMM: day 00 is the last of its month.
     DayOrMonthAndTime,
     /// A day, with or without a time: YYMMDD or YYMMDDHHMM.
     DayPerhapsTime,

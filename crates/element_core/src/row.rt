@@ -20,7 +20,7 @@ pub struct AiRow {
     pub predefined: bool,
 }
 
-/// The row of the AI that the bytes begin with: none where they begin with no AI of the table.
+/// The row of the AI that the bytes begin with: none if they begin with no AI of the table.
 pub fn ai_row(bytes: &[u8]) -> Option<AiRow>
     ensures { option_map table_row result ≡ profile_row_at bytes.now }
 {

@@ -10,7 +10,7 @@ ghost use Rattle.element_core.specs.Rules.{begins_with_hex, follows, has_company
 use crate::date::are_digits;
 use crate::part::Rule;
 
-/// The number of the two digits at a place, 0 where they are not written.
+/// The number of the two digits at a place, 0 if they are not written.
 fn two_at(text: &[u8], at: usize) -> u32
     requires { at ≤ 2 }
     ensures value { result ≡ two_or_zero text.now at }

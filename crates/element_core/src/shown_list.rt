@@ -19,7 +19,7 @@ pub(crate) fn count_of(text: &[u8]) -> usize
     count
 }
 
-/// The element at an index, if there are so many.
+/// The element at an index, if there are this many.
 pub(crate) fn element_of(text: &[u8], i: usize) -> Option<Front<'_>>
     ensures entry { option_map front_entry result ≡ slice_get (shown_elements text.now) i }
     ensures within { IfSome result (λ f. length f.ai.now + length f.value.now ≤ length text.now) }

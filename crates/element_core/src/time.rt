@@ -11,7 +11,7 @@ use crate::date::{are_digits, day_in_month, is_six_digits, named_day, two_digits
 use crate::year::ReferenceYear;
 use jiff::civil::Date;
 
-/// The day that six digits name by its number under the reference year: none where it is 00.
+/// The day that six digits name by its number under the reference year: none if it is 00.
 pub(crate) fn exact_date_of(text: &[u8], reference: ReferenceYear) -> Option<Date>
     ensures day { IsDay result (exact_day_of text.now reference) }
     ensures some { is_some result ≡ is_some (exact_day_of text.now reference) }
@@ -51,7 +51,7 @@ fn year_of(eight: &[u8]) -> u16
     100 * u16::from(two_of(eight, 0)) + u16::from(two_of(eight, 2))
 }
 
-/// The day that eight digits name, the year by all its four: none where the day is 00.
+/// The day that eight digits name, the year by all its four: none if the day is 00.
 pub(crate) fn long_date_of(text: &[u8]) -> Option<Date>
     ensures day { IsDay result (long_day_of text.now) }
     ensures some { is_some result ≡ is_some (long_day_of text.now) }
@@ -65,7 +65,7 @@ pub(crate) fn long_date_of(text: &[u8]) -> Option<Date>
     day_in_month(year_of(text), two_of(text, 4), two_of(text, 6))
 }
 
-/// The number of the two digits at a place, 0 where they are not written.
+/// The number of the two digits at a place, 0 if they are not written.
 fn two_or_zero(digits: &[u8], at: usize) -> u8
     requires place { at ≤ 4 }
     requires digits { IsTrue (list_all is_ascii_digit digits.now) }
@@ -97,7 +97,7 @@ fn time_in(hours: u8, minutes: u8, seconds: u8) -> Option<[u8; 3]>
 }
 
 /// The hours, the minutes and the seconds that a text of ASCII digits, HH, HHMM or HHMMSS, names:
-/// none where there is no such time, and of any other text
+/// none if there is no such time, and of any other text
 /// (GS1 General Specifications, sections 3.8 and 3.9).
 pub(crate) fn time_of(text: &[u8]) -> Option<[u8; 3]>
     ensures { result ≡ time_of text.now }

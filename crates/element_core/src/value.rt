@@ -99,7 +99,7 @@ fn has_characters(part: &Part, bytes: &[u8]) -> bool
     all_belong(part.format, bytes) && follows(part.rule, bytes)
 }
 
-/// Whether there are such days and such a time, where the part names them.
+/// Whether there are such days and such a time, if the part names them.
 fn has_date(year: ReferenceYear, part: &Part, bytes: &[u8]) -> bool
     ensures { result ≡ has_date year part.now bytes.now }
 {
@@ -206,7 +206,7 @@ pub(crate) fn greatest_length(parts: &[Part]) -> usize
     sum
 }
 
-/// The first test that a value of one part fails, as most have, where `too_long` is the fault of one that is too long.
+/// The first test that a value of one part fails, as most have; `too_long` is the fault of one that is too long.
 fn part_fault(
     year: ReferenceYear,
     place: usize,
@@ -237,7 +237,7 @@ fn part_fault(
     None
 }
 
-/// The first test that a value fails, its length first, where `too_long` is the fault of one that is too long.
+/// The first test that a value fails, its length first; `too_long` is the fault of one that is too long.
 pub(crate) fn row_fault(
     year: ReferenceYear,
     place: usize,

@@ -12,7 +12,7 @@ use Rattle.lane_core.specs.declared.ticket.Ticket.{Ticket}
 use Rattle.lane_core.specs.ReorderBuffer.{is_known}
 use Rattle.lane_core.specs.inner.NextSlots.{Advances, AreIndexed, is_tied}
 use Rattle.lane_core.specs.Tickets.{is_among, is_ticket_of}
-use Rattle.lane_core.proofs.LookupFacts.{Finds, any_finds, found_among, found_ticket, gone_known, gone_more, gone_tied}
+use Rattle.lane_core.proofs.TicketLookup.{Finds, any_finds, found_among, found_ticket, gone_known, gone_more, gone_tied}
 
 none_come : (a b : Bool) → ((a && false) || b) ≡ b
 none_come true b = refl

@@ -16,7 +16,7 @@ use Rattle.lane_core.specs.ReorderBuffer.{GivesAny, GivesNext, TakesIn, buffer, 
 use Rattle.lane_core.specs.inner.NextSlots.{Advances, AreIndexed, AreKept, IsSlotOf, are_tied, has_come, slot_at}
 use Rattle.lane_core.specs.NextSlots.{come_tickets, buffer_by_slots, waiting_at, waiting_of}
 use Rattle.lane_core.specs.Tickets.{is_among, is_ticket_of}
-use Rattle.lane_core.proofs.LookupFacts.{MoreBy, or_assoc}
+use Rattle.lane_core.proofs.TicketLookup.{MoreBy, or_assoc}
 use Rattle.lane_core.proofs.SlotFacts.{own_parts, set_sum}
 use Rattle.lane_core.proofs.WeightFacts.{eq_self}
 

@@ -9,7 +9,7 @@ use Rattle.lane_core.specs.Machine.{LaneState, State, lane_state, state, handed_
 use Rattle.lane_core.specs.Tickets.{is_among, is_ticket_of, numbered}
 use Rattle.lane_core.specs.Weights.{once}
 use Rattle.lane_core.specs.Whereabouts.{times_under_way, sum_under_way}
-use Rattle.lane_core.proofs.LaneFacts.{lane_else, lane_here, lane_kept, lane_was}
+use Rattle.lane_core.proofs.ChangedLane.{lane_else, lane_here, lane_kept, lane_was}
 use Rattle.lane_core.proofs.SameFacts.{is_same, same_self}
 use Rattle.lane_core.proofs.UnderWay.{times_without, under_way_more, sum_without}
 use Rattle.lane_core.proofs.WeightFacts.{eq_self, one_more, other_ticket, own_ticket}

@@ -16,14 +16,14 @@ use Rattle.lane_core.specs.Machine.{LaneState, State, hand, handed_of, lane_stat
 use Rattle.lane_core.specs.Tickets.{is_among, is_ticket_of}
 use Rattle.lane_core.specs.Weights.{once}
 use Rattle.lane_core.proofs.GoodFacts.{is_item, is_own}
-use Rattle.lane_core.proofs.LaneFacts.{lane_else, lane_here, lane_was}
+use Rattle.lane_core.proofs.ChangedLane.{lane_else, lane_here, lane_was}
 use Rattle.lane_core.proofs.LaneShowFacts.{found}
 use Rattle.lane_core.proofs.ListFacts.{number_at, take_more}
 use Rattle.lane_core.proofs.SameFacts.{permutation_from, same_from}
-use Rattle.lane_core.proofs.ShowFacts.{done, idle}
+use Rattle.lane_core.proofs.WorldShowsNext.{done, idle}
 use Rattle.lane_core.proofs.StepFacts.{reached_good}
 use Rattle.lane_core.proofs.WeightFacts.{among_from, among_times, eq_self, not_among, not_among_times}
-use Rattle.lane_core.proofs.LookupFacts.{or_assoc}
+use Rattle.lane_core.proofs.TicketLookup.{or_assoc}
 use Rattle.lane_core.proofs.SiftFacts.{inside}
 
 -- the lane's next number is as many as it was handed

@@ -7,7 +7,7 @@ use Rattle.lane_core.specs.declared.event.Event.TheVariants.{Submit, Take, Post,
 use Rattle.lane_core.specs.declared.job.Plain.{Plain}
 use Rattle.lane_core.specs.Machine.{LaneState, State, after, close, collect, hand, is_closed, next_job, or_same, poll, polled_of, post, run, state, submit, submitted_by, take_job}
 use Rattle.lane_core.specs.Tickets.{is_among}
-use Rattle.lane_core.proofs.LaneFacts.{lane_else, lane_here, lane_was}
+use Rattle.lane_core.proofs.ChangedLane.{lane_else, lane_here, lane_was}
 
 -- a lane's submitted rows and polled number from one state to another
 pub record Grows (s t : State) (l : ℕ) : Type 0 where

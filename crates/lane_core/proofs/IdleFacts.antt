@@ -9,7 +9,7 @@ use Rattle.lane_core.specs.Contents.{Contents, IsEnabled, IsShown, LaneContents,
 use Rattle.lane_core.specs.Machine.{LaneState, post, take_job}
 use Rattle.lane_core.proofs.ListFacts.{length_map, placed}
 use Rattle.lane_core.proofs.ResultFacts.{not_done}
-use Rattle.lane_core.proofs.ShowFacts.{idle, post_done}
+use Rattle.lane_core.proofs.WorldShowsNext.{idle, post_done}
 
 -- no such worker
 pub take_past : (c : Contents) (w : ℕ) → length c.workers ≤ w → Steps c (Take w) false c

@@ -12,10 +12,10 @@ use Rattle.lane_core.specs.Machine.{LaneState, State, close, hand, lane_state, n
 use Rattle.lane_core.specs.Plain.{plain_of}
 use Rattle.lane_core.specs.Tickets.{is_among}
 use Rattle.lane_core.proofs.GoodFacts.{Good}
-use Rattle.lane_core.proofs.LaneFacts.{lane_kept, lane_was}
+use Rattle.lane_core.proofs.ChangedLane.{lane_kept, lane_was}
 use Rattle.lane_core.proofs.ListFacts.{get_back, get_none_back, map_keeps}
 use Rattle.lane_core.proofs.PolledFacts.{handed_issued}
-use Rattle.lane_core.proofs.ShowFacts.{done, idle}
+use Rattle.lane_core.proofs.WorldShowsNext.{done, idle}
 use Rattle.lane_core.proofs.StepFacts.{reached_good}
 
 -- the lane that the world shows here

@@ -8,7 +8,7 @@ use Rattle.lane_core.specs.declared.job.Plain.{Plain}
 use Rattle.lane_core.specs.Contents.{Contents, LaneContents, ShowsState}
 use Rattle.lane_core.specs.Machine.{State, IsReached, handed_of, is_closed, issued_of, polled_by, polled_of}
 use Rattle.lane_core.specs.Tickets.{is_among, is_held_by, is_ticket_of}
-use Rattle.lane_core.proofs.LaneFacts.{lane_was}
+use Rattle.lane_core.proofs.ChangedLane.{lane_was}
 use Rattle.lane_core.proofs.LaneShowFacts.{found, handed_count}
 use Rattle.lane_core.proofs.StepFacts.{few_of, reached_good}
 use Rattle.lane_core.proofs.WeightFacts.{among_from, is_below, not_among_times, not_below}

@@ -15,7 +15,7 @@ use Rattle.lane_core.specs.ReorderBuffer.{has_next}
 use Rattle.lane_core.specs.inner.NextSlots.{AreKept, IsSlotOf, is_here, slot_at}
 use Rattle.lane_core.specs.NextSlots.{buffer_by_slots, waiting_at, waiting_of}
 use Rattle.lane_core.specs.Tickets.{is_among, is_ticket_of}
-use Rattle.lane_core.proofs.LookupFacts.{none_past}
+use Rattle.lane_core.proofs.TicketLookup.{none_past}
 
 -- one slot's content in another's place
 pub set_sum : (h : Plain → ℕ) (hs : List NextSlot) (i : ℕ) (a : NextSlot) → i < length hs

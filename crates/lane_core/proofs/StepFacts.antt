@@ -9,7 +9,7 @@ use Rattle.lane_core.specs.Machine.{LaneState, State, IsReached, after, close, c
 use Rattle.lane_core.specs.Tickets.{is_among, is_ticket_of, numbered}
 use Rattle.lane_core.specs.Weights.{once}
 use Rattle.lane_core.proofs.GoodFacts.{Good, added, given, is_own, moved, settled}
-use Rattle.lane_core.proofs.LaneFacts.{lane_was}
+use Rattle.lane_core.proofs.ChangedLane.{lane_was}
 use Rattle.lane_core.proofs.UnderWay.{collected_under_way, posted_under_way, taken_under_way}
 use Rattle.element_core.specs.Terms.{Terms}
 use Rattle.lane_core.proofs.WeightFacts.{none_in}

@@ -12,7 +12,7 @@ use Rattle.lane_core.specs.inner.NextSlots.{AreKept, IsSlotOf, are_tied, is_tied
 use Rattle.lane_core.specs.NextSlots.{buffer_by_slots}
 use Rattle.lane_core.specs.Tickets.{is_ticket_of}
 use Rattle.lane_core.proofs.BufferFacts.{kept_later, kept_set, not_known, not_later, took_later, took_next}
-use Rattle.lane_core.proofs.LookupFacts.{MoreBy, cmp_tickets, finds_own, found_among, own_tied, put_gone, put_known, put_more, put_tied}
+use Rattle.lane_core.proofs.TicketLookup.{MoreBy, cmp_tickets, finds_own, found_among, own_tied, put_gone, put_known, put_more, put_tied}
 
 module _ (nexts : List ℕ) (hs : List NextSlot) (es : List (Ticket × Plain)) (ks : List Ticket) (kept : AreKept nexts hs es ks) (t : Ticket) (x : Plain)
     (lane : t.lane ≡ x.lane) (number : t.number ≡ x.number) (small : t.number < 2 ^ 32) (low : x.lane < length nexts)

@@ -5,10 +5,6 @@ use Rattle.digits_core.specs.declared.refusal.RefusalKind.TheVariants as refusal
 use Rattle.lane_core.specs.declared.fault.TakeFault.{TakeFault}
 use Rattle.lane_core.specs.declared.fault.TakeFault.TheVariants.{Stranger, NoMemory}
 
--- of a refusal of memory
-abbrev pub no_memory_text : List ℕ
-no_memory_text = refusal_words refusal.NoMemory
-
 -- of a delivery that is not taken in
 abbrev pub take_fault_text : TakeFault → List ℕ
 take_fault_text (Stranger delivery) = refusal_words refusal.Stranger

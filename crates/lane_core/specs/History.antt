@@ -10,7 +10,7 @@ use Rattle.lane_core.specs.Tickets.{is_among, numbered}
 use Rattle.element_core.specs.Terms.{Terms}
 use Rattle.lane_core.specs.Weights.{OneForOne}
 
--- these, where the event is done
+-- these, if the event is done
 abbrev pub if_done : State → Event → List Plain → List Plain
 if_done s e xs = cond (is_some (step s e)) xs []
 
@@ -73,7 +73,7 @@ QueuesKeep = (lanes workers : ℕ) (year : Terms) (es : List Event) →
     × Keeps (all_of result_pushed (start lanes workers year) es) (all_of result_popped (start lanes workers year) es)
     (run (start lanes workers year) es).results
 
--- each event is done exactly where its condition holds
+-- each event is done exactly if its condition holds
 abbrev pub EventsAreDone : Type 0
 EventsAreDone = (s : State) (l w : ℕ) (row : List ℕ) →
     (is_some (step s (Submit l row)) ≡ (is_some (slice_get s.lanes l) && (not (is_closed s l) && nat_lt (issued_of s l) 4294967296)))

@@ -42,7 +42,7 @@ without l k (x ∷ xs) = cond (is_ticket_of l k x) xs (x ∷ without l k xs)
 abbrev pub next_job : State → ℕ → LaneState → List ℕ → Plain
 next_job s l v row = plain_of l (length v.submitted) s.year row
 
--- each event by what it finds: the state after it, or none where it is disabled
+-- each event by what it finds: the state after it, or none if it is disabled
 abbrev pub submit : State → ℕ → List ℕ → Option LaneState → Option State
 submit s l row None = None
 submit s l row (Some v) = cond (not v.closed && nat_lt (length v.submitted) (2 ^ 32))
@@ -110,7 +110,7 @@ run s (e ∷ es) = run (after s e) es
 abbrev pub IsReached : State → Type 0
 IsReached s = (lanes : ℕ) × (workers : ℕ) × (year : Terms) × (es : List Event) × (run (start lanes workers year) es ≡ s)
 
--- what there is of a lane, or d where there is no such lane
+-- what there is of a lane, or d if there is no such lane
 abbrev pub of_lane : {X : Type 0} → X → (LaneState → X) → Option LaneState → X
 of_lane d f None = d
 of_lane d f (Some v) = f v

@@ -18,7 +18,7 @@ waiting_of Out = []
 abbrev pub waiting_at : List NextSlot → List Plain
 waiting_at slots = flat_map waiting_of slots
 
--- lane l's number k, where it was taken in
+-- lane l's number k, if it was taken in
 abbrev pub come_ticket : ℕ → ℕ → NextSlot → List Ticket
 come_ticket l k Missing = []
 come_ticket l k (Here x) = record { lane = l; number = k } ∷ []

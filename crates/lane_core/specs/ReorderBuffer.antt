@@ -16,7 +16,7 @@ pub record ReorderBuffer : Type 0 where
 abbrev pub buffer : List ℕ → List Plain → List Ticket → ReorderBuffer
 buffer nexts waiting known = record { nexts = nexts; waiting = waiting; known = known }
 
--- the buffer of so many lanes at which nothing was taken in
+-- the buffer of this many lanes at which nothing was taken in
 abbrev pub new_buffer : ℕ → ReorderBuffer
 new_buffer lanes = buffer (replicate lanes 0) [] []
 
@@ -47,7 +47,7 @@ pub record TakesIn (d : ReorderBuffer) (x : Plain) (e : ReorderBuffer) : Type 0 
   pub waiting : (h : Plain → ℕ) → sum_by h e.waiting ≡ sum_by h d.waiting + h x
   pub known : (l k : ℕ) → was_taken e l k ≡ (was_taken d l k || is_ticket_of l k x)
 
--- x comes back, as a stranger exactly where it is not new; to its lane's next number no memory is refused
+-- x comes back, as a stranger exactly if it is not new; to its lane's next number no memory is refused
 abbrev pub ComesBack : ReorderBuffer → Plain → TakeFault → Type 0
 ComesBack d x (Stranger y) = (is_new d x ≡ false) × (y ≡ x)
 ComesBack d x (NoMemory y) = (is_new d x ≡ true) × (y ≡ x) × (x.number ≡ next_of d x.lane → ⊥)

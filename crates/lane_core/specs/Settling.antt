@@ -5,7 +5,7 @@ use Rattle.lane_core.specs.declared.job.Plain.{Plain}
 use Rattle.lane_core.specs.Tickets.{is_among, numbered}
 use Rattle.lane_core.specs.Weights.{OneForOne}
 
--- one more delivery for a deliverer of n lanes: it is set aside where its lane is not there or its ticket has come before
+-- one more delivery for a deliverer of n lanes: it is set aside if its lane is not there or its ticket has come before
 abbrev pub sift : ℕ → List Plain → Plain → List Plain
 sift n taken x = cond (nat_lt x.lane n && not (is_among x.lane x.number taken)) (taken ++ x ∷ []) taken
 
@@ -40,7 +40,7 @@ KeptWhole = (lane n : ℕ) (xs : List Plain) → numbered lane n xs ≡ true →
 abbrev pub SameLists : Type 0
 SameLists = (lane n : ℕ) (xs ys : List Plain) → numbered lane n xs ≡ true → numbered lane n ys ≡ true → ((h : Plain → ℕ) → sum_by h xs ≡ sum_by h ys) → xs ≡ ys
 
--- where the lanes together received no more than they submitted, each its own numbers in order, each received the first of its own rows
+-- if the lanes together received no more than they submitted, each its own numbers in order, each received the first of its own rows
 abbrev pub ReceivedFirst : Type 0
 ReceivedFirst =
     (accounts : List Account)
@@ -50,7 +50,7 @@ ReceivedFirst =
     → ((h : Plain → ℕ) → sum_by (λ a. sum_by h a.received) accounts ≤ sum_by (λ a. sum_by h a.submitted) accounts)
     → (i : ℕ) (a : Account) → slice_get accounts i ≡ Some a → take (length a.received) a.submitted ≡ a.received
 
--- where both queues are one for one and nothing was lost on the way, nothing was set aside, and all that was submitted is in some place
+-- if both queues are one for one and nothing was lost on the way, nothing was set aside, and all that was submitted is in some place
 abbrev pub AllFound : Type 0
 AllFound =
     (n : ℕ) (accounts : List Account) (taken posted collected jobs hands results waiting hand : List Plain) (sent : (Plain → ℕ) → ℕ)
@@ -89,7 +89,7 @@ pub record IsClaim (c : Claim) : Type 0 where
 abbrev pub GivesDue : Claim → List Plain → Type 0
 GivesDue c dropped = length c.polled + length c.given < length c.submitted → count_by (λ x. x.lane == c.lane) dropped ≡ 0
 
--- where all that the lanes had not polled was found, and each was given of it up to its due, each was given what it had not polled
+-- if all that the lanes had not polled was found, and each was given of it up to its due, each was given what it had not polled
 abbrev pub ClaimsSettle : Type 0
 ClaimsSettle =
     (claims : List Claim) (found dropped : List Plain)

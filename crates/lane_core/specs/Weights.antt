@@ -2,7 +2,7 @@
 use Rattle.std.specs.Prelude.{◌≡◌, ℕ, ◌+◌, Bool, cond, List}
 use Rattle.std.specs.List.{sum_by}
 
--- 1 where it is so, else 0
+-- 1 if it is so, else 0
 abbrev pub once : Bool → ℕ
 once b = cond b 1 0
 

@@ -5,9 +5,10 @@ ghost use Rattle.lane_core.specs.inner.NextSlots.{Advances, AreIndexed};
 ghost use Rattle.lane_core.specs.ReorderBuffer.{lanes_of, new_buffer, was_taken, has_next, TakesIn, ComesBack, WaitsAsNext, GivesNext, GivesAny};
 
 use crate::delivery::Delivery;
-use crate::fault::{NoMemory, TakeFault};
+use crate::fault::TakeFault;
 use crate::next_slot::{NextSlot, take_first};
 use crate::ticket::Ticket;
+use digits_core::NoMemory;
 use std::alloc::{AllocError, Global};
 use std::collections::{BTreeMap, BTreeSet};
 use std::marker::Model;
@@ -75,7 +76,7 @@ fn slot_of(
 }
 
 /// Puts into the lane's place what there is of its number `next`, which is its next from now on. The place is
-/// left as it is where no later number was taken in, as mostly.
+/// left as it is if no later number was taken in, as mostly.
 fn advance(
     slot: &mut NextSlot,
     later: &mut BTreeMap<Ticket, Delivery>,
@@ -150,7 +151,7 @@ impl Deliverer {
         }
     }
 
-    /// The lane's next number, where it waits.
+    /// The lane's next number, if it waits.
     pub fn next(&self, lane: u8) -> Option<&Delivery>
         requires { lane < lanes_of self.now }
         ensures some { IfSome result (λ x. WaitsAsNext self.now lane x.now) }
@@ -162,7 +163,7 @@ impl Deliverer {
         }
     }
 
-    /// Gives the lane its next number, where it waits; else nothing changes.
+    /// Gives the lane its next number, if it waits; else nothing changes.
     pub fn take_next(&mut self, lane: u8) -> Option<Delivery>
         requires { lane < lanes_of self.old }
         ensures some { IfSome result (λ x. GivesNext self.old lane x self.new) }
@@ -183,7 +184,7 @@ impl Deliverer {
         Some(delivery)
     }
 
-    /// Takes out one that waits, of any lane; none where nothing waits. Its number still counts as
+    /// Takes out one that waits, of any lane; none if nothing waits. Its number still counts as
     /// taken in, and the lane is not given it.
     pub fn take_any(&mut self) -> Option<Delivery>
         ensures some { IfSome result (λ x. GivesAny self.old x self.new) }

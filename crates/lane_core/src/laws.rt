@@ -9,12 +9,12 @@ pub fn tickets_once()
     ensures { TicketsOnce }
 {}
 
-/// Each event is done exactly where its condition holds.
+/// Each event is done exactly if its condition holds.
 pub fn events_are_done()
     ensures { EventsAreDone }
 {}
 
-/// No ticket is in two places: where `World::place` finds it, and nowhere else.
+/// No ticket is in two places: it is where `World::place` finds it, and nowhere else.
 pub fn one_place()
     ensures { OnePlace }
 {}
@@ -54,13 +54,13 @@ pub fn same_lists()
     ensures { SameLists }
 {}
 
-/// Where lanes together received no more than they submitted, each its own numbers in order, each
+/// If lanes together received no more than they submitted, each its own numbers in order, each
 /// received the first of its own rows.
 pub fn received_first()
     ensures { ReceivedFirst }
 {}
 
-/// Where queues, workers and deliverer lose nothing, all that was submitted is in some place.
+/// If queues, workers and deliverer lose nothing, all that was submitted is in some place.
 pub fn all_found()
     ensures { AllFound }
 {}
@@ -75,13 +75,13 @@ pub fn polled_are_read()
     ensures { PolledAreRead }
 {}
 
-/// Where all that lanes had not polled was found, and each was given of it up to its due, each was
+/// If all that lanes had not polled was found, and each was given of it up to its due, each was
 /// given what it had not polled.
 pub fn claims_settle()
     ensures { ClaimsSettle }
 {}
 
-/// Where nothing was lost, each ticket is in one place.
+/// If nothing was lost, each ticket is in one place.
 pub fn lost_is_none()
     ensures { LostIsNone }
 {}

@@ -17,8 +17,9 @@ mod world;
 
 pub use deliverer::Deliverer;
 pub use delivery::{Delivery, decode};
+pub use digits_core::NoMemory;
 pub use event::Event;
-pub use fault::{NoMemory, TakeFault};
+pub use fault::TakeFault;
 pub use job::{Job, Plain};
 pub use laws::{
     all_found, claims_settle, deliveries_are_read, done_stays_done, events_are_done, kept_whole,

@@ -36,7 +36,7 @@ impl Ticketer {
         }
     }
 
-    /// The next ticket; none, now and later, where all were issued.
+    /// The next ticket; none, now and later, if all were issued.
     pub fn issue(&mut self) -> Option<Ticket>
         ensures issued { self.old.issued < self.old.limit → (result ≡ Some (ticket_of self.old.lane self.old.issued)) × (self.new ≡ issuing self.old.lane self.old.limit (self.old.issued + 1)) }
         ensures spent { self.old.limit ≤ self.old.issued → (result ≡ None) × (self.new ≡ self.old) }

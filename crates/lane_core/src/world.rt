@@ -6,9 +6,9 @@ ghost use Rattle.lane_core.specs.Machine.{is_closed, issued_of, polled_by, start
 
 use crate::deliverer::Deliverer;
 use crate::delivery::Delivery;
-use crate::fault::NoMemory;
 use crate::job::Job;
 use crate::lane::Lane;
+use digits_core::NoMemory;
 use element_core::Year;
 use std::alloc::{AllocError, Global};
 use std::collections::VecDeque;

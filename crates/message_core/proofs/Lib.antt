@@ -1,7 +1,7 @@
 mod CodingFacts
-mod CutFacts
 mod LawFacts
 mod LinkFacts
-pub mod SaidFacts
+pub mod OneMessageLine
 pub mod SpelledUpce
-pub mod UpceFacts
+mod TextsCutAtByte
+pub mod UpceDigits

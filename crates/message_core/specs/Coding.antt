@@ -26,7 +26,7 @@ abbrev pub coded_byte : List ℕ → ℕ
 coded_byte (high ∷ low ∷ text) = hex_value high * 16 + hex_value low
 coded_byte text = 0
 
--- the bytes that a text stands for, behind so many digits of a code; a `+` stands for `plus`
+-- the bytes that a text stands for, behind this many digits of a code; a `+` stands for `plus`
 abbrev pub decoded : ℕ → ℕ → List ℕ → List ℕ
 decoded plus skip [] = []
 decoded plus skip (b ∷ text) =

@@ -30,7 +30,7 @@ gtin_said_by word f digits (Some fault) = digit_fault_text fault
 abbrev pub gtin_said : List ℕ → Form → List ℕ → List ℕ
 gtin_said word f digits = gtin_said_by word f digits (gtin_fault digits)
 
--- the same of a symbol that has so many digits
+-- the same of a symbol that has this many digits
 abbrev pub sized_said : List ℕ → Form → ℕ → List ℕ → List ℕ
 sized_said word f size digits = if length digits == size then gtin_said word f digits else digit_fault_text Length
 
@@ -63,6 +63,6 @@ IsHeadLine f year text (Some head.Digits) line = line ≡ gtin_said (codes "-") 
 IsHeadLine f year text (Some head.Link) line = line ≡ link_said (codes "-") f year text
 IsHeadLine f year text None line = line ≡ refusal_words refusal.Kind
 
--- the line of a message, of which blanks at the end are passed over
+-- the line of a message; blanks at its end are skipped
 abbrev pub IsMessageLine : Form → Terms → List ℕ → List ℕ → Type 0
 IsMessageLine f year text line = (said : List ℕ) × IsTrimAsciiEnd text said × IsHeadLine f year said (head_of said) line

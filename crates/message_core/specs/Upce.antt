@@ -23,7 +23,7 @@ upce_fault text = if length text == 8 then system_fault text (not_digits (first_
 abbrev pub IsUpceDigits : List ℕ → List ℕ → Type 0
 IsUpceDigits text gtin = IsUpceOf (digits_of (slice_range text 1 7)) (slice_index text 7 - 48) gtin
 
--- such digits are refused for this: for the check digit, where they stand for no GTIN
+-- such digits are refused for this: for the check digit, if they stand for no GTIN
 abbrev pub IsUpceFault : List ℕ → DigitFault → Type 0
 IsUpceFault text digits.CheckDigit = (upce_fault text ≡ None) × ((gtin : List ℕ) → IsUpceDigits text gtin → ⊥)
 IsUpceFault text digits.Length = upce_fault text ≡ Some digits.Length

@@ -39,7 +39,7 @@ fn ean_upc_said(word: &'static str, form: Form, digits: &[u8], year: Year) -> Li
     gtin_said(word, form, digits, year)
 }
 
-/// The same of a symbol that has so many digits.
+/// The same of a symbol that has this many digits.
 fn sized_said(word: &'static str, form: Form, size: usize, digits: &[u8], year: Year) -> Line
     ensures { line_text result ≡ sized_said word.now form size digits.now }
 {

@@ -50,7 +50,7 @@ pub(crate) fn begins_link(text: &[u8]) -> bool
     begins_http(text) || begins_https(text)
 }
 
-/// What stands behind so many bytes.
+/// What follows after this many bytes.
 fn without_first(many: usize, text: &[u8]) -> &[u8]
     ensures { result.now ≡ drop many text.now }
 {

@@ -12,7 +12,7 @@ use element_core::{Pair, Text};
 use std::array;
 use std::marker::Model;
 
-/// At most 48 pairs: so many fit into 192 bytes, with a separator between each two.
+/// At most 48 pairs: this many fit into 192 bytes, with a separator between each two.
 #[derive(Drop)]
 pub(crate) struct Pairs {
     items: [Pair; 48],

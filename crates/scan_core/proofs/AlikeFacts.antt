@@ -13,7 +13,7 @@ count byte skipped dark = min (count_leading_zeros 8 ((if dark then 255 - byte e
 abbrev is_at : ℕ → ℕ → Bool → Bool
 is_at byte k dark = beq (bit_at byte (7 - k) == 1) dark
 
--- so many dots are alike, and the next is not
+-- this many dots are alike, and the next is not
 abbrev is_count : ℕ → ℕ → Bool → ℕ → Bool
 is_count byte skipped dark n =
     all_below (λ k. is_at byte (skipped + k) dark) n && (if nat_lt n (8 - skipped) then is_at byte (skipped + n) (not dark) else true)

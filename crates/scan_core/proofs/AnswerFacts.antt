@@ -17,7 +17,7 @@ use Rattle.scan_core.specs.inner.Reading.{IsReadAs}
 use Rattle.scan_core.specs.Reading.{stage_fault}
 use Rattle.scan_core.proofs.CandidateFacts.{candidate_dark}
 use Rattle.scan_core.proofs.ContentFacts.{one_content, spelled_fault}
-use Rattle.scan_core.proofs.ShownFacts.{SymbolLaws, one_symbol}
+use Rattle.scan_core.proofs.OneSymbolShown.{SymbolLaws, one_symbol}
 use Rattle.element_core.specs.Terms.{Terms}
 use Rattle.scan_core.proofs.StageFacts.{candidate_of, latest_once, never}
 

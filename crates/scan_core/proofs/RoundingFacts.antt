@@ -95,7 +95,7 @@ gap_near a b W low high = omega arith
 near_gap : (a b W : ℕ) → 3 * gap a b ≤ W → (3 * b ≤ 3 * a + W) × (3 * a ≤ 3 * b + W)
 near_gap a b W near = (omega arith, omega arith)
 
--- a width that comes up to as many limits above one module as it is past, and to that of one, is so many modules
+-- a width that comes up to as many limits above one module as it is past, and to that of one, is this many modules
 near_limits : (W x r2 r3 r4 p1 p2 p3 p4 : ℕ) → 0 < W → 2 * W ≤ x
     → ((5 * W ≤ x) × (r2 ≡ 1)) ⊎ ((x < 5 * W) × (r2 ≡ 0))
     → ((8 * W ≤ x) × (r3 ≡ 1)) ⊎ ((x < 8 * W) × (r3 ≡ 0))

@@ -2,7 +2,7 @@
 use Rattle.std.proofs.Common.{◌≡◌, ◌⊎◌, ◌+◌, ◌<◌, ◌≤◌, ℕ, IfNone, Option, Some, None, arith, inl, inr, sym}
 use Rattle.std.proofs.lemmas.Bool.{cases_lt}
 use Rattle.scan_core.specs.Windows.{IsLeft, IsNext, IsOver, IsSymbolOf, Search}
-use Rattle.scan_core.specs.declared.symbols.Place.{Place}
+use Rattle.scan_core.specs.declared.symbols.Span.{Span}
 use Rattle.scan_core.specs.declared.window.Window.{Window}
 use Rattle.scan_core.specs.inner.Searches.{IsNextPlace}
 
@@ -45,7 +45,7 @@ over_behind s first behind over = λ v symbol left. over v symbol (elim left [
 ])
 
 -- what is left is no window before the next that may be a symbol
-pub at_place : (s : Search) (p : Place) → IsNextPlace s p → (v : Window) → IsSymbolOf s.runs s.year v → IsLeft s v
+pub at_place : (s : Search) (p : Span) → IsNextPlace s p → (v : Window) → IsSymbolOf s.runs s.year v → IsLeft s v
     → IsLeft (record { runs = s.runs; year = s.year; first = p.first; least = p.count }) v
 at_place s p next v symbol left =
     elim (cases_lt v.first p.first) [

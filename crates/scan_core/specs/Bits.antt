@@ -7,6 +7,6 @@ use Rattle.std.specs.List.{range_with_len}
 abbrev pub dot_at : List ℕ → ℕ → Bool
 dot_at bytes x = bit_at (slice_index bytes (x / 8)) (7 - x % 8) == 1
 
--- so many dots, from one on
+-- this many dots, from one on
 abbrev pub dots_at : List ℕ → ℕ → ℕ → List Bool
 dots_at bytes from width = map (dot_at bytes) (range_with_len from width)

@@ -6,7 +6,7 @@ abbrev pub light_before : List ℕ → List ℕ
 light_before [] = []
 light_before (w ∷ ws) = suc w ∷ ws
 
--- the same with a dark dot: it is one more of the first bar, where there is no light dot before that
+-- the same with a dark dot: it is one more of the first bar, if there is no light dot before that
 abbrev pub dark_before : List ℕ → List ℕ
 dark_before [] = []
 dark_before (zero ∷ []) = 0 ∷ 1 ∷ 0 ∷ []

@@ -74,7 +74,7 @@ NeverTooLong = (runs : List ℕ) (year : Terms) → IsAnswer runs year (Refused 
 abbrev pub SymbolMeasures : Type 0
 SymbolMeasures = (carrier : Carrier) (modules : List ℕ) → IsSymbol (kind_of carrier) modules → HasSize (kind_of carrier) (length modules) (sum modules)
 
--- widths are a row exactly where they have no fault
+-- widths are a row exactly if they have no fault
 abbrev pub RowOrFault : Type 0
 RowOrFault = (widths : List ℕ) → IsRow widths ↔ (runs_fault widths ≡ None)
 

@@ -11,11 +11,11 @@ use Rattle.scan_core.specs.Showing.{Way, along}
 use Rattle.element_core.specs.Terms.{Terms}
 use Rattle.scan_core.specs.Answers.{IsAnswer}
 
--- an element's dots: n where it is narrow, of one module, and w where it is wide, of three
+-- an element's dots: n if it is narrow, of one module, and w if it is wide, of three
 abbrev pub element_dots : ℕ → ℕ → ℕ → ℕ
 element_dots n w modules = if modules == 1 then n else w
 
--- the row of a symbol so drawn, between light ends of so many dots
+-- the row of a symbol so drawn, between light ends of this many dots
 abbrev pub drawn_row : ℕ → ℕ → ℕ → ℕ → List ℕ → List ℕ
 drawn_row n w left right modules = left ∷ (map (element_dots n w) modules ++ right ∷ [])
 

@@ -10,8 +10,8 @@ use Rattle.scan_core.specs.declared.fault.RowFault.{RowFault}
 use Rattle.scan_core.specs.declared.fault.RowFault.TheVariants.{QuietZone, Modules, Pattern, Code128, Elements}
 use Rattle.scan_core.specs.declared.stage.Stage.{Stage}
 use Rattle.scan_core.specs.declared.stage.Stage.TheVariants as stages
-use Rattle.scan_core.specs.declared.symbol.Symbol.{Symbol}
-use Rattle.scan_core.specs.declared.symbol.Symbol.TheVariants.{Number, BadCheckDigit, Characters}
+use Rattle.scan_core.specs.declared.symbol.ReadSymbol.{ReadSymbol}
+use Rattle.scan_core.specs.declared.symbol.ReadSymbol.TheVariants.{Number, BadCheckDigit, Characters}
 use Rattle.scan_core.specs.declared.found.Found.{Found}
 use Rattle.scan_core.specs.declared.found.Found.TheVariants as found
 use Rattle.element_core.specs.Terms.{Terms}
@@ -24,7 +24,7 @@ stage_fault stages.Modules = Modules
 stage_fault stages.Pattern = Pattern
 
 -- the modules, a symbol of this kind or else of Code 128, are found to be this
-abbrev pub IsSymbolAs : Option Kind → List ℕ → Symbol → Type 0
+abbrev pub IsSymbolAs : Option Kind → List ℕ → ReadSymbol → Type 0
 IsSymbolAs (Some kind) modules (Number gtin) = IsSpelled kind modules (spelled.Found gtin)
 IsSymbolAs (Some kind) modules BadCheckDigit = IsSpelled kind modules spelled.BadCheck
 IsSymbolAs (Some kind) modules (Characters values) = ⊥
@@ -33,7 +33,7 @@ IsSymbolAs None modules BadCheckDigit = ⊥
 IsSymbolAs None modules (Characters values) = IsCode128Symbol values.start values.values.items values.check modules
 
 -- the row shows this symbol of the carrier, one way or the other
-abbrev pub ShowsSymbol : List ℕ → Carrier → Symbol → Type 0
+abbrev pub ShowsSymbol : List ℕ → Carrier → ReadSymbol → Type 0
 ShowsSymbol runs carrier symbol = (way : Way) × (modules : List ℕ) × Shows runs carrier way modules × IsSymbolAs (kind_of carrier) modules symbol
 
 -- the fault is one of the row or of a check digit, and not of the text that the values of a symbol say

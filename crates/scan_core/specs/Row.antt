@@ -9,7 +9,7 @@ abbrev pub dots_from : Bool → List ℕ → List Bool
 dots_from dark [] = []
 dots_from dark (width ∷ widths) = replicate width dark ++ dots_from (not dark) widths
 
--- the dots of a row from left to right, each true where it is dark
+-- the dots of a row from left to right, each true if it is dark
 abbrev pub dots_of : List ℕ → List Bool
 dots_of runs = dots_from false runs
 

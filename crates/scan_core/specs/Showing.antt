@@ -13,7 +13,7 @@ use Rattle.scan_core.specs.Row.{inner}
 abbrev pub gap : ℕ → ℕ → ℕ
 gap a b = (a - b) + (b - a)
 
--- where W dots are N modules, a run of w dots is m modules, 1 to 4, to within a third of one
+-- if W dots are N modules, a run of w dots is m modules, 1 to 4, to within a third of one
 pub record IsRun (N W w m : ℕ) : Type 0 where
   pub least : 1 ≤ m
   pub most : m ≤ 4
@@ -23,7 +23,7 @@ pub record IsRun (N W w m : ℕ) : Type 0 where
 abbrev pub Rounds : List ℕ → ℕ → List ℕ → Type 0
 Rounds runs N modules = AllZip (IsRun N (sum runs)) runs modules
 
--- both light ends are at least five modules, where the runs between them are N
+-- both light ends are at least five modules, if the runs between them are N
 pub record IsQuiet (runs : List ℕ) (N : ℕ) : Type 0 where
   pub left : 5 * sum (inner runs) ≤ slice_index runs 0 * N
   pub right : 5 * sum (inner runs) ≤ slice_index runs (length runs - 1) * N

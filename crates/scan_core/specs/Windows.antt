@@ -9,7 +9,7 @@ use Rattle.scan_core.specs.Row.{IsRow}
 use Rattle.element_core.specs.Terms.{Terms}
 use Rattle.scan_core.specs.Answers.{IsAnswer}
 
--- so many runs of a row, from one on
+-- this many runs of a row, from one on
 abbrev pub runs_in : List ℕ → ℕ → ℕ → List ℕ
 runs_in runs first count = take count (drop first runs)
 
@@ -20,7 +20,7 @@ pub record IsSymbolOf (runs : List ℕ) (year : Terms) (w : Window) : Type 0 whe
   pub within : w.first + w.count ≤ length runs
   pub read : IsAnswer (runs_in runs w.first w.count) year (Read w.carrier w.elements)
 
--- a window comes before another where it begins further left, or at the same run and has fewer
+-- a window comes before another if it begins further left, or at the same run and has fewer
 abbrev pub ComesBefore : Window → Window → Type 0
 ComesBefore v w = (v.first < w.first) ⊎ ((v.first ≡ w.first) × (v.count < w.count))
 
@@ -37,7 +37,7 @@ pub record AreSymbolsOf (runs : List ℕ) (year : Terms) (ws : List Window) : Ty
 
 -- ---- a search from the left
 
--- what is left of a row to be searched: windows that begin after this first run, or at it with so many runs at least
+-- what is left of a row to be searched: windows that begin after this first run, or at it with this many runs at least
 pub record Search : Type 0 where
   pub runs : List ℕ
   pub year : Terms
@@ -66,14 +66,14 @@ IsOver s = (v : Window) → IsSymbolOf s.runs s.year v → IsLeft s v → ⊥
 abbrev pub search_after : Search → Window → Search
 search_after s w = record { runs = s.runs; year = s.year; first = w.first; least = w.count + 1 }
 
--- the search tells these windows, one after the other, and then is over
+-- the search finds these windows, one after the other, and then is over
 abbrev pub AreTold : Search → List Window → Type 0
 AreTold s [] = IsOver s
 AreTold s (w ∷ ws) = IsNext s w × AreTold (search_after s w) ws
 
 -- ---- laws
 
--- what the search of a row tells is its symbols, each that there is, from the left
+-- a search of a row finds each of its symbols, from left to right
 abbrev pub SymbolsAreTold : Type 0
 SymbolsAreTold = (runs : List ℕ) (year : Terms) (ws : List Window) → IsRow runs → AreTold (search_of runs year) ws → AreSymbolsOf runs year ws
 
@@ -82,7 +82,7 @@ abbrev pub WholeRow : Type 0
 WholeRow = (runs : List ℕ) (year : Terms) (carrier : Carrier) (elements : Listing) → IsRow runs → IsAnswer runs year (Read carrier elements)
     → IsSymbolOf runs year (record { first = 0; count = length runs; carrier = carrier; elements = elements })
 
--- the same window in a row of so many runs that is turned end for end
+-- the same window in a row of this many runs that is turned end for end
 abbrev pub turned : ℕ → Window → Window
 turned n w = record { first = n - (w.first + w.count); count = w.count; carrier = w.carrier; elements = w.elements }
 
@@ -90,7 +90,7 @@ turned n w = record { first = n - (w.first + w.count); count = w.count; carrier 
 abbrev pub IsInside : Window → Window → Type 0
 IsInside v w = (w.first < v.first) × (v.first + v.count < w.first + w.count)
 
--- a row turned end for end has the same symbols; in reverse order, where none stands inside another
+-- a row turned end for end has the same symbols; in reverse order, if none stands inside another
 pub record TurnedSymbols : Type 0 where
   pub same : (runs : List ℕ) (year : Terms) (w : Window) → IsRow runs → IsSymbolOf runs year w → IsSymbolOf (reverse runs) year (turned (length runs) w)
   pub reversed : (runs : List ℕ) (year : Terms) (ws : List Window) → IsRow runs → AreSymbolsOf runs year ws

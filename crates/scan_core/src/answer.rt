@@ -12,7 +12,7 @@ use crate::found::Found;
 use crate::rounding::{is_quiet, round, total_dots};
 use crate::runs::{Runs, inner, runs_fault};
 use crate::stage::{Stage, later};
-use crate::symbol::{Symbol, read_some_way};
+use crate::symbol::{ReadSymbol, read_some_way};
 use element_core::{Elements, Year};
 
 /// What a row says.
@@ -33,7 +33,7 @@ pub enum Answer {
 #[derive(Drop)]
 struct Shown {
     carrier: Carrier,
-    symbol: Symbol,
+    symbol: ReadSymbol,
 }
 
 /// The symbol that the row shows as a candidate, or the stage at which the row fails as one. Its
@@ -110,9 +110,9 @@ pub(crate) fn found_in(widths: &[u16]) -> Found
         Err(fault) => return Found::Refused(fault),
     };
     match symbol {
-        Symbol::Number(gtin) => Found::Number(carrier, gtin),
-        Symbol::BadCheckDigit => Found::Refused(RowFault::SymbolCheckDigit),
-        Symbol::Characters(values) => Found::Characters(carrier, values),
+        ReadSymbol::Number(gtin) => Found::Number(carrier, gtin),
+        ReadSymbol::BadCheckDigit => Found::Refused(RowFault::SymbolCheckDigit),
+        ReadSymbol::Characters(values) => Found::Characters(carrier, values),
     }
 }
 

@@ -13,7 +13,7 @@ pub enum Carrier {
     Ean8,
     /// UPC-E (ISO/IEC 15420): 33 runs, 51 modules wide.
     UpcE,
-    /// ITF-14 (ISO/IEC 16390): 77 runs, 135 modules wide where a wide element is three modules.
+    /// ITF-14 (ISO/IEC 16390): 77 runs, 135 modules wide if a wide element is three modules.
     Itf14,
     /// GS1-128 (ISO/IEC 15417): of k start, data and check characters, k from 3 to 98, 6k + 7 runs,
     /// 11k + 13 modules wide.
@@ -55,7 +55,7 @@ pub(crate) struct Candidate {
     pub(crate) count: u16,
 }
 
-/// The carrier whose symbols all have so many runs.
+/// The carrier whose symbols all have this many runs.
 pub(crate) fn fixed_candidate(run_count: usize) -> Option<Candidate>
     ensures found { IfSome result (λ c. HasSize (kind_of c.carrier) run_count c.count) }
     ensures fixed { IfSome result (λ c. c.carrier ≢ Carrier.Gs1128) }
@@ -68,7 +68,7 @@ pub(crate) fn fixed_candidate(run_count: usize) -> Option<Candidate>
     })
 }
 
-/// GS1-128, where its symbols have so many runs.
+/// GS1-128, if its symbols have this many runs.
 pub(crate) fn gs1128_candidate(run_count: usize) -> Option<Candidate>
     ensures found { IfSome result (λ c. HasSize (kind_of c.carrier) run_count c.count) }
     ensures gs1128 { IfSome result (λ c. c.carrier ≡ Carrier.Gs1128) }

@@ -22,7 +22,7 @@ const STEP: usize = 600;
 
 /// A part of a row: its first runs from one on.
 #[derive(Drop)]
-struct Part {
+struct Section {
     /// How many runs of the row come before it, an even number.
     before: usize,
     /// How many dots of the row come before it.
@@ -30,7 +30,7 @@ struct Part {
     runs: FirstRuns,
 }
 
-impl Part {
+impl Section {
     /// Goes on to the part that begins 600 runs further right.
     fn go_on(&mut self, bits: &[u8], width: usize)
         requires enough { width ≤ 8 * length bits.now }
@@ -64,13 +64,13 @@ fn next_early(runs: &FirstRuns, first: usize, least: usize, year: Year) -> Optio
     }
 }
 
-/// The next symbol in a part, which begins after this run of it, or at it with so many runs at least, or in
+/// The next symbol in a part, which begins after this run of it, or at it with this many runs at least, or in
 /// the parts behind it.
 fn next_in_parts(
     bits: &[u8],
     width: usize,
     year: Year,
-    part: &mut Part,
+    part: &mut Section,
     first: usize,
     least: usize,
 ) -> Option<Window>
@@ -112,7 +112,7 @@ pub struct DotSymbols<'a> {
     bits: &'a [u8],
     width: u16,
     year: Year,
-    part: Part,
+    part: Section,
     /// Windows that begin before this run of the part are passed.
     first: usize,
     /// So are those that begin at it and have fewer runs.
@@ -146,7 +146,7 @@ impl<'a> DotSymbols<'a> {
             bits,
             width,
             year,
-            part: Part {
+            part: Section {
                 before: 0,
                 at: 0,
                 runs: first_runs(bits, 0, usize::from(width)),

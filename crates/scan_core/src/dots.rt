@@ -11,7 +11,7 @@ use crate::fault::RowFault;
 use arrayvec::ArrayVec;
 use element_core::Year;
 
-/// So many runs that the longest symbol with its light ends, of 597 runs, is among them where it begins with
+/// This many runs that the longest symbol with its light ends, of 597 runs, is among them where it begins with
 /// run 598 or before.
 const MOST: usize = 1_195;
 

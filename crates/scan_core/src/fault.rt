@@ -35,8 +35,8 @@ impl<T: Drop> From<AllocFailed<T>> for RunFault {
 /// Why a row is not read: the first of these tests that it fails.
 ///
 /// `QuietZone`, `Modules` and `Pattern` are made for a carrier whose symbols have as many runs. With
-/// 43 runs there are two; where the row is a symbol of neither, the later one of their faults is
-/// told. The tests after them are of the one symbol that the row shows.
+/// 43 runs there are two; if the row is a symbol of neither, the later one of their faults is
+/// reported. The tests after them are of the one symbol that the row shows.
 #[derive(Clone, Copy, Debug, PartialEq, Eq)]
 pub enum RowFault {
     /// No dot is dark.
@@ -86,7 +86,7 @@ impl From<ElementFault> for RowFault {
 }
 
 impl RunFault {
-    /// The refusal that an output line tells.
+    /// The refusal that an output line reports.
     pub fn refusal(self) -> Refusal
         ensures { refusal_text result.kind result.place ≡ run_fault_text self }
     {
@@ -108,7 +108,7 @@ impl fmt::Display for RunFault {
 }
 
 impl RowFault {
-    /// The refusal that an output line tells.
+    /// The refusal that an output line reports.
     pub fn refusal(self) -> Refusal
         ensures { refusal_text result.kind result.place ≡ row_fault_text self }
     {

@@ -62,7 +62,7 @@ pub fn symbol_measures()
     code128_code::measures();
 }
 
-/// Widths are a row exactly where they have no fault.
+/// Widths are a row exactly if they have no fault.
 pub fn row_or_fault()
     ensures { RowOrFault }
 {}
@@ -97,7 +97,7 @@ pub fn each_ratio_is_read()
     element_core::gtin_reads();
 }
 
-/// What the search of a row tells is its symbols: each that there is, from the left.
+/// A search of a row finds each of its symbols, from left to right.
 pub fn symbols_are_told()
     ensures { SymbolsAreTold }
 {
@@ -109,7 +109,7 @@ pub fn whole_row()
     ensures { WholeRow }
 {}
 
-/// A row turned end for end has the same symbols, in reverse order where none stands inside another.
+/// A row turned end for end has the same symbols, in reverse order if none stands inside another.
 pub fn turned_symbols()
     ensures { TurnedSymbols }
 {}

@@ -19,7 +19,7 @@ pub(crate) fn total_dots(widths: &[u16]) -> u32
     widths.iter().map(|width| u32::from(*width)).sum()
 }
 
-/// Whether both light ends are at least five modules wide, where the runs between them are `total`
+/// Whether both light ends are at least five modules wide, if the runs between them are `total`
 /// dots and `count` modules.
 pub(crate) fn is_quiet(widths: &[u16], total: u32, count: u16) -> bool
     requires some { 0 < length widths.now }
@@ -47,7 +47,7 @@ struct Limits {
     past_four: u16,
 }
 
-/// The least width in dots that is so many thirds of a module, where `total` dots are `count` modules.
+/// The least width in dots that is this many thirds of a module, if `total` dots are `count` modules.
 fn least_width(thirds: u32, total: u32, count: u32) -> u16
     requires thirds { thirds ≤ 13 }
     requires narrow { total ≤ 65535 }
@@ -58,7 +58,7 @@ fn least_width(thirds: u32, total: u32, count: u32) -> u16
     ((thirds * total + (3 * count - 1)) / (3 * count)) as u16
 }
 
-/// The least width in dots that is more than so many thirds of a module, where `total` dots are `count` modules.
+/// The least width in dots that is more than this many thirds of a module, if `total` dots are `count` modules.
 fn width_past(thirds: u32, total: u32, count: u32) -> u16
     requires thirds { thirds ≤ 13 }
     requires narrow { total ≤ 65535 }
@@ -69,7 +69,7 @@ fn width_past(thirds: u32, total: u32, count: u32) -> u16
     (thirds * total / (3 * count) + 1) as u16
 }
 
-/// The limits where `total` dots are `count` modules: `count` is at most 1,091, the modules of the longest symbol.
+/// The limits if `total` dots are `count` modules: `count` is at most 1,091, the modules of the longest symbol.
 fn limits_of(total: u16, count: u16) -> Limits
     requires short { count ≤ 1091 }
     requires long { 5 ≤ count }
@@ -90,7 +90,7 @@ fn limits_of(total: u16, count: u16) -> Limits
     }
 }
 
-/// 1 where the width comes up to the limit, and else 0.
+/// 1 if the width comes up to the limit, and else 0.
 fn reaches(width: u16, limit: u16) -> u16
     ensures reached { limit ≤ width → result ≡ 1 }
     ensures below { width < limit → result ≡ 0 }
@@ -99,9 +99,9 @@ fn reaches(width: u16, limit: u16) -> u16
     u16::from(limit <= width)
 }
 
-/// The number of modules that a run of `width` dots is nearest to, and whether it is so many.
+/// The number of modules that a run of `width` dots is nearest to, and whether it is this many.
 ///
-/// It is where it comes up to as many limits above 1 module as it is past.
+/// It is this many if it comes up to as many limits above 1 module as it is past.
 fn modules_of(width: u16, limits: Limits) -> (u8, bool)
     ensures found { (N W : ℕ) → 0 < W → AreLimits N W limits.one limits.two limits.three limits.four
         limits.past_one limits.past_two limits.past_three limits.past_four → result.1 ≡ true → IsRun N W width result.0 }

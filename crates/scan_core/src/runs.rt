@@ -19,7 +19,7 @@ const MOST_DOTS: u32 = 65_535;
 /// more.
 const MOST_RUNS: usize = 65_537;
 
-/// Memory for so many runs at most is taken before a row is cut: most symbols have fewer.
+/// Memory for this many runs at most is taken before a row is cut: most symbols have fewer.
 const MANY_RUNS: usize = 64;
 
 /// A row: the widths of its runs in dots, light and dark in turn, from the light end at its left to
@@ -199,7 +199,7 @@ impl Runs {
         kept.found = Some(found_in(kept.widths.as_slice()));
     }
 
-    /// What was found in the row, where it was read.
+    /// What was found in the row, if it was read.
     pub(crate) fn found(&self) -> Option<&Found>
         ensures { IfSome result (λ found. IsFound self.now found.now) }
     {

@@ -10,7 +10,7 @@ pub trait SymbolSearch {
     ghost rest: { Self → Search };
 
     /// The next symbol: of the windows that begin and end with a light run and are read as a row, the
-    /// first from the left that was not told yet; of those that begin at one run the shortest.
+    /// first from the left that was not found yet; of those that begin at one run the shortest.
     fn next_symbol(&mut self) -> Option<Window>
         ensures next { IfSome result (λ w. IsNext (rest self.old) w) }
         ensures after { IfSome result (λ w. rest self.new ≡ search_after (rest self.old) w) }

@@ -13,7 +13,7 @@ use ean_code::{Modules, Spelled, read_ean8, read_ean13, read_itf14, read_upce};
 
 /// What a symbol is found to be.
 #[derive(Drop)]
-pub(crate) enum Symbol {
+pub(crate) enum ReadSymbol {
     /// One of EAN, UPC or ITF-14, of this GTIN.
     Number(Gtin),
     /// One of EAN, UPC or ITF-14 whose check digit is wrong.
@@ -23,7 +23,7 @@ pub(crate) enum Symbol {
 }
 
 /// The symbol of EAN, UPC or ITF-14 that was found, if it was one.
-fn number(spelled: Spelled) -> Option<Symbol>
+fn number(spelled: Spelled) -> Option<ReadSymbol>
     ensures found { (kind : Kind) (modules : List ℕ) → IsSpelled kind modules spelled
         → IfSome result (λ s. IsSymbolAs (Some kind) modules s) }
     ensures none { (kind : Kind) (modules : List ℕ) → IsSpelled kind modules spelled
@@ -31,13 +31,13 @@ fn number(spelled: Spelled) -> Option<Symbol>
 {
     match spelled {
         Spelled::NoPattern => None,
-        Spelled::BadCheck => Some(Symbol::BadCheckDigit),
-        Spelled::Found(gtin) => Some(Symbol::Number(gtin)),
+        Spelled::BadCheck => Some(ReadSymbol::BadCheckDigit),
+        Spelled::Found(gtin) => Some(ReadSymbol::Number(gtin)),
     }
 }
 
 /// The symbol of the carrier that the modules are, read from the left.
-fn read_symbol(carrier: Carrier, modules: &Modules) -> Option<Symbol>
+fn read_symbol(carrier: Carrier, modules: &Modules) -> Option<ReadSymbol>
     ensures found { IfSome result (λ s. IsSymbolAs (kind_of carrier) modules.now s) }
     ensures none { IfNone result (IsSymbol (kind_of carrier) modules.now → ⊥) }
 {
@@ -46,13 +46,13 @@ fn read_symbol(carrier: Carrier, modules: &Modules) -> Option<Symbol>
         Carrier::Ean8 => number(read_ean8(modules)),
         Carrier::UpcE => number(read_upce(modules)),
         Carrier::Itf14 => number(read_itf14(modules)),
-        Carrier::Gs1128 => values(modules).map(Symbol::Characters),
+        Carrier::Gs1128 => values(modules).map(ReadSymbol::Characters),
     }
 }
 
-/// The symbol of the carrier that the modules are, read from the left or else from the right. Where it is
+/// The symbol of the carrier that the modules are, read from the left or else from the right. If it is
 /// none from the left they are turned round.
-pub(crate) fn read_some_way(carrier: Carrier, modules: &mut Modules) -> Option<Symbol>
+pub(crate) fn read_some_way(carrier: Carrier, modules: &mut Modules) -> Option<ReadSymbol>
     ensures found { IfSome result (λ s. (way : Way) × IsSymbolAs (kind_of carrier) (along way modules.old) s) }
     ensures none { IfNone result ((way : Way) → IsSymbol (kind_of carrier) (along way modules.old) → ⊥) }
 {

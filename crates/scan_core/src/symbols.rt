@@ -16,13 +16,13 @@ use crate::window::Window;
 use element_core::Year;
 use std::marker::Model;
 
-/// The shortest window has so many runs.
+/// The shortest window has this many runs.
 const LEAST_RUNS: usize = 27;
 
-/// It has so many pairs of runs after its first run, but for the last.
+/// It has this many pairs of runs after its first run, but for the last.
 const LEAST_PAIRS: usize = 12;
 
-/// The longest window has so many pairs of runs after its first run.
+/// The longest window has this many pairs of runs after its first run.
 const MOST_PAIRS: usize = 298;
 
 /// What is left of a row to be searched.
@@ -57,12 +57,12 @@ impl<'a> Model for Symbols<'a> {
 
 /// Where a window stands.
 #[derive(Clone, Copy)]
-struct Place {
+struct Span {
     first: usize,
     count: usize,
 }
 
-/// Whether a carrier has symbols of so many runs. Few windows come so far, so its division is kept out of the loop.
+/// Whether a carrier has symbols of this many runs. Few windows come so far, so its division is kept out of the loop.
 #[inline(never)]
 fn is_symbol_count(run_count: usize) -> bool
     ensures { result ≡ false → (c : Carrier) (N : ℕ) → HasSize (kind_of c) run_count N → ⊥ }
@@ -73,7 +73,7 @@ fn is_symbol_count(run_count: usize) -> bool
     }
 }
 
-/// The width of the widest run, or 0 where there is none.
+/// The width of the widest run, or 0 if there is none.
 fn widest_of(widths: &[u16]) -> u16
     ensures reached { (result ≡ 0) ⊎ ((i : ℕ) × (i < length widths.now) × (slice_index widths.now i ≡ result)) }
     ensures widest { (i : ℕ) → i < length widths.now → slice_index widths.now i ≤ result }
@@ -107,7 +107,7 @@ fn may_end(end: u16, dark: u16, light: u16) -> bool
     15 * u32::from(light) <= 4 * u32::from(end) && 15 * u32::from(dark) <= 7 * u32::from(end)
 }
 
-/// Whether the window of so many runs from this one on may be a symbol, by its right end and how many they are.
+/// Whether the window of this many runs from this one on may be a symbol, by its right end and how many they are.
 fn may_be_symbol(widths: &[u16], first: usize, count: usize) -> bool
     requires row { IsRow widths.now }
     requires many { 3 ≤ count }
@@ -136,11 +136,11 @@ fn pairs_passed(widths: &[u16], first: usize, pairs: usize, widest: u16) -> usiz
     passed
 }
 
-/// How many runs the first of the windows has that begin with this run, have so many runs at least and may
+/// How many runs the first of the windows has that begin with this run, have this many runs at least and may
 /// be a symbol, shorter ones first.
 ///
 /// A window grows until one of its light runs is no narrower than its light end: no longer one is read. It may be
-/// a symbol where its other end is wider than those before it, and the first dark ones. Few runs are looked at as
+/// a symbol if its other end is wider than those before it, and the first dark ones. Few runs are looked at as
 /// light ends, so this is kept out of their loop.
 #[inline(never)]
 fn count_from(widths: &[u16], first: usize, least: usize) -> Option<usize>
@@ -178,8 +178,8 @@ fn count_from(widths: &[u16], first: usize, least: usize) -> Option<usize>
     None
 }
 
-/// The first of the windows that may be a symbol and begin after this run, or at it with so many runs at least.
-fn next_place(widths: &[u16], first: usize, least: usize) -> Option<Place>
+/// The first of the windows that may be a symbol and begin after this run, or at it with this many runs at least.
+fn next_place(widths: &[u16], first: usize, least: usize) -> Option<Span>
     requires row { IsRow widths.now }
     requires light { first % 2 ≡ 0 }
     ensures next { IfSome result (λ p. (year : Terms) → IsNextPlace (record { runs = widths.now; year = year; first = first; least = least }) p) }
@@ -191,7 +191,7 @@ fn next_place(widths: &[u16], first: usize, least: usize) -> Option<Place>
     'runs: while start <= last {
         if may_end(widths[start], widths[start + 1], widths[start + 2]) {
             if let Some(count) = count_from(widths, start, shortest) {
-                return Some(Place {
+                return Some(Span {
                     first: start,
                     count,
                 });
@@ -205,10 +205,10 @@ fn next_place(widths: &[u16], first: usize, least: usize) -> Option<Place>
 
 /// The first that is read of this window and those that come after it. What is left of the row goes on behind it.
 ///
-/// It is called where there is a window that may be a symbol, so that a search which finds none does not pay for
+/// It is called if there is a window that may be a symbol, so that a search which finds none does not pay for
 /// the room of an answer.
 #[inline(never)]
-fn first_read(widths: &[u16], place: Place, year: Year, rest: &mut Rest) -> Option<Window>
+fn first_read(widths: &[u16], place: Span, year: Year, rest: &mut Rest) -> Option<Window>
     requires row { IsRow widths.now }
     requires begins_light { place.first % 2 ≡ 0 }
     requires ends_light { place.count % 2 ≡ 1 }
@@ -221,7 +221,7 @@ fn first_read(widths: &[u16], place: Place, year: Year, rest: &mut Rest) -> Opti
     one_answer();
     let mut here = place;
     'places: loop {
-        let Place { first, count } = here;
+        let Span { first, count } = here;
         let found = found_in(&widths[first..first + count]);
         if let Answer::Read { carrier, elements } = found.answer(year) {
             *rest = Rest {

@@ -15,7 +15,7 @@ use Rattle.sheet_core.specs.Grids.{Cells, IsGrid}
 use Rattle.sheet_core.specs.declared.label.Label.{Label}
 use Rattle.sheet_core.specs.Labels.{Drawn, FitsCell, IsDrawn}
 use Rattle.sheet_core.specs.inner.Lines.{line_dot, line_dot_of}
-use Rattle.sheet_core.proofs.LabelFacts.{all_at, drawn_at, same_drawn}
+use Rattle.sheet_core.proofs.OneLabelSymbol.{all_at, drawn_at, same_drawn}
 use Rattle.sheet_core.proofs.CellFacts.{wider, sum-wider, length-dots_from, reach}
 
 -- the first i symbols are drawn, and nothing else

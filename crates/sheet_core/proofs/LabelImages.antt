@@ -13,7 +13,7 @@ use Rattle.sheet_core.specs.pbm.Headers.{header_text}
 use Rattle.sheet_core.specs.pbm.Images.{pbm_of}
 use Rattle.sheet_core.specs.declared.label.Label.{Label}
 use Rattle.sheet_core.proofs.BandFacts.{Banded, band_long, banded_more, banded_none}
-use Rattle.sheet_core.proofs.LabelFacts.{Printed}
+use Rattle.sheet_core.proofs.OneLabelSymbol.{Printed}
 use Rattle.sheet_core.proofs.SheetFacts.{sheet_of}
 
 -- the symbols of the first row of cells, where there are no more

@@ -16,7 +16,7 @@ use Rattle.sheet_core.specs.Labels.{Drawn}
 use Rattle.sheet_core.specs.pbm.Headers.{header_text}
 use Rattle.sheet_core.specs.pbm.Images.{image, pbm_of}
 use Rattle.sheet_core.specs.PrintLaws.{AreBytes, OneBitmap, OnePrinted}
-use Rattle.sheet_core.proofs.LabelFacts.{same_all}
+use Rattle.sheet_core.proofs.OneLabelSymbol.{same_all}
 
 -- two bits that are 1 alike are alike
 same_bit : (a b : ℕ) → a < 2 → b < 2 → (a == 1) ≡ (b == 1) → a ≡ b

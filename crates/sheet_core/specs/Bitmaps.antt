@@ -9,7 +9,7 @@ pub record Bitmap : Type 0 where
   pub height : ℕ
   pub bytes : List ℕ
 
--- the bytes of a row of so many dots
+-- the bytes of a row of this many dots
 abbrev pub stride : ℕ → ℕ
 stride width = (width + 7) / 8
 
@@ -34,7 +34,7 @@ place s x y = 8 * (stride s.width * y) + x
 abbrev pub dot_of : Bitmap → ℕ → ℕ → Bool
 dot_of s x y = dot_at s.bytes (place s x y)
 
--- so many dots of row y, from dot x on
+-- this many dots of row y, from dot x on
 abbrev pub dots_in : Bitmap → ℕ → ℕ → ℕ → List Bool
 dots_in s x y count = dots_at s.bytes (place s x y) count
 

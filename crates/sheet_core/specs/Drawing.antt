@@ -37,7 +37,7 @@ cell_dot g (Some s) x y = is_bar_row g y && bar_dot g s x
 abbrev pub cell_count : Cells → ℕ
 cell_count g = g.columns * g.rows
 
--- how many sheets so many labels fill
+-- how many sheets this many labels fill
 abbrev pub sheet_count : Cells → ℕ → ℕ
 sheet_count g count = (count + (cell_count g - 1)) / cell_count g
 
@@ -85,7 +85,7 @@ IsSheetFault g labels (LabelWidth i) =
     × (FitsCell g s → ⊥)
 IsSheetFault g labels NoMemory = ⊥
 
--- why labels are not printed as images: the first that has no symbol or does not fit its cell; or, where each has one that fits, a growth that was
+-- why labels are not printed as images: the first that has no symbol or does not fit its cell; or, if each has one that fits, a growth that was
 -- refused or a write that failed
 abbrev pub IsPrintFault : Cells → List Label → PrintFault → Type 0
 IsPrintFault g labels (Sheet (LabelKind i)) = IsSheetFault g labels (LabelKind i)

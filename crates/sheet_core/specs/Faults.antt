@@ -1,4 +1,4 @@
--- The text of a fault, as it stands in an output line: `refused`, its number, its name and, where it has one, the label's index.
+-- The text of a fault, as it stands in an output line: `refused`, its number, its name and, if it has one, the label's index.
 use Rattle.std.specs.Prelude.{ℕ, List, Some}
 use Rattle.digits_core.specs.Refusals.{refusal_text, refusal_words}
 use Rattle.digits_core.specs.declared.refusal.RefusalKind.TheVariants as refusal

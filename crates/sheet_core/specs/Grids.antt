@@ -1,7 +1,7 @@
 -- Grids of cells of one size, in dots.
 use Rattle.std.specs.Prelude.{ℕ, ◌*◌, ◌<◌, ◌≤◌}
 
--- cells of one size, in rows and columns; a module is so many dots wide
+-- cells of one size, in rows and columns; and the width of a module in dots
 pub record Cells : Type 0 where
   pub dots : ℕ
   pub width : ℕ

@@ -20,7 +20,7 @@ OneBitmap =
     → ((x y : ℕ) → x < s.width → y < s.height → dot_of s x y ≡ dot_of t x y)
     → s ≡ t
 
--- labels are printed in a grid as one list of sheets, where what is written of these are bytes
+-- labels are printed in a grid as one list of sheets, if what is written of these are bytes
 abbrev pub OnePrinted : Type 0
 OnePrinted =
     (labels : List Label) (g : Cells) (sheets others : List Bitmap)

@@ -12,10 +12,6 @@ use std::fmt;
 #[derive(Clone, Copy, Debug, PartialEq, Eq)]
 pub struct BadGrid;
 
-/// A growth was refused.
-#[derive(Clone, Copy, Debug, PartialEq, Eq)]
-pub struct NoMemory;
-
 /// The writer failed.
 #[derive(Clone, Copy, Debug, PartialEq, Eq)]
 pub struct WriteFault;
@@ -66,7 +62,7 @@ impl From<Failed> for PbmFault {
 }
 
 impl BadGrid {
-    /// The refusal that an output line tells.
+    /// The refusal that an output line reports.
     pub fn refusal(self) -> Refusal
         ensures { refusal_text result.kind result.place ≡ refusal_words refusal.BadGrid }
     {
@@ -85,28 +81,8 @@ impl fmt::Display for BadGrid {
     }
 }
 
-impl NoMemory {
-    /// The refusal that an output line tells.
-    pub fn refusal(self) -> Refusal
-        ensures { refusal_text result.kind result.place ≡ refusal_words refusal.NoMemory }
-    {
-        Refusal {
-            kind: RefusalKind::NoMemory,
-            place: None,
-        }
-    }
-}
-
-impl fmt::Display for NoMemory {
-    ghost output = { λ _. Some (refusal_words refusal.NoMemory) };
-
-    fn fmt<W: fmt::Write>(&self, f: &mut fmt::Formatter<W>) -> fmt::Result {
-        self.refusal().fmt(f)
-    }
-}
-
 impl WriteFault {
-    /// The refusal that an output line tells.
+    /// The refusal that an output line reports.
     pub fn refusal(self) -> Refusal
         ensures { refusal_text result.kind result.place ≡ refusal_words refusal.WriteFault }
     {
@@ -126,7 +102,7 @@ impl fmt::Display for WriteFault {
 }
 
 impl SheetFault {
-    /// The refusal that an output line tells.
+    /// The refusal that an output line reports.
     pub fn refusal(self) -> Refusal
         ensures { refusal_text result.kind result.place ≡ sheet_fault_text self }
     {
@@ -148,7 +124,7 @@ impl fmt::Display for SheetFault {
 }
 
 impl PrintFault {
-    /// The refusal that an output line tells.
+    /// The refusal that an output line reports.
     pub fn refusal(self) -> Refusal
         ensures { refusal_text result.kind result.place ≡ print_fault_text self }
     {
@@ -168,7 +144,7 @@ impl fmt::Display for PrintFault {
 }
 
 impl PbmFault {
-    /// The refusal that an output line tells.
+    /// The refusal that an output line reports.
     pub fn refusal(self) -> Refusal
         ensures { refusal_text result.kind result.place ≡ pbm_fault_text self }
     {

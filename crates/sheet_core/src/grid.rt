@@ -27,7 +27,7 @@ impl Model for Grid {
     ghost inverse = { λ g. record { module_dots = g.dots; cell_width = g.width; cell_height = g.height; columns = g.columns; rows = g.rows } };
 }
 
-/// Whether so many of so many dots are at most 16,384 dots.
+/// Whether this many, each of this many dots, are at most 16,384 dots.
 fn fits_sheet(count: u16, dots: u16) -> bool
     ensures { IsTrue result ↔ (count * dots ≤ 16384) }
 {

@@ -8,7 +8,7 @@ ghost use Rattle.element_core.specs.Elements.{canonical};
 ghost use Rattle.sheet_core.specs.Labels.{Drawn, IsDrawn, IsLabelSymbol, IsPrintedGs1128, carrier_of, content_of, gtin_label, gtin_text, label_kind, label_text, lent};
 
 use crate::kind::{GtinKind, LabelKind};
-use crate::symbol::Symbol;
+use crate::symbol::DrawnSymbol;
 use code128_code::encode;
 use digits_core::Gtin;
 use ean_code::{Modules, ean8, ean13, itf14, upce};
@@ -178,13 +178,13 @@ impl Label {
     }
 
     /// What is drawn of the label, if it has a symbol (GS1 General Specifications, sections 5.2 to 5.4).
-    pub fn symbol(&self) -> Option<Symbol>
+    pub fn symbol(&self) -> Option<DrawnSymbol>
         ensures some { IfSome result (IsDrawn self.now) }
         ensures none { IfNone result ((s : Drawn) → IsDrawn self.now s → ⊥) }
     {
         let modules = self.modules()?;
         let symbology = self.kind().symbology();
-        Some(Symbol {
+        Some(DrawnSymbol {
             modules,
             quiet_left: symbology.quiet_left,
             quiet_right: symbology.quiet_right,
@@ -192,7 +192,7 @@ impl Label {
     }
 
     /// What is drawn of a label that has a symbol.
-    pub(crate) fn drawn(&self) -> Symbol
+    pub(crate) fn drawn(&self) -> DrawnSymbol
         requires { (s : Drawn) × IsDrawn self.now s }
         ensures { IsDrawn self.now result }
     {

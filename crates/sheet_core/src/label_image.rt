@@ -15,7 +15,7 @@ use crate::print::check_labels;
 use digits_core::put_at;
 use std::slice;
 
-/// Puts a row of dots into `out` so many times from `at` on, and says where the last ends.
+/// Puts a row of dots into `out` this many times from `at` on, and says where the last ends.
 fn put_rows(line: &[u8], count: u16, at: usize, out: &mut [u8]) -> usize
     requires { at + count * length line.now ≤ length out.old }
     ensures end { result ≡ at + length (repeated_bytes count line.now) }
@@ -43,7 +43,7 @@ fn put_image(header: &[u8], line: &[u8], grid: &Grid, out: &mut [u8])
 }
 
 /// The PBM image (netpbm, pbm(5)) of the sheet of one label, in a grid of one cell: the bytes that
-/// `print_pbm` writes of it. They are put at the front of `out` where it has room for them all, and the
+/// `print_pbm` writes of it. They are put at the front of `out` if it has room for them all, and the
 /// answer is how many they are. It takes no memory.
 ///
 /// A label that has no such symbol is `LabelKind`, and one that is wider with its quiet zones than the

@@ -13,7 +13,8 @@ mod print;
 mod sheet;
 mod symbol;
 
-pub use fault::{BadGrid, NoMemory, PbmFault, PrintFault, SheetFault, WriteFault};
+pub use digits_core::NoMemory;
+pub use fault::{BadGrid, PbmFault, PrintFault, SheetFault, WriteFault};
 pub use grid::Grid;
 pub use kind::{GtinKind, LabelKind, Symbology};
 pub use label::{Content, Label};
@@ -28,4 +29,4 @@ pub use pbm::read::{SheetIntake, read_pbm, read_sheets};
 pub use pbm::write::write_pbm;
 pub use print::{check_labels, print_sheets};
 pub use sheet::Sheet;
-pub use symbol::Symbol;
+pub use symbol::DrawnSymbol;

@@ -39,7 +39,7 @@ pub(crate) fn part(labels: &[Label], from: usize, count: usize) -> &[Label]
     &rest[..count.min(rest.len())]
 }
 
-/// Appends a line so many times.
+/// Appends a line this many times.
 fn push_rows(bytes: &mut Vec<u8>, line: &[u8], count: u16) -> Result<(), AllocError>
     ensures { OnOk result (bytes.new.items ≡ bytes.old.items ++ repeated_bytes count line.now) }
 {

@@ -3,8 +3,8 @@ ghost use Rattle.std.specs.Prelude.{◌≡◌, ◌<◌, ◌≤◌, ◌+◌, ◌*
 ghost use Rattle.scan_core.specs.Row.{dots_of};
 ghost use Rattle.sheet_core.specs.Bitmaps.{cell_dots, dot_of, dots_in, stride};
 
-use crate::fault::NoMemory;
 use crate::grid::Grid;
+use digits_core::NoMemory;
 use scan_core::Runs;
 use std::alloc::Global;
 use std::marker::Model;
@@ -27,7 +27,7 @@ impl Model for Sheet {
     ghost invariant = { λ s. IsBitmap (record { width = s.width; height = s.height; bytes = s.bytes.items }) };
 }
 
-/// The bytes that a row of so many dots takes.
+/// The bytes that a row of this many dots takes.
 pub(crate) fn stride(width: u16) -> usize
     ensures { result ≡ stride width }
 {

@@ -9,13 +9,13 @@ use std::marker::Model;
 
 /// A symbol and its quiet zones, in modules.
 #[derive(Drop)]
-pub struct Symbol {
+pub struct DrawnSymbol {
     pub(crate) modules: Modules,
     pub(crate) quiet_left: u8,
     pub(crate) quiet_right: u8,
 }
 
-impl Model for Symbol {
+impl Model for DrawnSymbol {
     ghost use Rattle.std.specs.Prelude.{◌≤◌};
     ghost use Rattle.sheet_core.specs.Labels.{Drawn};
 
@@ -34,7 +34,7 @@ fn total(modules: &Modules) -> u32
     modules.widths().iter().map(|width| u32::from(*width)).sum()
 }
 
-impl Symbol {
+impl DrawnSymbol {
     /// The widths of its runs in modules, a bar first and last.
     pub fn widths(&self) -> &[u8]
         ensures value { result.now ≡ self.now.modules }

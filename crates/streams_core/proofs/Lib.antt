@@ -1,3 +1,3 @@
-pub mod LaneFacts
+pub mod LaneAlwaysHolds
 pub mod StreamFacts
 pub mod TillFacts

@@ -4,12 +4,12 @@ use Rattle.streams_core.specs.Streams.{following}
 use Rattle.streams_core.specs.Machine.{Happening, Take, all_happen, fresh_streams, happens}
 use Rattle.streams_core.specs.Tills.{LaneTills, NamedEntry, Step, Takes, all_go, own_entry, fresh_lane, from_on, goes, own_name, next_wanted, marked_answer, own_row}
 
--- the first so many
+-- the first this many
 abbrev pub first : (ℕ → ℕ) → ℕ → List ℕ
 first f zero = []
 first f (suc n) = first f n ++ f n ∷ []
 
--- what the till has taken is the answers to its first rows, in order and each once; where an answer is left, the next
+-- what the till has taken is the answers to its first rows, in order and each once; if an answer is left, the next
 -- that it takes is that to its next row
 abbrev pub AnsweredOnce : Type 0
 AnsweredOnce = (row answer : ℕ → ℕ) (events : List Happening) →
@@ -28,8 +28,8 @@ NoneIsLeftOut = (row answer : ℕ → ℕ) (events : List Happening) →
     × (gone ≤ l.taken)
     × (l.answers.last ≤ l.rows.last)
 
--- Rows that tills have under one ID have one answer, if they have one mark. So it is where no two tills have the same
--- series, where those that have it have the same rows, and where marks tell their rows apart.
+-- Rows that tills have under one ID have one answer, if they have one mark. So it is if no two tills have the same
+-- series, if those that have it have the same rows, and if marks tell their rows apart.
 abbrev pub MarksTell : LaneTills → Type 0
 MarksTell s = (t u n : ℕ) → (s.till t).series ≡ (s.till u).series → s.mark (own_row s t n) ≡ s.mark (own_row s u n)
     → s.answer (own_row s t n) ≡ s.answer (own_row s u n)

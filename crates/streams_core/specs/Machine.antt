@@ -13,10 +13,10 @@ pub record LaneStreams : Type 0 where
 -- What may happen. Whoever dies does nothing more, or something of this: a MULTI that was sent comes at any time, twice,
 -- or never; a worker or a till that begins, or sleeps and wakes, is behind the last by any number.
 pub data Happening : Type 0 where
-  -- the till sends so many rows, behind a place that is not above the last of the rows
+  -- the till sends this many rows, behind a place that is not above the last of the rows
   Submit : (back : ℕ) → (count : ℕ) → Happening
   Rows_come : (which : ℕ) → Happening
-  -- a worker reads so many rows, behind a place that is not above the last answer, and sends their answers
+  -- a worker reads this many rows, behind a place that is not above the last answer, and sends their answers
   Answer : (back : ℕ) → (count : ℕ) → Happening
   Answers_come : (which : ℕ) → Happening
   -- the till takes the next answer

@@ -28,7 +28,7 @@ abbrev pub behind : ℕ → List StreamEntry → List StreamEntry
 behind n [] = []
 behind n (e ∷ es) = cond (nat_lt n e.id) (e ∷ behind n es) (behind n es)
 
--- what is read behind an ID, so many entries at most
+-- what is read behind an ID, this many entries at most
 abbrev pub read : Stream → ℕ → ℕ → List StreamEntry
 read s n count = take count (behind n s.entries)
 
@@ -36,7 +36,7 @@ read s n count = take count (behind n s.entries)
 abbrev pub trimmed : Stream → ℕ → Stream
 trimmed s n = record { entries = behind n s.entries; last = s.last }
 
--- the entries of IDs that follow an ID, so many
+-- the entries of IDs that follow an ID, this many
 abbrev pub following : (ℕ → ℕ) → ℕ → ℕ → List StreamEntry
 following f n zero = []
 following f n (suc count) = stream_entry (suc n) (f n) ∷ following f (suc n) count

@@ -25,7 +25,7 @@ pub record NamedStream : Type 0 where
   pub entries : List NamedEntry
   pub last : RowName
 
--- an entry is added, or refused where its ID is not above the last
+-- an entry is added, or refused if its ID is not above the last
 abbrev pub add : NamedStream → NamedEntry → NamedStream
 add s e = cond (is_under s.last e.name) (record { entries = s.entries ++ e ∷ []; last = e.name }) s
 
@@ -61,7 +61,7 @@ own_name s t n = row_name (s.till t).series n
 abbrev pub own_entry : LaneTills → ℕ → ℕ → NamedEntry
 own_entry s t n = record { name = own_name s t n; text = own_row s t n; mark = None }
 
--- so many rows of a till, from row n on
+-- this many rows of a till, from row n on
 abbrev pub own_entries : LaneTills → ℕ → ℕ → ℕ → List NamedEntry
 own_entries s t n zero = []
 own_entries s t n (suc count) = own_entry s t n ∷ own_entries s t (suc n) count
@@ -83,10 +83,10 @@ pub record SharedLane : Type 0 where
 -- What may happen. Whoever dies, sleeps or begins again does some of this, as a till that has raised does: a MULTI that
 -- was sent comes at any time, twice, or never.
 pub data Step : Type 0 where
-  -- a till sends so many rows, from row n on
+  -- a till sends this many rows, from row n on
   Sends : (t : ℕ) → (n : ℕ) → (count : ℕ) → Step
   Sent_comes : (which : ℕ) → Step
-  -- a worker reads so many rows, from any place of the stream on, and sends their answers
+  -- a worker reads this many rows, from any place of the stream on, and sends their answers
   Gives : (place : ℕ) → (count : ℕ) → Step
   Given_comes : (which : ℕ) → Step
   -- a till reads the first answer that is not under the ID of its next row, and takes it if it is that

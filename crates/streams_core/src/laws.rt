@@ -2,7 +2,7 @@
 ghost use Rattle.streams_core.specs.Laws.{AnsweredOnce, MarksAreNeeded, NoneIsLeftOut, OwnAnswers};
 
 /// Whatever happens, in whatever order, the till has taken the answers to the first of its rows, in order and each
-/// once; and where an answer is left, the next that it takes is that to its next row.
+/// once; and if an answer is left, the next that it takes is that to its next row.
 pub fn answered_once()
     ensures { AnsweredOnce }
 {}
@@ -14,7 +14,7 @@ pub fn none_is_left_out()
 {}
 
 /// Whatever a node loses, and whoever takes a series again, each till has taken the answers to the first of its own rows,
-/// in order and each once, if marks tell the rows of one ID apart; and it takes the answer to its next row where it finds
+/// in order and each once, if marks tell the rows of one ID apart; and it takes the answer to its next row if it finds
 /// it.
 pub fn own_answers()
     ensures { OwnAnswers }

@@ -35,13 +35,13 @@ pub use Rattle.hub_core.specs.Lanes.{as_lane}
 pub use Rattle.hub_core.specs.Laws.{AreAnswersOf}
 pub use Rattle.hub_core.specs.Serving.{served}
 pub use Rattle.wire_core.specs.Lines.{most_line, pieces_of}
-pub use Rattle.record_core.specs.input.Records.{AreItems, records_of}
-pub use Rattle.record_core.specs.lanes.Feeds.{LaneRow, feeds_of, lanes_meaning}
-pub use Rattle.command_core.specs.live.Laws.{IsPlain, IsReordered, record_lines}
-pub use Rattle.command_core.specs.live.Replies.{most_rows}
-pub use Rattle.command_core.specs.live.Text.{Answers, fields_in}
+pub use Rattle.csv_records.specs.input.Records.{AreItems, records_of}
+pub use Rattle.csv_records.specs.lanes.Feeds.{LaneRow, feeds_of, lanes_meaning}
+pub use Rattle.command_runs.specs.live.Laws.{IsPlain, IsReordered, record_lines}
+pub use Rattle.command_runs.specs.live.Replies.{most_rows}
+pub use Rattle.command_runs.specs.live.Text.{Answers, fields_in}
 pub use Rattle.element_core.specs.declared.form.Form.TheVariants.{HumanReadable, Pairs}
-pub use Rattle.command_core.specs.Printed.{AreScanned, SaysElements, labels_answers}
+pub use Rattle.command_runs.specs.Printed.{AreScanned, SaysElements, labels_answers}
 use Rattle.std.specs.Prelude.{◌≡◌, ◌≢◌, ◌<◌, ◌≤◌, ◌⊎◌, ◌++◌, ◌∷◌, [], ℕ, List, Result, Ok, Err, Some, length, slice_index, slice_index_or, slice_set}
 use Rattle.ean_code.specs.Spelling.{IsGtinOf}
 use Rattle.ean_code.specs.Symbols.{digit_count}

@@ -64,7 +64,7 @@ pub fn what_print_writes_scan_reads()
     ensures { (labels : List Label) (g : Cells) (year : Terms) (answers : List (List Said)) → AllByRecursion (SaysElements year) labels
         → ArePrintedAndScanned labels g year answers → answers ≡ labels_answers g year labels }
 {
-    command_core::written_answer();
+    command_runs::written_answer();
 }
 
 /// Whatever the threads of 1 to 16 lanes and workers did: what a lane polled, followed by its list, are the deliveries of its rows, in order and each once.
@@ -90,6 +90,6 @@ pub fn live_answers_as_lanes_does()
         → AreItems (lanes_meaning lanes) (records_of bytes) rows → All (λ feed. length feed ≤ most_rows) (feeds_of lanes rows)
         → Answers lanes HumanReadable year (pieces_of bytes) text → IsReordered lanes year rows text }
 {
-    command_core::lines_are_records();
-    command_core::lines_are_report();
+    command_runs::lines_are_records();
+    command_runs::lines_are_report();
 }

@@ -23,8 +23,8 @@ all_said reader rest = before reader.text.items (text_by reader.set reader.shift
 abbrev pub has_even_run : List ℕ → Bool
 has_even_run text = nat_le 4 (digits_ahead text) && (digits_ahead text % 2 == 0)
 
--- The values of a text from code set C on, or else from B. A separator is FNC1, 102, in both. In C two digits are one value; where no two stand,
--- 100 changes to B. In B 99 changes to C where an even number of digits stands, four or more; every other byte is one value.
+-- The values of a text from code set C on, or else from B. A separator is FNC1, 102, in both. In C two digits are one value; if no two stand,
+-- 100 changes to B. In B 99 changes to C if an even number of digits stands, four or more; every other byte is one value.
 abbrev pub coded_on : Bool → List ℕ → List ℕ
 coded_on in_c [] = []
 coded_on true (b ∷ []) = if b == 29 then fnc1 ∷ [] else code_b ∷ (b - 32) ∷ []
@@ -38,12 +38,12 @@ coded_on false (a ∷ b ∷ text) =
     else if has_even_run (a ∷ b ∷ text) then code_c ∷ pair a b ∷ coded_on true text
     else (a - 32) ∷ coded_on false (b ∷ text)
 
--- whether the front of a text is coded as two digits: in code set C where two stand there, in B where an even number stands, four or more
+-- whether the front of a text is coded as two digits: in code set C if two stand there, in B if an even number stands, four or more
 abbrev pub begins_pair : Bool → List ℕ → Bool
 begins_pair true text = nat_le 2 (digits_ahead text)
 begins_pair false text = has_even_run text
 
--- the value that changes from code set C, or else B, to C, or else B: none where it is the same
+-- the value that changes from code set C, or else B, to C, or else B: none if it is the same
 abbrev pub change : Bool → Bool → List ℕ
 change true true = []
 change true false = code_b ∷ []

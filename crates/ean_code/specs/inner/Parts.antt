@@ -14,7 +14,7 @@ use Rattle.ean_code.specs.TwoOfFive.{itf_start, itf_stop}
 abbrev pub two_halves : List ℕ → List ℕ → List ℕ
 two_halves left right = normal_guard ++ ((left ++ (centre_guard ++ right)) ++ normal_guard)
 
--- so many widths left of a centre guard pattern, and as many right of it, are these
+-- this many widths left of a centre guard pattern, and as many right of it, are these
 pub record AreFramed (half : ℕ) (widths left right : List ℕ) : Type 0 where
   pub left_count : length left ≡ half
   pub right_count : length right ≡ half
@@ -30,7 +30,7 @@ pub record AreFramedPairs (widths pairs : List ℕ) : Type 0 where
   pub count : length pairs ≡ 70
   pub shown : widths ≡ itf_start ++ (pairs ++ itf_stop)
 
--- so many characters left of a centre guard pattern, and as many digits right of it, have these widths
+-- this many characters left of a centre guard pattern, and as many digits right of it, have these widths
 pub record AreHalves (count : ℕ) (widths : List ℕ) (left : List Character) (right : List ℕ) : Type 0 where
   pub left_count : length left ≡ count
   pub right_count : length right ≡ count

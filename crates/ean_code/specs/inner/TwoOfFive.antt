@@ -3,7 +3,7 @@ use Rattle.std.specs.Prelude.{ℕ, ◌+◌, ◌*◌, ◌/◌, ◌%◌, List, ◌
 use Rattle.std.specs.List.{flat_map, fold}
 use Rattle.ean_code.specs.TwoOfFive.{in_pairs, itf_start, itf_stop, pair_widths}
 
--- five widths as one number: a bit each, set where it is wide, the first highest
+-- five widths as one number: a bit each, set if it is wide, the first highest
 abbrev pub packed_five : List ℕ → ℕ
 packed_five widths = fold (λ n w. 2 * n + w / 2 % 2) 0 widths
 

@@ -38,7 +38,7 @@ fn upce_widths(six: &[u8; 6], check: u8) -> ArrayVec<u8, 595>
 }
 
 /// The UPC-E of a GTIN, 33 widths of 51 modules in all, by the first line of the zero-suppression table
-/// that has it (GS1 General Specifications, section 5.2.2.4): none where no line has.
+/// that has it (GS1 General Specifications, section 5.2.2.4): none if no line has.
 pub fn upce(gtin: &Gtin) -> Option<Modules>
     ensures printed { IfSome result (IsPrintedUpce gtin.now) }
     ensures some { IfSome result (IsGtinSymbol UpcE gtin.now) }

@@ -8,7 +8,7 @@ use Rattle.element_core.specs.declared.value.PartTest.TheVariants.{WholeSteps, C
 use Rattle.element_core.specs.Elements.{each_part, has_characters, has_check_digit, has_whole_steps}
 use Rattle.element_core.specs.Times.{is_named}
 
--- whether there are such days and such a time, where the part names them
+-- whether there are such days and such a time, if the part names them
 abbrev pub has_date : ℕ → Part → List ℕ → Bool
 has_date year part bytes = is_named year part.rule bytes
 

@@ -5,16 +5,17 @@ ghost use Rattle.lane_core.specs.Contents.{IsEnabled, Steps, takes_memory};
 use super::World;
 use crate::delivery::decode;
 use crate::event::Event;
-use crate::fault::{NoMemory, TakeFault};
+use crate::fault::TakeFault;
 use crate::job::Job;
 use crate::ticket::Ticket;
+use digits_core::NoMemory;
 use scan_core::Runs;
 use std::mem;
 
 impl World {
-    /// Does the event: true where it was done, false where it was disabled and changed nothing.
+    /// Does the event: true if it was done, false if it was disabled and changed nothing.
     ///
-    /// An event that the machine allows comes back where memory for it was refused; nothing has
+    /// An event that the machine allows comes back if memory for it was refused; nothing has
     /// changed then.
     pub fn step(&mut self, event: Event) -> Result<bool, Event>
         ensures steps { IfOk result (λ done. Steps self.old event done self.new) }

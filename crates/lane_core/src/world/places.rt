@@ -44,7 +44,7 @@ fn is_held(workers: &[Option<Job>], ticket: Ticket) -> bool
 }
 
 impl World {
-    /// Where the ticket is; none where it was not issued.
+    /// Where the ticket is; none if it was not issued.
     pub fn place(&self, ticket: Ticket) -> Option<Place>
         ensures found { IfSome result (λ place. HoldsOfShown self.now (λ s. IsAt s ticket.lane ticket.number place)) }
         ensures none { IfNone result (HoldsOfShown self.now (λ s. issued_of s ticket.lane ≤ ticket.number)) }

@@ -1,15 +1,15 @@
 -- The widths in dots at which the number of modules of a run changes.
 use Rattle.std.specs.Prelude.{ℕ, ◌*◌, ◌<◌, ◌≤◌}
 
--- where W dots are N modules, runs of this many dots or more, and no others, are k thirds of a module or more
+-- if W dots are N modules, runs of this many dots or more, and no others, are k thirds of a module or more
 abbrev pub IsLeast : ℕ → ℕ → ℕ → ℕ → Type 0
 IsLeast N W k limit = (w : ℕ) → (limit ≤ w → k * W ≤ 3 * (w * N)) × (w < limit → 3 * (w * N) < k * W)
 
--- where W dots are N modules, runs of this many dots or more, and no others, are more than k thirds of a module
+-- if W dots are N modules, runs of this many dots or more, and no others, are more than k thirds of a module
 abbrev pub IsPast : ℕ → ℕ → ℕ → ℕ → Type 0
 IsPast N W k limit = (w : ℕ) → (limit ≤ w → k * W < 3 * (w * N)) × (w < limit → 3 * (w * N) ≤ k * W)
 
--- from so many dots on a run is near to 1, 2, 3 and 4 modules or above, and from so many on past these
+-- the least dots of a run that is near to 1, 2, 3 and 4 modules or above, and of one that is past these
 pub record AreLimits (N W l1 l2 l3 l4 p1 p2 p3 p4 : ℕ) : Type 0 where
   pub one : IsLeast N W 2 l1
   pub two : IsLeast N W 5 l2

@@ -8,8 +8,8 @@ use Rattle.code128_code.specs.Texts.{symbol_text}
 use Rattle.scan_core.specs.declared.fault.RowFault.{RowFault}
 use Rattle.scan_core.specs.declared.fault.RowFault.TheVariants.{SymbolCheckDigit, Elements}
 use Rattle.scan_core.specs.declared.stage.Stage.{Stage}
-use Rattle.scan_core.specs.declared.symbol.Symbol.{Symbol}
-use Rattle.scan_core.specs.declared.symbol.Symbol.TheVariants.{Number, BadCheckDigit, Characters}
+use Rattle.scan_core.specs.declared.symbol.ReadSymbol.{ReadSymbol}
+use Rattle.scan_core.specs.declared.symbol.ReadSymbol.TheVariants.{Number, BadCheckDigit, Characters}
 use Rattle.code128_code.specs.declared.symbol_values.Values.{Values}
 use Rattle.scan_core.specs.Answers.{row_text}
 use Rattle.scan_core.specs.inner.Stages.{number_of}
@@ -27,7 +27,7 @@ abbrev pub text_in : Values → Result (List ℕ) RowFault
 text_in values = row_text (symbol_text values.start values.values.items values.check)
 
 -- what a symbol spells, by what it was found to be
-abbrev pub symbol_content : Symbol → Result (List ℕ) RowFault
+abbrev pub symbol_content : ReadSymbol → Result (List ℕ) RowFault
 symbol_content (Number gtin) = number_text gtin
 symbol_content BadCheckDigit = Err SymbolCheckDigit
 symbol_content (Characters values) = text_in values

@@ -73,7 +73,7 @@ image_refused Truncated bytes (inr h) = rows_refused bytes h
 image_refused ReadFault bytes h = absurd h
 image_refused NoMemory bytes h = absurd h
 
--- ---- a file of so many images at most
+-- ---- a file of this many images at most
 
 record RefusesWithin (limit : ℕ) (f : PbmFault) (bytes : List ℕ) : Type 0 where
   images : List (List ℕ)

@@ -75,7 +75,7 @@ header_is size bytes h =
           ∙ ap (λ bs. concat between.blanks ++ bs) (height.joined ∙ ap (λ bs. height.digits ++ bs) last.2))));
     }
 
--- what is read as a header is one of at most so many bytes, and the rest follows it
+-- what is read as a header is one of at most this many bytes, and the rest follows it
 pub record HeaderFront (size : Size) (bytes rest : List ℕ) : Type 0 where
   pub header : List ℕ
   pub joined : bytes ≡ header ++ rest

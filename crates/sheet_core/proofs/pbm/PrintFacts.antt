@@ -20,8 +20,8 @@ use Rattle.sheet_core.specs.pbm.Headers.{header_text}
 use Rattle.sheet_core.specs.pbm.Images.{image, pbm_of}
 use Rattle.sheet_core.proofs.BandFacts.{Banded, banded_more, banded_none}
 use Rattle.sheet_core.proofs.CellLineFacts.{light_dots}
-use Rattle.sheet_core.proofs.LabelFacts.{last_or_before}
-use Rattle.sheet_core.proofs.LineFacts.{dot_set}
+use Rattle.sheet_core.proofs.OneLabelSymbol.{last_or_before}
+use Rattle.sheet_core.proofs.DarkDots.{dot_set}
 use Rattle.sheet_core.proofs.SheetFacts.{sheet_at, sheet_of}
 use Rattle.sheet_core.proofs.pbm.FileFacts.{took_after, took_more}
 

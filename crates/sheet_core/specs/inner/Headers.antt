@@ -7,7 +7,7 @@ use Rattle.sheet_core.specs.declared.pbm.state.Step.{Step}
 use Rattle.sheet_core.specs.declared.pbm.state.Step.TheVariants.{Goes, Done, Refused}
 use Rattle.sheet_core.specs.pbm.Headers.{is_size}
 
--- a width is known only where it may be one
+-- a width is known only if it may be one
 abbrev pub may_be_width : Option ℕ → Bool
 may_be_width None = true
 may_be_width (Some width) = is_size width

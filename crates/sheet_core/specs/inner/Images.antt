@@ -4,7 +4,7 @@ use Rattle.std.specs.Io.KnownBytes.{Consumes, IsAtEnd}
 use Rattle.sheet_core.specs.declared.fault.PbmFault.{PbmFault}
 use Rattle.sheet_core.specs.declared.fault.PbmFault.TheVariants.{NotP4, PbmHeader, Truncated, PbmSize, ReadFault, NoMemory}
 
--- a reader has failed where `ReadFault` says so, and nothing else was a failure
+-- a reader has failed if `ReadFault` says so, and nothing else was a failure
 abbrev pub FailsFor : {A : Type 0} → Bool → Bool → Result A PbmFault → Type 0
 FailsFor old new (Err ReadFault) = new ≡ true
 FailsFor old new (Ok x) = new ≡ old
@@ -14,7 +14,7 @@ FailsFor old new (Err Truncated) = new ≡ old
 FailsFor old new (Err PbmSize) = new ≡ old
 FailsFor old new (Err NoMemory) = new ≡ old
 
--- so many bytes did not come: the input ended, or reading them stopped for another cause
+-- this many bytes did not come: the input ended, or reading them stopped for another cause
 abbrev pub StopsBefore : ℕ → Option (List ℕ) → Option (List ℕ) → PbmFault → Type 0
 StopsBefore count old new Truncated = (bytes : List ℕ) × Consumes old new bytes × (length bytes < count) × IsAtEnd new
 StopsBefore count old new ReadFault = (bytes : List ℕ) × Consumes old new bytes × (length bytes ≤ count)

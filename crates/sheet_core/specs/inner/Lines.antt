@@ -21,7 +21,7 @@ pub record IsBarLine (g : Cells) (symbols : List Drawn) (line : List ℕ) : Type
   pub long : length line ≡ stride (g.columns * g.width)
   pub dots : (x : ℕ) → dot_at line x ≡ line_dot g symbols x
 
--- the same bytes so many times
+-- the same bytes this many times
 abbrev pub repeated_bytes : ℕ → List ℕ → List ℕ
 repeated_bytes count line = concat (replicate count line)
 

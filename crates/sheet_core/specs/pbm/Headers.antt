@@ -57,7 +57,7 @@ after_header_step (Goes s) go rest = go s
 after_header_step (Done size) go rest = (Ok size, rest)
 after_header_step (Refused fault) go rest = (Err fault, rest)
 
--- the same of a header that may have so many more bytes
+-- the same of a header that may have this many more bytes
 abbrev pub header_by : ℕ → State → List ℕ → Result Size PbmFault × List ℕ
 header_by limit s [] = (Err Truncated, [])
 header_by zero s (b ∷ bytes) = (Err PbmHeader, bytes)

@@ -55,7 +55,7 @@ abbrev pub with_others : (List ℕ → Result (List Bitmap) PbmFault × List ℕ
 with_others others (Ok s, rest) = with_first s (others rest)
 with_others others (Err fault, rest) = (Err fault, rest)
 
--- all images, so many at most, or the first refusal, and the bytes after the one that decides
+-- at most this many images, or the first refusal, and the bytes after the one that decides
 abbrev pub images_by : ℕ → List ℕ → Result (List Bitmap) PbmFault × List ℕ
 images_by limit [] = (Ok [], [])
 images_by zero (b ∷ bytes) = (Err PbmSize, bytes)
@@ -71,7 +71,7 @@ images_of bytes = images_by 4096 bytes
 abbrev pub IsOpen : {A : Type 0} → Result A PbmFault × List ℕ → Type 0
 IsOpen {A} r = (r ≡ (Err Truncated, [])) ⊎ ((x : A) × (r ≡ (Ok x, [])))
 
--- the bytes are all that was read for this answer: none after the one that decides, and none refused where reading stopped for another cause
+-- the bytes are all that was read for this answer: none after the one that decides, and none refused if reading stopped for another cause
 abbrev pub BytesTell : {A : Type 0} → Result A PbmFault × List ℕ → Option (List ℕ) → Result A PbmFault → Type 0
 BytesTell r left (Ok x) = r ≡ (Ok x, [])
 BytesTell r left (Err Truncated) = (r ≡ (Err Truncated, [])) × IsAtEnd left

@@ -19,7 +19,7 @@ use crate::sheet::stride;
 use digits_core::{Failed, Sink, write_all};
 use std::alloc::Global;
 
-/// Writes a row of dots so many times.
+/// Writes a row of dots this many times.
 fn write_rows<W: Sink>(line: &[u8], count: u16, sink: &mut W) -> Result<(), Failed>
     ensures ok { OnOk result (Appends (W.taken sink.old) (W.taken sink.new) (repeated_bytes count line.now)) }
     ensures err { OnErr result (TookFront (W.taken sink.old) (W.taken sink.new) (repeated_bytes count line.now)) }

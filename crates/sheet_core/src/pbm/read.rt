@@ -6,11 +6,11 @@ ghost use Rattle.sheet_core.specs.pbm.Headers.{header_of, is_size};
 ghost use Rattle.sheet_core.specs.inner.Images.{FailsFor, StopsBefore};
 ghost use Rattle.sheet_core.specs.pbm.Images.{ReadsBytes, image_of, images_of, unpadded};
 
-use crate::fault::{NoMemory, PbmFault};
+use crate::fault::PbmFault;
 use crate::pbm::header::step;
 use crate::pbm::state::{Size, State, Step};
 use crate::sheet::{Sheet, stride};
-use digits_core::{Failed, Source};
+use digits_core::{Failed, NoMemory, Source};
 use std::alloc::Global;
 
 /// How many bytes of an image are asked for at a time, at most.
@@ -54,7 +54,7 @@ fn read_header<R: Source>(reader: &mut R, first: u8) -> Result<Size, PbmFault>
     Err(PbmFault::PbmHeader)
 }
 
-/// The next bytes, so many, and none after them. Memory is taken as they come.
+/// The next bytes, this many, and none after them. Memory is taken as they come.
 fn read_bytes<R: Source>(alloc: Global, reader: &mut R, count: usize) -> Result<Vec<u8>, PbmFault>
     ensures ok { IfOk result (λ v. Consumes (R.left reader.old) (R.left reader.new) v.items) }
     ensures count { IfOk result (λ v. length v.items ≡ count) }
@@ -79,7 +79,7 @@ fn read_bytes<R: Source>(alloc: Global, reader: &mut R, count: usize) -> Result<
     Ok(bytes)
 }
 
-/// The byte with its low bits, so many, made 0.
+/// The byte with its low bits, this many, made 0.
 fn without_low_bits(byte: u8, count: usize) -> u8
     requires { count ≤ 7 }
     ensures { result ≡ byte - byte % 2 ^ count }

@@ -1,6 +1,6 @@
 use Rattle.std.proofs.Common.{◌≡◌, ℕ, List, ◌+◌, ◌*◌, ◌≤◌, ap₂, arith, get_or}
 use Rattle.std.proofs.lemmas.Nat.{mul-le}
-use Rattle.code128_code.proofs.ReplacedFacts.{by_place-more}
+use Rattle.code128_code.proofs.ReplacedCheckCharacter.{by_place-more}
 use Rattle.code128_code.proofs.check.check_character.Goals as goal
 
 pub overflow_mul-sum : goal.overflow_mul-sum

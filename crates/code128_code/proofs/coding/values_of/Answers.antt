@@ -6,7 +6,7 @@ use Rattle.std.proofs.lemmas.Grind.{common_steps}
 use Rattle.code128_code.specs.Coding.{is_coded_byte}
 use Rattle.code128_code.specs.inner.Steps.{all_coded, coded_on}
 use Rattle.code128_code.proofs.DataFacts.{few_values, list_all-drop, rest_of}
-use Rattle.code128_code.proofs.RunFacts.{coded_whole}
+use Rattle.code128_code.proofs.RunsAreCoded.{coded_whole}
 use Rattle.code128_code.proofs.coding.values_of.Goals as goal
 
 pub put_front-taken-requires-clause-room : goal.put_front-taken-requires-clause-room

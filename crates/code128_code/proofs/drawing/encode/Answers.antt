@@ -4,7 +4,7 @@ use Rattle.std.specs.List.{list_all}
 use Rattle.element_core.specs.Elements.{canonical}
 use Rattle.code128_code.specs.Coding.{coded, data_values, is_coded_byte}
 use Rattle.code128_code.specs.Symbols.{AreValues, IsCode128Symbol, mod103}
-use Rattle.code128_code.proofs.RunFacts.{coded_is_said}
+use Rattle.code128_code.proofs.RunsAreCoded.{coded_is_said}
 use Rattle.code128_code.proofs.DataFacts.{data_valid, printable_coded}
 use Rattle.code128_code.proofs.drawing.encode.Goals as goal
 

@@ -2,8 +2,8 @@ use Rattle.std.proofs.Common.{◌≡◌, ℕ, List, ◌++◌, ◌∙◌, ap, sub
 use Rattle.std.specs.Option.{IfSome}
 use Rattle.code128_code.specs.Characters.{pattern}
 use Rattle.code128_code.specs.Symbols.{IsCode128Symbol}
-use Rattle.code128_code.proofs.PartFacts.{drawn}
-use Rattle.code128_code.proofs.SymbolFacts.{modules_valid}
+use Rattle.code128_code.proofs.SymbolParts.{drawn}
+use Rattle.code128_code.proofs.OneCharacterList.{modules_valid}
 use Rattle.code128_code.proofs.drawing.symbol.Goals as goal
 use Rattle.code128_code.proofs.drawing.symbol.Goals.{After-of}
 

@@ -1,4 +1,4 @@
-use Rattle.code128_code.proofs.SymbolFacts.{one_reading as law}
+use Rattle.code128_code.proofs.OneCharacterList.{one_reading as law}
 use Rattle.code128_code.proofs.laws.one_reading.Goals as goal
 
 pub returns : goal.returns

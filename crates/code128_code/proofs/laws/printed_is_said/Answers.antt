@@ -1,5 +1,5 @@
 use Rattle.code128_code.specs.Coding.{coded}
-use Rattle.code128_code.proofs.RunFacts.{coded_is_said}
+use Rattle.code128_code.proofs.RunsAreCoded.{coded_is_said}
 use Rattle.code128_code.proofs.laws.printed_is_said.Goals as goal
 
 pub returns : goal.returns

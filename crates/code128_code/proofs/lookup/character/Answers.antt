@@ -1,6 +1,6 @@
 use Rattle.std.proofs.Common.{◌≡◌, get_or, subst, arith}
 use Rattle.code128_code.specs.declared.lookup.TheConstants.{VALUES}
-use Rattle.code128_code.proofs.LookupFacts.{packed_low, value_at, value_found}
+use Rattle.code128_code.proofs.PatternTable.{packed_low, value_at, value_found}
 use Rattle.code128_code.proofs.lookup.character.Goals as goal
 
 pub returns-then-packed-ge4096-clause-none : goal.returns-then-packed-ge4096-clause-none

@@ -3,7 +3,7 @@ use Rattle.std.specs.List.{flat_map}
 use Rattle.std.proofs.lemmas.List.{append_assoc, take_all}
 use Rattle.ean_code.proofs.Drawn.{flat_map-take}
 use Rattle.code128_code.specs.Characters.{pattern}
-use Rattle.code128_code.proofs.SymbolFacts.{valid_at}
+use Rattle.code128_code.proofs.OneCharacterList.{valid_at}
 use Rattle.code128_code.proofs.patterns.push_characters.Goals as goal
 
 pub push_character-requires-clause-value : goal.push_character-requires-clause-value

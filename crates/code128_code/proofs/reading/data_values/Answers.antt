@@ -1,7 +1,7 @@
 use Rattle.std.proofs.Common.{[], ◌∷◌, arith, subst, sym}
 use Rattle.code128_code.specs.Symbols.{AreValues}
 use Rattle.ean_code.proofs.Cells.{AllByRecursion-append}
-use Rattle.code128_code.proofs.SymbolFacts.{no_gap, one_more}
+use Rattle.code128_code.proofs.OneCharacterList.{no_gap, one_more}
 use Rattle.code128_code.proofs.reading.data_values.Goals as goal
 
 pub returns-in_err-value-clause-none : goal.returns-in_err-value-clause-none

@@ -1,5 +1,5 @@
 use Rattle.std.proofs.Common.{◌∙◌, arith, sym}
-use Rattle.code128_code.proofs.LookupFacts.{same_value}
+use Rattle.code128_code.proofs.PatternTable.{same_value}
 use Rattle.code128_code.proofs.reading.start_of.Goals as goal
 
 pub returns-then-value-lt-START_A-clause-none : goal.returns-then-value-lt-START_A-clause-none

@@ -3,7 +3,7 @@ use Rattle.std.proofs.lemmas.Option.{IfSome_then}
 use Rattle.ean_code.proofs.Options.{IfNone_then}
 use Rattle.ean_code.specs.Widths.{packed_widths}
 use Rattle.code128_code.specs.Characters.{pattern}
-use Rattle.code128_code.proofs.LookupFacts.{length-pattern, packed_six, pattern_valid, unpacked}
+use Rattle.code128_code.proofs.PatternTable.{length-pattern, packed_six, pattern_valid, unpacked}
 use Rattle.code128_code.proofs.reading.value_of.Goals as goal
 
 pub returns-clause-found : goal.returns-clause-found

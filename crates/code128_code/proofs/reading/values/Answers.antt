@@ -1,7 +1,7 @@
 use Rattle.std.proofs.Common.{◌≡◌, ◌≤◌, ℕ, List, arith, length, subst, sym}
 use Rattle.code128_code.specs.Symbols.{IsCode128Symbol}
-use Rattle.code128_code.proofs.PartFacts.{check_slice, data_slice, stop_slice, symbol_of}
-use Rattle.code128_code.proofs.SymbolFacts.{length-parts, start_part}
+use Rattle.code128_code.proofs.SymbolParts.{check_slice, data_slice, stop_slice, symbol_of}
+use Rattle.code128_code.proofs.OneCharacterList.{length-parts, start_part}
 use Rattle.code128_code.proofs.reading.values.Goals as goal
 
 -- the symbol whose modules are these is one of these widths

@@ -2,7 +2,7 @@ use Rattle.std.proofs.Common.{◌+◌, ◌/◌, ◌%◌, ◌++◌, ◌∷◌, []
 use Rattle.code128_code.specs.inner.Steps.{text_by}
 use Rattle.code128_code.specs.Texts.{before, two_digits}
 use Rattle.code128_code.specs.declared.meanings.Meaning.TheVariants.{Byte, Digits, Latch, Shift}
-use Rattle.code128_code.proofs.SaidFacts.{plain_step, pushed}
+use Rattle.code128_code.proofs.ValuesSay.{plain_step, pushed}
 use Rattle.code128_code.proofs.texts.take.Goals as goal
 
 pub returns-in-Byte-clause-ok : goal.returns-in-Byte-clause-ok

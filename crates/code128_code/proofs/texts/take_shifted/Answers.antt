@@ -1,6 +1,6 @@
 use Rattle.std.proofs.Common.{◌++◌, ◌∷◌, [], ◌∙◌, ap, sym}
 use Rattle.code128_code.specs.Texts.{before}
-use Rattle.code128_code.proofs.SaidFacts.{pushed, shifted_step}
+use Rattle.code128_code.proofs.ValuesSay.{pushed, shifted_step}
 use Rattle.code128_code.proofs.texts.take_shifted.Goals as goal
 
 pub returns-clause-ok : goal.returns-clause-ok

@@ -1,5 +1,5 @@
 use Rattle.std.proofs.Common.{arith}
-use Rattle.ean_code.proofs.LookupFacts.{entry_packed, no_pair}
+use Rattle.ean_code.proofs.CharacterTable.{entry_packed, no_pair}
 use Rattle.ean_code.proofs.lookup.character.Goals as goal
 
 pub returns-then-entry-clause-none : goal.returns-then-entry-clause-none

@@ -3,7 +3,7 @@ use Rattle.ean_code.specs.NumberSets.{character_of, left_widths}
 use Rattle.ean_code.specs.Widths.{packed_widths}
 use Rattle.ean_code.proofs.Characters.{length-left}
 use Rattle.ean_code.proofs.Drawn.{left_valid}
-use Rattle.ean_code.proofs.LookupFacts.{of_pair, packed_four, pair_of, unpacked}
+use Rattle.ean_code.proofs.CharacterTable.{of_pair, packed_four, pair_of, unpacked}
 use Rattle.ean_code.proofs.number_sets.character_with.Goals as goal
 
 pub returns-in_err-of_b-clause-none : goal.returns-in_err-of_b-clause-none

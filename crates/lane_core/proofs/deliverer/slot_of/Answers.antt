@@ -5,7 +5,7 @@ use Rattle.std.specs.Ordering.{is_eq, nat_cmp, ordering_then}
 use Rattle.std.specs.Set.{remove_key}
 use Rattle.lane_core.specs.declared.ticket.Ticket.{Ticket}
 use Rattle.lane_core.proofs.AdvanceFacts.{was_here, was_out}
-use Rattle.lane_core.proofs.LookupFacts.{Finds, finds_at}
+use Rattle.lane_core.proofs.TicketLookup.{Finds, finds_at}
 use Rattle.lane_core.proofs.deliverer.slot_of.Goals as goal
 use Rattle.lane_core.proofs.deliverer.slot_of.Goals.{After-remove-2}
 

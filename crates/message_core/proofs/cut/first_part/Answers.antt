@@ -1,6 +1,6 @@
 use Rattle.std.proofs.Common.{◌==◌, ◌+◌, ◌-◌, [], arith, drop, length, take}
 use Rattle.std.specs.List.{slice_split}
-use Rattle.message_core.proofs.CutFacts.{parted, whole}
+use Rattle.message_core.proofs.TextsCutAtByte.{parted, whole}
 use Rattle.message_core.proofs.cut.first_part.Goals as goal
 
 pub returns-then-place-text-clause-some : goal.returns-then-place-text-clause-some

@@ -1,5 +1,5 @@
-use Rattle.scan_core.specs.declared.symbol.Symbol.TheVariants.{BadCheckDigit}
-use Rattle.scan_core.proofs.FoundFacts.{symbol_tells}
+use Rattle.scan_core.specs.declared.symbol.ReadSymbol.TheVariants.{BadCheckDigit}
+use Rattle.scan_core.proofs.CandidateShows.{symbol_tells}
 use Rattle.scan_core.proofs.answer.found_in.Goals as goal
 
 pub returns-in-BadCheckDigit : goal.returns-in-BadCheckDigit

@@ -2,7 +2,7 @@ use Rattle.std.proofs.Common.{◌∙◌, ap, rules, sum, sym}
 use Rattle.scan_core.specs.Row.{inner}
 use Rattle.scan_core.specs.Showing.{IsQuiet, Rounds}
 use Rattle.scan_core.proofs.CandidateFacts.{candidate_dots, least_modules, most_modules}
-use Rattle.scan_core.proofs.FoundFacts.{fails_pattern, fails_rounding, found_shows}
+use Rattle.scan_core.proofs.CandidateShows.{fails_pattern, fails_rounding, found_shows}
 use Rattle.scan_core.proofs.answer.try_candidate.Goals as goal
 
 pub round-requires-clause-sum : goal.round-requires-clause-sum

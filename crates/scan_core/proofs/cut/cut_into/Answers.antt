@@ -1,6 +1,6 @@
 use Rattle.std.proofs.Common.{◌≡◌, ◌∷◌, [], not, Result, Ok, Err, OnErr, refl, subst, arith}
 use Rattle.scan_core.specs.Bits.{dots_at}
-use Rattle.scan_core.proofs.CutFacts.{Cut, end_dark, end_light, first_run, front, goes_on, next_run}
+use Rattle.scan_core.proofs.RunsCutOfDots.{Cut, end_dark, end_light, first_run, front, goes_on, next_run}
 use Rattle.scan_core.proofs.cut.cut_into.Goals as goal
 
 on_err : {T E P : Type 0} (r : Result T E) → P → OnErr r P

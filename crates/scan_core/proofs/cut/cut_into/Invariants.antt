@@ -1,6 +1,6 @@
 use Rattle.std.proofs.Common.{◌≡◌, ◌+◌, ◌-◌, ◌<◌, ◌≤◌, not}
 use Rattle.scan_core.specs.Bits.{dot_at, dots_at}
-use Rattle.scan_core.proofs.CutFacts.{Cut}
+use Rattle.scan_core.proofs.RunsCutOfDots.{Cut}
 use Rattle.scan_core.proofs.cut.cut_into.Given as goal
 
 abbrev pub decreases-runs : goal.decreases-runs

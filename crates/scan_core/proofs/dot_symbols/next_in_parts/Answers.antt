@@ -4,7 +4,7 @@ use Rattle.std.proofs.lemmas.Option.{IfSome_then}
 use Rattle.scan_core.specs.Bits.{dots_at}
 use Rattle.scan_core.specs.Row.{IsRow}
 use Rattle.scan_core.specs.DotRuns.{runs_of_dots}
-use Rattle.scan_core.proofs.PartFacts.{items_row, next_in_row, none_early, over_in_row}
+use Rattle.scan_core.proofs.RowParts.{items_row, next_in_row, none_early, over_in_row}
 use Rattle.scan_core.proofs.SearchFacts.{earlier, none_then}
 use Rattle.scan_core.proofs.dot_symbols.next_in_parts.Goals as goal
 

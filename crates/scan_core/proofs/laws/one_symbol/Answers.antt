@@ -1,4 +1,4 @@
-use Rattle.scan_core.proofs.ShownFacts.{one_symbol as law}
+use Rattle.scan_core.proofs.OneSymbolShown.{one_symbol as law}
 use Rattle.scan_core.proofs.laws.one_symbol.Goals as goal
 
 pub returns : goal.returns

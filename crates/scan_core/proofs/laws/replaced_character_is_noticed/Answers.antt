@@ -1,7 +1,7 @@
 use Rattle.std.proofs.Common.{refl}
 use Rattle.code128_code.specs.Symbols.{mod103}
 use Rattle.scan_core.specs.declared.carrier.Carrier.TheVariants.{Gs1128}
-use Rattle.scan_core.proofs.ReplacedFacts.{wrong_character}
+use Rattle.scan_core.proofs.ReplacedCharacter.{wrong_character}
 use Rattle.scan_core.proofs.laws.replaced_character_is_noticed.Goals as goal
 
 pub returns : goal.returns

@@ -1,6 +1,6 @@
 use Rattle.std.proofs.Common.{set}
 use Rattle.ean_code.specs.Symbols.{widths_of}
-use Rattle.scan_core.proofs.ReplacedFacts.{replaced_spells}
+use Rattle.scan_core.proofs.ReplacedCharacter.{replaced_spells}
 use Rattle.scan_core.proofs.laws.replacement_is_noticed.Goals as goal
 
 pub returns : goal.returns

@@ -3,7 +3,7 @@ use Rattle.ean_code.specs.Laws.{MeasuresOfKind}
 use Rattle.ean_code.specs.declared.kind.Kind.{Kind}
 use Rattle.code128_code.specs.Laws.{Measures}
 use Rattle.scan_core.specs.Showing.{HasSize, IsSymbol, kind_of}
-use Rattle.scan_core.proofs.ShownFacts.{code_measures}
+use Rattle.scan_core.proofs.OneSymbolShown.{code_measures}
 use Rattle.scan_core.proofs.laws.symbol_measures.Goals as goal
 
 law : MeasuresOfKind → Measures → (kind : Option Kind) (ms : List ℕ) → IsSymbol kind ms → HasSize kind (length ms) (sum ms)

@@ -1,4 +1,4 @@
-use Rattle.scan_core.proofs.SymbolFacts.{symbols_are_told}
+use Rattle.scan_core.proofs.SearchFindsSymbols.{symbols_are_told}
 use Rattle.scan_core.proofs.laws.symbols_are_told.Goals as goal
 
 pub returns : goal.returns

@@ -1,4 +1,4 @@
-use Rattle.scan_core.proofs.SymbolFacts.{turned_symbols}
+use Rattle.scan_core.proofs.SearchFindsSymbols.{turned_symbols}
 use Rattle.scan_core.proofs.laws.turned_symbols.Goals as goal
 
 pub returns : goal.returns

@@ -10,7 +10,7 @@ use Rattle.sheet_core.specs.Labels.{IsDrawn, IsPrintable}
 use Rattle.sheet_core.specs.inner.Lines.{band}
 use Rattle.sheet_core.specs.pbm.Headers.{header_text}
 use Rattle.sheet_core.specs.pbm.Images.{pbm_of}
-use Rattle.sheet_core.proofs.LabelFacts.{all_printed}
+use Rattle.sheet_core.proofs.OneLabelSymbol.{all_printed}
 use Rattle.sheet_core.proofs.LabelImages.{image_bytes, image_long, image_of_label, put_none, put_whole}
 use Rattle.sheet_core.proofs.label_image.label_pbm.Goals.{After-len-2}
 use Rattle.sheet_core.proofs.label_image.label_pbm.Goals as goal

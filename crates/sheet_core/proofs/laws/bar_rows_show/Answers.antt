@@ -1,4 +1,4 @@
-use Rattle.sheet_core.proofs.ShowFacts.{bar_rows_show as law}
+use Rattle.sheet_core.proofs.BarRowShows.{bar_rows_show as law}
 use Rattle.sheet_core.proofs.laws.bar_rows_show.Goals as goal
 
 pub returns : goal.returns

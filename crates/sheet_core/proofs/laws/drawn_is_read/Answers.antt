@@ -1,4 +1,4 @@
-use Rattle.sheet_core.proofs.ShowFacts.{drawn_is_read as law}
+use Rattle.sheet_core.proofs.BarRowShows.{drawn_is_read as law}
 use Rattle.sheet_core.proofs.laws.drawn_is_read.Goals as goal
 
 pub returns : goal.returns

@@ -1,4 +1,4 @@
-use Rattle.sheet_core.proofs.ShowFacts.{empty_cells_are_blank as law}
+use Rattle.sheet_core.proofs.BarRowShows.{empty_cells_are_blank as law}
 use Rattle.sheet_core.proofs.laws.empty_cells_are_blank.Goals as goal
 
 pub returns : goal.returns

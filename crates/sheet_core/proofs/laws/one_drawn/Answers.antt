@@ -1,4 +1,4 @@
-use Rattle.sheet_core.proofs.LabelFacts.{same_drawn}
+use Rattle.sheet_core.proofs.OneLabelSymbol.{same_drawn}
 use Rattle.sheet_core.proofs.laws.one_drawn.Goals as goal
 
 pub returns : goal.returns

@@ -1,7 +1,7 @@
 use Rattle.std.proofs.Common.{◌≡◌, ◌+◌, ◌<◌, true, not, [], ◌∷◌, ◌++◌, length, take, sym, ap, subst, ◌∙◌, get_or, arith}
 use Rattle.std.proofs.lemmas.List.{take_more, length-take}
 use Rattle.sheet_core.proofs.CellFacts.{colour, colour_more}
-use Rattle.sheet_core.proofs.LineFacts.{Has, has_light, has_dark, place_more}
+use Rattle.sheet_core.proofs.DarkDots.{Has, has_light, has_dark, place_more}
 use Rattle.sheet_core.proofs.line.draw.Goals as goal
 use Rattle.sheet_core.proofs.line.draw.Goals.{then-dark, else-dark}
 

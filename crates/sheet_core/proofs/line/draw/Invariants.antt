@@ -1,6 +1,6 @@
 use Rattle.std.proofs.Common.{◌≡◌, ◌+◌, ◌*◌, take, sum, true}
 use Rattle.sheet_core.proofs.CellFacts.{colour}
-use Rattle.sheet_core.proofs.LineFacts.{Has}
+use Rattle.sheet_core.proofs.DarkDots.{Has}
 use Rattle.sheet_core.proofs.line.draw.Given as goal
 
 abbrev pub invariant-loop-module : goal.invariant-loop-module

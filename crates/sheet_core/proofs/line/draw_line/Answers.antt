@@ -6,7 +6,7 @@ use Rattle.sheet_core.specs.Bitmaps.{stride}
 use Rattle.sheet_core.specs.Grids.{IsGrid}
 use Rattle.sheet_core.specs.Labels.{IsDrawn}
 use Rattle.sheet_core.proofs.CellLineFacts.{Lined, added_by, all_lined, light_dots, light_line, next, place, turn}
-use Rattle.sheet_core.proofs.LabelFacts.{drawn_at}
+use Rattle.sheet_core.proofs.OneLabelSymbol.{drawn_at}
 use Rattle.sheet_core.proofs.line.draw_line.Goals as goal
 
 pub loop-label-init : goal.loop-label-init

@@ -5,7 +5,7 @@ use Rattle.sheet_core.specs.Grids.{Cells}
 use Rattle.sheet_core.specs.Labels.{FitsCell, IsDrawn}
 use Rattle.sheet_core.specs.inner.Lines.{IsBarLine, row_labels}
 use Rattle.sheet_core.proofs.BandFacts.{Banded, banded_more}
-use Rattle.sheet_core.proofs.LabelFacts.{AllZip-drop, AllZip-take}
+use Rattle.sheet_core.proofs.OneLabelSymbol.{AllZip-drop, AllZip-take}
 use Rattle.sheet_core.proofs.WidthFacts.{AllByRecursion-drop, AllByRecursion-take}
 use Rattle.sheet_core.proofs.SheetFacts.{bitmap_of_bands, sheet_of}
 use Rattle.sheet_core.proofs.print.print_sheet.Goals as goal

@@ -11,7 +11,7 @@ use Rattle.sheet_core.specs.declared.label.Label.{Label}
 use Rattle.sheet_core.specs.Drawing.{IsSheet, IsSheetFault, cell_count}
 use Rattle.sheet_core.specs.Grids.{Cells, IsGrid}
 use Rattle.sheet_core.specs.Labels.{FitsCell, IsDrawn, IsPrintable}
-use Rattle.sheet_core.proofs.LabelFacts.{AllZip-drop, AllZip-take, all_printed, last_or_before}
+use Rattle.sheet_core.proofs.OneLabelSymbol.{AllZip-drop, AllZip-take, all_printed, last_or_before}
 use Rattle.sheet_core.proofs.WidthFacts.{AllByRecursion-drop, AllByRecursion-take}
 use Rattle.sheet_core.proofs.SheetFacts.{sheet_at}
 use Rattle.sheet_core.proofs.print.print_sheets.Goals as goal

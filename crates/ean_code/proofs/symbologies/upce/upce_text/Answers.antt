@@ -1,6 +1,6 @@
 use Rattle.std.proofs.Common.{ℕ, List, ◌∙◌, ap, get_or}
 use Rattle.ean_code.specs.inner.NumberSets.{character_sets}
-use Rattle.ean_code.proofs.symbologies.UpceFacts.{last_small, rowE, sixE}
+use Rattle.ean_code.proofs.symbologies.UpceReading.{last_small, rowE, sixE}
 use Rattle.ean_code.proofs.Halves.{same_six}
 use Rattle.ean_code.proofs.symbologies.upce.upce_text.Goals as goal
 

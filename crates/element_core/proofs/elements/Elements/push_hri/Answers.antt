@@ -4,7 +4,7 @@ use Rattle.element_core.specs.Shown.{shown_elements}
 use Rattle.element_core.specs.inner.Walks.{AreAscii}
 use Rattle.element_core.proofs.Canonical.{elements_are}
 use Rattle.element_core.proofs.Listed.{elements_ascii}
-use Rattle.element_core.proofs.Lines.{hri_room}
+use Rattle.element_core.proofs.LineLength.{hri_room}
 use Rattle.element_core.proofs.PieceLemmas.{from_left}
 use Rattle.element_core.proofs.elements.Elements.push_hri.Goals as goal
 

@@ -1,7 +1,7 @@
 use Rattle.std.proofs.Common.{List, ℕ, length, ◌≤◌, ◌+◌, ◌*◌, ◌/◌, sym, subst}
 use Rattle.element_core.specs.Elements.{hri}
 use Rattle.element_core.specs.Shown.{shown_elements}
-use Rattle.element_core.proofs.Lines.{hri_fits, hri_room}
+use Rattle.element_core.proofs.LineLength.{hri_fits, hri_room}
 use Rattle.element_core.proofs.elements.Elements.put_hri.Goals as goal
 
 pub put_line-requires-clause-least : goal.put_line-requires-clause-least

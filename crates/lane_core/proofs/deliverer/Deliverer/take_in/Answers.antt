@@ -8,7 +8,7 @@ use Rattle.lane_core.specs.declared.ticket.Ticket.{Ticket}
 use Rattle.lane_core.specs.declared.next_slot.NextSlot.TheVariants.{Here}
 use Rattle.lane_core.specs.ReorderBuffer.{ReorderBuffer, is_new, lanes_of, next_of, was_taken}
 use Rattle.lane_core.specs.NextSlots.{buffer_by_slots}
-use Rattle.lane_core.proofs.LookupFacts.{cmp_tickets}
+use Rattle.lane_core.proofs.TicketLookup.{cmp_tickets}
 use Rattle.lane_core.proofs.TakingFacts.{head_kept, head_taken, keys_back, later_kept, later_taken}
 use Rattle.lane_core.proofs.deliverer.Deliverer.take_in.Goals as goal
 use Rattle.lane_core.proofs.deliverer.Deliverer.take_in.Goals.{After-index, then-lane-len-via-then-lane-len, then-lane-len-via-else-lane-len+then-was_taken}

@@ -3,7 +3,7 @@ use Rattle.std.proofs.lemmas.Grind.{common_steps}
 use Rattle.lane_core.specs.ReorderBuffer.{is_known, was_taken}
 use Rattle.lane_core.specs.inner.NextSlots.{has_come, slot_at}
 use Rattle.lane_core.proofs.BufferFacts.{was_is}
-use Rattle.lane_core.proofs.LookupFacts.{any_finds, finds_own}
+use Rattle.lane_core.proofs.TicketLookup.{any_finds, finds_own}
 use Rattle.lane_core.proofs.deliverer.Deliverer.was_taken.Goals as goal
 
 either_of : (a b x c d y : Bool) → a ≡ c → b ≡ d → x ≡ y → ((a || b) || x) ≡ (c || d || y)

@@ -6,7 +6,7 @@ use Rattle.lane_core.specs.declared.lane.Lane.{Lane}
 use Rattle.lane_core.specs.Holding.{held, lane_held}
 use Rattle.lane_core.proofs.HeldFacts.{count_held, lane_at, same_lane}
 use Rattle.lane_core.proofs.LaneShowFacts.{close_done, close_none, close_past}
-use Rattle.lane_core.proofs.ShowFacts.{shown_after}
+use Rattle.lane_core.proofs.WorldShowsNext.{shown_after}
 use Rattle.lane_core.proofs.world.World.close.Goals as goal
 use Rattle.lane_core.proofs.world.World.close.Goals.{After-index_mut}
 

@@ -1,7 +1,7 @@
 use Rattle.std.proofs.Common.{◌≡◌, true, false, sym, ◌∙◌}
 use Rattle.lane_core.specs.declared.event.Event.TheVariants.{Collect}
 use Rattle.lane_core.specs.Holding.{held}
-use Rattle.lane_core.proofs.ShowFacts.{collect_done, result_is_new, shown_after}
+use Rattle.lane_core.proofs.WorldShowsNext.{collect_done, result_is_new, shown_after}
 use Rattle.lane_core.proofs.world.World.collect.Goals as goal
 
 pub invariant_of-self-in-Ok : goal.invariant_of-self-in-Ok

@@ -10,7 +10,7 @@ use Rattle.lane_core.proofs.IdleFacts.{count_kept}
 use Rattle.lane_core.proofs.LaneShowFacts.{hand_past}
 use Rattle.lane_core.proofs.NextFacts.{none_has}
 use Rattle.lane_core.proofs.ResultFacts.{not_done, of_no_refusal, of_refusal}
-use Rattle.lane_core.proofs.ShowFacts.{shown_after}
+use Rattle.lane_core.proofs.WorldShowsNext.{shown_after}
 use Rattle.lane_core.proofs.world.World.hand.Goals as goal
 use Rattle.lane_core.proofs.world.World.hand.Goals.{After-index_mut, After-reserve}
 

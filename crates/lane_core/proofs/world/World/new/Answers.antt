@@ -1,4 +1,4 @@
-use Rattle.lane_core.proofs.ShowFacts.{start_is_shown, start_shown}
+use Rattle.lane_core.proofs.WorldShowsNext.{start_is_shown, start_shown}
 use Rattle.lane_core.proofs.world.World.new.Goals as goal
 
 pub invariant_of-result : goal.invariant_of-result

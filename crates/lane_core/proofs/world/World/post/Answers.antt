@@ -6,7 +6,7 @@ use Rattle.lane_core.specs.Holding.{held}
 use Rattle.lane_core.proofs.IdleFacts.{post_enabled, post_free, post_past, still_there}
 use Rattle.lane_core.proofs.ListFacts.{none_from, placed}
 use Rattle.lane_core.proofs.ResultFacts.{not_done, of_no_refusal, of_refusal, some_from}
-use Rattle.lane_core.proofs.ShowFacts.{post_done, shown_after}
+use Rattle.lane_core.proofs.WorldShowsNext.{post_done, shown_after}
 use Rattle.lane_core.proofs.world.World.post.Goals as goal
 use Rattle.lane_core.proofs.world.World.post.Goals.{After-index}
 

@@ -11,7 +11,7 @@ use Rattle.lane_core.specs.Holding.{held, lane_held}
 use Rattle.lane_core.proofs.HeldFacts.{count_held, count_put, lane_at, same_lane}
 use Rattle.lane_core.proofs.LaneShowFacts.{submit_closed, submit_done, submit_full, submit_past}
 use Rattle.lane_core.proofs.ResultFacts.{not_done}
-use Rattle.lane_core.proofs.ShowFacts.{shown_after}
+use Rattle.lane_core.proofs.WorldShowsNext.{shown_after}
 use Rattle.lane_core.proofs.world.World.submit.Goals as goal
 use Rattle.lane_core.proofs.world.World.submit.Goals.{After-index, After-index_mut}
 

@@ -5,7 +5,7 @@ use Rattle.lane_core.specs.declared.event.Event.TheVariants.{Take}
 use Rattle.lane_core.proofs.IdleFacts.{take_busy, take_empty, take_past}
 use Rattle.lane_core.proofs.ListFacts.{none_from, placed}
 use Rattle.lane_core.proofs.ResultFacts.{not_done, some_from}
-use Rattle.lane_core.proofs.ShowFacts.{shown_after, take_done}
+use Rattle.lane_core.proofs.WorldShowsNext.{shown_after, take_done}
 use Rattle.lane_core.proofs.world.World.take.Goals as goal
 use Rattle.lane_core.proofs.world.World.take.Goals.{After-index}
 

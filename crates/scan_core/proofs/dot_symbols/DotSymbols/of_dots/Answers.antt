@@ -1,7 +1,7 @@
 use Rattle.std.proofs.Common.{◌≡◌, ◌∙◌, ◌-◌, ap, arith, refl}
 use Rattle.scan_core.specs.Bits.{dots_at}
 use Rattle.scan_core.specs.DotRuns.{runs_of_dots}
-use Rattle.scan_core.proofs.PartFacts.{part_of, row_of_dots}
+use Rattle.scan_core.proofs.RowParts.{part_of, row_of_dots}
 use Rattle.scan_core.proofs.RowFacts.{row_short}
 use Rattle.scan_core.proofs.dot_symbols.DotSymbols.of_dots.Goals as goal
 

@@ -5,7 +5,7 @@ use Rattle.scan_core.specs.Searches.{search_in_dots}
 use Rattle.scan_core.specs.Windows.{IsNext, IsOver, Search, search_after}
 use Rattle.scan_core.specs.declared.window.Window.{Window}
 use Rattle.scan_core.specs.inner.Parts.{IsPart, shifted}
-use Rattle.scan_core.proofs.PartFacts.{row_of_dots}
+use Rattle.scan_core.proofs.RowParts.{row_of_dots}
 use Rattle.scan_core.proofs.RowFacts.{row_short}
 use Rattle.scan_core.proofs.SearchFacts.{none_then, over_behind}
 use Rattle.scan_core.proofs.dot_symbols.DotSymbolsSymbolSearch.next_symbol.Goals as goal

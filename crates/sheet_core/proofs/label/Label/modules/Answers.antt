@@ -1,7 +1,7 @@
 use Rattle.std.proofs.Common.{ℕ, List, subst}
 use Rattle.ean_code.specs.Spelling.{IsPrintedUpce}
 use Rattle.sheet_core.specs.Labels.{IsLabelSymbol}
-use Rattle.sheet_core.proofs.LabelFacts.{none_from, symbol_of_upce}
+use Rattle.sheet_core.proofs.OneLabelSymbol.{none_from, symbol_of_upce}
 use Rattle.sheet_core.proofs.label.Label.modules.Goals as goal
 
 pub returns-in-UpcA-clause-none : goal.returns-in-UpcA-clause-none

@@ -1,6 +1,6 @@
 use Rattle.std.proofs.Common.{subst}
 use Rattle.sheet_core.specs.Grids.{Cells, IsGrid}
-use Rattle.sheet_core.proofs.LabelFacts.{all_printed}
+use Rattle.sheet_core.proofs.OneLabelSymbol.{all_printed}
 use Rattle.sheet_core.proofs.pbm.print.print_pbm.Goals as goal
 
 pub write_sheets-requires-clause-symbols : goal.write_sheets-requires-clause-symbols

@@ -7,7 +7,7 @@ use Rattle.sheet_core.specs.Grids.{Cells, IsGrid}
 use Rattle.sheet_core.specs.Labels.{FitsCell, IsDrawn}
 use Rattle.sheet_core.specs.inner.Lines.{IsBand, row_labels}
 use Rattle.sheet_core.proofs.BandFacts.{Banded, banded_none}
-use Rattle.sheet_core.proofs.LabelFacts.{AllZip-drop, AllZip-take}
+use Rattle.sheet_core.proofs.OneLabelSymbol.{AllZip-drop, AllZip-take}
 use Rattle.sheet_core.proofs.WidthFacts.{AllByRecursion-drop, AllByRecursion-take}
 use Rattle.sheet_core.proofs.pbm.FileFacts.{still}
 use Rattle.sheet_core.proofs.pbm.ImageFacts.{err_is}

@@ -7,7 +7,7 @@ use Rattle.std.proofs.lemmas.Slice.Zip.{AllZip-long}
 use Rattle.sheet_core.specs.Drawing.{IsSheet, cell_count, sheet_count}
 use Rattle.sheet_core.specs.Grids.{Cells, IsGrid}
 use Rattle.sheet_core.specs.Labels.{FitsCell, IsDrawn}
-use Rattle.sheet_core.proofs.LabelFacts.{AllZip-drop, AllZip-take}
+use Rattle.sheet_core.proofs.OneLabelSymbol.{AllZip-drop, AllZip-take}
 use Rattle.sheet_core.proofs.WidthFacts.{AllByRecursion-drop, AllByRecursion-take}
 use Rattle.sheet_core.proofs.pbm.FileFacts.{still}
 use Rattle.sheet_core.proofs.pbm.ImageFacts.{err_is}

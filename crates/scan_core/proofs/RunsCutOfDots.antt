@@ -15,7 +15,7 @@ use Rattle.scan_core.proofs.RowFacts.{each-push}
 abbrev Each : List ℕ → Type 0
 Each ws = AllByRecursion (λ w. 1 ≤ w) ws
 
--- the finished runs, and so many dots of the run that the last of n dots is in
+-- the finished runs, and this many dots of the run that the last of n dots is in
 pub record Cut (widths : List ℕ) (run : ℕ) (dark : Bool) (n : ℕ) (dots : List Bool) : Type 0 where
   pub joined : dots_from false widths ++ replicate run dark ≡ dots
   pub dark_is : dark ≡ colour false (length widths)

@@ -5,7 +5,7 @@ use Rattle.std.proofs.lemmas.List.{append_assoc, drop-drop, length-drop, length-
 use Rattle.code128_code.specs.Characters.{pattern, stop}
 use Rattle.code128_code.specs.Symbols.{AreValues, IsCode128Symbol, symbol_widths}
 use Rattle.code128_code.proofs.DataFacts.{rest_of}
-use Rattle.code128_code.proofs.SymbolFacts.{check_part, data_part, length-data, length-parts, stop_part, widths-parts}
+use Rattle.code128_code.proofs.OneCharacterList.{check_part, data_part, length-data, length-parts, stop_part, widths-parts}
 
 module _ (s : ℕ) (vs : List ℕ) (c : ℕ) (ws : List ℕ) (e : IsCode128Symbol s vs c ws) where
   pub stop_slice : take (length ws - (length ws - 7)) (drop (length ws - 7) ws) ≡ stop

@@ -6,7 +6,7 @@ use Rattle.std.proofs.Math.Seq.{get_or-append_seam, set-append_seam, take-suc}
 use Rattle.ean_code.proofs.Cells.{all_below, all_below-at}
 use Rattle.code128_code.specs.Laws.{ReplacedIsUnchecked}
 use Rattle.code128_code.specs.Symbols.{by_place, mod103}
-use Rattle.code128_code.proofs.SymbolFacts.{last_same, valid_at}
+use Rattle.code128_code.proofs.OneCharacterList.{last_same, valid_at}
 
 -- 103 is prime
 prime_tested : all_below (λ a. all_below (λ d. not ((suc a * suc d) % 103 == 0)) 102) 102 ≡ true

@@ -14,7 +14,7 @@ use Rattle.scan_core.specs.declared.window.Window.{Window}
 use Rattle.scan_core.specs.DotRuns.{runs_of_dots}
 use Rattle.scan_core.specs.inner.FirstRuns.{AreFirst}
 use Rattle.scan_core.specs.inner.Parts.{IsPart, shifted}
-use Rattle.scan_core.specs.declared.dot_symbols.Part.{Part}
+use Rattle.scan_core.specs.declared.dot_symbols.Section.{Section}
 use Rattle.scan_core.specs.declared.dots.FirstRuns.{FirstRuns}
 use Rattle.scan_core.proofs.DotFacts.{colour, dots_determine, even_colour}
 use Rattle.scan_core.proofs.FirstFacts.{front_le}
@@ -22,7 +22,7 @@ use Rattle.scan_core.proofs.RunsOfDots.{length-dots_from, runs_of_row}
 use Rattle.element_core.specs.Terms.{Terms}
 use Rattle.scan_core.proofs.WindowFacts.{IsRow-runs_in, length-runs_in, window_counts}
 
--- ---- the symbols of so many runs of a row, from a light run on
+-- ---- the symbols of this many runs of a row, from a light run on
 
 -- a window of them
 runs_in-runs_in : (runs : List ℕ) (before n first count : ℕ) → first + count ≤ n
@@ -169,14 +169,14 @@ part_of bits width before at f few light within is found =
     dots_determine found.0 (drop before (runs_of_dots dots)) found.1 (row_from (runs_of_dots dots) before row.0 light within) (found.2 ∙ sym rest.1) in
     record { light = light; within = within; begins = is; first = subst (λ all. AreFirst all f) same found.3 }
 
--- the part that begins so many runs further right
-pub record Moves (width : ℕ) (runs : List ℕ) (p : Part) : Type 0 where
+-- the part that begins this many runs further right
+pub record Moves (width : ℕ) (runs : List ℕ) (p : Section) : Type 0 where
   pub there : 600 ≡ length (take 600 p.runs.widths.items)
   pub within : p.before + 600 < length runs
   pub begins : p.at + sum (take 600 p.runs.widths.items) ≡ sum (take (p.before + 600) runs)
   pub at_most : p.at + sum (take 600 p.runs.widths.items) ≤ width
 
-pub part_moves : (bits : List ℕ) (width : ℕ) (p : Part) → width ≤ 65535 → IsPart (dots_at bits 0 width) p → p.runs.more ≡ true
+pub part_moves : (bits : List ℕ) (width : ℕ) (p : Section) → width ≤ 65535 → IsPart (dots_at bits 0 width) p → p.runs.more ≡ true
     → Moves width (runs_of_dots (dots_at bits 0 width)) p
 part_moves bits width p few part more =
     let runs = runs_of_dots (dots_at bits 0 width) in
@@ -216,7 +216,7 @@ reach_end : (more : Bool) (before n all first count last : ℕ) → (more ≡ fa
 reach_end true before n all first count last whole cut early le few within some = let a = cut refl in let b = early refl in omega arith
 reach_end false before n all first count last whole cut early le few within some = let a = whole refl in omega arith
 
-module _ (bits : List ℕ) (width : ℕ) (year : Terms) (few : width ≤ 65535) (p : Part) (is : IsPart (dots_at bits 0 width) p) where
+module _ (bits : List ℕ) (width : ℕ) (year : Terms) (few : width ≤ 65535) (p : Section) (is : IsPart (dots_at bits 0 width) p) where
   abbrev runs : List ℕ
   runs = runs_of_dots (dots_at bits 0 width)
 

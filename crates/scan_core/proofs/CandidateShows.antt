@@ -2,8 +2,8 @@
 use Rattle.std.proofs.Common.{◌≡◌, ℕ, List, length, Option, Some, None, refl, sym, ap, subst, ◌∙◌}
 use Rattle.ean_code.specs.Spelling.{gtin_of}
 use Rattle.ean_code.specs.declared.kind.Kind.{Kind}
-use Rattle.scan_core.specs.declared.symbol.Symbol.{Symbol}
-use Rattle.scan_core.specs.declared.symbol.Symbol.TheVariants.{Number, BadCheckDigit, Characters}
+use Rattle.scan_core.specs.declared.symbol.ReadSymbol.{ReadSymbol}
+use Rattle.scan_core.specs.declared.symbol.ReadSymbol.TheVariants.{Number, BadCheckDigit, Characters}
 use Rattle.scan_core.specs.Reading.{IsSymbolAs, ShowsSymbol}
 use Rattle.scan_core.specs.inner.Reading.{symbol_content}
 use Rattle.scan_core.specs.declared.carrier.Carrier.{Carrier}
@@ -18,7 +18,7 @@ use Rattle.scan_core.proofs.ContentFacts.{checked_right, checked_wrong}
 use Rattle.scan_core.proofs.WayFacts.{along-along, one_lying, rounds_along, rounds_lying}
 
 -- modules that are found to be a symbol have the form, and spell its content
-symbol_form : (kind : Option Kind) (ms : List ℕ) (s : Symbol) → IsSymbolAs kind ms s → IsSymbol kind ms
+symbol_form : (kind : Option Kind) (ms : List ℕ) (s : ReadSymbol) → IsSymbolAs kind ms s → IsSymbol kind ms
 symbol_form (Some kind) ms (Number gtin) a = (a.0, a.1)
 symbol_form (Some kind) ms BadCheckDigit a = (a.0, a.1)
 symbol_form (Some kind) ms (Characters values) a = absurd a
@@ -26,7 +26,7 @@ symbol_form None ms (Number gtin) a = absurd a
 symbol_form None ms BadCheckDigit a = absurd a
 symbol_form None ms (Characters values) a = (values.start, values.values.items, values.check, a)
 
-symbol_spells : (kind : Option Kind) (ms : List ℕ) (s : Symbol) → IsSymbolAs kind ms s → Spells kind ms (symbol_content s)
+symbol_spells : (kind : Option Kind) (ms : List ℕ) (s : ReadSymbol) → IsSymbolAs kind ms s → Spells kind ms (symbol_content s)
 symbol_spells (Some kind) ms (Number gtin) a = (a.0, a.1, checked_right gtin a.3 ∙ ap checked_text a.2)
 symbol_spells (Some kind) ms BadCheckDigit a = (a.0, a.1, checked_wrong (gtin_of kind a.0) (a.2 (gtin_of kind a.0) refl))
 symbol_spells (Some kind) ms (Characters values) a = absurd a
@@ -34,7 +34,7 @@ symbol_spells None ms (Number gtin) a = absurd a
 symbol_spells None ms BadCheckDigit a = absurd a
 symbol_spells None ms (Characters values) a = (values.start, values.values.items, values.check, a, refl)
 
-pub symbol_tells : (runs : List ℕ) (c : Carrier) (s : Symbol) → ShowsSymbol runs c s → Tells runs c (symbol_content s)
+pub symbol_tells : (runs : List ℕ) (c : Carrier) (s : ReadSymbol) → ShowsSymbol runs c s → Tells runs c (symbol_content s)
 symbol_tells runs c s a = (a.0, a.1, a.2, symbol_spells (kind_of c) a.1 s a.3)
 
 -- runs that are no modules forwards are none any way
@@ -46,7 +46,7 @@ module _ (runs : List ℕ) (c : Carrier) (N : ℕ) (modules : List ℕ) (candida
     (quiet : IsQuiet runs N) (rounds : Rounds (inner runs) N modules)
   where
     -- modules that spell something some way are shown that way
-    pub found_shows : (s : Symbol) (way : Way) → IsSymbolAs (kind_of c) (along way modules) s → ShowsSymbol runs c s
+    pub found_shows : (s : ReadSymbol) (way : Way) → IsSymbolAs (kind_of c) (along way modules) s → ShowsSymbol runs c s
     found_shows s way is = (
       way,
       along way modules,

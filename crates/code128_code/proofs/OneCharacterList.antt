@@ -11,7 +11,7 @@ use Rattle.ean_code.proofs.Cells.{all_below, all_below-at, AllByRecursion-append
 use Rattle.code128_code.specs.Characters.{pattern, patterns, stop}
 use Rattle.code128_code.specs.Laws.{Measures, OneReading, OneWay}
 use Rattle.code128_code.specs.Symbols.{AreValues, IsCode128Symbol, characters_of, symbol_widths}
-use Rattle.code128_code.proofs.LookupFacts.{code, length-pattern, pattern_valid, shown}
+use Rattle.code128_code.proofs.PatternTable.{code, length-pattern, pattern_valid, shown}
 
 -- a fact that holds of each value holds at each place
 pub valid_at : (vs : List ℕ) (i : ℕ) → AreValues vs → i < length vs → get_or vs i 0 ≤ 102

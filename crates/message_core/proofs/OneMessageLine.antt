@@ -32,7 +32,7 @@ use Rattle.message_core.specs.declared.head.Head.TheVariants as head
 use Rattle.message_core.specs.declared.symbology.Symbology.{Symbology}
 use Rattle.message_core.specs.declared.symbology.Symbology.TheVariants as symbology
 use Rattle.element_core.specs.Terms.{Terms}
-use Rattle.message_core.proofs.UpceFacts.{one_upce_line, upce_gtin}
+use Rattle.message_core.proofs.UpceDigits.{one_upce_line, upce_gtin}
 
 -- ---- one line
 

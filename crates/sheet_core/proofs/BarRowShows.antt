@@ -39,7 +39,7 @@ use Rattle.sheet_core.specs.Laws.{BarRowsAnswer, BarRowsShow, DrawnIsRead, Empty
 use Rattle.sheet_core.proofs.AllLabelKinds.{each_label_kind}
 use Rattle.sheet_core.proofs.CellFacts.{cell_runs, printed_runs, reach, sum-cell_runs, sum-wider}
 use Rattle.sheet_core.proofs.CornerFacts.{empty_row, label_row}
-use Rattle.sheet_core.proofs.LabelFacts.{IsSymbolOf, all_at, by_carrier, drawn_at}
+use Rattle.sheet_core.proofs.OneLabelSymbol.{IsSymbolOf, all_at, by_carrier, drawn_at}
 use Rattle.sheet_core.proofs.WidthFacts.{code128_widths}
 
 exact : (N k m : ℕ) → 1 ≤ m → m ≤ 4 → IsRun N (k * N) (k * m) m

@@ -1,9 +1,9 @@
 use Rattle.std.proofs.Common.{◌∙◌, ◌+◌, ℕ, List, ap, arith, sum, take}
 use Rattle.scan_core.specs.Bits.{dots_at}
 use Rattle.scan_core.specs.DotRuns.{runs_of_dots}
-use Rattle.scan_core.proofs.PartFacts.{part_moves, part_of, row_of_dots}
+use Rattle.scan_core.proofs.RowParts.{part_moves, part_of, row_of_dots}
 use Rattle.scan_core.proofs.RowFacts.{row_short}
-use Rattle.scan_core.proofs.dot_symbols.Part.go_on.Goals as goal
+use Rattle.scan_core.proofs.dot_symbols.Section.go_on.Goals as goal
 
 pub slice_bounds-total_dots-end : goal.slice_bounds-total_dots-end
 slice_bounds-total_dots-end c =
