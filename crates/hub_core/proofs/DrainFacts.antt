@@ -3,7 +3,6 @@ use Rattle.std.proofs.Common.{◌≡◌, ℕ, ◌+◌, ◌≤◌, List, [], ◌�
 use Rattle.std.specs.List.{flat_map, sum_by}
 use Rattle.std.proofs.lemmas.Grind.{flat_map-append}
 use Rattle.std.proofs.lemmas.List.Sums.{sum_by-append}
-use Rattle.crossbeam_queue.specs.Passes.{view}
 use Rattle.lane_core.specs.declared.job.Plain.{Plain}
 use Rattle.lane_core.specs.Weights.{OneForOne}
 use Rattle.hub_core.specs.declared.rule.Trace.{Trace}
@@ -12,6 +11,7 @@ use Rattle.hub_core.specs.declared.worker_seat.WorkerSeat.{WorkerSeat}
 use Rattle.hub_core.specs.inner.DrainedLists.{DrainsInto, Listed}
 use Rattle.hub_core.specs.Lanes.{submitted}
 use Rattle.hub_core.specs.Rule.{trace}
+use Rattle.hub_core.specs.inner.Rule.{JoinsPops, JoinsPushes}
 use Rattle.hub_core.specs.inner.Workers.{jobs_in_hand}
 use Rattle.hub_core.specs.Workers.{posted, taken}
 use Rattle.hub_core.proofs.DrainedFacts.{drained_then}
@@ -22,27 +22,26 @@ trace_is a b c d e f x y z i = trace (x i) (y i) (z i)
 pub flat_map_more : {X A : Type 0} (f : X → List A) (xs : List X) (x : X) → flat_map f (xs ++ x ∷ []) ≡ flat_map f xs ++ f x
 flat_map_more f xs x = flat_map-append f xs (x ∷ []) ∙ ap (λ l. flat_map f xs ++ l) (append-nil (f x))
 
-pub worker_jobs : (b v w : Trace) (ss : List WorkerSeat) (s : WorkerSeat)
-    → v ≡ trace (b.shares + length ss) b.pushed (b.popped ++ flat_map taken ss)
-    → w ≡ trace (v.shares + (view s.takes).shares) (v.pushed ++ (view s.takes).pushed) (v.popped ++ (view s.takes).popped)
-    → w ≡ trace (b.shares + length (ss ++ s ∷ [])) b.pushed (b.popped ++ flat_map taken (ss ++ s ∷ []))
-worker_jobs b v w ss s was is =
+-- one more pass was joined: that of a lane, or of a worker
+pub pushes_more : {X : Type 0} (pushed : X → List Plain) (b v w p : Trace) (xs : List X) (x : X)
+    → p.shares ≡ 1 → p.popped ≡ [] → p.pushed ≡ pushed x → JoinsPushes pushed xs b v
+    → w ≡ trace (v.shares + p.shares) (v.pushed ++ p.pushed) (v.popped ++ p.popped) → JoinsPushes pushed (xs ++ x ∷ []) b w
+pushes_more pushed b v w p xs x share none mine was is =
     is ∙ trace_is _ _ _ _ _ _
-    (let e = ap (λ (h : Trace). h.shares) was in let f = s.share_of_jobs in omega (arith, length-append ss (s ∷ [])))
-    (ap (λ l. v.pushed ++ l) s.takes_only ∙ (append-nil v.pushed ∙ ap (λ (h : Trace). h.pushed) was))
-    (ap (λ (h : Trace). h.popped ++ taken s) was ∙ (append_assoc b.popped (flat_map taken ss) (taken s)
-    ∙ ap (λ l. b.popped ++ l) (sym (flat_map_more taken ss s))))
+    (let e = ap (λ (h : Trace). h.shares) was in omega (arith, share, e, length-append xs (x ∷ [])))
+    (ap (λ (h : Trace). h.pushed ++ p.pushed) was ∙ (append_assoc b.pushed (flat_map pushed xs) p.pushed
+    ∙ ap (λ l. b.pushed ++ l) (ap (λ l. flat_map pushed xs ++ l) mine ∙ sym (flat_map_more pushed xs x))))
+    (ap (λ l. v.popped ++ l) none ∙ (append-nil v.popped ∙ ap (λ (h : Trace). h.popped) was))
 
-pub worker_results : (b v w : Trace) (ss : List WorkerSeat) (s : WorkerSeat)
-    → v ≡ trace (b.shares + length ss) (b.pushed ++ flat_map posted ss) b.popped
-    → w ≡ trace (v.shares + (view s.posts).shares) (v.pushed ++ (view s.posts).pushed) (v.popped ++ (view s.posts).popped)
-    → w ≡ trace (b.shares + length (ss ++ s ∷ [])) (b.pushed ++ flat_map posted (ss ++ s ∷ [])) b.popped
-worker_results b v w ss s was is =
+pub pops_more : {X : Type 0} (popped : X → List Plain) (b v w p : Trace) (xs : List X) (x : X)
+    → p.shares ≡ 1 → p.pushed ≡ [] → p.popped ≡ popped x → JoinsPops popped xs b v
+    → w ≡ trace (v.shares + p.shares) (v.pushed ++ p.pushed) (v.popped ++ p.popped) → JoinsPops popped (xs ++ x ∷ []) b w
+pops_more popped b v w p xs x share none mine was is =
     is ∙ trace_is _ _ _ _ _ _
-    (let e = ap (λ (h : Trace). h.shares) was in let f = s.share_of_results in omega (arith, length-append ss (s ∷ [])))
-    (ap (λ (h : Trace). h.pushed ++ posted s) was ∙ (append_assoc b.pushed (flat_map posted ss) (posted s)
-    ∙ ap (λ l. b.pushed ++ l) (sym (flat_map_more posted ss s))))
-    (ap (λ l. v.popped ++ l) s.posts_only ∙ (append-nil v.popped ∙ ap (λ (h : Trace). h.popped) was))
+    (let e = ap (λ (h : Trace). h.shares) was in omega (arith, share, e, length-append xs (x ∷ [])))
+    (ap (λ l. v.pushed ++ l) none ∙ (append-nil v.pushed ∙ ap (λ (h : Trace). h.pushed) was))
+    (ap (λ (h : Trace). h.popped ++ p.popped) was ∙ (append_assoc b.popped (flat_map popped xs) p.popped
+    ∙ ap (λ l. b.popped ++ l) (ap (λ l. flat_map popped xs ++ l) mine ∙ sym (flat_map_more popped xs x))))
 
 drained_as : (t u : List Listed) (xs ys : List Plain) → xs ≡ ys → DrainsInto t u xs → DrainsInto t u ys
 drained_as t u xs ys e f = subst (λ (l : List Plain). DrainsInto t u l) e f

@@ -18,14 +18,14 @@ use Rattle.hub_core.specs.Lanes.{lane_of}
 use Rattle.hub_core.specs.Hubs.{HasEach}
 use Rattle.hub_core.specs.Rings.{PushEnd, all_sent}
 use Rattle.hub_core.specs.Rule.{trace}
-use Rattle.hub_core.specs.Serving.{is_count, numbered_rows}
+use Rattle.hub_core.specs.Serving.{is_seat_count, numbered_rows}
 use Rattle.hub_core.specs.Shapes.{is_allowed}
 use Rattle.hub_core.specs.inner.Accounting.{Accounted}
 use Rattle.hub_core.proofs.InOrderFacts.{fresh_in_order}
 use Rattle.element_core.specs.Terms.{Terms}
 use Rattle.hub_core.proofs.SumsOfChanged.{empties_at, sum_empties}
 
-count_small : (n : ℕ) → is_count n ≡ true → n ≤ 16
+count_small : (n : ℕ) → is_seat_count n ≡ true → n ≤ 16
 count_small n e = let s = and_parts (nat_le 1 n) (nat_le n 16) e in le_from n s.1
   where
     le_from : (n : ℕ) → nat_le n 16 ≡ true → n ≤ 16
@@ -33,8 +33,8 @@ count_small n e = let s = and_parts (nat_le 1 n) (nat_le n 16) e in le_from n s.
 
 pub small : (s : Shape) → is_allowed s ≡ true → (s.lanes ≤ 16) × (s.workers ≤ 16)
 small s e =
-    let a = and_parts (is_count s.lanes) (is_count s.workers && ((nat_le 1 s.capacity && nat_le s.capacity 1024) && nat_le 1 s.limit)) e in
-    let b = and_parts (is_count s.workers) ((nat_le 1 s.capacity && nat_le s.capacity 1024) && nat_le 1 s.limit) a.1 in
+    let a = and_parts (is_seat_count s.lanes) (is_seat_count s.workers && ((nat_le 1 s.capacity && nat_le s.capacity 1024) && nat_le 1 s.limit)) e in
+    let b = and_parts (is_seat_count s.workers) ((nat_le 1 s.capacity && nat_le s.capacity 1024) && nat_le 1 s.limit) a.1 in
     (count_small s.lanes a.0, count_small s.workers b.0)
 
 -- the shares of the queue of jobs that are left

@@ -1,26 +1,22 @@
 -- The rings of a hub, drained one by one.
-use Rattle.std.proofs.Common.{◌≡◌, ⊎_elim, ℕ, ◌+◌, ◌<◌, List, [], ◌∷◌, ◌++◌, get_or, length, length-append, set, Some, refl, sym, ap, ◌∙◌, subst, arith, append_assoc, append-nil}
-use Rattle.std.specs.List.{slice_get, All, flat_map, sum_by}
+use Rattle.std.proofs.Common.{◌≡◌, ⊎_elim, ℕ, ◌+◌, ◌<◌, List, [], ◌∷◌, ◌++◌, get_or, length, set, Some, refl, sym, ap, ◌∙◌, subst, arith, append-nil}
+use Rattle.std.specs.List.{slice_get, All, sum_by}
 use Rattle.std.proofs.lemmas.List.{get_or-map, length-map, length-set}
 use Rattle.std.proofs.lemmas.List.Elements.{All-push, All-weaker}
 use Rattle.std.proofs.lemmas.Option.{slice_get-get_or}
 use Rattle.std.proofs.lemmas.List.Sums.{sum_by-append}
-use Rattle.crossbeam_queue.specs.Passes.{view}
 use Rattle.rtrb.specs.Ring.{IsPair, SameProducer, sent}
 use Rattle.lane_core.specs.declared.job.Plain.{Plain}
 use Rattle.hub_core.specs.declared.deliverer_seat.DelivererSeat.{DelivererSeat}
 use Rattle.hub_core.specs.declared.hub.Hub.{Hub}
 use Rattle.hub_core.specs.declared.lane_seat.LaneSeat.{LaneSeat}
-use Rattle.hub_core.specs.declared.rule.Trace.{Trace}
 use Rattle.hub_core.specs.inner.DrainedLists.{DrainsInto, Listed}
 use Rattle.hub_core.specs.inner.Fresh.{IsPairedIn}
 use Rattle.hub_core.specs.Hubs.{ArePushEnds, IsDelivererOf, IsLaneOf, shape_of}
-use Rattle.hub_core.specs.Lanes.{lane_of, numbers_of, received, submitted}
+use Rattle.hub_core.specs.Lanes.{lane_of, numbers_of, received}
 use Rattle.hub_core.specs.inner.Draining.{AreFromFirst, all_received, to_lanes}
 use Rattle.hub_core.specs.Rings.{PushEnd, all_sent}
-use Rattle.hub_core.specs.Rule.{trace}
 use Rattle.hub_core.proofs.DrainedFacts.{drained_then, same_some}
-use Rattle.hub_core.proofs.DrainFacts.{flat_map_more, trace_is}
 use Rattle.hub_core.proofs.RingFacts.{get_set, same_ring}
 use Rattle.hub_core.proofs.SumsOfChanged.{sum_by-map}
 
@@ -56,21 +52,6 @@ pair_now old now s t paired ends at =
     let p = paired.1 r was in
     let q = (ends.each (lane_of s) r t was is).0 in
     (p.0 ∙ sym q.0, p.1 ∙ sym q.1, p.2 ∙ sym q.2, p.3 ∙ sym q.3)
-
--- the lanes' passes were joined to b
-abbrev pub HasJobs : Trace → Trace → List LaneSeat → Type 0
-HasJobs b w ss = w ≡ trace (b.shares + length ss) (b.pushed ++ flat_map submitted ss) b.popped
-
-pub lane_jobs : (b v w : Trace) (ss : List LaneSeat) (s : LaneSeat)
-    → HasJobs b v ss
-    → w ≡ trace (v.shares + (view s.pass).shares) (v.pushed ++ (view s.pass).pushed) (v.popped ++ (view s.pass).popped)
-    → HasJobs b w (ss ++ s ∷ [])
-lane_jobs b v w ss s was is =
-    is ∙ trace_is _ _ _ _ _ _
-    (let e = ap (λ (h : Trace). h.shares) was in let f = s.share in omega (arith, length-append ss (s ∷ [])))
-    (ap (λ (h : Trace). h.pushed ++ submitted s) was ∙ (append_assoc b.pushed (flat_map submitted ss) (submitted s)
-    ∙ ap (λ l. b.pushed ++ l) (sym (flat_map_more submitted ss s))))
-    (ap (λ l. v.popped ++ l) s.pushes_only ∙ (append-nil v.popped ∙ ap (λ (h : Trace). h.popped) was))
 
 -- what the lane's ring was sent
 pub sent_now : (old now : List PushEnd) (s : LaneSeat) (t : PushEnd) → all_sent now ≡ all_sent old → t ≡ get_or now (lane_of s) t → lane_of s < length now

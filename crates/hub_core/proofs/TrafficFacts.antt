@@ -16,7 +16,7 @@ use Rattle.hub_core.specs.Hubs.{IsLaneOf, shape_of, year_of}
 use Rattle.hub_core.specs.Lanes.{issued_count, lane_of, numbers_of, polled, polled_count, received, submitted, submitted_rows}
 use Rattle.hub_core.specs.Serving.{numbered_feeds, numbered_rows, served}
 use Rattle.hub_core.proofs.LaneViewFacts.{PolledFirst}
-use Rattle.hub_core.specs.inner.Traffics.{HavePolledAll, Serves, given_to, polled_by_each, with_held}
+use Rattle.hub_core.specs.inner.Traffics.{HavePolledAll, AreOwnSeats, given_to, polled_by_each, with_held}
 use Rattle.hub_core.specs.Traffics.{AreFirstOf, AreServedFirst, HasRoom, History, IfLost, IsAllBrought, IsNextOf, with_more}
 use Rattle.hub_core.specs.inner.CallingThread.{AreLeftLost, GoesOn, HasLost, KeepsSeats, WasLost}
 use Rattle.hub_core.specs.declared.calling_thread.CallingThread.{CallingThread}
@@ -33,8 +33,8 @@ pub if_none : (o : Option (ℕ × List ℕ)) (P : (ℕ × List ℕ) → Type 0) 
 if_none o P none = subst (λ x. IfSome x P) (sym none) tt
 
 pub step_serves : (h : Hub) (seats : List LaneSeat) (held new : Option (ℕ × List ℕ)) (i : ℕ) (s t : LaneSeat)
-    → s ≡ get_or seats i s → lane_of t ≡ lane_of s → IsLaneOf h t → Serves h seats held
-    → IfSome new (λ r. HasRoom r.0 (map submitted_rows (set seats i t))) → Serves h (set seats i t) new
+    → s ≡ get_or seats i s → lane_of t ≡ lane_of s → IsLaneOf h t → AreOwnSeats h seats held
+    → IfSome new (λ r. HasRoom r.0 (map submitted_rows (set seats i t))) → AreOwnSeats h (set seats i t) new
 step_serves h seats held new i s t at lane is was room = record {
   lanes = All-set (IsLaneOf h) seats i t is was.lanes;
   numbers = map-set_same lane_of seats i t s (lane ∙ ap lane_of at) ∙ was.numbers;
@@ -111,10 +111,10 @@ room_same seats new i s t at same room = subst (λ lists. IfSome new (λ r. HasR
     (sym (step_same submitted_rows seats i s t at (rows_same s t same))) room
 
 -- how many seats there are, and which lane has one
-pub seats_counted : (h : Hub) (seats : List LaneSeat) (held : Option (ℕ × List ℕ)) → Serves h seats held → length seats ≡ (shape_of h).lanes
+pub seats_counted : (h : Hub) (seats : List LaneSeat) (held : Option (ℕ × List ℕ)) → AreOwnSeats h seats held → length seats ≡ (shape_of h).lanes
 seats_counted h seats held was = lanes_counted seats _ was.numbers
 
-pub lane_at : (h : Hub) (seats : List LaneSeat) (held : Option (ℕ × List ℕ)) (i : ℕ) (s : LaneSeat) → Serves h seats held → i < length seats → s
+pub lane_at : (h : Hub) (seats : List LaneSeat) (held : Option (ℕ × List ℕ)) (i : ℕ) (s : LaneSeat) → AreOwnSeats h seats held → i < length seats → s
     ≡ get_or seats i s → i ≡ lane_of s
 lane_at h seats held i s was low at =
     let count = seats_counted h seats held was in
@@ -141,7 +141,7 @@ given_more seats (Some r) i =
     (cases_eq i r.0)
 
 pub next_of : (h : Hub) (seats : List LaneSeat) (held : Option (ℕ × List ℕ)) (i : ℕ) (s t : LaneSeat) (x : Plain)
-    → Serves h seats held → i < length seats → s ≡ get_or seats i s → submitted t ≡ submitted s
+    → AreOwnSeats h seats held → i < length seats → s ≡ get_or seats i s → submitted t ≡ submitted s
     → x.lane ≡ lane_of s → x.number ≡ polled_count s → polled t ≡ polled s ++ x ∷ [] → polled_count t ≤ issued_count t
     → IsNextOf x (given_to seats held) (polled_by_each seats)
 next_of h seats held i s t x was low at same lane number more room =
@@ -172,7 +172,7 @@ pub even_given : (seats : List LaneSeat) → HavePolledAll seats → IsAllBrough
 even_given seats even = even_lanes seats even
 
 -- a seat of the hub, by its place
-pub seat_at : (h : Hub) (seats : List LaneSeat) (held : Option (ℕ × List ℕ)) (i : ℕ) (s : LaneSeat) → Serves h seats held → i < length seats → s
+pub seat_at : (h : Hub) (seats : List LaneSeat) (held : Option (ℕ × List ℕ)) (i : ℕ) (s : LaneSeat) → AreOwnSeats h seats held → i < length seats → s
     ≡ get_or seats i s → IsLaneOf h s
 seat_at h seats held i s was low at = subst (IsLaneOf h) (sym at) (was.lanes i s low)
 
@@ -203,7 +203,7 @@ came_fresh C seats n none count was =
     subst (λ v. C v (polled_by_each seats)) (sym (none_done seats n none count)) (subst (λ v. C (replicate n []) v) (sym (none_polled seats n none count)) was)
 
 pub serves_fresh : (h : Hub) (seats : List LaneSeat) (n : ℕ) → All (IsLaneOf h) seats → numbers_of seats ≡ range_with_len 0 n → (shape_of h).lanes ≡ n
-    → (shape_of h).limit ≡ 4294967295 → Serves h seats None
+    → (shape_of h).limit ≡ 4294967295 → AreOwnSeats h seats None
 serves_fresh h seats n lanes numbers count limit = record {
   lanes = lanes;
   numbers = numbers ∙ ap (range_with_len 0) (sym count);
@@ -234,7 +234,7 @@ done_from m year (s ∷ seats) (suc n) numbers owed even =
     (tail_all (λ (v : LaneSeat). polled_count v ≡ issued_count v) s seats even) in
     (λ j. here j ∷ rest j)
 
-pub all_served : (h : Hub) (seats : List LaneSeat) → Serves h seats None → PolledFirst h seats → HavePolledAll seats → polled_by_each seats
+pub all_served : (h : Hub) (seats : List LaneSeat) → AreOwnSeats h seats None → PolledFirst h seats → HavePolledAll seats → polled_by_each seats
     ≡ served (year_of h) (given_to seats None)
 all_served h seats was first even = done_from 0 (year_of h) seats (shape_of h).lanes was.numbers first even
 
@@ -276,7 +276,7 @@ is_there [] i low = absurd (omega (arith, low))
 is_there (s ∷ seats) zero low = (s, refl)
 is_there (s ∷ seats) (suc i) low = is_there seats i (omega (arith, low))
 
-first_at : (h : Hub) (seats : List LaneSeat) (held : Option (ℕ × List ℕ)) (i : ℕ) → Serves h seats held → PolledFirst h seats → i < length seats
+first_at : (h : Hub) (seats : List LaneSeat) (held : Option (ℕ × List ℕ)) (i : ℕ) → AreOwnSeats h seats held → PolledFirst h seats → i < length seats
     → (rest : List Plain) × (get_or (polled_by_each seats) i [] ++ rest ≡ get_or (served (year_of h) (given_to seats held)) i [])
 first_at h seats held i was first low =
     let y = year_of h in
@@ -298,7 +298,7 @@ first_at h seats held i was first low =
           ∙ (ap (λ l. numbered_rows l 0 y (submitted_rows s) ++ extra) lane ∙ sym serves))),
     )
 
-pub served_first : (h : Hub) (seats : List LaneSeat) (held : Option (ℕ × List ℕ)) → Serves h seats held → PolledFirst h seats
+pub served_first : (h : Hub) (seats : List LaneSeat) (held : Option (ℕ × List ℕ)) → AreOwnSeats h seats held → PolledFirst h seats
     → AreServedFirst (year_of h) (given_to seats held) (polled_by_each seats)
 served_first h seats held was first i = ⊎_elim
     (λ (low : i < length seats). first_at h seats held i was first low)
@@ -367,6 +367,6 @@ pub left_lost : {T : Type 0} (Came : History T) (Leaves : T → T → Type 0) (s
     → s.start.value ≡ start → HasLost Came Leaves s t → AreLeftLost Came Leaves h start t.traffic.value t.lanes.items
 left_lost Came Leaves s t h start hub is lost = (
   t.held,
-  subst (λ x. Serves x t.lanes.items t.held) (lost.keeps.hub ∙ hub) lost.keeps.lanes,
+  subst (λ x. AreOwnSeats x t.lanes.items t.held) (lost.keeps.hub ∙ hub) lost.keeps.lanes,
   subst (λ v. WasLost Came Leaves v t.traffic.value t.lanes.items t.held) (lost.keeps.start ∙ is) lost.lost,
 )

@@ -1,5 +1,5 @@
 -- Rows that are left of each lane, and those that were given.
-use Rattle.std.specs.Prelude.{◌≡◌, ◌<◌, ◌==◌, ◌++◌, ℕ, Bool, true, List, [], ◌∷◌, length, map, replicate, slice_index_or, slice_set}
+use Rattle.std.specs.Prelude.{◌≡◌, ◌<◌, ◌==◌, ◌++◌, ℕ, Bool, true, IfSome, List, [], ◌∷◌, None, Option, length, map, replicate, slice_index_or, slice_set}
 use Rattle.std.specs.List.{list_all}
 use Rattle.std.specs.Vec.Iter.{into_iter_items}
 use Rattle.hub_core.specs.Serving.{are_short}
@@ -33,6 +33,12 @@ pub record AreGiven (feeds given rests : List (List (List ℕ))) : Type 0 where
 -- whatever feeds had these rows left, of which others were given, after this row of a lane they have those left
 abbrev pub GivesRow : ℕ × List ℕ → List (List (List ℕ)) → List (List (List ℕ)) → Type 0
 GivesRow r old new = (feeds given : List (List (List ℕ))) → AreGiven feeds given old → HasRoom r.0 given × AreGiven feeds (with_more r.0 r.1 given) new
+
+-- a row was taken, with its lane, or none and nothing has changed
+pub record TakesRow (old : List (List (List ℕ))) (row : Option (ℕ × List ℕ)) (new : List (List (List ℕ))) : Type 0 where
+  pub some : IfSome row (λ r. IsTaken old r.0 r.1 new)
+  pub given : IfSome row (λ r. GivesRow r old new)
+  pub none : row ≡ None → new ≡ old
 
 -- at first no row of the feeds was given
 abbrev pub GivenAtFirst : Type 0

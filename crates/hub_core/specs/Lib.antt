@@ -8,6 +8,7 @@ pub mod Lane
 pub mod Lanes
 pub mod Laws
 pub mod Passes
+pub mod Polling
 pub mod Rings
 pub mod Rule
 pub mod Serving

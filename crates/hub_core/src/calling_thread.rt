@@ -17,7 +17,7 @@ use std::sync::Wait;
 /// How many rows are submitted before deliveries are collected, and the other way round.
 const IN_A_TURN: u32 = 16;
 
-/// How many deliveries are collected where the calling thread has slept: all that were posted meanwhile.
+/// How many deliveries are collected if the calling thread has slept: all that were posted meanwhile.
 const AFTER_A_SLEEP: u32 = 64;
 
 /// What a turn leaves to do.
@@ -50,11 +50,9 @@ pub(crate) struct CallingThread<'a, T> {
 }
 
 impl<'a, T: Traffic> CallingThread<'a, T> {
-    ghost use Rattle.std.specs.Prelude.{◌≡◌, ◌<◌, IfOk, IfSome, None, Ok, OnErr, false, true, vec_len};
-    ghost use Rattle.hub_core.specs.Hubs.{IsDelivererOf, IsWorkerOf};
-    ghost use Rattle.hub_core.specs.inner.Traffics.{Serves, given_to, polled_by_each};
+    ghost use Rattle.std.specs.Prelude.{◌≡◌, ◌<◌, IfOk, None, Ok, OnErr, false, true, vec_len};
     ghost use Rattle.hub_core.specs.Traffics.{IfLost, IsKept};
-    ghost use Rattle.hub_core.specs.inner.CallingThread.{GoesOn, HasAllBack, HasLost, IsServing, KeepsSeats};
+    ghost use Rattle.hub_core.specs.inner.CallingThread.{CameBySeats, GoesOn, HasAllBack, HasLost, IsAtEnd, IsServing, KeepsSeats};
 
     /// A thread that has done nothing.
     pub(crate) fn new(
@@ -65,8 +63,7 @@ impl<'a, T: Traffic> CallingThread<'a, T> {
         traffic: Box<T>,
         pace: Pace<'a>,
     ) -> CallingThread<'a, T>
-        requires seats { Serves hub.now lanes.items None × IsDelivererOf hub.now deliverer × IfSome own (IsWorkerOf hub.now) }
-        requires fresh { T.Came traffic.value traffic.value (given_to lanes.items None) (polled_by_each lanes.items) }
+        requires { CameBySeats T.Came hub.now lanes.items deliverer own None traffic.value traffic.value }
         ensures serves { IsServing T.Came result }
         ensures start { (result.hub.now ≡ hub.now) × (result.start.value ≡ traffic.value) × (result.own ≡ own) }
     {
@@ -82,7 +79,7 @@ impl<'a, T: Traffic> CallingThread<'a, T> {
         }
     }
 
-    /// Takes the traffic's next row in hand, where none is.
+    /// Takes the traffic's next row in hand, if none is.
     fn take_row(&mut self)
         requires { IsServing T.Came self.old }
         ensures { GoesOn T.Came self.old self.new }
@@ -92,7 +89,7 @@ impl<'a, T: Traffic> CallingThread<'a, T> {
         }
     }
 
-    /// Submits the row in hand. False where there is none, or the queue of jobs has no room.
+    /// Submits the row in hand. False if there is none, or the queue of jobs has no room.
     fn submit_held<R: Wait>(&mut self, rt: &R) -> bool
         requires { IsServing T.Came self.old }
         ensures { GoesOn T.Came self.old self.new }
@@ -111,7 +108,7 @@ impl<'a, T: Traffic> CallingThread<'a, T> {
         }
     }
 
-    /// Submits the next rows. False where there were fewer, or no room.
+    /// Submits the next rows. False if there were fewer, or no room.
     fn submit_some<R: Wait>(&mut self, rt: &R) -> bool
         requires { IsServing T.Came self.old }
         ensures { GoesOn T.Came self.old self.new }
@@ -126,7 +123,7 @@ impl<'a, T: Traffic> CallingThread<'a, T> {
         true
     }
 
-    /// Polls the next delivery of the lane at this place, where it is seen, and brings it.
+    /// Polls the next delivery of the lane at this place, if it is seen, and brings it.
     fn bring_next(&mut self, index: usize) -> Result<(), T::BringFault>
         requires serves { IsServing T.Came self.old }
         requires lane { index < vec_len self.old.lanes }
@@ -158,7 +155,7 @@ impl<'a, T: Traffic> CallingThread<'a, T> {
         Ok(())
     }
 
-    /// Collects what was posted, so many at most, and passes each on.
+    /// Collects at most this many posted deliveries and passes each on.
     fn collect_some<R: Wait>(&mut self, rt: &R, most: u32) -> Result<CollectedByLane, T::BringFault>
         requires { IsServing T.Came self.old }
         ensures goes { IfOk result (λ _. GoesOn T.Came self.old self.new) }
@@ -175,7 +172,7 @@ impl<'a, T: Traffic> CallingThread<'a, T> {
         Ok(collected)
     }
 
-    /// Reads a row with its own seat where it is idle, and posts at all times the delivery that the seat holds. Whether
+    /// Reads a row with its own seat if it is idle, and posts at all times the delivery that the seat holds. Whether
     /// a delivery was posted.
     fn read_row<R: Wait>(&mut self, rt: &R, is_idle: bool) -> bool
         requires { IsServing T.Came self.old }
@@ -209,7 +206,7 @@ impl<'a, T: Traffic> CallingThread<'a, T> {
         under_way > ROWS_A_WORKER
     }
 
-    /// Collects and submits. Where there is neither to do it reads a row, and where there is none it waits for a
+    /// Collects and submits. If there is neither to do it reads a row, and if there is none it waits for a
     /// delivery.
     fn take_turn<R: Wait>(&mut self, rt: &R) -> Result<Turn, T::BringFault>
         requires { IsServing T.Came self.old }
@@ -246,7 +243,7 @@ impl<'a, T: Traffic> CallingThread<'a, T> {
         requires serves { IsServing T.Came self.old }
         requires back { HasAllBack self.old }
         ensures serves { GoesOn T.Came self.old self.new }
-        ensures ended { result ≡ Ok false → (T.has_ended self.new.traffic.value ≡ true) × HasAllBack self.new }
+        ensures ended { result ≡ Ok false → IsAtEnd T.has_ended self.new }
     {
         self.traffic.wait()
     }
@@ -260,7 +257,7 @@ impl<'a, T: Traffic> CallingThread<'a, T> {
         ensures seats { KeepsSeats self.entry result.0 }
         ensures serves { IsKept result.1 → GoesOn T.Came self.entry result.0 }
         ensures lost { IfLost result.1 (HasLost T.Came T.Leaves self.entry result.0) }
-        ensures ended { result.1 ≡ Ended.Done → (T.has_ended result.0.traffic.value ≡ true) × HasAllBack result.0 }
+        ensures ended { result.1 ≡ Ended.Done → IsAtEnd T.has_ended result.0 }
     {
         let mut thread = self;
         for _ in rt.forever() {

@@ -1,17 +1,17 @@
 //! Takes all that no lane has polled out of the hands, queues and rings of a hub.
-ghost use Rattle.std.specs.Prelude.{◌≡◌, ◌<◌, ◌≤◌, ◌++◌, ◌+◌, [], ◌∷◌, ℕ, List, All, length, option_to_list};
+ghost use Rattle.std.specs.Prelude.{◌≡◌, ◌++◌, ℕ, All, option_to_list};
 ghost use Rattle.std.specs.List.{flat_map, sum_by};
 ghost use Rattle.crossbeam_queue.specs.Passes.{view, IsPassOf};
 ghost use Rattle.rtrb.specs.Ring.{sent, received, IsPair, SameProducer};
 ghost use Rattle.lane_core.specs.declared.job.Plain.{Plain};
 ghost use Rattle.lane_core.specs.Weights.{OneForOne};
-ghost use Rattle.hub_core.specs.inner.DrainedLists.{Drains, DrainsInto};
+ghost use Rattle.hub_core.specs.inner.DrainedLists.{AreTheSame, Drains, DrainsInto};
 ghost use Rattle.hub_core.specs.inner.Fresh.{IsPairedIn};
 ghost use Rattle.hub_core.specs.Hubs.{AreAllSeats, IsWorkerOf};
-ghost use Rattle.hub_core.specs.Lanes.{numbers_of, submitted};
+ghost use Rattle.hub_core.specs.Lanes.{submitted};
 ghost use Rattle.hub_core.specs.Passes.{shares_of, popped_by, pushed_by};
-ghost use Rattle.hub_core.specs.inner.Draining.{AreFromFirst, Finds, all_received, to_lanes};
-ghost use Rattle.hub_core.specs.Rule.{trace};
+ghost use Rattle.hub_core.specs.inner.Draining.{AreFromFirst, AreLeftInRings, DrainsAll};
+ghost use Rattle.hub_core.specs.inner.Rule.{HasShares, JoinsPops, JoinsPushes};
 ghost use Rattle.hub_core.specs.inner.Workers.{jobs_in_hand};
 ghost use Rattle.hub_core.specs.Workers.{posted, taken};
 
@@ -27,7 +27,7 @@ use lane_core::{Deliverer, Delivery, Job};
 use rtrb::{Consumer, Producer};
 use std::sync::Wait;
 
-/// Places a delivery, where there is one.
+/// Places a delivery, if there is one.
 pub(crate) fn place_any(lists: &mut Vec<Vec<Delivery>>, held: Option<Delivery>)
     ensures { DrainsInto lists.old.items lists.new.items (option_to_list held) }
 {
@@ -44,11 +44,11 @@ pub(crate) fn place_hands(
     lists: &mut Vec<Vec<Delivery>>,
     workers: Vec<WorkerSeat>,
 )
-    requires passes { IsPassOf hub.now.jobs all_jobs.old × IsPassOf hub.now.results all_results.old × (0 < shares_of all_jobs.old) × (0 < shares_of all_results.old) }
+    requires passes { HasShares hub.now.jobs 0 all_jobs.old × HasShares hub.now.results 0 all_results.old }
     requires workers { All (IsWorkerOf hub.now) workers.items }
     ensures same { IsPassOf hub.now.jobs all_jobs.new × IsPassOf hub.now.results all_results.new }
-    ensures jobs { view all_jobs.new ≡ trace (shares_of all_jobs.old + length workers.items) (pushed_by all_jobs.old) (popped_by all_jobs.old ++ flat_map taken workers.items) }
-    ensures results { view all_results.new ≡ trace (shares_of all_results.old + length workers.items) (pushed_by all_results.old ++ flat_map posted workers.items) (popped_by all_results.old) }
+    ensures jobs { JoinsPops taken workers.items (view all_jobs.old) (view all_jobs.new) }
+    ensures results { JoinsPushes posted workers.items (view all_results.old) (view all_results.new) }
     ensures drains { DrainsInto lists.old.items lists.new.items (flat_map jobs_in_hand workers.items) }
 {
     for seat in workers {
@@ -79,7 +79,7 @@ pub(crate) fn place_queue<T: Queued, R: Wait>(
 
 /// Takes out what waits.
 pub(crate) fn place_waiting(deliverer: &mut Deliverer, lists: &mut Vec<Vec<Delivery>>)
-    ensures drains { Drains lists.old.items lists.new.items (λ xs. (h : Plain → ℕ) → sum_by h deliverer.old.waiting ≡ sum_by h xs) }
+    ensures drains { Drains lists.old.items lists.new.items (AreTheSame deliverer.old.waiting) }
 {
     while let Some(delivery) = deliverer.take_any() {
         place(lists, delivery);
@@ -110,11 +110,11 @@ pub(crate) fn place_rings(
     lists: &mut Vec<Vec<Delivery>>,
     lanes: Vec<ClosedLane>,
 )
-    requires passes { IsPassOf hub.now.jobs all_jobs.old × (0 < shares_of all_jobs.old) × All (λ s. IsPassOf hub.now.jobs s.pass) lanes.items }
+    requires passes { HasShares hub.now.jobs 0 all_jobs.old × All (λ s. IsPassOf hub.now.jobs s.pass) lanes.items }
     requires rings { All (IsPairedIn rings.old.items) lanes.items }
     ensures same { IsPassOf hub.now.jobs all_jobs.new }
-    ensures jobs { view all_jobs.new ≡ trace (shares_of all_jobs.old + length lanes.items) (pushed_by all_jobs.old ++ flat_map submitted lanes.items) (popped_by all_jobs.old) }
-    ensures drains { Drains lists.old.items lists.new.items (λ xs. (h : Plain → ℕ) → sum_by h xs + all_received h lanes.items ≡ to_lanes h rings.old.items (numbers_of lanes.items)) }
+    ensures jobs { JoinsPushes submitted lanes.items (view all_jobs.old) (view all_jobs.new) }
+    ensures drains { Drains lists.old.items lists.new.items (AreLeftInRings rings.old.items lanes.items) }
     ensures received { AreFromFirst rings.old.items lanes.items }
 {
     for closed in lanes {
@@ -146,7 +146,7 @@ pub(crate) fn drain_all<R: Wait>(
     deliverer: DelivererSeat,
 )
     requires { AreAllSeats hub.now lanes.items workers.items deliverer }
-    ensures { (jobs results found : List Plain) × Finds lanes.items workers.items deliverer jobs results found × DrainsInto lists.old.items lists.new.items found }
+    ensures { DrainsAll lanes.items workers.items deliverer lists.old.items lists.new.items }
 {
     let DelivererSeat {
         jobs,

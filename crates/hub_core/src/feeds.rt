@@ -1,8 +1,8 @@
 //! Rows that are left of each lane.
-ghost use Rattle.std.specs.Prelude.{◌≡◌, ◌==◌, IfOk, IfSome, None, length, map, vec_len};
+ghost use Rattle.std.specs.Prelude.{◌≡◌, ◌==◌};
 ghost use Rattle.std.specs.List.{list_all};
 ghost use Rattle.std.specs.Vec.Iter.{into_iter_len};
-ghost use Rattle.hub_core.specs.Feeds.{GivenAtFirst, GivenAtLast, IsTaken, are_given, rests_of};
+ghost use Rattle.hub_core.specs.Feeds.{GivenAtFirst, GivenAtLast};
 
 use scan_core::Runs;
 use std::alloc::{AllocError, Global};
@@ -28,7 +28,7 @@ fn are_empty(rests: &[IntoIter<Runs>]) -> bool
 
 impl Feeds {
     ghost use Rattle.std.specs.Prelude.{◌≡◌, ◌<◌, ◌≤◌, [], ℕ, IfOk, IfSome, List, None, length, map, slice_index_or, true};
-    ghost use Rattle.hub_core.specs.Feeds.{GivesRow, IsTaken, are_given, rests_of};
+    ghost use Rattle.hub_core.specs.Feeds.{GivesRow, IsTaken, TakesRow, are_given, rests_of};
     ghost use Rattle.hub_core.specs.inner.Feeds.{NoneIsLeft};
 
     /// These rows of each lane.
@@ -65,9 +65,7 @@ impl Feeds {
 
     /// The next row of this lane or one after it.
     fn next_from(&mut self, first: u8) -> Option<(u8, Runs)>
-        ensures some { IfSome result (λ r. IsTaken (rests_of self.old) r.0 r.1 (rests_of self.new)) }
-        ensures given { IfSome result (λ r. GivesRow r (rests_of self.old) (rests_of self.new)) }
-        ensures none { result ≡ None → rests_of self.new ≡ rests_of self.old }
+        ensures row { TakesRow (rests_of self.old) result (rests_of self.new) }
         ensures left { result ≡ None → NoneIsLeft first 16 (rests_of self.old) }
     {
         for lane in first..MOST_LANES {
@@ -81,9 +79,7 @@ impl Feeds {
 
     /// The next row, and its lane. Of up to 16 lanes that have rows each has its turn.
     pub fn take(&mut self) -> Option<(u8, Runs)>
-        ensures some { IfSome result (λ r. IsTaken (rests_of self.old) r.0 r.1 (rests_of self.new)) }
-        ensures given { IfSome result (λ r. GivesRow r (rests_of self.old) (rests_of self.new)) }
-        ensures none { result ≡ None → rests_of self.new ≡ rests_of self.old }
+        ensures row { TakesRow (rests_of self.old) result (rests_of self.new) }
         ensures left { result ≡ None → length (rests_of self.old) ≤ 16 → are_given (rests_of self.old) ≡ true }
     {
         match self.next_from(self.turn) {

@@ -3,7 +3,7 @@ ghost use Rattle.std.specs.Prelude.{◌≡◌, None};
 
 use lane_core::Delivery;
 
-/// Takes what is in a hand. Nothing is moved where it is empty, since even then a delivery's bytes would be.
+/// Takes what is in a hand. Nothing is moved if it is empty, since even then a delivery's bytes would be.
 pub(crate) fn take_held(held: &mut Option<Delivery>) -> Option<Delivery>
     ensures value { result ≡ held.old }
     ensures after { held.new ≡ None }

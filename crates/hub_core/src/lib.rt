@@ -31,7 +31,7 @@ mod worker_threads;
 pub use closed_lane::ClosedLane;
 pub use deliverer_seat::{Collected, DelivererSeat, Handed};
 pub use ended::Ended;
-pub use fault::{HubFault, ServeFault, SubmitFault, Unstarted};
+pub use fault::{HubFault, NotBegun, ServeFault, SubmitFault};
 pub use feeds::{Feeds, feeds_are_given};
 pub use gate::{Gate, OpenGate};
 pub use hub::Hub;

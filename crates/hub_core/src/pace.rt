@@ -4,7 +4,7 @@ use crate::signals::Signals;
 use std::mem;
 use std::sync::Wait;
 
-/// So many rows are queued before a worker is woken for them, while there are more and there is room.
+/// This many rows are queued before a worker is woken for them, while there are more and there is room.
 const WAKE_FOR: u32 = 32;
 
 /// How often the calling thread looks for a delivery before it sleeps, for some microseconds. It is worth more
@@ -24,14 +24,14 @@ pub(crate) const NOTIFIED_TOGETHER: u32 = 16;
 pub(crate) const ROWS_A_WORKER: u32 = 16;
 
 /// How many microseconds the calling thread waits for a delivery before it wakes a further worker, and
-/// twice as many the next time where there is no further one.
+/// twice as many the next time if there is no further one.
 const PATIENCE: u64 = 1_000;
 
 /// What the calling thread remembers of what it told the workers and of its waits.
 ///
-/// One worker is woken where all sleep, and one more where the calling thread had to sleep and many rows are
-/// under way. Where no delivery comes for a while, the workers that are awake may all be held by their gate: one
-/// that sleeps is woken, and from then on one where all but so many sleep, until all are seen to sleep.
+/// One worker is woken if all sleep, and one more if the calling thread had to sleep and many rows are
+/// under way. If no delivery comes for a while, the workers that are awake may all be held by their gate: one
+/// that sleeps is woken, and from then on one if all but this many sleep, until all are seen to sleep.
 #[derive(Clone, Copy)]
 pub(crate) struct Pace<'a> {
     signals: &'a Signals,
@@ -70,8 +70,8 @@ impl<'a> Pace<'a> {
         self.unannounced = self.unannounced.saturating_sub(1);
     }
 
-    /// Tells the workers of the rows that were queued: of a few only where no more come for now. One is woken
-    /// where all sleep that are not held: a worker that is awake looks for rows until it finds none.
+    /// Tells the workers of the rows that were queued: of a few only if no more come for now. One is woken
+    /// if all sleep that are not held: a worker that is awake looks for rows until it finds none.
     pub(crate) fn wake_for_rows(&mut self, are_more: bool) {
         if self.unannounced >= WAKE_FOR || (self.unannounced > 0 && !are_more) {
             self.unannounced = 0;
@@ -103,7 +103,7 @@ impl<'a> Pace<'a> {
         mem::replace(&mut self.has_slept, false)
     }
 
-    /// Waits for a delivery, where so many signals of one were seen.
+    /// Waits for a delivery, if this many signals of one were seen.
     pub(crate) fn wait<R: Wait>(&mut self, rt: &R, seen: u64) {
         self.has_slept = self.signals.deliveries.wait(rt, seen, LOOKS, self.nap);
         if self.signals_seen() != seen {

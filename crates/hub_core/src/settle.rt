@@ -1,14 +1,11 @@
 //! Settling: the deliveries that no lane has polled.
 
-ghost use Rattle.std.specs.Prelude.{◌≡◌, All, length, map};
-ghost use Rattle.lane_core.specs.Machine.{State};
-ghost use Rattle.lane_core.specs.Whereabouts.{EachOnce};
-ghost use Rattle.hub_core.specs.Delivering.{collected, taken_in};
+ghost use Rattle.std.specs.Prelude.{◌≡◌, length, map};
 ghost use Rattle.hub_core.specs.inner.DrainedLists.{AreMade, items_of};
 ghost use Rattle.hub_core.specs.Hubs.{AreAllSeats, shape_of, year_of};
 ghost use Rattle.hub_core.specs.Lane.{AreSettled};
-ghost use Rattle.hub_core.specs.Lanes.{as_lane, polled, received};
-ghost use Rattle.hub_core.specs.Standing.{StandsFor};
+ghost use Rattle.hub_core.specs.Lanes.{as_lane};
+ghost use Rattle.hub_core.specs.Standing.{IsWhole};
 
 use crate::closed_lane::ClosedLane;
 use crate::deliverer_seat::DelivererSeat;
@@ -45,9 +42,7 @@ pub(crate) fn give_all<R: Wait>(
     requires made { AreMade lanes.items (shape_of hub.now).lanes lists.old.items }
     ensures counted { length lists.new.items ≡ length lists.old.items }
     ensures settled { AreSettled (year_of hub.now) (map as_lane lanes.items) (items_of lists.new.items) }
-    ensures state { (s : State) × StandsFor s hub.now lanes.items workers.items deliverer × EachOnce s }
-    ensures none_dropped { All (λ lane. polled lane ≡ received lane) lanes.items }
-    ensures none_aside { taken_in deliverer ≡ collected deliverer }
+    ensures whole { IsWhole hub.now lanes.items workers.items deliverer }
 {
     drain_all(rt, hub, lists, lanes, workers, deliverer);
     sort_all(lists);

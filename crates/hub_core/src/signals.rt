@@ -17,7 +17,7 @@ const STOP_REQUESTED: u64 = 1;
 
 /// How often a signal was given, and how many threads sleep until it is given again.
 ///
-/// A thread reads how often it was given, looks for something to do, and where there is nothing it
+/// A thread reads how often it was given, looks for something to do, and if there is nothing it
 /// sleeps; a signal that was given meanwhile lets it look again at once.
 #[derive(Drop)]
 pub(crate) struct Signal {
@@ -44,7 +44,7 @@ impl Signal {
         self.sleepers.load(Ordering::SeqCst)
     }
 
-    /// Waits while it was given so often: it looks so many times, and then sleeps for so many microseconds
+    /// Waits while it was given so often: it looks this many times, and then sleeps for this many microseconds
     /// at most. Whether it slept.
     pub(crate) fn wait<R: Wait>(&self, rt: &R, seen: u64, looks: u32, nap: u64) -> bool {
         for _ in 0..looks {
@@ -70,7 +70,7 @@ impl Signal {
         self.given.fetch_add(1, Ordering::SeqCst);
     }
 
-    /// Wakes a thread that sleeps, and tells whether one slept.
+    /// Wakes a sleeping thread, and returns whether there was one.
     fn wake_one(&self) -> bool {
         if self.sleepers() == 0 {
             return false;
@@ -130,7 +130,7 @@ impl JobsSignal {
         self.first.sleepers().saturating_add(self.others.sleepers())
     }
 
-    /// Gives it, and wakes a worker where so many sleep.
+    /// Gives it, and wakes a worker if this many sleep.
     pub(crate) fn notify_where(&self, asleep: u64) {
         self.first.give();
         self.others.give();

@@ -1,20 +1,22 @@
 //! The serving of a traffic, from the making of its hub to the end of its threads.
-ghost use Rattle.std.specs.Prelude.{◌≡◌, ◌≢◌, ◌+◌, ◌≤◌, [], All, IfErr, IfOk, IfSome, List, None, Option, length, map, option_to_list, replicate, vec_capacity, vec_len, ℕ};
-ghost use Rattle.std.specs.List.{range_with_len};
-ghost use Rattle.hub_core.specs.Fresh.{HasDoneNothing};
-ghost use Rattle.hub_core.specs.Hubs.{AreAllSeats, Holds, IsDelivererOf, IsWorkerOf, shape_of, year_of};
+ghost use Rattle.std.specs.Prelude.{◌≡◌, ◌≢◌, [], IfErr, IfOk, List, None, Option, map, replicate, vec_len, ℕ};
+ghost use Rattle.hub_core.specs.Faults.{GivesBack};
+ghost use Rattle.hub_core.specs.Fresh.{IsNew};
+ghost use Rattle.hub_core.specs.Hubs.{shape_of, year_of};
 ghost use Rattle.hub_core.specs.Lane.{ArePolledFirst};
-ghost use Rattle.hub_core.specs.Lanes.{as_lane, numbers_of};
+ghost use Rattle.hub_core.specs.Lanes.{as_lane};
 ghost use Rattle.hub_core.specs.Serving.{AreSeatCounts};
 ghost use Rattle.hub_core.specs.Traffics.{IfLost, IsKept, IsServed, IsServedUpTo};
-ghost use Rattle.hub_core.specs.inner.CallingThread.{AreLeftLost, AreSeats, WasServed};
-ghost use Rattle.hub_core.specs.inner.Traffics.{Serves, given_to, polled_by_each};
+ghost use Rattle.hub_core.specs.inner.CallingThread.{AreSeats, AreWorkers, CameBySeats, HasLeft, HaveServed};
+ghost use Rattle.hub_core.specs.inner.Fresh.{shape_for};
+ghost use Rattle.hub_core.specs.inner.Traffics.{given_to, polled_by_each};
+ghost use Rattle.hub_core.specs.inner.Workers.{IsRoomFor};
 
 use crate::calling_thread::CallingThread;
 use crate::closed_lane::ClosedLane;
 use crate::deliverer_seat::DelivererSeat;
 use crate::ended::Ended;
-use crate::fault::{HubFault, ServeFault, Unstarted};
+use crate::fault::{HubFault, NotBegun, ServeFault};
 use crate::gate::Gate;
 use crate::hub::Hub;
 use crate::lane_seat::LaneSeat;
@@ -45,11 +47,7 @@ fn new_hub<R: Wait>(
     year: Year,
 ) -> Result<Parts, ServeFault>
     requires counts { AreSeatCounts lanes workers }
-    ensures shape { IfOk result (λ p. ((shape_of p.hub).lanes ≡ lanes) × ((shape_of p.hub).limit ≡ 4294967295) × (year_of p.hub ≡ year) × ((shape_of p.hub).workers ≡ workers)) }
-    ensures lanes { IfOk result (λ p. numbers_of p.lanes.items ≡ range_with_len 0 lanes) }
-    ensures seats { IfOk result (λ p. AreAllSeats p.hub p.lanes.items p.workers.items p.deliverer) }
-    ensures unused { IfOk result (λ p. All HasDoneNothing p.lanes.items) }
-    ensures capacity { IfOk result (λ p. Holds p.hub p.deliverer 64) }
+    ensures new { IfOk result (IsNew (shape_for lanes workers) year) }
     ensures refused { IfErr result (λ e. e ≡ ServeFault.NoMemory) }
 {
     let shape = Shape {
@@ -67,7 +65,7 @@ fn new_hub<R: Wait>(
 
 /// Closes each lane, in room that was taken before.
 fn close_all(seats: Vec<LaneSeat>, room: Vec<ClosedLane>) -> Vec<ClosedLane>
-    requires { (room.items ≡ []) × (vec_len room ≡ 0) × (vec_len seats ≤ vec_capacity room) }
+    requires { IsRoomFor (vec_len seats) room }
     ensures { result.items ≡ seats.items }
 {
     let mut closed = room;
@@ -77,24 +75,19 @@ fn close_all(seats: Vec<LaneSeat>, room: Vec<ClosedLane>) -> Vec<ClosedLane>
     closed
 }
 
-/// Takes a seat from the workers', where one is asked for.
+/// Takes a seat from the workers', if one is asked for.
 fn take_own(hub: &Hub, workers: &mut Vec<WorkerSeat>, has_own: bool) -> Option<WorkerSeat>
-    requires { All (IsWorkerOf hub.now) workers.old.items }
-    ensures workers { All (IsWorkerOf hub.now) workers.new.items }
-    ensures own { IfSome result (IsWorkerOf hub.now) }
-    ensures count { vec_len workers.new + length (option_to_list result) ≡ vec_len workers.old }
-    ensures capacity { vec_capacity workers.new ≡ vec_capacity workers.old }
+    requires { AreWorkers hub.now workers.old None }
+    ensures { AreWorkers hub.now workers.new result }
 {
     let _ = hub;
     if has_own { workers.pop() } else { None }
 }
 
-/// Puts it back, where there is one.
+/// Puts it back, if there is one.
 fn put_back(hub: &Hub, workers: &mut Vec<WorkerSeat>, own: Option<WorkerSeat>)
-    requires seats { All (IsWorkerOf hub.now) workers.old.items × IfSome own (IsWorkerOf hub.now) }
-    requires room { vec_len workers.old + length (option_to_list own) ≤ vec_capacity workers.old }
-    ensures seats { All (IsWorkerOf hub.now) workers.new.items }
-    ensures count { vec_len workers.new ≡ vec_len workers.old + length (option_to_list own) }
+    requires { AreWorkers hub.now workers.old own }
+    ensures { AreWorkers hub.now workers.new None }
 {
     let _ = hub;
     if let Some(seat) = own {
@@ -129,14 +122,11 @@ fn serve_seats<'e, R: Threads + Wait + Sync, G: Gate + Sync, T: Traffic + Drop>(
     traffic: Box<T>,
     gate: &'e G,
     signals: &'e Signals,
-) -> Result<(Box<T>, Seats, Ended<T::WaitFault, T::BringFault>), Unstarted<Box<T>>>
+) -> Result<(Box<T>, Seats, Ended<T::WaitFault, T::BringFault>), NotBegun<Box<T>>>
     requires seats { AreSeats hub.now seats None }
     requires fresh { T.Came traffic.value traffic.value (given_to seats.lanes.items None) (polled_by_each seats.lanes.items) }
-    ensures seats { IfOk result (λ v. (held : Option (ℕ × List ℕ)) × AreSeats hub.now v.1 held) }
-    ensures served { IfOk result (λ v. IsKept v.2 → WasServed T.Came T.has_ended hub.now traffic.value v.0.value v.1.lanes.items v.2) }
-    ensures lost { IfOk result (λ v. IfLost v.2 (AreLeftLost T.Came T.Leaves hub.now traffic.value v.0.value v.1.lanes.items)) }
-    ensures refused { IfErr result (λ e. e.fault ≢ ServeFault.BadCount) }
-    ensures untouched { IfErr result (λ e. e.input ≡ traffic) }
+    ensures served { IfOk result (λ v. HaveServed T.Came T.Leaves T.has_ended hub.now traffic.value v.0.value v.1 v.2) }
+    ensures refused { IfErr result (GivesBack traffic) }
 {
     let Seats {
         lanes,
@@ -146,11 +136,8 @@ fn serve_seats<'e, R: Threads + Wait + Sync, G: Gate + Sync, T: Traffic + Drop>(
     } = seats;
     let threads = workers.len() as u8;
     let task = move |traffic: Box<T>| -> (Left<T>, Ended<T::WaitFault, T::BringFault>)
-        requires { Serves hub.now lanes.items None × IsDelivererOf hub.now deliverer × IfSome own (IsWorkerOf hub.now) × T.Came traffic.value traffic.value (given_to lanes.items None) (polled_by_each lanes.items) }
-        ensures seats { IsDelivererOf hub.entry.now result.0.deliverer × IfSome result.0.own (IsWorkerOf hub.entry.now) × (length (option_to_list result.0.own) ≡ length (option_to_list own)) }
-        ensures lanes { (held : Option (ℕ × List ℕ)) × Serves hub.entry.now result.0.lanes.items held }
-        ensures served { IsKept result.1 → WasServed T.Came T.has_ended hub.entry.now traffic.value result.0.traffic.value result.0.lanes.items result.1 }
-        ensures lost { IfLost result.1 (AreLeftLost T.Came T.Leaves hub.entry.now traffic.value result.0.traffic.value result.0.lanes.items) }
+        requires { CameBySeats T.Came hub.now lanes.items deliverer own None traffic.value traffic.value }
+        ensures { HasLeft T.Came T.Leaves T.has_ended hub.entry.now own traffic.value result.0 result.1 }
     {
         let pace = Pace::new(signals, threads);
         let thread = CallingThread::new(hub, lanes, deliverer, own, traffic, pace);
@@ -193,7 +180,7 @@ fn serve_seats<'e, R: Threads + Wait + Sync, G: Gate + Sync, T: Traffic + Drop>(
 /// Takes all seats back, in room that was taken before.
 fn finish_all<R: Wait>(rt: &R, alloc: Global, hub: Hub, seats: Seats, room: Vec<ClosedLane>)
     requires seats { (held : Option (ℕ × List ℕ)) × AreSeats hub seats held }
-    requires room { (room.items ≡ []) × (vec_len room ≡ 0) × ((shape_of hub).lanes ≤ vec_capacity room) }
+    requires room { IsRoomFor (shape_of hub).lanes room }
     ensures { ArePolledFirst (year_of hub) (map as_lane seats.lanes.items) }
 {
     let Seats {
@@ -216,16 +203,15 @@ fn serve_boxed<R: Threads + Wait + Sync, G: Gate + Sync, T: Traffic + Drop>(
     workers: u8,
     year: Year,
     gate: &G,
-) -> Result<(Box<T>, Ended<T::WaitFault, T::BringFault>), Unstarted<Box<T>>>
+) -> Result<(Box<T>, Ended<T::WaitFault, T::BringFault>), NotBegun<Box<T>>>
     requires counts { AreSeatCounts lanes workers }
     requires fresh { T.Came traffic.value traffic.value (replicate lanes []) (replicate lanes []) }
     ensures served { IfOk result (λ v. IsKept v.1 → IsServed T.Came T.has_ended year traffic.value v.0.value v.1) }
     ensures lost { IfOk result (λ v. IfLost v.1 (IsServedUpTo T.Came T.Leaves year traffic.value v.0.value)) }
-    ensures refused { IfErr result (λ e. e.fault ≢ ServeFault.BadCount) }
-    ensures untouched { IfErr result (λ e. e.input ≡ traffic) }
+    ensures refused { IfErr result (GivesBack traffic) }
 {
     let Ok(room) = Vec::with_capacity(alloc, usize::from(lanes)) else {
-        return Err(Unstarted::new(ServeFault::NoMemory, traffic));
+        return Err(NotBegun::new(ServeFault::NoMemory, traffic));
     };
     let has_own = traffic.lets_caller_read() && workers < MOST_WORKERS;
     let Parts {
@@ -235,7 +221,7 @@ fn serve_boxed<R: Threads + Wait + Sync, G: Gate + Sync, T: Traffic + Drop>(
         deliverer,
     } = match new_hub(rt, alloc, lanes, workers + u8::from(has_own), year) {
         Ok(parts) => parts,
-        Err(fault) => return Err(Unstarted::new(fault, traffic)),
+        Err(fault) => return Err(NotBegun::new(fault, traffic)),
     };
     let own = take_own(&hub, &mut workers, has_own);
     let seats = Seats {
@@ -251,7 +237,7 @@ fn serve_boxed<R: Threads + Wait + Sync, G: Gate + Sync, T: Traffic + Drop>(
 }
 
 /// Serves a traffic that has given nothing: the calling thread submits its rows, collects, hands and
-/// brings their deliveries, and so many workers read them beside each other, each row once the gate has
+/// brings their deliveries, and this many workers read them beside each other, each row once the gate has
 /// let its ticket pass.
 ///
 /// `NoThread` says that a thread could not be started, `NoMemory` that the hub or its threads were refused
@@ -264,7 +250,7 @@ pub fn serve_traffic<R: Threads + Wait + Sync, G: Gate + Sync, T: Traffic + Drop
     workers: u8,
     year: Year,
     gate: &G,
-) -> Result<(T, Ended<T::WaitFault, T::BringFault>), Unstarted<T>>
+) -> Result<(T, Ended<T::WaitFault, T::BringFault>), NotBegun<T>>
     requires counts { AreSeatCounts lanes workers }
     requires fresh { T.Came traffic traffic (replicate lanes []) (replicate lanes []) }
     ensures served { IfOk result (λ v. IsKept v.1 → IsServed T.Came T.has_ended year traffic v.0 v.1) }
@@ -275,13 +261,13 @@ pub fn serve_traffic<R: Threads + Wait + Sync, G: Gate + Sync, T: Traffic + Drop
     // In a box, since a large one that is moved from result to result takes the compiler minutes.
     let traffic = match Box::new(alloc, traffic) {
         Ok(traffic) => traffic,
-        Err(refused) => return Err(Unstarted::new(ServeFault::NoMemory, refused.value)),
+        Err(refused) => return Err(NotBegun::new(ServeFault::NoMemory, refused.value)),
     };
     match serve_boxed(rt, alloc, traffic, lanes, workers, year, gate) {
         Ok((traffic, ended)) => Ok((Box::into_inner(traffic), ended)),
         Err(refused) => {
             let traffic = Box::into_inner(refused.input);
-            Err(Unstarted::new(refused.fault, traffic))
+            Err(NotBegun::new(refused.fault, traffic))
         }
     }
 }

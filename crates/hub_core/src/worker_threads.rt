@@ -1,9 +1,10 @@
 //! A thread for each worker's seat.
-ghost use Rattle.std.specs.Prelude.{◌≡◌, ◌≢◌, [], ◌≤◌, ◌<◌, All, IfOk, IfErr, ◌+◌, true, vec_len, vec_capacity};
+ghost use Rattle.std.specs.Prelude.{◌≡◌, [], ◌≤◌, ◌<◌, All, IfOk, IfErr, ◌+◌, true, vec_len, vec_capacity};
+ghost use Rattle.hub_core.specs.Faults.{GivesBack};
 ghost use Rattle.hub_core.specs.Hubs.{IsWorkerOf};
 ghost use Rattle.hub_core.specs.Workers.{AreBack};
 
-use crate::fault::{ServeFault, Unstarted};
+use crate::fault::{NotBegun, ServeFault};
 use crate::gate::Gate;
 use crate::hub::Hub;
 use crate::pace::NOTIFIED_TOGETHER;
@@ -87,7 +88,7 @@ fn join_all<'a>(
     }
 }
 
-/// Starts a thread for each worker. False where one could not be started.
+/// Starts a thread for each worker. False if one could not be started.
 fn start_all<'s, 'e: 's, R: Threads + Wait + Sync, G: Gate + Sync>(
     rt: &'e R,
     hub: &'e Hub,
@@ -141,34 +142,32 @@ pub fn run_workers<
     signals: &'e Signals,
     input: I,
     task: F,
-) -> Result<(Vec<WorkerSeat>, T), Unstarted<I>>
+) -> Result<(Vec<WorkerSeat>, T), NotBegun<I>>
     requires { All (IsWorkerOf hub.now) seats.items × F.pre task input }
     ensures seats { IfOk result (λ v. AreBack hub.now seats v.0) }
     ensures task { IfOk result (λ v. F.post task input v.1) }
-    ensures refused { IfErr result (λ e. e.fault ≢ ServeFault.BadCount) }
-    ensures untouched { IfErr result (λ e. e.input ≡ input) }
+    ensures refused { IfErr result (GivesBack input) }
 {
     let Ok(mut back) = Vec::with_capacity(alloc, seats.capacity()) else {
-        return Err(Unstarted::new(ServeFault::NoMemory, input));
+        return Err(NotBegun::new(ServeFault::NoMemory, input));
     };
     thread::scope(
         thread::scope_env(),
         rt,
-        |scope| -> Result<(Vec<WorkerSeat>, T), Unstarted<I>>
+        |scope| -> Result<(Vec<WorkerSeat>, T), NotBegun<I>>
             requires { All (IsWorkerOf hub.now) seats.items × F.pre task input × (back.items ≡ []) × (vec_len back ≡ 0) × (vec_capacity back ≡ vec_capacity seats) }
             ensures seats { IfOk result (λ v. AreBack hub.entry.now seats v.0) }
             ensures task { IfOk result (λ v. F.post task input v.1) }
-            ensures refused { IfErr result (λ e. e.fault ≢ ServeFault.BadCount) }
-            ensures untouched { IfErr result (λ e. e.input ≡ input) }
+            ensures refused { IfErr result (GivesBack input) }
         {
             let Ok(mut handles) = Vec::with_capacity(alloc, seats.len()) else {
-                return Err(Unstarted::new(ServeFault::NoMemory, input));
+                return Err(NotBegun::new(ServeFault::NoMemory, input));
             };
             let started = start_all(rt, hub, scope, seats, gate, signals, &mut handles);
             if !started {
                 signals.request_stop();
                 join_all(rt, hub, &mut back, handles);
-                return Err(Unstarted::new(ServeFault::NoThread, input));
+                return Err(NotBegun::new(ServeFault::NoThread, input));
             }
             let done = task(input);
             signals.request_stop();

@@ -1,5 +1,5 @@
 -- What goes over a wire: reads and writes in their order.
-use Rattle.std.specs.Prelude.{◌≡◌, ◌++◌, ℕ, List, [], map}
+use Rattle.std.specs.Prelude.{◌≡◌, ◌↔◌, ◌++◌, ℕ, Bool, false, true, IfSome, IsErr, List, [], Option, Result, map}
 use Rattle.std.specs.List.{concat, flat_map}
 
 -- what a read gave, or what a write took
@@ -27,7 +27,7 @@ was_written events = flat_map bytes_written events
 abbrev pub writes_of : List (List ℕ) → List Event
 writes_of pieces = map (λ piece. Wrote piece) pieces
 
--- ---- what a call did, where a history is known by a first state and the events since then
+-- ---- what a call did, if a history is known by a first state and the events since then
 
 -- whatever had led to the first state, with these events more it leads to the second
 abbrev pub Does : {W : Type 0} → (W → W → List Event → Type 0) → W → List Event → W → Type 0
@@ -40,3 +40,11 @@ DoesNothing {W} did old new = (start : W) (events : List Event) → did start ol
 -- these bytes were written, in pieces
 abbrev pub Writes : {W : Type 0} → (W → W → List Event → Type 0) → W → List ℕ → W → Type 0
 Writes did old bytes new = (pieces : List (List ℕ)) × Does did old (writes_of pieces) new × (concat pieces ≡ bytes)
+
+-- if no call had failed before, then one has failed after it exactly if it says so
+abbrev pub TellsFailure : {X E : Type 0} → Bool → Result X E → Bool → Type 0
+TellsFailure before result after = before ≡ false → (IsErr result ↔ (after ≡ true))
+
+-- a law: if nothing more comes, the reads have given all that was left to read at first, if that is known
+abbrev pub AllWasRead : {W : Type 0} → (W → W → List Event → Type 0) → (W → Type 0) → (W → Option (List ℕ)) → Type 0
+AllWasRead {W} did at_end left = (start wire : W) (events : List Event) → did start wire events → at_end wire → IfSome (left start) (λ bytes. was_read events ≡ bytes)

@@ -25,7 +25,7 @@ pub record Held : Type 0 where
 abbrev pub nothing_held : Held
 nothing_held = record { rest = []; is_cut = false; has_ended = false }
 
--- the bytes before the first line feed, where there is one, or where these are the last bytes of the input
+-- the bytes before the first line feed, if there is one, or if these are the last bytes of the input
 abbrev pub first_line : List ℕ → Bool → Option (List ℕ)
 first_line bytes are_last = if nat_lt (position_or_len is_feed bytes) (length bytes) || are_last then Some (before_first is_feed bytes) else None
 
@@ -33,7 +33,7 @@ first_line bytes are_last = if nat_lt (position_or_len is_feed bytes) (length by
 abbrev pub are_last : Held → Bool
 are_last h = h.has_ended && (h.is_cut || nat_lt 0 (length h.rest))
 
--- the next line, but for a front that was given up
+-- the next line except a front that was given up
 abbrev pub held_line : Held → Option (List ℕ)
 held_line h = first_line h.rest (are_last h)
 
@@ -63,7 +63,7 @@ HasNoFeed bytes = All (λ b. is_feed b ≡ false) bytes
 abbrev pub ended_lines : List (List ℕ) → List ℕ
 ended_lines lines = flat_map (λ line. line ++ 10 ∷ []) lines
 
--- of these bytes these lines were taken, each with its line feed, and the rest is held but for the front of a line that is too long
+-- of these bytes these lines were taken, each with its line feed, and the rest is held except for the front of a line that is too long
 pub record AreTaken (bytes : List ℕ) (lines : List (List ℕ)) (h : Held) : Type 0 where
   pub front : List ℕ
   pub whole : bytes ≡ ended_lines lines ++ (front ++ h.rest)
@@ -83,7 +83,7 @@ pub record AreAllTaken (bytes : List ℕ) (lines : List (List ℕ)) (h : Held) :
 abbrev pub TakesLines : List ℕ → List (List ℕ) → Held → Type 0
 TakesLines bytes lines h = AreTaken bytes lines h ⊎ AreAllTaken bytes lines h
 
--- a line that was found, its front being known to be too long where it was given up
+-- a line that was found, its front being known to be too long if it was given up
 abbrev pub IsLine : Held → List ℕ → List ℕ → Type 0
 IsLine h found line = (h.is_cut ≡ false → line ≡ found) × (h.is_cut ≡ true → most_line + 1 < length line)
 
@@ -94,7 +94,7 @@ pub record LinesArePieces : Type 0 where
   -- a line is taken
   pub taken : (bytes : List ℕ) (lines : List (List ℕ)) (h : Held) (found : List ℕ) → TakesLines bytes lines h → held_line h ≡ Some found
       → (line : List ℕ) × IsLine h found line × TakesLines bytes (lines ++ line ∷ []) (without_line h)
-  -- more comes, where no line is held and the input has not ended
+  -- more comes, if no line is held and the input has not ended
   pub more : (bytes more : List ℕ) (lines : List (List ℕ)) (h : Held) → TakesLines bytes lines h → held_line h ≡ None → h.has_ended ≡ false
       → TakesLines (bytes ++ more) lines (arrived h more)
   -- the front of a line that is too long is given up
@@ -103,9 +103,9 @@ pub record LinesArePieces : Type 0 where
   -- the lines that were taken are the first pieces
   pub begins : (bytes : List ℕ) (lines : List (List ℕ)) (h : Held) → TakesLines bytes lines h
       → (later : List (List ℕ)) × (pieces_of bytes ≡ lines ++ later)
-  -- where no line is held and the input has not ended they are all but the last
+  -- if no line is held and the input has not ended they are all but the last
   pub even : (bytes : List ℕ) (lines : List (List ℕ)) (h : Held) → TakesLines bytes lines h → held_line h ≡ None → h.has_ended ≡ false
       → (last : List ℕ) × (pieces_of bytes ≡ lines ++ last ∷ [])
-  -- at its end they are all pieces, but for a last one without a byte
+  -- at its end they are all pieces except a last one without a byte
   pub ended : (bytes : List ℕ) (lines : List (List ℕ)) (h : Held) → TakesLines bytes lines h → held_line h ≡ None → h.has_ended ≡ true
       → (pieces_of bytes ≡ lines) ⊎ (pieces_of bytes ≡ lines ++ [] ∷ [])

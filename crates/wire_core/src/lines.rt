@@ -1,6 +1,6 @@
 //! The lines of an input that comes in pieces.
-ghost use Rattle.std.specs.Prelude.{◌≡◌, ◌≤◌, ◌↔◌, ◌||◌, ◌<◌, nat_lt, drop, if◌then◌else◌, vec_capacity, ◌∷◌, ◌++◌, [], ℕ, List, None, Some, false, true, IfNone, IfOk, IfSome, OnErr, OnOk, IsErr, length};
-ghost use Rattle.wire_core.specs.Events.{Does, DoesNothing};
+ghost use Rattle.std.specs.Prelude.{◌≡◌, ◌≤◌, ◌||◌, ◌<◌, nat_lt, drop, if◌then◌else◌, vec_capacity, ◌∷◌, ◌++◌, [], ℕ, List, None, Some, false, true, IfNone, IfOk, IfSome, OnErr, OnOk, length};
+ghost use Rattle.wire_core.specs.Events.{Does, DoesNothing, TellsFailure};
 ghost use Rattle.wire_core.specs.Events.Event.{Read};
 ghost use Rattle.wire_core.specs.Lines.{arrived, first_line, held_line, nothing_held, with_room, without_line};
 
@@ -41,7 +41,7 @@ impl Model for Lines {
     ghost invariant = { λ s. (s.start ≤ length s.bytes.items) × (131073 ≤ vec_capacity s.bytes) × (length s.chunk.items ≡ 65536) };
 }
 
-/// The bytes before the first line feed, where there is one, or where these are the last bytes of the input.
+/// The bytes before the first line feed, if there is one, or if these are the last bytes of the input.
 fn first_line(bytes: &[u8], are_last: bool) -> Option<&[u8]>
     ensures some { IfSome result (λ line. first_line bytes.now are_last ≡ Some line.now) }
     ensures none { IfNone result (first_line bytes.now are_last ≡ None) }
@@ -53,7 +53,7 @@ fn first_line(bytes: &[u8], are_last: bool) -> Option<&[u8]>
     }
 }
 
-/// Keeps the bytes from `start` on, or none where they are too many for a line or its front was given up before;
+/// Keeps the bytes from `start` on, or none if they are too many for a line or its front was given up before;
 /// and says whether it was given up.
 fn keep_rest(bytes: &mut Vec<u8>, start: usize, is_cut: bool) -> bool
     requires { start ≤ length bytes.old.items }
@@ -66,7 +66,10 @@ fn keep_rest(bytes: &mut Vec<u8>, start: usize, is_cut: bool) -> bool
         bytes.clear();
         return true;
     }
-    bytes.drain(..start);
+    // The rest is copied at once: a drain turns it byte by byte.
+    let len = bytes.len();
+    bytes.copy_within(start..len, 0);
+    bytes.truncate(len - start);
     false
 }
 
@@ -82,7 +85,7 @@ fn read_behind<W: Wire>(
     ensures ok { IfOk result (λ count. (more : List ℕ) × (length more ≡ count) × (bytes.new.items ≡ bytes.old.items ++ more)
         × Does W.Did wire.old (Read more ∷ []) wire.new) }
     ensures err { OnErr result ((bytes.new.items ≡ bytes.old.items) × DoesNothing W.Did wire.old wire.new) }
-    ensures fault { W.read_failed wire.old ≡ false → (IsErr result ↔ (W.read_failed wire.new ≡ true)) }
+    ensures fault { TellsFailure (W.read_failed wire.old) result (W.read_failed wire.new) }
     ensures write { W.write_failed wire.new ≡ W.write_failed wire.old }
     ensures end { IfOk result (λ count. count ≡ 0 → W.at_end wire.new) }
     ensures capacity { vec_capacity bytes.old ≤ vec_capacity bytes.new }
@@ -108,7 +111,7 @@ impl Lines {
         })
     }
 
-    /// The next line without its line feed, and where its front was given up what is left of it; none where more
+    /// The next line without its line feed, and if its front was given up what is left of it; none if more
     /// has to come first, and none at the end of the input.
     pub fn line(&self) -> Option<&[u8]>
         ensures some { IfSome result (λ line. held_line self.now ≡ Some line.now) }
@@ -133,7 +136,7 @@ impl Lines {
         self.has_ended
     }
 
-    /// Takes the line, which has so many bytes, with its line feed.
+    /// Takes the line, which has this many bytes, with its line feed.
     pub fn take_line(&mut self, count: usize)
         requires { (line : List ℕ) × (held_line self.old ≡ Some line) × (length line ≡ count) }
         ensures { self.new ≡ without_line self.old }
@@ -142,11 +145,11 @@ impl Lines {
         self.is_cut = false;
     }
 
-    /// Reads what there is, where no line is held and the input has not ended.
+    /// Reads what there is, if no line is held and the input has not ended.
     pub fn read<W: Wire>(&mut self, wire: &mut W) -> Result<(), Failed>
         ensures ok { OnOk result ((bytes : List ℕ) × (self.new ≡ arrived self.old bytes) × Does W.Did wire.old (Read bytes ∷ []) wire.new) }
         ensures err { OnErr result ((self.new ≡ with_room self.old) × DoesNothing W.Did wire.old wire.new) }
-        ensures fault { W.read_failed wire.old ≡ false → (IsErr result ↔ (W.read_failed wire.new ≡ true)) }
+        ensures fault { TellsFailure (W.read_failed wire.old) result (W.read_failed wire.new) }
         ensures write { W.write_failed wire.new ≡ W.write_failed wire.old }
         ensures end { OnOk result (self.new.has_ended ≡ true → W.at_end wire.new) }
     {

@@ -1,6 +1,6 @@
 //! A reader and a writer whose calls stand in one order.
-ghost use Rattle.std.specs.Prelude.{◌≡◌, ◌↔◌, ◌<◌, ◌≤◌, ◌∷◌, ◌++◌, [], ℕ, List, Bool, true, false, length, take, IfOk, OnOk, OnErr, IsErr};
-ghost use Rattle.wire_core.specs.Events.{Does, DoesNothing, Event, Writes};
+ghost use Rattle.std.specs.Prelude.{◌≡◌, ◌<◌, ◌≤◌, ◌∷◌, ◌++◌, [], ℕ, List, Bool, true, length, take, IfOk, OnOk, OnErr};
+ghost use Rattle.wire_core.specs.Events.{Does, DoesNothing, Event, TellsFailure, Writes};
 ghost use Rattle.wire_core.specs.Events.Event.{Read, Wrote};
 
 use digits_core::Failed;
@@ -43,7 +43,7 @@ pub trait Wire {
 pub fn write_all<W: Wire>(wire: &mut W, bytes: &[u8]) -> Result<(), Failed>
     ensures ok { OnOk result (Writes W.Did wire.old bytes.now wire.new) }
     ensures err { OnErr result ((done rest : List ℕ) × Writes W.Did wire.old done wire.new × (done ++ rest ≡ bytes.now)) }
-    ensures fault { W.write_failed wire.old ≡ false → (IsErr result ↔ (W.write_failed wire.new ≡ true)) }
+    ensures fault { TellsFailure (W.write_failed wire.old) result (W.write_failed wire.new) }
     ensures read { W.read_failed wire.new ≡ W.read_failed wire.old }
     ensures end { W.at_end wire.old → W.at_end wire.new }
 {

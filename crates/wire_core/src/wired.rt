@@ -1,7 +1,6 @@
 //! A wire of any reader and any writer.
-ghost use Rattle.std.specs.Prelude.{◌≡◌, IfSome, List};
-ghost use Rattle.wire_core.specs.Events.{Event, was_read};
-ghost use Rattle.wire_core.specs.declared.wired.Wired.{Wired};
+ghost use Rattle.std.specs.Prelude.{◌≡◌};
+ghost use Rattle.wire_core.specs.Events.{AllWasRead};
 
 use crate::wire::Wire;
 use digits_core::{Failed, Sink, Source};
@@ -27,11 +26,10 @@ impl<S: Source, W: Sink> Wired<S, W> {
     }
 }
 
-/// A law: where nothing more comes over a wire of a source, its reads have given all that the source had, if that is
+/// A law: if nothing more comes over a wire of a source, its reads have given all that the source had, if that is
 /// known.
 pub fn all_was_read<S: Source, W: Sink>()
-    ensures { (start wire : Wired S W) (events : List Event) → ⟦<Wired<S, W> as Wire>⟧.Did start wire events → ⟦<Wired<S, W> as Wire>⟧.at_end wire
-        → IfSome (S.left start.source) (λ bytes. was_read events ≡ bytes) }
+    ensures { AllWasRead ⟦<Wired<S, W> as Wire>⟧.Did ⟦<Wired<S, W> as Wire>⟧.at_end (λ wire. S.left wire.source) }
 {}
 
 impl<S: Source, W: Sink> Wire for Wired<S, W> {

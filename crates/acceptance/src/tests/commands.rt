@@ -2,9 +2,9 @@
 
 use crate::tests::equal::is_equal;
 use crate::tests::rows::year_of;
-use command_core::{CommandFault, run, run_live};
+use command_line::{LaneOptions, LiveOptions, PrintOptions, ScanOptions, WholeInput};
+use command_runs::{CommandFault, run, run_live};
 use digits_core::{FromReader, ToWriter};
-use fakes::{Happened, Holding, Meeting, Recorded};
 use hub_core::{Gate, OpenGate};
 use lane_core::Ticket;
 use std::alloc::{AllocError, Global};
@@ -12,7 +12,7 @@ use std::process::Abort;
 use std::sync::Wait;
 use std::test::Fail;
 use std::thread::Threads;
-use words_core::{Batch, LaneOptions, LiveOptions, PrintOptions, ScanOptions};
+use test_doubles::{Happened, Holding, Meeting, Recorded};
 
 // The rows of 9501101530003 as EAN-13 and of 96385074 as EAN-8, at one dot a module.
 const EAN13: &str = "11 1 1 1 1 2 3 1 1 1 2 3 1 2 2 2 2 2 2 1 1 1 2 3 2 2 2 1 1 1 1 1 \
@@ -41,7 +41,7 @@ fn ticket(lane: u8, number: u32) -> Ticket {
 /// That a command writes this of an input, its workers passing the gate.
 fn writes<R: Threads + Wait + AllocGlobal + Sync + Abort, G: Gate + Sync>(
     rt: &R,
-    asked: Batch,
+    asked: WholeInput,
     input: &[u8],
     gate: &G,
     wanted: &[u8],
@@ -59,7 +59,7 @@ fn writes<R: Threads + Wait + AllocGlobal + Sync + Abort, G: Gate + Sync>(
 /// That a command writes this of an input, each row of which passes the gate once.
 fn writes_past<R: Threads + Wait + AllocGlobal + Sync + Abort>(
     rt: &R,
-    asked: Batch,
+    asked: WholeInput,
     input: &[u8],
     gate: &Holding,
     wanted: &[u8],
@@ -69,7 +69,7 @@ fn writes_past<R: Threads + Wait + AllocGlobal + Sync + Abort>(
     Ok(())
 }
 
-/// The options of so many lanes and workers, in 2026.
+/// The options of this many lanes and workers, in 2026.
 fn options_of(lanes: u8, workers: u8) -> Result<LaneOptions, Fail> {
     Ok(LaneOptions::new(lanes, workers, 2026).ok_or("options")?)
 }
@@ -79,7 +79,7 @@ fn check_answers_a_text(rt: HostRuntime) -> Result<(), Fail> {
     let year = year_of(2026)?;
     writes(
         &rt,
-        Batch::Check(year),
+        WholeInput::Check(year),
         b"digit,950110153000\n",
         &OpenGate,
         b"digit 3\n",
@@ -91,14 +91,20 @@ fn print_writes_images_or_lines(rt: HostRuntime) -> Result<(), Fail> {
     let images = PrintOptions::new(1, 113, 3, 1, 2, 2026, false).ok_or("options")?;
     writes(
         &rt,
-        Batch::Print(images),
+        WholeInput::Print(images),
         TWO_RECORDS,
         &OpenGate,
         TWO_LABELS,
     )?;
     let lines = PrintOptions::new(1, 113, 3, 1, 2, 2026, true).ok_or("options")?;
     let wanted = b"0 0 ean13 (01)09501101530003\n0 1 ean13 (01)09501101530003\n";
-    writes(&rt, Batch::Print(lines), TWO_RECORDS, &OpenGate, wanted)
+    writes(
+        &rt,
+        WholeInput::Print(lines),
+        TWO_RECORDS,
+        &OpenGate,
+        wanted,
+    )
 }
 
 #[test]
@@ -107,7 +113,13 @@ fn two_workers_read_the_rows_of_a_lane(rt: HostRuntime) -> Result<(), Fail> {
     let input = format!(in rt.alloc(); "0,{EAN13}\n0,{EAN8}\n")?;
     let gate = Holding::new(rt.alloc(), &[2], ticket(0, 0), ticket(0, 1))?;
     let wanted = b"0 0 ]E0 (01)09501101530003\n0 1 ]E4 (01)00000096385074\n";
-    writes_past(&rt, Batch::Lanes(options), input.as_bytes(), &gate, wanted)
+    writes_past(
+        &rt,
+        WholeInput::Lanes(options),
+        input.as_bytes(),
+        &gate,
+        wanted,
+    )
 }
 
 #[test]
@@ -115,7 +127,7 @@ fn two_workers_read_the_rows_of_a_column(rt: HostRuntime) -> Result<(), Fail> {
     let options = ScanOptions::new(1, 113, 3, 1, 2, 2, 2026).ok_or("options")?;
     let gate = Holding::new(rt.alloc(), &[2], ticket(0, 0), ticket(0, 1))?;
     let wanted = b"0 0 ]E0 (01)09501101530003\n0 1 ]E0 (01)09501101530003\n";
-    writes_past(&rt, Batch::Scan(options), TWO_LABELS, &gate, wanted)
+    writes_past(&rt, WholeInput::Scan(options), TWO_LABELS, &gate, wanted)
 }
 
 #[test]
@@ -125,7 +137,13 @@ fn a_row_of_the_last_lane_is_held_alone(rt: HostRuntime) -> Result<(), Fail> {
     let gate = Holding::new(rt.alloc(), &[2, 0, 2], ticket(2, 0), ticket(2, 1))?;
     let wanted = b"0 0 ]E0 (01)09501101530003\n0 1 ]E4 (01)00000096385074\n\
         2 0 ]E4 (01)00000096385074\n2 1 ]E0 (01)09501101530003\n";
-    writes_past(&rt, Batch::Lanes(options), input.as_bytes(), &gate, wanted)
+    writes_past(
+        &rt,
+        WholeInput::Lanes(options),
+        input.as_bytes(),
+        &gate,
+        wanted,
+    )
 }
 
 /// A line for each of sixteen lanes: its number, and these texts.
@@ -140,7 +158,7 @@ fn lines(alloc: Global, mark: &str, text: &str) -> Result<String, AllocError> {
 /// That sixteen workers are at work at once on this input, and write a line like this for each of sixteen lanes.
 fn meet<R: Threads + Wait + AllocGlobal + Sync + Abort>(
     rt: &R,
-    asked: Batch,
+    asked: WholeInput,
     input: &[u8],
     answer: &str,
 ) -> Result<(), Fail> {
@@ -158,7 +176,7 @@ fn sixteen_workers_read_rows_of_lanes_at_once(rt: HostRuntime) -> Result<(), Fai
     let input = lines(rt.alloc(), ",", EAN8)?;
     meet(
         &rt,
-        Batch::Lanes(options),
+        WholeInput::Lanes(options),
         input.as_bytes(),
         "]E4 (01)00000096385074",
     )
@@ -177,13 +195,13 @@ fn sixteen_workers_read_rows_of_columns_at_once(rt: HostRuntime) -> Result<(), F
     }
     meet(
         &rt,
-        Batch::Scan(options),
+        WholeInput::Scan(options),
         input.as_slice(),
         "]E0 (01)09501101530003",
     )
 }
 
-/// So many rows of lane 0 without a dark dot.
+/// This many rows of lane 0 without a dark dot.
 fn blank_rows(alloc: Global, count: u32) -> Result<String, AllocError> {
     let mut rows = String::new(alloc);
     for _ in 0..count {
@@ -204,7 +222,7 @@ fn refusals(alloc: Global, count: u32) -> Result<String, AllocError> {
 #[test]
 fn each_row_of_a_long_lane_comes_once(rt: HostRuntime) -> Result<(), Fail> {
     let alloc = rt.alloc();
-    let lanes = Batch::Lanes(options_of(1, 2)?);
+    let lanes = WholeInput::Lanes(options_of(1, 2)?);
     let input = blank_rows(alloc, 5_000)?;
     let wanted = refusals(alloc, 5_000)?;
     let gate = Holding::new(alloc, &[5_000], ticket(0, 0), ticket(0, 4_999))?;

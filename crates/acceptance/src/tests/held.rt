@@ -2,13 +2,13 @@
 
 use crate::tests::equal::{is_equal, is_true};
 use crate::tests::rows::{EAN8, EAN13, row};
-use fakes::{Closed, LaneGate, OpenHub, is_answer};
 use hub_core::Shape;
 use scan_core::Carrier;
 use std::process::Abort;
 use std::sync::Wait;
 use std::test::Fail;
 use std::thread::Threads;
+use test_doubles::{Closed, LaneGate, OpenHub, is_answer};
 
 /// That the row of the held lane alone is left to settle.
 fn settles_the_held<R: Wait + AllocGlobal + Abort>(

@@ -3,13 +3,13 @@
 use crate::tests::equal::{is_equal, is_true};
 use crate::tests::rows::{EAN8, EAN13, GS1_128, row, year_of};
 use element_core::Year;
-use fakes::{Closed, OpenHub, is_answer};
 use hub_core::{Collected, Handed, Hub, HubFault, Shape, SubmitFault, Worked};
 use lane_core::{Delivery, Ticket};
 use scan_core::{Carrier, Runs};
 use std::process::Abort;
 use std::sync::Wait;
 use std::test::Fail;
+use test_doubles::{Closed, OpenHub, is_answer};
 
 /// How many lanes and workers a hub has at most.
 const MOST: u8 = 16;
@@ -45,7 +45,7 @@ enum Step {
     Hand(u8, Handed),
     /// A lane polls the delivery of this number and this carrier.
     Poll(u8, u32, Carrier),
-    /// A lane has submitted so many rows.
+    /// A lane has submitted this many rows.
     Issued(usize, u32),
 }
 
@@ -131,7 +131,7 @@ fn are_answers<R: Abort>(
     Ok(())
 }
 
-/// That the hub is settled with so many lists, each with the deliveries of these carriers, from this number
+/// That the hub is settled with this many lists, each with the deliveries of these carriers, from this number
 /// on.
 fn settles<R: Wait + AllocGlobal + Abort>(
     rt: &R,
@@ -258,7 +258,7 @@ fn submit_to_each<R: Wait + AllocGlobal>(
     Ok(())
 }
 
-/// That so many deliveries are collected.
+/// That this many deliveries are collected.
 fn collects<R: Wait + AllocGlobal + Abort>(
     rt: &R,
     hub: &mut OpenHub,
@@ -293,7 +293,7 @@ fn delivers_to_each<R: Wait + AllocGlobal + Abort>(
     polls_of_each(rt, hub, count)
 }
 
-/// A hub of so many lanes and workers, each lane with three rows.
+/// A hub of this many lanes and workers, each lane with three rows.
 fn with_three_of_each<R: Wait + AllocGlobal + Abort>(rt: &R, count: u8) -> Result<OpenHub, Fail> {
     let mut hub = OpenHub::new(rt, rt.alloc(), shape(count, 64, 3))?;
     for widths in [EAN13, EAN8, GS1_128] {
@@ -302,7 +302,7 @@ fn with_three_of_each<R: Wait + AllocGlobal + Abort>(rt: &R, count: u8) -> Resul
     Ok(hub)
 }
 
-/// That a hub of so many lanes and workers answers three rows of each lane, one of which it polls.
+/// That a hub of this many lanes and workers answers three rows of each lane, one of which it polls.
 fn answers_each_lane<R: Wait + AllocGlobal + Abort>(rt: &R, count: u8) -> Result<(), Fail> {
     let mut hub = with_three_of_each(rt, count)?;
     delivers_to_each(rt, &mut hub, count)?;

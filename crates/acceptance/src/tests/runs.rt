@@ -27,7 +27,7 @@ fn turns_rows(rt: HostRuntime) -> Result<(), Fail> {
     Ok(())
 }
 
-/// So many bytes without a dark dot.
+/// This many bytes without a dark dot.
 fn zeros(alloc: Global, count: u16) -> Result<Vec<u8>, AllocError> {
     let mut bytes = Vec::new(alloc);
     for _ in 0..count {

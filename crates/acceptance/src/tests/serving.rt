@@ -2,7 +2,6 @@
 
 use crate::tests::equal::{is_equal, is_true};
 use crate::tests::rows::{EAN8, EAN13, GS1_128, row, year_of};
-use fakes::{Holding, Meeting};
 use hub_core::{Gate, OpenGate, serve};
 use lane_core::{Delivery, Ticket};
 use scan_core::Runs;
@@ -11,6 +10,7 @@ use std::process::Abort;
 use std::sync::Wait;
 use std::test::Fail;
 use std::thread::Threads;
+use test_doubles::{Holding, Meeting};
 
 // The first row of the first lane.
 const FIRST: Ticket = Ticket { lane: 0, number: 0 };
@@ -136,7 +136,7 @@ fn widths_of(lane: u8, number: u16) -> &'static [u16] {
     }
 }
 
-/// The feed of a lane, of so many rows.
+/// The feed of a lane, of this many rows.
 fn long_feed(alloc: Global, lane: u8, count: u16) -> Result<Vec<Runs>, Fail> {
     let mut feed = Vec::new(alloc);
     for number in 0..count {
@@ -154,7 +154,7 @@ fn long_feeds(alloc: Global) -> Result<Vec<Vec<Runs>>, Fail> {
     Ok(feeds)
 }
 
-/// That a lane's deliveries are those of its feed of so many rows, in their order.
+/// That a lane's deliveries are those of its feed of this many rows, in their order.
 fn are_of_the_feed<R: Abort>(rt: &R, lane: u8, count: u16, list: &[Delivery]) -> Result<(), Fail> {
     is_equal(rt, list.len(), usize::from(count));
     for number in 0..count {
@@ -165,7 +165,7 @@ fn are_of_the_feed<R: Abort>(rt: &R, lane: u8, count: u16, list: &[Delivery]) ->
     Ok(())
 }
 
-/// That so many workers serve the sixteen feeds, each in its order.
+/// That this many workers serve the sixteen feeds, each in its order.
 fn serve_in_order<R: Threads + Wait + AllocGlobal + Sync + Abort>(
     rt: &R,
     workers: u8,
@@ -190,7 +190,7 @@ fn many_rows_and_workers_change_no_order(rt: HostRuntime) -> Result<(), Fail> {
     Ok(())
 }
 
-/// The deliveries of one lane with so many rows, whose two workers pass this gate.
+/// The deliveries of one lane with this many rows, whose two workers pass this gate.
 fn served_past<R: Threads + Wait + AllocGlobal + Sync, G: Gate + Sync>(
     rt: &R,
     count: u16,
@@ -216,7 +216,7 @@ fn a_held_row_holds_none_of_three_thousand(rt: HostRuntime) -> Result<(), Fail> 
     are_of_the_feed(&rt, 0, 3_001, list.as_slice())
 }
 
-/// That so many workers serve no such lanes.
+/// That this many workers serve no such lanes.
 fn is_refused<R: Threads + Wait + AllocGlobal + Sync + Abort>(
     rt: &R,
     lanes: &[&[&[u16]]],
@@ -258,7 +258,7 @@ const THREE_LANES_ANSWERED: &str = "1: 1/0 45 Read { carrier: Ean8\n\
                                     2: 2/3 45 Read { carrier: Ean8\n\
                                     2: 2/4 1 Refused(Blank)\n";
 
-/// That so many workers answer the three lanes.
+/// That this many workers answer the three lanes.
 fn serves_three_lanes<R: Threads + Wait + AllocGlobal + Sync + Abort>(
     rt: &R,
     workers: u8,

@@ -7,7 +7,6 @@ use crate::tests::rows::{ITF14, ITF14_WRONG, year_of};
 use code128_code::encode;
 use digits_core::{FromReader, ToWriter};
 use element_core::Elements;
-use fakes::{Breaking, Narrow};
 use scan_core::{Answer, Carrier, Runs, read_row};
 use sheet_core::{
     Grid, Label, PbmFault, PrintFault, Sheet, SheetFault, print_pbm, print_sheets, read_pbm,
@@ -16,6 +15,7 @@ use sheet_core::{
 use std::alloc::{AllocError, Global};
 use std::process::Abort;
 use std::test::Fail;
+use test_doubles::{Breaking, Narrow};
 
 // An image of ten by two dots, in turn light and dark, with a comment.
 const IMAGE: &[u8] = b"P4\n# a\n10 2\n\xAA\x80\x55\x40";
@@ -51,7 +51,7 @@ fn answer(alloc: Global, file: &[u8]) -> Result<String, AllocError> {
     }
 }
 
-/// That a file has so many sheets, or this fault.
+/// That a file has this many sheets, or this fault.
 fn answers<R: AllocGlobal + Abort>(rt: &R, file: &[u8], wanted: &str) -> Result<(), Fail> {
     let found = answer(rt.alloc(), file)?;
     is_equal(rt, found.as_str(), wanted);
@@ -246,7 +246,7 @@ fn print(alloc: Global, labels: &[Label], grid: Grid) -> Result<String, AllocErr
     }
 }
 
-/// That labels are printed on so many sheets, or have this fault.
+/// That labels are printed on this many sheets, or have this fault.
 fn prints<R: AllocGlobal + Abort>(
     rt: &R,
     labels: &[Label],
@@ -526,7 +526,7 @@ fn counts_the_images_of_a_file(rt: HostRuntime) -> Result<(), Fail> {
     Ok(())
 }
 
-/// A file of one dot, whose width has so many zeros before it.
+/// A file of one dot, whose width has this many zeros before it.
 fn zeros(alloc: Global, count: u16) -> Result<Vec<u8>, AllocError> {
     let mut file = Vec::new(alloc);
     file.extend_from_slice(b"P4 ")?;
@@ -543,7 +543,7 @@ fn answers_zeros<R: AllocGlobal + Abort>(rt: &R, count: u16, wanted: &str) -> Re
     answers(rt, file.as_slice(), wanted)
 }
 
-/// A file of so many sheets of one dot.
+/// A file of this many sheets of one dot.
 fn dots(alloc: Global, count: u16) -> Result<Vec<u8>, AllocError> {
     let mut file = Vec::new(alloc);
     for _ in 0..count {
@@ -590,7 +590,7 @@ fn answers_a_reader_that_fails(rt: HostRuntime) -> Result<(), Fail> {
     Ok(())
 }
 
-/// That so many bytes of `PRINTED` are taken of its sheets where there is room for no more.
+/// That this many bytes of `PRINTED` are taken of its sheets where there is room for no more.
 fn writes_front<R: AllocGlobal + Abort>(rt: &R, sheets: &[Sheet], room: usize)
     requires { room < 55 }
 {
@@ -610,7 +610,7 @@ fn writes_fronts_of_files(rt: HostRuntime) -> Result<(), Fail> {
     Ok(())
 }
 
-/// That so many bytes of `PRINTED` are taken where there is room for no more.
+/// That this many bytes of `PRINTED` are taken where there is room for no more.
 fn prints_front<R: AllocGlobal + Abort>(rt: &R, labels: &[Label], grid: Grid, room: usize)
     requires { room < 55 }
 {

@@ -1,22 +1,32 @@
 -- What stays true of the calling thread in each of its steps.
 use Rattle.std.specs.Prelude.{◌≡◌, ◌≤◌, ◌+◌, ℕ, All, Bool, true, List, IfSome, None, Option, length, option_to_list, vec_capacity, vec_len}
+use Rattle.std.specs.declared.vec.Vec.{Vec}
+use Rattle.std.proofs.Common.{Global}
 use Rattle.hub_core.specs.Hubs.{IsDelivererOf, IsWorkerOf, shape_of}
-use Rattle.hub_core.specs.Traffics.{AreFirstOf, History}
+use Rattle.hub_core.specs.Traffics.{AreFirstOf, History, IfLost, IsKept}
 use Rattle.lane_core.specs.declared.job.Plain.{Plain}
-use Rattle.hub_core.specs.inner.Traffics.{HavePolledAll, Serves, given_to, polled_by_each}
+use Rattle.hub_core.specs.inner.Traffics.{HavePolledAll, AreOwnSeats, given_to, polled_by_each}
 use Rattle.hub_core.specs.declared.ended.Ended.{Ended}
 use Rattle.hub_core.specs.declared.ended.Ended.TheVariants.{Done}
 use Rattle.hub_core.specs.declared.hub.Hub.{Hub}
 use Rattle.hub_core.specs.declared.lane_seat.LaneSeat.{LaneSeat}
 use Rattle.hub_core.specs.declared.calling_thread.CallingThread.{CallingThread}
+use Rattle.hub_core.specs.declared.deliverer_seat.DelivererSeat.{DelivererSeat}
+use Rattle.hub_core.specs.declared.traffic_serving.Left.{Left}
 use Rattle.hub_core.specs.declared.traffic_serving.Seats.{Seats}
+use Rattle.hub_core.specs.declared.worker_seat.WorkerSeat.{WorkerSeat}
 
--- its seats are those of its hub, and its traffic has come from its start by giving their rows and by being brought what they polled
-pub record IsServing {T : Type 0} (Came : History T) (s : CallingThread T) : Type 0 where
-  pub lanes : Serves s.hub.now s.lanes.items s.held
-  pub deliverer : IsDelivererOf s.hub.now s.deliverer
-  pub own : IfSome s.own (IsWorkerOf s.hub.now)
-  pub came : Came s.start.value s.traffic.value (given_to s.lanes.items s.held) (polled_by_each s.lanes.items)
+-- these are seats of the hub, and the traffic has come from its start by giving their rows and by being brought what they polled
+pub record CameBySeats {T : Type 0} (Came : History T) (h : Hub) (seats : List LaneSeat) (d : DelivererSeat) (w : Option WorkerSeat)
+    (held : Option (ℕ × List ℕ)) (start now : T) : Type 0 where
+  pub lanes : AreOwnSeats h seats held
+  pub deliverer : IsDelivererOf h d
+  pub own : IfSome w (IsWorkerOf h)
+  pub came : Came start now (given_to seats held) (polled_by_each seats)
+
+-- so has the traffic of this thread, by its seats
+abbrev pub IsServing : {T : Type 0} → History T → CallingThread T → Type 0
+IsServing came s = CameBySeats came s.hub.now s.lanes.items s.deliverer s.own s.held s.start.value s.traffic.value
 
 -- it serves the same traffic by the same hub, with as many seats
 pub record GoesOn {T : Type 0} (Came : History T) (s t : CallingThread T) : Type 0 where
@@ -30,7 +40,7 @@ pub record KeepsSeats {T : Type 0} (s t : CallingThread T) : Type 0 where
   pub hub : t.hub.now ≡ s.hub.now
   pub start : t.start.value ≡ s.start.value
   pub seats : length (option_to_list t.own) ≡ length (option_to_list s.own)
-  pub lanes : Serves t.hub.now t.lanes.items t.held
+  pub lanes : AreOwnSeats t.hub.now t.lanes.items t.held
   pub deliverer : IsDelivererOf t.hub.now t.deliverer
   pub own : IfSome t.own (IsWorkerOf t.hub.now)
 
@@ -51,23 +61,46 @@ pub record HasLost {T : Type 0} (Came : History T) (Leaves : T → T → Type 0)
 abbrev pub HasAllBack : {T : Type 0} → CallingThread T → Type 0
 HasAllBack s = HavePolledAll s.lanes.items × (s.held ≡ None)
 
+-- and its traffic gives nothing more
+abbrev pub IsAtEnd : {T : Type 0} → (T → Bool) → CallingThread T → Type 0
+IsAtEnd has_ended s = (has_ended s.traffic.value ≡ true) × HasAllBack s
+
 -- by these lanes' seats the traffic has come from its start so far; at a regular end it gives nothing more, and all has come back
 pub record WasServed {T W B : Type 0} (Came : History T) (has_ended : T → Bool) (h : Hub) (start now : T)
     (lanes : List LaneSeat) (ended : Ended W B) : Type 0 where
   pub held : Option (ℕ × List ℕ)
-  pub serves : Serves h lanes held
+  pub serves : AreOwnSeats h lanes held
   pub came : Came start now (given_to lanes held) (polled_by_each lanes)
   pub done : ended ≡ Done → (has_ended now ≡ true) × HavePolledAll lanes × (held ≡ None)
 
--- all seats of a hub: of the workers' one may be apart, and there is room for it
+-- all workers' seats of a hub, of which one may be apart, and there is room for it
+pub record AreWorkers (h : Hub) (workers : Vec WorkerSeat Global) (apart : Option WorkerSeat) : Type 0 where
+  pub are : All (IsWorkerOf h) workers.items
+  pub own : IfSome apart (IsWorkerOf h)
+  pub count : vec_len workers + length (option_to_list apart) ≡ (shape_of h).workers
+  pub room : vec_len workers + length (option_to_list apart) ≤ vec_capacity workers
+
+-- all seats of a hub
 pub record AreSeats (h : Hub) (s : Seats) (held : Option (ℕ × List ℕ)) : Type 0 where
-  pub serves : Serves h s.lanes.items held
-  pub workers_are : All (IsWorkerOf h) s.workers.items
-  pub own_is : IfSome s.own (IsWorkerOf h)
+  pub serves : AreOwnSeats h s.lanes.items held
+  pub workers : AreWorkers h s.workers s.own
   pub deliverer : IsDelivererOf h s.deliverer
-  pub count : vec_len s.workers + length (option_to_list s.own) ≡ (shape_of h).workers
-  pub room : vec_len s.workers + length (option_to_list s.own) ≤ vec_capacity s.workers
 
 -- all seats came back, and the traffic was brought the first of what their lanes have polled, and is what its `bring` left then
 abbrev pub AreLeftLost : {T : Type 0} → History T → (T → T → Type 0) → Hub → T → T → List LaneSeat → Type 0
-AreLeftLost came leaves h start now lanes = (held : Option (ℕ × List ℕ)) × Serves h lanes held × WasLost came leaves start now lanes held
+AreLeftLost came leaves h start now lanes = (held : Option (ℕ × List ℕ)) × AreOwnSeats h lanes held × WasLost came leaves start now lanes held
+
+-- what the calling thread leaves: its seats, by which the traffic was served
+pub record HasLeft {T W B : Type 0} (Came : History T) (Leaves : T → T → Type 0) (has_ended : T → Bool) (h : Hub) (own : Option WorkerSeat) (start : T)
+    (l : Left T) (ended : Ended W B) : Type 0 where
+  pub seats : IsDelivererOf h l.deliverer × IfSome l.own (IsWorkerOf h) × (length (option_to_list l.own) ≡ length (option_to_list own))
+  pub lanes : (held : Option (ℕ × List ℕ)) × AreOwnSeats h l.lanes.items held
+  pub served : IsKept ended → WasServed Came has_ended h start l.traffic.value l.lanes.items ended
+  pub lost : IfLost ended (AreLeftLost Came Leaves h start l.traffic.value l.lanes.items)
+
+-- all seats came back, and by them the traffic was served
+pub record HaveServed {T W B : Type 0} (Came : History T) (Leaves : T → T → Type 0) (has_ended : T → Bool) (h : Hub) (start now : T) (s : Seats)
+    (ended : Ended W B) : Type 0 where
+  pub seats : (held : Option (ℕ × List ℕ)) × AreSeats h s held
+  pub served : IsKept ended → WasServed Came has_ended h start now s.lanes.items ended
+  pub lost : IfLost ended (AreLeftLost Came Leaves h start now s.lanes.items)

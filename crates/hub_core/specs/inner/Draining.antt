@@ -6,6 +6,7 @@ use Rattle.lane_core.specs.Weights.{OneForOne}
 use Rattle.hub_core.specs.Delivering.{collected, buffer_of, hand_of}
 use Rattle.hub_core.specs.Lanes.{lane_of, numbers_of, received, submitted}
 use Rattle.hub_core.specs.Rings.{PushEnd, all_sent}
+use Rattle.hub_core.specs.inner.DrainedLists.{DrainsInto, Listed}
 use Rattle.hub_core.specs.inner.Workers.{jobs_in_hand}
 use Rattle.hub_core.specs.Workers.{posted, taken}
 use Rattle.hub_core.specs.declared.lane_seat.LaneSeat.{LaneSeat}
@@ -23,6 +24,10 @@ all_received h lanes = sum_by (λ s. sum_by h (received s)) lanes
 abbrev pub to_lanes : (Plain → ℕ) → List PushEnd → List ℕ → ℕ
 to_lanes h rings numbers = sum_by (λ l. sum_by h (slice_index_or (all_sent rings) l [])) numbers
 
+-- these deliveries are what is left in the rings of these lanes
+abbrev pub AreLeftInRings : List PushEnd → List LaneSeat → List Plain → Type 0
+AreLeftInRings rings lanes xs = (h : Plain → ℕ) → sum_by h xs + all_received h lanes ≡ to_lanes h rings (numbers_of lanes)
+
 -- what was found of all that the lanes had not polled: the jobs and the results of the queues, and all of it
 pub record Finds (ls : List LaneSeat) (ws : List WorkerSeat) (d : DelivererSeat) (queued_jobs queued_results found : List Plain) : Type 0 where
   pub jobs : OneForOne (flat_map submitted ls) (flat_map taken ws) queued_jobs
@@ -31,3 +36,7 @@ pub record Finds (ls : List LaneSeat) (ws : List WorkerSeat) (d : DelivererSeat)
   pub whole : (h : Plain → ℕ) → sum_by h found + all_received h ls
       ≡ ((((sum_by h queued_jobs + sum_by h (flat_map jobs_in_hand ws)) + sum_by h queued_results) + sum_by h (buffer_of d).waiting) + sum_by h (hand_of d)) +
       to_lanes h d.rings.items (numbers_of ls)
+
+-- all that was found went into the lists
+abbrev pub DrainsAll : List LaneSeat → List WorkerSeat → DelivererSeat → List Listed → List Listed → Type 0
+DrainsAll ls ws d old new = (jobs results found : List Plain) × Finds ls ws d jobs results found × DrainsInto old new found

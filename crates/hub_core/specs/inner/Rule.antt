@@ -1,9 +1,34 @@
 -- What types, private contracts and proofs name beside `Rule`.
-use Rattle.std.specs.Prelude.{◌≡◌, ◌+◌, ℕ, List}
-use Rattle.std.specs.List.{sum_by}
+use Rattle.std.specs.Prelude.{◌≡◌, ◌+◌, ◌-◌, ◌<◌, ◌++◌, ℕ, List, Option, length}
+use Rattle.std.specs.List.{flat_map, sum_by}
+use Rattle.crossbeam_queue.specs.Passes.{IsPassOf, Pass, view}
+use Rattle.crossbeam_queue.specs.declared.array_queue.Doing.{Doing}
+use Rattle.crossbeam_queue.specs.declared.array_queue.Slotted.{Slotted}
 use Rattle.lane_core.specs.declared.job.Plain.{Plain}
+use Rattle.hub_core.specs.Passes.{shares_of}
+use Rattle.hub_core.specs.Rule.{trace}
 use Rattle.hub_core.specs.declared.rule.Trace.{Trace}
 
 -- what the pass with all shares learns of its queue
 abbrev pub IsAccounted : Trace → List Plain → Type 0
 IsAccounted v items = (h : Plain → ℕ) → sum_by h v.pushed ≡ sum_by h v.popped + sum_by h items
+
+-- a pass of this queue that has more than n shares
+abbrev pub HasShares : {T Q A : Type 0} → Slotted (Option T) (Doing T Trace) Q A → ℕ → Pass T Trace → Type 0
+HasShares q n p = IsPassOf q p × (n < shares_of p)
+
+-- so many shares were cut off the pass
+abbrev pub IsCut : ℕ → Trace → Trace → Type 0
+IsCut n v w = w ≡ trace (v.shares - n) v.pushed v.popped
+
+-- it is a pass of this queue still, off which so many shares were cut
+abbrev pub CutsOff : {T Q A : Type 0} → Slotted (Option T) (Doing T Trace) Q A → ℕ → Pass T Trace → Pass T Trace → Type 0
+CutsOff q n old new = IsPassOf q new × IsCut n (view old) (view new)
+
+-- the pass was joined with a pass of each of these, which had one share and had pushed so much
+abbrev pub JoinsPushes : {X : Type 0} → (X → List Plain) → List X → Trace → Trace → Type 0
+JoinsPushes pushed xs v w = w ≡ trace (v.shares + length xs) (v.pushed ++ flat_map pushed xs) v.popped
+
+-- the pass was joined with a pass of each of these, which had one share and had popped so much
+abbrev pub JoinsPops : {X : Type 0} → (X → List Plain) → List X → Trace → Trace → Type 0
+JoinsPops popped xs v w = w ≡ trace (v.shares + length xs) v.pushed (v.popped ++ flat_map popped xs)

@@ -1,8 +1,6 @@
-use Rattle.std.proofs.Common.{◌≡◌, ◌+◌, ◌++◌, length}
 use Rattle.std.specs.List.{flat_map}
 use Rattle.crossbeam_queue.specs.Passes.{view, IsPassOf}
-use Rattle.hub_core.specs.Rule.{trace}
-use Rattle.hub_core.specs.Passes.{shares_of, pushed_by, popped_by}
+use Rattle.hub_core.specs.inner.Rule.{JoinsPops, JoinsPushes}
 use Rattle.hub_core.specs.inner.Workers.{jobs_in_hand}
 use Rattle.hub_core.specs.Workers.{posted, taken}
 use Rattle.hub_core.specs.inner.DrainedLists.{DrainsInto}
@@ -14,9 +12,7 @@ invariant-loop-seat l = record {
   ends : (goal.iterator-loop-seat).is_finite l.seat-iterator;
   same_jobs : IsPassOf l.hub.jobs l.all_jobs;
   same_results : IsPassOf l.hub.results l.all_results;
-  jobs : view l.all_jobs ≡ trace (shares_of l.initial.all_jobs + length l.yielded) (pushed_by l.initial.all_jobs)
-      (popped_by l.initial.all_jobs ++ flat_map taken l.yielded);
-  results : view l.all_results ≡ trace (shares_of l.initial.all_results + length l.yielded) (pushed_by l.initial.all_results ++ flat_map posted l.yielded)
-      (popped_by l.initial.all_results);
+  jobs : JoinsPops taken l.yielded (view l.initial.all_jobs) (view l.all_jobs);
+  results : JoinsPushes posted l.yielded (view l.initial.all_results) (view l.all_results);
   drained : DrainsInto l.initial.lists.items l.lists.items (flat_map jobs_in_hand l.yielded);
 }

@@ -5,10 +5,12 @@ use Rattle.crossbeam_queue.specs.Passes.{view}
 use Rattle.hub_core.specs.declared.lane_seat.LaneSeat.{LaneSeat}
 use Rattle.hub_core.specs.declared.rule.Trace.{Trace}
 use Rattle.hub_core.specs.inner.Fresh.{IsPairedIn}
-use Rattle.hub_core.specs.Lanes.{lane_of}
+use Rattle.hub_core.specs.Lanes.{lane_of, submitted}
 use Rattle.hub_core.specs.inner.Draining.{AreFromFirst}
+use Rattle.hub_core.specs.inner.Rule.{JoinsPushes}
+use Rattle.hub_core.proofs.DrainFacts.{pushes_more}
 use Rattle.hub_core.proofs.DrainedFacts.{drained_none}
-use Rattle.hub_core.proofs.RingsAreDrained.{HasJobs, RingDrained, ends_more, ends_same, from_first, lane_jobs, none_left, pair_now, ring_drained, sent_now}
+use Rattle.hub_core.proofs.RingsAreDrained.{RingDrained, ends_more, ends_same, from_first, none_left, pair_now, ring_drained, sent_now}
 use Rattle.hub_core.proofs.RingFacts.{sent_same}
 use Rattle.hub_core.proofs.RuleFacts.{merges}
 use Rattle.hub_core.proofs.drain.place_rings.Goals as goal
@@ -56,9 +58,9 @@ loop-closed-preserved c =
       same = search rules;
       all = append_assoc c.loop-closed.yielded (c.in-Some.closed ∷ []) _ ∙ (ap (λ l. c.loop-closed.yielded ++ l) (sym c.in-Some.ensures.steps.0) ∙ inv.all);
       left = All-rest (IsPairedIn rings) c.in-Some.closed c.next.new.self.rest.items _ c.in-Some.ensures.steps.0 inv.left;
-      jobs = subst (λ (s : LaneSeat). HasJobs (view c.args.all_jobs.now) (view c.absorb.new.pass) (c.loop-closed.yielded ++ s ∷ [])) is
-          (lane_jobs (view c.args.all_jobs.now) (view c.loop-closed.all_jobs) (view c.absorb.new.pass) c.loop-closed.yielded seat inv.jobs
-          c.absorb.ensures.rule);
+      jobs = subst (λ (s : LaneSeat). JoinsPushes submitted (c.loop-closed.yielded ++ s ∷ []) (view c.args.all_jobs.now) (view c.absorb.new.pass)) is
+          (pushes_more submitted (view c.args.all_jobs.now) (view c.loop-closed.all_jobs) (view c.absorb.new.pass) (view seat.pass) c.loop-closed.yielded seat
+          seat.share seat.pushes_only refl inv.jobs c.absorb.ensures.rule);
       rings = ends_more rings now (lane_of seat) ring c.place_rest.new.producer inv.rings c.index_mut.ensures.value low rest.same.0;
       sent = sent_same now (lane_of seat) ring c.place_rest.new.producer c.index_mut.ensures.value low rest.same.1 ∙ inv.sent;
       drained = subst (λ (s : LaneSeat). RingDrained c.args.lists.now.items c.place_rest.new.lists.items rings (c.loop-closed.yielded ++ s ∷ [])) is

@@ -1,15 +1,14 @@
-use Rattle.std.proofs.Common.{◌≡◌, ◌+◌, ◌++◌, ℕ, List, length}
-use Rattle.std.specs.List.{All, flat_map, sum_by}
+use Rattle.std.proofs.Common.{◌≡◌, ◌+◌, ◌++◌, ℕ, List}
+use Rattle.std.specs.List.{All, sum_by}
 use Rattle.std.specs.Vec.Iter.{into_iter_items}
 use Rattle.crossbeam_queue.specs.Passes.{view, IsPassOf}
 use Rattle.lane_core.specs.declared.job.Plain.{Plain}
 use Rattle.hub_core.specs.inner.DrainedLists.{DrainsInto}
 use Rattle.hub_core.specs.inner.Fresh.{IsPairedIn}
 use Rattle.hub_core.specs.Lanes.{numbers_of, submitted}
-use Rattle.hub_core.specs.Passes.{shares_of, pushed_by, popped_by}
 use Rattle.hub_core.specs.inner.Draining.{AreFromFirst, all_received, to_lanes}
 use Rattle.hub_core.specs.Rings.{all_sent}
-use Rattle.hub_core.specs.Rule.{trace}
+use Rattle.hub_core.specs.inner.Rule.{JoinsPushes}
 use Rattle.hub_core.proofs.RingsAreDrained.{AreSameEnds}
 use Rattle.hub_core.proofs.drain.place_rings.Given as goal
 
@@ -20,8 +19,7 @@ invariant-loop-closed l = record {
   same : IsPassOf l.hub.jobs l.all_jobs;
   all : l.yielded ++ into_iter_items l.closed-iterator ≡ into_iter_items l.initial.closed-iterator;
   left : All (IsPairedIn l.initial.rings.items) (into_iter_items l.closed-iterator);
-  jobs : view l.all_jobs ≡ trace (shares_of l.initial.all_jobs + length l.yielded) (pushed_by l.initial.all_jobs ++ flat_map submitted l.yielded)
-      (popped_by l.initial.all_jobs);
+  jobs : JoinsPushes submitted l.yielded (view l.initial.all_jobs) (view l.all_jobs);
   rings : AreSameEnds l.initial.rings.items l.rings.items;
   sent : all_sent l.rings.items ≡ all_sent l.initial.rings.items;
   drained : (xs : List Plain) × DrainsInto l.initial.lists.items l.lists.items xs

@@ -47,10 +47,7 @@ returns-in_err-seats c =
     let e = c.from_residual.ensures.0 in
     record {
       left = IfOk-from_err r _ e;
-      lanes = IfOk-from_err r _ e;
-      seats = IfOk-from_err r _ e;
-      rings = IfOk-from_err r _ e;
-      paired = IfOk-from_err r _ e;
+      made = IfOk-from_err r _ e;
     }
 
 pub returns-in_err-rings : goal.returns-in_err-rings
@@ -59,10 +56,7 @@ returns-in_err-rings c =
     let e = c.from_residual-in_err-rings.ensures.0 in
     record {
       left = IfOk-from_err r _ e;
-      lanes = IfOk-from_err r _ e;
-      seats = IfOk-from_err r _ e;
-      rings = IfOk-from_err r _ e;
-      paired = IfOk-from_err r _ e;
+      made = IfOk-from_err r _ e;
     }
 
 pub returns-in_err-producer : goal.returns-in_err-producer
@@ -71,10 +65,7 @@ returns-in_err-producer c =
     let e = c.from_residual-in_err-producer.ensures.0 in
     record {
       left = IfOk-from_err r _ e;
-      lanes = IfOk-from_err r _ e;
-      seats = IfOk-from_err r _ e;
-      rings = IfOk-from_err r _ e;
-      paired = IfOk-from_err r _ e;
+      made = IfOk-from_err r _ e;
     }
 
 pub another-pass-requires-clause-queue : goal.another-pass-requires-clause-queue
@@ -87,8 +78,10 @@ returns c =
     let all : c.loop-lane.lane ≡ c.args.count = omega (arith, c.loop-lane-test.false, c.loop-lane.auto.lane-end) in
     record {
       left = (inv.of_jobs, inv.left ∙ ap (λ k. trace (shares_of c.args.all_jobs.now - k) was.pushed was.popped) all);
-      lanes = inv.lanes ∙ ap (range_with_len 0) all;
-      seats = inv.seats;
-      rings = (inv.count ∙ all, inv.unsent);
-      paired = inv.paired;
+      made = record {
+        numbers = inv.lanes ∙ ap (range_with_len 0) all;
+        seats = inv.seats;
+        rings = (inv.count ∙ all, inv.unsent);
+        paired = inv.paired;
+      };
     }

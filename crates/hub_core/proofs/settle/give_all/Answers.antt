@@ -20,12 +20,14 @@ returns g c =
     record {
       counted = c.sort_all.ensures.0 ∙ p.4.counted;
       settled = settled c.args.hub.now ls _ rows;
-      state = (
-        state_of c.args.hub.now ls ws d p.0 p.1,
-        stands_for c.args.hub.now ls ws d p.0 p.1 p.2 c.requires.seats p.3 whole,
-        c.lost_is_none.ensures
-            (state_of c.args.hub.now ls ws d p.0 p.1) (nothing_lost c.args.hub.now ls ws d p.0 p.1 whole),
-      );
-      none_dropped = all_polled ls ws d p.0 p.1 whole;
-      none_aside = whole.aside;
+      whole = record {
+        state = (
+          state_of c.args.hub.now ls ws d p.0 p.1,
+          stands_for c.args.hub.now ls ws d p.0 p.1 p.2 c.requires.seats p.3 whole,
+          c.lost_is_none.ensures
+              (state_of c.args.hub.now ls ws d p.0 p.1) (nothing_lost c.args.hub.now ls ws d p.0 p.1 whole),
+        );
+        none_dropped = all_polled ls ws d p.0 p.1 whole;
+        none_aside = whole.aside;
+      };
     }

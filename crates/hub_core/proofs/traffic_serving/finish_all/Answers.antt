@@ -21,10 +21,10 @@ finish-requires g c =
     let closed = c.close_all-closed.ensures in
     record {
       lanes = subst (All (IsLaneOf hub)) (sym closed) is.serves.lanes;
-      workers = c.put_back.ensures.seats;
+      workers = c.put_back.ensures.are;
       deliverer = is.deliverer;
       each_lane = has_each (shape_of hub).lanes _ (ap numbers_of closed ∙ is.serves.numbers);
-      each_worker = omega (arith, c.put_back.ensures.count, c.put_back.new.workers.ok.0, is.count);
+      each_worker = omega (arith, c.put_back.ensures.count, c.put_back.new.workers.ok.0);
     }
 
 pub returns : goal.returns

@@ -5,13 +5,7 @@ use Rattle.hub_core.proofs.feeds.Feeds.take.Goals as goal
 
 pub returns-in-None-clause-left : goal.returns-in-None-clause-left
 returns-in-None-clause-left c = λ none few.
-    let same : rests_of c.next_from.new.self ≡ rests_of c.args.self.now = c.next_from.ensures.none c.in-None.is in
+    let same : rests_of c.next_from.new.self ≡ rests_of c.args.self.now = c.next_from.ensures.row.none c.in-None.is in
     let long = ap length same in
     all_left (rests_of c.args.self.now) (λ l low. subst (λ rests. get_or rests l [] ≡ []) same
     (c.next_from-in-None.ensures.left none l (omega arith) (omega (arith, few, low)) (omega (arith, low, long))))
-
-pub returns-in-Some-clause-some : goal.returns-in-Some-clause-some
-returns-in-Some-clause-some c = c.in-Some.ensures.some
-
-pub returns-in-Some-clause-given : goal.returns-in-Some-clause-given
-returns-in-Some-clause-given c = c.in-Some.ensures.given

@@ -33,11 +33,13 @@ returns g c =
     ) in
     record {
       polled = polled_first h ls first;
-      state = (
-        state_of h ls ws d p.0 p.1,
-        stands_for h ls ws d p.0 p.1 p.2 c.requires p.3 whole,
-        c.lost_is_none.ensures (state_of h ls ws d p.0 p.1) (nothing_lost h ls ws d p.0 p.1 whole),
-      );
-      none_dropped = all_polled ls ws d p.0 p.1 whole;
-      none_aside = whole.aside;
+      whole = record {
+        state = (
+          state_of h ls ws d p.0 p.1,
+          stands_for h ls ws d p.0 p.1 p.2 c.requires p.3 whole,
+          c.lost_is_none.ensures (state_of h ls ws d p.0 p.1) (nothing_lost h ls ws d p.0 p.1 whole),
+        );
+        none_dropped = all_polled ls ws d p.0 p.1 whole;
+        none_aside = whole.aside;
+      };
     }

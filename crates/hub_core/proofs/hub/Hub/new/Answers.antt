@@ -19,69 +19,59 @@ invariant_of-deliverer g c =
       shares = (j.2, r.2);
       collects_only = r.0;
       accounted = fresh_accounted c.from.result c.from-capacity.result c.in_ok-lanes.rings.items c.in_ok-deliverer.deliverer _ c.in_ok-deliverer.ensures
-          (c.in_ok-lanes.ensures.rings.0 ∙ sym c.from.ensures) c.in_ok-lanes.ensures.rings.1 r.1;
+          (c.in_ok-lanes.ensures.made.rings.0 ∙ sym c.from.ensures) c.in_ok-lanes.ensures.made.rings.1 r.1;
     }
 
-pub returns-clause-seats : goal.returns-clause-seats
-returns-clause-seats g c =
+pub returns-clause-new : goal.returns-clause-new
+returns-clause-new g c =
     let few = small c.args.shape (sym c.is_allowed.ensures ∙ c.if-not-is_allowed.false) in
     let j = left_of_jobs _ _ _ c.args.shape.lanes c.args.shape.workers few.0 few.1 c.in_ok-jobs.ensures.3 c.in_ok-lanes.ensures.left.1
     c.in_ok-workers.ensures.jobs.1 in
     let r = left_of_results _ _ c.args.shape.workers few.1 c.in_ok-results.ensures.3 c.in_ok-workers.ensures.results.1 in
-    let rings = c.in_ok-lanes.ensures.rings in
+    let rings = c.in_ok-lanes.ensures.made.rings in
     let made = ap (λ v. v.items) c.of.ensures in
     record {
-      lanes = λ k d less.
-          let p = c.in_ok-lanes.ensures.seats k d less in
-          let q = c.in_ok-lanes.ensures.paired k d less in
-          record {
-            pass = p.0;
-            ring = ring_of _ c.in_ok-lanes.rings.items (get_or c.in_ok-lanes.lanes.items k d) made q;
-            lane = omega (arith, q.0, rings.0);
-            limit = (let n = ap length p.1.0 in omega arith);
-            rows = no_rows _ c.args.year _ p.1.0;
-          };
-      workers = λ k d less. let p = c.in_ok-workers.ensures.seats k d less in record { takes = p.0; posts = p.1 };
-      deliverer = record {
-        jobs = c.in_ok-workers.ensures.jobs.0;
-        results = c.in_ok-workers.ensures.results.0;
-        rings = same_ends _ c.in_ok-lanes.rings.items made;
-        lanes = ap (λ (e : ReorderBuffer). length e.nexts) c.in_ok-deliverer.ensures ∙ (length-replicate c.from.result 0 ∙ c.from.ensures);
-        shares_of_jobs = j.3;
-        shares_of_results = r.3;
+      shape = refl;
+      year = refl;
+      seen = fresh_lanes c.in_ok-lanes.lanes.items (λ k d less. (c.in_ok-lanes.ensures.made.seats k d less).1)
+          ∙ ap (map new_lane) c.in_ok-lanes.ensures.made.numbers;
+      lanes = c.in_ok-lanes.ensures.made.numbers;
+      seats = record {
+        lanes = λ k d less.
+            let p = c.in_ok-lanes.ensures.made.seats k d less in
+            let q = c.in_ok-lanes.ensures.made.paired k d less in
+            record {
+              pass = p.0;
+              ring = ring_of _ c.in_ok-lanes.rings.items (get_or c.in_ok-lanes.lanes.items k d) made q;
+              lane = omega (arith, q.0, rings.0);
+              limit = (let n = ap length p.1.0 in omega arith);
+              rows = no_rows _ c.args.year _ p.1.0;
+            };
+        workers = λ k d less. let p = c.in_ok-workers.ensures.seats k d less in record { takes = p.0; posts = p.1 };
+        deliverer = record {
+          jobs = c.in_ok-workers.ensures.jobs.0;
+          results = c.in_ok-workers.ensures.results.0;
+          rings = same_ends _ c.in_ok-lanes.rings.items made;
+          lanes = ap (λ (e : ReorderBuffer). length e.nexts) c.in_ok-deliverer.ensures ∙ (length-replicate c.from.result 0 ∙ c.from.ensures);
+          shares_of_jobs = j.3;
+          shares_of_results = r.3;
+        };
+        each_lane = has_each c.args.shape.lanes _ c.in_ok-lanes.ensures.made.numbers;
+        each_worker = c.in_ok-workers.ensures.count;
       };
-      each_lane = has_each c.args.shape.lanes _ c.in_ok-lanes.ensures.lanes;
-      each_worker = c.in_ok-workers.ensures.count;
+      unused = record {
+        lanes = λ k d less. (c.in_ok-lanes.ensures.made.seats k d less).1;
+        workers = λ k d less. (c.in_ok-workers.ensures.seats k d less).2;
+        none_collected = r.1;
+        empty_hand = refl;
+        none_handed = λ l. given_none c.from-capacity.result c.in_ok-lanes.rings.items l c.in_ok-lanes.ensures.made.rings.1;
+      };
+      capacity = record {
+        jobs = c.in_ok-jobs.ensures.0 ∙ c.from-capacity.ensures;
+        results = c.in_ok-results.ensures.0 ∙ c.from-capacity.ensures;
+        rings = λ k d less. (c.in_ok-lanes.ensures.made.rings.1 k d less).1 ∙ c.from-capacity.ensures;
+      };
     }
-
-pub returns-clause-unused : goal.returns-clause-unused
-returns-clause-unused g c =
-    let few = small c.args.shape (sym c.is_allowed.ensures ∙ c.if-not-is_allowed.false) in
-    let r = left_of_results _ _ c.args.shape.workers few.1 c.in_ok-results.ensures.3 c.in_ok-workers.ensures.results.1 in
-    record {
-      lanes = λ k d less. (c.in_ok-lanes.ensures.seats k d less).1;
-      workers = λ k d less. (c.in_ok-workers.ensures.seats k d less).2;
-      none_collected = r.1;
-      empty_hand = refl;
-      none_handed = λ l. given_none c.from-capacity.result c.in_ok-lanes.rings.items l c.in_ok-lanes.ensures.rings.1;
-    }
-
-pub returns-clause-seen : goal.returns-clause-seen
-returns-clause-seen g c = fresh_lanes c.in_ok-lanes.lanes.items (λ k d less. (c.in_ok-lanes.ensures.seats k d less).1)
-    ∙ ap (map new_lane) c.in_ok-lanes.ensures.lanes
-
-pub returns-clause-capacity : goal.returns-clause-capacity
-returns-clause-capacity g c = record {
-  jobs = c.in_ok-jobs.ensures.0 ∙ c.from-capacity.ensures;
-  results = c.in_ok-results.ensures.0 ∙ c.from-capacity.ensures;
-  rings = λ k d less. (c.in_ok-lanes.ensures.rings.1 k d less).1 ∙ c.from-capacity.ensures;
-}
-
-pub returns-clause-lanes : goal.returns-clause-lanes
-returns-clause-lanes g c = c.in_ok-lanes.ensures.lanes
-
-pub returns-clause-shape : goal.returns-clause-shape
-returns-clause-shape g c = (refl, refl)
 
 pub returns-in_err-jobs : goal.returns-in_err-jobs
 returns-in_err-jobs g c =
@@ -89,12 +79,7 @@ returns-in_err-jobs g c =
     let e = c.from_residual.ensures in
     record {
       refused = never (sym c.is_allowed.ensures ∙ c.if-not-is_allowed.false) (no_hub r e.1);
-      shape = IfOk-from_err r _ e.0;
-      seen = IfOk-from_err r _ e.0;
-      lanes = IfOk-from_err r _ e.0;
-      seats = IfOk-from_err r _ e.0;
-      unused = IfOk-from_err r _ e.0;
-      capacity = IfOk-from_err r _ e.0;
+      new = IfOk-from_err r _ e.0;
     }
 
 pub returns-in_err-results : goal.returns-in_err-results
@@ -103,12 +88,7 @@ returns-in_err-results g c =
     let e = c.from_residual-in_err-results.ensures in
     record {
       refused = never (sym c.is_allowed.ensures ∙ c.if-not-is_allowed.false) (no_hub r e.1);
-      shape = IfOk-from_err r _ e.0;
-      seen = IfOk-from_err r _ e.0;
-      lanes = IfOk-from_err r _ e.0;
-      seats = IfOk-from_err r _ e.0;
-      unused = IfOk-from_err r _ e.0;
-      capacity = IfOk-from_err r _ e.0;
+      new = IfOk-from_err r _ e.0;
     }
 
 pub returns-in_err-lanes : goal.returns-in_err-lanes
@@ -117,12 +97,7 @@ returns-in_err-lanes g c =
     let e = c.from_residual-in_err-lanes.ensures in
     record {
       refused = never (sym c.is_allowed.ensures ∙ c.if-not-is_allowed.false) (no_hub r e.1);
-      shape = IfOk-from_err r _ e.0;
-      seen = IfOk-from_err r _ e.0;
-      lanes = IfOk-from_err r _ e.0;
-      seats = IfOk-from_err r _ e.0;
-      unused = IfOk-from_err r _ e.0;
-      capacity = IfOk-from_err r _ e.0;
+      new = IfOk-from_err r _ e.0;
     }
 
 pub returns-in_err-workers : goal.returns-in_err-workers
@@ -131,12 +106,7 @@ returns-in_err-workers g c =
     let e = c.from_residual-in_err-workers.ensures in
     record {
       refused = never (sym c.is_allowed.ensures ∙ c.if-not-is_allowed.false) (no_hub r e.1);
-      shape = IfOk-from_err r _ e.0;
-      seen = IfOk-from_err r _ e.0;
-      lanes = IfOk-from_err r _ e.0;
-      seats = IfOk-from_err r _ e.0;
-      unused = IfOk-from_err r _ e.0;
-      capacity = IfOk-from_err r _ e.0;
+      new = IfOk-from_err r _ e.0;
     }
 
 pub returns-in_err-deliverer : goal.returns-in_err-deliverer
@@ -145,12 +115,7 @@ returns-in_err-deliverer g c =
     let e = c.from_residual-in_err-deliverer.ensures in
     record {
       refused = never (sym c.is_allowed.ensures ∙ c.if-not-is_allowed.false) (no_hub r e.1);
-      shape = IfOk-from_err r _ e.0;
-      seen = IfOk-from_err r _ e.0;
-      lanes = IfOk-from_err r _ e.0;
-      seats = IfOk-from_err r _ e.0;
-      unused = IfOk-from_err r _ e.0;
-      capacity = IfOk-from_err r _ e.0;
+      new = IfOk-from_err r _ e.0;
     }
 
 pub returns-clause-refused : goal.returns-clause-refused

@@ -5,9 +5,9 @@ use Rattle.hub_core.proofs.serving.ListedRowsTraffic.next.Goals as goal
 
 pub returns-clause-some : goal.returns-clause-some
 returns-clause-some c =
-    IfSome_then c.take.result c.take.ensures.given
+    IfSome_then c.take.result c.take.ensures.row.given
     (λ r more start given brought was. let both = more (rests_of start.feeds) given was.0 in (both.0, (both.1, was.1)))
 
 pub returns-clause-none : goal.returns-clause-none
 returns-clause-none c = λ none start given brought was.
-    (subst (AreGiven (rests_of start.feeds) given) (sym (c.take.ensures.none none)) was.0, was.1)
+    (subst (AreGiven (rests_of start.feeds) given) (sym (c.take.ensures.row.none none)) was.0, was.1)

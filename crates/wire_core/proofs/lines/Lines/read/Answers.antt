@@ -3,7 +3,7 @@ use Rattle.std.proofs.lemmas.Bool.{eqb-true}
 use Rattle.wire_core.specs.Lines.{Held, arrived, is_too_long}
 use Rattle.wire_core.proofs.lines.Lines.read.Goals as goal
 
--- what is held after a read of so many bytes
+-- what is held after a read of this many bytes
 held_after : (h : Held) (cut : Bool) (kept more now : List ℕ) (count : ℕ) → cut ≡ is_too_long h → kept ≡ (if cut then [] else h.rest)
     → now ≡ kept ++ more → length more ≡ count → record { rest = now; is_cut = cut; has_ended = count == 0 } ≡ arrived h more
 held_after h cut kept more now count c k n l = rw (n, k, c, ← l) refl

@@ -1,6 +1,6 @@
 use Rattle.std.proofs.Common.{◌∙◌, IfSome, ap, length, option_to_list, subst}
 use Rattle.hub_core.specs.Hubs.{IsDelivererOf, IsWorkerOf}
-use Rattle.hub_core.specs.inner.Traffics.{Serves, given_to, polled_by_each}
+use Rattle.hub_core.specs.inner.Traffics.{AreOwnSeats, given_to, polled_by_each}
 use Rattle.hub_core.proofs.TrafficFacts.{if_lost, left_lost}
 use Rattle.hub_core.proofs.traffic_serving.fn.serve_seats.task.Goals as goal
 
@@ -11,7 +11,7 @@ returns g c =
     let start = c.new-thread.ensures.start in
     let keeps = run.seats in
     let hub = keeps.hub ∙ start.0 in
-    let serves = subst (λ h. Serves h t.lanes.items t.held) hub keeps.lanes in
+    let serves = subst (λ h. AreOwnSeats h t.lanes.items t.held) hub keeps.lanes in
     record {
       seats = (
         subst (λ h. IsDelivererOf h t.deliverer) hub keeps.deliverer,
