@@ -12,7 +12,8 @@ mod remedies;
 use crate::help::write_help;
 use crate::patient::Patient;
 use crate::remedies::remedy;
-use command_core::{CommandFault, run_buffered, run_live};
+use command_line::{Asked, LiveOptions, WholeInput, WordsFault, read_words, sentence};
+use command_runs::{CommandFault, run_buffered, run_live};
 use digits_core::{FromReader, Sink, Source, ToWriter};
 use hub_core::OpenGate;
 use std::env::{self, Env};
@@ -22,10 +23,9 @@ use std::sync::Wait;
 use std::thread::Threads;
 use std::time::Clock;
 use wire_core::Wired;
-use words_core::{Asked, Batch, LiveOptions, WordsFault, read_words, sentence};
 
-/// The exit status of a command that has run. A refusal is told on standard error, at a terminal with what
-/// to do about it, and without one nothing is told, so that nothing fails.
+/// The exit status of a command that has run. A refusal is written to standard error, at a terminal with what
+/// to do about it.
 fn finish(rt: &impl Eprint, ran: Result<(), CommandFault>, terminal: bool) -> io::Result<ExitCode>
     ensures status { IfOk result (λ code. exit_status code ≡ status_of ran) }
     ensures quiet { OnOk ran (IsOk result) }
@@ -42,7 +42,7 @@ fn finish(rt: &impl Eprint, ran: Result<(), CommandFault>, terminal: bool) -> io
     }
 }
 
-/// The exit status where the words ask for no command. Help goes to the sink, and a refusal, of the words
+/// The exit status if the words ask for no command. Help goes to the sink, and a refusal, of the words
 /// or of the writing, is told on standard error.
 fn explain<W: Sink>(
     rt: &impl Eprint,
@@ -80,7 +80,7 @@ fn words_given<R: Env + AllocGlobal>(rt: &R) -> Result<Vec<String>, WordsFault> 
 /// Runs a command over a whole source, with a buffer before the sink.
 fn run_over<R: Threads + Wait + Sync + AllocGlobal, S: Source, W: Sink + Drop>(
     rt: &R,
-    batch: Batch,
+    batch: WholeInput,
     source: &mut S,
     sink: W,
 ) -> Result<(), CommandFault>
@@ -94,7 +94,7 @@ fn run_over<R: Threads + Wait + Sync + AllocGlobal, S: Source, W: Sink + Drop>(
 /// Runs a command over standard input as a whole, with buffers before it and before standard output.
 fn run_over_input<R: Threads + Wait + Sync + Clock + Input + Print + AllocGlobal>(
     rt: &R,
-    batch: Batch,
+    batch: WholeInput,
 ) -> Result<(), CommandFault> {
     let Ok(reader) = io::BufReader::new(rt.alloc(), Patient::new(rt, rt.reader())) else {
         return Err(CommandFault::NoMemory);

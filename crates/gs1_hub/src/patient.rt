@@ -1,4 +1,4 @@
-//! Readers and writers that wait where another program has set a pipe not to wait (`O_NONBLOCK`).
+//! Readers and writers that wait if another program has set a pipe not to wait (`O_NONBLOCK`).
 ghost use Rattle.std.specs.Prelude.{◌≡◌};
 ghost use Rattle.std.specs.Io.{ReadsAtMost, WritesAtMost};
 ghost use Rattle.std.specs.Io.KnownBytes.{ReadConsumes, WriteAppends};

@@ -1,5 +1,0 @@
-pub mod FeedCounts
-pub mod FeedsGrow
-pub mod PlainLines
-pub mod ReportFacts
-pub mod RowsAsRead

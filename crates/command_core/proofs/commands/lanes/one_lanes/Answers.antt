@@ -1,5 +1,0 @@
-use Rattle.command_core.proofs.OnceFacts.{one_lanes as law}
-use Rattle.command_core.proofs.commands.lanes.one_lanes.Goals as goal
-
-pub returns : goal.returns
-returns c = law c.row_or_fault.ensures c.one_answer.ensures

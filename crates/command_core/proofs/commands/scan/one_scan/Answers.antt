@@ -1,5 +1,0 @@
-use Rattle.command_core.proofs.ScannedFacts.{one_scan as law}
-use Rattle.command_core.proofs.commands.scan.one_scan.Goals as goal
-
-pub returns : goal.returns
-returns c = law c.scanned_once.ensures

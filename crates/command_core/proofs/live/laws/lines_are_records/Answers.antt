@@ -1,5 +1,0 @@
-use Rattle.command_core.proofs.live.CsvFacts.{lines_are_records}
-use Rattle.command_core.proofs.live.laws.lines_are_records.Goals as goal
-
-pub returns : goal.returns
-returns c = lines_are_records

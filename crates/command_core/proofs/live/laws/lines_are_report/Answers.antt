@@ -1,5 +1,0 @@
-use Rattle.command_core.proofs.live.ReorderFacts.{lines_are_report}
-use Rattle.command_core.proofs.live.laws.lines_are_report.Goals as goal
-
-pub returns : goal.returns
-returns c = lines_are_report

@@ -1,5 +1,0 @@
-use Rattle.command_core.proofs.PrintedFacts.{printed_answer as law}
-use Rattle.command_core.proofs.printed.printed_answer.Goals as goal
-
-pub returns : goal.returns
-returns c = law c.bar_rows_answer.ensures c.empty_cells_are_blank.ensures c.dots_make_row.ensures

@@ -1,5 +1,0 @@
-use Rattle.command_core.proofs.PrintedFacts.{scanned_once as law}
-use Rattle.command_core.proofs.printed.scanned_once.Goals as goal
-
-pub returns : goal.returns
-returns c = law c.dots_determine.ensures c.one_answer.ensures

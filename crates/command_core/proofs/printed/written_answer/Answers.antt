@@ -1,5 +1,0 @@
-use Rattle.command_core.proofs.PrintedFacts.{written_answer as law}
-use Rattle.command_core.proofs.printed.written_answer.Goals as goal
-
-pub returns : goal.returns
-returns c = law c.printed_answer.ensures c.scanned_once.ensures c.printed_is_read.ensures

@@ -1,0 +1,15 @@
+use Rattle.std.proofs.Common.{◌∷◌, [], List, codes}
+use Rattle.command_line.specs.Arguments.{ais_rule, flag_rule, lanes_rule, workers_rule, year_rule}
+use Rattle.command_line.proofs.Added.{Ruled, with_added}
+use Rattle.command_line.proofs.commands.live.live_words.Goals as goal
+
+pub returns-clause-app : goal.returns-clause-app
+returns-clause-app c =
+    let ruled : List Ruled =
+    (c.lane_count.result, lanes_rule, c.lane_count.ensures.rule, c.lane_count.ensures.own)
+    ∷ (c.workers.result, workers_rule, c.workers.ensures.rule, c.workers.ensures.own)
+    ∷ (c.year.result, year_rule, c.year.ensures.rule, c.year.ensures.own)
+    ∷ (c.ais.result, ais_rule c.args.choices, c.ais.ensures.rule, c.ais.ensures.own)
+    ∷ (c.flag.result, flag_rule (codes "elements"), c.flag.ensures.rule, c.flag.ensures.own)
+    ∷ [] in
+    with_added c.command.result _ ruled _ c.args-2.result c.args-2.ensures c.in_ok-options.ensures.items c.command.ensures.app

@@ -1,0 +1,18 @@
+//! The words of the command line: which command they ask for, with which numbers, and what is said where they ask for none.
+#![tactic(auto)]
+
+mod arguments;
+mod commands;
+mod grid_options;
+mod help;
+mod laws;
+mod words;
+
+pub use commands::lanes::options::LaneOptions;
+pub use commands::live::options::LiveOptions;
+pub use commands::print::options::{Output, PrintOptions};
+pub use commands::scan::options::ScanOptions;
+pub use commands::{Asked, WholeInput};
+pub use grid_options::GridOptions;
+pub use laws::taken_words_ask;
+pub use words::{WordsFault, read_words, sentence};

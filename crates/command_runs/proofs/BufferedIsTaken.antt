@@ -1,0 +1,39 @@
+-- What a sink has taken that stands behind a buffer, where both had taken nothing at first.
+use Rattle.std.proofs.Common.{◌++◌, ◌≡◌, ◌∙◌, Err, List, None, Ok, Option, Result, Some, [], ap, append_assoc, append-nil, refl, subst, sym, ℕ}
+use Rattle.std.specs.Prelude.{IfErr, IfSome, IsErrAnd}
+use Rattle.std.specs.Io.KnownBytes.{Keeps, append_known}
+use Rattle.digits_core.specs.Bytes.{TookFront}
+use Rattle.command_runs.specs.Runs.{Wrote}
+use Rattle.command_runs.specs.commands.{command_of}
+use Rattle.command_runs.specs.declared.fault.CommandFault.{CommandFault}
+use Rattle.command_runs.specs.declared.fault.CommandFault.TheVariants as command
+use Rattle.command_line.specs.declared.commands.WholeInput.{WholeInput}
+use Rattle.command_line.specs.declared.commands.WholeInput.TheVariants as batch
+
+-- it took a front, and the rest waits or did not come
+pub took_front : (a b c : Option (List ℕ)) (first last text : List ℕ) → IfSome a (λ bytes. bytes ≡ []) → first ≡ [] → TookFront (append_known a first) b text
+    → Keeps b (append_known c last) → TookFront a c text
+took_front None b c first last text fresh start front kept = ([], text, refl, tt)
+took_front (Some x) None c first last text fresh start front kept = absurd front.3
+took_front (Some x) (Some y) None first last text fresh start front kept = absurd kept
+took_front (Some x) (Some y) (Some z) first last text fresh start front kept =
+    let before : x ++ first ≡ [] = ap (λ l. x ++ l) start ∙ append-nil x ∙ fresh in
+    let here : z ++ last ≡ front.0 = kept ∙ front.3 ∙ ap (λ l. l ++ front.0) before in (
+      z,
+      last ++ front.1,
+      front.2 ∙ ap (λ l. l ++ front.1) (sym here) ∙ append_assoc z last front.1,
+      sym (ap (λ l. l ++ z) fresh),
+    )
+
+-- a command that writes may be refused by its writer
+pub may_fail : (a : WholeInput) (took : Option (List ℕ) → Option (List ℕ) → List ℕ → Type 0) (left rest before after : Option (List ℕ))
+    → Wrote (command_of a) took left rest before after → (command_of a).refuses left rest command.WriteFault
+may_fail (batch.Check year) took left rest before after wrote = tt
+may_fail (batch.Print o) took left rest before after wrote = (wrote.3.2.0, tt)
+may_fail (batch.Lanes o) took left rest before after wrote = tt
+may_fail (batch.Scan o) took left rest before after wrote = (wrote.3.1.0, tt)
+
+-- a failed write is refused as such
+pub refused_as : {X : Type 0} (r : Result X CommandFault) (fault : CommandFault) (P : CommandFault → Type 0) → IsErrAnd r (λ f. f ≡ fault) → P fault → IfErr r P
+refused_as (Ok x) fault P is p = tt
+refused_as (Err f) fault P is p = subst P (sym is) p

@@ -1,0 +1,44 @@
+-- The columns of sheets are short enough to be served.
+use Rattle.std.proofs.Common.{◌*◌, ◌+◌, ◌≡◌, ◌≤◌, ◌∷◌, [], List, arith, length, nat_le, refl, true, ℕ}
+use Rattle.std.specs.List.{AllZip, flat_map, range_with_len}
+use Rattle.std.proofs.lemmas.Bool.Decides.{nat_tests}
+use Rattle.std.proofs.lemmas.List.{length-append, length-map}
+use Rattle.std.proofs.lemmas.List.FromFn.{length-map-range_with_len, length-range_with_len}
+use Rattle.std.proofs.Math.Nat.{mul-le-mul_right}
+use Rattle.std.proofs.lemmas.Slice.Zip.{AllZip-long}
+use Rattle.sheet_core.specs.Bitmaps.{Bitmap}
+use Rattle.sheet_core.specs.Grids.{Cells}
+use Rattle.hub_core.specs.Serving.{are_short}
+use Rattle.command_runs.specs.Columns.{AreColumns, HaveDots, column_cells, column_dots}
+
+column_long : (g : Cells) (column : ℕ) (sheets : List Bitmap) → length (flat_map (column_dots g column) sheets) ≡ length sheets * g.rows
+column_long g column [] = omega arith
+column_long g column (s ∷ sheets) =
+    let here = length-append (column_dots g column s) (flat_map (column_dots g column) sheets) in
+    let cells : length (column_cells g column) ≡ g.rows = length-map-range_with_len (λ row. row * g.columns + column) 0 g.rows in
+    let dots : length (column_dots g column s) ≡ length (column_cells g column) = length-map (column_cells g column) _ in
+    omega (arith, here, cells, dots, column_long g column sheets)
+
+columns_short : (g : Cells) (sheets : List Bitmap) → length sheets * g.rows ≤ 4294967295 → (feeds : List (List (List ℕ))) (columns : List ℕ)
+    → AllZip (λ rows column. HaveDots rows (flat_map (column_dots g column) sheets)) feeds columns → are_short feeds ≡ true
+columns_short g sheets few [] [] h = refl
+columns_short g sheets few [] (c ∷ columns) h = absurd h
+columns_short g sheets few (rows ∷ feeds) [] h = absurd h
+columns_short g sheets few (rows ∷ feeds) (c ∷ columns) h =
+    let same = AllZip-long _ rows (flat_map (column_dots g c) sheets) h.0 in
+    let long = column_long g c sheets in
+    let low : nat_le (length rows) 4294967295 ≡ true = grind (arith, nat_tests) in
+    rw (low, columns_short g sheets few feeds columns h.1) refl
+
+-- the columns of at most 4,096 sheets are short enough to be served
+pub feeds_short : (g : Cells) (sheets : List Bitmap) (feeds : List (List (List ℕ))) → g.rows ≤ 64 → length sheets ≤ 4096 → AreColumns g sheets feeds
+    → are_short feeds ≡ true
+feeds_short g sheets feeds rows few are =
+    let most : length sheets * g.rows ≤ 4096 * g.rows = mul-le-mul_right g.rows few in
+    columns_short g sheets (omega (arith, most, rows)) feeds (range_with_len 0 g.columns) are
+
+-- and there is a feed for each column
+pub feeds_long : (g : Cells) (sheets : List Bitmap) (feeds : List (List (List ℕ))) → AreColumns g sheets feeds → length feeds ≡ g.columns
+feeds_long g sheets feeds are =
+    let same = AllZip-long _ feeds (range_with_len 0 g.columns) are in
+    omega (arith, same, length-range_with_len 0 g.columns)

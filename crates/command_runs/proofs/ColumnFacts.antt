@@ -1,0 +1,64 @@
+-- The rows of columns as they come.
+use Rattle.std.proofs.Common.{◌+◌, ◌++◌, ◌*◌, ◌/◌, ◌<◌, ◌≤◌, ◌==◌, ◌≡◌, ◌∙◌, ◌∷◌, Bool, Fits, List, [], ap, arith, map}
+use Rattle.std.proofs.Common.{true, w16, ℕ}
+use Rattle.std.proofs.lemmas.Bool.{and_parts, eqb-true}
+use Rattle.std.proofs.Math.Nat.{mul-le-mul_right}
+use Rattle.sheet_core.specs.Bitmaps.{Bitmap}
+use Rattle.sheet_core.specs.Grids.{Cells}
+use Rattle.std.specs.List.{flat_map, range_with_len}
+use Rattle.std.proofs.lemmas.List.{append-nil, map-append}
+use Rattle.std.proofs.lemmas.Grind.{flat_map-append}
+use Rattle.std.proofs.lemmas.List.FromFn.{map-range_with_len_more}
+use Rattle.scan_core.specs.Row.{IsRow, dots_of}
+use Rattle.command_runs.specs.Columns.{HaveDots, has_size}
+use Rattle.csv_records.proofs.Beside.{beside-append, zip_more}
+
+-- ---- the places of a column's cells
+
+pub ended : (row end rows : ℕ) → row ≤ end → end ≤ row → end ≡ rows → row ≡ rows
+ended row end rows low high is = omega arith
+
+pub half_low : (n d : ℕ) → 2 * d < n → n / 2 < n
+half_low n d least = omega arith
+
+few_cells : (columns rows : ℕ) → columns ≤ 16 → rows ≤ 64 → columns * rows ≤ 1024
+few_cells columns rows few low =
+    let most : columns * rows ≤ 16 * rows = mul-le-mul_right rows few in
+    omega (arith, most)
+
+pub fits_place : (row told column columns rows : ℕ) → told ≡ columns → row * columns + column < columns * rows → columns ≤ 16 → rows ≤ 64
+    → Fits w16 (row * told + column)
+fits_place row told column columns rows is low few most =
+    let bound : columns * rows ≤ 1024 = few_cells columns rows few most in
+    rw is (omega (arith, bound, low))
+
+pub fits_cell : (row told column columns rows : ℕ) → told ≡ columns → row * columns + column < columns * rows → columns ≤ 16 → rows ≤ 64
+    → Fits w16 (row * told)
+fits_cell row told column columns rows is low few most =
+    let bound : columns * rows ≤ 1024 = few_cells columns rows few most in
+    rw is (omega (arith, bound, low))
+
+-- a sheet of a grid's size
+pub size_of : (g : Cells) (s : Bitmap) → has_size g s ≡ true → (s.width ≡ g.columns * g.width) × (s.height ≡ g.rows * g.height)
+size_of g s size =
+    let both = and_parts (s.width == g.columns * g.width) (s.height == g.rows * g.height) size in
+    (eqb-true s.width (g.columns * g.width) both.0, eqb-true s.height (g.rows * g.height) both.1)
+
+-- ---- the rows of cells and sheets
+
+-- one more row of a sheet
+pub one_more_cell : (dots : ℕ → List Bool) (cell : ℕ → ℕ) (rows : List (List ℕ)) (n : ℕ) (runs : List ℕ)
+    → HaveDots rows (map dots (map cell (range_with_len 0 n))) → IsRow runs → dots_of runs ≡ dots (cell n)
+    → HaveDots (rows ++ runs ∷ []) (map dots (map cell (range_with_len 0 (n + 1))))
+one_more_cell dots cell rows n runs have is shown =
+    let longer : map dots (map cell (range_with_len 0 (n + 1))) ≡ map dots (map cell (range_with_len 0 n)) ++ dots (cell n) ∷ [] =
+    ap (map dots) (map-range_with_len_more cell 0 n n (omega arith)) ∙ map-append dots (map cell (range_with_len 0 n)) (cell n ∷ []) in
+    rw longer (zip_more _ rows (map dots (map cell (range_with_len 0 n))) runs (dots (cell n)) have (is, shown))
+
+-- the rows of one more sheet
+pub one_more_sheet : {S : Type 0} (dots : S → List (List Bool)) (sheets : List S) (s : S) (rows new more : List (List ℕ))
+    → HaveDots rows (flat_map dots sheets) → HaveDots more (dots s) → new ≡ rows ++ more → HaveDots new (flat_map dots (sheets ++ s ∷ []))
+one_more_sheet dots sheets s rows new more have added is =
+    let longer : flat_map dots (sheets ++ s ∷ []) ≡ flat_map dots sheets ++ dots s =
+    flat_map-append dots sheets (s ∷ []) ∙ ap (λ t. flat_map dots sheets ++ t) (append-nil (dots s)) in
+    rw (is, longer) (beside-append _ rows more (flat_map dots sheets) (dots s) have added)

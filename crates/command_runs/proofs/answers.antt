@@ -1,0 +1,6 @@
+pub mod FeedCounts
+pub mod FeedsGrow
+pub mod PlainLines
+pub mod ReportFacts
+pub mod RowsAsRead
+pub mod WidthFields

@@ -1,0 +1,73 @@
+-- A field of widths has no comma.
+use Rattle.std.proofs.Common.{◌≡◌, ◌+◌, ◌&&◌, ◌==◌, ◌∙◌, ◌∷◌, All, Bool, List, None, Option, Some, [], ap, cond, drop, false, if◌then◌else◌, length, nat_le, refl, sym, take, true, ℕ}
+use Rattle.std.specs.Char.{is_ascii_digit}
+use Rattle.std.specs.List.{list_all, onto_first}
+use Rattle.std.proofs.lemmas.Bool.{and_from, eqb-true, ne_eqb, true≢false}
+use Rattle.std.proofs.lemmas.List.Elements.{All-cons, All-nil}
+use Rattle.std.proofs.lemmas.List.Splits.{slice_split_none}
+use Rattle.memchr.specs.Find.{IsFirstByte, is_byte}
+use Rattle.command_runs.specs.live.Text.{fields_in, is_comma}
+use Rattle.command_runs.proofs.live.FieldsFacts.{first_field}
+use Rattle.csv_records.specs.lanes.Widths.{are_widths, field_fault, is_number, of_runs, widths_in, words_of}
+use Rattle.csv_records.specs.declared.input.fault.RecordFault.{RecordFault}
+use Rattle.csv_records.specs.declared.input.fault.RecordFault.TheVariants as fault
+use Rattle.scan_core.specs.Row.{runs_fault}
+
+and_first : (a b : Bool) → (a && b) ≡ true → a ≡ true
+and_first true b is = refl
+and_first false b is = is
+
+and_rest : (a b : Bool) → (a && b) ≡ true → b ≡ true
+and_rest true b is = is
+and_rest false b is = absurd (true≢false (sym is))
+
+-- each byte of the words is a digit
+abbrev are_digits : List (List ℕ) → Bool
+are_digits words = list_all (list_all is_ascii_digit) words
+
+digits_of : (word : List ℕ) → is_number 5 word ≡ true → list_all is_ascii_digit word ≡ true
+digits_of word is =
+    and_rest (nat_le (length word) 5) (list_all is_ascii_digit word)
+    (and_rest (nat_le 1 (length word)) (nat_le (length word) 5 && list_all is_ascii_digit word) is)
+
+all_digits : (words : List (List ℕ)) → are_widths words ≡ true → are_digits words ≡ true
+all_digits [] is = refl
+all_digits (word ∷ words) is =
+    and_from (list_all is_ascii_digit word) (are_digits words) (digits_of word (and_first (is_number 5 word) (are_widths words) is))
+    (all_digits words (and_rest (is_number 5 word) (are_widths words) is))
+
+digit_no_comma : (b : ℕ) → is_ascii_digit b ≡ true → (b == 44) ≡ false
+digit_no_comma b is = ne_eqb b 44 (λ e. true≢false (sym is ∙ ap is_ascii_digit e))
+
+first_digits : (b : ℕ) (words : List (List ℕ)) → are_digits (onto_first b words) ≡ true → (is_ascii_digit b ≡ true) × (are_digits words ≡ true)
+first_digits b [] is = (and_first (is_ascii_digit b) true (and_first (is_ascii_digit b && true) true is), refl)
+first_digits b (word ∷ words) is =
+    let front = and_first (is_ascii_digit b && list_all is_ascii_digit word) (are_digits words) is in (
+      and_first (is_ascii_digit b) (list_all is_ascii_digit word) front,
+      and_from (list_all is_ascii_digit word) (are_digits words) (and_rest (is_ascii_digit b) (list_all is_ascii_digit word) front)
+          (and_rest (is_ascii_digit b && list_all is_ascii_digit word) (are_digits words) is),
+    )
+
+-- a byte before words is a space or begins the first of them
+first_byte : (b : ℕ) (words : List (List ℕ)) (is_space : Bool) → (b == 32) ≡ is_space
+    → are_digits (cond is_space ([] ∷ words) (onto_first b words)) ≡ true → ((b == 44) ≡ false) × (are_digits words ≡ true)
+first_byte b words true e is = (ap (λ n. n == 44) (eqb-true b 32 e), is)
+first_byte b words false e is = let first = first_digits b words is in (digit_no_comma b first.0, first.1)
+
+no_commas : (field : List ℕ) → are_digits (words_of field) ≡ true → All (λ b. is_comma b ≡ false) field
+no_commas [] is = All-nil (λ b. is_comma b ≡ false)
+no_commas (b ∷ field) is =
+    let first = first_byte b (words_of field) (b == 32) refl is in
+    All-cons (λ b. is_comma b ≡ false) b field first.0 (no_commas field first.1)
+
+widths_if : (b : Bool) (x : Option RecordFault) → (if b then x else Some fault.BadRuns) ≡ None → b ≡ true
+widths_if true x is = refl
+widths_if false x is = cc is
+
+-- a line whose first comma stands at k, before widths, has two fields
+pub two_by_comma : (line : List ℕ) (k : ℕ) → IsFirstByte (is_byte 44) line (Some k) → field_fault (drop (k + 1) line) ≡ None
+    → fields_in line ≡ take k line ∷ drop (k + 1) line ∷ []
+two_by_comma line k found none =
+    let field = drop (k + 1) line in
+    let words = widths_if (are_widths (words_of field)) (of_runs (runs_fault (widths_in field))) none in
+    (first_field line k found).1 ∙ ap (λ fs. take k line ∷ fs) (slice_split_none is_comma field (no_commas field (all_digits (words_of field) words)))

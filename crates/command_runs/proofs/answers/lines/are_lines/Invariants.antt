@@ -1,0 +1,13 @@
+use Rattle.std.proofs.Common.{◌-◌, ◌≤◌, length}
+use Rattle.command_runs.proofs.answers.PlainLines.{EndUpTo, NoQuoteUpTo}
+use Rattle.command_runs.proofs.answers.lines.are_lines.Given as goal
+
+abbrev pub invariant-each : goal.invariant-each
+invariant-each l = record {
+  quotes : NoQuoteUpTo l.bytes l.from;
+  end : EndUpTo l.bytes l.from;
+  low : l.from ≤ length l.bytes;
+}
+
+abbrev pub decreases-each : goal.decreases-each
+decreases-each l = length l.bytes - l.from

@@ -1,0 +1,64 @@
+use Rattle.std.proofs.Common.{◌≡◌, ◌∙◌, ◌&&◌, [], ap, arith, length, map, replicate, string_bytes, subst, sym, true}
+use Rattle.std.specs.List.{AllZip}
+use Rattle.std.proofs.lemmas.Bool.{and_parts}
+use Rattle.std.proofs.lemmas.List.{length-map}
+use Rattle.hub_core.specs.Feeds.{AreGiven, rests_of}
+use Rattle.hub_core.specs.Laws.{AreAnswersOf}
+use Rattle.hub_core.specs.Serving.{are_short, is_seat_count, served}
+use Rattle.hub_core.specs.Traffics.{IsKept}
+use Rattle.command_runs.specs.inner.Reports.{AreLinesOf}
+use Rattle.command_runs.proofs.CommandFacts.{only_fault}
+use Rattle.command_runs.proofs.answers.ReportFacts.{no_lines}
+use Rattle.command_runs.proofs.answers.serving.answer_each.Goals as goal
+
+pub serve_traffic-requires-clause-counts : goal.serve_traffic-requires-clause-counts
+serve_traffic-requires-clause-counts g c κs within =
+    let feeds = c.args.feeds.items in
+    let rows = map (λ feed. feed.items) feeds in
+    let counts = and_parts (is_seat_count (length rows)) (is_seat_count c.args.workers && are_short rows) c.requires in
+    let count : length rows ≡ c.len-lanes.result = omega (arith, length-map feeds (λ feed. feed.items), c.len-lanes.ensures, c.args.feeds.ok.0) in
+    (subst (λ n. is_seat_count n ≡ true) count counts.0, (and_parts (is_seat_count c.args.workers) (are_short rows) counts.1).0)
+
+pub serve_traffic-requires-clause-fresh : goal.serve_traffic-requires-clause-fresh
+serve_traffic-requires-clause-fresh g c κs within =
+    let feeds = c.args.feeds.items in
+    let rests = rests_of c.in_ok-new.field-0 in
+    let is : rests ≡ map (λ feed. feed.items) feeds = c.in_ok-new.ensures in
+    let rows = map (λ feed. feed.items) feeds in
+    let counts = and_parts (is_seat_count (length rows)) (is_seat_count c.args.workers && are_short rows) c.requires in
+    let short : are_short rests ≡ true = ap are_short is ∙ (and_parts (is_seat_count c.args.workers) (are_short rows) counts.1).1 in
+    let count : length rests ≡ c.len-lanes.result = omega (arith, ap length is, length-map feeds (λ feed. feed.items), c.len-lanes.ensures, c.args.feeds.ok.0)
+    in
+    let both : AreGiven rests (replicate c.len-lanes.result []) rests
+    × AreLinesOf (replicate c.len-lanes.result []) (map string_bytes c.in_ok-texts.texts.items) = (
+      subst (λ n. AreGiven rests (replicate n []) rests) count (c.feeds_are_given.ensures.first rests short),
+      no_lines c.len-lanes.result (map string_bytes c.in_ok-texts.texts.items) c.in_ok-texts.ensures,
+    ) in
+    both
+
+pub fault_of-requires : goal.fault_of-requires
+fault_of-requires g c = c.in-Err.ensures.refused
+
+pub returns-in_err-texts : goal.returns-in_err-texts
+returns-in_err-texts g c = record { lines = only_fault c.from_residual.result _ c.from_residual.ensures.0 }
+
+pub returns-in_err-new : goal.returns-in_err-new
+returns-in_err-new g c = record { lines = only_fault c.from_residual-in_err-new.result _ c.from_residual-in_err-new.ensures.0 }
+
+pub returns-in-Ok : goal.returns-in-Ok
+returns-in-Ok g c = record { lines = tt }
+
+pub returns-in-Err : goal.returns-in-Err
+returns-in-Err g c = record { lines = tt }
+
+pub returns-in-Ok-default-Done : goal.returns-in-Ok-default-Done
+returns-in-Ok-default-Done g c =
+    let was = c.in-Ok-default-Done.ensures.served (subst IsKept (sym c.in-Ok-default-Done.field-0-1-is) tt) in
+    let end = was.4 c.in-Ok-default-Done.field-0-1-is in
+    let feeds = rests_of c.in_ok-new.field-0 in
+    let all = c.feeds_are_given.ensures.last feeds was.0 (rests_of c.in-Ok-default-Done.traffic.feeds) was.2.0 end.0 in
+    let lines = was.2.1 in
+    let rows = map (λ feed. feed.items) c.args.feeds.items in
+    let read = c.answers_are_read.ensures c.args.year rows lines.0
+    (subst (λ lists. AllZip AreAnswersOf lists lines.0) (end.1 ∙ ap (served c.args.year) (all ∙ c.in_ok-new.ensures)) lines.1) in
+    record { lines = (lines.0, read, lines.2) }

@@ -1,0 +1,6 @@
+use Rattle.command_runs.proofs.FewEnough.{counted}
+use Rattle.command_runs.proofs.commands.live.run_live.Goals as goal
+
+pub answer_live-wire-requires-clause-counts : goal.answer_live-wire-requires-clause-counts
+answer_live-wire-requires-clause-counts g c κs within =
+    let o = c.args.options.rows in (counted o.lanes o.some_lanes, counted o.workers o.some_workers)

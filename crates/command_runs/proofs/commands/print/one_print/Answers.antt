@@ -1,0 +1,5 @@
+use Rattle.command_runs.proofs.PrintOnce.{one_print as law}
+use Rattle.command_runs.proofs.commands.print.one_print.Goals as goal
+
+pub returns : goal.returns
+returns c = law c.one_list_or_fault.ensures c.one_printed.ensures

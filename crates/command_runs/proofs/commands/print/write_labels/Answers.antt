@@ -1,0 +1,191 @@
+use Rattle.std.proofs.Common.{◌*◌, ◌≡◌, ◌∙◌, Err, List, Ok, Result, ap, refl, string_bytes, subst, sym, ℕ}
+use Rattle.std.specs.Prelude.{IsErr, IsErrAnd}
+use Rattle.std.specs.Io.KnownBytes.{Appends}
+use Rattle.std.specs.List.{AllByRecursion}
+use Rattle.std.proofs.lemmas.Bool.{false≢true}
+use Rattle.digits_core.specs.Bytes.{TookFront}
+use Rattle.sheet_core.specs.declared.fault.PrintFault.{PrintFault}
+use Rattle.sheet_core.specs.declared.fault.PrintFault.TheVariants as print
+use Rattle.sheet_core.specs.declared.fault.SheetFault.{SheetFault}
+use Rattle.sheet_core.specs.declared.fault.SheetFault.TheVariants as sheet
+use Rattle.command_line.specs.declared.commands.print.options.Output.{Output}
+use Rattle.command_line.specs.declared.commands.print.options.Output.TheVariants as output
+use Rattle.command_runs.specs.declared.fault.CommandFault.{CommandFault}
+use Rattle.command_runs.specs.declared.fault.CommandFault.TheVariants as command
+use Rattle.sheet_core.specs.Bitmaps.{Bitmap}
+use Rattle.sheet_core.specs.Drawing.{ArePrinted, IsPrintFault, IsSheetFault, cell_count}
+use Rattle.sheet_core.specs.Grids.{Cells}
+use Rattle.sheet_core.specs.Labels.{IsPrintable}
+use Rattle.sheet_core.specs.pbm.Images.{pbm_of}
+use Rattle.sheet_core.specs.declared.label.Label.{Label}
+use Rattle.command_runs.specs.Faults.{failed_write, no_memory, of_prints, of_sheets}
+use Rattle.command_runs.specs.commands.Prints.{IsPrinted, IsUnprinted}
+use Rattle.csv_records.specs.print.Labels.{label_lines}
+use Rattle.command_runs.proofs.BufferedIsTaken.{refused_as}
+use Rattle.command_runs.proofs.CommandFacts.{never_refused, not_cut, only_fault, told_fault}
+use Rattle.command_runs.proofs.commands.print.write_labels.Goals as goal
+
+-- the cells, as they are counted
+counted : (g : Cells) (wide columns high rows : ℕ) → wide ≡ columns → columns ≡ g.columns → high ≡ rows → rows ≡ g.rows → wide * high ≡ cell_count g
+counted g wide columns high rows a b c d = rw (a, b, c, d) refl
+
+-- the lines, where text is asked for
+lines_printed : (g : Cells) (o : Output) (labels : List Label) (text : List ℕ) → o ≡ output.Lines → AllByRecursion (IsPrintable g) labels
+    → text ≡ label_lines (cell_count g) labels → IsPrinted g o labels text
+lines_printed g o labels text asked fit is = rw asked (fit, is)
+
+-- else the images
+images_printed : (g : Cells) (o : Output) (labels : List Label) (sheets : List Bitmap) → o ≡ output.Images → ArePrinted labels g sheets
+    → IsPrinted g o labels (pbm_of sheets)
+images_printed g o labels sheets asked printed = rw asked (sheets, printed, refl)
+
+-- faults of labels, as the command's
+sheets_unprinted : (g : Cells) (labels : List Label) (f : SheetFault) → IsSheetFault g labels f → IsUnprinted g labels (of_sheets f)
+sheets_unprinted g labels (sheet.LabelKind i) why = why
+sheets_unprinted g labels (sheet.LabelWidth i) why = why
+sheets_unprinted g labels sheet.NoMemory why = tt
+
+prints_unprinted : (g : Cells) (labels : List Label) (f : PrintFault) → IsPrintFault g labels f → IsUnprinted g labels (of_prints f)
+prints_unprinted g labels (print.Sheet (sheet.LabelKind i)) why = why
+prints_unprinted g labels (print.Sheet (sheet.LabelWidth i)) why = why
+prints_unprinted g labels (print.Sheet sheet.NoMemory) why = tt
+prints_unprinted g labels print.WriteFault why = tt
+
+-- of these faults the writer's alone is a failed write
+only_write : (f : PrintFault) → of_prints f ≡ command.WriteFault → f ≡ print.WriteFault
+only_write (print.Sheet (sheet.LabelKind i)) e = cc
+only_write (print.Sheet (sheet.LabelWidth i)) e = cc
+only_write (print.Sheet sheet.NoMemory) e = cc
+only_write print.WriteFault e = refl
+
+-- a result that is such a fault, as the command's, and a failed write
+its_write : {A : Type 0} (r : Result A CommandFault) (f : PrintFault) → IsErr r → IsErrAnd r (λ e. e ≡ of_prints f) → r ≡ Err command.WriteFault → f
+    ≡ print.WriteFault
+its_write (Ok x) f h k e = absurd (false≢true h)
+its_write (Err x) f h k e = let same : x ≡ command.WriteFault = cc in only_write f (sym k ∙ same)
+
+no_write : (f : SheetFault) → of_sheets f ≡ command.WriteFault → ⊥
+no_write (sheet.LabelKind i) e = cc
+no_write (sheet.LabelWidth i) e = cc
+no_write sheet.NoMemory e = cc
+
+pub returns-in_err-check_labels-in-Lines : goal.returns-in_err-check_labels-in-Lines
+returns-in_err-check_labels-in-Lines g c =
+    let r = c.from_residual.result in
+    let f = c.in_err-check_labels-in-Lines.field-0.0 in
+    let told = c.from_residual.ensures.1 in
+    let why = sheets_unprinted c.args.grid c.args.labels.now f c.in_err-check_labels-in-Lines.ensures.err in
+    record {
+      ok = only_fault r _ c.from_residual.ensures.0;
+      cut = λ same. absurd (not_cut r (of_sheets f) (no_write f) told same);
+      refused = refused_as r (of_sheets f) (IsUnprinted c.args.grid c.args.labels.now) told why;
+      unwritten = refused_as r (of_sheets f) _ told (λ other. refl);
+      write = λ sound. (
+        λ same. absurd (not_cut r (of_sheets f) (no_write f) told same),
+        λ failed. absurd (false≢true (sym sound ∙ failed)),
+      );
+    }
+
+pub returns-in_err-text-in-Lines : goal.returns-in_err-text-in-Lines
+returns-in_err-text-in-Lines g c =
+    let r = c.from_residual-in_err-text-in-Lines.result in
+    let told = c.from_residual-in_err-text-in-Lines.ensures.1 in
+    record {
+      ok = only_fault r _ c.from_residual-in_err-text-in-Lines.ensures.0;
+      cut = λ same. absurd (not_cut r no_memory (λ is. cc) told same);
+      refused = refused_as r no_memory (IsUnprinted c.args.grid c.args.labels.now) told tt;
+      unwritten = refused_as r no_memory _ told (λ other. refl);
+      write = λ sound. (
+        λ same. absurd (not_cut r no_memory (λ is. cc) told same),
+        λ failed. absurd (false≢true (sym sound ∙ failed)),
+      );
+    }
+
+pub returns-in_err-write_all-in-Lines : goal.returns-in_err-write_all-in-Lines
+returns-in_err-write_all-in-Lines g c =
+    let r = c.from_residual-in_err-write_all-in-Lines.result in
+    let told = c.from_residual-in_err-write_all-in-Lines.ensures.1 in
+    let grid = c.args.grid in
+    let o = c.args.options in
+    let labels = c.args.labels.now in
+    let text = string_bytes c.in_ok-text-in-Lines.text in
+    let cells = counted grid c.from.result c.columns.result c.from-in-Lines.result c.rows.result c.from.ensures c.columns.ensures c.from-in-Lines.ensures
+    c.rows.ensures in
+    let fit = c.in_ok-check_labels-in-Lines.ensures.ok in
+    let lines : text ≡ label_lines (cell_count grid) labels = c.in_ok-text-in-Lines.ensures ∙ ap (λ k. label_lines k labels) cells in
+    let sent = c.as_bytes.ensures.value ∙ c.as_str.ensures.value in
+    record {
+      ok = only_fault r _ c.from_residual-in_err-write_all-in-Lines.ensures.0;
+      cut = λ same. (
+        text,
+        lines_printed grid o.output labels text c.in-Lines.is fit lines,
+        subst (λ t. TookFront (g.W.Sink.taken c.args.sink.now) (g.W.Sink.taken c.write_all.new.sink) t) sent c.in_err-write_all-in-Lines.ensures.err,
+      );
+      refused = refused_as r failed_write (IsUnprinted grid labels) told tt;
+      unwritten = refused_as r failed_write _ told (λ other. absurd (other refl));
+      write = λ sound. (λ same. (c.in_err-write_all-in-Lines.ensures.fault sound).0 refl, λ failed. told_fault r failed_write told);
+    }
+
+pub returns-in_err-print_pbm-in-Images : goal.returns-in_err-print_pbm-in-Images
+returns-in_err-print_pbm-in-Images g c =
+    let r = c.from_residual-in_err-print_pbm-in-Images.result in
+    let e = c.from_residual-in_err-print_pbm-in-Images.ensures in
+    let grid = c.args.grid in
+    let o = c.args.options in
+    let labels = c.args.labels.now in
+    let f = c.in_err-print_pbm-in-Images.field-0.0 in
+    let printed = c.in_err-print_pbm-in-Images.ensures in
+    record {
+      ok = only_fault r _ e.0;
+      cut = λ same.
+          let out = printed.cut (ap (λ f. Err f) (its_write r f e.0 e.1 same)) in
+          (pbm_of out.0, images_printed grid o.output labels out.0 c.in-Images.is out.1, out.2);
+      refused = refused_as r (of_prints f) (IsUnprinted grid labels) e.1 (prints_unprinted grid labels f printed.refused);
+      unwritten = refused_as r (of_prints f) _ e.1 (λ other. printed.unwritten (λ is. other (ap of_prints is)));
+      write = λ sound. (
+        λ same. (printed.write sound).0 (ap (λ f. Err f) (its_write r f e.0 e.1 same)),
+        λ failed. let is : f ≡ print.WriteFault = cc ((printed.write sound).1 failed) in
+            told_fault r (of_prints f) e.1 ∙ ap (λ f. Err (of_prints f)) is,
+      );
+    }
+
+pub returns-in_ok-write_all-in-Lines : goal.returns-in_ok-write_all-in-Lines
+returns-in_ok-write_all-in-Lines g c =
+    let grid = c.args.grid in
+    let o = c.args.options in
+    let labels = c.args.labels.now in
+    let text = string_bytes c.in_ok-text-in-Lines.text in
+    let cells = counted grid c.from.result c.columns.result c.from-in-Lines.result c.rows.result c.from.ensures c.columns.ensures c.from-in-Lines.ensures
+    c.rows.ensures in
+    let fit = c.in_ok-check_labels-in-Lines.ensures.ok in
+    let lines : text ≡ label_lines (cell_count grid) labels = c.in_ok-text-in-Lines.ensures ∙ ap (λ k. label_lines k labels) cells in
+    let sent = c.as_bytes.ensures.value ∙ c.as_str.ensures.value in
+    record {
+      ok = (
+        text,
+        lines_printed grid o.output labels text c.in-Lines.is fit lines,
+        subst (λ t. Appends (g.W.Sink.taken c.args.sink.now) (g.W.Sink.taken c.write_all.new.sink) t) sent c.in_ok-write_all-in-Lines.ensures.ok,
+      );
+      cut = λ same. absurd (never_refused tt command.WriteFault same);
+      refused = tt;
+      unwritten = tt;
+      write = λ sound. (
+        λ same. absurd (never_refused tt command.WriteFault same),
+        λ failed. absurd (false≢true ((c.in_ok-write_all-in-Lines.ensures.fault sound).1 failed)),
+      );
+    }
+
+pub returns-in_ok-print_pbm-in-Images : goal.returns-in_ok-print_pbm-in-Images
+returns-in_ok-print_pbm-in-Images g c =
+    let printed = c.in_ok-print_pbm-in-Images.ensures in
+    let out = printed.ok in
+    record {
+      ok = (pbm_of out.0, images_printed c.args.grid c.args.options.output c.args.labels.now out.0 c.in-Images.is out.1, out.2);
+      cut = λ same. absurd (never_refused tt command.WriteFault same);
+      refused = tt;
+      unwritten = tt;
+      write = λ sound. (
+        λ same. absurd (never_refused tt command.WriteFault same),
+        λ failed. absurd (never_refused tt print.WriteFault ((printed.write sound).1 failed)),
+      );
+    }

@@ -1,0 +1,5 @@
+use Rattle.command_runs.proofs.ScannedFacts.{one_scan as law}
+use Rattle.command_runs.proofs.commands.scan.one_scan.Goals as goal
+
+pub returns : goal.returns
+returns c = law c.scanned_once.ensures

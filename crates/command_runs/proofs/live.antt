@@ -1,0 +1,11 @@
+pub mod CameFacts
+pub mod CsvFacts
+pub mod FieldsFacts
+pub mod LaneFacts
+pub mod ListFacts
+pub mod LiveEnds
+pub mod LivedFacts
+pub mod LogFacts
+pub mod ReorderFacts
+pub mod ReplyFacts
+pub mod WireFacts

@@ -1,0 +1,108 @@
+-- A log of reads and writes by which each record is answered, as it grows.
+use Rattle.std.proofs.Common.{List, [], ap, append-nil, append_assoc, refl, subst, sym, ℕ, ⊎_elim, inl, inr, ◌++◌, ◌∙◌, ◌∷◌, ◌≡◌, ◌⊎◌}
+use Rattle.std.specs.Bool.{⊤}
+use Rattle.std.specs.List.{concat}
+use Rattle.std.proofs.lemmas.Grind.{flat_map-append}
+use Rattle.wire_core.specs.Events.{Event, bytes_read, bytes_written, was_read, was_written, writes_of}
+use Rattle.wire_core.specs.Events.Event.{Read, Wrote}
+use Rattle.wire_core.specs.Lines.{pieces_of}
+use Rattle.command_runs.specs.live.Answering.{AnswersBy, BeginsBy, IsFrontBy, IsPromptBy, whole_lines}
+use Rattle.command_runs.proofs.live.ListFacts.{zip_weaker}
+
+-- a list and one more item, cut in two
+abbrev CutLater : {X : Type 0} → List X → X → List X → List X → Type 0
+CutLater {X} xs x before after = (sooner : List X) × (after ≡ sooner ++ x ∷ []) × (xs ≡ before ++ sooner)
+
+cut_more : {X : Type 0} (xs : List X) (x : X) (before after : List X) → xs ++ x ∷ [] ≡ before ++ after → ((after ≡ []) × (before ≡ xs ++ x ∷ []))
+    ⊎ CutLater xs x before after
+cut_more xs x [] after is = inr (xs, sym is, refl)
+cut_more [] x (b ∷ []) [] is = inl (refl, sym is)
+cut_more [] x (b ∷ []) (a ∷ after) is = cc
+cut_more [] x (b ∷ c ∷ before) after is = cc
+cut_more (y ∷ xs) x (b ∷ before) after is =
+    let tail : xs ++ x ∷ [] ≡ before ++ after = cc is in
+    ⊎_elim (λ (h : (after ≡ []) × (before ≡ xs ++ x ∷ [])). inl (h.0, cc)) (λ (h : CutLater xs x before after). inr (h.0, h.1, cc))
+    (cut_more xs x before after tail)
+
+-- one more event
+pub read_more : (events : List Event) (bytes : List ℕ) → was_read (events ++ Read bytes ∷ []) ≡ was_read events ++ bytes
+read_more events bytes = flat_map-append bytes_read events (Read bytes ∷ []) ∙ ap (λ t. was_read events ++ t) (append-nil bytes)
+
+pub written_same : (events : List Event) (bytes : List ℕ) → was_written (events ++ Read bytes ∷ []) ≡ was_written events
+written_same events bytes = flat_map-append bytes_written events (Read bytes ∷ []) ∙ append-nil (was_written events)
+
+-- writes
+pub written_all : (events : List Event) (pieces : List (List ℕ)) → was_written (events ++ writes_of pieces) ≡ was_written events ++ concat pieces
+written_all events pieces = flat_map-append bytes_written events (writes_of pieces) ∙ ap (λ t. was_written events ++ t) (written pieces)
+  where
+    written : (pieces : List (List ℕ)) → was_written (writes_of pieces) ≡ concat pieces
+    written [] = refl
+    written (piece ∷ pieces) = ap (λ t. piece ++ t) (written pieces)
+
+pub read_all_same : (events : List Event) (pieces : List (List ℕ)) → was_read (events ++ writes_of pieces) ≡ was_read events
+read_all_same events pieces = flat_map-append bytes_read events (writes_of pieces) ∙ ap (λ t. was_read events ++ t) (none pieces) ∙ append-nil (was_read events)
+  where
+    none : (pieces : List (List ℕ)) → was_read (writes_of pieces) ≡ []
+    none [] = refl
+    none (piece ∷ pieces) = none pieces
+
+module _ {X : Type 0} (L : X → List ℕ → Type 0) where
+  -- what answers the first of the records
+  pub answers_begin : (xs first later : List X) (text : List ℕ) → xs ≡ first ++ later → AnswersBy L first text → BeginsBy L xs text
+  answers_begin xs first later text is a = (first, later, a.0, [], is, a.1, sym a.2 ∙ sym (append-nil text))
+
+  module _ (records : List (List ℕ) → List X) where
+    abbrev pub Answered : List Event → Type 0
+    Answered events = AnswersBy L (records (whole_lines (was_read events))) (was_written events)
+
+    abbrev pub Begun : List Event → Type 0
+    Begun events = BeginsBy L (records (pieces_of (was_read events))) (was_written events)
+
+    at_cut : (events : List Event) (e : Event) → IsPromptBy L records events → ((bytes : List ℕ) → e ≡ Read bytes → Answered events)
+        → (before after : List Event) (bytes : List ℕ) (sooner : List Event) → Read bytes ∷ after ≡ sooner ++ e ∷ [] → events ≡ before ++ sooner → Answered before
+    at_cut events e was here before after bytes [] is cut = subst Answered (cut ∙ append-nil before) (here bytes cc)
+    at_cut events e was here before after bytes (s ∷ sooner) is cut = was before sooner bytes cc
+
+    -- one more event, before which all lines that had ended were answered if it is a read
+    pub prompt_more : (events : List Event) (e : Event) → IsPromptBy L records events → ((bytes : List ℕ) → e ≡ Read bytes → Answered events)
+        → IsPromptBy L records (events ++ e ∷ [])
+    prompt_more events e was here = λ before after bytes is. ⊎_elim
+        (λ (h : (Read bytes ∷ after ≡ []) × (before ≡ events ++ e ∷ [])). let none = h.0 in absurd (let c : ⊥ = cc none in c))
+        (λ (h : CutLater events e before (Read bytes ∷ after)). at_cut events e was here before after bytes h.0 h.1 h.2)
+        (cut_more events e before (Read bytes ∷ after) is)
+
+    -- one more event, after which what was written is the first of what answers
+    pub front_more : (events : List Event) (e : Event) → IsFrontBy L records events → Begun (events ++ e ∷ []) → IsFrontBy L records (events ++ e ∷ [])
+    front_more events e was begun = λ before after is. ⊎_elim
+        (λ (h : (after ≡ []) × (before ≡ events ++ e ∷ [])). subst Begun (sym h.1) begun)
+        (λ (h : CutLater events e before after). was before h.0 h.2)
+        (cut_more events e before after is)
+
+    -- writes, of the first of what answers
+    pub writes_more : (events : List Event) (pieces : List (List ℕ)) (rest : List ℕ) → IsPromptBy L records events → IsFrontBy L records events
+        → BeginsBy L (records (pieces_of (was_read events))) (was_written events ++ (concat pieces ++ rest))
+        → IsPromptBy L records (events ++ writes_of pieces) × IsFrontBy L records (events ++ writes_of pieces)
+    writes_more events [] rest prompt front begun = rw append-nil (prompt, front)
+    writes_more events (piece ∷ pieces) rest prompt front begun =
+        let now = events ++ Wrote piece ∷ [] in
+        let text : was_written events ++ ((piece ++ concat pieces) ++ rest) ≡ was_written now ++ (concat pieces ++ rest) =
+        cc (written_all events (piece ∷ []), append-nil piece, append_assoc piece (concat pieces) rest, append_assoc (was_written events) piece (concat pieces ++ rest)) in
+        let b = subst (λ bs. BeginsBy L (records (pieces_of bs)) (was_written events ++ ((piece ++ concat pieces) ++ rest)))
+        (sym (read_all_same events (piece ∷ []))) begun in
+        let then = subst (λ t. BeginsBy L (records (pieces_of (was_read now))) t) text b in
+        let first : Begun now = (then.0, then.1, then.2, (concat pieces ++ rest) ++ then.3, then.4, then.5, then.6 ∙ append_assoc (was_written now) (concat pieces ++ rest) then.3) in
+        subst (λ es. IsPromptBy L records es × IsFrontBy L records es) (append_assoc events (Wrote piece ∷ []) (writes_of pieces))
+        (writes_more now pieces rest (prompt_more events (Wrote piece) prompt (λ bytes is. cc is)) (front_more events (Wrote piece) front first) then)
+
+module _ {X : Type 0} (L M : X → List ℕ → Type 0) (weaker : (x : X) (t : List ℕ) → L x t → M x t) where
+  pub answers_weaker : (xs : List X) (text : List ℕ) → AnswersBy L xs text → AnswersBy M xs text
+  answers_weaker xs text a = (a.0, zip_weaker (λ x. ⊤) L M (λ x t _ is. weaker x t is) xs a.0 (λ k d low. tt) a.1, a.2)
+
+  pub prompt_weaker : (records : List (List ℕ) → List X) (events : List Event) → IsPromptBy L records events → IsPromptBy M records events
+  prompt_weaker records events was = λ before after bytes is. answers_weaker _ _ (was before after bytes is)
+
+  pub front_weaker : (records : List (List ℕ) → List X) (events : List Event) → IsFrontBy L records events → IsFrontBy M records events
+  front_weaker records events was = λ before after is.
+      let b = was before after is in
+      let a = answers_weaker b.0 (concat b.2) (b.2, b.5, refl) in
+      (b.0, b.1, a.0, b.3, b.4, a.1, sym a.2 ∙ b.6)

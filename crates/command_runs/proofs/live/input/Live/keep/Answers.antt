@@ -1,0 +1,70 @@
+use Rattle.std.proofs.Common.{Some, [], ap, get_or, refl, sym, ◌++◌, ◌∙◌, ◌∷◌}
+use Rattle.std.proofs.lemmas.Option.{slice_get-get_or}
+use Rattle.command_runs.specs.inner.Came.{turn_of}
+use Rattle.command_runs.specs.declared.live.pending.PendingReply.TheVariants as pending
+use Rattle.command_runs.specs.declared.live.record.LineFault.TheVariants as line_fault
+use Rattle.command_runs.proofs.live.CameFacts.{came_blank, came_roomier, came_row, came_unnumbered, message_for, refused_for, spent_for}
+use Rattle.command_runs.proofs.live.LivedFacts.{refused_line, took_none, took_row}
+use Rattle.command_runs.proofs.live.input.Live.keep.Goals as goal
+
+pub next_number-requires-clause-behind : goal.next_number-requires-clause-behind
+next_number-requires-clause-behind g c = λ k w low.
+    let lanes = c.args.self.now.lanes.items in (c.requires.led.3.come.waiting.each k (get_or lanes k w) (slice_get-get_or lanes k w low)).behind
+
+pub returns-in-Blank-clause-takes : goal.returns-in-Blank-clause-takes
+returns-in-Blank-clause-takes g c =
+    let s = c.args.self.now in
+    let found = rw c.in-Blank.is at c.requires.found in
+    took_none s _ _ _ refl (λ p at. rw c.in_ok-reserve.ensures.items (came_blank p (turn_of s) at found.0 found.1))
+
+pub returns-in-Message-clause-takes : goal.returns-in-Message-clause-takes
+returns-in-Message-clause-takes g c =
+    let s = c.args.self.now in
+    let found = rw c.in-Message.is at c.requires.found in
+    let reply = pending.Message c.in-Message.lane c.in-Message.text in
+    took_none s _ _ _ refl (λ p at. came_unnumbered p (turn_of s) at _ reply found.0 _
+    (c.push_reserved.ensures.items ∙ ap (λ rs. rs ++ reply ∷ []) c.in_ok-reserve.ensures.items) tt found.1
+    (message_for p c.in-Message.lane c.in-Message.text))
+
+pub returns-in-Refused-clause-takes : goal.returns-in-Refused-clause-takes
+returns-in-Refused-clause-takes g c =
+    let s = c.args.self.now in
+    let found = rw c.in-Refused.is at c.requires.found in
+    let reply = pending.Refused c.in-Refused.lane c.in-Refused.fault in
+    took_none s _ _ _ refl (λ p at. came_unnumbered p (turn_of s) at _ reply found.0 _
+    (c.push_reserved-in-Refused.ensures.items ∙ ap (λ rs. rs ++ reply ∷ []) c.in_ok-reserve.ensures.items) tt found.1
+    (refused_for p c.in-Refused.lane c.in-Refused.fault))
+
+pub returns-in-Some-clause-takes : goal.returns-in-Some-clause-takes
+returns-in-Some-clause-takes g c =
+    let s = c.args.self.now in
+    let found = rw c.in-Row.is at c.requires.found in
+    let lane = c.in-Row.lane in
+    let reply = pending.Row lane c.in-Some.number in
+    let t = rw c.in-Some.is at c.in_ok-number-in-Row.ensures in
+    took_row s _ _ _ refl (lane, c.in-Row.row) (λ p at. rw t.3 (came_row p (turn_of s) at lane t.0 t.1 t.2 _ found.0 c.in-Some.number c.in-Row.row
+    (c.push_reserved-in-Some.ensures.items ∙ ap (λ rs. rs ++ reply ∷ []) c.in_ok-reserve.ensures.items) t.4 found.1))
+
+pub returns-in-None-clause-takes : goal.returns-in-None-clause-takes
+returns-in-None-clause-takes g c =
+    let s = c.args.self.now in
+    let found = rw c.in-Row.is at c.requires.found in
+    let lane = c.in-Row.lane in
+    let reply = pending.Refused (Some lane) line_fault.Spent in
+    let t = rw c.in-None.is at c.in_ok-number-in-Row.ensures in
+    took_none s _ _ _ refl (λ p at. rw t.3 (came_roomier p _ (came_unnumbered p (turn_of s) at _ reply found.0 _
+    (c.push_reserved-in-None.ensures.items ∙ ap (λ rs. rs ++ reply ∷ []) c.in_ok-reserve.ensures.items) tt found.1
+    (spent_for p lane c.in-Row.row (sym (at.waiting.each lane t.0 t.2).next ∙ t.4.1))) lane t.0 t.1 t.2 t.4.0))
+
+pub returns-in_err-reserve-clause-takes : goal.returns-in_err-reserve-clause-takes
+returns-in_err-reserve-clause-takes g c =
+    let s = c.args.self.now in
+    refused_line _ c.from_residual.result s _ c.from_residual.ensures.0 (took_none s _ _ _ refl (λ p at. rw c.in_err-reserve.ensures.items at))
+
+pub returns-in_err-number-in-Row-clause-takes : goal.returns-in_err-number-in-Row-clause-takes
+returns-in_err-number-in-Row-clause-takes g c =
+    let s = c.args.self.now in
+    let r = c.from_residual-in_err-number-in-Row in
+    let t = c.in_err-number-in-Row.ensures in
+    refused_line _ r.result s _ r.ensures.0 (took_none s _ _ _ refl (λ p at.
+    rw (c.in_ok-reserve.ensures.items, t.3) (came_roomier p (turn_of s) at c.in-Row.lane t.0 t.1 t.2 t.4)))

@@ -1,0 +1,14 @@
+use Rattle.std.proofs.Common.{refl}
+use Rattle.std.proofs.lemmas.Bool.{eq-eqb, ne_eqb}
+use Rattle.command_runs.proofs.live.FieldsFacts.{return_cut}
+use Rattle.command_runs.proofs.live.record.without_return.Goals as goal
+
+pub returns-then-last-eq13 : goal.returns-then-last-eq13
+returns-then-last-eq13 c =
+    let last = c.in-Some.last.now in
+    rw (c.in-Some.ensures.cases.0, return_cut c.in-Some.front.now last, eq-eqb last 13 c.if-last-eq13.true) refl
+
+pub returns-else-last-eq13 : goal.returns-else-last-eq13
+returns-else-last-eq13 c =
+    let last = c.in-Some.last.now in
+    rw (c.in-Some.ensures.cases.0, return_cut c.in-Some.front.now last, ne_eqb last 13 c.if-last-eq13.false) refl

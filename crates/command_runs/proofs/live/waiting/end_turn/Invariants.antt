@@ -1,0 +1,12 @@
+use Rattle.std.proofs.Common.{◌≡◌, ◌<◌, ◌≤◌, Some, length, ℕ}
+use Rattle.std.specs.List.{slice_get}
+use Rattle.command_runs.specs.inner.Turns.{IsEnded}
+use Rattle.command_runs.specs.declared.live.waiting.Waiting.{Waiting}
+use Rattle.command_runs.proofs.live.waiting.end_turn.Given as goal
+
+abbrev pub invariant-loop-index : goal.invariant-loop-index
+invariant-loop-index l = record {
+  count : length l.lanes.items ≡ length l.fn.lanes.items;
+  each : (k : ℕ) (w : Waiting) → slice_get l.lanes.items k ≡ Some w
+      → (k < l.index → (v : Waiting) × (slice_get l.fn.lanes.items k ≡ Some v) × IsEnded v w) × (l.index ≤ k → slice_get l.fn.lanes.items k ≡ Some w);
+}

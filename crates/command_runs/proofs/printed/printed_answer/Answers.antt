@@ -1,0 +1,5 @@
+use Rattle.command_runs.proofs.PrintedFacts.{printed_answer as law}
+use Rattle.command_runs.proofs.printed.printed_answer.Goals as goal
+
+pub returns : goal.returns
+returns c = law c.bar_rows_answer.ensures c.empty_cells_are_blank.ensures c.dots_make_row.ensures

@@ -1,0 +1,5 @@
+use Rattle.command_runs.proofs.PrintedFacts.{scanned_once as law}
+use Rattle.command_runs.proofs.printed.scanned_once.Goals as goal
+
+pub returns : goal.returns
+returns c = law c.dots_determine.ensures c.one_answer.ensures

@@ -1,0 +1,17 @@
+-- The command `check`.
+use Rattle.std.specs.Prelude.{◌≡◌, ℕ}
+use Rattle.csv_records.specs.check.Checks.{check_meaning, check_report}
+use Rattle.element_core.specs.Terms.{Terms}
+use Rattle.command_runs.specs.Runs.{Command, RefusesRecords, WritesOnce, WritesRecords}
+
+-- a line for each record, under the reference year
+abbrev pub check_command : Terms → Command
+check_command year = record {
+  writes = WritesRecords (check_meaning year) (λ answers text. text ≡ check_report answers);
+  refuses =
+      RefusesRecords (check_meaning year);
+}
+
+-- of the same bytes it writes one text at most
+abbrev pub OneCheck : Type 0
+OneCheck = (year : Terms) → WritesOnce (check_command year)

@@ -1,0 +1,26 @@
+-- The command `lanes`.
+use Rattle.std.specs.Prelude.{◌≢◌, ℕ, List, [], Option}
+use Rattle.command_runs.specs.answers.Reports.{IsReport}
+use Rattle.csv_records.specs.input.Records.{Takes}
+use Rattle.csv_records.specs.lanes.Feeds.{feeds_of, lanes_meaning}
+use Rattle.command_runs.specs.Runs.{Command, RefusesRecords, WritesOnce, WritesRecords}
+use Rattle.command_runs.specs.declared.fault.CommandFault.{CommandFault}
+use Rattle.command_runs.specs.declared.fault.CommandFault.TheVariants as command
+use Rattle.command_line.specs.declared.commands.lanes.options.LaneOptions.{LaneOptions}
+
+-- why `lanes` refuses the input: the records, then a thread that could not be started, and only if there is a row
+abbrev pub RefusesLanes : ℕ → Option (List ℕ) → Option (List ℕ) → CommandFault → Type 0
+RefusesLanes lanes left rest command.NoThread = Takes (lanes_meaning lanes) (λ rows. rows ≢ []) left rest
+RefusesLanes lanes left rest f = RefusesRecords (lanes_meaning lanes) left rest f
+
+-- the report of the answers to the rows that records give each lane
+abbrev pub lanes_command : LaneOptions → Command
+lanes_command o = record {
+  writes = WritesRecords (lanes_meaning o.lanes) (λ rows text. IsReport o.year (feeds_of o.lanes rows) text);
+  refuses =
+      RefusesLanes o.lanes;
+}
+
+-- of the same bytes it writes one text at most
+abbrev pub OneLanes : Type 0
+OneLanes = (o : LaneOptions) → WritesOnce (lanes_command o)

@@ -1,0 +1,15 @@
+-- Definitions for the inside of the crate: types, private contracts and proofs name them, and no public contract reaches them.
+pub mod Buffers
+pub mod Came
+pub mod Cuts
+pub mod Finish
+pub mod Lines
+pub mod Lived
+pub mod Meaning
+pub mod Prints
+pub mod Replies
+pub mod Reports
+pub mod Rows
+pub mod Stops
+pub mod Texts
+pub mod Turns

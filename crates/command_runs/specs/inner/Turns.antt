@@ -1,0 +1,51 @@
+-- How the lanes of a turn change.
+use Rattle.std.specs.Prelude.{◌≡◌, ◌<◌, ◌≤◌, ◌+◌, ℕ, List, [], Option, Some, None, Result, Ok, Err, length, slice_get, slice_set, vec_capacity}
+use Rattle.std.specs.declared.alloc.AllocError.{AllocError}
+use Rattle.command_runs.specs.declared.live.waiting.Waiting.{Waiting}
+
+-- no more deliveries than rows
+abbrev pub IsBehind : Waiting → Type 0
+IsBehind w = w.first + length w.deliveries.items ≤ w.next
+
+-- the same rows and deliveries, with as much room at least
+pub record IsRoomier (old new : Waiting) : Type 0 where
+  pub first : new.first ≡ old.first
+  pub next : new.next ≡ old.next
+  pub deliveries : new.deliveries.items ≡ old.deliveries.items
+  pub room : vec_capacity old.deliveries ≤ vec_capacity new.deliveries
+
+-- one row more, under this number, with room for its delivery
+pub record IsOneMore (number : ℕ) (old new : Waiting) : Type 0 where
+  pub same : number ≡ old.next
+  pub left : number < 4294967295
+  pub first : new.first ≡ old.first
+  pub next : new.next ≡ old.next + 1
+  pub deliveries : new.deliveries.items ≡ old.deliveries.items
+  pub room : new.next ≤ new.first + vec_capacity new.deliveries
+
+-- a number was taken, unless the lane has had all, or memory was refused
+abbrev pub TakesNumber : Result (Option ℕ) AllocError → Waiting → Waiting → Type 0
+TakesNumber (Ok (Some number)) old new = IsOneMore number old new
+TakesNumber (Ok None) old new = IsRoomier old new × (old.next ≡ 4294967295)
+TakesNumber (Err refused) old new = IsRoomier old new
+
+-- of the lane of this place
+abbrev pub TakesNumberOf : ℕ → Result (Option ℕ) AllocError → List Waiting → List Waiting → Type 0
+TakesNumberOf lane result old new = (w : Waiting) × (v : Waiting) × (slice_get old lane ≡ Some w) × (new ≡ slice_set old lane v) × TakesNumber result w v
+
+-- the turn of a lane has ended
+pub record IsEnded (old new : Waiting) : Type 0 where
+  pub first : new.first ≡ old.next
+  pub next : new.next ≡ old.next
+  pub deliveries : new.deliveries.items ≡ []
+
+-- the turn of each lane has ended
+pub record AreEnded (old new : List Waiting) : Type 0 where
+  pub count : length new ≡ length old
+  pub each : (k : ℕ) (w : Waiting) → slice_get new k ≡ Some w → (v : Waiting) × (slice_get old k ≡ Some v) × IsEnded v w
+
+-- nothing has come of a lane
+pub record IsFresh (w : Waiting) : Type 0 where
+  pub first : w.first ≡ 0
+  pub next : w.next ≡ 0
+  pub deliveries : w.deliveries.items ≡ []

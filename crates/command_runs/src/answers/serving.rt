@@ -1,0 +1,177 @@
+//! Rows that workers answer, and the report of the answers.
+ghost use Rattle.std.specs.Prelude.{[], ◌≡◌, ◌≢◌, ◌↔◌, ◌<◌, All, List, map, replicate, true, vec_len, IfOk, IsErrOf, IsTrue, string_bytes};
+ghost use Rattle.std.specs.List.{AllZip};
+ghost use Rattle.scan_core.specs.Answers.{Reads};
+ghost use Rattle.scan_core.specs.declared.answer.Answer.{Answer};
+ghost use Rattle.hub_core.specs.Feeds.{AreGiven, are_given, rests_of};
+ghost use Rattle.hub_core.specs.Serving.{are_counts};
+ghost use Rattle.hub_core.specs.declared.fault.ServeFault.{ServeFault};
+ghost use Rattle.command_runs.specs.declared.answers.serving.AnswerFault.TheVariants.{NoMemory};
+ghost use Rattle.command_runs.specs.inner.Reports.{AreLinesOf, TellsOf, lane_lines};
+ghost use Rattle.command_runs.specs.answers.Reports.{IsReport};
+
+use crate::answers::report::{joined, push_line};
+use element_core::{Form, Year};
+use hub_core::{
+    Ended, Feeds, Gate, ServeFault, Traffic, answers_are_read, feeds_are_given, serve_traffic,
+};
+use lane_core::Delivery;
+use scan_core::Runs;
+use std::alloc::{AllocError, Global};
+use std::convert::Infallible;
+use std::sync::Wait;
+use std::thread::Threads;
+
+/// Why rows are not answered.
+#[derive(Clone, Copy, Debug, PartialEq, Eq)]
+pub enum AnswerFault {
+    /// A thread could not be started.
+    NoThread,
+    /// A growth was refused.
+    NoMemory,
+}
+
+impl From<AllocError> for AnswerFault {
+    ghost from_gives = { λ refused fault. fault ≡ NoMemory };
+
+    fn from(_: AllocError) -> AnswerFault {
+        AnswerFault::NoMemory
+    }
+}
+
+/// Why rows are not answered, if they are not served.
+pub fn fault_of(fault: ServeFault) -> AnswerFault
+    requires { fault ≢ ServeFault.BadCount }
+    ensures memory { fault ≡ ServeFault.NoMemory → result ≡ AnswerFault.NoMemory }
+    ensures thread { fault ≡ ServeFault.NoThread → result ≡ AnswerFault.NoThread }
+{
+    match fault {
+        ServeFault::NoThread => AnswerFault::NoThread,
+        ServeFault::NoMemory => AnswerFault::NoMemory,
+        ServeFault::BadCount => unreachable!(),
+    }
+}
+
+/// Whether no feed has a row.
+fn are_rowless(feeds: &[Vec<Runs>]) -> bool
+    ensures { IsTrue result ↔ All (λ feed. feed.items ≡ []) feeds.now }
+{
+    feeds.iter().all(|feed| feed.is_empty())
+}
+
+/// The rows that are left of each lane, and the lines that answer the others.
+#[derive(Drop)]
+struct AnsweredRows {
+    feeds: Feeds,
+    texts: Vec<String>,
+}
+
+impl Traffic for AnsweredRows {
+    ghost use Rattle.std.specs.Prelude.{◌≡◌, map, string_bytes};
+    ghost use Rattle.hub_core.specs.Feeds.{AreGiven, are_given, rests_of};
+    ghost use Rattle.command_runs.specs.inner.Reports.{AreLinesOf};
+
+    type WaitFault = Infallible;
+
+    type BringFault = AllocError;
+
+    ghost Came = { λ start s given brought. AreGiven (rests_of start.feeds) given (rests_of s.feeds) × AreLinesOf brought (map string_bytes s.texts.items) };
+
+    ghost has_ended = { λ s. are_given (rests_of s.feeds) };
+
+    ghost Leaves = { λ s t. rests_of t.feeds ≡ rests_of s.feeds };
+
+    fn next(&mut self) -> Option<(u8, Runs)> {
+        self.feeds.take()
+    }
+
+    fn bring(&mut self, delivery: Delivery) -> Result<(), AllocError> {
+        push_answer_of(&mut self.texts, delivery)
+    }
+
+    fn wait(&mut self) -> Result<bool, Infallible> {
+        Ok(!self.feeds.is_empty())
+    }
+}
+
+/// Appends the line that answers a delivery to the text of its lane.
+pub fn push_answer_of(texts: &mut Vec<String>, delivery: Delivery) -> Result<(), AllocError>
+    requires { delivery.lane < vec_len texts.old }
+    ensures { IfOk result (λ _. TellsOf delivery (map string_bytes texts.old.items) (map string_bytes texts.new.items)) }
+{
+    let ticket = delivery.ticket();
+    let index = usize::from(ticket.lane);
+    let answer = delivery.answer();
+    push_line(
+        &mut texts[index],
+        Form::HumanReadable,
+        ticket.lane,
+        ticket.number,
+        &answer,
+    )
+}
+
+/// A text for the lines of each lane.
+pub fn make_texts(alloc: Global, lanes: u8) -> Result<Vec<String>, AllocError>
+    ensures { IfOk result (λ v. map string_bytes v.items ≡ replicate lanes []) }
+{
+    let mut texts = Vec::with_capacity(alloc, usize::from(lanes))?;
+    for _lane in 0..lanes {
+        texts.push(String::new(alloc))?;
+    }
+    Ok(texts)
+}
+
+/// The lines of each lane.
+fn answer_each<R: Threads + Wait + Sync, G: Gate + Sync>(
+    rt: &R,
+    alloc: Global,
+    feeds: Vec<Vec<Runs>>,
+    workers: u8,
+    year: Year,
+    gate: &G,
+) -> Result<Vec<String>, AnswerFault>
+    requires { are_counts (map (λ feed. feed.items) feeds.items) workers ≡ true }
+    ensures lines { IfOk result (λ v. (answers : List (List Answer))
+        × AllZip (λ rows read. Reads rows year read) (map (λ feed. feed.items) feeds.items) answers
+        × (map string_bytes v.items ≡ lane_lines 0 answers)) }
+{
+    let lanes = feeds.len() as u8;
+    let texts = make_texts(alloc, lanes)?;
+    let traffic = AnsweredRows {
+        feeds: Feeds::new(alloc, feeds)?,
+        texts,
+    };
+    // Laws, by which the clause follows: none of these calls does anything.
+    feeds_are_given();
+    answers_are_read();
+    match serve_traffic(rt, alloc, traffic, lanes, workers, year, gate) {
+        Ok((traffic, Ended::Done)) => Ok(traffic.texts),
+        Ok(_) => Err(AnswerFault::NoMemory),
+        Err(refused) => Err(fault_of(refused.fault)),
+    }
+}
+
+/// The lines that answer the rows of each feed, lane by lane and by number. This many workers read the
+/// rows beside each other, and each passes the gate before a row.
+///
+/// All rows go through one hub, and the gate sees each under its number in its lane. `NoThread` comes only
+/// if a feed has a row.
+pub fn answer_lines<R: Threads + Wait + Sync, G: Gate + Sync>(
+    rt: &R,
+    alloc: Global,
+    feeds: Vec<Vec<Runs>>,
+    workers: u8,
+    year: Year,
+    gate: &G,
+) -> Result<String, AnswerFault>
+    requires { are_counts (map (λ feed. feed.items) feeds.items) workers ≡ true }
+    ensures report { IfOk result (λ lines. IsReport year (map (λ feed. feed.items) feeds.items) (string_bytes lines)) }
+    ensures threads { IsErrOf result AnswerFault.NoThread → All (λ feed. feed.items ≡ []) feeds.items → ⊥ }
+{
+    if are_rowless(feeds.as_slice()) {
+        return Ok(String::new(alloc));
+    }
+    let texts = answer_each(rt, alloc, feeds, workers, year, gate)?;
+    Ok(joined(alloc, texts)?)
+}

@@ -1,0 +1,94 @@
+//! A buffer before a sink.
+ghost use Rattle.std.specs.Prelude.{◌≡◌, [], false, true, IsErr, IsTrue, OnErr, OnOk};
+ghost use Rattle.std.specs.Io.KnownBytes.{Keeps};
+ghost use Rattle.command_runs.specs.inner.Buffers.{taken_and_waiting};
+
+use crate::write_buffer::{ROOM, WriteBuffer};
+use digits_core::{Failed, Sink};
+use std::marker::Model;
+
+/// A sink that lets up to 65,536 bytes wait, and writes them together to another, so that many small
+/// writes are few large ones. What waits at the end is written by `flush` alone. After a failure of
+/// the other sink it is not written to again.
+#[derive(Drop)]
+pub struct Buffered<W: Sink> {
+    sink: W,
+    waiting: WriteBuffer,
+    has_failed: bool,
+}
+
+impl<W: Sink> Model for Buffered<W> {
+    ghost use Rattle.std.specs.Prelude.{◌≡◌};
+    ghost use Rattle.command_runs.specs.inner.Buffers.{Waiting};
+
+    ghost Value = { Waiting W };
+
+    ghost view = { λ s. record { sink = s.sink; waiting = s.waiting } };
+
+    ghost invariant = { λ s. s.has_failed ≡ W.failed s.sink };
+}
+
+impl<W: Sink> Buffered<W> {
+    /// An empty buffer before a sink that has not failed.
+    pub fn new(sink: W) -> Buffered<W>
+        requires { W.failed sink ≡ false }
+        ensures { result ≡ record { sink = sink; waiting = [] } }
+    {
+        Buffered {
+            sink,
+            waiting: WriteBuffer::new(),
+            has_failed: false,
+        }
+    }
+
+    /// Writes what waits. What a failed write did not take waits still.
+    pub fn flush(&mut self) -> Result<(), Failed>
+        ensures bytes { Keeps (taken_and_waiting W.taken self.old) (taken_and_waiting W.taken self.new) }
+        ensures empty { OnOk result (self.new.waiting ≡ []) }
+        ensures ok { OnOk result (W.failed self.new.sink ≡ W.failed self.old.sink) }
+        ensures err { OnErr result (W.failed self.new.sink ≡ true) }
+        ensures again { IsTrue (W.failed self.old.sink) → IsErr result }
+    {
+        if self.has_failed {
+            return Err(Failed);
+        }
+        'writes: while !self.waiting.is_empty() {
+            let Ok(count) = self.sink.write(self.waiting.as_slice()) else {
+                self.has_failed = true;
+                return Err(Failed);
+            };
+            self.waiting.drop_front(count);
+        }
+        Ok(())
+    }
+
+    /// The sink, without what waits.
+    pub fn into_inner(self) -> W
+        ensures { result ≡ self.sink }
+    {
+        let Buffered {
+            sink,
+            waiting: _,
+            has_failed: _,
+        } = self;
+        sink
+    }
+}
+
+impl<W: Sink> Sink for Buffered<W> {
+    ghost taken = { taken_and_waiting W.taken };
+
+    ghost failed = { λ s. W.failed s.sink };
+
+    fn write(&mut self, bytes: &[u8]) -> Result<usize, Failed> {
+        if self.has_failed {
+            return Err(Failed);
+        }
+        if self.waiting.len() == ROOM {
+            self.flush()?;
+        }
+        let count = bytes.len().min(ROOM - self.waiting.len());
+        self.waiting.append(&bytes[..count]);
+        Ok(count)
+    }
+}

@@ -1,0 +1,141 @@
+//! The rows that sheets give the lanes of their columns.
+ghost use Rattle.std.specs.Prelude.{[], ◌≡◌, ◌<◌, ◌↔◌, List, true, false, Ok, Err, IfErr, IfOk, IfSome, IsErrOf, OnOk, length, replicate};
+ghost use Rattle.std.specs.Io.KnownBytes.{IsAtEnd};
+ghost use Rattle.hub_core.specs.Serving.{are_short};
+ghost use Rattle.sheet_core.specs.Bitmaps.{Bitmap};
+ghost use Rattle.sheet_core.specs.declared.fault.PbmFault.{PbmFault};
+ghost use Rattle.sheet_core.specs.pbm.Images.{ReadsBytes, images_of};
+ghost use Rattle.command_runs.specs.Columns.{AreColumnsIf, column_dots, has_size, items_in};
+ghost use Rattle.command_runs.specs.inner.Cuts.{AddsDots, AddsSheet, AreCut};
+
+use digits_core::Source;
+use scan_core::Runs;
+use sheet_core::{
+    Grid, NoMemory, PbmFault, Sheet, SheetIntake, files_are_read, grids_keep_limits, read_sheets,
+};
+use std::alloc::{AllocError, Global};
+
+/// Whether a sheet has the size of the grid.
+fn is_of_size(grid: Grid, sheet: &Sheet) -> bool
+    ensures { result ≡ has_size grid sheet.now }
+{
+    grids_keep_limits(&grid);
+    let width = grid.columns() * grid.cell_width();
+    let height = grid.rows() * grid.cell_height();
+    sheet.width() == width && sheet.height() == height
+}
+
+/// Appends the middle rows of a column's cells of a sheet, from the top.
+fn push_column(
+    alloc: Global,
+    grid: Grid,
+    column: u16,
+    sheet: &Sheet,
+    rows: &mut Vec<Runs>,
+) -> Result<(), AllocError>
+    requires column { column < grid.columns }
+    requires size { has_size grid sheet.now ≡ true }
+    ensures added { OnOk result (AddsDots (column_dots grid column sheet.now) rows.old.items rows.new.items) }
+{
+    grids_keep_limits(&grid);
+    for row in 0..grid.rows() {
+        let cell = row * grid.columns() + column;
+        let Ok(runs) = sheet.cell_row(alloc, &grid, cell, grid.cell_height() / 2) else {
+            return Err(AllocError);
+        };
+        rows.push(runs)?;
+    }
+    Ok(())
+}
+
+/// Appends the rows of a sheet's columns, each to the rows of its column.
+fn push_columns(
+    alloc: Global,
+    grid: Grid,
+    sheet: &Sheet,
+    feeds: &mut Vec<Vec<Runs>>,
+) -> Result<(), AllocError>
+    requires count { length feeds.old.items ≡ grid.columns }
+    requires size { has_size grid sheet.now ≡ true }
+    ensures added { OnOk result (AddsSheet grid sheet.now (items_in feeds.old.items) (items_in feeds.new.items)) }
+{
+    for column in 0..grid.columns() {
+        push_column(alloc, grid, column, sheet, &mut feeds[usize::from(column)])?;
+    }
+    Ok(())
+}
+
+/// What is kept of sheets: the rows of each column, and whether each sheet had the grid's size.
+#[derive(Drop)]
+struct Kept {
+    feeds: Vec<Vec<Runs>>,
+    fit: bool,
+}
+
+/// Cuts the rows of sheets by a grid, and keeps no sheet.
+#[derive(Clone, Copy)]
+struct RowsByColumn {
+    alloc: Global,
+    grid: Grid,
+}
+
+impl SheetIntake for RowsByColumn {
+    type Made = Kept;
+
+    ghost makes = { λ by sheets kept. AreCut by.grid sheets kept.fit (items_in kept.feeds.items) };
+
+    fn take(&self, kept: &mut Kept, sheet: Sheet) -> Result<(), NoMemory> {
+        if !kept.fit {
+            return Ok(());
+        }
+        if !is_of_size(self.grid, &sheet) {
+            kept.fit = false;
+            return Ok(());
+        }
+        match push_columns(self.alloc, self.grid, &sheet, &mut kept.feeds) {
+            Ok(()) => Ok(()),
+            Err(AllocError) => Err(NoMemory),
+        }
+    }
+}
+
+/// This many feeds without a row.
+fn make_feeds(alloc: Global, columns: u16) -> Result<Vec<Vec<Runs>>, AllocError>
+    ensures { IfOk result (λ v. items_in v.items ≡ replicate columns []) }
+{
+    let mut feeds = Vec::with_capacity(alloc, usize::from(columns))?;
+    for _column in 0..columns {
+        feeds.push(Vec::new(alloc))?;
+    }
+    Ok(feeds)
+}
+
+/// The rows of each column of the images that a source gives: column `c` is lane `c`. None if an image has another
+/// size than the grid's. The rows of an image are cut before the next is read, and the image is not kept.
+pub fn read_columns<S: Source>(
+    alloc: Global,
+    grid: Grid,
+    source: &mut S,
+) -> Result<Option<Vec<Vec<Runs>>>, PbmFault>
+    ensures ok { IfOk result (λ columns. (sheets : List Bitmap) × ReadsBytes images_of (S.left source.old) (S.left source.new) (Ok sheets)
+        × AreColumnsIf grid sheets columns) }
+    ensures count { IfOk result (λ columns. IfSome columns (λ v. length v.items ≡ grid.columns)) }
+    ensures short { IfOk result (λ columns. IfSome columns (λ v. are_short (items_in v.items) ≡ true)) }
+    ensures end { OnOk result (IsAtEnd (S.left source.new)) }
+    ensures err { IfErr result (λ fault. ReadsBytes images_of (S.left source.old) (S.left source.new) (Err fault)) }
+    ensures fault { S.failed source.old ≡ false
+        → (IsErrOf result PbmFault.ReadFault ↔ (S.failed source.new ≡ true)) }
+{
+    grids_keep_limits(&grid);
+    // The law by which there are few images, and so few rows.
+    files_are_read();
+    let Ok(feeds) = make_feeds(alloc, grid.columns()) else {
+        return Err(PbmFault::NoMemory);
+    };
+    let mut kept = Kept { feeds, fit: true };
+    read_sheets(alloc, source, &RowsByColumn { alloc, grid }, &mut kept)?;
+    if !kept.fit {
+        return Ok(None);
+    }
+    Ok(Some(kept.feeds))
+}

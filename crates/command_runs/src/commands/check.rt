@@ -1,0 +1,34 @@
+//! The command `check`: records of a kind and a text in, a line for each out.
+ghost use Rattle.command_runs.specs.Runs.{Ran};
+ghost use Rattle.command_runs.specs.commands.Checks.{OneCheck, check_command};
+
+use crate::fault::CommandFault;
+use csv_records::check_lines;
+use digits_core::{Sink, Source, write_all};
+use element_core::{Year, one_list_or_fault};
+use std::alloc::Global;
+
+/// Checks the texts that a source gives, a line for each in their order.
+///
+/// The source gives CSV records of two fields: a kind, `digit`, `gtin`, `upce` or `text`, and a text
+/// of it. A text that is refused is answered by its fault. Nothing is written unless the whole input
+/// is taken.
+pub fn run_check<S: Source, W: Sink>(
+    alloc: Global,
+    year: Year,
+    source: &mut S,
+    sink: &mut W,
+) -> Result<(), CommandFault>
+    ensures { Ran (check_command year) S.left S.failed W.taken W.failed source.old source.new sink.old sink.new result }
+{
+    let lines = check_lines(alloc, year, source)?;
+    write_all(sink, lines.as_str().as_bytes())?;
+    Ok(())
+}
+
+/// Of the same bytes `check` writes one text at most.
+pub fn one_check()
+    ensures { OneCheck }
+{
+    one_list_or_fault();
+}

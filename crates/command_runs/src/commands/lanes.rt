@@ -1,0 +1,49 @@
+//! The command `lanes`: records in, the answers of each lane out.
+ghost use Rattle.command_runs.specs.Runs.{Ran};
+ghost use Rattle.command_runs.specs.commands.Lanes.{OneLanes, lanes_command};
+
+use crate::answers::rows::answer_records;
+use crate::fault::CommandFault;
+use command_line::LaneOptions;
+use digits_core::{Sink, Source, write_all};
+use hub_core::Gate;
+use scan_core::{one_answer, row_or_fault};
+use std::alloc::Global;
+use std::sync::Wait;
+use std::thread::Threads;
+
+/// Answers the rows that a source gives, a line for each, lane by lane and by number. Workers read
+/// them beside each other, and each passes the gate before a row.
+///
+/// The source gives CSV records of two fields: a lane, and the widths of a row in dots with one
+/// space between them. Nothing is written unless the whole input is taken.
+pub fn run_lanes<R: Threads + Wait + Sync, S: Source, W: Sink, G: Gate + Sync>(
+    rt: &R,
+    alloc: Global,
+    options: LaneOptions,
+    source: &mut S,
+    sink: &mut W,
+    gate: &G,
+) -> Result<(), CommandFault>
+    ensures { Ran (lanes_command options) S.left S.failed W.taken W.failed source.old source.new sink.old sink.new result }
+{
+    let lines = answer_records(
+        rt,
+        alloc,
+        options.lanes,
+        options.workers,
+        options.year,
+        source,
+        gate,
+    )?;
+    write_all(sink, lines.as_str().as_bytes())?;
+    Ok(())
+}
+
+/// Of the same bytes `lanes` writes one text at most.
+pub fn one_lanes()
+    ensures { OneLanes }
+{
+    row_or_fault();
+    one_answer();
+}

@@ -1,0 +1,44 @@
+//! The command `live`: records in, the answer of each out as soon as it can be.
+ghost use Rattle.std.specs.Prelude.{◌≡◌, [], IsErrOf};
+ghost use Rattle.command_runs.specs.Faults.{no_thread};
+ghost use Rattle.command_runs.specs.commands.Lives.{IsLive};
+
+use crate::fault::CommandFault;
+use crate::live::answering::{LiveTerms, answer_live};
+use command_line::LiveOptions;
+use hub_core::Gate;
+use std::alloc::Global;
+use std::sync::Wait;
+use std::thread::Threads;
+use wire_core::Wire;
+
+/// Answers each record that comes over a wire by one line, in the order of the records. Workers read the rows beside
+/// each other, and each passes the gate before a row.
+///
+/// A record is a line: a lane, a comma, and the widths of a row in dots with one space between them. Before each read
+/// all records that have come are answered. The wire is given back with the end that the run came to; after `NoThread`
+/// it is as it was, so that nothing was read and nothing written.
+pub fn run_live<R: Threads + Wait + Sync, W: Wire + Drop, G: Gate + Sync>(
+    rt: &R,
+    alloc: Global,
+    options: LiveOptions,
+    wire: W,
+    gate: &G,
+) -> (W, Result<(), CommandFault>)
+    requires fresh { W.Did wire wire [] }
+    ensures lived { IsLive options W.Did W.read_failed W.write_failed W.at_end wire result.0 result.1 }
+    ensures untouched { IsErrOf result.1 no_thread → result.0 ≡ wire }
+{
+    let rows = options.rows;
+    let terms = LiveTerms {
+        lanes: rows.lanes,
+        workers: rows.workers,
+        year: rows.year,
+        form: options.form,
+    };
+    let (wire, ended) = answer_live(rt, alloc, terms, wire, gate);
+    match ended {
+        Ok(()) => (wire, Ok(())),
+        Err(fault) => (wire, Err(CommandFault::from(fault))),
+    }
+}

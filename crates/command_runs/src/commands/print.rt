@@ -1,0 +1,72 @@
+//! The command `print`: records of a kind and a text in, the images of their labels out.
+ghost use Rattle.std.specs.Prelude.{◌≡◌, ◌≢◌, ◌↔◌, true, false, IfErr, IsErrOf, OnOk};
+ghost use Rattle.std.specs.Io.KnownBytes.{Appends};
+ghost use Rattle.digits_core.specs.Bytes.{TookFront};
+ghost use Rattle.command_runs.specs.Runs.{Ran};
+ghost use Rattle.command_runs.specs.commands.Prints.{IsUnprinted, OnePrint, print_command};
+ghost use Rattle.command_runs.specs.inner.Prints.{Prints};
+ghost use Rattle.command_line.specs.declared.commands.print.options.Output.{Output};
+
+use crate::fault::CommandFault;
+use crate::grid::grid_of;
+use command_line::{Output, PrintOptions};
+use csv_records::{label_lines, read_labels};
+use digits_core::{Sink, Source, write_all};
+use element_core::one_list_or_fault;
+use sheet_core::{Grid, Label, check_labels, one_printed, print_pbm};
+use std::alloc::Global;
+
+/// Writes labels as they are asked for.
+fn write_labels<W: Sink>(
+    alloc: Global,
+    options: PrintOptions,
+    grid: Grid,
+    labels: &[Label],
+    sink: &mut W,
+) -> Result<(), CommandFault>
+    ensures ok { OnOk result (Prints grid options.output labels.now (Appends (W.taken sink.old) (W.taken sink.new))) }
+    ensures cut { IsErrOf result CommandFault.WriteFault
+        → Prints grid options.output labels.now (TookFront (W.taken sink.old) (W.taken sink.new)) }
+    ensures refused { IfErr result (IsUnprinted grid labels.now) }
+    ensures unwritten { IfErr result (λ e. e ≢ CommandFault.WriteFault → sink.new ≡ sink.old) }
+    ensures write { W.failed sink.old ≡ false
+        → (IsErrOf result CommandFault.WriteFault ↔ (W.failed sink.new ≡ true)) }
+{
+    match options.output {
+        Output::Lines => {
+            check_labels(labels, &grid)?;
+            let cells = usize::from(grid.columns()) * usize::from(grid.rows());
+            let text = label_lines(alloc, labels, cells, options.year)?;
+            write_all(sink, text.as_str().as_bytes())?;
+        }
+        Output::Images => print_pbm(alloc, labels, grid, sink)?,
+    }
+    Ok(())
+}
+
+/// Prints the labels that a source gives, as images of the sheets that they fill, or if text is
+/// asked for a line for each.
+///
+/// The source gives CSV records of two fields: a kind, `ean13`, `upca`, `ean8`, `upce` or `itf14` with a GTIN,
+/// or `gs1128` with an element string. A grid outside its limits is refused before any input is read.
+/// Nothing is written unless the whole input is taken and every label is printed.
+pub fn run_print<S: Source, W: Sink>(
+    alloc: Global,
+    options: PrintOptions,
+    source: &mut S,
+    sink: &mut W,
+) -> Result<(), CommandFault>
+    ensures { Ran (print_command options) S.left S.failed W.taken W.failed source.old source.new sink.old sink.new result }
+{
+    let grid = grid_of(options.grid)?;
+    let labels = read_labels(alloc, options.year, source)?;
+    write_labels(alloc, options, grid, labels.as_slice(), sink)
+}
+
+/// Of the same bytes `print` writes one text of bytes at most.
+pub fn one_print()
+    ensures { OnePrint }
+{
+    one_list_or_fault();
+    one_printed();
+}

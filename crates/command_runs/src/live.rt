@@ -1,0 +1,9 @@
+//! An input that is answered as it comes, a line for each record in the order of the records.
+pub mod answering;
+pub mod fault;
+pub mod input;
+pub mod laws;
+pub mod manner;
+pub mod pending;
+pub mod record;
+pub mod waiting;

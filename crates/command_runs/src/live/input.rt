@@ -1,0 +1,264 @@
+//! A live input: the rows of the lines that come over a wire, and the lines that answer them.
+ghost use Rattle.std.specs.Prelude.{◌≡◌, [], IfErr, IfOk, Ok, OnOk, false, length, replicate, true};
+ghost use Rattle.hub_core.specs.Traffics.{IsLed, IsOwedNothing, Stays, StaysOwedNothing};
+ghost use Rattle.command_runs.specs.inner.Came.{TakesLine, after_line};
+ghost use Rattle.command_runs.specs.inner.Finish.{is_finished};
+ghost use Rattle.command_runs.specs.inner.Meaning.{IsHeld};
+ghost use Rattle.command_runs.specs.inner.Stops.{MayStillWrite};
+
+use crate::live::fault::{LiveFault, is_open};
+use crate::live::manner::Manner;
+use crate::live::pending::{PendingReply, push_replies};
+use crate::live::record::{LineFault, Record, next_record};
+use crate::live::waiting::{Waiting, end_turn, make_lanes, next_number};
+use hub_core::Traffic;
+use lane_core::Delivery;
+use scan_core::Runs;
+use std::alloc::{AllocError, Global};
+use std::convert::Infallible;
+use wire_core::{Lines, Wire, write_all};
+
+/// How many records are answered in a turn, at most.
+const TURN: usize = 1_024;
+
+/// The live input has stopped; it says why itself.
+#[derive(Clone, Copy, Debug, PartialEq, Eq)]
+pub struct Stopped;
+
+/// What was taken of what has come.
+#[derive(Debug, Drop)]
+pub enum NextLine {
+    /// Nothing: no line has ended, the turn is full, or memory was refused.
+    Nothing,
+    /// A record that gets no ticket, or a line without one.
+    Line,
+    /// A row of a lane.
+    Row(u8, Runs),
+}
+
+/// A live input: a wire on which records come and their answers go, and how far it has come.
+#[derive(Drop)]
+pub struct Live<W> {
+    /// The wire.
+    pub wire: W,
+    alloc: Global,
+    manner: Manner,
+    text: String,
+    /// The rows of each lane in this turn.
+    lanes: Vec<Waiting>,
+    /// The replies to the turn's records, in their order.
+    replies: Vec<PendingReply>,
+    /// What is held of the input.
+    lines: Lines,
+    /// Why nothing more is taken.
+    stopped: Option<LiveFault>,
+}
+
+impl<W: Wire> Live<W> {
+    /// A live input of this many lanes, of which nothing has been read. If memory is refused the wire is given
+    /// back.
+    pub fn new(alloc: Global, lanes: u8, manner: Manner, wire: W) -> Result<Live<W>, W>
+        requires { W.Did wire wire [] }
+        ensures came { IfOk result (λ s. ⟦<Live<W> as Traffic>⟧.Came s s (replicate lanes []) (replicate lanes [])) }
+        ensures wire { IfOk result (λ s. s.wire ≡ wire) }
+        ensures manner { IfOk result (λ s. s.manner ≡ manner) }
+        ensures count { IfOk result (λ s. length s.lanes.items ≡ lanes) }
+        ensures refused { IfErr result (λ w. w ≡ wire) }
+    {
+        let Ok(lanes) = make_lanes(alloc, lanes) else {
+            return Err(wire);
+        };
+        let Ok(lines) = Lines::new(alloc) else {
+            return Err(wire);
+        };
+        Ok(Live {
+            wire,
+            alloc,
+            manner,
+            text: String::new(alloc),
+            lanes,
+            replies: Vec::new(alloc),
+            lines,
+            stopped: None,
+        })
+    }
+
+    /// Why it has stopped, if it has.
+    pub fn stopped(&self) -> Option<LiveFault>
+        ensures { result ≡ self.now.stopped }
+    {
+        self.stopped
+    }
+
+    /// Keeps the reply to the record that is held, whose line is taken after it.
+    fn keep(&mut self, found: Record) -> Result<NextLine, AllocError>
+        requires led { IsLed ⟦<Live<W> as Traffic>⟧.Came self.old }
+        requires found { IsHeld (length self.old.lanes.items) self.old.lines found }
+        ensures takes { TakesLine ⟦<Live<W> as Traffic>⟧.Came result self.old (after_line result self.new) }
+        ensures lines { self.new.lines ≡ self.old.lines }
+        ensures stopped { self.new.stopped ≡ self.old.stopped }
+    {
+        self.replies.reserve(1)?;
+        match found {
+            Record::Blank => Ok(NextLine::Line),
+            Record::Message(lane, text) => {
+                let told = PendingReply::Message(lane, text);
+                self.replies.push_reserved(told);
+                Ok(NextLine::Line)
+            }
+            Record::Refused(lane, fault) => {
+                let refused = PendingReply::Refused(lane, fault);
+                self.replies.push_reserved(refused);
+                Ok(NextLine::Line)
+            }
+            Record::Row(lane, row) => match next_number(&mut self.lanes, lane)? {
+                Some(number) => {
+                    self.replies.push_reserved(PendingReply::Row(lane, number));
+                    Ok(NextLine::Row(lane, row))
+                }
+                None => {
+                    let spent = PendingReply::Refused(Some(lane), LineFault::Spent);
+                    self.replies.push_reserved(spent);
+                    Ok(NextLine::Line)
+                }
+            },
+        }
+    }
+
+    /// Takes the next line, and keeps the reply to its record.
+    fn take_line(&mut self) -> Result<NextLine, AllocError>
+        requires { IsLed ⟦<Live<W> as Traffic>⟧.Came self.old }
+        ensures takes { TakesLine ⟦<Live<W> as Traffic>⟧.Came result self.old self.new }
+        ensures stopped { self.new.stopped ≡ self.old.stopped }
+    {
+        let lanes = self.lanes.len() as u8;
+        let Some((count, found)) = next_record(self.alloc, lanes, &self.lines)? else {
+            return Ok(NextLine::Nothing);
+        };
+        match self.keep(found) {
+            Ok(taken) => {
+                self.lines.take_line(count);
+                Ok(taken)
+            }
+            Err(refused) => Err(refused),
+        }
+    }
+
+    /// Takes the next line, if nothing has stopped and the turn is not full.
+    fn take_next(&mut self) -> NextLine
+        requires { IsLed ⟦<Live<W> as Traffic>⟧.Came self.old }
+        ensures { TakesLine ⟦<Live<W> as Traffic>⟧.Came (Ok result) self.old self.new }
+    {
+        if self.stopped.is_some() || self.replies.len() >= TURN {
+            return NextLine::Nothing;
+        }
+        match self.take_line() {
+            Ok(taken) => taken,
+            Err(_) => {
+                self.stopped = Some(LiveFault::NoMemory);
+                NextLine::Nothing
+            }
+        }
+    }
+
+    /// Writes the lines of the turn, whose rows have all come back.
+    fn write_turn(&mut self) -> Result<(), Stopped>
+        requires going { MayStillWrite self.old.stopped }
+        requires back { IsOwedNothing ⟦<Live<W> as Traffic>⟧.Came self.old }
+        ensures came { StaysOwedNothing ⟦<Live<W> as Traffic>⟧.Came self.old self.new }
+        ensures written { OnOk result (self.new.replies.items ≡ []) }
+        ensures still { OnOk result (self.new.stopped ≡ self.old.stopped) }
+    {
+        self.text.clear();
+        let Ok(()) = push_replies(
+            &mut self.text,
+            &self.manner,
+            self.lanes.as_slice(),
+            self.replies.as_slice(),
+        ) else {
+            self.stopped = Some(LiveFault::NoMemory);
+            return Err(Stopped);
+        };
+        match write_all(&mut self.wire, self.text.as_bytes()) {
+            Ok(()) => {
+                self.replies.clear();
+                end_turn(&mut self.lanes);
+                Ok(())
+            }
+            Err(_) => {
+                self.stopped = Some(LiveFault::WriteFault);
+                Err(Stopped)
+            }
+        }
+    }
+
+    /// Reads what there is, if all lines that have ended are answered. False at the end of the input.
+    fn read_on(&mut self) -> Result<bool, Stopped>
+        requires answered { self.old.replies.items ≡ [] }
+        requires going { MayStillWrite self.old.stopped }
+        ensures came { Stays ⟦<Live<W> as Traffic>⟧.Came self.old self.new }
+        ensures ended { result ≡ Ok false → is_finished self.new ≡ true }
+    {
+        if self.stopped.is_some() {
+            return Err(Stopped);
+        }
+        if self.lines.line().is_some() {
+            return Ok(true);
+        }
+        if self.lines.has_ended() {
+            return Ok(false);
+        }
+        match self.lines.read(&mut self.wire) {
+            Ok(()) => Ok(true),
+            Err(_) => {
+                self.stopped = Some(LiveFault::ReadFault);
+                Err(Stopped)
+            }
+        }
+    }
+}
+
+impl<W: Wire> Traffic for Live<W> {
+    ghost use Rattle.command_runs.specs.inner.Came.{HasLived};
+    ghost use Rattle.command_runs.specs.inner.Finish.{is_finished};
+
+    type WaitFault = Stopped;
+
+    type BringFault = Infallible;
+
+    ghost Came = { λ start s given brought. HasLived W.Did W.read_failed W.write_failed W.at_end start s given brought };
+
+    ghost has_ended = { λ s. is_finished s };
+
+    ghost Leaves = { λ s t. ⊥ };
+
+    /// To wake a worker takes longer than to read a row that comes alone.
+    fn lets_caller_read(&self) -> bool {
+        true
+    }
+
+    fn next(&mut self) -> Option<(u8, Runs)> {
+        'lines: for _ in 0..TURN {
+            match self.take_next() {
+                NextLine::Nothing => return None,
+                NextLine::Line => {}
+                NextLine::Row(lane, row) => return Some((lane, row)),
+            }
+        }
+        None
+    }
+
+    fn bring(&mut self, delivery: Delivery) -> Result<(), Infallible> {
+        let index = usize::from(delivery.ticket().lane);
+        self.lanes[index].deliveries.push_reserved(delivery);
+        Ok(())
+    }
+
+    fn wait(&mut self) -> Result<bool, Stopped> {
+        if !is_open(self.stopped) {
+            return Err(Stopped);
+        }
+        self.write_turn()?;
+        self.read_on()
+    }
+}

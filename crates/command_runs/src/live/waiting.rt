@@ -1,0 +1,75 @@
+//! The rows of the lanes in a turn, and the deliveries that wait until it is written.
+ghost use Rattle.std.specs.Prelude.{◌≡◌, ◌<◌, All, IfOk, length, vec_len};
+ghost use Rattle.command_runs.specs.inner.Turns.{AreEnded, IsBehind, IsEnded, IsFresh, TakesNumber, TakesNumberOf};
+
+use lane_core::Delivery;
+use std::alloc::{AllocError, Global};
+
+/// The rows of a lane in a turn, and their deliveries.
+#[derive(Drop)]
+pub struct Waiting {
+    /// The number of the turn's first row.
+    pub first: u32,
+    /// The number of the next row.
+    pub next: u32,
+    /// The deliveries that were brought in the turn, in the order of their numbers.
+    pub deliveries: Vec<Delivery>,
+}
+
+/// The lanes, of which nothing has come.
+pub fn make_lanes(alloc: Global, count: u8) -> Result<Vec<Waiting>, AllocError>
+    ensures count { IfOk result (λ lanes. length lanes.items ≡ count) }
+    ensures each { IfOk result (λ lanes. All IsFresh lanes.items) }
+{
+    let mut lanes = Vec::with_capacity(alloc, usize::from(count))?;
+    for _lane in 0..count {
+        lanes.push(Waiting {
+            first: 0,
+            next: 0,
+            deliveries: Vec::new(alloc),
+        })?;
+    }
+    Ok(lanes)
+}
+
+/// The lane's next number, for one more row, with room for its delivery; none if the lane has had all its
+/// numbers.
+fn take_number(waiting: &mut Waiting) -> Result<Option<u32>, AllocError>
+    requires { IsBehind waiting.old }
+    ensures { TakesNumber result waiting.old waiting.new }
+{
+    let number = waiting.next;
+    if number == u32::MAX {
+        return Ok(None);
+    }
+    let turn = (number - waiting.first) as usize + 1;
+    waiting.deliveries.reserve(turn - waiting.deliveries.len())?;
+    waiting.next = number + 1;
+    Ok(Some(number))
+}
+
+/// The next number of this lane.
+pub fn next_number(lanes: &mut Vec<Waiting>, lane: u8) -> Result<Option<u32>, AllocError>
+    requires low { lane < vec_len lanes.old }
+    requires behind { All IsBehind lanes.old.items }
+    ensures { TakesNumberOf lane result lanes.old.items lanes.new.items }
+{
+    take_number(&mut lanes[usize::from(lane)])
+}
+
+/// Ends a lane's turn: all its deliveries have been written.
+fn end_lane(waiting: &mut Waiting)
+    ensures { IsEnded waiting.old waiting.new }
+{
+    waiting.first = waiting.next;
+    waiting.deliveries.clear();
+}
+
+/// Ends the turn: all deliveries have been written.
+pub fn end_turn(lanes: &mut Vec<Waiting>)
+    ensures { AreEnded lanes.old.items lanes.new.items }
+{
+    for index in 0..lanes.len() {
+        end_lane(&mut lanes[index]);
+    }
+}

@@ -1,0 +1,25 @@
+-- The first faulty record, as records come.
+use Rattle.std.proofs.Common.{◌++◌, ◌≡◌, ◌∙◌, ◌∷◌, Err, List, Some, [], append_assoc, length, refl, ℕ}
+use Rattle.std.specs.List.{slice_get}
+use Rattle.std.proofs.Math.Seq.{take-append_seam}
+use Rattle.csv_records.specs.input.Records.{AreItems, Fields, IsFirstFault, Meaning}
+use Rattle.csv_records.specs.declared.input.fault.RecordFault.{RecordFault}
+
+-- the record after these
+seam : (rows : List Fields) (r : Fields) (more : List Fields) → slice_get (rows ++ r ∷ more) (length rows) ≡ Some r
+seam [] r more = refl
+seam (x ∷ rows) r more = seam rows r more
+
+-- one more record with a fault is the first
+pub first_at : {Item : Type 0} (means : Meaning Item) (rows : List Fields) (items : List Item) (r : Fields) (more all : List Fields) (index : ℕ)
+    (f : RecordFault) → all ≡ rows ++ r ∷ [] ++ more
+    → index ≡ length rows → AreItems means rows items → means r (Err f) → IsFirstFault means all index f
+first_at means rows items r more all index f are here none bad =
+    let is : all ≡ rows ++ r ∷ more = are ∙ append_assoc rows (r ∷ []) more in
+    rw (is, here) record {
+      fields = r;
+      here = seam rows r more;
+      items = items;
+      before = rw (take-append_seam rows (r ∷ more)) none;
+      faulty = bad;
+    }

@@ -1,0 +1,149 @@
+-- The first word of a text, by its bytes.
+use Rattle.std.proofs.Common.{◌&&◌, ◌+◌, ◌-◌, ◌*◌, ◌++◌, ◌<◌, ◌==◌, ◌≡◌, ◌≢◌, ◌≤◌, ◌⊎◌, ◌∙◌, ◌∷◌, Bool, List, [], ap, arith, drop, false, get_or, inl, inr, length, length-append, nat_le, refl, suc, sym, take, true, ℕ}
+use Rattle.std.specs.Char.{is_ascii_digit}
+use Rattle.std.specs.List.{All, list_all, onto_first}
+use Rattle.std.specs.Str.Parse.{digits_value}
+use Rattle.std.proofs.Math.Seq.{drop-cons}
+use Rattle.std.proofs.lemmas.Bool.{and_parts, cases_eq, le-leb, ne_eqb}
+use Rattle.std.proofs.lemmas.Bool.Decides.{nat_tests}
+use Rattle.std.proofs.lemmas.Int.Digits.{digits_value_more}
+use Rattle.std.proofs.lemmas.List.{length-drop, length-take-le, take-append-drop, take_all}
+use Rattle.std.proofs.lemmas.List.Elements.{All-from_get_or}
+use Rattle.std.proofs.lemmas.List.Folds.{list_all-append, list_all_more}
+use Rattle.std.proofs.lemmas.List.Splits.{slice_split-cons_no, slice_split_at, slice_split_none}
+use Rattle.csv_records.specs.inner.Widths.{IsFirstWidth}
+use Rattle.csv_records.specs.lanes.Widths.{are_widths, is_number, words_of}
+use Rattle.csv_records.proofs.Decimals.{digit_range, digit_shows, few_digits, test_at}
+
+-- a digit is no space
+no_space : (c : ℕ) → is_ascii_digit c ≡ true → (c == 32) ≡ false
+no_space c digit = let range = digit_range c digit in ne_eqb c 32 (λ e. omega (arith, range.0, e))
+
+no_spaces : (ds : List ℕ) → list_all is_ascii_digit ds ≡ true → All (λ b. (b == 32) ≡ false) ds
+no_spaces ds all = All-from_get_or (λ b. (b == 32) ≡ false) ds 0 (λ i low. no_space (get_or ds i 0) (test_at is_ascii_digit ds i 0 all low))
+
+-- one to five digits are a number
+numbered : (word : List ℕ) → list_all is_ascii_digit word ≡ true → 0 < length word → length word ≤ 5 → is_number 5 word ≡ true
+numbered word all some few = rw (le-leb 1 (length word) some, le-leb (length word) 5 few, all) refl
+
+-- a text at one of its bytes
+parts_at : (text : List ℕ) (i : ℕ) → i < length text → text ≡ take i text ++ get_or text i 0 ∷ drop (i + 1) text
+parts_at text i low =
+    let next : suc i ≡ i + 1 = omega arith in
+    sym (take-append-drop i text) ∙ ap (λ t. take i text ++ t) (drop-cons text i 0 low ∙ ap (λ k. get_or text i 0 ∷ drop k text) next)
+
+-- a width that ends the text
+pub last_width : (text rest : List ℕ) (n : ℕ) → list_all is_ascii_digit text ≡ true → 0 < length text → length text ≤ 5 → n ≡ digits_value 10 text
+    → IsFirstWidth text n rest
+last_width text rest n all some few is = record {
+  word = text;
+  others = [];
+  words = slice_split_none (λ b. b == 32) text (no_spaces text all);
+  number = numbered text all some few;
+  value = is;
+  after = λ no_others. absurd (no_others refl);
+}
+
+-- digits before a space are a word
+pub word_before_space : (text : List ℕ) (i : ℕ) → i < length text → list_all is_ascii_digit (take i text) ≡ true → get_or text i 0 ≡ 32
+    → words_of text ≡ take i text ∷ words_of (drop (i + 1) text)
+word_before_space text i low all space =
+    ap words_of (parts_at text i low ∙ ap (λ b. take i text ++ b ∷ drop (i + 1) text) space)
+    ∙ slice_split_at (λ b. b == 32) (take i text) 32 (drop (i + 1) text) (no_spaces (take i text) all) refl
+
+-- a width before a space
+pub next_width : (text rest : List ℕ) (i n : ℕ) → rest ≡ take (length text - (i + 1)) (drop (i + 1) text) → i < length text → 0 < i → i ≤ 5
+    → list_all is_ascii_digit (take i text) ≡ true → get_or text i 0 ≡ 32 → n ≡ digits_value 10 (take i text)
+    → IsFirstWidth text n rest
+next_width text rest i n after low some few all space is =
+    let long = length-take-le i text (omega arith) in
+    record {
+      word = take i text;
+      others = words_of (drop (i + 1) text);
+      words = word_before_space text i low all space;
+      number = numbered (take i text) all (omega (arith, long)) (omega (arith, long));
+      value = is;
+      after = λ _. ap words_of (sym (after ∙ take_all (length text - (i + 1)) (drop (i + 1) text) (omega (arith, length-drop (i + 1) text))));
+    }
+
+-- digits before a word are of this word
+front_word : (ds ys word : List ℕ) (words : List (List ℕ)) → list_all is_ascii_digit ds ≡ true → words_of ys ≡ word ∷ words → words_of (ds ++ ys)
+    ≡ (ds ++ word) ∷ words
+front_word [] ys word words all is = is
+front_word (d ∷ ds) ys word words all is =
+    let parts = and_parts (is_ascii_digit d) (list_all is_ascii_digit ds) all in
+    slice_split-cons_no (λ b. b == 32) d (ds ++ ys) (no_space d parts.0) ∙ ap (onto_first d) (front_word ds ys word words parts.1 is)
+
+-- and so is a byte
+first_of : (b : ℕ) (words : List (List ℕ)) → (word : List ℕ) × (others : List (List ℕ)) × (onto_first b words ≡ (b ∷ word) ∷ others)
+first_of b [] = ([], [], refl)
+first_of b (word ∷ others) = (word, others, refl)
+
+-- where digits and the next byte, no space, begin no number, the words are no widths
+bad_word : (ds : List ℕ) (b : ℕ) (rest : List ℕ) → list_all is_ascii_digit ds ≡ true → b ≢ 32 → ((word : List ℕ) → is_number 5 (ds ++ b ∷ word) ≡ false)
+    → are_widths (words_of (ds ++ b ∷ rest)) ≡ false
+bad_word ds b rest all other none =
+    let first = first_of b (words_of rest) in
+    let words : words_of (ds ++ b ∷ rest) ≡ (ds ++ b ∷ first.0) ∷ first.1 =
+    front_word ds (b ∷ rest) (b ∷ first.0) first.1 all (slice_split-cons_no (λ c. c == 32) b rest (ne_eqb b 32 other) ∙ first.2) in
+    rw (words, none first.0) refl
+
+last_false : (p q r : Bool) → p && (q && (r && false)) ≡ false
+last_false true true true = refl
+last_false true true false = refl
+last_false true false r = refl
+last_false false q r = refl
+
+pub and_false : (p : Bool) → p && false ≡ false
+and_false true = refl
+and_false false = refl
+
+-- no number has another byte than digits
+no_digit : (ds : List ℕ) (b : ℕ) (word : List ℕ) → is_ascii_digit b ≡ false → is_number 5 (ds ++ b ∷ word) ≡ false
+no_digit ds b word other =
+    rw (list_all-append is_ascii_digit ds (b ∷ word), other)
+    (last_false (nat_le 1 (length (ds ++ b ∷ word))) (nat_le (length (ds ++ b ∷ word)) 5) (list_all is_ascii_digit ds))
+
+-- nor a sixth one
+no_sixth : (ds : List ℕ) (b : ℕ) (word : List ℕ) → length ds ≡ 5 → is_number 5 (ds ++ b ∷ word) ≡ false
+no_sixth ds b word five =
+    let long : 5 < length (ds ++ b ∷ word) = omega (arith, five, length-append ds (b ∷ word)) in
+    let test : nat_le (length (ds ++ b ∷ word)) 5 ≡ false = grind (arith, nat_tests) in
+    rw test (and_false (nat_le 1 (length (ds ++ b ∷ word))))
+
+-- digits that end in no space and go on as no number
+pub no_width : (text : List ℕ) (i : ℕ) → i < length text → list_all is_ascii_digit (take i text) ≡ true → (get_or text i 0 ≡ 32 → 0 < i → ⊥)
+    → (i ≡ 5) ⊎ (is_ascii_digit (get_or text i 0) ≡ false) → are_widths (words_of text) ≡ false
+no_width text i low all unended why =
+    let b = get_or text i 0 in
+    elim (cases_eq b 32) [
+      | inl space ↦
+          let start : i ≡ 0 = omega (arith, unended space) in
+          ap (λ t. are_widths (words_of t)) (parts_at text i low ∙ ap (λ c. take i text ++ c ∷ drop (i + 1) text) space
+          ∙ ap (λ k. take k text ++ 32 ∷ drop (k + 1) text) start)
+      | inr other ↦
+          ap (λ t. are_widths (words_of t)) (parts_at text i low)
+          ∙ bad_word (take i text) b (drop (i + 1) text) all other (λ word. elim why [
+            | inl five ↦ no_sixth (take i text) b word (length-take-le i text (omega arith) ∙ five)
+            | inr no_digit_is ↦ no_digit (take i text) b word no_digit_is
+          ])
+    ]
+
+-- the number of at most five digits at the front of a text
+pub front_small : (text : List ℕ) (i n : ℕ) → list_all is_ascii_digit (take i text) ≡ true → i ≤ 5 → i ≤ length text → n ≡ digits_value 10 (take i text)
+    → n < 100000
+front_small text i n all few low is =
+    let less = few_digits (take i text) all (omega (arith, length-take-le i text low)) in
+    omega (arith, less, is)
+
+-- one more digit
+pub more_digits : (text : List ℕ) (i : ℕ) → i < length text → list_all is_ascii_digit (take i text) ≡ true → is_ascii_digit (get_or text i 0) ≡ true
+    → list_all is_ascii_digit (take (i + 1) text) ≡ true
+more_digits text i low all digit = rw (list_all_more is_ascii_digit text i 0 low, all, digit) refl
+
+pub more_value : (text : List ℕ) (i : ℕ) → i < length text → is_ascii_digit (get_or text i 0) ≡ true
+    → digits_value 10 (take (i + 1) text) ≡ digits_value 10 (take i text) * 10 + (get_or text i 0 - 48)
+more_value text i low digit =
+    let range = digit_range (get_or text i 0) digit in
+    let shows = digit_shows (get_or text i 0) range.0 range.1 in
+    rw (← shows) (digits_value_more 10 text i low)

@@ -1,0 +1,22 @@
+-- What types, private contracts and proofs name beside `Widths`.
+use Rattle.std.specs.Prelude.{◌≡◌, ◌≢◌, ◌<◌, ◌+◌, ◌-◌, ◌*◌, get_or, ℕ, List, [], ◌∷◌, true, length}
+use Rattle.std.specs.Char.{is_ascii_digit}
+use Rattle.std.specs.Str.Parse.{digits_value}
+use Rattle.csv_records.specs.lanes.Widths.{is_number, words_of}
+
+-- this width begins the text, a word of one to five digits, and the words after it, if there are any, are those of the rest
+pub record IsFirstWidth (text : List ℕ) (width : ℕ) (rest : List ℕ) : Type 0 where
+  pub word : List ℕ
+  pub others : List (List ℕ)
+  pub words : words_of text ≡ word ∷ others
+  pub number : is_number 5 word ≡ true
+  pub value : width ≡ digits_value 10 word
+  pub after : others ≢ [] → others ≡ words_of rest
+
+-- this width is a digit before a space, if `i` such words stand before it
+abbrev pub IsDigitAt : List ℕ → ℕ → ℕ → Type 0
+IsDigitAt text i width = (is_ascii_digit (get_or text (2 * i) 0) ≡ true) × (get_or text (2 * i + 1) 0 ≡ 32) × (width ≡ get_or text (2 * i) 0 - 48)
+
+-- the text begins with these widths, each a digit before a space
+abbrev pub BeginsWithDigits : List ℕ → List ℕ → Type 0
+BeginsWithDigits text widths = (i : ℕ) → i < length widths → IsDigitAt text i (get_or widths i 0)

@@ -1,0 +1,94 @@
+//! The rows of the records of lanes.
+ghost use Rattle.std.specs.Prelude.{None, Some, Ok, [], ◌≡◌, ◌<◌, ◌≤◌, ◌∷◌, ◌++◌, List, ℕ, false, length, IfErr, IfNone, IfOk, IfSome, OnOk};
+ghost use Rattle.csv.specs.Records.{fields_of};
+ghost use Rattle.csv_records.specs.lanes.Feeds.{LaneRow, is_lane, lanes_meaning};
+ghost use Rattle.csv_records.specs.input.Reading.{HasRead};
+ghost use Rattle.csv_records.specs.input.Records.{AreItems, Fields, records_of, NamesFirst};
+ghost use Rattle.csv_records.specs.lanes.Widths.{number_in};
+ghost use Rattle.csv_records.specs.declared.input.fault.RecordFault.{RecordFault};
+
+use crate::input::fault::{RecordFault, RecordRefusal, RecordsFault};
+use crate::input::records::{INPUT_LIMIT, Intake, Records, read_records, two_fields};
+use crate::lanes::widths::{number_in, read_runs};
+use csv::ByteRecord;
+use scan_core::Runs;
+use std::alloc::Global;
+
+/// The lane that a field names.
+pub fn lane_in(field: &[u8], lanes: u8) -> Option<u8>
+    ensures some { IfSome result (λ lane. number_in 2 field.now ≡ Some lane) }
+    ensures low { IfSome result (λ lane. lane < lanes) }
+    ensures none { IfNone result (is_lane lanes field.now ≡ false) }
+{
+    match number_in(field, 2) {
+        Some(lane) if lane < u32::from(lanes) => Some(lane as u8),
+        _ => None,
+    }
+}
+
+/// The lane of a record and its row.
+pub fn read_record(
+    alloc: Global,
+    lanes: u8,
+    fields: &ByteRecord,
+) -> Result<(u8, Runs), RecordRefusal>
+    ensures row { IfOk result (λ row. lanes_meaning lanes (fields_of fields.now) (Ok row)) }
+    ensures low { IfOk result (λ row. row.0 < lanes) }
+    ensures refused { (f : RecordFault) → result ≡ Err (RecordRefusal.Record f)
+        → lanes_meaning lanes (fields_of fields.now) (Err f) }
+{
+    let (first, second) = two_fields(fields).ok_or(RecordFault::Csv)?;
+    let lane = lane_in(first, lanes).ok_or(RecordFault::BadLane)?;
+    let runs = read_runs(alloc, second)?;
+    Ok((lane, runs))
+}
+
+/// The records of this many lanes, each with a lane and the widths of a row. Nothing is kept of them.
+#[derive(Clone, Copy)]
+struct LaneRecords {
+    alloc: Global,
+    lanes: u8,
+}
+
+impl Intake for LaneRecords {
+    type Item = (u8, Runs);
+
+    type Made = ();
+
+    ghost means = { λ records. lanes_meaning records.lanes };
+
+    ghost makes = { λ records rows made. Unit {0} };
+
+    fn take(&self, _made: &mut (), fields: &ByteRecord) -> Result<(), RecordRefusal> {
+        read_record(self.alloc, self.lanes, fields)?;
+        Ok(())
+    }
+}
+
+/// Looks whether each record of the bytes means a row of a lane.
+pub fn check_rows(alloc: Global, lanes: u8, bytes: &[u8]) -> Result<(), RecordsFault>
+    requires { length bytes.now ≤ INPUT_LIMIT }
+    ensures ok { OnOk result ((items : List LaneRow) × AreItems (lanes_meaning lanes) (records_of bytes.now) items) }
+    ensures refused { IfErr result (NamesFirst (lanes_meaning lanes) (records_of bytes.now)) }
+{
+    read_records(alloc, &LaneRecords { alloc, lanes }, &mut (), bytes)
+}
+
+/// Reads the next record, and has its row. None at the end.
+pub fn next_row(
+    alloc: Global,
+    lanes: u8,
+    records: &mut Records<'_>,
+) -> Result<Option<(u8, Runs)>, RecordRefusal>
+    requires { (bytes : List ℕ) × (rows : List Fields) × HasRead bytes records.old rows }
+    ensures low { IfOk result (λ next. IfSome next (λ row. row.0 < lanes)) }
+    ensures more { IfOk result (λ next. IfSome next (λ row. (bytes : List ℕ) (rows : List Fields) → HasRead bytes records.old rows
+        → (fields : Fields) × HasRead bytes records.new (rows ++ fields ∷ []) × lanes_meaning lanes fields (Ok row))) }
+    ensures end { result ≡ Ok None → (bytes : List ℕ) (rows : List Fields) → HasRead bytes records.old rows → rows ≡ records_of bytes }
+{
+    if !records.read()? {
+        return Ok(None);
+    }
+    let row = read_record(alloc, lanes, &records.last)?;
+    Ok(Some(row))
+}

@@ -1,0 +1,197 @@
+//! Numbers and widths as fields spell them.
+ghost use Rattle.std.specs.Prelude.{None, Some, ◌==◌, ◌≡◌, ◌≤◌, ◌*◌, ◌-◌, true, false, nat_lt, length, ◌<◌, IfNone, IfOk, IfSome, IsTrue, List, OnOk, map, min, ℕ};
+ghost use Rattle.std.specs.List.{count_by, list_all, list_any};
+ghost use Rattle.std.specs.Char.{is_ascii_digit};
+ghost use Rattle.std.specs.Str.Parse.{digits_value};
+ghost use Rattle.csv_records.specs.inner.Widths.{BeginsWithDigits, IsFirstWidth};
+ghost use Rattle.csv_records.specs.lanes.Widths.{number_in, are_widths, field_fault, widths_in, words_of};
+ghost use Rattle.csv_records.specs.declared.input.fault.RecordFault.{RecordFault};
+
+use crate::input::fault::{RecordFault, RecordRefusal};
+use scan_core::{RunFault, Runs};
+use std::alloc::Global;
+
+/// The number that at most five digits show.
+fn value_of(digits: &[u8]) -> u32
+    requires few { length digits.now ≤ 5 }
+    requires digits { IsTrue (list_all is_ascii_digit digits.now) }
+    ensures value { result ≡ digits_value 10 digits.now }
+    ensures small { result < 100000 }
+{
+    let mut number = 0;
+    for digit in digits {
+        number = number * 10 + u32::from(*digit - b'0');
+    }
+    number
+}
+
+/// Whether all bytes are digits.
+fn are_digits(text: &[u8]) -> bool
+    ensures { result ≡ list_all is_ascii_digit text.now }
+{
+    text.iter().all(|byte| byte.is_ascii_digit())
+}
+
+/// The number that a text of one to `most` digits shows.
+pub fn number_in(text: &[u8], most: usize) -> Option<u32>
+    requires { most ≤ 5 }
+    ensures { result ≡ number_in most text.now }
+{
+    if text.is_empty() || text.len() > most || !are_digits(text) {
+        return None;
+    }
+    Some(value_of(text))
+}
+
+/// The width that begins a text, as `first_width` gives it, found byte by byte.
+fn width_of_any_length(text: &[u8]) -> Option<(u32, &[u8])>
+    ensures some { IfSome result (λ width. IsFirstWidth text.now width.0 width.1.now) }
+    ensures small { IfSome result (λ width. width.0 < 100000) }
+    ensures none { IfNone result (are_widths (words_of text.now) ≡ false) }
+{
+    let mut width = 0;
+    'digits: for (length, byte) in text.iter().enumerate() {
+        if *byte == b' ' && length > 0 {
+            return Some((width, &text[length + 1..]));
+        }
+        if length == 5 || !byte.is_ascii_digit() {
+            return None;
+        }
+        width = width * 10 + u32::from(*byte - b'0');
+    }
+    if text.is_empty() {
+        return None;
+    }
+    Some((width, &[]))
+}
+
+/// The width that begins a text, up to its first space or its end, and the text after this space:
+/// none if the text has no space.
+fn first_width(text: &[u8]) -> Option<(u32, &[u8])>
+    ensures some { IfSome result (λ width. IsFirstWidth text.now width.0 width.1.now) }
+    ensures small { IfSome result (λ width. width.0 < 100000) }
+    ensures none { IfNone result (are_widths (words_of text.now) ≡ false) }
+{
+    match text {
+        // Most widths have one digit or two.
+        [digit, space, after @ ..] if *space == b' ' && digit.is_ascii_digit() => {
+            Some((u32::from(*digit - b'0'), after))
+        }
+        [tens, units, space, after @ ..]
+            if *space == b' ' && tens.is_ascii_digit() && units.is_ascii_digit() => {
+            Some((
+                u32::from(*tens - b'0') * 10 + u32::from(*units - b'0'),
+                after,
+            ))
+        }
+        _ => width_of_any_length(text),
+    }
+}
+
+/// How many spaces a text of at most 255 bytes has. One byte counts them, so that many are added at once.
+fn count_spaces(text: &[u8]) -> u8
+    requires few { length text.now ≤ 255 }
+    ensures { result ≡ count_by (λ b. b == 32) text.now }
+{
+    let mut spaces = 0;
+    for byte in text {
+        spaces += u8::from(*byte == b' ');
+    }
+    spaces
+}
+
+/// How many words the spaces of a field make.
+fn count_words(field: &[u8]) -> usize
+    ensures { result ≡ length (words_of field.now) }
+{
+    let mut spaces = 0;
+    for part in field.chunks(255) {
+        spaces += usize::from(count_spaces(part));
+    }
+    spaces + 1
+}
+
+/// A zero and a space, as the bytes of a number: the low one first.
+const ZERO_AND_SPACE: u16 = 0x2030;
+
+/// The width that a digit before a space shows, and above 9 if it is no digit or no space.
+fn width_of_digit(digit: u8, space: u8) -> u16
+    ensures shown { result ≤ 9 → (is_ascii_digit digit ≡ true) × (space ≡ 32) × (result ≡ digit - 48) }
+    ensures each { is_ascii_digit digit ≡ true → space ≡ 32 → result ≡ digit - 48 }
+{
+    u16::from_le_bytes([digit, space]).wrapping_sub(ZERO_AND_SPACE)
+}
+
+/// The first widths of a text, where each is one digit before a space. All are looked at, since a loop
+/// without an early end reads many at once.
+fn digits<const N: usize>(text: &[u8]) -> Option<[u16; N]>
+    ensures begins { IfSome result (BeginsWithDigits text.now) }
+    ensures few { IfSome result (λ widths. (length widths ≡ N) × (2 * N ≤ length text.now)) }
+    ensures none { IfNone result ((widths : List ℕ) → length widths ≡ N → 2 * N ≤ length text.now → BeginsWithDigits text.now widths → ⊥) }
+{
+    if text.len() / 2 < N {
+        return None;
+    }
+    let mut widths = [0; N];
+    let mut each = true;
+    'widths: for i in 0..N {
+        let width = width_of_digit(text[2 * i], text[2 * i + 1]);
+        widths[i] = width;
+        each &= width <= 9;
+    }
+    each.then_some(widths)
+}
+
+/// The widths that a field shows, each above 65,535 as 65,535, in a list with room for just these,
+/// and whether there is one such.
+fn read_widths(alloc: Global, field: &[u8]) -> Result<(Vec<u16>, bool), RecordRefusal>
+    ensures words { OnOk result (are_widths (words_of field.now) ≡ true) }
+    ensures widths { IfOk result (λ read. read.0.items ≡ map (min 65535) (widths_in field.now)) }
+    ensures wide { IfOk result (λ read. read.1 ≡ list_any (nat_lt 65535) (widths_in field.now)) }
+    ensures refused { (f : RecordFault) → result ≡ Err (RecordRefusal.Record f)
+        → field_fault field.now ≡ Some f }
+{
+    let count = count_words(field);
+    let mut widths = Vec::with_capacity(alloc, count)?;
+    let mut rest = field;
+    let mut is_wide = false;
+    'words: while widths.len() < count {
+        rest = if let Some(eight) = digits::<8>(rest) {
+            widths.extend_from_slice(&eight)?;
+            &rest[16..]
+        } else if let Some(two) = digits::<2>(rest) {
+            widths.extend_from_slice(&two)?;
+            &rest[4..]
+        } else {
+            let Some((width, after)) = first_width(rest) else {
+                return Err(RecordRefusal::Record(RecordFault::BadRuns));
+            };
+            is_wide |= width > 65_535;
+            widths.push_reserved(width.min(65_535) as u16);
+            after
+        };
+    }
+    Ok((widths, is_wide))
+}
+
+/// The row that a field shows.
+pub fn read_runs(alloc: Global, field: &[u8]) -> Result<Runs, RecordRefusal>
+    ensures ok { IfOk result (λ runs. runs ≡ widths_in field.now) }
+    ensures taken { OnOk result (field_fault field.now ≡ None) }
+    ensures refused { (f : RecordFault) → result ≡ Err (RecordRefusal.Record f)
+        → field_fault field.now ≡ Some f }
+{
+    let (widths, is_wide) = read_widths(alloc, field)?;
+    match Runs::from_widths(alloc, widths) {
+        Ok(runs) => {
+            if is_wide {
+                Err(RecordRefusal::Record(RecordFault::TooWide))
+            } else {
+                Ok(runs)
+            }
+        }
+        Err(RunFault::BadRuns) => Err(RecordRefusal::Record(RecordFault::BadRuns)),
+        Err(RunFault::TooWide) => Err(RecordRefusal::Record(RecordFault::TooWide)),
+        Err(RunFault::NoMemory) => Err(RecordRefusal::NoMemory),
+    }
+}

@@ -1,6 +1,0 @@
-use Rattle.std.proofs.Common.{◌≡◌, string_bytes, take}
-use Rattle.record_core.specs.print.Labels.{label_lines_from}
-use Rattle.record_core.proofs.print.label_lines.label_lines.Given as goal
-
-abbrev pub invariant-labels : goal.invariant-labels
-invariant-labels l = string_bytes l.text ≡ label_lines_from l.cells 0 (take l.index l.labels)

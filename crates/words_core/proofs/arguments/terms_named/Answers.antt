@@ -1,7 +1,0 @@
-use Rattle.std.proofs.Common.{arith}
-use Rattle.words_core.proofs.Matches.{in_none}
-use Rattle.words_core.proofs.arguments.terms_named.Goals as goal
-
-pub returns-in_err-number_named-clause-none : goal.returns-in_err-number_named-clause-none
-returns-in_err-number_named-clause-none c = in_none c.from_residual.result _
-    (λ t h. c.in_err-number_named.ensures.none t.year (omega (arith, h.0.1.1)) h.0.0)

@@ -1,8 +1,0 @@
--- The numbers of a grid, as options keep them.
-use Rattle.std.specs.Prelude.{◌≡◌, ℕ}
-use Rattle.words_core.specs.declared.grid_options.GridOptions.{GridOptions}
-
--- options that have these numbers
-abbrev pub HasNumbers : ℕ → ℕ → ℕ → ℕ → ℕ → GridOptions → Type 0
-HasNumbers dots width height columns rows o = (o.module_dots ≡ dots) × (o.width ≡ width) × (o.height ≡ height)
-    × (o.columns ≡ columns) × (o.rows ≡ rows)
