@@ -1,16 +1,16 @@
-/* GS1 barcodes: rows of a scan read, numbers and element strings checked, labels drawn.
+/* Reads GS1 barcodes, checks numbers and element strings, and draws labels.
  *
- * Each call that takes `out` and `room` answers with bytes, without an end mark, and returns their count. If `room` is at least the count,
- * the bytes stand at the front of `out`; if not, `out` is unchanged. So the returned value is the buffer size required, and you can
- * call with a `room` of 0 to query it. A line has at most GS1_LINE bytes, one of gs1_find and gs1_find_dots at most GS1_FOUND, and one of
- * gs1_picture at most GS1_PLACED. An input that is refused is answered by `refused`, a number, a name and, if there is one, a place, as
- * `refused 2 NotDigit 12`: gs1_status reads the number, and docs/FAULTS.md says what to do about each.
+ * Each call with `out` and `room` writes its answer into `out`, without a terminating 0, and returns its size. If `room` is smaller, `out` is
+ * unchanged. So the returned value is the buffer size required, and you can call with a `room` of 0 to query it. A line has at most GS1_LINE
+ * bytes, one of gs1_find and gs1_find_dots at most GS1_FOUND, and one of gs1_picture at most GS1_PLACED. An error is an answer too: `refused`,
+ * a number, a name and, if there is one, a place, such as `refused 2 NotDigit 12`. gs1_status reads the number, and docs/FAULTS.md says what
+ * to do about it.
  *
  * No call allocates memory, keeps state, waits, prints or ends the program, so several threads may call at a time.
  *
- * What you must ensure, since nothing checks it: each pointer reaches as many items as its count says, which are set, and is aligned
- * for its type; `out` overlaps no input; nothing else writes the inputs or uses `out` during the call. A null pointer stands for no
- * items, whatever its count. */
+ * You must ensure this, since nothing checks it: each pointer is aligned for its type, and points to as many items as its count says, which are
+ * set; `out` overlaps no input; nothing else writes the inputs or uses `out` during the call. A null pointer stands for no items, whatever its
+ * count. */
 #ifndef GS1_H
 #define GS1_H
 
@@ -21,7 +21,7 @@
 extern "C" {
 #endif
 
-/* The most bytes of a line: room for each answer but an image. */
+/* The most bytes of a line: enough for each answer except an image. */
 #define GS1_LINE 292
 
 /* The most bytes of the line of a symbol that gs1_find or gs1_find_dots found. */
@@ -30,20 +30,20 @@ extern "C" {
 /* The most bytes of the line of a symbol that gs1_picture found. */
 #define GS1_PLACED 384
 
-/* More than the bytes of an answer of gs1_symbol. */
+/* Enough for each answer of gs1_symbol. */
 #define GS1_SYMBOL 900
 
 /* The most bytes of a title. */
 #define GS1_TITLE 32
 
-/* Beside a year, as GS1_EVERY_AI | 2026: every Application Identifier of the GS1 General Specifications is
- * read. A year alone reads those of the profile (docs/DECISIONS.md). */
+/* Together with a year, as GS1_EVERY_AI | 2026: accept every Application Identifier of the GS1 General Specifications. A year alone
+ * accepts those of the profile (docs/DECISIONS.md). */
 #define GS1_EVERY_AI 0x8000
 
 /* The version of the library. */
 #define GS1_VERSION "1.1.0"
 
-/* The numbers of refusals, as docs/FAULTS.md has them. */
+/* The numbers of errors (docs/FAULTS.md). */
 enum gs1_fault {
     GS1_FAULT_LENGTH = 1, GS1_FAULT_NOT_DIGIT = 2, GS1_FAULT_CHECK_DIGIT = 3, GS1_FAULT_EMPTY = 4,
     GS1_FAULT_UNKNOWN_AI = 5, GS1_FAULT_VALUE_LENGTH = 6, GS1_FAULT_VALUE_CHARACTER = 7,
@@ -56,10 +56,10 @@ enum gs1_fault {
     GS1_FAULT_LABEL_WIDTH = 27, GS1_FAULT_KIND = 40, GS1_FAULT_WORDS = 42, GS1_FAULT_NO_MEMORY = 43
 };
 
-/* The kinds of labels: GS1_GS1128 of an element string, the others of a GTIN. */
+/* The kinds of labels: GS1_GS1128 shows an element string, the others a GTIN. */
 enum gs1_kind { GS1_EAN13 = 0, GS1_UPCA = 1, GS1_EAN8 = 2, GS1_UPCE = 3, GS1_GS1128 = 4, GS1_ITF14 = 5 };
 
-/* Bytes without an end mark. */
+/* Bytes without a terminating 0. */
 struct gs1_bytes {
     const uint8_t *at;
     size_t count;
@@ -70,111 +70,110 @@ struct gs1_element {
     struct gs1_bytes ai, value;
 };
 
-/* The number of the refusal that a line says, as in enum gs1_fault, or 0 if the line is no refusal. `length` is what the call that
- * wrote the line returned, if there was room for it. */
+/* The number of the error that a line reports, as in enum gs1_fault, or 0 if it reports none. `length` is the value that the call
+ * returned which wrote the line. */
 int gs1_status(const uint8_t *line, size_t length);
 
-/* Takes the next element from a line of gs1_scan, or of a call whose name ends with `_elements`, and returns 1; or returns 0 if no more
- * follow, and changes nothing. `rest` is what is left of the line, at first all of it; the element's pointers point into the line:
+/* Takes the next element from a line of gs1_scan, or of a call whose name ends with `_elements`, and returns 1. If none follows, it returns
+ * 0 and changes nothing. `rest` is the rest of the line, at first all of it. The element's pointers point into the line:
  *
  *     struct gs1_bytes rest = {line, length};
  *     struct gs1_element element;
  *     while (gs1_next(&rest, &element)) ..
  *
- * A refusal has no elements. In a line of gs1_picture the elements follow the corners. */
+ * An error has no elements. In a line of gs1_picture the elements follow the corners. */
 int gs1_next(struct gs1_bytes *rest, struct gs1_element *element);
 
-/* The data title of an Application Identifier in the GS1 General Specifications, in UTF-8, as `BATCH/LOT` of `10`; nothing if there is no
- * such AI, or if it has no title. A title has at most GS1_TITLE bytes. */
+/* The data title of an Application Identifier in the GS1 General Specifications, in UTF-8, such as `BATCH/LOT` for `10`. Empty if there is
+ * no such AI, or if it has no title. A title has at most GS1_TITLE bytes. */
 size_t gs1_title(const uint8_t *ai, size_t length, uint8_t *out, size_t room);
 
-/* What a row of a scan says: `count` widths of its runs in dots, light and dark in turn, light first and
- * last, in either direction. The symbology identifier and the elements, as `]E0 (01)09501101530003`. A date
- * is read by the reference year, 1951 to 2149; any other year is `refused 42 Words`. */
+/* What a scanned row says. `widths` are the `count` widths, in pixels, of its light and dark bars, starting and ending with light, in either
+ * direction. The answer is the symbology identifier and the elements, such as `]E0 (01)09501101530003`. Dates are read by the reference
+ * year, 1951 to 2149; any other year is `refused 42 Words`. */
 size_t gs1_row(const uint16_t *widths, size_t count, uint16_t year, uint8_t *out, size_t room);
 
-/* The same with the elements as data: of each its AI, `=` and its value, with a tab between each two, as
- * `]E0 01=09501101530003`. Different lists of elements have different answers. */
+/* The same with the elements as data: for each its AI, `=` and its value, with tabs between them, such as `]E0 01=09501101530003`. Different
+ * lists of elements have different answers. */
 size_t gs1_row_elements(const uint16_t *widths, size_t count, uint16_t year, uint8_t *out, size_t room);
 
-/* Every symbol of a row, from the left: a line of each window of its runs that begins and ends with a light
- * run and is read as a row, with its first run, how many runs it has and what gs1_row says of these, as
- * `0 61 ]E0 (01)09501101530003`, and a line feed at its end. A row with no symbol has no line. Unlike the other
- * calls it writes as many whole lines as fit; the returned value is the size of all of them. */
+/* Every symbol of a row, from left to right. A symbol is a part of the row that begins and ends with light and can be read as a row. Its
+ * line has its first run, its number of runs and what gs1_row says about these, such as `0 61 ]E0 (01)09501101530003`, and ends with a line
+ * feed. A row without a symbol has no line. Unlike other calls it writes as many whole lines as fit; the returned value is the size of
+ * all of them. */
 size_t gs1_find(const uint16_t *widths, size_t count, uint16_t year, uint8_t *out, size_t room);
 
-/* What gs1_row says of the row of `count` dots packed in bytes, as a row of PBM has them: the first dot of a
- * byte in its high bit, and 1 is dark. `bits` reaches (count + 7) / 8 bytes; what stands behind the last dot
- * does not matter. More than 65,535 dots are `refused 17 TooWide`. */
+/* What gs1_row says about a row of `count` dots, packed in bytes as in PBM: the first dot of a byte is its high bit, and 1 is dark. `bits`
+ * has (count + 7) / 8 bytes; bits after the last dot do not matter. More than 65,535 dots are `refused 17 TooWide`. */
 size_t gs1_dots(const uint8_t *bits, uint32_t count, uint16_t year, uint8_t *out, size_t room);
 
 /* The same with the elements as data, as gs1_row_elements. */
 size_t gs1_dots_elements(const uint8_t *bits, uint32_t count, uint16_t year, uint8_t *out, size_t room);
 
-/* Every symbol of the row of `count` packed dots, which are given as gs1_dots takes them: the lines of gs1_find of the
- * row's widths, of which it writes as many whole ones as fit; the returned value is the size of all of them.
- * More than 65,535 dots are `refused 17 TooWide`. */
+/* Every symbol of a row of `count` packed dots, as for gs1_dots: the lines of gs1_find for the row's widths. It writes as many whole lines as
+ * fit; the returned value is the size of all of them. More than 65,535 dots are `refused 17 TooWide`. */
 size_t gs1_find_dots(const uint8_t *bits, uint32_t count, uint16_t year, uint8_t *out, size_t room);
 
-/* The day and the time that an element names, given as its AI, `=` and its value, as gs1_row_elements has it:
- * `date 2026-12-31` of `17=261231`, `date 2026-12-31 23:59:00` of `7003=2612312359`, and `none` of an AI that has no
- * date. The year, 1951 to 2149, is that of the call which gave the element; day 00 is the last of its month. What is
- * no element is refused by its first fault, at place 0. */
+/* The day and the time of an element, which is its AI, `=` and its value as in gs1_row_elements: `date 2026-12-31` for `17=261231`,
+ * `date 2026-12-31 23:59:00` for `7003=2612312359`, and `none` for an AI without a date. The year, 1951 to 2149, is that of the call which
+ * gave the element; day 00 is the last of its month. The answer to a text that is no element is its first error, at place 0. */
 size_t gs1_date(const uint8_t *text, size_t length, uint16_t year, uint8_t *out, size_t room);
 
-/* What the text of a scanner says: a symbology identifier, and behind it the digits of a GTIN (`]E0` 12 or 13,
- * or the 8 of a UPC-E; `]E4` 8; `]I1` 14), an element string in which byte 29 or `^` is the separator (`]C1`, `]e0`,
- * `]d2`, `]Q3`, `]J1`), or a GS1 Digital Link (`]Q1`, `]d1`). Without an identifier it is an element string where it
- * begins with a separator, a GTIN where it begins with eight digits, and a Digital Link where it begins with `http://`
- * or `https://`; `-` stands for the identifier then. The identifier and the elements as data, as
- * `]C1 10=AB<TAB>17=261231`; a place is an offset behind the identifier and a separator there, or in a Digital Link the
- * index of the element. Blanks and line ends after the text are skipped. Any other text is
- * `refused 40 Kind`. */
+/* What the text of a scanner says. It begins with a symbology identifier; what must follow depends on it:
+ *
+ *     `]E0`, `]E4`, `]I1`                  12 or 13 digits of a GTIN or the 8 of a UPC-E; 8 digits; 14 digits
+ *     `]C1`, `]e0`, `]d2`, `]Q3`, `]J1`    an element string, with byte 29 or `^` as the separator
+ *     `]Q1`, `]d1`                         a GS1 Digital Link
+ *
+ * Without an identifier it is an element string if it begins with a separator, a GTIN if it begins with eight digits, and a Digital Link if
+ * it begins with `http://` or `https://`. The answer is the identifier, or `-` without one, and the elements as data, such as
+ * `]C1 10=AB<TAB>17=261231`. An error's place counts from after the identifier and a separator there; in a Digital Link it is the index of
+ * the element. Blanks and line ends after the text are skipped. Any other text is `refused 40 Kind`. */
 size_t gs1_scan(const uint8_t *text, size_t length, uint16_t year, uint8_t *out, size_t room);
 
-/* The GTIN of 8, 12, 13 or 14 digits, as `gtin 09501101530003`. */
+/* The 14 digits of a GTIN that is written with 8, 12, 13 or 14, such as `gtin 09501101530003`. */
 size_t gs1_gtin(const uint8_t *text, size_t length, uint8_t *out, size_t room);
 
-/* The check digit of 1 to 17 digits that have none yet, as `digit 3`. */
+/* The check digit for 1 to 17 digits, such as `digit 3`. */
 size_t gs1_digit(const uint8_t *text, size_t length, uint8_t *out, size_t room);
 
-/* The elements of an element string, in which byte 29 is the separator, as `hri (10)AB(17)261231`. */
+/* The elements of an element string, such as `hri (10)AB(17)261231`. Byte 29 is the separator. */
 size_t gs1_text(const uint8_t *text, size_t length, uint16_t year, uint8_t *out, size_t room);
 
 /* The same with the elements as data, as gs1_row_elements: `data 10=AB<TAB>17=261231`. */
 size_t gs1_text_elements(const uint8_t *text, size_t length, uint16_t year, uint8_t *out, size_t room);
 
-/* How many words gs1_picture takes to read a picture of this size: 0.4 MB of 4,000 by 3,000 dots. 0 if a side has more than 65,535. */
+/* How many words of memory gs1_picture needs for a picture of this size: 0.4 MB for 4,000 by 3,000 pixels. 0 if a side has more than 65,535. */
 size_t gs1_picture_room(uint32_t width, uint32_t height);
 
-/* Every symbol that a picture shows, given as `values` grey values, 0 black: `height` rows of `width` dots, each `stride` values behind
- * the one above. Dots below `level` are dark. A level of 0 stands for the picture's own, and then symbols are found at any angle, blurred,
- * aslant, round a bottle and light on dark too.
+/* Every symbol that a picture shows. The picture is `values` grey values, 0 black: `height` rows of `width` pixels, each `stride` values
+ * after the one above. With a `level`, pixels below it are dark. A level of 0 stands for the picture's own; then symbols are also found at
+ * other angles, blurred, aslant, round a bottle and light on dark.
  *
- * A symbol is a line with a line feed: the x and the y of its four corners, clockwise from the upper left one, in 1/256 dot from the
- * upper left of the picture; how many rows show it; and what gs1_row_elements says of these, as
- * `38400 20480 111360 20480 111360 51200 38400 51200 120 ]E0 01=09501101530003`. The lines stand in the order of reading. If more than 192
- * were found, a line `dropped 3` at the end says how many were left out, at least. A picture without a symbol is answered by `none`, or by the
- * refusal of the row that came furthest, as `refused 21 QuietZone`.
+ * Each symbol is a line with a line feed: the x and the y of its four corners, clockwise from the upper left one, in 1/256 pixel from the
+ * upper left of the picture; how many rows show it; and what gs1_row_elements says about these, such as
+ * `38400 20480 111360 20480 111360 51200 38400 51200 120 ]E0 01=09501101530003`. The lines are in reading order. If it found more than 192,
+ * a line `dropped 3` at the end says how many are missing, at least. The answer to a picture without a symbol is `none`, or the error of the
+ * row that came furthest, such as `refused 21 QuietZone`.
  *
- * `memory` has as many words as gs1_picture_room says; what stands there does not matter. Fewer are `refused 43 NoMemory`, a side of more
- * than 65,535 dots `refused 17 TooWide`, and a stride below the width, or fewer values than the rows take, `refused 18 BadRuns`.
+ * `memory` has as many words as gs1_picture_room says, with any contents. Fewer are `refused 43 NoMemory`, a side of more than 65,535 pixels
+ * is `refused 17 TooWide`, and a stride below the width, or fewer values than the rows need, `refused 18 BadRuns`.
  *
- * It puts as many whole lines as there is room for, as gs1_find; the number returned is that of all of them. The call takes at most 128 kB
- * of stack. */
+ * Like gs1_find, it writes as many whole lines as fit; the returned value is the size of all of them. The call needs at most 128 kB of
+ * stack. */
 size_t gs1_picture(const uint8_t *grey, size_t values, uint32_t width, uint32_t height, size_t stride, uint8_t level,
                    uint16_t year, uint32_t *memory, size_t words, uint8_t *out, size_t room);
 
-/* A label as a PBM image (P4, netpbm's pbm(5)) of `width` by `height` dots, its modules `module_dots` wide:
- * modules of 1 to 8 dots, a width of 1 to 4,096, a height of more than two modules and at most 1,024. The
- * symbol begins after its nominal left quiet zone. An image begins with `P4`, a refusal with `refused`. */
+/* A label as a PBM image (P4, netpbm's pbm(5)) of `width` by `height` dots. A module has `module_dots`, 1 to 8; the width is 1 to 4,096, the
+ * height more than two modules and at most 1,024. The symbol begins after its nominal left quiet zone. An image begins with `P4`, an error
+ * with `refused`. */
 size_t gs1_label(enum gs1_kind kind, const uint8_t *text, size_t length, uint16_t year,
                  uint16_t module_dots, uint16_t width, uint16_t height, uint8_t *out, size_t room);
 
-/* The symbol of a label in modules, for programs that draw it: what stands under the bars, the quiet zones left
- * and right, and a digit for the width of each run, a bar first and last, as `symbol 96385074 7 7 111...`. Under
- * the bars stand the digits of the number as its kind writes them, of a UPC-E all eight, and of an element string
- * its elements with each AI in parentheses. Refused as by gs1_label, except 25 and 27. */
+/* The symbol of a label in modules, for programs that draw it, such as `symbol 96385074 7 7 111...`: the text under the bars, the quiet zones
+ * left and right, and a digit for the width of each bar and space, starting and ending with a bar. The text is the digits of the number as
+ * its kind writes them, all eight for a UPC-E; for an element string it is the elements, with AIs in parentheses. Errors are those of
+ * gs1_label without 25 and 27. */
 size_t gs1_symbol(enum gs1_kind kind, const uint8_t *text, size_t length, uint16_t year, uint8_t *out,
                   size_t room);
 

@@ -16,7 +16,7 @@ use Rattle.element_core.proofs.TableLaws.{each_is_of_digits}
 use Rattle.gs1_c.specs.Dates.{before_equals, shown_pair}
 use Rattle.gs1_c.specs.Shown.{ShownAgain, is_between, line_elements, shows_element}
 use Rattle.gs1_c.specs.inner.Shown.{up_to}
-use Rattle.gs1_c.proofs.ShownFacts.{rest_words, split_word}
+use Rattle.gs1_c.proofs.FirstWord.{rest_words, split_word}
 
 -- ---- words without `=` are passed over
 

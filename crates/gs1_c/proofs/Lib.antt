@@ -1,9 +1,9 @@
 mod AgainFacts
 mod DateFacts
-mod FoundFacts
-mod LineFacts
+mod FirstWord
+mod LinesByTerms
+mod LinesThatFit
 mod PictureFacts
 mod PutFacts
-mod ShownFacts
 mod TitleFacts
 mod ToldFacts

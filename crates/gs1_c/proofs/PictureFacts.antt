@@ -5,10 +5,10 @@ use Rattle.std.proofs.lemmas.Grind.{flat_map-append}
 use Rattle.std.proofs.lemmas.List.{append-nil, map-append, take_all, take_more}
 use Rattle.digits_core.specs.Buffers.{pasted}
 use Rattle.digits_core.proofs.Pasted.{pasted_none}
-use Rattle.picture_core.specs.declared.symbol.Symbol.{Symbol}
+use Rattle.picture_core.specs.declared.symbol.SeenSymbol.{SeenSymbol}
 use Rattle.gs1_c.specs.Found.{ArePut}
 use Rattle.gs1_c.specs.Pictures.{numbers_text, placed_line_in}
-use Rattle.gs1_c.proofs.FoundFacts.{all_of, all_of-push, one_line}
+use Rattle.gs1_c.proofs.LinesThatFit.{all_of, all_of-push, one_line}
 
 -- numbers, and one more behind them
 pub numbers_more : (numbers old now next : List ℕ) (n d : ℕ) → n < length numbers → now ≡ old ++ numbers_text (take n numbers)
@@ -52,15 +52,15 @@ line_behind old now next lines line end after p long ends put unchanged = record
 }
 
 -- the lines of the first symbols are put
-pub record Placed (symbols : List (Option Symbol)) (n end : ℕ) (old out : List ℕ) : Type 0 where
+pub record Placed (symbols : List (Option SeenSymbol)) (n end : ℕ) (old out : List ℕ) : Type 0 where
   pub put : ArePut (map placed_line_in (take n symbols)) old out end
   pub long : length out ≡ length old
   pub small : end ≤ 700 * n
 
-pub placed_none : (symbols : List (Option Symbol)) (old : List ℕ) → Placed symbols 0 0 old old
+pub placed_none : (symbols : List (Option SeenSymbol)) (old : List ℕ) → Placed symbols 0 0 old old
 placed_none symbols old = record { put = record { counted = refl; front = sym (pasted_none old 0) }; long = refl; small = omega arith }
 
-pub placed_more : (symbols : List (Option Symbol)) (s : Option Symbol) (n end after : ℕ) (old out new : List ℕ) → n < length symbols
+pub placed_more : (symbols : List (Option SeenSymbol)) (s : Option SeenSymbol) (n end after : ℕ) (old out new : List ℕ) → n < length symbols
     → s ≡ get_or symbols n s → Placed symbols n end old out → after ≡ end + length (placed_line_in s) → after ≤ end + 700
     → (end + length (placed_line_in s) ≤ length out → new ≡ pasted out end (placed_line_in s))
     → (length out < end + length (placed_line_in s) → new ≡ out) → length new ≡ length out → Placed symbols (n + 1) after old new
@@ -68,7 +68,7 @@ placed_more symbols s n end after old out new within is i ends few put unchanged
     let line = placed_line_in s in
     let lines = map placed_line_in (take n symbols) in
     let next : take (n + 1) symbols ≡ take n symbols ++ s ∷ [] =
-    take_more symbols n s within ∙ ap (λ (x : Option Symbol). take n symbols ++ x ∷ []) (sym is) in
+    take_more symbols n s within ∙ ap (λ (x : Option SeenSymbol). take n symbols ++ x ∷ []) (sym is) in
     let more : map placed_line_in (take (n + 1) symbols) ≡ lines ++ line ∷ [] =
     ap (map placed_line_in) next ∙ map-append placed_line_in (take n symbols) (s ∷ []) in
     let small = i.small in
@@ -80,7 +80,7 @@ placed_more symbols s n end after old out new within is i ends few put unchanged
       small = omega arith;
     }
 
-pub placed_all : (symbols : List (Option Symbol)) (n end : ℕ) (old out : List ℕ) → length symbols ≤ n → Placed symbols n end old out
+pub placed_all : (symbols : List (Option SeenSymbol)) (n end : ℕ) (old out : List ℕ) → length symbols ≤ n → Placed symbols n end old out
     → ArePut (map placed_line_in symbols) old out end
 placed_all symbols n end old out all i =
-    subst (λ (ss : List (Option Symbol)). ArePut (map placed_line_in ss) old out end) (take_all n symbols all) i.put
+    subst (λ (ss : List (Option SeenSymbol)). ArePut (map placed_line_in ss) old out end) (take_all n symbols all) i.put

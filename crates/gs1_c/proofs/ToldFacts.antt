@@ -6,7 +6,7 @@ use Rattle.digits_core.proofs.Pasted.{pasted_none}
 use Rattle.scan_core.specs.Windows.{AreTold, IsNext, IsOver, Search, search_after}
 use Rattle.scan_core.specs.declared.window.Window.{Window}
 use Rattle.gs1_c.specs.Found.{ArePut, fitting, symbol_line}
-use Rattle.gs1_c.proofs.FoundFacts.{all_of, all_of-push, few_steps, fewer_steps, one_line, small_enough, small_more, steps_left}
+use Rattle.gs1_c.proofs.LinesThatFit.{all_of, all_of-push, few_steps, fewer_steps, one_line, small_enough, small_more, steps_left}
 
 -- some windows are told and put, and the others are those of what is left of the search
 pub record Told (from now : Search) (end : ℕ) (old out : List ℕ) : Type 0 where

@@ -34,7 +34,7 @@ day_text (year, month, day) = as_two_digits (year / 100) ++ join_with_byte 45 (a
 abbrev pub time_text : List ℕ → List ℕ
 time_text time = join_with_byte 58 (map as_two_digits time)
 
--- `date`, a day and, where there is one, a time; or `none` where there is no day
+-- `date`, a day and, if there is one, a time; or `none` if there is no day
 abbrev pub dated_line : Option (ℕ × ℕ × ℕ) → Option (List ℕ) → List ℕ
 dated_line None time = codes "none"
 dated_line (Some day) None = codes "date " ++ day_text day

@@ -54,7 +54,7 @@ IsRowLine form number widths line = IsLineUnder number (λ terms. IsWidthsLine f
 
 -- ---- packed dots
 
--- why so many bytes have no row of so many dots, if they have none: not all of them are there, or they are more than a row has
+-- why this many bytes have no row of this many dots, if they have none: not all of them are there, or they are more than a row has
 abbrev pub packed_fault : ℕ → ℕ → Option RunFault
 packed_fault bytes count = if nat_lt (8 * bytes) count then Some BadRuns else if nat_lt 65535 count then Some TooWide else None
 
@@ -62,7 +62,7 @@ packed_fault bytes count = if nat_lt (8 * bytes) count then Some BadRuns else if
 abbrev pub IsPackedAnswer : Terms → List ℕ → ℕ → Answer → Type 0
 IsPackedAnswer year bits count a = (runs : List ℕ) × IsRow runs × (dots_of runs ≡ dots_at bits 0 count) × IsAnswer runs year a
 
--- the line of so many packed dots by their fault, under a reference year
+-- the line of this many packed dots by their fault, under a reference year
 abbrev pub IsPackedLine : Form → Terms → List ℕ → ℕ → Option RunFault → List ℕ → Type 0
 IsPackedLine form year bits count None line = (a : Answer) × IsPackedAnswer year bits count a × (line ≡ said form a)
 IsPackedLine form year bits count (Some fault) line = line ≡ run_fault_text fault

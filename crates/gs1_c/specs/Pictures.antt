@@ -12,7 +12,7 @@ use Rattle.picture_core.specs.Pictures.{Greys, IsPicture, IsRoom, word_count}
 use Rattle.picture_core.specs.Told.{IsReadingOf}
 use Rattle.picture_core.specs.declared.said.Refused.{Refused}
 use Rattle.picture_core.specs.declared.shown.Shown.{Shown}
-use Rattle.picture_core.specs.declared.symbol.Symbol.{Symbol}
+use Rattle.picture_core.specs.declared.symbol.SeenSymbol.{SeenSymbol}
 use Rattle.gs1_c.specs.Found.{ArePut}
 use Rattle.element_core.specs.Terms.{Terms}
 use Rattle.gs1_c.specs.Lines.{Under, terms_of, words_text}
@@ -20,7 +20,7 @@ use Rattle.gs1_c.specs.Lines.{Under, terms_of, words_text}
 -- ---- what is shown
 
 -- the corners of a symbol, clockwise from the upper left one, in 1/256 dot, and how many rows say so
-abbrev pub placed_numbers : Symbol → List ℕ
+abbrev pub placed_numbers : SeenSymbol → List ℕ
 placed_numbers s =
     let c = s.corners in
     c.upper_left.x ∷ c.upper_left.y ∷ c.upper_right.x ∷ c.upper_right.y ∷ c.lower_right.x ∷ c.lower_right.y ∷ c.lower_left.x ∷ c.lower_left.y ∷ s.rows ∷ []
@@ -30,11 +30,11 @@ abbrev pub numbers_text : List ℕ → List ℕ
 numbers_text numbers = flat_map (λ n. decimal n ++ 32 ∷ []) numbers
 
 -- the line of a symbol: its corners, how many rows say so, and what they say, the elements as pairs
-abbrev pub placed_line : Symbol → List ℕ
+abbrev pub placed_line : SeenSymbol → List ℕ
 placed_line s = numbers_text (placed_numbers s) ++ (said form.Pairs (Read s.said.carrier s.said.elements) ++ 10 ∷ [])
 
 -- that of a place of the list, each of which has a symbol
-abbrev pub placed_line_in : Option Symbol → List ℕ
+abbrev pub placed_line_in : Option SeenSymbol → List ℕ
 placed_line_in None = []
 placed_line_in (Some s) = placed_line s
 
@@ -74,7 +74,7 @@ abbrev pub AreFaultyLinesPut : Greys → Option ℕ → Terms → Option RunFaul
 AreFaultyLinesPut p level year None old new count = (shown : Shown) × IsReadingOf p level year shown × AreShownPut shown old new count
 AreFaultyLinesPut p level year (Some fault) old new count = IsPut (run_fault_text fault) old new count
 
--- the same in so many words and widths of memory
+-- the same in this many words and widths of memory
 abbrev pub AreReadLinesPut : Greys → Option ℕ → Terms → ℕ → ℕ → List ℕ → List ℕ → ℕ → Type 0
 AreReadLinesPut p level year words widths old new count =
     (fault : Option RunFault) × IsPictureFault p words widths fault × AreFaultyLinesPut p level year fault old new count

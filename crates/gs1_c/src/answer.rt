@@ -35,7 +35,7 @@ pub fn put_read(read: &Result<Answer, RunFault>, form: Form, out: &mut [u8]) -> 
     }
 }
 
-/// How many dots a row has of so many packed dots, or why they are no row.
+/// How many dots a row has of this many packed dots, or why they are no row.
 pub fn dots_in(bits: &[u8], count: u32) -> Result<u16, RunFault>
     ensures ok { IfOk result (λ dots. (packed_fault (length bits.now) count ≡ None) × (dots ≡ count) × (count ≤ 8 * length bits.now)) }
     ensures err { IfErr result (λ fault. packed_fault (length bits.now) count ≡ Some fault) }

@@ -9,7 +9,7 @@ use digits_core::{Refusal, RefusalKind};
 use element_core::{Elements, Line};
 use itoa::Buffer;
 
-/// Puts bytes at the front of `out` where it has room for them all, and says how many they are.
+/// Puts bytes at the front of `out` if it has room for them all, and says how many they are.
 pub fn put(bytes: &[u8], out: &mut [u8]) -> usize
     ensures { IsPut bytes.now out.old out.new result }
 {

@@ -62,7 +62,7 @@ fn put_whole(window: &Window, at: usize, out: &mut [u8]) -> usize
     put_at(b"\n", end, out)
 }
 
-/// Puts the line of a symbol into `out` from `at` on where it has room for it, and says where the line ends.
+/// Puts the line of a symbol into `out` from `at` on if it has room for it, and says where the line ends.
 ///
 /// The line is made first, which takes longer, and the room for it is no part of its caller's frame.
 #[inline(never)]
@@ -76,7 +76,7 @@ fn put_made(window: &Window, at: usize, out: &mut [u8]) -> usize
     put_fitting(line_of(window).as_slice(), at, out)
 }
 
-/// The same, in the shorter way where there is room for any line.
+/// The same, in the shorter way if there is room for any line.
 fn put_symbol(window: &Window, at: usize, out: &mut [u8]) -> usize
     requires { at + 400 < 2 ^ 64 }
     ensures end { result ≡ at + length (symbol_line window.now) }
@@ -115,7 +115,7 @@ pub fn put_symbols(widths: &[u16], year: Year, out: &mut [u8]) -> usize
     }
 }
 
-/// The same of the row of so many packed dots.
+/// The same of the row of this many packed dots.
 pub fn put_dot_symbols(bits: &[u8], count: u32, year: Year, out: &mut [u8]) -> usize
     ensures { ArePackedSymbolsPut year bits.now count (packed_fault (length bits.now) count) out.old out.new result }
 {

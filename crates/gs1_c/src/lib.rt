@@ -1,9 +1,9 @@
 //! The reader and the checks for programs in C, and for what calls C: each call answers with a line of ASCII
 //! bytes in a buffer of the caller's, and takes no memory.
 //!
-//! Each call says how many bytes its line has. They stand at the front of `out` where it has room for
+//! Each call says how many bytes its line has. They stand at the front of `out` if it has room for
 //! all of them; else `out` is as it was, and the number says how much room to bring. A question that is
-//! refused is answered by its refusal: `refused`, a number, a name and, where it has one, a place.
+//! refused is answered by its refusal: `refused`, a number, a name and, if it has one, a place.
 //!
 //! A `year` is the reference year of dates, 1951 to 2149. With its highest bit set, every Application Identifier
 //! is read, and else those of the profile. Any other number is `refused 42 Words`.

@@ -9,14 +9,14 @@ use crate::buffer::{put, put_refusal};
 use crate::line::{push, push_number, put_fitting};
 use arrayvec::ArrayVec;
 use itoa::Buffer;
-use picture_core::{Picture, Reading, Refused, Room, Shown, Symbol, read_picture};
+use picture_core::{Picture, Reading, Refused, Room, SeenSymbol, Shown, read_picture};
 use scan_core::RunFault;
 
 /// More bytes than a line has: nine numbers, an identifier and the elements, with what stands between.
 const MOST: usize = 700;
 
 /// The corners of a symbol, and how many rows say so.
-fn numbers_of(symbol: &Symbol) -> [u32; 9]
+fn numbers_of(symbol: &SeenSymbol) -> [u32; 9]
     ensures { result ≡ placed_numbers symbol.now }
 {
     let corners = symbol.corners;
@@ -45,7 +45,7 @@ fn push_numbers(line: &mut ArrayVec<u8, MOST>, numbers: &[u32])
 }
 
 /// The line of a symbol.
-fn line_of(symbol: &Symbol) -> ArrayVec<u8, MOST>
+fn line_of(symbol: &SeenSymbol) -> ArrayVec<u8, MOST>
     ensures line { result.items ≡ placed_line symbol.now }
     ensures few { length result.items ≤ 700 }
 {
@@ -58,8 +58,8 @@ fn line_of(symbol: &Symbol) -> ArrayVec<u8, MOST>
     line
 }
 
-/// Puts the line of a symbol, if there is one, into `out` from `at` on where it has room for it, and says where the line ends.
-fn put_placed(symbol: &Option<Symbol>, at: usize, out: &mut [u8]) -> usize
+/// Puts the line of a symbol, if there is one, into `out` from `at` on if it has room for it, and says where the line ends.
+fn put_placed(symbol: &Option<SeenSymbol>, at: usize, out: &mut [u8]) -> usize
     requires { at + 700 < 2 ^ 64 }
     ensures end { result ≡ at + length (placed_line_in symbol.now) }
     ensures few { result ≤ at + 700 }
@@ -73,7 +73,7 @@ fn put_placed(symbol: &Option<Symbol>, at: usize, out: &mut [u8]) -> usize
 }
 
 /// Puts the lines of symbols, as many as there is room for, and says how many bytes all of them have.
-fn put_all(symbols: &[Option<Symbol>], out: &mut [u8]) -> usize
+fn put_all(symbols: &[Option<SeenSymbol>], out: &mut [u8]) -> usize
     requires { length symbols.now ≤ 192 }
     ensures put { ArePut (map placed_line_in symbols.now) out.old out.new result }
     ensures few { result ≤ 700 * 192 }
@@ -85,7 +85,7 @@ fn put_all(symbols: &[Option<Symbol>], out: &mut [u8]) -> usize
     end
 }
 
-/// If so many symbols were dropped, the line that says so.
+/// The line that says how many symbols were dropped, if any were.
 fn line_of_dropped(dropped: u32) -> ArrayVec<u8, 60>
     ensures line { result.items ≡ dropped_line dropped }
     ensures few { length result.items ≤ 60 }

@@ -14,7 +14,7 @@ use crate::line::{push, push_number};
 use arrayvec::ArrayVec;
 use digits_core::{Gtin, upce_suppress};
 use element_core::Year;
-use sheet_core::{Label, LabelKind, SheetFault, Symbol};
+use sheet_core::{DrawnSymbol, Label, LabelKind, SheetFault};
 
 /// More bytes than a line has: a word, what stands under the bars, two quiet zones and 595 widths.
 const MOST: usize = 1000;
@@ -65,7 +65,7 @@ fn push_widths(line: &mut ArrayVec<u8, MOST>, widths: &[u8])
 }
 
 /// Puts what is drawn, in modules, at the end of a line.
-fn push_drawn(line: &mut ArrayVec<u8, MOST>, symbol: &Symbol)
+fn push_drawn(line: &mut ArrayVec<u8, MOST>, symbol: &DrawnSymbol)
     requires room { length line.old.items + 700 ≤ 1000 }
     ensures { line.new.items ≡ line.old.items ++ drawn_text symbol.now }
 {

@@ -4,7 +4,7 @@ ghost use Rattle.gs1_c.specs.Lines.{terms_of};
 
 use element_core::Year;
 
-/// Set beside a reference year where every AI is read, and not the profile's alone.
+/// Set beside a reference year if every AI is read, and not the profile's alone.
 const EVERY_AI: u16 = 0x8000;
 
 /// What a number says: its highest bit that every AI is read, and the others the reference year, 1951 to 2149.

@@ -1,4 +1,4 @@
--- What is true of any two of the first so many of a list, and of one more.
+-- What is true of any two of the first this many of a list, and of one more.
 use Rattle.std.proofs.Common.{◌≡◌, ◌⊎◌, ◌∙◌, ℕ, ◌+◌, ◌<◌, ◌≤◌, List, drop, length, suc, take, get_or, subst, sym, arith, inl, inr}
 use Rattle.std.specs.Prelude.{AllPairs}
 use Rattle.std.specs.List.{remove}

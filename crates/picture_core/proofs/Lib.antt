@@ -1,4 +1,6 @@
+pub mod BelowFacts
 pub mod KeptFacts
-pub mod RunFacts
-pub mod SaidFacts
+pub mod Products
+pub mod RunsOfDots
+pub mod SayingTheSame
 pub mod TermsFacts

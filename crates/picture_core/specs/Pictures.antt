@@ -8,7 +8,7 @@ pub record Greys : Type 0 where
   pub height : ℕ
   pub stride : ℕ
 
--- so many values hold a picture of this size, whose rows each begin so far behind the one above
+-- this many values hold a picture of this size, whose rows each begin so far behind the one above
 pub record IsPicture (values width height stride : ℕ) : Type 0 where
   pub narrow : width ≤ 65535
   pub low : height ≤ 65535
@@ -23,7 +23,7 @@ abbrev pub side_up_to : ℕ → ℕ → ℕ
 side_up_to dots zero = 8
 side_up_to dots (suc n) = side_up_to dots n + (if nat_le ((40 * n + 340) * (40 * n + 340)) dots then 1 else 0)
 
--- the dots of a side of a block, of a picture of so many dots: the fortieth part of their root, rounded, from 8 to 32
+-- the dots of a side of a block, of a picture of this many dots: the fortieth part of their root, rounded, from 8 to 32
 unfoldable pub side_of : ℕ → ℕ
 side_of dots = side_up_to dots 24
 
@@ -35,6 +35,6 @@ block_count width height = let side = side_of (width * height) in (width / side 
 abbrev pub word_count : ℕ → ℕ → ℕ
 word_count width height = 6 * (width + height) + 2 + 4 * block_count width height
 
--- so many words and widths are enough for a picture of this size
+-- this many words and widths are enough for a picture of this size
 abbrev pub IsRoom : ℕ → ℕ → ℕ → ℕ → Type 0
 IsRoom width height words widths = (word_count width height ≤ words) × (width + 2 ≤ widths)

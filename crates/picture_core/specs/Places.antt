@@ -1,22 +1,26 @@
 -- Places of a picture, whose y goes down.
 use Rattle.std.specs.Prelude.{ℕ, ◌+◌, ◌*◌, ◌/◌, ◌≤◌}
 use Rattle.picture_core.specs.declared.own_row.OwnRow.{OwnRow}
-use Rattle.picture_core.specs.declared.place.Place.{Place}
+use Rattle.picture_core.specs.declared.place.Point.{Point}
 use Rattle.picture_core.specs.declared.place.Corners.{Corners}
 
 -- going from a to b, p is on the right or straight ahead: the triangle of the three has no negative area
-abbrev pub IsRightOf : Place → Place → Place → Type 0
+abbrev pub IsRightOf : Point → Point → Point → Type 0
 IsRightOf a b p = a.y * b.x + b.y * p.x + p.y * a.x ≤ a.x * b.y + b.x * p.y + p.x * a.y
 
 -- the place is on the symbol with these corners: on the right of each side, going round clockwise
-pub record IsOn (c : Corners) (p : Place) : Type 0 where
+pub record IsOn (c : Corners) (p : Point) : Type 0 where
   pub top : IsRightOf c.upper_left c.upper_right p
   pub right : IsRightOf c.upper_right c.lower_right p
   pub bottom : IsRightOf c.lower_right c.lower_left p
   pub left : IsRightOf c.lower_left c.upper_left p
 
+-- the corners are those of an area: the upper left one is truly on the left, going from the lower right one to the upper right one
+abbrev pub HaveArea : Corners → Type 0
+HaveArea c = IsRightOf c.lower_right c.upper_right c.upper_left → ⊥
+
 -- the upper left corner of a dot
-abbrev pub corner_of : ℕ → ℕ → Place
+abbrev pub corner_of : ℕ → ℕ → Point
 corner_of column row = record { x = column * 256; y = row * 256 }
 
 -- the bars that a row shows, the whole height of its dots, are on the symbol with these corners
@@ -27,5 +31,5 @@ pub record AreBarsOn (c : Corners) (at : OwnRow) : Type 0 where
   pub lower_left : IsOn c (corner_of at.left (at.y + 1))
 
 -- half way between two opposite corners
-abbrev pub middle : Corners → Place
+abbrev pub middle : Corners → Point
 middle c = record { x = (c.upper_left.x + c.lower_right.x) / 2; y = (c.upper_left.y + c.lower_right.y) / 2 }

@@ -12,7 +12,7 @@ use Rattle.picture_core.specs.declared.own_row.OwnRow.{OwnRow}
 abbrev pub greys_of_row : Greys → ℕ → List ℕ
 greys_of_row picture y = slice_range picture.values (y * picture.stride) (y * picture.stride + picture.width)
 
--- the dots of a row, each dark where its grey value is below the level
+-- the dots of a row, each dark if its grey value is below the level
 abbrev pub dark_dots : ℕ → List ℕ → List Bool
 dark_dots level greys = map (λ grey. nat_lt grey level) greys
 

@@ -1,40 +1,51 @@
--- What is told of a picture.
-use Rattle.std.specs.Prelude.{◌≡◌, ◌⊎◌, ℕ, ◌+◌, ◌*◌, ◌<◌, ◌≤◌, All, AllPairs, Option, IfSome, IsSomeAnd}
+-- What is reported of a picture.
+use Rattle.std.specs.Prelude.{◌≡◌, ◌⊎◌, ℕ, ◌+◌, ◌*◌, ◌<◌, ◌≤◌, All, AllPairs, Option, IfNone, IfSome, IsSomeAnd}
 use Rattle.picture_core.specs.declared.own_row.OwnRows.{OwnRows}
-use Rattle.picture_core.specs.declared.symbol.Symbol.{Symbol}
+use Rattle.picture_core.specs.declared.seen_line.SeenLine.{SeenLine}
+use Rattle.picture_core.specs.declared.symbol.SeenSymbol.{SeenSymbol}
+use Rattle.picture_core.specs.Lines.{place_at}
 use Rattle.picture_core.specs.Pictures.{Greys}
-use Rattle.picture_core.specs.Places.{AreBarsOn, IsOn, middle}
+use Rattle.picture_core.specs.Places.{AreBarsOn, HaveArea, IsOn, middle}
+use Rattle.picture_core.specs.Profiles.{LineShows}
 use Rattle.picture_core.specs.Rows.{RowShows}
 use Rattle.picture_core.specs.Saids.{IsRefusal, IsSaid}
 use Rattle.element_core.specs.Terms.{Terms}
 use Rattle.picture_core.specs.declared.shown.Shown.{Shown}
 
 -- two rows of the picture show the symbol, or the one row that it has
-pub record AreOwnRows (picture : Greys) (level : ℕ) (year : Terms) (s : Symbol) (rows : OwnRows) : Type 0 where
+pub record AreOwnRows (picture : Greys) (level : ℕ) (year : Terms) (s : SeenSymbol) (rows : OwnRows) : Type 0 where
   pub first : RowShows picture level year s.said.carrier s.said.elements rows.first
   pub last : RowShows picture level year s.said.carrier s.said.elements rows.last
   pub two : (rows.first.y < rows.last.y) ⊎ (picture.height ≡ 1)
   pub first_bars : AreBarsOn s.corners rows.first
   pub last_bars : AreBarsOn s.corners rows.last
 
+-- lines of the picture show the symbol, and the middle of its bars there is on it
+pub record IsOnLine (picture : Greys) (year : Terms) (s : SeenSymbol) (line : SeenLine) : Type 0 where
+  pub dot : ℕ
+  pub shown : LineShows picture year s.said.carrier s.said.elements line dot
+  pub on : IsOn s.corners (place_at line dot)
+
 -- a symbol of the picture, under a level and a reference year
-pub record IsSymbolIn (picture : Greys) (level : ℕ) (year : Terms) (s : Symbol) : Type 0 where
+pub record IsSymbolIn (picture : Greys) (level : ℕ) (year : Terms) (s : SeenSymbol) : Type 0 where
   pub said : IsSaid s.said.carrier s.said.elements
   pub dated : s.said.elements.year ≡ year
   pub rows : (2 ≤ s.rows) ⊎ (picture.height ≡ 1)
+  pub area : HaveArea s.corners
   pub clockwise : IsOn s.corners (middle s.corners)
   pub own_rows : IfSome s.own_rows (AreOwnRows picture level year s)
+  pub line : IfNone s.own_rows (IsSomeAnd s.line (IsOnLine picture year s))
 
 -- neither of two symbols has the middle of the other on it
-pub record AreApart (one other : Symbol) : Type 0 where
+pub record AreApart (one other : SeenSymbol) : Type 0 where
   pub there : IsOn one.corners (middle other.corners) → ⊥
   pub here : IsOn other.corners (middle one.corners) → ⊥
 
--- a place of the list, which has a symbol, one that is told
-abbrev pub IsSomeSymbolIn : Greys → ℕ → Terms → Option Symbol → Type 0
+-- a place of the list, which has a symbol, one that is reported
+abbrev pub IsSomeSymbolIn : Greys → ℕ → Terms → Option SeenSymbol → Type 0
 IsSomeSymbolIn picture level year s = IsSomeAnd s (IsSymbolIn picture level year)
 
-abbrev pub AreApartIn : Option Symbol → Option Symbol → Type 0
+abbrev pub AreApartIn : Option SeenSymbol → Option SeenSymbol → Type 0
 AreApartIn one other = IfSome one (λ s. IfSome other (AreApart s))
 
 -- what a picture shows, read at a level, if one is given, and under a reference year

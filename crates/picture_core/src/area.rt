@@ -1,7 +1,11 @@
 //! Boxes on the rows of a frame.
+ghost use Rattle.std.specs.Prelude.{◌^◌};
+ghost use Rattle.picture_core.specs.inner.Bounds.{IsBounded};
+
+use crate::extent::{BEYOND, least, most};
 use crate::frame::{Frame, Spot};
 use crate::picture::Picture;
-use crate::place::{Corners, Place};
+use crate::place::{Corners, Point};
 
 /// A box on the rows of a frame, in 1/256 dot.
 #[derive(Clone, Copy)]
@@ -11,11 +15,15 @@ pub(crate) struct Area {
     pub(crate) right: i64,
     pub(crate) top: i64,
     pub(crate) bottom: i64,
+    ghost left_within: { IsBounded (2 ^ 40) left },
+    ghost right_within: { IsBounded (2 ^ 40) right },
+    ghost top_within: { IsBounded (2 ^ 40) top },
+    ghost bottom_within: { IsBounded (2 ^ 40) bottom },
 }
 
 /// The nearest number from 0 to so much.
 fn within(number: i64, most: u32) -> u32 {
-    u32::try_from(number.clamp(0, i64::from(most))).unwrap_or(0)
+    number.clamp(0, i64::from(most)) as u32
 }
 
 /// How wide and high a picture is, in 1/256 dot.
@@ -28,7 +36,7 @@ pub(crate) struct Size {
 impl Size {
     /// That of a picture.
     pub(crate) fn of(picture: &Picture) -> Size {
-        let corner = Place::of_dots(picture.width() as u32, picture.height() as u32);
+        let corner = Point::of_dots(picture.width() as u32, picture.height() as u32);
         Size {
             width: corner.x,
             height: corner.y,
@@ -36,8 +44,8 @@ impl Size {
     }
 
     /// The nearest place of the picture.
-    fn nearest(self, spot: Spot) -> Place {
-        Place {
+    fn nearest(self, spot: Spot) -> Point {
+        Point {
             x: within(spot.x, self.width),
             y: within(spot.y, self.height),
         }
@@ -48,38 +56,77 @@ impl Size {
 const ROUNDED: i64 = 64;
 
 impl Area {
+    /// The box of no place.
+    fn nowhere(frame: Frame) -> Area {
+        Area {
+            frame,
+            left: BEYOND,
+            right: -BEYOND,
+            top: BEYOND,
+            bottom: -BEYOND,
+        }
+    }
+
+    /// As wide as to have this place along the rows in it.
+    fn widened(self, u: i64) -> Area
+        requires { IsBounded (2 ^ 40) u }
+    {
+        Area {
+            frame: self.frame,
+            left: least(self.left, u),
+            right: most(self.right, u),
+            top: self.top,
+            bottom: self.bottom,
+        }
+    }
+
+    /// As high as to have this row in it.
+    fn heightened(self, v: i64) -> Area
+        requires { IsBounded (2 ^ 40) v }
+    {
+        Area {
+            frame: self.frame,
+            left: self.left,
+            right: self.right,
+            top: least(self.top, v),
+            bottom: most(self.bottom, v),
+        }
+    }
+
+    /// As large as to have this place in it, with what is rounded off.
+    fn with(self, spot: Spot) -> Area {
+        let u = self.frame.u_of(spot);
+        let v = self.frame.v_of(spot);
+        self.widened(u - ROUNDED)
+            .widened(u + ROUNDED)
+            .heightened(v - ROUNDED)
+            .heightened(v + ROUNDED)
+    }
+
     /// The least box on a frame that has all these places in it.
     pub(crate) fn around(frame: Frame, spots: &[Spot]) -> Area {
-        let mut area = Area {
-            frame,
-            left: i64::MAX,
-            right: i64::MIN,
-            top: i64::MAX,
-            bottom: i64::MIN,
-        };
+        let mut area = Area::nowhere(frame);
         for spot in spots {
-            let u = frame.u_of(*spot);
-            let v = frame.v_of(*spot);
-            area.left = area.left.min(u.saturating_sub(ROUNDED));
-            area.right = area.right.max(u.saturating_add(ROUNDED));
-            area.top = area.top.min(v.saturating_sub(ROUNDED));
-            area.bottom = area.bottom.max(v.saturating_add(ROUNDED));
+            area = area.with(*spot);
         }
         area
     }
 
-    fn holds(&self, spot: Spot, margin: i64) -> bool {
+    /// Whether a place is in it or so near.
+    fn holds(&self, spot: Spot, margin: i64) -> bool
+        requires { IsBounded (2 ^ 40) margin }
+    {
         let u = self.frame.u_of(spot);
         let v = self.frame.v_of(spot);
-        self.left.saturating_sub(margin) <= u
-            && u < self.right.saturating_add(margin)
-            && self.top.saturating_sub(margin) <= v
-            && v < self.bottom.saturating_add(margin)
+        self.left - margin <= u
+            && u < self.right + margin
+            && self.top - margin <= v
+            && v < self.bottom + margin
     }
 
     /// Whether a place is in it or about its quiet zones: an eighth of the width.
     pub(crate) fn is_near(&self, spot: Spot) -> bool {
-        self.holds(spot, self.right.saturating_sub(self.left) / 8)
+        self.holds(spot, (self.right - self.left) / 8)
     }
 
     /// Its corners, clockwise from the upper left one of the frame.
@@ -104,10 +151,8 @@ impl Area {
     }
 
     fn middle(&self) -> Spot {
-        self.frame.spot_at(
-            self.left.saturating_add(self.right) / 2,
-            self.top.saturating_add(self.bottom) / 2,
-        )
+        self.frame
+            .spot_at((self.left + self.right) / 2, (self.top + self.bottom) / 2)
     }
 
     fn is_near_corner(&self, other: &Area) -> bool {
@@ -131,10 +176,9 @@ impl Area {
 
     /// Makes it as high as both are.
     pub(crate) fn take_in(&mut self, other: &Area) {
-        let middle = other.left.saturating_add(other.right) / 2;
+        let middle = (other.left + other.right) / 2;
         let top = self.frame.v_of(other.frame.spot_at(middle, other.top));
         let bottom = self.frame.v_of(other.frame.spot_at(middle, other.bottom));
-        self.top = self.top.min(top).min(bottom);
-        self.bottom = self.bottom.max(top).max(bottom);
+        *self = self.heightened(top).heightened(bottom);
     }
 }

@@ -1,7 +1,9 @@
 //! The symbols that the own rows of a picture show.
-ghost use Rattle.std.specs.Prelude.{◌+◌, ◌<◌, ◌≤◌, length};
+ghost use Rattle.std.specs.Prelude.{◌+◌, ◌<◌, ◌≤◌, ◌^◌, length};
+ghost use Rattle.picture_core.specs.inner.Bounds.{IsBounded};
 
 use crate::area::{Area, Size};
+use crate::count::added;
 use crate::frame::{Spot, UNIT, UPRIGHT};
 use crate::lean::Lean;
 use crate::own_row::{OwnRow, OwnRows};
@@ -9,7 +11,7 @@ use crate::reader::Reader;
 use crate::runs::{are_alike, dots_before, is_dark_between, put_runs};
 use crate::said::{Furthest, Said, note_row, says_as};
 use crate::shown::Shown;
-use crate::symbol::Symbol;
+use crate::symbol::SeenSymbol;
 use arrayvec::ArrayVec;
 use scan_core::{SymbolSearch, Symbols, Window};
 
@@ -37,9 +39,14 @@ fn place_in(at: OwnRow) -> i64 {
     i64::from(at.y) * 16
 }
 
+/// The most dots of a side.
+const MOST_DOTS: u32 = 65_536;
+
 /// Dots in 1/256 dot.
-fn in_units(dots: u32) -> i64 {
-    i64::from(dots) * UNIT
+fn in_units(dots: u32) -> i64
+    ensures { IsBounded (2 ^ 24) result }
+{
+    i64::from(dots.min(MOST_DOTS)) * UNIT
 }
 
 /// The corners of the bars of a row.
@@ -47,7 +54,7 @@ fn spots_of(at: OwnRow) -> [Spot; 4] {
     let left = in_units(at.left);
     let right = in_units(at.right);
     let top = in_units(at.y);
-    let bottom = in_units(at.y.saturating_add(1));
+    let bottom = top + UNIT;
     [
         Spot { x: left, y: top },
         Spot { x: right, y: top },
@@ -59,15 +66,15 @@ fn spots_of(at: OwnRow) -> [Spot; 4] {
     ]
 }
 
-/// The most rows, damaged ones, that a symbol may go unread and be the same: so many, or a quarter of its width.
+/// The most rows, damaged ones, that a symbol may go unread and be the same: this many, or a quarter of its width.
 const MOST_UNREAD: u32 = 16;
 
 /// How many rows read a symbol for each that reads something else there.
-const ROWS_AGAINST: u32 = 4;
+const ROWS_AGAINST: u64 = 4;
 
 impl Band {
     fn stands_at(&self, at: OwnRow) -> bool {
-        let eighth = at.right.saturating_sub(at.left) / 8;
+        let eighth = at.right.abs_diff(at.left) / 8;
         self.last.left.abs_diff(at.left) < eighth && self.last.right.abs_diff(at.right) < eighth
     }
 
@@ -76,20 +83,20 @@ impl Band {
         self.right = self.right.max(at.right);
         self.last = at;
         self.lean.add(middle_of(at), place_in(at));
-        self.rows = self.rows.saturating_add(1);
+        self.rows = added(self.rows, 1);
     }
 
-    /// The next row is as its last one.
-    fn repeat(&mut self) {
-        self.last.y = self.last.y.saturating_add(1);
+    /// The next row, y, is as its last one.
+    fn repeat(&mut self, y: u32) {
+        self.last.y = y;
         self.lean.add(middle_of(self.last), place_in(self.last));
-        self.rows = self.rows.saturating_add(1);
+        self.rows = added(self.rows, 1);
     }
 
     /// Whether it goes on in a row: it went unread for few rows, and the row is not light where it stood.
     fn goes_on(&self, row: &[u8], level: u8, y: u32) -> bool {
-        let width = self.last.right.saturating_sub(self.last.left);
-        y.saturating_sub(self.last.y) <= MOST_UNREAD.max(width / 4)
+        let width = self.last.right.abs_diff(self.last.left);
+        y.abs_diff(self.last.y) <= MOST_UNREAD.max(width / 4)
             && is_dark_between(
                 row,
                 self.last.left as usize,
@@ -105,11 +112,11 @@ impl Band {
             left: in_units(self.left),
             right: in_units(self.right),
             top: in_units(self.first.y),
-            bottom: in_units(self.last.y.saturating_add(1)),
+            bottom: in_units(self.last.y) + UNIT,
         }
     }
 
-    /// Its box along the bars, where they lean so far that rows show it.
+    /// Its box along the bars, if they lean so far that rows show it.
     fn leaning(&self) -> Option<Area> {
         let slope = self.lean.slope()?;
         if slope == 0 {
@@ -117,7 +124,7 @@ impl Band {
         }
         let [a, b, c, d] = spots_of(self.first);
         let [e, f, g, h] = spots_of(self.last);
-        let frame = UPRIGHT.sheared(slope.saturating_neg());
+        let frame = UPRIGHT.sheared(-slope);
         Some(Area::around(frame, &[a, b, c, d, e, f, g, h]))
     }
 
@@ -133,7 +140,7 @@ impl Band {
     }
 
     /// The symbol, if enough rows show it: two, or the only one, and four for each that says something else.
-    fn symbol(self, height: usize, size: Size) -> Option<Symbol> {
+    fn symbol(self, height: usize, size: Size) -> Option<SeenSymbol> {
         let area = self.area(size);
         let Band {
             said,
@@ -146,14 +153,15 @@ impl Band {
             against,
         } = self;
         let said = said?;
-        if (rows < 2 && height > 1) || rows < against.saturating_mul(ROWS_AGAINST) {
+        if (rows < 2 && height > 1) || u64::from(rows) < u64::from(against) * ROWS_AGAINST {
             return None;
         }
-        Some(Symbol {
+        Some(SeenSymbol {
             said,
             rows,
             corners: area.corners(size),
             own_rows: Some(OwnRows { first, last }),
+            line: None,
             area,
         })
     }
@@ -174,8 +182,8 @@ impl Bands {
     /// Row y is as the one above: what that said is said again.
     fn repeat(&mut self, y: u32) {
         for band in self.all.as_mut_slice().iter_mut() {
-            if band.last.y.saturating_add(1) == y {
-                band.repeat();
+            if band.last.y.checked_add(1) == Some(y) {
+                band.repeat(y);
             }
         }
     }
@@ -211,7 +219,7 @@ impl Bands {
         let mut most = 0;
         for band in self.all.as_mut_slice().iter_mut() {
             if band.stands_at(at) && !says_as(&band.said, said) {
-                band.against = band.against.saturating_add(1);
+                band.against = added(band.against, 1);
                 most = band.rows.max(most);
             }
         }
@@ -268,6 +276,11 @@ fn place_of(runs: &[u16], y: u32, window: &Window) -> Option<OwnRow> {
     })
 }
 
+/// The runs of a window.
+fn part_of<'a>(runs: &'a [u16], window: &Window) -> Option<&'a [u16]> {
+    runs.get(window.first..)?.get(..window.count)
+}
+
 /// Notes the symbols of a row.
 fn add_symbols(reader: &Reader, runs: &[u16], y: u32, bands: &mut Bands, furthest: &mut Furthest) {
     let Ok(mut search) = Symbols::of_widths(runs, reader.year) else {
@@ -283,12 +296,12 @@ fn add_symbols(reader: &Reader, runs: &[u16], y: u32, bands: &mut Bands, furthes
         let Some(at) = place_of(runs, y, &window) else {
             continue;
         };
-        let Some(part) = runs.get(window.first..window.first.saturating_add(window.count)) else {
+        let Some(part) = part_of(runs, &window) else {
             continue;
         };
         if let Some(said) = Said::of_widths(part, reader.year, furthest) {
             if !bands.add(Some(said), at) {
-                dropped = dropped.saturating_add(1);
+                dropped = added(dropped, 1);
             }
         }
     }

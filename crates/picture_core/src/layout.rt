@@ -1,8 +1,8 @@
 //! How a picture is laid out in blocks.
-ghost use Rattle.std.specs.Prelude.{◌≡◌, ◌+◌, ◌*◌, ◌/◌, ◌≤◌};
+ghost use Rattle.std.specs.Prelude.{◌≡◌, ◌+◌, ◌*◌, ◌/◌, ◌<◌, ◌≤◌, ◌^◌};
 ghost use Rattle.picture_core.specs.Pictures.{block_count, side_of};
 
-/// The dots of a side of a block, of a picture of so many dots: the fortieth part of their root, rounded, from 8 to 32.
+/// The dots of a side of a block, of a picture of this many dots: the fortieth part of their root, rounded, from 8 to 32.
 fn side_of(dots: usize) -> usize
     ensures value { result ≡ side_of dots }
     ensures some { 8 ≤ result }
@@ -53,5 +53,13 @@ impl Layout {
         ensures few { result ≤ 4294967296 }
     {
         self.columns * self.rows
+    }
+    /// The number of a block by its column and its row.
+    pub(crate) fn place(self, column: usize, row: usize) -> usize
+        requires column { column < 65536 }
+        requires row { row < 65536 }
+        ensures { result < 2 ^ 32 }
+    {
+        row * self.columns + column
     }
 }

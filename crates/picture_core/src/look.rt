@@ -4,16 +4,18 @@ ghost use Rattle.std.specs.Prelude.{◌≡◌, length};
 use crate::area::{Area, Size};
 use crate::bounds::put_bounds;
 use crate::edges::{Ends, put_edges};
-use crate::frame::{Frame, Spot};
+use crate::frame::{Frame, Spot, over};
 use crate::grid::Grid;
+use crate::on_line::line_shows;
 use crate::patch::{across, along, grid_over};
 use crate::reader::Reader;
 use crate::room::RowRoom;
 use crate::said::Furthest;
-use crate::sharp::{Blur, LARGE, SMALL, sharpen};
+use crate::seen_line::{Cleared, SeenLine};
+use crate::sharp::{Blur, sharpen};
 use crate::shown::Shown;
 use crate::stripes::Blocks;
-use crate::symbol::Symbol;
+use crate::symbol::SeenSymbol;
 use crate::tally::{Seen, Tally};
 use crate::windows::{Row, read_windows};
 
@@ -25,19 +27,19 @@ pub(crate) struct Look {
     pub(crate) lines: u32,
     pub(crate) rows: u32,
     pub(crate) is_aslant: bool,
-    pub(crate) blur: Option<Blur>,
+    pub(crate) cleared: Cleared,
     pub(crate) around: usize,
     pub(crate) is_by_sides: bool,
     pub(crate) is_inverted: bool,
 }
 
-/// The looks, each where those before found nothing.
+/// The looks, each if those before found nothing.
 pub(crate) const LOOKS: [Look; 5] = [
     Look {
         lines: 1,
         rows: 120,
         is_aslant: false,
-        blur: None,
+        cleared: Cleared::Nothing,
         around: 4,
         is_by_sides: false,
         is_inverted: false,
@@ -46,7 +48,7 @@ pub(crate) const LOOKS: [Look; 5] = [
         lines: 3,
         rows: 60,
         is_aslant: true,
-        blur: None,
+        cleared: Cleared::Nothing,
         around: 4,
         is_by_sides: true,
         is_inverted: false,
@@ -55,7 +57,7 @@ pub(crate) const LOOKS: [Look; 5] = [
         lines: 9,
         rows: 40,
         is_aslant: true,
-        blur: Some(SMALL),
+        cleared: Cleared::Small,
         around: 12,
         is_by_sides: false,
         is_inverted: false,
@@ -64,7 +66,7 @@ pub(crate) const LOOKS: [Look; 5] = [
         lines: 3,
         rows: 40,
         is_aslant: true,
-        blur: None,
+        cleared: Cleared::Nothing,
         around: 4,
         is_by_sides: false,
         is_inverted: true,
@@ -73,17 +75,30 @@ pub(crate) const LOOKS: [Look; 5] = [
         lines: 9,
         rows: 24,
         is_aslant: true,
-        blur: Some(LARGE),
+        cleared: Cleared::Large,
         around: 12,
         is_by_sides: false,
         is_inverted: false,
     },
 ];
 
+/// The look that took these lines.
+pub(crate) fn look_of(line: &SeenLine) -> Option<Look> {
+    for look in &LOOKS {
+        if look.lines == u32::from(line.lines)
+            && look.cleared == line.cleared
+            && look.is_inverted == line.is_inverted
+        {
+            return Some(*look);
+        }
+    }
+    None
+}
+
 /// The lightest value of a row, in 1/256 grey value.
 const WHITE: u32 = 65_280;
 
-/// Divides the sums of so many lines, and makes dark what is light where the look is so.
+/// Divides the sums of this many lines, and makes dark what is light if the look is so.
 fn make_means(sums: &mut [u32], look: &Look) {
     for sum in sums.iter_mut() {
         let mean = sum.checked_div(look.lines).unwrap_or(0);
@@ -95,8 +110,8 @@ fn make_means(sums: &mut [u32], look: &Look) {
     }
 }
 
-/// Puts the ends of the runs of a row of so many dots; how many.
-fn put_ends(
+/// Puts the ends of the runs of a row of this many dots; how many.
+pub(crate) fn put_ends(
     sums: &mut [u32],
     look: &Look,
     clear: &mut [u32],
@@ -113,7 +128,7 @@ fn put_ends(
     make_means(sums, look);
     put_bounds(sums, look.around, look.is_by_sides, low, high);
     let mut made = Ends::none(ends);
-    match &look.blur {
+    match &Blur::of_look(look.cleared) {
         Some(blur) => {
             sharpen(sums, low, high, blur, clear, blurred);
             put_edges(clear, low, high, &mut made);
@@ -177,19 +192,53 @@ fn spots_of(seen: &Seen, grid: &Grid) -> [Spot; 4] {
     ]
 }
 
-/// The symbol that was seen, in a box along its bars: as the rows show these, or else as the stripes go.
-fn placed(seen: &mut Seen, grid: &Grid, stripes: Frame, size: Size) -> Option<Symbol> {
+/// How many rows of what was seen are asked whether their lines show it.
+const ROWS_ASKED: u8 = 8;
+
+/// The lines of a row that show what was seen: the first such of some rows, or else those of its first row.
+fn lines_of(
+    reader: &Reader,
+    grid: &Grid,
+    seen: &Seen,
+    look: &Look,
+    room: &mut RowRoom,
+) -> SeenLine {
+    let first = grid.lines_of(reader.picture, seen.first.v, look);
+    let Some(said) = &seen.said else {
+        return first;
+    };
+    let rows = over(seen.last.v.saturating_sub(seen.first.v), grid.step.max(1));
+    for part in 0..ROWS_ASKED {
+        let row = over(rows.saturating_mul(i64::from(part)), i64::from(ROWS_ASKED));
+        let v = seen.first.v.saturating_add(row.saturating_mul(grid.step));
+        let line = grid.lines_of(reader.picture, v, look);
+        if line_shows(reader.picture, reader.year, said, &line, room).is_some() {
+            return line;
+        }
+    }
+    first
+}
+
+/// The symbol that was seen on these lines, in a box along its bars: as the rows show these, or else as the stripes go.
+fn placed(
+    seen: &mut Seen,
+    grid: &Grid,
+    stripes: Frame,
+    line: SeenLine,
+    size: Size,
+) -> Option<SeenSymbol> {
     let said = seen.said.take()?;
     let frame = match seen.lean.slope() {
         Some(slope) => grid.frame.sheared(slope.saturating_neg()),
         None => stripes,
     };
     let area = Area::around(frame, &spots_of(seen, grid));
-    Some(Symbol {
+    Some(SeenSymbol {
         said,
         rows: seen.rows,
         corners: area.corners(size),
         own_rows: None,
+        line: Some(line),
         area,
     })
 }
@@ -222,7 +271,8 @@ pub(crate) fn read_patch(
     let sure = tally.sure(grid.step);
     for (seen, is_sure) in tally.all_mut().iter_mut().zip(sure.iter()) {
         if *is_sure {
-            if let Some(symbol) = placed(seen, &grid, stripes, size) {
+            let line = lines_of(reader, &grid, seen, look, room);
+            if let Some(symbol) = placed(seen, &grid, stripes, line, size) {
                 shown.join(symbol, size);
             }
         }

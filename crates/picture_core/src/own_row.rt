@@ -13,7 +13,7 @@ pub struct OwnRow {
     pub right: u32,
 }
 
-/// Two rows of a picture that show a symbol, or one of them twice where the picture has no other.
+/// Two rows of a picture that show a symbol, or one of them twice if the picture has no other.
 #[derive(Clone, Copy)]
 pub struct OwnRows {
     pub first: OwnRow,

@@ -1,6 +1,7 @@
 //! Grey dots.
 ghost use Rattle.std.specs.Prelude.{true, false, IfNone, OnSome, ◌≡◌, ◌+◌, ◌-◌, ◌*◌, ◌<◌, ◌≤◌, ℕ, IfSome, length};
 ghost use Rattle.picture_core.specs.Pictures.{IsPicture};
+ghost use Rattle.picture_core.specs.Lines.{IsAmidDots, mix, value_at};
 ghost use Rattle.picture_core.specs.Rows.{greys_of_row};
 
 use std::marker::Model;
@@ -26,7 +27,7 @@ impl<'a> Model for Picture<'a> {
     ghost invariant = { λ p. IsPicture (length p.grey.now) p.width p.height p.stride };
 }
 
-/// Whether rows of so many dots, each so far behind the one above, stand in so many values.
+/// Whether this many values hold this many rows of a width, each a stride behind the one above.
 fn are_within(values: usize, width: usize, height: usize, stride: usize) -> bool
     ensures within { result ≡ true → (y : ℕ) → y < height → y * stride + width ≤ values }
     ensures beyond { result ≡ false → (0 < height) × (values < (height - 1) * stride + width) }
@@ -90,9 +91,12 @@ impl<'a> Picture<'a> {
     }
 
     /// The grey value at a place, in 1/65536 dot from the middle of the first one: from those of the four dots around it, in
-    /// 1/256; none where these are not all in the picture.
+    /// 1/256; none if these are not all in the picture.
     pub(crate) fn between(&self, x: u32, y: u32) -> Option<u32>
-        ensures { IfSome result (λ value. value ≤ 65280) }
+        ensures value { IfSome result (λ value. value ≡ value_at self.now x y) }
+        ensures some { OnSome result (IsAmidDots self.now x y) }
+        ensures none { IfNone result (IsAmidDots self.now x y → ⊥) }
+        ensures light { IfSome result (λ value. value ≤ 65280) }
     {
         let column = (x >> 16) as usize;
         let row = (y >> 16) as usize;
@@ -116,11 +120,12 @@ impl<'a> Picture<'a> {
     }
 }
 
-/// 256 times the value that is so many 256ths of the way from one to another.
+/// 256 times the value that is this many 256ths of the way from one to another.
 fn mixed(one: u32, other: u32, part: u32) -> u32
     requires part { part < 256 }
     requires one { one ≤ 65280 }
     requires other { other ≤ 65280 }
+    ensures value { result ≡ mix one other part }
     ensures wide { result ≤ 256 * 65280 }
     ensures narrow { one ≤ 255 → other ≤ 255 → result ≤ 65280 }
 {

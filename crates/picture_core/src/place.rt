@@ -3,7 +3,7 @@ ghost use Rattle.std.specs.Prelude.{◌≡◌, ◌+◌, ◌*◌, ◌/◌, ◌^�
 
 use crate::own_row::OwnRow;
 
-/// The parts of a dot that places are told in.
+/// The parts of a dot that places are given in.
 pub(crate) const UNIT: u32 = 256;
 
 /// The most dots of a side.
@@ -11,7 +11,7 @@ const MOST_DOTS: u32 = 65_536;
 
 /// A place of a picture, in 1/256 dot from its left and from its top.
 #[derive(Clone, Copy)]
-pub struct Place {
+pub struct Point {
     pub x: u32,
     pub y: u32,
 }
@@ -19,14 +19,14 @@ pub struct Place {
 /// The corners of a symbol, clockwise. Its upper left one is the one that is above left where its bars stand upright.
 #[derive(Clone, Copy)]
 pub struct Corners {
-    pub upper_left: Place,
-    pub upper_right: Place,
-    pub lower_right: Place,
-    pub lower_left: Place,
+    pub upper_left: Point,
+    pub upper_right: Point,
+    pub lower_right: Point,
+    pub lower_left: Point,
 }
 
-/// The product of two numbers of places.
-fn area(one: u32, other: u32) -> u128
+/// The product of two numbers.
+pub(crate) fn product(one: u32, other: u32) -> u128
     ensures product { result ≡ one * other }
     ensures small { result < 2 ^ 64 }
 {
@@ -34,37 +34,37 @@ fn area(one: u32, other: u32) -> u128
 }
 
 /// Half way between two numbers.
-fn half_way(one: u32, other: u32) -> u32
+pub(crate) fn half_way(one: u32, other: u32) -> u32
     ensures { result ≡ (one + other) / 2 }
 {
     ((u64::from(one) + u64::from(other)) / 2) as u32
 }
 
-impl Place {
+impl Point {
     ghost use Rattle.picture_core.specs.Places.{IsRightOf};
 
     /// The upper left corner of a dot.
-    pub(crate) fn of_dots(column: u32, row: u32) -> Place {
-        Place {
+    pub(crate) fn of_dots(column: u32, row: u32) -> Point {
+        Point {
             x: column.min(MOST_DOTS) * UNIT,
             y: row.min(MOST_DOTS) * UNIT,
         }
     }
 
     /// Whether this place is on the right or straight ahead, going from one place to another.
-    fn is_right_of(self, from: Place, to: Place) -> bool
+    fn is_right_of(self, from: Point, to: Point) -> bool
         ensures { IsTrue result ↔ IsRightOf from to self }
     {
-        area(from.y, to.x) + area(to.y, self.x) + area(self.y, from.x)
-            <= area(from.x, to.y) + area(to.x, self.y) + area(self.x, from.y)
+        product(from.y, to.x) + product(to.y, self.x) + product(self.y, from.x)
+            <= product(from.x, to.y) + product(to.x, self.y) + product(self.x, from.y)
     }
 }
 
 impl Corners {
-    ghost use Rattle.picture_core.specs.Places.{AreBarsOn, IsOn, corner_of, middle};
+    ghost use Rattle.picture_core.specs.Places.{AreBarsOn, HaveArea, IsOn, corner_of, middle};
 
     /// Whether a place is on the symbol.
-    pub fn hold(&self, place: Place) -> bool
+    pub fn hold(&self, place: Point) -> bool
         ensures { IsTrue result ↔ IsOn self.now place }
     {
         place.is_right_of(self.upper_left, self.upper_right)
@@ -73,12 +73,21 @@ impl Corners {
             && place.is_right_of(self.lower_left, self.upper_left)
     }
 
+    /// Whether they are the corners of an area.
+    pub(crate) fn have_area(&self) -> bool
+        ensures { IsTrue result → HaveArea self.now }
+    {
+        !self
+            .upper_left
+            .is_right_of(self.lower_right, self.upper_right)
+    }
+
     /// Whether the upper left corner of a dot is on the symbol.
     fn hold_corner(&self, column: u32, row: u32) -> bool
         ensures { IsTrue result → IsOn self.now (corner_of column row) }
     {
         match (column.checked_mul(UNIT), row.checked_mul(UNIT)) {
-            (Some(x), Some(y)) => self.hold(Place { x, y }),
+            (Some(x), Some(y)) => self.hold(Point { x, y }),
             _ => false,
         }
     }
@@ -97,10 +106,10 @@ impl Corners {
     }
 
     /// Half way between two opposite corners.
-    pub fn middle(&self) -> Place
+    pub fn middle(&self) -> Point
         ensures { result ≡ middle self.now }
     {
-        Place {
+        Point {
             x: half_way(self.upper_left.x, self.lower_right.x),
             y: half_way(self.upper_left.y, self.lower_right.y),
         }

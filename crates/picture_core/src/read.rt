@@ -14,7 +14,7 @@ use crate::room::{Room, RowRoom};
 use crate::said::{Furthest, Refused};
 use crate::shown::{MOST, Shown};
 use crate::stripes::Blocks;
-use crate::symbol::Symbol;
+use crate::symbol::SeenSymbol;
 use crate::telling::keep_told;
 use arrayvec::ArrayVec;
 use element_core::Year;
@@ -55,26 +55,24 @@ fn read_stripes(
     furthest: &mut Furthest,
 ) {
     let picture = reader.picture;
-    let enough = picture.width() * picture.height() + MOST_TAKEN;
-    let mut taken = 0usize;
-    let mut number = 0u32;
-    for look in &LOOKS {
-        // Where there is no room for more symbols, a look would count those again that the one before dropped.
+    // How many dots may still be taken.
+    let mut left = picture.width() * picture.height() + MOST_TAKEN;
+    for (before, look) in LOOKS.iter().enumerate() {
+        // If there is no room for more symbols, a look would count those again that the one before dropped.
         if shown.dropped > 0 {
             break;
         }
-        number = number.saturating_add(1);
+        let number = before as u32 + 1;
         leave_unknown(blocks, shown);
         for first in 0..blocks.len() {
-            if taken >= enough || !blocks.is_left(first, number) {
+            if left == 0 || !blocks.is_left(first, number) {
                 continue;
             }
             let count = take_patch(blocks, first, number, queue);
             if count >= FEWEST_BLOCKS && count <= queue.len() {
                 let patch = &queue[..count];
-                taken = taken.saturating_add(read_patch(
-                    reader, &*blocks, patch, look, row, shown, furthest,
-                ));
+                let taken = read_patch(reader, &*blocks, patch, look, row, shown, furthest);
+                left -= taken.min(left);
             }
         }
     }
@@ -102,7 +100,7 @@ fn level_in(picture: &Picture, level: Option<u8>) -> u8
 
 /// If there is no symbol, why.
 fn refused_of(
-    symbols: &ArrayVec<Option<Symbol>, MOST>,
+    symbols: &ArrayVec<Option<SeenSymbol>, MOST>,
     furthest: &Furthest,
     year: Year,
 ) -> Option<Refused>
@@ -146,6 +144,7 @@ pub fn read_picture(picture: &Picture, reading: Reading, room: &mut Room, shown:
         reading.year,
         &mut shown.symbols,
         room.widths,
+        &mut room.row,
     );
     shown.level = level;
     shown.refused = refused_of(&shown.symbols, &furthest, reading.year);

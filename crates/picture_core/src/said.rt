@@ -86,7 +86,7 @@ fn are_same(one: &Elements, other: &Elements) -> bool
 }
 
 impl Said {
-    /// What widths say, where they are read. Where they are refused, that is noted.
+    /// What widths say, if they are read. If they are refused, that is noted.
     pub(crate) fn of_widths(widths: &[u16], year: Year, furthest: &mut Furthest) -> Option<Said>
         ensures { IfSome result (λ said. IsAnswer widths.now year (Read said.carrier said.elements)) }
     {

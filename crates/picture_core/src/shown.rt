@@ -3,11 +3,12 @@ ghost use Rattle.std.specs.Prelude.{◌≡◌, ◌<◌, ◌+◌, ◌++◌, ◌�
 ghost use Rattle.arrayvec.specs.ArrayVec.{array_vec_len};
 
 use crate::area::Size;
+use crate::count::added;
 use crate::said::Refused;
-use crate::symbol::Symbol;
+use crate::symbol::SeenSymbol;
 use arrayvec::ArrayVec;
 
-/// The most symbols of a picture that are told.
+/// The most symbols of a picture that are reported.
 pub const MOST: usize = 192;
 
 /// What a picture shows.
@@ -16,7 +17,7 @@ pub struct Shown {
     /// The grey value below which the dots of the picture's own rows are dark.
     pub level: u8,
     /// Its symbols in the order of reading. Each place of the list has one.
-    pub symbols: ArrayVec<Option<Symbol>, MOST>,
+    pub symbols: ArrayVec<Option<SeenSymbol>, MOST>,
     /// How many more there was no room for, at least.
     pub dropped: u32,
     /// If there is no symbol, why: of the rows that were looked at the refusal that came furthest.
@@ -24,7 +25,7 @@ pub struct Shown {
 }
 
 /// The place of a symbol that is the same or a part of it.
-fn place_of(all: &[Option<Symbol>], symbol: &Symbol) -> Option<usize> {
+fn place_of(all: &[Option<SeenSymbol>], symbol: &SeenSymbol) -> Option<usize> {
     for (place, other) in all.iter().enumerate() {
         if let Some(other) = other {
             if symbol.is_also(other) {
@@ -57,11 +58,11 @@ impl Shown {
     pub(crate) fn drop_more(&mut self, count: u32)
         ensures { self.old.dropped + count < 4294967296 → self.new.dropped ≡ self.old.dropped + count }
     {
-        self.dropped = self.dropped.saturating_add(count);
+        self.dropped = added(self.dropped, count);
     }
 
-    /// Adds a symbol, or counts it where there is no room for it.
-    pub(crate) fn push(&mut self, symbol: Symbol)
+    /// Adds a symbol, or counts it if there is no room for it.
+    pub(crate) fn push(&mut self, symbol: SeenSymbol)
         ensures room { array_vec_len self.old.symbols < 192 → self.new.symbols.items ≡ self.old.symbols.items ++ Some symbol ∷ [] }
         ensures counted { self.old.dropped < 4294967295 → array_vec_len self.old.symbols ≡ 192 → self.new.dropped ≡ self.old.dropped + 1 }
     {
@@ -70,8 +71,8 @@ impl Shown {
         }
     }
 
-    /// Adds a symbol, where it may be one of those that are found; where one of them says something else it stands.
-    pub(crate) fn join(&mut self, mut symbol: Symbol, size: Size) {
+    /// Adds a symbol, if it may be one of those that are found; if one of them says something else it stands.
+    pub(crate) fn join(&mut self, mut symbol: SeenSymbol, size: Size) {
         for other in self.symbols.as_slice() {
             if let Some(other) = other {
                 if symbol.is_against(other) {

@@ -1,15 +1,16 @@
 //! The blocks of a picture whose grey values change to and fro one way.
-ghost use Rattle.std.specs.Prelude.{◌≡◌, ◌+◌, ◌<◌, ◌≤◌, length};
+ghost use Rattle.std.specs.Prelude.{◌≡◌, ◌+◌, ◌<◌, ◌≤◌, ◌^◌, length, pos, ◌≤ℤ◌};
+ghost use Rattle.picture_core.specs.inner.Bounds.{IsBounded};
 
-use crate::frame::{Spot, over};
+use crate::frame::{Spot, over, size_of};
 use crate::layout::Layout;
 use crate::picture::Picture;
 
 /// A block: twice the direction in which its grey values change, in 1/1024. One that is not striped has none.
 #[derive(Clone, Copy)]
 pub(crate) struct Block {
-    pub(crate) cos: i32,
-    pub(crate) sin: i32,
+    pub(crate) cos: i16,
+    pub(crate) sin: i16,
 }
 
 /// One that is not striped.
@@ -21,7 +22,7 @@ impl Block {
     }
 }
 
-/// How much the grey values change across, down and both ways, in sums of squares.
+/// How much the grey values change across, down and both ways, in sums of products.
 #[derive(Clone, Copy)]
 struct Changes {
     across: i32,
@@ -29,26 +30,45 @@ struct Changes {
     both: i32,
 }
 
-/// Adds the changes of the dots of a row from `from` up to `to`, by those beside, above and below each.
-fn add_row(changes: &mut Changes, above: &[u8], here: &[u8], below: &[u8], from: usize, to: usize)
+/// No change.
+const NONE: Changes = Changes {
+    across: 0,
+    down: 0,
+    both: 0,
+};
+
+/// The product of the differences of grey values.
+fn product(one: i32, other: i32) -> i32
+    requires one { IsBounded 255 one }
+    requires other { IsBounded 255 other }
+    ensures { IsBounded 65025 result }
+{
+    one * other
+}
+
+/// The changes of some dots of a row from `from` on, by those beside, above and below each.
+fn row_changes(above: &[u8], here: &[u8], below: &[u8], from: usize, dots: usize) -> Changes
     requires some { 1 ≤ from }
-    requires beside { to + 1 ≤ length here.now }
+    requires few { dots ≤ 32 }
+    requires beside { from + dots + 1 ≤ length here.now }
     requires above { length above.now ≡ length here.now }
     requires below { length below.now ≡ length here.now }
+    ensures across { IsBounded 2080800 result.across }
+    ensures down { IsBounded 2080800 result.down }
+    ensures both { IsBounded 2080800 result.both }
 {
     let mut across = 0i32;
     let mut down = 0i32;
     let mut both = 0i32;
-    for x in from..to {
+    for dot in 0..dots {
+        let x = from + dot;
         let dx = i32::from(here[x + 1]) - i32::from(here[x - 1]);
         let dy = i32::from(below[x]) - i32::from(above[x]);
-        across = across.wrapping_add(dx.wrapping_mul(dx));
-        down = down.wrapping_add(dy.wrapping_mul(dy));
-        both = both.wrapping_add(dx.wrapping_mul(dy));
+        across += product(dx, dx);
+        down += product(dy, dy);
+        both += product(dx, dy);
     }
-    changes.across = changes.across.wrapping_add(across);
-    changes.down = changes.down.wrapping_add(down);
-    changes.both = changes.both.wrapping_add(both);
+    Changes { across, down, both }
 }
 
 /// A square of a picture.
@@ -57,6 +77,9 @@ struct Square {
     left: usize,
     top: usize,
     side: usize,
+    ghost left_within: { left ≤ 2097120 },
+    ghost top_within: { top ≤ 2097120 },
+    ghost few: { side ≤ 32 },
 }
 
 /// The least change of a dot of a striped block, and how much of it goes one way, of 100.
@@ -67,45 +90,47 @@ const LEAST_PART: i64 = 45;
 /// The block of a square, of which every second row is looked at.
 fn block_of(picture: &Picture, square: Square) -> Block {
     let from = square.left.max(1);
-    let to = square
-        .left
-        .saturating_add(square.side)
-        .min(picture.width().saturating_sub(1));
-    let mut changes = Changes {
-        across: 0,
-        down: 0,
-        both: 0,
-    };
-    let mut rows = 0i64;
-    for pair in 0..square.side / 2 {
-        let y = square.top.max(1).saturating_add(pair * 2);
-        if y < picture.height().saturating_sub(1) && from < to {
-            add_row(
-                &mut changes,
-                picture.row(y - 1),
-                picture.row(y),
-                picture.row(y + 1),
-                from,
-                to,
-            );
-            rows = rows.wrapping_add(1);
-        }
+    let to = (square.left + square.side).min(picture.width().max(1) - 1);
+    if from >= to {
+        return PLAIN;
     }
-    let dots = rows.wrapping_mul(i64::try_from(to.saturating_sub(from)).unwrap_or(0));
-    striped(changes, dots)
+    let dots = to - from;
+    let mut changes = NONE;
+    let mut rows = 0u16;
+    for pair in 0..square.side / 2 {
+        let y = square.top.max(1) + pair * 2;
+        if y + 1 >= picture.height() {
+            break;
+        }
+        let row = row_changes(
+            picture.row(y - 1),
+            picture.row(y),
+            picture.row(y + 1),
+            from,
+            dots,
+        );
+        changes = Changes {
+            across: changes.across + row.across,
+            down: changes.down + row.down,
+            both: changes.both + row.both,
+        };
+        rows += 1;
+    }
+    striped(changes, i64::from(rows) * i64::from(dots as u16))
 }
 
-/// The block with these changes of so many dots.
-fn striped(changes: Changes, dots: i64) -> Block {
+/// The block with these changes of this many dots.
+fn striped(changes: Changes, dots: i64) -> Block
+    requires across { IsBounded 33292800 changes.across }
+    requires down { IsBounded 33292800 changes.down }
+    requires both { IsBounded 33292800 changes.both }
+    requires dots { IsBounded (2 ^ 32) dots }
+{
     let sum = i64::from(changes.across) + i64::from(changes.down);
-    let cos = i64::from(changes.across) - i64::from(changes.down);
-    let sin = 2 * i64::from(changes.both);
-    let square = cos.wrapping_mul(cos).wrapping_add(sin.wrapping_mul(sin));
-    let size = i64::try_from(square.saturating_abs().unsigned_abs().isqrt()).unwrap_or(0);
-    if size < 1
-        || sum < dots.wrapping_mul(LEAST_CHANGE)
-        || size.wrapping_mul(100) < sum.wrapping_mul(LEAST_PART)
-    {
+    let cos = changes.across - changes.down;
+    let sin = 2 * changes.both;
+    let size = size_of(cos, sin);
+    if size < 1 || sum < dots * LEAST_CHANGE || size * 100 < sum * LEAST_PART {
         return PLAIN;
     }
     Block {
@@ -115,8 +140,37 @@ fn striped(changes: Changes, dots: i64) -> Block {
 }
 
 /// A part of a size, in 1/1024.
-fn part_of(part: i64, size: i64) -> i32 {
-    i32::try_from(over(part.wrapping_mul(1024), size)).unwrap_or(0)
+fn part_of(part: i32, size: i64) -> i16
+    requires { pos 0 ≤ℤ size }
+{
+    over(i64::from(part) * 1024, size).clamp(-1024, 1024) as i16
+}
+
+/// A part of a direction, as it is kept in a word.
+fn word_of(part: i16) -> u32 {
+    u32::from(part.cast_unsigned())
+}
+
+fn part_in(word: u32) -> i16 {
+    ((word % 65_536) as u16).cast_signed()
+}
+
+/// Where a block begins, by how many are before it.
+fn begin_of(before: usize, side: usize) -> usize
+    requires before { before ≤ 65535 }
+    requires side { side ≤ 32 }
+    ensures { result ≤ 2097120 }
+{
+    before * side
+}
+
+/// The middle of a block, by how many are before it, in 1/256 dot.
+fn middle_of(before: usize, side: usize) -> i64
+    requires side { side ≤ 32 }
+    ensures { IsBounded (2 ^ 29) result }
+{
+    let begin = begin_of(before.min(65_535), side);
+    (2 * begin + side) as i64 * 128
 }
 
 /// The blocks of a picture, row by row.
@@ -153,8 +207,8 @@ impl<'a> Blocks<'a> {
         };
         for number in 0..count {
             let square = Square {
-                left: number % layout.columns * layout.side,
-                top: (number / layout.columns).saturating_mul(layout.side),
+                left: begin_of(number % layout.columns, layout.side),
+                top: begin_of((number / layout.columns).min(65_535), layout.side),
                 side: layout.side,
             };
             blocks.set(number, block_of(picture, square));
@@ -170,8 +224,8 @@ impl<'a> Blocks<'a> {
 
     fn set(&mut self, number: usize, block: Block) {
         if number < self.cos.len() {
-            self.cos[number] = block.cos.cast_unsigned();
-            self.sin[number] = block.sin.cast_unsigned();
+            self.cos[number] = word_of(block.cos);
+            self.sin[number] = word_of(block.sin);
             self.taken[number] = 0;
         }
     }
@@ -182,8 +236,8 @@ impl<'a> Blocks<'a> {
             return PLAIN;
         }
         Block {
-            cos: self.cos[number].cast_signed(),
-            sin: self.sin[number].cast_signed(),
+            cos: part_in(self.cos[number]),
+            sin: part_in(self.sin[number]),
         }
     }
 
@@ -206,17 +260,9 @@ impl<'a> Blocks<'a> {
 
     /// The middle of a block.
     pub(crate) fn centre(&self, number: usize) -> Spot {
-        let column = i64::try_from(number % self.layout.columns).unwrap_or(0);
-        let row = i64::try_from(number / self.layout.columns).unwrap_or(0);
-        let half = i64::try_from(self.layout.side)
-            .unwrap_or(0)
-            .saturating_mul(128);
         Spot {
-            x: column
-                .saturating_mul(2)
-                .saturating_add(1)
-                .saturating_mul(half),
-            y: row.saturating_mul(2).saturating_add(1).saturating_mul(half),
+            x: middle_of(number % self.layout.columns, self.layout.side),
+            y: middle_of(number / self.layout.columns, self.layout.side),
         }
     }
 }

@@ -3,10 +3,11 @@ use crate::area::Area;
 use crate::own_row::OwnRows;
 use crate::place::Corners;
 use crate::said::Said;
+use crate::seen_line::SeenLine;
 
 /// A symbol of a picture.
 #[derive(Drop)]
-pub struct Symbol {
+pub struct SeenSymbol {
     /// Its carrier and its elements.
     pub said: Said,
     /// How many rows say so.
@@ -15,22 +16,24 @@ pub struct Symbol {
     pub corners: Corners,
     /// Two of the picture's own rows that show it, if it was found in these and nowhere else.
     pub own_rows: Option<OwnRows>,
+    /// Lines of the picture that show it, if it was found along stripes.
+    pub line: Option<SeenLine>,
     pub(crate) area: Area,
 }
 
-impl Symbol {
+impl SeenSymbol {
     /// Whether the other is the same symbol, or a part of it.
-    pub(crate) fn is_also(&self, other: &Symbol) -> bool {
+    pub(crate) fn is_also(&self, other: &SeenSymbol) -> bool {
         self.said.says_as(&other.said) && self.area.meets(&other.area)
     }
 
     /// Whether the other says something else of the same place.
-    pub(crate) fn is_against(&self, other: &Symbol) -> bool {
+    pub(crate) fn is_against(&self, other: &SeenSymbol) -> bool {
         self.area.is_at(&other.area) && !self.said.says_as(&other.said)
     }
 
     /// Makes it as high as both are.
-    pub(crate) fn take_in(&mut self, other: &Symbol) {
+    pub(crate) fn take_in(&mut self, other: &SeenSymbol) {
         self.area.take_in(&other.area);
         self.rows = self.rows.saturating_add(other.rows);
         self.own_rows = None;

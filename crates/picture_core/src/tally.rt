@@ -1,10 +1,15 @@
 //! What rows say, put together by place.
+ghost use Rattle.std.specs.Prelude.{◌≡◌, ◌^◌, pos};
+ghost use Rattle.picture_core.specs.inner.Bounds.{IsBounded};
+
+use crate::count::added;
+use crate::extent::{least, most};
 use crate::lean::Lean;
 use crate::said::{Said, says_as};
 use arrayvec::ArrayVec;
 
 /// What some rows say at a place, or that they show the shape of a symbol and are refused.
-#[derive(Default, Drop)]
+#[derive(Drop)]
 pub(crate) struct Seen {
     pub(crate) said: Option<Said>,
     /// Its sides along the rows, in 1/256 dot.
@@ -17,6 +22,27 @@ pub(crate) struct Seen {
     /// How far its sides may be from those of a row, beside an eighth of the row's width.
     near: i64,
     pub(crate) rows: u32,
+    ghost left_within: { IsBounded (2 ^ 40) left },
+    ghost right_within: { IsBounded (2 ^ 40) right },
+    ghost near_within: { IsBounded (2 ^ 40) near },
+}
+
+impl Default for Seen {
+    ghost is_default = { λ seen. seen.rows ≡ 0 };
+
+    /// What no row says.
+    fn default() -> Seen {
+        Seen {
+            said: None,
+            left: 0,
+            right: 0,
+            first: Sight::default(),
+            last: Sight::default(),
+            lean: Lean::default(),
+            near: 0,
+            rows: 0,
+        }
+    }
 }
 
 /// The most places of a tally.
@@ -30,51 +56,105 @@ pub(crate) struct Tally {
 }
 
 /// Where a row shows a symbol: its sides along the row, in 1/256 dot, and the row, in 1/65536 dot, with the step to the next one.
-#[derive(Clone, Copy, Default)]
+#[derive(Clone, Copy)]
 pub(crate) struct Sight {
     pub(crate) left: i64,
     pub(crate) right: i64,
     pub(crate) v: i64,
     pub(crate) step: i64,
+    ghost left_within: { IsBounded (2 ^ 40) left },
+    ghost right_within: { IsBounded (2 ^ 40) right },
+    ghost v_within: { IsBounded (2 ^ 40) v },
+    ghost step_within: { IsBounded (2 ^ 40) step },
+}
+
+impl Default for Sight {
+    ghost is_default = { λ sight. sight.v ≡ pos 0 };
+
+    /// Nowhere.
+    fn default() -> Sight {
+        Sight {
+            left: 0,
+            right: 0,
+            v: 0,
+            step: 0,
+        }
+    }
+}
+
+/// The most that a place is away from the first dot, in 1/65536 dot. A picture ends long before.
+const FARTHEST: i64 = 1 << 39;
+
+/// The nearest number that may be a place.
+fn near(number: i64) -> i64
+    ensures { IsBounded (2 ^ 39) result }
+{
+    number.clamp(-FARTHEST, FARTHEST)
 }
 
 impl Sight {
+    /// Where a row that begins at u shows a symbol from `left` to `right` of there.
+    pub(crate) fn new(u: i64, left: u32, right: u32, v: i64, step: i64) -> Sight {
+        let u = near(u);
+        Sight {
+            left: u + i64::from(left),
+            right: u + i64::from(right),
+            v: near(v),
+            step: near(step),
+        }
+    }
+
     /// Its middle along the row and how far down the row is, in 1/16 dot.
     fn middle(self) -> i64 {
-        self.left.saturating_add(self.right) >> 5
+        (self.left + self.right) >> 5
     }
 
     fn place(self) -> i64 {
         self.v >> 12
     }
+
+    fn width(self) -> i64
+        ensures { IsBounded (2 ^ 41) result }
+    {
+        self.right - self.left
+    }
 }
 
 impl Seen {
     fn goes_on(&self, said: &Option<Said>, sight: Sight) -> bool {
-        let width = sight.right.saturating_sub(sight.left);
-        let near = (width / 8).saturating_add(self.near);
-        let gap = (width / 5).saturating_mul(256).saturating_add(sight.step);
-        sight.v.saturating_sub(self.last.v) <= gap
-            && self.left.saturating_sub(sight.left).saturating_abs() < near
-            && self.right.saturating_sub(sight.right).saturating_abs() < near
+        let width = sight.width();
+        let near = width / 8 + self.near;
+        let gap = width / 5 * 256 + sight.step;
+        sight.v - self.last.v <= gap
+            && (self.left - sight.left).abs() < near
+            && (self.right - sight.right).abs() < near
             && says_as(&self.said, said)
     }
 
     fn add(&mut self, sight: Sight) {
-        self.left = self.left.min(sight.left);
-        self.right = self.right.max(sight.right);
+        self.left = least(self.left, sight.left);
+        self.right = most(self.right, sight.right);
         self.last = sight;
         self.lean.add(sight.middle(), sight.place());
-        self.rows = self.rows.saturating_add(1);
+        self.rows = added(self.rows, 1);
     }
 
     /// Whether both are at one place, or fewer dots apart than there may be between two symbols.
-    fn overlaps(&self, other: &Seen, apart: i64) -> bool {
+    fn overlaps(&self, other: &Seen, apart: i64) -> bool
+        requires { IsBounded (2 ^ 41) apart }
+    {
         other.left < self.right
             && self.left < other.right
-            && other.first.v <= self.last.v.saturating_add(apart)
-            && self.first.v <= other.last.v.saturating_add(apart)
+            && other.first.v <= self.last.v + apart
+            && self.first.v <= other.last.v + apart
     }
+}
+
+/// Whether so many rows are enough against these.
+fn are_enough(rows: u32, against: u32, refused: u32) -> bool {
+    rows >= 2
+        && u64::from(rows) >= u64::from(against) * 4
+        && u64::from(rows) * 8 >= u64::from(refused)
 }
 
 impl Tally {
@@ -119,7 +199,7 @@ impl Tally {
             first: sight,
             last: sight,
             lean: Lean::of_row(sight.middle(), sight.place()),
-            near: sight.right.saturating_sub(sight.left) / 8,
+            near: sight.width() / 8,
             rows: 1,
         });
         if is_symbol && is_put.is_err() {
@@ -130,20 +210,18 @@ impl Tally {
     /// Whether enough rows say what was seen: two at least, four times as many as say something else there, and one for each eight
     /// that are refused there.
     fn is_sure(&self, seen: &Seen, step: i64) -> bool {
-        let apart = step.saturating_mul(3);
+        let apart = near(step) * 3;
         let mut against = 0u32;
         let mut refused = 0u32;
         for other in self.all.as_slice() {
             if seen.overlaps(other, apart) && !says_as(&seen.said, &other.said) {
                 if other.said.is_some() {
-                    against = against.saturating_add(other.rows);
+                    against = added(against, other.rows);
                 } else {
-                    refused = refused.saturating_add(other.rows);
+                    refused = added(refused, other.rows);
                 }
             }
         }
-        seen.rows >= 2
-            && seen.rows >= against.saturating_mul(4)
-            && seen.rows.saturating_mul(8) >= refused
+        are_enough(seen.rows, against, refused)
     }
 }

@@ -1,16 +1,19 @@
-//! What is told: each symbol is looked up in the picture once more, and is told if all holds that is promised of it.
-ghost use Rattle.std.specs.Prelude.{◌≡◌, ◌⊎◌, IfSome, ◌<◌, ◌+◌, ◌*◌, ◌≤◌, ℕ, All, AllPairs, IsTrue, Option, Some, length, slice_index_or};
+//! What is reported: each symbol is looked up in the picture once more, and is reported if all that is promised of it holds.
+ghost use Rattle.std.specs.Prelude.{◌≡◌, ◌⊎◌, IfNone, IfSome, IsSomeAnd, ◌<◌, ◌+◌, ◌*◌, ◌≤◌, ℕ, All, AllPairs, IsTrue, Option, Some, length, slice_index_or};
 ghost use Rattle.scan_core.specs.Row.{IsRow};
-ghost use Rattle.picture_core.specs.declared.symbol.Symbol.{Symbol};
+ghost use Rattle.picture_core.specs.declared.symbol.SeenSymbol.{SeenSymbol};
 ghost use Rattle.picture_core.specs.Rows.{IsWindowAt, RowShows};
-ghost use Rattle.picture_core.specs.Told.{AreApart, AreApartIn, AreOwnRows, IsSymbolIn, IsSomeSymbolIn};
+ghost use Rattle.picture_core.specs.Told.{AreApart, AreApartIn, AreOwnRows, IsOnLine, IsSymbolIn, IsSomeSymbolIn};
 
+use crate::on_line::line_shows;
 use crate::own_row::{OwnRow, OwnRows};
 use crate::picture::Picture;
+use crate::room::RowRoom;
 use crate::runs::{dots_in, put_runs};
 use crate::said::{Furthest, Said};
+use crate::seen_line::SeenLine;
 use crate::shown::MOST;
-use crate::symbol::Symbol;
+use crate::symbol::SeenSymbol;
 use arrayvec::ArrayVec;
 use element_core::Year;
 
@@ -67,7 +70,7 @@ fn are_enough(first: u32, last: u32, height: usize) -> bool
     first < last || height == 1
 }
 
-/// Whether so many rows say what a symbol says: two, or the only one.
+/// Whether this many rows say what a symbol says: two, or the only one.
 fn is_enough(rows: u32, height: usize) -> bool
     ensures { IsTrue result → (2 ≤ rows) ⊎ (height ≡ 1) }
 {
@@ -79,7 +82,7 @@ fn are_own_rows(
     picture: &Picture,
     level: u8,
     year: Year,
-    symbol: &Symbol,
+    symbol: &SeenSymbol,
     rows: OwnRows,
     widths: &mut [u16],
 ) -> bool
@@ -106,7 +109,7 @@ fn own_rows_show(
     picture: &Picture,
     level: u8,
     year: Year,
-    symbol: &Symbol,
+    symbol: &SeenSymbol,
     widths: &mut [u16],
 ) -> bool
     requires { picture.now.width + 2 ≤ length widths.old }
@@ -118,8 +121,45 @@ fn own_rows_show(
     }
 }
 
+/// Whether lines show a symbol, and the middle of its bars there is on it.
+fn is_on_line(
+    picture: &Picture,
+    year: Year,
+    symbol: &SeenSymbol,
+    line: &SeenLine,
+    row: &mut RowRoom,
+) -> bool
+    ensures { IsTrue result → IsOnLine picture.now year symbol.now line.now }
+{
+    match line_shows(picture, year, &symbol.said, line, row) {
+        Some(dot) => symbol.corners.hold(line.place_at(dot)),
+        None => false,
+    }
+}
+
+/// Whether the lines of a symbol show it, if it names no rows of the picture.
+fn lines_show(picture: &Picture, year: Year, symbol: &SeenSymbol, row: &mut RowRoom) -> bool
+    ensures { IsTrue result → IfNone symbol.now.own_rows
+        (IsSomeAnd symbol.now.line (IsOnLine picture.now year symbol.now)) }
+{
+    if symbol.own_rows.is_some() {
+        return true;
+    }
+    match &symbol.line {
+        Some(line) => is_on_line(picture, year, symbol, line, row),
+        None => false,
+    }
+}
+
 /// Whether all holds that is promised of a symbol.
-fn is_told(picture: &Picture, level: u8, year: Year, symbol: &Symbol, widths: &mut [u16]) -> bool
+fn is_told(
+    picture: &Picture,
+    level: u8,
+    year: Year,
+    symbol: &SeenSymbol,
+    widths: &mut [u16],
+    row: &mut RowRoom,
+) -> bool
     requires { picture.now.width + 2 ≤ length widths.old }
     ensures { IsTrue result → IsSymbolIn picture.now level year symbol.now }
 {
@@ -129,26 +169,32 @@ fn is_told(picture: &Picture, level: u8, year: Year, symbol: &Symbol, widths: &m
     if !is_enough(symbol.rows, picture.height()) {
         return false;
     }
+    if !symbol.corners.have_area() {
+        return false;
+    }
     if !symbol.corners.hold(symbol.corners.middle()) {
         return false;
     }
     if !own_rows_show(picture, level, year, symbol, widths) {
         return false;
     }
+    if !lines_show(picture, year, symbol, row) {
+        return false;
+    }
     true
 }
 
 /// Whether neither of two symbols has the middle of the other on it.
-fn are_apart(one: &Symbol, other: &Symbol) -> bool
+fn are_apart(one: &SeenSymbol, other: &SeenSymbol) -> bool
     ensures { IsTrue result → AreApart one.now other.now }
 {
     !one.corners.hold(other.corners.middle()) && !other.corners.hold(one.corners.middle())
 }
 
-/// Whether a symbol stands apart from each of the first so many.
-fn is_apart(symbols: &[Option<Symbol>], count: usize, symbol: &Symbol) -> bool
+/// Whether a symbol stands apart from each of the first this many.
+fn is_apart(symbols: &[Option<SeenSymbol>], count: usize, symbol: &SeenSymbol) -> bool
     requires { count ≤ length symbols.now }
-    ensures { IsTrue result → (k : ℕ) (d : Option Symbol) → k < count → AreApartIn (slice_index_or symbols.now k d) (Some symbol.now) }
+    ensures { IsTrue result → (k : ℕ) (d : Option SeenSymbol) → k < count → AreApartIn (slice_index_or symbols.now k d) (Some symbol.now) }
 {
     'symbols: for place in 0..count {
         if let Some(other) = &symbols[place] {
@@ -160,36 +206,38 @@ fn is_apart(symbols: &[Option<Symbol>], count: usize, symbol: &Symbol) -> bool
     true
 }
 
-/// Whether the symbol behind the first so many may be told after them.
+/// Whether the symbol behind the first `count` may be reported after them.
 fn may_be_told(
     picture: &Picture,
     level: u8,
     year: Year,
-    symbols: &[Option<Symbol>],
+    symbols: &[Option<SeenSymbol>],
     count: usize,
     widths: &mut [u16],
+    row: &mut RowRoom,
 ) -> bool
     requires room { picture.now.width + 2 ≤ length widths.old }
     requires within { count < length symbols.now }
-    ensures told { IsTrue result → (d : Option Symbol) → IsSomeSymbolIn picture.now level year (slice_index_or symbols.now count d) }
-    ensures apart { IsTrue result → (k : ℕ) (d : Option Symbol) → k < count
+    ensures told { IsTrue result → (d : Option SeenSymbol) → IsSomeSymbolIn picture.now level year (slice_index_or symbols.now count d) }
+    ensures apart { IsTrue result → (k : ℕ) (d : Option SeenSymbol) → k < count
         → AreApartIn (slice_index_or symbols.now k d) (slice_index_or symbols.now count d) }
 {
     match &symbols[count] {
         Some(symbol) => {
-            is_told(picture, level, year, symbol, widths) && is_apart(symbols, count, symbol)
+            is_told(picture, level, year, symbol, widths, row) && is_apart(symbols, count, symbol)
         }
         None => false,
     }
 }
 
-/// Keeps the symbols that may be told, each after those before it.
+/// Keeps the symbols that may be reported, each after those before it.
 pub(crate) fn keep_told(
     picture: &Picture,
     level: u8,
     year: Year,
-    symbols: &mut ArrayVec<Option<Symbol>, MOST>,
+    symbols: &mut ArrayVec<Option<SeenSymbol>, MOST>,
     widths: &mut [u16],
+    row: &mut RowRoom,
 )
     requires { picture.now.width + 2 ≤ length widths.old }
     ensures told { All (IsSomeSymbolIn picture.now level year) symbols.new.items }
@@ -198,7 +246,7 @@ pub(crate) fn keep_told(
     let mut count = 0;
     'symbols: for _ in 0..MOST {
         if count < symbols.len() {
-            if may_be_told(picture, level, year, symbols.as_slice(), count, widths) {
+            if may_be_told(picture, level, year, symbols.as_slice(), count, widths, row) {
                 count += 1;
             } else {
                 symbols.remove(count);

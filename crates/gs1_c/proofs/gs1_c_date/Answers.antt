@@ -1,7 +1,7 @@
 use Rattle.std.proofs.Common.{◌≡◌, List, refl, ℕ}
 use Rattle.element_core.specs.Terms.{Terms}
 use Rattle.gs1_c.specs.Dates.{date_line_by, shown_fault, shown_pair}
-use Rattle.gs1_c.proofs.LineFacts.{under}
+use Rattle.gs1_c.proofs.LinesByTerms.{under}
 use Rattle.gs1_c.proofs.gs1_c_date.Goals as goal
 
 pub returns : goal.returns

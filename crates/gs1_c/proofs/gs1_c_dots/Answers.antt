@@ -3,7 +3,7 @@ use Rattle.element_core.specs.declared.form.Form.TheVariants.{HumanReadable}
 use Rattle.gs1_c.specs.Lines.{IsPackedLine, packed_fault}
 use Rattle.gs1_c.specs.inner.Lines.{read_text}
 use Rattle.element_core.specs.Terms.{Terms}
-use Rattle.gs1_c.proofs.LineFacts.{packed_line, under}
+use Rattle.gs1_c.proofs.LinesByTerms.{packed_line, under}
 use Rattle.gs1_c.proofs.gs1_c_dots.Goals as goal
 
 pub returns : goal.returns

@@ -1,6 +1,6 @@
 use Rattle.scan_core.specs.Row.{runs_fault}
 use Rattle.gs1_c.specs.Found.{AreDatedSymbolsPut}
-use Rattle.gs1_c.proofs.LineFacts.{under}
+use Rattle.gs1_c.proofs.LinesByTerms.{under}
 use Rattle.gs1_c.proofs.gs1_c_find.Goals as goal
 
 pub returns : goal.returns

@@ -1,7 +1,7 @@
 use Rattle.std.proofs.Common.{length}
 use Rattle.gs1_c.specs.Found.{ArePackedSymbolsPut}
 use Rattle.gs1_c.specs.Lines.{packed_fault}
-use Rattle.gs1_c.proofs.LineFacts.{under}
+use Rattle.gs1_c.proofs.LinesByTerms.{under}
 use Rattle.gs1_c.proofs.gs1_c_find_dots.Goals as goal
 
 pub returns : goal.returns

@@ -5,7 +5,7 @@ use Rattle.element_core.specs.Terms.{Terms}
 use Rattle.sheet_core.specs.Grids.{Cells, IsGrid}
 use Rattle.gs1_c.specs.Labels.{IsImageSaid, IsKindSaid, IsLabelAnswer, one_cell}
 use Rattle.gs1_c.specs.Lines.{terms_of, words_text}
-use Rattle.gs1_c.proofs.LineFacts.{under}
+use Rattle.gs1_c.proofs.LinesByTerms.{under}
 use Rattle.gs1_c.proofs.gs1_c_label.Goals as goal
 
 pub returns-in-Ok : goal.returns-in-Ok

@@ -2,7 +2,7 @@ use Rattle.std.proofs.Common.{◌∙◌, length, subst, ℕ}
 use Rattle.std.specs.Prelude.{Option}
 use Rattle.picture_core.specs.Pictures.{Greys}
 use Rattle.gs1_c.specs.Pictures.{AreReadLinesPut, given_level}
-use Rattle.gs1_c.proofs.LineFacts.{under}
+use Rattle.gs1_c.proofs.LinesByTerms.{under}
 use Rattle.gs1_c.proofs.gs1_c_picture.Goals as goal
 
 pub returns : goal.returns

@@ -4,7 +4,7 @@ use Rattle.scan_core.specs.Row.{runs_fault}
 use Rattle.gs1_c.specs.Lines.{IsWidthsLine}
 use Rattle.gs1_c.specs.inner.Lines.{read_text}
 use Rattle.element_core.specs.Terms.{Terms}
-use Rattle.gs1_c.proofs.LineFacts.{under, widths_line}
+use Rattle.gs1_c.proofs.LinesByTerms.{under, widths_line}
 use Rattle.gs1_c.proofs.gs1_c_row_elements.Goals as goal
 
 pub returns : goal.returns

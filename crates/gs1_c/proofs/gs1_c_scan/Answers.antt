@@ -3,7 +3,7 @@ use Rattle.element_core.specs.Lines.{line_text}
 use Rattle.element_core.specs.declared.form.Form.TheVariants.{Pairs}
 use Rattle.message_core.specs.Messages.{IsMessageLine}
 use Rattle.element_core.specs.Terms.{Terms}
-use Rattle.gs1_c.proofs.LineFacts.{under}
+use Rattle.gs1_c.proofs.LinesByTerms.{under}
 use Rattle.gs1_c.proofs.gs1_c_scan.Goals as goal
 
 pub returns : goal.returns

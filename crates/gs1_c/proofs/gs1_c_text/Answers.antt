@@ -2,7 +2,7 @@ use Rattle.std.proofs.Common.{List, codes, ℕ}
 use Rattle.element_core.specs.Lines.{IsElementsLine, elements_text, line_text}
 use Rattle.element_core.specs.declared.form.Form.TheVariants.{HumanReadable}
 use Rattle.element_core.specs.Terms.{Terms}
-use Rattle.gs1_c.proofs.LineFacts.{under}
+use Rattle.gs1_c.proofs.LinesByTerms.{under}
 use Rattle.gs1_c.proofs.gs1_c_text.Goals as goal
 
 pub returns : goal.returns

@@ -2,7 +2,7 @@ use Rattle.std.proofs.Common.{◌∙◌}
 use Rattle.std.specs.Fmt.{decimal}
 use Rattle.element_core.specs.Elements.{hri}
 use Rattle.scan_core.specs.Lines.{identifier}
-use Rattle.gs1_c.proofs.FoundFacts.{six_pushed}
+use Rattle.gs1_c.proofs.LinesThatFit.{six_pushed}
 use Rattle.gs1_c.proofs.found.line_of.Goals as goal
 
 pub returns-clause-line : goal.returns-clause-line

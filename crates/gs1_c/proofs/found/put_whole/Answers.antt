@@ -4,7 +4,7 @@ use Rattle.digits_core.specs.Buffers.{pasted}
 use Rattle.digits_core.proofs.Pasted.{pasted_next}
 use Rattle.element_core.specs.Elements.{hri}
 use Rattle.scan_core.specs.Lines.{identifier}
-use Rattle.gs1_c.proofs.FoundFacts.{length-identifier, line_parts}
+use Rattle.gs1_c.proofs.LinesThatFit.{length-identifier, line_parts}
 use Rattle.gs1_c.proofs.found.put_whole.Goals as goal
 
 pub returns-clause-end : goal.returns-clause-end

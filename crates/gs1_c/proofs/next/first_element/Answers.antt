@@ -3,7 +3,7 @@ use Rattle.std.proofs.lemmas.List.{take_rest}
 use Rattle.gs1_c.specs.Dates.{before_equals}
 use Rattle.gs1_c.specs.Shown.{is_between}
 use Rattle.gs1_c.specs.inner.Shown.{up_to}
-use Rattle.gs1_c.proofs.ShownFacts.{first_at, word_passed}
+use Rattle.gs1_c.proofs.FirstWord.{first_at, word_passed}
 use Rattle.gs1_c.proofs.next.first_element.Goals as goal
 
 pub returns-then-ai-count-clause-some : goal.returns-then-ai-count-clause-some

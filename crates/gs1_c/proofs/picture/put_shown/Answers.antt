@@ -1,6 +1,6 @@
 use Rattle.std.proofs.Common.{◌≡◌, ◌∙◌, ◌+◌, ◌<◌, ◌≤◌, ℕ, List, Option, ap, inr, length, map, refl, subst}
 use Rattle.digits_core.specs.Buffers.{pasted}
-use Rattle.picture_core.specs.declared.symbol.Symbol.{Symbol}
+use Rattle.picture_core.specs.declared.symbol.SeenSymbol.{SeenSymbol}
 use Rattle.gs1_c.specs.Found.{ArePut}
 use Rattle.gs1_c.specs.Pictures.{dropped_line, placed_line_in}
 use Rattle.gs1_c.proofs.PictureFacts.{line_behind}
@@ -17,7 +17,7 @@ returns c =
     inr (
       c.if-shows_nothing.ensures.some refl,
       line_behind old now next (map placed_line_in shown.symbols.items) (dropped_line shown.dropped) end c.put_fitting.result
-          (subst (λ (ss : List (Option Symbol)). ArePut (map placed_line_in ss) old now end) c.as_slice.ensures.value c.put_all-end.ensures.put)
+          (subst (λ (ss : List (Option SeenSymbol)). ArePut (map placed_line_in ss) old now end) c.as_slice.ensures.value c.put_all-end.ensures.put)
           c.put_all-end.auto.out
           (c.put_fitting.ensures.end ∙ ap (λ (l : List ℕ). end + length l) same)
           (subst (λ (l : List ℕ). end + length l ≤ length now → next ≡ pasted now end l) same c.put_fitting.ensures.put)

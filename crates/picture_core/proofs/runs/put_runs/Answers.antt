@@ -1,5 +1,5 @@
 use Rattle.std.proofs.Common.{arith}
-use Rattle.picture_core.proofs.RunFacts.{row_dark, row_light, so_far_none, so_far_other, so_far_same}
+use Rattle.picture_core.proofs.RunsOfDots.{row_dark, row_light, so_far_none, so_far_other, so_far_same}
 use Rattle.picture_core.proofs.runs.put_runs.Goals as goal
 use Rattle.picture_core.proofs.runs.put_runs.Goals.{then-grey-level, else-grey-level}
 

@@ -1,4 +1,4 @@
-use Rattle.picture_core.proofs.RunFacts.{SoFar}
+use Rattle.picture_core.proofs.RunsOfDots.{SoFar}
 use Rattle.picture_core.proofs.runs.put_runs.Given as goal
 
 abbrev pub invariant-dots : goal.invariant-dots

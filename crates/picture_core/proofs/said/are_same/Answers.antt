@@ -1,5 +1,5 @@
 use Rattle.element_core.specs.Elements.{OneListOrFault}
-use Rattle.picture_core.proofs.SaidFacts.{same_listing}
+use Rattle.picture_core.proofs.SayingTheSame.{same_listing}
 use Rattle.picture_core.proofs.said.are_same.Goals as goal
 
 pub returns : goal.returns

@@ -2,7 +2,7 @@ use Rattle.std.proofs.Common.{◌≡◌, ◌∙◌, ◌+◌, ◌<◌, ◌≤◌,
 use Rattle.std.specs.Prelude.{All, AllPairs}
 use Rattle.std.proofs.lemmas.List.Elements.{All-more}
 use Rattle.picture_core.specs.Told.{AreApartIn, IsSomeSymbolIn}
-use Rattle.picture_core.specs.declared.symbol.Symbol.{Symbol}
+use Rattle.picture_core.specs.declared.symbol.SeenSymbol.{SeenSymbol}
 use Rattle.picture_core.proofs.KeptFacts.{front_stays, pairs_more}
 use Rattle.picture_core.proofs.telling.keep_told.Goals.{then-count-len+then-may_be_told, then-count-len+else-may_be_told, else-count-len}
 use Rattle.picture_core.proofs.telling.keep_told.Goals as goal
@@ -13,10 +13,10 @@ symbols-preserved c = elim c.if-count-len.branch [
       let items = c.symbols.symbols.items in
       let n = c.symbols.count in
       let value = w.as_slice.ensures.value in
-      let P : Option Symbol → Type 0 = IsSomeSymbolIn c.args.picture.now c.args.level c.args.year in
-      let told = subst (λ (xs : List (Option Symbol)). P (get_or xs n None)) value (w.may_be_told.ensures.told w.if-may_be_told.true None) in
-      let apart : (k : ℕ) (d : Option Symbol) → k < n → AreApartIn (get_or items k d) (get_or items n d) = λ k d low.
-      subst (λ (xs : List (Option Symbol)). AreApartIn (get_or xs k d) (get_or xs n d)) value (w.may_be_told.ensures.apart w.if-may_be_told.true k d low) in
+      let P : Option SeenSymbol → Type 0 = IsSomeSymbolIn c.args.picture.now c.args.level c.args.year in
+      let told = subst (λ (xs : List (Option SeenSymbol)). P (get_or xs n None)) value (w.may_be_told.ensures.told w.if-may_be_told.true None) in
+      let apart : (k : ℕ) (d : Option SeenSymbol) → k < n → AreApartIn (get_or items k d) (get_or items n d) = λ k d low.
+      subst (λ (xs : List (Option SeenSymbol)). AreApartIn (get_or xs k d) (get_or xs n d)) value (w.may_be_told.ensures.apart w.if-may_be_told.true k d low) in
       let within : n < length items = omega (arith, w.if-count-len.true, c.len.ensures.value) in
       rw (w.symbols-is, w.count-is) (record {
         within = let more : n + 1 ≤ length items = omega arith in more;

@@ -1,0 +1,5 @@
+use Rattle.std.proofs.Common.{◌*◌, ◌≤◌}
+use Rattle.picture_core.proofs.level.best_of.Given as goal
+
+abbrev pub invariant-loop-value : goal.invariant-loop-value
+invariant-loop-value l = (l.below.count ≤ 65535 * l.value) × (l.below.sum ≤ 16711425 * l.value)

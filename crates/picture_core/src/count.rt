@@ -1,0 +1,9 @@
+//! Counts that stay at the most that there are.
+ghost use Rattle.std.specs.Prelude.{◌≡◌, ◌+◌, ◌<◌, ◌^◌};
+
+/// So many more; the most if there are more than can be counted.
+pub(crate) fn added(count: u32, more: u32) -> u32
+    ensures { count + more < 2 ^ 32 → result ≡ count + more }
+{
+    count.saturating_add(more)
+}

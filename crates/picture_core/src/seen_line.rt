@@ -1,0 +1,89 @@
+//! The lines of a picture along which a look saw a symbol.
+ghost use Rattle.picture_core.specs.Lines.{down_at, part_of, part_start, place_at, reach_of, right_at};
+ghost use Rattle.std.specs.Prelude.{◌≡◌, ◌<◌, ◌^◌};
+
+use crate::place::Point;
+
+/// What was taken out of the mean of lines before its bars were looked for: no blur, one of 2.4 dots, or one of 3.
+#[derive(Clone, Copy, PartialEq, Eq)]
+pub enum Cleared {
+    Nothing,
+    Small,
+    Large,
+}
+
+/// Lines of a picture, a dot apart, whose mean shows a symbol. A place that is left of the picture or above it counts as far outside:
+/// numbers wrap at 65,536 dots.
+#[derive(Clone, Copy)]
+pub struct SeenLine {
+    /// Where the first line begins, to the right and down, in 1/65536 dot from the middle of the picture's first dot.
+    pub x: u32,
+    pub y: u32,
+    /// How far a line goes to the right and down from dot to dot.
+    pub across: u32,
+    pub down: u32,
+    /// How many dots a line has.
+    pub dots: u32,
+    /// How many lines there are.
+    pub lines: u8,
+    /// What was taken out of their mean.
+    pub cleared: Cleared,
+    /// Whether the bars are light and what is between them dark.
+    pub is_inverted: bool,
+}
+
+impl SeenLine {
+    /// How far right a dot of one of the lines stands.
+    pub(crate) fn right_at(&self, dot: u32, line: u32) -> u32
+        ensures { result ≡ right_at self.now dot line }
+    {
+        self.x
+            .wrapping_add(dot.wrapping_mul(self.across))
+            .wrapping_sub(line.wrapping_mul(self.down))
+    }
+
+    /// How far down it stands.
+    pub(crate) fn down_at(&self, dot: u32, line: u32) -> u32
+        ensures { result ≡ down_at self.now dot line }
+    {
+        self.y
+            .wrapping_add(dot.wrapping_mul(self.down))
+            .wrapping_add(line.wrapping_mul(self.across))
+    }
+
+    /// How many dots a part of a line has, in which all have one dark and one light value around them.
+    fn part(&self) -> usize
+        ensures value { result ≡ part_of self.now }
+        ensures few { result < 2 ^ 32 }
+    {
+        (self.dots as usize / 64).max(10)
+    }
+
+    /// The first dot of the part that a dot is in.
+    pub(crate) fn part_start(&self, dot: usize) -> usize
+        ensures { result ≡ part_start self.now dot }
+    {
+        dot.saturating_sub(dot % self.part())
+    }
+
+    /// How many dots away the dark and the light value around a dot are at most.
+    pub(crate) fn reach(&self) -> usize
+        ensures { result ≡ reach_of self.now }
+    {
+        match self.cleared {
+            Cleared::Nothing => 6 * self.part(),
+            Cleared::Small | Cleared::Large => 14 * self.part(),
+        }
+    }
+
+    /// Where a dot of the line in the middle stands in the picture.
+    pub(crate) fn place_at(&self, dot: u32) -> Point
+        ensures { result ≡ place_at self.now dot }
+    {
+        let line = u32::from(self.lines) / 2;
+        Point {
+            x: self.right_at(dot, line) / 256 + 128,
+            y: self.down_at(dot, line) / 256 + 128,
+        }
+    }
+}
