@@ -1,6 +1,6 @@
-"""Prints labels as `print` reads them: a kind, a comma and a GTIN or an element string.
+"""Prints labels for `print`: a kind, a comma and a GTIN or an element string.
 
-Usage: labels.py COUNT SEED. The labels are the same for the same two numbers, each kind in turn.
+Usage: labels.py COUNT SEED. The same numbers give the same labels, each kind in turn.
 """
 import random
 import sys

@@ -1,4 +1,4 @@
-"""Runs programs on inputs that scripts make, and measures their time and memory, as the programs of bench/ share it."""
+"""Runs programs on inputs that scripts make, and measures their time and memory, for the programs of bench/."""
 import contextlib
 import os
 import subprocess
@@ -12,9 +12,8 @@ YEAR = ["--year", "2026"]
 # 128 labels on a sheet of 2,240 by 3,840 dots.
 GRID = "--module 2 --width 560 --height 120 --columns 4 --rows 32".split()
 
-# Starts the program before all others where it may, as `chrt -r 1` does, and writes its status, times and memory to a pipe. A
-# process of its own, since a process has the greatest memory of the one that started it as its own: this one has some 8 MiB, so
-# less is not seen.
+# Starts the program with priority if it may, as `chrt -r 1` does, and writes its status, times and memory to a pipe. It is its own
+# process, since the peak memory of a process includes that of its starter: this one has 8 MiB, so it cannot see less.
 STARTER = """
 import os, sys, time
 try:
@@ -41,7 +40,7 @@ def measure(words, source, sink, errors=None):
 
 
 def in_turn(jobs, count):
-    """The wall times, processor times and peak memories of jobs, which are words and the path of an input, run in turn so many times."""
+    """The wall times, processor times and peak memories of jobs, run in turn this many times. A job is its words and the path of an input."""
     runs = {name: [] for name in jobs}
     for _ in range(count):
         for name, (words, path) in jobs.items():
@@ -54,7 +53,7 @@ def in_turn(jobs, count):
 
 
 def built():
-    """The program, which is proved and built if it is not current; itself, so that no start of the script is measured."""
+    """The program, proved and built if it is not current; not the script, whose start would be measured too."""
     subprocess.run([os.path.join(ROOT, "gs1_hub"), "--help"], stdout=subprocess.DEVNULL, check=True)
     return os.path.join(ROOT, "crates", "gs1_hub", "out", "gs1_hub")
 
@@ -80,7 +79,7 @@ def kept(content):
 
 
 def made(maker, *arguments):
-    """What a maker of inputs prints."""
+    """The output of a script that makes inputs."""
     words = [sys.executable, os.path.join(HERE, maker), *map(str, arguments)]
     return subprocess.run(words, stdout=subprocess.PIPE, check=True).stdout
 
@@ -92,7 +91,7 @@ def output(words, path):
 
 @contextlib.contextmanager
 def compiled(source, *words):
-    """The program of a file of bench/c."""
+    """The compiled program of a file of bench/c."""
     with tempfile.TemporaryDirectory() as folder:
         program = os.path.join(folder, "program")
         warnings = "-Wall -Wextra -Wno-missing-field-initializers -Wno-unused-function -Wno-maybe-uninitialized".split()
@@ -101,7 +100,7 @@ def compiled(source, *words):
 
 
 def latency(sender, pause, command, lines):
-    """How long the command takes for each of the lines that bench/c/latency.c sends alone after a pause of so many microseconds: the
-    median and the 99th of 100, in microseconds."""
+    """The time for each line that bench/c/latency.c sends alone after a pause of this many microseconds: the median and the 99th of 100, in
+    microseconds."""
     told = subprocess.run([*sender, str(pause), *command], input=b"".join(lines), stdout=subprocess.PIPE, check=True).stdout
     return tuple(map(int, told.split()))

@@ -1,5 +1,5 @@
-"""Times read_picture on pictures of 1,600 by 1,200 dots, and on noise of 8,000 by 8,000: the least processor time of five, and how
-many symbols are found.
+"""Times read_picture on pictures of 1,600 by 1,200 pixels, and on noise of 8,000 by 8,000: the least processor time of five runs, and how
+many symbols it finds.
 
 Usage: PYTHONPATH=python /usr/bin/python3 bench/pictures.py
 
@@ -16,7 +16,7 @@ TURN = {"resample": Image.Resampling.BICUBIC, "fillcolor": 255}
 
 
 def label(kind, text):
-    """A label of 480 by 200 dots, whose modules are 2 wide."""
+    """A label of 480 by 200 dots, with modules of 2 dots."""
     bits = numpy.frombuffer(noriladle.draw_label(kind, text, 2026, height=200), numpy.uint8, offset=len(b"P4\n480 200\n"))
     return Image.fromarray(255 - 255 * numpy.unpackbits(bits).reshape(200, 480))
 
@@ -37,7 +37,7 @@ def photograph(chance):
 
 
 def four_ways(stripes, chance):
-    """Squares of 128 dots, whose stripes go one of four ways: as many as read_picture looks along."""
+    """Squares of 128 dots with stripes in one of four directions: as many as read_picture tries."""
     whole = Image.fromarray(numpy.tile(stripes, (2, 2)))
     turned = numpy.stack([numpy.asarray(whole.rotate(angle, **TURN))[600:1800, 800:2400] for angle in (10, 55, 100, 145)])
     way = chance.randint(0, 4, (10, 13)).repeat(128, axis=0).repeat(128, axis=1)[:1200, :1600]

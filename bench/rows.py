@@ -1,13 +1,13 @@
-"""Prints scanned rows as `lanes` reads them: a lane, a comma and the widths of a row.
+"""Prints scanned rows for `lanes`: a lane, a comma and the widths of a row. The same arguments give the same rows.
 
-Usage: rows.py COUNT LANES SEED [long | itf14]. The rows are the same for the same words: EAN-13, EAN-8,
-UPC-E and GS1-128 in turn, or with `long` the longest GS1-128 symbols alone, of 595 runs, or with
-`itf14` ITF-14 symbols alone; both ways, 1 to 4 dots a module, and one in ten damaged (a run made wider or dropped, a light end too small, or a character changed).
+Usage: rows.py COUNT LANES SEED [long | itf14]. The symbols are EAN-13, EAN-8, UPC-E and GS1-128 in turn, with `long` only
+the longest GS1-128 symbols, of 595 runs, and with `itf14` only ITF-14. They are read in both directions, at 1 to 4 dots a
+module, and one in ten is damaged: a run made wider or dropped, a light end too small, or a character changed.
 """
 import random
 import sys
 
-# ISO/IEC 15420: number set A, and the number sets that a first digit or a check digit picks.
+# ISO/IEC 15420: number set A, and the number sets by first digit or check digit.
 SET_A = "3211 2221 2122 1411 1132 1231 1114 1312 1213 3112".split()
 SET_B = [widths[::-1] for widths in SET_A]
 EAN13_ROWS = "AAAAAA AABABB AABBAB AABBBA ABAABB ABBAAB ABBBAA ABABAB ABABBA ABBABA".split()

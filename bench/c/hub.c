@@ -1,5 +1,5 @@
-/* `lanes` by the shape of the hub: the calling thread reads records and hands each row to workers by a queue of 64, which answer it and hand it back
- * by another; lines are put in order by the number of their row. A worker looks 100 times for a row before it sleeps, the calling thread 5,000. */
+/* `lanes` in the shape of the hub: the calling thread reads records and hands each row to workers by a queue of 64; they answer it and hand it back
+ * by another. It puts lines in order by the number of their row. A worker polls 100 times before it sleeps, the calling thread 5,000 times. */
 #include <pthread.h>
 #include <stdatomic.h>
 
@@ -70,7 +70,7 @@ static void *work(void *none) {
     return none;
 }
 
-/* Wakes a worker if more than so many sleep, or all at the end. */
+/* Wakes a worker if more than this many sleep, or all at the end. */
 static void wake(int awake) {
     atomic_thread_fence(memory_order_seq_cst);
     if (atomic_load_explicit(&sleepers, memory_order_relaxed) <= awake) return;

@@ -1,5 +1,5 @@
-/* Sends lines to a command one at a time, each so many microseconds after the last was answered, and prints the median
-   and the 99th of 100 of how long an answer takes, in microseconds: latency PAUSE COMMAND.. < LINES
+/* Sends lines to a command one at a time, each PAUSE microseconds after the last answer, and prints the median and the
+   99th of 100 of the times for an answer, in microseconds: latency PAUSE COMMAND.. < LINES
 
    A line has at most 65,536 bytes, and the command answers it by one line. There are at most 65,536 lines. */
 #include <stdio.h>

@@ -1,5 +1,5 @@
-/* Times gs1_row and gs1_find beside the limit's answers: library YEAR < ROWS, where rows are as `lanes` takes them. Each answer of gs1_row is
- * compared first. Times are of the processor, the least of 40; and the time of a search of rows of 599 runs whose widths are by chance. */
+/* Times gs1_row and gs1_find beside the limit's answers: library YEAR < ROWS, with lines of `lanes`. First it compares each answer of gs1_row. Times
+ * are the least processor times of 40 runs. It also times a search in rows of 599 runs with random widths. */
 #include "rows.c"
 #include "gs1.h"
 #include <time.h>

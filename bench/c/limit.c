@@ -1,14 +1,14 @@
-/* The answers of `lanes`, `live`, `print` and `scan` by one thread, as soon as their bytes have come: bench/limit compares the program with it.
+/* Answers `lanes`, `live`, `print` and `scan` with one thread, as soon as their bytes have come: bench/limit compares the program with it.
  *
  *   limit lanes | live LANES YEAR                            limit hub LANES WORKERS YEAR
  *   limit print | scan MODULE WIDTH HEIGHT COLUMNS ROWS YEAR
  *
- * The first refused record or label ends it, but a record of `live`; a line has at most 960 KiB. */
+ * The first refused record or label ends it, except in `live`. A line has at most 960 KiB. */
 #include "rows.c"
 
 struct text { char *at; size_t length, room; };
 
-/* Room for so much behind a text. */
+/* Room for this much after a text. */
 static char *room_in(struct text *text, size_t more) {
     if (text->room - text->length < more && !(text->at = realloc(text->at, text->room = 2 * text->room + PIECE))) exit((perror("realloc"), 1));
     return text->at + text->length;
@@ -23,7 +23,7 @@ static void write_text(struct text *text) {
     text->length = 0;
 }
 
-/* Reads a piece behind so many bytes of the input. How many whole lines' bytes there are then; the last line may lack its end. */
+/* Reads a piece behind this many bytes of the input. How many whole lines' bytes there are then; the last line may lack its end. */
 static size_t read_lines(char *input, size_t *left, size_t room) {
     ssize_t got = room - *left > PIECE ? read(0, input + *left, PIECE) : -1;
     if (got < 0) exit((perror("read"), 1));

@@ -1,5 +1,5 @@
-/* A record of `lanes` to the answer of its row, with as little work as C needs that knows everything in advance. Written from the rules of the
- * standard and of docs/DECISIONS.md, not from the program. Quotation marks have no meaning, and the AIs are those of the profile. */
+/* Turns a record of `lanes` into the answer of its row, with the least work that C needs if it knows everything in advance. Written from the rules
+ * of the standard and of docs/DECISIONS.md, not from the program. Quotation marks have no meaning, and the AIs are those of the profile. */
 #define _GNU_SOURCE
 #include <stdint.h>
 #include <stdio.h>
@@ -108,7 +108,7 @@ static int is_time(const char *v, int count) {
         && (count < 12 || two(v + 10) < 60);
 }
 
-/* Puts the human-readable line of a text, and its canonical form where there is a place for it; or answers a fault and its place. */
+/* Puts the line of a text for people, and its canonical form if there is a place for it; or returns an error and its place. */
 static int put_elements(char **line, char **canonical, const char *text, int length, int *place) {
     char *out = *line;
     *place = -1;
@@ -210,7 +210,7 @@ static int read_code128(const byte *m, int s, int count, char *text, int *length
     return *length = at, 0;
 }
 
-/* The modules less one of each run, and whether each is within a third of a module of so many: from 3m - 1 to 3m + 1 thirds of m modules. What a
+/* The modules less one of each run, and whether each is within a third of a module of a whole number m: from 3m - 1 to 3m + 1 thirds of a module. What a
  * width is stands in a table, which has one place above four modules and a third. */
 static int round_runs(byte *m, const uint16_t *w, int count, uint32_t dots, uint32_t modules) {
     static _Thread_local byte all[8192];
@@ -240,7 +240,7 @@ static inline char *put_symbol(char *out, const byte *m, int s, int n, int is_co
     return mempcpy(put(out, n == 43 ? "]E4 (01)" : n == 77 ? "]I1 (01)" : "]E0 (01)"), text, 14);
 }
 
-/* Puts what a row of so many runs and dots says. */
+/* Puts what a row of this many runs and dots says. */
 static char *put_answer(char *out, const uint16_t *w, int count, uint32_t dots) {
     byte m[MOST_RUNS];
     int n = count - 2, fault = 20;

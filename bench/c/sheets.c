@@ -1,4 +1,4 @@
-/* Sheets printed and scanned: a sheet is written row by row, and of one that is read only the middle row of each cell is looked at. */
+/* Prints and scans sheets: writes a sheet row by row, and reads only the middle row of each cell. */
 
 static int module, cell_width, cell_height, columns, rows;
 
@@ -125,7 +125,7 @@ static void print(char **grid) {
 static byte input[PIECE + 8];
 static size_t from, filled;
 
-/* So many bytes of the input that follow each other, or none at its end. */
+/* This many bytes of the input that follow each other, or none at its end. */
 static const byte *take(size_t count) {
     if (filled - from < count) {
         memmove(input, input + from, filled -= from), from = 0;
@@ -143,7 +143,7 @@ static int take_number(void) {
     return number;
 }
 
-/* The runs of so many dots: at each place where a dot differs from the one before it a run ends. */
+/* The runs of this many dots: at each place where a dot differs from the one before it a run ends. */
 static int cut(uint16_t *w, const byte *bits, int from, int width) {
     int count = 0, last = 0;
     for (uint64_t at = 0, before = 0, it, edges; (int)at < width; at += 56, before = it >> 8 & 1) {

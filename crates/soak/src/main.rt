@@ -1,5 +1,5 @@
-//! Ten million rows through a hub of 16 lanes and 16 workers whose queues and rings hold one item each. Each
-//! delivery is compared: its lane, its number, its row, its carrier and its element strings.
+//! Rows through a hub of 16 lanes and 16 workers whose queues and rings hold one item each. Standard input says how many
+//! rows each lane submits. Each delivery is compared: its lane, its number, its row, its carrier and its element strings.
 #![tactic(auto)]
 
 ghost use Rattle.std.specs.Prelude.{◌≡◌, All, IfOk, map, vec_len};
@@ -8,22 +8,19 @@ ghost use Rattle.hub_core.specs.Lanes.{lane_of};
 
 use element_core::Year;
 use hub_core::{
-    ClosedLane, DelivererSeat, Hub, LaneSeat, OpenGate, Parts, ServeFault, Shape, Signals, SubmitFault,
-    WorkerSeat, run_workers,
+    ClosedLane, DelivererSeat, Hub, LaneSeat, OpenGate, Parts, ServeFault, Shape, Signals,
+    SubmitFault, WorkerSeat, run_workers,
 };
 use lane_core::{Delivery, Ticket};
 use scan_core::{Answer, Carrier, Runs};
 use std::alloc::{AllocError, Global};
 use std::io;
+use std::io::{BufRead, BufReader};
 use std::sync::Wait;
 use std::thread::Threads;
-use std::time::Instant;
 
 /// How many lanes, and how many workers.
 const COUNT: u8 = 16;
-
-/// How many rows each lane submits.
-const ROWS: u32 = 625_000;
 
 // 9501101530003 as EAN-13, its light ends included, at one dot a module.
 const EAN13: &[u16] = &[
@@ -47,6 +44,8 @@ const GS1_128: &[u16] = &[
 #[derive(Drop)]
 struct Lane {
     seat: LaneSeat,
+    /// How many rows it submits.
+    due: u32,
     /// A row that the queue of jobs had no place for.
     row: Option<Runs>,
     /// How many deliveries it has polled.
@@ -94,7 +93,7 @@ fn is_right(delivery: &Delivery, lane: u8, number: u32) -> bool {
         && delivery.row().widths() == widths(kind)
 }
 
-/// The row that the lane submits next; none where it was refused memory.
+/// The row that the lane submits next; none if memory for it was refused.
 fn next_row(alloc: Global, lane: &mut Lane) -> Option<Runs>
     ensures { lane.new.seat ≡ lane.old.seat }
 {
@@ -104,12 +103,12 @@ fn next_row(alloc: Global, lane: &mut Lane) -> Option<Runs>
     }
 }
 
-/// Submits the lane's next row, where there is one and a place for it.
+/// Submits the lane's next row, if there is one and a place for it.
 fn submit<R: Wait>(rt: &R, alloc: Global, hub: &Hub, lane: &mut Lane)
     requires { IsLaneOf hub.now lane.old.seat }
     ensures { IsLaneOf hub.now lane.new.seat × (lane_of lane.new.seat ≡ lane_of lane.old.seat) }
 {
-    if lane.seat.issued() >= ROWS {
+    if lane.seat.issued() >= lane.due {
         return;
     }
     let Some(row) = next_row(alloc, lane) else {
@@ -122,7 +121,7 @@ fn submit<R: Wait>(rt: &R, alloc: Global, hub: &Hub, lane: &mut Lane)
     }
 }
 
-/// Polls the lane's next delivery, where it is seen, and compares it.
+/// Polls the lane's next delivery, if it is seen, and compares it.
 fn poll(hub: &Hub, lane: &mut Lane)
     requires { IsLaneOf hub.now lane.old.seat }
     ensures { IsLaneOf hub.now lane.new.seat × (lane_of lane.new.seat ≡ lane_of lane.old.seat) }
@@ -136,7 +135,7 @@ fn poll(hub: &Hub, lane: &mut Lane)
     lane.polled = lane.polled.saturating_add(1);
 }
 
-/// One lane submits, and one delivery is collected, handed to the lane and polled, each where it can be.
+/// One lane submits, and one delivery is collected, handed to the lane and polled, each if it can be.
 fn take_turn<R: Wait>(
     rt: &R,
     alloc: Global,
@@ -189,20 +188,21 @@ fn drive<R: Wait>(
     for _ in rt.forever() {
         go_round(rt, alloc, hub, lanes, deliverer);
         signals.notify_workers();
-        if lanes.iter().all(|lane| lane.polled >= ROWS) {
+        if lanes.iter().all(|lane| lane.polled >= lane.due) {
             break;
         }
     }
 }
 
-/// The lanes of the run, of these seats.
-fn make_lanes(alloc: Global, seats: Vec<LaneSeat>) -> Result<Vec<Lane>, AllocError>
+/// The lanes of the run, of these seats, each with this many rows.
+fn make_lanes(alloc: Global, seats: Vec<LaneSeat>, due: u32) -> Result<Vec<Lane>, AllocError>
     ensures { IfOk result (λ v. map (λ l. l.seat) v.items ≡ seats.items) }
 {
     let mut lanes = Vec::with_capacity(alloc, seats.len())?;
     for seat in seats {
         lanes.push(Lane {
             seat,
+            due,
             row: None,
             polled: 0,
             wrong: 0,
@@ -286,10 +286,11 @@ fn soak<R: Threads + Wait + Sync>(
     seats: Vec<LaneSeat>,
     workers: Vec<WorkerSeat>,
     deliverer: DelivererSeat,
+    due: u32,
 ) -> Result<Counts, ServeFault>
     requires { AreAllSeats hub seats.items workers.items deliverer }
 {
-    let lanes = make_lanes(alloc, seats)?;
+    let lanes = make_lanes(alloc, seats, due)?;
     let (ran, workers, deliverer) = run_all(rt, alloc, &hub, lanes, workers, deliverer)?;
     let (polled, wrong) = count(&ran);
     let closed = close_all(alloc, ran)?;
@@ -303,16 +304,26 @@ fn soak<R: Threads + Wait + Sync>(
     }
 }
 
+/// How many rows each lane submits, by the first line of standard input: none if that is no number.
+fn read_due<R: Input>(rt: &R, alloc: Global) -> io::Result<Option<u32>> {
+    let mut lines = BufReader::new(alloc, rt.reader())?.lines(alloc);
+    let Some(line) = lines.next() else {
+        return Ok(None);
+    };
+    Ok(line?.as_str().parse::<u32>().ok())
+}
+
 fn main(rt: HostRuntime) -> io::Result<()> {
     let alloc = rt.alloc();
+    let (Some(due), Some(year)) = (read_due(&rt, alloc)?, Year::new(2026)) else {
+        println!(rt; "standard input has no number of rows")?;
+        return Ok(());
+    };
     let shape = Shape {
         lanes: COUNT,
         workers: COUNT,
         capacity: 1,
-        limit: ROWS,
-    };
-    let Some(year) = Year::new(2026) else {
-        return Ok(());
+        limit: due,
     };
     let Ok(
         Parts {
@@ -323,19 +334,14 @@ fn main(rt: HostRuntime) -> io::Result<()> {
         },
     ) = Hub::new(&rt, alloc, shape, year)
     else {
-        println!(rt; "memory was refused")?;
+        println!(rt; "there is no such hub")?;
         return Ok(());
     };
-    let start = Instant::now(&rt)?;
-    let counts = match soak(&rt, alloc, hub, lanes, workers, deliverer) {
-        Ok(counts) => counts,
-        Err(fault) => {
-            println!(rt; "{fault}")?;
-            return Ok(());
+    match soak(&rt, alloc, hub, lanes, workers, deliverer, due) {
+        Ok(counts) => {
+            println!(rt; "{} polled, {} wrong", counts.polled, counts.wrong)?;
+            println!(rt; "nothing is left: {}", counts.nothing_left)
         }
-    };
-    println!(rt; "{} ms", start.elapsed(&rt)?.as_millis())?;
-    println!(rt; "{} polled, {} wrong", counts.polled, counts.wrong)?;
-    println!(rt; "nothing is left: {}", counts.nothing_left)?;
-    Ok(())
+        Err(fault) => println!(rt; "{fault}"),
+    }
 }

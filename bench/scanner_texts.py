@@ -1,7 +1,7 @@
-"""Prints texts of scanners as `live` reads them: a lane, a comma and what a scanner sends.
+"""Prints texts of scanners for `live`: a lane, a comma and what a scanner sends. The same arguments give the same texts.
 
-Usage: texts.py COUNT LANES SEED. The texts are the same for the same words: EAN-13, UPC-E, GS1-128 with a GTIN, a date and a lot,
-and Digital Links with these, in turn; one in ten with a digit changed.
+Usage: scanner_texts.py COUNT LANES SEED. The texts are EAN-13, UPC-E, GS1-128 with a GTIN, a date and a lot, and Digital Links with these,
+in turn. One in ten has a digit changed.
 """
 import random
 import sys

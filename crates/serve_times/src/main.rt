@@ -1,5 +1,5 @@
-//! Serves the rows of standard input, which are read before the time is taken, by 1, 2 and 3 workers, and answers them on the calling thread: the
-//! least wall time of fifteen of each, in microseconds.
+//! Times `serve` on rows that are ready: it reads the rows of standard input first, answers them on the calling thread, and
+//! serves them with 1, 2 and 3 workers. Standard error gets the least wall time of fifteen of each, in microseconds.
 #![tactic(auto)]
 
 use element_core::Year;
@@ -65,7 +65,8 @@ fn main(rt: HostRuntime) -> io::Result<()> {
         read = count_read(rows.as_slice(), year);
         alone = alone.min(start.elapsed(&rt)?.as_micros());
     }
-    println!(rt; "{read} of {} rows are read; on the calling thread {alone} us", rows.len())?;
+    println!(rt; "{read} of {} rows are read", rows.len())?;
+    eprintln!(rt; "calling thread: {alone} us")?;
     for workers in 1..4u8 {
         let mut least = u128::MAX;
         for _ in 0..ROUNDS {
@@ -79,7 +80,7 @@ fn main(rt: HostRuntime) -> io::Result<()> {
             least = least.min(start.elapsed(&rt)?.as_micros());
             drop(lists);
         }
-        println!(rt; "serve {workers} {least}")?;
+        eprintln!(rt; "workers {workers}: {least} us")?;
     }
     Ok(())
 }
