@@ -34,7 +34,7 @@ def check_character(start, values):
 
 
 def symbol(start, values, check=None):
-    """The widths of a symbol of these values, in groups: its check character is the right one where none is given."""
+    """The widths of a symbol of these values, in groups: its check character is right unless you give one."""
     check = check_character(start, values) if check is None else check
     return " ".join([*(PATTERNS[value] for value in [start, *values, check]), STOP])
 

@@ -42,7 +42,7 @@ def answer(value):
 
 
 def widths_of(count, modules):
-    """All choices of so many widths of 1 to 4 with this sum."""
+    """All choices of this many widths of 1 to 4 with this sum."""
     return ["".join(map(str, it)) for it in itertools.product(range(1, 5), repeat=count) if sum(it) == modules]
 
 

@@ -8,7 +8,7 @@ X = "!\"%&'()*+,-./0123456789:;<=>?ABCDEFGHIJKLMNOPQRSTUVWXYZ_abcdefghijklmnopqr
 # A part of a value: its format, and the least and the greatest of its lengths.
 Part = namedtuple("Part", "format least greatest")
 
-# Digits; digits of which the last is their check digit; a day; a day and a time, of an even length; characters of X.
+# Digits; digits that end with their check digit; a day; a day and a time, of an even length; characters of X.
 DIGITS, CHECKED, DATE, TIME, ANY = "digits", "checked", "date", "time", "any"
 
 

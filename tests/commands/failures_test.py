@@ -127,7 +127,7 @@ class FailuresTest(CommandTest):
                 self.is_refused(ran(command, zeros), "refused 44 InputSize")
 
     def limited(self, command, given, mebibytes):
-        """A run with so much room."""
+        """A run with this much room."""
         return ran(command, given, **room_for(mebibytes))
 
     def test_too_little_memory(self):
@@ -136,7 +136,7 @@ class FailuresTest(CommandTest):
         self.is_refused(self.limited(CHECK, records, 8), "refused 43 NoMemory")
 
     def test_an_image_takes_the_memory_of_its_bytes(self):
-        # Its header tells of 512 MiB, of which no byte comes.
+        # Its header announces 512 MiB, and no byte of them comes.
         self.is_refused(self.limited(f"scan {GRID} --workers 1", b"P4 65535 65535 ", ROOM), "refused 30 Truncated")
 
     def test_a_thread_for_each_worker(self):

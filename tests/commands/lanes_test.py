@@ -6,7 +6,7 @@ from rows import EAN8_ROW, GS1128_ROW, SYMBOL, WIDE_SPACE, WRONG_CHECK_DIGIT, ru
 
 class RecordsTest(CommandTest):
     def answers(self, lanes, workers, given, wanted):
-        """That `lanes` by so many workers writes this."""
+        """That `lanes` by this many workers writes this."""
         self.gives(f"lanes --lanes {lanes} --workers {workers} --year 2026", given, wanted)
 
     def test_each_row(self):
@@ -112,7 +112,7 @@ DATE = "211232 411131 123221 212222 222221 322211 124211"
 
 
 def two_widths(groups, narrow, wide):
-    """An element of so many dots for each digit of the groups: narrow for a 1, and else wide."""
+    """An element of this many dots for each digit of the groups: narrow for a 1, otherwise wide."""
     return [narrow if digit == 1 else wide for digit in runs(groups)]
 
 

@@ -144,7 +144,7 @@ class LinksTest(CommandTest):
             ("/10/AB?17=261231", "(10)AB(17)261231"),
             ("?17=261231&10=AB", "(17)261231(10)AB"),
             ("/10/AB/21/C?3103=000195&3922=0299&17=261231", "(10)AB(21)C(3103)000195(3922)0299(17)261231"),
-            # One that stands twice is told twice, as in an element string.
+            # One that occurs twice is reported twice, as in an element string.
             ("?10=A&10=B", "(10)A(10)B"),
             ("/10/A?10=A", "(10)A(10)A"),
             ("?10=A=B", "(10)A=B"),

@@ -167,7 +167,7 @@ def random_line(rng):
 
 
 def random_input(rng, count):
-    """So many lines, and a row of which the line may be unfinished."""
+    """This many lines, and a row whose line may be unfinished."""
     given = b"".join(random_line(rng) for _ in range(count)) + b"0,7\r\n"
     return given[: len(given) - rng.randrange(6)]
 
@@ -189,7 +189,7 @@ class Running:
                 pipe.close()
 
     def has_more(self, seconds):
-        """Whether more is there, or the end, within so many seconds."""
+        """Whether more is there, or the end, within this many seconds."""
         return bool(select.select([self.receive], [], [], seconds)[0])
 
     def line(self):
@@ -267,7 +267,7 @@ class LiveTest(CommandTest):
         ], lanes=16)
 
     def test_lengths_of_lines(self):
-        # A row of 32,767 runs, its first width written with zeros so that the line has so many bytes.
+        # A row of 32,767 runs, its first width written with zeros so that the line has this many bytes.
         def line(count):
             return b"0," + b"1".rjust(count - 2 - 32_766 * 2, b"0") + 32_766 * b" 1"
 
@@ -467,7 +467,7 @@ class LiveTest(CommandTest):
         self.assertEqual((it.status, it.error), (1, b"refused 38 WriteFault\n"))
 
     def limited(self, workers, mebibytes):
-        """A run of one row with so much room."""
+        """A run of one row with this much room."""
         return ran(live(1, workers), b"0,7\n", **room_for(mebibytes))
 
     def test_a_thread_for_each_worker(self):

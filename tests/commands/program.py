@@ -1,4 +1,4 @@
-"""Runs of the program, and what a test says of one."""
+"""Runs the program, and checks a run."""
 
 import ctypes
 import itertools
@@ -15,12 +15,12 @@ PATH = None
 # No run takes as long.
 SECONDS = 120
 
-# Whether the program is one that runs an emulator of another processor.
+# Whether an emulator of another processor runs the program.
 EMULATED = bool(os.environ.get("EMULATED"))
 
 
 class Ran:
-    """What a run left: its exit status, its output, and what it wrote on standard error."""
+    """The result of a run: its exit status, its output, and its standard error."""
 
     def __init__(self, status, output, error):
         self.status, self.output, self.error = status, output, error
@@ -39,7 +39,7 @@ def ran(command, given, **how):
 
 
 def ran_to(room, command, given):
-    """The same where the output is a file that has room for so many bytes: a write past them fails."""
+    """The same with an output file that has room for this many bytes: a write past them fails."""
 
     def narrow():
         resource.setrlimit(resource.RLIMIT_FSIZE, (room, room))
@@ -52,7 +52,7 @@ def ran_to(room, command, given):
 
 
 def room_for(mebibytes):
-    """How a run is started with so much room for memory and for threads, each with a stack of eight MiB."""
+    """How a run is started with this much room for memory and for threads, each with a stack of eight MiB."""
     if EMULATED:
         raise unittest.SkipTest("an emulator takes the room that is meant for the program")
 
@@ -113,7 +113,7 @@ class CommandTest(unittest.TestCase):
         self.assertEqual(len(lines), len(cases))
 
     def writes_lines(self, command, given, lines):
-        """That a command writes so much text: what is told of a failure is its first line that differs."""
+        """That a command writes this long text; a failure shows the first line that differs."""
         it = ran(command, given)
         self.assertEqual((it.status, it.error), (0, b""))
         if it.output != "".join(lines).encode():

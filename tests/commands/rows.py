@@ -1,8 +1,8 @@
-"""Rows of widths at one dot a module, as records have them, and what is said of rows."""
+"""Rows of widths at one dot a module, as in records, and checks of rows."""
 
 from program import CommandTest
 
-# The symbol of 9501101530003 as EAN-13: its runs but for the two light ends.
+# The symbol of 9501101530003 as EAN-13: its runs without the two light ends.
 SYMBOL = (
     "1 1 1 1 2 3 1 1 1 2 3 1 2 2 2 2 2 2 1 1 1 2 3 2 2 2 1 1 1 1 1 "
     "1 1 2 3 1 1 4 1 1 3 2 1 1 3 2 1 1 3 2 1 1 1 4 1 1 1 1 1"
@@ -34,7 +34,7 @@ GS1128_ROW = (
 
 
 def runs(groups, dots=1):
-    """The widths of groups of digits, at so many dots a module."""
+    """The widths of groups of digits, at this many dots a module."""
     return [int(digit) * dots for group in groups.split() for digit in group]
 
 

@@ -1,4 +1,4 @@
-"""Images of labels, drawn by hand or from widths, and what is said of them."""
+"""Images of labels, drawn by hand or from widths, and checks of them."""
 
 from program import CommandTest, ran
 from rows import runs
@@ -25,12 +25,12 @@ def image(header, labelled, light):
 
 
 def grid(width, height, columns, rows, module=1):
-    """The command `print` with such cells, at so many dots a module."""
+    """The command `print` with such cells, at this many dots a module."""
     return f"print --module {module} --width {width} --height {height} --columns {columns} --rows {rows} --year 2026"
 
 
 def dots_of(left, groups, width):
-    """A row of so many dots: light ones, then the bars and spaces of these widths, and light ones again."""
+    """A row of this many dots: light ones, then the bars and spaces of these widths, and light ones again."""
     dots = "".join("10"[place % 2] * run for place, run in enumerate(runs(groups)))
     return ("0" * left + dots).ljust(width, "0")
 
@@ -45,7 +45,7 @@ class SymbolTest(CommandTest):
     """A test of symbols that are printed."""
 
     def prints(self, width, cases):
-        """That records, each in a cell of so many dots on a sheet of its own, print as these rows of dots."""
+        """That records, each in a cell of this many dots on a sheet of its own, print as these rows of dots."""
         it = ran(grid(width, 3, 1, 1), "".join(f"{record}\n" for record, _ in cases).encode())
         self.assertEqual((it.status, it.error), (0, b""))
         light = packed(width * "0")

@@ -1,4 +1,4 @@
-"""What a person is told where standard error is a terminal: after a refusal why it comes and what to do, as docs/FAULTS.md says it,
+"""What a person sees if standard error is a terminal: after an error its cause and what to do, as docs/FAULTS.md says it,
 and after refused words what clap says of them. Where standard error is no terminal, the one line stands alone."""
 
 import os

@@ -1,4 +1,4 @@
-"""Wrong drawings and damaged lists, each of which must be refused: damage.py LISTS WORK.
+"""Makes wrong drawings and damaged lists. Each must be refused: damage.py LISTS WORK.
 
 Prints a line for each part; the last one has the counts.
 """

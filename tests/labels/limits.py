@@ -1,4 +1,4 @@
-"""What the commands may take: limits.py LISTS WORK. Time is that of the processor, since others may use the machine."""
+"""Tests the time and memory of the commands: limits.py LISTS WORK. It measures processor time, since others may use the machine."""
 import os
 import random
 import resource
@@ -14,7 +14,7 @@ def checked(text):
 
 
 def measure(name, words, seconds, megabytes=0):
-    """Runs noriladle in a process of its own, which says what it took, and compares it with the limits; the best of three."""
+    """Runs noriladle three times in a process that reports time and memory, and compares the best run with the limits."""
     best = (1e9, 1e9)
     for _ in range(3):
         done = subprocess.run([sys.executable, __file__, "", WORK, "run", *words], stdout=subprocess.DEVNULL, stderr=subprocess.PIPE)
@@ -47,7 +47,7 @@ def main():
 
 
 def run_once(words):
-    """Runs noriladle, and says on standard error the seconds of the processor and the megabytes that it took."""
+    """Runs noriladle, and reports its processor seconds and megabytes on standard error."""
     done = subprocess.run([sys.executable, "-m", "noriladle", *words], stderr=subprocess.PIPE)
     used = resource.getrusage(resource.RUSAGE_CHILDREN)
     sys.stderr.write(f"{used.ru_utime + used.ru_stime} {used.ru_maxrss / 1024}\n")

@@ -1,7 +1,7 @@
 """Reads back what `noriladle labels` writes, label by label: readback.py LISTS WORK, where LISTS is this folder.
 
-Each label is cut out with the whole of its cell, and must say exactly itself. Prints a line for each form; the last one has
-the counts.
+It cuts out each label with its whole cell, and must read exactly that label. Prints a line for each format; the last one
+has the counts.
 """
 import base64
 import concurrent.futures
@@ -18,7 +18,7 @@ import xml.etree.ElementTree
 
 from PIL import Image
 
-from wanted import gtin12, labels_of
+from labels_of_lists import gtin12, labels_of
 
 sys.path.insert(0, os.path.join(os.path.dirname(os.path.abspath(__file__)), "..", "commands"))
 from kinds import KINDS
@@ -68,7 +68,7 @@ def cuts(pages, stock, count, start, dpi):
         yield pages[page].crop(tuple(round(it * dpi / 25.4) for it in (left, top, left + width, top + height)))
 
 
-# ---- readers: what each says of pictures, as wanted.py has it
+# ---- readers: what each says of pictures, as labels_of_lists.py has it
 
 # Where noriladle read the last pictures' bars: left, top, right and bottom, in pixels.
 BOXES = []
@@ -120,7 +120,7 @@ READERS = {"noriladle": by_noriladle, "zbarimg": lambda paths: POOL.map(zbarimg_
 
 
 def read_all(title, pictures, labels):
-    """Reads pictures of one label each, and says how many of them say just the label."""
+    """Reads pictures of one label each, and counts those that say exactly the label."""
     paths = []
     for number, picture in enumerate(pictures):
         paths.append(os.path.join(WORK, f"cut-{number}.png"))
@@ -267,7 +267,7 @@ def digits(title, stock, labels, start, dpi):
     texts = run("pdftotext", "-bbox", PDF, "-").decode().split("<page ")[1:]
     right = 0
     if len(BOXES) != len(labels):
-        return  # It was told that not each of them was read.
+        return  # A line before this has reported that not all were read.
     for number, (label, box) in enumerate(zip(labels, BOXES), start - 1):
         page, left, top, width, height = cell_of(stock, number)
         words = [(float(a) * 25.4 / 72 - left, float(b) * 25.4 / 72 - top, float(c) * 25.4 / 72 - left, html.unescape(it)) for a, b, c, it in

@@ -1,4 +1,4 @@
-"""A limit of its own for each test of this folder: 90 seconds, or those of its mark `limit`."""
+"""A time limit for each test of this folder: 90 seconds, or that of its mark `limit`."""
 import signal
 
 import pytest

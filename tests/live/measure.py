@@ -7,7 +7,7 @@
   compared; the processor time that a row took, in microseconds, by process; then rows one at a time, of one lane, and
   of 8 lanes beside each other.
 
-Run it on a machine that does nothing else. It needs what tests/live/run needs, and is told where the program and the module are:
+Run it on an idle machine. It needs what tests/live/run needs. Say where program and module are:
 
     GS1_HUB=$PWD/crates/gs1_hub/out/gs1_hub PYTHONPATH=$PWD/python tests/live/measure.py
 """
@@ -19,11 +19,11 @@ import time
 from concurrent.futures import ProcessPoolExecutor
 from pathlib import Path
 
-from chain import LANES, Shop, Till, Workers, read_lanes, rows_of
-from cluster import Cluster
-from counter import Gateway, Serial
+from workers_and_tills import LANES, Shop, Till, Workers, read_lanes, rows_of
+from redis_cluster import Cluster
+from gateway_and_scanners import Gateway, Serial
 from noriladle.live import Hub
-from shop import EAN13, READ
+from program_and_rows import EAN13, READ
 
 TICK = os.sysconf("SC_CLK_TCK")
 ONCE = 100_000
@@ -37,7 +37,7 @@ def middle(times):
 
 
 async def timed(call, rows, scale):
-    """How long each row takes that is sent when the one before it is answered."""
+    """The time for each row, sent when the one before it is answered."""
     times = []
     for widths in rows:
         begin = time.perf_counter()
@@ -99,7 +99,7 @@ def costs(cluster, workers):
 
 
 def at_once(address, asked):
-    """What the tills get, those of four lanes in a process."""
+    """What the tills get; a process has those of four lanes."""
     parts = [{lane: asked[lane] for lane in lanes} for lanes in (LANES[:4], LANES[4:])]
     with ProcessPoolExecutor() as pool:
         told = list(pool.map(read_part, parts, [address] * len(parts)))

@@ -1,5 +1,5 @@
-"""Machines with addresses of their own, for tests: each is a network namespace, and a process carries the packets between them, late, or not
-at all. Needs root and iproute2."""
+"""Machines with their own addresses, for tests: each is a network namespace. A process carries the packets between them, late or not at all.
+Needs root and iproute2."""
 import contextlib
 import ctypes
 import fcntl
@@ -25,12 +25,12 @@ def _call(number):
 
 
 class Network:
-    """Machines by their names, all on one network, until some are cut off."""
+    """Machines by their names, all on one network until some are cut off."""
 
     def __init__(self, *names):
         self.names = names
         self.addresses = {name: f"10.77.0.{number}" for number, name in enumerate(names, 1)}
-        # The delay in seconds, the part of the packets that is lost, two counts, and the side of each machine.
+        # The delay in seconds, the share of lost packets, two counts, and the side of each machine.
         self._rules = multiprocessing.RawArray("d", 4 + len(names))
         self._files, self._devices = {}, []
 
@@ -51,7 +51,7 @@ class Network:
             os.close(file)
 
     def _make(self, name):
-        """Makes a machine, in a thread of its own, which has that network from then on."""
+        """Makes a machine, in its own thread, which has that network from then on."""
         _call(LIBC.unshare(NEW_NET))
         self._files[name] = os.open("/proc/thread-self/ns/net", os.O_RDONLY)
         device = os.open("/dev/net/tun", os.O_RDWR | os.O_NONBLOCK)
@@ -72,11 +72,11 @@ class Network:
             os.close(here)
 
     def worsen(self, delay, loss):
-        """From now on packets take about so many seconds, in any order, and this part of them is lost."""
+        """From now on packets take about this many seconds, in any order, and this share of them is lost."""
         self._rules[DELAY], self._rules[LOSS] = delay, loss
 
     def cut_off(self, *names):
-        """Cuts these off from the others, not from each other; the others are together again. No one is told of it."""
+        """Cuts these off from the others, but not from each other; the others are together again. Nobody gets a notice."""
         for number, name in enumerate(self.names):
             self._rules[4 + number] = name in names
 

@@ -11,8 +11,8 @@ import urllib.request
 
 import pytest
 
-from counter import NORILADLE, ROW, Client, Gateway
-from shop import READ, noise, random_lanes
+from gateway_and_scanners import NORILADLE, ROW, Client, Gateway
+from program_and_rows import READ, noise, random_lanes
 
 LIMIT = 180
 TAKEN = "closed: all 16 lanes are taken\n"
@@ -101,7 +101,7 @@ def test_no_row(gateway, row, answer):
 
 
 def test_noise(gateway):
-    """Random bytes, of which each line that is not blank has one answer."""
+    """Random bytes: each line that is not blank gets one answer."""
     sent = noise(1_000_000).replace(b"\r", b"") + b"\n"
     with gateway.connect() as client:
         sending = threading.Thread(target=client.send, args=(sent,))
@@ -171,7 +171,7 @@ def test_one_that_takes_nothing_holds_up_no_other(gateway):
 
 
 def test_the_hub_dies(tmp_path):
-    """Each connection is told, and the gateway ends with status 1, so that it is started again."""
+    """Each connection gets the reason, and the gateway ends with status 1, so systemd starts it again."""
     with Gateway(tmp_path) as gateway:
         clients = [gateway.free_lane() for _ in range(16)]
         os.kill(gateway.hub(), signal.SIGSTOP)
@@ -231,7 +231,7 @@ def test_too_many_connections(tmp_path):
 
 
 def test_many_connections(gateway):
-    """Those above 256 are told so, and the others are served."""
+    """Connections above 256 get the reason, and the others are served."""
     time.sleep(1)  # The one that tried whether it is there has gone.
     clients = [gateway.unix_client() for _ in range(900)]
     closed = 0
@@ -353,7 +353,7 @@ def test_a_file_that_is_wrong_changes_nothing_at_work(tmp_path):
 
 
 class Notified:
-    """A socket as systemd's, and what a service tells it."""
+    """A socket like systemd's, and the messages of a service to it."""
 
     def __init__(self, folder):
         self.path = str(folder / "notify")
@@ -366,7 +366,7 @@ class Notified:
 
 
 def test_systemd_is_told(tmp_path, monkeypatch):
-    """When it is ready, that it lives, that it loads its options anew, and that it stops."""
+    """When it is ready, that it lives, that it reloads its options, and that it stops."""
     systemd = Notified(tmp_path)
     monkeypatch.setenv("NOTIFY_SOCKET", systemd.path)
     monkeypatch.setenv("WATCHDOG_USEC", "600000")

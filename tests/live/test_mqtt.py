@@ -8,7 +8,7 @@ import time
 
 import pytest
 
-from shop import EAN13, PROGRAM
+from program_and_rows import EAN13, PROGRAM
 
 LIMIT = 60
 

@@ -9,11 +9,11 @@ import time
 
 import pytest
 
-from chain import LANES, Shop, Till, Workers, check, rows_of, streams
-from cluster import Cluster, ask
-from counter import ROW, Client, Gateway
+from workers_and_tills import LANES, Shop, Till, Workers, check, rows_of, streams
+from redis_cluster import Cluster, ask
+from gateway_and_scanners import ROW, Client, Gateway
 from network import Network
-from shop import READ, SEED, random_lanes
+from program_and_rows import READ, SEED, random_lanes
 
 LIMIT = 600
 CUTS = 12
@@ -22,7 +22,7 @@ pytestmark = pytest.mark.skipif(os.geteuid() != 0 or not os.path.exists("/dev/ne
 
 
 class Spread(Cluster):
-    """A cluster each node of which is on a machine of its own, one after the other."""
+    """A cluster with each node on its own machine."""
 
     def __init__(self, network, nodes=3, **more):
         super().__init__(nodes, "protected-mode no\n", **more)
@@ -49,7 +49,7 @@ class Spread(Cluster):
 
 
 class Far(Workers):
-    """Workers each of which is on the machine of its name."""
+    """Workers, each on the machine of its name."""
 
     def __init__(self, network, address, count):
         super().__init__(address, count, milliseconds=1000)
@@ -110,7 +110,7 @@ REPLICATED = ["one", "two", "three", "again1", "again2", "again3", "worker0", "w
 
 
 async def read_on(addresses, asked, told, most=64):
-    """What a till of each lane gets; one that is told of a loss is followed by another, from the row without an answer."""
+    """What a till of each lane gets. After a loss another till goes on from the row without an answer."""
     shop = Shop(addresses)
 
     async def one(lane):

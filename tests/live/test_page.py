@@ -10,8 +10,8 @@ import time
 import pytest
 import websockets
 
-from counter import Gateway, Serial
-from shop import ROOT
+from gateway_and_scanners import Gateway, Serial
+from program_and_rows import ROOT
 
 sys.path.insert(0, str(ROOT / "tests/page"))
 from browser import Browser  # noqa: E402
@@ -84,7 +84,7 @@ def test_a_page_sells_what_is_scanned(gateway, page, tmp_path):
 
 
 def told(gateway, path, **more):
-    """What a page of an origin is told first, or the reason why it is closed."""
+    """The first line that a page of an origin gets, or the reason why it is closed."""
     async def ask():
         async with websockets.connect(f"ws://127.0.0.1:{gateway.ports['web']}{path}", **more) as page:
             try:

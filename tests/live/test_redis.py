@@ -13,10 +13,10 @@ import time
 
 import pytest
 
-from chain import LANES, Shop, Till, Worker, Workers, keys, check, read_lane, read_lanes, rows_of, streams
-from cluster import Cluster, ask
+from workers_and_tills import LANES, Shop, Till, Worker, Workers, keys, check, read_lane, read_lanes, rows_of, streams
+from redis_cluster import Cluster, ask
 from noriladle.live import Hub
-from shop import EAN13, READ, ROOT, SEED
+from program_and_rows import EAN13, READ, ROOT, SEED
 
 LIMIT = 900
 COUNT = 20_000
@@ -292,7 +292,7 @@ def test_nodes_lose_what_they_had_acknowledged():
 
 @pytest.mark.limit(40)
 def test_rows_are_lost_while_nobody_asks():
-    """The client connects again and tells nothing of it: after a silence the till submits its rows again."""
+    """The client connects again silently: after a while without answers the till submits its rows again."""
     with Cluster(nodes=1) as cluster:
         async def test():
             shop, got = Shop(cluster.address), []
@@ -317,7 +317,7 @@ def test_rows_are_lost_while_nobody_asks():
 
 
 def test_two_tills_on_a_lane():
-    """The first that submits a row goes on, and the other is told."""
+    """The first that submits a row goes on, and the other gets an error."""
     with Cluster(nodes=1) as cluster, Workers(cluster.address, 1):
         async def test():
             shop = Shop(cluster.address)
@@ -341,7 +341,7 @@ def test_the_page(tmp_path):
     (tmp_path / "noriladle").write_text(f'#!/bin/sh\nexec {sys.executable} -m noriladle "$@"\n')
     (tmp_path / "noriladle").chmod(0o755)
     with open(ROOT / "docs" / "REDIS.md") as page:
-        words = [sys.executable, ROOT / "tests" / "using" / "follow.py", "docs/REDIS.md"]
+        words = [sys.executable, ROOT / "tests" / "using" / "follow_page.py", "docs/REDIS.md"]
         path = f"{tmp_path}{os.pathsep}{os.environ['PATH']}"
         subprocess.run(words, stdin=page, cwd=tmp_path, check=True, env={**os.environ, "PATH": path})
 

@@ -8,11 +8,11 @@ import time
 
 import pytest
 
-from chain import LANES, NORILADLE, Shop, Till, Worker, Workers, keys, check, read_lane, read_lanes, rows_of, streams
-from cluster import Cluster, Preloaded, ask
+from workers_and_tills import LANES, NORILADLE, Shop, Till, Worker, Workers, keys, check, read_lane, read_lanes, rows_of, streams
+from redis_cluster import Cluster, Preloaded, ask
 from noriladle.live import Hub
 from noriladle.streams import Fault
-from shop import EAN13, READ, noise
+from program_and_rows import EAN13, READ, noise
 
 LIMIT = 600
 ROWS = keys.rows("3")

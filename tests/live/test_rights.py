@@ -14,8 +14,8 @@ from pathlib import Path
 
 import pytest
 
-from counter import NORILADLE, ROW, Client, Gateway
-from shop import READ
+from gateway_and_scanners import NORILADLE, ROW, Client, Gateway
+from program_and_rows import READ
 
 LIMIT = 120
 NEXT = "0 next\n"
@@ -55,7 +55,7 @@ def test_users_and_groups(open_folder):
             return told.stdout
 
         nobody = pwd.getpwnam("nobody").pw_uid
-        # Who scans there first: so a till that watches is told the next number at once.
+        # Somebody scans there first, so a till that watches gets the next number at once.
         assert asked(4714, 4712, [], "scan till-1\n0") == NEXT
         for user, group, groups, line, wanted in [
             (4711, 4713, [], "watch till-1", NEXT),
@@ -83,7 +83,7 @@ def new_token():
 
 
 def first_line(gateway, *pieces):
-    """What a client over TCP is told first, once it has sent these."""
+    """The first line that a client over TCP gets after it has sent these."""
     with gateway.connect() as client:
         for piece in pieces:
             client.send(piece.encode())

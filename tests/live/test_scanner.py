@@ -10,10 +10,10 @@ from pathlib import Path
 
 import pytest
 
-from counter import NORILADLE, Scanner, Serial
+from gateway_and_scanners import NORILADLE, Scanner, Serial
 from noriladle._keys import EVENT, KEYS, Keyboard, events_of
 from noriladle.commands.scanner import _checked, digits_of
-from shop import noise
+from program_and_rows import noise
 
 LIMIT = 180
 TEXTS = [
@@ -74,7 +74,7 @@ def test_digits_that_are_typed(gtin, digits):
 def test_a_serial_line(end):
     with Serial() as scanner:
         for number, (text, wanted) in enumerate(TEXTS):
-            scanner.send(text + end)
+            scanner.send(text + end, one_by_one=True)
             assert scanner.line() == f"{number} {wanted}\n"
         # A text that had not ended when the scanner was unplugged is none.
         scanner.send(b"]E09501101530003")

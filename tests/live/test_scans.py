@@ -11,10 +11,10 @@ import time
 
 import pytest
 
-from counter import Client, Gateway, Serial, Till
+from gateway_and_scanners import Client, Gateway, Serial, Till
 from noriladle._gateway import UNREAD_LINES
 from noriladle.commands.scanner import _checked
-from shop import SEED, noise
+from program_and_rows import SEED, noise
 
 LIMIT = 500
 EAN8 = b"]E496385074"
@@ -61,7 +61,7 @@ class Lane(threading.Thread):
             self.fault = fault
 
     def use(self, until):
-        """Scans until so many texts were sent, each answered or unread; the scanner is pulled out then."""
+        """Scans until this many texts were sent, each answered or unread; the scanner is pulled out then."""
         with plug(self.gateway, self.name_of_lane) as scanner:
             settled = self.sent
             while settled < until:
@@ -78,7 +78,7 @@ class Lane(threading.Thread):
 
 
 def restart(gateway, folder, at, lanes):
-    """Ends the gateway, by a signal that it hears of or not, and starts another after a while; when so many were sent."""
+    """Ends the gateway, by a signal that it hears of or not, and starts another after a while; when this many were sent."""
     for number in range(RESTARTS):
         while sum(lane.sent for lane in lanes) < at * (number + 1):
             if not any(lane.is_alive() for lane in lanes):
@@ -196,7 +196,7 @@ def test_two_scanners_on_a_lane(gateway):
             assert first.line() == till.line() == f"0 {GUM}\n"
             first.unplug()
             assert first.ended()[2] == 0
-            # What it had scanned in vain is told as lost, once it has the lane.
+            # Its scans in vain are reported as lost when it has the lane.
             assert till.line() == "2 next\n"
             second.send(EAN8 + b"\r")
             assert till.line() == f"2 {GUM}\n"
@@ -256,7 +256,7 @@ def test_an_answer_that_comes_late_is_not_told(gateway, stalled):
 
 
 def test_a_scan_has_two_seconds_whatever_its_program_does(gateway):
-    """The gateway tells the till by itself."""
+    """The gateway reports it to the till by itself."""
     with gateway.watch("till-1") as till, gateway.unix_client() as scanner:
         assert scanner.ask(b"scan till-1\n0\n") == "0 next\n" == till.line()
         os.kill(gateway.hub(), signal.SIGSTOP)

@@ -12,8 +12,8 @@ from pathlib import Path
 
 import pytest
 
-from counter import ROW
-from shop import PROGRAM, READ, ROOT
+from gateway_and_scanners import ROW
+from program_and_rows import PROGRAM, READ, ROOT
 
 LIMIT = 900
 NEEDED = "systemd,systemd-sysv,dbus,python3,udev,procps,python3-hiredis"
@@ -110,7 +110,7 @@ def ask(container):
 
 
 def test_the_gateway(container):
-    """It is ready when systemctl returns; it is told to load its options, killed and started again, and stopped."""
+    """It is ready when systemctl returns; then it reloads its options, is killed and restarted, and stops."""
     unit = "noriladle-gateway"
     ran = container.run("systemctl", "start", unit)
     assert ran.returncode == 0, container.run("journalctl", "-u", unit, "--no-pager").stdout[-2000:]
@@ -185,7 +185,7 @@ def test_a_scanner_without_its_file_is_left_alone(container):
 
 
 def test_a_worker(container):
-    """It has its rights and its node from the files of options, and leaves when it is told to stop."""
+    """It has its rights and its node from the option files, and ends when systemd stops it."""
     if not shutil.which("redis-server"):
         pytest.skip("there is no redis-server")
     with socket.socket() as free:

@@ -1,4 +1,4 @@
-"""What breaks tills over Redis: each fault, with real nodes and workers, and what the tills are told. Needs gcc and pgrep."""
+"""What breaks tills over Redis: each fault, with real nodes and workers, and the errors of the tills. Needs gcc and pgrep."""
 import asyncio
 import os
 import random
@@ -11,12 +11,12 @@ import urllib.request
 
 import pytest
 
-from chain import LANES, NORILADLE, Shop, Till, Worker, Workers, keys, rows_of
-from cluster import Cluster, Preloaded, ask, free_ports
-from counter import most_memory
+from workers_and_tills import LANES, NORILADLE, Shop, Till, Worker, Workers, keys, rows_of
+from redis_cluster import Cluster, Preloaded, ask, free_ports
+from gateway_and_scanners import most_memory
 from noriladle.live import Hub
 from noriladle.streams import NoAnswer
-from shop import EAN13, READ
+from program_and_rows import EAN13, READ
 
 LIMIT = 500
 EAN8 = "7 1 1 1 3 1 1 2 1 1 1 4 1 4 1 1 1 2 1 3 1 1 1 1 1 1 2 3 1 3 2 1 1 1 3 1 2 1 1 3 2 1 1 1 7"
@@ -109,7 +109,7 @@ def test_the_next_till_after_a_loss():
                 try:
                     assert await second == GUM
                 except LookupError:
-                    pass  # It is told that another has written to the lane.
+                    pass  # The error: another till has written to the lane.
                 quick.held = {}
                 await serving
     with_node(test)
@@ -117,7 +117,7 @@ def test_the_next_till_after_a_loss():
 
 @pytest.mark.limit(60)
 def test_two_tills_begin_at_once():
-    """While the node has no memory: none is told an answer to the other's row."""
+    """While the node has no memory: no till gets an answer to the other's row."""
     async def test(shop, node):
         port = node.ports[0]
         for seed in range(5):
@@ -300,7 +300,7 @@ def test_a_till_goes_on_row_by_row():
             wanted = [(EAN13, READ), (EAN8, GUM), ("100", "refused 19 Blank"), (EAN13, READ), (EAN8, GUM), (EAN13, READ), (EAN8, GUM)]
             for row, answer in wanted:
                 assert await second.read(row) == answer
-            # A till that is there beside it is told still.
+            # Another till beside it still gets lines.
             third = Till(shop, "3", first.series, 7)
             assert await third.read(EAN13) == READ
             with pytest.raises(LookupError, match=f"lane 3: another has submitted {first.series}-7 or a row above"):

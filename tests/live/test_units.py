@@ -7,7 +7,7 @@ from pathlib import Path
 
 import pytest
 
-from shop import ROOT
+from program_and_rows import ROOT
 
 LIMIT = 60
 UNITS = sorted(ROOT.glob("package/systemd/*.service"))
@@ -51,7 +51,7 @@ def test_what_a_unit_has(unit):
 
 
 def test_rules():
-    """As udev reads them, which tells of each line that it does not take."""
+    """As udev reads them; it reports each line that it does not accept."""
     if os.geteuid() or not os.access("/run", os.W_OK):
         pytest.skip("only root gives udev a rule to read")
     folder, device = Path("/run/udev/rules.d"), next(iter(sorted(Path("/sys/class/tty").iterdir())))

@@ -10,10 +10,10 @@ import time
 
 import pytest
 
-from chain import LANES, NORILADLE, Shop, Workers, check, rows_of
-from cluster import Cluster
-from counter import Gateway, Serial, Till
-from shop import ROOT
+from workers_and_tills import LANES, NORILADLE, Shop, Workers, check, rows_of
+from redis_cluster import Cluster
+from gateway_and_scanners import Gateway, Serial, Till
+from program_and_rows import ROOT
 
 LIMIT = 240
 OLD = "9d2bd37"
@@ -95,7 +95,7 @@ def test_workers_are_upgraded_one_after_the_other(old):
 
 @pytest.mark.limit(90)
 def test_a_gateway_is_upgraded(old, tmp_path):
-    """And taken back again, with a scanner and a till of each version: each scan is told once, or told as lost, in order."""
+    """And back again, with a scanner and a till of each version: tills get each scan once, or as lost, in order."""
     versions = {"old": old, "new": NORILADLE}
     gateway = Gateway(tmp_path, "--metrics", "0", command=old)
     scanners = {name: Serial("--gateway", gateway.unix, "--lane", name, command=[*command, "scanner"]) for name, command in versions.items()}

@@ -1,4 +1,4 @@
-"""Headless Chromium, spoken to by its debugging pipe: by scripts, and as a person does, by keys, the mouse and files."""
+"""Drives headless Chromium through its debugging pipe: by scripts, and as a person does, by keys, mouse and files."""
 import base64
 import fcntl
 import itertools
@@ -12,7 +12,7 @@ import time
 
 
 class Browser:
-    """A browser with one page open, of this size. It is ended and its profile removed by `close`."""
+    """A browser with one page open, of this size. `close` ends it and removes its profile."""
 
     def __init__(self, url, width=1000, height=1400, dark=False, started="document.readyState === 'complete' && !!document.started",
                  switches=(), mobile=False, language="en-GB"):
@@ -75,7 +75,7 @@ class Browser:
                 return answer["result"]
 
     def _note(self, message):
-        """Keeps what an event tells."""
+        """Keeps the contents of an event."""
         params = message.get("params", {})
         if message.get("method") == "Network.requestWillBeSent":
             self.asked.append(params["request"]["url"])
@@ -99,7 +99,7 @@ class Browser:
             time.sleep(0.05)
 
     def choose(self, *paths):
-        """Chooses files, as a user does in the dialog, and waits until they are taken."""
+        """Chooses files, as a user does in the dialog, and waits until the page has read them."""
         self.value("document.taken = null")
         node = self.call("Runtime.evaluate", expression="at('file')")["result"]["objectId"]
         self.call("DOM.setFileInputFiles", files=[os.path.abspath(path) for path in paths], objectId=node)
@@ -150,7 +150,7 @@ class Browser:
         return base64.b64decode(self.call("Page.printToPDF", preferCSSPageSize=True, printBackground=True)["data"])
 
     def picture(self, path):
-        """Leaves a picture of the page."""
+        """Saves a picture of the page."""
         clip = self.value("({ x: 0, y: 0, width: innerWidth, height: document.body.scrollHeight, scale: 1 })")
         shot = self.call("Page.captureScreenshot", format="png", captureBeyondViewport=True, clip=clip)
         with open(path, "wb") as file:

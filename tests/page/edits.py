@@ -1,4 +1,4 @@
-"""Edits of the page's scripts that tests/page/lists.py must notice, one at a time, each as a tired programmer makes it.
+"""Makes edits of the page's scripts, such as a tired programmer makes. tests/page/same_lists.py must notice each.
 
 Usage: edits.py WORK. Its last line is the counts.
 """
@@ -50,7 +50,7 @@ def main():
             sys.exit(f"{name} has {old!r} {text.count(old)} times")
         with open(path, "w", encoding="utf-8") as file:
             file.write(text.replace(old, new))
-        done = subprocess.run([sys.executable, f"{HERE}/lists.py", str(LISTS)], env={**os.environ, "PAGE": folder}, stdout=subprocess.DEVNULL, stderr=subprocess.DEVNULL)
+        done = subprocess.run([sys.executable, f"{HERE}/same_lists.py", str(LISTS)], env={**os.environ, "PAGE": folder}, stdout=subprocess.DEVNULL, stderr=subprocess.DEVNULL)
         if done.returncode == 0:
             missed += 1
             print(f"missed: {name}: {old!r} as {new!r}", flush=True)

@@ -1,4 +1,4 @@
-"""Headless Firefox, spoken to by its Marionette protocol, as a person does: by keys, the mouse and files."""
+"""Drives headless Firefox through its Marionette protocol as a person does: by keys, mouse and files."""
 import base64
 import json
 import os
@@ -12,7 +12,7 @@ KEYS = {"Tab": "\ue004", "Enter": "\ue007", "ArrowRight": "\ue014", "ArrowLeft":
 
 
 class Firefox:
-    """A browser with one page open. It is ended and its profile removed by `close`."""
+    """A browser with one page open. `close` ends it and removes its profile."""
 
     def __init__(self, url, width=1280, height=900, language="en-GB", folder="."):
         self._profile = tempfile.mkdtemp()
@@ -108,7 +108,7 @@ class Firefox:
         return base64.b64decode(told["value"])
 
     def picture(self, path):
-        """Leaves a picture of the page."""
+        """Saves a picture of the page."""
         told = self._call("WebDriver:TakeScreenshot", full=True)
         with open(path, "wb") as file:
             file.write(base64.b64decode(told["value"]))

@@ -1,7 +1,7 @@
-"""The page, zbarimg and ZXingReader on the same pictures: prints how many of each group they read, and asserts the limits. What the page
-answers of each picture, Python answers too, byte for byte.
+"""Lets the page, zbarimg and ZXingReader read the same pictures, prints how many of each group they read, and asserts the limits. For each
+picture the page must give Python's answer, byte for byte.
 
-Usage: photos.py WORK [GROUP...]. WORK is a folder for the pictures; with groups, these alone are read and no limit is asserted.
+Usage: photos.py WORK [GROUP...]. WORK is a folder for the pictures. With groups it reads only these, and asserts no limit.
 Its last lines are the limits, each with what was seen, and their counts.
 """
 import concurrent.futures
@@ -15,8 +15,8 @@ from browser import Browser
 ROOT = os.path.dirname(os.path.dirname(os.path.dirname(os.path.abspath(__file__))))
 sys.path[:0] = [os.path.join(ROOT, "python"), os.path.join(ROOT, "tests", "pictures")]
 from noriladle import picture
-from others import OTHERS
-from read import lines_of
+from other_readers import OTHERS
+from compare_readers import lines_of
 
 READERS = ("page", *OTHERS)
 ALL_READ = ("mild photograph", "upright, turned by 90 degrees", "upright, turned by 270 degrees", "1.2 dots a module")

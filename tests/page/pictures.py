@@ -16,7 +16,7 @@ from kinds import KINDS
 
 PAPER, INK = 235, 25
 
-# A symbol of zint's has so many dots a module before it is laid into a picture.
+# A symbol of zint's has this many dots a module before it is laid into a picture.
 DRAWN = 8
 
 # What zint draws, and what the symbol says: the line of the page, and the text in the words of other readers.
@@ -143,7 +143,7 @@ def harmed(image, harm, chance):
 
 
 def bent(image, radius):
-    """The image as seen on a bottle that stands upright, whose radius is so many widths of the image."""
+    """The image as seen on a bottle that stands upright, whose radius is this many widths of the image."""
     height, width = image.shape
     r = radius * width
     half = r * numpy.sin(width / 2 / r)
@@ -314,7 +314,7 @@ def texture(chance):
 
 
 def without_symbol(count, drawn_symbols, folder):
-    """The paths of so many pictures that have no symbol."""
+    """The paths of this many pictures that have no symbol."""
     others = [drawn(barcode, data, os.path.join(folder, "other.png")) for barcode, data in OTHERS]
     looks = [Look(), Look(dots=2), Look(angle=10), Look(angle=90), Look(blur=1.5), Look(noise=20),
              *(look for name, look in GROUPS.items() if "photograph" in name)]

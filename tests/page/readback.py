@@ -1,4 +1,4 @@
-"""Labels read back: each is cut out of its page with its whole cell, and must say itself alone to noriladle and to zbarimg."""
+"""Reads labels back: cuts each out of its page with its whole cell, where noriladle and zbarimg must read exactly that label."""
 import concurrent.futures
 import io
 import os

@@ -1,4 +1,4 @@
-"""What the page reads of pictures, of the clipboard and of a camera, in headless Chromium, compared with what the program answers.
+"""Compares what the page reads from pictures, the clipboard and a camera, in headless Chromium, with the program's answers.
 
 Usage: reading.py PROGRAM WORK. PROGRAM is gs1_hub. Its last line is the counts.
 """
@@ -13,14 +13,14 @@ import time
 import zlib
 
 from browser import Browser
-from counts import before_others, ended, same, texts
+from comparisons import before_others, ended, same, texts
 
 ROOT = os.path.dirname(os.path.dirname(os.path.dirname(os.path.abspath(__file__))))
 PROGRAM, WORK = sys.argv[1:3]
 GRID = "--columns 2 --rows 3 --module 2 --width 480 --height 120".split()
 TEXTS = texts()["en"]
 FRAME = 4
-"""So many milliseconds a frame of the camera may take."""
+"""How many milliseconds a frame of the camera may take."""
 
 
 def answer(*words, text=b""):
@@ -35,12 +35,12 @@ def scanned(image, *words):
 
 
 def shown(page):
-    """What the newest picture says: its line, or how many it has, or the refusal."""
+    """What the newest picture says: its line, or how many it has, or its error."""
     return page.value("pictures[0].refused ?? (pictures[0].symbols.length === 1 ? pictures[0].symbols[0].line : `${pictures[0].symbols.length} symbols`)")
 
 
 def choose(page, path):
-    """Chooses a file in place of all before it."""
+    """Chooses a file instead of all earlier ones."""
     page.value("at('read-clear').click()")
     page.choose(path)
 
@@ -278,7 +278,7 @@ def reads_by_camera(url):
         same(f"a frame of 640 by 480 in {FRAME} ms", passed <= FRAME, True)
         page.value("at('read-clear').click(), at('scan-on').click(), globalThis.tones = 0, beep = () => { tones++; }, at('camera').click()")
         page.until("pictures[0]?.symbols.length === 3", 60)
-        # All come again, since the film begins anew.
+        # All come again, since the film starts again.
         page.value("new Promise((done) => setTimeout(done, 3000))")
         same("codes one after another, each once", sorted(answers(page)), sorted(lines))
         same("what is told of them", page.text("told"), "3 codes")
@@ -359,7 +359,7 @@ def counts_symbols(page):
 
 
 def large(page):
-    """Large pictures, and how long they take."""
+    """Large pictures, and the time for them."""
     row = symbol_row(3)
     line = bytearray(b"\xff" * 4000)
     for at in (20, 1000, 2000, 3000):

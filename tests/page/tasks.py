@@ -1,6 +1,6 @@
-"""The three tasks in Chromium and Firefox as a person does them, by keys, mouse and files, in both languages, at a desk and on a telephone.
+"""Does the three tasks in Chromium and Firefox as a person does, by keys, mouse and files, in both languages, at a desk and on a telephone.
 
-Usage: tasks.py WORK. Labels that are printed and saved are read back by other programs. Its last line is the counts.
+Usage: tasks.py WORK. Other programs read back the printed and saved labels. Its last line is the counts.
 """
 import csv
 import io
@@ -11,7 +11,7 @@ import sys
 import time
 
 from browser import Browser
-from counts import ended, same, texts
+from comparisons import ended, same, texts
 from firefox import Firefox
 from readback import ROOT, STOCKS, articles, files_of, listed, pages_of_pdf, pages_of_svg, pages_of_zpl, read_back, read_by_command
 from PIL import Image
@@ -29,7 +29,7 @@ def filled(text, *values):
 
 
 class Person:
-    """Who does the tasks in a browser, and reads its answers in a language."""
+    """A person who does the tasks in a browser, and reads its answers in a language."""
 
     def __init__(self, browser, name, language):
         self.browser, self.name, self.language, self.folder = browser, name, language, os.path.join(WORK, re.sub(r"\W+", "-", name))
@@ -57,7 +57,7 @@ class Person:
             time.sleep(0.1)
 
     def saved(self, button, name):
-        """What a button saves; the file is taken away."""
+        """What a button saves. Removes the file."""
         path = os.path.join(self.folder, name)
         self.browser.click(button)
         limit = time.time() + 240
@@ -72,7 +72,7 @@ class Person:
         return kept
 
     def chooses(self, name, value):
-        """Takes an entry of a list."""
+        """Chooses an entry of a list."""
         self.browser.value(f"""(() => {{
             const list = document.getElementById({json.dumps(name)});
             list.value = {json.dumps(value)};
@@ -81,7 +81,7 @@ class Person:
 
 
 def labels(person, stocks):
-    """A list with faults: these are told and put right, and the sheets are printed, saved and read back."""
+    """A list with errors: the page reports them, the person corrects them, and prints, saves and reads back the sheets."""
     browser, made = person.browser, articles(COUNT)
     right, wrong = made[3][0], made[3][0][:-1] + str((int(made[3][0][-1]) + 1) % 10)
     browser.click("#tab-labels")
@@ -167,7 +167,7 @@ def reads(person, pictures):
 
 
 def keyboard(person):
-    """The task "check" by keys alone, each with its ring to be seen."""
+    """The task "check" by keys alone; the focus ring is always visible."""
     browser = person.browser
     browser.value("document.activeElement.blur(), scrollTo(0, 0)")
     browser.value("document.querySelector('.skip').focus()")
@@ -191,7 +191,7 @@ def keyboard(person):
 
 
 def scanner(browser, person):
-    """A scanner that types: its newest answer is first, and the order of the field stays."""
+    """A scanner that types: its newest answer comes first, and the field keeps its order."""
     browser.click("#tab-check")
     browser.click("#check-clear") if browser.value("!document.getElementById('check-clear').hidden") else None
     browser.click("#texts")

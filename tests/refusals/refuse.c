@@ -1,7 +1,6 @@
-/* Preloaded into a program, refuses one of its calls for memory or for a thread: that of REFUSED_CALL, counted from 1,
-   and where REFUSED_ALWAYS is set each later one too. Writes a byte to descriptor 3 when it refuses the first; where
-   LISTED_CALLS is set it refuses none, and writes a byte for each: T where a thread is started, t where memory is asked for
-   by that, else m. */
+/* Preloaded into a program, refuses one of its calls for memory or for a thread: that of REFUSED_CALL, counted from 1, and
+   with REFUSED_ALWAYS each later one too. Writes a byte to descriptor 3 when it refuses the first. With LISTED_CALLS it
+   refuses none, and writes a byte for each: T for the start of a thread, t for memory for that, else m. */
 #define _GNU_SOURCE
 #include <dlfcn.h>
 #include <errno.h>

@@ -1,12 +1,11 @@
 #!/usr/bin/env python3
-"""Tries ./gs1_hub on a small tree with a release of its own: which program it runs, and what it says of a release that cannot serve.
+"""Tests which program ./gs1_hub runs, on a small tree with its own release, and what it says if the release cannot be used.
 
     tests/release/choices.py
 
-The program of the release is a script that prints its words, and the kit one that proves nothing, so it takes some seconds. What
-needs a file system of its own (a full disk, noexec, one that is read-only) is tried in a namespace of mounts, and skipped, which is
-told and counted, if this machine gives none. The last line is 'N passed, M failed'; a line before
-it counts those that were skipped.
+The program of the release is a script that prints its arguments, and the kit proves nothing, so this takes seconds. Cases that need
+their own file system (full, noexec, read-only) run in a namespace of mounts. If this machine has none, they are skipped, and a line
+before the last one counts them. The last line is 'N passed, M failed'.
 """
 from __future__ import annotations
 
@@ -78,7 +77,7 @@ class Tree:
         self.manifest.write_text(f"version {VERSION}\nlogic 0\nsources {sources}x86_64/gs1_hub {sums} {len(STUB)}\n", encoding="ascii")
 
     def environment(self, **more: str) -> dict[str, str]:
-        """What a run is given: no kit, and a home of its own."""
+        """The environment of a run: no kit, and its own home."""
         return {"PATH": "/usr/bin:/bin", "HOME": str(self.home), "HOSTTYPE": "x86_64", **more}
 
     def with_kit(self) -> dict[str, str]:

@@ -1,5 +1,5 @@
-/* Calls each function that stands in for the kit's C code on arm64, and says what is not as its contract wants: rattle/os/src/c.rt and
- * rattle/libc/src/heap.rt of the kit. tests/release/arm64 links it with package/aarch64/kit.c, and with the kit's own archives. */
+/* Calls each function that replaces the kit's C code on arm64, and reports what its contract forbids (rattle/os/src/c.rt and
+ * rattle/libc/src/heap.rt of the kit). tests/release/arm64 links it with package/aarch64/kit.c, and with the kit's own archives. */
 #include <errno.h>
 #include <stdbool.h>
 #include <stddef.h>
@@ -34,7 +34,7 @@ static int checks, wrong;
 /* More than any process has: half of the addresses that there are. */
 static const size_t too_much = (size_t)1 << 62;
 
-/* Each word is told whole if there is room, and else the room is full of its first bytes. */
+/* Each word comes whole if there is room; otherwise its first bytes fill the room. */
 static void arguments(int count, char **words) {
     uint8_t told[64];
     EXPECT(rattle_arg_count() == (size_t)count);

@@ -1,5 +1,5 @@
-// The page's calls in Node, by the module whose memory has 32-bit addresses: answers a list of calls, as JSON. Each is a name and its
-// arguments: `gtin`, `elements` and `symbol` of a text, and `read`, which reads a PBM image, in base64, as the page does.
+// Answers a list of the page's calls in Node, as JSON, with the module of 32-bit memory. Each call is a name and its arguments: `gtin`, `elements`
+// and `symbol` with a text, and `read` with a PBM image in base64, which it reads as the page does.
 "use strict";
 
 const fs = require("fs"), path = require("path"), vm = require("vm");

@@ -1,8 +1,8 @@
 """Compares the manual pages and the completions that package/pages makes with the program's help.
 
-Usage: pages.py PROGRAM FOLDER, where FOLDER has what package/pages made. A page, as `man` prints it, has each line of the help, in
-its order, and names no other options. bash and zsh offer just the commands at the first word, and just the options of each command after
-it; where an option is given, bash does not offer it again, and no word where a number stands.
+Usage: manual_pages.py PROGRAM FOLDER; FOLDER has what package/pages made. A page, as `man` prints it, must have each line of the help, in
+its order, and no other options. bash and zsh must offer exactly the commands as the first word, and after it exactly the options of the
+command. bash must not offer an option again that is there already, nor any word in place of a number.
 """
 import os
 import pty

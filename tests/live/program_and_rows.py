@@ -13,7 +13,7 @@ SEED = int(os.environ.get("SEED", "7"))
 
 
 def random_lanes(count, lanes, seed=SEED):
-    """Lane by lane random rows, as texts of widths, and the lines that `gs1_hub lanes` answers; `count` rows in all."""
+    """Random rows by lane, as texts of widths, and the lines of `gs1_hub lanes` for them; `count` rows in all."""
     rows = subprocess.run([sys.executable, ROOT / "bench/rows.py", *map(str, (count, lanes, seed))], capture_output=True, check=True)
     words = [PROGRAM, "lanes", "--lanes", str(lanes), "--workers", "2", "--year", "2026"]
     lines = subprocess.run(words, input=rows.stdout, capture_output=True, check=True).stdout.decode().splitlines()
@@ -29,6 +29,6 @@ def random_lanes(count, lanes, seed=SEED):
 
 
 def noise(count):
-    """So many random bytes."""
+    """This many random bytes."""
     print(f"\nseed {SEED}: {count} bytes")
     return random.Random(SEED).getrandbits(8 * count).to_bytes(count, "big")

@@ -1,4 +1,4 @@
-"""What the tests of the page compare, and how often it was wrong; and how they take times."""
+"""Counts the comparisons of the page's tests and the wrong ones, and helps them to measure time."""
 import contextlib
 import json
 import os
@@ -15,14 +15,14 @@ def same(what, got, wanted):
 
 
 def ended():
-    """Prints the counts, and answers the status."""
+    """Prints the counts, and returns the status."""
     print(f"{counts['compared']} compared, {counts['wrong']} wrong")
     return counts["wrong"] != 0 or not counts["compared"]
 
 
 @contextlib.contextmanager
 def before_others():
-    """Runs what is started here before other work of the machine, where that is allowed, and else says by how much limits are to grow."""
+    """Gives what starts here priority over other work of the machine, if it may; otherwise returns by how much limits must grow."""
     try:
         os.sched_setscheduler(0, os.SCHED_RR, os.sched_param(1))
         yield 1

@@ -1,5 +1,5 @@
-// Answers lines from standard input as lines.c does, by the npm package, and says behind a tab and `values` what the values of elements say, as JSON.
-// Usage: node npm.mjs PACKAGE.
+// Answers lines from standard input as c_answers.c does, with the npm package. After a tab and `values` follows what the values of elements mean, as JSON.
+// Usage: node npm_answers.mjs PACKAGE.
 import { readFileSync } from "node:fs";
 import { pathToFileURL } from "node:url";
 

@@ -1,9 +1,9 @@
 """Runs the commands of a page and compares what they print with what the page shows.
 
-Usage: follow.py NAME < PAGE, in the folder in which the commands are run. A command is a line that
-begins with `$ `, in a block between lines of three backquotes or indented by two spaces; what it
-prints, on standard output and standard error, is the lines after it in the same block, up to the next
-command. Each command is run by bash with an empty standard input.
+Usage: follow_page.py NAME < PAGE, in the folder in which the commands run. A command is a line that
+begins with `$ `, in a block between lines of three backquotes or indented by two spaces. The lines
+after it in the block, up to the next command, are its standard output and standard error. bash runs
+each command with an empty standard input.
 """
 import subprocess
 import sys

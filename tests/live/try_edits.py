@@ -1,16 +1,16 @@
 #!/usr/bin/env python3
-"""Tries the must-fail edits of the scripts: each is made in a copy, where the tests that it names must then fail.
+"""Tries the must-fail edits of the scripts: makes each in a copy, where the tests that it names must fail.
 
-Usage: edits.py [FILE..]. The files are tests/live/must-fail/*.edit where none is given. An edit in them is
+Usage: try_edits.py [FILE..]. Without files it takes tests/live/must-fail/*.edit. An edit in them is
 
     edit: NAME
-    test: WORDS             the tests, as words of pytest, from the root of the repository
+    test: WORDS             the tests, as arguments of pytest, from the root of the repository
     file: PATH              a script, from the root
-    old: TEXT               what stands there once; it may go on over lines
-    new: TEXT               what is put in its place
+    old: TEXT               text that is there once; it may have several lines
+    new: TEXT               what replaces it
 
-with more of the last three where it changes more than one place. Tests that do not end in their time have failed. The
-last line is 'N edits: F found, M missed', and the status is 0 where M is 0.
+with more of the last three if it changes several places. Tests that exceed their time have failed. The last line is
+'N edits: F found, M missed', and the status is 0 if M is 0.
 """
 from __future__ import annotations
 
@@ -35,7 +35,7 @@ PAIR = re.compile(r"file: ([^\n]*)\nold: (.*?)\nnew: ?(.*?)(?=\nfile: |\s*\Z)", 
 
 @dataclass(frozen=True)
 class Edit:
-    """An edit: its name, the words of its tests, and the changes, each a script with its old and its new text."""
+    """An edit: its name, the arguments of its tests, and the changes, each a script with its old and new text."""
 
     name: str
     test: str
@@ -64,7 +64,7 @@ class Edit:
                 [*words, *shlex.split(self.test)], cwd=folder, env={**os.environ, "PYTHONPATH": paths, "SCANS": "6000", "REPOSITORY": str(ROOT)}, stdin=subprocess.DEVNULL,
                 capture_output=True, text=True,
             )
-        # A test that passed, and then had an error, found at its end that a service wrote to standard error.
+        # If a test passed and then had an error, a service wrote to standard error.
         wrong = " failed" in ran.stdout or (" passed" in ran.stdout and " error" in ran.stdout)
         found = ran.returncode == 1 and wrong or ran.returncode in (124, 137)
         print(f"{'found' if found else 'MISSED'}: {self.name}", flush=True)

@@ -1,6 +1,6 @@
 """Compares what other readers and the program make of a hundred texts of each kind of label.
 
-Usage: compare.py PROGRAM FOLDER. The folder takes the images. The texts are the same at each run.
+Usage: compare_readers.py PROGRAM FOLDER. The folder is for the images. The texts are the same in each run.
 """
 import concurrent.futures
 import os
@@ -45,7 +45,7 @@ def gtin12(upce):
 
 
 class Text:
-    """A label: what `print` and zint take for it, what it says, and that as a human reads it."""
+    """A label: the inputs of `print` and zint, what it says, and the same in the form for people."""
 
     def __init__(self, ours, zint, says, hri):
         self.ours, self.zint, self.says, self.hri = ours, zint, says, hri
@@ -57,7 +57,7 @@ def of_gtin(gtin, zint=None):
 
 
 def gtin(count, first="0123456789"):
-    """A GTIN of so many digits, of which the first is one of these. zint adds the check digit."""
+    """A GTIN of this many digits that begins with one of these. zint adds the check digit."""
     return lambda chance: of_gtin(checked(chance.choice(first) + digits(chance, count - 2)))
 
 
@@ -155,7 +155,7 @@ def quoted(text):
 
 
 def number(kind, read):
-    """What a reader read, where it is a number, as 14 digits; UPC-E is read as its eight."""
+    """What a reader read; a number as 14 digits, a UPC-E as its eight."""
     if kind.word == "gs1128":
         return read
     if kind.word == "upce" and len(read) == 8:
@@ -240,7 +240,7 @@ def answered(program, rows):
 
 
 def compare(name, wanted, found):
-    """Says how many are as wanted, and each other one."""
+    """Prints how many are as wanted, and each other one."""
     right = 0
     for want, find in zip(wanted, found):
         if want == find:

@@ -1,4 +1,4 @@
-"""A Redis Cluster for tests, on loopback or on machines of a network, whose nodes are started, killed and started again."""
+"""A Redis Cluster for tests, on loopback or on machines of a network. Tests start, kill and restart its nodes."""
 import os
 import random
 import shutil
@@ -49,7 +49,7 @@ class Cluster:
         return "127.0.0.1"
 
     def ask(self, port, *words):
-        """A command to a node, asked on its machine."""
+        """A command to a node, from its own machine."""
         return ask(port, *words)
 
     def run(self, port, words):
@@ -94,13 +94,13 @@ class Cluster:
         self.processes[port].wait()
 
     def wait(self):
-        """Until the nodes know of each other that they run: one that was started again says CLUSTERDOWN for a while."""
+        """Waits until the nodes know that all run: a restarted node answers CLUSTERDOWN for a while."""
         while not all("cluster_state:ok" in self.ask(port, "CLUSTER", "INFO")
                       and self.ask(port, "CLUSTER", "NODES").count(" connected") == len(self.ports) for port in self.ports):
             time.sleep(0.1)
 
     def role(self, port):
-        """Whether a node is a master or a slave; nothing where it does not answer."""
+        """Whether a node is a master or a slave; None if it does not answer."""
         return self.ask(port, "ROLE").partition("\n")[0]
 
     def follows(self, port):
@@ -112,7 +112,7 @@ class Cluster:
         return next(port for port in self.ports if not self.ask(port, "EXISTS", key).startswith("MOVED"))
 
     def cut(self, port, most):
-        """Kills a node, cuts up to so many bytes off the end of its file, and starts it again: it has lost what it had
+        """Kills a node, cuts up to this many bytes off the end of its file, and starts it again: it has lost what it
         acknowledged last."""
         self.kill(port)
         file = max((self.folders[port] / "appendonlydir").glob("*.incr.aof"), key=lambda path: path.stat().st_mtime)
@@ -123,7 +123,7 @@ class Cluster:
 
 
 class Preloaded(Cluster):
-    """A node that has functions of C, which are built in a folder, in place of the system's."""
+    """A node with functions in C instead of the system's; a folder has the build."""
 
     def __init__(self, folder, source, **environment):
         super().__init__(nodes=1)
@@ -137,7 +137,7 @@ class Preloaded(Cluster):
 
 
 def free_ports(count):
-    """Ports that are free, with those of the cluster's bus, whose numbers are greater by 10,000."""
+    """Free ports whose port for the cluster's bus, 10,000 above, is free too."""
     found = set()
     while len(found) < count:
         port = random.randrange(10_000, 20_000)

@@ -1,6 +1,6 @@
-"""Lists as the page and `noriladle labels` take them: the same articles, and the same said of each faulty line.
+"""Compares how the page and `noriladle labels` read lists: they must find the same articles, and report the same errors.
 
-Usage: lists.py COUNT. Makes so many lists, most of them damaged, asks both, and prints what differs. Its last line is the counts.
+Usage: same_lists.py COUNT. Makes this many lists, most of them damaged, asks both, and prints what differs. Its last line is the counts.
 """
 import base64
 import json
@@ -63,7 +63,7 @@ def made(count):
 
 
 def by_python(data):
-    """As the page's, without what speaks of the command's options."""
+    """The command's answer in the page's form, without its options."""
     try:
         articles, faults = articles_of(table_of(data, 2026), 2026)
     except Faults as error:
@@ -75,7 +75,7 @@ def by_python(data):
 def main():
     lists = list(made(int(sys.argv[1])))
     asked = "".join(base64.b64encode(it).decode() + "\n" for it in lists)
-    told = subprocess.run(["node", f"{ROOT}/tests/page/lists.js"], input=asked.encode(), stdout=subprocess.PIPE, check=True).stdout.decode().split("\n")[:-1]
+    told = subprocess.run(["node", f"{ROOT}/tests/page/lists_in_node.js"], input=asked.encode(), stdout=subprocess.PIPE, check=True).stdout.decode().split("\n")[:-1]
     differ = good = faulty = 0
     for data, line in zip(lists, told):
         page, wanted = json.loads(line), by_python(data)

@@ -1,8 +1,8 @@
 #!/usr/bin/env python3
-"""Runs package/prove on a tree of empty crates, with a kit that proves nothing and notes what it is asked: tests/using/prove.py ROOT
+"""Runs package/prove on a tree of empty crates, with a fake kit that notes what it must prove: tests/using/prove_script.py ROOT
 
-What is asked of the kit is compared with what has to be proved anew: at first, after an edit, after a crate that is not
-proved, after an interrupted run, with another kit, and after a gate. The last line has the count of runs.
+It compares these notes with what must be proved: at first, after an edit, after a crate that is not proved, after an
+interrupted run, with another kit, and after a gate. The last line has the count of runs.
 """
 import os
 import re
@@ -34,7 +34,7 @@ done
 
 
 def listed():
-    """What each crate of the repository stands on, of the repository, by its name."""
+    """For each crate, the crates of the repository that it uses."""
     with open(os.path.join(ROOT, "crates.txt"), encoding="utf-8") as lines:
         read = [re.fullmatch(r"(\w+)(?: staticlib)?:(.*)", line.rstrip("\n")) for line in lines if not line.startswith("#")]
     crates = {it[1]: it[2].split() for it in read}
@@ -47,7 +47,7 @@ def below(crates, name):
 
 
 class Tree:
-    """A tree of empty crates, and a kit that notes what it is asked."""
+    """A tree of empty crates, and a kit that notes what it must prove."""
 
     def __init__(self, folder, crates):
         self.folder, self.crates = folder, crates
@@ -60,7 +60,7 @@ class Tree:
             self.write(os.path.join(self.kit, name), text)
         for name in crates:
             os.makedirs(self.at("crates", name, "src"))
-            self.write(self.at("crates", name, "src", "main.rt" if name in ("gs1_hub", "calls_again") else "lib.rt"), "")
+            self.write(self.at("crates", name, "src", "main.rt" if name in ("gs1_hub", "refused_memory") else "lib.rt"), "")
         os.mkdir(self.at("package"))
         os.mkdir(self.at("embed"))
         shutil.copytree(os.path.join(ROOT, "package", "aarch64"), self.at("package", "aarch64"))
@@ -85,13 +85,13 @@ class Tree:
                                 stdout=subprocess.PIPE, stderr=subprocess.STDOUT, text=True, start_new_session=True)
 
     def run(self, *words, **how):
-        """The status of a script, what it printed, and what it asked of the kit."""
+        """The status of a script, what it printed, and the crates that it proved."""
         with self.start(*words, **how) as ran:
             said = ran.stdout.read()
         return ran.returncode, said, self.asked()
 
     def asked(self):
-        """The crates that the kit was asked to prove since this was last called, in their order."""
+        """The crates that the kit had to prove since the last call, in their order."""
         path = self.at("asked")
         if not os.path.exists(path):
             return []
@@ -109,7 +109,7 @@ class Tree:
         self.write(self.at("out", "gate", "sources"), sources)
 
     def edit(self, name):
-        """Changes a file of a crate, and leaves it the time that it had: what is proved is known by contents."""
+        """Changes a file of a crate, but not its time: package/prove goes by contents."""
         path = self.at("crates", name, "src", "lib.rt")
         times = os.stat(path)
         with open(path, "a", encoding="utf-8") as file:
@@ -158,7 +158,7 @@ def main():
         status, said, asked = tree.run("package/prove", "gs1_hub")
         is_so = status == 0 and {*asked} == (over["scan_core"] | {"scan_core"}) - kept and in_order(asked)
         expect("the run after it", is_so, (status, said, asked))
-        # The crates that the library alone stands on are proved once.
+        # Crates that only the library uses are proved once.
         alone = below(crates, "gs1_c") - hub
         for kind, made in [([], "libgs1_c.a"), (["x86_64"], "x86_64/libgs1_c.a"), (["wasm64"], "wasm64/gs1_c.wasm")]:
             status, said, asked = tree.run("package/prove", "gs1_c", *kind)

@@ -1,9 +1,9 @@
 #!/usr/bin/env python3
-"""Values of every Application Identifier by the formats of tables/ais.tsv, most of them good, and element strings of these.
+"""Makes values of every Application Identifier by the formats of tables/ais.tsv, most of them valid, and element strings of them.
 
-    tests/ais/values.py COUNT SEED
+    tests/ais/element_strings_of_all_ais.py COUNT SEED
 
-prints so many element strings of one to five elements, a line each, in which `^` is the separator; about one in four is faulty.
+prints COUNT element strings of one to five elements, a line each, with `^` as the separator. About one in four is faulty.
 """
 
 import importlib.machinery
@@ -24,7 +24,7 @@ LETTERS = "23456789ABCDEFGHJKLMNPQRSTUVWXYZ"
 X = "!\"%&'()*+,-./0123456789:;<=>?ABCDEFGHIJKLMNOPQRSTUVWXYZ_abcdefghijklmnopqrstuvwxyz"
 PRIMES = [2, 3, 5, 7, 11, 13, 17, 19, 23, 29, 31, 37, 41, 43, 47, 53, 59, 61, 67, 71, 73, 79, 83]
 CHARACTERS = {"N": "0123456789", "X": "ABCabc019-./", "Y": "ABC0123-/#", "Z": "ABCabc019-_="}
-# Values of a rule that a random text hardly has.
+# Values for rules that a random text hardly meets.
 KNOWN = {
     "iso3166": ["276", "528", "840"], "iso3166999": ["276", "999"], "iso4217": ["978", "840"], "iso3166alpha2": ["DE", "NL"],
     "packagetype": ["AA", "BX"], "iban": ["DE89370400440532013000", "GB82WEST12345698765432"], "couponcode": ["106141416543213150110120"],
@@ -36,7 +36,7 @@ KNOWN = {
 
 
 def check_digit(digits):
-    """Digits with the last of them made their check digit."""
+    """The digits, the last replaced by their check digit."""
     return digits[:-1] + str(-sum(int(it) * (1 if at % 2 else 3) for at, it in enumerate(reversed(digits[:-1]))) % 10)
 
 

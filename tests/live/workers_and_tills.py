@@ -7,7 +7,7 @@ import time
 
 from noriladle import streams as keys
 from noriladle.streams import Till, Worker  # noqa: F401
-from shop import SEED, random_lanes
+from program_and_rows import SEED, random_lanes
 
 NORILADLE = [sys.executable, "-m", "noriladle"]
 
@@ -22,7 +22,7 @@ LANES = [str(lane) for lane in range(8)]
 
 
 def rows_of(count, seed=SEED, lanes=len(LANES)):
-    """Random rows, by lane, and what one run of `gs1_hub lanes` answers, by lane and with each answer's number."""
+    """Random rows by lane, and the answers of one run of `gs1_hub lanes`, by lane and number."""
     asked, lines = random_lanes(count, lanes, seed)
     wanted = [[(int(number), answer) for _, number, answer in (line.split(" ", 2) for line in some)] for some in lines]
     return tuple({str(lane): of_lane for lane, of_lane in enumerate(part)} for part in (asked, wanted))
@@ -32,7 +32,7 @@ class Workers:
     """Processes of `noriladle worker` that have the same lanes, by name."""
 
     def __init__(self, address, count, milliseconds=3000, more=()):
-        # One address, or several with commas between.
+        # One address, or several with commas between them.
         self.words = [*NORILADLE, "worker", *(word for one in address.split(",") for word in ("--redis", one))]
         self.more = [*LANES, "--year", "2026", "--lease", str(milliseconds), "--log", "all", *more]
         self.names = [f"worker{number}" for number in range(count)]
@@ -51,13 +51,13 @@ class Workers:
         self.running[name] = subprocess.Popen([*self.words, "--name", name, *self.more], stderr=subprocess.PIPE, text=True)
 
     def kill(self, name):
-        """Kills a worker, even one that sleeps, and gives what it said."""
+        """Kills a worker, even a suspended one, and returns its output."""
         process = self.running.pop(name)
         process.kill()
         return process.communicate()[1]
 
     def end(self):
-        """Lets all end by themselves, and gives the last line of each."""
+        """Stops all regularly, and returns the last line of each."""
         for process in self.running.values():
             process.send_signal(signal.SIGTERM)
         said = [process.communicate(timeout=20)[1].strip() for process in self.running.values()]
@@ -75,7 +75,7 @@ class Workers:
 
 
 async def read_lanes(address, asked, **more):
-    """What a till of each lane gets, all at once, and how often they submitted rows again."""
+    """What a till of each lane gets, all lanes at once, and how often they submitted rows again."""
     shop = Shop(address)
     tills = {lane: Till(shop, lane, **more) for lane in asked}
 
@@ -94,7 +94,7 @@ async def read_lane(address, lane, texts, **more):
 
 
 async def streams(address, lanes):
-    """The IDs and answers that stand in the streams of answers, and the IDs in those of rows. A silent node is asked for half a minute."""
+    """The IDs and answers in the streams of answers, and the IDs in those of rows. Asks a silent node for half a minute."""
     shop, said, names = Shop(address), {}, {}
 
     async def entries(key):
@@ -115,7 +115,7 @@ async def streams(address, lanes):
 
 
 def check(address, wanted, got):
-    """Each till has the answers to its rows, in order and each once; and so has each stream."""
+    """Checks that each till, and each stream, has the answers to its rows, in order and each once."""
     assert {lane: len(answers) for lane, answers in got.items()} == {lane: len(wanted[lane]) for lane in wanted}
     assert got == wanted
     said, names = asyncio.run(streams(address, wanted))

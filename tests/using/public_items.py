@@ -1,7 +1,7 @@
 """Compares the public items of the libraries with the list in items.txt beside this file.
 
-Usage: items.py ROOT. An item is what a crate's src/lib.rt passes on by `pub use`, and each `pub fn` of a type among these, as
-`Type::call`. In items.txt it stands after its crate and a colon.
+Usage: public_items.py ROOT. Items are what a crate's src/lib.rt exports by `pub use`, and each `pub fn` of a type among these, as
+`Type::call`. In items.txt they follow their crate and a colon.
 """
 import collections
 import glob
@@ -9,7 +9,7 @@ import re
 import sys
 
 def passed_on(crate):
-    """What src/lib.rt passes on."""
+    """What src/lib.rt exports."""
     with open(f"{crate}/src/lib.rt", encoding="utf-8") as it:
         used = re.findall(r"^pub use ([^;]*);", it.read(), re.MULTILINE)
     for path in used:

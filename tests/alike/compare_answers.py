@@ -1,6 +1,6 @@
-"""Asks C, Python, the npm package, the page's scripts and the program the same, and prints what differs.
+"""Asks C, Python, the npm package, the page's scripts and the program the same questions, and prints what differs.
 
-Usage: alike.py LINES PACKAGE PROGRAM WORK COUNT. LINES is the program of lines.c, PACKAGE the npm package and PROGRAM gs1_hub. Its last line is the
+Usage: compare_answers.py LINES PACKAGE PROGRAM WORK COUNT. LINES is the program of c_answers.c, PACKAGE the npm package and PROGRAM gs1_hub. Its last line is the
 counts.
 """
 import importlib.machinery
@@ -24,7 +24,7 @@ SEPARATOR = "\x1d"
 KINDS = [kind.name.lower() for kind in noriladle.Kind]
 DIGITS = {"ean13": (13, 12), "upca": (12,), "ean8": (8,), "upce": (12,), "itf14": (14, 13)}
 LETTERS = {"N": "0123456789", "X": "ABCabc019-./%&", "Y": "ABC0123-/#", "Z": "ABCabc019-_="}
-# Values of rules that random characters hardly keep.
+# Values for rules that random characters hardly meet.
 KNOWN = {
     "iso3166": ["276", "528", "281"], "iso3166999": ["276", "999"], "iso4217": ["978", "840", "000"], "iso3166alpha2": ["DE", "NL", "ZZ"],
     "posinseqslash": ["1/2", "9/3"], "hyphen": ["-"], "zero": ["0"], "yesno": ["0", "1"], "pieceoftotal": ["0102", "1201"], "hhmm": ["0000", "2359", "2400"],
@@ -47,7 +47,7 @@ ROWS, TOKENS = table()
 
 
 def checked(digits):
-    """Digits with the last of them made their check digit."""
+    """The digits, the last replaced by their check digit."""
     total = sum(int(it) * (3, 1)[at % 2] for at, it in enumerate(reversed(digits[:-1])))
     return digits[:-1] + str(-total % 10)
 
@@ -111,7 +111,7 @@ def as_json(it):
 
 
 def said_of(element):
-    """What Python says of an element; npm names the parts of a place."""
+    """What Python says about an element; npm names the parts of a place."""
     told = element.to_dict()
     if "place" in told:
         told["place"] = dict(zip(("latitude", "longitude"), told["place"]))
@@ -137,7 +137,7 @@ def asked_of(words, lines):
 
 
 def by_program(texts):
-    """What `check` says of the texts; it answers with the elements as people read them."""
+    """What `check` says about the texts, with elements in the form for people."""
     records = [f'text,"{it[2:]}"'.replace(SEPARATOR, "^") for it in texts]
     return asked_of([PROGRAM, "check", "--year", str(YEAR), "--ais", "all"], records)
 
@@ -165,11 +165,11 @@ def main():
     labels, texts = made()
     lines, count = labels + texts, Count()
     wanted, values = zip(*map(by_python, lines))
-    npm, told = zip(*(it.partition("\tvalues ")[::2] for it in asked_of(["node", f"{HERE}/npm.mjs", PACKAGE], lines)))
+    npm, told = zip(*(it.partition("\tvalues ")[::2] for it in asked_of(["node", f"{HERE}/npm_answers.mjs", PACKAGE], lines)))
     alike = {
         "C": count.compare("C", lines, wanted, asked_of([LINES], lines)),
         "npm": count.compare("npm", lines, wanted, npm),
-        "page": count.compare("page", lines, wanted, asked_of(["node", f"{HERE}/page.js"], lines)),
+        "page": count.compare("page", lines, wanted, asked_of(["node", f"{HERE}/page_answers.js"], lines)),
         "program": count.compare("program", texts, [human(it) for it in wanted[COUNT:]], by_program(texts)),
         "values": count.compare("values of npm", texts, values[COUNT:], told[COUNT:]),
     }

@@ -1,7 +1,7 @@
-"""What `live` answers to a record, and `gs1_scan` to a text, by a model that was typed from the grammar in docs/DECISIONS.md and
-from the standards, and not from the code. The table of AIs is that of the tests of the commands.
+"""A model of what `live` answers to a record, and `gs1_scan` to a text. It was typed from the grammar in docs/DECISIONS.md and from the
+standards, and not from the code. The table of AIs is that of the tests of the commands.
 
-Texts are bytes. A refusal is raised as a `Fault`, with the words that stand behind `refused`.
+Texts are bytes. An error is raised as a `Fault`, with the words after `refused`.
 """
 
 import calendar
@@ -16,7 +16,7 @@ MOST_LINE, MOST_TEXT, MOST_ELEMENTS = 65_536, 192, 48
 STRINGS = [b"]C1", b"]e0", b"]d2", b"]Q3", b"]J1"]
 LINKS = [b"]d1", b"]Q1"]
 
-# What follows a key of a Digital Link in its path, from the key to the end.
+# The qualifiers that may follow a key in the path of a Digital Link, in their order.
 QUALIFIERS = {
     b"00": b"", b"01": b"22 10 21 235", b"253": b"", b"255": b"", b"401": b"", b"402": b"", b"414": b"254 7040", b"415": b"8020",
     b"417": b"7040", b"8003": b"", b"8004": b"7040", b"8006": b"22 10 21", b"8010": b"8011", b"8013": b"", b"8017": b"8019",
@@ -34,7 +34,7 @@ def century(year_of_two, reference):
 
 
 def is_day(text, reference, from_day):
-    """Whether YYMMDD is a day, day 00 the last of its month where it may be."""
+    """Whether YYMMDD is a day. Day 00 is the last of its month, if it is allowed."""
     year, month, day = century(int(text[:2]), reference), int(text[2:4]), int(text[4:6])
     return 1 <= month <= 12 and from_day <= day <= calendar.monthrange(year, month)[1]
 
@@ -46,7 +46,7 @@ def is_moment(text, reference):
 
 
 def check_value(ai, value, reference, place):
-    """Refuses a value of a right length by its characters, its check digit and its day, in this order."""
+    """Raises the error of a value of a valid length: of its characters, its check digit or its day, in this order."""
     cut, rest = [], value
     for part in PARTS[ai]:
         cut.append((part, rest[: part.greatest]))
@@ -140,7 +140,7 @@ def upce_of(digits):
 
 
 def part_of_key(segments):
-    """The segments from the key on. It is looked for from the end: two segments at a time, until a key stands there."""
+    """The segments from the key on. Searches from the end, two segments at a time, for a key."""
     found = None
     for begin in range(len(segments) - 2, -1, -1):
         rest = segments[begin:]
@@ -148,7 +148,7 @@ def part_of_key(segments):
             continue
         order = QUALIFIERS[rest[0]].split()
         behind = rest[2::2]
-        # A qualifier that is none of the key's has no place; places grow.
+        # A qualifier that is not the key's has no place. Places must grow.
         places = [order.index(it) if it in order else -1 for it in behind]
         if -1 not in places and places == sorted(set(places)):
             found = rest
@@ -174,7 +174,7 @@ def elements_of_link(text, reference):
 
 
 def uncoded(text):
-    """A text whose percent codes are the bytes that they stand for."""
+    """A text with its percent codes replaced by bytes."""
     return re.sub(rb"%(..)", lambda it: bytes.fromhex(it[1].decode()), text)
 
 

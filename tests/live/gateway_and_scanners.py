@@ -1,4 +1,5 @@
-"""The counter of a shop, for tests: a gateway, clients of its sockets, scanners on pseudo terminals and tills."""
+"""The parts of a shop for tests: a gateway, clients of its sockets, scanners on pseudo terminals, and tills."""
+import fcntl
 import os
 import pty
 import re
@@ -7,18 +8,19 @@ import socket
 import struct
 import subprocess
 import sys
+import termios
 import threading
 import time
 import urllib.request
 
-from shop import EAN13, READ, ROOT
+from program_and_rows import EAN13, READ, ROOT
 
 ROW = EAN13.encode() + b"\n"
 NORILADLE = [sys.executable, "-m", "noriladle"]
 
 
 class Client:
-    """A connection whose lines are read one by one."""
+    """A connection that reads line by line."""
 
     def __init__(self, address, family=socket.AF_INET):
         self.socket = socket.socket(family)
@@ -45,18 +47,18 @@ class Client:
         return self.line()
 
     def ends(self):
-        """What comes after the rows were sent, to the end."""
+        """Sends rows, and returns everything that comes until the end."""
         self.socket.shutdown(socket.SHUT_WR)
         return self.lines.read().decode()
 
     def reset(self):
-        """Ends the connection without a regular end."""
+        """Breaks the connection off."""
         self.socket.setsockopt(socket.SOL_SOCKET, socket.SO_LINGER, struct.pack("ii", 1, 0))
         self.__exit__()
 
 
 class Gateway:
-    """A gateway that runs on a free port, and on a socket in a folder; `said` are the lines that it logs."""
+    """A gateway on a free port, and on a socket in a folder. `said` has the lines that it logs."""
 
     def __init__(self, folder, *words, port=True, command=NORILADLE):
         self.unix = str(folder / "hub")
@@ -98,7 +100,7 @@ class Gateway:
         return client
 
     def free_lane(self, wanted=f"0 {READ}\n"):
-        """A connection that has a lane, waited for, after its first row."""
+        """A connection that has a lane, after its first row."""
         until = time.monotonic() + 30
         while time.monotonic() < until:
             client = self.connect()
@@ -111,12 +113,12 @@ class Gateway:
         raise AssertionError("no lane came free")
 
     def numbers(self):
-        """What it serves for Prometheus, by name and labels."""
+        """Its numbers for Prometheus, by name and labels."""
         with urllib.request.urlopen(f"http://127.0.0.1:{self.ports['metrics']}/metrics", timeout=10) as told:
             return dict(line.rsplit(" ", 1) for line in told.read().decode().splitlines() if not line.startswith("#"))
 
     def waits_for(self, **wanted):
-        """Waits until numbers, without the first part of their names, are these."""
+        """Waits until its numbers are these; names lack their first part."""
         until = time.monotonic() + 20
         while any(self.numbers()[f"noriladle_{name}"] != str(number) for name, number in wanted.items()):
             assert time.monotonic() < until, wanted
@@ -150,7 +152,7 @@ class Scanner:
         self.process.communicate()
 
     def line(self, seconds=10):
-        """The next line, or nothing where none comes."""
+        """The next line, or nothing if none comes."""
         comes, _, _ = select.select([self.process.stdout], [], [], seconds)
         return self.process.stdout.readline().decode() if comes else ""
 
@@ -158,7 +160,7 @@ class Scanner:
         return most_memory(self.process)
 
     def ended(self):
-        """What it prints after its last line, once the device is gone, on standard output and error, and its status."""
+        """What it prints on standard output and error after the device is gone, and its status."""
         out, error = self.process.communicate(timeout=10)
         return out.decode(), error.decode(), self.process.returncode
 
@@ -176,9 +178,18 @@ class Serial(Scanner):
             assert time.monotonic() < until
             time.sleep(0.02)
 
-    def send(self, sent, size=7):
+    def send(self, sent, size=7, one_by_one=False):
+        """Sends pieces; `one_by_one`, each when the program has read the one before it."""
         for place in range(0, len(sent), size):
+            until = time.monotonic() + 20
+            while one_by_one and self.unread():
+                assert time.monotonic() < until
+                time.sleep(0.001)
             os.write(self.ours, sent[place:place + size])
+
+    def unread(self):
+        """How many bytes the program has not read."""
+        return int.from_bytes(fcntl.ioctl(self.its, termios.FIONREAD, bytes(4)), sys.byteorder)
 
     def unplug(self):
         os.close(self.its)

@@ -1,5 +1,5 @@
-/* Answers lines from standard input: of `3 012345000065` the symbol of a label of kind 3, and of `- 10AB` the elements of an element string of every
- * Application Identifier. The year is 2026. */
+/* Answers lines from standard input: `3 012345000065` with the symbol of a label of kind 3, and `- 10AB` with the elements of an element string. It
+ * accepts every Application Identifier. The year is 2026. */
 #include "gs1.h"
 #include <stdio.h>
 #include <string.h>

@@ -1,5 +1,5 @@
-// What the page makes of lists, in Node: reads JSON lines, each a list's bytes in base64, and answers each with a line: its articles, and
-// what is said of its other lines, in the words of shop/en.json. PAGE is another folder with the page's scripts.
+// Reads lists in Node as the page does: each JSON line of standard input has a list's bytes in base64, and gets a line with its articles and the
+// errors of its other lines, in the words of shop/en.json. PAGE may name another folder with the page's scripts.
 "use strict";
 
 const fs = require("fs"), path = require("path"), readline = require("readline"), vm = require("vm");

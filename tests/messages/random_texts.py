@@ -1,10 +1,10 @@
-"""Random texts of scanners, rows, noise and Digital Links, right ones and every kind of damage, the same for the same seed."""
+"""Makes random texts of scanners, rows, noise and Digital Links, valid ones and every kind of damage. The same seed gives the same texts."""
 
 import re
 import string
 
 from element_strings import ANY, CHECKED, DATE, PARTS, TIME, X, check_digit, is_predefined, lengths
-from model import QUALIFIERS
+from answer_model import QUALIFIERS
 from rows import EAN8_ROW, GS1128_ROW, SYMBOL
 from symbols import EAN13, ITF14, OTHER_UPCE, UPCE
 
@@ -21,7 +21,7 @@ def digits(rng, count):
 
 
 def numbered(rng, count):
-    """So many digits, of which the last is mostly their check digit."""
+    """This many digits; the last is mostly their check digit."""
     text = digits(rng, count - 1)
     return text + (check_digit(text) if rng.random() < 0.9 else rng.choice(string.digits))
 
@@ -48,7 +48,7 @@ def value(rng, ai):
 
 
 def damaged(rng, text):
-    """A text with a byte taken out, put in or replaced, one part said twice, or cut, at any place."""
+    """A text with a byte removed, inserted or replaced, a part repeated, or cut, at any place."""
     place, other = rng.randrange(len(text) + 1), rng.randrange(len(text) + 1)
     mark = bytes([rng.choice(MARKS) if rng.random() < 0.8 else rng.randrange(256)])
     return rng.choice([
@@ -62,7 +62,7 @@ def damaged(rng, text):
 
 
 def element_string(rng):
-    """An element string, with more separators than it wants, or fewer."""
+    """An element string, sometimes with too many separators, or too few."""
     text = rng.choice(["", "", "", "^", "\x1d", "^^"])
     for ai in rng.choices(AIS, k=rng.choice([0, 1, 1, 2, 2, 3, 4, 8])):
         told = value(rng, ai)
@@ -89,7 +89,7 @@ def number(rng):
 
 
 def message(rng):
-    """A text of a scanner, of which one in ten is damaged, with anything at its end."""
+    """A text of a scanner, one in ten damaged, with anything at its end."""
     kind = rng.random()
     front = rng.choice(TAKEN if rng.random() < 0.95 else IDENTIFIERS)
     if kind < 0.3:
@@ -109,7 +109,7 @@ def message(rng):
 
 
 def coded(rng, text, chance):
-    """A text with some bytes as percent codes: those that part a URI mostly, others by this chance."""
+    """A text with some bytes as percent codes: delimiters of a URI mostly, others with this probability."""
     return "".join(
         f"%{ord(it):{rng.choice(['02x', '02X'])}}" if rng.random() < (0.97 if it in "/%?#&" else chance) else it for it in text
     )
@@ -201,7 +201,7 @@ def known_rows():
 
 
 class Rows:
-    """Rows of which it is known what they say, by their fields."""
+    """Rows whose answers are known, by their fields."""
 
     def __init__(self):
         self.known = known_rows()
@@ -221,7 +221,7 @@ class Rows:
         return field
 
     def answer(self, field, as_pairs):
-        """What is answered to a field, also to one that noise made: blank, or with too few runs for a symbol."""
+        """The answer to a field, also to one of noise: blank, or with too few runs for a symbol."""
         told = self.said.get(field)
         if told is None:
             count = field.count(b" ") + 1

@@ -1,7 +1,7 @@
-"""The page in headless Chromium beside its tasks: damaged and hostile lists, old browsers, where it is served, what it asks of a network,
-axe-core, time, and the pictures of the documents.
+"""Tests the page in headless Chromium: damaged and hostile lists, old browsers, a server, its network requests, accessibility (axe-core) and
+time. Makes the pictures of the documents.
 
-Usage: check.py PROGRAM WORK EXAMPLES. PROGRAM is gs1_hub, and EXAMPLES the folder where the pictures are left. Its last line is the counts.
+Usage: page_qualities.py PROGRAM WORK EXAMPLES. PROGRAM is gs1_hub, and EXAMPLES the folder for the pictures. Its last line is the counts.
 """
 import base64
 import functools
@@ -21,7 +21,7 @@ import zipfile
 
 import brotli
 from browser import Browser
-from counts import before_others, ended, same, texts
+from comparisons import before_others, ended, same, texts
 from PIL import Image, ImageFilter
 from readback import ROOT, articles, listed
 
@@ -52,7 +52,7 @@ def sentence(key, *values, language="en"):
 
 
 def make(page, text):
-    """Puts a list in, and waits until all is drawn."""
+    """Enters a list, and waits until everything is drawn."""
     page.value(f"showTask('labels'), setList({json.dumps(text)}), document.made")
 
 
@@ -61,7 +61,7 @@ def told(page):
 
 
 def choose(page, field, path):
-    """Chooses a list's file, and waits until it is taken."""
+    """Chooses a list's file, and waits until the page has read it."""
     page.value("document.taken = null")
     page.files(field, path)
     page.until("document.taken !== null")
@@ -71,7 +71,7 @@ def choose(page, field, path):
 # ---- lists
 
 def bad_lists(page):
-    """Files that are no lists are told of, and what was typed stays."""
+    """The page reports files that are no lists, and keeps what was typed."""
     typed = listed(articles(3))
     make(page, typed)
     files = {"large.csv": (b"4012345010008;x\n" * 7_000_000, sentence("tooLarge", "16,777,216")), "book.xlsx": (b"PK\x03\x04" + bytes(99), sentence("spreadsheet")),
@@ -96,7 +96,7 @@ def bad_lists(page):
 
 
 def hard_lists(page):
-    """Long names, other scripts, copies, a label that is too narrow, columns that are put right by hand."""
+    """Long names, other scripts, copies, a label that is too narrow, columns corrected by hand."""
     make(page, f"ean;name\n96385074;{'W' * 10_000}\n")
     same("a name of 10,000 letters", (told(page)[0], sentence("cut", "")[:40] in page.text("warnings")), ("1 label on 1 sheet", True))
     make(page, "ean;name;price\n96385074;שלום עולם;₪ 3.50\n4012345010008;冷たい緑茶 500ml;¥150\n4012345010374;Żółta gęś 🍎;3,50 zł\n")
@@ -130,7 +130,7 @@ PIECES = ['"', ";", ",", "\t", "\n", "\0", "\ufeff", "(01)", "^", "ü", "9" * 30
 
 
 def damaged_lists(page, count):
-    """Damaged lists on all stock: what is drawn was read again, and each other line has its text; nothing is thrown."""
+    """Damaged lists on all stock: the page reads again what it draws, has a text for each other line, and throws nothing."""
     chance, lists = random.Random(5), []
     for _ in range(count):
         text = listed(chance.sample(articles(40), 4)) if chance.random() < 0.7 else "gs1;name;copies;kind\n(01)09501101530003(10)A;Kiste;2;\n]C110AB^17261231;b;;gs1128\n"
@@ -162,7 +162,7 @@ def damaged_lists(page, count):
 
 
 def planted(page):
-    """Wrong drawings: none is shown as good."""
+    """Wrong drawings: the page shows none as good."""
     make(page, listed(articles(20)))
     for what, script in (("a bar a dot wider", "boxes[3][2]++"), ("a bar a dot further", "boxes[5][0]++"), ("a bar less", "boxes.pop()"), ("a bar in the quiet zone", "boxes.push([boxes[0][0] - 8, boxes[0][1], 4, boxes[0][3]])"),
                          ("a short bar", "boxes[7][3] = Math.floor(boxes[7][3] / 3)"), ("a text in the quiet zone", "texts.push({ text: '9', size: 40, left: boxes[0][0] - 12, base: boxes[0][1] + 60, width: 9 })"),
@@ -180,7 +180,7 @@ def planted(page):
 
 
 def remembers(page):
-    """Each number of a refusal has its text in each language; the language and the task are remembered."""
+    """Each error has a text in each language; the page remembers the language and the task."""
     with open(f"{ROOT}/docs/FAULTS.md", encoding="utf-8") as file:
         numbers = sorted(set(re.findall(r"^\| (\d+) [A-Z]", file.read(), re.MULTILINE)), key=int)
     for language in TEXTS:
@@ -256,7 +256,7 @@ def old_browsers():
 
 
 def is_packed():
-    """The zip has the page and all that it names, is small, and opens from a folder like that of a USB stick; without its module it says so."""
+    """The zip has the page and all files that it names, is small, and opens from a folder. Without its module the page says so."""
     stick = os.path.join(os.path.abspath(WORK), "USB stick ü")
     with zipfile.ZipFile(f"{ROOT}/page/out/noriladle-page.zip") as packed:
         packed.extractall(stick)
@@ -317,7 +317,7 @@ def runs_in_node():
     calls.append(["read", base64.b64encode(image).decode()])
     lines = answer("scan", *"--columns 2 --rows 3 --module 2 --width 480 --height 120 --workers 1 --year 2026".split(), text=image).decode().splitlines()
     wanted.append(sorted(line.split(" ", 2)[2] for line in lines))
-    done = subprocess.run(["node", f"{ROOT}/tests/page/calls.js"], input=json.dumps(calls).encode(), stdout=subprocess.PIPE, check=True)
+    done = subprocess.run(["node", f"{ROOT}/tests/page/calls_in_node.js"], input=json.dumps(calls).encode(), stdout=subprocess.PIPE, check=True)
     for call, got, want in zip(calls, json.loads(done.stdout)["answers"], wanted):
         if call[0] == "symbol" and got.startswith("symbol"):
             _, _, left, _, widths = got.split(" ")
@@ -341,7 +341,7 @@ class Handler(http.server.SimpleHTTPRequestHandler):
 
 
 def served():
-    """From a server the page can be installed, and opens once the server is gone; it asks for its own files alone."""
+    """From a server the page can be installed, and opens after the server is gone. It requests only its own files."""
     server = http.server.ThreadingHTTPServer(("127.0.0.1", 0), functools.partial(Handler, directory=f"{ROOT}/page"))
     threading.Thread(target=server.serve_forever, daemon=True).start()
     url = f"http://127.0.0.1:{server.server_port}/index.html"
@@ -368,7 +368,7 @@ def served():
 
 
 def keeps_to_itself(page):
-    """The page asks no network, and its policy forbids all but its own files."""
+    """The page makes no network requests, and its policy allows only its own files."""
     same("what is asked of a network", [it for it in page.asked if not re.match("file:|data:|blob:", it)], [])
     policy = page.value("document.querySelector('meta[http-equiv=Content-Security-Policy]').content")
     same("the policy", policy, "default-src 'none'; script-src 'self' 'wasm-unsafe-eval'; style-src 'self'; img-src 'self' data: blob:; media-src blob:; manifest-src 'self'; worker-src 'self'; base-uri 'none'; form-action 'none'")

@@ -1,4 +1,4 @@
-"""What the lists of this folder ask for, worked out by no part of noriladle."""
+"""Works out the labels that the lists of this folder ask for, without any part of noriladle."""
 import csv
 import re
 
@@ -18,7 +18,7 @@ def gtin12(upce):
 
 
 class Label:
-    """A label that is wanted: its kind, what a reader says of it, the digits under its bars, its name and its price."""
+    """A wanted label: its kind, a reader's answer, the digits under its bars, its name and its price."""
 
     def __init__(self, row):
         number, elements = re.sub(r"[ -]", "", row.get("ean") or ""), row.get("gs1") or ""
@@ -38,12 +38,12 @@ class Label:
         self.copies = int(row.get("copies") or 1)
 
 
-# What stands behind these Application Identifiers has a length that is predefined (GS1 General Specifications, 7.8.5).
+# The values of these Application Identifiers have a predefined length (GS1 General Specifications, 7.8.5).
 FIXED = {"00": 18, "01": 14, "02": 14, "17": 6, "3103": 6}
 
 
 def elements_of(text):
-    """An element string without separators, and as people read it."""
+    """An element string without separators, and in the form for people."""
     if text[0] == "^":
         pairs, rest = [], text[1:].replace("^", "")
         for ai in ("01", "3103", "17"):  # The one such text of cases.csv.
@@ -58,7 +58,7 @@ def elements_of(text):
 
 
 def labels_of(path):
-    """The labels of a list, each as often as it is wanted."""
+    """The labels of a list, with all copies."""
     with open(path, encoding="utf-8") as file:
         rows = [Label(row) for row in csv.DictReader(file, delimiter=";")]
     return [label for label in rows for _ in range(label.copies)]

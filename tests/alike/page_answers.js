@@ -1,4 +1,4 @@
-// Answers lines from standard input as lines.c does, by the page's scripts.
+// Answers lines from standard input as c_answers.c does, with the page's scripts.
 "use strict";
 
 const fs = require("fs"), path = require("path"), vm = require("vm");
