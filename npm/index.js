@@ -1,4 +1,4 @@
-// GS1 barcodes for Node and browsers: what the calls of the proved library answer, as values of JavaScript.
+// GS1 barcodes for Node and browsers: turns the answers of the proved library into values of JavaScript.
 import { aiAt, associations, doubts, elementOf, needsSeparator } from "./elements.js";
 import { MODULE } from "./module.js";
 import { Gs1 as Calls, greyOf, pairsOf, symbolsShown } from "./page.js";
@@ -6,13 +6,13 @@ import { REMEDIES } from "./remedies.js";
 
 export { associations, doubts };
 
-// What the module has room for.
+// The largest input.
 const MOST_WIDTHS = 131_072, MOST_BYTES = 262_144, MOST_U16 = 65_535;
 
-// The identifiers of scanners behind which an element string may stand.
+// The identifiers of scanners that an element string may follow.
 const ELEMENT_STRINGS = ["]C1", "]e0", "]d2", "]Q3", "]J1"];
 
-// The refusals of a picture that is not looked at; any other says why none of its rows was read.
+// The errors of a picture that cannot be read at all. Any other says why none of its rows was read.
 const OF_THE_CALL = [17, 18, 42, 43];
 
 export class Refusal extends Error {
@@ -29,23 +29,23 @@ export class Refusal extends Error {
   get remedy() { return REMEDIES[this.number]; }
 }
 
-// The refusal that a line tells, or nothing.
+// The error that a line reports, or nothing.
 function refusalOf(line) {
   const told = /^refused (\d+) (\w+)(?: (\d+))?$/.exec(line);
   return told && new Refusal(Number(told[1]), told[2], told[3] === undefined ? undefined : Number(told[3]));
 }
 
-// A line that is no refusal.
+// A line, unless it reports an error.
 function accepted(line) {
   const refusal = refusalOf(line);
   if (refusal) throw refusal;
   return line;
 }
 
-// A number as a call takes it. What no call can take is 0, which each refuses.
+// A number for a call: 0, which every call refuses, if it is out of range.
 const u16 = (number) => (Number.isInteger(number) && number >= 0 && number <= MOST_U16 ? number : 0);
 
-// What the library reads by, as one number: 0, which it refuses, in place of a year out of range.
+// Year and AIs as the library's one number: 0, which it refuses, for a year out of range.
 function termsOf(year, { ais = "all" } = {}) {
   if (ais !== "all" && ais !== "profile") throw new RangeError(`ais is "all" or "profile", and not ${ais}`);
   if (!Number.isInteger(year) || year < 1951 || year > 2149) return 0;
@@ -56,7 +56,7 @@ class Answer {
   constructor(identifier, elements) {
     this.identifier = identifier;
     this.elements = elements;
-    // The first element with an AI stands under it.
+    // Under each AI the first element with it.
     for (const element of elements) if (!Object.hasOwn(this, element.ai)) Object.defineProperty(this, element.ai, { value: element });
   }
 
@@ -95,7 +95,7 @@ class Gs1 {
       return this.#answer(this.#ask("gs1_c_scan", ...this.#put(bytes), terms), terms);
     } catch (error) {
       if (!ELEMENT_STRINGS.includes(latin1(bytes.subarray(0, 3)))) throw error;
-      // The separator that stands first is not counted by places.
+      // Places do not count a separator at the beginning.
       throw this.#withBefore(error, bytes.subarray([0x1d, 0x5e].includes(bytes[3]) ? 4 : 3).map((byte) => (byte === 0x5e ? 0x1d : byte)), terms);
     }
   }
@@ -146,7 +146,7 @@ class Gs1 {
     return [BigInt(this.#calls.input), BigInt(bytes.length)];
   }
 
-  // Asks about the widths of a row. One above 65,535 is no u16, and is refused here, after what the call refuses first: the year and
+  // Asks about the widths of a row. A width above 65,535 is no u16, so it is refused here, but after the errors that come first: the year and
   // the number of runs.
   #askRow(call, widths, terms) {
     const row = Array.from(widths);
@@ -172,7 +172,7 @@ class Gs1 {
     }
   }
 
-  // The refusal of an element string, with what stands before its place and the AI there.
+  // The error of an element string, with the elements before its place and the AI there.
   #withBefore(error, bytes, terms) {
     if (!(error instanceof Refusal) || error.place === undefined || error.place > bytes.length) return error;
     error.ai = aiAt(latin1(bytes.subarray(error.place, error.place + 4)));
@@ -182,16 +182,16 @@ class Gs1 {
 
   #elements(pairs, terms) { return pairsOf(pairs).map((pair) => Object.freeze(elementOf(pair, this.#dated(pair, terms)))); }
 
-  // The days and the time that an element names: its value is all digits then.
+  // The days and the time that an element names. Then its value has only digits.
   #dated({ ai, value }, terms) {
     if (!/^\d{6,12}$/.test(value)) return {};
     const [told, date, time] = this.#calls.told("gs1_c_date", ...this.#put(bytesOf(`${ai}=${value}`)), terms).split(" ");
     if (told !== "date") return {};
-    // The second day of 7007 is read as another day of six digits is.
+    // Read the second day of 7007 like any other day of six digits.
     return { date, time, until: ai === "7007" && value.length === 12 ? this.#dated({ ai: "17", value: value.slice(6) }, terms).date : undefined };
   }
 
-  // Refuses what is no element, as the pair of an index.
+  // Throws the error of a pair that is no element, with its index as the place.
   #checkPair(ai, value, year, at) {
     const more = () => new Refusal(...(value.includes("\x1d") ? [7, "ValueCharacter"] : [6, "ValueLength"]), at);
     let read;
@@ -199,7 +199,7 @@ class Gs1 {
       read = this.parseElements(ai + value, year);
     } catch (error) {
       if (!(error instanceof Refusal) || error.fault === "Words") throw error;
-      // What stands behind the value of a pair is too much of it, and so is what needs a separator in a text.
+      // A value with anything after it is too long, and so is one that needs a separator in a text.
       if (error.place || ["MissingSeparator", "TooLong"].includes(error.fault)) throw more();
       throw error.fault === "Empty" ? new Refusal(5, "UnknownAi", at) : new Refusal(error.number, error.fault, at);
     }

@@ -1,4 +1,4 @@
-# Proves the crates of crates.txt, each after those that it stands on, and builds the one that is the goal. package/prove runs it.
+# Proves the crates of crates.txt, each after those that it uses, and builds the one that is the goal. package/prove runs it.
 SHELL := /bin/bash
 .SHELLFLAGS := -euo pipefail -c
 .ONESHELL .SECONDEXPANSION:
@@ -18,7 +18,7 @@ sum = { echo '$(version) $(gate)' && sed -n '/^$@[ :]/p' crates.txt && cat /dev/
     $(if $(is_arm),package/aarch64) '(' -name out -o -name must-fail ')' -prune -o -type f ! -name README.md -print0 | LC_ALL=C sort -z | \
     xargs -0 sha256sum; } | sha256sum
 # What has others beside it takes half the processors.
-places = $(if $(is_goal)$(filter digits_core scan_core hub_core command_core,$@),$(jobs),$$((($(jobs) + 1) / 2)))
+places = $(if $(is_goal)$(filter digits_core scan_core hub_core command_runs,$@),$(jobs),$$((($(jobs) + 1) / 2)))
 rattle = cd crates/$@ && "$(kit)/bin/rattle" build --crate-name $@ src/$(if $(wildcard crates/$@/src/main.rt),main,lib).rt --jobs $(places) --links $@= \
     -L "dependency=$(kit)/rlibs" -L "dependency=$(libraries)" --antt-project "$(kit)/rattle/logic/antt-project.json" --logic-built "$(kit)/logic_built" \
     $(foreach it,std $(listed),--extern "$(it)=$(if $(filter $(names),$(it)),$(libraries),$(kit)/rlibs)/$(it).rlib")

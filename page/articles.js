@@ -1,27 +1,27 @@
 // The articles of a list: what is printed on a label, and as which kind of barcode. As python/noriladle/labels/_articles.py.
 "use strict";
 
-// What a GTIN of so many digits is printed as, and a text with such an identifier of a scanner, if the list says no kind.
+// The kind of barcode for a GTIN of this many digits, and for a text with this identifier of a scanner, if the list names no kind.
 const KINDS_OF_LENGTH = { 8: "ean8", 12: "upca", 13: "ean13", 14: "itf14" };
 const KINDS_OF_IDENTIFIER = { "]E4": "ean8", "]I1": "itf14", "]C1": "gs1128", "]e0": "gs1128", "]d2": "gs1128", "]Q3": "gs1128", "]J1": "gs1128" };
 
 // The most labels of a line.
 const MOST_COPIES = 1000;
 
-// A cell with each letter in one sign, and each white space as one blank; the ends of its lines stay.
+// A cell in composed characters, with each white space as one blank. Its line ends stay.
 const plainText = (cell) => stripped(cell.normalize("NFC").replaceAll("\r", "\n").replace(/(?:[^\S\n\u00a0\ufeff]|[\x1c-\x1f\x85])+/g, " ").replace(/[^\S\ufeff]*\n[^\S\ufeff]*/g, "\n"));
 const plainLine = (cell) => plainText(cell).replaceAll("\n", " ");
 
-// A text as a fault names it.
+// A text as an error names it.
 function shortText(text) {
   const plain = text.replace(/[\p{C}\p{Z}]/gu, (sign) => sign === " " ? sign : sign === "\x1d" ? "^" : "?");
   return plain.length <= 60 ? plain : `${Array.from(plain).slice(0, 59).join("")}…`;
 }
 
-// What a person is told of a line: its text, what the module refuses, and the fault.
+// What a person reads about a line: its text, the module's error, and the fault.
 const faultOfText = (text, fault, refused = "") => ({ fault: { ...fault, refused, typed: text } });
 
-// The articles of a table, in the order of their lines; those with a fault have it.
+// The articles of a table, in the order of their lines. A faulty line has its error instead.
 const articlesOf = (table) => [...table.records.map((record) => articleOf(table, record)), ...table.faults.map(({ line, fault }) => ({ line, typed: "", name: "", fault }))]
   .sort((a, b) => a.line - b.line);
 
@@ -55,7 +55,7 @@ function symbolTold(text, named) {
   return { kind, text: gtin, answer };
 }
 
-// What a text is printed as if the list says no kind. A scanner sends the eight digits of a UPC-E as it sends an EAN-13.
+// The kind of barcode for a text, if the list names no kind. A scanner sends the eight digits of a UPC-E with the identifier of an EAN-13.
 function usualKind(text, { identifier }) {
   if (isElements(text) && !identifier) return "gs1128";
   const digits = digitsOf(identifier ? text.slice(3) : text);

@@ -1,7 +1,7 @@
-// Reads what a camera shows: until two frames agree, or one code after another.
+// Reads the frames of a camera: until two agree, or one code after another.
 "use strict";
 
-// The milliseconds between two frames where the browser does not tell of them, and the most that it is waited for one.
+// Milliseconds between two frames, if the browser does not announce them, and the longest wait for one.
 const PAUSE = 30, LONGEST = 1000;
 
 let stream, starting = false;
@@ -24,7 +24,7 @@ async function startCamera() {
     at("read-fault").textContent = t("cameraNoServer");
     return;
   }
-  // While a person is asked, the button asks no second time; it keeps the focus.
+  // While the browser asks the person, the button does not ask again; it keeps the focus.
   if (starting) return;
   starting = true;
   try {
@@ -54,7 +54,7 @@ async function startCamera() {
   await readFrames();
 }
 
-// A frame of the camera as a picture, which another follows.
+// A frame of the camera as a picture.
 function frameOf(video) {
   const canvas = new OffscreenCanvas(video.videoWidth, video.videoHeight);
   const pen = canvas.getContext("2d", { willReadFrequently: true });
@@ -62,7 +62,7 @@ function frameOf(video) {
   return { ...greyOf(pen.getImageData(0, 0, canvas.width, canvas.height)), image: canvas, name: "" };
 }
 
-// Waits for the next frame of the video, and says whether there is one; where the browser tells of none, for a while.
+// Waits for the next frame of the video, and says whether there is one. If the browser announces none, waits for a while.
 function nextFrame(video) {
   return new Promise((done) => {
     if (video.requestVideoFrameCallback) video.requestVideoFrameCallback(() => done(true));
@@ -70,8 +70,7 @@ function nextFrame(video) {
   });
 }
 
-// Reads frame by frame; where two that follow each other show the same, the second is held and the camera ends; or its codes are kept,
-// and the camera goes on.
+// Reads frame by frame. If two in a row show the same, it holds the second and ends the camera; in a series it keeps the codes and goes on.
 async function readFrames() {
   const mine = stream;
   let before = "";

@@ -1,4 +1,4 @@
-// The task "check": what stands on a box, what a scanner sends or types, or a list of both, answered line by line.
+// The task "check": answers texts from a box, from a scanner or from a list, line by line.
 "use strict";
 
 const CHECK_EXAMPLES = {
@@ -12,16 +12,16 @@ const SCANNED = { "]E0": "EAN/UPC", "]E4": "EAN-8", "]C1": "GS1-128", "]I1": "IT
 
 const MOST_OPEN = 12, MOST_ANSWERS = 500;
 
-// Who types at least so many signs, each within so many milliseconds, is a scanner.
+// A scanner types at least this many characters, each within this many milliseconds on average.
 const LEAST_SCANNED = 7, QUICK = 35;
 
-// The answers to the lines, and what was typed since the last end of a line, and since when.
+// The answers to the lines; what was typed since the last line end, and since when.
 let answers = [], typing = { count: 0, since: 0 };
 
-// What a line is, and what it says; or its fault.
+// The kind of a line and what it says; or its error.
 function answerOf(text, line) {
   const answer = { line, typed: text, kind: kindOf(text) }, said = readText(text);
-  // A scanner that takes the keyboard for an American one types ] as +.
+  // On a German keyboard, a scanner that is set to an American one types ] as +.
   if (/^\+[A-Za-z]\d/.test(text)) return { ...answer, kind: "scanner", fault: { key: "layout" } };
   if (said.fault) return { ...answer, fault: said.fault };
   if (said.refused) return { ...answer, fault: { ...remedyOf(text, said.refused), refused: said.refused } };
@@ -36,7 +36,7 @@ function kindOf(text) {
   return KINDS_OF_LENGTH[length] && /^[0-9]+$/.test(digitsOf(text)) ? `GTIN-${length}` : "gtin";
 }
 
-// The answers to a text: of a table those to its columns of numbers.
+// The answers to a text; for a table, to its columns of numbers.
 function answersTo(text) {
   if (!text.trim()) return [];
   try {
@@ -93,7 +93,7 @@ function fixButton({ line, typed, fault }) {
 
 const scans = () => at("scans").checked;
 
-// Each key: many quick ones before an end of a line are a scanner's, whose answers come newest first, with a tone.
+// Each key. Many quick ones before a line end come from a scanner: its answers appear newest first, with a tone.
 function noteKey(event) {
   // The separator, byte 29, comes as Ctrl+].
   if (event.ctrlKey && (event.key === "]" || event.code === "BracketRight")) {
@@ -108,7 +108,7 @@ function endLine(event) {
   const isScanner = typing.count >= LEAST_SCANNED && event.timeStamp - typing.since < QUICK * typing.count;
   typing = { count: 0, since: 0 };
   if (isScanner) at("scans").checked = true;
-  // What the key types is there after it.
+  // The field has the key's character only after this event.
   if (scans()) setTimeout(() => { check(); toneOf(answers.at(-1)); });
 }
 
@@ -123,7 +123,7 @@ const checkedRows = () => [[t("csvLine"), t("csvTyped"), t("csvKind"), t("thAi")
 const checkedJson = () => JSON.stringify(answers.map(({ line, typed, kind, fault, elements }) => ({ line, text: typed, kind,
   ...(fault ? { fault: { ...(fault.refused ? refusalOf(fault.refused) : {}), remedy: remedyText(fault), fix: fault.fix } } : { elements: asData(elements) }) })), null, 2);
 
-// Elements as data: a day as it is written in all languages.
+// Elements as data, with days in the international form.
 const asData = (elements) => elements.map(({ ai, title, value, meaning }) => ({ ai, title, value, date: core.date(ai, value), meaning: meaning || undefined }));
 
 async function takeTexts(file) {

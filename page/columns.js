@@ -1,19 +1,20 @@
-// Which column of a list is what: by the headings that spreadsheets have, in the languages of shop/shop.json, or by the cells. As
+// Finds what each column of a list is: by headings in the languages of shop/shop.json, or by the cells. As
 // python/noriladle/_columns.py.
 "use strict";
 
 const HEADINGS = SHOP.headings, MEANINGS = Object.keys(HEADINGS);
 
-// What each heading means, and how well it says so: the less the better.
+// What each heading means, and its rank: a lower one is better.
 const KNOWN = new Map([...MEANINGS].reverse().flatMap((meaning) => HEADINGS[meaning].map((word, rank) => [word, { meaning, rank }])));
 
-// What makes a heading that begins with a word for the name one of article numbers.
+// Words that turn a heading such as "article" into one of article numbers.
 const NUMBER_WORDS = new Set(SHOP.numbers);
 
-// What no list may have twice, since nobody can say which is meant.
+// Meanings that no list may have twice, since nobody can say which column is meant.
 const ONCE = ["gtin", "gs1", "copies", "kind"];
 
-// The heading is among so many records; the rank of one that begins with a known word, and goes on; so many records say what a column is.
+// The heading is one of this many records; the rank of a heading that begins with a known word and has more; how many records decide what a
+// column is.
 const MOST_TITLES = 10, LONGER = 100, SAMPLE = 200;
 
 const PRICE = /^[^\p{Nd}\s]{0,3}\s?\p{Nd}{1,6}[.,]\p{Nd}{2}\s?[^\p{Nd}\s]{0,4}$/u;
@@ -22,7 +23,7 @@ const FOLDED = { ł: "l", ø: "o", ß: "ss" };
 // A heading in small letters, without accents, blanks and signs.
 const plainHeading = (heading) => heading.toLowerCase().replace(/[łøß]/g, (sign) => FOLDED[sign]).normalize("NFKD").replace(/[^\p{L}\p{N}]/gu, "");
 
-// What a heading means, if it or its first word is known, and how well it says so.
+// What a heading means, if it or its first word is known, and its rank.
 function knownHeading(heading) {
   const whole = KNOWN.get(plainHeading(heading));
   if (whole) return whole;
@@ -35,7 +36,7 @@ const isRightCell = (cell) => !!readText(cell).elements;
 
 const oneBlank = (text) => trimmed(text).replace(WHITE, " ");
 
-// A list by one of the delimiters that it may have: the columns that are known by headings, and that of the numbers by the cells.
+// A list read by one of its possible delimiters: the columns known by headings, and the column of the numbers by its cells.
 class Look {
   constructor(sheet, chosen) {
     [this.sheet, this.chosen] = [sheet, chosen];
@@ -50,11 +51,11 @@ class Look {
 
   isHeading(meanings) { return "gtin" in meanings || "gs1" in meanings; }
 
-  // How well the list reads so. Of equals the first is taken, and whole lines are first.
+  // How well the list reads with this delimiter. Of equals the first wins, and whole lines come first.
   rank() { return [Number(this.isHeading(this.headed)), Object.keys(this.headed).length, this.right, this.looking]; }
 
-  // What the cells of a record mean if it is a heading: for each meaning how well a cell says so, and its column. A record that has a
-  // right number is no heading, whatever the name of its article.
+  // What the cells of a record mean if it is a heading: for each meaning the rank and the column. A record with a valid number is no
+  // heading, whatever its article is called.
   meanings({ cells }) {
     const found = {};
     if (cells.some((cell) => looksRight(cell) && isRightCell(cell))) return found;
@@ -65,13 +66,13 @@ class Look {
     return found;
   }
 
-  // The columns by their headings: of those with one meaning the best, but all that are free lines.
+  // The columns by their headings: for each meaning the best one, and all free lines.
   found() {
     const found = this.meanings(this.first), better = (a, b) => a[0] - b[0] || a[1] - b[1];
     for (const places of Object.values(found)) places.sort(better);
     for (const meaning of ONCE) {
       const [best, other] = found[meaning] ?? [];
-      // A heading that says more, such as EAN of the case, gives way to one that is a known word.
+      // A heading with more words, such as "EAN of the case", loses against one that is a known word.
       if (!other || meaning in this.chosen || Math.floor(best[0] / LONGER) !== Math.floor(other[0] / LONGER)) continue;
       const [first, second] = [best[1], other[1]].sort((a, b) => a - b).map((place) => oneBlank(this.first.cells[place]));
       throw Object.assign(new Faults(faultAt(this.first.line, "twice", first, second, meaning)), { look: this });
@@ -80,7 +81,7 @@ class Look {
       [meaning, meaning === "line" ? places.map(([, place]) => place).sort((a, b) => a - b) : [places[0][1]]]));
   }
 
-  // How many cells of a column are right, and how many look like numbers at all; and the column.
+  // How many cells of a column are valid numbers, and how many look like numbers; and the column.
   score(place) {
     const looking = this.sample.map(({ cells }) => cells[place] ?? "").filter(looksRight);
     return [looking.filter(isRightCell).length, looking.length, place];
@@ -108,7 +109,7 @@ class Look {
     return isWord && this.records.length > 1 && (this.right > 0 || Object.keys(this.headed).length > 0);
   }
 
-  // Adds the column of prices, if just one is mostly written so, and that of names, which has most letters.
+  // Adds the column of prices, if exactly one looks like prices, and that of names, which has most letters.
   guess(places, records) {
     const taken = new Set(Object.values(places).flat()), free = Array.from({ length: this.wide }, (_, place) => place).filter((place) => !taken.has(place));
     const cells = new Map(free.map((place) => [place, records.filter((it) => place < it.cells.length).map((it) => trimmed(it.cells[place]))]));
@@ -125,7 +126,7 @@ const isBetter = (a, b) => {
   return at >= 0 && a[at] > b[at];
 };
 
-// The table of a list; `chosen` has what a person says of columns: the place for a meaning, or -1.
+// The table of a list. `chosen` has what a person chose for columns: the index for a meaning, or -1.
 function tableOf(text, chosen = {}) {
   if (text.length > LIMIT) throw tooLarge();
   const sheets = sheetsOf(text), looks = sheets.filter(({ records }) => records.length).map((sheet) => new Look(sheet, chosen));
@@ -133,5 +134,5 @@ function tableOf(text, chosen = {}) {
   return looks.reduce((best, look) => isBetter(look.rank(), best.rank()) ? look : best).table();
 }
 
-// What a record has in a column: nothing if it is too short, or if there is no such column.
+// The cell of a record in a column: empty if the record is too short, or if there is no such column.
 const cellIn = ({ places }, { cells }, meaning) => cells[(places[meaning] ?? []).find((place) => place < cells.length)] ?? "";

@@ -1,4 +1,4 @@
-// The questions that the page asks the proved module beside those of gs1.js, and what its lines say in words.
+// The page's calls of the proved module, beside those of gs1.js, and the meaning of its lines in words.
 "use strict";
 
 let gs1;
@@ -6,7 +6,7 @@ let gs1;
 const core = {
   year: new Date().getFullYear(),
 
-  // What the module reads by: the year, and every Application Identifier.
+  // The year, and every Application Identifier.
   get terms() { return Gs1.everyAi | core.year; },
 
   gtin: (text) => gs1.told("gs1_c_gtin", ...gs1.put(text)),
@@ -16,23 +16,23 @@ const core = {
   // The symbols of a row by the ends of its runs.
   find: (ends) => gs1.find(ends, core.terms),
 
-  // What a picture of grey values shows, by a person's own level or by its own.
+  // What a picture of grey values shows, by a chosen level or by its own.
   picture: (picture, level) => symbolsShown(gs1.picture(picture, level, core.terms)),
 
-  // What has no room in the module's memory is too long for any code.
+  // A text without room in the module's memory is too long for any code.
   scan: (text) => text.length > 65536 ? "refused 11 TooLong" : gs1.told("gs1_c_scan", ...gs1.put(text), core.terms),
 
-  // The day of an element, as 2026-12-31 or with a time behind it; or nothing.
+  // The day of an element, as 2026-12-31, perhaps with a time after it; or nothing.
   date: (ai, value) => gs1.told("gs1_c_date", ...gs1.put(`${ai}=${value}`), core.terms).match(/^date (.*)$/)?.[1],
 };
 
-// The number, the name and the place of a refusal.
+// The number, the name and the place of an error.
 function refusalOf(line) {
   const [, number, name, place] = line.match(/^refused (\d+) (\w+)(?: (\d+))?/) ?? [];
   return { number: Number(number), name, place: place === undefined ? undefined : Number(place) };
 }
 
-// What a value says to a person, beyond its digits: a day, a weight, an amount of money, countries, a place; or nothing.
+// What a value means for a person, beyond its digits: a day, a weight, an amount of money, countries, a place; or nothing.
 function meaningOfElement({ ai, value }) {
   const day = core.date(ai, value), number = numberOf(ai, value), place = placeOf(ai, value);
   if (day) return ai === "7007" && value.length === 12 ? `${inWords(day)} – ${inWords(core.date("17", value.slice(6)))}` : inWords(day);

@@ -7,7 +7,7 @@ const places = (number) => String(Math.round(number * 100) / 100);
 
 // ---- SVG
 
-// A label's bars as one path, and its texts, each fitted to its width so that another font makes no difference.
+// A label's bars as one path, and its texts, each fitted to its width, so another font makes no difference.
 function svgOfLabel({ left, top, drawing }) {
   const path = drawing.boxes.map(([x, y, width, height]) => `M${x} ${y}h${width}v${height}h${-width}z`).join("");
   const texts = drawing.texts.map((text) => {
@@ -27,7 +27,7 @@ function svgOfPage(page, stock, dots, below = "") {
 
 // ---- dots
 
-// Draws a text as the browser's fonts have it, as wide as its pieces are to be.
+// Draws a text in the browser's fonts, with its pieces at their widths.
 function paintText(pen, text) {
   pen.font = `${text.isBold ? "bold " : ""}${text.size}px ${FAMILY}`;
   [pen.textAlign, pen.textBaseline] = ["left", "alphabetic"];
@@ -71,7 +71,7 @@ const CRCS = Uint32Array.from({ length: 256 }, (_, byte) => {
   return byte;
 });
 
-// A PNG with its resolution: a chunk pHYs behind its head, which has 33 bytes.
+// A PNG with its resolution: a chunk pHYs after its 33 bytes of head.
 function withResolution(png, dpi) {
   const chunk = new DataView(new ArrayBuffer(21));
   chunk.setUint32(0, 9);
@@ -101,8 +101,7 @@ async function pngOfPage(page, stock, dpi) {
 
 // ---- ZPL
 
-// A label for a printer that takes ZPL: a box for each bar, and all texts as one field of dots, so that no font of the printer's is
-// asked.
+// A label as ZPL: a box for each bar, and all texts as one field of dots, so it needs no font of the printer's.
 function zplOfLabel(drawing, { width, height }, copies) {
   const boxes = drawing.boxes.map(([x, y, wide, high]) => `^FO${x},${y}^GB${wide},${high},${Math.min(wide, high)}^FS`);
   return ["^XA", `^PW${width}`, `^LL${height}`, "^LH0,0", ...boxes, zplOfTexts(drawing.texts, width, height), `^PQ${copies}`, "^XZ", ""].join("\n");
@@ -137,7 +136,7 @@ function zplOfRow(row) {
 
 // ---- PDF
 
-// So many dots of a box's edges are left out of PDF, since some renderers blacken each dot that a box only touches.
+// How many dots PDF lacks at each edge of a box, since some programs blacken every dot that a box touches.
 const INSET = 0.05;
 
 // The byte of each sign in PDF's WinAnsiEncoding.
@@ -148,7 +147,7 @@ async function deflated(bytes) {
   return new Uint8Array(await new Response(new Blob([bytes]).stream().pipeThrough(new CompressionStream("deflate"))).arrayBuffer());
 }
 
-// A PDF file, object by object; those that are streams are compressed.
+// A PDF file, object by object. Streams are compressed.
 class Pdf {
   constructor() { [this.parts, this.size, this.at] = [[], 0, []]; this.put("%PDF-1.4\n%âãÏÓ\n"); }
 
@@ -179,7 +178,7 @@ class Pdf {
   }
 }
 
-// All pages as one PDF, which asks to be printed at its size. Texts with signs that Helvetica lacks are pictures.
+// All pages as one PDF, which asks for printing at 100 %. Texts with characters that Helvetica lacks are pictures.
 async function pdfOf(pages, stock, dots) {
   const pdf = new Pdf(), point = 72 / 25.4 / dots, [width, height] = [stock.page.width, stock.page.height].map((length) => places(length * 72 / 25.4));
   let next = 5;

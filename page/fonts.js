@@ -1,5 +1,5 @@
-// The font of labels, Helvetica or what has its widths (Arial, Liberation Sans), which every PDF reader has: how wide texts are
-// in it, in thousandths of their size, and how they fill lines. As python/noriladle/_fonts.py.
+// The font of labels, Helvetica or one with its widths (Arial, Liberation Sans), which every PDF reader has: the widths of texts, in
+// thousandths of their size, and how they fill lines. As python/noriladle/labels/_fonts.py.
 "use strict";
 
 const FAMILY = "Arial, Helvetica, 'Liberation Sans', sans-serif";
@@ -74,28 +74,28 @@ const WIDTH_OF = Object.fromEntries(Object.entries(WIDTHS).map(([name, widths]) 
 
 const measure = document.createElement("canvas").getContext("2d");
 
-// Whether PDF's own Helvetica has all signs of a text.
+// Whether PDF's own Helvetica has all characters of a text.
 const isLatin = (text) => Array.from(text).every((sign) => WIDTH_OF.bold.has(sign));
 
-// How wide a text is in the unit of its size; of signs beyond Western Europe by the browser's font.
+// The width of a text in the unit of its size; for characters beyond Western Europe by the browser's font.
 function widthOfText(text, isBold) {
   if (isLatin(text)) return Array.from(text).reduce((sum, sign) => sum + WIDTH_OF[isBold ? "bold" : "regular"].get(sign), 0);
   measure.font = `${isBold ? "bold " : ""}100px ${FAMILY}`;
   return measure.measureText(text).width / 100;
 }
 
-// From line to line, in sizes; and what is longer has no room on any label.
+// The distance of lines, in sizes; and the most characters of a text: a longer one has no room on any label.
 const PITCH = 1.12, MOST_LETTERS = 300;
 
-// The words of a text, each with the blanks behind it, how wide it is with and without them, and whether it begins a paragraph. A
-// hyphen ends a word too; a number and its unit stay together.
+// The words of a text, each with the blanks after it, its widths with and without them, and whether it begins a paragraph. A hyphen ends a
+// word too; a number and its unit stay together.
 function wordsOf(text, isBold) {
   const kept = text.slice(0, MOST_LETTERS).replace(/(\d) (?=[^\s\d]{1,2}(?:\s|$))/g, "$1\u00a0");
   return kept.split("\n").flatMap((line) => (line.match(/[^ \t-]*-+(?=[\p{L}\p{N}_])|[^ \t]+[ \t]*|[ \t]+/gu) ?? []).map((word, place) =>
     ({ text: word, wide: widthOfText(word, isBold), bare: widthOfText(word.trimEnd(), isBold), isFirst: !place })));
 }
 
-// The lines of words, each of as many as have room, and how wide the widest is.
+// The lines of words, each with as many as have room, and the width of the widest.
 function filled(words, width) {
   const lines = [];
   let at = 0, widest = 0;
@@ -108,7 +108,7 @@ function filled(words, width) {
   return { lines: lines.map((line) => line.trimEnd()).filter(Boolean), widest };
 }
 
-// A line in pieces that have room: of one that is a word too long.
+// A line that is one word too long, cut into pieces that have room.
 function broken(line, isBold, width) {
   const pieces = [""];
   let at = 0;
@@ -121,8 +121,8 @@ function broken(line, isBold, width) {
   return pieces;
 }
 
-// A text in few lines of a width: in one more only if it would else be smaller than three quarters of the largest size, and in at
-// most so many. What has no room in the smallest size is cut.
+// A text in few lines of this width. It takes one more line, up to the most, only if the size would otherwise be below three quarters of
+// the largest. What has no room in the smallest size is cut.
 function fittedText(text, isBold, width, largest, smallest, most) {
   const made = (lines, size, isCut) => ({ lines, size, isBold, isCut, height: lines.length * size * PITCH,
     width: Math.max(0, ...lines.map((line) => widthOfText(line, isBold) * size)) });
@@ -131,7 +131,7 @@ function fittedText(text, isBold, width, largest, smallest, most) {
     const least = count === most ? smallest : Math.max(smallest, 0.75 * largest);
     for (let size = largest; size >= least; size *= 0.97) {
       const { lines, widest } = filled(words, width / size);
-      // What just fits may be rounded up.
+      // A size that just fits may be rounded up.
       if (lines.length <= count && widest <= width / size + 1e-6) return made(lines, size, false);
     }
   }

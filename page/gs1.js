@@ -1,24 +1,23 @@
-// The calls of the module. A pointer and a count are 64 bits wide, so BigInts, in both modules: the one whose memory has 64-bit
-// addresses, and the one that was made of it for browsers without such memory. Each call answers with bytes in a buffer of the
-// page's, which stands behind the module's own memory.
+// The calls of the module. In both modules, that with 64-bit memory and that made of it for other browsers, pointers and counts have 64
+// bits, so they are BigInts. Each call writes its answer into a buffer of the page's, after the module's own memory.
 "use strict";
 
 class Gs1 {
   static kinds = ["ean13", "upca", "ean8", "upce", "gs1128", "itf14"];
 
-  // Beside a year: every Application Identifier is read.
+  // Beside a year: accept every Application Identifier.
   static everyAi = 0x8000;
 
-  // The first bytes of a module, and those of one that has a memory with addresses of 32 or of 64 bits.
+  // The first bytes of a module, and of modules with memory of 32-bit and of 64-bit addresses.
   static header = [0, 0x61, 0x73, 0x6d, 1, 0, 0, 0];
   static memories = { 32: [5, 3, 1, 0, 0], 64: [5, 3, 1, 4, 0] };
 
-  // Whether this browser runs modules whose memory has addresses of so many bits.
+  // Whether this browser runs modules whose memory has addresses of this many bits.
   static runs(bits) {
     return typeof WebAssembly === "object" && WebAssembly.validate(Uint8Array.of(...Gs1.header, ...Gs1.memories[bits]));
   }
 
-  // The module of these bytes, whose memory has addresses of so many bits.
+  // The module of these bytes, whose memory has addresses of this many bits.
   static async load(bytes, bits) {
     const { instance } = await WebAssembly.instantiate(bytes, {});
     return new Gs1(instance.exports, bits);
@@ -34,7 +33,7 @@ class Gs1 {
     this.look();
   }
 
-  // Makes the memory larger by so many pages of 64 KiB; how many it had.
+  // Enlarges the memory by this many pages of 64 KiB, and returns how many it had.
   grow(pages) { return Number(this.calls.memory.grow(this.bits === 64 ? BigInt(pages) : pages)); }
 
   look() {
@@ -64,7 +63,7 @@ class Gs1 {
   // A text's place and length.
   put(text) { return [BigInt(this.input), BigInt(new TextEncoder().encodeInto(text, this.bytes).written)]; }
 
-  // The symbols of a row, from the left: the first run, how many runs and the line of each. Run i goes from `ends[i - 1]`, or 0, up to
+  // The symbols of a row, from left to right: the first run, the number of runs and the line of each. Run i goes from `ends[i - 1]`, or 0, up to
   // `ends[i]`, which is at most 65,535; the first and the last one are light.
   find(ends, terms) {
     for (let i = 0; i < ends.length; i++) this.words[i] = ends[i] - (i ? ends[i - 1] : 0);
@@ -72,8 +71,8 @@ class Gs1 {
     return Array.from(lines.matchAll(/(\d+) (\d+) (.*)\n/g), ([, first, runs, line]) => ({ first: Number(first), runs: Number(runs), line }));
   }
 
-  // The lines of a picture of grey values, a level or 0 for its own. They stand behind the room for an answer, and the memory that the
-  // picture is read in behind them.
+  // The lines of a picture of grey values, by a level or 0 for its own. The grey values follow the room for an answer, and the working memory
+  // follows them.
   picture({ width, height, grey }, level, terms) {
     const words = Number(this.calls.gs1_c_picture_room(width, height));
     let end = this.output + this.room;
@@ -93,8 +92,8 @@ class Gs1 {
   }
 }
 
-// The symbols that the lines of a picture tell, in the order of reading, each with its corners, how many rows show it and what it says;
-// or, of a picture without one, the line that says why.
+// The symbols in the lines of a picture, in reading order, each with its corners, how many rows show it and what it says; for a picture
+// without a symbol, the line that says why.
 function symbolsShown(lines) {
   if (!lines.endsWith("\n")) return { symbols: [], reason: lines };
   const symbols = Array.from(lines.matchAll(/^((?:\d+ ){8})(\d+) (.*)$/gm), ([, places, rows, said]) => {

@@ -1,10 +1,10 @@
-// The task "labels": a price list becomes sheets of labels of the chosen stock, seen at once, printed or saved.
+// The task "labels": makes sheets of labels on the chosen stock from a price list; shows, prints and saves them.
 "use strict";
 
-// What is chosen by hand of the columns, the sheet that is shown, what was made last, and how often something was.
+// The columns that a person chose, the sheet on show, what was made last, and how often.
 const shop = { chosen: {}, page: 0, made: null, turns: 0, zoom: "fit" };
 
-// The most labels of a list, and the columns that a person may put right.
+// The most labels of a list, and the columns that a person may correct.
 const MOST_LABELS = 10000, COLUMNS = ["gtin", "gs1", "name", "price", "line", "copies", "kind"];
 
 const MOST_FAULTS_SHOWN = 40, MOST_NAME_TOLD = 80, OUTPUTS = ["print", "pdf", "png", "svg", "zpl"];
@@ -25,7 +25,7 @@ const firstCell = (stock) => Math.min(stock.cells, Math.max(1, Math.trunc(Number
 
 // ---- making
 
-// An article with its symbol and the dots of a module; or its fault.
+// An article with its symbol and the dots of a module; or its error.
 function itemOf(article, cell, module) {
   if (article.fault) return article;
   const symbol = symbolOf(article);
@@ -48,7 +48,7 @@ function listRead() {
   }
 }
 
-// Draws all labels, and in between lets the page be used. A later turn ends an earlier one.
+// Draws all labels, with pauses in which the page can be used. A later run ends an earlier one.
 async function makeLabels() {
   const turn = ++shop.turns, from = performance.now(), stock = stockChosen();
   at("own-fault").textContent = stock ? "" : t("ownFault");
@@ -57,11 +57,11 @@ async function makeLabels() {
   const items = [], labels = [], faults = [], each = eachInTime(turn, from);
   showColumns(columns);
   if (!await each(articles, (article) => items.push(itemOf(article, cell, Number(at("module").value))))) return;
-  // Cases have other labels than what is sold.
+  // Cases have other labels than articles.
   const good = items.filter(({ fault }) => !fault), isCase = ({ symbol }) => !symbol.form.groups.length;
   const plans = [false, true].map((isOne) => planOf(good.filter((item) => isCase(item) === isOne), cell));
   shop.made = { stock, dpi, cell, labels, faults, isDone: false };
-  // What is half drawn is neither printed nor saved.
+  // Half-drawn labels are neither printed nor saved.
   for (const id of OUTPUTS) at(id).disabled = true;
   const drawn = (item) => {
     const drawing = item.fault ? item : drawLabel(item, plans[Number(isCase(item))]);
@@ -69,7 +69,7 @@ async function makeLabels() {
     if (labels.length + item.copies > MOST_LABELS) return faults.push({ ...item, fault: { key: "manyLabels", values: [MOST_LABELS] } });
     const before = labels.length;
     for (let i = 0; i < item.copies; i++) labels.push(drawing);
-    // The first sheet is shown as soon as it is full.
+    // Show the first sheet as soon as it is full.
     if (before < stock.cells && labels.length >= stock.cells) showSheet();
   };
   if (!await each(items, drawn)) return;
@@ -78,7 +78,7 @@ async function makeLabels() {
   showLabels();
 }
 
-// Does something with each of a list, and tells how far it is; whether it was done with all of them.
+// Does something with each item of a list, and shows the progress. Returns whether it did all of them.
 function eachInTime(turn, from) {
   let last = from;
   return async (list, work) => {
@@ -113,7 +113,7 @@ const allPages = () => Array.from({ length: pageCount() }, (_, number) => pageOf
 
 const svgElement = (text) => document.importNode(new DOMParser().parseFromString(text, "image/svg+xml").documentElement, true);
 
-// The edges of the labels, on the screen alone; those before the first free one are used up.
+// The edges of the labels, only on the screen. Labels before the first free one are used up.
 function gridOf(stock, dots, used) {
   return Array.from({ length: stock.cells }, (_, cell) => {
     const { left, top } = stock.place(cell), [x, y, width, height] = [left, top, stock.width, stock.height].map((length) => places(length * dots));
@@ -169,7 +169,7 @@ function faultItem({ line, typed, name, fault }) {
     make("div", {}, make("p", { class: "typed" }, make("span", { class: "mono" }, shown || "–"), name ? ` ${shortText(name)}` : ""), make("p", {}, remedyText(fault), " ", make("span", { class: "code" }, faultName(fault))), use));
 }
 
-// Warnings that are the same are told once, with how many labels they are of and the worst of them.
+// Shows equal warnings once, with the number of labels and the worst of them.
 function showWarnings() {
   const told = new Map();
   for (const { warnings } of new Set(shop.made.labels)) {
@@ -181,7 +181,7 @@ function showWarnings() {
   at("warnings").replaceChildren(...[...told.values()].map(({ count, worst }) => make("li", {}, `${many("labelCount", count)}: ${remedyText(worst)}`)));
 }
 
-// What the columns are, to be put right by hand.
+// What the columns are, for correction by hand.
 function showColumns(found) {
   const { wide, headings, places } = found ?? { wide: 0, headings: [], places: {} }, nameOf = (place) => headings[place] || t("columnNo", place + 1);
   at("columns").hidden = !wide;
@@ -212,7 +212,7 @@ function goToLine(line) {
   list.scrollTop = (line - 3) * parseFloat(getComputedStyle(list).lineHeight);
 }
 
-// Puts the right number in place of the wrong one.
+// Replaces the wrong number by the right one.
 function mend(line, typed, right) {
   const list = at("list"), { from } = spanOfLine(line), place = list.value.indexOf(typed, from);
   if (place < 0) return goToLine(line);
@@ -222,11 +222,11 @@ function mend(line, typed, right) {
   document.made = makeLabels();
 }
 
-// The text of a file; or nothing, and why is said there: what was typed stays.
+// The text of a file; or nothing, and the page says why. What was typed stays.
 async function textOf(file, place) {
   at(place).textContent = "";
   try {
-    // One byte more says that there are too many.
+    // Read one byte more, to notice that there are too many.
     return decoded(new Uint8Array(await file.slice(0, LIMIT + 1).arrayBuffer()));
   } catch (error) {
     at(place).textContent = error instanceof Faults ? `${file.name}: ${remedyText(error.faults[0].fault)}` : t("noFile", file.name);
@@ -243,7 +243,7 @@ async function takeList(file) {
 
 function setList(text) {
   at("list-fault").textContent = "";
-  // A text field has no other ends of lines.
+  // A text field has no other line ends.
   at("list").value = text.replace(/\r\n?/g, "\n");
   [shop.chosen, shop.page] = [{}, 0];
   document.made = makeLabels();
@@ -253,7 +253,7 @@ function setList(text) {
 
 const paper = new CSSStyleSheet();
 
-// Puts all pages on paper: where a page has its size from.
+// Prints all pages, at the size of the stock.
 function preparePrint() {
   document.body.classList.toggle("sheets", !at("labels").hidden);
   document.adoptedStyleSheets = at("labels").hidden ? [] : [paper];
@@ -280,7 +280,7 @@ const SAVES = {
   pdf: async ({ stock, dpi }) => { save(await pdfOf(allPages(), stock, DOTS_IN_MM[dpi]), "labels.pdf", "application/pdf"); note(t("saved")); },
   svg: ({ stock, dpi }) => savePages("svg", "image/svg+xml", (page) => new TextEncoder().encode(svgOfPage(page, stock, DOTS_IN_MM[dpi]))),
   png: ({ stock, dpi }) => savePages("png", "image/png", (page) => pngOfPage(page, stock, dpi)),
-  // One after another, each once with how many there are to be of it.
+  // One after another, each once, with its number of copies.
   zpl: async ({ cell, labels }) => {
     const drawings = [...new Set(labels)], parts = [];
     for (const [i, drawing] of drawings.entries()) {
@@ -308,7 +308,7 @@ function fillStocks() {
   at("stock").value = STOCKS[chosen] || chosen === "own" ? chosen : "3474";
 }
 
-// The modules that a printer has, in whole dots.
+// The modules that a printer can print, in whole dots.
 function fillModules() {
   const stock = stockChosen(), dots = DOTS_IN_MM[stock ? dpiFor(stock) : 300], before = at("module").value;
   const options = modulesAllowed({ form: { modules: SHOP.modules.cases } }, dots).map((module) => new Option(t("moduleOption", module, (module / dots).toLocaleString(language, { maximumFractionDigits: 3 })), module));

@@ -1,17 +1,17 @@
-// Where the parts of a label stand: the name above, the bars below, and the price beside or above them. One unit, the printer's
-// dot: a module is a whole number of dots, and each bar a box of whole dots. As python/noriladle/labels/_layout.py.
+// The layout of a label: the name above, the bars below, and the price beside or above them. The unit is the printer's dot: a module is a
+// whole number of dots, and each bar a box of whole dots. As python/noriladle/labels/_layout.py.
 "use strict";
 
 const GAP_MM = 0.9, LEAST_BARS_MM = 5, LEAST_PRICE_MM = 15, LOGISTIC_MM = 0.495;
 const between = (least, length, most) => Math.max(least, Math.min(length, most));
 
-// A label before anything is on it; so much stays white at its sides, and above and below. Lengths are dots.
+// An empty label, and how much stays white at its sides, above and below. Lengths are dots.
 function cellOf(stock, dots) {
   const [width, height] = [stock.width, stock.height].map((length) => Math.floor(length * dots)), [aside, above] = [stock.aside, stock.above].map((length) => length * dots);
   return { dots, width, height, aside, above, room: width - 2 * aside, bottom: height - above, high: height / dots };
 }
 
-// How wide a label is to be. Quiet zones may lie in what stays white at its sides, but for those with digits in them.
+// The width that a label needs. Quiet zones may lie in the white at its sides, unless digits stand in them.
 function neededFor({ form, widths, modules }, module, aside) {
   const quiet = form.groups.length ? 0 : Math.min(widths[0], widths.at(-1));
   return module * modules + 2 * Math.max(0, aside - module * quiet);
@@ -23,7 +23,7 @@ function modulesAllowed({ form }, dots) {
   return Array.from({ length: Math.max(0, Math.floor(most * dots + 1e-6) - first + 1) }, (_, i) => first + i);
 }
 
-// The dots of a module: those that are asked for, or nearest to what is wanted, of those that are allowed and have room; or 0.
+// The dots of a module: the chosen number, or of the numbers that are allowed and have room that nearest to the wanted width; or 0.
 function moduleOf(symbol, cell, asked) {
   const fitting = modulesAllowed(symbol, cell.dots).filter((module) => neededFor(symbol, module, cell.aside) <= cell.width);
   if (asked && fitting.includes(asked)) return asked;
@@ -34,7 +34,7 @@ function moduleOf(symbol, cell, asked) {
 // Lengths in mm, as people read them.
 const length1 = (value) => ({ number: value, places: 1 }), length3 = (value) => ({ number: value, places: 3 });
 
-// What to do where no module has room.
+// What to do if no module has room.
 function tooWide(symbol, cell) {
   const finest = Math.max(...Object.keys(DOTS_IN_MM)), dots = DOTS_IN_MM[finest], aside = cell.aside / cell.dots;
   const module = modulesAllowed(symbol, cell.dots)[0] / cell.dots, least = modulesAllowed(symbol, dots)[0] / dots;
@@ -59,7 +59,7 @@ function commonSize(largest, sizes) {
   return sizes.filter((size) => size >= 0.6 * middle).reduce((least, size) => Math.min(least, size), largest);
 }
 
-// The label of an article: boxes and texts, the first and the last row of its bars, and what to warn of; or its fault.
+// The label of an article: boxes and texts, the first and the last row of its bars, and warnings; or its error.
 function drawLabel(item, plan) {
   const { cell } = plan, drawing = { boxes: [], texts: [], warnings: [], item }, wide = item.symbol.modules * item.module;
   const isBeside = wide <= plan.column && (item.price || item.lines.length);
@@ -70,7 +70,7 @@ function drawLabel(item, plan) {
   return isRight(drawing, cell) ? drawing : { fault: { key: "misdrawn" } };
 }
 
-// Puts a block below a height, and says where it ends.
+// Puts a block below a height, and returns where it ends.
 function putBlock(drawing, block, left, top, width, align = 0) {
   if (block.isCut) drawing.warnings.push({ key: "cut", values: [block.lines.join(" ")], rank: 0 });
   block.lines.forEach((text, i) => {
@@ -84,7 +84,7 @@ function nameBlock({ name }, width, { high, dots }) {
   return fittedText(name, true, width, largest * dots, Math.max(1.9, 0.6 * largest) * dots, high < 60 ? 2 : 3);
 }
 
-// Puts the name, the price right of it and the lines below them, and says where they end.
+// Puts the name, the price right of it and the lines below them, and returns where they end.
 function putHead(drawing, item, { cell, above }) {
   const price = fittedText(item.price, true, 0.48 * cell.room, above, 2.2 * cell.dots, 1), left = cell.room - price.width - (item.price ? cell.dots : 0);
   let top = Math.max(putBlock(drawing, price, cell.aside + cell.room - price.width, cell.above - 0.08 * price.size, price.width, 1),
@@ -97,7 +97,7 @@ function putHead(drawing, item, { cell, above }) {
   return top;
 }
 
-// Puts the price right of the bars, and the lines below it, down to the label's end; or answers why not.
+// Puts the price right of the bars, and the lines below it, down to the label's end; or returns why it cannot.
 function putPrice(drawing, item, { cell, column, beside }, top) {
   const left = cell.aside + column + cell.dots, width = cell.width - cell.aside - left, size = between(1.9, 0.085 * cell.high, 5) * cell.dots;
   const lines = item.lines.map((line) => fittedText(line, false, width, size, 0.6 * size, 2));
@@ -108,7 +108,7 @@ function putPrice(drawing, item, { cell, column, beside }, top) {
   return null;
 }
 
-// Puts the bars and their digits at the label's lower end, below a height; or answers why not.
+// Puts the bars and their digits at the label's lower end, below a height; or returns why it cannot.
 function putSymbol(drawing, { symbol, module }, cell, left, top) {
   const { form } = symbol, isRetail = form.groups.length > 0, { under, digits } = (isRetail ? retailDigits : otherDigits)(symbol, module, cell);
   const nominal = form.high * (isRetail ? module / form.modules[1] : cell.dots), high = Math.floor(Math.min(nominal, cell.bottom - under - top - GAP_MM * cell.dots));
@@ -130,7 +130,7 @@ function retailDigits({ form, widths, digits }, module) {
     { text: digits.slice(first, first + count), size: size * Math.min(1, wide / 7), left: left + (widths[0] + at) * module, base: bottom, width: count * wide * module, cell: wide * module })) };
 }
 
-// Digits or elements in the middle, in as few lines as they fill; an element is parted only where it is too long.
+// Digits or elements in the middle, in as few lines as possible. An element is split only if it is too long.
 function otherDigits(symbol, module, { dots }) {
   const wide = symbol.modules * module, text = symbol.kind === "gs1128" ? symbol.elements.map(({ ai, value }) => `(${ai})${value}`).join(" ") : symbol.digits;
   const block = fittedText(text, false, wide, 3.4 * dots, 2.2 * dots, 3);
@@ -141,7 +141,7 @@ function otherDigits(symbol, module, { dots }) {
 // ---- each drawing is read again
 
 // Whether three rows through the bars, and those with a text beside them, begin with the symbol and its quiet zones, and the proved module
-// reads just this one in each, and in it what the list says.
+// reads exactly this symbol in each, which says what the list says.
 function isRight(drawing, { width }) {
   const { symbol, module } = drawing.item, wanted = symbol.widths.map((run) => run * module), [first, last] = drawing.bars, end = wanted.length - 1;
   const beside = drawing.texts.map(({ base, size }) => Math.floor(base - size / 3)).filter((y) => first <= y && y < last);
@@ -152,7 +152,7 @@ function isRight(drawing, { width }) {
   });
 }
 
-// The ends of the runs of a row, light first and last; a text is as dark as its field.
+// The ends of the runs of a row, light first and last. A text counts as dark over its whole field.
 function endsOf({ boxes, texts }, y, width) {
   const darks = boxes.filter(([, top, , height]) => top <= y && y < top + height).map(([left, , wide]) => [left, left + wide]), ends = [0];
   for (const text of texts) {
@@ -167,7 +167,7 @@ function endsOf({ boxes, texts }, y, width) {
   return [...ends.slice(1), width];
 }
 
-// How a text that stands in one piece begins, and how wide it is; or the middle of each of its signs.
+// Where a text in one piece begins, and its width; or the middle of each of its characters.
 function piecesOf({ text, size, isBold, left, width, align = 0, cell }) {
   if (cell) return Array.from(text, (sign, i) => ({ text: sign, middle: left + (i + 0.5) * cell, wide: widthOfText(sign, isBold) * size }));
   const wide = widthOfText(text, isBold) * size;

@@ -1,8 +1,8 @@
-// Lists as people save and paste them: plain lines, or the CSV of any spreadsheet, as records with their lines' numbers. As
-// python/noriladle/_lists.py, and so for each list the same.
+// Reads lists as people save and paste them, plain lines or the CSV of any spreadsheet, as records with line numbers. It reads every list as
+// python/noriladle/_lists.py does.
 "use strict";
 
-// The most bytes of a list, and the delimiter of one that has a cell a line: no text has it.
+// The most bytes of a list, and the delimiter of one with one cell a line: a character that no text has.
 const LIMIT = 16777216, WHOLE_LINES = "\x1f";
 
 const MOST_CELL = 1000000, DELIMITERS = [WHOLE_LINES, ";", "\t", ","];
@@ -10,10 +10,10 @@ const MOST_CELL = 1000000, DELIMITERS = [WHOLE_LINES, ";", "\t", ","];
 const OTHER_FILES = [["PK\x03\x04", "spreadsheet"], ["\xd0\xcf\x11\xe0", "spreadsheet"], ["%PDF-", "pdf"], ["\x89PNG", "picture"],
   ["\xff\xd8\xff", "picture"], ["\x1f\x8b", "packed"]];
 
-// The signs of the bytes 128 to 159 in Windows' own encoding of Western Europe, which five of them do not have.
+// The characters of the bytes 128 to 159 in Windows-1252. Five of them have none there.
 const WINDOWS = "€\ufffd‚ƒ„…†‡ˆ‰Š‹Œ\ufffdŽ\ufffd\ufffd‘’“”•–—˜™š›œ\ufffdžŸ";
 
-// What is wrong with a list: faults, each with its line, counted from 1.
+// The errors of a list, each with its line, counted from 1.
 class Faults extends Error {
   constructor(...faults) {
     super("faults");
@@ -21,12 +21,12 @@ class Faults extends Error {
   }
 }
 
-// A fault is a text of shop/, by its name or the number of a refusal, with values; a value may be a fault.
+// An error is a text of shop/, by its name or number, with values. A value may be another error.
 const faultAt = (line, key, ...values) => ({ line, fault: { key, values } });
 
 const tooLarge = () => new Faults(faultAt(1, "tooLarge", LIMIT));
 
-// The text of a file: UTF-8, UTF-16 by its mark, or else Windows' own encoding of Western Europe.
+// The text of a file: UTF-8, UTF-16 with its mark, or else Windows-1252.
 function decoded(bytes) {
   if (bytes.length > LIMIT) throw tooLarge();
   const head = String.fromCharCode(...bytes.subarray(0, 8)), other = OTHER_FILES.find(([magic]) => head.startsWith(magic));
@@ -41,8 +41,8 @@ function decoded(bytes) {
   }
 }
 
-// The list by each delimiter that it may have: by the one that its first line tells, as `sep=;`, or by each that stands in it, after
-// whole lines.
+// The list read with each delimiter that it may have: only the one that its first line names, as in `sep=;`; else whole lines, and then each
+// delimiter that occurs in it.
 function sheetsOf(text) {
   const told = text.match(/^sep=([^\n])[ \t]*(\r\n|\n|\r|$)/u);
   const sheets = told ? [sheetOf(text.slice(told[0].length), told[1], 2)]
@@ -51,7 +51,7 @@ function sheetsOf(text) {
   return sheets;
 }
 
-// The records that are not empty, of a text that begins with this line, and the lines that are none (RFC 4180; a line ends as it likes).
+// The records of a text that are not empty, and the lines that are none (RFC 4180, with any line ends). The first line has this number.
 function sheetOf(text, delimiter, first) {
   const lines = text.match(/[^\r\n]*(?:\r\n|\r|\n)|[^\r\n]+$/g) ?? [], records = [], faults = [];
   for (let next = 0; next < lines.length;) {
@@ -63,7 +63,7 @@ function sheetOf(text, delimiter, first) {
   return { delimiter, records, faults };
 }
 
-// The cells of the record that begins with a line, or nothing where it is no CSV, and the line behind.
+// The cells of the record that begins with a line, or nothing if it is no CSV, and the line after it.
 function recordAt(lines, next, delimiter) {
   const line = lines[next];
   if (!line.includes('"')) {

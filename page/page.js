@@ -7,7 +7,7 @@ function stop(problem) {
   document.querySelector("main").hidden = true;
 }
 
-// The modules of page/build by the bits of their addresses, the one that was proved first.
+// The modules of page/build by the bits of their addresses. The proved one comes first.
 const modules = () => ({ 64: typeof GS1_WASM === "string" && GS1_WASM, 32: typeof GS1_WASM_32 === "string" && GS1_WASM_32 });
 
 // On a telephone the camera comes first.
@@ -26,7 +26,7 @@ function changeLanguage(chosen) {
   at("camera-text").textContent = t(stream ? "stopCamera" : "useCamera");
 }
 
-// All fields of the year are one.
+// All fields of the year have one value.
 function changeYear({ target }) {
   if (!target.checkValidity() || !target.value) return;
   core.year = Number(target.value);
@@ -40,7 +40,7 @@ function changeYear({ target }) {
   tellRead();
 }
 
-// Where the page is served it may be installed, and opens without the server. From a file it is whole as it is.
+// A served page can be installed, and then opens without the server. A page from a file needs nothing.
 function serve() {
   if (!/^https?:$/.test(location.protocol) || !isSecureContext) return;
   document.head.append(make("link", { rel: "manifest", href: "manifest.json" }));

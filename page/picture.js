@@ -5,10 +5,10 @@
 const BETWEEN = "(?:[ \\t\\n\\v\\f\\r]|#[^\\r\\n]*[\\r\\n])+";
 const HEADER = new RegExp(`^P4${BETWEEN}(\\d{1,5})${BETWEEN}(\\d{1,5})[ \\t\\n\\v\\f\\r]`);
 
-// The most dots of a picture that is made of images.
+// The most pixels of a picture that is made of images.
 const MOST_DOTS = 2 ** 28;
 
-// The images of a PBM file (P4), one below another, as pixels; or nothing where it is none, or they are too many.
+// The images of a PBM file (P4), one below another, as pixels; or nothing if it is none, or has too many.
 function pixelsOfPbm(bytes) {
   const images = [];
   for (let from = 0; from < bytes.length;) {
@@ -36,7 +36,7 @@ function pixelsOfPbm(bytes) {
   return { width, height, grey };
 }
 
-// The grey values of a picture's pixels; what is clear is white.
+// The grey values of a picture's pixels. Transparent ones are white.
 function greyOf({ width, height, data }) {
   const grey = new Uint8Array(width * height);
   const pixels = new Uint32Array(data.buffer, data.byteOffset, grey.length);

@@ -1,16 +1,16 @@
-// The task "read": photographs of labels, dropped, pasted, chosen or from the camera, and what they say.
+// The task "read": reads photographs that are dropped, pasted, chosen or from the camera.
 "use strict";
 
-// The pictures that were taken, the newest first; a series of the camera is one of them, with no picture, its newest code first.
+// The pictures, newest first. A series of the camera is one of them, without a picture, its newest code first.
 let pictures = [], isTable = false;
 
-// What tells of a line's symbol, and the colours of the marks: dark on a light edge, to be seen on any picture.
+// The colours of the marks: dark on a light edge, visible on any picture.
 const MARK = "#0b6e4f", MARK_EDGE = "#ffffff";
 
-// So many pictures are kept with what they say, and so many to be looked at; more than so many at once are first shown as a table.
+// How many results are kept, and how many pictures to look at; more pictures at once than the last are first shown as a table.
 const MOST_PICTURES = 2000, MOST_SHOWN = 40, MOST_CARDS = 8;
 
-// Reads a picture, the one place where the module is asked: its symbols in the order of reading, and the refusal where it has none.
+// Reads a picture; only this calls the module. Returns its symbols in reading order, and the error if it has none.
 function readPicture(taken) {
   const from = performance.now(), { symbols: seen, reason } = core.picture(taken, taken.level ?? 0);
   taken.symbols = seen.map(({ said, corners, rows }) => {
@@ -21,10 +21,10 @@ function readPicture(taken) {
   taken.passed = performance.now() - from;
 }
 
-// What to do about a picture without a symbol: `none` says that no row of it was like one.
+// What to do about a picture without a symbol; `none` if no row of it looked like one.
 const unread = ({ refused }) => remedyText({ key: refused === "none" ? "noSymbol" : refusalOf(refused).number });
 
-// What stands under the bars, and what they are called.
+// The text under the bars, and the name of the kind.
 function shownOf(line) {
   const mark = line.slice(0, 3), gtin = line.slice(8);
   if (mark === "]E4") return { kind: "EAN-8", says: gtin.slice(6) };
@@ -80,7 +80,7 @@ function cardOf(picture) {
   return make("li", { class: "picture" }, make("div", { class: "photo" }, canvas, name), make("div", { class: "said" }, list, again));
 }
 
-// Reads a picture with a person's own level, and shows it anew.
+// Reads a picture with a level that a person chose, and shows it again.
 function readAgain(picture, level) {
   picture.level = level;
   readPicture(picture);
@@ -100,7 +100,7 @@ function symbolItem({ line, pairs }, number) {
   return make("li", {}, make("p", { class: "symbol" }, no, name, button), make("p", { class: "mono long" }, says), elementsTable(elements));
 }
 
-// Corners with a margin of so many dots around them.
+// Corners with a margin of this many pixels around them.
 function widened(corners, margin) {
   const [right, down] = [1, 2].map((i) => {
     const [x, y] = [corners[i].x - corners[i - 1].x, corners[i].y - corners[i - 1].y], length = Math.hypot(x, y) || 1;
@@ -112,7 +112,7 @@ function widened(corners, margin) {
   });
 }
 
-// Draws the picture, and around each symbol a frame with its number, which covers none of it.
+// Draws the picture, and around each symbol a frame with its number that covers none of it.
 function mark(canvas, picture) {
   const pen = canvas.getContext("2d");
   [canvas.width, canvas.height] = [picture.width, picture.height];
@@ -156,7 +156,7 @@ const readTexts = () => pictures.flatMap(({ symbols: seen }) => seen.map(({ line
 
 // ---- taking
 
-// A file as a picture; or nothing where it is none.
+// A file as a picture; or nothing if it is none.
 async function pictureOf(file) {
   const pbm = pixelsOfPbm(new Uint8Array(await file.arrayBuffer()));
   if (pbm) return { ...pbm, image: null };
@@ -171,7 +171,7 @@ async function pictureOf(file) {
 
 let takes = 0;
 
-// Takes files as pictures, one after another, and tells of those that are none; pictures that are taken later end it.
+// Reads files as pictures, one after another, and names those that are none. Later pictures end this.
 async function take(...files) {
   if (!files.length || !files[0]) return say("noPicture");
   at("read-fault").textContent = "";
@@ -191,11 +191,11 @@ async function take(...files) {
   at("read-fault").textContent = others.length ? t("notPictures", others.join(", ")) : "";
 }
 
-// Reads a picture and shows it behind those that were taken with it, and before all that were there.
+// Reads a picture, and shows it after those that came with it and before all earlier ones.
 function takePicture(one, taken = [], before = pictures) {
   readPicture(one);
   pictures = [...taken, one, ...before].slice(0, MOST_PICTURES);
-  // Of the older ones what they say is kept alone.
+  // Older pictures keep only their results.
   for (const old of pictures.slice(MOST_SHOWN)) if (old.grey) { [old.grey, old.image] = [null, old.image?.close?.()]; delete old.card; }
   tellRead();
   return one;
@@ -215,7 +215,7 @@ async function takeClipboard() {
   }
 }
 
-// Files go where they belong: pictures to be read, lists to the task that is shown.
+// Files go where they belong: pictures to "read", lists to the task on show.
 function takeFiles(files) {
   const images = files.filter(({ type, name }) => type.startsWith("image/") || /\.(pbm|jpe?g|png|webp|heic)$/i.test(name));
   if (images.length) return take(...images);
@@ -238,7 +238,7 @@ function listenToRead() {
   });
   for (const name of ["dragover", "dragleave", "drop"]) {
     addEventListener(name, (event) => {
-      // Text that is dropped goes where it was dropped.
+      // Dropped text goes where it was dropped.
       if (!event.dataTransfer.types.includes("Files")) return;
       event.preventDefault();
       document.body.classList.toggle("over", name === "dragover");

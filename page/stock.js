@@ -1,11 +1,10 @@
-// Label stock: where labels lie on a sheet, or one after another on a roll, in millimetres. The stock that is known stands in
-// shop/shop.json: columns and rows of labels of a width and a height, the gaps between them, and the page; of a roll the width and the
-// height alone.
+// Label stock: where labels lie on a sheet, or one after another on a roll, in millimetres. Known stock is in shop/shop.json: columns, rows,
+// width and height of labels, the gaps between them, and the page; for a roll only width and height.
 "use strict";
 
 const STOCKS = { ...SHOP.sheets, ...SHOP.rolls };
 
-// The stock of such a text; or nothing where it is none, is larger than its page, or has no label of a usable size.
+// The stock of such a text; or nothing if it is none, is larger than its page, or has no label of a usable size.
 function stockOf(text) {
   const length = "(\\d{1,4}(?:\\.\\d{1,4})?)", { unprinted, least, most } = SHOP.label;
   const told = text.match(RegExp(`^(?:(\\d{1,2})x(\\d{1,2}):)?${length}x${length}(?:\\+${length}\\+${length})?(?:@(\\w+))?$`));
@@ -17,7 +16,7 @@ function stockOf(text) {
   const own = Math.min(5, Math.max(1.2, 0.06 * height)), edge = columns * rows > 1 ? unprinted : 0;
   return {
     isRoll, page: { name, width: wide, height: high }, columns, rows, width, height, cells: columns * rows,
-    // So much of each label stays white at its sides, and above and below.
+    // How much stays white at the sides of each label, and above and below.
     aside: Math.max(own, edge - left), above: Math.max(own, edge - top),
     // The left and the upper edge of a cell; cells count row by row.
     place: (cell) => ({ left: left + cell % columns * (width + gapX), top: top + Math.floor(cell / columns) * (height + gapY) }),

@@ -1,18 +1,18 @@
-// Symbols as labels show them: the proved module's bars in modules, and the digits that people read under them.
+// Symbols on labels: the proved module's bars in modules, and the digits for people under them.
 "use strict";
 
-// Dots in a millimetre by a printer's dots an inch, and in a metre as PNG has them.
+// Dots per millimetre by a printer's dots per inch, and per metre as in PNG.
 const DOTS_IN_MM = Object.fromEntries(Object.entries(SHOP.dots).map(([name, dots]) => [name, dots / 25.4]));
 const RESOLUTIONS = { 203: 8000, 300: 11811, 600: 23622 };
 
-// Of each kind, beside its bars: the least, the wanted and the largest module and the height of bars in mm; the modules of bars that go down
-// between the digits; and the digits in groups: the first, how many, the module where its cell begins, from the first bar on, and how wide a
-// cell is (GS1 General Specifications, 5.2 to 5.4 and 5.12.3).
+// For each kind, beside its bars: the least, the wanted and the largest module and the height of bars in mm; the modules of bars that go down
+// between the digits; and the digits in groups: the first, how many, the module where its cell begins, counted from the first bar, and the
+// width of a cell (GS1 General Specifications, 5.2 to 5.4 and 5.12.3).
 const FORMS = Object.fromEntries(Object.entries(SHOP.forms).map(([kind, form]) => [kind, { ...form, modules: SHOP.modules[form.modules] }]));
 
 const KIND_NAMES = { ean13: "EAN-13", upca: "UPC-A", ean8: "EAN-8", upce: "UPC-E", gs1128: "GS1-128", itf14: "ITF-14" };
 
-// The symbols that were asked for, by kind, year and text.
+// The symbols so far, by kind, year and text.
 const symbols = new Map();
 
 // The symbol of an article: its widths in modules, light first and last, what it says and the digits under it; or why there is none.
@@ -22,7 +22,7 @@ function symbolOf({ kind, text, answer }) {
   return symbols.get(key);
 }
 
-// The symbol of a text as the module has it.
+// The symbol of a text, from the module.
 function newSymbol(kind, text, { elements }) {
   const line = core.symbol(kind, text);
   if (line.startsWith("refused")) return { refused: line };
@@ -31,7 +31,7 @@ function newSymbol(kind, text, { elements }) {
   return { kind, form: FORMS[kind], widths, modules: widths.reduce((sum, width) => sum + width, 0), says, elements, digits };
 }
 
-// Of each bar its first module from the first bar's on, its width, and whether it is a long one.
+// For each bar its first module, counted from the first bar, its width, and whether it is a long one.
 function barsOf({ widths, form }) {
   const bars = [];
   for (let i = 1, at = 0; i < widths.length; i += 2) {

@@ -1,4 +1,4 @@
-// Texts as people type and paste them: numbers, element strings as they are printed, and what scanners send. As
+// Reads texts as people type and paste them: numbers, printed element strings, and what scanners send. As
 // python/noriladle/_texts.py.
 "use strict";
 
@@ -9,7 +9,7 @@ const LINK = /^https?:\/\//i, ROUNDED = /^\p{Nd}([.,]\p{Nd}+)?E\+?\p{Nd}+$/iu;
 const WHITE = /(?:[^\S\ufeff]|[\x1c-\x1f\x85])+/g, WHITE_ENDS = RegExp(`^${WHITE.source}|${WHITE.source}$`, "g");
 const trimmed = (cell) => cell.replace(WHITE_ENDS, "");
 
-// A code without white space at its ends; the separator is none.
+// A code without white space at its ends. The separator stays.
 const stripped = (text) => text.replace(/^(?:[^\S\ufeff]|[\x1c\x1e\x1f\x85])+|(?:[^\S\ufeff]|[\x1c\x1e\x1f\x85])+$/g, "");
 
 // A number without the blanks and hyphens that people put into it.
@@ -18,7 +18,7 @@ const digitsOf = (text) => text.replace(/(?:[^\S\ufeff]|[\x1c-\x1f\x85\u2010-\u2
 // Whether a text is an element string: it has parentheses around its first AI, or a separator.
 const isElements = (text) => text[0] in BRACKETED || /[\^\x1d]/.test(text);
 
-// Whether a cell is written like a text that is asked about, be it right or wrong.
+// Whether a cell looks like a number or a text that can be read, right or wrong.
 function looksRight(cell) {
   const text = stripped(cell);
   if (text && "([]^\x1d".includes(text[0])) return /^([([]\d\d|\]\w\d|[\^\x1d]\d\d)/.test(text);
@@ -26,8 +26,8 @@ function looksRight(cell) {
   return /^\p{Nd}{7,14}$/u.test(digits) || ROUNDED.test(digits) || LINK.test(text);
 }
 
-// What a text says: the identifier that a scanner sent, and the elements; or the refusal; or the fault of a text that cannot be asked
-// about at all.
+// What a text says: the identifier that a scanner sent, and the elements; or the module's error; or the fault of a text that cannot be read
+// at all.
 function readText(typed) {
   const text = stripped(typed);
   if (text[0] in BRACKETED) {
@@ -50,7 +50,7 @@ function scanned(text) {
   return { identifier: identifier === "-" ? "" : identifier, elements: pairsOf(said.slice(said.indexOf(" ") + 1)) };
 }
 
-// The AIs of a text with parentheses or brackets around each, with their values; or nothing where they stand elsewhere too.
+// The AIs of a text with parentheses or brackets around each, with their values; or nothing if there are parentheses elsewhere too.
 function bracketedPairs(text) {
   const plain = text.replace(WHITE, ""), pattern = BRACKETED[text[0]];
   return plain.replace(pattern, "") ? null : Array.from(plain.matchAll(pattern), ([, ai, value]) => ({ ai, value }));
@@ -59,7 +59,7 @@ function bracketedPairs(text) {
 // The element string of a text with parentheses or brackets around each AI, or with ^ for the separator.
 const elementString = (text) => text[0] in BRACKETED ? bracketedPairs(text).map(({ ai, value }) => ai + value).join("\x1d") : text.replaceAll("^", "\x1d");
 
-// What to do about a text that is refused: what its digits say, or else what is usual; and what would be right, where that is one thing.
+// What to do about a refused text: advice from its digits, or else the usual one; and the right text, if there is exactly one.
 function remedyOf(typed, refused) {
   const text = stripped(typed), refusal = refusalOf(refused);
   if (text[0] === "]" || LINK.test(text)) return remedyOfScan(text, refusal);
@@ -92,7 +92,7 @@ function remedyOfElements(text, refusal) {
   return remedy;
 }
 
-// What to do about a GTIN that was written without the zeros that AI 01 and 02 want.
+// What to do about a GTIN without the zeros that AI 01 and 02 need.
 function padded(ai, value) {
   const said = ai === "01" || ai === "02" ? core.gtin(value) : "", gtin = said.slice(5);
   return said.startsWith("gtin") && gtin !== value ? { key: "padded", values: [ai, gtin] } : null;

@@ -8,7 +8,7 @@ const at = (id) => document.getElementById(id);
 const LANGUAGES = Object.keys(TEXTS);
 let language = "en";
 
-// What the page remembers; in a private window perhaps nothing.
+// What the page remembers. A private window may remember nothing.
 const memory = {
   get(key) { try { return localStorage.getItem(`noriladle.${key}`); } catch { return null; } },
   set(key, value) { try { localStorage.setItem(`noriladle.${key}`, value); } catch { /* It is forgotten. */ } },
@@ -30,7 +30,7 @@ function fillLanguages(changed) {
     make("button", { type: "button", lang: name, "aria-label": TEXTS[name].page.name, onclick: () => { memory.set("language", name); changed(name); } }, name.toUpperCase())));
 }
 
-// Puts the texts of a language where `data-t` and its like say so.
+// Puts the texts of a language into the elements with `data-t` and its like.
 function speak(chosen) {
   language = LANGUAGES.includes(chosen) ? chosen : "en";
   document.documentElement.lang = language;
@@ -43,7 +43,7 @@ function speak(chosen) {
 
 // ---- elements
 
-// An element with attributes and what it holds; a class is `class`, and what begins with `on` listens.
+// An element with its attributes and contents. Attributes that begin with `on` are listeners.
 function make(name, attributes = {}, ...holds) {
   const made = document.createElement(name);
   for (const [key, value] of Object.entries(attributes)) {
@@ -54,7 +54,7 @@ function make(name, attributes = {}, ...holds) {
   return made;
 }
 
-// Parts of what is told, each with its class; those that are empty are left out.
+// The parts of a message, each with its class, without empty ones.
 const toldParts = (...parts) => parts.filter(([text]) => text).flatMap(([text, name], i) => [i ? " · " : "", make("span", { class: name }, text)]);
 
 function icon(name) {
@@ -70,7 +70,7 @@ function icon(name) {
 
 const TASKS = ["labels", "check", "read"];
 
-// Shows a task; its tab is in the address, so that a bookmark and the way back lead to it.
+// Shows a task. Its tab is in the address, so bookmarks and the back button lead to it.
 function showTask(name) {
   const task = TASKS.includes(name) ? name : TASKS[0];
   for (const one of TASKS) {
@@ -114,7 +114,7 @@ async function copy(text) {
   }
 }
 
-// A tone; where the browser gives none, nothing.
+// A tone, if the browser allows it.
 function beep(frequency, seconds) {
   try {
     const audio = new AudioContext(), tone = audio.createOscillator();
@@ -128,14 +128,14 @@ function beep(frequency, seconds) {
 
 let noted;
 
-// Says for a while what was done.
+// Shows for a while what was done.
 function note(text) {
   at("note").textContent = text;
   clearTimeout(noted);
   noted = setTimeout(() => { at("note").textContent = ""; }, 4000);
 }
 
-// Rows as CSV (RFC 4180), with the mark by which spreadsheets know UTF-8. A cell that a spreadsheet takes for a formula gets an apostrophe.
+// Rows as CSV (RFC 4180), with the mark by which spreadsheets recognize UTF-8. A cell that would be a formula gets an apostrophe.
 function csvOf(rows) {
   const text = (word) => /^[=+\-@\t\r]/.test(word) ? `'${word}` : word, quoted = (word) => /[",;\r\n]/.test(word) ? `"${word.replaceAll('"', '""')}"` : word;
   return `\ufeff${rows.map((row) => `${row.map((cell) => quoted(text(String(cell ?? "")))).join(",")}\r\n`).join("")}`;
@@ -143,7 +143,7 @@ function csvOf(rows) {
 
 // ---- elements of a text as a table
 
-// What an element is called; of weights, amounts and the like by its family.
+// The name of an element; weights, amounts and the like have that of their family.
 function titleOf(ai) {
   const titles = TEXTS[language].elements;
   return titles[ai] ?? titles[ai.slice(0, 3)] ?? (/^9[1-9]$/.test(ai) ? titles["91-99"] : AIS.get(ai)?.title || t("element"));
@@ -160,7 +160,7 @@ function elementsTable(elements) {
 
 // ---- faults
 
-// What is said of a fault, in the words of shop/: its values are texts, numbers, lengths, faults or ways, of which each serves.
+// The text of an error, from shop/. Its values are texts, numbers, lengths, other errors, or several ways out.
 function faultText({ key, values = [] }) {
   return filledText(TEXTS[language].faults[key] ?? TEXTS.en.faults[key] ?? String(key), values.map(valueText));
 }

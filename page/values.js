@@ -16,7 +16,7 @@ const isOf = (ai, ...families) => ai.length === 4 && families.includes(ai.slice(
 const isMeasure = (ai) => /^3[1-6]\d\d$/.test(ai);
 const isTemperature = (ai) => isOf(ai, "433");
 
-// Digits as a number with so many decimals, as a text that is exact.
+// Digits as a number with this many decimals, as an exact text.
 function scaled(digits, decimals) {
   const padded = digits.padStart(decimals + 1, "0"), whole = padded.slice(0, padded.length - decimals).replace(/^0+(?=\d)/, "");
   return decimals ? `${whole}.${padded.slice(-decimals)}` : whole;
@@ -47,7 +47,7 @@ function countryCodes(ai, value) {
   return ai === "4307" || ai === "4317" ? [value] : [];
 }
 
-// The countries of a value, by their two letters: those whose codes are known.
+// The countries of a value whose codes are known, by their two letters.
 const countriesOf = (ai, value) => countryCodes(ai, value).map((code) => COUNTRY_LETTERS.get(code) ?? code).filter((code) => KNOWN_COUNTRIES.has(code));
 
 // The place that 4309 names, in ten millionths of a degree from the South Pole and to the east.

@@ -1,10 +1,10 @@
-// Where the page is served: its files, kept so that it opens without the server. They are answered as they were kept, and once the page is
-// open all are asked for again, for the next time.
+// Keeps the files of a served page, so it opens without the server. It answers with the kept files, and after the page has opened fetches all
+// again for the next time.
 "use strict";
 
 const KEPT = "noriladle";
 
-// All files that the page names, or none where one is missing.
+// All files that the page names, or none if one is missing.
 async function keepFiles() {
   const page = await fetch("index.html", { cache: "no-cache" }), names = [...(await page.clone().text()).matchAll(/(?:src|href)="([^"#:]+)"/g)].map(([, name]) => name);
   const files = await Promise.all([...names, "manifest.json", "icon-512.png"].map(async (name) => [name, await fetch(name, { cache: "no-cache" })]));

@@ -1,7 +1,7 @@
 """Builds the package with the library for its processor, and names the processor in the wheel. pyproject.toml says the rest.
 
-The library is taken from where it is found first: made by the repository's python/build, put beside the module already, or packed in
-release/, as the source distribution has it.
+It takes the library from the first of these: the repository's python/build, a library beside the module, or the packed one of
+release/, which the source distribution has.
 """
 from __future__ import annotations
 

@@ -19,7 +19,7 @@ from distributed import Client, LocalCluster
 
 
 def answer(program, lanes, year, path):
-    """The answers to a file of lanes, as the program writes them, and its refusal."""
+    """The program's answers to a file of lanes, and its error."""
     with open(path, "rb") as rows:
         ran = subprocess.run([program, "lanes", "--lanes", lanes, "--workers", "1", "--year", year],
                              stdin=rows, stdout=subprocess.PIPE, stderr=subprocess.PIPE)
@@ -27,7 +27,7 @@ def answer(program, lanes, year, path):
 
 
 def tagged(path, lines):
-    """The lines, each with the file's name without its ending and a tab before it."""
+    """The lines, each after the file's name without its ending and a tab."""
     tag = path.stem.encode() + b"\t"
     return b"".join(tag + line for line in lines.splitlines(keepends=True))
 

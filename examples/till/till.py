@@ -1,12 +1,12 @@
 #!/usr/bin/env python3
-"""A till: prints a line for each scan of its lane. Usage: till.py SOCKET LANE, of `noriladle gateway` and `scanner`."""
+"""A till: prints a line for each scan of its lane. Usage: till.py SOCKET LANE, as in `noriladle gateway` and `scanner`."""
 import socket
 import sys
 import time
 
 
 def lines(path, lane):
-    """The lines of the gateway, without an end: the connection is made again whenever it ends."""
+    """The lines of the gateway, for ever: connects again whenever the connection ends."""
     while True:
         try:
             with socket.socket(socket.AF_UNIX) as gateway:

@@ -1,7 +1,7 @@
-"""GS1 barcodes: rows of a scan read, numbers and element strings checked, labels drawn.
+"""Reads GS1 barcodes, checks numbers and element strings, and draws labels.
 
-The answers are those of a library whose every call is proved against the definitions of the GS1 standards. What is
-refused is raised as a :class:`Refusal`, with its number and its name.
+Each call of the library underneath is proved against the definitions of the GS1 standards. An error is raised as a
+:class:`Refusal`, with its number and its name.
 
     >>> read_gtin("9501101530003")
     '09501101530003'
@@ -48,12 +48,12 @@ _MOST = 65_535
 _LINE = 292
 _SYMBOL = 900
 _EVERY_AI = 0x8000
-# The symbology identifiers behind which an element string may stand.
+# The symbology identifiers that an element string may follow.
 _ELEMENT_STRINGS = (b"]C1", b"]e0", b"]d2", b"]Q3", b"]J1")
 _LINE_OF_REFUSAL = re.compile(r"refused (\d+) (\w+)(?: (\d+))?")
 
 Ais = Literal["all", "profile"]
-"""Which Application Identifiers are read: every one of the GS1 General Specifications, or those of the profile."""
+"""Which Application Identifiers are accepted: every one of the GS1 General Specifications, or those of the profile."""
 
 _library = ctypes.CDLL(str(Path(__file__).with_name("libgs1.so")))
 _SIZE, _U16, _U32, _BYTES = ctypes.c_size_t, ctypes.c_uint16, ctypes.c_uint32, ctypes.c_char_p
@@ -78,11 +78,11 @@ for _name in ("row_elements", "find", "dots_elements", "find_dots", "picture", "
 
 
 class Refusal(ValueError):
-    """A question that is refused: the number and the name say why, as docs/FAULTS.md lists them.
+    """An error: its number and its name say what is wrong, as docs/FAULTS.md lists them.
 
-    ``place`` is an offset or an index, from 0, where the fault has one. ``cause`` and ``remedy`` are what the page says
-    of the number: why it comes, and what to do. ``before`` has the elements up to the place of an element string, and
-    ``ai`` the Application Identifier that stands there, if one does:
+    ``place`` is an offset or an index, from 0, if the error has one. ``cause`` and ``remedy`` are what that page says
+    about the number. For an element string, ``before`` has the elements before the place, and ``ai`` the Application
+    Identifier there, if there is one:
 
         >>> try:
         ...     parse_elements("10AB\\x1d17261331", year=2026)
@@ -115,7 +115,7 @@ class Refusal(ValueError):
 
 @lru_cache(maxsize=None)
 def _remedies() -> Dict[str, Tuple[str, str]]:
-    """The cause and the remedy of each number: tables/remedies makes the file."""
+    """The cause and the remedy of each number, from the file that tables/remedies makes."""
     import json  # Not at every start: it takes a tenth of it.
 
     told: Dict[str, Tuple[str, str]] = json.loads(Path(__file__).with_name("remedies.json").read_text("utf-8"))
@@ -123,7 +123,7 @@ def _remedies() -> Dict[str, Tuple[str, str]]:
 
 
 class Kind(enum.Enum):
-    """What a label is printed as: ``GS1128`` of an element string, the others of a GTIN."""
+    """A kind of label: ``GS1128`` shows an element string, the others a GTIN."""
 
     EAN13 = 0
     UPCA = 1
@@ -135,21 +135,20 @@ class Kind(enum.Enum):
 
 @dataclass(frozen=True)
 class Element:
-    """An element of a list: an Application Identifier and its value, with the day and the time that it names."""
+    """An element: an Application Identifier and its value, with the day and the time that it names."""
 
     ai: str
     value: str
     date: Optional[datetime.date] = None
-    """The day under the reference year, where the Application Identifier is one of a day; day 00 is the last of its
-    month."""
+    """The day by the reference year, if the Application Identifier has one; day 00 is the last of its month."""
     time: Optional[datetime.time] = None
-    """The time, where the Application Identifier is one of a time: 7003 or 8008 of the profile."""
+    """The time, if the Application Identifier has one: in the profile 7003 and 8008."""
     until: Optional[datetime.date] = field(default=None, repr=False)
-    """The last of several days, of 7007 with two days."""
+    """The second day of 7007, if it has two."""
 
     @property
     def title(self) -> str:
-        """The data title of the standard, as ``USE BY or EXPIRY``; empty if there is none."""
+        """The data title in the standard, such as ``USE BY or EXPIRY``; empty if there is none."""
         row = _values.rows().get(self.ai)
         return row.title if row else ""
 
@@ -164,7 +163,7 @@ class Element:
 
     @property
     def unit(self) -> Optional[str]:
-        """The unit of a measure, as ``kg``; ``%`` of a percentage, ``°C`` or ``°F`` of a temperature.
+        """The unit of a measure, such as ``kg``; ``%`` for a percentage, ``°C`` or ``°F`` for a temperature.
 
         >>> str(Element("4331", "001850-").number), Element("4331", "001850-").unit
         ('-18.50', '°C')
@@ -173,7 +172,7 @@ class Element:
 
     @property
     def currency(self) -> Optional[str]:
-        """The currency of an amount or a price with one (391n and 393n), as ``EUR``; None of a code that is in no list.
+        """The currency of an amount or a price that has one (391n and 393n), such as ``EUR``; None if its code is in no list.
 
         >>> Element("3932", "978000195").currency
         'EUR'
@@ -182,7 +181,7 @@ class Element:
 
     @property
     def countries(self) -> Tuple[str, ...]:
-        """The countries of a value, by their two letters (421 to 426, 4307, 4317 and 703n): those whose codes are in the list.
+        """The countries of a value, by their two letters (421 to 426, 4307, 4317 and 703n), if their codes are in the list.
 
         >>> Element("423", "276528").countries
         ('DE', 'NL')
@@ -199,7 +198,7 @@ class Element:
         return _values.place(self.ai, self.value)
 
     def to_dict(self) -> Dict[str, Any]:
-        """What there is of the element, as JSON takes it: a day as ``2026-12-31``, a number as a text."""
+        """The element for JSON: a day as ``2026-12-31``, a number as a text."""
         told = {
             "ai": self.ai, "title": self.title, "value": self.value, "date": self.date, "until": self.until,
             "time": self.time, "number": self.number, "unit": self.unit, "currency": self.currency,
@@ -216,22 +215,22 @@ class Element:
 
 @dataclass(frozen=True)
 class Answer:
-    """What a row, or a text from a scanner, says. It goes over its elements, and ``answer["17"]`` is that of an Application Identifier."""
+    """What a row, or a text from a scanner, says. Iterate over its elements; ``answer["17"]`` is that of an Application Identifier."""
 
     identifier: Optional[str]
-    """The symbology identifier: ``]E0`` of EAN-13, UPC-A and UPC-E, ``]E4`` of EAN-8, ``]I1`` of ITF-14, ``]C1`` of
+    """The symbology identifier: ``]E0`` for EAN-13, UPC-A and UPC-E, ``]E4`` for EAN-8, ``]I1`` for ITF-14, ``]C1`` for
     GS1-128, or another that a scanner sent; None if the scanner sent none."""
     elements: Tuple[Element, ...]
 
     @property
     def text(self) -> str:
-        """The human-readable line: each Application Identifier in parentheses before its value, as
-        ``(01)09501101530003``. Different elements may have one line, since a value may have parentheses."""
+        """The line for people: each Application Identifier in parentheses before its value, as
+        ``(01)09501101530003``. Different elements may have the same line, since a value may have parentheses."""
         return "".join(f"({element.ai}){element.value}" for element in self.elements)
 
     @property
     def gtin(self) -> Optional[str]:
-        """The 14 digits of the GTIN, where the first element is one."""
+        """The 14 digits of the GTIN, if the first element is one."""
         return self.elements[0].value if self.elements[0].ai == "01" else None
 
     def __getitem__(self, ai: str) -> Element:
@@ -277,8 +276,8 @@ class Found:
 
 
 class Box(NamedTuple):
-    """A part of a picture, in pixels from its left and its upper edge, as ``crop`` of Pillow takes it: ``right`` and
-    ``bottom`` are those behind the last."""
+    """A part of a picture, in pixels from its left and upper edges, as Pillow's ``crop`` takes it: ``right`` and ``bottom``
+    are one past the last pixel."""
 
     left: int
     top: int
@@ -294,14 +293,14 @@ class Symbol:
     box: Box
     """The upright box around the part of its bars that was read."""
     corners: Tuple[Tuple[float, float], ...]
-    """The four corners of this part, clockwise, each in pixels from the left and the upper edge of the picture. Its
-    sides are those of the rows that read it, which cross the bars at some angle."""
+    """The four corners of this part, clockwise, in pixels from the left and upper edges of the picture: those of a
+    rectangle along the bars."""
     rows: int
-    """How many rows through the picture say so."""
+    """How many rows of the picture show it."""
 
 
 def _ask(call: Any, *words: Any, room: int = _LINE) -> bytes:
-    """The answer to a question, as many bytes as it has; it is asked again if they are more than there is room for."""
+    """The bytes of a call's answer. If the buffer is too small, calls again with a larger one."""
     while True:
         out = ctypes.create_string_buffer(room)
         length: int = call(*words, out, room)
@@ -311,7 +310,7 @@ def _ask(call: Any, *words: Any, room: int = _LINE) -> bytes:
 
 
 def _refusal(line: str) -> Optional[Refusal]:
-    """The refusal that a line tells, where it is one."""
+    """The error that a line reports, if it does."""
     told = _LINE_OF_REFUSAL.fullmatch(line)
     if told is None:
         return None
@@ -320,7 +319,7 @@ def _refusal(line: str) -> Optional[Refusal]:
 
 
 def _with_before(refusal: Refusal, text: bytes, terms: int) -> Refusal:
-    """The refusal of an element string, with what stands before its place and the Application Identifier there."""
+    """The error of an element string, with the elements before its place and the Application Identifier there."""
     place = refusal.place
     if place is not None and place <= len(text) and refusal.name != "Words":
         refusal.ai = _values.ai_at(text[place:place + 4].decode("latin-1"))
@@ -330,7 +329,7 @@ def _with_before(refusal: Refusal, text: bytes, terms: int) -> Refusal:
 
 
 def _line(answer: bytes) -> str:
-    """The line of an answer, where it is no refusal."""
+    """The line of an answer; raises its error if it is one."""
     line = answer.decode("ascii")
     refusal = _refusal(line)
     if refusal:
@@ -339,7 +338,7 @@ def _line(answer: bytes) -> str:
 
 
 def _line_of_elements(answer: bytes, text: bytes, terms: int) -> str:
-    """The line of an answer to an element string, where it is no refusal."""
+    """The line of an answer to an element string; raises its error if it is one."""
     try:
         return _line(answer)
     except Refusal as refusal:
@@ -347,12 +346,12 @@ def _line_of_elements(answer: bytes, text: bytes, terms: int) -> str:
 
 
 def _answer(answer: bytes, terms: int) -> Answer:
-    """The answer, where it is no refusal."""
+    """The answer; raises its error if it is one."""
     return _answer_of(_line(answer), terms)
 
 
 def _answer_of(line: str, terms: int) -> Answer:
-    """The answer of a line that is no refusal: ``-`` stands for an identifier that was not sent."""
+    """The answer of a line that is no error: ``-`` stands for an identifier that was not sent."""
     identifier, _, elements = line.partition(" ")
     return Answer(None if identifier == "-" else identifier, _elements(elements, terms))
 
@@ -365,11 +364,11 @@ def _elements(pairs: str, terms: int) -> Tuple[Element, ...]:
 def _element(pair: str, terms: int) -> Element:
     """The element of a pair: no Application Identifier has an equals sign."""
     ai, _, value = pair.partition("=")
-    # A value that names a day is all digits, 6 to 12 of them: the library is not asked of any other.
+    # A value that names a day is 6 to 12 digits. The library is asked about no other.
     if not (6 <= len(value) <= 12 and value.isdecimal()):
         return Element(ai, value)
     words = _ask(_library.gs1_c_date, pair.encode("ascii"), len(pair), terms).decode("ascii").split(" ")
-    # A hub of another version may tell elements that this library refuses.
+    # A hub of another version may report elements that this library refuses.
     if words[0] != "date":
         return Element(ai, value)
     time = datetime.time.fromisoformat(words[2]) if len(words) == 3 else None
@@ -377,12 +376,12 @@ def _element(pair: str, terms: int) -> Element:
 
 
 def _day(text: str) -> Optional[datetime.date]:
-    """The day of a text; none of the year 0000, which a date of Python's does not have."""
+    """The day of a text; None in the year 0000, which Python's dates do not have."""
     return None if text.startswith("0000") else datetime.date.fromisoformat(text)
 
 
 def _until(ai: str, value: str, terms: int) -> Optional[datetime.date]:
-    """The second day of 7007, read as another day of six digits is."""
+    """The second day of 7007, read like any other day of six digits."""
     return _element(f"17={value[6:]}", terms).date if ai == "7007" and len(value) == 12 else None
 
 
@@ -400,13 +399,13 @@ def _bytes(text: Union[str, bytes]) -> bytes:
 
 
 def _u16(number: int) -> int:
-    """The number, or 0 in place of one that no answer allows; what is no whole number is a TypeError."""
+    """The number, or 0 if no answer allows it. Raises a TypeError if it is no whole number."""
     number = operator.index(number)
     return number if 0 <= number <= _MOST else 0
 
 
 def _terms(year: int, ais: Ais) -> int:
-    """What the library reads by, as one number: 0, which it refuses, in place of a year out of range."""
+    """Year and AIs as the library's one number; for a year out of range 0, which it refuses."""
     year = operator.index(year)
     if ais not in ("all", "profile"):
         raise ValueError(f"ais is 'all' or 'profile', and not {ais!r}")
@@ -421,7 +420,7 @@ def _ask_of_widths(call: Any, widths: Sequence[int], terms: int) -> bytes:
         raise ValueError("a width is below 0")
     row = (_U16 * len(widths))(*(min(width, _MOST) for width in widths))
     answer = _ask(call, row, len(widths), terms)
-    # What is wrong with the year or the number of runs is told first.
+    # An error of the year or of the number of runs comes first.
     if any(width > _MOST for width in widths) and answer not in (b"refused 42 Words", b"refused 18 BadRuns"):
         raise Refusal(17, "TooWide")
     return answer
@@ -441,18 +440,17 @@ def _ask_of_dots(call: Any, dots: Union[bytes, bytearray, memoryview], width: in
 def _widths(dots: Union[bytes, bytearray, memoryview], width: int) -> List[int]:
     """The widths of the runs of packed dots, light first and last."""
     row = "".join(f"{byte:08b}" for byte in bytes(dots))[:width]
-    # Between light ends of no dot, where the row has none.
+    # If the row has no light ends, these have no dot.
     light, *others = (len(run) for run in re.findall("^0*|1+|0+", row))
     return [light, *others] if len(others) % 2 == 0 else [light, *others, 0]
 
 
 def read_row(widths: Sequence[int], year: int, *, ais: Ais = "all") -> Answer:
-    """What a row of a scan says, given as the widths of its runs in dots.
+    """What a scanned row says. ``widths`` are those of its light and dark bars in pixels, starting and ending with light.
 
-    They are light and dark in turn, light first and last, in either direction. A date is read by the reference
-    year, 1951 to 2149.
+    The row may be scanned in either direction. Dates are read by the reference year, 1951 to 2149.
 
-    :raises Refusal: what is no row, or shows no symbol that says elements; 42 ``Words`` of a year out of range.
+    :raises Refusal: it is no row, or shows no symbol with elements; 42 ``Words`` if the year is out of range.
     :raises ValueError: a width is below 0.
     """
     terms = _terms(year, ais)
@@ -460,12 +458,12 @@ def read_row(widths: Sequence[int], year: int, *, ais: Ais = "all") -> Answer:
 
 
 def find(widths: Sequence[int], year: int, *, ais: Ais = "all") -> List[Found]:
-    """Every symbol of a row of a scan, from the left: what stands beside or between them is passed over.
+    """Every symbol of a scanned row, from left to right, whatever stands beside or between them.
 
-    The widths are those of :func:`read_row`. Each window of their runs that begins and ends with a light run and is
-    read as a row is a symbol.
+    The widths are as for :func:`read_row`. Each part of the row that begins and ends with light and can be read as a
+    row is a symbol.
 
-    :raises Refusal: 18 ``BadRuns`` and 17 ``TooWide`` of what is no row; 42 ``Words`` of a year out of range.
+    :raises Refusal: 18 ``BadRuns`` or 17 ``TooWide`` if it is no row; 42 ``Words`` if the year is out of range.
     :raises ValueError: a width is below 0.
     """
     places = _places(_line(_ask_of_widths(_library.gs1_c_find, widths, _terms(year, ais))))
@@ -475,21 +473,21 @@ def find(widths: Sequence[int], year: int, *, ais: Ais = "all") -> List[Found]:
 def read_picture(picture: Picture, year: int, *, level: Optional[int] = None, ais: Ais = "all") -> List[Symbol]:
     """Every symbol of a picture, in the order of reading: line by line, and from left to right.
 
-    The picture is an image of Pillow's, the path of one (of a file with several, the first), or an array of rows of
-    grey values, of RGB or of RGBA: of 8 or 16 bits, or of ``bool``, of which ``True`` is light. It lies as its dots are
-    stored. A date is read by the reference year, 1951 to 2149.
+    The picture is an image of Pillow's, the path of a file (its first image), or an array with a row of grey, RGB or
+    RGBA values for each line: of 8 or 16 bits, or ``bool``, where ``True`` is light. The orientation that a file names
+    is ignored. Dates are read by the reference year, 1951 to 2149.
 
-    Dots whose grey value is below the level, 1 to 255, are dark. Where none is given it is that which parts the
-    picture's values best, and what rows of the picture do not read is looked for at any angle, by the light around.
-    At most 192 symbols are reported.
+    With a level, 1 to 255, only the picture's own rows are read, and pixels below the level are dark. Without one, the
+    level is that which separates the picture's values best, and symbols are also found at other angles and in uneven
+    light. At most 192 symbols are reported.
 
     Needs numpy and Pillow: ``pip install noriladle[picture]``.
 
-    :raises ImportError: numpy or Pillow is not there.
-    :raises OSError: the file is not there, or no JPEG, PNG, TIFF, PBM, PGM, PPM, BMP, GIF or WebP.
-    :raises Refusal: 17 ``TooWide`` of a side of more than 65,535 dots; 44 ``InputSize`` of a file's picture of more than
-        100,000,000; 42 ``Words`` of a year out of range.
-    :raises TypeError: the dots are of another type.
+    :raises ImportError: numpy or Pillow is not installed.
+    :raises OSError: the file is missing, or no JPEG, PNG, TIFF, PBM, PGM, PPM, BMP, GIF or WebP.
+    :raises Refusal: 17 ``TooWide`` if a side has more than 65,535 pixels; 44 ``InputSize`` if a file's picture has more
+        than 100,000,000; 42 ``Words`` if the year is out of range.
+    :raises TypeError: the pixels are of another type.
     :raises ValueError: the array has another shape, or the level is out of range.
     """
     from . import picture as pictures
@@ -498,13 +496,13 @@ def read_picture(picture: Picture, year: int, *, level: Optional[int] = None, ai
 
 
 def read_dots(dots: Union[bytes, bytearray, memoryview], width: int, year: int, *, ais: Ais = "all") -> Answer:
-    """What a row of ``width`` dots says, eight of them a byte, as a row of a PBM image has them.
+    """What a row of ``width`` dots says, packed eight in a byte as in a PBM image.
 
-    The first dot of a byte is its high bit, and 1 is dark; bits behind the last dot do not matter. A date is read by
+    The first dot of a byte is its high bit, and 1 is dark; bits after the last dot do not matter. Dates are read by
     the reference year, 1951 to 2149.
 
-    :raises Refusal: 18 ``BadRuns`` of more dots than ``dots`` has, 17 ``TooWide`` of more than 65,535; what shows no
-        symbol that says elements; 42 ``Words`` of a year out of range.
+    :raises Refusal: 18 ``BadRuns`` if ``dots`` has fewer dots, 17 ``TooWide`` for more than 65,535; it shows no symbol
+        with elements; 42 ``Words`` if the year is out of range.
     :raises ValueError: the width is below 0.
     """
     terms = _terms(year, ais)
@@ -512,11 +510,11 @@ def read_dots(dots: Union[bytes, bytearray, memoryview], width: int, year: int, 
 
 
 def find_dots(dots: Union[bytes, bytearray, memoryview], width: int, year: int, *, ais: Ais = "all") -> List[Found]:
-    """Every symbol of a row of ``width`` dots, given as :func:`read_dots` takes them: what :func:`find` finds in the
-    widths of the row's runs, light first and last.
+    """Every symbol of a row of ``width`` dots, packed as for :func:`read_dots`: what :func:`find` finds in the widths of
+    its light and dark runs.
 
-    :raises Refusal: 18 ``BadRuns`` of more dots than ``dots`` has, 17 ``TooWide`` of more than 65,535; 42 ``Words`` of
-        a year out of range.
+    :raises Refusal: 18 ``BadRuns`` if ``dots`` has fewer dots, 17 ``TooWide`` for more than 65,535; 42 ``Words`` if the
+        year is out of range.
     :raises ValueError: the width is below 0.
     """
     places = _places(_line(_ask_of_dots(_library.gs1_c_find_dots, dots, width, _terms(year, ais))))
@@ -525,14 +523,14 @@ def find_dots(dots: Union[bytes, bytearray, memoryview], width: int, year: int, 
 
 
 def read_scan(text: Union[str, bytes], year: int, *, ais: Ais = "all") -> Answer:
-    """What a text from a scanner says: a symbology identifier, and behind it what the symbol says.
+    """What a text from a scanner says. It begins with a symbology identifier; what the symbol says follows:
 
-    - ``]E0`` has the 12 or 13 digits of a GTIN or the 8 of a UPC-E, ``]E4`` 8 digits, ``]I1`` 14.
-    - ``]C1``, ``]e0``, ``]d2``, ``]Q3`` and ``]J1`` have an element string. ``"\\x1d"`` or ``"^"`` is the separator.
-    - ``]Q1`` and ``]d1`` have a GS1 Digital Link.
+    - ``]E0``: the 12 or 13 digits of a GTIN, or the 8 of a UPC-E; ``]E4``: 8 digits; ``]I1``: 14
+    - ``]C1``, ``]e0``, ``]d2``, ``]Q3`` and ``]J1``: an element string, with ``"\\x1d"`` or ``"^"`` as the separator
+    - ``]Q1`` and ``]d1``: a GS1 Digital Link
 
     If the scanner sends no identifier, digits are read as a GTIN, a separator begins an element string, and ``http://``
-    or ``https://`` a Digital Link. Eight digits of which the first is 0 are refused: they may be an EAN-8 or a UPC-E.
+    or ``https://`` a Digital Link. Eight digits that begin with 0 are refused: they may be an EAN-8 or a UPC-E.
 
         >>> read_scan("]E001234565", year=2026).gtin
         '00012345000065'
@@ -540,43 +538,43 @@ def read_scan(text: Union[str, bytes], year: int, *, ais: Ais = "all") -> Answer
         >>> answer.identifier, answer.gtin
         (None, '09501101530003')
 
-    A place is an offset behind the identifier, or in a Digital Link the index of the element, from 0.
+    An error's place counts from after the identifier; in a Digital Link it is the index of the element, from 0.
 
-    :raises Refusal: 40 ``Kind`` of any other identifier, and of what is no Digital Link; 1 to 3 of digits, 4 to 11 of
-        elements; 42 ``Words`` of a year out of range.
+    :raises Refusal: 40 ``Kind`` for any other identifier or URI; 1 to 3 for digits, 4 to 11 for elements; 42 ``Words`` if
+        the year is out of range.
     """
     said = _bytes(text)
     terms = _terms(year, ais)
     answer = _ask(_library.gs1_c_scan, said, len(said), terms)
     if said[:3] in _ELEMENT_STRINGS:
-        # The separator that stands first is not counted by places.
+        # Places do not count a separator at the beginning.
         elements = re.sub(b"^\x1d", b"", said[3:].replace(b"^", b"\x1d"))
         return _answer_of(_line_of_elements(answer, elements, terms), terms)
     return _answer(answer, terms)
 
 
 def read_gtin(text: Union[str, bytes]) -> str:
-    """The GTIN, in 14 digits, of its 8, 12, 13 or 14.
+    """The 14 digits of a GTIN that is written with 8, 12, 13 or 14.
 
-    :raises Refusal: it is none: 1 ``Length``, 2 ``NotDigit`` or 3 ``CheckDigit``.
+    :raises Refusal: it is no GTIN: 1 ``Length``, 2 ``NotDigit`` or 3 ``CheckDigit``.
     """
     digits = _bytes(text)
     return _line(_ask(_library.gs1_c_gtin, digits, len(digits))).partition(" ")[2]
 
 
 def check_digit(text: Union[str, bytes]) -> int:
-    """The check digit of 1 to 17 digits that have none yet.
+    """The check digit for 1 to 17 digits.
 
-    :raises Refusal: they have none: 1 ``Length`` or 2 ``NotDigit``.
+    :raises Refusal: 1 ``Length`` or 2 ``NotDigit``.
     """
     digits = _bytes(text)
     return int(_line(_ask(_library.gs1_c_digit, digits, len(digits))).partition(" ")[2])
 
 
 def read_elements(text: Union[str, bytes], year: int, *, ais: Ais = "all") -> str:
-    """The elements of an element string, in which ``"\\x1d"`` is the separator, as ``(10)AB(17)261231``.
+    """The elements of an element string, as ``(10)AB(17)261231``. The separator is ``"\\x1d"``.
 
-    :raises Refusal: its first fault, 4 ``Empty`` to 11 ``TooLong``; 42 ``Words`` of a year out of range.
+    :raises Refusal: its first fault, 4 ``Empty`` to 11 ``TooLong``; 42 ``Words`` if the year is out of range.
     """
     elements = _bytes(text)
     terms = _terms(year, ais)
@@ -585,7 +583,7 @@ def read_elements(text: Union[str, bytes], year: int, *, ais: Ais = "all") -> st
 
 
 def parse_elements(text: Union[str, bytes], year: int, *, ais: Ais = "all") -> Tuple[Element, ...]:
-    """The elements of an element string, in which ``"\\x1d"`` is the separator.
+    """The elements of an element string. The separator is ``"\\x1d"``.
 
     :raises Refusal: as :func:`read_elements`.
     """
@@ -599,16 +597,16 @@ def _parse(text: bytes, terms: int) -> Tuple[Element, ...]:
 
 
 def compose(elements: Iterable[Union[Element, Tuple[str, str]]], year: Optional[int] = None) -> str:
-    """The element string of elements, or of pairs of an Application Identifier and a value, with the separator
-    ``"\\x1d"`` where it must stand.
+    """The element string of elements, or of pairs of an Application Identifier and a value. The separator ``"\\x1d"``
+    stands wherever it must.
 
         >>> compose([("01", "09501101530003"), ("10", "AB"), ("17", "261231")], year=2026)
         '010950110153000310AB\\x1d17261231'
 
-    The year is this one unless it is given.
+    The year is this year unless you give one.
 
-    :raises Refusal: the elements are none, 4 to 11, where a place is the index of the element; 42 ``Words`` of a year
-        out of range.
+    :raises Refusal: they are no elements, 4 to 11, with the index of the element as the place; 42 ``Words`` if the year
+        is out of range.
     """
     pairs = [(it.ai, it.value) if isinstance(it, Element) else (it[0], it[1]) for it in elements]
     reference = datetime.date.today().year if year is None else year
@@ -621,12 +619,12 @@ def compose(elements: Iterable[Union[Element, Tuple[str, str]]], year: Optional[
 
 
 def _check_pair(ai: str, value: str, year: int, at: int) -> None:
-    """Refuses what is no element, as the pair of an index."""
+    """Raises the error of a pair that is no element; ``index`` is its place."""
     more = Refusal(7, "ValueCharacter", at) if "\x1d" in value else Refusal(6, "ValueLength", at)
     try:
         read = parse_elements(ai + value, year)
     except Refusal as refusal:
-        # What stands behind the value of a pair is too much of it, and so is what needs a separator in a text.
+        # A value with anything after it is too long, and so is one that needs a separator in a text.
         if refusal.place or refusal.name in ("MissingSeparator", "TooLong"):
             raise more from None
         if refusal.name == "Words":
@@ -639,7 +637,7 @@ def _check_pair(ai: str, value: str, year: int, at: int) -> None:
 
 
 def associations(elements: Iterable[Element]) -> List[Association]:
-    """What the standard asks of elements that stand together and is not so: a second look, by which nothing is refused.
+    """What the standard asks of elements that stand together, and is not so. Nothing is refused for this.
 
         >>> [str(it) for it in associations([Element("02", "09501101530003")])]
         ['02 needs 37']
@@ -651,7 +649,7 @@ def associations(elements: Iterable[Element]) -> List[Association]:
 
 def doubts(elements: Iterable[Element]) -> List[Doubt]:
     """Codes of countries and currencies that are in no list, and the first digits of 401 if they are no GS1 Company
-    Prefix: a second look, by which nothing is refused, since these lists change.
+    Prefix. Nothing is refused for this, since these lists change.
 
         >>> [str(it) for it in doubts([Element("422", "281")])]
         ['422: 281 is no country']
@@ -668,18 +666,18 @@ class LabelSymbol(NamedTuple):
     """The nominal quiet zones (GS1 General Specifications, sections 5.2 to 5.4)."""
     quiet_right: int
     widths: Tuple[int, ...]
-    """Of the runs, a bar first and last."""
+    """The widths of bars and spaces, starting and ending with a bar."""
 
 
 def label_symbol(kind: Union[Kind, str], text: Union[str, bytes], year: int, *, ais: Ais = "all") -> LabelSymbol:
-    """The symbol of a label, in modules. The kind may be told by its name, as ``"ean13"``.
+    """The symbol of a label, in modules. The kind may be a name, such as ``"ean13"``.
 
         >>> symbol = label_symbol("upce", "00012345000065", year=2026)
         >>> symbol.text, symbol.quiet_left, symbol.quiet_right, sum(symbol.widths)
         ('01234565', 9, 7, 51)
 
-    :raises Refusal: 40 ``Kind`` of a name that is none, 42 ``Words`` of a year out of range, 1 to 11 of the text, and
-        26 ``LabelKind`` of a label that has no such symbol.
+    :raises Refusal: 40 ``Kind`` if there is no such kind, 42 ``Words`` if the year is out of range, 1 to 11 for the text,
+        and 26 ``LabelKind`` if the text has no such symbol.
     """
     said = _bytes(text)
     answer = _ask(_library.gs1_c_symbol, _kind(kind).value, said, len(said), _terms(year, ais), room=_SYMBOL)
@@ -701,12 +699,11 @@ def draw_label(
 ) -> bytes:
     """A label as the bytes of a PBM image, of ``width`` by ``height`` dots, its modules ``module`` dots wide.
 
-    The kind may be told by its name, as ``"ean13"``.
+    The kind may be a name, such as ``"ean13"``. A module is 1 to 8 dots, the width 1 to 4,096, and the height more than
+    two modules and at most 1,024.
 
-    A module is 1 to 8 dots, the width 1 to 4,096, and the height more than two modules and at most 1,024.
-
-    :raises Refusal: 40 ``Kind`` of a name that is none, 42 ``Words`` of a year out of range, 25 ``BadGrid`` of the dots, 1 to 11 of the text, and
-        26 ``LabelKind`` and 27 ``LabelWidth`` of a label that has no such symbol or does not fit.
+    :raises Refusal: 40 ``Kind`` if there is no such kind, 42 ``Words`` if the year is out of range, 25 ``BadGrid`` for the
+        dots, 1 to 11 for the text, 26 ``LabelKind`` if it has no such symbol, 27 ``LabelWidth`` if that does not fit.
     """
     said = _bytes(text)
     words = [_u16(number) for number in (module, width, height)]

@@ -1,4 +1,4 @@
-"""The command ``noriladle``, which is ``python3 -m noriladle`` too."""
+"""The command ``noriladle``, also ``python3 -m noriladle``."""
 from __future__ import annotations
 
 import argparse
@@ -44,7 +44,7 @@ class Parser(argparse.ArgumentParser):
         self.add_argument("-h", "--help", action="help", help="Print help")
 
     def format_help(self) -> str:
-        """What the command is for, its usage, its arguments and options, and what else there is to say."""
+        """What the command is for, its usage, arguments and options, and the rest of its text."""
         words, options = self._get_positional_actions(), self._get_optional_actions()
         usage = [self.prog, "COMMAND .."] if self.commands else [self.prog, "[OPTIONS]", *map(_shown, words)]
         blocks = [self.description or "", f"Usage: {' '.join(usage)}"]
@@ -56,7 +56,7 @@ class Parser(argparse.ArgumentParser):
         return "\n\n".join(filter(None, [*blocks, (self.epilog or "").strip()])) + "\n"
 
     def error(self, message: str) -> NoReturn:
-        """Says what is wrong with the words, with the option that may have been meant, and ends."""
+        """Reports what is wrong with the arguments, with the option that was probably meant, and ends."""
         known = [name for action in self._actions for name in action.option_strings]
         wrong = re.search(r"unrecognized arguments: (--?[\w-]+)", message)
         meant = _meant(wrong[1], known) if wrong else ""
@@ -64,8 +64,8 @@ class Parser(argparse.ArgumentParser):
 
 
 def _meant(word: str, known: Sequence[str]) -> str:
-    """A question for the word that may have been meant."""
-    import difflib  # Only of use here.
+    """A question about the word that was probably meant."""
+    import difflib  # Only used here.
 
     near = difflib.get_close_matches(word, known, 1)
     return f" (did you mean {near[0]}?)" if near else ""
@@ -108,7 +108,7 @@ def _module_of(name: str) -> Any:
 
 
 def main(words: Optional[Sequence[str]] = None) -> int:
-    """Runs the command of these words, or of the process's own, and gives its status: 0, 1 or 2."""
+    """Runs the command of these arguments, or of the process's own, and returns its status: 0, 1 or 2."""
     given = list(sys.argv[1:] if words is None else words)
     try:
         status = _run(given)
@@ -120,7 +120,7 @@ def main(words: Optional[Sequence[str]] = None) -> int:
         tell(f"noriladle: {wrong}")
         return WRONG_WORDS
     except BrokenPipeError:
-        # Whoever read the output has seen enough. What is left of it would be written, and fail again, at the end.
+        # The reader of the output has closed it. At the end Python would write the rest, and fail again.
         os.dup2(os.open(os.devnull, os.O_WRONLY), sys.stdout.fileno())
         return REFUSED
     except KeyboardInterrupt:

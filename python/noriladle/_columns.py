@@ -1,4 +1,4 @@
-"""Which column of a list is what: by the headings that spreadsheets have in seven languages, or by the cells."""
+"""Finds what each column of a list is: by headings in seven languages, or by the cells."""
 from __future__ import annotations
 
 import re
@@ -13,22 +13,22 @@ from ._texts import Unreadable, looks_right, read_text
 
 _WORDS: Dict[str, List[str]] = shared("headings")
 """The headings of each meaning, in English, German, French, Spanish, Italian, Dutch and Polish, without accents, blanks
-and signs. If several columns have one meaning, the word that stands first here is taken; a line may have a number."""
+and signs. If several columns have one meaning, the word that comes first here wins; a line may have a number."""
 
 MEANINGS = tuple(_WORDS)
 _KNOWN = {word: (meaning, rank)
           for meaning, words in reversed(_WORDS.items()) for rank, word in enumerate(words)}
 _NUMBERS = frozenset(shared("numbers"))
-"""What makes a heading that begins with a word for the name one of article numbers."""
+"""Words that turn a heading such as "article" into one of article numbers."""
 _ONCE = ("gtin", "gs1", "copies", "kind")
-"""What no list may have twice, since nobody can say which is meant."""
+"""Meanings that no list may have twice, since nobody can say which column is meant."""
 
 _MOST_TITLES = 10
-"""The heading is among so many records."""
+"""The heading is one of the first 10 records."""
 _LONGER = 100
-"""The rank of a heading that begins with a known word, and goes on."""
+"""The rank of a heading that begins with a known word and has more."""
 _SAMPLE = 200
-"""So many records say what a column is."""
+"""How many records decide what a column is."""
 _PRICE = re.compile(r"[^\d\s]{0,3}\s?\d{1,6}[.,]\d{2}\s?[^\d\s]{0,4}")
 _FOLDED = str.maketrans({"ł": "l", "ø": "o", "ß": "ss"})
 
@@ -38,24 +38,24 @@ class Table:
     """A list whose columns are known."""
 
     records: Sequence[Record]
-    """Without the heading."""
+    """The records without the heading."""
     places: Mapping[str, Sequence[int]]
     """Where the columns are, by what they are: ``gtin`` or ``gs1`` or both, ``name``, ``price``, ``copies``, ``kind``, and
     ``line`` of any number of columns."""
     faults: Sequence[Fault]
-    """The lines that are no records."""
+    """The errors of the lines that are no records."""
     note: str
-    """What was taken for what, if not all headings say it."""
+    """What each column was taken for, unless all headings say it."""
     encoding: str
 
     def cell(self, record: Record, meaning: str) -> str:
-        """What a record has in a column: nothing if it is too short, or if there is no such column."""
+        """The cell of a record in a column: empty if the record is too short, or if there is no such column."""
         return next((record.cells[place] for place in self.places.get(meaning, ()) if place < len(record.cells)), "")
 
 
 def table_of(data: bytes, year: int, columns: Optional[Mapping[str, str]] = None) -> Table:
-    """The table of a file's bytes. ``columns`` has what is not to be found out: for a meaning the heading, or the number
-    of the column from 1. What the numbers are is found by the heading, or else by the cells.
+    """The table of a file's bytes. ``columns`` names columns for meanings: by the heading, or by the number from 1. The
+    others are found by headings, the column of the numbers also by its cells.
 
     :raises Faults: the file is too long, no text or empty; two columns have one meaning; or none has numbers.
     """
@@ -73,7 +73,7 @@ def plain(heading: str) -> str:
 
 
 def _known(heading: str) -> Tuple[str, int]:
-    """What a heading means, if it or its first word is known, and how well it says so: the less the better."""
+    """What a heading means, if it or its first word is known, and its rank: a lower one is better."""
     if plain(heading) in _KNOWN:
         return _KNOWN[plain(heading)]
     first, *others = [plain(word) for word in re.split(r"[\W_]+", heading) if word] or [""]
@@ -82,8 +82,8 @@ def _known(heading: str) -> Tuple[str, int]:
 
 
 class _Look:
-    """A list by one of the delimiters that it may have: the columns that are known by headings, and that of the numbers
-    by the cells."""
+    """A list read by one of its possible delimiters: the columns known by headings, and the column of the numbers by its
+    cells."""
 
     def __init__(self, sheet: Sheet, year: int, columns: Mapping[str, str]) -> None:
         self.sheet, self.year = sheet, year
@@ -99,18 +99,18 @@ class _Look:
         self.right, self.looking, self.number = max(map(self._score, range(self.wide)), key=lambda score: score[:2])
 
     def rank(self) -> Tuple[bool, int, int, int]:
-        """How well the list reads so. Of equals the first is taken, and whole lines are first."""
+        """How well the list reads with this delimiter. Of equals the first wins, and whole lines come first."""
         return bool({"gtin", "gs1"} & self.headed.keys()), len(self.headed), self.right, self.looking
 
     def _headed(self, own: Mapping[str, str]) -> Dict[str, List[int]]:
-        """The columns by their headings: of those with one meaning the best, but all that are free lines.
+        """The columns by their headings: for each meaning the best one, and all free lines.
 
         :raises Faults: nobody can say which is meant.
         """
         found = self._meanings(self.first, own)
         for meaning in _ONCE:
             best, *others = sorted(found.get(meaning, ())) or [(0, 0)]
-            # A heading that says more, such as EAN of the case, gives way to one that is a known word.
+            # A heading with more words, such as "EAN of the case", loses against one that is a known word.
             if others and best[0] >= 0 and best[0] // _LONGER == others[0][0] // _LONGER:
                 first, second = (" ".join(self.first.cells[place].split()) for place in sorted((best[1], others[0][1])))
                 raise Faults([Fault(self.first.line, f"{said('twice', first, second, meaning)}, as in --column {meaning}='{first}'")])
@@ -118,8 +118,8 @@ class _Look:
                 for meaning, places in found.items()}
 
     def _meanings(self, record: Record, own: Mapping[str, str]) -> Dict[str, List[Tuple[int, int]]]:
-        """What the cells of a record mean if it is a heading: for each meaning how well a cell says so, and its column. A
-        record that has a right number is no heading, whatever the name of its article."""
+        """What the cells of a record mean if it is a heading: for each meaning the rank and the column. A record with a valid
+        number is no heading, whatever its article is called."""
         found: Dict[str, List[Tuple[int, int]]] = {}
         if any(looks_right(cell) and _is_right(cell, self.year) for cell in record.cells):
             return found
@@ -130,13 +130,13 @@ class _Look:
         return found
 
     def _score(self, place: int) -> Tuple[int, int, int]:
-        """How many cells of a column are right, and how many look like numbers at all; and the column."""
+        """How many cells of a column are valid numbers, and how many look like numbers; and the column."""
         cells = [record.cells[place] for record in self.sample if place < len(record.cells)]
         looking = [cell for cell in cells if looks_right(cell)]
         return sum(_is_right(cell, self.year) for cell in looking), len(looking), place
 
     def table(self, encoding: str) -> Table:
-        """The table, with a note of what was found by cells.
+        """The table, with a note of what was found by the cells.
 
         :raises Faults: no column has numbers.
         """
@@ -158,7 +158,7 @@ class _Look:
         return Table(records, places, self.sheet.faults, note, encoding)
 
     def _asked(self, meaning: str, number: int) -> int:
-        """The place of a column that was asked for by its number."""
+        """The index of a column that was named by its number."""
         if not 1 <= number <= self.wide:
             raise Faults([Fault(self.first.line, f"there is no column {number} for {meaning}: the list has {self.wide}")])
         return number - 1
@@ -170,7 +170,7 @@ class _Look:
         return is_word and len(self.records) > 1 and bool(self.right or self.headed)
 
     def _guess(self, places: Dict[str, List[int]], records: Sequence[Record]) -> None:
-        """Adds the column of prices, if just one is mostly written so, and that of names, which has most letters."""
+        """Adds the column of prices, if exactly one looks like prices, and that of names, which has most letters."""
         taken = {place for found in places.values() for place in found}
         free = [place for place in range(self.wide) if place not in taken]
         cells = {place: [it.cells[place].strip() for it in records if place < len(it.cells)] for place in free}

@@ -17,20 +17,20 @@ from ._service import Log, Metrics
 from .live import Hub, HubEnded, Lane
 
 CUT = 65_536 + 1
-"""So much is kept of a line that has not ended: the hub refuses it as too long all the same."""
+"""How many bytes are kept of a line that has not ended: the hub refuses it as too long anyway."""
 
 _SCAN = re.compile(rb"(\d{1,18})(?:([ \t])(.*))?", re.DOTALL)
 
 UNREAD_LINES = 65_536
-"""A till that leaves more bytes of lines than this untaken is closed."""
+"""A till that leaves more bytes of lines than this unread is closed."""
 
 
 class Closed(Exception):
-    """Why a connection is closed by the gateway."""
+    """Why the gateway closes a connection."""
 
 
 class Connection:
-    """A client: who it is, and since when nothing has come of it or was taken."""
+    """A client: who it is, and since when it has sent or read nothing."""
 
     def __init__(self, reader: asyncio.StreamReader, writer: asyncio.StreamWriter) -> None:
         self.reader, self.writer = reader, writer
@@ -40,23 +40,23 @@ class Connection:
         self.task = asyncio.current_task()
         self.closed = ""
         self.is_patient = False
-        """Whether it may be silent for as long as it likes."""
+        """Whether it may stay silent for ever."""
         self.since = 0.0
-        """When the last line had come whole or was answered; infinite while the gateway itself is what is waited for."""
+        """When the last whole line came or was answered; infinite while the client waits for the gateway."""
         self.waits()
 
     def waits(self) -> None:
-        """From now on the client is waited for."""
+        """From now on the gateway waits for the client."""
         self.since = time.monotonic()
 
     def close(self, why: str) -> None:
-        """Ends the connection, which is told why."""
+        """Ends the connection, after a line that says why."""
         self.closed = self.closed or why
         if self.task:
             self.task.cancel()
 
     async def turns(self) -> AsyncIterator[List[bytes]]:
-        """The lines that have come, as lists: those that have ended, but for blank ones."""
+        """The complete lines that have come, as lists, without blank ones."""
         rest = b""
         while chunk := await self.reader.read(CUT):
             *ended, rest = (rest + chunk).split(b"\n")
@@ -68,7 +68,7 @@ class Connection:
 
 
 def _peer(writer: asyncio.StreamWriter, is_unix: bool) -> Tuple[str, Set[str]]:
-    """Who it is, as log lines tell it, and its names in a table of rights."""
+    """Who it is, for log lines, and its names in a table of rights."""
     if is_unix:
         told, names = unix_names(writer.get_extra_info("socket"))
     else:
@@ -79,12 +79,12 @@ def _peer(writer: asyncio.StreamWriter, is_unix: bool) -> Tuple[str, Set[str]]:
 
 
 class Client(Protocol):
-    """Whoever has a right: a connection or a page."""
+    """Somebody with a right: a connection or a page."""
 
     names: Set[str]
     """Its names in a table of rights."""
     asked: Tuple[str, str]
-    """The right that it uses, as ``watch``, and in which lane; empty before it does."""
+    """The right that it uses, such as ``watch``, and in which lane; empty before it does."""
 
     def close(self, why: str) -> None:
         """Ends it."""
@@ -94,19 +94,19 @@ class Role(Protocol):
     """What a connection is for."""
 
     def take(self, lines: List[bytes]) -> Awaitable[None]:
-        """Takes the lines that have come."""
+        """Handles the lines that have come."""
 
     def end(self) -> None:
         """Its connection has ended."""
 
 
 class Rows:
-    """A lane of the client's own: each line gets an answer, with its number in this connection."""
+    """The client's own lane: each line gets an answer, with its number in this connection."""
 
     def __init__(self, gateway: Gateway, connection: Connection) -> None:
         self._gateway, self._connection = gateway, connection
         self._lane = gateway.take_lane(connection.is_unix)
-        # The lane's own numbers go on from those of earlier connections.
+        # The lane's numbers go on from those of earlier connections.
         self._numbers = itertools.count()
 
     async def take(self, lines: List[bytes]) -> None:
@@ -158,7 +158,7 @@ class Scanner:
                 raise Closed(str(fault)) from fault
 
     async def finish(self) -> None:
-        """Its client sends nothing more, and may wait for the answers still."""
+        """Its client sends nothing more, and may still wait for answers."""
         while self._lane.under_way:
             await asyncio.sleep(0.005)
 
@@ -167,7 +167,7 @@ class Scanner:
 
 
 def _why(text: bytes) -> str:
-    """What a scanner's program says of a scan without a text."""
+    """What a scanner's program says about a scan without a text."""
     return "".join(char for char in text[:200].decode("utf-8", "replace") if char.isprintable())
 
 
@@ -188,7 +188,7 @@ class Till:
 
 
 class Teller:
-    """Writes lines to a connection, and closes one that does not take them."""
+    """Writes lines to a connection, and closes it if it does not read them."""
 
     def __init__(self, connection: Connection) -> None:
         self._connection = connection
@@ -202,8 +202,8 @@ class Teller:
 
 
 class Gateway:
-    """The connections of one hub. `idle` is how many seconds each may send nothing, or take nothing; `kept` is how many
-    lanes TCP connections leave to those over the UNIX socket; `most` is how many connections there may be."""
+    """The connections of one hub. `idle` is how many seconds each may send or read nothing; `kept` is how many lanes TCP
+    connections leave to those of the UNIX socket; `most` is how many connections there may be."""
 
     def __init__(
         self, hub: Hub, idle: float, elements: bool, kept: int, most: int, log: Log, metrics: Metrics, rights: Rights = all_rights(),
@@ -214,7 +214,7 @@ class Gateway:
         self.scans = Scans(hub, elements)
         self.scans.seen = self.seen
         self.began: Dict[Rows, float] = {}
-        """When the answers to what a client sent were begun."""
+        """When the gateway began to answer what a client sent."""
         self.closed = ""
         self.pages: Set[Client] = set()
         self._connections: Set[Connection] = set()
@@ -283,14 +283,14 @@ class Gateway:
             writer.close()
             await asyncio.wait_for(writer.wait_closed(), self.idle)
         except (OSError, asyncio.TimeoutError, asyncio.CancelledError):
-            pass  # The client has gone, or does not take what is left.
+            pass  # The client has gone, or does not read the rest.
         finally:
             self.log.note("closed", peer=connection.peer, why=why or connection.closed or "it went")
             writer.transport.abort()
             self._connections.discard(connection)
 
     async def _serve(self, connection: Connection) -> str:
-        """Serves a connection; why it is closed, where the client did not end it."""
+        """Serves a connection. Returns why it is closed, unless the client ended it."""
         role: Optional[Role] = None
         try:
             async for lines in connection.turns():
@@ -314,7 +314,7 @@ class Gateway:
         return ""
 
     def _take_token(self, connection: Connection, lines: List[bytes]) -> List[bytes]:
-        """Takes the token from a first line that has one; the lines that are left."""
+        """Takes the token from the first line, if it has one, and returns the other lines."""
         word, _, token = lines[0].rstrip(b"\r").partition(b" ")
         if word != b"token":
             return lines
@@ -322,7 +322,7 @@ class Gateway:
         return lines[1:]
 
     def _begin(self, connection: Connection, lines: List[bytes]) -> Tuple[Role, List[bytes]]:
-        """What the connection is for, by its first line; the lines that are left."""
+        """What the connection is for, by its first line; and the other lines."""
         word, _, name = lines[0].rstrip(b"\r").decode("ascii", "replace").partition(" ")
         if word not in ("scan", "watch"):
             self.let(connection, "rows")
@@ -342,27 +342,27 @@ class Gateway:
         return role, lines[1:]
 
     def add_token(self, client: Client, token: str) -> None:
-        """Gives a client what its token has the right to."""
+        """Gives a client the rights of its token."""
         name = name_of_token(token)
         if name not in self.rights:
             raise Closed("this token has no rights")
         client.names.add(name)
 
     def let(self, client: Client, word: str, lane: str = "") -> None:
-        """Lets a client do what it has the right to."""
+        """Allows a client what it has the right to."""
         if not self.rights.grants(client.names, word, lane):
             raise Closed(f"no right to {word} {lane}".rstrip())
         client.asked = word, lane
 
     def change_rights(self, rights: Rights) -> None:
-        """Has other rights from now on, and closes those that have lost theirs."""
+        """Replaces the table of rights, and closes connections that lost theirs."""
         self.rights = rights
         for client in [*self._connections, *self.pages]:
             if client.asked[0] and not rights.grants(client.names, *client.asked):
                 client.close(f"no right to {' '.join(client.asked)}".rstrip())
 
     async def sweep(self) -> None:
-        """Closes those of which nothing comes, or that take nothing, for too long."""
+        """Closes connections that have sent or read nothing for too long."""
         while True:
             await asyncio.sleep(min(1.0, self.idle / 4))
             least = time.monotonic() - self.idle
@@ -371,7 +371,7 @@ class Gateway:
                     connection.close(f"nothing came or was taken for {self.idle:g} seconds")
 
     async def close(self, why: str) -> None:
-        """Closes all connections, within two seconds: first what is under way is answered, for a second at most."""
+        """Closes all connections within two seconds. First answers what is under way, for up to a second."""
         until = time.monotonic() + 1
         while list(self._since()) and not why.startswith("the hub") and time.monotonic() < until:
             await asyncio.sleep(0.01)
@@ -383,7 +383,7 @@ class Gateway:
 
 
 def keep_alive(writer: asyncio.StreamWriter) -> None:
-    """A TCP connection whose other end is gone is noticed within a minute."""
+    """Has the kernel notice within a minute that the other end of a TCP connection is gone."""
     its = writer.get_extra_info("socket")
     if its.family != socket.AF_UNIX:
         with contextlib.suppress(AttributeError, OSError):

@@ -1,4 +1,4 @@
-"""What the keys of a keyboard type, and which keys type a text: events of Linux, and the layout of the United States."""
+"""Turns the events of a keyboard into text, and text into events: Linux, layout of the United States."""
 from __future__ import annotations
 
 import fcntl
@@ -12,7 +12,7 @@ SYNCHRONIZE, KEY = 0, 1
 DROPPED = 3
 RELEASED, PRESSED = 0, 1
 FOREIGN, LOST = "\x1a", "\x18"
-"""What stands in a text for a key that the layout has not, and for keys that the kernel had no room for."""
+"""These stand in a text for a key that the layout does not have, and for keys that the kernel had no room for."""
 SHIFTS, CONTROLS, ALT, OTHER_ALT, BRACKET = {42, 54}, {29, 97}, 56, 100, 27
 
 _GRAB = 0x40044590  # EVIOCGRAB
@@ -41,7 +41,7 @@ class Keyboard:
     """Turns the events of a keyboard into the text that it types.
 
     It reads the layout of the United States, Ctrl-] or F8 for the separator, and characters that are typed by their
-    numbers on the keypad while Alt is held. The key AltGr, which that layout has not, is ``FOREIGN``.
+    numbers on the keypad while Alt is held. AltGr, which that layout does not have, is ``FOREIGN``.
     """
 
     def __init__(self) -> None:
@@ -68,7 +68,7 @@ class Keyboard:
             self._held.discard(code)
             return self._by_number() if code == ALT else ""
         if value != PRESSED:
-            return ""  # It is held, and typed by itself again.
+            return ""  # The key is held down and repeats.
         if code in SHIFTS | CONTROLS | {ALT, OTHER_ALT}:
             self._held.add(code)
             return FOREIGN if code == OTHER_ALT else ""
@@ -86,9 +86,9 @@ class Keyboard:
 
 
 def grab(device: int) -> None:
-    """Takes an event device for itself, so that nothing of it is typed into a window too.
+    """Takes an event device for this program alone, so no window gets its keys too.
 
-    :raises OSError: another program has it, or it is no such device.
+    :raises OSError: another program has it, or it is no event device.
     """
     fcntl.ioctl(device, _GRAB, 1)
 
@@ -111,7 +111,7 @@ _CODES["\r"] = 28, 0
 
 
 def events_of(text: str) -> bytes:
-    """The events of a keyboard that types a text.
+    """The events that type a text.
 
     :raises KeyError: it has no key for a character.
     """

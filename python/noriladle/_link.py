@@ -1,4 +1,4 @@
-"""The way of a scanner's texts to a gateway: each is sent once, and answered within two seconds or unread."""
+"""Sends a scanner's texts to a gateway: each once, and each is answered within two seconds or unread."""
 from __future__ import annotations
 
 import socket
@@ -9,10 +9,10 @@ from typing import Callable, Deque, List, NamedTuple, Optional
 from ._scans import SECONDS
 
 _BETWEEN, _REFUSED = 0.1, 1.0
-"""After so many seconds a gateway that is not there is looked for again, and one that has refused the scanner."""
+"""Seconds until the next attempt, if there is no gateway, and if it has refused the scanner."""
 
 Said = Callable[[int, str], None]
-"""Takes the number of a scan, and its answer or why it has none."""
+"""Called with the number of a scan, and its answer or why it has none."""
 
 
 class _Scan(NamedTuple):
@@ -22,11 +22,11 @@ class _Scan(NamedTuple):
 
 
 class Link:
-    """A scanner's connection to a gateway, over its UNIX socket, which is made again whenever it ends.
+    """A scanner's connection to a gateway over its UNIX socket. It connects again whenever the connection ends.
 
-    A scan has a number, one more than the last. One that may have been sent is never sent again, since the till may
-    have been told of it: it is unread, and so is one for which there is no gateway in its two seconds. At its next
-    connection the gateway is told the number of the next scan, and by that the till learns which were lost.
+    Each scan has a number, one more than the last. A scan that may have been sent is never sent again, since the till
+    may have got it: it is unread. So is a scan for which there is no gateway within two seconds. At the next connection
+    the gateway gets the number of the next scan, which shows the till what was lost.
     """
 
     def __init__(self, path: str, lane: str, said: Said, note: Callable[[str], None]) -> None:
@@ -42,12 +42,12 @@ class Link:
 
     @property
     def is_waiting(self) -> bool:
-        """Whether a scan has no answer yet, or the till has not been told of one that was lost."""
+        """Whether a scan has no answer yet, or the till does not know yet that one was lost."""
         return bool(self._kept or self._sent) or self._has_lost
 
     @property
     def wants_to_write(self) -> bool:
-        """Whether the gateway has not taken all yet."""
+        """Whether something is left to send."""
         return bool(self._out)
 
     def next_step(self) -> float:
@@ -56,11 +56,11 @@ class Link:
         return min([*first, *([] if self.socket else [self._again])], default=float("inf"))
 
     def scan(self, text: bytes) -> None:
-        """Sends a text, or keeps it for two seconds at most."""
+        """Sends a text, or keeps it for up to two seconds."""
         self._take(b" " + text)
 
     def unread(self, why: str) -> None:
-        """Tells the till of a scan that is no text."""
+        """Reports a scan without a text to the till."""
         self._take(b"\t" + why.encode())
 
     def _take(self, line: bytes) -> None:
@@ -72,20 +72,20 @@ class Link:
             self._kept.append(scan)
 
     def step(self) -> None:
-        """Gives up what has waited too long, and looks for a gateway that is not there."""
+        """Gives up scans that have waited too long, and connects if there is no connection."""
         now = time.monotonic()
         while self._kept and self._kept[0].until <= now:
             self._said(self._kept.popleft().number, f"unread: {self._why or 'no gateway'}")
             self._has_lost = True
         if self._sent and self._sent[0].until <= now:
-            # All wait for the same gateway; it is told that nobody waits any more.
+            # All scans wait for the same gateway. Tell it that nobody waits any more.
             self._give_up(f"no answer in {SECONDS:g} seconds")
             self._tell_next(self._number)
         if not self.socket and self._again <= now:
             self._connect()
 
     def take_answers(self) -> None:
-        """Takes what the gateway has sent; its connection may have ended."""
+        """Reads what the gateway has sent. Its connection may have ended."""
         assert self.socket
         try:
             some = self.socket.recv(65_536)
@@ -101,7 +101,7 @@ class Link:
             self._end(self._why or "the gateway has gone")
 
     def write(self) -> None:
-        """Writes what the gateway takes now."""
+        """Writes as much as the gateway accepts now."""
         if self.socket and self._out:
             try:
                 self._out = self._out[self.socket.send(self._out):]
@@ -130,7 +130,7 @@ class Link:
         self._write(f"scan {self._lane}\n".encode())
 
     def _tell(self, why: str) -> None:
-        """Keeps why there is no gateway, and notes it once."""
+        """Remembers why there is no gateway, and logs it once."""
         if why != self._why:
             self._why = why
             self._note(why)
@@ -149,7 +149,7 @@ class Link:
             self._said(number, said)
 
     def _begin(self, number: int) -> None:
-        """The gateway waits for this number: it goes on with the numbers of an earlier scanner, or of this one."""
+        """The gateway expects this number: its numbers go on from an earlier scanner's, or from this one's."""
         first = self._kept[0].number if self._kept else self._number
         more = number if self._is_fresh else max(0, number - first)
         self._kept = deque(scan._replace(number=scan.number + more) for scan in self._kept)
@@ -162,7 +162,7 @@ class Link:
             self._send(scan)
 
     def _tell_next(self, number: int) -> None:
-        """Tells the number of the next scan: by that the till knows which were lost."""
+        """Sends the number of the next scan, so the till knows which were lost."""
         self._has_lost = False
         self._write(b"%d\n" % number)
 
@@ -175,7 +175,7 @@ class Link:
         self.write()
 
     def _end(self, why: str) -> None:
-        """The connection has ended: what was sent and has no answer is not sent again."""
+        """The connection has ended. Scans that were sent and have no answer are not sent again."""
         self.close()
         self._is_open = False
         self._again = time.monotonic() + self._between

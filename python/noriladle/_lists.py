@@ -1,4 +1,4 @@
-"""Lists as people save them: plain lines, or CSV files of any spreadsheet, as records with their lines' numbers."""
+"""Reads lists as people save them, plain lines or the CSV of any spreadsheet, as records with line numbers."""
 from __future__ import annotations
 
 import csv
@@ -9,10 +9,10 @@ from typing import List, NamedTuple, Sequence, Tuple
 from ._shop import said
 
 LIMIT = 16_777_216
-"""The most bytes of a list, as of ``gs1_hub``'s input."""
+"""The most bytes of a list: the limit of ``gs1_hub``'s input."""
 
 WHOLE_LINES = "\x1f"
-"""The delimiter of a list that has one cell a line: no text has it."""
+"""The delimiter of a list with one cell a line: a character that no text has."""
 
 _MOST_CELL = 1_000_000
 _DELIMITERS = (WHOLE_LINES, ";", "\t", ",")
@@ -46,7 +46,7 @@ class Record(NamedTuple):
 
 
 class Sheet(NamedTuple):
-    """The records of a list whose cells are parted by a delimiter, and the lines that are none."""
+    """The records of a list with this delimiter, and the errors of the lines that are none."""
 
     delimiter: str
     records: Sequence[Record]
@@ -54,7 +54,7 @@ class Sheet(NamedTuple):
 
 
 def decoded(data: bytes) -> Tuple[str, str]:
-    """The text of a file and its encoding: UTF-8, UTF-16 by its mark, or else Windows' own of Western Europe.
+    """The text of a file and its encoding: UTF-8, UTF-16 with its mark, or else Windows-1252.
 
     :raises Faults: it is too long, or no text.
     """
@@ -75,8 +75,8 @@ def decoded(data: bytes) -> Tuple[str, str]:
 
 
 def sheets_of(text: str) -> List[Sheet]:
-    """The list by each delimiter that it may have: by the one that its first line tells, as ``sep=;``, or by each that
-    stands in it, after whole lines.
+    """The list read with each delimiter that it may have: only the one that its first line names, as in ``sep=;``; else
+    whole lines, and then each delimiter that occurs in it.
 
     :raises Faults: it is empty.
     """
@@ -91,7 +91,7 @@ def sheets_of(text: str) -> List[Sheet]:
 
 
 def _sheet(text: str, delimiter: str, first: int) -> Sheet:
-    """The records that are not empty, of a text that begins with this line."""
+    """The records of a text that are not empty; its first line has this number."""
     csv.field_size_limit(_MOST_CELL)
     reader = csv.reader(io.StringIO(text, newline=""), delimiter=delimiter, strict=True)
     records: List[Record] = []

@@ -1,7 +1,7 @@
-"""Commands to a Redis, and a Redis Cluster found by the addresses of some nodes.
+"""Commands to one Redis, or to a Redis Cluster that is found by the addresses of some nodes.
 
-A connection whose reply was not read to its end is never used again: so a command may be cancelled, a reply longer than
-may be is not kept, and no connection is made again unseen.
+A connection whose reply was not read to its end is never used again. So you may cancel a command, a reply that is too
+long is not kept, and no connection is silently made again.
 """
 from __future__ import annotations
 
@@ -16,12 +16,12 @@ from typing import Any, Callable, Dict, List, Optional, Sequence, Set, Tuple, Un
 Word = Union[str, int]
 
 REPLY = 4 << 20
-"""A reply of more bytes is not taken."""
+"""Replies with more bytes are refused."""
 _CONNECT, _ANSWER = 1.0, 5.0
 
 
 class Fault(Exception):
-    """What a node answers in place of a reply, as ``NOPERM ..``."""
+    """An error that a node sends in place of a reply, such as ``NOPERM ..``."""
 
     @property
     def kind(self) -> str:
@@ -30,11 +30,11 @@ class Fault(Exception):
 
 
 class TooMuch(OSError):
-    """A reply is longer than may be."""
+    """A reply is too long."""
 
 
 FAULTS = (Fault, OSError)
-"""What passes in time: a node that is down, or has no memory for now. TimeoutError of asyncio is never let out."""
+"""Errors that pass: a node is down, or has no memory for now. No TimeoutError of asyncio leaves this module."""
 
 
 class _Connection:
@@ -49,7 +49,7 @@ class _Connection:
         self._replies = hiredis.Reader(encoding="utf-8", errors="replace", replyError=Fault)
 
     async def ask(self, commands: Sequence[Sequence[Word]]) -> List[Any]:
-        """The reply to each command; one that is refused is a :class:`Fault` among them."""
+        """The reply to each command; a refused one has a :class:`Fault` in its place."""
         timer = asyncio.get_running_loop().call_later(_ANSWER, self.close)
         try:
             self._writer.write(b"".join(map(_packed, commands)))
@@ -64,7 +64,7 @@ class _Connection:
         size = 0
         while True:
             reply = self._replies.gets()
-            if reply is not False:  # There is none yet; a node of this protocol never answers it.
+            if reply is not False:  # No reply yet: a node never sends this.
                 return reply
             some = await self._reader.read(1 << 16)
             size += len(some)
@@ -79,13 +79,13 @@ class _Connection:
 
 
 def _packed(words: Sequence[Word]) -> bytes:
-    """A command as it is sent."""
+    """The bytes of a command."""
     told = [word.encode("utf-8", "replace") if isinstance(word, str) else b"%d" % word for word in words]
     return b"*%d\r\n%b" % (len(told), b"".join(b"$%d\r\n%b\r\n" % (len(word), word) for word in told))
 
 
 class Node:
-    """A node, with as many connections as there are calls at a time."""
+    """A node, with a connection for each call that runs at the same time."""
 
     def __init__(self, address: str, user: Optional[str], password: Optional[str], tls: Optional[ssl.SSLContext]) -> None:
         self.address = address
@@ -104,14 +104,14 @@ class Node:
         return reply
 
     async def ask_all(self, commands: Sequence[Sequence[Word]]) -> List[Any]:
-        """The reply to each command, sent at once; those that are refused are :class:`Fault` among them."""
+        """The replies to commands that are sent together; a refused one has a :class:`Fault` in its place."""
         connection = self._free.pop() if self._free else await self._connect()
         try:
             replies = await connection.ask(commands)
         except TooMuch:
             raise
         except OSError:
-            # Others to a node that has gone are dead too.
+            # Other connections to a node that has gone are dead too.
             self.close()
             raise
         self._free.append(connection)
@@ -139,7 +139,7 @@ class Node:
 
 
 class Redis:
-    """A Redis Cluster, or a Redis, found by the addresses of nodes, ``HOST:PORT``, of which one that runs is enough."""
+    """A Redis Cluster or one Redis, found by the addresses of nodes, ``HOST:PORT``. One that runs is enough."""
 
     def __init__(
         self, addresses: Sequence[str], user: Optional[str] = None, password: Optional[str] = None,
@@ -167,7 +167,7 @@ class Redis:
         return self._nodes[address]
 
     async def _ask(self) -> None:
-        """Asks the nodes, until one answers, which of them has which slots; one may not know its own host."""
+        """Asks nodes, until one answers, which node has which slots; a node may not know its own host."""
         fault: Exception = OSError("no node answers")
         for address in random.sample(sorted(self._addresses), len(self._addresses)):
             try:
@@ -186,8 +186,8 @@ class Redis:
         raise fault
 
     async def rest(self, fault: Exception) -> None:
-        """After a fault: waits a little, and asks anew where the keys are. One is noted in 10 seconds; what cannot pass
-        is raised."""
+        """After an error: waits a little, and asks again where the keys are. Logs one error in 10 seconds, and raises errors
+        that cannot pass."""
         if isinstance(fault, Fault) and fault.kind in ("NOPERM", "WRONGPASS", "NOAUTH", "WRONGTYPE"):
             raise fault
         if time.monotonic() >= self._told + 10:
@@ -200,13 +200,13 @@ class Redis:
         """Ends all connections."""
         for node in self._nodes.values():
             node.close()
-        # Their sockets are closed in the loop's next turn.
+        # The loop closes their sockets in its next turn.
         with contextlib.suppress(asyncio.CancelledError):
             await asyncio.sleep(0)
 
 
 def slot_of(key: str) -> int:
-    """The slot of a key in a cluster: by the tag in its first braces, where it has one."""
+    """The slot of a key in a cluster: of the tag in its first braces, if it has one."""
     told = key.encode("utf-8", "replace")
     begin = told.find(b"{")
     end = told.find(b"}", begin + 1)

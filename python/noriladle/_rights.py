@@ -19,10 +19,10 @@ _PEER_GROUPS = 59  # SO_PEERGROUPS, which the module socket does not name.
 
 
 class Rights(Dict[str, str]):
-    """What each may do, as the table ``rights`` of a file of options says it: ``"user anna" = "rows, watch till-*"``.
+    """What each client may do, by the table ``rights`` of an option file: ``"user anna" = "rows, watch till-*"``.
 
-    Who is ``anyone``, ``user NAME`` or ``group NAME`` (or its number), ``certificate NAME``, or ``token SUM``, of which SUM is the
-    SHA-256 of the token. What is ``rows``, ``scan LANE`` or ``watch LANE``; ``*`` in a lane stands for any characters.
+    A key is ``anyone``, ``user NAME`` or ``group NAME`` (or its number), ``certificate NAME``, or ``token SUM``; SUM is the
+    SHA-256 of the token. A value has ``rows``, ``scan LANE`` and ``watch LANE``; ``*`` in a lane stands for any characters.
 
     :raises ValueError: an entry is of another form.
     """
@@ -35,7 +35,7 @@ class Rights(Dict[str, str]):
         super().__setitem__(who, what)
 
     def grants(self, names: Set[str], word: str, lane: str = "") -> bool:
-        """Whether one of these names gives the right to a word, as ``scan``, in a lane."""
+        """Whether one of these names has the right, such as ``scan``, in a lane."""
         asked = word if word == "rows" else f"{word} {lane}"
         return any(fnmatchcase(asked, it) for name in names for it in self._of(name))
 
@@ -44,12 +44,12 @@ class Rights(Dict[str, str]):
 
 
 def all_rights() -> Rights:
-    """Everyone who reaches the gateway may do everything."""
+    """The rights without a table: everyone who reaches the gateway may do everything."""
     return Rights(anyone="rows, scan *, watch *")
 
 
 def new_token() -> Tuple[str, str]:
-    """A random token, and its name in a table of rights, of which nobody learns the token."""
+    """A random token, and its name in a table of rights, which does not reveal it."""
     token = secrets.token_urlsafe(24)
     return token, name_of_token(token)
 
@@ -60,11 +60,11 @@ def name_of_token(token: str) -> str:
 
 
 def unix_names(its: socket.socket) -> Tuple[str, Set[str]]:
-    """Who is at the other end of a UNIX socket, as a log line tells it, and its names in a table of rights: those of its user and groups
-    when it connected, which the kernel tells."""
+    """Who is at the other end of a UNIX socket, for log lines, and its names in a table of rights: its user and groups when
+    it connected, as the kernel reports them."""
     pid, user, group = struct.unpack("3i", its.getsockopt(socket.SOL_SOCKET, socket.SO_PEERCRED, struct.calcsize("3i")))
     groups = {group}
-    with contextlib.suppress(OSError):  # One that is in more than 256 groups is known by its first alone.
+    with contextlib.suppress(OSError):  # Of a user in more than 256 groups only the first group counts.
         groups |= set(array.array("I", its.getsockopt(socket.SOL_SOCKET, _PEER_GROUPS, 1024)))
     names = {f"user {user}", *(f"group {it}" for it in groups)}
     with contextlib.suppress(KeyError):

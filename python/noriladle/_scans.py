@@ -1,4 +1,4 @@
-"""Lanes with names, each with a scanner and the tills that watch it: what is scanned is told to all of them at once."""
+"""Lanes with names. Each has a scanner and the tills that watch it; all of them get each scan at once."""
 from __future__ import annotations
 
 import asyncio
@@ -10,16 +10,16 @@ from . import Answer, Refusal
 from .live import Hub, Lane, Reply
 
 SECONDS = 2.0
-"""So long a scan may wait for its answer. After that it is unread, so that no answer comes to the next customer."""
+"""How long a scan may wait for its answer. Then it is unread, so the next customer does not get its answer."""
 
 _NAME = re.compile(r"[A-Za-z0-9][A-Za-z0-9._:-]{0,63}")
 
 Tell = Callable[[str], None]
-"""Gives a line to whoever waits at the other end, and never waits for that."""
+"""Sends a line to the other end, without waiting."""
 
 
 def text_of(answer: Union[Answer, Refusal], elements: bool) -> str:
-    """The text of an answer, with its elements for people, or as `gs1_hub live --elements` writes them."""
+    """The text of an answer, with elements for people, or as `gs1_hub live --elements` writes them."""
     if elements and isinstance(answer, Answer):
         return f"{answer.identifier or '-'} " + "\t".join(f"{element.ai}={element.value}" for element in answer.elements)
     return str(answer)
@@ -31,11 +31,11 @@ def is_name(word: str) -> bool:
 
 
 class ScanLane:
-    """A lane with a name. Its scans have numbers, which the scanner's program gives, each one more than the last.
+    """A lane with a name. The scanner's program numbers its scans, each one more than the last.
 
-    What each of its tills is told, of scan 17: ``17 ]E0 (01)09501101530003``, or ``17 refused 3 CheckDigit``, or
-    ``17 unread: no answer in 2 seconds``. A line ``18 next`` says that the next scan is 18: a till that has not been
-    told of 17 learns so that it was lost. Nothing is kept for a till that is not there.
+    For scan 17 each till gets ``17 ]E0 (01)09501101530003``, or ``17 refused 3 CheckDigit``, or
+    ``17 unread: no answer in 2 seconds``. The line ``18 next`` says that the next scan is 18: a till that got no line for
+    17 knows by this that it was lost. Nothing is kept for a till that is not connected.
     """
 
     def __init__(self, name: str, lane: Lane, elements: bool) -> None:
@@ -43,7 +43,7 @@ class ScanLane:
         self.watchers: Set[Tell] = set()
         self.scanner: Optional[Tell] = None
         self.next: Optional[int] = None
-        """The number of the next scan that the tills are told of; None before a scanner has come."""
+        """The number of the next scan that the tills get; None before a scanner has come."""
         self.seen: Callable[[Union[Answer, Refusal, None]], None] = lambda answer: None
         """Counts an answer, or None for a scan that is unread."""
         self._lane, self._elements = lane, elements
@@ -52,11 +52,11 @@ class ScanLane:
 
     @property
     def under_way(self) -> List[float]:
-        """When each scan that has no answer yet was asked, by the clock of the loop."""
+        """When the lane asked about each scan that has no answer yet, by the clock of the loop."""
         return [since for _, _, since in self._waiting.values()]
 
     def begin(self, number: int) -> None:
-        """The next scan has this number; no answer to one before it is waited for any more."""
+        """The next scan has this number. The lane waits for no answer to an earlier one."""
         for reply, timer, _ in self._waiting.values():
             timer.cancel()
             reply.cancel()
@@ -78,13 +78,13 @@ class ScanLane:
         reply.add_done_callback(functools.partial(self._answered, number, unread))
 
     def watch(self, tell: Tell) -> None:
-        """Tells a till from now on of each scan; at once of the next one's number, where a scanner has been there."""
+        """Sends each scan to a till from now on; first the number of the next one, if there was a scanner."""
         self.watchers.add(tell)
         if self.next is not None:
             tell(f"{self.next} next\n")
 
     def _answered(self, number: int, unread: str, reply: asyncio.Future[Reply]) -> None:
-        """Tells an answer, unless it is no longer waited for; answers come in the order of the scans."""
+        """Sends an answer to the tills, unless the lane no longer waits for it. Answers come in the order of the scans."""
         if number not in self._waiting or self._waiting[number][0] is not reply:
             return
         self._waiting.pop(number)[1].cancel()
@@ -111,7 +111,7 @@ class ScanLane:
 
 
 class Scans:
-    """The lanes of a gateway by their names. All ask by one lane of the hub, whose answers depend on the text alone."""
+    """The lanes of a gateway by their names. They share one lane of the hub, since its answers depend on the text alone."""
 
     def __init__(self, hub: Hub, elements: bool, most: int = 256) -> None:
         self.lanes: Dict[str, ScanLane] = {}
@@ -119,15 +119,15 @@ class Scans:
         self._hub, self._elements, self._most = hub, elements, most
 
     def lane(self, name: str) -> ScanLane:
-        """A lane, which begins to be when it is first asked for.
+        """The lane of this name; it is made at the first call.
 
-        :raises ValueError: this can be no name, or there are too many lanes.
+        :raises ValueError: the name is not allowed, or there are too many lanes.
         """
         if not is_name(name):
             raise ValueError("a lane's name has up to 64 letters, digits and . _ : -")
         if name not in self.lanes:
             if len(self.lanes) >= self._most:
-                # Those that nobody uses any more make room.
+                # Lanes that nobody uses any more make room.
                 self.lanes = {name: lane for name, lane in self.lanes.items() if lane.scanner or lane.watchers}
             if len(self.lanes) >= self._most:
                 raise ValueError(f"there are {self._most} lanes")

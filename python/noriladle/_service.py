@@ -1,4 +1,4 @@
-"""What the services share: options from a file, log lines, what systemd is told, and health and metrics over HTTP."""
+"""What the services share: options from a file, log lines, messages to systemd, and health and metrics over HTTP."""
 from __future__ import annotations
 
 import argparse
@@ -21,11 +21,11 @@ else:
 from .commands import WrongWords
 
 Loaded = Dict[str, object]
-"""The values of a file of options, by the names that :mod:`argparse` has for them."""
+"""The values of an option file, by their names in :mod:`argparse`."""
 
 
 class _Load(argparse.Action):
-    """Takes from a file of options what is not among the words."""
+    """Takes from an option file what is not among the arguments."""
 
     def __call__(
         self, parser: argparse.ArgumentParser, words: argparse.Namespace, value: Union[str, Sequence[Any], None],
@@ -41,13 +41,13 @@ class _Load(argparse.Action):
 
 
 def add_config(parser: argparse.ArgumentParser) -> None:
-    """Adds the option that names a file of options."""
+    """Adds the option that names an option file."""
     parser.add_argument("--config", action=_Load, metavar="FILE",
                         help="Take options from a TOML file, each by its name; an option on the command line wins")
 
 
 def add_arguments(parser: argparse.ArgumentParser) -> None:
-    """Adds the options of a service that others connect to, or that works by itself."""
+    """Adds the options that all services have."""
     add_config(parser)
     parser.add_argument("--log", choices=("faults", "all"), default="faults", metavar="WHAT",
                         help="Log faults, or all: connections, takeovers and refused senders too [default: faults]")
@@ -86,7 +86,7 @@ def count(least: int, most: int) -> Callable[[str], int]:
 def load(parser: argparse.ArgumentParser, path: str) -> Loaded:
     """The options of a file.
 
-    :raises WrongWords: it cannot be read, or a line of it is wrong, which is named.
+    :raises WrongWords: it cannot be read, or a line of it is wrong; the message names the line.
     """
     try:
         with open(path, encoding="utf-8") as file:
@@ -96,7 +96,7 @@ def load(parser: argparse.ArgumentParser, path: str) -> Loaded:
         raise WrongWords(f"{path}: {fault.strerror}") from fault
     except ValueError as fault:  # Bytes that are no UTF-8, or no TOML.
         raise WrongWords(f"{path}: {fault}") from fault
-    # What does something at once, as --help, is no option of a file.
+    # An option that acts at once, such as --help, is none of a file.
     options = {name[2:]: action for action in parser._actions for name in action.option_strings
                if name.startswith("--") and action.dest != "config" and (action.nargs != 0 or isinstance(action, argparse._StoreTrueAction))}
     tables = [name for name, value in parser._defaults.items() if isinstance(value, dict)]
@@ -118,7 +118,7 @@ def load(parser: argparse.ArgumentParser, path: str) -> Loaded:
 
 
 def _table(parser: argparse.ArgumentParser, path: str, text: str, name: str, value: object) -> Dict[str, str]:
-    """A table of a file of options, as its default takes each entry."""
+    """A table of an option file; its default says what an entry may be."""
     if not (isinstance(value, dict) and all(isinstance(it, str) for it in value.values())):
         raise WrongWords(f"{path}:{_line_of(text, name)}: {name}: it is a table of texts")
     table: Dict[str, str] = type(parser.get_default(name))()
@@ -137,7 +137,7 @@ def _line_of(text: str, name: str) -> int:
 
 
 def _value_of(action: argparse.Action, value: object) -> object:
-    """A value of a file as the option takes it."""
+    """A value of a file, as the option needs it."""
     if isinstance(action, argparse._StoreTrueAction):
         if not isinstance(value, bool):
             raise ValueError("it is true or false")
@@ -160,19 +160,19 @@ def _one(action: argparse.Action, value: object) -> object:
 
 
 class Log:
-    """Lines to standard error: what happened and of whom, each with its time, unless the journal gives it one."""
+    """Lines to standard error: what happened and to whom, each with its time, unless the journal adds one."""
 
     def __init__(self, what: str = "faults", as_json: bool = False) -> None:
         self.all, self.json = what == "all", as_json
         self._has_time = "JOURNAL_STREAM" in os.environ
 
     def note(self, what: str, **of: object) -> None:
-        """What is no fault: a connection, a takeover, a sender that is refused."""
+        """An event that is no fault: a connection, a takeover, a sender that is refused."""
         if self.all:
             self._write("note", what, of)
 
     def fault(self, what: str, **of: object) -> None:
-        """A fault that is ours."""
+        """A fault of the service itself."""
         self._write("fault", what, of)
 
     def _write(self, kind: str, what: str, of: Dict[str, object]) -> None:
@@ -180,7 +180,7 @@ class Log:
         if self.json:
             line = json.dumps({"time": time, "kind": kind, "what": what, **of}, default=str)
         else:
-            # The journal takes the level from such a mark.
+            # The journal reads the level from this mark.
             mark = ("<3>" if kind == "fault" else "<6>") if self._has_time else f"{time} "
             line = mark + " ".join([what, *(f"{name}={_quoted(value)}" for name, value in of.items())])
         print(line, file=sys.stderr, flush=True)
@@ -193,16 +193,16 @@ def _quoted(value: object) -> str:
 
 
 def keep_buffers() -> None:
-    """Has the C library keep the buffers in which asyncio reads, of 256 kB each.
+    """Makes the C library keep the 256 kB buffers of asyncio.
 
-    Else each read may map and unmap its buffer, which takes as long as all the rest of a row. The size from which on the
-    library maps memory grows to that of the greatest piece that was mapped and freed whole.
+    Otherwise each read may map and unmap its buffer, which takes as long as everything else for a row. The library maps
+    memory from a size on that grows to that of the largest mapped piece that was freed.
     """
     bytes(1 << 20)
 
 
 def notify(said: str) -> None:
-    """Tells systemd something, as ``READY=1``, where it waits for that."""
+    """Sends systemd a message such as ``READY=1``, if it waits for one."""
     address = os.environ.get("NOTIFY_SOCKET", "")
     if address:
         with socket.socket(socket.AF_UNIX, socket.SOCK_DGRAM) as to, contextlib.suppress(OSError):
@@ -211,14 +211,14 @@ def notify(said: str) -> None:
 
 
 def watchdog() -> Optional[float]:
-    """How many seconds may pass between two signs of life that systemd wants; None where it wants none."""
+    """How many seconds may pass between two signs of life for systemd; None if it wants none."""
     word = os.environ.get("WATCHDOG_USEC", "")
     mine = os.environ.get("WATCHDOG_PID", str(os.getpid())) == str(os.getpid())
     return int(word) / 1e6 if word.isdecimal() and int(word) and mine else None
 
 
 async def keep_alive(is_well: Callable[[], Any]) -> None:
-    """Gives systemd its signs of life, each after a check that is awaited: one that hangs ends the service."""
+    """Sends systemd signs of life, each after a check. If the check hangs, systemd ends the service."""
     most = watchdog()
     while most:
         await is_well()
@@ -227,18 +227,18 @@ async def keep_alive(is_well: Callable[[], Any]) -> None:
 
 
 class Metrics:
-    """Numbers by their names and labels, as Prometheus reads them."""
+    """Numbers by name and labels, for Prometheus."""
 
     def __init__(self) -> None:
         self._about: Dict[str, str] = {}
         self._values: Dict[str, Dict[str, Union[float, Callable[[], float]]]] = {}
 
     def counter(self, name: str, about: str) -> None:
-        """Names a number that only grows."""
+        """Declares a number that only grows."""
         self._about[name], self._values[name] = f"# HELP {name} {about}\n# TYPE {name} counter", {}
 
     def gauge(self, name: str, about: str, value: Callable[[], float]) -> None:
-        """Names a number that is asked for when it is read."""
+        """Declares a number that a function gives when somebody reads it."""
         self._about[name], self._values[name] = f"# HELP {name} {about}\n# TYPE {name} gauge", {"": value}
 
     def add(self, name: str, labels: str = "", by: float = 1) -> None:

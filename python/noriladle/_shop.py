@@ -1,4 +1,4 @@
-"""What the page and the commands share: the forms of barcodes, label stock, headings of lists, and what to say of a fault.
+"""What the page and the commands share: the forms of barcodes, label stock, headings of lists, and the texts of errors.
 
 python/build puts the files of the repository's folder shop/ beside this module.
 """
@@ -22,6 +22,6 @@ def shared(name: str) -> Any:
 
 
 def said(fault: object, *values: object) -> str:
-    """What to say of a fault, by its name or the number of its refusal, with these values in it."""
+    """The text of an error, by its name or number, with these values in it."""
     told: str = _file("en")["faults"][str(fault)]
     return told.format(*values)

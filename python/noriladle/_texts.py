@@ -1,4 +1,4 @@
-"""Texts as people type and paste them: numbers, element strings as they are printed, and what scanners send."""
+"""Reads texts as people type and paste them: numbers, printed element strings, and what scanners send."""
 from __future__ import annotations
 
 import re
@@ -18,14 +18,14 @@ _WHITE = "".join(sign for sign in map(chr, range(0x3001)) if sign.isspace() and 
 
 
 class Unreadable(ValueError):
-    """Why a text cannot be asked about at all, and what to do."""
+    """Why a text cannot be read at all, and what to do."""
 
 
 def read_text(text: str, year: int, ais: Ais = "all") -> Answer:
     """What a text says: an element string with ``(01)`` or ``[01]`` around each Application Identifier, or with ``^`` or
     byte 29 in it; what a scanner sends, which begins with ``]``; a GS1 Digital Link; or else a number.
 
-    :raises Refusal: as :func:`noriladle.read_scan`; of a number as :func:`noriladle.read_gtin`.
+    :raises Refusal: as :func:`noriladle.read_scan`; for a number as :func:`noriladle.read_gtin`.
     :raises Unreadable: the parentheses are not around Application Identifiers alone.
     """
     text = stripped(text)
@@ -43,7 +43,7 @@ def read_text(text: str, year: int, ais: Ais = "all") -> Answer:
 
 
 def stripped(text: str) -> str:
-    """A text without white space at its ends. Byte 29 is none: it is the separator."""
+    """A text without white space at its ends. Byte 29, the separator, stays."""
     return text.strip(_WHITE)
 
 
@@ -53,7 +53,7 @@ def is_elements(text: str) -> bool:
 
 
 def looks_right(text: str) -> bool:
-    """Whether a cell is written like a text that is asked about, be it right or wrong."""
+    """Whether a cell looks like a number or a text that can be read, right or wrong."""
     text = stripped(text)
     if text[:1] in _BRACKETED or text[:1] in ("]", "^", "\x1d"):
         return bool(re.match(r"[(\[]\d\d|\]\w\d|[\^\x1d]\d\d", text))
@@ -67,8 +67,8 @@ def digits_of(text: str) -> str:
 
 
 def element_string(text: str) -> str:
-    """The element string of a text with parentheses or brackets around each Application Identifier, or else with ``^``
-    or byte 29 for the separator.
+    """The element string of a text that has parentheses or brackets around each Application Identifier, or else ``^`` or
+    byte 29 as the separator.
 
     :raises Unreadable: there are parentheses elsewhere.
     """
@@ -87,7 +87,7 @@ def _pairs(text: str) -> List[Tuple[str, str]]:
 
 
 def remedy_of(text: str, refusal: Refusal) -> str:
-    """What to do about this text: what its digits say, or else what shop/en.json has for the refusal."""
+    """What to do about this text: advice from its digits, or else what shop/en.json has for the error."""
     text = stripped(text)
     if text[:1] == "]" or _LINK.match(text):
         return _remedy_of_scan(text, refusal)
@@ -128,7 +128,7 @@ def _remedy_of_elements(text: str, refusal: Refusal) -> str:
 
 
 def _padded(ai: str, value: str) -> str:
-    """What to do about a GTIN that was written without the zeros that AI 01 and 02 want."""
+    """What to do about a GTIN without the zeros that AI 01 and 02 need."""
     try:
         gtin = read_gtin(value) if ai in ("01", "02") else value
     except Refusal:

@@ -9,7 +9,7 @@ from ._ais import COUNTRIES, CURRENCIES, ROWS
 
 
 class Row(NamedTuple):
-    """What the table says of an Application Identifier."""
+    """What the table says about an Application Identifier."""
 
     predefined: bool
     title: str
@@ -24,14 +24,14 @@ class Place(NamedTuple):
 
 
 class Association(NamedTuple):
-    """What the standard asks of the elements beside one, and is not so."""
+    """What the standard asks of the elements beside this one, and is not so."""
 
     ai: str
     """The Application Identifier of the element."""
     needs: Tuple[str, ...]
-    """It needs one of these, where ``n`` stands for any digit; none if it excludes one."""
+    """It needs one of these; ``n`` stands for any digit. None if it excludes one."""
     excludes: str
-    """It excludes this one, which is there; empty if it needs one."""
+    """It excludes this one, which is present. Empty if it needs one."""
 
     def __str__(self) -> str:
         return f"{self.ai} excludes {self.excludes}" if self.excludes else f"{self.ai} needs {' or '.join(self.needs)}"
@@ -45,7 +45,7 @@ class Doubt(NamedTuple):
     code: str
     """What is in no list."""
     said: str
-    """What it is to be, as ``country``."""
+    """What it should be, such as ``country``."""
 
     def __str__(self) -> str:
         return f"{self.ai}: {self.code} is no {self.said}"
@@ -65,7 +65,7 @@ def rows() -> Dict[str, Row]:
 
 
 def ai_at(text: str) -> Optional[str]:
-    """The Application Identifier that a text begins with: none begins another."""
+    """The Application Identifier at the beginning of a text. No Application Identifier begins another."""
     return next((text[:count] for count in (2, 3, 4) if text[:count] in rows()), None)
 
 
@@ -99,7 +99,7 @@ def number(ai: str, value: str) -> Optional[Decimal]:
 
 
 def unit(ai: str) -> Optional[str]:
-    """The unit of such a number, as ``kg``."""
+    """The unit of such a number, such as ``kg``."""
     if ai[:3] == "337":
         return "kg/m²"
     if _is_measure(ai):
@@ -112,7 +112,7 @@ def unit(ai: str) -> Optional[str]:
 
 
 def currency(ai: str, value: str) -> Optional[str]:
-    """The currency of an amount or a price, as ``EUR``."""
+    """The currency of an amount or a price, such as ``EUR``."""
     return _letters(CURRENCIES, 3).get(value[:3]) if ai[:3] in ("391", "393") and len(ai) == 4 else None
 
 
@@ -126,14 +126,14 @@ def country_codes(ai: str, value: str) -> List[str]:
 
 
 def countries(ai: str, value: str) -> Tuple[str, ...]:
-    """The countries of a value, as ``("DE", "FR")``: those whose codes are known."""
+    """The countries of a value whose codes are known, such as ``("DE", "FR")``."""
     known = set(_letters(COUNTRIES, 2).values())
     letters = (_country(code) or code for code in country_codes(ai, value))
     return tuple(code for code in letters if code in known)
 
 
 def place(ai: str, value: str) -> Optional[Place]:
-    """The place that a value names, in ten millionths of a degree from the South Pole and to the east."""
+    """The place of a value, which counts ten millionths of a degree from the South Pole and to the east."""
     if ai != "4309":
         return None
     east = _scaled(value[10:], 7)
@@ -141,7 +141,7 @@ def place(ai: str, value: str) -> Optional[Place]:
 
 
 def needs_separator(ai: str) -> bool:
-    """Whether a separator stands after an element that is not the last."""
+    """Whether a separator follows this element if another comes after it."""
     row = rows().get(ai)
     return row is None or not row.predefined
 

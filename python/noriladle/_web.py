@@ -1,4 +1,4 @@
-"""Tills that are web pages: each watches a lane by a WebSocket, and is told what a till on a socket is told."""
+"""Tills that are web pages: each watches a lane by a WebSocket, and gets the lines of a till on a socket."""
 from __future__ import annotations
 
 import argparse
@@ -12,7 +12,7 @@ from ._scans import ScanLane
 from .commands import WrongWords
 
 UNREAD = 256
-"""A page that leaves more lines than this untaken is closed."""
+"""A page that leaves more lines than this unread is closed."""
 
 _OF_THIS_MACHINE = re.compile(r"https?://(localhost|127\.0\.0\.1|\[::1\])(:\d+)?")
 
@@ -21,9 +21,9 @@ async def serve(gateway: Gateway, port: int, words: argparse.Namespace) -> Any:
     """Serves ``ws://127.0.0.1:PORT/LANE`` to pages of this machine, and to those of the origins in ``words``; a page that has a token
     adds ``?token=TOKEN``.
 
-    A browser tells the origin of the page, so that no page of somebody else watches what a till sells.
+    The browser sends the origin of the page, so no page of somebody else watches what a till sells.
 
-    :raises WrongWords: the module websockets is not there.
+    :raises WrongWords: the module websockets is not installed.
     """
     try:
         import websockets
@@ -72,7 +72,7 @@ class _Page:
         self._gone.cancel()
 
     async def watch(self, lane: ScanLane) -> None:
-        """Sends the page what its lane tells, until it goes or takes no more."""
+        """Sends the page the lines of its lane, until it goes or reads no more."""
         lines: asyncio.Queue[str] = asyncio.Queue(UNREAD)
 
         def told(line: str) -> None:

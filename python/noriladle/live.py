@@ -11,7 +11,7 @@
     >>> replies[1].answer.elements
     (Element(ai='01', value='00000096385074', date=None, time=None),)
 
-A text from a scanner that reads symbols itself is asked in the same way, and its reply has no number:
+Ask about a text from a scanner that decodes symbols itself in the same way. Its reply has no number:
 
     >>> print(*asyncio.run(read("]E09501101530003", [100])), sep="\\n")
     2 - ]E0 (01)09501101530003
@@ -36,22 +36,22 @@ from . import Ais, Answer, Refusal, _answer_of, _bytes, _refusal, _terms
 __all__ = ["Hub", "HubEnded", "Lane", "Reply", "Widths"]
 
 Widths = Union[Sequence[int], str, bytes]
-"""A row of a scan: the widths of its runs in dots, light and dark in turn, light first and last; or their text, with
-one space between each two. Or the text of a scanner that reads symbols itself, as :func:`noriladle.read_scan` takes
-it."""
+"""A scanned row: the widths of its light and dark bars in pixels, starting and ending with light, as numbers or as a
+text with one space between them. Or the text of a scanner that decodes symbols itself, as for
+:func:`noriladle.read_scan`."""
 
 _WIDEST = 99_999
-"""The widest run of five digits; each above 65,535 is refused as too wide."""
+"""The largest width of five digits; every width above 65,535 is refused as too wide."""
 _PATIENCE = 5
-"""How many seconds the process may take to end, once its input has."""
+"""How many seconds the process may take to end after its input."""
 
 
 class HubEnded(Exception):
-    """The hub's process has ended, or its block was left: what has no reply gets none.
+    """The hub's process has ended, or its block has: calls without a reply get none.
 
-    It is no OSError, so that whoever tries a connection again does not try a dead hub again with it.
+    It is no OSError, so a program that tries connections again does not try a dead hub again.
 
-    ``status`` is that with which the process ended, below 0 the number of a signal; None where it was not waited for.
+    ``status`` is the exit status of the process, or minus the number of a signal; None if nobody waited for it.
     """
 
     def __init__(self, why: str, status: Optional[int] = None) -> None:
@@ -61,31 +61,31 @@ class HubEnded(Exception):
 
 @dataclass(frozen=True)
 class Reply:
-    """What a row, or the text of a scanner, is answered with."""
+    """The reply to a row, or to the text of a scanner."""
 
     lane: int
     number: Optional[int]
-    """The row's number in its lane, from 0. None of the text of a scanner, of what is neither (17, 18, 39 or 44), and
-    of a row after the lane's last number (35): these take none."""
+    """The row's number in its lane, from 0. None for the text of a scanner, for a line that is neither (17, 18, 39 or 44),
+    and for a row after the lane's last number (35)."""
     answer: Union[Answer, Refusal]
-    """What the row or the text says, or why it is refused."""
+    """What the row or the text says, or its error."""
 
     def __str__(self) -> str:
-        """The line of ``gs1_hub live``, but for the lane of 39 and 44, which that does not tell."""
+        """The line of ``gs1_hub live``, except that it also has the lane of errors 39 and 44."""
         return f"{self.lane} {'-' if self.number is None else self.number} {self.answer}"
 
 
 class Lane:
-    """One lane of a hub, of :meth:`Hub.lane`."""
+    """One lane of a hub, from :meth:`Hub.lane`."""
 
     def __init__(self, hub: Hub, number: int) -> None:
         self._hub = hub
         self.number = number
 
     async def read(self, widths: Widths) -> Reply:
-        """The reply to a row or to the text of a scanner, whose answer may be a refusal.
+        """The reply to a row or to the text of a scanner. Its answer may be a refusal.
 
-        Where the call is cancelled, its row may have been submitted, and then it has a number all the same.
+        If you cancel the call, its row may have been submitted already, and then has a number.
 
         :raises HubEnded: the hub has ended before it replied.
         :raises ValueError: a width is below 0, or a text has a line end.
@@ -93,16 +93,16 @@ class Lane:
         return await self.ask(widths)
 
     def ask(self, widths: Widths) -> asyncio.Future[Reply]:
-        """Submits a row at once, and gives its reply to wait for, which may be cancelled as a call of :meth:`read`.
+        """Submits a row at once, and returns a future of its reply, which you may cancel like a call of :meth:`read`.
 
         :raises ValueError: as :meth:`read`.
         """
         return self._hub._ask(self.number, widths)
 
     async def read_all(self, rows: Iterable[Widths], ahead: int = 256) -> AsyncIterator[Reply]:
-        """The replies to rows, in their order. At most ``ahead`` rows (1 or more) are taken before their replies are.
+        """The replies to rows, in their order. It submits at most ``ahead`` rows (1 or more) before their replies come.
 
-        :raises HubEnded: as :meth:`read`; all replies that had come are given before.
+        :raises HubEnded: as :meth:`read`, after all replies that had come.
         :raises ValueError: as :meth:`read`.
         """
         asked: Deque[asyncio.Future[Reply]] = deque()
@@ -121,17 +121,16 @@ class Lane:
 class Hub:
     """A hub of 1 to 16 lanes and 1 to 16 workers, which runs as long as the ``async with`` block.
 
-    ``year``, 1951 to 2149, is the one that dates of two digits are read by, and ``ais`` says which Application
-    Identifiers are read. At most ``most`` rows (1 or more) are in
-    the process at a time; later ones wait for their turn, in the order of the calls. ``program`` is the path of
-    ``gs1_hub``, or the words that start it; where none is given, it is that of the environment's ``GS1_HUB``, or the
-    ``gs1_hub`` of the ``PATH``.
+    ``year``, 1951 to 2149, is the reference year for dates, and ``ais`` says which Application Identifiers are accepted.
+    The process has at most ``most`` rows (1 or more) at a time; later ones wait, in the order of the calls. ``program`` is
+    the path of ``gs1_hub``, or the words that start it: without it the environment's ``GS1_HUB``, or ``gs1_hub`` of the
+    ``PATH``.
 
-    At the end of the block all that was asked is answered first. Where an exception ends it, the process is killed.
+    The end of the block waits for all replies. If an exception ends the block, the process is killed.
 
     :raises ValueError: a number is out of its range.
     :raises OSError: on entering the block, the program cannot be started.
-    :raises RuntimeError: on entering the block, it was entered and has not been left.
+    :raises RuntimeError: on entering the block, it was entered before and has not ended.
     """
 
     def __init__(
@@ -160,7 +159,7 @@ class Hub:
             raise RuntimeError("the hub's block has not been left")
         self._is_entered = True
         try:
-            # A session of its own, so that the Ctrl-C that ends the caller leaves the process to the end of the block.
+            # In its own session, so Ctrl-C ends the caller first, and the end of the block ends the process.
             _, self._process = await asyncio.get_running_loop().subprocess_exec(
                 lambda: _Process(self.lanes, self._most, self._terms), *self._words, start_new_session=True
             )
@@ -188,7 +187,7 @@ class Hub:
         return self._running().pid
 
     def lane(self, number: int) -> Lane:
-        """A lane, 0 or above and below ``lanes``.
+        """The lane of this number, from 0.
 
         :raises ValueError: there is no such lane.
         """
@@ -197,7 +196,7 @@ class Hub:
         return Lane(self, number)
 
     async def ended(self) -> HubEnded:
-        """Waits until the process has ended, whatever ends it, and tells how it ended."""
+        """Waits until the process has ended, for whatever reason, and returns how."""
         gone = self._running().gone
         await asyncio.wait([gone])
         return gone.result()
@@ -212,9 +211,7 @@ class Hub:
 
 
 class _Process(asyncio.SubprocessProtocol):
-    """The process, the rows that it has and has not answered, and those that wait until it has fewer.
-
-    Rows wait only while it has ``most`` of them.
+    """The process, the rows that it has not answered yet, and the rows that wait because it has ``most``.
     """
 
     def __init__(self, lanes: int, most: int, terms: int) -> None:
@@ -231,7 +228,7 @@ class _Process(asyncio.SubprocessProtocol):
         self.gone: asyncio.Future[HubEnded] = self._loop.create_future()
 
     def ask(self, lane: int, widths: Widths) -> asyncio.Future[Reply]:
-        """Submits a row, or lets it wait. Nothing is awaited before, so that rows have the order of the calls."""
+        """Submits a row, or lets it wait. It awaits nothing first, so rows have the order of the calls."""
         record = b"%d,%s\n" % (lane, _text(widths))
         reply: asyncio.Future[Reply] = self._loop.create_future()
         if self._ended:
@@ -245,7 +242,7 @@ class _Process(asyncio.SubprocessProtocol):
         return reply
 
     async def finish(self) -> None:
-        """Waits until all that was asked is answered, and then a few seconds at most until the process has ended."""
+        """Waits for all replies, and then a few seconds at most for the end of the process."""
         self.close()
         asked = [*(reply for _, reply in self._sent), *self._waiting]
         if asked:
@@ -254,11 +251,11 @@ class _Process(asyncio.SubprocessProtocol):
         await asyncio.wait([self.gone], timeout=_PATIENCE)
 
     def close(self) -> None:
-        """Lets nothing more be asked."""
+        """Refuses further calls."""
         self._ended = self._ended or ("the hub's block has ended", None)
 
     def kill(self) -> None:
-        """Ends the process, and what it has started: it is the first of a group of its own."""
+        """Ends the process and what it has started: it leads its own process group."""
         if not self.gone.done():
             with contextlib.suppress(ProcessLookupError):
                 os.killpg(self.pid, signal.SIGKILL)
@@ -281,11 +278,11 @@ class _Process(asyncio.SubprocessProtocol):
                 self.kill()
 
     def process_exited(self) -> None:
-        # What it has started may keep the pipes open.
+        # Processes that it has started may keep the pipes open.
         self.kill()
 
     def connection_lost(self, exc: Optional[Exception]) -> None:
-        """The process has ended, and all that it wrote has come."""
+        """The process has ended, and all its output has come."""
         self._transport.close()
         status = self._transport.get_returncode()
         last = self._error.decode("utf-8", "replace").strip().rpartition("\n")[2]
@@ -298,7 +295,7 @@ class _Process(asyncio.SubprocessProtocol):
 
     def _send(self, lane: int, record: bytes, reply: asyncio.Future[Reply]) -> None:
         if not self._out:
-            # One write of all rows of a turn of the loop.
+            # One write for all rows of a turn of the loop.
             self._loop.call_soon(self._flush)
         self._out.append(record)
         self._sent.append((lane, reply))
@@ -308,13 +305,13 @@ class _Process(asyncio.SubprocessProtocol):
         self._out.clear()
 
     def _take(self, line: bytes) -> None:
-        """Gives a line to the call whose row it answers: they come in the order of the rows."""
+        """Gives a line to the call whose row it answers. Lines come in the order of the rows."""
         asked, reply = self._sent[0]
         lane, number, text = line.decode("ascii").split(" ", 2)
         if lane not in ("-", str(asked)) or number not in ("-", str(self._numbers[asked])):
             raise ValueError("of another row")
         answer = _refusal(text) or _answer_of(text, self._terms)
-        # From here on nothing fails, so that no row is taken off without its reply.
+        # Nothing fails from here on, so no row leaves the list without its reply.
         self._sent.popleft()
         if not reply.done():
             reply.set_result(Reply(asked, None if number == "-" else int(number), answer))
@@ -327,7 +324,7 @@ class _Process(asyncio.SubprocessProtocol):
 
 def _fail(reply: asyncio.Future[Reply], fault: HubEnded) -> None:
     reply.set_exception(fault)
-    # So that nothing is logged of one that is no longer waited for.
+    # So asyncio logs nothing about a future that nobody waits for.
     reply.exception()
 
 
@@ -340,6 +337,6 @@ def _text(widths: Widths) -> bytes:
     if min(widths, default=0) < 0:
         raise ValueError("a width is below 0")
     if max(widths, default=0) > _WIDEST:
-        # So that it is not refused for its six digits.
+        # Otherwise the hub would refuse its six digits.
         widths = [min(width, _WIDEST) for width in widths]
     return " ".join(map(str, widths)).encode("ascii")

@@ -1,4 +1,4 @@
-"""The symbols of a picture, which the library reads from its grey values: docs/PICTURES.md says how."""
+"""Reads the symbols of a picture by its grey values, with the library (docs/PICTURES.md)."""
 from __future__ import annotations
 
 import math
@@ -17,32 +17,32 @@ from . import _MOST, Ais, Box, Refusal, Symbol, _answer_of, _ask, _library, _ref
 Picture = Union[Image.Image, str, "os.PathLike[str]", "numpy.ndarray[Any, Any]"]
 
 FORMATS = ("JPEG", "PNG", "TIFF", "PPM", "BMP", "GIF", "WEBP")
-"""The formats of files that are opened. Others are not, since Pillow runs other programs for some of them."""
+"""The formats of files that it opens. For some others Pillow runs other programs."""
 
 MOST_PIXELS = 100_000_000
-"""The most pixels of a file's picture: a small file may say that it has many more than there is memory for."""
+"""The most pixels of a file's picture: a small file may claim more than memory can hold."""
 
 _BAND = 64
-"""So many rows are made grey at a time."""
+"""How many rows are made grey at a time."""
 _RED, _GREEN, _BLUE = 77, 150, 29
-"""The parts of colours in grey, of 256."""
+"""The weights of red, green and blue in grey, of 256."""
 _ROOM = 80_000
 """Room for the lines of as many symbols as the library reports."""
 _UNIT = 256
 """The library gives places in 1/256 pixel."""
 _OF_THE_CALL = (17, 18, 42, 43)
-"""The refusals of a picture that is not looked at; any other says why none of its rows was read."""
+"""The errors of a picture that cannot be read at all. Any other says why none of its rows was read."""
 
 
 class Shown(NamedTuple):
     """What a picture shows."""
 
     symbols: List[Symbol]
-    """In the order of reading."""
+    """The symbols, in reading order."""
     dropped: int
-    """How many more there was no room for, at least."""
+    """How many more it found, at least."""
     reason: Optional[Refusal]
-    """Without a symbol, the refusal of the row that came furthest; none if no row was like a symbol."""
+    """If there is no symbol, the error of the row that came furthest; None if no row looked like a symbol."""
 
 
 def read(picture: Picture, year: int, level: Optional[int] = None, ais: Ais = "all") -> Shown:
@@ -79,7 +79,7 @@ def _symbol(line: str, terms: int, width: int, height: int) -> Symbol:
 
 
 def grey_of(picture: Picture) -> "numpy.ndarray[Any, Any]":
-    """The grey values of a picture's dots, rows first; what is clear is white."""
+    """The grey values of a picture, rows first; transparent pixels are white."""
     if isinstance(picture, (str, os.PathLike)):
         with opened(picture) as image:
             return grey_of(image)
@@ -95,7 +95,7 @@ def grey_of(picture: Picture) -> "numpy.ndarray[Any, Any]":
     if pixels.ndim != 3 or pixels.shape[2] not in (3, 4):
         raise ValueError(f"a picture has rows of grey values, of RGB or of RGBA, and not the shape {pixels.shape}")
     grey = numpy.empty(pixels.shape[:2], numpy.uint8)
-    # Row by row, or nearly so: the steps of a large picture would take several times its memory.
+    # A few rows at a time: the steps for a whole large picture would need several times its memory.
     for top in range(0, len(pixels), _BAND):
         grey[top:top + _BAND] = _light(pixels[top:top + _BAND])
     return grey
@@ -112,13 +112,13 @@ def _light(pixels: "numpy.ndarray[Any, Any]") -> "numpy.ndarray[Any, Any]":
 
 
 def opened(file: Union[str, "os.PathLike[str]", BinaryIO], page: int = 0) -> Image.Image:
-    """The picture of a file, or one of its pages, from 0; its pixels are not read yet.
+    """The picture of a file, or one of its pages, from 0. Its pixels are not read yet.
 
-    :raises OSError: the file is not there, or has none of the formats.
-    :raises Refusal: 44 ``InputSize`` of more pixels than are read.
+    :raises OSError: the file is missing, or has none of the formats.
+    :raises Refusal: 44 ``InputSize`` if it has too many pixels.
     """
     with warnings.catch_warnings():
-        # The limit below is the one that counts.
+        # The limit below counts instead.
         warnings.simplefilter("ignore", Image.DecompressionBombWarning)
         try:
             image = Image.open(file, formats=FORMATS)

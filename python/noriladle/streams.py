@@ -1,11 +1,11 @@
-"""Lanes on many machines, over Redis Streams: each row gets one answer, in order, whoever dies.
+"""Lanes on many machines, over Redis Streams: each row gets one answer, in order, whichever machine dies.
 
     >>> async def sell(rows):
     ...     shop = Shop(["10.0.0.5:6379", "10.0.0.6:6379"])
     ...     till = Till(shop, "north.3")
     ...     return [await till.read(row) for row in rows]
 
-docs/REDIS.md has the rules that this keeps, why they are enough, and what they want of Redis. Needs python3-hiredis.
+docs/REDIS.md has the rules of this module, why they are enough, and what Redis must guarantee. Needs python3-hiredis.
 """
 from __future__ import annotations
 
@@ -25,9 +25,9 @@ __all__ = ["Entry", "Fault", "NoAnswer", "Shop", "Spent", "Till", "Worker", "ans
 
 BATCH = 256
 SILENCE = 2000
-"""After so many milliseconds without an answer a till submits its rows again."""
+"""Milliseconds without an answer after which a till submits its rows again."""
 CUT = 65_536 + 1
-"""A longer row is cut to so many characters: the hub refuses it as too long all the same, and Redis takes it."""
+"""A longer row is cut to this length: the hub refuses it as too long anyway, and Redis accepts it."""
 
 _HOLD = """
 local holder = redis.call('GET', KEYS[1])
@@ -49,7 +49,7 @@ while #found < 256 and size < 1048576 do
 end
 return found
 """
-"""The rows after an ID, each cut: where somebody has written entries that are too long to be read whole."""
+"""The rows after an ID, each cut, in case somebody has written entries that are too long to read whole."""
 
 
 _LAST = """
@@ -60,11 +60,11 @@ for i = 1, #told, 2 do if told[i] == 'last-generated-id' then return told[i + 1]
 
 
 class Spent(Exception):
-    """A hub's lane has had all its rows: what it answers then is no answer, and a new hub is to be begun."""
+    """A hub's lane has used all its numbers: it needs a new hub."""
 
 
 class NoAnswer(TimeoutError):
-    """A till had no answer in the time that its program gave it."""
+    """A till had no answer in the time that its program allowed."""
 
 
 class Entry(NamedTuple):
@@ -75,7 +75,7 @@ class Entry(NamedTuple):
 
 
 def rows(lane: str) -> str:
-    """The stream of a lane's rows; by the tag in braces all keys of a lane are on one node."""
+    """The stream of a lane's rows. The tag in braces puts all keys of a lane on one node."""
     return f"shop:{{{lane}}}:rows"
 
 
@@ -90,7 +90,7 @@ def lease(lane: str) -> str:
 
 
 def mark(text: str) -> str:
-    """What an answer tells of the row that it answers, so that no till takes it for the answer to another."""
+    """The mark of a row, which its answer repeats, so no till takes it for the answer to another row."""
     return f"{zlib.crc32(text.encode('utf-8', 'replace')):08x}"
 
 
@@ -98,13 +98,13 @@ class Shop(Redis):
     """The streams of lanes, in a Redis Cluster or a Redis."""
 
     async def append(self, stream: str, field: str, entries: Iterable[Tuple[str, ...]]) -> int:
-        """Appends texts under IDs of their own, all or none, with the mark of the row that a text answers, if it is
-        given. Those whose IDs are not above the last stand there already: tells how many."""
+        """Appends texts under their own IDs, all or none, with the mark of the row that a text answers, if you give it.
+        Skips those whose IDs are not above the last, since they are there already, and returns how many these are."""
         commands: List[List[Word]] = [
             ["XADD", stream, name, field, text, *(["of", *of] if of else [])] for name, text, *of in entries]
         replies = await (await self.node(stream)).ask_all([("MULTI",), *commands, ("EXEC",)])
         if isinstance(replies[-1], Fault):
-            # Why the whole was refused is told of the first command that was.
+            # The first refused command says why the whole was refused.
             raise next((reply for reply in replies if isinstance(reply, Fault)), replies[-1])
         faults = [reply for reply in replies[-1] if isinstance(reply, Fault)]
         for fault in faults:
@@ -113,12 +113,12 @@ class Shop(Redis):
         return len(faults)
 
     async def last(self, stream: str) -> str:
-        """The last ID that a stream has had, even if its entry has been taken out."""
+        """The last ID that a stream has had, even if its entry has been removed."""
         node = await self.node(stream)
         try:
             told = await node.ask("XINFO", "STREAM", stream)
         except TooMuch:
-            # Its first or its last entry is told too.
+            # The reply also has its first and last entries.
             return str(await node.ask("EVAL_RO", _LAST, 1, stream))
         except Fault as fault:
             if "no such key" in str(fault):
@@ -127,20 +127,20 @@ class Shop(Redis):
         return str(told[told.index("last-generated-id") + 1])
 
     async def read(self, stream: str, after: str, milliseconds: Optional[int] = None) -> List[Entry]:
-        """The entries after an ID, at most 256; waits so long for the first, or does not wait.
+        """The entries after an ID, at most 256. Waits this long for the first, or does not wait.
 
-        :raises TooMuch: they are longer than may be.
+        :raises TooMuch: they are too long.
         """
         waits: List[Word] = [] if milliseconds is None else ["BLOCK", milliseconds]
         found = await (await self.node(stream)).ask("XREAD", "COUNT", BATCH, *waits, "STREAMS", stream, after)
         return _entries(found[0][1]) if found else []
 
     async def read_cut(self, stream: str, after: str) -> List[Entry]:
-        """The rows after an ID, each at most as long as a row may be, of about 1 MB in all."""
+        """The rows after an ID, each cut to the length of a row, about 1 MB in all."""
         return _entries(await (await self.node(stream)).ask("EVAL_RO", _CUT, 1, stream, after, CUT))
 
     async def trim(self, stream: str, least: str) -> None:
-        """Takes out the entries below an ID."""
+        """Removes the entries below an ID."""
         await (await self.node(stream)).ask("XTRIM", stream, "MINID", "=", least)
 
 
@@ -151,8 +151,8 @@ def _entries(found: Sequence[Tuple[str, Sequence[str]]]) -> List[Entry]:
 class Worker:
     """Answers the rows of the lanes whose leases it holds, by the lanes of a hub.
 
-    A lease, for so many milliseconds, is for speed alone: two workers on one lane would write the same answers. Those
-    that have the same lanes share them evenly.
+    A lease only saves work: two workers on one lane would write the same answers. Workers with the same lanes share them
+    evenly.
     """
 
     def __init__(
@@ -162,7 +162,7 @@ class Worker:
         self.shop, self.name, self.lanes, self.hub, self.milliseconds = shop, name, lanes, hub, milliseconds
         self.held: Dict[str, asyncio.Task[None]] = {}
         self.began: Dict[str, float] = {}
-        """When the rows of each lane were read that have no answer yet."""
+        """For each lane, when it read the rows that have no answer yet."""
         self.stopping = False
         self._left: List[asyncio.Task[None]] = []
         self.given = self.refused = 0
@@ -171,10 +171,10 @@ class Worker:
         self._group = f"shop:workers:{' '.join(sorted(lanes))}"
 
     async def run(self) -> None:
-        """Looks at each lease three times in its time, until it is to stop; then it leaves the group, so that the others
-        take its lanes at their next look, and gives its leases up.
+        """Looks at each lease three times in its lifetime, until it must stop. Then it leaves the group, so the others take
+        its lanes at their next look, and gives up its leases.
 
-        :raises Spent: the hub has had all rows of a lane.
+        :raises Spent: a lane of the hub has used all its numbers.
         """
         try:
             while not self.stopping:
@@ -194,18 +194,18 @@ class Worker:
             await self._try(self._hold, lane, 1)
 
     def stop(self) -> None:
-        """Lets it end."""
+        """Asks it to stop."""
         self.stopping = True
 
     async def _try(self, step: Callable[..., Awaitable[object]], *words: object) -> None:
-        """A step by itself, so that a node that is down holds up the lanes of no other."""
+        """Runs a step on its own, so a node that is down does not delay the lanes of others."""
         try:
             await step(*words)
         except FAULTS as fault:
             await self.shop.rest(fault)
 
     async def _count(self) -> None:
-        """The even share of the lanes, by the workers that were seen in the time of a lease, by the node's clock, which
+        """This worker's even share of the lanes, by the workers that were seen in the lifetime of a lease. The node's clock
         may step."""
         node = await self.shop.node(self._group)
         seconds, microseconds = map(int, await node.ask("TIME"))
@@ -219,7 +219,7 @@ class Worker:
         await (await self.shop.node(self._group)).ask("ZREM", self._group, self.name)
 
     async def _look(self, lane: str) -> None:
-        """Takes a lane whose lease is free, or this worker's since before it was started again; lengthens the lease."""
+        """Takes a lane whose lease is free, or is this worker's from before a restart. Extends the lease."""
         wanted = len(self.held.keys() | {lane}) <= self._share
         if wanted and await self._hold(lane, self.milliseconds):
             if lane not in self.held:
@@ -232,12 +232,12 @@ class Worker:
                 await self._hold(lane, 1)
 
     async def _hold(self, lane: str, milliseconds: int) -> bool:
-        """Takes or lengthens a lease, if no other worker has it; to a millisecond, where it is given up."""
+        """Takes or extends a lease, if no other worker has it. To give it up, it sets a millisecond."""
         node = await self.shop.node(lease(lane))
         return bool(await node.ask("EVAL", _HOLD, 1, lease(lane), self.name, milliseconds))
 
     async def _serve(self, lane: str) -> None:
-        """Answers the rows of a lane, as long as it is held; a batch that is written after that harms nothing."""
+        """Answers the rows of a lane while it holds the lease. A batch that is written later does no harm."""
         me, done = asyncio.current_task(), None
         while self.held.get(lane) is me:
             try:
@@ -245,17 +245,17 @@ class Worker:
                     done = await self.shop.last(answers(lane))
                 done = await self._answer(lane, done)
             except FAULTS as fault:
-                done = None  # Whether the answers were written is not known: go on behind the last that was.
+                done = None  # Nobody knows whether the answers were written: go on after the last that was.
                 await self.shop.rest(fault)
             finally:
                 self.began.pop(lane, None)
 
     async def _answer(self, lane: str, done: str) -> str:
-        """Answers the rows after an ID, without leaving one out, and gives the ID of the last."""
+        """Answers the rows after an ID, without a gap, and returns the ID of the last."""
         try:
             found = await self.shop.read(rows(lane), done, 200)
         except TooMuch:
-            # No till of ours has written such entries; each has its refusal in its place.
+            # No till of ours writes such entries. Each gets an error as its answer.
             self._note("has entries that are too long", lane)
             found = await self.shop.read_cut(rows(lane), done)
         if not found:
@@ -263,7 +263,7 @@ class Worker:
         self.began[lane] = time.monotonic()
         texts = [entry.fields.get("widths", "") for entry in found]
         replies = self.hub.lane(self.lanes.index(lane)).read_all([text.replace("\n", "?")[:CUT] for text in texts])
-        # The numbers are the rows' own: those of the hub begin anew in each process.
+        # Take the rows' own numbers: those of the hub begin again in each process.
         said = []
         async for reply in replies:
             if isinstance(reply.answer, Refusal) and reply.answer.number == 35:
@@ -278,14 +278,14 @@ class Worker:
 
 
 class Till:
-    """The end of a lane that submits its rows and gets their answers.
+    """A till: submits the rows of a lane and gets their answers.
 
-    Its rows are numbered from 0, in a series of its own above those of the lane's earlier tills; with ``series`` and
-    ``start`` it goes on with an earlier one, from the first row whose answer that had not got. At most ``most`` rows
-    wait for their answers. With ``keep`` about so many rows and answers that were read stay in the streams, and older
-    ones are taken out; otherwise all stay. ``note`` is told once when no answer has come for 2 seconds. Where none has
-    come for ``patience`` seconds, the call raises :class:`NoAnswer`; without it, it waits. A call that ended so, or was
-    cancelled, is the till's last one.
+    Its rows are numbered from 0, in its own series above those of the lane's earlier tills. With ``series`` and ``start``
+    it continues an earlier series, from the first row whose answer that till did not get. At most ``most`` rows wait for
+    their answers. With ``keep`` about that many answered rows stay in the streams, and older ones are removed; otherwise
+    all stay. If no answer comes for 2 seconds, the till calls ``note`` once. If none comes for ``patience`` seconds, the
+    call raises :class:`NoAnswer`; without ``patience`` it waits. After such an error, or after you cancel a call, the till
+    cannot be used again.
     """
 
     def __init__(
@@ -301,7 +301,7 @@ class Till:
         self._repeats = series is not None
         self._goes_on = series is not None
         self._stood = start
-        """The rows below this one were submitted by the till that this one goes on for."""
+        """The till that this one continues has submitted the rows below this one."""
         self._trimmed = start
         self._since = time.monotonic()
         self._is_told = False
@@ -313,7 +313,7 @@ class Till:
     async def read_all(self, texts: Iterable[str]) -> AsyncIterator[Tuple[int, str]]:
         """The number of each row and its answer, in the order of the rows.
 
-        :raises LookupError: another has written to the lane.
+        :raises LookupError: another till has written to the lane.
         :raises NoAnswer: none has come in time.
         """
         rest = iter(texts)
@@ -330,7 +330,7 @@ class Till:
                 self._wait()
             for entry in found:
                 if not self._kept and entry.name.startswith(f"{self.series}-") and self._first < self._stood:
-                    break  # The answer to a row that the till before had submitted, and this one has not come to yet.
+                    break  # The answer to a row of the earlier till, which this one has not reached yet.
                 if not self._kept or entry.name != self._name(self._first):
                     raise LookupError(f"lane {self.lane}: an answer to {entry.name}, which is not the next row")
                 if entry.fields.get("of", "") != mark(self._kept[0]):
@@ -341,7 +341,7 @@ class Till:
                 yield self._first - 1, entry.fields["answer"]
 
     def _wait(self) -> None:
-        """Tells that no answer comes; after the time of the program, by a fault."""
+        """Reports that no answer comes; raises an error after the program's time."""
         silent = time.monotonic() - self._since
         if self._patience is not None and silent >= self._patience:
             raise NoAnswer(f"lane {self.lane}: no answer for {self._patience:g} seconds")
@@ -358,21 +358,21 @@ class Till:
         return f"{self.series}-{number}"
 
     def _take(self, rest: Iterator[str]) -> int:
-        """Keeps as many rows more as may wait, and tells how many do."""
+        """Takes more rows, as many as may wait, and returns how many wait."""
         more = [text[:CUT] for text in islice(rest, self.most - len(self._kept))]
         self._kept.extend(more)
         self.number += len(more)
         return len(self._kept)
 
     def _repeat(self) -> None:
-        """It is not known which rows stand there: all that have no answer are to be submitted again."""
+        """Nobody knows which rows are there: submit all without an answer again."""
         self._sent, self._repeats = 0, True
         self.repeated += 1
 
     async def _turn(self) -> List[Entry]:
-        """Submits the next rows, and gives the answers that are there; once all are submitted, it waits for one."""
+        """Submits the next rows, and returns the answers that are there. When all rows are submitted, waits for one."""
         if self.series is None:
-            # At random above the last, so that no other till, nor one whose rows a node has lost, has had the same.
+            # Random, above the last: no other till has the same, not even one whose rows a node has lost.
             self.series = 1 + int((await self.shop.last(rows(self.lane))).partition("-")[0]) + random.getrandbits(40)
             if self.series >= 2 ** 64:
                 raise LookupError(f"lane {self.lane}: somebody has taken the last IDs of its stream; take another lane")
@@ -401,7 +401,7 @@ class Till:
         self._repeats = self._repeats and self._sent < len(self._kept)
 
     async def _trim(self) -> None:
-        """Takes out what the till, which alone knows it, has read: by ID, so that what has no answer stays."""
+        """Removes what the till has read, by ID, so rows without an answer stay. Only the till knows this."""
         if self.keep is not None and self._first - self.keep >= self._trimmed + BATCH:
             self._trimmed = self._first - self.keep
             for stream in (rows(self.lane), answers(self.lane)):

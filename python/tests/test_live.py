@@ -22,7 +22,7 @@ from noriladle import Answer, Element, Refusal, live
 from noriladle.live import Hub, HubEnded
 
 sys.path.insert(0, str(Path(__file__).parents[2] / "tests" / "live"))
-from shop import EAN13, PROGRAM, random_lanes  # noqa: E402
+from program_and_rows import EAN13, PROGRAM, random_lanes  # noqa: E402
 
 LIMIT = 120
 WIDTHS = [int(width) for width in EAN13.split()]
@@ -42,7 +42,7 @@ def stop(hub):
 
 
 def is_gone(pid):
-    """Whether a process has ended; where it has not, it is killed, so that a test that fails leaves none."""
+    """Whether a process has ended. If not, it is killed, so a failing test leaves none."""
     try:
         os.kill(pid, signal.SIGKILL)
     except ProcessLookupError:

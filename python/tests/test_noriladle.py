@@ -132,7 +132,7 @@ def test_finds_each_symbol_of_packed_dots():
 
 @pytest.mark.parametrize("seed", range(20))
 def test_finds_in_packed_dots_what_it_finds_in_their_widths(seed):
-    # Symbols and noise, of so many runs that they are searched in several parts.
+    # Symbols and noise with so many runs that the search takes several parts.
     chance = random.Random(seed)
     widths = [0, 40]
     while len(widths) < 5000:
@@ -226,7 +226,7 @@ def test_reads_what_scanners_send():
 
 
 def test_reads_a_upce_as_a_scanner_sends_it():
-    """Its eight digits, of which some are a GTIN-8 too: the product is that of the symbol."""
+    """Its eight digits; some are also a GTIN-8, but the product is that of the symbol."""
     assert noriladle.read_scan("]E001234565", 2026) == Answer("]E0", (Element("01", "00012345000065"),))
     assert noriladle.read_scan("]E001200003", 2026).gtin == "00012000000003"
     assert noriladle.read_gtin("01234565") == "00000001234565"

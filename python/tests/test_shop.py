@@ -267,7 +267,7 @@ def test_read_as_json(picture, capsys):
 
 
 def png(width, height):
-    """The head of a PNG that says it has so many pixels."""
+    """The head of a PNG that says it has this many pixels."""
     def chunk(name, data):
         return struct.pack(">I", len(data)) + name + data + struct.pack(">I", zlib.crc32(name + data))
     return b"\x89PNG\r\n\x1a\n" + chunk(b"IHDR", struct.pack(">IIBBBBB", width, height, 8, 0, 0, 0, 0)) + chunk(b"IDAT", zlib.compress(b"\0" * 100))

@@ -22,7 +22,7 @@ def day(draw, zero):
 
 
 def digits(draw, decimals):
-    """Digits of an amount with so many decimals."""
+    """Digits of an amount with this many decimals."""
     count = draw.randint(decimals + 1, 15)
     return f"{draw.randrange(10**count):0{count}}"
 

@@ -1,7 +1,7 @@
 """The subcommands of ``noriladle``, a module each, and what they share.
 
 A module has a docstring, whose first line is the help's first line and whose rest stands below the options;
-``add_arguments``, which adds its arguments to a parser; and ``run``, which runs the command and gives its status.
+``add_arguments``, which adds its arguments to a parser; and ``run``, which runs the command and returns its status.
 :mod:`noriladle.__main__` has the table of them, and imports a module only when its command is asked for.
 """
 from __future__ import annotations
@@ -18,12 +18,12 @@ from typing import Any, Dict, List, Sequence, Tuple
 from .. import Answer
 
 RIGHT, REFUSED, WRONG_WORDS = 0, 1, 2
-"""The statuses: all is well; something was refused, not found or not written; the words are wrong, or a file that they
-name cannot be read."""
+"""The exit statuses: all is well; something was refused, not found or not written; the arguments are wrong, or name a
+file that cannot be read."""
 
 
 class WrongWords(Exception):
-    """What is wrong with the words, in one line that says what to do. The command ends with status 2."""
+    """What is wrong with the arguments, in one line that says what to do. The command ends with status 2."""
 
 
 def tell(said: str) -> None:
@@ -32,7 +32,7 @@ def tell(said: str) -> None:
 
 
 def add_year(parser: argparse.ArgumentParser) -> None:
-    """Adds the option for the year that dates of two digits are read by."""
+    """Adds the option for the reference year of dates."""
     parser.add_argument("--year", type=_year, default=datetime.date.today().year, metavar="YEAR",
                         help="Reference year for years of two digits, 1951 to 2149 [default: this year]")
 
@@ -50,8 +50,8 @@ def _year(word: str) -> int:
 
 
 def write_files(files: Sequence[Tuple[Path, bytes]]) -> None:
-    """Writes all files or none: each is written beside its place, and only then all are moved there. What is no regular
-    file, such as a pipe or a device, is written in its place.
+    """Writes all files or none: writes each beside its place, and then moves all there. A pipe or a device is written in
+    its place.
 
     :raises OSError: a file cannot be written.
     """
@@ -76,14 +76,14 @@ def write_files(files: Sequence[Tuple[Path, bytes]]) -> None:
 
 
 class Progress:
-    """A line of progress at a terminal, after a second or at once; it is wiped away at the end."""
+    """A line of progress at a terminal, after a second or at once. It disappears at the end."""
 
     def __init__(self) -> None:
         self._since = self._last = time.monotonic()
         self._wide = 0
 
     def __call__(self, said: str, at_once: bool = False) -> None:
-        """Shows what is being done, at most ten times a second."""
+        """Shows the progress, at most ten times a second."""
         now = time.monotonic()
         if not sys.stderr.isatty() or not at_once and (now - self._since < 1 or now - self._last < 0.1):
             return
@@ -93,7 +93,7 @@ class Progress:
         self._wide = len(said)
 
     def end(self) -> None:
-        """Wipes the line away."""
+        """Clears the line."""
         if self._wide:
             sys.stderr.write(f"\r{'':<{self._wide}}\r")
             sys.stderr.flush()

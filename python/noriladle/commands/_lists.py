@@ -1,4 +1,4 @@
-"""What the commands that take a list share: its words, and its bytes."""
+"""What the commands with a list share: its arguments and its bytes."""
 from __future__ import annotations
 
 import argparse
@@ -18,9 +18,9 @@ def add_list(parser: argparse.ArgumentParser) -> None:
 
 
 def columns_of(words: argparse.Namespace) -> Dict[str, str]:
-    """What the words say of the columns.
+    """What the arguments say about the columns.
 
-    :raises WrongWords: a column is nothing that is known.
+    :raises WrongWords: a column has an unknown meaning.
     """
     columns = {}
     for word in words.column:
@@ -38,7 +38,7 @@ def name_of(words: argparse.Namespace) -> str:
 
 
 def read_list(words: argparse.Namespace) -> bytes:
-    """What the list has: one byte more than it may have, if it is too long.
+    """The bytes of the list; one more than the limit, if it is too long.
 
     :raises WrongWords: it cannot be read.
     """

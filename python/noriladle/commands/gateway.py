@@ -39,9 +39,9 @@ from ..live import Hub
 from . import REFUSED, RIGHT, WrongWords, add_ais, add_year
 
 _AT_WORK = ("idle", "kept", "connections", "log", "json", "origin", "rights")
-"""The options that SIGHUP changes in a gateway that runs."""
+"""The options that SIGHUP changes while a gateway runs."""
 HANDSHAKE = 5.0
-"""So many seconds a client has to begin TLS."""
+"""How many seconds a client has to begin TLS."""
 
 
 def add_arguments(parser: argparse.ArgumentParser) -> None:
@@ -66,14 +66,14 @@ def add_arguments(parser: argparse.ArgumentParser) -> None:
                         help="Close a connection that sends no whole line, or takes nothing, for this long [default: 60]")
     parser.add_argument("--elements", action="store_true", help="Write elements as gs1_hub live --elements does")
     parser.add_argument("--token", action=_NewToken, help="Print a new token and its line for the table of rights, and exit")
-    parser.set_defaults(rights=all_rights())  # A table of the file of options.
+    parser.set_defaults(rights=all_rights())  # A table of the option file.
     add_year(parser)
     add_ais(parser)
     _service.add_arguments(parser)
 
 
 class _NewToken(argparse.Action):
-    """Prints a token, for its holder, and its line for the table of rights."""
+    """Prints a token for its holder, and its line for the table of rights."""
 
     def __init__(self, **words: Any) -> None:
         super().__init__(nargs=0, **words)
@@ -96,7 +96,7 @@ def run(words: argparse.Namespace) -> int:
 
 
 def _tls_of(words: argparse.Namespace) -> Optional[ssl.SSLContext]:
-    """What the port speaks TLS by, if it does."""
+    """The TLS context of the port, if it has one."""
     if not (words.cert and words.key):
         if words.cert or words.key or words.ca:
             raise WrongWords("--cert and --key belong together, and --ca to both")
@@ -115,7 +115,7 @@ def _tls_of(words: argparse.Namespace) -> Optional[ssl.SSLContext]:
 
 @contextlib.contextmanager
 def _taken(path: Optional[str]):  # type: ignore[no-untyped-def]
-    """Has a lock beside the socket, so that no second gateway takes its place."""
+    """Holds a lock beside the socket, so no second gateway takes its place."""
     if not path:
         yield
         return
@@ -128,7 +128,7 @@ def _taken(path: Optional[str]):  # type: ignore[no-untyped-def]
 
 
 async def _run(hub: Hub, words: argparse.Namespace) -> str:
-    """Serves until it is told to stop, or the hub ends; how that ended, if it did."""
+    """Serves until it is told to stop, or the hub ends. Returns how the hub ended, if it did."""
     loop, metrics, log = asyncio.get_running_loop(), Metrics(), Log(words.log, words.json)
     async with hub:
         ended = asyncio.ensure_future(hub.ended())
@@ -158,7 +158,7 @@ async def _run(hub: Hub, words: argparse.Namespace) -> str:
 
 
 async def _listen(gateway: Gateway, words: argparse.Namespace, ended: asyncio.Future) -> List[asyncio.AbstractServer]:  # type: ignore[type-arg]
-    """Opens the sockets, of which that in the file system is for its owner and group alone."""
+    """Opens the sockets. Only owner and group may use that in the file system."""
     servers: List[asyncio.AbstractServer] = []
 
     def connected(reader: asyncio.StreamReader, writer: asyncio.StreamWriter):  # type: ignore[no-untyped-def]
@@ -183,13 +183,13 @@ async def _listen(gateway: Gateway, words: argparse.Namespace, ended: asyncio.Fu
 
 
 def _named(name: str, server: asyncio.AbstractServer) -> asyncio.AbstractServer:
-    """Prints the port of a server, which may have been a free one."""
+    """Prints the port of a server, since the system may have chosen it."""
     print(name, server.sockets[0].getsockname()[1], file=sys.stderr, flush=True)  # type: ignore[attr-defined]
     return server
 
 
 def _load_again(gateway: Gateway, words: argparse.Namespace) -> None:
-    """Reads the file of options again, and takes what a gateway that runs can take."""
+    """Reads the option file again, and applies what it can while the gateway runs."""
     notify("RELOADING=1")
     try:
         loaded = words.load_again()
@@ -205,7 +205,7 @@ def _load_again(gateway: Gateway, words: argparse.Namespace) -> None:
     gateway.kept = min(words.kept, gateway.hub.lanes - 1) if words.unix and words.port is not None else 0
     gateway.change_rights(words.rights)
     if words.tls:
-        # A new certificate may stand in its file.
+        # The file may have a new certificate.
         try:
             words.tls.load_cert_chain(words.cert, words.key)
         except OSError as fault:

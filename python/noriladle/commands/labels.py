@@ -126,7 +126,7 @@ def _count(number: int, thing: str) -> str:
 def _form(words: argparse.Namespace) -> str:
     """What is to be written, by a word or by the end of the file's name.
 
-    :raises WrongWords: there is no such form, or no such folder, or a terminal would show it.
+    :raises WrongWords: there is no such format or no such folder, or the output would go to a terminal.
     """
     ending = Path(words.output).suffix[1:].lower()
     form: str = words.to or ("pdf" if words.output == "-" else ending)
@@ -142,7 +142,7 @@ def _form(words: argparse.Namespace) -> str:
 def _files(made: Labels, form: str, words: argparse.Namespace) -> List[Tuple[Path, bytes]]:
     """What is written of labels, file by file: those of a page each have its number.
 
-    :raises WrongWords: several files are to go to standard output.
+    :raises WrongWords: several files would go to standard output.
     """
     title = "labels" if words.list == "-" else Path(words.list).stem
     if form in ("svg", "png"):
@@ -170,12 +170,12 @@ def _write(output: str, files: Sequence[Tuple[Path, bytes]]) -> None:
 
 
 def _more(lines: Sequence[int]) -> str:
-    """How many further lines have the same."""
+    """How many more lines have the same error."""
     return f" (and {_count(len(lines) - 1, 'more line')})" if len(lines) > 1 else ""
 
 
 def _tell_faults(name: str, faults: Sequence[Fault]) -> None:
-    """Tells each fault, once if several lines have it."""
+    """Reports each error once, even if several lines have it."""
     lines: Dict[str, List[int]] = {}
     for line, said in faults:
         lines.setdefault(said, []).append(line)

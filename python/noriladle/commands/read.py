@@ -27,13 +27,13 @@ if TYPE_CHECKING:
     from PIL import Image
 
 DPI = 300
-"""So many pixels an inch the pages of PDF files are drawn with."""
+"""The pixels per inch of pages of PDF files."""
 
 _PATIENCE = 60
-"""So many seconds pdftoppm may take for a page."""
+"""How many seconds pdftoppm may take for a page."""
 _MOST_PAGES, _MOST_BYTES = 10_000, 1_000_000_000
 _DAMAGES = (OSError, ValueError, SyntaxError, EOFError, IndexError, KeyError, TypeError, struct.error, zlib.error)
-"""What Pillow raises at files that are damaged."""
+"""What Pillow raises for damaged files."""
 _PHOTOS_OF_TELEPHONES = (b"ftypheic", b"ftypheix", b"ftyphevc", b"ftypmif1", b"ftypmsf1", b"ftypavif")
 
 
@@ -62,10 +62,10 @@ class Unopened(Exception):
 
 
 def run(words: argparse.Namespace) -> int:
-    """Reads each picture, and prints a line of each barcode."""
-    from .. import picture  # Says what is to be installed, before any file is looked at.
+    """Reads each picture, and prints a line for each barcode."""
+    from .. import picture  # Says what you must install, before it opens any file.
 
-    # Pillow warns of damages that do not keep it from reading.
+    # Pillow warns about damage that does not keep it from reading.
     warnings.simplefilter("ignore")
     status, progress, is_later = RIGHT, Progress(), False
     for count, name in enumerate(words.pictures, 1):
@@ -111,7 +111,7 @@ def _told(page: Page, symbol: Symbol, as_json: bool) -> str:
 def _pages_of(name: str) -> Iterator[Page]:
     """The pictures of a file.
 
-    :raises Refusal: 44 ``InputSize`` of too many pixels.
+    :raises Refusal: 44 ``InputSize`` for too many pixels.
     :raises Unopened: the file cannot be read, or is no picture.
     """
     try:
@@ -176,11 +176,11 @@ def _sizes(data: bytes) -> List[Tuple[float, float]]:
 
 
 def _run(words: List[str], data: bytes, number: int) -> bytes:
-    """What a program of poppler's makes of a PDF file.
+    """The output of a program of poppler's for a PDF file.
 
     :raises Unopened: it fails, or takes too long.
     """
-    import subprocess  # Not at every start.
+    import subprocess  # Imported only here, since it takes time.
 
     try:
         run = subprocess.run(words, input=data, stdout=subprocess.PIPE, stderr=subprocess.PIPE, timeout=_PATIENCE)

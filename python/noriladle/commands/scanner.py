@@ -29,11 +29,11 @@ from .._service import notify
 from . import REFUSED, RIGHT, WrongWords, add_ais, add_year, tell
 
 CUT = 1_024
-"""A longer text is cut to so many bytes: no symbol has as many, and it is refused all the same."""
+"""A longer text is cut to this many bytes: no symbol has as many, and the hub refuses it anyway."""
 ENDLESS = 2.0
-"""A text that has not ended so many seconds after its last byte has no end."""
+"""A text that has not ended this many seconds after its last byte has no end."""
 PATIENCE = 3.0
-"""When the scanner is unplugged, so many seconds at most are left to tell the till what was lost."""
+"""How many seconds at most remain, after the scanner is unplugged, to report to the till what was lost."""
 
 _INPUT = 13  # The major number of event devices.
 _GTIN = re.compile(r"\S+ (?:\(01\)|01=)([0-9]{14})")
@@ -47,7 +47,7 @@ def add_arguments(parser: argparse.ArgumentParser) -> None:
     parser.add_argument("device", metavar="DEVICE", help="A serial line, such as /dev/ttyACM0, or an event device, such as /dev/input/event5")
     parser.add_argument("--gateway", metavar="PATH", help="Give the texts to the gateway at this UNIX socket")
     parser.add_argument("--lane", metavar="NAME", help="Lane of the scanner [default: the device's name, such as ttyACM0]")
-    parser.set_defaults(lanes={})  # A table of the file of options: the lanes of devices.
+    parser.set_defaults(lanes={})  # A table of the option file: the lanes of devices.
     parser.add_argument("--keyboard", action="store_true", help="Take the device for a keyboard, whatever its name")
     parser.add_argument("--baud", type=_baud, default=9600, metavar="RATE", help="Bits a second of a serial line [default: 9600]")
     parser.add_argument("--type", choices=("gtin", "elements"), metavar="WHAT",
@@ -80,7 +80,7 @@ def run(words: argparse.Namespace) -> int:
 
 
 def _lane_of(device: str, lanes: object) -> str:
-    """The lane of a device by the table of the file of options, whose names may be links to it; else its own name."""
+    """The lane of a device by the table of the option file, whose names may be links to it; else the device's name."""
     assert isinstance(lanes, dict)
     named = [lane for path, lane in lanes.items() if os.path.realpath(path) == os.path.realpath(device)]
     return str(named[0]) if named else os.path.basename(device)
@@ -107,7 +107,7 @@ def _open_typist() -> int:
 
 
 class Texts:
-    """The texts of a scanner, of the pieces in which they come."""
+    """Puts the texts of a scanner together from the pieces in which they come."""
 
     def __init__(self) -> None:
         self.rest = b""
@@ -121,7 +121,7 @@ class Texts:
         return [text[:CUT] for text in ended if text]
 
     def is_endless(self) -> bool:
-        """Whether the rest has waited for its end too long; it is dropped then."""
+        """Whether the rest has waited too long for its end. Then it is dropped."""
         if not self.rest or time.monotonic() < self.since + ENDLESS:
             return False
         self.rest = b""
@@ -139,7 +139,7 @@ class _Scanner:
         self._link = Link(words.gateway, lane, self._said, self._note) if words.gateway else None
 
     def run(self) -> int:
-        """Serves until the scanner is unplugged or a signal comes, and then until what was scanned is answered."""
+        """Serves until the scanner is unplugged or a signal comes, and then until all scans are answered."""
         woken, wake = os.pipe()
         os.set_blocking(wake, False)
         signal.set_wakeup_fd(wake)
@@ -160,7 +160,7 @@ class _Scanner:
         self._is_plugged, self._ended = False, time.monotonic()
 
     def _wait(self, woken: int, most: float) -> None:
-        """Waits for the device, the gateway, a signal or a time, and does what there is to do."""
+        """Waits for the device, the gateway, a signal or a time, and handles it."""
         if self._link:
             self._link.step()
         link, ends = self._link, select.poll()
@@ -189,7 +189,7 @@ class _Scanner:
         return min(steps)
 
     def _read(self) -> None:
-        """Takes what has come of the device; none when it is unplugged."""
+        """Reads from the device; None if it is unplugged."""
         try:
             some = os.read(self._device, 100 * EVENT.size)
         except BlockingIOError:
@@ -240,7 +240,7 @@ def _checked(text: bytes, year: int, ais: Ais) -> str:
 
 
 def _type(device: int, what: str, said: str) -> None:
-    """Types what an answer says, if it has it, and Enter."""
+    """Types the GTIN or the elements of an answer, if it has them, and Enter."""
     found = _GTIN.match(said)
     typed = said.partition(" ")[2] if what == "elements" else digits_of(found[1]) if found else ""
     if typed:
@@ -248,6 +248,6 @@ def _type(device: int, what: str, said: str) -> None:
 
 
 def digits_of(gtin: str) -> str:
-    """The digits of a GTIN as tills look them up: 8 of a GTIN-8, else 13, or 14 if the first is not 0."""
+    """The digits of a GTIN as tills look them up: 8 for a GTIN-8, else 13, or 14 if the first is not 0."""
     return gtin[6:] if gtin.startswith("000000") else gtin[1:] if gtin.startswith("0") else gtin
 

@@ -41,7 +41,7 @@ def run(words: argparse.Namespace) -> int:
 
 
 async def _run(words: argparse.Namespace) -> int:
-    """In turns, so that no answer waits for a later row: the rows that are there are submitted and answered."""
+    """Submits the rows that are there and waits for their answers, turn by turn, so no answer waits for a later row."""
     shop = shop_of(words, Log())
     till = Till(shop, words.lane, keep=words.keep, patience=words.patience, note=Log().fault)
     for lines in turns():
@@ -52,7 +52,7 @@ async def _run(words: argparse.Namespace) -> int:
 
 
 def turns() -> Iterator[List[str]]:
-    """The lines of the standard input, as many as are there at each read; the last may have no end."""
+    """The lines of standard input, as many as each read gives. The last one may have no line end."""
     rest = b""
     while True:
         some = os.read(0, 65_536)

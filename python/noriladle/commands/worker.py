@@ -32,7 +32,7 @@ _RIGHTS = (
     "(+xadd +xtrim %W~shop:{LANE}:rows) (+xread %R~shop:{LANE}:answers) (+xtrim %W~shop:{LANE}:answers)",
     "ACL SETUSER default off",
 )
-"""The lists of rights, in the order in which a node is to take them: the last one ends whoever has no name."""
+"""The access control lists, in the order in which a node must apply them: the last one cuts off clients without a name."""
 
 
 def add_redis(parser: argparse.ArgumentParser) -> None:
@@ -47,9 +47,9 @@ def add_redis(parser: argparse.ArgumentParser) -> None:
 
 
 def shop_of(words: argparse.Namespace, log: Log) -> Shop:
-    """The Redis that the words name.
+    """The Redis that the arguments name.
 
-    :raises WrongWords: they name none, or a file that cannot be read.
+    :raises WrongWords: they name none, or name a file that cannot be read.
     """
     if not words.redis or not all(re.fullmatch(r"\S+:\d{1,5}", address) for address in words.redis):
         raise WrongWords("name a node of Redis: --redis HOST:PORT")
@@ -96,13 +96,13 @@ def run(words: argparse.Namespace) -> int:
 
 
 def rights(lanes: List[str]) -> List[str]:
-    """The lists of rights for the workers and for the till of each lane, as commands to each node."""
+    """The access control lists for the workers and for the till of each lane, as commands for each node."""
     worker, till, default = _RIGHTS
     return [worker, *(till.replace("LANE", lane) for lane in lanes), default]
 
 
 class _Work:
-    """A worker that runs, and what an operator sees of it."""
+    """A running worker, and what an operator sees of it."""
 
     def __init__(self, words: argparse.Namespace, lanes: List[str], log: Log) -> None:
         self._words, self._lanes, self._log = words, lanes, log
@@ -128,7 +128,7 @@ class _Work:
         return self._worker.began if self._worker else {}
 
     async def run(self) -> int:
-        """Works until it is told to stop; a hub that has had all rows of a lane is followed by a new one."""
+        """Works until it is told to stop. If a lane of the hub has used all its numbers, starts a new hub."""
         loop = asyncio.get_running_loop()
         for number in (signal.SIGTERM, signal.SIGINT):
             loop.add_signal_handler(number, self._stop)

@@ -5,8 +5,8 @@
     >>> labels.pdf()[:5]
     b'%PDF-'
 
-Nothing is made of a list that has a fault: :class:`Faults` names each, by its line. The proved library reads each label as
-it is drawn, and it must say what the list says.
+If a list has errors, nothing is made: :class:`Faults` has each with its line. The proved library reads each drawn label,
+which must say what the list says.
 
 Needs reportlab and Pillow: ``pip install noriladle[labels]``, or Debian's python3-reportlab.
 """
@@ -41,30 +41,30 @@ MOST_LABELS = 100_000
 _Given = TypeVar("_Given")
 _Made = TypeVar("_Made")
 Progress = Callable[[int, int], None]
-"""What is told how many labels are done, of how many."""
+"""Called with how many labels are done, and how many there are."""
 
 
 class PriceList(NamedTuple):
-    """A list as it was read, and what is wrong with its other lines."""
+    """The articles of a list, and the errors of its other lines."""
 
     articles: Sequence[Article]
     faults: Sequence[Fault] = ()
     note: str = ""
-    """What was taken for what, if the headings do not say it."""
+    """What each column was taken for, if the headings do not say it."""
     encoding: str = ""
 
 
 class LabelWarning(NamedTuple):
-    """What a person should know of the labels of some lines."""
+    """A warning about the labels of some lines."""
 
     lines: Tuple[int, ...]
-    """The first is the worst, and the one that is spoken of."""
+    """The lines. The first is the worst, and the warning is about it."""
     said: str
 
 
 @dataclass(frozen=True)
 class Labels:
-    """Labels that are drawn, each once."""
+    """Drawn labels, each once."""
 
     drawings: Tuple[Tuple[Article, Drawing], ...]
     stock: Stock
@@ -72,11 +72,11 @@ class Labels:
     start: int
     """The cell of the first sheet that the first label is in, from 0."""
     shift: Tuple[float, float] = (0.0, 0.0)
-    """So far to the right and down all labels are moved, in mm."""
+    """How far all labels are moved to the right and down, in mm."""
 
     @property
     def warnings(self) -> List[LabelWarning]:
-        """What a person should know of these labels."""
+        """The warnings about these labels."""
         told: Dict[str, List[Tuple[Article, Warned]]] = {}
         for article, drawing in self.drawings:
             for warned in drawing.warnings:
@@ -122,30 +122,30 @@ class Labels:
         return (png_of(page, self.stock, self.look) for page in self.pages())
 
     def zpl(self) -> bytes:
-        """All labels, for a label printer that takes ZPL II and makes the copies itself."""
+        """All labels as ZPL II. The printer makes the copies itself."""
         return b"".join(zpl_of(image, copies) for image, copies in self._images())
 
     def epl(self) -> bytes:
-        """The same in EPL2."""
+        """All labels as EPL2."""
         return b"".join(epl_of(image, self.look, copies) for image, copies in self._images())
 
     def tspl(self) -> bytes:
-        """The same in TSPL."""
+        """All labels as TSPL."""
         return b"".join(tspl_of(image, self.stock, copies) for image, copies in self._images())
 
     def _images(self) -> Iterator[Tuple[Image.Image, int]]:
-        """The dots of each label that is printed, and how many copies it has."""
+        """The dots of each label, and how many copies it has."""
         return ((image_of(drawing, self.look.turned), article.copies) for article, drawing in self.drawings if article.copies)
 
 
 def _warning(name: str, found: Sequence[Tuple[Article, Warned]]) -> LabelWarning:
-    """One warning for several labels, the worst of which comes first."""
+    """One warning for several labels, the worst first."""
     ranked = sorted(found, key=lambda it: it[1].rank)
     return LabelWarning(tuple(article.line for article, _ in ranked), said(name, *ranked[0][1].own))
 
 
 def read_list(data: bytes, year: int, columns: Optional[Mapping[str, str]] = None) -> PriceList:
-    """The articles of a CSV file, and what is wrong with its lines. ``columns`` names headings of one's own, as
+    """The articles of a CSV file, and the errors of its other lines. ``columns`` names your own headings, such as
     ``{"name": "Ware"}``, or columns by their numbers from 1.
 
     :raises Faults: nobody can say what its columns are.
@@ -159,10 +159,10 @@ def make(
     prices: PriceList, stock: Stock, year: int, *, look: Look = Look(), start: int = 1, currency: str = "",
     fonts: Optional[Fonts] = None, shift: Tuple[float, float] = (0.0, 0.0), progress: Progress = lambda done, of: None
 ) -> Labels:
-    """The labels of a list, from a cell of the first sheet on, 1 being its first. The currency is put behind prices that are
-    numbers alone.
+    """The labels of a list. ``start`` is the first free cell of the first sheet, from 1. The currency follows prices that are
+    only numbers.
 
-    :raises Faults: lines of it have a fault, no symbol, no room, or characters that are not in the font.
+    :raises Faults: lines have an error, no symbol, no room, or characters that the font lacks.
     :raises ValueError: the sheet has no such cell, or there are more than :data:`MOST_LABELS` labels.
     """
     if not 1 <= start <= stock.cells:
@@ -175,7 +175,7 @@ def make(
                           lambda done, of: progress(done, 2 * of))
     if faults or prices.faults:
         raise Faults(sorted([*prices.faults, *faults]))
-    # Cases have other labels than what is sold.
+    # Cases have other labels than articles.
     plans = {is_retail: plan_of([item for item in items if item.is_retail is is_retail], cell, used, look)
              for is_retail in (True, False)}
     drawings, faults = _each(articles, items, lambda item: _checked(item, plans[item.is_retail], year),
@@ -226,13 +226,13 @@ def _checked(item: Item, plan: Plan, year: int) -> Drawing:
 
 
 def _has_symbol(row: Sequence[int], item: Item) -> bool:
-    """Whether a row begins with the symbol, and with as much light at its ends as it needs."""
+    """Whether a row begins with the symbol, with as much light at its ends as that needs."""
     wanted = tuple(width * item.module for width in item.bars.widths)
     front = row[:len(wanted)]
     return len(front) == len(wanted) and front[0] >= wanted[0] and front[1:-1] == wanted[1:-1] and front[-1] >= wanted[-1]
 
 
 def _says(row: Sequence[int], item: Item, year: int) -> bool:
-    """Whether the library reads just one symbol in a row, of this kind, and in it what the list says."""
+    """Whether the library reads exactly one symbol in a row, of this kind, which says what the list says."""
     answers = [found.answer for found in find(row, year)]
     return [(it.identifier, it.elements) for it in answers] == [(IDENTIFIERS[item.bars.kind], item.article.answer.elements)]

@@ -13,17 +13,17 @@ from .._shop import said
 from .._texts import Unreadable, digits_of, element_string, is_elements, read_text, remedy_of, stripped
 
 _BY_LENGTH = {8: Kind.EAN8, 12: Kind.UPCA, 13: Kind.EAN13, 14: Kind.ITF14}
-"""What a GTIN of so many digits is printed as, if the list says no kind."""
+"""The kind of barcode for a GTIN of this many digits, if the list names no kind."""
 
 _BY_IDENTIFIER = {"]E4": Kind.EAN8, "]I1": Kind.ITF14, **dict.fromkeys(("]C1", "]e0", "]d2", "]Q3", "]J1"), Kind.GS1128)}
-"""What a scanned text is printed as, if it has one of these identifiers."""
+"""The kind of barcode for a scanned text with one of these identifiers."""
 
 MOST_COPIES = 1_000
 
 
 @dataclass(frozen=True)
 class Article:
-    """A line of a list that is to be a label."""
+    """A line of a list that becomes a label."""
 
     line: int
     kind: Kind
@@ -38,7 +38,7 @@ class Article:
 
 
 def articles_of(table: Table, year: int) -> Tuple[List[Article], List[Fault]]:
-    """The articles of a table, and what is wrong with its other lines."""
+    """The articles of a table, and the errors of its other lines."""
     articles, faults = [], list(table.faults)
     for record in table.records:
         try:
@@ -49,7 +49,7 @@ def articles_of(table: Table, year: int) -> Tuple[List[Article], List[Fault]]:
 
 
 def _article(table: Table, record: Record, year: int) -> Article:
-    """The article of a record; a cell that is missing is empty."""
+    """The article of a record. A missing cell counts as empty."""
     gtin, elements = stripped(table.cell(record, "gtin")), stripped(table.cell(record, "gs1"))
     if gtin and elements:
         raise ValueError(said("twoNumbers"))
@@ -66,7 +66,7 @@ def _article(table: Table, record: Record, year: int) -> Article:
 def _symbol(text: str, kind: Optional[Kind], year: int) -> Tuple[Kind, str, Answer]:
     """The kind of a text, what is printed, and what it says.
 
-    :raises ValueError: it is refused, with what to do.
+    :raises ValueError: it is refused; the message says what to do.
     """
     digits = digits_of(text)
     is_upce, is_ean8 = (kind is it and len(digits) == 8 and digits.isdecimal() for it in (Kind.UPCE, Kind.EAN8))
@@ -89,12 +89,12 @@ def _symbol(text: str, kind: Optional[Kind], year: int) -> Tuple[Kind, str, Answ
 
 
 def _usual_kind(text: str, answer: Answer) -> Kind:
-    """What a text is printed as if the list says no kind."""
+    """The kind of barcode for a text, if the list names no kind."""
     identifier = answer.identifier
     if is_elements(text) and identifier is None:
         return Kind.GS1128
     digits = digits_of(text if identifier is None else text[3:])
-    # A scanner sends the eight digits of a UPC-E as it sends an EAN-13.
+    # A scanner sends the eight digits of a UPC-E with the identifier of an EAN-13.
     return Kind.UPCE if identifier == "]E0" and len(digits) == 8 else _BY_IDENTIFIER.get(identifier or "") or _BY_LENGTH[len(digits)]
 
 
@@ -104,13 +104,13 @@ def _elements(text: str, answer: Answer) -> str:
 
 
 def _short(text: str) -> str:
-    """A text as a fault names it."""
+    """A text as an error names it."""
     plain = "".join(letter if letter.isprintable() else "^" if letter == "\x1d" else "?" for letter in text)
     return plain if len(plain) <= 60 else f"{plain[:59]}…"
 
 
 def _kind(name: str) -> Optional[Kind]:
-    """The kind of a name, as ``ean13`` or ``EAN-13``; of none the usual one is taken."""
+    """The kind of a name, such as ``ean13`` or ``EAN-13``; without a name the usual one."""
     kinds = {kind.name: kind for kind in Kind}
     short = re.sub(r"[\s-]", "", name).upper()
     if short and short not in kinds:
@@ -119,14 +119,14 @@ def _kind(name: str) -> Optional[Kind]:
 
 
 def _copies(cell: str) -> int:
-    """How many labels a line is to have."""
+    """How many labels a line gets."""
     if cell and not (re.fullmatch(r"[0-9]{1,4}", cell) and int(cell) <= MOST_COPIES):
         raise ValueError(said("copies", _short(cell), f"{MOST_COPIES:,}"))
     return int(cell or 1)
 
 
 def _plain(cell: str) -> str:
-    """A cell with each letter in one character, and each white space as one blank; the ends of its lines stay."""
+    """A cell in composed characters, with each white space as one blank. Its line ends stay."""
     blanks = re.sub(r"[^\S\n\xa0]+", " ", unicodedata.normalize("NFC", cell).replace("\r", "\n"))
     return re.sub(r"\s*\n\s*", "\n", blanks).strip()
 

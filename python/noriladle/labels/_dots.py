@@ -1,6 +1,6 @@
 """Labels as dots: PNG of pages, and ZPL, EPL and TSPL of single labels, for label printers.
 
-A label printer gets the whole label as dots, texts too: so each script prints, and no printer's own font matters.
+A label printer gets the whole label as dots, texts too. So every script prints, and the printer's fonts do not matter.
 """
 from __future__ import annotations
 
@@ -17,7 +17,7 @@ from ._stocks import Stock
 
 
 _GAP = 3
-"""So many mm lie between two labels of a roll."""
+"""The mm between two labels of a roll."""
 
 
 def png_of(page: Page, stock: Stock, look: Look) -> bytes:
@@ -49,7 +49,7 @@ def _font(path: str, size: int) -> ImageFont.FreeTypeFont:
 
 
 def zpl_of(image: Image.Image, copies: int) -> bytes:
-    """A label for a printer that takes ZPL II: one picture of dots, of which a dark one is 1."""
+    """A label as ZPL II: one picture of dots; 1 is dark."""
     wide, rows = _rows(image, dark=1)
     told = "".join(_zpl_row(row, before) for row, before in zip(rows, [b"", *rows]))
     size = wide * image.height
@@ -58,8 +58,8 @@ def zpl_of(image: Image.Image, copies: int) -> bytes:
 
 
 def _zpl_row(row: bytes, before: bytes) -> str:
-    """A row in ZPL's own short form: ``:`` is the row before, ``,`` light up to the end, and a letter says how often the
-    digit behind it stands."""
+    """A row in ZPL's short form: ``:`` repeats the row before, ``,`` is light up to the end, and a letter says how often
+    the digit after it repeats."""
     if row == before:
         return ":"
     text = row.hex().upper()
@@ -71,7 +71,7 @@ _REPEATED = re.compile(r"(.)\1{2,}")
 
 
 def _zpl_run(run: "re.Match[str]") -> str:
-    """A digit that stands several times: ``z`` is 400 of it, ``g`` to ``y`` 20 to 380, and ``G`` to ``Y`` 1 to 19."""
+    """A repeated digit: ``z`` means 400 of it, ``g`` to ``y`` 20 to 380, and ``G`` to ``Y`` 1 to 19."""
     hundreds, rest = divmod(len(run[0]), 400)
     twenties, ones = divmod(rest, 20)
     letters = ["z" * hundreds, chr(ord("f") + twenties) if twenties else "", chr(ord("F") + ones) if ones else ""]
@@ -79,14 +79,14 @@ def _zpl_run(run: "re.Match[str]") -> str:
 
 
 def epl_of(image: Image.Image, look: Look, copies: int) -> bytes:
-    """A label for a printer that takes EPL2: one picture of dots, of which a light one is 1."""
+    """A label as EPL2: one picture of dots; 1 is light."""
     wide, rows = _rows(image, dark=0)
     head = f"\nN\nq{image.width}\nQ{image.height},{round(_GAP * look.dots)}\nGW0,0,{wide},{image.height},"
     return head.encode("ascii") + b"".join(rows) + f"\nP{copies}\n".encode("ascii")
 
 
 def tspl_of(image: Image.Image, stock: Stock, copies: int) -> bytes:
-    """A label for a printer that takes TSPL: one picture of dots, of which a light one is 1."""
+    """A label as TSPL: one picture of dots; 1 is light."""
     wide, rows = _rows(image, dark=0)
     size = f"SIZE {stock.width:g} mm,{stock.height:g} mm\r\nGAP {_GAP} mm,0 mm"
     head = f"{size}\r\nDIRECTION 1\r\nCLS\r\nBITMAP 0,0,{wide},{image.height},0,"
@@ -94,7 +94,7 @@ def tspl_of(image: Image.Image, stock: Stock, copies: int) -> bytes:
 
 
 def _rows(image: Image.Image, dark: int) -> "tuple[int, List[bytes]]":
-    """How many bytes a row has, and the rows, eight dots a byte; those behind the last dot are light."""
+    """How many bytes a row has, and the rows, eight dots a byte. Dots after the last are light."""
     wide = (image.width + 7) // 8
     padded = Image.new("1", (8 * wide, image.height), 1)
     padded.paste(image, (0, 0))

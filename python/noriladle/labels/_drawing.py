@@ -1,4 +1,4 @@
-"""What is drawn of a label: bars as boxes of whole printer dots, and texts. Lengths are dots where no name says mm."""
+"""The drawing of a label: bars as boxes of whole printer dots, and texts. Lengths are dots unless a name says mm."""
 from __future__ import annotations
 
 import math
@@ -12,7 +12,7 @@ from ._stocks import Stock
 
 DOTS_IN_MM: Dict[int, float] = {int(name): dots / 25.4 for name, dots in shared("dots").items()}
 RESOLUTIONS = tuple(DOTS_IN_MM)
-"""Printers' dots an inch; one of 203 has eight in a millimetre."""
+"""Printers' dots per inch; a printer of 203 has eight per millimetre."""
 
 
 class Box(NamedTuple):
@@ -25,7 +25,7 @@ class Box(NamedTuple):
 
 
 class Text(NamedTuple):
-    """A text on its base line, in a field that it does not fill; or with each character in the middle of a cell."""
+    """A text on its base line, in a field that is wider; or each character in the middle of a cell."""
 
     text: str
     font: Font
@@ -34,7 +34,7 @@ class Text(NamedTuple):
     base: float
     width: float
     align: float = 0.0
-    """So much of what the field has left stands before the text: 0, 0.5 or 1."""
+    """The part of the field's free width before the text: 0, 0.5 or 1."""
     cell: float = 0.0
 
     @property
@@ -53,7 +53,7 @@ class Text(NamedTuple):
         return self.base - (0.74 if self.cell else 0.95) * self.size
 
     def pieces(self) -> Iterator[Tuple[str, float]]:
-        """What stands at a place of its own, each with its middle."""
+        """The pieces with a place of their own, each with its middle."""
         if not self.cell:
             yield self.text, self.start + self.wide / 2
         else:
@@ -62,16 +62,16 @@ class Text(NamedTuple):
 
 @dataclass(frozen=True)
 class Look:
-    """How labels are to look."""
+    """How labels look."""
 
     resolution: int = 300
     module_mm: Optional[float] = None
-    """The wanted width of a module, in place of the standard's; and the height of the bars."""
+    """The width of a module, instead of the standard's; and the height of the bars."""
     bars_mm: Optional[float] = None
     bearers: bool = False
     """Whether an ITF-14 has a bar above and one below."""
     turned: bool = False
-    """Whether labels are to be read from the right side of their stock."""
+    """Whether labels are read from the right side of their stock."""
 
     @property
     def dots(self) -> float:
@@ -81,7 +81,7 @@ class Look:
 
 @dataclass(frozen=True)
 class Cell:
-    """A label before anything is on it; so much stays white at its sides, and above and below."""
+    """An empty label, and how much stays white at its sides, above and below."""
 
     width: int
     height: int
@@ -105,24 +105,24 @@ class Cell:
 
 
 class Warned(NamedTuple):
-    """What a person should know of a label, by its name in shop/en.json, and the values in it."""
+    """A warning about a label: its name in shop/en.json, and the values in it."""
 
     name: str
     own: Tuple[str, ...]
     rank: float = 0.0
-    """Of several labels the one with the least is told."""
+    """Of several labels, the one with the least value is named."""
 
 
 @dataclass
 class Drawing:
-    """A label as it is drawn."""
+    """A drawn label."""
 
     width: int
     height: int
     boxes: List[Box] = field(default_factory=list)
     texts: List[Text] = field(default_factory=list)
     bars: Tuple[int, int] = (0, 0)
-    """The first row through all bars, and the one behind the last."""
+    """The first row through all bars, and one past the last."""
     warnings: List[Warned] = field(default_factory=list)
 
 
@@ -136,14 +136,14 @@ def cell_of(stock: Stock, look: Look) -> Cell:
 
 
 def rows_of(drawing: Drawing) -> Set[Tuple[int, ...]]:
-    """The widths of the runs of three rows through the bars of a drawing, with all that stands beside them; most drawings
-    have the same three times."""
+    """The widths of three rows through the bars of a drawing, with everything beside the bars. In most drawings they are
+    equal."""
     first, last = drawing.bars
     return {_row(drawing, y) for y in (first, (first + last) // 2, last - 1)}
 
 
 def _row(drawing: Drawing, y: int) -> Tuple[int, ...]:
-    """The widths of the runs of a row; a text is as dark as its field."""
+    """The widths of a row. A text counts as dark over its whole field."""
     darks = [(left, left + width) for left, top, width, height in drawing.boxes if top <= y < top + height]
     darks += [(math.floor(text.start), math.ceil(text.start + text.wide))
               for text in drawing.texts if text.top <= y < text.base + 0.25 * text.size]

@@ -1,4 +1,4 @@
-"""The fonts of labels: how wide texts are in them, and how they fill lines."""
+"""The fonts of labels: the widths of texts, and how they fill lines."""
 from __future__ import annotations
 
 import os
@@ -20,10 +20,10 @@ _FOLDERS = ("/usr/share/fonts", "/usr/local/share/fonts", "~/.local/share/fonts"
             str(Path(reportlab.__file__).with_name("fonts")))
 _USUAL = (("LiberationSans-Regular.ttf", "LiberationSans-Bold.ttf"), ("Arial.ttf", "Arial Bold.ttf"), ("arial.ttf", "arialbd.ttf"),
           ("DejaVuSansCondensed.ttf", "DejaVuSansCondensed-Bold.ttf"), ("DejaVuSans.ttf", "DejaVuSans-Bold.ttf"), ("Vera.ttf", "VeraBd.ttf"))
-"""The regular and the bold font of the first pair that is there; the last one comes with reportlab."""
+"""Pairs of a regular and a bold font. The first that is installed is used; the last comes with reportlab."""
 
 _MOST_LETTERS = 300
-"""What is longer has no room on any label."""
+"""A longer text has no room on any label."""
 
 
 @dataclass(frozen=True)
@@ -34,20 +34,20 @@ class Font:
     name: str
     is_bold: bool
     widths: Mapping[str, float] = field(hash=False, compare=False, repr=False)
-    """Of its characters, if its size is 1."""
+    """The widths of its characters in size 1."""
 
     def width(self, text: str, size: float = 1.0) -> float:
         """How wide a text is in the unit of its size."""
         return size * sum(map(self.widths.__getitem__, text))
 
     def lacks(self, text: str) -> List[str]:
-        """The characters of a text that it does not have, or that are not set from left to right, one after another."""
+        """The characters of a text that it lacks, or that do not stand from left to right, one after another."""
         known = pdfmetrics.getFont(self.name).face.charToGlyph
         return sorted(letter for letter in set(text) - {"\n"} if ord(letter) not in known or _is_not_set(letter))
 
 
 class _Widths(Dict[str, float]):
-    """The widths of characters; any other is as wide as the sign for those that the font lacks."""
+    """The widths of characters. One that the font lacks is as wide as its sign for missing characters."""
 
     def __init__(self, widths: Mapping[int, float], other: float) -> None:
         super().__init__((chr(code), width / 1000) for code, width in widths.items())
@@ -69,7 +69,7 @@ class Fonts(NamedTuple):
 
 
 PITCH = 1.12
-"""From line to line, in sizes."""
+"""The distance of lines, in sizes."""
 
 
 class Block(NamedTuple):
@@ -91,7 +91,7 @@ class Block(NamedTuple):
 
 
 def fonts_of(regular: Optional[str] = None, bold: Optional[str] = None) -> Fonts:
-    """The fonts of these files; if there is no bold one, the regular one is both, and of none the first usual pair is taken.
+    """The fonts of these files. Without a bold one the regular one is both; without files it is the first usual pair.
 
     :raises ValueError: a file is no TrueType font, or no usual pair is there.
     """
@@ -123,15 +123,15 @@ def _loaded(path: Path, is_bold: bool) -> Font:
 
 @lru_cache(maxsize=4096)
 def fitted(font: Font, text: str, width: float, largest: float, smallest: float, most: int) -> Block:
-    """A text in few lines of a width: in one more only if it would else be smaller than three quarters of the largest size,
-    and in at most so many. What has no room in the smallest size is cut."""
+    """A text in few lines of this width. It takes one more line, up to ``most``, only if the size would otherwise be below
+    three quarters of the largest. What has no room in the smallest size is cut."""
     is_long = len(text) > _MOST_LETTERS
     words = _words(font, _UNITS.sub("\xa0", text[:_MOST_LETTERS]))
     for count in range(1, most + 1) if not is_long else ():
         size, least = largest, smallest if count == most else max(smallest, 0.75 * largest)
         while size >= least:
             lines, widest = _filled(words, width / size)
-            # What just fits may be rounded up.
+            # A size that just fits may be rounded up.
             if len(lines) <= count and widest <= width / size + 1e-6:
                 return Block(tuple(lines), size, font, False)
             size *= 0.97
@@ -145,7 +145,7 @@ def fitted(font: Font, text: str, width: float, largest: float, smallest: float,
 
 
 class _Word(NamedTuple):
-    """A word with the blanks behind it, how wide it is with and without them, and whether it begins a paragraph."""
+    """A word with the blanks after it, its widths with and without them, and whether it begins a paragraph."""
 
     text: str
     wide: float
@@ -154,19 +154,19 @@ class _Word(NamedTuple):
 
 
 _UNITS = re.compile(r"(?<=\d) (?=[^\s\d]{1,2}(?:\s|$))")
-"""The blank between a number and its unit, where no line ends."""
+"""The blank between a number and its unit, which ends no line."""
 _WORDS = re.compile(r"[^ \t-]*-+(?=\w)|[^ \t]+[ \t]*|[ \t]+")
 """A hyphen ends a word too."""
 
 
 def _words(font: Font, text: str) -> List[_Word]:
-    """The words of a text; no pair of letters is set closer, so the width of a line is the sum of its words'."""
+    """The words of a text. There is no kerning, so the width of a line is the sum of its words'."""
     return [_Word(word, font.width(word), font.width(word.rstrip()), place == 0)
             for line in text.splitlines() for place, word in enumerate(_WORDS.findall(line))]
 
 
 def _filled(words: Sequence[_Word], width: float) -> Tuple[List[str], float]:
-    """The lines of words, each of as many as have room, and how wide the widest is."""
+    """The lines of words, each with as many as have room, and the width of the widest."""
     lines: List[List[str]] = []
     at = widest = 0.0
     for word in words:
@@ -180,7 +180,7 @@ def _filled(words: Sequence[_Word], width: float) -> Tuple[List[str], float]:
 
 
 def _broken(font: Font, line: str, width: float) -> List[str]:
-    """A line in pieces that have room: of one that is a word too long."""
+    """A line that is one word too long, cut into pieces that have room."""
     pieces, at = [""], 0.0
     for letter in line:
         wide = font.width(letter)

@@ -1,4 +1,4 @@
-"""Where the parts of a label stand: the name above, the bars below, and the price beside or above them."""
+"""The layout of a label: the name above, the bars below, and the price beside or above them."""
 from __future__ import annotations
 
 import math
@@ -19,7 +19,7 @@ _LOGISTIC_MM = 0.495
 
 
 class Item(NamedTuple):
-    """An article with its bars, and the dots of a module of them."""
+    """An article with its bars, and the dots of one module."""
 
     article: Article
     bars: Bars
@@ -44,9 +44,9 @@ class Plan:
     fonts: Fonts
     look: Look
     column: int
-    """So wide are the symbols that have their price beside them, at most."""
+    """The largest width of a symbol with its price beside it."""
     beside: float
-    """The size of prices beside the symbol, at most, and of those above it."""
+    """The largest size of prices beside the symbol, and of those above it."""
     above: float
 
     @property
@@ -55,7 +55,7 @@ class Plan:
 
 
 def module_of(bars: Bars, cell: Cell, look: Look) -> int:
-    """The dots of a module: nearest to what is wanted, of those that are allowed and have room.
+    """The dots of a module: of the numbers that are allowed and have room, that nearest to the wanted width.
 
     :raises ValueError: none has room.
     """
@@ -67,19 +67,19 @@ def module_of(bars: Bars, cell: Cell, look: Look) -> int:
 
 
 def _allowed(bars: Bars, dots: float) -> range:
-    """The dots that a module may have, of a printer with so many in a millimetre."""
+    """The dots that a module may have on a printer with this many per millimetre."""
     least, _, most = bars.form.modules
     return range(math.ceil(least * dots - 1e-6), math.floor(most * dots + 1e-6) + 1)
 
 
 def _needed(bars: Bars, module: float, aside: float) -> float:
-    """How wide a label is to be. Quiet zones may lie in what stays white at its sides, but for those with digits in them."""
+    """The width that a label needs. Quiet zones may lie in the white at its sides, unless digits stand in them."""
     quiet = 0 if bars.form.groups else min(bars.widths[0], bars.widths[-1])
     return module * bars.modules + 2 * max(0.0, aside - module * quiet)
 
 
 def _too_wide(bars: Bars, cell: Cell) -> str:
-    """Says that no module has room, and what may be done."""
+    """The error that no module has room, with what to do."""
     module, finest = _allowed(bars, cell.dots)[0] / cell.dots, max(RESOLUTIONS)
     least, aside = _allowed(bars, DOTS_IN_MM[finest])[0] / DOTS_IN_MM[finest], cell.aside / cell.dots
     ways = [said("wider", math.ceil(_needed(bars, module, aside)))]
@@ -97,7 +97,7 @@ def plan_of(items: Sequence[Item], cell: Cell, fonts: Fonts, look: Look) -> Plan
     fitting = [item.wide for item in items if item.wide <= cell.room - _LEAST_PRICE_MM * cell.dots]
     column = max(fitting, default=0)
     beside, above = 18 * cell.dots, _between(3.2, 0.2 * cell.high_mm, 16) * cell.dots
-    # How wide the prices are that show something, in the unit of their size.
+    # The widths of the prices that are not empty, in the unit of their size.
     inside = [wide for item in items if item.wide <= column and (wide := fonts.bold.width(item.article.price))]
     outside = [wide for item in items if item.wide > column and (wide := fonts.bold.width(item.article.price))]
     beside = _common(beside, [(cell.room - column - cell.dots) / wide for wide in inside])
@@ -134,7 +134,7 @@ def _between(least: float, length: float, most: float) -> float:
 
 
 def _put(drawing: Drawing, block: Block, left: float, top: float, width: float, align: float = 0.0) -> float:
-    """Puts a block below a height, and says where it ends."""
+    """Puts a block below a height, and returns where it ends."""
     if block.is_cut:
         drawing.warnings.append(Warned("cut", (" ".join(block.lines),)))
     for number, line in enumerate(block.lines):
@@ -149,7 +149,7 @@ def _name(article: Article, width: float, plan: Plan) -> Block:
 
 
 def _head(drawing: Drawing, article: Article, plan: Plan) -> float:
-    """Puts the name, the price right of it and the lines below them, and says where they end."""
+    """Puts the name, the price right of it and the lines below them, and returns where they end."""
     cell = plan.cell
     price = fitted(plan.fonts.bold, article.price, 0.48 * cell.room, plan.above, 2.2 * plan.dots, 1)
     left = cell.room - price.width - (plan.dots if article.price else 0)
@@ -200,7 +200,7 @@ def _symbol(drawing: Drawing, item: Item, plan: Plan, left: int, top: float) -> 
 
 
 def _warn(drawing: Drawing, bars: Bars, size: float, high: float, nominal: float) -> None:
-    """Says what the standard would have otherwise of modules of this size and bars of this height, in mm."""
+    """The warnings if the standard asks for other modules or bars than these, in mm."""
     if high < nominal - 0.1:
         drawing.warnings.append(Warned("low", (f"{high:.1f}", f"{nominal:.1f}"), high / nominal))
     if not bars.form.groups and size < _LOGISTIC_MM - 1e-6:
@@ -208,7 +208,7 @@ def _warn(drawing: Drawing, bars: Bars, size: float, high: float, nominal: float
 
 
 _Digits = Tuple[float, Callable[[int, float], List[Text]]]
-"""The height of digits, and what puts them: from the symbol's left edge on, and down to a height."""
+"""The height of digits, and a function that puts them: from the symbol's left edge on, and down to a height."""
 
 
 def _retail_digits(item: Item, plan: Plan) -> _Digits:
@@ -224,7 +224,7 @@ def _retail_digits(item: Item, plan: Plan) -> _Digits:
 
 
 def _other_digits(item: Item, plan: Plan) -> _Digits:
-    """Digits or elements in the middle, in as few lines as they fill; an element is parted only where it is too long."""
+    """Digits or elements in the middle, in as few lines as possible. An element is split only if it is too long."""
     elements = [f"({element.ai}){element.value}" for element in item.article.answer.elements]
     text = " ".join(elements) if item.bars.kind is Kind.GS1128 else item.bars.digits
     block = fitted(plan.fonts.regular, text, item.wide, 3.4 * plan.dots, 2.2 * plan.dots, 3)

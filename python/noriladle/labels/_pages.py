@@ -22,12 +22,12 @@ class Placed(NamedTuple):
 Page = List[Placed]
 
 _INSET = 0.05
-"""So many dots are left out of PDF at each edge of a box, since some programs blacken each dot that a box only touches."""
+"""How many dots PDF lacks at each edge of a box, since some programs blacken every dot that a box touches."""
 _POINTS = 72 / 25.4
 
 
 def pdf_of(pages: Iterable[Page], stock: Stock, look: Look, title: str) -> bytes:
-    """All pages as one PDF, to be printed at its size."""
+    """All pages as one PDF, for printing at 100 %."""
     out, point = io.BytesIO(), _POINTS / look.dots
     width, height = (length * _POINTS for length in stock.page)
     canvas = Canvas(out, pagesize=(width, height), invariant=1, pageCompression=1)
@@ -50,7 +50,7 @@ def pdf_of(pages: Iterable[Page], stock: Stock, look: Look, title: str) -> bytes
 
 
 def _draw_pdf(canvas: Canvas, drawing: Drawing) -> None:
-    """Draws a label below the origin, in dots: its boxes are one path, whose origin is moved by what is left out of them."""
+    """Draws a label below the origin, in dots. Its boxes are one path, whose origin moves by what they lack."""
     boxes = [f"{left} {-top - height} {width - 1}.9 {height - 1}.9 re" for left, top, width, height in drawing.boxes]
     canvas.addLiteral("\n".join([f"q 1 0 0 1 {_INSET} {_INSET} cm", *boxes, "f Q"]))
     for text in drawing.texts:

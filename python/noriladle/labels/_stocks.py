@@ -11,8 +11,8 @@ from .._shop import shared
 PAGES: Dict[str, Tuple[float, float]] = {name: (width, height) for name, (width, height) in shared("pages").items()}
 
 SHEETS: Dict[str, str] = shared("sheets")
-"""Sheets by the numbers of Avery and Avery Zweckform, which others use too: columns and rows of labels of a width and a
-height, with gaps between them, in the middle of a page."""
+"""Sheets by the numbers of Avery and Avery Zweckform, which others use too: columns, rows, width and height of labels, gaps
+between them. They lie in the middle of a page."""
 
 ROLLS: Dict[str, str] = shared("rolls")
 """Rolls by the numbers of Dymo and Brother, or by the width and the height of a label."""
@@ -24,7 +24,7 @@ _LENGTH = r"(\d{1,4}(?:\.\d{1,4})?)"
 _TEXT = re.compile(rf"(?:(\d{{1,2}})x(\d{{1,2}}):)?{_LENGTH}x{_LENGTH}(?:\+{_LENGTH}\+{_LENGTH})?(?:@(\w+))?")
 
 _UNPRINTED: float = shared("label")["unprinted"]
-"""So much of a sheet's edge most office printers leave white."""
+"""The edge of a sheet that most office printers leave white."""
 _LEAST: float = shared("label")["least"]
 _MOST: float = shared("label")["most"]
 """The sides of a label."""
@@ -32,7 +32,7 @@ _MOST: float = shared("label")["most"]
 
 @dataclass(frozen=True)
 class Stock:
-    """Labels of one size in columns and rows, in the middle of a page; of a roll the page is the label."""
+    """Labels of one size in columns and rows, in the middle of a page. A roll's page is the label."""
 
     columns: int
     rows: int
@@ -55,7 +55,7 @@ class Stock:
 
     @property
     def padding(self) -> Tuple[float, float]:
-        """So much of each label stays white at its sides, and above and below: the same on all labels of a sheet."""
+        """How much stays white at the sides of each label, and above and below: the same for all labels of a sheet."""
         own = min(5.0, max(1.2, 0.06 * self.height))
         edge = _UNPRINTED if self.cells > 1 else 0.0
         left, top = self.margins
@@ -69,10 +69,10 @@ class Stock:
 
 
 def stock_of(name: str) -> Stock:
-    """The stock of a number, as ``L7160`` or ``Dymo 11354``, or of its measures: ``3x8:70x37`` of a sheet of A4,
-    ``5x13:38.1x21.2+2.54+0@letter`` with gaps on another page, and ``57x32`` of a roll.
+    """The stock of a number, such as ``L7160`` or ``Dymo 11354``, or of its measures: ``3x8:70x37`` for a sheet of A4,
+    ``5x13:38.1x21.2+2.54+0@letter`` with gaps on another page, and ``57x32`` for a roll.
 
-    :raises ValueError: it is none.
+    :raises ValueError: there is no such stock.
     """
     short = _MAKERS.sub("", name).strip().lower()
     told = _TEXT.fullmatch({known.lower(): text for known, text in KNOWN.items()}.get(short, short.replace("×", "x")))

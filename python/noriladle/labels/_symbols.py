@@ -1,4 +1,4 @@
-"""Symbols as labels show them: the library's bars in modules, with the digits that people read under them."""
+"""Symbols on labels: the library's bars in modules, with the digits for people under them."""
 from __future__ import annotations
 
 from dataclasses import dataclass
@@ -9,22 +9,22 @@ from .._shop import shared
 
 
 class Group(NamedTuple):
-    """Digits side by side, each in the middle of a cell that is so many modules wide."""
+    """Digits side by side, each in the middle of a cell of this many modules."""
 
     first: int
     digits: int
     module: float
-    """Where the first cell begins, from the first bar on; below 0 it stands in the quiet zone."""
+    """Where the first cell begins, counted from the first bar. Below 0 it is in the quiet zone."""
     cell: float = 7
 
 
 class Form(NamedTuple):
-    """What is drawn of a kind beside its bars, and its sizes in mm (GS1 General Specifications, 5.2 to 5.4, 5.12.3)."""
+    """What a kind has beside its bars, and its sizes in mm (GS1 General Specifications, 5.2 to 5.4, 5.12.3)."""
 
     modules: Tuple[float, float, float]
     """The least, the wanted and the largest width of a module."""
     high: float
-    """The height of bars, where a module is as wanted."""
+    """The height of bars for the wanted module."""
     long: Tuple[Tuple[int, int], ...] = ()
     """The modules of bars that go down between the digits: from each first up to each last."""
     groups: Tuple[Group, ...] = ()
@@ -40,16 +40,16 @@ _TOLD: Dict[Kind, Dict[str, Any]] = {Kind[name.upper()]: told for name, told in 
 FORMS: Dict[Kind, Form] = {kind: _form(told) for kind, told in _TOLD.items()}
 
 IDENTIFIERS: Dict[Kind, str] = {kind: told["identifier"] for kind, told in _TOLD.items()}
-"""What a scanner says of a symbol of each kind (GS1 General Specifications, figure 5.1.3-1)."""
+"""The symbology identifier of each kind (GS1 General Specifications, figure 5.1.3-1)."""
 
 
 @dataclass(frozen=True)
 class Bars:
-    """A symbol that is to be drawn."""
+    """A symbol to draw."""
 
     kind: Kind
     widths: Tuple[int, ...]
-    """Of its runs in modules, light and dark in turn, with the quiet zones at its ends."""
+    """The widths in modules of its light and dark bars, with the quiet zones at its ends."""
     digits: str
     """What people read under it."""
 
@@ -63,7 +63,7 @@ class Bars:
         return sum(self.widths)
 
     def dark(self) -> Iterator[Tuple[int, int, bool]]:
-        """Of each bar its first module from the first bar's on, its width, and whether it is a long one."""
+        """For each bar its first module, counted from the first bar, its width, and whether it is a long one."""
         at, long = 0, {module for first, last in self.form.long for module in range(first, last)}
         for light, dark in zip((0, *self.widths[2::2]), self.widths[1::2]):
             at += light
