@@ -1,12 +1,11 @@
 -- The digits of a text, and its number.
-use Rattle.std.proofs.Common.{◌≡◌, ◌<◌, ◌≤◌, ◌-◌, ◌+◌, ◌*◌, ℕ, Bool, true, false, List, refl, rules, arith, length, get_or, take}
+use Rattle.std.proofs.Common.{◌≡◌, ◌<◌, ◌≤◌, ◌-◌, ℕ, Bool, true, false, List, refl, rules, arith, length, get_or}
 use Rattle.std.specs.Char.{digit_value, is_ascii_digit}
 use Rattle.std.specs.List.{list_all}
 use Rattle.std.specs.Str.Parse.{digits_value}
 use Rattle.std.proofs.lemmas.Bool.Decides.{nat_tests}
-use Rattle.std.proofs.lemmas.Int.Digits.{digits_value_more}
 use Rattle.std.proofs.lemmas.List.Folds.{list_all_at}
-use Rattle.std.proofs.lemmas.Str.Parse.{IsNumeralModel, digits_value-take-le, digits_value_short, numerals_by_value}
+use Rattle.std.proofs.lemmas.Str.Parse.{IsNumeralModel, digits_value_short, numerals_by_value}
 
 module _ {X : Type 0} where
   -- what is true of each element is true of the one at a place
@@ -25,28 +24,9 @@ digit_range c h = (grind (arith, nat_tests), grind (arith, nat_tests))
 pub digit_shows : (c : ℕ) → 48 ≤ c → c ≤ 57 → digit_value c ≡ c - 48
 digit_shows c low high = grind (arith, nat_tests)
 
--- the digit at a place
-pub digit_at : (ds : List ℕ) (i : ℕ) → list_all is_ascii_digit ds ≡ true → i < length ds → (48 ≤ get_or ds i 0) × (get_or ds i 0 ≤ 57)
-digit_at ds i all low = digit_range (get_or ds i 0) (test_at is_ascii_digit ds i 0 all low)
-
 numerals : IsNumeralModel (λ ds. list_all is_ascii_digit ds ≡ true) (digits_value 10)
 numerals = numerals_by_value (λ ds. list_all is_ascii_digit ds ≡ true) (search rules)
 
 -- five digits show a number below 100,000
 pub few_digits : (ds : List ℕ) → list_all is_ascii_digit ds ≡ true → length ds ≤ 5 → digits_value 10 ds < 100000
 few_digits ds all few = digits_value_short numerals ds 5 all few
-
--- and so does a prefix of them
-pub front_digits : (ds : List ℕ) (i : ℕ) → list_all is_ascii_digit ds ≡ true → length ds ≤ 5 → digits_value 10 (take i ds) < 100000
-front_digits ds i all few =
-    let less = few_digits ds all few in
-    let front = digits_value-take-le 10 ds i (omega arith) in
-    omega (arith, less, front)
-
--- one more digit
-pub one_more_digit : (ds : List ℕ) (i : ℕ) → list_all is_ascii_digit ds ≡ true → i < length ds
-    → digits_value 10 (take (i + 1) ds) ≡ digits_value 10 (take i ds) * 10 + (get_or ds i 0 - 48)
-one_more_digit ds i all low =
-    let range = digit_at ds i all low in
-    let shows = digit_shows (get_or ds i 0) range.0 range.1 in
-    rw (← shows) (digits_value_more 10 ds i low)

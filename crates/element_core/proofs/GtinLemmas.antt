@@ -1,7 +1,8 @@
 -- The element of a GTIN.
-use Rattle.std.proofs.Common.{◌≡◌, ℕ, ◌+◌, ◌%◌, ◌&&◌, true, eqb, List, [], ◌∷◌, length, take, refl, sym, ap, ap₂, subst, ◌∙◌, arith, lit<, leb}
-use Rattle.std.specs.Prelude.{Contains, codes}
-use Rattle.std.specs.List.{list_all}
+use Rattle.std.proofs.Common.{◌≡◌, ◌<◌, ℕ, ◌+◌, ◌%◌, ◌&&◌, true, eqb, List, [], ◌∷◌, length, take, refl, sym, ap, ap₂, subst, ◌∙◌, arith, lit<, leb}
+use Rattle.std.specs.Prelude.{All, Contains, codes}
+use Rattle.std.specs.List.{AllByRecursion, list_all}
+use Rattle.std.proofs.lemmas.List.Elements.{All-from_recursion}
 use Rattle.std.proofs.lemmas.Bool.{and_from, le-leb, eq-eqb}
 use Rattle.std.proofs.lemmas.List.{length-map, take_all}
 use Rattle.digits_core.specs.Digits.{AreDigits, IsChecked, ascii_of, digits_of, weighted}
@@ -67,3 +68,11 @@ pub gtin_reads : GtinReads
 gtin_reads gtin year long digits checked =
     let shown : length (ascii_of gtin) ≡ 14 = length-map gtin (λ d. d + 48) ∙ long in
     gtin_elements year gtin (canonical (gtin_entry gtin ∷ [])) (gtin_entry gtin ∷ []) digits checked shown refl refl
+
+-- the text of digits is ASCII
+each_ascii : (ds : List ℕ) → AreDigits ds → AllByRecursion (λ b. b < 128) (ascii_of ds)
+each_ascii [] h = tt
+each_ascii (d ∷ ds) h = (omega (arith, h.0), each_ascii ds h.1)
+
+pub digits_ascii : (ds : List ℕ) → AreDigits ds → All (λ b. b < 128) (ascii_of ds)
+digits_ascii ds h = All-from_recursion (λ b. b < 128) (ascii_of ds) (each_ascii ds h)

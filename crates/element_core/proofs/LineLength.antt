@@ -7,7 +7,7 @@ use Rattle.element_core.proofs.Canonical.{elements_are}
 use Rattle.element_core.proofs.Growth.{few_elements}
 
 -- two parentheses for each element, and no separators
-hri_length : (es : List Entry) → length (hri es) ≤ length (canonical es) + 2 * length es
+pub hri_length : (es : List Entry) → length (hri es) ≤ length (canonical es) + 2 * length es
 hri_length [] = omega arith
 hri_length (e ∷ []) = omega (arith, length-append ((40 ∷ e.ai) ++ (41 ∷ e.value)) [], length-append (40 ∷ e.ai) (41 ∷ e.value), length-append e.ai e.value)
 hri_length (e ∷ f ∷ es) =

@@ -17,7 +17,7 @@ pairs_text-cons e [] = sym (append-nil (pair_text e))
 pairs_text-cons e (f ∷ es) = ap (λ (t : List ℕ). pair_text e ++ (9 ∷ t)) (pairs_text-cons f es)
 
 -- a sign and a tab for each element, and no separators
-pairs_length : (e : Entry) (es : List Entry) → length (pairs_text (e ∷ es)) + 1 ≤ length (canonical (e ∷ es)) + 2 * length (e ∷ es)
+pub pairs_length : (e : Entry) (es : List Entry) → length (pairs_text (e ∷ es)) + 1 ≤ length (canonical (e ∷ es)) + 2 * length (e ∷ es)
 pairs_length e [] = omega (arith, length-append e.ai (61 ∷ e.value), length-append e.ai e.value)
 pairs_length e (f ∷ es) =
     omega (

@@ -53,13 +53,13 @@ fn value_length(family: &AiFamily, text: &[u8]) -> usize
     requires { length family.now.parts.now ≤ 5 }
     ensures { result ≡ length (value_in (row_with family.now []) (field_of text.now)) }
 {
-    let field = field_length(text);
-    let greatest = greatest_length(family.parts);
-    if family.predefined && greatest < field {
-        greatest
-    } else {
-        field
+    if family.predefined {
+        let greatest = greatest_length(family.parts);
+        if greatest < text.len() {
+            return field_length(&text[..greatest]);
+        }
     }
+    field_length(text)
 }
 
 /// The value at the front of the text, and what is after it.

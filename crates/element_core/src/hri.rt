@@ -31,7 +31,7 @@ pub(crate) fn push_bytes(line: &mut ArrayString<288>, bytes: &[u8])
 }
 
 /// Puts an element at the end: its AI in parentheses, then its value.
-fn push_element(line: &mut ArrayString<288>, ai: &[u8], value: &[u8])
+pub(crate) fn push_element(line: &mut ArrayString<288>, ai: &[u8], value: &[u8])
     requires ai { All (λ b. b < 128) ai.now }
     requires value { All (λ b. b < 128) value.now }
     requires room { array_string_len line.old + length ai.now + length value.now + 2 ≤ 288 }

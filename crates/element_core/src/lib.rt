@@ -19,6 +19,7 @@ mod named;
 mod pair_line;
 mod pairs;
 mod part;
+mod reading;
 mod row;
 mod rules;
 mod shown_list;

@@ -1,16 +1,21 @@
 //! The lines of answers.
 
-ghost use Rattle.std.specs.Prelude.{Some, ◌≡◌, ◌∷◌, ◌++◌};
+ghost use Rattle.std.specs.Prelude.{Some, ◌≡◌, ◌∷◌, ◌++◌, [], OnOk, string_bytes};
 ghost use Rattle.digits_core.specs.Refusals.{refusal_text};
+ghost use Rattle.element_core.specs.Elements.{IsElements, canonical, gtin_entry};
+ghost use Rattle.element_core.specs.Terms.{Terms};
 ghost use Rattle.element_core.specs.Lines.{IsDigitLine, IsElementsLine, elements_text, gtin_line, line_of_gtin, line_text};
 
 use crate::elements::Elements;
 use crate::form::Form;
 use crate::hri::push_bytes;
+use crate::reading::push_elements;
 use crate::terms::Year;
 use arrayvec::ArrayString;
 use digits_core::{Gtin, Refusal, payload_digit};
+use std::alloc::AllocError;
 use std::fmt;
+use std::fmt::Write;
 
 /// A line of an answer.
 #[derive(Drop)]
@@ -65,6 +70,34 @@ impl Line {
         push_bytes(&mut text, &gtin.digits14());
         Line::Said { word: "gtin", text }
     }
+
+    /// A word, and the one element of a GTIN in a form: AI 01 and its 14 digits.
+    pub fn of_gtin_element(word: &'static str, gtin: &Gtin, form: Form) -> Line
+        ensures text { line_text result ≡ word.now ++ (32 ∷ elements_text form (gtin_entry gtin.now ∷ [])) }
+        ensures reads { (year : Terms) → IsElements year (canonical (gtin_entry gtin.now ∷ [])) (gtin_entry gtin.now ∷ []) }
+    {
+        let mut shown = ArrayString::new();
+        shown.push_str(match form {
+            Form::HumanReadable => "(01)",
+            Form::Pairs => "01=",
+        });
+        push_bytes(&mut shown, &gtin.digits14());
+        Line::Said { word, text: shown }
+    }
+
+    /// Appends the line to a text.
+    pub fn push(&self, text: &mut String) -> Result<(), AllocError>
+        ensures { OnOk result (string_bytes text.new ≡ string_bytes text.old ++ line_text self.now) }
+    {
+        match self {
+            Line::Said { word, text: said } => {
+                text.push_str(word)?;
+                text.push(' ')?;
+                text.push_str(said.as_str())
+            }
+            Line::Refused(why) => write!(text, "{why}"),
+        }
+    }
 }
 
 /// The line of the GTIN that 8, 12, 13 or 14 digits show, or why they show none.
@@ -98,8 +131,9 @@ pub fn digit_line(text: &[u8]) -> Line
 pub fn elements_line(word: &'static str, form: Form, text: &[u8], year: Year) -> Line
     ensures { IsElementsLine word.now (elements_text form) year text.now (line_text result) }
 {
-    match Elements::parse(text, year) {
-        Ok(elements) => Line::of_elements(word, &elements, form),
+    let mut line = ArrayString::new();
+    match push_elements(&mut line, form, text, year) {
+        Ok(()) => Line::Said { word, text: line },
         Err(fault) => Line::refused(fault.refusal()),
     }
 }

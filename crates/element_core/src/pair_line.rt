@@ -11,7 +11,7 @@ use crate::hri::push_bytes;
 use arrayvec::ArrayString;
 
 /// Puts a pair at the end: the AI, `=`, then the value.
-fn push_pair(line: &mut ArrayString<288>, ai: &[u8], value: &[u8])
+pub(crate) fn push_pair(line: &mut ArrayString<288>, ai: &[u8], value: &[u8])
     requires ai { All (λ b. b < 128) ai.now }
     requires value { All (λ b. b < 128) value.now }
     requires room { array_string_len line.old + length ai.now + length value.now + 1 ≤ 288 }

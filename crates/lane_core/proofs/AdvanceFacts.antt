@@ -1,12 +1,12 @@
 -- What there is of a number that becomes its lane's next.
-use Rattle.std.proofs.Common.{◌≡◌, ℕ, ◌<◌, ◌^◌, ◌==◌, ◌&&◌, ◌||◌, nat_lt, Bool, true, false, List, Some, None, refl, sym, ap, ◌∙◌, arith}
+use Rattle.std.proofs.Common.{◌≡◌, ℕ, ◌<◌, ◌^◌, ◌==◌, ◌&&◌, ◌||◌, nat_lt, Bool, true, false, List, [], Some, None, refl, sym, ap, ◌∙◌, arith}
 use Rattle.std.proofs.lemmas.Bool.Decides.{nat_tests}
 use Rattle.std.specs.List.{list_any}
 use Rattle.std.specs.Map.{lookup, remove_entry, values_of}
 use Rattle.std.specs.Option.{is_some}
 use Rattle.std.specs.Set.{remove_key}
 use Rattle.std.proofs.lemmas.Bool.{and_parts, eqb-true}
-use Rattle.lane_core.specs.declared.next_slot.NextSlot.TheVariants.{Here, Out}
+use Rattle.lane_core.specs.declared.next_slot.NextSlot.TheVariants.{Here, Missing, Out}
 use Rattle.lane_core.specs.declared.job.Plain.{Plain}
 use Rattle.lane_core.specs.declared.ticket.Ticket.{Ticket}
 use Rattle.lane_core.specs.ReorderBuffer.{is_known}
@@ -17,6 +17,16 @@ use Rattle.lane_core.proofs.TicketLookup.{Finds, any_finds, found_among, found_t
 none_come : (a b : Bool) → ((a && false) || b) ≡ b
 none_come true b = refl
 none_come false b = refl
+
+-- there are no later numbers
+pub none_later : (l k : ℕ) (es : List (Ticket × Plain)) (ks : List Ticket) → AreIndexed es ks → ks ≡ [] → Advances l k es ks es ks Missing
+none_later l k es ks indexed none = record {
+  own = tt;
+  indexed = indexed;
+  waiting = λ h. omega arith;
+  same = λ m n. none_come ((l == m) && (k == n)) (is_known m n ks);
+  gone = λ small. ap (is_known l k) none;
+}
 
 come_there : (l k m n : ℕ) (ks ts : List Ticket) → is_known l k ks ≡ true → (((l == m) && (k == n)) ≡ false → is_known m n ts ≡ is_known m n ks)
     → (b : Bool) → ((l == m) && (k == n)) ≡ b → ((((l == m) && (k == n)) && true) || is_known m n ts) ≡ is_known m n ks

@@ -75,24 +75,6 @@ fn slot_of(
     }
 }
 
-/// Puts into the lane's place what there is of its number `next`, which is its next from now on. The place is
-/// left as it is if no later number was taken in, as mostly.
-fn advance(
-    slot: &mut NextSlot,
-    later: &mut BTreeMap<Ticket, Delivery>,
-    known: &mut BTreeSet<Ticket>,
-    lane: u8,
-    next: u64,
-)
-    requires missing { slot.old ≡ Missing }
-    requires indexed { AreIndexed later.old.entries known.old.keys }
-    ensures { Advances lane next later.old.entries known.old.keys later.new.entries known.new.keys slot.new }
-{
-    if !known.is_empty() {
-        *slot = slot_of(later, known, lane, next);
-    }
-}
-
 impl Deliverer {
     /// A deliverer of these lanes; each lane's next number is 0.
     pub fn new(alloc: Global, lanes: u16) -> Result<Deliverer, NoMemory>
@@ -116,7 +98,8 @@ impl Deliverer {
         let number = u64::from(ticket.number);
         let given = number < self.nexts[lane];
         let is_next = number == self.nexts[lane];
-        given | (is_next & self.slots[lane].has_come()) | self.known.contains(&ticket)
+        let has_come = !matches!(self.slots[lane], NextSlot::Missing);
+        given | (is_next & has_come) | self.known.contains(&ticket)
     }
 
     /// Keeps the delivery until its lane is given it.
@@ -174,13 +157,11 @@ impl Deliverer {
         let delivery = self.slots[index].take(NextSlot::Missing)?;
         let next = self.nexts[index] + 1;
         self.nexts[index] = next;
-        advance(
-            &mut self.slots[index],
-            &mut self.later,
-            &mut self.known,
-            lane,
-            next,
-        );
+        if self.known.is_empty() {
+            // So it is mostly: there are no later numbers.
+            return Some(delivery);
+        }
+        self.slots[index] = slot_of(&mut self.later, &mut self.known, lane, next);
         Some(delivery)
     }
 

@@ -1,11 +1,13 @@
 //! A row that was read.
-ghost use Rattle.std.specs.Prelude.{◌≡◌};
+ghost use Rattle.std.specs.Prelude.{◌≡◌, ◌++◌, OnOk, string_bytes};
 ghost use Rattle.scan_core.specs.Answers.{IsAnswer};
+ghost use Rattle.scan_core.specs.Lines.{said};
 
 use crate::job::{Job, Plain};
 use crate::ticket::Ticket;
-use element_core::Year;
-use scan_core::{Answer, Runs, read_row};
+use element_core::{Form, Year};
+use scan_core::{Answer, Runs, push_row, read_row};
+use std::alloc::AllocError;
 use std::marker::Model;
 
 /// A row under its ticket that was read, and keeps what was found in it.
@@ -54,6 +56,14 @@ impl Delivery {
         ensures { IsAnswer self.now.widths self.now.year result }
     {
         read_row(&self.job.row, self.job.year)
+    }
+
+    /// Appends the answer to a text, with its elements in a form. No list of elements is made.
+    pub fn push_answer(&self, form: Form, text: &mut String) -> Result<(), AllocError>
+        ensures { OnOk result ((answer : Answer) × IsAnswer self.now.widths self.now.year answer
+            × (string_bytes text.new ≡ string_bytes text.old ++ said form answer)) }
+    {
+        push_row(&self.job.row, self.job.year, form, text)
     }
 }
 

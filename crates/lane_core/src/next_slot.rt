@@ -1,6 +1,6 @@
 //! A lane's next number.
 ghost use Rattle.std.specs.Prelude.{◌≡◌, ◌<◌, ℕ, [], false, length, slice_set, IfNone, IfSome};
-ghost use Rattle.lane_core.specs.inner.NextSlots.{has_come, is_here, slot_at};
+ghost use Rattle.lane_core.specs.inner.NextSlots.{is_here, slot_at};
 ghost use Rattle.lane_core.specs.NextSlots.{waiting_at};
 ghost use Rattle.lane_core.specs.declared.next_slot.NextSlot.TheVariants.{Here, Out};
 
@@ -19,13 +19,6 @@ pub(crate) enum NextSlot {
 }
 
 impl NextSlot {
-    /// Whether the number was taken in.
-    pub(crate) fn has_come(&self) -> bool
-        ensures { result ≡ has_come self.now }
-    {
-        !matches!(self, NextSlot::Missing)
-    }
-
     /// The delivery that waits, in whose place `left` stands then; else nothing changes.
     pub(crate) fn take(&mut self, left: NextSlot) -> Option<Delivery>
         ensures some { IfSome result (λ x. (self.old ≡ Here x) × (self.new ≡ left)) }

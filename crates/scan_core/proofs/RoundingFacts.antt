@@ -1,5 +1,5 @@
 -- Runs are at most one list of modules.
-use Rattle.std.proofs.Common.{◌≡◌, ℕ, ◌+◌, ◌*◌, ◌-◌, ◌/◌, ◌%◌, ◌⊎◌, ◌<◌, ◌≤◌, ◌&&◌, Bool, List, [], ◌∷◌, ap, ap₂, arith, false, get_or, nat_eq, nat_le, inl, inr, length, refl, set, suc, zero, subst, sum, take, true}
+use Rattle.std.proofs.Common.{◌≡◌, ℕ, ◌+◌, ◌*◌, ◌-◌, ◌/◌, ◌%◌, ◌⊎◌, ◌<◌, ◌≤◌, ◌&&◌, Bool, List, [], ◌∷◌, ap₂, arith, false, get_or, nat_eq, nat_le, inl, inr, length, refl, set, suc, zero, sum, take, true}
 use Rattle.std.specs.List.{AllZip, AllByRecursion}
 use Rattle.std.proofs.lemmas.List.{get_or_default, take_more_set}
 use Rattle.std.proofs.lemmas.List.Elements.{AllZip-get_or, all_zip_more}

@@ -1,6 +1,7 @@
 //! What a row says.
-ghost use Rattle.std.specs.Prelude.{None, Some, ◌≡◌, ◌≢◌, IfErr, IfOk, OnOk, ℕ, length, sum};
+ghost use Rattle.std.specs.Prelude.{None, Some, ◌≡◌, ◌≢◌, ◌++◌, IfErr, IfOk, OnOk, ℕ, length, string_bytes, sum};
 ghost use Rattle.scan_core.specs.Answers.{IsAnswer};
+ghost use Rattle.scan_core.specs.Lines.{said};
 ghost use Rattle.scan_core.specs.inner.Stages.{Fails, FailsAt};
 ghost use Rattle.scan_core.specs.Reading.{IsFound, IsUnread, ShowsSymbol};
 ghost use Rattle.scan_core.specs.Row.{IsRow, inner, runs_fault};
@@ -13,7 +14,8 @@ use crate::rounding::{is_quiet, round, total_dots};
 use crate::runs::{Runs, inner, runs_fault};
 use crate::stage::{Stage, later};
 use crate::symbol::{ReadSymbol, read_some_way};
-use element_core::{Elements, Year};
+use element_core::{Elements, Form, Year};
+use std::alloc::AllocError;
 
 /// What a row says.
 #[derive(Debug, Drop)]
@@ -138,6 +140,28 @@ pub fn read_row(runs: &Runs, year: Year) -> Answer
     }
 }
 
+/// Appends what the row says, as `read_row` reads it, with its elements in a form.
+pub fn push_row(runs: &Runs, year: Year, form: Form, text: &mut String) -> Result<(), AllocError>
+    ensures { OnOk result ((answer : Answer) × IsAnswer runs.now year answer × (string_bytes text.new ≡ string_bytes text.old ++ said form answer)) }
+{
+    match runs.found() {
+        Some(found) => found.line(year, form).push(text),
+        None => found_in(runs.widths()).line(year, form).push(text),
+    }
+}
+
+/// What is found in the row of these widths in dots, or why they are no row. No memory is taken.
+pub fn find_widths(widths: &[u16]) -> Result<Found, RunFault>
+    ensures ok { IfOk result (IsFound widths.now) }
+    ensures taken { OnOk result (runs_fault widths.now ≡ None) }
+    ensures refused { IfErr result (λ fault. runs_fault widths.now ≡ Some fault) }
+{
+    match runs_fault(widths) {
+        None => Ok(found_in(widths)),
+        Some(fault) => Err(fault),
+    }
+}
+
 /// What the row of these widths in dots says, as `read_row` does, or why they are no row. No memory is
 /// taken.
 pub fn read_widths(widths: &[u16], year: Year) -> Result<Answer, RunFault>
@@ -145,8 +169,5 @@ pub fn read_widths(widths: &[u16], year: Year) -> Result<Answer, RunFault>
     ensures taken { OnOk result (runs_fault widths.now ≡ None) }
     ensures refused { IfErr result (λ fault. runs_fault widths.now ≡ Some fault) }
 {
-    if let Some(fault) = runs_fault(widths) {
-        return Err(fault);
-    }
-    Ok(answer_in(widths, year))
+    Ok(find_widths(widths)?.answer(year))
 }

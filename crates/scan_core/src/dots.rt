@@ -3,11 +3,13 @@ ghost use Rattle.std.specs.Prelude.{◌≡◌, ◌≤◌, ◌+◌, ◌*◌, ◌+
 ghost use Rattle.scan_core.specs.Answers.{IsAnswer};
 ghost use Rattle.scan_core.specs.Bits.{dots_at};
 ghost use Rattle.scan_core.specs.inner.FirstRuns.{AreFirst};
+ghost use Rattle.scan_core.specs.Reading.{IsFound};
 ghost use Rattle.scan_core.specs.Row.{IsRow, dots_of};
 
-use crate::answer::{Answer, answer_in};
+use crate::answer::{Answer, found_in};
 use crate::cut::cut_into;
 use crate::fault::RowFault;
+use crate::found::Found;
 use arrayvec::ArrayVec;
 use element_core::Year;
 
@@ -37,15 +39,24 @@ pub(crate) fn first_runs(bits: &[u8], from: usize, width: usize) -> FirstRuns
     first
 }
 
+/// What is found in the row of `width` dots of packed bytes. A byte has its first dot in its high bit, and 1 is
+/// dark. No memory is taken.
+pub fn find_dots(bits: &[u8], width: u16) -> Found
+    requires { width ≤ 8 * length bits.now }
+    ensures { (runs : List ℕ) × IsRow runs × (dots_of runs ≡ dots_at bits.now 0 width) × IsFound runs result }
+{
+    let first = first_runs(bits, 0, usize::from(width));
+    if first.more {
+        return Found::Refused(RowFault::RunCount);
+    }
+    found_in(first.widths.as_slice())
+}
+
 /// What the row of `width` dots of packed bytes says, as `read_row` does of the row that `Runs::cut`
 /// makes of them. A byte has its first dot in its high bit, and 1 is dark. No memory is taken.
 pub fn read_dots(bits: &[u8], width: u16, year: Year) -> Answer
     requires { width ≤ 8 * length bits.now }
     ensures { (runs : List ℕ) × IsRow runs × (dots_of runs ≡ dots_at bits.now 0 width) × IsAnswer runs year result }
 {
-    let first = first_runs(bits, 0, usize::from(width));
-    if first.more {
-        return Answer::Refused(RowFault::RunCount);
-    }
-    answer_in(first.widths.as_slice(), year)
+    find_dots(bits, width).answer(year)
 }

@@ -1,7 +1,9 @@
 //! What is found in a row before its elements are made.
-ghost use Rattle.std.specs.Prelude.{List, ℕ};
+ghost use Rattle.std.specs.Prelude.{◌≡◌, List, ℕ};
+ghost use Rattle.element_core.specs.Lines.{line_text};
 ghost use Rattle.scan_core.specs.Answers.{IsAnswer};
 ghost use Rattle.scan_core.specs.Reading.{IsFound};
+ghost use Rattle.scan_core.specs.Lines.{said};
 ghost use Rattle.scan_core.specs.inner.Reading.{IsReadAs, text_in};
 
 use crate::answer::Answer;
@@ -9,7 +11,7 @@ use crate::carrier::Carrier;
 use crate::fault::RowFault;
 use code128_code::{Values, text_of};
 use digits_core::Gtin;
-use element_core::{Elements, Year};
+use element_core::{Elements, Form, Line, Year, elements_line};
 
 /// What is found in a row: the symbol that it shows, or why it is refused. The row's answer is made of it.
 ///
@@ -51,6 +53,21 @@ impl Found {
                 Err(fault) => Answer::Refused(fault),
             },
             Found::Refused(fault) => Answer::Refused(*fault),
+        }
+    }
+
+    /// The line of what the row says in which this was found, with its elements in a form. They are written while
+    /// they are read, and a GTIN as its digits.
+    pub fn line(&self, year: Year, form: Form) -> Line
+        ensures { (answer : Answer) × ((runs : List ℕ) → IsFound runs self.now → IsAnswer runs year answer) × (line_text result ≡ said form answer) }
+    {
+        match self {
+            Found::Number(carrier, gtin) => Line::of_gtin_element(carrier.identifier(), gtin, form),
+            Found::Characters(carrier, values) => match text_of(values) {
+                Ok(text) => elements_line(carrier.identifier(), form, text.as_slice(), year),
+                Err(fault) => Line::refused(fault.refusal()),
+            },
+            Found::Refused(fault) => Line::refused(fault.refusal()),
         }
     }
 }

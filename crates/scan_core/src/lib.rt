@@ -20,10 +20,10 @@ mod symbol;
 mod symbols;
 mod window;
 
-pub use answer::{Answer, read_row, read_widths};
+pub use answer::{Answer, find_widths, push_row, read_row, read_widths};
 pub use carrier::Carrier;
 pub use dot_symbols::DotSymbols;
-pub use dots::read_dots;
+pub use dots::{find_dots, read_dots};
 pub use fault::{RowFault, RunFault};
 pub use found::Found;
 pub use laws::{

@@ -1,8 +1,7 @@
 //! Numbers and widths as fields spell them.
-ghost use Rattle.std.specs.Prelude.{None, Some, ◌==◌, ◌≡◌, ◌≤◌, ◌*◌, ◌-◌, true, false, nat_lt, length, ◌<◌, IfNone, IfOk, IfSome, IsTrue, List, OnOk, map, min, ℕ};
-ghost use Rattle.std.specs.List.{count_by, list_all, list_any};
+ghost use Rattle.std.specs.Prelude.{None, Some, ◌==◌, ◌≡◌, ◌≤◌, ◌*◌, ◌-◌, true, false, nat_lt, length, ◌<◌, IfNone, IfOk, IfSome, List, OnOk, map, min, ℕ};
+ghost use Rattle.std.specs.List.{count_by, list_any};
 ghost use Rattle.std.specs.Char.{is_ascii_digit};
-ghost use Rattle.std.specs.Str.Parse.{digits_value};
 ghost use Rattle.csv_records.specs.inner.Widths.{BeginsWithDigits, IsFirstWidth};
 ghost use Rattle.csv_records.specs.lanes.Widths.{number_in, are_widths, field_fault, widths_in, words_of};
 ghost use Rattle.csv_records.specs.declared.input.fault.RecordFault.{RecordFault};
@@ -11,36 +10,22 @@ use crate::input::fault::{RecordFault, RecordRefusal};
 use scan_core::{RunFault, Runs};
 use std::alloc::Global;
 
-/// The number that at most five digits show.
-fn value_of(digits: &[u8]) -> u32
-    requires few { length digits.now ≤ 5 }
-    requires digits { IsTrue (list_all is_ascii_digit digits.now) }
-    ensures value { result ≡ digits_value 10 digits.now }
-    ensures small { result < 100000 }
-{
-    let mut number = 0;
-    for digit in digits {
-        number = number * 10 + u32::from(*digit - b'0');
-    }
-    number
-}
-
-/// Whether all bytes are digits.
-fn are_digits(text: &[u8]) -> bool
-    ensures { result ≡ list_all is_ascii_digit text.now }
-{
-    text.iter().all(|byte| byte.is_ascii_digit())
-}
-
 /// The number that a text of one to `most` digits shows.
 pub fn number_in(text: &[u8], most: usize) -> Option<u32>
     requires { most ≤ 5 }
     ensures { result ≡ number_in most text.now }
 {
-    if text.is_empty() || text.len() > most || !are_digits(text) {
+    if text.is_empty() || text.len() > most {
         return None;
     }
-    Some(value_of(text))
+    let mut number = 0;
+    for digit in text {
+        if !digit.is_ascii_digit() {
+            return None;
+        }
+        number = number * 10 + u32::from(*digit - b'0');
+    }
+    Some(number)
 }
 
 /// The width that begins a text, as `first_width` gives it, found byte by byte.

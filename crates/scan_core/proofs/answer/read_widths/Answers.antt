@@ -1,5 +1,4 @@
-use Rattle.scan_core.proofs.RowFacts.{row_of}
 use Rattle.scan_core.proofs.answer.read_widths.Goals as goal
 
-pub answer_in-requires : goal.answer_in-requires
-answer_in-requires c = row_of c.args.widths.now c.in_default.ensures
+pub returns-clause-ok : goal.returns-clause-ok
+returns-clause-ok c = c.answer.ensures c.args.widths.now c.in_ok-find_widths.ensures.ok

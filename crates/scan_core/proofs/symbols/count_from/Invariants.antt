@@ -1,4 +1,4 @@
-use Rattle.std.proofs.Common.{◌+◌, ◌*◌, ◌≤◌, ℕ}
+use Rattle.std.proofs.Common.{◌+◌, ◌*◌, ◌≤◌}
 use Rattle.scan_core.specs.inner.Searches.{AreNoneShorter, HasRun}
 use Rattle.element_core.specs.Terms.{Terms}
 use Rattle.scan_core.proofs.symbols.count_from.Given as goal

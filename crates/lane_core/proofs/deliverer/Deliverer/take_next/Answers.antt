@@ -1,15 +1,19 @@
-use Rattle.std.proofs.Common.{◌≡◌, ◌<◌, ◌+◌, length, get_or, slice_set, refl, sym, ap, ◌∙◌, subst, arith}
+use Rattle.std.proofs.Common.{List, rules, ◌≡◌, ◌<◌, ◌+◌, length, get_or, slice_set, refl, sym, ap, ◌∙◌, subst, arith}
 use Rattle.std.proofs.lemmas.Grind.{get_or-set_at}
-use Rattle.std.proofs.lemmas.List.{get_or_read, length-set}
+use Rattle.std.proofs.lemmas.List.{get_or_read, length-set, nil_from_length}
+use Rattle.lane_core.specs.declared.next_slot.NextSlot.{NextSlot}
 use Rattle.lane_core.specs.declared.next_slot.NextSlot.TheVariants.{Missing, Here}
-use Rattle.lane_core.specs.ReorderBuffer.{ReorderBuffer}
+use Rattle.lane_core.specs.ReorderBuffer.{GivesNext, ReorderBuffer}
+use Rattle.lane_core.specs.declared.job.Plain.{Plain}
+use Rattle.lane_core.specs.declared.ticket.Ticket.{Ticket}
 use Rattle.lane_core.specs.inner.NextSlots.{Advances, IsSlotOf, is_here, slot_at}
 use Rattle.lane_core.specs.NextSlots.{buffer_by_slots}
-use Rattle.lane_core.proofs.BufferFacts.{gave, kept_next, known_same, others_same}
+use Rattle.lane_core.proofs.AdvanceFacts.{none_later}
+use Rattle.lane_core.proofs.BufferFacts.{gave, known_same, others_same}
 use Rattle.lane_core.proofs.SlotFacts.{next_waits, own_parts}
 use Rattle.lane_core.proofs.ListFacts.{placed, set_same}
 use Rattle.lane_core.proofs.deliverer.Deliverer.take_next.Goals as goal
-use Rattle.lane_core.proofs.deliverer.Deliverer.take_next.Goals.{After-index, After-index_mut, After-self-3-1}
+use Rattle.lane_core.proofs.deliverer.Deliverer.take_next.Goals.{After-index, After-index_mut, After-index_mut-arg-2-1}
 
 low : (c : After-index_mut) → c.args.lane < length c.self.inside.nexts.items
 low c = rw (← c.self.view_is) at c.requires
@@ -70,34 +74,16 @@ index_mut-requires-2 c =
     let less : c.args.lane < length c.self.inside.nexts.items = rw (← c.self.view_is) at c.requires in
     omega arith
 
-pub index_mut-requires-3 : goal.index_mut-requires-3
-index_mut-requires-3 c =
-    let less : c.args.lane < length c.self.inside.nexts.items = rw (← c.self.view_is) at c.requires in
-    let n = c.self.invariant.lanes in
-    omega arith
-
-pub advance-requires-clause-missing : goal.advance-requires-clause-missing
-advance-requires-clause-missing c =
-    let slots = c.self.inside.slots.items in
-    let l = c.from-index.result in
-    let less : c.args.lane < length c.self.inside.nexts.items = rw (← c.self.view_is) at c.requires in
-    let there : l < length slots = let n = c.self.invariant.lanes in omega arith in
-    c.index_mut-3.ensures.value
-    ∙ (get_or-set_at slots l l c.take.new.self c.index_mut-3.result.now refl there ∙ c.in_ok-delivery.ensures.some.1)
-
-pub advance-requires-clause-indexed : goal.advance-requires-clause-indexed
-advance-requires-clause-indexed c = c.self.invariant.indexed
-
-low_of : (c : After-self-3-1) → c.args.lane < length c.self.inside.nexts.items
+low_of : (c : After-index_mut-arg-2-1) → c.args.lane < length c.self.inside.nexts.items
 low_of c = rw (← c.self.view_is) at c.requires
 
-at_of : (c : After-self-3-1) → c.index.result.now ≡ get_or c.self.inside.nexts.items c.args.lane 0
-at_of c = next_of (goal.at.invariant_of-self-2 c).After-index
+at_of : (c : After-index_mut-arg-2-1) → c.index.result.now ≡ get_or c.self.inside.nexts.items c.args.lane 0
+at_of c = next_of (goal.at.index_mut-requires-2 c).After-index
 
-here_of : (c : After-self-3-1) → slot_at c.self.inside.slots.items c.args.lane ≡ Here c.in_ok-delivery.delivery
-here_of c = slot_of (goal.at.invariant_of-self-2 c).After-index_mut ∙ c.in_ok-delivery.ensures.some.0
+here_of : (c : After-index_mut-arg-2-1) → slot_at c.self.inside.slots.items c.args.lane ≡ Here c.in_ok-delivery.delivery
+here_of c = slot_of (goal.at.index_mut-requires-2 c).After-index_mut ∙ c.in_ok-delivery.ensures.some.0
 
-own_of : (c : After-self-3-1) → IsSlotOf c.args.lane (get_or c.self.inside.nexts.items c.args.lane 0) (Here c.in_ok-delivery.delivery)
+own_of : (c : After-index_mut-arg-2-1) → IsSlotOf c.args.lane (get_or c.self.inside.nexts.items c.args.lane 0) (Here c.in_ok-delivery.delivery)
 own_of c = subst (IsSlotOf c.args.lane (get_or c.self.inside.nexts.items c.args.lane 0)) (here_of c) (c.self.invariant.own c.args.lane (low_of c))
 
 pub overflow_add-next : goal.overflow_add-next
@@ -110,41 +96,49 @@ overflow_add-next c =
     let small = (own_parts c.args.lane n c.in_ok-delivery.delivery own).2 in
     omega arith
 
-advanced : (c : After-self-3-1)
-    → Advances c.args.lane (get_or c.self.inside.nexts.items c.args.lane 0 + 1) c.self.inside.later.entries c.self.inside.known.keys c.advance.new.later.entries
-    c.advance.new.known.keys c.advance.new.slot
-advanced c = subst (λ n. Advances c.args.lane (n + 1) c.self.inside.later.entries c.self.inside.known.keys c.advance.new.later.entries c.advance.new.known.keys
-    c.advance.new.slot) (at_of c) c.advance.ensures
-
-nexts_of : (c : After-self-3-1)
+nexts_of : (c : After-index_mut-arg-2-1)
     → slice_set c.self.inside.nexts.items c.from-index.result (c.index.result.now + 1)
     ≡ slice_set c.self.inside.nexts.items c.args.lane (get_or c.self.inside.nexts.items c.args.lane 0 + 1)
 nexts_of c = λ i. slice_set c.self.inside.nexts.items (c.from-index.ensures i) (at_of c i + 1)
 
-heads_of : (c : After-self-3-1)
-    → slice_set (slice_set c.self.inside.slots.items c.from-index.result c.take.new.self) c.from-index.result c.advance.new.slot
-    ≡ slice_set (slice_set c.self.inside.slots.items c.args.lane Missing) c.args.lane c.advance.new.slot
-heads_of c = λ i. slice_set (slice_set c.self.inside.slots.items (c.from-index.ensures i) (c.in_ok-delivery.ensures.some.1 i)) (c.from-index.ensures i)
-    c.advance.new.slot
+slots_of : (c : After-index_mut-arg-2-1) (a : NextSlot)
+    → slice_set (slice_set c.self.inside.slots.items c.from-index.result c.take.new.self) c.from-index.result a
+    ≡ slice_set (slice_set c.self.inside.slots.items c.args.lane Missing) c.args.lane a
+slots_of c a = λ i. slice_set (slice_set c.self.inside.slots.items (c.from-index.ensures i) (c.in_ok-delivery.ensures.some.1 i)) (c.from-index.ensures i) a
 
-pub invariant_of-self-2 : goal.invariant_of-self-2
-invariant_of-self-2 c =
-    let a = advanced c in
-    rw (nexts_of c, heads_of c)
-    (kept_next c.self.inside.nexts.items c.self.inside.slots.items c.self.inside.later.entries c.advance.new.later.entries c.self.inside.known.keys
-    c.advance.new.known.keys c.args.lane c.advance.new.slot
-    c.self.invariant (low_of c) a.own a.indexed a.gone (others_same c.args.lane _ _ _ _ _ c.advance.new.slot a))
+moved : (c : After-index_mut-arg-2-1) (later : List (Ticket × Plain)) (known : List Ticket) (a : NextSlot)
+    → Advances c.args.lane (c.index.result.now + 1) c.self.inside.later.entries c.self.inside.known.keys later known a
+    → GivesNext c.args.self.now c.args.lane c.in_ok-delivery.delivery
+    (buffer_by_slots (slice_set c.self.inside.nexts.items c.from-index.result (c.index.result.now + 1))
+    (slice_set (slice_set c.self.inside.slots.items c.from-index.result c.take.new.self) c.from-index.result a) later known)
+moved c later known a moves =
+    let is = subst (λ n. Advances c.args.lane (n + 1) c.self.inside.later.entries c.self.inside.known.keys later known a) (at_of c) moves in
+    rw (← c.self.view_is)
+    (rw (nexts_of c, slots_of c a)
+    (gave c.self.inside.nexts.items c.self.inside.slots.items c.self.inside.later.entries later c.self.inside.known.keys known c.args.lane
+    c.in_ok-delivery.delivery a (low_of c) c.self.invariant.lanes (here_of c) (own_of c) is.waiting (known_same c.args.lane _ _ _ _ _ a is)
+    (others_same c.args.lane _ _ _ _ _ a is)))
+
+-- its place has nothing more
+stays : (c : After-index_mut-arg-2-1)
+    → slice_set (slice_set c.self.inside.slots.items c.from-index.result c.take.new.self) c.from-index.result Missing
+    ≡ slice_set c.self.inside.slots.items c.from-index.result c.take.new.self
+stays c =
+    let slots = c.self.inside.slots.items in
+    let there : c.from-index.result < length slots =
+    let less = low_of c in let n = c.self.invariant.lanes in omega (arith, less, n, c.from-index.ensures) in
+    let is : Missing ≡ get_or (slice_set slots c.from-index.result c.take.new.self) c.from-index.result Missing =
+    sym (get_or-set_at slots c.from-index.result c.from-index.result c.take.new.self Missing refl there ∙ c.in_ok-delivery.ensures.some.1) in
+    set_same (slice_set slots c.from-index.result c.take.new.self) c.from-index.result Missing
+    (placed (slice_set slots c.from-index.result c.take.new.self) c.from-index.result Missing
+    (omega (arith, there, length-set slots c.from-index.result c.take.new.self)) is)
 
 pub returns-clause-some : goal.returns-clause-some
-returns-clause-some c =
-    let a = advanced c in
-    rw (← c.self.view_is)
-    (rw (nexts_of c, heads_of c)
-    (gave c.self.inside.nexts.items c.self.inside.slots.items c.self.inside.later.entries c.advance.new.later.entries c.self.inside.known.keys
-    c.advance.new.known.keys c.args.lane c.in_ok-delivery.delivery c.advance.new.slot
-    (low_of c) c.self.invariant.lanes (here_of c) (own_of c) a.waiting (known_same c.args.lane _ _ _ _ _ c.advance.new.slot a)
-    (others_same c.args.lane _ _ _ _ _ c.advance.new.slot a)))
+returns-clause-some c = moved (goal.at.returns-clause-some c).After-index_mut-arg-2-1 _ _ _ c.slot_of.ensures
 
-pub returns-clause-lanes : goal.returns-clause-lanes
-returns-clause-lanes c =
-    length-set c.self.inside.nexts.items c.from-index.result (c.index.result.now + 1) ∙ ap (λ (d : ReorderBuffer). length d.nexts) c.self.view_is
+pub returns-then-is_empty-clause-some : goal.returns-then-is_empty-clause-some
+returns-then-is_empty-clause-some c =
+    let d = (goal.at.returns-then-is_empty-clause-some c).After-index_mut-arg-2-1 in
+    let none : length c.self.inside.known.keys ≡ 0 = search rules in
+    let stay = none_later c.args.lane (c.index.result.now + 1) _ _ c.self.invariant.indexed (nil_from_length c.self.inside.known.keys none) in
+    rw (← stays d) (moved d _ _ _ stay)

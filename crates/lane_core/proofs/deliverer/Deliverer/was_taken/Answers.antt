@@ -1,4 +1,4 @@
-use Rattle.std.proofs.Common.{◌≡◌, ◌==◌, ◌&&◌, ◌||◌, nat_lt, Bool, true, false, sym, ap, ◌∙◌, get_or, arith}
+use Rattle.std.proofs.Common.{◌≡◌, ◌==◌, ◌&&◌, ◌||◌, nat_lt, Bool, not, true, false, sym, ap, ◌∙◌, get_or, arith}
 use Rattle.std.proofs.lemmas.Grind.{common_steps}
 use Rattle.lane_core.specs.ReorderBuffer.{is_known, was_taken}
 use Rattle.lane_core.specs.inner.NextSlots.{has_come, slot_at}
@@ -18,7 +18,7 @@ returns c =
     let slots = c.self.inside.slots.items in
     let given : nat_lt c.from-number.result c.index.result.now ≡ nat_lt number (get_or nexts lane 0) = grind (arith, common_steps) in
     let is_next : (c.from-number.result == c.index-2.result.now) ≡ (get_or nexts lane 0 == number) = grind (arith, common_steps) in
-    let come : c.has_come.result ≡ has_come (slot_at slots lane) = grind (arith, common_steps) in
+    let come : not c.match-matches.matches ≡ has_come (slot_at slots lane) = elim c.match-matches.branch [ goal.in-Missing w ↦ grind (arith, common_steps) | goal.in_default w ↦ grind (arith, common_steps) ] in
     let later : c.contains.result ≡ is_known lane number c.self.inside.known.keys =
     c.contains.ensures ∙ any_finds _ lane number (finds_own c.args.ticket) c.self.inside.known.keys in
     either_of _ _ _ _ _ _ given (λ i. is_next i && come i) later
