@@ -104,3 +104,21 @@ one_byte_more from end i k b low high =
 
 pub all_dark : (from end i k : ℕ) (b : Bool) → (end + 7) / 8 ≤ i → (is_dark from end i k || b) ≡ ((nat_le from k && nat_lt k end) || b)
 all_dark from end i k b past = grind (arith, nat_tests)
+
+-- ---- at most eight dots, in two bytes
+
+-- dot k is one of a byte's from its dot a on and before its dot b
+abbrev pub in_byte : ℕ → ℕ → ℕ → ℕ → Bool
+in_byte i a b k = (k / 8 == i) && (nat_le a (k % 8) && nat_lt (k % 8) b)
+
+pub two_bytes : (from count k : ℕ) (b : Bool) → count ≤ 8
+    → (in_byte (from / 8 + 1) 0 (from % 8 + count - 8) k || (in_byte (from / 8) (from % 8) (min (from % 8 + count) 8) k || b))
+    ≡ ((nat_le from k && nat_lt k (from + count)) || b)
+two_bytes from count k b few =
+    elim (cases_eq (k / 8) (from / 8)) [
+      | inl same ↦ grind (arith, nat_tests)
+      | inr other ↦ elim (cases_eq (k / 8) (from / 8 + 1)) [
+        | inl next ↦ grind (arith, nat_tests)
+        | inr apart ↦ grind (arith, nat_tests)
+      ]
+    ]

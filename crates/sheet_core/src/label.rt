@@ -1,14 +1,15 @@
 //! Labels.
-ghost use Rattle.std.specs.Prelude.{◌≡◌, ◌≤◌, ℕ, List, IfNone, IfSome, drop};
+ghost use Rattle.std.specs.Prelude.{◌≡◌, ◌≤◌, ◌↔◌, ℕ, List, IfNone, IfSome, IsTrue, drop};
 ghost use Rattle.digits_core.specs.Digits.{padded};
 ghost use Rattle.ean_code.specs.Spelling.{IsSpelled};
 ghost use Rattle.ean_code.specs.declared.kind.Kind.TheVariants.{Ean13, Ean8, Itf14};
 ghost use Rattle.ean_code.specs.declared.reading.Spelled.TheVariants.{Found};
 ghost use Rattle.element_core.specs.Elements.{canonical};
-ghost use Rattle.sheet_core.specs.Labels.{Drawn, IsDrawn, IsLabelSymbol, IsPrintedGs1128, carrier_of, content_of, gtin_label, gtin_text, label_kind, label_text, lent};
+ghost use Rattle.sheet_core.specs.Labels.{Drawn, FitsCell, IsDrawn, IsLabelSymbol, IsPrintedGs1128, carrier_of, content_of, gtin_label, gtin_text, label_kind, label_text, lent};
 
+use crate::grid::Grid;
 use crate::kind::{GtinKind, LabelKind};
-use crate::symbol::DrawnSymbol;
+use crate::symbol::{DrawnSymbol, total};
 use code128_code::encode;
 use digits_core::Gtin;
 use ean_code::{Modules, ean8, ean13, itf14, upce};
@@ -196,9 +197,27 @@ impl Label {
         requires { (s : Drawn) × IsDrawn self.now s }
         ensures { IsDrawn self.now result }
     {
-        match self.symbol() {
-            Some(symbol) => symbol,
-            None => unreachable!(),
+        let Some(modules) = self.modules() else {
+            unreachable!()
+        };
+        let symbology = self.kind().symbology();
+        DrawnSymbol {
+            modules,
+            quiet_left: symbology.quiet_left,
+            quiet_right: symbology.quiet_right,
         }
+    }
+
+    /// Whether the label's symbol and its quiet zones fit a cell, if it has a symbol.
+    pub(crate) fn fits(&self, grid: &Grid) -> Option<bool>
+        ensures some { IfSome result (λ fits. (s : Drawn) × IsDrawn self.now s × (IsTrue fits ↔ FitsCell grid.now s)) }
+        ensures none { IfNone result ((s : Drawn) → IsDrawn self.now s → ⊥) }
+    {
+        let modules = self.modules()?;
+        let symbology = self.kind().symbology();
+        let width = u32::from(symbology.quiet_left)
+            + total(&modules)
+            + u32::from(symbology.quiet_right);
+        Some(width * u32::from(grid.module_dots) <= u32::from(grid.cell_width))
     }
 }

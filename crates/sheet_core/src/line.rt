@@ -1,5 +1,5 @@
 //! Lines of dots, packed with a byte's high bit first.
-ghost use Rattle.std.specs.Prelude.{◌≡◌, ◌+◌, ◌-◌, ◌*◌, ◌^◌, ◌<◌, ◌≤◌, ◌==◌, ◌&&◌, ◌||◌, ℕ, List, false, true, length, map, nat_le, nat_lt, replicate, slice_index_or, sum};
+ghost use Rattle.std.specs.Prelude.{◌≡◌, ◌+◌, ◌-◌, ◌*◌, ◌/◌, ◌^◌, ◌<◌, ◌≤◌, ◌==◌, ◌&&◌, ◌||◌, ℕ, List, false, true, length, map, nat_le, nat_lt, replicate, slice_index_or, sum};
 ghost use Rattle.std.specs.List.{AllByRecursion, AllZip};
 ghost use Rattle.std.specs.Int.{bit_at};
 ghost use Rattle.scan_core.specs.Bits.{dot_at};
@@ -37,12 +37,30 @@ fn bits_of(from: usize, end: usize) -> u8
     ((0xFFu16 >> from) - (0xFFu16 >> end)) as u8
 }
 
+/// Makes at most eight dots dark, `count` from dot `from` on, in the byte of the first and the one after it: without a
+/// loop, whose end the processor would guess wrong for half of all bars.
+fn darken_few(line: &mut [u8], from: usize, count: usize)
+    requires few { count ≤ 8 }
+    requires within { from / 8 + 1 < length line.old }
+    requires small { from < 2 ^ 16 }
+    ensures { (k : ℕ) → dot_at line.new k ≡ ((nat_le from k && nat_lt k (from + count)) || dot_at line.old k) }
+{
+    let first = from / 8;
+    let skipped = from % 8;
+    let end = skipped + count;
+    line[first] |= bits_of(skipped, end.min(8));
+    line[first + 1] |= bits_of(0, end.saturating_sub(8));
+}
+
 /// Makes `count` dots dark, from dot `from` on, byte by byte.
 fn darken(line: &mut [u8], from: usize, count: usize)
     requires within { from + count ≤ 8 * length line.old }
     requires few { from + count < 2 ^ 16 }
     ensures { (k : ℕ) → dot_at line.new k ≡ ((nat_le from k && nat_lt k (from + count)) || dot_at line.old k) }
 {
+    if count <= 8 && from / 8 + 1 < line.len() {
+        return darken_few(line, from, count);
+    }
     let end = from + count;
     for i in from / 8..(end + 7) / 8 {
         let bits = bits_of(from.max(8 * i) - 8 * i, end.min(8 * i + 8) - 8 * i);

@@ -21,10 +21,10 @@ pub fn check_labels(labels: &[Label], grid: &Grid) -> Result<(), SheetFault>
     ensures err { IfErr result (IsSheetFault grid.now labels.now) }
 {
     for (i, label) in labels.iter().enumerate() {
-        let Some(symbol) = label.symbol() else {
+        let Some(fits) = label.fits(grid) else {
             return Err(SheetFault::LabelKind(i));
         };
-        if !symbol.fits(grid) {
+        if !fits {
             return Err(SheetFault::LabelWidth(i));
         }
     }

@@ -60,6 +60,27 @@ impl Sheet {
         (byte >> (7 - x % 8)) % 2 == 1
     }
 
+    /// A copy of the sheet. Only memory can be refused.
+    pub(crate) fn copy(&self, alloc: Global) -> Result<Sheet, NoMemory>
+        ensures { IfOk result (λ s. s ≡ self.now) }
+    {
+        let Ok(bytes) = self.bytes.as_slice().to_vec(alloc) else {
+            return Err(NoMemory);
+        };
+        Ok(Sheet {
+            width: self.width,
+            height: self.height,
+            bytes,
+        })
+    }
+
+    /// The list of its bytes, whose memory another sheet is to have.
+    pub(crate) fn into_bytes(self) -> Vec<u8>
+        ensures { result.items ≡ self.bytes }
+    {
+        self.bytes
+    }
+
     /// The runs of `count` dots of row `y`, from dot `x` on.
     fn part(&self, alloc: Global, x: u16, y: u16, count: u16) -> Result<Runs, NoMemory>
         requires columns { x + count ≤ self.now.width }

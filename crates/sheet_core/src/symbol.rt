@@ -1,9 +1,7 @@
 //! Symbols as they are drawn.
-ghost use Rattle.std.specs.Prelude.{◌≡◌, ◌≤◌, ◌+◌, ◌*◌, ◌↔◌, IsTrue, sum};
+ghost use Rattle.std.specs.Prelude.{◌≡◌, ◌≤◌, sum};
 ghost use Rattle.ean_code.specs.Widths.{AreModules};
-ghost use Rattle.sheet_core.specs.Labels.{FitsCell};
 
-use crate::grid::Grid;
 use ean_code::Modules;
 use std::marker::Model;
 
@@ -27,7 +25,7 @@ impl Model for DrawnSymbol {
 }
 
 /// The widths of modules together.
-fn total(modules: &Modules) -> u32
+pub(crate) fn total(modules: &Modules) -> u32
     ensures sum { result ≡ sum modules.now }
     ensures most { result ≤ 2380 }
 {
@@ -55,15 +53,5 @@ impl DrawnSymbol {
         ensures { result ≡ self.now.quiet_right }
     {
         self.quiet_right
-    }
-
-    /// Whether the symbol and its quiet zones fit a cell.
-    pub(crate) fn fits(&self, grid: &Grid) -> bool
-        ensures { IsTrue result ↔ FitsCell grid.now self.now }
-    {
-        let modules = u32::from(self.quiet_left)
-            + total(&self.modules)
-            + u32::from(self.quiet_right);
-        modules * u32::from(grid.module_dots) <= u32::from(grid.cell_width)
     }
 }

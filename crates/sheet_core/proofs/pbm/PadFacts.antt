@@ -1,5 +1,5 @@
 -- The pad bits of rows made 0.
-use Rattle.std.proofs.Common.{◌≡◌, ℕ, ◌+◌, ◌-◌, ◌*◌, ◌/◌, ◌%◌, ◌^◌, ◌<◌, ◌≤◌, List, length, set, refl, sym, ap, ◌∙◌, inl, inr, get_or, eq-eqb, arith}
+use Rattle.std.proofs.Common.{◌≡◌, ◌==◌, true, false, ℕ, ◌+◌, ◌-◌, ◌*◌, ◌/◌, ◌%◌, ◌^◌, ◌<◌, ◌≤◌, List, length, set, refl, sym, ap, ◌∙◌, inl, inr, get_or, eq-eqb, arith}
 use Rattle.std.specs.Prelude.{if◌then◌else◌}
 use Rattle.std.proofs.lemmas.Bool.{cases_eq, cases_lt, ne_eqb}
 use Rattle.std.proofs.lemmas.Nat.{div-add-mod', mod-mul-add, pow_pos}
@@ -71,3 +71,16 @@ cleared_at width bytes i low last =
         let e = div-add-mod' b m in
         let at : b - b % m ≡ b / m * m + 0 = omega arith in
         ap (λ n. n % m) at ∙ mod-mul-add (b / m) m 0 some
+
+-- rows without pad bits
+pub none_padded : (width : ℕ) (bytes : List ℕ) → pad width ≡ 0 → bytes ≡ unpadded width bytes
+none_padded width bytes none = fill_by_all (unpadded_at width bytes) bytes (length bytes) 0 refl (λ i low. same i)
+  where
+    same : (i : ℕ) → get_or bytes i 0 ≡ unpadded_at width bytes i
+    same i =
+        let b : ℕ = get_or bytes i 0 in
+        let whole : b - b % 2 ^ pad width ≡ b = ap (λ p. b - b % 2 ^ p) none ∙ (let e : b - b % 1 ≡ b = omega arith in e) in
+        elim ((i + 1) % stride width == 0) as (λ t. b ≡ (if t then b - b % 2 ^ pad width else b)) [
+          | true ↦ sym whole
+          | false ↦ refl
+        ]

@@ -54,14 +54,15 @@ fn read_header<R: Source>(reader: &mut R, first: u8) -> Result<Size, PbmFault>
     Err(PbmFault::PbmHeader)
 }
 
-/// The next bytes, this many, and none after them. Memory is taken as they come.
-fn read_bytes<R: Source>(alloc: Global, reader: &mut R, count: usize) -> Result<Vec<u8>, PbmFault>
-    ensures ok { IfOk result (λ v. Consumes (R.left reader.old) (R.left reader.new) v.items) }
-    ensures count { IfOk result (λ v. length v.items ≡ count) }
+/// Reads the next bytes, this many, and none after them, in place of what the list holds. Its room is used again, and
+/// more memory is taken as bytes come.
+fn read_bytes<R: Source>(bytes: &mut Vec<u8>, reader: &mut R, count: usize) -> Result<(), PbmFault>
+    ensures ok { OnOk result (Consumes (R.left reader.old) (R.left reader.new) bytes.new.items) }
+    ensures count { OnOk result (length bytes.new.items ≡ count) }
     ensures stopped { IfErr result (StopsBefore count (R.left reader.old) (R.left reader.new)) }
     ensures failed { FailsFor (R.failed reader.old) (R.failed reader.new) result }
 {
-    let mut bytes = Vec::new(alloc);
+    bytes.truncate(count);
     let mut filled = 0;
     'reads: while filled < count {
         if filled == bytes.len() {
@@ -76,7 +77,7 @@ fn read_bytes<R: Source>(alloc: Global, reader: &mut R, count: usize) -> Result<
         }
         filled += read;
     }
-    Ok(bytes)
+    Ok(())
 }
 
 /// The byte with its low bits, this many, made 0.
@@ -95,20 +96,25 @@ fn clear_pads(bytes: &mut [u8], size: Size)
 {
     let stride = stride(size.width);
     let pad = 8 * stride - usize::from(size.width);
+    if pad == 0 {
+        return;
+    }
     for row in 0..usize::from(size.height) {
         let last = stride * row + (stride - 1);
         bytes[last] = without_low_bits(bytes[last], pad);
     }
 }
 
-/// The sheet of an image that begins with this byte. No byte after the one that decides is read.
-fn read_image<R: Source>(alloc: Global, reader: &mut R, first: u8) -> Result<Sheet, PbmFault>
+/// The sheet of an image that begins with this byte, in the room of this list. No byte after the one that decides is
+/// read.
+fn read_image<R: Source>(room: Vec<u8>, reader: &mut R, first: u8) -> Result<Sheet, PbmFault>
     ensures read { ReadsBytes (λ bytes. image_of (first ∷ bytes)) (R.left reader.old) (R.left reader.new) result }
     ensures failed { FailsFor (R.failed reader.old) (R.failed reader.new) result }
 {
     let size = read_header(reader, first)?;
     let count = stride(size.width) * usize::from(size.height);
-    let mut bytes = read_bytes(alloc, reader, count)?;
+    let mut bytes = room;
+    read_bytes(&mut bytes, reader, count)?;
     clear_pads(bytes.as_mut_slice(), size);
     Ok(Sheet {
         width: size.width,
@@ -126,14 +132,14 @@ pub trait SheetIntake {
     ghost makes: { Self → List Bitmap → Self.Made → Type 0 };
 
     /// Takes one more sheet.
-    fn take(&self, made: &mut Self::Made, sheet: Sheet) -> Result<(), NoMemory>
+    fn take(&self, made: &mut Self::Made, sheet: &Sheet) -> Result<(), NoMemory>
         requires { (sheets : List Bitmap) × makes self.now sheets made.old }
         ensures { OnOk result ((sheets : List Bitmap) → makes self.now sheets made.old
-            → makes self.now (sheets ++ sheet ∷ []) made.new) };
+            → makes self.now (sheets ++ sheet.now ∷ []) made.new) };
 }
 
-/// Hands the sheets of all PBM images that the reader has (netpbm, pbm(5)) to an intake, each before the next is
-/// read. At most 4,096 are taken, each with a header of at most 4,096 bytes. An empty input has none.
+/// Shows the sheets of all PBM images that the reader has (netpbm, pbm(5)) to an intake, each before the next is
+/// read into the same memory. At most 4,096 are taken, each with a header of at most 4,096 bytes. An empty input has none.
 ///
 /// The first byte that cannot be refuses the whole input, and none after it is read: `NotP4`, `PbmHeader` or
 /// `PbmSize`; an end within an image is `Truncated`. Memory is taken as bytes come.
@@ -151,15 +157,17 @@ pub fn read_sheets<R: Source, I: SheetIntake>(
     ensures fault { R.failed reader.old ≡ false
         → (IsErrOf result PbmFault.ReadFault ↔ (R.failed reader.new ≡ true)) }
 {
+    let mut room = Vec::new(alloc);
     for _ in 0..4096u16 {
         let Some(first) = next(reader)? else {
             return Ok(());
         };
-        let sheet = read_image(alloc, reader, first)?;
-        match intake.take(made, sheet) {
+        let sheet = read_image(room, reader, first)?;
+        match intake.take(made, &sheet) {
             Ok(()) => {}
             Err(_) => return Err(PbmFault::NoMemory),
         }
+        room = sheet.into_bytes();
     }
     match next(reader)? {
         None => Ok(()),
@@ -167,17 +175,20 @@ pub fn read_sheets<R: Source, I: SheetIntake>(
     }
 }
 
-/// Keeps each sheet.
+/// Keeps a copy of each sheet.
 #[derive(Clone, Copy)]
-struct AllSheets;
+struct AllSheets {
+    alloc: Global,
+}
 
 impl SheetIntake for AllSheets {
     type Made = Vec<Sheet>;
 
     ghost makes = { λ intake sheets made. made.items ≡ sheets };
 
-    fn take(&self, made: &mut Vec<Sheet>, sheet: Sheet) -> Result<(), NoMemory> {
-        if made.push(sheet).is_err() {
+    fn take(&self, made: &mut Vec<Sheet>, sheet: &Sheet) -> Result<(), NoMemory> {
+        let copy = sheet.copy(self.alloc)?;
+        if made.push(copy).is_err() {
             return Err(NoMemory);
         }
         Ok(())
@@ -193,6 +204,6 @@ pub fn read_pbm<R: Source>(alloc: Global, reader: &mut R) -> Result<Vec<Sheet>, 
         → (IsErrOf result PbmFault.ReadFault ↔ (R.failed reader.new ≡ true)) }
 {
     let mut sheets = Vec::new(alloc);
-    read_sheets(alloc, reader, &AllSheets, &mut sheets)?;
+    read_sheets(alloc, reader, &AllSheets { alloc }, &mut sheets)?;
     Ok(sheets)
 }

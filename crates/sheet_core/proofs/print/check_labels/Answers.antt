@@ -1,4 +1,4 @@
-use Rattle.std.proofs.Common.{◌≡◌, ℕ, zero, suc, true, false, List, [], ◌∷◌, take, refl, subst, add-one}
+use Rattle.std.proofs.Common.{◌≡◌, ℕ, zero, suc, true, false, List, [], ◌∷◌, take, refl, sym, subst, ◌∙◌, add-one}
 use Rattle.std.specs.Prelude.{Some, slice_get}
 use Rattle.std.specs.List.{AllByRecursion}
 use Rattle.std.proofs.lemmas.List.{take_all}
@@ -23,20 +23,16 @@ returns-in_default-clause-err c =
 
 pub returns-then-not-fits-clause-err : goal.returns-then-not-fits-clause-err
 returns-then-not-fits-clause-err c =
-    let at = slice_get_read c.args.labels.now _ c.loop-i.i c.index-labels-i.result refl c.loop-i-test.true c.index-labels-i.is in (
-      c.index-labels-i.result,
-      c.in-Some.symbol,
-      at,
-      c.loop-i.invariant,
-      c.in-Some.ensures.some,
-      λ fits. false_not_true (c.if-not-fits.ensures.1 fits),
-    )
+    let at = slice_get_read c.args.labels.now _ c.loop-i.i c.index-labels-i.result refl c.loop-i-test.true c.index-labels-i.is in
+    let some = c.in-Some.ensures.some in
+    (c.index-labels-i.result, some.0, at, c.loop-i.invariant, some.1, λ fits. false_not_true (sym c.if-not-fits.true ∙ some.2.1 fits))
 
 pub loop-i-preserved : goal.loop-i-preserved
 loop-i-preserved c =
     let at = slice_get_read c.args.labels.now _ c.loop-i.i c.index-labels-i.result refl c.loop-i-test.true c.index-labels-i.is in
+    let some = c.in-Some.ensures.some in
     rw add-one (one_more (IsPrintable c.args.grid.now) c.args.labels.now c.loop-i.i c.index-labels-i.result at
-    (c.in-Some.symbol, c.in-Some.ensures.some, c.fits.ensures.0 c.if-not-fits.false) c.loop-i.invariant)
+    (some.0, some.1, some.2.0 c.if-not-fits.false) c.loop-i.invariant)
 
 pub returns-clause-ok : goal.returns-clause-ok
 returns-clause-ok c =

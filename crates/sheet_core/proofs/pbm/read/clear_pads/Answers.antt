@@ -1,6 +1,6 @@
-use Rattle.std.proofs.Common.{◌≡◌, ◌+◌, ◌-◌, ◌*◌, ◌<◌, ◌%◌, ◌^◌, ℕ, ap, ap₂, subst, ◌∙◌, arith, get_or, ◌≤◌}
+use Rattle.std.proofs.Common.{◌≡◌, ◌+◌, ◌-◌, ◌*◌, ◌<◌, ◌%◌, ◌^◌, ℕ, sym, ap, ap₂, subst, ◌∙◌, arith, get_or, ◌≤◌}
 use Rattle.sheet_core.specs.Bitmaps.{pad, stride}
-use Rattle.sheet_core.proofs.pbm.PadFacts.{Cleared, cleared_all, cleared_more}
+use Rattle.sheet_core.proofs.pbm.PadFacts.{Cleared, cleared_all, cleared_more, none_padded}
 use Rattle.sheet_core.proofs.pbm.read.clear_pads.Goals as goal
 
 pub loop-row-preserved : goal.loop-row-preserved
@@ -26,3 +26,8 @@ returns c =
     let end : c.loop-row.row ≡ c.args.size.height = omega arith in
     cleared_all c.args.size.width c.args.size.height c.args.bytes.now c.loop-row.bytes c.requires.count
     (subst (λ r. Cleared c.args.size.width c.args.bytes.now r c.loop-row.bytes) end c.loop-row.invariant)
+
+pub returns-then-pad-eq0 : goal.returns-then-pad-eq0
+returns-then-pad-eq0 c =
+    let pads : 8 * c.stride-stride.result - c.from.result ≡ pad c.args.size.width = ap₂ (λ a b. 8 * a - b) c.stride-stride.ensures c.from.ensures in
+    none_padded c.args.size.width c.args.bytes.now (sym pads ∙ c.if-pad-eq0.true)

@@ -70,8 +70,8 @@ returns-in-None-clause-ok g c =
     let end = at_none _ _ _ c.in-None.is c.in_ok-next.ensures.byte.1 in
     (inv.sheets, ended _ _ _ _ _ inv.had end.0, inv.made)
 
-pub returns-in-Some-2-clause-err : goal.returns-in-Some-2-clause-err
-returns-in-Some-2-clause-err g c =
+pub returns-clause-err : goal.returns-clause-err
+returns-clause-err g c =
     let inv = c.loop.invariant in
     let end : c.loop.counter ≡ 4096 = omega arith in
     let last = at_some _ _ _ _ c.in-Some-2.is c.in_ok-next.ensures.byte.1 in
