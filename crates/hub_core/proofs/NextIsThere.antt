@@ -14,7 +14,7 @@ use Rattle.lane_core.specs.Weights.{once}
 use Rattle.lane_core.proofs.WeightFacts.{among_from, among_times}
 use Rattle.hub_core.specs.inner.Accounting.{Accounted}
 use Rattle.hub_core.proofs.LanesGrow.{ticket_parts}
-use Rattle.hub_core.proofs.AccountingFacts.{not_taken}
+use Rattle.hub_core.proofs.DeliveriesAreAccounted.{not_taken}
 
 pub is_there : {X : Type 0} (o : Option X) → is_none o ≡ false → is_some o ≡ true
 is_there None none = absurd (cc)

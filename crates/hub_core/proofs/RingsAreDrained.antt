@@ -16,8 +16,8 @@ use Rattle.hub_core.specs.Hubs.{ArePushEnds, IsDelivererOf, IsLaneOf, shape_of}
 use Rattle.hub_core.specs.Lanes.{lane_of, numbers_of, received}
 use Rattle.hub_core.specs.inner.Draining.{AreFromFirst, all_received, to_lanes}
 use Rattle.hub_core.specs.Rings.{PushEnd, all_sent}
-use Rattle.hub_core.proofs.DrainedFacts.{drained_then, same_some}
-use Rattle.hub_core.proofs.RingFacts.{get_set, same_ring}
+use Rattle.hub_core.proofs.DrainsAddUp.{drained_then, same_some}
+use Rattle.hub_core.proofs.RingsAfterStep.{get_set, same_ring}
 use Rattle.hub_core.proofs.SumsOfChanged.{sum_by-map}
 
 -- the ends are those that they were

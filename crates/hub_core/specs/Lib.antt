@@ -1,4 +1,5 @@
 pub use Rattle.scan_core.specs.Answers
+pub mod Collecting
 pub mod Delivering
 pub mod Faults
 pub mod Feeds

@@ -4,7 +4,7 @@ use Rattle.lane_core.specs.declared.job.Plain.{Plain}
 use Rattle.hub_core.specs.Serving.{served}
 use Rattle.hub_core.specs.declared.ended.Ended.{Ended}
 use Rattle.element_core.specs.Terms.{Terms}
-use Rattle.hub_core.specs.declared.ended.Ended.TheVariants.{Done, Lost, NoMemory, Stopped}
+use Rattle.hub_core.specs.declared.ended.Ended.TheVariants.{BringFailed, Done, NoMemory, WaitFailed}
 
 -- the lists with one more item at the end of the list of this place
 abbrev pub with_more : {X : Type 0} → ℕ → X → List (List X) → List (List X)
@@ -63,10 +63,10 @@ Brings {T} came x s t = (start : T) (given : List (List (List ℕ))) (brought : 
 
 -- the traffic was brought all that it was to be brought
 abbrev pub IsKept : {W B : Type 0} → Ended W B → Type 0
-IsKept (Lost fault) = ⊥
+IsKept (BringFailed fault) = ⊥
 IsKept Done = ⊤
 IsKept NoMemory = ⊤
-IsKept (Stopped fault) = ⊤
+IsKept (WaitFailed fault) = ⊤
 
 -- each of these lists is the first of the list of its place
 abbrev pub AreFirstOf : List (List Plain) → List (List Plain) → Type 0
@@ -83,10 +83,10 @@ IsServed came has_ended year start now ended = (given : List (List (List ℕ))) 
 
 -- P, if a delivery was lost
 abbrev pub IfLost : {W B : Type 0} → Ended W B → Type 0 → Type 0
-IfLost (Lost fault) P = P
+IfLost (BringFailed fault) P = P
 IfLost Done P = ⊤
 IfLost NoMemory P = ⊤
-IfLost (Stopped fault) P = ⊤
+IfLost (WaitFailed fault) P = ⊤
 
 -- how a traffic was served that has lost a delivery: it had given rows and been brought the first of what is served for them, and is what its `bring` left then
 abbrev pub IsServedUpTo : {T : Type 0} → History T → (T → T → Type 0) → Terms → T → T → Type 0

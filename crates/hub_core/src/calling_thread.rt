@@ -11,6 +11,7 @@ use crate::pace::{Pace, ROWS_A_WORKER};
 use crate::traffic::Traffic;
 use crate::worker_seat::{Worked, WorkerSeat};
 use scan_core::Runs;
+use std::mem;
 use std::snapshot::Snapshot;
 use std::sync::Wait;
 
@@ -50,97 +51,39 @@ pub(crate) struct CallingThread<'a, T> {
 }
 
 impl<'a, T: Traffic> CallingThread<'a, T> {
-    ghost use Rattle.std.specs.Prelude.{◌≡◌, ◌<◌, IfOk, None, Ok, OnErr, false, true, vec_len};
-    ghost use Rattle.hub_core.specs.Traffics.{IfLost, IsKept};
-    ghost use Rattle.hub_core.specs.inner.CallingThread.{CameBySeats, GoesOn, HasAllBack, HasLost, IsAtEnd, IsServing, KeepsSeats};
+    ghost use Rattle.std.specs.Prelude.{◌≡◌, Ok, false, true};
+    ghost use Rattle.hub_core.specs.inner.CallingThread.{GoesOn, HasAllBack, EndsServing, IsAtEnd, IsServing, TakesStep};
 
-    /// A thread that has done nothing.
-    pub(crate) fn new(
-        hub: &'a Hub,
-        lanes: Vec<LaneSeat>,
-        deliverer: DelivererSeat,
-        own: Option<WorkerSeat>,
-        traffic: Box<T>,
-        pace: Pace<'a>,
-    ) -> CallingThread<'a, T>
-        requires { CameBySeats T.Came hub.now lanes.items deliverer own None traffic.value traffic.value }
-        ensures serves { IsServing T.Came result }
-        ensures start { (result.hub.now ≡ hub.now) × (result.start.value ≡ traffic.value) × (result.own ≡ own) }
-    {
-        CallingThread {
-            hub,
-            lanes,
-            deliverer,
-            own,
-            start: Snapshot::of(traffic.as_ref()),
-            traffic,
-            held: None,
-            pace,
-        }
-    }
-
-    /// Takes the traffic's next row in hand, if none is.
-    fn take_row(&mut self)
-        requires { IsServing T.Came self.old }
-        ensures { GoesOn T.Came self.old self.new }
-    {
-        if self.held.is_none() {
-            self.held = self.traffic.next();
-        }
-    }
-
-    /// Submits the row in hand. False if there is none, or the queue of jobs has no room.
-    fn submit_held<R: Wait>(&mut self, rt: &R) -> bool
-        requires { IsServing T.Came self.old }
-        ensures { GoesOn T.Came self.old self.new }
-    {
-        let Some((lane, row)) = self.held.take() else {
-            return false;
-        };
-        let index = usize::from(lane);
-        match self.hub.submit(rt, &mut self.lanes[index], row) {
-            Ok(_) => true,
-            Err(SubmitFault::Full(row)) => {
-                self.held = Some((lane, row));
-                false
-            }
-            Err(SubmitFault::Spent(_)) => unreachable!(),
-        }
-    }
-
-    /// Submits the next rows. False if there were fewer, or no room.
+    /// Submits the next rows, first the one in hand. False if there were fewer, or no room.
     fn submit_some<R: Wait>(&mut self, rt: &R) -> bool
         requires { IsServing T.Came self.old }
         ensures { GoesOn T.Came self.old self.new }
     {
         for _i in 0..IN_A_TURN {
-            self.take_row();
-            if !self.submit_held(rt) {
+            let next = match self.held.take() {
+                None => self.traffic.next(),
+                held => held,
+            };
+            let Some((lane, row)) = next else {
                 return false;
+            };
+            let index = usize::from(lane);
+            match self.hub.submit(rt, &mut self.lanes[index], row) {
+                Ok(_) => self.pace.unannounced = self.pace.unannounced.saturating_add(1),
+                Err(SubmitFault::Full(row)) => {
+                    self.held = Some((lane, row));
+                    return false;
+                }
+                Err(SubmitFault::Spent(_)) => unreachable!(),
             }
-            self.pace.count_queued();
         }
         true
-    }
-
-    /// Polls the next delivery of the lane at this place, if it is seen, and brings it.
-    fn bring_next(&mut self, index: usize) -> Result<(), T::BringFault>
-        requires serves { IsServing T.Came self.old }
-        requires lane { index < vec_len self.old.lanes }
-        ensures goes { IfOk result (λ _. GoesOn T.Came self.old self.new) }
-        ensures lost { OnErr result (HasLost T.Came T.Leaves self.old self.new) }
-    {
-        match self.lanes[index].poll() {
-            Some(delivery) => self.traffic.bring(delivery),
-            None => Ok(()),
-        }
     }
 
     /// Hands the lane its next numbers, and brings each at once.
     fn bring_all(&mut self, lane: u8) -> Result<(), T::BringFault>
         requires { IsServing T.Came self.old }
-        ensures goes { IfOk result (λ _. GoesOn T.Came self.old self.new) }
-        ensures lost { OnErr result (HasLost T.Came T.Leaves self.old self.new) }
+        ensures { TakesStep T.Came T.Leaves self.old result self.new }
     {
         let index = usize::from(lane);
         if index >= self.lanes.len() {
@@ -150,7 +93,10 @@ impl<'a, T: Traffic> CallingThread<'a, T> {
             if self.deliverer.hand(lane) == Handed::Nothing {
                 break;
             }
-            self.bring_next(index)?;
+            match self.lanes[index].poll() {
+                Some(delivery) => self.traffic.bring(delivery)?,
+                None => continue,
+            }
         }
         Ok(())
     }
@@ -158,8 +104,7 @@ impl<'a, T: Traffic> CallingThread<'a, T> {
     /// Collects at most this many posted deliveries and passes each on.
     fn collect_some<R: Wait>(&mut self, rt: &R, most: u32) -> Result<CollectedByLane, T::BringFault>
         requires { IsServing T.Came self.old }
-        ensures goes { IfOk result (λ _. GoesOn T.Came self.old self.new) }
-        ensures lost { OnErr result (HasLost T.Came T.Leaves self.old self.new) }
+        ensures { TakesStep T.Came T.Leaves self.old result self.new }
     {
         let mut collected = CollectedByLane::Nothing;
         for _i in 0..most {
@@ -186,7 +131,8 @@ impl<'a, T: Traffic> CallingThread<'a, T> {
         }
         let has_posted = self.hub.work(rt, seat, &OpenGate) == Worked::Posted;
         if has_posted {
-            self.pace.count_read();
+            // The workers need not be told of it.
+            self.pace.unannounced = self.pace.unannounced.saturating_sub(1);
         }
         has_posted
     }
@@ -210,19 +156,18 @@ impl<'a, T: Traffic> CallingThread<'a, T> {
     /// delivery.
     fn take_turn<R: Wait>(&mut self, rt: &R) -> Result<Turn, T::BringFault>
         requires { IsServing T.Came self.old }
-        ensures goes { IfOk result (λ _. GoesOn T.Came self.old self.new) }
-        ensures lost { OnErr result (HasLost T.Came T.Leaves self.old self.new) }
+        ensures step { TakesStep T.Came T.Leaves self.old result self.new }
         ensures back { result ≡ Ok Turn.AllBack → HasAllBack self.new }
     {
-        let seen = self.pace.signals_seen();
-        let has_slept = self.pace.take_slept();
+        let seen = self.pace.signals.deliveries.given();
+        let has_slept = mem::replace(&mut self.pace.has_slept, false);
         let collected = self.collect_some(rt, if has_slept { AFTER_A_SLEEP } else { IN_A_TURN })?;
         if collected == CollectedByLane::NoMemory {
             return Ok(Turn::NoMemory);
         }
-        self.pace.wake_for_places();
+        self.pace.signals.places.notify_all();
         if has_slept && self.has_many_under_way() {
-            self.pace.wake_one_more();
+            self.pace.signals.jobs.notify_one(1);
         }
         let are_more = self.submit_some(rt);
         let is_idle = collected == CollectedByLane::Nothing && !are_more;
@@ -254,10 +199,7 @@ impl<'a, T: Traffic> CallingThread<'a, T> {
         rt: &R,
     ) -> (CallingThread<'a, T>, Ended<T::WaitFault, T::BringFault>)
         requires { IsServing T.Came self }
-        ensures seats { KeepsSeats self.entry result.0 }
-        ensures serves { IsKept result.1 → GoesOn T.Came self.entry result.0 }
-        ensures lost { IfLost result.1 (HasLost T.Came T.Leaves self.entry result.0) }
-        ensures ended { result.1 ≡ Ended.Done → IsAtEnd T.has_ended result.0 }
+        ensures { EndsServing T.Came T.Leaves T.has_ended self.entry result.0 result.1 }
     {
         let mut thread = self;
         for _ in rt.forever() {
@@ -267,9 +209,9 @@ impl<'a, T: Traffic> CallingThread<'a, T> {
                 Ok(Turn::AllBack) => match thread.wait_for_more() {
                     Ok(true) => {}
                     Ok(false) => return (thread, Ended::Done),
-                    Err(fault) => return (thread, Ended::Stopped(fault)),
+                    Err(fault) => return (thread, Ended::WaitFailed(fault)),
                 },
-                Err(fault) => return (thread, Ended::Lost(fault)),
+                Err(fault) => return (thread, Ended::BringFailed(fault)),
             }
         }
         unreachable!()

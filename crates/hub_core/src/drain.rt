@@ -1,7 +1,7 @@
 //! Takes all that no lane has polled out of the hands, queues and rings of a hub.
 ghost use Rattle.std.specs.Prelude.{◌≡◌, ◌++◌, ℕ, All, option_to_list};
 ghost use Rattle.std.specs.List.{flat_map, sum_by};
-ghost use Rattle.crossbeam_queue.specs.Passes.{view, IsPassOf};
+ghost use Rattle.crossbeam_queue.specs.Passes.{IsPassOf};
 ghost use Rattle.rtrb.specs.Ring.{sent, received, IsPair, SameProducer};
 ghost use Rattle.lane_core.specs.declared.job.Plain.{Plain};
 ghost use Rattle.lane_core.specs.Weights.{OneForOne};
@@ -11,7 +11,7 @@ ghost use Rattle.hub_core.specs.Hubs.{AreAllSeats, IsWorkerOf};
 ghost use Rattle.hub_core.specs.Lanes.{submitted};
 ghost use Rattle.hub_core.specs.Passes.{shares_of, popped_by, pushed_by};
 ghost use Rattle.hub_core.specs.inner.Draining.{AreFromFirst, AreLeftInRings, DrainsAll};
-ghost use Rattle.hub_core.specs.inner.Rule.{HasShares, JoinsPops, JoinsPushes};
+ghost use Rattle.hub_core.specs.inner.Rule.{HasShares, TakesPops, TakesPushes};
 ghost use Rattle.hub_core.specs.inner.Workers.{jobs_in_hand};
 ghost use Rattle.hub_core.specs.Workers.{posted, taken};
 
@@ -46,9 +46,8 @@ pub(crate) fn place_hands(
 )
     requires passes { HasShares hub.now.jobs 0 all_jobs.old × HasShares hub.now.results 0 all_results.old }
     requires workers { All (IsWorkerOf hub.now) workers.items }
-    ensures same { IsPassOf hub.now.jobs all_jobs.new × IsPassOf hub.now.results all_results.new }
-    ensures jobs { JoinsPops taken workers.items (view all_jobs.old) (view all_jobs.new) }
-    ensures results { JoinsPushes posted workers.items (view all_results.old) (view all_results.new) }
+    ensures jobs { TakesPops hub.now.jobs taken workers.items all_jobs.old all_jobs.new }
+    ensures results { TakesPushes hub.now.results posted workers.items all_results.old all_results.new }
     ensures drains { DrainsInto lists.old.items lists.new.items (flat_map jobs_in_hand workers.items) }
 {
     for seat in workers {
@@ -112,8 +111,7 @@ pub(crate) fn place_rings(
 )
     requires passes { HasShares hub.now.jobs 0 all_jobs.old × All (λ s. IsPassOf hub.now.jobs s.pass) lanes.items }
     requires rings { All (IsPairedIn rings.old.items) lanes.items }
-    ensures same { IsPassOf hub.now.jobs all_jobs.new }
-    ensures jobs { JoinsPushes submitted lanes.items (view all_jobs.old) (view all_jobs.new) }
+    ensures jobs { TakesPushes hub.now.jobs submitted lanes.items all_jobs.old all_jobs.new }
     ensures drains { Drains lists.old.items lists.new.items (AreLeftInRings rings.old.items lanes.items) }
     ensures received { AreFromFirst rings.old.items lanes.items }
 {

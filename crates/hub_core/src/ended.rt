@@ -8,7 +8,7 @@ pub enum Ended<W, B> {
     /// Memory was refused.
     NoMemory,
     /// The traffic could not wait for more.
-    Stopped(W),
+    WaitFailed(W),
     /// The traffic could not be brought a delivery, which is lost.
-    Lost(B),
+    BringFailed(B),
 }

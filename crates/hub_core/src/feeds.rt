@@ -27,13 +27,14 @@ fn are_empty(rests: &[IntoIter<Runs>]) -> bool
 }
 
 impl Feeds {
-    ghost use Rattle.std.specs.Prelude.{◌≡◌, ◌<◌, ◌≤◌, [], ℕ, IfOk, IfSome, List, None, length, map, slice_index_or, true};
-    ghost use Rattle.hub_core.specs.Feeds.{GivesRow, IsTaken, TakesRow, are_given, rests_of};
+    ghost use Rattle.std.specs.Prelude.{◌≡◌, ◌<◌, ◌≤◌, [], IfOk, None, length, slice_index_or, true};
+    ghost use Rattle.hub_core.specs.Feeds.{TakesRow, are_given, rests_of};
+    ghost use Rattle.hub_core.specs.Serving.{items_of};
     ghost use Rattle.hub_core.specs.inner.Feeds.{NoneIsLeft};
 
     /// These rows of each lane.
     pub fn new(alloc: Global, rows: Vec<Vec<Runs>>) -> Result<Feeds, AllocError>
-        ensures { IfOk result (λ f. rests_of f ≡ map (λ feed. feed.items) rows.items) }
+        ensures { IfOk result (λ f. rests_of f ≡ items_of rows.items) }
     {
         let mut rests = Vec::with_capacity(alloc, rows.len())?;
         for feed in rows {
@@ -50,17 +51,16 @@ impl Feeds {
     }
 
     /// The lane's next row.
-    fn next_of_lane(&mut self, lane: u8) -> Option<Runs>
-        ensures some { IfSome result (λ row. IsTaken (rests_of self.old) lane row (rests_of self.new)) }
-        ensures given { IfSome result (λ row. GivesRow (lane, row) (rests_of self.old) (rests_of self.new)) }
-        ensures none { result ≡ None → rests_of self.new ≡ rests_of self.old }
+    fn next_of_lane(&mut self, lane: u8) -> Option<(u8, Runs)>
+        ensures row { TakesRow (rests_of self.old) result (rests_of self.new) }
         ensures left { result ≡ None → lane < length (rests_of self.old) → slice_index_or (rests_of self.old) lane [] ≡ [] }
     {
         let index = usize::from(lane);
         if index >= self.rests.len() {
             return None;
         }
-        self.rests[index].next()
+        let row = self.rests[index].next()?;
+        Some((lane, row))
     }
 
     /// The next row of this lane or one after it.
@@ -71,7 +71,7 @@ impl Feeds {
         for lane in first..MOST_LANES {
             if let Some(row) = self.next_of_lane(lane) {
                 self.turn = lane + 1;
-                return Some((lane, row));
+                return Some(row);
             }
         }
         None

@@ -1,7 +1,6 @@
 //! When the calling thread wakes workers, and how it waits for deliveries. No claim rests on it.
 
 use crate::signals::Signals;
-use std::mem;
 use std::sync::Wait;
 
 /// This many rows are queued before a worker is woken for them, while there are more and there is room.
@@ -34,17 +33,17 @@ const PATIENCE: u64 = 1_000;
 /// that sleeps is woken, and from then on one if all but this many sleep, until all are seen to sleep.
 #[derive(Clone, Copy)]
 pub(crate) struct Pace<'a> {
-    signals: &'a Signals,
+    pub(crate) signals: &'a Signals,
     /// How many workers there are.
     workers: u8,
     /// How many of them may be held, fewer than all.
     held: u8,
     /// How many rows were queued since the workers were told.
-    unannounced: u32,
+    pub(crate) unannounced: u32,
     /// How many microseconds it waits at most.
     nap: u64,
-    /// Whether it has slept since `take_slept` was last called.
-    has_slept: bool,
+    /// Whether it has slept, which a turn that begins forgets.
+    pub(crate) has_slept: bool,
 }
 
 impl<'a> Pace<'a> {
@@ -60,53 +59,23 @@ impl<'a> Pace<'a> {
         }
     }
 
-    /// Counts a row that was queued.
-    pub(crate) fn count_queued(&mut self) {
-        self.unannounced = self.unannounced.saturating_add(1);
-    }
-
-    /// Counts a row that the calling thread has read: the workers need not be told of one.
-    pub(crate) fn count_read(&mut self) {
-        self.unannounced = self.unannounced.saturating_sub(1);
-    }
-
     /// Tells the workers of the rows that were queued: of a few only if no more come for now. One is woken
     /// if all sleep that are not held: a worker that is awake looks for rows until it finds none.
     pub(crate) fn wake_for_rows(&mut self, are_more: bool) {
         if self.unannounced >= WAKE_FOR || (self.unannounced > 0 && !are_more) {
             self.unannounced = 0;
-            if self.signals.jobs.sleepers() >= u64::from(self.workers) {
+            let free = self.workers.saturating_sub(self.held);
+            let asleep = self.signals.jobs.notify_one(u64::from(free));
+            if asleep >= u64::from(self.workers) {
                 self.held = 0;
             }
-            let free = self.workers.saturating_sub(self.held);
-            self.signals.jobs.notify_where(u64::from(free));
         }
-    }
-
-    /// Tells the workers that there are places for deliveries.
-    pub(crate) fn wake_for_places(&self) {
-        self.signals.places.notify_all();
-    }
-
-    /// Wakes one more worker.
-    pub(crate) fn wake_one_more(&self) {
-        self.signals.jobs.notify_one();
-    }
-
-    /// How many signals of a delivery were given.
-    pub(crate) fn signals_seen(&self) -> u64 {
-        self.signals.deliveries.given()
-    }
-
-    /// Whether it has slept since this was last called, which is forgotten.
-    pub(crate) fn take_slept(&mut self) -> bool {
-        mem::replace(&mut self.has_slept, false)
     }
 
     /// Waits for a delivery, if this many signals of one were seen.
     pub(crate) fn wait<R: Wait>(&mut self, rt: &R, seen: u64) {
         self.has_slept = self.signals.deliveries.wait(rt, seen, LOOKS, self.nap);
-        if self.signals_seen() != seen {
+        if self.signals.deliveries.given() != seen {
             self.nap = PATIENCE;
             return;
         }
@@ -115,6 +84,6 @@ impl<'a> Pace<'a> {
         } else {
             self.nap = self.nap.saturating_mul(2).min(REST);
         }
-        self.wake_one_more();
+        self.signals.jobs.notify_one(1);
     }
 }

@@ -1,19 +1,12 @@
 //! How a thread that finds nothing to do sleeps, and how another wakes it. No claim rests on it.
 
-use crate::pace::{REST, WORKER_LOOKS};
 use std::hint;
 use std::sync::Wait;
-use std::sync::atomic::{AtomicU64, Ordering};
+use std::sync::atomic::{AtomicBool, AtomicU64, Ordering};
 use std::time::Duration;
 
 /// A thread sleeps while the low 32 bits of a word are what they were.
 const WORDS: u64 = 4_294_967_296;
-
-/// The value of the word that lets workers go on.
-const GOING_ON: u64 = 0;
-
-/// The value of the word that asks workers to stop.
-const STOP_REQUESTED: u64 = 1;
 
 /// How often a signal was given, and how many threads sleep until it is given again.
 ///
@@ -39,11 +32,6 @@ impl Signal {
         self.given.load(Ordering::SeqCst)
     }
 
-    /// How many threads sleep until it is given.
-    pub(crate) fn sleepers(&self) -> u64 {
-        self.sleepers.load(Ordering::SeqCst)
-    }
-
     /// Waits while it was given so often: it looks this many times, and then sleeps for this many microseconds
     /// at most. Whether it slept.
     pub(crate) fn wait<R: Wait>(&self, rt: &R, seen: u64, looks: u32, nap: u64) -> bool {
@@ -60,35 +48,15 @@ impl Signal {
         true
     }
 
-    /// Waits until it is given again, for a second at most.
-    pub(crate) fn rest<R: Wait>(&self, rt: &R, seen: u64) {
-        self.wait(rt, seen, WORKER_LOOKS, REST);
-    }
-
-    /// Gives it, and wakes no thread.
-    fn give(&self) {
+    /// Gives it, and wakes no thread. How many sleep.
+    fn give(&self) -> u64 {
         self.given.fetch_add(1, Ordering::SeqCst);
-    }
-
-    /// Wakes a sleeping thread, and returns whether there was one.
-    fn wake_one(&self) -> bool {
-        if self.sleepers() == 0 {
-            return false;
-        }
-        self.given.wake_one();
-        true
-    }
-
-    /// Gives it, and wakes a thread that sleeps.
-    pub(crate) fn notify_one(&self) {
-        self.give();
-        self.wake_one();
+        self.sleepers.load(Ordering::SeqCst)
     }
 
     /// Gives it, and wakes all threads that sleep.
     pub(crate) fn notify_all(&self) {
-        self.give();
-        if self.sleepers() > 0 {
+        if self.give() > 0 {
             self.given.wake_all();
         }
     }
@@ -125,23 +93,15 @@ impl JobsSignal {
         }
     }
 
-    /// How many workers sleep until it is given.
-    pub(crate) fn sleepers(&self) -> u64 {
-        self.first.sleepers().saturating_add(self.others.sleepers())
-    }
-
-    /// Gives it, and wakes a worker if this many sleep.
-    pub(crate) fn notify_where(&self, asleep: u64) {
-        self.first.give();
-        self.others.give();
-        if self.sleepers() >= asleep && !self.first.wake_one() {
-            self.others.wake_one();
+    /// Gives it, and wakes a worker if as many as `least` sleep. How many slept.
+    pub(crate) fn notify_one(&self, least: u64) -> u64 {
+        let first = self.first.give();
+        let asleep = first.saturating_add(self.others.give());
+        if asleep >= least {
+            let signal = if first > 0 { &self.first } else { &self.others };
+            signal.given.wake_one();
         }
-    }
-
-    /// Gives it, and wakes a worker that sleeps.
-    pub(crate) fn notify_one(&self) {
-        self.notify_where(1);
+        asleep
     }
 
     /// Gives it, and wakes all workers that sleep.
@@ -161,7 +121,8 @@ pub struct Signals {
     pub(crate) places: Signal,
     /// To the calling thread: there are deliveries, or no jobs.
     pub(crate) deliveries: Signal,
-    stop: AtomicU64,
+    /// To the workers: they are to stop.
+    pub(crate) stop: AtomicBool,
 }
 
 impl Signals {
@@ -171,26 +132,21 @@ impl Signals {
             jobs: JobsSignal::new(),
             places: Signal::new(),
             deliveries: Signal::new(),
-            stop: AtomicU64::new(GOING_ON),
+            stop: AtomicBool::new(false),
         }
     }
 
     /// Tells the workers that rows were submitted and that there is room for deliveries: one that found no
     /// job is woken, and all that found no place. A worker that was not told looks again within a second.
     pub fn notify_workers(&self) {
-        self.jobs.notify_one();
+        self.jobs.notify_one(1);
         self.places.notify_all();
     }
 
     /// Asks all workers to stop, those too that sleep.
     pub(crate) fn request_stop(&self) {
-        self.stop.store(STOP_REQUESTED, Ordering::SeqCst);
+        self.stop.store(true, Ordering::SeqCst);
         self.jobs.notify_all();
         self.places.notify_all();
-    }
-
-    /// Whether the workers are asked to stop.
-    pub(crate) fn is_stop_requested(&self) -> bool {
-        self.stop.load(Ordering::SeqCst) == STOP_REQUESTED
     }
 }

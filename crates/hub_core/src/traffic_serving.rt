@@ -29,6 +29,7 @@ use crate::worker_seat::WorkerSeat;
 use crate::worker_threads::run_workers;
 use element_core::Year;
 use std::alloc::Global;
+use std::snapshot::Snapshot;
 use std::sync::Wait;
 use std::thread::Threads;
 
@@ -139,18 +140,23 @@ fn serve_seats<'e, R: Threads + Wait + Sync, G: Gate + Sync, T: Traffic + Drop>(
         requires { CameBySeats T.Came hub.now lanes.items deliverer own None traffic.value traffic.value }
         ensures { HasLeft T.Came T.Leaves T.has_ended hub.entry.now own traffic.value result.0 result.1 }
     {
-        let pace = Pace::new(signals, threads);
-        let thread = CallingThread::new(hub, lanes, deliverer, own, traffic, pace);
+        let thread = CallingThread {
+            hub,
+            lanes,
+            deliverer,
+            own,
+            start: Snapshot::of(traffic.as_ref()),
+            traffic,
+            held: None,
+            pace: Pace::new(signals, threads),
+        };
         let (thread, ended) = thread.run(rt);
         let CallingThread {
-            hub: _,
             lanes,
             deliverer,
             own,
             traffic,
-            start: _,
-            held: _,
-            pace: _,
+            ..
         } = thread;
         let left = Left {
             lanes,
@@ -194,48 +200,6 @@ fn finish_all<R: Wait>(rt: &R, alloc: Global, hub: Hub, seats: Seats, room: Vec<
     hub.finish(rt, alloc, closed, workers, deliverer);
 }
 
-/// Serves a traffic that has given nothing.
-fn serve_boxed<R: Threads + Wait + Sync, G: Gate + Sync, T: Traffic + Drop>(
-    rt: &R,
-    alloc: Global,
-    traffic: Box<T>,
-    lanes: u8,
-    workers: u8,
-    year: Year,
-    gate: &G,
-) -> Result<(Box<T>, Ended<T::WaitFault, T::BringFault>), NotBegun<Box<T>>>
-    requires counts { AreSeatCounts lanes workers }
-    requires fresh { T.Came traffic.value traffic.value (replicate lanes []) (replicate lanes []) }
-    ensures served { IfOk result (λ v. IsKept v.1 → IsServed T.Came T.has_ended year traffic.value v.0.value v.1) }
-    ensures lost { IfOk result (λ v. IfLost v.1 (IsServedUpTo T.Came T.Leaves year traffic.value v.0.value)) }
-    ensures refused { IfErr result (GivesBack traffic) }
-{
-    let Ok(room) = Vec::with_capacity(alloc, usize::from(lanes)) else {
-        return Err(NotBegun::new(ServeFault::NoMemory, traffic));
-    };
-    let has_own = traffic.lets_caller_read() && workers < MOST_WORKERS;
-    let Parts {
-        hub,
-        lanes,
-        mut workers,
-        deliverer,
-    } = match new_hub(rt, alloc, lanes, workers + u8::from(has_own), year) {
-        Ok(parts) => parts,
-        Err(fault) => return Err(NotBegun::new(fault, traffic)),
-    };
-    let own = take_own(&hub, &mut workers, has_own);
-    let seats = Seats {
-        lanes,
-        workers,
-        deliverer,
-        own,
-    };
-    let signals = Signals::new();
-    let (traffic, seats, ended) = serve_seats(rt, alloc, &hub, seats, traffic, gate, &signals)?;
-    finish_all(rt, alloc, hub, seats, room);
-    Ok((traffic, ended))
-}
-
 /// Serves a traffic that has given nothing: the calling thread submits its rows, collects, hands and
 /// brings their deliveries, and this many workers read them beside each other, each row once the gate has
 /// let its ticket pass.
@@ -258,16 +222,36 @@ pub fn serve_traffic<R: Threads + Wait + Sync, G: Gate + Sync, T: Traffic + Drop
     ensures refused { IfErr result (λ e. e.fault ≢ ServeFault.BadCount) }
     ensures untouched { IfErr result (λ e. e.input ≡ traffic) }
 {
+    let has_own = traffic.lets_caller_read() && workers < MOST_WORKERS;
+    let Ok(room) = Vec::with_capacity(alloc, usize::from(lanes)) else {
+        return Err(NotBegun::new(ServeFault::NoMemory, traffic));
+    };
+    let Parts {
+        hub,
+        lanes,
+        mut workers,
+        deliverer,
+    } = match new_hub(rt, alloc, lanes, workers + u8::from(has_own), year) {
+        Ok(parts) => parts,
+        Err(fault) => return Err(NotBegun::new(fault, traffic)),
+    };
     // In a box, since a large one that is moved from result to result takes the compiler minutes.
     let traffic = match Box::new(alloc, traffic) {
         Ok(traffic) => traffic,
         Err(refused) => return Err(NotBegun::new(ServeFault::NoMemory, refused.value)),
     };
-    match serve_boxed(rt, alloc, traffic, lanes, workers, year, gate) {
-        Ok((traffic, ended)) => Ok((Box::into_inner(traffic), ended)),
-        Err(refused) => {
-            let traffic = Box::into_inner(refused.input);
-            Err(NotBegun::new(refused.fault, traffic))
+    let own = take_own(&hub, &mut workers, has_own);
+    let seats = Seats {
+        lanes,
+        workers,
+        deliverer,
+        own,
+    };
+    match serve_seats(rt, alloc, &hub, seats, traffic, gate, &Signals::new()) {
+        Ok((traffic, seats, ended)) => {
+            finish_all(rt, alloc, hub, seats, room);
+            Ok((Box::into_inner(traffic), ended))
         }
+        Err(refused) => Err(NotBegun::new(refused.fault, Box::into_inner(refused.input))),
     }
 }

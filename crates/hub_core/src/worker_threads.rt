@@ -1,17 +1,19 @@
 //! A thread for each worker's seat.
-ghost use Rattle.std.specs.Prelude.{◌≡◌, [], ◌≤◌, ◌<◌, All, IfOk, IfErr, ◌+◌, true, vec_len, vec_capacity};
+ghost use Rattle.std.specs.Prelude.{◌≡◌, ◌≤◌, All, MatchResult, true, vec_len, vec_capacity};
 ghost use Rattle.hub_core.specs.Faults.{GivesBack};
 ghost use Rattle.hub_core.specs.Hubs.{IsWorkerOf};
 ghost use Rattle.hub_core.specs.Workers.{AreBack};
+ghost use Rattle.hub_core.specs.inner.Workers.{IsRoomFor};
 
 use crate::fault::{NotBegun, ServeFault};
 use crate::gate::Gate;
 use crate::hub::Hub;
-use crate::pace::NOTIFIED_TOGETHER;
+use crate::pace::{NOTIFIED_TOGETHER, REST, WORKER_LOOKS};
 use crate::signals::Signals;
 use crate::worker_seat::{Worked, WorkerSeat};
 use std::alloc::Global;
 use std::sync::Wait;
+use std::sync::atomic::Ordering;
 use std::thread;
 use std::thread::{Promise, PromisedHandle, Scope, Threads};
 
@@ -25,15 +27,8 @@ impl<'a> Promise<WorkerSeat> for OfHub<'a> {
     ghost kept_by = { λ p r. IsWorkerOf p.0.now r };
 }
 
-/// Wakes the calling thread for the deliveries that it was not told of, if there are as many as `least`.
-fn wake_caller(signals: &Signals, unannounced: &mut u32, least: u32) {
-    if *unannounced >= least {
-        *unannounced = 0;
-        signals.deliveries.notify_one();
-    }
-}
-
-/// Works until it is asked to stop and then finds nothing to do.
+/// Works until it is asked to stop and then finds nothing to do. It tells the calling thread of several deliveries
+/// at once, and of fewer before it rests.
 fn run_worker<R: Wait, G: Gate>(
     rt: &R,
     hub: &Hub,
@@ -50,45 +45,46 @@ fn run_worker<R: Wait, G: Gate>(
     for _ in rt.forever() {
         let jobs = jobs_signal.given();
         let places = signals.places.given();
-        let is_last = signals.is_stop_requested();
-        match hub.work(rt, &mut seat, gate) {
-            Worked::Posted => {
-                unannounced = unannounced.saturating_add(1);
-                wake_caller(signals, &mut unannounced, NOTIFIED_TOGETHER);
-            }
+        let is_last = signals.stop.load(Ordering::SeqCst);
+        let idle = match hub.work(rt, &mut seat, gate) {
+            Worked::Posted => None,
             _ if is_last => break,
-            Worked::Nothing => {
-                wake_caller(signals, &mut unannounced, 1);
-                jobs_signal.rest(rt, jobs);
-            }
-            Worked::Held => {
-                wake_caller(signals, &mut unannounced, 1);
-                signals.places.rest(rt, places);
-            }
+            Worked::Nothing => Some((jobs_signal, jobs)),
+            Worked::Held => Some((&signals.places, places)),
+        };
+        unannounced = unannounced.saturating_add(u32::from(idle.is_none()));
+        let least = if idle.is_none() { NOTIFIED_TOGETHER } else { 1 };
+        if unannounced >= least {
+            unannounced = 0;
+            signals.deliveries.notify_all();
+        }
+        if let Some((signal, seen)) = idle {
+            signal.wait(rt, seen, WORKER_LOOKS, REST);
         }
     }
     seat
 }
 
-/// Joins all threads.
+/// Joins all threads, into room that was taken before.
 fn join_all<'a>(
     rt: &impl Threads,
     hub: &'a Hub,
-    back: &mut Vec<WorkerSeat>,
+    room: Vec<WorkerSeat>,
     handles: Vec<PromisedHandle<WorkerSeat, OfHub<'a>>>,
-)
-    requires of_hub { All (IsWorkerOf hub.now) back.old.items × All (λ h. h.promise.0.now ≡ hub.now) handles.items }
-    requires room { vec_len back.old + vec_len handles ≤ vec_capacity back.old }
-    ensures seats { All (IsWorkerOf hub.now) back.new.items }
-    ensures count { vec_len back.new ≡ vec_len back.old + vec_len handles.entry }
-    ensures capacity { vec_capacity back.new ≡ vec_capacity back.old }
+) -> Vec<WorkerSeat>
+    requires of_hub { All (λ h. h.promise.0.now ≡ hub.now) handles.items }
+    requires room { IsRoomFor (vec_len handles) room }
+    ensures { AreBack hub.now (vec_len handles.entry) (vec_capacity room) result }
 {
+    let mut back = room;
     for handle in handles {
         back.push_reserved(handle.join(rt));
     }
+    back
 }
 
-/// Starts a thread for each worker. False if one could not be started.
+/// Starts a thread for each worker, whose handles come into room that was taken before. False if one could not
+/// be started.
 fn start_all<'s, 'e: 's, R: Threads + Wait + Sync, G: Gate + Sync>(
     rt: &'e R,
     hub: &'e Hub,
@@ -96,13 +92,14 @@ fn start_all<'s, 'e: 's, R: Threads + Wait + Sync, G: Gate + Sync>(
     seats: Vec<WorkerSeat>,
     gate: &'e G,
     signals: &'e Signals,
-    handles: &mut Vec<PromisedHandle<WorkerSeat, OfHub<'e>>>,
-) -> bool
-    requires of_hub { All (IsWorkerOf hub.now) seats.items × All (λ h. h.promise.0.now ≡ hub.now) handles.old.items }
-    requires room { vec_len handles.old + vec_len seats ≤ vec_capacity handles.old }
-    ensures of_hub { All (λ h. h.promise.0.now ≡ hub.entry.now) handles.new.items }
-    ensures count { (vec_len handles.new ≤ vec_len handles.old + vec_len seats) × (result ≡ true → vec_len handles.new ≡ vec_len handles.old + vec_len seats) }
+    room: Vec<PromisedHandle<WorkerSeat, OfHub<'e>>>,
+) -> (Vec<PromisedHandle<WorkerSeat, OfHub<'e>>>, bool)
+    requires of_hub { All (IsWorkerOf hub.now) seats.items }
+    requires room { IsRoomFor (vec_len seats) room }
+    ensures of_hub { All (λ h. h.promise.0.now ≡ hub.entry.now) result.0.items }
+    ensures count { (vec_len result.0 ≤ vec_len seats) × (result.1 ≡ true → vec_len result.0 ≡ vec_len seats) }
 {
+    let mut handles = room;
     for seat in seats {
         let started = scope.spawn_with(
             OfHub(hub),
@@ -113,10 +110,10 @@ fn start_all<'s, 'e: 's, R: Threads + Wait + Sync, G: Gate + Sync>(
         );
         match started {
             Ok(handle) => handles.push_reserved(handle),
-            Err(_) => return false,
+            Err(_) => return (handles, false),
         }
     }
-    true
+    (handles, true)
 }
 
 /// Runs the workers, each on a thread of its own, beside a task of the calling thread, which is handed its
@@ -144,35 +141,30 @@ pub fn run_workers<
     task: F,
 ) -> Result<(Vec<WorkerSeat>, T), NotBegun<I>>
     requires { All (IsWorkerOf hub.now) seats.items × F.pre task input }
-    ensures seats { IfOk result (λ v. AreBack hub.now seats v.0) }
-    ensures task { IfOk result (λ v. F.post task input v.1) }
-    ensures refused { IfErr result (GivesBack input) }
+    ensures { MatchResult result (λ v. AreBack hub.now (vec_len seats) (vec_capacity seats) v.0 × F.post task input v.1) (GivesBack input) }
 {
-    let Ok(mut back) = Vec::with_capacity(alloc, seats.capacity()) else {
-        return Err(NotBegun::new(ServeFault::NoMemory, input));
-    };
     thread::scope(
         thread::scope_env(),
         rt,
         |scope| -> Result<(Vec<WorkerSeat>, T), NotBegun<I>>
-            requires { All (IsWorkerOf hub.now) seats.items × F.pre task input × (back.items ≡ []) × (vec_len back ≡ 0) × (vec_capacity back ≡ vec_capacity seats) }
-            ensures seats { IfOk result (λ v. AreBack hub.entry.now seats v.0) }
-            ensures task { IfOk result (λ v. F.post task input v.1) }
-            ensures refused { IfErr result (GivesBack input) }
+            requires { All (IsWorkerOf hub.now) seats.items × F.pre task input }
+            ensures { MatchResult result (λ v. AreBack hub.entry.now (vec_len seats) (vec_capacity seats) v.0 × F.post task input v.1) (GivesBack input) }
         {
-            let Ok(mut handles) = Vec::with_capacity(alloc, seats.len()) else {
+            let Ok(back) = Vec::with_capacity(alloc, seats.capacity()) else {
                 return Err(NotBegun::new(ServeFault::NoMemory, input));
             };
-            let started = start_all(rt, hub, scope, seats, gate, signals, &mut handles);
+            let Ok(room) = Vec::with_capacity(alloc, seats.len()) else {
+                return Err(NotBegun::new(ServeFault::NoMemory, input));
+            };
+            let (handles, started) = start_all(rt, hub, scope, seats, gate, signals, room);
             if !started {
                 signals.request_stop();
-                join_all(rt, hub, &mut back, handles);
+                join_all(rt, hub, back, handles);
                 return Err(NotBegun::new(ServeFault::NoThread, input));
             }
             let done = task(input);
             signals.request_stop();
-            join_all(rt, hub, &mut back, handles);
-            Ok((back, done))
+            Ok((join_all(rt, hub, back, handles), done))
         },
     )
 }

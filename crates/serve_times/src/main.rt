@@ -1,5 +1,5 @@
 //! Times `serve` on rows that are ready: it reads the rows of standard input first, answers them on the calling thread, and
-//! serves them with 1, 2 and 3 workers. Standard error gets the least wall time of fifteen of each, in microseconds.
+//! serves them with 1 to 4 workers. Standard error gets the least wall time of fifteen of each, in microseconds.
 #![tactic(auto)]
 
 use element_core::Year;
@@ -67,7 +67,7 @@ fn main(rt: HostRuntime) -> io::Result<()> {
     }
     println!(rt; "{read} of {} rows are read", rows.len())?;
     eprintln!(rt; "calling thread: {alone} us")?;
-    for workers in 1..4u8 {
+    for workers in 1..5u8 {
         let mut least = u128::MAX;
         for _ in 0..ROUNDS {
             let Some(feeds) = feed(alloc, rows.as_slice()) else {

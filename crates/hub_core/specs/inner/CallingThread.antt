@@ -1,5 +1,5 @@
 -- What stays true of the calling thread in each of its steps.
-use Rattle.std.specs.Prelude.{◌≡◌, ◌≤◌, ◌+◌, ℕ, All, Bool, true, List, IfSome, None, Option, length, option_to_list, vec_capacity, vec_len}
+use Rattle.std.specs.Prelude.{◌≡◌, ◌≤◌, ◌+◌, ℕ, All, Bool, true, List, Err, IfSome, None, Ok, Option, Result, length, option_to_list, vec_capacity, vec_len}
 use Rattle.std.specs.declared.vec.Vec.{Vec}
 use Rattle.std.proofs.Common.{Global}
 use Rattle.hub_core.specs.Hubs.{IsDelivererOf, IsWorkerOf, shape_of}
@@ -57,6 +57,11 @@ pub record HasLost {T : Type 0} (Came : History T) (Leaves : T → T → Type 0)
   pub keeps : KeepsSeats s t
   pub lost : WasLost Came Leaves t.start.value t.traffic.value t.lanes.items t.held
 
+-- a step of the thread: it goes on, or the delivery that it polled last is lost
+abbrev pub TakesStep : {T X B : Type 0} → History T → (T → T → Type 0) → CallingThread T → Result X B → CallingThread T → Type 0
+TakesStep came leaves s (Ok x) t = GoesOn came s t
+TakesStep came leaves s (Err fault) t = HasLost came leaves s t
+
 -- no row is in hand, and each that was submitted has come back
 abbrev pub HasAllBack : {T : Type 0} → CallingThread T → Type 0
 HasAllBack s = HavePolledAll s.lanes.items × (s.held ≡ None)
@@ -89,6 +94,14 @@ pub record AreSeats (h : Hub) (s : Seats) (held : Option (ℕ × List ℕ)) : Ty
 -- all seats came back, and the traffic was brought the first of what their lanes have polled, and is what its `bring` left then
 abbrev pub AreLeftLost : {T : Type 0} → History T → (T → T → Type 0) → Hub → T → T → List LaneSeat → Type 0
 AreLeftLost came leaves h start now lanes = (held : Option (ℕ × List ℕ)) × AreOwnSeats h lanes held × WasLost came leaves start now lanes held
+
+-- how the thread has run: it has its seats still, and serves what it served, to the end of that; or the delivery that it polled last is lost
+pub record EndsServing {T W B : Type 0} (Came : History T) (Leaves : T → T → Type 0) (has_ended : T → Bool) (s t : CallingThread T) (ended : Ended W B)
+    : Type 0 where
+  pub seats : KeepsSeats s t
+  pub serves : IsKept ended → GoesOn Came s t
+  pub lost : IfLost ended (HasLost Came Leaves s t)
+  pub done : ended ≡ Done → IsAtEnd has_ended t
 
 -- what the calling thread leaves: its seats, by which the traffic was served
 pub record HasLeft {T W B : Type 0} (Came : History T) (Leaves : T → T → Type 0) (has_ended : T → Bool) (h : Hub) (own : Option WorkerSeat) (start : T)

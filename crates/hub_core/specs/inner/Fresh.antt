@@ -38,3 +38,9 @@ pub record AreNewLanes {Q A : Type 0} (jobs : Slotted (Option Plain) (Doing Plai
   pub seats : All (λ s. IsPassOf jobs s.pass × HasDoneNothing s) lanes
   pub rings : (length ends ≡ count) × All (IsUnsent capacity) ends
   pub paired : All (IsPairedIn ends) lanes
+
+-- so many workers of these queues that have done nothing
+pub record AreNewWorkers {Q R A B : Type 0} (jobs : Slotted (Option Plain) (Doing Plain Trace) Q A) (results : Slotted (Option Plain) (Doing Plain Trace) R B)
+    (count : ℕ) (workers : List WorkerSeat) : Type 0 where
+  pub number : length workers ≡ count
+  pub seats : All (IsNewWorker jobs results) workers

@@ -29,6 +29,14 @@ CutsOff q n old new = IsPassOf q new × IsCut n (view old) (view new)
 abbrev pub JoinsPushes : {X : Type 0} → (X → List Plain) → List X → Trace → Trace → Type 0
 JoinsPushes pushed xs v w = w ≡ trace (v.shares + length xs) (v.pushed ++ flat_map pushed xs) v.popped
 
+-- and it is a pass of this queue still
+abbrev pub TakesPushes : {T X Q A : Type 0} → Slotted (Option T) (Doing T Trace) Q A → (X → List Plain) → List X → Pass T Trace → Pass T Trace → Type 0
+TakesPushes q pushed xs old new = IsPassOf q new × JoinsPushes pushed xs (view old) (view new)
+
 -- the pass was joined with a pass of each of these, which had one share and had popped so much
 abbrev pub JoinsPops : {X : Type 0} → (X → List Plain) → List X → Trace → Trace → Type 0
 JoinsPops popped xs v w = w ≡ trace (v.shares + length xs) v.pushed (v.popped ++ flat_map popped xs)
+
+-- and it is a pass of this queue still
+abbrev pub TakesPops : {T X Q A : Type 0} → Slotted (Option T) (Doing T Trace) Q A → (X → List Plain) → List X → Pass T Trace → Pass T Trace → Type 0
+TakesPops q popped xs old new = IsPassOf q new × JoinsPops popped xs (view old) (view new)

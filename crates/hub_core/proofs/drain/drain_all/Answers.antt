@@ -7,10 +7,10 @@ use Rattle.hub_core.specs.Lanes.{lane_of, numbers_of}
 use Rattle.hub_core.specs.inner.Workers.{jobs_in_hand}
 use Rattle.hub_core.specs.declared.lane_seat.LaneSeat.{LaneSeat}
 use Rattle.hub_core.specs.declared.rule.Trace.{Trace}
-use Rattle.hub_core.proofs.DrainedFacts.{drained_then}
-use Rattle.hub_core.proofs.NumberFacts.{each_counted}
+use Rattle.hub_core.proofs.DrainsAddUp.{drained_then}
+use Rattle.hub_core.proofs.EachNumberOnce.{each_counted}
 use Rattle.hub_core.proofs.RingsAreDrained.{all_paired, all_rings}
-use Rattle.hub_core.proofs.DrainFacts.{sum_joined, jobs_whole, results_whole}
+use Rattle.hub_core.proofs.EachIsDrained.{sum_joined, jobs_whole, results_whole}
 use Rattle.hub_core.proofs.drain.drain_all.Goals as goal
 
 pub place_rings-requires-clause-rings : goal.place_rings-requires-clause-rings
@@ -20,13 +20,13 @@ place_rings-requires-clause-rings g c =
 
 pub place_queue-requires : goal.place_queue-requires
 place_queue-requires g c =
-    let a = ap (λ (v : Trace). v.shares) c.place_hands.ensures.results in
-    (c.place_hands.ensures.same.1, (let f = c.requires.deliverer.shares_of_results in let k = c.requires.each_worker in omega arith))
+    let a = ap (λ (v : Trace). v.shares) c.place_hands.ensures.results.1 in
+    (c.place_hands.ensures.results.0, (let f = c.requires.deliverer.shares_of_results in let k = c.requires.each_worker in omega arith))
 
 pub place_queue-requires-2 : goal.place_queue-requires-2
 place_queue-requires-2 g c =
-    let a = ap (λ (v : Trace). v.shares) c.place_rings.ensures.jobs in
-    let b = ap (λ (v : Trace). v.shares) c.place_hands.ensures.jobs in
+    let a = ap (λ (v : Trace). v.shares) c.place_rings.ensures.jobs.1 in
+    let b = ap (λ (v : Trace). v.shares) c.place_hands.ensures.jobs.1 in
     let d = each_counted (shape_of c.args.hub.now).lanes (numbers_of c.args.lanes.items) c.requires.each_lane in
     let e = length-map c.args.lanes.items (λ (s : LaneSeat). lane_of s) in
     (search rules, (let f = c.requires.deliverer.shares_of_jobs in let k = c.requires.each_worker in omega arith))
@@ -46,9 +46,9 @@ returns g c =
       found,
       record {
         jobs = jobs_whole (view c.args.deliverer.jobs) (view c.place_rings.new.all_jobs) (view c.place_hands.new.all_jobs) _ _ c.args.lanes.items
-            c.args.workers.items jobs.0 idle.0 idle.1 c.place_rings.ensures.jobs c.place_hands.ensures.jobs jobs.2;
+            c.args.workers.items jobs.0 idle.0 idle.1 c.place_rings.ensures.jobs.1 c.place_hands.ensures.jobs.1 jobs.2;
         results = results_whole (view c.args.deliverer.collects) (view c.place_hands.new.all_results) _ c.args.workers.items results.0
-            c.args.deliverer.collects_only c.place_hands.ensures.results results.2;
+            c.args.deliverer.collects_only c.place_hands.ensures.results.1 results.2;
         first = c.place_rings.ensures.received;
         whole = λ h. let e = sum_joined h rings.0 waiting.0 held hands results.0 jobs.0 in let r = rings.2 h in let w = waiting.2 h in omega arith;
       },

@@ -1,9 +1,9 @@
 use Rattle.std.proofs.Common.{rules, ap, arith, refl}
 use Rattle.crossbeam_queue.specs.Passes.{view}
 use Rattle.hub_core.specs.declared.rule.Trace.{Trace}
-use Rattle.hub_core.proofs.RuleFacts.{merges}
+use Rattle.hub_core.proofs.RuleIsKept.{merges}
 use Rattle.hub_core.specs.Workers.{posted, taken}
-use Rattle.hub_core.proofs.DrainFacts.{hands_drained, pops_more, pushes_more}
+use Rattle.hub_core.proofs.EachIsDrained.{hands_drained, pops_more, pushes_more}
 use Rattle.hub_core.proofs.drain.place_hands.Goals as goal
 
 pub absorb-requires-clause-rule : goal.absorb-requires-clause-rule

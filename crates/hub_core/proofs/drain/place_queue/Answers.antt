@@ -1,8 +1,8 @@
 use Rattle.std.proofs.Common.{rules, [], refl, arith}
 use Rattle.crossbeam_queue.specs.Passes.{view}
-use Rattle.hub_core.proofs.RuleFacts.{takes, learns}
-use Rattle.hub_core.proofs.DrainFacts.{drained_one, drained_out}
-use Rattle.hub_core.proofs.DrainedFacts.{drained_none}
+use Rattle.hub_core.proofs.RuleIsKept.{takes, learns}
+use Rattle.hub_core.proofs.EachIsDrained.{drained_one, drained_out}
+use Rattle.hub_core.proofs.DrainsAddUp.{drained_none}
 use Rattle.hub_core.proofs.drain.place_queue.Goals as goal
 use Rattle.hub_core.proofs.drain.place_queue.Goals.{in-None, in-Some+in_default}
 

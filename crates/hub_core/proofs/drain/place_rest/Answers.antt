@@ -1,4 +1,4 @@
-use Rattle.hub_core.proofs.DrainFacts.{rest_more, rest_all}
+use Rattle.hub_core.proofs.EachIsDrained.{rest_more, rest_all}
 use Rattle.hub_core.proofs.drain.place_rest.Goals as goal
 
 pub loop-i-preserved : goal.loop-i-preserved

@@ -8,11 +8,11 @@ use Rattle.hub_core.specs.inner.Fresh.{IsPairedIn}
 use Rattle.hub_core.specs.Lanes.{lane_of, submitted}
 use Rattle.hub_core.specs.inner.Draining.{AreFromFirst}
 use Rattle.hub_core.specs.inner.Rule.{JoinsPushes}
-use Rattle.hub_core.proofs.DrainFacts.{pushes_more}
-use Rattle.hub_core.proofs.DrainedFacts.{drained_none}
+use Rattle.hub_core.proofs.EachIsDrained.{pushes_more}
+use Rattle.hub_core.proofs.DrainsAddUp.{drained_none}
 use Rattle.hub_core.proofs.RingsAreDrained.{RingDrained, ends_more, ends_same, from_first, none_left, pair_now, ring_drained, sent_now}
-use Rattle.hub_core.proofs.RingFacts.{sent_same}
-use Rattle.hub_core.proofs.RuleFacts.{merges}
+use Rattle.hub_core.proofs.RingsAfterStep.{sent_same}
+use Rattle.hub_core.proofs.RuleIsKept.{merges}
 use Rattle.hub_core.proofs.drain.place_rings.Goals as goal
 
 pub loop-closed-init : goal.loop-closed-init

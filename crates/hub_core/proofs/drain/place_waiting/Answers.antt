@@ -1,6 +1,6 @@
 use Rattle.std.proofs.Common.{[], arith}
-use Rattle.hub_core.proofs.DrainedFacts.{drained_none}
-use Rattle.hub_core.proofs.DrainFacts.{waited}
+use Rattle.hub_core.proofs.DrainsAddUp.{drained_none}
+use Rattle.hub_core.proofs.EachIsDrained.{waited}
 use Rattle.hub_core.proofs.drain.place_waiting.Goals as goal
 
 pub loop-delivery-init : goal.loop-delivery-init

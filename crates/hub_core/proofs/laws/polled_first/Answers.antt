@@ -1,4 +1,4 @@
-use Rattle.hub_core.proofs.SettledFacts.{earlier_first, settled_first}
+use Rattle.hub_core.proofs.LanesGetTheirRows.{earlier_first, settled_first}
 use Rattle.hub_core.proofs.laws.polled_first.Goals as goal
 
 pub returns : goal.returns

@@ -1,4 +1,4 @@
-use Rattle.hub_core.proofs.SettledFacts.{ticket_kept}
+use Rattle.hub_core.proofs.LanesGetTheirRows.{ticket_kept}
 use Rattle.hub_core.proofs.laws.tickets_are_kept.Goals as goal
 
 pub returns : goal.returns

@@ -11,8 +11,8 @@ use Rattle.hub_core.specs.inner.Fresh.{IsPairedIn, IsUnsent}
 use Rattle.hub_core.specs.Passes.{shares_of}
 use Rattle.hub_core.specs.Rule.{trace}
 use Rattle.hub_core.specs.Rings.{PopEnd, PushEnd}
-use Rattle.hub_core.proofs.RuleFacts.{forks}
-use Rattle.hub_core.proofs.NewSeatFacts.{cut_more, lanes_more, paired_more}
+use Rattle.hub_core.proofs.RuleIsKept.{forks}
+use Rattle.hub_core.proofs.SeatsAreNew.{cut_more, lanes_more, paired_more}
 use Rattle.hub_core.proofs.parts.make_lanes.Goals as goal
 
 pub another-pass-requires-clause-rule : goal.another-pass-requires-clause-rule

@@ -3,8 +3,8 @@ use Rattle.std.specs.List.{All}
 use Rattle.hub_core.specs.Hubs.{IsLaneOf, shape_of, year_of}
 use Rattle.hub_core.specs.Lane.{ArePolledFirst}
 use Rattle.hub_core.specs.Lanes.{as_lane, numbers_of}
-use Rattle.hub_core.proofs.NewFacts.{has_each}
-use Rattle.hub_core.proofs.TrafficFacts.{seats_counted}
+use Rattle.hub_core.proofs.HubIsNew.{has_each}
+use Rattle.hub_core.proofs.SeatsServeTraffic.{seats_counted}
 use Rattle.hub_core.proofs.traffic_serving.finish_all.Goals as goal
 
 pub close_all-closed-requires : goal.close_all-closed-requires

@@ -8,7 +8,7 @@ invariant-loop-handle g l = record {
   can : (goal.iterator-loop-handle g).can_next l.handle-iterator;
   ends : (goal.iterator-loop-handle g).is_finite l.handle-iterator;
   room : vec_len l.back + into_iter_len l.handle-iterator ≤ vec_capacity l.back;
-  count : vec_len l.back + into_iter_len l.handle-iterator ≡ vec_len l.initial.back + into_iter_len l.initial.handle-iterator;
+  count : vec_len l.back + into_iter_len l.handle-iterator ≡ into_iter_len l.initial.handle-iterator;
   capacity : vec_capacity l.back ≡ vec_capacity l.initial.back;
   seats : All (IsWorkerOf l.hub) l.back.items;
 }

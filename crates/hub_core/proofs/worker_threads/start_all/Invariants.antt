@@ -7,6 +7,6 @@ invariant-loop-seat g l = record {
   can : (goal.iterator-loop-seat g).can_next l.seat-iterator;
   ends : (goal.iterator-loop-seat g).is_finite l.seat-iterator;
   room : vec_len l.handles + into_iter_len l.seat-iterator ≤ vec_capacity l.handles;
-  count : vec_len l.handles + into_iter_len l.seat-iterator ≡ vec_len l.initial.handles + into_iter_len l.initial.seat-iterator;
+  count : vec_len l.handles + into_iter_len l.seat-iterator ≡ into_iter_len l.initial.seat-iterator;
   of_hub : All (λ h. h.promise.0.now ≡ l.hub) l.handles.items;
 }

@@ -1,6 +1,6 @@
 use Rattle.std.proofs.Common.{refl}
 use Rattle.hub_core.specs.inner.Traffics.{given_to, polled_by_each}
-use Rattle.hub_core.proofs.TrafficFacts.{even_given}
+use Rattle.hub_core.proofs.SeatsServeTraffic.{even_given}
 use Rattle.hub_core.proofs.calling_thread.CallingThread.wait_for_more.Goals as goal
 
 pub wait-requires : goal.wait-requires

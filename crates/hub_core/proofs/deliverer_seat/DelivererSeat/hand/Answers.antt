@@ -8,8 +8,8 @@ use Rattle.hub_core.specs.Passes.{popped_by}
 use Rattle.hub_core.specs.Rings.{PushEnd, all_sent}
 use Rattle.hub_core.specs.inner.Accounting.{Accounted}
 use Rattle.hub_core.proofs.NextIsThere.{is_there}
-use Rattle.hub_core.proofs.RingFacts.{ends_set, got_set, same_ring, sent_more, sent_same}
-use Rattle.hub_core.proofs.AccountingFacts.{given_else, given_now, handed_one}
+use Rattle.hub_core.proofs.RingsAfterStep.{ends_set, got_set, same_ring, sent_more, sent_same}
+use Rattle.hub_core.proofs.DeliveriesAreAccounted.{given_else, given_now, handed_one}
 use Rattle.hub_core.proofs.deliverer_seat.DelivererSeat.hand.Goals as goal
 
 pub invariant_of-self-then-is_full : goal.invariant_of-self-then-is_full
@@ -32,8 +32,8 @@ invariant_of-self-then-is_full c =
       accounted = subst (λ (gs : List (List Plain)). Accounted s.deliverer (popped_by s.collects) (option_to_list s.held) gs) (sym same) s.accounted;
     }
 
-pub returns-then-is_full-clause-hands : goal.returns-then-is_full-clause-hands
-returns-then-is_full-clause-hands c =
+pub returns-then-is_full : goal.returns-then-is_full
+returns-then-is_full c =
     let s = c.args.self.now in
     let less : c.from.result < length s.rings.items = omega (
       arith,
@@ -44,37 +44,29 @@ returns-then-is_full-clause-hands c =
           (λ (r : PushEnd). sent r),
     ) in
     let same = sent_same s.rings.items c.from.result c.index_mut-ring.result.now c.is_full.new.self c.index_mut-ring.ensures.value less
-    c.is_full.ensures.looked.1 in (
-      c.next.ensures.exactly.0 (is_there c.next.result (search rules)),
-      refl,
-      refl,
-      refl,
-      (λ l. ap (λ gs. get_or gs l []) same),
-      λ (r : PushEnd) at. subst (λ (u : PushEnd). known_free u ≡ 0)
-          (got_set s.rings.items c.from.result c.is_full.new.self r
-          (subst (λ k. slice_get (set s.rings.items c.from.result c.is_full.new.self) k ≡ Some r) (sym c.from.ensures) at))
-          (c.is_full.ensures.value.0 (search rules)),
-    )
-
-pub returns-then-is_full-clause-of_hub : goal.returns-then-is_full-clause-of_hub
-returns-then-is_full-clause-of_hub c =
-    let s = c.args.self.now in
-    let less : c.from.result < length s.rings.items = omega (
-      arith,
-      c.from.ensures,
-      c.requires,
-      s.accounted.giving.lanes,
-      length-map s.rings.items
-          (λ (r : PushEnd). sent r),
-    ) in
-    λ h is. record {
-      jobs = is.jobs;
-      results = is.results;
-      rings = ends_set h s.rings.items c.from.result c.index_mut-ring.result.now c.is_full.new.self is.rings c.index_mut-ring.ensures.value less
-          c.is_full.ensures.looked.0;
-      lanes = is.lanes;
-      shares_of_jobs = is.shares_of_jobs;
-      shares_of_results = is.shares_of_results;
+    c.is_full.ensures.looked.1 in
+    record {
+      hands = (
+        c.next.ensures.exactly.0 (is_there c.next.result (search rules)),
+        refl,
+        refl,
+        refl,
+        (λ l. ap (λ gs. get_or gs l []) same),
+        λ (r : PushEnd) at. subst (λ (u : PushEnd). known_free u ≡ 0)
+            (got_set s.rings.items c.from.result c.is_full.new.self r
+            (subst (λ k. slice_get (set s.rings.items c.from.result c.is_full.new.self) k ≡ Some r) (sym c.from.ensures) at))
+            (c.is_full.ensures.value.0 (search rules)),
+      );
+      lanes = refl;
+      of_hub = λ h is. record {
+        jobs = is.jobs;
+        results = is.results;
+        rings = ends_set h s.rings.items c.from.result c.index_mut-ring.result.now c.is_full.new.self is.rings c.index_mut-ring.ensures.value less
+            c.is_full.ensures.looked.0;
+        lanes = is.lanes;
+        shares_of_jobs = is.shares_of_jobs;
+        shares_of_results = is.shares_of_results;
+      };
     }
 
 pub invariant_of-self-in-Some : goal.invariant_of-self-in-Some
@@ -101,8 +93,8 @@ invariant_of-self-in-Some c =
           (all_sent s.rings.items) _ c.requires c.in-Some.ensures.some put s.accounted;
     }
 
-pub returns-clause-hands : goal.returns-clause-hands
-returns-clause-hands c =
+pub returns : goal.returns
+returns c =
     let s = c.args.self.now in
     let less : c.from.result < length s.rings.items = omega (
       arith,
@@ -118,36 +110,25 @@ returns-clause-hands c =
     is in
     let put = more ∙ ap (λ k. set (all_sent s.rings.items) k (get_or (all_sent s.rings.items) k [] ++ c.in-Some.delivery ∷ [])) c.from.ensures in
     let low : c.args.lane < length (all_sent s.rings.items) = omega (arith, c.requires, s.accounted.giving.lanes) in
-    let g = c.in-Some.ensures.some in (
-      c.in-Some.delivery,
-      g,
-      g.number ∙ sym (s.accounted.giving.counted c.args.lane),
-      given_now (all_sent s.rings.items) _ c.args.lane c.in-Some.delivery low put,
-      (λ m apart. given_else (all_sent s.rings.items) _ c.args.lane m c.in-Some.delivery apart put),
-      refl,
-      refl,
-    )
-
-pub returns-clause-of_hub : goal.returns-clause-of_hub
-returns-clause-of_hub c =
-    let s = c.args.self.now in
-    let less : c.from.result < length s.rings.items = omega (
-      arith,
-      c.from.ensures,
-      c.requires,
-      s.accounted.giving.lanes,
-      length-map s.rings.items
-          (λ (r : PushEnd). sent r),
-    ) in
     let g = c.in-Some.ensures.some in
-    let looked = c.is_full.ensures.looked.0 in
-    let pushed = c.push_reserved.ensures.ring in
-    λ h is. record {
-      jobs = is.jobs;
-      results = is.results;
-      rings = ends_set h s.rings.items c.from.result c.index_mut-ring.result.now c.push_reserved.new.self is.rings c.index_mut-ring.ensures.value less
-          (same_ring c.index_mut-ring.result.now c.is_full.new.self c.push_reserved.new.self looked pushed);
-      lanes = ap length g.nexts ∙ (length-set s.deliverer.nexts c.args.lane _ ∙ is.lanes);
-      shares_of_jobs = is.shares_of_jobs;
-      shares_of_results = is.shares_of_results;
+    record {
+      hands = (
+        c.in-Some.delivery,
+        g,
+        g.number ∙ sym (s.accounted.giving.counted c.args.lane),
+        given_now (all_sent s.rings.items) _ c.args.lane c.in-Some.delivery low put,
+        (λ m apart. given_else (all_sent s.rings.items) _ c.args.lane m c.in-Some.delivery apart put),
+        refl,
+        refl,
+      );
+      lanes = c.take_next.ensures.lanes;
+      of_hub = λ h is. record {
+        jobs = is.jobs;
+        results = is.results;
+        rings = ends_set h s.rings.items c.from.result c.index_mut-ring.result.now c.push_reserved.new.self is.rings c.index_mut-ring.ensures.value less
+            (same_ring c.index_mut-ring.result.now c.is_full.new.self c.push_reserved.new.self c.is_full.ensures.looked.0 c.push_reserved.ensures.ring);
+        lanes = ap length g.nexts ∙ (length-set s.deliverer.nexts c.args.lane _ ∙ is.lanes);
+        shares_of_jobs = is.shares_of_jobs;
+        shares_of_results = is.shares_of_results;
+      };
     }

@@ -1,22 +1,22 @@
 use Rattle.std.proofs.Common.{ap, sym, ◌∙◌}
 use Rattle.crossbeam_queue.specs.Passes.{view}
 use Rattle.hub_core.specs.Rings.{all_sent}
-use Rattle.hub_core.proofs.RuleFacts.{learns, takes}
-use Rattle.hub_core.proofs.AccountingFacts.{Stands, stands_again, stands_popped, took, passed_over, held_back, accounted_at}
+use Rattle.hub_core.proofs.RuleIsKept.{learns, takes}
+use Rattle.hub_core.proofs.DeliveriesAreAccounted.{Stands, stands_again, stands_popped, took, passed_over, held_back, accounted_at}
 use Rattle.hub_core.proofs.hub.Hub.collect_by_lane.Goals as goal
 use Rattle.hub_core.proofs.hub.Hub.collect_by_lane.Goals.{After-take_in, in-Some, in-None+in-Some-pop_as}
 
 pub pop_as-requires-clause-rule : goal.pop_as-requires-clause-rule
 pop_as-requires-clause-rule g c = (takes _ _ _ c.args.seat.now.shares.1, learns _ _ _)
 
-stands_at : (g : _) (c : After-take_in g) → Stands (view c.match-take_held.seat.1.1.0) c.args.seat.now.deliverer c.match-take_held.delivery
+stands_at : (g : _) (c : After-take_in g) → Stands (view c.match-take.seat.1.1.0) c.args.seat.now.deliverer c.match-take.delivery
     (all_sent c.args.seat.now.rings.items)
 stands_at g c =
     let s = c.args.seat.now in
-    elim c.match-take_held.branch [
-      | in-Some w ↦ stands_again _ _ _ _ _ _ _ s.collects_only s.shares.1 s.accounted (sym c.take_held.ensures.value ∙ w.in-Some.is)
+    elim c.match-take.branch [
+      | in-Some w ↦ stands_again _ _ _ _ _ _ _ s.collects_only s.shares.1 s.accounted (sym c.take.ensures.value ∙ w.in-Some.is)
           (ap (λ s. view s.1.1.0) w.seat-is) w.delivery-is
-      | in-None+in-Some-pop_as w ↦ stands_popped _ _ _ _ _ _ _ s.collects_only s.shares.1 s.accounted (sym c.take_held.ensures.value ∙ w.in-None.is)
+      | in-None+in-Some-pop_as w ↦ stands_popped _ _ _ _ _ _ _ s.collects_only s.shares.1 s.accounted (sym c.take.ensures.value ∙ w.in-None.is)
           (ap (λ s. view s.1.1.0) w.seat-is ∙ w.in-Some-pop_as.ensures.rule) w.delivery-is
     ]
 
@@ -28,7 +28,7 @@ invariant_of-seat-in-Ok g c =
       idle_at_jobs = s.idle_at_jobs;
       shares = (s.shares.0, stands.share);
       collects_only = stands.pops_only;
-      accounted = accounted_at _ _ _ _ _ c.take_held.ensures.after (took _ _ _ _ _ stands.pending c.in-Ok.ensures.taken);
+      accounted = accounted_at _ _ _ _ _ c.take.ensures.after (took _ _ _ _ _ stands.pending c.in-Ok.ensures.taken);
     }
 
 pub invariant_of-seat-in-Err-NoMemory : goal.invariant_of-seat-in-Err-NoMemory
@@ -52,5 +52,5 @@ invariant_of-seat-in-Err-Stranger g c =
       idle_at_jobs = s.idle_at_jobs;
       shares = (s.shares.0, stands.share);
       collects_only = stands.pops_only;
-      accounted = accounted_at _ _ _ _ _ c.take_held.ensures.after (passed_over _ _ _ _ _ stands.pending t.0 c.in-Err-Stranger.ensures.unchanged);
+      accounted = accounted_at _ _ _ _ _ c.take.ensures.after (passed_over _ _ _ _ _ stands.pending t.0 c.in-Err-Stranger.ensures.unchanged);
     }

@@ -6,8 +6,8 @@ use Rattle.hub_core.specs.Hubs.{IsLaneOf}
 use Rattle.hub_core.specs.Lanes.{lane_of, received, submitted}
 use Rattle.hub_core.specs.Rings.{all_sent}
 use Rattle.hub_core.specs.declared.lane_seat.LaneSeat.{LaneSeat}
-use Rattle.hub_core.proofs.LaneViewFacts.{PolledFirst, polled_first}
-use Rattle.hub_core.proofs.SeatFacts.{all_at, all_polled, nothing_lost, stands_for, state_of, whole_from}
+use Rattle.hub_core.proofs.SeatsAsLanes.{PolledFirst, polled_first}
+use Rattle.hub_core.proofs.PartsAreAState.{all_at, all_polled, nothing_lost, stands_for, state_of, whole_from}
 use Rattle.hub_core.proofs.hub.Hub.finish.Goals as goal
 
 pub drain_all-requires : goal.drain_all-requires

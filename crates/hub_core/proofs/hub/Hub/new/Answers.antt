@@ -3,9 +3,9 @@ use Rattle.std.proofs.lemmas.List.{length-replicate}
 use Rattle.std.proofs.lemmas.Result.{IfOk-from_err}
 use Rattle.lane_core.specs.ReorderBuffer.{ReorderBuffer}
 use Rattle.hub_core.specs.Lane.{new_lane}
-use Rattle.hub_core.proofs.LaneViewFacts.{fresh_lanes}
-use Rattle.hub_core.proofs.NewFacts.{fresh_accounted, given_none, has_each, left_of_jobs, left_of_results, no_rows, ring_of, same_ends, small}
-use Rattle.hub_core.proofs.RefusedFacts.{never, no_hub, ok_is_no_err}
+use Rattle.hub_core.proofs.SeatsAsLanes.{fresh_lanes}
+use Rattle.hub_core.proofs.HubIsNew.{fresh_accounted, given_none, has_each, left_of_jobs, left_of_results, no_rows, ring_of, same_ends, small}
+use Rattle.hub_core.proofs.BadCountsAlone.{never, no_hub, ok_is_no_err}
 use Rattle.hub_core.proofs.hub.Hub.new.Goals as goal
 
 pub invariant_of-deliverer : goal.invariant_of-deliverer
@@ -47,7 +47,7 @@ returns-clause-new g c =
               limit = (let n = ap length p.1.0 in omega arith);
               rows = no_rows _ c.args.year _ p.1.0;
             };
-        workers = λ k d less. let p = c.in_ok-workers.ensures.seats k d less in record { takes = p.0; posts = p.1 };
+        workers = λ k d less. let p = c.in_ok-workers.ensures.made.seats k d less in record { takes = p.0; posts = p.1 };
         deliverer = record {
           jobs = c.in_ok-workers.ensures.jobs.0;
           results = c.in_ok-workers.ensures.results.0;
@@ -57,11 +57,11 @@ returns-clause-new g c =
           shares_of_results = r.3;
         };
         each_lane = has_each c.args.shape.lanes _ c.in_ok-lanes.ensures.made.numbers;
-        each_worker = c.in_ok-workers.ensures.count;
+        each_worker = c.in_ok-workers.ensures.made.number;
       };
       unused = record {
         lanes = λ k d less. (c.in_ok-lanes.ensures.made.seats k d less).1;
-        workers = λ k d less. (c.in_ok-workers.ensures.seats k d less).2;
+        workers = λ k d less. (c.in_ok-workers.ensures.made.seats k d less).2;
         none_collected = r.1;
         empty_hand = refl;
         none_handed = λ l. given_none c.from-capacity.result c.in_ok-lanes.rings.items l c.in_ok-lanes.ensures.made.rings.1;

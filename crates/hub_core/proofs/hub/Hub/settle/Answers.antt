@@ -1,15 +1,39 @@
-use Rattle.std.proofs.Common.{◌∙◌, List, subst}
-use Rattle.hub_core.specs.Hubs.{shape_of}
+use Rattle.std.proofs.Common.{◌∙◌, subst, List}
 use Rattle.hub_core.specs.inner.DrainedLists.{AreMade}
+use Rattle.hub_core.specs.Serving.{items_of}
+use Rattle.hub_core.specs.Hubs.{IsLaneOf, shape_of}
 use Rattle.hub_core.specs.declared.lane_seat.LaneSeat.{LaneSeat}
+use Rattle.hub_core.proofs.SeatsAsLanes.{GivesRows, settled}
+use Rattle.hub_core.proofs.ListsHaveUnpolled.{owed}
+use Rattle.hub_core.proofs.PartsAreAState.{all_at, all_polled, nothing_lost, stands_for, state_of, whole_from}
 use Rattle.hub_core.proofs.hub.Hub.settle.Goals as goal
 
-pub give_all-requires-clause-made : goal.give_all-requires-clause-made
-give_all-requires-clause-made g c =
-    subst (λ (lanes : List LaneSeat). AreMade lanes (shape_of c.args.self).lanes c.in-Ok.lists.items) c.as_slice.ensures.value c.in-Ok.ensures
+pub drain_all-requires : goal.drain_all-requires
+drain_all-requires g c = c.requires
 
-pub returns-clause-settled : goal.returns-clause-settled
-returns-clause-settled g c = c.give_all.ensures.settled
-
-pub returns-clause-count : goal.returns-clause-count
-returns-clause-count g c = c.give_all.ensures.counted ∙ c.in-Ok.ensures.counted
+pub returns : goal.returns
+returns g c =
+    let h = c.args.self in
+    let ls = c.args.lanes.items in
+    let ws = c.args.workers.items in
+    let d = c.args.deliverer in
+    let p = c.drain_all.ensures in
+    let made = subst (λ (lanes : List LaneSeat). AreMade lanes (shape_of h).lanes c.in-Ok.lists.items) c.as_slice.ensures.value c.in-Ok.ensures in
+    let whole = whole_from h ls ws d p.0 p.1 p.2 c.all_found.ensures c.received_first.ensures c.kept_whole.ensures c.requires p.3 in
+    let lists = owed ls ws d p.0 p.1 p.2 _ c.in-Ok.lists.items c.drain_all.new.lists.items c.sort_all.new.lists.items c.claims_settle.ensures p.3 whole
+    c.requires.deliverer.lanes made p.4 c.sort_all.ensures in
+    let rows : GivesRows h ls (items_of c.sort_all.new.lists.items) = λ i v e. lists i v e ∙ (all_at (IsLaneOf h) ls i v c.requires.lanes e).rows in
+    record {
+      settled = settled h ls _ rows;
+      count = c.sort_all.ensures.0 ∙ (p.4.counted ∙ made.counted);
+      whole = record {
+        state = (
+          state_of h ls ws d p.0 p.1,
+          stands_for h ls ws d p.0 p.1 p.2 c.requires p.3 whole,
+          c.lost_is_none.ensures (state_of h ls ws d p.0 p.1) (nothing_lost h ls ws d p.0 p.1 whole),
+        );
+        none_dropped = all_polled ls ws d p.0 p.1 whole;
+        none_aside = whole.aside;
+      };
+      unsettled = tt;
+    }

@@ -1,5 +1,5 @@
 use Rattle.std.proofs.Common.{◌∙◌, sym, ap}
-use Rattle.hub_core.proofs.ServeFacts.{lanes_counted}
+use Rattle.hub_core.proofs.LanesAreCounted.{lanes_counted}
 use Rattle.test_doubles.proofs.seats.OpenHub.new.Goals as goal
 
 pub invariant_of-result : goal.invariant_of-result

@@ -7,7 +7,7 @@ invariant_of-station g c =
     let s = c.args.self in
     let done = c.in-Ok.ensures in
     record {
-      all = seats_kept s.hub s.lanes.items _ s.workers.items _ s.deliverer _ done.task.0.1 done.task.0.0 done.seats.0
-          (omega (arith, done.seats.1, c.in-Ok.workers.ok.0, s.workers.ok.0)) done.task.1 s.all;
-      count = count_kept s.hub s.lanes.items _ s.deliverer _ done.task.0.1 s.all.deliverer done.task.1 s.count;
+      all = seats_kept s.hub s.lanes.items _ s.workers.items _ s.deliverer _ done.1.0.1 done.1.0.0 done.0.0
+          (omega (arith, done.0.1, c.in-Ok.workers.ok.0, s.workers.ok.0)) done.1.1 s.all;
+      count = count_kept s.hub s.lanes.items _ s.deliverer _ done.1.0.1 s.all.deliverer done.1.1 s.count;
     }

@@ -10,7 +10,7 @@ use Rattle.hub_core.specs.inner.Fresh.{IsPairedIn}
 use Rattle.hub_core.specs.Lanes.{numbers_of}
 use Rattle.hub_core.specs.Rings.{PushEnd}
 use Rattle.hub_core.specs.Rule.{trace}
-use Rattle.hub_core.proofs.DrainFacts.{trace_is}
+use Rattle.hub_core.proofs.EachIsDrained.{trace_is}
 
 get_below : {X : Type 0} (xs : List X) (x t : X) (k : ℕ) → k < length xs → slice_get (xs ++ x ∷ []) k ≡ Some t → slice_get xs k ≡ Some t
 get_below [] x t k less e = absurd (omega arith)

@@ -26,8 +26,8 @@ use Rattle.hub_core.specs.inner.Serving.{sum_all}
 use Rattle.hub_core.specs.Standing.{StandsFor}
 use Rattle.hub_core.specs.Workers.{job_in_hand, posted, taken}
 use Rattle.hub_core.specs.inner.Workers.{jobs_in_hand}
-use Rattle.hub_core.proofs.UnpolledFacts.{at_least}
-use Rattle.hub_core.proofs.NumberFacts.{by_place, sum_each}
+use Rattle.hub_core.proofs.UnpolledIsCounted.{at_least}
+use Rattle.hub_core.proofs.EachNumberOnce.{by_place, sum_each}
 use Rattle.hub_core.proofs.SumsOfChanged.{sum_by-map}
 
 pub all_at : {X : Type 0} (P : X → Type 0) (xs : List X) (i : ℕ) (x : X) → All P xs → slice_get xs i ≡ Some x → P x

@@ -13,14 +13,15 @@ use Rattle.hub_core.specs.declared.deliverer_seat.DelivererSeat.{DelivererSeat}
 use Rattle.hub_core.specs.declared.lane_seat.LaneSeat.{LaneSeat}
 use Rattle.hub_core.specs.declared.worker_seat.WorkerSeat.{WorkerSeat}
 use Rattle.hub_core.specs.Delivering.{handed, lane_count}
-use Rattle.hub_core.specs.inner.DrainedLists.{AreMade, AreOwn, DrainsInto, Listed, Sorts, items_of}
+use Rattle.hub_core.specs.inner.DrainedLists.{AreMade, AreOwn, DrainsInto, Listed, Sorts}
+use Rattle.hub_core.specs.Serving.{items_of}
 use Rattle.hub_core.specs.Lanes.{lane_of, polled, received, submitted}
 use Rattle.hub_core.specs.inner.Draining.{Finds}
 use Rattle.hub_core.specs.inner.Serving.{sum_all}
 use Rattle.lane_core.proofs.ListFacts.{get_back, get_map}
-use Rattle.hub_core.proofs.NumberFacts.{by_place, sum_ones}
-use Rattle.hub_core.proofs.SeatFacts.{Whole, by_seat, one_lane, sum_same}
-use Rattle.hub_core.proofs.SortFacts.{all_same}
+use Rattle.hub_core.proofs.EachNumberOnce.{by_place, sum_ones}
+use Rattle.hub_core.proofs.PartsAreAState.{Whole, by_seat, one_lane, sum_same}
+use Rattle.hub_core.proofs.ListIsSorted.{all_same}
 use Rattle.hub_core.proofs.SumsOfChanged.{sum_by-map}
 
 is_there : {X : Type 0} (xs : List X) (i : ℕ) → i < length xs → (x : X) × (slice_get xs i ≡ Some x)

@@ -8,6 +8,8 @@ use Rattle.std.proofs.lemmas.List.{get_or-map, get_or-set_other, get_or_past, le
 use Rattle.std.proofs.lemmas.List.Elements.{All-set}
 use Rattle.std.proofs.lemmas.List.FromFn.{get_or-range_with_len}
 use Rattle.std.proofs.lemmas.Option.{get_or_from_slice_get}
+use Rattle.std.specs.Prelude.{Bool, Err, IsErr, Ok, Result}
+use Rattle.lane_core.proofs.ResultFacts.{not_done}
 use Rattle.lane_core.specs.Plain.{plain_of}
 use Rattle.lane_core.specs.Settling.{kept}
 use Rattle.lane_core.specs.declared.job.Plain.{Plain}
@@ -15,22 +17,44 @@ use Rattle.hub_core.specs.Fresh.{HasDoneNothing}
 use Rattle.hub_core.specs.Hubs.{IsLaneOf, shape_of, year_of}
 use Rattle.hub_core.specs.Lanes.{issued_count, lane_of, numbers_of, polled, polled_count, received, submitted, submitted_rows}
 use Rattle.hub_core.specs.Serving.{numbered_feeds, numbered_rows, served}
-use Rattle.hub_core.proofs.LaneViewFacts.{PolledFirst}
+use Rattle.hub_core.proofs.SeatsAsLanes.{PolledFirst}
 use Rattle.hub_core.specs.inner.Traffics.{HavePolledAll, AreOwnSeats, given_to, polled_by_each, with_held}
-use Rattle.hub_core.specs.Traffics.{AreFirstOf, AreServedFirst, HasRoom, History, IfLost, IsAllBrought, IsNextOf, with_more}
-use Rattle.hub_core.specs.inner.CallingThread.{AreLeftLost, GoesOn, HasLost, KeepsSeats, WasLost}
+use Rattle.hub_core.specs.Traffics.{AreFirstOf, AreServedFirst, Gives, HasRoom, History, IfLost, IsAllBrought, IsKept, IsNextOf, Stays, with_more}
+use Rattle.hub_core.specs.inner.CallingThread.{AreLeftLost, CameBySeats, GoesOn, HasLost, EndsServing, IsAtEnd, KeepsSeats, TakesStep, WasLost}
 use Rattle.hub_core.specs.declared.calling_thread.CallingThread.{CallingThread}
 use Rattle.hub_core.specs.declared.ended.Ended.{Ended}
-use Rattle.hub_core.specs.declared.ended.Ended.TheVariants.{Done, Lost, NoMemory, Stopped}
+use Rattle.hub_core.specs.declared.ended.Ended.TheVariants.{BringFailed, Done, NoMemory, WaitFailed}
 use Rattle.hub_core.specs.declared.hub.Hub.{Hub}
+use Rattle.hub_core.specs.declared.deliverer_seat.DelivererSeat.{DelivererSeat}
 use Rattle.hub_core.specs.declared.lane_seat.LaneSeat.{LaneSeat}
-use Rattle.hub_core.proofs.ServeFacts.{lanes_counted}
-use Rattle.hub_core.proofs.OrderFacts.{rows_long}
+use Rattle.hub_core.specs.declared.worker_seat.WorkerSeat.{WorkerSeat}
+use Rattle.hub_core.proofs.LanesAreCounted.{lanes_counted}
+use Rattle.hub_core.proofs.ListsInOrder.{rows_long}
 use Rattle.element_core.specs.Terms.{Terms}
-use Rattle.hub_core.proofs.NewFacts.{tail_all}
+use Rattle.hub_core.proofs.HubIsNew.{tail_all}
 
 pub if_none : (o : Option (ℕ × List ℕ)) (P : (ℕ × List ℕ) → Type 0) → o ≡ None → IfSome o P
 if_none o P none = subst (λ x. IfSome x P) (sym none) tt
+
+-- no row was in hand, and the traffic gives one or none
+pub next_came : {T : Type 0} (C : History T) (h : Hub) (seats : List LaneSeat) (d : DelivererSeat) (w : Option WorkerSeat) (held next : Option (ℕ × List ℕ))
+    (start old new : T)
+    → held ≡ None → CameBySeats C h seats d w held start old → IfSome next (λ r. Gives C r old new) → (next ≡ None → Stays C old new)
+    → CameBySeats C h seats d w next start new
+next_came C h seats d w held None start old new none was gives stays = record {
+  lanes = record { lanes = was.lanes.lanes; numbers = was.lanes.numbers; limit = was.lanes.limit; room = tt };
+  deliverer = was.deliverer;
+  own = was.own;
+  came = stays refl start (given_to seats None) (polled_by_each seats) (subst (λ o. C start old (given_to seats o) (polled_by_each seats)) none was.came);
+}
+next_came C h seats d w held (Some r) start old new none was gives stays =
+    let more = gives start (given_to seats None) (polled_by_each seats) (subst (λ o. C start old (given_to seats o) (polled_by_each seats)) none was.came) in
+    record {
+      lanes = record { lanes = was.lanes.lanes; numbers = was.lanes.numbers; limit = was.lanes.limit; room = more.0 };
+      deliverer = was.deliverer;
+      own = was.own;
+      came = more.1;
+    }
 
 pub step_serves : (h : Hub) (seats : List LaneSeat) (held new : Option (ℕ × List ℕ)) (i : ℕ) (s t : LaneSeat)
     → s ≡ get_or seats i s → lane_of t ≡ lane_of s → IsLaneOf h t → AreOwnSeats h seats held
@@ -331,10 +355,10 @@ pub rows_same_given : (seats : List LaneSeat) (held : Option (ℕ × List ℕ)) 
 rows_same_given seats held i s t at same = ap (with_held held) (sym (step_same submitted_rows seats i s t at (rows_same s t same)))
 
 pub if_lost : {W B : Type 0} (e : Ended W B) (P Q : Type 0) → (P → Q) → IfLost e P → IfLost e Q
-if_lost (Lost fault) P Q f p = f p
+if_lost (BringFailed fault) P Q f p = f p
 if_lost Done P Q f p = tt
 if_lost NoMemory P Q f p = tt
-if_lost (Stopped fault) P Q f p = tt
+if_lost (WaitFailed fault) P Q f p = tt
 
 -- ---- the calling thread's steps one after another
 
@@ -347,6 +371,28 @@ keeps_seats Came s t goes = record {
   deliverer = goes.serves.deliverer;
   own = goes.serves.own;
 }
+
+pub goes_since : {T : Type 0} (Came : History T) (s t u : CallingThread T) → GoesOn Came s t → GoesOn Came t u → GoesOn Came s u
+goes_since Came s t u first then = record {
+  hub = then.hub ∙ first.hub;
+  start = then.start ∙ first.start;
+  seats = then.seats ∙ first.seats;
+  serves = then.serves;
+}
+
+-- a step that was refused
+pub lost_step : {T X B : Type 0} (Came : History T) (Leaves : T → T → Type 0) (s t : CallingThread T) (r : Result X B) → IsErr r → HasLost Came Leaves s t
+    → TakesStep Came Leaves s r t
+lost_step Came Leaves s t (Ok x) refused lost = not_done (sym refused)
+lost_step Came Leaves s t (Err e) refused lost = lost
+
+-- how a thread has run that has lost nothing
+pub ran_on : {T W B : Type 0} (Came : History T) (Leaves : T → T → Type 0) (has_ended : T → Bool) (s t : CallingThread T) (e : Ended W B) → IsKept e
+    → GoesOn Came s t → (e ≡ Done → IsAtEnd has_ended t) → EndsServing Came Leaves has_ended s t e
+ran_on Came Leaves has_ended s t (BringFailed fault) kept goes ended = absurd kept
+ran_on Came Leaves has_ended s t Done kept goes ended = record { seats = keeps_seats Came s t goes; serves = λ _. goes; lost = tt; done = ended }
+ran_on Came Leaves has_ended s t NoMemory kept goes ended = record { seats = keeps_seats Came s t goes; serves = λ _. goes; lost = tt; done = ended }
+ran_on Came Leaves has_ended s t (WaitFailed fault) kept goes ended = record { seats = keeps_seats Came s t goes; serves = λ _. goes; lost = tt; done = ended }
 
 -- whatever is lost later was lost since an earlier step of the same thread
 pub lost_since : {T : Type 0} (Came : History T) (Leaves : T → T → Type 0) (s t u : CallingThread T) → t.hub.now ≡ s.hub.now → t.start.value ≡ s.start.value

@@ -14,7 +14,7 @@ use Rattle.hub_core.specs.Rule.{trace}
 use Rattle.hub_core.specs.inner.Rule.{JoinsPops, JoinsPushes}
 use Rattle.hub_core.specs.inner.Workers.{jobs_in_hand}
 use Rattle.hub_core.specs.Workers.{posted, taken}
-use Rattle.hub_core.proofs.DrainedFacts.{drained_then}
+use Rattle.hub_core.proofs.DrainsAddUp.{drained_then}
 
 pub trace_is : (a b : ℕ) (c d e f : List Plain) → a ≡ b → c ≡ d → e ≡ f → trace a c e ≡ trace b d f
 trace_is a b c d e f x y z i = trace (x i) (y i) (z i)

@@ -5,9 +5,9 @@ use Rattle.std.proofs.lemmas.List.{append_assoc}
 use Rattle.lane_core.specs.Plain.{plain_of}
 use Rattle.lane_core.specs.declared.job.Plain.{Plain}
 use Rattle.hub_core.specs.Lane.{ArePolledFirst, AreSettled, Lane, deliveries, next_ticket, with_row}
-use Rattle.hub_core.proofs.OrderFacts.{row_at, rows_long}
+use Rattle.hub_core.proofs.ListsInOrder.{row_at, rows_long}
 use Rattle.element_core.specs.Terms.{Terms}
-use Rattle.hub_core.proofs.SeatFacts.{all_at}
+use Rattle.hub_core.proofs.PartsAreAState.{all_at}
 
 pub deliveries_by_place : (lane : ℕ) (year : Terms) (rows : List (List ℕ)) (k : ℕ) → (length (deliveries lane year rows) ≡ length rows)
     × (k < length rows → slice_get (deliveries lane year rows) k ≡ Some (plain_of lane k year (get_or rows k [])))

@@ -15,7 +15,7 @@ use Rattle.hub_core.specs.declared.rule.Trace.{Trace}
 use Rattle.hub_core.specs.Rule.{trace}
 use Rattle.std.proofs.lemmas.Bool.{and_from, and_parts}
 use Rattle.std.proofs.lemmas.List.{get_or-set_other, get_or-set_same, length-set}
-use Rattle.hub_core.proofs.InOrderFacts.{gives_in_order}
+use Rattle.hub_core.proofs.GivesInOrder.{gives_in_order}
 
 -- x was collected, and is not taken in yet
 pub record Pending (d : ReorderBuffer) (c : List Plain) (x : Plain) (given : List (List Plain)) : Type 0 where

@@ -17,7 +17,7 @@ use Rattle.hub_core.specs.Serving.{numbered_rows}
 use Rattle.lane_core.proofs.ListFacts.{get_back, get_map}
 use Rattle.hub_core.proofs.ServedAreRead.{rows_read}
 use Rattle.element_core.specs.Terms.{Terms}
-use Rattle.hub_core.proofs.SeatFacts.{all_at}
+use Rattle.hub_core.proofs.PartsAreAState.{all_at}
 
 abbrev pub a_lane : ℕ → List (List ℕ) → List Plain → Lane
 a_lane n rows xs = record { number = n; rows = rows; polled = xs }

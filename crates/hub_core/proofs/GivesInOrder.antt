@@ -11,7 +11,7 @@ use Rattle.lane_core.proofs.GoodFacts.{numbered_more}
 use Rattle.lane_core.proofs.SlotFacts.{or_false}
 use Rattle.hub_core.specs.inner.Accounting.{GivenInOrder}
 use Rattle.hub_core.proofs.SumsOfChanged.{empties_at}
-use Rattle.hub_core.proofs.OrderFacts.{below_one_more, other_lane, same_lane}
+use Rattle.hub_core.proofs.ListsInOrder.{below_one_more, other_lane, same_lane}
 
 -- a ticket is among those that it is found of
 -- the next number of a lane that was given one, and of the others

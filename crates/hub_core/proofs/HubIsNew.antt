@@ -21,7 +21,7 @@ use Rattle.hub_core.specs.Rule.{trace}
 use Rattle.hub_core.specs.Serving.{is_seat_count, numbered_rows}
 use Rattle.hub_core.specs.Shapes.{is_allowed}
 use Rattle.hub_core.specs.inner.Accounting.{Accounted}
-use Rattle.hub_core.proofs.InOrderFacts.{fresh_in_order}
+use Rattle.hub_core.proofs.GivesInOrder.{fresh_in_order}
 use Rattle.element_core.specs.Terms.{Terms}
 use Rattle.hub_core.proofs.SumsOfChanged.{empties_at, sum_empties}
 
