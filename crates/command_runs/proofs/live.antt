@@ -9,3 +9,4 @@ pub mod LogFacts
 pub mod ReorderFacts
 pub mod ReplyFacts
 pub mod WireFacts
+pub mod Words

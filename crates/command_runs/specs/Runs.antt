@@ -17,16 +17,20 @@ abbrev pub Wrote : Command → (Option (List ℕ) → Option (List ℕ) → List
     → Type 0
 Wrote c took left rest before after = (bytes text : List ℕ) × GaveAll left rest bytes × c.writes bytes text × took before after text
 
+-- if nothing of it had failed before, this fault comes exactly if something fails
+abbrev pub TellsFault : {S X E : Type 0} → (S → Bool) → S → S → Result X E → E → Type 0
+TellsFault failed old new result fault = failed old ≡ false → (IsErrOf result fault ↔ (failed new ≡ true))
+
 -- what a run of a command leaves of a source and of a sink: the sink took the whole text; or a prefix of it, if a write failed; or nothing, and the refusal
--- names its cause. If they had not failed before, a read or write fault comes exactly if one fails
+-- names its cause
 pub record Ran {S W : Type 0} (c : Command) (left : S → Option (List ℕ)) (source_failed : S → Bool) (taken : W → Option (List ℕ)) (sink_failed : W → Bool)
     (source rest : S) (sink after : W) (result : Result (Unit {0}) CommandFault) : Type 0 where
   pub ok : OnOk result (Wrote c Appends (left source) (left rest) (taken sink) (taken after))
   pub cut : IsErrOf result command.WriteFault → Wrote c TookFront (left source) (left rest) (taken sink) (taken after)
   pub refused : IfErr result (c.refuses (left source) (left rest))
   pub unwritten : IfErr result (λ f. f ≢ command.WriteFault → after ≡ sink)
-  pub read : source_failed source ≡ false → (IsErrOf result command.ReadFault ↔ (source_failed rest ≡ true))
-  pub write : sink_failed sink ≡ false → (IsErrOf result command.WriteFault ↔ (sink_failed after ≡ true))
+  pub read : TellsFault source_failed source rest result command.ReadFault
+  pub write : TellsFault sink_failed sink after result command.WriteFault
 
 -- of the same bytes a command writes one text at most
 abbrev pub WritesOnce : Command → Type 0

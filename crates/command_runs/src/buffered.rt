@@ -1,7 +1,6 @@
 //! A buffer before a sink.
-ghost use Rattle.std.specs.Prelude.{◌≡◌, [], false, true, IsErr, IsTrue, OnErr, OnOk};
-ghost use Rattle.std.specs.Io.KnownBytes.{Keeps};
-ghost use Rattle.command_runs.specs.inner.Buffers.{taken_and_waiting};
+ghost use Rattle.std.specs.Prelude.{◌≡◌, [], false, OnOk};
+ghost use Rattle.command_runs.specs.inner.Buffers.{KeepsBytes, TellsFailure, taken_and_waiting};
 
 use crate::write_buffer::{ROOM, WriteBuffer};
 use digits_core::{Failed, Sink};
@@ -43,11 +42,9 @@ impl<W: Sink> Buffered<W> {
 
     /// Writes what waits. What a failed write did not take waits still.
     pub fn flush(&mut self) -> Result<(), Failed>
-        ensures bytes { Keeps (taken_and_waiting W.taken self.old) (taken_and_waiting W.taken self.new) }
+        ensures bytes { KeepsBytes W.taken self.old self.new }
         ensures empty { OnOk result (self.new.waiting ≡ []) }
-        ensures ok { OnOk result (W.failed self.new.sink ≡ W.failed self.old.sink) }
-        ensures err { OnErr result (W.failed self.new.sink ≡ true) }
-        ensures again { IsTrue (W.failed self.old.sink) → IsErr result }
+        ensures faults { TellsFailure W.failed self.old.sink result self.new.sink }
     {
         if self.has_failed {
             return Err(Failed);

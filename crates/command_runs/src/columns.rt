@@ -1,11 +1,8 @@
 //! The rows that sheets give the lanes of their columns.
-ghost use Rattle.std.specs.Prelude.{[], ◌≡◌, ◌<◌, ◌↔◌, List, true, false, Ok, Err, IfErr, IfOk, IfSome, IsErrOf, OnOk, length, replicate};
-ghost use Rattle.std.specs.Io.KnownBytes.{IsAtEnd};
-ghost use Rattle.hub_core.specs.Serving.{are_short};
-ghost use Rattle.sheet_core.specs.Bitmaps.{Bitmap};
-ghost use Rattle.sheet_core.specs.declared.fault.PbmFault.{PbmFault};
-ghost use Rattle.sheet_core.specs.pbm.Images.{ReadsBytes, images_of};
-ghost use Rattle.command_runs.specs.Columns.{AreColumnsIf, column_dots, has_size, items_in};
+ghost use Rattle.std.specs.Prelude.{[], ◌≡◌, ◌<◌, true, IfOk, OnOk, length, replicate};
+ghost use Rattle.hub_core.specs.Serving.{items_of};
+ghost use Rattle.command_runs.specs.Columns.{ReadsColumns, column_dots, has_size};
+ghost use Rattle.command_runs.specs.Runs.{TellsFault};
 ghost use Rattle.command_runs.specs.inner.Cuts.{AddsDots, AddsSheet, AreCut};
 
 use digits_core::Source;
@@ -57,7 +54,7 @@ fn push_columns(
 ) -> Result<(), AllocError>
     requires count { length feeds.old.items ≡ grid.columns }
     requires size { has_size grid sheet.now ≡ true }
-    ensures added { OnOk result (AddsSheet grid sheet.now (items_in feeds.old.items) (items_in feeds.new.items)) }
+    ensures added { OnOk result (AddsSheet grid sheet.now (items_of feeds.old.items) (items_of feeds.new.items)) }
 {
     for column in 0..grid.columns() {
         push_column(alloc, grid, column, sheet, &mut feeds[usize::from(column)])?;
@@ -82,17 +79,17 @@ struct RowsByColumn {
 impl SheetIntake for RowsByColumn {
     type Made = Kept;
 
-    ghost makes = { λ by sheets kept. AreCut by.grid sheets kept.fit (items_in kept.feeds.items) };
+    ghost makes = { λ by sheets kept. AreCut by.grid sheets kept.fit (items_of kept.feeds.items) };
 
-    fn take(&self, kept: &mut Kept, sheet: Sheet) -> Result<(), NoMemory> {
+    fn take(&self, kept: &mut Kept, sheet: &Sheet) -> Result<(), NoMemory> {
         if !kept.fit {
             return Ok(());
         }
-        if !is_of_size(self.grid, &sheet) {
+        if !is_of_size(self.grid, sheet) {
             kept.fit = false;
             return Ok(());
         }
-        match push_columns(self.alloc, self.grid, &sheet, &mut kept.feeds) {
+        match push_columns(self.alloc, self.grid, sheet, &mut kept.feeds) {
             Ok(()) => Ok(()),
             Err(AllocError) => Err(NoMemory),
         }
@@ -101,7 +98,7 @@ impl SheetIntake for RowsByColumn {
 
 /// This many feeds without a row.
 fn make_feeds(alloc: Global, columns: u16) -> Result<Vec<Vec<Runs>>, AllocError>
-    ensures { IfOk result (λ v. items_in v.items ≡ replicate columns []) }
+    ensures { IfOk result (λ v. items_of v.items ≡ replicate columns []) }
 {
     let mut feeds = Vec::with_capacity(alloc, usize::from(columns))?;
     for _column in 0..columns {
@@ -117,14 +114,8 @@ pub fn read_columns<S: Source>(
     grid: Grid,
     source: &mut S,
 ) -> Result<Option<Vec<Vec<Runs>>>, PbmFault>
-    ensures ok { IfOk result (λ columns. (sheets : List Bitmap) × ReadsBytes images_of (S.left source.old) (S.left source.new) (Ok sheets)
-        × AreColumnsIf grid sheets columns) }
-    ensures count { IfOk result (λ columns. IfSome columns (λ v. length v.items ≡ grid.columns)) }
-    ensures short { IfOk result (λ columns. IfSome columns (λ v. are_short (items_in v.items) ≡ true)) }
-    ensures end { OnOk result (IsAtEnd (S.left source.new)) }
-    ensures err { IfErr result (λ fault. ReadsBytes images_of (S.left source.old) (S.left source.new) (Err fault)) }
-    ensures fault { S.failed source.old ≡ false
-        → (IsErrOf result PbmFault.ReadFault ↔ (S.failed source.new ≡ true)) }
+    ensures read { ReadsColumns grid (S.left source.old) (S.left source.new) result }
+    ensures fault { TellsFault S.failed source.old source.new result PbmFault.ReadFault }
 {
     grids_keep_limits(&grid);
     // The law by which there are few images, and so few rows.

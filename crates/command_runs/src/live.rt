@@ -3,7 +3,7 @@ pub mod answering;
 pub mod fault;
 pub mod input;
 pub mod laws;
-pub mod manner;
 pub mod pending;
 pub mod record;
+pub mod terms;
 pub mod waiting;

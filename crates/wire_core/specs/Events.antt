@@ -1,5 +1,5 @@
 -- What goes over a wire: reads and writes in their order.
-use Rattle.std.specs.Prelude.{◌≡◌, ◌↔◌, ◌++◌, ℕ, Bool, false, true, IfSome, IsErr, List, [], Option, Result, map}
+use Rattle.std.specs.Prelude.{◌≡◌, ◌++◌, ℕ, Bool, true, IfOk, IfSome, OnErr, OnOk, List, [], Option, Result, map}
 use Rattle.std.specs.List.{concat, flat_map}
 
 -- what a read gave, or what a write took
@@ -41,9 +41,18 @@ DoesNothing {W} did old new = (start : W) (events : List Event) → did start ol
 abbrev pub Writes : {W : Type 0} → (W → W → List Event → Type 0) → W → List ℕ → W → Type 0
 Writes did old bytes new = (pieces : List (List ℕ)) × Does did old (writes_of pieces) new × (concat pieces ≡ bytes)
 
--- if no call had failed before, then one has failed after it exactly if it says so
-abbrev pub TellsFailure : {X E : Type 0} → Bool → Result X E → Bool → Type 0
-TellsFailure before result after = before ≡ false → (IsErr result ↔ (after ≡ true))
+-- what a call of a side of a wire tells of faults: that one has failed from then on if it failed, and else no more than before
+pub record TellsFaults {W X E : Type 0} (failed other : W → Bool) (old : W) (result : Result X E) (new : W) : Type 0 where
+  pub ok : OnOk result (failed new ≡ failed old)
+  pub err : OnErr result (failed new ≡ true)
+  pub other_side : other new ≡ other old
+
+-- How a call of a side of a wire ends that did this, or did nothing. `failed` says whether a call of its side has failed, and `other` whether one of
+-- the other side has.
+pub record Ends {W X E : Type 0} (did : W → W → List Event → Type 0) (failed other : W → Bool) (old : W) (events : X → List Event) (result : Result X E) (new : W) : Type 0 where
+  pub done : IfOk result (λ x. Does did old (events x) new)
+  pub nothing : OnErr result (DoesNothing did old new)
+  pub faults : TellsFaults failed other old result new
 
 -- a law: if nothing more comes, the reads have given all that was left to read at first, if that is known
 abbrev pub AllWasRead : {W : Type 0} → (W → W → List Event → Type 0) → (W → Type 0) → (W → Option (List ℕ)) → Type 0

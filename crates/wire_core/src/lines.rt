@@ -1,6 +1,6 @@
 //! The lines of an input that comes in pieces.
-ghost use Rattle.std.specs.Prelude.{◌≡◌, ◌≤◌, ◌||◌, ◌<◌, nat_lt, drop, if◌then◌else◌, vec_capacity, ◌∷◌, ◌++◌, [], ℕ, List, None, Some, false, true, IfNone, IfOk, IfSome, OnErr, OnOk, length};
-ghost use Rattle.wire_core.specs.Events.{Does, DoesNothing, TellsFailure};
+ghost use Rattle.std.specs.Prelude.{◌≡◌, ◌≤◌, ◌||◌, ◌<◌, nat_lt, drop, if◌then◌else◌, vec_capacity, ◌∷◌, ◌++◌, [], ℕ, List, None, Some, true, IfNone, IfOk, IfSome, OnErr, OnOk, length};
+ghost use Rattle.wire_core.specs.Events.{Ends};
 ghost use Rattle.wire_core.specs.Events.Event.{Read};
 ghost use Rattle.wire_core.specs.Lines.{arrived, first_line, held_line, nothing_held, with_room, without_line};
 
@@ -73,30 +73,6 @@ fn keep_rest(bytes: &mut Vec<u8>, start: usize, is_cut: bool) -> bool
     false
 }
 
-/// Reads bytes behind those that are held, in room that was taken before, and says how many.
-fn read_behind<W: Wire>(
-    bytes: &mut Vec<u8>,
-    chunk: &mut Vec<u8>,
-    wire: &mut W,
-) -> Result<usize, Failed>
-    requires few { length bytes.old.items ≤ 65537 }
-    requires room { 131073 ≤ vec_capacity bytes.old }
-    requires chunk { length chunk.old.items ≡ 65536 }
-    ensures ok { IfOk result (λ count. (more : List ℕ) × (length more ≡ count) × (bytes.new.items ≡ bytes.old.items ++ more)
-        × Does W.Did wire.old (Read more ∷ []) wire.new) }
-    ensures err { OnErr result ((bytes.new.items ≡ bytes.old.items) × DoesNothing W.Did wire.old wire.new) }
-    ensures fault { TellsFailure (W.read_failed wire.old) result (W.read_failed wire.new) }
-    ensures write { W.write_failed wire.new ≡ W.write_failed wire.old }
-    ensures end { IfOk result (λ count. count ≡ 0 → W.at_end wire.new) }
-    ensures capacity { vec_capacity bytes.old ≤ vec_capacity bytes.new }
-    ensures same { length chunk.new.items ≡ length chunk.old.items }
-{
-    let count = wire.read(chunk.as_mut_slice())?;
-    // There is room.
-    let _ = bytes.extend_from_slice(&chunk.as_slice()[..count]);
-    Ok(count)
-}
-
 impl Lines {
     /// Nothing has come. What is held is given room for once.
     pub fn new(alloc: Global) -> Result<Lines, AllocError>
@@ -147,15 +123,16 @@ impl Lines {
 
     /// Reads what there is, if no line is held and the input has not ended.
     pub fn read<W: Wire>(&mut self, wire: &mut W) -> Result<(), Failed>
-        ensures ok { OnOk result ((bytes : List ℕ) × (self.new ≡ arrived self.old bytes) × Does W.Did wire.old (Read bytes ∷ []) wire.new) }
-        ensures err { OnErr result ((self.new ≡ with_room self.old) × DoesNothing W.Did wire.old wire.new) }
-        ensures fault { TellsFailure (W.read_failed wire.old) result (W.read_failed wire.new) }
-        ensures write { W.write_failed wire.new ≡ W.write_failed wire.old }
+        ensures ok { (bytes : List ℕ) × OnOk result (self.new ≡ arrived self.old bytes) × Ends W.Did W.read_failed W.write_failed wire.old (λ _. Read bytes ∷ []) result wire.new }
+        ensures err { OnErr result (self.new ≡ with_room self.old) }
         ensures end { OnOk result (self.new.has_ended ≡ true → W.at_end wire.new) }
     {
         self.is_cut = keep_rest(&mut self.bytes, self.start, self.is_cut);
         self.start = 0;
-        let count = read_behind(&mut self.bytes, &mut self.chunk, wire)?;
+        let count = wire.read(self.chunk.as_mut_slice())?;
+        let came = &self.chunk.as_slice()[..count];
+        // There is room.
+        let _ = self.bytes.extend_from_slice(came);
         self.has_ended = count == 0;
         Ok(())
     }

@@ -1,6 +1,6 @@
 //! A reader and a writer whose calls stand in one order.
-ghost use Rattle.std.specs.Prelude.{◌≡◌, ◌<◌, ◌≤◌, ◌∷◌, ◌++◌, [], ℕ, List, Bool, true, length, take, IfOk, OnOk, OnErr};
-ghost use Rattle.wire_core.specs.Events.{Does, DoesNothing, Event, TellsFailure, Writes};
+ghost use Rattle.std.specs.Prelude.{◌≡◌, ◌<◌, ◌≤◌, ◌∷◌, ◌++◌, [], ℕ, List, Bool, length, take, IfOk, OnOk, OnErr};
+ghost use Rattle.wire_core.specs.Events.{Ends, Event, TellsFaults, Writes};
 ghost use Rattle.wire_core.specs.Events.Event.{Read, Wrote};
 
 use digits_core::Failed;
@@ -19,23 +19,15 @@ pub trait Wire {
     /// Reads at most as many bytes as `buf` has, into its front, and says how many; 0 into a buffer that is not
     /// empty is the end. An interruption is a failure.
     fn read(&mut self, buf: &mut [u8]) -> Result<usize, Failed>
-        ensures bound { IfOk result (λ n. n ≤ length buf.new) }
-        ensures did { IfOk result (λ n. Does Did self.old (Read (take n buf.new) ∷ []) self.new) }
-        ensures none { OnErr result (DoesNothing Did self.old self.new) }
-        ensures ok { OnOk result (read_failed self.new ≡ read_failed self.old) }
-        ensures err { OnErr result (read_failed self.new ≡ true) }
-        ensures other { write_failed self.new ≡ write_failed self.old }
+        ensures few { IfOk result (λ n. n ≤ length buf.new) }
+        ensures ends { Ends Did read_failed write_failed self.old (λ n. Read (take n buf.new) ∷ []) result self.new }
         ensures end { IfOk result (λ n. n ≡ 0 → 0 < length buf.new → at_end self.new) };
 
     /// Writes a prefix of the bytes and says how many they are, at least one of a piece that has some.
     fn write(&mut self, bytes: &[u8]) -> Result<usize, Failed>
-        ensures bound { IfOk result (λ n. n ≤ length bytes.now) }
+        ensures few { IfOk result (λ n. n ≤ length bytes.now) }
         ensures some { IfOk result (λ n. 0 < length bytes.now → 0 < n) }
-        ensures did { IfOk result (λ n. Does Did self.old (Wrote (take n bytes.now) ∷ []) self.new) }
-        ensures none { OnErr result (DoesNothing Did self.old self.new) }
-        ensures ok { OnOk result (write_failed self.new ≡ write_failed self.old) }
-        ensures err { OnErr result (write_failed self.new ≡ true) }
-        ensures other { read_failed self.new ≡ read_failed self.old }
+        ensures ends { Ends Did write_failed read_failed self.old (λ n. Wrote (take n bytes.now) ∷ []) result self.new }
         ensures end { at_end self.old → at_end self.new };
 }
 
@@ -43,8 +35,7 @@ pub trait Wire {
 pub fn write_all<W: Wire>(wire: &mut W, bytes: &[u8]) -> Result<(), Failed>
     ensures ok { OnOk result (Writes W.Did wire.old bytes.now wire.new) }
     ensures err { OnErr result ((done rest : List ℕ) × Writes W.Did wire.old done wire.new × (done ++ rest ≡ bytes.now)) }
-    ensures fault { TellsFailure (W.write_failed wire.old) result (W.write_failed wire.new) }
-    ensures read { W.read_failed wire.new ≡ W.read_failed wire.old }
+    ensures faults { TellsFaults W.write_failed W.read_failed wire.old result wire.new }
     ensures end { W.at_end wire.old → W.at_end wire.new }
 {
     let mut rest = bytes;

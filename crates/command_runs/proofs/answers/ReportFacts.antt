@@ -82,13 +82,16 @@ pub texts_long : {V : Type 0} (f : V → List ℕ) (vs : List V) (brought : List
 texts_long f vs brought was = omega (arith, ap length was.2, lanes_long 0 was.0, AllZip-long AreAnswersOf brought was.0 was.1, length-map vs f)
 
 -- a delivery was brought, and its line was pushed
-pub lines_brought : {V E : Type 0} (f : V → List ℕ) (vs : List V) (i : ℕ) (v w : V) (r : Result (Unit {0}) E) (x : Plain) (l n : ℕ) (a : Answer) → i ≡ x.lane
-    → l ≡ x.lane → n ≡ x.number → v ≡ get_or vs i v → IsAnswer x.widths x.year a
-    → OnOk r (f w ≡ f v ++ line_of l n a)
+pub lines_brought : {V E : Type 0} (f : V → List ℕ) (vs : List V) (i : ℕ) (v w : V) (r : Result (Unit {0}) E) (x : Plain) (l n : ℕ) → i ≡ x.lane
+    → l ≡ x.lane → n ≡ x.number → v ≡ get_or vs i v
+    → OnOk r ((a : Answer) × IsAnswer x.widths x.year a × (f w ≡ f v ++ line_of l n a))
     → IfOk r (λ _. (brought : List (List Plain)) → x.lane < length brought → x.number ≡ length (get_or brought x.lane []) → AreLinesOf brought (map f vs)
     → AreLinesOf (with_more x.lane x brought) (map f (set vs i w)))
-lines_brought f vs i v w (Err e) x l n a is lane same at answers pushed = tt
-lines_brought f vs i v w (Ok u) x l n a is lane same at answers pushed = λ brought low number was.
+lines_brought f vs i v w (Err e) x l n is lane same at told = tt
+lines_brought f vs i v w (Ok u) x l n is lane same at told = λ brought low number was.
+    let a = told.0 in
+    let answers = told.1 in
+    let pushed = told.2 in
     let long = AllZip-long AreAnswersOf brought was.0 was.1 in
     let there : length (map f vs) ≡ length was.0 = ap length was.2 ∙ lanes_long 0 was.0 in
     let here : get_or (map f vs) x.lane [] ≡ f v = ap (λ k. get_or (map f vs) k []) (sym is)

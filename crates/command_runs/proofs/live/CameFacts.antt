@@ -1,165 +1,124 @@
--- How far a live input has come, by the steps that it takes.
-use Rattle.std.proofs.Common.{All, Global, Vec, List, None, Option, Some, [], ap, append-nil, append_assoc, arith, get_or, length, length-append, map, refl, set, subst, sym, vec_capacity, ℕ, ⊎_elim, ◌+◌, ◌++◌, ◌<◌, ◌∙◌, ◌∷◌, ◌≡◌, ◌≢◌, ◌≤◌}
-use Rattle.std.specs.List.{cons_option, slice_get}
-use Rattle.std.proofs.lemmas.Bool.{cases_eq, eq-eqb, le-ltb, lt-ltb, ne_eqb}
-use Rattle.std.proofs.lemmas.List.{length-set, map-append}
-use Rattle.std.proofs.lemmas.List.Elements.{All-append, All-nil, All-head, All-push, All-tail, All-weaker}
-use Rattle.std.proofs.lemmas.Option.{get_or_from_slice_get, slice_get-get_or, slice_get_within}
-use Rattle.lane_core.specs.declared.job.Plain.{Plain}
-use Rattle.hub_core.specs.Traffics.{HasRoom, with_more}
-use Rattle.wire_core.specs.Events.{was_read}
-use Rattle.wire_core.specs.Lines.{without_line}
-use Rattle.wire_core.proofs.PieceFacts.{lines_are_pieces}
-use Rattle.command_runs.specs.inner.Came.{AreWaiting, HasCome, IsInTurn, Past, Stands, TellsReply, Turn, replies_in, reply_of}
-use Rattle.command_runs.specs.inner.Meaning.{HoldsRecord, IsRecord}
-use Rattle.command_runs.specs.inner.Replies.{numbers_from}
-use Rattle.command_runs.specs.inner.Turns.{IsOneMore, IsRoomier}
-use Rattle.command_runs.specs.live.Replies.{Meant, Numbers, Reply, most_rows, replies_from}
-use Rattle.command_runs.specs.live.Replies.Reply.{Row, Line}
-use Rattle.command_runs.specs.live.Text.{line_meant}
-use Rattle.command_runs.specs.declared.live.fault.LiveFault.{LiveFault}
-use Rattle.command_runs.specs.declared.live.fault.LiveFault.TheVariants.{NoMemory}
-use Rattle.command_runs.specs.declared.live.pending.PendingReply.{PendingReply}
-use Rattle.command_runs.specs.declared.live.pending.PendingReply.TheVariants as pending
-use Rattle.command_runs.specs.declared.live.record.LineFault.{LineFault}
+-- How far a live input has come, by the lines that it takes and the deliveries that it is brought.
 use Rattle.command_runs.specs.declared.live.record.LineFault.TheVariants as line_fault
-use Rattle.command_runs.specs.declared.live.record.Record.{Record}
+use Rattle.command_runs.specs.declared.live.record.Notice.TheVariants as notice
+use Rattle.command_runs.specs.declared.live.pending.PendingReply.TheVariants as pending
 use Rattle.command_runs.specs.declared.live.record.Record.TheVariants as read
-use Rattle.command_runs.specs.declared.live.waiting.Waiting.{Waiting}
-use Rattle.command_runs.proofs.live.LaneFacts.{brought_more, one_more_row, roomier, still_in_turn}
-use Rattle.command_runs.proofs.live.ListFacts.{Grows, get_at, got_after, got_grown, grows_more, grows_same, more_here, more_other, set_each}
-use Rattle.command_runs.proofs.live.LogFacts.{answers_weaker, front_weaker, prompt_weaker}
+use Rattle.command_runs.proofs.live.Words.{AllZip, AreOfRows, AreWaiting, HasCome, Event, HasMoved, HasRoom, Held, HoldsRecord, IsOneMore, IsPending, IsRecord, KeepsReplies, List, Meant, NoMemory, Notice, Option, Past, PendingReply, Plain, Record, Row, Some, TakesLines, Turn, Waiting, WriteFault, [], ap, append_assoc, arith, beside-append, cases_eq, cons_option, counts, eq-eqb, get_or, le-ltb, length, length-append, line_meant, lines_are_pieces, lt-ltb, most_rows, ne_eqb, numbers_from, one_later, refl, replies_from, set, slice_get, slice_get_within, subst, sym, was_read, was_written, with_more, without_line, ℕ, ⊎_elim, ◌++◌, ◌<◌, ◌∙◌, ◌∷◌, ◌≡◌, ◌≢◌, ◌≤◌}
 use Rattle.command_runs.proofs.live.FieldsFacts.{record_meant}
+use Rattle.command_runs.proofs.live.LaneFacts.{FirstsStay, firsts_same, moved, same_first, still_pending}
+use Rattle.command_runs.proofs.live.ListFacts.{Adds, Grows, adds_none, adds_one, got_after, got_grown, grown, grows_same}
 use Rattle.command_runs.proofs.live.ReplyFacts.{numbers_more, replies_more}
 
--- ---- more rows and deliveries
+-- what is so of more rows and deliveries is so of these
+of_fewer : (p : Past) (given : List (List (List ℕ))) (brought : List (List Plain)) → Grows p.given given → Grows p.brought brought
+    → AreOfRows (record p { given = given; brought = brought }) → AreOfRows p
+of_fewer p given brought more others are lane number widths x got came =
+    are lane number widths x (got_grown p.given given lane number widths more got) (got_grown p.brought brought lane number x others came)
 
-module _ (p : Past) (given : List (List (List ℕ))) (brought : List (List Plain)) (more : Grows p.given given) (others : Grows p.brought brought) where
-  tells_grow : (r : Reply) (t : List ℕ) → TellsReply p.manner p.given p.brought r t → TellsReply p.manner given brought r t
-  tells_grow (Row lane number widths) t is = let x = is.1 in
-      (got_grown p.given given lane number widths more is.0, (x.0, x.1, got_grown p.brought brought lane number x.0 others x.2, x.3, x.4))
-  tells_grow (Line told) t is = is
+-- ---- the replies to a line
 
-  stands_grow : {ended : _} {stopped : Option LiveFault} → Stands p ended stopped → Stands (record p { given = given; brought = brought }) ended stopped
-  stands_grow s = record {
-    prompt = prompt_weaker _ _ tells_grow (replies_in p) p.events s.prompt;
-    front = front_weaker _ _ tells_grow (replies_in p) p.events s.front;
-    ended = s.ended;
-    answered = λ is. answers_weaker _ _ tells_grow _ _ (s.answered is);
-  }
-
--- a reply stays what it is when its lane gets more rows
-same_reply : (p : Past) (lanes : List Waiting) (lane : ℕ) (row : List ℕ) → AreWaiting p lanes → lane < length p.given → (r : PendingReply) → IsInTurn lanes r
-    → reply_of (with_more lane row p.given) r ≡ reply_of p.given r
-same_reply p lanes lane row a low (pending.Row l number) is =
-    let w = get_at lanes l is.0 in
-    let i = a.each l w.0 w.1 in
-    let old = slice_get-get_or (get_or p.given l []) number [] (omega (arith, (is.1 w.0 w.1).1, i.next)) in
-    ap (Row l number) (get_or_from_slice_get _ number _ [] (got_grown p.given (with_more lane row p.given) l number _ (grows_more p.given lane row low) old))
-same_reply p lanes lane row a low (pending.Message l text) is = refl
-same_reply p lanes lane row a low (pending.Refused l fault) is = refl
-
-same_replies : (p : Past) (lanes : List Waiting) (lane : ℕ) (row : List ℕ) → AreWaiting p lanes → lane < length p.given → (rs : List PendingReply)
-    → All (IsInTurn lanes) rs → map (reply_of (with_more lane row p.given)) rs ≡ map (reply_of p.given) rs
-same_replies p lanes lane row a low [] each = refl
-same_replies p lanes lane row a low (r ∷ rs) each =
-    let here = same_reply p lanes lane row a low r (All-head (IsInTurn lanes) r rs each) in
-    let rest = same_replies p lanes lane row a low rs (All-tail (IsInTurn lanes) r rs each) in cc
-
--- ---- lines
-
--- these replies are pending for what a record means, whatever the lanes' next numbers are, and more rows are given
-abbrev IsFor : Past → Record → List (List (List ℕ)) → List PendingReply → Type 0
-IsFor p r given rs = (next : Numbers) (m : Option Meant) → ((l : ℕ) → next l ≡ length (get_or p.given l [])) → IsRecord p.lanes r m
-    → (replies_from next (cons_option m []) ≡ map (reply_of given) rs) × ((l : ℕ) → numbers_from next (cons_option m []) l ≡ length (get_or given l []))
+-- these are pending for what a record means, and more rows are given
+abbrev pub IsFor : Past → Record → List (List (List ℕ)) → List Waiting → List PendingReply → Type 0
+IsFor p r given lanes rs = (m : Option Meant) → IsRecord p.terms.lanes r m
+    → AllZip (IsPending given lanes) rs (replies_from (counts p.given) (cons_option m [])) × (numbers_from (counts p.given) (cons_option m []) ≡ counts given)
 
 -- a row under its lane's next number
-row_for : (p : Past) (lane number : ℕ) (row : List ℕ) → lane < length p.given → number ≡ length (get_or p.given lane []) → number < most_rows
-    → IsFor p (read.Row lane row) (with_more lane row p.given) (pending.Row lane number ∷ [])
-row_for p lane number row low is left = λ next m same means.
+row_for : (p : Past) (lanes : List Waiting) (lane number : ℕ) (row : List ℕ) → AreWaiting p.terms.lanes (with_more lane row p.given) p.brought lanes
+    → lane < length p.given → number ≡ counts p.given lane → number < most_rows → length (get_or p.brought lane []) ≤ number
+    → IsFor p (read.Row lane row) (with_more lane row p.given) lanes (pending.Row lane number ∷ [])
+row_for p lanes lane number row waiting low is left behind = λ m means.
     let new = with_more lane row p.given in
-    let here = more_here p.given lane row low in
-    let widths : get_or (get_or new lane []) number [] ≡ row = get_or_from_slice_get (get_or new lane []) number row []
-    (ap (λ rows. slice_get rows number) here ∙ got_after (get_or p.given lane []) (row ∷ []) 0 number row (omega (arith, is)) refl) in
-    let at = same lane in
-    rw (means.0, lt-ltb (next lane) most_rows (omega (arith, at, is, left))) (
-      cc (at, is, widths),
-      λ l. ⊎_elim
-          (λ (e : l ≡ lane). rw (eq-eqb l lane e) (ap (λ k. next k + 1) e
-          ∙ omega (arith, at, ap length here, length-append (get_or p.given lane []) (row ∷ [])) ∙ ap (λ k. length (get_or new k [])) (sym e)))
-          (λ (e : l ≢ lane). rw (ne_eqb l lane e) (same l ∙ ap length (sym (more_other p.given lane l row e))))
-          (cases_eq l lane),
-    )
+    let a = adds_one lane row p.given low in
+    let got : slice_get (get_or new lane []) number ≡ Some row =
+    ap (λ rows. slice_get rows number) a.here ∙ got_after (get_or p.given lane []) (row ∷ []) 0 number row (omega (arith, is)) refl in
+    let late : (w : Waiting) → slice_get lanes lane ≡ Some w → w.first ≤ number = λ w at.
+    let i = waiting.each lane w at in omega (arith, behind, i.first, ap length i.whole, length-append i.written w.deliveries.items) in
+    let one : (l : ℕ) → one_later lane (counts p.given) l ≡ counts new l = λ l. ⊎_elim
+    (λ (e : l ≡ lane). rw (eq-eqb l lane e, e) (omega (arith, ap length a.here, length-append (get_or p.given lane []) (row ∷ []))))
+    (λ (e : l ≢ lane). rw (ne_eqb l lane e) (ap length (sym (a.others l e))))
+    (cases_eq l lane) in
+    rw (means.0, lt-ltb (counts p.given lane) most_rows (omega (arith, is, left)))
+    (((row, ap (λ n. Row lane n row) (sym is), got, omega (arith, low, a.count, waiting.rows, waiting.count), late), tt), λ i l. one l i)
 
--- what is told without a number
-pub message_for : (p : Past) (lane : ℕ) (text : Vec ℕ Global) → IsFor p (read.Message lane text) p.given (pending.Message lane text ∷ [])
-message_for p lane text = λ next m same means. rw means (refl, same)
+-- none of a line without a byte, and what is reported of a record that is no row, or whose lane has had all its numbers
+pub none_for : (p : Past) (lanes : List Waiting) → IsFor p read.Blank p.given lanes []
+none_for p lanes = λ m means. rw means (tt, refl)
 
-pub refused_for : (p : Past) (lane : Option ℕ) (fault : LineFault) → IsFor p (read.Refused lane fault) p.given (pending.Refused lane fault ∷ [])
-refused_for p lane fault = λ next m same means. rw means (refl, same)
+pub notice_for : (p : Past) (lanes : List Waiting) (n : Notice) → IsFor p (read.Notice n) p.given lanes (pending.Notice n ∷ [])
+notice_for p lanes n = λ m means. rw means ((refl, tt), refl)
 
--- one whose lane has had all its numbers
-pub spent_for : (p : Past) (lane : ℕ) (row : List ℕ) → length (get_or p.given lane []) ≡ most_rows
-    → IsFor p (read.Row lane row) p.given (pending.Refused (Some lane) line_fault.Spent ∷ [])
-spent_for p lane row all = λ next m same means. rw (means.0, le-ltb (next lane) most_rows (omega (arith, same lane, all))) (refl, same)
+pub spent_for : (p : Past) (lanes : List Waiting) (lane : ℕ) (row : List ℕ) → counts p.given lane ≡ most_rows
+    → IsFor p (read.Row lane row) p.given lanes (pending.Notice (notice.Refused (Some lane) line_fault.Spent) ∷ [])
+spent_for p lanes lane row all = λ m means. rw (means.0, le-ltb (counts p.given lane) most_rows (omega (arith, all))) ((refl, tt), refl)
+
+-- ---- steps
+
+-- what is kept of replies stays in the same turn, if no line is taken and nothing written
+pub still_kept : {p : Past} {lanes : List Waiting} {rs : List PendingReply} {h : Held} (k : KeepsReplies p lanes rs h) (events : List Event)
+    (brought : List (List Plain)) (later : List Waiting) (now : Held) → TakesLines (was_read events) k.taken now → was_written events ≡ was_written p.events
+    → FirstsStay lanes later → Grows p.brought brought → KeepsReplies (record p { events = events; brought = brought }) later rs now
+still_kept {p} {lanes} {rs} k events brought later now lines same stay more = record {
+  taken = k.taken;
+  done = k.done;
+  left = k.left;
+  lines = lines;
+  replied = k.replied;
+  pending = still_pending p.given p.given lanes later (grows_same p.given) stay rs k.left k.pending;
+  numbers = k.numbers;
+  answers = λ are. rw same (k.answers (of_fewer p p.given brought (grows_same p.given) more are));
+}
 
 module _ (p : Past) (t : Turn) (c : HasCome p t) where
   -- a line was taken
-  came_line : (lanes : List Waiting) (given : List (List (List ℕ))) (rs : List PendingReply) (count : ℕ) (r : Record) → HoldsRecord (length t.lanes) t.lines count r
-      → AreWaiting (record p { given = given }) lanes → All (IsInTurn lanes) (t.replies ++ rs) → Grows p.given given
-      → map (reply_of given) t.replies ≡ map (reply_of p.given) t.replies → IsFor p r given rs
-      → HasCome (record p { given = given }) (record t { lanes = lanes; replies = t.replies ++ rs; lines = without_line t.lines })
-  came_line lanes given rs count r found waiting turn more same for =
-      let meant = line_meant p.lanes in
+  came_line : (lanes : List Waiting) (given : List (List (List ℕ))) (all rs : List PendingReply) (count : ℕ) (r : Record) → all ≡ t.replies ++ rs
+      → HoldsRecord (length t.lanes) t.lines count r → AreWaiting p.terms.lanes given p.brought lanes → Grows p.given given → FirstsStay t.lanes lanes
+      → IsFor p r given lanes rs → HasCome (record p { given = given }) (record t { lanes = lanes; replies = all; lines = without_line t.lines })
+  came_line lanes given all rs count r is found waiting more stay for =
+      let meant = line_meant p.terms.lanes in
+      let fewer : AreOfRows (record p { given = given }) → AreOfRows p = of_fewer p given p.brought more (grows_same p.brought) in
       record {
         waiting = waiting;
-        turn = turn;
-        few = c.few;
-        stands = stands_grow p given p.brought more (grows_same p.brought) c.stands;
         keeps = λ on.
             let k = c.keeps on in
             let held = subst (λ n. HoldsRecord n t.lines count r) c.waiting.count found in
             let line = lines_are_pieces.taken (was_read p.events) k.taken t.lines held.0 k.lines held.1 in
-            let is = for _ (meant line.0) k.numbers (record_meant p.lanes t.lines count r line.0 held line.1) in
+            let new = replies_from (counts p.given) (cons_option (meant line.0) []) in
+            let are = for (meant line.0) (record_meant p.terms.lanes t.lines count r line.0 held line.1) in
             record {
               taken = k.taken ++ line.0 ∷ [];
               done = k.done;
+              left = k.left ++ new;
               lines = line.2;
-              replied = cc (
-                replies_more meant k.taken (line.0 ∷ []),
-                k.replied,
-                is.0,
-                same,
-                map-append (reply_of given) t.replies rs,
-                append_assoc k.done (map (reply_of given) t.replies) (map (reply_of given) rs),
-              );
-              numbers = λ l. ap (λ next. next l) (numbers_more meant k.taken (line.0 ∷ [])) ∙ is.1 l;
-              answers = answers_weaker _ _ (tells_grow p given p.brought more (grows_same p.brought)) k.done _ k.answers;
+              replied = replies_more meant k.taken (line.0 ∷ []) (counts p.given) k.numbers ∙ ap (λ ys. ys ++ new) k.replied ∙ append_assoc k.done k.left new;
+              pending = rw is (beside-append (IsPending given lanes) t.replies rs k.left new
+                  (still_pending p.given given t.lanes lanes more stay t.replies k.left k.pending) are.0);
+              numbers = numbers_more meant k.taken (line.0 ∷ []) (counts p.given) k.numbers ∙ are.1;
+              answers = λ h. k.answers (fewer h);
             };
+        stands = λ h. c.stands (fewer h);
       }
 
-  -- one without a byte
-  pub came_blank : (count : ℕ) → HoldsRecord (length t.lanes) t.lines count read.Blank → HasCome p (record t { lines = without_line t.lines })
-  came_blank count found = subst (λ rs. HasCome p (record t { replies = rs; lines = without_line t.lines })) (append-nil t.replies)
-      (came_line t.lanes p.given [] count read.Blank found c.waiting (All-append (IsInTurn t.lanes) t.replies [] c.turn (All-nil (IsInTurn t.lanes)))
-      (grows_same p.given) refl (λ next m same means. rw means (refl, same)))
-
-  -- one that gets no ticket
-  pub came_unnumbered : (all : List PendingReply) (reply : PendingReply) (count : ℕ) (r : Record) → all ≡ t.replies ++ reply ∷ [] → IsInTurn t.lanes reply
-      → HoldsRecord (length t.lanes) t.lines count r → IsFor p r p.given (reply ∷ []) → HasCome p (record t { replies = all; lines = without_line t.lines })
-  came_unnumbered all reply count r is turn found for = subst (λ rs. HasCome p (record t { replies = rs; lines = without_line t.lines })) (sym is)
-      (came_line t.lanes p.given (reply ∷ []) count r found c.waiting (All-push (IsInTurn t.lanes) t.replies reply c.turn turn) (grows_same p.given) refl for)
+  -- a line of no row
+  pub came_plain : (all rs : List PendingReply) (count : ℕ) (r : Record) → all ≡ t.replies ++ rs → HoldsRecord (length t.lanes) t.lines count r
+      → IsFor p r p.given t.lanes rs → HasCome p (record t { replies = all; lines = without_line t.lines })
+  came_plain all rs count r is found for = came_line t.lanes p.given all rs count r is found c.waiting (grows_same p.given) (firsts_same t.lanes) for
 
   module _ (lane : ℕ) (w v : Waiting) (at : slice_get t.lanes lane ≡ Some w) where
-    -- a lane has more room
-    pub came_roomier : IsRoomier w v → HasCome p (record t { lanes = set t.lanes lane v })
-    came_roomier r = record {
-      waiting = roomier p t.lanes c.waiting lane w v at r;
-      turn = All-weaker (IsInTurn t.lanes) (IsInTurn (set t.lanes lane v)) (still_in_turn p t.lanes c.waiting lane w v at r.first (omega (arith, r.next))) t.replies c.turn;
-      few = c.few;
-      keeps = c.keeps;
-      stands = c.stands;
-    }
+    -- a lane has changed, by deliveries or room
+    pub came_lane : (more : List Plain) (brought : List (List Plain)) → Adds lane more p.brought brought → HasMoved 0 more w v
+        → length (get_or brought lane []) ≤ counts p.given lane → HasCome (record p { brought = brought }) (record t { lanes = set t.lanes lane v })
+    came_lane more brought a m behind =
+        let i = c.waiting.each lane w at in
+        let others = grown lane more p.brought brought a in
+        record {
+          waiting = moved c.waiting lane w v at [] more p.given brought (adds_none lane p.given) a m (omega (arith, m.room, m.next, m.first, i.room)) behind;
+          keeps = λ on. let k = c.keeps on in
+              still_kept k p.events brought (set t.lanes lane v) t.lines k.lines refl (same_first c.waiting lane w v at m.first) others;
+          stands = λ h. c.stands (of_fewer p p.given brought (grows_same p.given) others h);
+        }
+
+    pub came_roomier : HasMoved 0 [] w v → HasCome p (record t { lanes = set t.lanes lane v })
+    came_roomier m = came_lane [] p.brought (adds_none lane p.brought) m (c.waiting.each lane w at).behind
 
     -- a row was taken under its lane's next number
     pub came_row : (all : List PendingReply) (count number : ℕ) (row : List ℕ) → all ≡ t.replies ++ pending.Row lane number ∷ [] → IsOneMore number w v
@@ -167,50 +126,21 @@ module _ (p : Past) (t : Turn) (c : HasCome p t) where
         × HasCome (record p { given = with_more lane row p.given }) (record t { lanes = set t.lanes lane v; replies = all; lines = without_line t.lines })
     came_row all count number row is o found =
         let i = c.waiting.each lane w at in
-        let low : lane < length t.lanes = slice_get_within t.lanes lane w at in
-        let there : lane < length p.given = omega (arith, low, c.waiting.rows, c.waiting.count) in
-        let new = set t.lanes lane v in
-        let fits : IsInTurn new (pending.Row lane number) = (
-          omega (arith, low, length-set t.lanes lane v),
-          λ x got. set_each (λ k u. k ≡ lane → (u.first ≤ number) × (number < u.next)) t.lanes lane v
-              (λ e. (omega (arith, o.first, o.same, i.behind), omega (arith, o.next, o.same))) (λ k u other at e. absurd (other e)) lane x got refl,
-        ) in
-        let still = All-weaker (IsInTurn t.lanes) (IsInTurn new) (still_in_turn p t.lanes c.waiting lane w v at o.first (omega (arith, o.next))) t.replies c.turn in (
+        let there : lane < length p.given = omega (arith, slice_get_within t.lanes lane w at, c.waiting.rows, c.waiting.count) in
+        let new = with_more lane row p.given in
+        let a = adds_one lane row p.given there in
+        let waiting = moved c.waiting lane w v at (row ∷ []) [] new p.brought a (adds_none lane p.brought) o.moved o.room
+        (omega (arith, i.behind, ap length a.here, length-append (get_or p.given lane []) (row ∷ []))) in (
           (there, omega (arith, o.left, o.same, i.next)),
-          subst (λ rs. HasCome (record p { given = with_more lane row p.given }) (record t { lanes = new; replies = rs; lines = without_line t.lines })) (sym is)
-              (came_line new (with_more lane row p.given) (pending.Row lane number ∷ []) count (read.Row lane row) found
-              (one_more_row p t.lanes c.waiting lane w v at number row o) (All-push (IsInTurn new) t.replies (pending.Row lane number) still fits)
-              (grows_more p.given lane row there) (same_replies p t.lanes lane row c.waiting there t.replies c.turn)
-              (row_for p lane number row there (o.same ∙ i.next) o.left)),
+          came_line (set t.lanes lane v) new all (pending.Row lane number ∷ []) count (read.Row lane row) is found waiting (grown lane (row ∷ []) p.given new a)
+              (same_first c.waiting lane w v at o.moved.first)
+              (row_for p (set t.lanes lane v) lane number row waiting there (o.same ∙ i.next) o.left (omega (arith, i.behind, o.same, i.next))),
         )
 
-    -- a delivery was brought
-    pub came_brought : (x : Plain) → v.first ≡ w.first → v.next ≡ w.next → v.deliveries.items ≡ w.deliveries.items ++ x ∷ []
-        → vec_capacity w.deliveries ≤ vec_capacity v.deliveries → length (get_or p.brought lane []) < length (get_or p.given lane [])
-        → HasCome (record p { brought = with_more lane x p.brought }) (record t { lanes = set t.lanes lane v })
-    came_brought x first next ds room owed =
-        let more = grows_more p.brought lane x (omega (arith, slice_get_within t.lanes lane w at, c.waiting.deliveries, c.waiting.count)) in
-        record {
-          waiting = brought_more p t.lanes c.waiting lane w v at x first next ds room owed;
-          turn = All-weaker (IsInTurn t.lanes) (IsInTurn (set t.lanes lane v)) (still_in_turn p t.lanes c.waiting lane w v at first (omega (arith, next))) t.replies c.turn;
-          few = c.few;
-          keeps = λ on. let k = c.keeps on in record {
-            taken = k.taken;
-            done = k.done;
-            lines = k.lines;
-            replied = k.replied;
-            numbers = k.numbers;
-            answers = answers_weaker _ _ (tells_grow p p.given (with_more lane x p.brought) (grows_same p.given) more) k.done _ k.answers;
-          };
-          stands = stands_grow p p.given (with_more lane x p.brought) (grows_same p.given) more c.stands;
-        }
-
   -- memory was refused
-  pub came_refusal : t.stopped ≡ None → HasCome p (record t { stopped = Some NoMemory })
-  came_refusal none = record {
+  pub came_refusal : t.stopped ≢ Some WriteFault → HasCome p (record t { stopped = Some NoMemory })
+  came_refusal other = record {
     waiting = c.waiting;
-    turn = c.turn;
-    few = c.few;
-    keeps = λ _. c.keeps (λ is. cc (none, is));
-    stands = record { prompt = c.stands.prompt; front = c.stands.front; ended = c.stands.ended; answered = λ is. absurd (let e : ⊥ = cc is in e) };
+    keeps = λ _. c.keeps other;
+    stands = λ h. let s = c.stands h in record { prompt = s.prompt; front = s.front; ended = s.ended; answered = λ is. cc };
   }

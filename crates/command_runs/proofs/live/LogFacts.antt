@@ -1,13 +1,5 @@
 -- A log of reads and writes by which each record is answered, as it grows.
-use Rattle.std.proofs.Common.{List, [], ap, append-nil, append_assoc, refl, subst, sym, ℕ, ⊎_elim, inl, inr, ◌++◌, ◌∙◌, ◌∷◌, ◌≡◌, ◌⊎◌}
-use Rattle.std.specs.Bool.{⊤}
-use Rattle.std.specs.List.{concat}
-use Rattle.std.proofs.lemmas.Grind.{flat_map-append}
-use Rattle.wire_core.specs.Events.{Event, bytes_read, bytes_written, was_read, was_written, writes_of}
-use Rattle.wire_core.specs.Events.Event.{Read, Wrote}
-use Rattle.wire_core.specs.Lines.{pieces_of}
-use Rattle.command_runs.specs.live.Answering.{AnswersBy, BeginsBy, IsFrontBy, IsPromptBy, whole_lines}
-use Rattle.command_runs.proofs.live.ListFacts.{zip_weaker}
+use Rattle.command_runs.proofs.live.Words.{AnswersBy, BeginsBy, Event, IsFrontBy, IsPromptBy, List, Read, Wrote, [], ap, append-nil, append_assoc, bytes_read, bytes_written, concat, flat_map-append, inl, inr, pieces_of, refl, subst, sym, was_read, was_written, whole_lines, writes_of, ℕ, ⊎_elim, ◌++◌, ◌∙◌, ◌∷◌, ◌≡◌, ◌⊎◌}
 
 -- a list and one more item, cut in two
 abbrev CutLater : {X : Type 0} → List X → X → List X → List X → Type 0
@@ -93,16 +85,3 @@ module _ {X : Type 0} (L : X → List ℕ → Type 0) where
         let first : Begun now = (then.0, then.1, then.2, (concat pieces ++ rest) ++ then.3, then.4, then.5, then.6 ∙ append_assoc (was_written now) (concat pieces ++ rest) then.3) in
         subst (λ es. IsPromptBy L records es × IsFrontBy L records es) (append_assoc events (Wrote piece ∷ []) (writes_of pieces))
         (writes_more now pieces rest (prompt_more events (Wrote piece) prompt (λ bytes is. cc is)) (front_more events (Wrote piece) front first) then)
-
-module _ {X : Type 0} (L M : X → List ℕ → Type 0) (weaker : (x : X) (t : List ℕ) → L x t → M x t) where
-  pub answers_weaker : (xs : List X) (text : List ℕ) → AnswersBy L xs text → AnswersBy M xs text
-  answers_weaker xs text a = (a.0, zip_weaker (λ x. ⊤) L M (λ x t _ is. weaker x t is) xs a.0 (λ k d low. tt) a.1, a.2)
-
-  pub prompt_weaker : (records : List (List ℕ) → List X) (events : List Event) → IsPromptBy L records events → IsPromptBy M records events
-  prompt_weaker records events was = λ before after bytes is. answers_weaker _ _ (was before after bytes is)
-
-  pub front_weaker : (records : List (List ℕ) → List X) (events : List Event) → IsFrontBy L records events → IsFrontBy M records events
-  front_weaker records events was = λ before after is.
-      let b = was before after is in
-      let a = answers_weaker b.0 (concat b.2) (b.2, b.5, refl) in
-      (b.0, b.1, a.0, b.3, b.4, a.1, sym a.2 ∙ b.6)

@@ -1,9 +1,5 @@
 -- Replies to records as more come.
-use Rattle.std.proofs.Common.{◌≡◌, ◌++◌, ◌∙◌, ◌∷◌, List, None, Option, [], ap, append-nil, refl, ℕ}
-use Rattle.std.specs.List.{cons_option, filter_map}
-use Rattle.std.proofs.lemmas.List.Elements.{filter_map-append}
-use Rattle.command_runs.specs.live.Replies.{Meant, Numbers, numbers_after, replies_from, replies_to, reply_to}
-use Rattle.command_runs.specs.inner.Replies.{numbers_after_lines, numbers_from}
+use Rattle.command_runs.proofs.live.Words.{List, Meant, Numbers, Option, [], ap, filter_map, filter_map-append, numbers_after, numbers_after_lines, numbers_from, refl, replies_from, replies_to, reply_to, ℕ, ◌++◌, ◌∙◌, ◌∷◌, ◌≡◌}
 
 replies_append : (next : Numbers) (ms ns : List Meant) → replies_from next (ms ++ ns) ≡ replies_from next ms ++ replies_from (numbers_from next ms) ns
 replies_append next [] ns = refl
@@ -14,18 +10,14 @@ after_append next [] ns = refl
 after_append next (m ∷ ms) ns = after_append (numbers_after next (reply_to next m)) ms ns
 
 module _ (meant : List ℕ → Option Meant) where
-  -- more lines
-  pub replies_more : (lines more : List (List ℕ)) → replies_to meant (lines ++ more) ≡ replies_to meant lines
-      ++ replies_from (numbers_after_lines meant lines) (filter_map meant more)
-  replies_more lines more = ap (replies_from (λ lane. 0)) (filter_map-append meant lines more)
+  -- more lines, from the next numbers on
+  pub replies_more : (lines more : List (List ℕ)) (next : Numbers) → numbers_after_lines meant lines ≡ next
+      → replies_to meant (lines ++ more) ≡ replies_to meant lines ++ replies_from next (filter_map meant more)
+  replies_more lines more next is = ap (replies_from (λ lane. 0)) (filter_map-append meant lines more)
       ∙ replies_append (λ lane. 0) (filter_map meant lines) (filter_map meant more)
+      ∙ ap (λ n. replies_to meant lines ++ replies_from n (filter_map meant more)) is
 
-  pub numbers_more : (lines more : List (List ℕ)) → numbers_after_lines meant (lines ++ more)
-      ≡ numbers_from (numbers_after_lines meant lines) (filter_map meant more)
-  numbers_more lines more = ap (numbers_from (λ lane. 0)) (filter_map-append meant lines more)
-      ∙ after_append (λ lane. 0) (filter_map meant lines) (filter_map meant more)
-
-  -- a line without a record
-  pub no_reply : (lines : List (List ℕ)) (line : List ℕ) → meant line ≡ None → replies_to meant (lines ++ line ∷ []) ≡ replies_to meant lines
-  no_reply lines line none = replies_more lines (line ∷ []) ∙ ap
-      (λ o. replies_to meant lines ++ replies_from (numbers_after_lines meant lines) (cons_option o [])) none ∙ append-nil (replies_to meant lines)
+  pub numbers_more : (lines more : List (List ℕ)) (next : Numbers) → numbers_after_lines meant lines ≡ next
+      → numbers_after_lines meant (lines ++ more) ≡ numbers_from next (filter_map meant more)
+  numbers_more lines more next is = ap (numbers_from (λ lane. 0)) (filter_map-append meant lines more)
+      ∙ after_append (λ lane. 0) (filter_map meant lines) (filter_map meant more) ∙ ap (λ n. numbers_from n (filter_map meant more)) is

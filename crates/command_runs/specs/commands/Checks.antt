@@ -1,5 +1,5 @@
 -- The command `check`.
-use Rattle.std.specs.Prelude.{◌≡◌, ℕ}
+use Rattle.std.specs.Prelude.{◌≡◌}
 use Rattle.csv_records.specs.check.Checks.{check_meaning, check_report}
 use Rattle.element_core.specs.Terms.{Terms}
 use Rattle.command_runs.specs.Runs.{Command, RefusesRecords, WritesOnce, WritesRecords}

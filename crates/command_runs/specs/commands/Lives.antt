@@ -2,7 +2,7 @@
 use Rattle.std.specs.Prelude.{◌≡◌, Bool, List, Result, Ok, Err}
 use Rattle.wire_core.specs.Events.{Event}
 use Rattle.command_runs.specs.live.Lived.{Lived}
-use Rattle.command_runs.specs.declared.live.answering.LiveTerms.{LiveTerms}
+use Rattle.command_runs.specs.declared.live.terms.LiveTerms.{LiveTerms}
 use Rattle.command_runs.specs.declared.live.fault.LiveFault.{LiveFault}
 use Rattle.command_runs.specs.Faults.{of_live}
 use Rattle.command_runs.specs.declared.fault.CommandFault.{CommandFault}

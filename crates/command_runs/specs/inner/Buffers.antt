@@ -1,6 +1,6 @@
 -- A sink behind a buffer.
-use Rattle.std.specs.Prelude.{ℕ, List, Option}
-use Rattle.std.specs.Io.KnownBytes.{append_known}
+use Rattle.std.specs.Prelude.{◌≡◌, ℕ, Bool, true, List, Option, Result, IsErr, IsTrue, OnErr, OnOk}
+use Rattle.std.specs.Io.KnownBytes.{Keeps, append_known}
 
 -- a sink, and the bytes that wait for it
 pub record Waiting (W : Type 0) : Type 0 where
@@ -10,3 +10,14 @@ pub record Waiting (W : Type 0) : Type 0 where
 -- what the sink took and then what waits, if that is known
 abbrev pub taken_and_waiting : {W : Type 0} → (W → Option (List ℕ)) → Waiting W → Option (List ℕ)
 taken_and_waiting taken s = append_known (taken s.sink) s.waiting
+
+-- what the sink took and then what waits is what it was
+abbrev pub KeepsBytes : {W : Type 0} → (W → Option (List ℕ)) → Waiting W → Waiting W → Type 0
+KeepsBytes taken old new = Keeps (taken_and_waiting taken old) (taken_and_waiting taken new)
+
+-- what a call tells of a failure of its sink: that it has failed from then on if the call failed, and else no more than before; and one that has
+-- failed fails again
+pub record TellsFailure {W E : Type 0} (failed : W → Bool) (old : W) (result : Result (Unit {0}) E) (new : W) : Type 0 where
+  pub ok : OnOk result (failed new ≡ failed old)
+  pub err : OnErr result (failed new ≡ true)
+  pub again : IsTrue (failed old) → IsErr result

@@ -1,41 +1,37 @@
 -- How far a live input has come.
-use Rattle.std.specs.Prelude.{◌≡◌, ◌≢◌, ◌<◌, ◌≤◌, ◌-◌, ◌+◌, ◌++◌, Bool, true, ⊤, ℕ, All, List, [], Option, Some, Result, Ok, Err, length, map, slice_get, slice_index_or, vec_capacity}
+use Rattle.std.specs.Prelude.{◌≡◌, ◌≢◌, ◌<◌, ◌≤◌, ◌-◌, ◌+◌, ◌++◌, Bool, true, ⊤, ℕ, List, [], Option, Some, Result, Ok, Err, length, replicate, slice_get, slice_index_or, vec_capacity}
+use Rattle.std.specs.List.{AllZip}
+use Rattle.std.specs.declared.alloc.AllocError.{AllocError}
 use Rattle.scan_core.specs.Answers.{IsAnswer}
 use Rattle.scan_core.specs.declared.answer.Answer.{Answer}
-use Rattle.std.specs.declared.alloc.AllocError.{AllocError}
 use Rattle.lane_core.specs.declared.job.Plain.{Plain}
 use Rattle.hub_core.specs.Traffics.{Gives, History, Stays}
 use Rattle.wire_core.specs.Events.{Event, was_read, was_written}
 use Rattle.wire_core.specs.Lines.{Held, TakesLines, without_line}
-use Rattle.command_runs.specs.live.Answering.{AnswersBy, IsFrontBy, IsPromptBy, whole_lines}
-use Rattle.command_runs.specs.live.Replies.{Reply, unnumbered_line, replies_to}
-use Rattle.command_runs.specs.inner.Replies.{numbers_after_lines}
-use Rattle.command_runs.specs.live.Replies.Reply.{Row, Line}
-use Rattle.command_runs.specs.live.Replies.Told.{Refusal, Message}
 use Rattle.command_runs.specs.answers.Reports.{numbered_line}
-use Rattle.command_runs.specs.live.Text.{HasEnded, IsTold, line_fault_text, line_meant}
-use Rattle.command_runs.specs.declared.live.manner.Manner.{Manner}
+use Rattle.command_runs.specs.live.Answering.{AnswersBy}
+use Rattle.command_runs.specs.live.Replies.{Numbers, Reply, Told, replies_to}
+use Rattle.command_runs.specs.live.Replies.Reply.{Row, Line}
+use Rattle.command_runs.specs.live.Text.{AnsweredWhole, HasEnded, IsFront, IsPrompt, IsReply, IsTold, line_meant}
+use Rattle.command_runs.specs.inner.Meaning.{told_of}
+use Rattle.command_runs.specs.inner.Replies.{numbers_after_lines}
+use Rattle.command_runs.specs.inner.Stops.{StopsFor}
 use Rattle.command_runs.specs.declared.live.fault.LiveFault.{LiveFault}
 use Rattle.command_runs.specs.declared.live.fault.LiveFault.TheVariants.{NoThread, ReadFault, WriteFault}
-use Rattle.command_runs.specs.declared.live.pending.PendingReply.{PendingReply}
-use Rattle.command_runs.specs.declared.live.pending.PendingReply.TheVariants as pending
 use Rattle.command_runs.specs.declared.live.input.Live.{Live}
 use Rattle.command_runs.specs.declared.live.input.NextLine.{NextLine}
 use Rattle.command_runs.specs.declared.live.input.NextLine.TheVariants as take
+use Rattle.command_runs.specs.declared.live.pending.PendingReply.{PendingReply}
+use Rattle.command_runs.specs.declared.live.pending.PendingReply.TheVariants as pending
+use Rattle.command_runs.specs.declared.live.terms.LiveTerms.{LiveTerms}
 use Rattle.command_runs.specs.declared.live.waiting.Waiting.{Waiting}
-use Rattle.command_runs.specs.inner.Stops.{TellsFault}
 
--- what has led to a live input: how many lanes it has and how its answers are written, what its wire did, what it gave and what it was brought
+-- what has led to a live input: what is asked for of it, what its wire did, what it gave and what it was brought
 pub record Past : Type 0 where
-  pub lanes : ℕ
-  pub manner : Manner
+  pub terms : LiveTerms
   pub events : List Event
   pub given : List (List (List ℕ))
   pub brought : List (List Plain)
-
--- what has led from this start, by these reads and writes, rows and deliveries
-abbrev pub past_from : {W : Type 0} → Live W → List Event → List (List (List ℕ)) → List (List Plain) → Past
-past_from start events given brought = record { lanes = length start.lanes.items; manner = start.manner; events = events; given = given; brought = brought }
 
 -- the lanes and the replies of a turn, what is held of the input, and why nothing more is taken
 pub record Turn : Type 0 where
@@ -55,90 +51,88 @@ pub record IsWaiting (rows : List (List ℕ)) (brought : List Plain) (w : Waitin
   pub whole : brought ≡ written ++ w.deliveries.items
   pub first : w.first ≡ length written
   pub next : w.next ≡ length rows
-  pub behind : w.first + length w.deliveries.items ≤ w.next
+  pub behind : length brought ≤ length rows
   pub room : w.next ≤ w.first + vec_capacity w.deliveries
 
--- of each lane
-pub record AreWaiting (p : Past) (lanes : List Waiting) : Type 0 where
-  pub count : length lanes ≡ p.lanes
-  pub rows : length p.given ≡ p.lanes
-  pub deliveries : length p.brought ≡ p.lanes
-  pub each : (l : ℕ) (w : Waiting) → slice_get lanes l ≡ Some w → IsWaiting (slice_index_or p.given l []) (slice_index_or p.brought l []) w
+-- of each of this many lanes
+pub record AreWaiting (n : ℕ) (given : List (List (List ℕ))) (brought : List (List Plain)) (lanes : List Waiting) : Type 0 where
+  pub count : length lanes ≡ n
+  pub rows : length given ≡ n
+  pub deliveries : length brought ≡ n
+  pub each : (l : ℕ) (w : Waiting) → slice_get lanes l ≡ Some w → IsWaiting (slice_index_or given l []) (slice_index_or brought l []) w
 
--- a number of a row is one of its lane's, from the first of the turn on, below this one
-abbrev pub IsPendingNumber : (Waiting → ℕ) → List Waiting → PendingReply → Type 0
-IsPendingNumber end lanes (pending.Row lane number) = (lane < length lanes) × ((w : Waiting) → slice_get lanes lane ≡ Some w → (w.first ≤ number) × (number < end w))
-IsPendingNumber end lanes (pending.Message lane text) = ⊤
-IsPendingNumber end lanes (pending.Refused lane fault) = ⊤
+-- each delivery is of the row of its number, under the reference year
+abbrev pub AreOfRows : Past → Type 0
+AreOfRows p = (lane number : ℕ) (widths : List ℕ) (x : Plain) → slice_get (slice_index_or p.given lane []) number ≡ Some widths
+    → slice_get (slice_index_or p.brought lane []) number ≡ Some x → (x.widths ≡ widths) × (x.year ≡ p.terms.year)
 
--- the row of a reply was given in this turn, if it has one
-abbrev pub IsInTurn : List Waiting → PendingReply → Type 0
-IsInTurn = IsPendingNumber (λ w. w.next)
-
--- and its delivery has been brought
-abbrev pub IsReady : List Waiting → PendingReply → Type 0
-IsReady = IsPendingNumber (λ w. w.first + length w.deliveries.items)
+-- how many rows of each lane were given
+abbrev pub counts : List (List (List ℕ)) → Numbers
+counts given = λ l. length (slice_index_or given l [])
 
 -- ---- replies and their lines
 
--- what a pending reply is, by the rows that were given
-abbrev pub reply_of : List (List (List ℕ)) → PendingReply → Reply
-reply_of given (pending.Row lane number) = Row lane number (slice_index_or (slice_index_or given lane []) number [])
-reply_of given (pending.Message lane text) = Line (Message lane text.items)
-reply_of given (pending.Refused lane fault) = Line (Refusal (unnumbered_line lane (line_fault_text fault)))
+-- a pending reply is this one, of a row that was given in this turn or of what is reported
+abbrev pub IsPending : List (List (List ℕ)) → List Waiting → PendingReply → Reply → Type 0
+IsPending given lanes (pending.Row lane number) r = (widths : List ℕ) × (r ≡ Row lane number widths) × (slice_get (slice_index_or given lane []) number ≡ Some widths)
+    × (lane < length lanes) × ((w : Waiting) → slice_get lanes lane ≡ Some w → w.first ≤ number)
+IsPending given lanes (pending.Notice n) r = r ≡ Line (told_of n)
+
+-- the delivery of a pending reply has been brought, if it is of a row
+abbrev pub IsReady : List Waiting → PendingReply → Type 0
+IsReady lanes (pending.Row lane number) =
+    (lane < length lanes) × ((w : Waiting) → slice_get lanes lane ≡ Some w → (w.first ≤ number) × (number < w.first + length w.deliveries.items))
+IsReady lanes (pending.Notice n) = ⊤
+
+-- what is reported, written as terms ask for
+abbrev pub IsToldBy : LiveTerms → Told → List ℕ → Type 0
+IsToldBy t = IsTold t.year t.form
 
 -- the line of a pending reply, by the deliveries that wait
-abbrev pub TellsPending : Manner → List Waiting → PendingReply → List ℕ → Type 0
-TellsPending f lanes (pending.Row lane number) text = (w : Waiting) × (x : Plain) × (a : Answer) × (slice_get lanes lane ≡ Some w) × (w.first ≤ number)
-    × (slice_get w.deliveries.items (number - w.first) ≡ Some x) × IsAnswer x.widths x.year a × (text ≡ numbered_line f.form lane number a)
-TellsPending f lanes (pending.Message lane said) text = IsTold f.year f.form (Message lane said.items) text
-TellsPending f lanes (pending.Refused lane fault) text = text ≡ unnumbered_line lane (line_fault_text fault)
+abbrev pub TellsPending : LiveTerms → List Waiting → PendingReply → List ℕ → Type 0
+TellsPending t lanes (pending.Row lane number) text = (w : Waiting) × (x : Plain) × (a : Answer) × (slice_get lanes lane ≡ Some w) × (w.first ≤ number)
+    × (slice_get w.deliveries.items (number - w.first) ≡ Some x) × IsAnswer x.widths x.year a × (text ≡ numbered_line t.form lane number a)
+TellsPending t lanes (pending.Notice n) text = IsToldBy t (told_of n) text
 
--- the line of a reply, by the rows that were given and the deliveries that were brought
-abbrev pub TellsReply : Manner → List (List (List ℕ)) → List (List Plain) → Reply → List ℕ → Type 0
-TellsReply f given brought (Row lane number widths) text = (slice_get (slice_index_or given lane []) number ≡ Some widths)
-    × ((x : Plain) × (a : Answer) × (slice_get (slice_index_or brought lane []) number ≡ Some x) × IsAnswer x.widths x.year a
-    × (text ≡ numbered_line f.form lane number a))
-TellsReply f given brought (Line told) text = IsTold f.year f.form told text
-
-abbrev pub TellsSoFar : Past → Reply → List ℕ → Type 0
-TellsSoFar p = TellsReply p.manner p.given p.brought
+-- the line of a reply
+abbrev pub IsReplyTo : LiveTerms → Reply → List ℕ → Type 0
+IsReplyTo t = IsReply t.year t.form
 
 -- what is written for lines
-abbrev pub replies_in : Past → List (List ℕ) → List Reply
-replies_in p = replies_to (line_meant p.lanes)
-
--- what was written answers these lines
-abbrev pub HasAnswered : Past → List (List ℕ) → Type 0
-HasAnswered p lines = AnswersBy (TellsSoFar p) (replies_in p lines) (was_written p.events)
+abbrev pub replies_in : LiveTerms → List (List ℕ) → List Reply
+replies_in t = replies_to (line_meant t.lanes)
 
 -- ---- reads and writes
 
 -- of the replies to the lines that were taken the first were written, and the others are pending
-pub record KeepsReplies (p : Past) (replies : List PendingReply) (h : Held) : Type 0 where
+pub record KeepsReplies (p : Past) (lanes : List Waiting) (replies : List PendingReply) (h : Held) : Type 0 where
   pub taken : List (List ℕ)
   pub done : List Reply
+  pub left : List Reply
   pub lines : TakesLines (was_read p.events) taken h
-  pub replied : replies_in p taken ≡ done ++ map (reply_of p.given) replies
-  pub numbers : (l : ℕ) → numbers_after_lines (line_meant p.lanes) taken l ≡ length (slice_index_or p.given l [])
-  pub answers : AnswersBy (TellsSoFar p) done (was_written p.events)
+  pub replied : replies_in p.terms taken ≡ done ++ left
+  pub pending : AllZip (IsPending p.given lanes) replies left
+  pub numbers : numbers_after_lines (line_meant p.terms.lanes) taken ≡ counts p.given
+  pub answers : AreOfRows p → AnswersBy (IsReplyTo p.terms) done (was_written p.events)
 
 -- what stands of reads and writes whatever comes
-pub record Stands (p : Past) (has_ended : Bool) (stopped : Option LiveFault) : Type 0 where
-  pub prompt : IsPromptBy (TellsSoFar p) (replies_in p) p.events
-  pub front : IsFrontBy (TellsSoFar p) (replies_in p) p.events
-  pub ended : has_ended ≡ true → HasEnded p.events
-  pub answered : stopped ≡ Some ReadFault → HasAnswered p (whole_lines (was_read p.events))
+pub record Stands (t : LiveTerms) (events : List Event) (has_ended : Bool) (stopped : Option LiveFault) : Type 0 where
+  pub prompt : IsPrompt t.lanes t.form t.year events
+  pub front : IsFront t.lanes t.form t.year events
+  pub ended : has_ended ≡ true → HasEnded events
+  pub answered : stopped ≡ Some ReadFault → AnsweredWhole t.lanes t.form t.year events
 
 -- a live input has come this far
 pub record HasCome (p : Past) (t : Turn) : Type 0 where
-  pub waiting : AreWaiting p t.lanes
-  pub turn : All (IsInTurn t.lanes) t.replies
-  pub few : p.lanes < 256
-  pub keeps : t.stopped ≢ Some WriteFault → KeepsReplies p t.replies t.lines
-  pub stands : Stands p t.lines.has_ended t.stopped
+  pub waiting : AreWaiting p.terms.lanes p.given p.brought t.lanes
+  pub keeps : t.stopped ≢ Some WriteFault → KeepsReplies p t.lanes t.replies t.lines
+  pub stands : AreOfRows p → Stands p.terms p.events t.lines.has_ended t.stopped
 
 -- ---- the whole
+
+-- what has led from this start, by these reads and writes, rows and deliveries
+abbrev pub past_from : {W : Type 0} → Live W → List Event → List (List (List ℕ)) → List (List Plain) → Past
+past_from start events given brought = record { terms = start.terms; events = events; given = given; brought = brought }
 
 -- from its start a live input has come this far: what its wire did, and why it has stopped
 pub record HasLived {W : Type 0} (did : W → W → List Event → Type 0) (read_failed write_failed : W → Bool) (at_end : W → Type 0) (start s : Live W)
@@ -146,11 +140,15 @@ pub record HasLived {W : Type 0} (did : W → W → List Event → Type 0) (read
   pub events : List Event
   pub were_done : did start.wire s.wire events
   pub come : HasCome (past_from start events given brought) (turn_of s)
-  pub manner : s.manner ≡ start.manner
-  pub read : TellsFault (read_failed start.wire) (read_failed s.wire) s.stopped ReadFault
-  pub write : TellsFault (write_failed start.wire) (write_failed s.wire) s.stopped WriteFault
+  pub terms : s.terms ≡ start.terms
+  pub read : StopsFor (read_failed start.wire) (read_failed s.wire) s.stopped ReadFault
+  pub write : StopsFor (write_failed start.wire) (write_failed s.wire) s.stopped WriteFault
   pub begun : s.stopped ≢ Some NoThread
   pub ended : s.lines.has_ended ≡ true → at_end s.wire
+
+-- a live input of this wire, of which nothing has been read
+abbrev pub HasBegun : {W : Type 0} → History (Live W) → LiveTerms → W → Live W → Type 0
+HasBegun came terms wire s = (s.wire ≡ wire) × (s.terms ≡ terms) × came s s (replicate terms.lanes []) (replicate terms.lanes [])
 
 -- what was taken was given
 abbrev pub TakesLine : {W : Type 0} → History (Live W) → Result NextLine AllocError → Live W → Live W → Type 0
@@ -158,6 +156,10 @@ TakesLine came (Ok (take.Row lane row)) s t = Gives came (lane, row) s t
 TakesLine came (Ok take.Line) s t = Stays came s t
 TakesLine came (Ok take.Nothing) s t = Stays came s t
 TakesLine came (Err refused) s t = Stays came s t
+
+-- what is held of the input stays, and why nothing more is taken
+abbrev pub HoldsOn : {W : Type 0} → Live W → Live W → Type 0
+HoldsOn s t = (t.lines ≡ s.lines) × (t.stopped ≡ s.stopped)
 
 -- with the line taken, unless memory was refused
 abbrev pub after_line : {W : Type 0} → Result NextLine AllocError → Live W → Live W

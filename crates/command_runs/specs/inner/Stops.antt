@@ -8,5 +8,5 @@ abbrev pub MayStillWrite : Option LiveFault → Type 0
 MayStillWrite stopped = (stopped ≡ None) ⊎ (stopped ≡ Some NoMemory)
 
 -- if nothing had failed at first, it has stopped for this fault exactly if something has failed
-abbrev pub TellsFault : Bool → Bool → Option LiveFault → LiveFault → Type 0
-TellsFault at_first now stopped fault = at_first ≡ false → (stopped ≡ Some fault ↔ (now ≡ true))
+abbrev pub StopsFor : Bool → Bool → Option LiveFault → LiveFault → Type 0
+StopsFor at_first now stopped fault = at_first ≡ false → (stopped ≡ Some fault ↔ (now ≡ true))

@@ -1,33 +1,28 @@
 -- How the lanes of a turn change.
-use Rattle.std.specs.Prelude.{◌≡◌, ◌<◌, ◌≤◌, ◌+◌, ℕ, List, [], Option, Some, None, Result, Ok, Err, length, slice_get, slice_set, vec_capacity}
+use Rattle.std.specs.Prelude.{◌≡◌, ◌<◌, ◌≤◌, ◌+◌, ◌++◌, ℕ, All, List, [], Option, Some, None, Result, Ok, Err, length, slice_get, slice_set, vec_capacity}
 use Rattle.std.specs.declared.alloc.AllocError.{AllocError}
+use Rattle.lane_core.specs.declared.job.Plain.{Plain}
 use Rattle.command_runs.specs.declared.live.waiting.Waiting.{Waiting}
 
--- no more deliveries than rows
-abbrev pub IsBehind : Waiting → Type 0
-IsBehind w = w.first + length w.deliveries.items ≤ w.next
-
--- the same rows and deliveries, with as much room at least
-pub record IsRoomier (old new : Waiting) : Type 0 where
+-- this many rows and these deliveries more, with as much room at least
+pub record HasMoved (rows : ℕ) (more : List Plain) (old new : Waiting) : Type 0 where
   pub first : new.first ≡ old.first
-  pub next : new.next ≡ old.next
-  pub deliveries : new.deliveries.items ≡ old.deliveries.items
+  pub next : new.next ≡ old.next + rows
+  pub deliveries : new.deliveries.items ≡ old.deliveries.items ++ more
   pub room : vec_capacity old.deliveries ≤ vec_capacity new.deliveries
 
 -- one row more, under this number, with room for its delivery
 pub record IsOneMore (number : ℕ) (old new : Waiting) : Type 0 where
+  pub moved : HasMoved 1 [] old new
   pub same : number ≡ old.next
   pub left : number < 4294967295
-  pub first : new.first ≡ old.first
-  pub next : new.next ≡ old.next + 1
-  pub deliveries : new.deliveries.items ≡ old.deliveries.items
   pub room : new.next ≤ new.first + vec_capacity new.deliveries
 
 -- a number was taken, unless the lane has had all, or memory was refused
 abbrev pub TakesNumber : Result (Option ℕ) AllocError → Waiting → Waiting → Type 0
 TakesNumber (Ok (Some number)) old new = IsOneMore number old new
-TakesNumber (Ok None) old new = IsRoomier old new × (old.next ≡ 4294967295)
-TakesNumber (Err refused) old new = IsRoomier old new
+TakesNumber (Ok None) old new = HasMoved 0 [] old new × (old.next ≡ 4294967295)
+TakesNumber (Err refused) old new = HasMoved 0 [] old new
 
 -- of the lane of this place
 abbrev pub TakesNumberOf : ℕ → Result (Option ℕ) AllocError → List Waiting → List Waiting → Type 0
@@ -49,3 +44,8 @@ pub record IsFresh (w : Waiting) : Type 0 where
   pub first : w.first ≡ 0
   pub next : w.next ≡ 0
   pub deliveries : w.deliveries.items ≡ []
+
+-- nor of any of this many
+pub record AreFresh (n : ℕ) (lanes : List Waiting) : Type 0 where
+  pub count : length lanes ≡ n
+  pub each : All IsFresh lanes

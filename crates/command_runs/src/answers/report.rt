@@ -2,13 +2,13 @@
 ghost use Rattle.std.specs.Prelude.{◌≡◌, ◌∷◌, ◌++◌, [], IfOk, OnOk, decimal, map, string_bytes};
 ghost use Rattle.std.specs.List.{concat};
 ghost use Rattle.command_runs.specs.answers.Reports.{numbered_line};
-ghost use Rattle.scan_core.specs.Lines.{said};
+ghost use Rattle.scan_core.specs.Answers.{IsAnswer};
+ghost use Rattle.scan_core.specs.declared.answer.Answer.{Answer};
 
 use element_core::Form;
 use itoa::Buffer;
-use scan_core::Answer;
+use lane_core::Delivery;
 use std::alloc::{AllocError, Global};
-use std::fmt::Write;
 
 /// Appends a number in decimal digits, and a space.
 pub fn push_number(text: &mut String, number: usize) -> Result<(), AllocError>
@@ -24,36 +24,20 @@ pub fn push_number(text: &mut String, number: usize) -> Result<(), AllocError>
     text.push(' ')
 }
 
-/// Appends an answer.
-fn push_answer(text: &mut String, form: Form, answer: &Answer) -> Result<(), AllocError>
-    ensures { OnOk result (string_bytes text.new ≡ string_bytes text.old ++ said form answer.now) }
-{
-    match answer {
-        Answer::Read { carrier, elements } => {
-            text.push_str(carrier.identifier())?;
-            text.push(' ')?;
-            match form {
-                Form::HumanReadable => elements.push_hri(text),
-                Form::Pairs => elements.push_pairs(text),
-            }
-        }
-        Answer::Refused(fault) => write!(text, "{fault}"),
-    }
-}
-
-/// Appends the line of an answer.
+/// Appends the line of the answer to a delivery, as that of this lane and number.
 pub fn push_line(
     text: &mut String,
     form: Form,
     lane: u8,
     number: u32,
-    answer: &Answer,
+    delivery: &Delivery,
 ) -> Result<(), AllocError>
-    ensures { OnOk result (string_bytes text.new ≡ string_bytes text.old ++ numbered_line form lane number answer.now) }
+    ensures { OnOk result ((answer : Answer) × IsAnswer delivery.now.widths delivery.now.year answer
+        × (string_bytes text.new ≡ string_bytes text.old ++ numbered_line form lane number answer)) }
 {
     push_number(text, usize::from(lane))?;
     push_number(text, number as usize)?;
-    push_answer(text, form, answer)?;
+    delivery.push_answer(form, text)?;
     text.push('\n')
 }
 

@@ -4,7 +4,7 @@ ghost use Rattle.std.specs.List.{AllZip};
 ghost use Rattle.scan_core.specs.Answers.{Reads};
 ghost use Rattle.scan_core.specs.declared.answer.Answer.{Answer};
 ghost use Rattle.hub_core.specs.Feeds.{AreGiven, are_given, rests_of};
-ghost use Rattle.hub_core.specs.Serving.{are_counts};
+ghost use Rattle.hub_core.specs.Serving.{are_counts, items_of};
 ghost use Rattle.hub_core.specs.declared.fault.ServeFault.{ServeFault};
 ghost use Rattle.command_runs.specs.declared.answers.serving.AnswerFault.TheVariants.{NoMemory};
 ghost use Rattle.command_runs.specs.inner.Reports.{AreLinesOf, TellsOf, lane_lines};
@@ -101,13 +101,12 @@ pub fn push_answer_of(texts: &mut Vec<String>, delivery: Delivery) -> Result<(),
 {
     let ticket = delivery.ticket();
     let index = usize::from(ticket.lane);
-    let answer = delivery.answer();
     push_line(
         &mut texts[index],
         Form::HumanReadable,
         ticket.lane,
         ticket.number,
-        &answer,
+        &delivery,
     )
 }
 
@@ -131,9 +130,9 @@ fn answer_each<R: Threads + Wait + Sync, G: Gate + Sync>(
     year: Year,
     gate: &G,
 ) -> Result<Vec<String>, AnswerFault>
-    requires { are_counts (map (λ feed. feed.items) feeds.items) workers ≡ true }
+    requires { are_counts (items_of feeds.items) workers ≡ true }
     ensures lines { IfOk result (λ v. (answers : List (List Answer))
-        × AllZip (λ rows read. Reads rows year read) (map (λ feed. feed.items) feeds.items) answers
+        × AllZip (λ rows read. Reads rows year read) (items_of feeds.items) answers
         × (map string_bytes v.items ≡ lane_lines 0 answers)) }
 {
     let lanes = feeds.len() as u8;
@@ -165,8 +164,8 @@ pub fn answer_lines<R: Threads + Wait + Sync, G: Gate + Sync>(
     year: Year,
     gate: &G,
 ) -> Result<String, AnswerFault>
-    requires { are_counts (map (λ feed. feed.items) feeds.items) workers ≡ true }
-    ensures report { IfOk result (λ lines. IsReport year (map (λ feed. feed.items) feeds.items) (string_bytes lines)) }
+    requires { are_counts (items_of feeds.items) workers ≡ true }
+    ensures report { IfOk result (λ lines. IsReport year (items_of feeds.items) (string_bytes lines)) }
     ensures threads { IsErrOf result AnswerFault.NoThread → All (λ feed. feed.items ≡ []) feeds.items → ⊥ }
 {
     if are_rowless(feeds.as_slice()) {

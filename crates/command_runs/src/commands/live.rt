@@ -4,7 +4,8 @@ ghost use Rattle.command_runs.specs.Faults.{no_thread};
 ghost use Rattle.command_runs.specs.commands.Lives.{IsLive};
 
 use crate::fault::CommandFault;
-use crate::live::answering::{LiveTerms, answer_live};
+use crate::live::answering::answer_live;
+use crate::live::terms::LiveTerms;
 use command_line::LiveOptions;
 use hub_core::Gate;
 use std::alloc::Global;

@@ -1,11 +1,7 @@
 //! The command `print`: records of a kind and a text in, the images of their labels out.
-ghost use Rattle.std.specs.Prelude.{◌≡◌, ◌≢◌, ◌↔◌, true, false, IfErr, IsErrOf, OnOk};
-ghost use Rattle.std.specs.Io.KnownBytes.{Appends};
-ghost use Rattle.digits_core.specs.Bytes.{TookFront};
 ghost use Rattle.command_runs.specs.Runs.{Ran};
-ghost use Rattle.command_runs.specs.commands.Prints.{IsUnprinted, OnePrint, print_command};
-ghost use Rattle.command_runs.specs.inner.Prints.{Prints};
-ghost use Rattle.command_line.specs.declared.commands.print.options.Output.{Output};
+ghost use Rattle.command_runs.specs.commands.Prints.{OnePrint, print_command};
+ghost use Rattle.command_runs.specs.inner.Prints.{LeavesPrinted};
 
 use crate::fault::CommandFault;
 use crate::grid::grid_of;
@@ -24,13 +20,7 @@ fn write_labels<W: Sink>(
     labels: &[Label],
     sink: &mut W,
 ) -> Result<(), CommandFault>
-    ensures ok { OnOk result (Prints grid options.output labels.now (Appends (W.taken sink.old) (W.taken sink.new))) }
-    ensures cut { IsErrOf result CommandFault.WriteFault
-        → Prints grid options.output labels.now (TookFront (W.taken sink.old) (W.taken sink.new)) }
-    ensures refused { IfErr result (IsUnprinted grid labels.now) }
-    ensures unwritten { IfErr result (λ e. e ≢ CommandFault.WriteFault → sink.new ≡ sink.old) }
-    ensures write { W.failed sink.old ≡ false
-        → (IsErrOf result CommandFault.WriteFault ↔ (W.failed sink.new ≡ true)) }
+    ensures { LeavesPrinted grid options.output labels.now W.taken W.failed sink.old sink.new result }
 {
     match options.output {
         Output::Lines => {

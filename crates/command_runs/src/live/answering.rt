@@ -1,14 +1,12 @@
 //! Records that are answered as they come.
-ghost use Rattle.std.specs.Prelude.{◌≡◌, ◌⊎◌, [], IsErrOf};
+ghost use Rattle.std.specs.Prelude.{◌≡◌, [], IsErrOf};
 ghost use Rattle.hub_core.specs.Serving.{AreSeatCounts};
-ghost use Rattle.hub_core.specs.declared.fault.ServeFault.{ServeFault};
-ghost use Rattle.command_runs.specs.inner.Lived.{EndsAs};
+ghost use Rattle.command_runs.specs.inner.Lived.{EndsAs, live_fault};
 ghost use Rattle.command_runs.specs.live.Lived.{Lived};
 
 use crate::live::fault::LiveFault;
 use crate::live::input::{Live, Stopped};
-use crate::live::manner::Manner;
-use element_core::{Form, Year};
+use crate::live::terms::LiveTerms;
 use hub_core::{Ended, Gate, NotBegun, ServeFault, serve_traffic, served_by_place};
 use std::alloc::Global;
 use std::convert::Infallible;
@@ -16,24 +14,9 @@ use std::sync::Wait;
 use std::thread::Threads;
 use wire_core::Wire;
 
-/// What is asked for of a live input.
-#[derive(Clone, Copy, Debug, PartialEq, Eq)]
-pub struct LiveTerms {
-    /// How many lanes there are, 1 to 16.
-    pub lanes: u8,
-    /// How many workers read rows, 1 to 16.
-    pub workers: u8,
-    /// The reference year of dates.
-    pub year: Year,
-    /// How the elements of an answer are written.
-    pub form: Form,
-}
-
 /// Why a live input is not answered, if it is not served.
 fn fault_of(fault: ServeFault) -> LiveFault
-    ensures either { (result ≡ LiveFault.NoMemory) ⊎ (result ≡ LiveFault.NoThread) }
-    ensures thread { fault ≡ ServeFault.NoThread → result ≡ LiveFault.NoThread }
-    ensures memory { fault ≡ ServeFault.NoMemory → result ≡ LiveFault.NoMemory }
+    ensures { result ≡ live_fault fault }
 {
     match fault {
         ServeFault::NoThread => LiveFault::NoThread,
@@ -71,11 +54,14 @@ pub fn answer_live<R: Threads + Wait + Sync, W: Wire + Drop, G: Gate + Sync>(
     ensures lived { Lived terms W.Did W.read_failed W.write_failed W.at_end wire result.0 result.1 }
     ensures untouched { IsErrOf result.1 LiveFault.NoThread → result.0 ≡ wire }
 {
-    let manner = Manner {
-        form: terms.form,
+    // Field by field: a struct that is handed on whole is not read after it.
+    let asked = LiveTerms {
+        lanes: terms.lanes,
+        workers: terms.workers,
         year: terms.year,
+        form: terms.form,
     };
-    let live = match Live::new(alloc, terms.lanes, manner, wire) {
+    let live = match Live::new(alloc, asked, wire) {
         Ok(live) => live,
         Err(wire) => return (wire, Err(LiveFault::NoMemory)),
     };
@@ -91,8 +77,8 @@ pub fn answer_live<R: Threads + Wait + Sync, W: Wire + Drop, G: Gate + Sync>(
         gate,
     ) {
         Ok((live, ended)) => {
-            let result = ending(live.stopped(), ended);
-            (live.wire, result)
+            let Live { wire, stopped, .. } = live;
+            (wire, ending(stopped, ended))
         }
         Err(NotBegun { fault, input: live }) => (live.wire, Err(fault_of(fault))),
     }

@@ -1,15 +1,14 @@
 //! A live input: the rows of the lines that come over a wire, and the lines that answer them.
-ghost use Rattle.std.specs.Prelude.{◌≡◌, [], IfErr, IfOk, Ok, OnOk, false, length, replicate, true};
+ghost use Rattle.std.specs.Prelude.{◌≡◌, [], IfErr, IfOk, Ok, OnOk, false, length, true};
 ghost use Rattle.hub_core.specs.Traffics.{IsLed, IsOwedNothing, Stays, StaysOwedNothing};
-ghost use Rattle.command_runs.specs.inner.Came.{TakesLine, after_line};
+ghost use Rattle.command_runs.specs.inner.Came.{HasBegun, HoldsOn, TakesLine, after_line};
 ghost use Rattle.command_runs.specs.inner.Finish.{is_finished};
 ghost use Rattle.command_runs.specs.inner.Meaning.{IsHeld};
-ghost use Rattle.command_runs.specs.inner.Stops.{MayStillWrite};
 
 use crate::live::fault::{LiveFault, is_open};
-use crate::live::manner::Manner;
 use crate::live::pending::{PendingReply, push_replies};
-use crate::live::record::{LineFault, Record, next_record};
+use crate::live::record::{LineFault, Notice, Record, next_record};
+use crate::live::terms::LiveTerms;
 use crate::live::waiting::{Waiting, end_turn, make_lanes, next_number};
 use hub_core::Traffic;
 use lane_core::Delivery;
@@ -28,7 +27,7 @@ pub struct Stopped;
 /// What was taken of what has come.
 #[derive(Debug, Drop)]
 pub enum NextLine {
-    /// Nothing: no line has ended, the turn is full, or memory was refused.
+    /// Nothing: no line has ended.
     Nothing,
     /// A record that gets no ticket, or a line without one.
     Line,
@@ -42,7 +41,7 @@ pub struct Live<W> {
     /// The wire.
     pub wire: W,
     alloc: Global,
-    manner: Manner,
+    terms: LiveTerms,
     text: String,
     /// The rows of each lane in this turn.
     lanes: Vec<Waiting>,
@@ -51,21 +50,17 @@ pub struct Live<W> {
     /// What is held of the input.
     lines: Lines,
     /// Why nothing more is taken.
-    stopped: Option<LiveFault>,
+    pub stopped: Option<LiveFault>,
 }
 
 impl<W: Wire> Live<W> {
-    /// A live input of this many lanes, of which nothing has been read. If memory is refused the wire is given
-    /// back.
-    pub fn new(alloc: Global, lanes: u8, manner: Manner, wire: W) -> Result<Live<W>, W>
+    /// A live input, of which nothing has been read. If memory is refused the wire is given back.
+    pub fn new(alloc: Global, terms: LiveTerms, wire: W) -> Result<Live<W>, W>
         requires { W.Did wire wire [] }
-        ensures came { IfOk result (λ s. ⟦<Live<W> as Traffic>⟧.Came s s (replicate lanes []) (replicate lanes [])) }
-        ensures wire { IfOk result (λ s. s.wire ≡ wire) }
-        ensures manner { IfOk result (λ s. s.manner ≡ manner) }
-        ensures count { IfOk result (λ s. length s.lanes.items ≡ lanes) }
-        ensures refused { IfErr result (λ w. w ≡ wire) }
+        ensures ok { IfOk result (HasBegun ⟦<Live<W> as Traffic>⟧.Came terms wire) }
+        ensures err { IfErr result (λ w. w ≡ wire) }
     {
-        let Ok(lanes) = make_lanes(alloc, lanes) else {
+        let Ok(lanes) = make_lanes(alloc, terms.lanes) else {
             return Err(wire);
         };
         let Ok(lines) = Lines::new(alloc) else {
@@ -74,7 +69,7 @@ impl<W: Wire> Live<W> {
         Ok(Live {
             wire,
             alloc,
-            manner,
+            terms,
             text: String::new(alloc),
             lanes,
             replies: Vec::new(alloc),
@@ -83,32 +78,17 @@ impl<W: Wire> Live<W> {
         })
     }
 
-    /// Why it has stopped, if it has.
-    pub fn stopped(&self) -> Option<LiveFault>
-        ensures { result ≡ self.now.stopped }
-    {
-        self.stopped
-    }
-
     /// Keeps the reply to the record that is held, whose line is taken after it.
     fn keep(&mut self, found: Record) -> Result<NextLine, AllocError>
-        requires led { IsLed ⟦<Live<W> as Traffic>⟧.Came self.old }
-        requires found { IsHeld (length self.old.lanes.items) self.old.lines found }
+        requires { IsHeld (length self.old.lanes.items) self.old.lines found }
         ensures takes { TakesLine ⟦<Live<W> as Traffic>⟧.Came result self.old (after_line result self.new) }
-        ensures lines { self.new.lines ≡ self.old.lines }
-        ensures stopped { self.new.stopped ≡ self.old.stopped }
+        ensures holds { HoldsOn self.old self.new }
     {
         self.replies.reserve(1)?;
         match found {
             Record::Blank => Ok(NextLine::Line),
-            Record::Message(lane, text) => {
-                let told = PendingReply::Message(lane, text);
-                self.replies.push_reserved(told);
-                Ok(NextLine::Line)
-            }
-            Record::Refused(lane, fault) => {
-                let refused = PendingReply::Refused(lane, fault);
-                self.replies.push_reserved(refused);
+            Record::Notice(notice) => {
+                self.replies.push_reserved(PendingReply::Notice(notice));
                 Ok(NextLine::Line)
             }
             Record::Row(lane, row) => match next_number(&mut self.lanes, lane)? {
@@ -117,8 +97,8 @@ impl<W: Wire> Live<W> {
                     Ok(NextLine::Row(lane, row))
                 }
                 None => {
-                    let spent = PendingReply::Refused(Some(lane), LineFault::Spent);
-                    self.replies.push_reserved(spent);
+                    let spent = Notice::Refused(Some(lane), LineFault::Spent);
+                    self.replies.push_reserved(PendingReply::Notice(spent));
                     Ok(NextLine::Line)
                 }
             },
@@ -131,8 +111,7 @@ impl<W: Wire> Live<W> {
         ensures takes { TakesLine ⟦<Live<W> as Traffic>⟧.Came result self.old self.new }
         ensures stopped { self.new.stopped ≡ self.old.stopped }
     {
-        let lanes = self.lanes.len() as u8;
-        let Some((count, found)) = next_record(self.alloc, lanes, &self.lines)? else {
+        let Some((count, found)) = next_record(self.alloc, self.terms.lanes, &self.lines)? else {
             return Ok(NextLine::Nothing);
         };
         match self.keep(found) {
@@ -144,35 +123,18 @@ impl<W: Wire> Live<W> {
         }
     }
 
-    /// Takes the next line, if nothing has stopped and the turn is not full.
-    fn take_next(&mut self) -> NextLine
-        requires { IsLed ⟦<Live<W> as Traffic>⟧.Came self.old }
-        ensures { TakesLine ⟦<Live<W> as Traffic>⟧.Came (Ok result) self.old self.new }
-    {
-        if self.stopped.is_some() || self.replies.len() >= TURN {
-            return NextLine::Nothing;
-        }
-        match self.take_line() {
-            Ok(taken) => taken,
-            Err(_) => {
-                self.stopped = Some(LiveFault::NoMemory);
-                NextLine::Nothing
-            }
-        }
-    }
-
-    /// Writes the lines of the turn, whose rows have all come back.
+    /// Writes the lines of the turn, whose rows have all come back, unless a read or a write has failed.
     fn write_turn(&mut self) -> Result<(), Stopped>
-        requires going { MayStillWrite self.old.stopped }
-        requires back { IsOwedNothing ⟦<Live<W> as Traffic>⟧.Came self.old }
+        requires { IsOwedNothing ⟦<Live<W> as Traffic>⟧.Came self.old }
         ensures came { StaysOwedNothing ⟦<Live<W> as Traffic>⟧.Came self.old self.new }
         ensures written { OnOk result (self.new.replies.items ≡ []) }
-        ensures still { OnOk result (self.new.stopped ≡ self.old.stopped) }
     {
-        self.text.clear();
+        if !is_open(self.stopped) {
+            return Err(Stopped);
+        }
         let Ok(()) = push_replies(
             &mut self.text,
-            &self.manner,
+            &self.terms,
             self.lanes.as_slice(),
             self.replies.as_slice(),
         ) else {
@@ -194,17 +156,16 @@ impl<W: Wire> Live<W> {
 
     /// Reads what there is, if all lines that have ended are answered. False at the end of the input.
     fn read_on(&mut self) -> Result<bool, Stopped>
-        requires answered { self.old.replies.items ≡ [] }
-        requires going { MayStillWrite self.old.stopped }
+        requires { self.old.replies.items ≡ [] }
         ensures came { Stays ⟦<Live<W> as Traffic>⟧.Came self.old self.new }
         ensures ended { result ≡ Ok false → is_finished self.new ≡ true }
     {
-        if self.stopped.is_some() {
+        let None = self.stopped else {
             return Err(Stopped);
-        }
-        if self.lines.line().is_some() {
+        };
+        let None = self.lines.line() else {
             return Ok(true);
-        }
+        };
         if self.lines.has_ended() {
             return Ok(false);
         }
@@ -239,10 +200,17 @@ impl<W: Wire> Traffic for Live<W> {
 
     fn next(&mut self) -> Option<(u8, Runs)> {
         'lines: for _ in 0..TURN {
-            match self.take_next() {
-                NextLine::Nothing => return None,
-                NextLine::Line => {}
-                NextLine::Row(lane, row) => return Some((lane, row)),
+            if self.stopped.is_some() || self.replies.len() >= TURN {
+                return None;
+            }
+            match self.take_line() {
+                Ok(NextLine::Nothing) => return None,
+                Ok(NextLine::Line) => {}
+                Ok(NextLine::Row(lane, row)) => return Some((lane, row)),
+                Err(_) => {
+                    self.stopped = Some(LiveFault::NoMemory);
+                    return None;
+                }
             }
         }
         None
@@ -255,9 +223,6 @@ impl<W: Wire> Traffic for Live<W> {
     }
 
     fn wait(&mut self) -> Result<bool, Stopped> {
-        if !is_open(self.stopped) {
-            return Err(Stopped);
-        }
         self.write_turn()?;
         self.read_on()
     }

@@ -1,9 +1,8 @@
 //! What a line of a live input means.
-ghost use Rattle.std.specs.Prelude.{◌≡◌, ◌≢◌, ◌∷◌, [], IfOk, IfSome, IfNone, None, Some, length};
-ghost use Rattle.command_runs.specs.inner.Meaning.{HoldsRecord, IsMeaningOf};
-ghost use Rattle.command_runs.specs.live.Text.{fields_in, fields_meant, line_fault_text, line_meant, message_meant, record_in, without_return};
+ghost use Rattle.std.specs.Prelude.{◌≡◌, ◌∷◌, [], IfOk, Some};
+ghost use Rattle.command_runs.specs.inner.Meaning.{HoldsNext, IsRecord, Means};
+ghost use Rattle.command_runs.specs.live.Text.{fields_meant, line_fault_text, line_meant, message_meant, record_in, without_return};
 ghost use Rattle.digits_core.specs.Refusals.{refusal_text};
-ghost use Rattle.wire_core.specs.Lines.{held_line};
 
 use csv_records::{RecordFault, RecordRefusal, lane_in, read_runs};
 use digits_core::{Refusal, RefusalKind};
@@ -47,6 +46,15 @@ impl fmt::Display for LineFault {
     }
 }
 
+/// What is reported of a record that is no row.
+#[derive(Debug, Drop)]
+pub enum Notice {
+    /// What a message of a scanner says, of this lane.
+    Message(u8, Vec<u8>),
+    /// Why the record gets no ticket, and the lane that it names.
+    Refused(Option<u8>, LineFault),
+}
+
 /// What a line means.
 #[derive(Debug, Drop)]
 pub enum Record {
@@ -54,43 +62,21 @@ pub enum Record {
     Blank,
     /// A row of a lane.
     Row(u8, Runs),
-    /// A message of a scanner, of a lane.
-    Message(u8, Vec<u8>),
-    /// A record that gets no ticket, and the lane that it names.
-    Refused(Option<u8>, LineFault),
+    /// A record that is no row.
+    Notice(Notice),
 }
 
-/// The fields of a line that has two.
-pub fn two_fields(line: &[u8]) -> Option<(&[u8], &[u8])>
-    ensures some { IfSome result (λ p. fields_in line.now ≡ p.0.now ∷ p.1.now ∷ []) }
-    ensures none { IfNone result (length (fields_in line.now) ≢ 2) }
+/// The record of two fields.
+fn read_row(alloc: Global, lanes: u8, lane: &[u8], widths: &[u8]) -> Result<Record, AllocError>
+    ensures { IfOk result (Means lanes (fields_meant lanes (lane.now ∷ widths.now ∷ []))) }
 {
-    match memchr(b',', line) {
-        Some(comma) => {
-            let second = &line[comma + 1..];
-            match memchr(b',', second) {
-                Some(_) => None,
-                None => Some((&line[..comma], second)),
-            }
-        }
-        None => None,
-    }
-}
-
-/// The record of a line by its fields.
-fn read_fields(alloc: Global, lanes: u8, line: &[u8]) -> Result<Record, AllocError>
-    ensures { IfOk result (IsMeaningOf lanes (Some (fields_meant lanes (fields_in line.now)))) }
-{
-    let Some((first, second)) = two_fields(line) else {
-        return Ok(Record::Refused(None, LineFault::Record(RecordFault::Csv)));
+    let Some(lane) = lane_in(lane, lanes) else {
+        return Ok(Record::Notice(Notice::Refused(None, LineFault::Record(RecordFault::BadLane))));
     };
-    let Some(lane) = lane_in(first, lanes) else {
-        return Ok(Record::Refused(None, LineFault::Record(RecordFault::BadLane)));
-    };
-    match read_runs(alloc, second) {
+    match read_runs(alloc, widths) {
         Ok(row) => Ok(Record::Row(lane, row)),
         Err(RecordRefusal::Record(fault)) => {
-            Ok(Record::Refused(Some(lane), LineFault::Record(fault)))
+            Ok(Record::Notice(Notice::Refused(Some(lane), LineFault::Record(fault))))
         }
         Err(RecordRefusal::NoMemory) => Err(AllocError),
     }
@@ -98,28 +84,34 @@ fn read_fields(alloc: Global, lanes: u8, line: &[u8]) -> Result<Record, AllocErr
 
 /// The record of a message of a scanner.
 fn read_message(alloc: Global, lanes: u8, lane: &[u8], text: &[u8]) -> Result<Record, AllocError>
-    ensures { IfOk result (IsMeaningOf lanes (Some (message_meant lanes lane.now text.now))) }
+    ensures { IfOk result (Means lanes (message_meant lanes lane.now text.now)) }
 {
     let Some(lane) = lane_in(lane, lanes) else {
-        return Ok(Record::Refused(None, LineFault::Record(RecordFault::BadLane)));
+        return Ok(Record::Notice(Notice::Refused(None, LineFault::Record(RecordFault::BadLane))));
     };
-    Ok(Record::Message(lane, text.to_vec(alloc)?))
+    Ok(Record::Notice(Notice::Message(lane, text.to_vec(alloc)?)))
 }
 
 /// The record of a line that has a byte and not too many.
 fn read_record(alloc: Global, lanes: u8, line: &[u8]) -> Result<Record, AllocError>
-    ensures { IfOk result (IsMeaningOf lanes (Some (record_in lanes line.now))) }
+    ensures { IfOk result (Means lanes (record_in lanes line.now)) }
 {
     match memchr(b',', line) {
         Some(comma) => {
+            let lane = &line[..comma];
             let text = &line[comma + 1..];
             if is_message(text) {
-                read_message(alloc, lanes, &line[..comma], text)
-            } else {
-                read_fields(alloc, lanes, line)
+                return read_message(alloc, lanes, lane, text);
+            }
+            match memchr(b',', text) {
+                Some(_) => Ok(Record::Notice(Notice::Refused(
+                    None,
+                    LineFault::Record(RecordFault::Csv),
+                ))),
+                None => read_row(alloc, lanes, lane, text),
             }
         }
-        None => read_fields(alloc, lanes, line),
+        None => Ok(Record::Notice(Notice::Refused(None, LineFault::Record(RecordFault::Csv)))),
     }
 }
 
@@ -135,14 +127,14 @@ pub fn without_return(line: &[u8]) -> &[u8]
 
 /// The record of a line.
 fn read_line(alloc: Global, lanes: u8, line: &[u8]) -> Result<Record, AllocError>
-    ensures { IfOk result (IsMeaningOf lanes (line_meant lanes line.now)) }
+    ensures { IfOk result (λ found. IsRecord lanes found (line_meant lanes line.now)) }
 {
     let line = without_return(line);
     if line.is_empty() {
         return Ok(Record::Blank);
     }
     if line.len() > MOST_LINE {
-        return Ok(Record::Refused(None, LineFault::InputSize));
+        return Ok(Record::Notice(Notice::Refused(None, LineFault::InputSize)));
     }
     read_record(alloc, lanes, line)
 }
@@ -153,14 +145,16 @@ pub fn next_record(
     lanes: u8,
     lines: &Lines,
 ) -> Result<Option<(usize, Record)>, AllocError>
-    ensures some { IfOk result (λ found. IfSome found (λ r. HoldsRecord lanes lines.now r.0 r.1)) }
-    ensures none { IfOk result (λ found. IfNone found (held_line lines.now ≡ None)) }
+    ensures { IfOk result (HoldsNext lanes lines.now) }
 {
     let Some(line) = lines.line() else {
         return Ok(None);
     };
     if lines.is_cut() {
-        return Ok(Some((line.len(), Record::Refused(None, LineFault::InputSize))));
+        return Ok(Some((
+            line.len(),
+            Record::Notice(Notice::Refused(None, LineFault::InputSize)),
+        )));
     }
     let record = read_line(alloc, lanes, line)?;
     Ok(Some((line.len(), record)))

@@ -1,6 +1,6 @@
 //! The rows of the lanes in a turn, and the deliveries that wait until it is written.
-ghost use Rattle.std.specs.Prelude.{◌≡◌, ◌<◌, All, IfOk, length, vec_len};
-ghost use Rattle.command_runs.specs.inner.Turns.{AreEnded, IsBehind, IsEnded, IsFresh, TakesNumber, TakesNumberOf};
+ghost use Rattle.std.specs.Prelude.{◌<◌, IfOk, vec_len};
+ghost use Rattle.command_runs.specs.inner.Turns.{AreEnded, AreFresh, IsEnded, TakesNumber, TakesNumberOf};
 
 use lane_core::Delivery;
 use std::alloc::{AllocError, Global};
@@ -18,8 +18,7 @@ pub struct Waiting {
 
 /// The lanes, of which nothing has come.
 pub fn make_lanes(alloc: Global, count: u8) -> Result<Vec<Waiting>, AllocError>
-    ensures count { IfOk result (λ lanes. length lanes.items ≡ count) }
-    ensures each { IfOk result (λ lanes. All IsFresh lanes.items) }
+    ensures { IfOk result (λ lanes. AreFresh count lanes.items) }
 {
     let mut lanes = Vec::with_capacity(alloc, usize::from(count))?;
     for _lane in 0..count {
@@ -35,23 +34,21 @@ pub fn make_lanes(alloc: Global, count: u8) -> Result<Vec<Waiting>, AllocError>
 /// The lane's next number, for one more row, with room for its delivery; none if the lane has had all its
 /// numbers.
 fn take_number(waiting: &mut Waiting) -> Result<Option<u32>, AllocError>
-    requires { IsBehind waiting.old }
     ensures { TakesNumber result waiting.old waiting.new }
 {
     let number = waiting.next;
     if number == u32::MAX {
         return Ok(None);
     }
-    let turn = (number - waiting.first) as usize + 1;
-    waiting.deliveries.reserve(turn - waiting.deliveries.len())?;
+    let turn = number.saturating_sub(waiting.first) as usize + 1;
+    waiting.deliveries.reserve(turn)?;
     waiting.next = number + 1;
     Ok(Some(number))
 }
 
 /// The next number of this lane.
 pub fn next_number(lanes: &mut Vec<Waiting>, lane: u8) -> Result<Option<u32>, AllocError>
-    requires low { lane < vec_len lanes.old }
-    requires behind { All IsBehind lanes.old.items }
+    requires { lane < vec_len lanes.old }
     ensures { TakesNumberOf lane result lanes.old.items lanes.new.items }
 {
     take_number(&mut lanes[usize::from(lane)])

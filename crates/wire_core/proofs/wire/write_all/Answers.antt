@@ -23,12 +23,12 @@ writes-preserved g c =
         (
           wrote.0 ++ piece ∷ [],
           λ start events was. subst (g.W.Wire.Did start _) (one_more_write events wrote.0 piece)
-              (c.in_ok-count.ensures.did start _ (wrote.1 start events was)),
+              (c.in_ok-count.ensures.ends.done start _ (wrote.1 start events was)),
           one_more_piece wrote.0 piece ∙ ap (λ t. t ++ piece) wrote.2,
         ),
         grind (arith, common_steps, whole),
       );
-      same = c.in_ok-count.ensures.ok ∙ c.writes.invariant.same;
-      read = c.in_ok-count.ensures.other ∙ c.writes.invariant.read;
+      same = c.in_ok-count.ensures.ends.faults.ok ∙ c.writes.invariant.same;
+      read = c.in_ok-count.ensures.ends.faults.other_side ∙ c.writes.invariant.read;
       end = λ was. c.in_ok-count.ensures.end (c.writes.invariant.end was);
     }

@@ -1,4 +1,4 @@
-use Rattle.std.proofs.Common.{◌++◌, ◌==◌, ◌<◌, ◌≡◌, ◌≤◌, ◌∙◌, List, ap, arith, drop, false, length, length-drop, refl, subst, sym, take, take-append-drop, ℕ}
+use Rattle.std.proofs.Common.{◌++◌, ◌==◌, ◌<◌, ◌≡◌, ◌≤◌, ◌∙◌, List, ap, arith, drop, false, length, length-drop, refl, rules, subst, sym, take, take-append-drop, ℕ}
 use Rattle.std.specs.Io.KnownBytes.{Keeps, append_known}
 use Rattle.std.proofs.lemmas.Bool.{eqb-false}
 use Rattle.std.proofs.KnownBytes.{Keeps-refl, Keeps-trans, append_known-kept, append_known-moved}
@@ -53,14 +53,11 @@ writes-preserved g c =
 pub returns-in_default-clause-bytes : goal.returns-in_default-clause-bytes
 returns-in_default-clause-bytes g c = Keeps-trans _ _ _ c.writes.invariant.bytes (append_known-kept _ _ _ c.in_default.ensures.bytes)
 
-pub returns-in_default-clause-err : goal.returns-in_default-clause-err
-returns-in_default-clause-err g c = c.in_default.ensures.err
-
-pub returns-in_default-clause-again : goal.returns-in_default-clause-again
-returns-in_default-clause-again g c = λ failed. refl
+pub returns-in_default-clause-faults : goal.returns-in_default-clause-faults
+returns-in_default-clause-faults g c = record { ok = tt; err = c.in_default.ensures.err; again = λ failed. refl }
 
 pub returns-clause-bytes : goal.returns-clause-bytes
 returns-clause-bytes g c = c.writes.invariant.bytes
 
-pub returns-clause-ok : goal.returns-clause-ok
-returns-clause-ok g c = c.writes.invariant.same
+pub returns-clause-faults : goal.returns-clause-faults
+returns-clause-faults g c = record { ok = c.writes.invariant.same; err = tt; again = search rules }

@@ -7,12 +7,12 @@ use Rattle.command_runs.proofs.columns.RowsByColumnSheetIntake.take.Goals as goa
 pub returns-then-not-kept : goal.returns-then-not-kept
 returns-then-not-kept c = λ sheets was.
     let feeds = map (λ feed. feed.items) c.args.kept.now.feeds.items in
-    kept_unfit c.args.self.now.grid sheets c.args.sheet feeds feeds c.args.kept.now.fit was c.if-not-kept.true
+    kept_unfit c.args.self.now.grid sheets c.args.sheet.now feeds feeds c.args.kept.now.fit was c.if-not-kept.true
 
 pub returns-then-not-is_of_size : goal.returns-then-not-is_of_size
 returns-then-not-is_of_size c = λ sheets was.
     let feeds = map (λ feed. feed.items) c.args.kept.now.feeds.items in
-    kept_other c.args.self.now.grid sheets c.args.sheet feeds feeds c.args.kept.now.fit was c.if-not-is_of_size.ensures
+    kept_other c.args.self.now.grid sheets c.args.sheet.now feeds feeds c.args.kept.now.fit was c.if-not-is_of_size.ensures
 
 pub push_columns-requires-clause-count : goal.push_columns-requires-clause-count
 push_columns-requires-clause-count c =
@@ -25,5 +25,5 @@ push_columns-requires-clause-size c = sym c.if-not-is_of_size.ensures
 
 pub returns-in-Ok : goal.returns-in-Ok
 returns-in-Ok c = λ sheets was.
-    kept_fit c.args.self.now.grid sheets c.args.sheet (map (λ feed. feed.items) c.args.kept.now.feeds.items)
+    kept_fit c.args.self.now.grid sheets c.args.sheet.now (map (λ feed. feed.items) c.args.kept.now.feeds.items)
     (map (λ feed. feed.items) c.push_columns.new.feeds.items) c.args.kept.now.fit was c.if-not-is_of_size.ensures (c.in-Ok.ensures.added sheets)

@@ -1,5 +1,5 @@
 use Rattle.std.proofs.Common.{◌≡◌, ◌∙◌, Err, Option, Some, ap, false, inr, map, refl, string_bytes, subst, sym, true}
-use Rattle.std.specs.Prelude.{IfSome, MatchOption, None}
+use Rattle.std.specs.Prelude.{MatchOption, None}
 use Rattle.std.proofs.lemmas.Bool.{false≢true}
 use Rattle.sheet_core.specs.declared.fault.PbmFault.TheVariants.{ReadFault}
 use Rattle.sheet_core.specs.Grids.{Cells}
@@ -22,10 +22,6 @@ of_some : {V : Type 0} (o : Option V) (v : V) (P : Type 0) (Q : V → Type 0) �
 of_some None v P Q is h = absurd cc
 of_some (Some w) v P Q is h = let same : w ≡ v = cc in subst Q same h
 
-if_some : {V : Type 0} (o : Option V) (v : V) (P : V → Type 0) → o ≡ Some v → IfSome o P → P v
-if_some None v P is h = absurd cc
-if_some (Some w) v P is h = let same : w ≡ v = cc in subst P same h
-
 pub returns-in_err-grid : goal.returns-in_err-grid
 returns-in_err-grid g c =
     refused_run (scan_command c.args.options) g.S.Source.left g.S.Source.failed g.W.Sink.taken g.W.Sink.failed c.args.source.now c.args.source.now
@@ -41,7 +37,7 @@ returns-in_err-feeds g c =
     let reads = c.in_err-feeds.ensures.fault in
     refused_run (scan_command o) g.S.Source.left g.S.Source.failed g.W.Sink.taken g.W.Sink.failed c.args.source.now c.read_columns.new.source c.args.sink.now
     c.from_residual-in_err-feeds.result (of_images fault) c.from_residual-in_err-feeds.ensures.1
-    (images_refused o left rest fault (c.in_ok-grid.ensures.exact.0 refl) c.in_err-feeds.ensures.err) (images_no_write fault)
+    (images_refused o left rest fault (c.in_ok-grid.ensures.exact.0 refl) c.in_err-feeds.ensures.read) (images_no_write fault)
     (λ sound. (
       λ same. (reads sound).0 (ap (λ f. Err f) (images_read fault same)),
       λ failed. let told : fault ≡ ReadFault = cc ((reads sound).1 failed) in ap of_images told,
@@ -50,27 +46,27 @@ returns-in_err-feeds g c =
 pub returns-in_default : goal.returns-in_default
 returns-in_default g c =
     let o = c.args.options in
-    let read = c.in_ok-feeds.ensures.ok in
+    let read = c.in_ok-feeds.ensures.read in
     let sheets = read.0 in
     let other = of_none _ _ _ c.in_default.is read.2 in
     let size = sized c.in_ok-grid.grid (cells_of o.grid) sheets sheets false c.in_ok-grid.ensures.ok refl (sym other) in
     refused_run (scan_command o) g.S.Source.left g.S.Source.failed g.W.Sink.taken g.W.Sink.failed c.args.source.now c.read_columns.new.source c.args.sink.now
     (Err command.PbmSize) command.PbmSize refl
-    (c.in_ok-grid.ensures.exact.0 refl, inr (read.1.bytes, (read.1.consumed, c.in_ok-feeds.ensures.end), sheets, read.1.tells, size)) (λ same. cc)
+    (c.in_ok-grid.ensures.exact.0 refl, inr (read.1.bytes, (read.1.consumed, read.3), sheets, read.1.tells, size)) (λ same. cc)
     (λ sound. (λ same. cc, λ failed. absurd (never_refused c.in_ok-feeds.field-0 ReadFault ((c.in_ok-feeds.ensures.fault sound).1 failed))))
 
 pub answer_lines-requires-after_bounds : goal.answer_lines-requires-after_bounds
 answer_lines-requires-after_bounds g c κs within =
     let o = c.args.options in
-    let count = if_some _ _ _ c.in-Some.is c.in_ok-feeds.ensures.count in
+    let here = of_some _ _ _ _ c.in-Some.is c.in_ok-feeds.ensures.read.2 in
     counts_hold (λ feed. feed.items) c.in-Some.feeds.items o.grid.columns o.workers
-    (count ∙ ap (λ (g : Cells). g.columns) c.in_ok-grid.ensures.ok) o.grid.numbers.3 o.some_workers
-    (if_some _ _ _ c.in-Some.is c.in_ok-feeds.ensures.short)
+    (here.2 ∙ ap (λ (g : Cells). g.columns) c.in_ok-grid.ensures.ok) o.grid.numbers.3 o.some_workers
+    here.3
 
 pub returns-in_err-lines : goal.returns-in_err-lines
 returns-in_err-lines g c =
     let o = c.args.options in
-    let read = c.in_ok-feeds.ensures.ok in
+    let read = c.in_ok-feeds.ensures.read in
     let sheets = read.0 in
     let feeds = c.in-Some.feeds.items in
     let fault = c.in_err-lines.field-0.0 in
@@ -80,7 +76,7 @@ returns-in_err-lines g c =
     let are = columns_of c.in_ok-grid.grid (cells_of o.grid) sheets sheets (map (λ feed. feed.items) feeds) c.in_ok-grid.ensures.ok refl here.1 in
     let size = sized c.in_ok-grid.grid (cells_of o.grid) sheets sheets true c.in_ok-grid.ensures.ok refl (sym here.0) in
     let why = images_unanswered (λ feed. feed.items) o sheets feeds left rest fault (c.in_ok-grid.ensures.exact.0 refl) read.1
-    c.in_ok-feeds.ensures.end size are
+    read.3 size are
     (λ same. c.in_err-lines.ensures.threads (ap Err same)) in
     refused_run (scan_command o) g.S.Source.left g.S.Source.failed g.W.Sink.taken g.W.Sink.failed c.args.source.now c.read_columns.new.source c.args.sink.now
     c.from_residual-in_err-lines.result (of_answers fault) c.from_residual-in_err-lines.ensures.1 why (no_write fault)
@@ -92,7 +88,7 @@ returns-in_err-lines g c =
 pub returns-in_err-write_all : goal.returns-in_err-write_all
 returns-in_err-write_all g c =
     let o = c.args.options in
-    let read = c.in_ok-feeds.ensures.ok in
+    let read = c.in_ok-feeds.ensures.read in
     let sheets = read.0 in
     let feeds = map (λ feed. feed.items) c.in-Some.feeds.items in
     let lines = string_bytes c.in_ok-lines.lines in
@@ -105,7 +101,7 @@ returns-in_err-write_all g c =
     cut_run (scan_command o) g.S.Source.left g.S.Source.failed g.W.Sink.taken g.W.Sink.failed c.args.source.now c.read_columns.new.source c.args.sink.now
     c.write_all.new.sink c.from_residual-in_err-write_all.result c.from_residual-in_err-write_all.ensures.1
     (images_cut o left rest (g.W.Sink.taken c.args.sink.now) (g.W.Sink.taken c.write_all.new.sink)
-    sheets feeds lines c.as_bytes.result.now grid read.1 c.in_ok-feeds.ensures.end size are c.in_ok-lines.ensures.report
+    sheets feeds lines c.as_bytes.result.now grid read.1 read.3 size are c.in_ok-lines.ensures.report
     (c.as_bytes.ensures.value ∙ c.as_str.ensures.value) c.in_err-write_all.ensures.err)
     (grid, tt) (λ sound failed. never_refused c.in_ok-feeds.field-0 ReadFault ((c.in_ok-feeds.ensures.fault sound).1 failed))
     (λ sound. (c.in_err-write_all.ensures.fault sound).0 refl)
@@ -113,7 +109,7 @@ returns-in_err-write_all g c =
 pub returns : goal.returns
 returns g c =
     let o = c.args.options in
-    let read = c.in_ok-feeds.ensures.ok in
+    let read = c.in_ok-feeds.ensures.read in
     let sheets = read.0 in
     let feeds = map (λ feed. feed.items) c.in-Some.feeds.items in
     let here = of_some _ _ _ _ c.in-Some.is read.2 in
@@ -125,7 +121,7 @@ returns g c =
     c.write_all.new.sink (
       read.1.bytes,
       c.as_bytes.result.now,
-      (read.1.consumed, c.in_ok-feeds.ensures.end),
+      (read.1.consumed, read.3),
       (sheets, (c.in_ok-grid.ensures.exact.0 refl, read.1.tells, size), feeds, are, report),
       c.in_ok-write_all.ensures.ok,
     )

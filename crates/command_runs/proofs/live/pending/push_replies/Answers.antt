@@ -1,16 +1,11 @@
-use Rattle.std.proofs.Common.{◌++◌, ◌∙◌, ◌∷◌, [], append-nil, ap, subst, sym}
-use Rattle.std.specs.List.{AllZip, concat}
-use Rattle.std.proofs.lemmas.List.{take_more}
-use Rattle.std.proofs.lemmas.List.Folds.{concat-append}
-use Rattle.command_runs.specs.inner.Came.{TellsPending}
-use Rattle.csv_records.proofs.Beside.{zip_more}
+use Rattle.command_runs.proofs.live.Words.{AllZip, TellsPending, [], ap, append-nil, concat, concat-append, subst, sym, take_more, zip_more, ◌++◌, ◌∙◌, ◌∷◌}
 use Rattle.command_runs.proofs.live.pending.push_replies.Goals as goal
 
 pub loop-reply-preserved : goal.loop-reply-preserved
 loop-reply-preserved c =
     let old = c.loop-reply.invariant in
     let new = c.in_ok-push_reply.ensures in
-    let S = TellsPending c.args.manner.now c.args.lanes.now in
+    let S = TellsPending c.args.terms.now c.args.lanes.now in
     let item = c.reply-item.result in
     let says = subst (λ p. S p new.0) c.reply-item.is new.2 in (
       old.0 ++ new.0 ∷ [],

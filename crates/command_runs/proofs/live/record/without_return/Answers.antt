@@ -1,5 +1,4 @@
-use Rattle.std.proofs.Common.{refl}
-use Rattle.std.proofs.lemmas.Bool.{eq-eqb, ne_eqb}
+use Rattle.command_runs.proofs.live.Words.{eq-eqb, ne_eqb, refl}
 use Rattle.command_runs.proofs.live.FieldsFacts.{return_cut}
 use Rattle.command_runs.proofs.live.record.without_return.Goals as goal
 

@@ -1,9 +1,4 @@
-use Rattle.std.proofs.Common.{◌≡◌, ◌<◌, ◌≤◌, ◌+◌, ◌∙◌, Some, arith, length, refl}
-use Rattle.std.specs.List.{slice_get}
-use Rattle.std.proofs.lemmas.List.{length-set}
-use Rattle.std.proofs.lemmas.Option.{slice_get_read, slice_get_within}
-use Rattle.command_runs.specs.inner.Turns.{IsEnded}
-use Rattle.command_runs.specs.declared.live.waiting.Waiting.{Waiting}
+use Rattle.command_runs.proofs.live.Words.{IsEnded, Some, Waiting, arith, length, length-set, refl, slice_get, slice_get_read, slice_get_within, ◌+◌, ◌<◌, ◌∙◌, ◌≡◌, ◌≤◌}
 use Rattle.command_runs.proofs.live.ListFacts.{set_each}
 use Rattle.command_runs.proofs.live.waiting.end_turn.Goals as goal
 

@@ -1,7 +1,4 @@
-use Rattle.std.proofs.Common.{◌≡◌, ◌<◌, ◌≤◌, Some, length, ℕ}
-use Rattle.std.specs.List.{slice_get}
-use Rattle.command_runs.specs.inner.Turns.{IsEnded}
-use Rattle.command_runs.specs.declared.live.waiting.Waiting.{Waiting}
+use Rattle.command_runs.proofs.live.Words.{IsEnded, Some, Waiting, length, slice_get, ℕ, ◌<◌, ◌≡◌, ◌≤◌}
 use Rattle.command_runs.proofs.live.waiting.end_turn.Given as goal
 
 abbrev pub invariant-loop-index : goal.invariant-loop-index

@@ -1,44 +1,31 @@
-use Rattle.std.proofs.Common.{Some, [], ap, get_or, refl, sym, ◌++◌, ◌∙◌, ◌∷◌}
-use Rattle.std.proofs.lemmas.Option.{slice_get-get_or}
-use Rattle.command_runs.specs.inner.Came.{turn_of}
-use Rattle.command_runs.specs.declared.live.pending.PendingReply.TheVariants as pending
 use Rattle.command_runs.specs.declared.live.record.LineFault.TheVariants as line_fault
-use Rattle.command_runs.proofs.live.CameFacts.{came_blank, came_roomier, came_row, came_unnumbered, message_for, refused_for, spent_for}
+use Rattle.command_runs.specs.declared.live.record.Notice.TheVariants as notice
+use Rattle.command_runs.specs.declared.live.pending.PendingReply.TheVariants as pending
+use Rattle.command_runs.specs.declared.live.record.Record.TheVariants as read
+use Rattle.command_runs.proofs.live.Words.{Some, [], ap, append-nil, refl, sym, turn_of, ◌++◌, ◌∙◌, ◌∷◌}
+use Rattle.command_runs.proofs.live.CameFacts.{came_plain, came_roomier, came_row, none_for, notice_for, spent_for}
 use Rattle.command_runs.proofs.live.LivedFacts.{refused_line, took_none, took_row}
 use Rattle.command_runs.proofs.live.input.Live.keep.Goals as goal
-
-pub next_number-requires-clause-behind : goal.next_number-requires-clause-behind
-next_number-requires-clause-behind g c = λ k w low.
-    let lanes = c.args.self.now.lanes.items in (c.requires.led.3.come.waiting.each k (get_or lanes k w) (slice_get-get_or lanes k w low)).behind
 
 pub returns-in-Blank-clause-takes : goal.returns-in-Blank-clause-takes
 returns-in-Blank-clause-takes g c =
     let s = c.args.self.now in
-    let found = rw c.in-Blank.is at c.requires.found in
-    took_none s _ _ _ refl (λ p at. rw c.in_ok-reserve.ensures.items (came_blank p (turn_of s) at found.0 found.1))
+    let found = rw c.in-Blank.is at c.requires in
+    took_none s _ _ _ refl (λ p at. came_plain p (turn_of s) at _ [] found.0 read.Blank
+    (c.in_ok-reserve.ensures.items ∙ sym (append-nil s.replies.items)) found.1 (none_for p s.lanes.items))
 
-pub returns-in-Message-clause-takes : goal.returns-in-Message-clause-takes
-returns-in-Message-clause-takes g c =
+pub returns-in-Notice-clause-takes : goal.returns-in-Notice-clause-takes
+returns-in-Notice-clause-takes g c =
     let s = c.args.self.now in
-    let found = rw c.in-Message.is at c.requires.found in
-    let reply = pending.Message c.in-Message.lane c.in-Message.text in
-    took_none s _ _ _ refl (λ p at. came_unnumbered p (turn_of s) at _ reply found.0 _
-    (c.push_reserved.ensures.items ∙ ap (λ rs. rs ++ reply ∷ []) c.in_ok-reserve.ensures.items) tt found.1
-    (message_for p c.in-Message.lane c.in-Message.text))
-
-pub returns-in-Refused-clause-takes : goal.returns-in-Refused-clause-takes
-returns-in-Refused-clause-takes g c =
-    let s = c.args.self.now in
-    let found = rw c.in-Refused.is at c.requires.found in
-    let reply = pending.Refused c.in-Refused.lane c.in-Refused.fault in
-    took_none s _ _ _ refl (λ p at. came_unnumbered p (turn_of s) at _ reply found.0 _
-    (c.push_reserved-in-Refused.ensures.items ∙ ap (λ rs. rs ++ reply ∷ []) c.in_ok-reserve.ensures.items) tt found.1
-    (refused_for p c.in-Refused.lane c.in-Refused.fault))
+    let found = rw c.in-Notice.is at c.requires in
+    let reply = pending.Notice c.in-Notice.notice in
+    took_none s _ _ _ refl (λ p at. came_plain p (turn_of s) at _ (reply ∷ []) found.0 _
+    (c.push_reserved.ensures.items ∙ ap (λ rs. rs ++ reply ∷ []) c.in_ok-reserve.ensures.items) found.1 (notice_for p s.lanes.items c.in-Notice.notice))
 
 pub returns-in-Some-clause-takes : goal.returns-in-Some-clause-takes
 returns-in-Some-clause-takes g c =
     let s = c.args.self.now in
-    let found = rw c.in-Row.is at c.requires.found in
+    let found = rw c.in-Row.is at c.requires in
     let lane = c.in-Row.lane in
     let reply = pending.Row lane c.in-Some.number in
     let t = rw c.in-Some.is at c.in_ok-number-in-Row.ensures in
@@ -48,13 +35,13 @@ returns-in-Some-clause-takes g c =
 pub returns-in-None-clause-takes : goal.returns-in-None-clause-takes
 returns-in-None-clause-takes g c =
     let s = c.args.self.now in
-    let found = rw c.in-Row.is at c.requires.found in
+    let found = rw c.in-Row.is at c.requires in
     let lane = c.in-Row.lane in
-    let reply = pending.Refused (Some lane) line_fault.Spent in
+    let reply = pending.Notice (notice.Refused (Some lane) line_fault.Spent) in
     let t = rw c.in-None.is at c.in_ok-number-in-Row.ensures in
-    took_none s _ _ _ refl (λ p at. rw t.3 (came_roomier p _ (came_unnumbered p (turn_of s) at _ reply found.0 _
-    (c.push_reserved-in-None.ensures.items ∙ ap (λ rs. rs ++ reply ∷ []) c.in_ok-reserve.ensures.items) tt found.1
-    (spent_for p lane c.in-Row.row (sym (at.waiting.each lane t.0 t.2).next ∙ t.4.1))) lane t.0 t.1 t.2 t.4.0))
+    took_none s _ _ _ refl (λ p at. rw t.3 (came_roomier p _ (came_plain p (turn_of s) at _ (reply ∷ []) found.0 _
+    (c.push_reserved-in-None.ensures.items ∙ ap (λ rs. rs ++ reply ∷ []) c.in_ok-reserve.ensures.items) found.1
+    (spent_for p s.lanes.items lane c.in-Row.row (sym (at.waiting.each lane t.0 t.2).next ∙ t.4.1))) lane t.0 t.1 t.2 t.4.0))
 
 pub returns-in_err-reserve-clause-takes : goal.returns-in_err-reserve-clause-takes
 returns-in_err-reserve-clause-takes g c =
