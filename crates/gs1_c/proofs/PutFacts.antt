@@ -1,8 +1,6 @@
 -- Buffers that words are put in.
-use Rattle.std.proofs.Common.{◌≡◌, ◌∙◌, ◌+◌, ◌-◌, ◌<◌, ◌≤◌, ℕ, List, [], ◌∷◌, ◌++◌, ap, append_assoc, arith, drop, get_or, length, length-append, refl, slice_set, sym, take}
-use Rattle.std.proofs.lemmas.List.{drop-drop, drop_at, drop_more, length-take-le, set_at, take_at}
-use Rattle.digits_core.specs.Buffers.{pasted}
-use Rattle.digits_core.proofs.Pasted.{length-pasted}
+use Rattle.std.proofs.Common.{◌≡◌, ◌∙◌, ◌+◌, ◌-◌, ◌<◌, ◌≤◌, ℕ, List, [], ◌∷◌, ◌++◌, ap, append_assoc, arith, drop, get_or, length, length-append, refl, slice_set, sym}
+use Rattle.std.proofs.lemmas.List.{drop-drop, drop_at, drop_more, set_at, take_at}
 use borrow.Rule.Slice.PartMut.{put_mid}
 
 -- a word, a space and what stood behind them
@@ -35,17 +33,3 @@ two_words first second out room =
           (32 ∷ []) (second ++ drop (a + length second) out),
       append_assoc first (32 ∷ second) (drop (a + length second) out),
     ) refl
-
--- a word and a space before what is put behind them
-pub word_before : (first second out : List ℕ) → length first + 1 + length second ≤ length out
-    → slice_set (first ++ drop (length first) (pasted out (length first + 1) second)) (length first) 32
-    ≡ (first ++ 32 ∷ second) ++ drop (length (first ++ 32 ∷ second)) out
-word_before first second out room =
-    let a : ℕ = length first + 1 in
-    let now : List ℕ = pasted out a second in
-    let behind : List ℕ = second ++ drop (a + length second) out in
-    let long : length (take a out) ≡ a = length-take-le a out (omega arith) in
-    let whole : length (first ++ 32 ∷ second) ≡ a + length second = omega (arith, length-append first (32 ∷ second)) in
-    spaced first now (omega (arith, length-pasted out a second room))
-    ∙ ap (λ rest. (first ++ 32 ∷ []) ++ rest) (drop_at (take a out) behind a long)
-    ∙ rw (whole, append_assoc first (32 ∷ []) behind, append_assoc first (32 ∷ second) (drop (a + length second) out)) refl

@@ -1,36 +1,22 @@
 //! The lines of answers.
-ghost use Rattle.std.specs.Prelude.{◌≡◌, ◌≤◌, ◌*◌, None, Some, IfErr, IfOk, length};
+ghost use Rattle.std.specs.Prelude.{◌≡◌, ◌≤◌, ◌*◌, List, None, Some, IfErr, IfOk, length, ℕ};
 ghost use Rattle.digits_core.specs.Buffers.{IsPut};
-ghost use Rattle.scan_core.specs.Lines.{said};
-ghost use Rattle.gs1_c.specs.Lines.{IsPackedAnswer, packed_fault};
-ghost use Rattle.gs1_c.specs.inner.Lines.{read_text};
+ghost use Rattle.gs1_c.specs.Lines.{packed_fault};
+ghost use Rattle.gs1_c.specs.inner.Lines.{IsFoundLine, IsPackedFound};
 
-use crate::buffer::{put_elements, put_pairs, put_refusal};
+use crate::buffer::{put_line, put_refusal};
 use element_core::{Form, Year};
-use scan_core::{Answer, RunFault, read_dots};
+use scan_core::{Found, RunFault, find_dots};
 
 /// The most dots of a row.
 const MOST_DOTS: u32 = 65_535;
 
-/// Puts the line of an answer, its elements in a form.
-fn put_answer(answer: &Answer, form: Form, out: &mut [u8]) -> usize
-    ensures { IsPut (said form answer.now) out.old out.new result }
+/// Puts the line of what was found in a row, with its elements in a form, or why there is no row.
+pub fn put_found(found: &Result<Found, RunFault>, year: Year, form: Form, out: &mut [u8]) -> usize
+    ensures { (line : List ℕ) × IsFoundLine form year found.now line × IsPut line out.old out.new result }
 {
-    match answer {
-        Answer::Read { carrier, elements } => match form {
-            Form::HumanReadable => put_elements(carrier.identifier().as_bytes(), elements, out),
-            Form::Pairs => put_pairs(carrier.identifier().as_bytes(), elements, out),
-        },
-        Answer::Refused(fault) => put_refusal(fault.refusal(), out),
-    }
-}
-
-/// Puts the line of the answer to a row, its elements in a form, or why there is none.
-pub fn put_read(read: &Result<Answer, RunFault>, form: Form, out: &mut [u8]) -> usize
-    ensures { IsPut (read_text form read.now) out.old out.new result }
-{
-    match read {
-        Ok(answer) => put_answer(answer, form, out),
+    match found {
+        Ok(found) => put_line(&found.line(year, form), out),
         Err(fault) => put_refusal(fault.refusal(), out),
     }
 }
@@ -49,11 +35,11 @@ pub fn dots_in(bits: &[u8], count: u32) -> Result<u16, RunFault>
     Ok(count as u16)
 }
 
-/// What a row of packed dots says, or why they are no row.
-pub fn read_packed(bits: &[u8], count: u32, year: Year) -> Result<Answer, RunFault>
-    ensures ok { IfOk result (λ a. (packed_fault (length bits.now) count ≡ None) × IsPackedAnswer year bits.now count a) }
+/// What is found in a row of packed dots, or why they are no row.
+pub fn find_packed(bits: &[u8], count: u32) -> Result<Found, RunFault>
+    ensures ok { IfOk result (λ found. (packed_fault (length bits.now) count ≡ None) × IsPackedFound bits.now count found) }
     ensures err { IfErr result (λ fault. packed_fault (length bits.now) count ≡ Some fault) }
 {
     let dots = dots_in(bits, count)?;
-    Ok(read_dots(bits, dots, year))
+    Ok(find_dots(bits, dots))
 }

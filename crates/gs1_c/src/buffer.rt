@@ -2,11 +2,10 @@
 ghost use Rattle.std.specs.Prelude.{◌∷◌, ◌++◌};
 ghost use Rattle.digits_core.specs.Buffers.{IsPut};
 ghost use Rattle.digits_core.specs.Refusals.{refusal_text, refusal_words};
-ghost use Rattle.element_core.specs.Elements.{hri, pairs_text};
 ghost use Rattle.element_core.specs.Lines.{line_text};
 
 use digits_core::{Refusal, RefusalKind};
-use element_core::{Elements, Line};
+use element_core::Line;
 use itoa::Buffer;
 
 /// Puts bytes at the front of `out` if it has room for them all, and says how many they are.
@@ -29,32 +28,6 @@ pub fn put_words(first: &[u8], second: &[u8], out: &mut [u8]) -> usize
         out[..space].copy_from_slice(first);
         out[space] = b' ';
         out[space + 1..count].copy_from_slice(second);
-    }
-    count
-}
-
-/// The same of a word and the human-readable line of elements.
-pub fn put_elements(word: &[u8], elements: &Elements, out: &mut [u8]) -> usize
-    ensures { IsPut (word.now ++ (32 ∷ hri elements.now.list)) out.old out.new result }
-{
-    let space = word.len();
-    let count = space + 1 + elements.put_hri(space + 1, out);
-    if count <= out.len() {
-        out[..space].copy_from_slice(word);
-        out[space] = b' ';
-    }
-    count
-}
-
-/// The same of a word and the pairs of elements.
-pub fn put_pairs(word: &[u8], elements: &Elements, out: &mut [u8]) -> usize
-    ensures { IsPut (word.now ++ (32 ∷ pairs_text elements.now.list)) out.old out.new result }
-{
-    let space = word.len();
-    let count = space + 1 + elements.put_pairs(space + 1, out);
-    if count <= out.len() {
-        out[..space].copy_from_slice(word);
-        out[space] = b' ';
     }
     count
 }

@@ -38,7 +38,7 @@ mod terms;
 mod tests;
 mod titles;
 
-use answer::{put_read, read_packed};
+use answer::{find_packed, put_found};
 use buffer::{put, put_line, put_refusal, put_refused};
 use dates::put_date;
 use digits_core::RefusalKind;
@@ -49,7 +49,7 @@ use message_core::message_line;
 use next::{ElementPlace, first_element};
 use picture::{given_level, put_picture};
 use picture_core::{Reading, words_for};
-use scan_core::read_widths;
+use scan_core::find_widths;
 use sheet_core::Grid;
 use status::status_of;
 use symbol::put_symbol;
@@ -99,7 +99,7 @@ pub extern "C" fn gs1_c_row(widths: &[u16], year: u16, out: &mut [u8]) -> usize
     let Some(terms) = terms_of(year) else {
         return put_refused(RefusalKind::Words, out);
     };
-    put_read(&read_widths(widths, terms), Form::HumanReadable, out)
+    put_found(&find_widths(widths), terms, Form::HumanReadable, out)
 }
 
 /// What a row says, as `gs1_c_row`, with the elements as data: of each its AI, `=` and its value, with a tab
@@ -111,7 +111,7 @@ pub extern "C" fn gs1_c_row_elements(widths: &[u16], year: u16, out: &mut [u8]) 
     let Some(terms) = terms_of(year) else {
         return put_refused(RefusalKind::Words, out);
     };
-    put_read(&read_widths(widths, terms), Form::Pairs, out)
+    put_found(&find_widths(widths), terms, Form::Pairs, out)
 }
 
 /// The elements of an element string, as `gs1_c_text`, as data: of each its AI, `=` and its value, with a tab
@@ -185,7 +185,7 @@ pub extern "C" fn gs1_c_dots(bits: &[u8], count: u32, year: u16, out: &mut [u8])
     let Some(terms) = terms_of(year) else {
         return put_refused(RefusalKind::Words, out);
     };
-    put_read(&read_packed(bits, count, terms), Form::HumanReadable, out)
+    put_found(&find_packed(bits, count), terms, Form::HumanReadable, out)
 }
 
 /// What a row of packed dots says, as `gs1_c_dots`, with the elements as data, as in `gs1_c_row_elements`.
@@ -196,7 +196,7 @@ pub extern "C" fn gs1_c_dots_elements(bits: &[u8], count: u32, year: u16, out: &
     let Some(terms) = terms_of(year) else {
         return put_refused(RefusalKind::Words, out);
     };
-    put_read(&read_packed(bits, count, terms), Form::Pairs, out)
+    put_found(&find_packed(bits, count), terms, Form::Pairs, out)
 }
 
 /// Every symbol of a row of `count` packed dots, given as `gs1_c_dots` takes them: the lines of `gs1_c_find` of the

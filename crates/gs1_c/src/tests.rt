@@ -3,8 +3,8 @@
 use crate::next::ElementPlace;
 use crate::{
     gs1_c_date, gs1_c_digit, gs1_c_dots, gs1_c_dots_elements, gs1_c_find, gs1_c_find_dots,
-    gs1_c_gtin, gs1_c_label, gs1_c_next, gs1_c_row, gs1_c_row_elements, gs1_c_scan, gs1_c_status,
-    gs1_c_text, gs1_c_text_elements, gs1_c_title,
+    gs1_c_gtin, gs1_c_label, gs1_c_next, gs1_c_picture, gs1_c_row, gs1_c_row_elements, gs1_c_scan,
+    gs1_c_status, gs1_c_text, gs1_c_text_elements, gs1_c_title,
 };
 use std::process::Abort;
 
@@ -254,6 +254,89 @@ fn each_symbol_of_packed_dots_is_told(rt: HostRuntime) {
         let count = gs1_c_find_dots(bits, dots, year, &mut out);
         puts(&rt, out.get(..count), wanted);
     }
+}
+
+/// Whether a dot of `DOTS` is dark.
+fn is_dark(dot: usize) -> bool {
+    match DOTS.get(dot / 8) {
+        Some(bits) => (*bits >> (7 - dot % 8)) % 2 == 1,
+        None => false,
+    }
+}
+
+/// Two labels of 113 by 3 dots side by side, whose bars begin 11 dots from the left and end 7 from the right.
+#[test]
+fn symbols_of_rows_are_told_from_left_to_right(rt: HostRuntime) {
+    let mut grey = [255; 678];
+    for (place, value) in grey.iter_mut().enumerate() {
+        if is_dark(place % 113) {
+            *value = 0;
+        }
+    }
+    let mut words = [0; 1492];
+    let mut widths = [0; 228];
+    let mut out = [0; 800];
+    for level in [0, 255] {
+        let count = gs1_c_picture(
+            &grey,
+            226,
+            3,
+            226,
+            level,
+            2026,
+            &mut words,
+            &mut widths,
+            &mut out,
+        );
+        puts(
+            &rt,
+            out.get(..count),
+            b"2816 0 27136 0 27136 768 2816 768 3 ]E0 01=09501101530003\n\
+              31744 0 56064 0 56064 768 31744 768 3 ]E0 01=09501101530003\n",
+        );
+    }
+}
+
+/// A label of 226 by 80 dots, two a module, turned by a quarter: a look reads it, and no row.
+#[test]
+fn symbol_of_a_turned_label_is_told(rt: HostRuntime) {
+    let mut grey = [255; 18_080];
+    for (place, value) in grey.iter_mut().enumerate() {
+        if is_dark(place / 160) {
+            *value = 0;
+        }
+    }
+    let mut words = [0; 3114];
+    let mut widths = [0; 82];
+    let mut out = [0; 400];
+    let turned = gs1_c_picture(
+        &grey,
+        80,
+        226,
+        80,
+        0,
+        2026,
+        &mut words,
+        &mut widths,
+        &mut out,
+    );
+    puts(
+        &rt,
+        out.get(turned.saturating_sub(22)..turned),
+        b"]E0 01=09501101530003\n",
+    );
+    let by_rows = gs1_c_picture(
+        &grey,
+        80,
+        226,
+        80,
+        128,
+        2026,
+        &mut words,
+        &mut widths,
+        &mut out,
+    );
+    puts(&rt, out.get(..by_rows), b"none");
 }
 
 /// AIs and their titles in the GS1 General Specifications.

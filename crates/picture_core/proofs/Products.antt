@@ -1,5 +1,5 @@
 -- Bounds of products of signed numbers.
-use Rattle.std.proofs.Common.{◌≡◌, ℕ, ℤ, pos, neg_ℤ, ◌≤ℤ◌, ◌*ℤ◌, ◌*◌, ◌≤◌, ◌<◌, ◌^◌, arith, to_z, of_z, FitsSigned}
+use Rattle.std.proofs.Common.{ℕ, ℤ, pos, ◌*ℤ◌, ◌*◌, ◌≤◌, ◌<◌, ◌^◌, arith, to_z, of_z, FitsSigned}
 use Rattle.std.proofs.lemmas.Int.{ints, unsigned_abs-mul, fits_signed_mul, to_z-of_z}
 use Rattle.std.proofs.lemmas.Nat.{mul-le}
 use Rattle.std.specs.Int.RustNames.{unsigned_abs}

@@ -1,4 +1,5 @@
 pub mod Lines
+pub mod Order
 pub mod Pictures
 pub mod Places
 pub mod Profiles

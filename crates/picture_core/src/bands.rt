@@ -161,7 +161,7 @@ impl Band {
             rows,
             corners: area.corners(size),
             own_rows: Some(OwnRows { first, last }),
-            line: None,
+            lines: None,
             area,
         })
     }

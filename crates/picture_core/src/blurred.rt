@@ -1,5 +1,5 @@
 //! Whether values without a blur are those of a line if the blur is put back.
-ghost use Rattle.std.specs.Prelude.{◌≡◌, ◌+◌, ◌*◌, ◌<◌, ◌≤◌, ◌^◌, IsTrue, length};
+ghost use Rattle.std.specs.Prelude.{◌≡◌, ◌+◌, ◌-◌, ◌*◌, ◌<◌, ◌≤◌, ◌^◌, ◌↔◌, IsTrue, length};
 ghost use Rattle.picture_core.specs.Profiles.{IsBlurOf, IsBlurred, bell_sum};
 
 use crate::place::product;
@@ -22,16 +22,24 @@ fn bell_sum(bell: &[u32; 7], values: &[u32], dot: usize) -> u128
     sum
 }
 
-/// Whether the clear values, blurred by a bell, are those of the line at a dot, to within a fourth of a range.
-fn is_blur_of(bell: &[u32; 7], values: &[u32], clear: &[u32], range: u32, dot: usize) -> bool
+/// Whether the clear value of a dot lies between a dark and a light one, and the clear values, blurred by a bell, are those of the line
+/// there, to within a sixteenth of the difference of the two.
+fn is_blur_of(
+    bell: &[u32; 7],
+    values: &[u32],
+    clear: &[u32],
+    low: u32,
+    high: u32,
+    dot: usize,
+) -> bool
     requires values { dot < length values.now }
     requires clear { dot < length clear.now }
-    ensures { IsTrue result → IsBlurOf bell.now values.now clear.now range dot }
+    ensures { IsTrue result ↔ IsBlurOf bell.now values.now clear.now low high dot }
 {
     let again = bell_sum(bell, clear, dot);
     let value = 256 * u128::from(values[dot]);
-    let near = 64 * u128::from(range);
-    again <= value + near && value <= again + near
+    let near = 16 * u128::from(high.saturating_sub(low));
+    again <= value + near && value <= again + near && low <= clear[dot] && clear[dot] <= high
 }
 
 /// Whether a blur was taken out, and the clear values are those of the line at a dot if it is put back.
@@ -39,16 +47,17 @@ pub(crate) fn is_blurred(
     cleared: Cleared,
     values: &[u32],
     clear: &[u32],
-    range: u32,
+    low: u32,
+    high: u32,
     dot: usize,
 ) -> bool
     requires values { dot < length values.now }
     requires clear { dot < length clear.now }
-    ensures { IsTrue result → IsBlurred cleared values.now clear.now range dot }
+    ensures { IsTrue result ↔ IsBlurred cleared values.now clear.now low high dot }
 {
     match cleared {
         Cleared::Nothing => false,
-        Cleared::Small => is_blur_of(&SMALL_BELL, values, clear, range, dot),
-        Cleared::Large => is_blur_of(&LARGE_BELL, values, clear, range, dot),
+        Cleared::Small => is_blur_of(&SMALL_BELL, values, clear, low, high, dot),
+        Cleared::Large => is_blur_of(&LARGE_BELL, values, clear, low, high, dot),
     }
 }

@@ -47,6 +47,6 @@ pub use place::{Corners, Point};
 pub use read::{Reading, read_picture};
 pub use room::{Room, words_for};
 pub use said::{Refused, Said};
-pub use seen_line::{Cleared, SeenLine};
+pub use seen_line::{Cleared, SeenLine, SeenLines};
 pub use shown::{MOST, Shown};
 pub use symbol::SeenSymbol;

@@ -11,7 +11,7 @@ use crate::patch::{across, along, grid_over};
 use crate::reader::Reader;
 use crate::room::RowRoom;
 use crate::said::Furthest;
-use crate::seen_line::{Cleared, SeenLine};
+use crate::seen_line::{Cleared, SeenLine, SeenLines};
 use crate::sharp::{Blur, sharpen};
 use crate::shown::Shown;
 use crate::stripes::Blocks;
@@ -192,31 +192,48 @@ fn spots_of(seen: &Seen, grid: &Grid) -> [Spot; 4] {
     ]
 }
 
-/// How many rows of what was seen are asked whether their lines show it.
-const ROWS_ASKED: u8 = 8;
+/// How many steps are made through the rows of what was seen, which are asked whether their lines show it.
+const STEPS: u8 = 31;
 
-/// The lines of a row that show what was seen: the first such of some rows, or else those of its first row.
+/// The lines of two rows that show what was seen: of some rows the first such and the next one.
 fn lines_of(
     reader: &Reader,
     grid: &Grid,
     seen: &Seen,
     look: &Look,
     room: &mut RowRoom,
-) -> SeenLine {
-    let first = grid.lines_of(reader.picture, seen.first.v, look);
-    let Some(said) = &seen.said else {
-        return first;
-    };
+) -> Option<SeenLines> {
+    let said = seen.said.as_ref()?;
     let rows = over(seen.last.v.saturating_sub(seen.first.v), grid.step.max(1));
-    for part in 0..ROWS_ASKED {
-        let row = over(rows.saturating_mul(i64::from(part)), i64::from(ROWS_ASKED));
+    let mut asked = -1;
+    let mut found: Option<SeenLine> = None;
+    for part in 0..STEPS + 1 {
+        let row = over(rows.saturating_mul(i64::from(part)), i64::from(STEPS));
+        if row == asked {
+            continue;
+        }
+        asked = row;
         let v = seen.first.v.saturating_add(row.saturating_mul(grid.step));
         let line = grid.lines_of(reader.picture, v, look);
-        if line_shows(reader.picture, reader.year, said, &line, room).is_some() {
-            return line;
+        if line_shows(reader.picture, reader.year, said, &line, room).is_none() {
+            continue;
+        }
+        match found {
+            Some(first) => {
+                if !first.is_before(&line) {
+                    continue;
+                }
+                return Some(SeenLines {
+                    first,
+                    x: line.x,
+                    y: line.y,
+                    dots: line.dots,
+                });
+            }
+            None => found = Some(line),
         }
     }
-    first
+    None
 }
 
 /// The symbol that was seen on these lines, in a box along its bars: as the rows show these, or else as the stripes go.
@@ -224,7 +241,7 @@ fn placed(
     seen: &mut Seen,
     grid: &Grid,
     stripes: Frame,
-    line: SeenLine,
+    lines: SeenLines,
     size: Size,
 ) -> Option<SeenSymbol> {
     let said = seen.said.take()?;
@@ -238,7 +255,7 @@ fn placed(
         rows: seen.rows,
         corners: area.corners(size),
         own_rows: None,
-        line: Some(line),
+        lines: Some(lines),
         area,
     })
 }
@@ -271,8 +288,10 @@ pub(crate) fn read_patch(
     let sure = tally.sure(grid.step);
     for (seen, is_sure) in tally.all_mut().iter_mut().zip(sure.iter()) {
         if *is_sure {
-            let line = lines_of(reader, &grid, seen, look, room);
-            if let Some(symbol) = placed(seen, &grid, stripes, line, size) {
+            let Some(lines) = lines_of(reader, &grid, seen, look, room) else {
+                continue;
+            };
+            if let Some(symbol) = placed(seen, &grid, stripes, lines, size) {
                 shown.join(symbol, size);
             }
         }

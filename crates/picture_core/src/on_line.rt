@@ -2,7 +2,7 @@
 ghost use Rattle.std.specs.Prelude.{◌≡◌, ◌+◌, ◌<◌, ◌≤◌, ℕ, IfSome, IsTrue, length};
 ghost use Rattle.scan_core.specs.Answers.{IsAnswer};
 ghost use Rattle.scan_core.specs.declared.answer.Answer.TheVariants.{Read};
-ghost use Rattle.picture_core.specs.Profiles.{IsQuietZone, IsRunOfLine, IsShownBy, IsTurn, LineShows};
+ghost use Rattle.picture_core.specs.Profiles.{IsPlainAbout, IsQuietZone, IsRunOfLine, IsShownBy, IsTurn, LineShows};
 
 use crate::edges::level_in;
 use crate::line::{Line, add_along};
@@ -10,7 +10,7 @@ use crate::look::{Look, look_of, put_ends};
 use crate::means::are_means;
 use crate::picture::Picture;
 use crate::place::half_way;
-use crate::profile::{Profile, is_quiet_zone, is_run, is_turn};
+use crate::profile::{Profile, is_plain_about, is_quiet_zone, is_run, is_turn};
 use crate::room::RowRoom;
 use crate::said::{Furthest, Said};
 use crate::scaled::{are_widths, clip_quiet};
@@ -125,6 +125,19 @@ fn are_turns(line: &SeenLine, profile: &Profile, ends: &[u32], count: usize) -> 
     true
 }
 
+/// Whether the mean itself shows a run near each, if a blur was taken out.
+fn are_plain(line: &SeenLine, profile: &Profile, ends: &[u32], count: usize) -> bool
+    ensures { IsTrue result → (run : ℕ) → run < count
+        → IsPlainAbout line.now.cleared line.now profile.now.values.now profile.now.low.now profile.now.high.now ends.now run }
+{
+    'runs: for run in 0..count {
+        if !is_plain_about(line, profile, ends, run) {
+            return false;
+        }
+    }
+    true
+}
+
 /// Whether the values of a line show runs that end here and have these widths.
 fn is_shown_by(
     picture: &Picture,
@@ -150,6 +163,9 @@ fn is_shown_by(
         return false;
     }
     if !are_turns(line, profile, ends, count) {
+        return false;
+    }
+    if !are_plain(line, profile, ends, count) {
         return false;
     }
     if !is_quiet_zone(line, profile, ends, 0, 1, left) {
@@ -205,6 +221,9 @@ fn window_shows(
     };
     clip_quiet(window, widths.as_mut_slice(), &shape);
     if !say(widths.as_slice(), year, said) {
+        return None;
+    }
+    if !line.is_laid() {
         return None;
     }
     let profile = Profile {

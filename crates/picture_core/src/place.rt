@@ -41,7 +41,7 @@ pub(crate) fn half_way(one: u32, other: u32) -> u32
 }
 
 impl Point {
-    ghost use Rattle.picture_core.specs.Places.{IsRightOf};
+    ghost use Rattle.picture_core.specs.Places.{IsBeyond, IsInSize, IsRightOf};
 
     /// The upper left corner of a dot.
     pub(crate) fn of_dots(column: u32, row: u32) -> Point {
@@ -49,6 +49,24 @@ impl Point {
             x: column.min(MOST_DOTS) * UNIT,
             y: row.min(MOST_DOTS) * UNIT,
         }
+    }
+
+    /// Whether this place is on the right, going from one place to another: the triangle of the three has twice this area or more.
+    pub(crate) fn is_beyond(self, from: Point, to: Point, area: u64) -> bool
+        ensures { IsTrue result → IsBeyond from to self area }
+    {
+        product(from.y, to.x) + product(to.y, self.x) + product(self.y, from.x) + u128::from(area)
+            <= product(from.x, to.y) + product(to.x, self.y) + product(self.x, from.y)
+    }
+
+    /// Whether this is a place of a picture of this size.
+    fn is_in_size(self, width: usize, height: usize) -> bool
+        ensures { IsTrue result → IsInSize width height self }
+    {
+        width <= 65_535
+            && height <= 65_535
+            && self.x as usize <= 256 * width
+            && self.y as usize <= 256 * height
     }
 
     /// Whether this place is on the right or straight ahead, going from one place to another.
@@ -61,7 +79,7 @@ impl Point {
 }
 
 impl Corners {
-    ghost use Rattle.picture_core.specs.Places.{AreBarsOn, HaveArea, IsOn, corner_of, middle};
+    ghost use Rattle.picture_core.specs.Places.{AreBarsOn, AreInSize, HaveArea, IsOn, corner_of, lowest, middle};
 
     /// Whether a place is on the symbol.
     pub fn hold(&self, place: Point) -> bool
@@ -71,6 +89,16 @@ impl Corners {
             && place.is_right_of(self.upper_right, self.lower_right)
             && place.is_right_of(self.lower_right, self.lower_left)
             && place.is_right_of(self.lower_left, self.upper_left)
+    }
+
+    /// Whether none is outside of a picture of this size.
+    pub(crate) fn are_in_size(&self, width: usize, height: usize) -> bool
+        ensures { IsTrue result → AreInSize width height self.now }
+    {
+        self.upper_left.is_in_size(width, height)
+            && self.upper_right.is_in_size(width, height)
+            && self.lower_right.is_in_size(width, height)
+            && self.lower_left.is_in_size(width, height)
     }
 
     /// Whether they are the corners of an area.
@@ -103,6 +131,17 @@ impl Corners {
             && self.hold_corner(at.right, at.y)
             && self.hold_corner(at.right, below)
             && self.hold_corner(at.left, below)
+    }
+
+    /// How far down they reach.
+    pub(crate) fn lowest(&self) -> u32
+        ensures { result ≡ lowest self.now }
+    {
+        self.upper_left
+            .y
+            .max(self.upper_right.y)
+            .max(self.lower_right.y)
+            .max(self.lower_left.y)
     }
 
     /// Half way between two opposite corners.

@@ -1,8 +1,10 @@
 //! Whether the values of a line show bars: dot by dot and run by run.
-ghost use Rattle.std.specs.Prelude.{◌≡◌, ◌⊎◌, ◌+◌, ◌-◌, ◌*◌, ◌/◌, ◌<◌, ◌≤◌, ◌^◌, ℕ, IsTrue, length};
-ghost use Rattle.picture_core.specs.Profiles.{AreAround, IsAround, IsBlurred, IsDotOf, IsLighter, IsOfColour, IsQuietZone, IsRunOfLine, IsTurn, IsTurnAt, IsValueOf, at};
+ghost use Rattle.std.specs.Prelude.{◌≡◌, ◌+◌, ◌-◌, ◌*◌, ◌/◌, ◌%◌, ◌<◌, ◌≤◌, ◌^◌, ℕ, IsTrue, length};
+ghost use Rattle.picture_core.specs.Profiles.{AreAround, HasColour, IsAround, IsCrossing, IsDotOf, IsLighter, IsOfColour, IsPlainAbout, IsPlainAt, IsPlainNear, IsQuietZone, IsRunOfLine, IsTurn, IsTurnAt, IsValueOf, at, edge_values, level_at, middle_dot};
+ghost use Rattle.std.specs.Int.{abs_diff};
 
 use crate::blurred::is_blurred;
+use crate::place::{half_way, product};
 use crate::seen_line::{Cleared, SeenLine};
 
 /// The values of a line: those of the mean, those without a blur, and beside each a dark and a light one around it.
@@ -82,7 +84,7 @@ fn is_of_colour(level: u32, run: usize, value: u32) -> bool
     }
 }
 
-/// Whether a dot shows a run by the value of the mean, or else by the clear one.
+/// Whether a dot has the colour of a run by the value that counts there: the clear one if a blur was removed, else the mean.
 fn shows_run(
     cleared: Cleared,
     profile: &Profile,
@@ -93,17 +95,14 @@ fn shows_run(
 ) -> bool
     requires values { dot < length profile.now.values.now }
     requires clear { dot < length profile.now.clear.now }
-    ensures { IsTrue result → IsOfColour (low + (high - low) / 2) run (at profile.now.values.now dot)
-        ⊎ (IsBlurred cleared profile.now.values.now profile.now.clear.now (high - low) dot
-        × IsOfColour (low + (high - low) / 2) run (at profile.now.clear.now dot)) }
+    ensures { IsTrue result → HasColour cleared profile.now.values.now profile.now.clear.now low high run dot }
 {
     let level = middle_of(low, high);
-    if is_of_colour(level, run, profile.values[dot]) {
-        return true;
+    if is_blurred(cleared, profile.values, profile.clear, low, high, dot) {
+        is_of_colour(level, run, profile.clear[dot])
+    } else {
+        is_of_colour(level, run, profile.values[dot])
     }
-    let range = high.saturating_sub(low);
-    is_blurred(cleared, profile.values, profile.clear, range, dot)
-        && is_of_colour(level, run, profile.clear[dot])
 }
 
 /// Whether a dot is one of a run.
@@ -141,7 +140,93 @@ fn are_dots_of(line: &SeenLine, profile: &Profile, run: usize, first: usize, las
     true
 }
 
-/// Whether all dots between the ends of a run are its own.
+/// Whether a value has the colour of a run, this far from the level or farther.
+fn is_plain(level: u32, far: u32, run: usize, value: u32) -> bool
+    ensures dark { IsTrue result → run % 2 ≡ 1 → value + far ≤ level }
+    ensures light { IsTrue result → run % 2 ≡ 0 → level + far ≤ value }
+{
+    if run % 2 == 1 {
+        value <= level && far <= level - value
+    } else {
+        level <= value && far <= value - level
+    }
+}
+
+/// Whether the mean itself has the colour of a run at a dot.
+fn is_plain_at(line: &SeenLine, profile: &Profile, run: usize, dot: usize) -> bool
+    ensures { IsTrue result
+        → IsPlainAt line.now profile.now.values.now profile.now.low.now profile.now.high.now run dot }
+{
+    if dot >= profile.values.len() || dot >= profile.low.len() || dot >= profile.high.len() {
+        return false;
+    }
+    let low = profile.low[dot];
+    let high = profile.high[dot];
+    let far = high.saturating_sub(low) / 16;
+    are_around(line, profile, dot) && is_plain(middle_of(low, high), far, run, profile.values[dot])
+}
+
+/// How long a run is, in 1/256 dot, that the mean itself shows: eight dots.
+const LONG: u32 = 2048;
+
+/// Whether the mean shows a run in its middle, if it is long.
+fn is_plain_run(line: &SeenLine, profile: &Profile, ends: &[u32], run: usize) -> bool
+    requires { run + 1 < length ends.now }
+    ensures { IsTrue result → at ends.now run + 2048 ≤ at ends.now (run + 1)
+        → IsPlainAt line.now profile.now.values.now profile.now.low.now profile.now.high.now run (middle_dot ends.now run) }
+{
+    let from = ends[run];
+    let to = ends[run + 1];
+    if to.saturating_sub(from) < LONG {
+        return true;
+    }
+    is_plain_at(line, profile, run, half_way(from, to) as usize / 256)
+}
+
+/// Whether a run is near another, no quiet zone, and shown by the mean itself.
+fn is_plain_near(line: &SeenLine, profile: &Profile, ends: &[u32], run: usize, other: usize) -> bool
+    ensures { IsTrue result
+        → IsPlainNear line.now profile.now.values.now profile.now.low.now profile.now.high.now ends.now run other }
+{
+    if other == 0 || other >= ends.len() || ends.len() - other <= 2 {
+        return false;
+    }
+    if run.saturating_sub(other) > 10 || other.saturating_sub(run) > 10 {
+        return false;
+    }
+    is_plain_at(
+        line,
+        profile,
+        other,
+        half_way(ends[other], ends[other + 1]) as usize / 256,
+    )
+}
+
+/// Whether one of the runs near another is shown by the mean itself.
+fn has_plain_near(line: &SeenLine, profile: &Profile, ends: &[u32], run: usize) -> bool
+    ensures { IsTrue result → (other : ℕ)
+        × IsPlainNear line.now profile.now.values.now profile.now.low.now profile.now.high.now ends.now run other }
+{
+    'others: for other in run.saturating_sub(10)..run.saturating_add(11).min(ends.len()) {
+        if is_plain_near(line, profile, ends, run, other) {
+            return true;
+        }
+    }
+    false
+}
+
+/// Whether the mean itself shows a run near this one, if a blur was taken out.
+pub(crate) fn is_plain_about(line: &SeenLine, profile: &Profile, ends: &[u32], run: usize) -> bool
+    ensures { IsTrue result
+        → IsPlainAbout line.now.cleared line.now profile.now.values.now profile.now.low.now profile.now.high.now ends.now run }
+{
+    match line.cleared {
+        Cleared::Nothing => true,
+        Cleared::Small | Cleared::Large => has_plain_near(line, profile, ends, run),
+    }
+}
+
+/// Whether all dots between the ends of a run are its own, and the mean shows it in the middle if it is long.
 pub(crate) fn is_run(line: &SeenLine, profile: &Profile, ends: &[u32], run: usize) -> bool
     requires { run + 1 < length ends.now }
     ensures { IsTrue result
@@ -150,6 +235,9 @@ pub(crate) fn is_run(line: &SeenLine, profile: &Profile, ends: &[u32], run: usiz
     let from = ends[run] as usize;
     let to = ends[run + 1] as usize;
     if to <= from {
+        return false;
+    }
+    if !is_plain_run(line, profile, ends, run) {
         return false;
     }
     are_dots_of(line, profile, run, from / 256 + 1, (to + 255) / 256)
@@ -162,6 +250,52 @@ fn is_before_end(ends: &[u32], run: usize, dot: usize) -> bool
     ensures { IsTrue result → run + 1 < length ends.now → 256 * dot ≤ at ends.now (run + 1) }
 {
     run + 1 == ends.len() || 256 * dot <= ends[run + 1] as usize
+}
+
+/// How far apart two values are.
+fn apart(one: u32, other: u32) -> u32
+    ensures { result ≡ abs_diff one other }
+{
+    one.abs_diff(other)
+}
+
+/// How far behind a dot an end may be from where the values pass a level, in 1/256 dot.
+const NEAR: u32 = 4;
+
+/// Whether an end lies where the values pass a level, on a straight way from a dot to the next one.
+fn is_crossing(values: &[u32], level: u32, dot: usize, end: u32) -> bool
+    ensures { IsTrue result → IsCrossing values.now level dot end }
+{
+    if dot >= 16_777_215 || dot + 1 >= values.len() || end > 256 * (dot as u32 + 1) {
+        return false;
+    }
+    let way = product(256, apart(values[dot], level));
+    let all = apart(values[dot], values[dot + 1]);
+    let behind = end.saturating_sub(256 * dot as u32);
+    way <= product(behind + NEAR, all) && product(behind, all) <= way + product(NEAR, all)
+}
+
+/// The values by which edges are placed.
+fn edges_of<'a>(line: &SeenLine, profile: &Profile<'a>) -> &'a [u32]
+    ensures { result.now ≡ edge_values line.now.cleared profile.now.values.now profile.now.clear.now }
+{
+    match line.cleared {
+        Cleared::Nothing => profile.values,
+        Cleared::Small | Cleared::Large => profile.clear,
+    }
+}
+
+/// Whether an end lies where the values of a line pass the level of the dot behind it.
+fn crosses(line: &SeenLine, profile: &Profile, dot: usize, end: u32) -> bool
+    requires { dot < 2 ^ 32 }
+    ensures { IsTrue result → IsCrossing (edge_values line.now.cleared profile.now.values.now profile.now.clear.now)
+        (level_at profile.now.low.now profile.now.high.now (dot + 1)) dot end }
+{
+    if dot + 1 >= profile.low.len() || dot + 1 >= profile.high.len() {
+        return false;
+    }
+    let level = middle_of(profile.low[dot + 1], profile.high[dot + 1]);
+    is_crossing(edges_of(line, profile), level, dot, end)
 }
 
 /// Whether a run ends between one of its dots and the next dot, which is not behind the next end.
@@ -184,7 +318,10 @@ fn is_turn_at(line: &SeenLine, profile: &Profile, ends: &[u32], run: usize, dot:
     if !is_dot_of(line, profile, run, dot) {
         return false;
     }
-    is_dot_of(line, profile, run + 1, dot + 1)
+    if !is_dot_of(line, profile, run + 1, dot + 1) {
+        return false;
+    }
+    crosses(line, profile, dot, ends[run + 1])
 }
 
 /// Whether a run ends between two dots.
@@ -217,7 +354,18 @@ fn are_lighter(values: &[u32], bar: usize, first: usize, last: usize) -> bool
     true
 }
 
-/// Whether a run is a quiet zone: lighter than a dot of the bar beside it, which is the run of another number.
+/// Whether a dot is between the ends of a run, or at one.
+fn is_inside(ends: &[u32], run: usize, dot: usize) -> bool
+    requires within { run + 1 < length ends.now }
+    ensures behind { IsTrue result → at ends.now run ≤ 256 * dot }
+    ensures before { IsTrue result → 256 * dot ≤ at ends.now (run + 1) }
+{
+    dot <= u32::MAX as usize
+        && ends[run] as usize <= 256 * dot
+        && 256 * dot <= ends[run + 1] as usize
+}
+
+/// Whether a run is a quiet zone: light, and lighter than a dot of the bar beside it, which is the run of another number.
 pub(crate) fn is_quiet_zone(
     line: &SeenLine,
     profile: &Profile,
@@ -226,7 +374,8 @@ pub(crate) fn is_quiet_zone(
     beside: usize,
     bar: usize,
 ) -> bool
-    requires { run + 1 < length ends.now }
+    requires run { run + 1 < length ends.now }
+    requires beside { beside + 1 < length ends.now }
     ensures { IsTrue result → IsQuietZone line.now profile.now.values.now profile.now.clear.now profile.now.low.now profile.now.high.now ends.now run beside bar }
 {
     let from = ends[run] as usize;
@@ -234,7 +383,13 @@ pub(crate) fn is_quiet_zone(
     if to <= from {
         return false;
     }
+    if !is_inside(ends, beside, bar) {
+        return false;
+    }
     if !is_dot_of(line, profile, beside, bar) {
+        return false;
+    }
+    if !are_dots_of(line, profile, run, from / 256 + 1, (to + 255) / 256) {
         return false;
     }
     are_lighter(profile.values, bar, from / 256 + 1, (to + 255) / 256)

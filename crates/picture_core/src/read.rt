@@ -1,12 +1,11 @@
 //! Reads pictures.
-ghost use Rattle.std.specs.Prelude.{◌≡◌, ◌≤◌, IfSome};
+ghost use Rattle.std.specs.Prelude.{◌≡◌, ◌≤◌, [], IfSome, OnSome};
 ghost use Rattle.picture_core.specs.Saids.{IsRefusal};
 ghost use Rattle.picture_core.specs.Told.{IsReadingOf};
 
 use crate::bands::read_own_rows;
 use crate::level::level_of;
 use crate::look::{LOOKS, read_patch};
-use crate::order::put_in_order;
 use crate::patch::take_patch;
 use crate::picture::Picture;
 use crate::reader::Reader;
@@ -15,7 +14,7 @@ use crate::said::{Furthest, Refused};
 use crate::shown::{MOST, Shown};
 use crate::stripes::Blocks;
 use crate::symbol::SeenSymbol;
-use crate::telling::keep_told;
+use crate::telling::tell;
 use arrayvec::ArrayVec;
 use element_core::Year;
 
@@ -104,7 +103,8 @@ fn refused_of(
     furthest: &Furthest,
     year: Year,
 ) -> Option<Refused>
-    ensures { IfSome result (λ refused. IsRefusal year refused.fault) }
+    ensures refused { IfSome result (λ refused. IsRefusal year refused.fault) }
+    ensures none { OnSome result (symbols.now.items ≡ []) }
 {
     if symbols.is_empty() {
         return furthest.refused_in(year);
@@ -137,12 +137,12 @@ pub fn read_picture(picture: &Picture, reading: Reading, room: &mut Room, shown:
             &mut furthest,
         );
     }
-    put_in_order(shown.symbols.as_mut_slice());
-    keep_told(
+    tell(
         picture,
         level,
         reading.year,
-        &mut shown.symbols,
+        shown,
+        reading.level,
         room.widths,
         &mut room.row,
     );

@@ -1,6 +1,6 @@
 //! Whether widths are those of the runs of a line.
-ghost use Rattle.std.specs.Prelude.{◌≡◌, ◌+◌, ◌-◌, ◌*◌, ◌<◌, ◌≤◌, ℕ, IsTrue, length, slice_range, sum};
-ghost use Rattle.picture_core.specs.Profiles.{IsScaled, IsWidth, at, slack};
+ghost use Rattle.std.specs.Prelude.{◌≡◌, ◌+◌, ◌-◌, ◌*◌, ◌%◌, ◌<◌, ◌≤◌, ℕ, IsTrue, length, slice_range, sum};
+ghost use Rattle.picture_core.specs.Profiles.{IsCharacter, IsCharacterAt, IsDigitAt, IsNear, IsPair, IsScaled, IsWidth, at, slack};
 
 use crate::place::product;
 use crate::runs::dots_in;
@@ -10,7 +10,7 @@ use crate::shape::Shape;
 fn slack(runs: usize) -> u32
     ensures value { result ≡ slack runs }
 {
-    if runs == 10 { 72 } else { 48 }
+    if runs == 10 { 72 } else { 44 }
 }
 
 /// From one end to another.
@@ -22,11 +22,85 @@ fn between(ends: &[u32], first: usize, last: usize) -> u32
     ends[last].saturating_sub(ends[first])
 }
 
+/// Whether this many runs of this width are a character.
+fn is_character(runs: usize, width: u32) -> bool
+    ensures { IsTrue result → IsCharacter runs width }
+{
+    match runs {
+        4 => width == 336,
+        6 => width == 528,
+        10 => width == 864,
+        _ => false,
+    }
+}
+
+/// Whether a digit of a symbol of so many widths begins here.
+fn is_digit_at(count: usize, first: usize) -> bool
+    ensures { IsTrue result → IsDigitAt count first }
+{
+    match count {
+        35 => first % 4 == 0 || first % 4 == 3,
+        45 | 61 => (first % 4 == 0 && first < count / 2) || (first % 4 == 1 && count / 2 < first),
+        _ => false,
+    }
+}
+
+/// Whether a character of so many runs begins here.
+fn is_character_at(count: usize, runs: usize, first: usize) -> bool
+    ensures { IsTrue result → IsCharacterAt count runs first }
+{
+    match runs {
+        4 => is_digit_at(count, first),
+        6 => count % 6 == 3 && (first % 6 == 1 || first % 6 == 2),
+        10 => count == 79 && (first % 10 == 5 || first % 10 == 4),
+        _ => false,
+    }
+}
+
+/// Whether a run and the one behind it are together as wide as they are said to be, by the scale of the runs from one to another.
+fn is_pair(ends: &[u32], widths: &[u16], run: usize, first: usize, last: usize) -> bool
+    requires run { run + 1 < length widths.now }
+    requires first { first ≤ last }
+    requires last { last < length widths.now }
+    requires few { last ≤ first + 10 }
+    requires ends { length ends.now ≡ length widths.now + 1 }
+    ensures { IsTrue result → IsPair ends.now widths.now run first last }
+{
+    let sum = dots_in(&widths[first..last]);
+    let scale = between(ends, first, last);
+    let wide = product(between(ends, run, run + 2), sum);
+    let told = product(u32::from(widths[run]) + u32::from(widths[run + 1]), scale);
+    let more = product(44, scale);
+    told < wide + more && wide < told + more
+}
+
+/// Whether a run and the one behind it are as wide as they are said to be, if both are inside and no runs of ITF-14.
+fn is_in_pair(ends: &[u32], widths: &[u16], run: usize, first: usize, last: usize) -> bool
+    requires first { first ≤ last }
+    requires last { last < length widths.now }
+    requires few { last ≤ first + 10 }
+    requires ends { length ends.now ≡ length widths.now + 1 }
+    ensures { IsTrue result → 0 < run → run + 2 < length widths.now → last < first + 10 → IsPair ends.now widths.now run first last }
+{
+    if run == 0 || run >= widths.len() || widths.len() - run <= 2 || last - first == 10 {
+        return true;
+    }
+    is_pair(ends, widths, run, first, last)
+}
+
+/// Whether a run is of whole modules, or a quiet zone.
+fn is_whole(widths: &[u16], run: usize) -> bool
+    requires { run < length widths.now }
+    ensures { IsTrue result → 0 < run → run + 1 < length widths.now → at widths.now run % 48 ≡ 0 }
+{
+    run == 0 || run + 1 == widths.len() || widths[run] % 48 == 0
+}
+
 /// Whether a run is as wide as it is said to be, by the scale of the runs from one to another.
-fn is_scaled(ends: &[u32], widths: &[u16], run: usize, first: usize, last: usize) -> bool
+fn is_near(ends: &[u32], widths: &[u16], run: usize, first: usize, last: usize) -> bool
     requires run { run < length widths.now }
     requires ends { length ends.now ≡ length widths.now + 1 }
-    ensures { IsTrue result → IsScaled ends.now widths.now run first last }
+    ensures { IsTrue result → IsNear ends.now widths.now run first last }
 {
     if first == 0 || last >= widths.len() || last.saturating_sub(first) < 4 || last - first > 10 {
         return false;
@@ -43,6 +117,27 @@ fn is_scaled(ends: &[u32], widths: &[u16], run: usize, first: usize, last: usize
         return false;
     }
     run == 0 || run + 1 == widths.len() || wide < told + more
+}
+
+/// Whether a run is as wide as it is said to be, in whole modules, by the scale of the character from one run to another.
+fn is_scaled(ends: &[u32], widths: &[u16], run: usize, first: usize, last: usize) -> bool
+    requires run { run < length widths.now }
+    requires ends { length ends.now ≡ length widths.now + 1 }
+    ensures { IsTrue result → IsScaled ends.now widths.now run first last }
+{
+    if !is_near(ends, widths, run, first, last) {
+        return false;
+    }
+    if !is_character(last - first, dots_in(&widths[first..last])) {
+        return false;
+    }
+    if !is_character_at(widths.len(), last - first, first) {
+        return false;
+    }
+    if !is_in_pair(ends, widths, run, first, last) {
+        return false;
+    }
+    is_whole(widths, run)
 }
 
 /// Whether a run is as wide as it is said to be, by the scale of the character that it is in or next to.

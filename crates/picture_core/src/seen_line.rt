@@ -1,6 +1,6 @@
 //! The lines of a picture along which a look saw a symbol.
-ghost use Rattle.picture_core.specs.Lines.{down_at, part_of, part_start, place_at, reach_of, right_at};
-ghost use Rattle.std.specs.Prelude.{◌≡◌, ◌<◌, ◌^◌};
+ghost use Rattle.picture_core.specs.Lines.{IsBefore, IsLaid, second_of, down_at, length_of, part_of, part_start, place_at, reach_of, right_at, square_of};
+ghost use Rattle.std.specs.Prelude.{◌≡◌, ◌<◌, ◌≤◌, ◌^◌, IsTrue};
 
 use crate::place::Point;
 
@@ -32,7 +32,80 @@ pub struct SeenLine {
     pub is_inverted: bool,
 }
 
+/// How long a step is one way, which may go back.
+fn length_of(step: u32) -> u64
+    ensures value { result ≡ length_of step }
+    ensures few { result ≤ 2 ^ 31 }
+{
+    if step == 0 {
+        return 0;
+    }
+    u64::from(step.min(u32::MAX - step + 1))
+}
+
+/// The square of a step.
+fn square_of(across: u32, down: u32) -> u64
+    ensures value { result ≡ square_of across down }
+    ensures few { result ≤ 2 ^ 63 }
+{
+    length_of(across) * length_of(across) + length_of(down) * length_of(down)
+}
+
+/// The square of a dot, and how far that of a step may be from it.
+const DOT: u64 = 1 << 32;
+
+const ROUNDED: u64 = 1 << 20;
+
+/// Two groups of lines of a look that show a symbol, the second one at another place across the stripes.
+#[derive(Clone, Copy)]
+pub struct SeenLines {
+    pub first: SeenLine,
+    /// Where the second group's first line begins, as of a `SeenLine`, and how many dots it has. The rest is the first group's.
+    pub x: u32,
+    pub y: u32,
+    pub dots: u32,
+}
+
+impl SeenLines {
+    /// The second group.
+    pub fn second(&self) -> SeenLine
+        ensures { result ≡ second_of self.now }
+    {
+        SeenLine {
+            x: self.x,
+            y: self.y,
+            dots: self.dots,
+            ..self.first
+        }
+    }
+}
+
+/// A dot times a dot, in squares of 1/256 dot.
+const SQUARE: u64 = 65_536;
+
 impl SeenLine {
+    /// Whether the line in the middle of others stands beside that of these, a dot more than there are lines or farther.
+    pub(crate) fn is_before(&self, other: &SeenLine) -> bool
+        ensures { IsTrue result → IsBefore self.now other.now }
+    {
+        if self.dots == 0 {
+            return false;
+        }
+        other.place_at(0).is_beyond(
+            self.place_at(0),
+            self.place_at(self.dots - 1),
+            SQUARE * (u64::from(self.lines) + 1) * u64::from(self.dots - 1),
+        )
+    }
+
+    /// Whether there are at most nine lines, and the step from dot to dot is a dot long.
+    pub(crate) fn is_laid(&self) -> bool
+        ensures { IsTrue result → IsLaid self.now }
+    {
+        let square = square_of(self.across, self.down);
+        self.lines <= 9 && square <= DOT + ROUNDED && DOT <= square + ROUNDED
+    }
+
     /// How far right a dot of one of the lines stands.
     pub(crate) fn right_at(&self, dot: u32, line: u32) -> u32
         ensures { result ≡ right_at self.now dot line }

@@ -1,5 +1,5 @@
 //! What a picture shows.
-ghost use Rattle.std.specs.Prelude.{◌≡◌, ◌<◌, ◌+◌, ◌++◌, ◌∷◌, [], Some};
+ghost use Rattle.std.specs.Prelude.{◌≡◌, ◌<◌, ◌+◌, ◌++◌, ◌∷◌, [], Some, length};
 ghost use Rattle.arrayvec.specs.ArrayVec.{array_vec_len};
 
 use crate::area::Size;
@@ -18,10 +18,16 @@ pub struct Shown {
     pub level: u8,
     /// Its symbols in the order of reading. Each place of the list has one.
     pub symbols: ArrayVec<Option<SeenSymbol>, MOST>,
+    /// How many symbols were found, each as often as it was; those too that are not reported.
+    pub found: u32,
+    /// How many of them are not reported though there was room: they are part of another one or contradict it, or the picture did not
+    /// show them when they were looked up once more.
+    pub left_out: u32,
     /// How many more there was no room for, at least.
     pub dropped: u32,
     /// If there is no symbol, why: of the rows that were looked at the refusal that came furthest.
     pub refused: Option<Refused>,
+    ghost counted: { found < 4294967295 → found ≡ length symbols.items + left_out + dropped },
 }
 
 /// The place of a symbol that is the same or a part of it.
@@ -36,20 +42,41 @@ fn place_of(all: &[Option<SeenSymbol>], symbol: &SeenSymbol) -> Option<usize> {
     None
 }
 
+/// Whether a symbol says something else of the place of one of these.
+fn is_against_one(all: &[Option<SeenSymbol>], symbol: &SeenSymbol) -> bool {
+    for other in all {
+        if let Some(other) = other {
+            if symbol.is_against(other) {
+                return true;
+            }
+        }
+    }
+    false
+}
+
 impl Shown {
     /// Room for what a picture shows, which takes some 70 kB.
     pub fn new() -> Shown {
         Shown {
             level: 0,
             symbols: ArrayVec::new(),
+            found: 0,
+            left_out: 0,
             dropped: 0,
             refused: None,
         }
     }
 
     /// Takes out all that it holds.
-    pub(crate) fn clear(&mut self) {
+    pub(crate) fn clear(&mut self)
+        ensures symbols { self.new.symbols.items ≡ [] }
+        ensures found { self.new.found ≡ 0 }
+        ensures left_out { self.new.left_out ≡ 0 }
+        ensures dropped { self.new.dropped ≡ 0 }
+    {
         self.symbols.clear();
+        self.found = 0;
+        self.left_out = 0;
         self.dropped = 0;
         self.refused = None;
     }
@@ -58,7 +85,23 @@ impl Shown {
     pub(crate) fn drop_more(&mut self, count: u32)
         ensures { self.old.dropped + count < 4294967296 → self.new.dropped ≡ self.old.dropped + count }
     {
+        self.found = added(self.found, count);
         self.dropped = added(self.dropped, count);
+    }
+
+    /// Counts a symbol that is not added.
+    fn leave_out(&mut self) {
+        self.found = added(self.found, 1);
+        self.left_out = added(self.left_out, 1);
+    }
+
+    /// Takes a symbol out.
+    fn take_out(&mut self, place: usize) -> Option<SeenSymbol>
+        requires { place < length self.old.symbols.items }
+    {
+        let taken = self.symbols.remove(place);
+        self.left_out = added(self.left_out, 1);
+        taken
     }
 
     /// Adds a symbol, or counts it if there is no room for it.
@@ -68,24 +111,23 @@ impl Shown {
     {
         if self.symbols.try_push(Some(symbol)).is_err() {
             self.drop_more(1);
+        } else {
+            self.found = added(self.found, 1);
         }
     }
 
     /// Adds a symbol, if it may be one of those that are found; if one of them says something else it stands.
     pub(crate) fn join(&mut self, mut symbol: SeenSymbol, size: Size) {
-        for other in self.symbols.as_slice() {
-            if let Some(other) = other {
-                if symbol.is_against(other) {
-                    return;
-                }
-            }
+        if is_against_one(self.symbols.as_slice(), &symbol) {
+            self.leave_out();
+            return;
         }
         for _ in 0..MOST {
             let Some(same) = place_of(self.symbols.as_slice(), &symbol) else {
                 break;
             };
             if same < self.symbols.len() {
-                if let Some(other) = self.symbols.remove(same) {
+                if let Some(other) = self.take_out(same) {
                     symbol.take_in(&other);
                 }
             }

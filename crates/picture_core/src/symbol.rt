@@ -3,7 +3,7 @@ use crate::area::Area;
 use crate::own_row::OwnRows;
 use crate::place::Corners;
 use crate::said::Said;
-use crate::seen_line::SeenLine;
+use crate::seen_line::SeenLines;
 
 /// A symbol of a picture.
 #[derive(Drop)]
@@ -16,8 +16,8 @@ pub struct SeenSymbol {
     pub corners: Corners,
     /// Two of the picture's own rows that show it, if it was found in these and nowhere else.
     pub own_rows: Option<OwnRows>,
-    /// Lines of the picture that show it, if it was found along stripes.
-    pub line: Option<SeenLine>,
+    /// Two groups of lines of the picture that show it, if it was found along stripes.
+    pub lines: Option<SeenLines>,
     pub(crate) area: Area,
 }
 

@@ -3,16 +3,19 @@ ghost use Rattle.std.specs.Prelude.{◌≡◌, ◌⊎◌, IfNone, IfSome, IsSome
 ghost use Rattle.scan_core.specs.Row.{IsRow};
 ghost use Rattle.picture_core.specs.declared.symbol.SeenSymbol.{SeenSymbol};
 ghost use Rattle.picture_core.specs.Rows.{IsWindowAt, RowShows};
-ghost use Rattle.picture_core.specs.Told.{AreApart, AreApartIn, AreOwnRows, IsOnLine, IsSymbolIn, IsSomeSymbolIn};
+ghost use Rattle.picture_core.specs.Order.{AreInReadingOrder, symbol_at};
+ghost use Rattle.picture_core.specs.Told.{AreApart, AreApartIn, AreOnLines, AreOwnRows, HasOwnRows, HaveOwnRows, IsOnLine, IsSymbolIn, IsSomeSymbolIn};
 
+use crate::count::added;
 use crate::on_line::line_shows;
+use crate::order::{are_in_order, put_in_order};
 use crate::own_row::{OwnRow, OwnRows};
 use crate::picture::Picture;
 use crate::room::RowRoom;
 use crate::runs::{dots_in, put_runs};
 use crate::said::{Furthest, Said};
-use crate::seen_line::SeenLine;
-use crate::shown::MOST;
+use crate::seen_line::{SeenLine, SeenLines};
+use crate::shown::{MOST, Shown};
 use crate::symbol::SeenSymbol;
 use arrayvec::ArrayVec;
 use element_core::Year;
@@ -137,18 +140,42 @@ fn is_on_line(
     }
 }
 
+/// Whether two groups of lines side by side show a symbol.
+fn are_on_lines(
+    picture: &Picture,
+    year: Year,
+    symbol: &SeenSymbol,
+    lines: &SeenLines,
+    row: &mut RowRoom,
+) -> bool
+    ensures { IsTrue result → AreOnLines picture.now year symbol.now lines.now }
+{
+    let second = lines.second();
+    if !lines.first.is_before(&second) {
+        return false;
+    }
+    if !is_on_line(picture, year, symbol, &lines.first, row) {
+        return false;
+    }
+    is_on_line(picture, year, symbol, &second, row)
+}
+
+/// Whether a symbol names lines, and they show it.
+fn is_on_its_lines(picture: &Picture, year: Year, symbol: &SeenSymbol, row: &mut RowRoom) -> bool
+    ensures { IsTrue result → IsSomeAnd symbol.now.lines (AreOnLines picture.now year symbol.now) }
+{
+    match &symbol.lines {
+        Some(lines) => are_on_lines(picture, year, symbol, lines, row),
+        None => false,
+    }
+}
+
 /// Whether the lines of a symbol show it, if it names no rows of the picture.
 fn lines_show(picture: &Picture, year: Year, symbol: &SeenSymbol, row: &mut RowRoom) -> bool
     ensures { IsTrue result → IfNone symbol.now.own_rows
-        (IsSomeAnd symbol.now.line (IsOnLine picture.now year symbol.now)) }
+        (IsSomeAnd symbol.now.lines (AreOnLines picture.now year symbol.now)) }
 {
-    if symbol.own_rows.is_some() {
-        return true;
-    }
-    match &symbol.line {
-        Some(line) => is_on_line(picture, year, symbol, line, row),
-        None => false,
-    }
+    symbol.own_rows.is_some() || is_on_its_lines(picture, year, symbol, row)
 }
 
 /// Whether all holds that is promised of a symbol.
@@ -167,6 +194,12 @@ fn is_told(
         return false;
     }
     if !is_enough(symbol.rows, picture.height()) {
+        return false;
+    }
+    if !symbol
+        .corners
+        .are_in_size(picture.width(), picture.height())
+    {
         return false;
     }
     if !symbol.corners.have_area() {
@@ -231,7 +264,7 @@ fn may_be_told(
 }
 
 /// Keeps the symbols that may be reported, each after those before it.
-pub(crate) fn keep_told(
+fn keep_told(
     picture: &Picture,
     level: u8,
     year: Year,
@@ -242,6 +275,7 @@ pub(crate) fn keep_told(
     requires { picture.now.width + 2 ≤ length widths.old }
     ensures told { All (IsSomeSymbolIn picture.now level year) symbols.new.items }
     ensures apart { AllPairs AreApartIn symbols.new.items }
+    ensures few { length symbols.new.items ≤ length symbols.old.items }
 {
     let mut count = 0;
     'symbols: for _ in 0..MOST {
@@ -254,4 +288,92 @@ pub(crate) fn keep_told(
         }
     }
     symbols.truncate(count);
+}
+
+/// Whether a symbol, if there is one, names own rows.
+fn names_rows(symbol: &Option<SeenSymbol>) -> bool
+    ensures { IsTrue result → HasOwnRows symbol.now }
+{
+    match symbol {
+        Some(symbol) => symbol.own_rows.is_some(),
+        None => true,
+    }
+}
+
+/// Whether the symbol at a place names own rows.
+fn has_own_rows(symbols: &[Option<SeenSymbol>], place: usize) -> bool
+    requires { place < length symbols.now }
+    ensures { IsTrue result → HasOwnRows (symbol_at symbols.now place) }
+{
+    names_rows(&symbols[place])
+}
+
+/// Whether all symbols name own rows.
+fn have_own_rows(symbols: &[Option<SeenSymbol>]) -> bool
+    ensures { IsTrue result → HaveOwnRows symbols.now }
+{
+    'symbols: for place in 0..symbols.len() {
+        if !has_own_rows(symbols, place) {
+            return false;
+        }
+    }
+    true
+}
+
+/// Whether only own rows are asked for, and other symbols are among these.
+fn are_others(symbols: &[Option<SeenSymbol>], level: Option<u8>) -> bool
+    ensures { (IsTrue result → ⊥) → IfSome level (λ l. HaveOwnRows symbols.now) }
+{
+    level.is_some() && !have_own_rows(symbols)
+}
+
+/// Puts symbols in the order of reading, and keeps those that may be reported.
+fn keep_in_order(
+    picture: &Picture,
+    level: u8,
+    year: Year,
+    symbols: &mut ArrayVec<Option<SeenSymbol>, MOST>,
+    given: Option<u8>,
+    widths: &mut [u16],
+    row: &mut RowRoom,
+)
+    requires { picture.now.width + 2 ≤ length widths.old }
+    ensures told { All (IsSomeSymbolIn picture.now level year) symbols.new.items }
+    ensures apart { AllPairs AreApartIn symbols.new.items }
+    ensures own { IfSome given (λ l. HaveOwnRows symbols.new.items) }
+    ensures order { AreInReadingOrder symbols.new.items }
+    ensures few { length symbols.new.items ≤ length symbols.old.items }
+{
+    put_in_order(symbols.as_mut_slice());
+    keep_told(picture, level, year, symbols, widths, row);
+    if !are_in_order(symbols.as_slice()) {
+        // The highest symbol of a line was not kept. Those that are left are looked up in their order: all are kept.
+        put_in_order(symbols.as_mut_slice());
+        keep_told(picture, level, year, symbols, widths, row);
+    }
+    if !are_in_order(symbols.as_slice()) || are_others(symbols.as_slice(), given) {
+        symbols.clear();
+    }
+}
+
+/// Leaves of the symbols that were found those that may be reported, in the order of reading.
+pub(crate) fn tell(
+    picture: &Picture,
+    level: u8,
+    year: Year,
+    shown: &mut Shown,
+    given: Option<u8>,
+    widths: &mut [u16],
+    row: &mut RowRoom,
+)
+    requires { picture.now.width + 2 ≤ length widths.old }
+    ensures told { All (IsSomeSymbolIn picture.now level year) shown.new.symbols.items }
+    ensures apart { AllPairs AreApartIn shown.new.symbols.items }
+    ensures order { AreInReadingOrder shown.new.symbols.items }
+    ensures own { IfSome given (λ l. HaveOwnRows shown.new.symbols.items) }
+{
+    let found = shown.symbols.len();
+    keep_in_order(picture, level, year, &mut shown.symbols, given, widths, row);
+    let gone = found - shown.symbols.len();
+    shown.left_out = added(shown.left_out, gone as u32);
 }

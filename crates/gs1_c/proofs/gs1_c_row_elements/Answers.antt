@@ -2,7 +2,6 @@ use Rattle.std.proofs.Common.{List, ℕ}
 use Rattle.element_core.specs.declared.form.Form.TheVariants.{Pairs}
 use Rattle.scan_core.specs.Row.{runs_fault}
 use Rattle.gs1_c.specs.Lines.{IsWidthsLine}
-use Rattle.gs1_c.specs.inner.Lines.{read_text}
 use Rattle.element_core.specs.Terms.{Terms}
 use Rattle.gs1_c.proofs.LinesByTerms.{under, widths_line}
 use Rattle.gs1_c.proofs.gs1_c_row_elements.Goals as goal
@@ -10,7 +9,8 @@ use Rattle.gs1_c.proofs.gs1_c_row_elements.Goals as goal
 pub returns : goal.returns
 returns c =
     let widths = c.args.widths.now in
-    let read = c.read_widths in
+    let found = c.find_widths in
+    let put = c.put_found.ensures in
     let IsLine : Terms → List ℕ → Type 0 = λ year. IsWidthsLine Pairs year widths (runs_fault widths) in
-    let said = widths_line Pairs c.in-Some.terms widths read.result read.ensures.ok read.ensures.taken read.ensures.refused in
-    (read_text Pairs read.result, under _ c.in-Some.terms _ (λ t. IsLine t (read_text Pairs read.result)) c.in-Some.ensures said, c.put_read.ensures)
+    let said = widths_line Pairs c.in-Some.terms widths found.result put.0 found.ensures.ok found.ensures.taken found.ensures.refused put.1 in
+    (put.0, under _ c.in-Some.terms _ (λ t. IsLine t put.0) c.in-Some.ensures said, put.2)

@@ -1,4 +1,4 @@
-use Rattle.std.proofs.Common.{◌≡◌, ◌+◌, ◌*◌, ◌<◌, ◌≤◌, ℕ, add-one, arith, refl}
+use Rattle.std.proofs.Common.{add-one, arith, refl}
 use Rattle.picture_core.specs.Lines.{IsAmidDots, down_at, right_at}
 use Rattle.picture_core.proofs.BelowFacts.{below_more}
 use Rattle.picture_core.proofs.means.sum_at.Goals as goal

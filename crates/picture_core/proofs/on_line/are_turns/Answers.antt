@@ -1,4 +1,4 @@
-use Rattle.std.proofs.Common.{◌+◌, ◌<◌, ◌≤◌, ℕ, arith}
+use Rattle.std.proofs.Common.{arith}
 use Rattle.picture_core.specs.Profiles.{IsTurn}
 use Rattle.picture_core.proofs.BelowFacts.{below_more}
 use Rattle.picture_core.proofs.on_line.are_turns.Goals as goal

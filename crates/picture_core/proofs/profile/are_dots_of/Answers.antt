@@ -1,4 +1,4 @@
-use Rattle.std.proofs.Common.{◌+◌, ◌<◌, ◌≤◌, ℕ, arith}
+use Rattle.std.proofs.Common.{arith}
 use Rattle.picture_core.specs.Profiles.{IsDotOf}
 use Rattle.picture_core.proofs.BelowFacts.{from_more}
 use Rattle.picture_core.proofs.profile.are_dots_of.Goals as goal

@@ -9,5 +9,6 @@ returns c = λ yes. let next : c.args.run + 1 + 1 ≡ c.args.run + 2 = omega ari
       before = c.if-dot-end.false;
       own = λ more. subst (λ k. 256 * (c.args.dot + 1) ≤ at c.args.ends.now k) next (c.is_before_end.ensures (cc) (omega (arith, more)));
       one = c.is_dot_of.ensures (cc);
-      other = c.is_dot_of-2.ensures yes;
+      other = c.is_dot_of-2.ensures (cc);
+      crossing = c.crosses.ensures yes;
     }

@@ -19,6 +19,7 @@ symbols-preserved c = elim c.if-count-len.branch [
       subst (λ (xs : List (Option SeenSymbol)). AreApartIn (get_or xs k d) (get_or xs n d)) value (w.may_be_told.ensures.apart w.if-may_be_told.true k d low) in
       let within : n < length items = omega (arith, w.if-count-len.true, c.len.ensures.value) in
       rw (w.symbols-is, w.count-is) (record {
+        few = c.symbols.invariant.few;
         within = let more : n + 1 ≤ length items = omega arith in more;
         told = All-more P items n None within c.symbols.invariant.told told;
         apart = pairs_more AreApartIn items n within c.symbols.invariant.apart apart;
@@ -29,6 +30,7 @@ symbols-preserved c = elim c.if-count-len.branch [
       let same : take n w.remove.new.self.items ≡ take n items = ap (take n) w.remove.ensures.items ∙ front_stays items n c.symbols.invariant.within in
       let within : n < length items = omega (arith, w.if-count-len.true, c.len.ensures.value) in
       rw (w.symbols-is, w.count-is) (record {
+        few = omega (arith, w.remove.ensures.len, c.symbols.invariant.few);
         within = let e : n ≤ length w.remove.new.self.items = omega (arith, w.remove.ensures.len) in e;
         told = subst (All (IsSomeSymbolIn c.args.picture.now c.args.level c.args.year)) (sym same) c.symbols.invariant.told;
         apart = subst (AllPairs AreApartIn) (sym same) c.symbols.invariant.apart;
