@@ -5,10 +5,10 @@ use Rattle.std.specs.List.{AllByRecursion}
 use Rattle.std.proofs.lemmas.List.{length-append, length-set, map-append, replicate_more, take_all, take_more, take_more_set}
 use Rattle.std.proofs.lemmas.List.Sums.{sum_by_push}
 use Rattle.scan_core.specs.Row.{dots_from}
-use Rattle.scan_core.specs.inner.Cutting.{IsRowOf}
-use Rattle.scan_core.proofs.RunsCutOfDots.{Cut, end_dark, end_light}
+use Rattle.scan_core.specs.inner.Cutting.{Cut, IsRowOf, colour}
+use Rattle.scan_core.proofs.RunsCutOfDots.{end_dark, end_light}
 use mathlib.Core.Bool.{beq}
-use Rattle.scan_core.proofs.DotFacts.{colour, colour_more, dots_from-push}
+use Rattle.scan_core.proofs.DotFacts.{colour_more, dots_from-push}
 use Rattle.scan_core.proofs.RowFacts.{each-push}
 use Rattle.picture_core.specs.Rows.{dark_dots}
 

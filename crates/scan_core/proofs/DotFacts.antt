@@ -3,6 +3,7 @@ use Rattle.std.proofs.Common.{◌≡◌, ◌⊎◌, ℕ, zero, suc, ◌+◌, ◌
 use Rattle.std.specs.List.{AllByRecursion}
 use Rattle.std.proofs.lemmas.List.{append_assoc, append-nil, length-reverse, replicate_more, reverse-append}
 use Rattle.scan_core.specs.Row.{IsRow, dots_from, dots_of}
+use Rattle.scan_core.specs.inner.Cutting.{colour}
 
 -- what may come after a run of this colour: the last is light, and each but the last has a dot
 abbrev After : Bool → List ℕ → Type 0
@@ -46,11 +47,6 @@ same_rest dark (v ∷ vs) [] h k e = absurd (nothing dark v vs k h (sym e))
 same_rest dark (v ∷ vs) (w ∷ ws) h k e =
     let both = same_width (not dark) v w vs ws h.1 k.1 e in
     ap₂ (λ x xs. x ∷ xs) both.0 (same_rest (not dark) vs ws h.1 k.1 both.1)
-
--- the colour of a run, by how many come before it
-abbrev pub colour : Bool → ℕ → Bool
-colour dark zero = dark
-colour dark (suc n) = colour (not dark) n
 
 pub even_colour : (dark : Bool) (n : ℕ) → n % 2 ≡ 0 → colour dark n ≡ dark
 even_colour dark zero e = refl

@@ -1,4 +1,3 @@
-pub mod AlikeFacts
 pub mod AnswerFacts
 pub mod CandidateFacts
 pub mod CandidateShows
@@ -23,3 +22,4 @@ pub mod StageFacts
 pub mod TurnedFacts
 pub mod WayFacts
 pub mod WindowFacts
+pub mod WordFacts

@@ -16,7 +16,8 @@ use Rattle.scan_core.specs.inner.FirstRuns.{AreFirst}
 use Rattle.scan_core.specs.inner.Parts.{IsPart, shifted}
 use Rattle.scan_core.specs.declared.dot_symbols.Section.{Section}
 use Rattle.scan_core.specs.declared.dots.FirstRuns.{FirstRuns}
-use Rattle.scan_core.proofs.DotFacts.{colour, dots_determine, even_colour}
+use Rattle.scan_core.specs.inner.Cutting.{colour}
+use Rattle.scan_core.proofs.DotFacts.{dots_determine, even_colour}
 use Rattle.scan_core.proofs.FirstFacts.{front_le}
 use Rattle.scan_core.proofs.RunsOfDots.{length-dots_from, runs_of_row}
 use Rattle.element_core.specs.Terms.{Terms}

@@ -1,27 +1,18 @@
 -- Runs that are cut out of dots, one after the other.
 use Rattle.std.proofs.Common.{◌≡◌, ◌⊎◌, ℕ, zero, suc, ◌+◌, ◌-◌, ◌%◌, ◌<◌, ◌≤◌, Bool, true, false, not, List, [], ◌∷◌, ◌++◌, length, drop, sum, replicate, inl, inr, refl, sym, ap, ap₂, add-zero, subst, ◌∙◌, arith}
 use Rattle.std.specs.List.{AllByRecursion}
-use Rattle.std.proofs.lemmas.Bool.{cases_lt}
-use Rattle.std.proofs.lemmas.List.{append-nil, append_assoc, length-append, replicate_more, take_at}
+use Rattle.std.proofs.lemmas.List.{append-nil, append_assoc, length-append, replicate-append-replicate, replicate_more, take_at}
 use Rattle.std.proofs.lemmas.List.FromFn.{map-range_with_len_more}
 use Rattle.std.proofs.lemmas.List.Sums.{sum_by_push}
 use Rattle.scan_core.specs.Bits.{dot_at, dots_at}
 use Rattle.scan_core.specs.Row.{IsRow, dots_from, dots_of, inner}
-use Rattle.scan_core.specs.inner.Cutting.{IsFrontOf, IsRowOf}
-use Rattle.scan_core.proofs.DotFacts.{colour, colour_more, dots_from-push}
+use Rattle.scan_core.specs.inner.Cutting.{Cut, IsFrontOf, IsRowOf, colour}
+use Rattle.scan_core.proofs.DotFacts.{colour_more, dots_from-push}
 use Rattle.scan_core.proofs.RowFacts.{each-push}
 
 -- each run has a dot
 abbrev Each : List ℕ → Type 0
 Each ws = AllByRecursion (λ w. 1 ≤ w) ws
-
--- the finished runs, and this many dots of the run that the last of n dots is in
-pub record Cut (widths : List ℕ) (run : ℕ) (dark : Bool) (n : ℕ) (dots : List Bool) : Type 0 where
-  pub joined : dots_from false widths ++ replicate run dark ≡ dots
-  pub dark_is : dark ≡ colour false (length widths)
-  pub each : Each (drop 1 widths)
-  pub begun : 0 < length widths → 0 < run
-  pub total : sum widths + run ≡ n
 
 -- more dots of one colour behind others
 dots_more : (bits : List ℕ) (from n more : ℕ) (dark : Bool) → ((k : ℕ) → n ≤ k → k < n + more → dot_at bits (from + k) ≡ dark)
@@ -46,47 +37,47 @@ finished : (widths : List ℕ) (run : ℕ) (dark : Bool) (n : ℕ) (dots : List 
 finished widths run dark n dots h =
     dots_from-push false widths run ∙ ap (λ d. dots_from false widths ++ replicate run d) (sym h.dark_is) ∙ h.joined
 
--- the first run, which may have no dot
-pub first_run : (bits : List ℕ) (from run : ℕ) → ((k : ℕ) → k < run → dot_at bits (from + k) ≡ false) → Cut [] run false run (dots_at bits from run)
-first_run bits from run h =
-    let zero_more : 0 + run ≡ run = omega arith in
-    record {
-      joined = sym (subst (λ n. dots_at bits from n ≡ [] ++ replicate run false) zero_more (dots_more bits from 0 run false (λ k some lt. h k (omega arith))));
-      dark_is = refl;
-      each = tt;
-      begun = λ k. absurd (omega arith);
-      total = zero_more;
-    }
+-- no dot of a row
+pub nothing_cut : (bits : List ℕ) (from : ℕ) → Cut [] 0 false 0 (dots_at bits from 0)
+nothing_cut bits from = record { joined = refl; dark_is = refl; each = tt; begun = λ k. absurd (omega arith); total = refl }
 
--- a run goes on past where the one before it ended
-pub goes_on : (bits : List ℕ) (from n end width : ℕ) (dark : Bool) → n < width → n ≤ end → (n < width → dot_at bits (from + n) ≡ dark)
-    → (end < width → dot_at bits (from + end) ≡ not dark) → n < end
-goes_on bits from n end width dark h le begins ends = elim (cases_lt n end) [
-  | inl lt ↦ lt
-  | inr ge ↦
-      let same : end ≡ n = omega arith in
-      absurd (never dark (sym (begins h) ∙ ap (λ k. dot_at bits (from + k)) (sym same) ∙ ends (omega arith)))
-]
-  where
-    never : (d : Bool) → d ≡ not d → ⊥
-    never true e = cc
-    never false e = cc
+-- runs as in `Cut`, of which the last may have no dot yet
+pub record Open (widths : List ℕ) (run : ℕ) (dark : Bool) (n : ℕ) (dots : List Bool) : Type 0 where
+  pub joined : dots_from false widths ++ replicate run dark ≡ dots
+  pub dark_is : dark ≡ colour false (length widths)
+  pub each : Each (drop 1 widths)
+  pub total : sum widths + run ≡ n
 
--- the next run
-pub next_run : (bits : List ℕ) (from n end : ℕ) (widths all : List ℕ) (run : ℕ) (dark : Bool) → Cut widths run dark n (dots_at bits from n)
-    → all ≡ widths ++ run ∷ [] → n < end → ((k : ℕ) → n ≤ k → k < end → dot_at bits (from + k) ≡ not dark)
-    → Cut all (end - n) (not dark) end (dots_at bits from end)
-next_run bits from n end widths all run dark h same lt alike =
+pub opened : (widths : List ℕ) (run : ℕ) (dark : Bool) (n : ℕ) (dots : List Bool) → Cut widths run dark n dots → Open widths run dark n dots
+opened widths run dark n dots h = record { joined = h.joined; dark_is = h.dark_is; each = h.each; total = h.total }
+
+pub closed : (widths : List ℕ) (run : ℕ) (dark : Bool) (n : ℕ) (dots : List Bool) → Open widths run dark n dots → (0 < length widths → 0 < run)
+    → Cut widths run dark n dots
+closed widths run dark n dots h begun = record { joined = h.joined; dark_is = h.dark_is; each = h.each; begun = begun; total = h.total }
+
+-- more dots of the last run
+pub goes_on : (bits : List ℕ) (from n more : ℕ) (widths : List ℕ) (run : ℕ) (dark : Bool) → Open widths run dark n (dots_at bits from n)
+    → ((k : ℕ) → n ≤ k → k < n + more → dot_at bits (from + k) ≡ dark) → Open widths (run + more) dark (n + more) (dots_at bits from (n + more))
+goes_on bits from n more widths run dark h alike = record {
+  joined =
+      ap (λ ds. dots_from false widths ++ ds) (sym (replicate-append-replicate run more dark))
+      ∙ sym (append_assoc (dots_from false widths) (replicate run dark) (replicate more dark))
+      ∙ ap (λ ds. ds ++ replicate more dark) h.joined
+      ∙ sym (dots_more bits from n more dark alike);
+  dark_is = h.dark_is;
+  each = h.each;
+  total = let t = h.total in omega arith;
+}
+
+-- the last run ends
+pub run_ends : (widths all : List ℕ) (run : ℕ) (dark : Bool) (n : ℕ) (dots : List Bool) → Cut widths run dark n dots → all ≡ widths ++ run ∷ []
+    → Open all 0 (not dark) n dots
+run_ends widths all run dark n dots h same =
     let count = length-append widths (run ∷ []) in
-    let whole : n + (end - n) ≡ end = omega arith in
-    let dots : dots_at bits from end ≡ dots_at bits from n ++ replicate (end - n) (not dark) =
-    subst (λ e. dots_at bits from e ≡ dots_at bits from n ++ replicate (end - n) (not dark)) whole
-    (dots_more bits from n (end - n) (not dark) (λ k some less. alike k some (omega arith))) in
     rw same (record {
-      joined = ap (λ ds. ds ++ replicate (end - n) (not dark)) (finished widths run dark n (dots_at bits from n) h) ∙ sym dots;
+      joined = append-nil (dots_from false (widths ++ run ∷ [])) ∙ finished widths run dark n dots h;
       dark_is = ap not h.dark_is ∙ sym (colour_more false (length widths)) ∙ ap (colour false) (sym count);
       each = each_more widths run h.each h.begun;
-      begun = λ k. omega arith;
       total = let t = h.total in omega (arith, sum_by_push (λ x. x) widths run);
     })
 
@@ -149,21 +140,6 @@ same_or_not true false = inr refl
 same_or_not false true = inr refl
 same_or_not false false = inl refl
 
--- one dot more of the same run
-run_on : (bits : List ℕ) (from n : ℕ) (widths : List ℕ) (run : ℕ) (dark : Bool) → Cut widths run dark n (dots_at bits from n)
-    → dot_at bits (from + n) ≡ dark → Cut widths (run + 1) dark (n + 1) (dots_at bits from (n + 1))
-run_on bits from n widths run dark h same = record {
-  joined =
-      ap (λ ds. dots_from false widths ++ ds) (sym (replicate_more run dark))
-      ∙ sym (append_assoc (dots_from false widths) (replicate run dark) (dark ∷ []))
-      ∙ ap₂ (λ ds d. ds ++ d ∷ []) h.joined (sym same)
-      ∙ sym (map-range_with_len_more (dot_at bits) from n (from + n) refl);
-  dark_is = h.dark_is;
-  each = h.each;
-  begun = λ some. omega arith;
-  total = let t = h.total in omega arith;
-}
-
 finish_now : (widths : List ℕ) (run : ℕ) (dark : Bool) (n : ℕ) (dots : List Bool) → n ≤ 65535 → Cut widths run dark n dots → IsFrontOf widths dots
 finish_now widths run true n dots few h =
     (run ∷ 0 ∷ [], omega arith, subst (λ ws. IsRowOf ws dots) (append_assoc widths (run ∷ []) (0 ∷ [])) (ends_dark widths run n dots h few))
@@ -178,12 +154,16 @@ finish bits from zero n widths run dark few h =
 finish bits from (suc more) n widths run dark few h =
     let e : n + 1 + more ≡ n + suc more = omega arith in
     subst (λ k. IsFrontOf widths (dots_at bits from k)) e (elim (same_or_not (dot_at bits (from + n)) dark) [
-      | inl same ↦ finish bits from more (n + 1) widths (run + 1) dark (omega arith) (run_on bits from n widths run dark h same)
+      | inl same ↦
+          let on = goes_on bits from n 1 widths run dark (opened widths run dark n (dots_at bits from n) h)
+          (λ k some lt. let here : k ≡ n = omega arith in ap (λ i. dot_at bits (from + i)) here ∙ same) in
+          finish bits from more (n + 1) widths (run + 1) dark (omega arith) (closed widths (run + 1) dark (n + 1) (dots_at bits from (n + 1)) on (λ some. omega arith))
       | inr other ↦
           let all : List ℕ = widths ++ run ∷ [] in
-          let next = next_run bits from n (n + 1) widths all run dark h refl (omega arith)
+          let on = goes_on bits from n 1 all 0 (not dark) (run_ends widths all run dark n (dots_at bits from n) h refl)
           (λ k some lt. let here : k ≡ n = omega arith in ap (λ i. dot_at bits (from + i)) here ∙ other) in
-          let r = finish bits from more (n + 1) all (n + 1 - n) (not dark) (omega arith) next in
+          let r = finish bits from more (n + 1) all (0 + 1) (not dark) (omega arith)
+          (closed all (0 + 1) (not dark) (n + 1) (dots_at bits from (n + 1)) on (λ some. omega arith)) in
           (run ∷ r.0, omega arith, subst (λ ws. IsRowOf ws (dots_at bits from (n + 1 + more))) (append_assoc widths (run ∷ []) r.0) r.2)
     ])
 

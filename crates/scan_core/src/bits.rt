@@ -1,39 +1,70 @@
-//! Runs of dots that are packed in bytes, each with its first dot in the high bit; 1 is dark.
-ghost use Rattle.std.specs.Prelude.{◌≡◌, ◌==◌, ◌<◌, ◌≤◌, ◌+◌, ◌-◌, ◌*◌, ℕ, length, not};
+//! Dots that are packed in bytes, each with its first dot in the high bit; 1 is dark.
+ghost use Rattle.std.specs.Prelude.{◌≡◌, ◌<◌, ◌≤◌, ◌+◌, ◌-◌, ◌*◌, ◌/◌, ◌%◌, ℕ, length, slice_index};
 ghost use Rattle.std.specs.Int.{bit_at};
 ghost use Rattle.scan_core.specs.Bits.{dot_at};
+ghost use Rattle.scan_core.specs.inner.Cutting.{coloured};
 
-/// How many dots of the byte have this colour, from the one that `skipped` stand before.
-fn alike_in(byte: u8, skipped: usize, dark: bool) -> usize
-    requires { skipped < 8 }
-    ensures within { result ≤ 8 - skipped }
-    ensures alike { (k : ℕ) → k < result → (bit_at byte (7 - (skipped + k)) == 1) ≡ dark }
-    ensures ends { result < 8 - skipped → (bit_at byte (7 - (skipped + result)) == 1) ≡ not dark }
+/// The bytes as one number, the first the highest.
+fn number_of(bytes: [u8; 8]) -> u64
+    ensures { (k : ℕ) → k < 64 → bit_at result (63 - k) ≡ bit_at (slice_index bytes (k / 8)) (7 - k % 8) }
 {
-    let others = if dark { !byte } else { byte };
-    ((others << skipped).leading_zeros() as usize).min(8 - skipped)
+    let high = u32::from_be_bytes([bytes[0], bytes[1], bytes[2], bytes[3]]);
+    let low = u32::from_be_bytes([bytes[4], bytes[5], bytes[6], bytes[7]]);
+    u64::from(high) * 0x1_0000_0000 + u64::from(low)
 }
 
-/// Where the run of this colour ends that begins `start` dots after `from`, in a row of `width` dots
-/// from there on.
-pub(crate) fn run_end(bits: &[u8], from: usize, start: usize, width: usize, dark: bool) -> usize
-    requires within { from + width ≤ 8 * length bits.now }
-    requires few { width ≤ 65535 }
-    requires begun { start ≤ width }
-    ensures behind { start ≤ result }
-    ensures in_row { result ≤ width }
-    ensures alike { (k : ℕ) → start ≤ k → k < result → dot_at bits.now (from + k) ≡ dark }
-    ensures ends { result < width → dot_at bits.now (from + result) ≡ not dark }
+/// The last bytes as one number, the first the highest.
+#[cold]
+fn last_word(bits: &[u8], byte: usize) -> u64
+    requires within { byte ≤ length bits.now }
+    requires few { length bits.now ≤ byte + 8 }
+    ensures { (k : ℕ) → k < 64 → byte + k / 8 < length bits.now → bit_at result (63 - k) ≡ bit_at (slice_index bits.now (byte + k / 8)) (7 - k % 8) }
 {
-    let mut end = start;
-    'bytes: while end < width {
-        let first = from % 8 + end;
-        let skipped = first % 8;
-        let count = alike_in(bits[from / 8 + first / 8], skipped, dark);
-        end += count;
-        if count < 8 - skipped {
-            return end.min(width);
-        }
+    let mut bytes = [0; 8];
+    for i in 0..bits.len() - byte {
+        bytes[i] = bits[byte + i];
     }
-    width
+    number_of(bytes)
+}
+
+/// The dots of eight bytes as one number, the first in the high bit: those of this byte, and of the bytes behind
+/// it as far as there are any.
+fn word_at(bits: &[u8], byte: usize) -> u64
+    requires { byte < length bits.now }
+    ensures { (k : ℕ) → k < 64 → byte + k / 8 < length bits.now → bit_at result (63 - k) ≡ bit_at (slice_index bits.now (byte + k / 8)) (7 - k % 8) }
+{
+    if bits.len() - byte < 8 {
+        return last_word(bits, byte);
+    }
+    number_of([
+        bits[byte],
+        bits[byte + 1],
+        bits[byte + 2],
+        bits[byte + 3],
+        bits[byte + 4],
+        bits[byte + 5],
+        bits[byte + 6],
+        bits[byte + 7],
+    ])
+}
+
+/// The dots from the dot `from + at` on, up to the end of eight bytes, the first in the high bit: a bit is 1 if
+/// its dot does not have this colour.
+pub(crate) fn others_from(bits: &[u8], from: usize, at: usize, dark: bool) -> u64
+    requires within { from + at < 8 * length bits.now }
+    requires few { at ≤ 65535 }
+    ensures { (k : ℕ) → k < 64 - (from % 8 + at) % 8 → from + at + k < 8 * length bits.now → dot_at bits.now (from + (at + k)) ≡ coloured (bit_at result (63 - k)) dark }
+{
+    let first = from % 8 + at;
+    let dots = word_at(bits, from / 8 + first / 8) << (first % 8);
+    if dark { !dots } else { dots }
+}
+
+/// How many bits of the word are 0 before the first 1 from the left.
+pub(crate) fn zeros_before(word: u64) -> usize
+    ensures within { result ≤ 64 }
+    ensures zeros { (k : ℕ) → k < result → bit_at word (63 - k) ≡ 0 }
+    ensures one { result < 64 → bit_at word (63 - result) ≡ 1 }
+{
+    word.leading_zeros() as usize
 }

@@ -1,9 +1,9 @@
 //! Rows of packed dots cut into runs.
-ghost use Rattle.std.specs.Prelude.{◌≡◌, ◌≤◌, ◌+◌, ◌*◌, ◌++◌, ◌∷◌, [], List, ℕ, OnErr, OnOk, length};
+ghost use Rattle.std.specs.Prelude.{◌≡◌, ◌<◌, ◌≤◌, ◌+◌, ◌*◌, ◌++◌, ◌∷◌, [], List, ℕ, IfOk, OnErr, OnOk, length};
 ghost use Rattle.scan_core.specs.Bits.{dots_at};
-ghost use Rattle.scan_core.specs.inner.Cutting.{IsFrontOf, IsRowOf};
+ghost use Rattle.scan_core.specs.inner.Cutting.{Cut, IsFrontOf, IsRowOf};
 
-use crate::bits::run_end;
+use crate::bits::{others_from, zeros_before};
 use arrayvec::ArrayVec;
 
 /// There is no room for a run.
@@ -47,6 +47,50 @@ impl<const MOST: usize> RunList for ArrayVec<u16, MOST> {
     }
 }
 
+/// The run that the last dot of a row so far is in: its dots so far.
+#[derive(Drop)]
+struct Run {
+    width: usize,
+    dark: bool,
+}
+
+/// Cuts the next dots of the row, from the dot `at` on, up to the end of their eight bytes. Tells where that is.
+fn cut_word<R: RunList>(
+    bits: &[u8],
+    from: usize,
+    at: usize,
+    width: usize,
+    run: &mut Run,
+    list: &mut R,
+) -> Result<usize, NoRoom>
+    requires within { from + width ≤ 8 * length bits.now }
+    requires few { width ≤ 65535 }
+    requires more { at < width }
+    requires cut { Cut (R.runs list.old) run.old.width run.old.dark at (dots_at bits.now from at) }
+    ensures on { IfOk result (λ end. at < end) }
+    ensures in_row { IfOk result (λ end. end ≤ width) }
+    ensures cut { IfOk result (λ end. Cut (R.runs list.new) run.new.width run.new.dark end (dots_at bits.now from end)) }
+    ensures front { OnErr result (IsFrontOf (R.runs list.new) (dots_at bits.now from width)) }
+    ensures full { OnErr result (R.MayBeFull list.new) }
+{
+    let mut left = (64 - (from % 8 + at) % 8).min(width - at);
+    let end = at + left;
+    let mut others = others_from(bits, from, at, run.dark);
+    'runs: loop {
+        let same = zeros_before(others);
+        if left <= same {
+            break;
+        }
+        list.put((run.width + same) as u16)?;
+        run.width = 0;
+        run.dark = !run.dark;
+        others = !others << same;
+        left -= same;
+    }
+    run.width += left;
+    Ok(end)
+}
+
 /// Cuts the row of `width` dots of packed bytes, from the dot `from` on, into its runs, from the left, as long as
 /// there is room for them. A byte has its first dot in its high bit, and 1 is dark.
 pub(crate) fn cut_into<R: RunList>(
@@ -62,18 +106,16 @@ pub(crate) fn cut_into<R: RunList>(
     ensures front { OnErr result (IsFrontOf (R.runs list.new) (dots_at bits.now from width)) }
     ensures full { OnErr result (R.MayBeFull list.new) }
 {
-    let mut dark = false;
-    let mut end = run_end(bits, from, 0, width, dark);
-    let mut run = end as u16;
-    'runs: while end < width {
-        list.put(run)?;
-        dark = !dark;
-        let start = end;
-        end = run_end(bits, from, start, width, dark);
-        run = (end - start) as u16;
+    let mut run = Run {
+        width: 0,
+        dark: false,
+    };
+    let mut at = 0;
+    'words: while at < width {
+        at = cut_word(bits, from, at, width, &mut run, list)?;
     }
-    list.put(run)?;
-    if dark {
+    list.put(run.width as u16)?;
+    if run.dark {
         list.put(0)?;
     }
     Ok(())

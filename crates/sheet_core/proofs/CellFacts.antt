@@ -7,7 +7,8 @@ use Rattle.std.proofs.lemmas.List.{length-append, length-replicate, length-map, 
 use Rattle.std.proofs.lemmas.List.Sums.{sum_by_push, sum_by-cons}
 use Rattle.std.proofs.lemmas.List.FromFn.{length-map-range_with_len, get_or-map-range_with_len}
 use Rattle.scan_core.specs.Row.{dots_from, dots_of}
-pub use Rattle.scan_core.proofs.DotFacts.{colour, colour_more, dots_from-push}
+pub use Rattle.scan_core.specs.inner.Cutting.{colour}
+pub use Rattle.scan_core.proofs.DotFacts.{colour_more, dots_from-push}
 use Rattle.sheet_core.specs.Drawing.{bar_dot, bar_dots}
 use Rattle.sheet_core.specs.Grids.{Cells}
 use Rattle.sheet_core.specs.Labels.{Drawn, FitsCell}
