@@ -1,4 +1,4 @@
--- What a sink has taken that stands behind a buffer, where both had taken nothing at first.
+-- What a sink has taken that stands behind a buffer, if both had taken nothing at first, for `run_and_flush` and `commands/`.
 use Rattle.std.proofs.Common.{◌++◌, ◌≡◌, ◌∙◌, Err, List, None, Ok, Option, Result, Some, [], ap, append_assoc, append-nil, refl, subst, sym, ℕ}
 use Rattle.std.specs.Prelude.{IfErr, IfSome, IsErrAnd}
 use Rattle.std.specs.Io.KnownBytes.{Keeps, append_known}

@@ -1,4 +1,4 @@
--- The columns of sheets are short enough to be served.
+-- The columns of sheets are few and short enough to be served, for `read_columns`.
 use Rattle.std.proofs.Common.{◌*◌, ◌+◌, ◌≡◌, ◌≤◌, ◌∷◌, [], List, arith, length, nat_le, refl, true, ℕ}
 use Rattle.std.specs.List.{AllZip, flat_map, range_with_len}
 use Rattle.std.proofs.lemmas.Bool.Decides.{nat_tests}

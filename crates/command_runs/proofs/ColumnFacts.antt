@@ -1,4 +1,4 @@
--- The rows of columns as they come.
+-- The rows of one column as the cells of a sheet come, for `push_column`.
 use Rattle.std.proofs.Common.{◌+◌, ◌++◌, ◌*◌, ◌/◌, ◌<◌, ◌≤◌, ◌==◌, ◌≡◌, ◌∙◌, ◌∷◌, Bool, Fits, List, [], ap, arith, map}
 use Rattle.std.proofs.Common.{true, w16, ℕ}
 use Rattle.std.proofs.lemmas.Bool.{and_parts, eqb-true}
@@ -11,7 +11,8 @@ use Rattle.std.proofs.lemmas.Grind.{flat_map-append}
 use Rattle.std.proofs.lemmas.List.FromFn.{map-range_with_len_more}
 use Rattle.scan_core.specs.Row.{IsRow, dots_of}
 use Rattle.command_runs.specs.Columns.{HaveDots, has_size}
-use Rattle.csv_records.proofs.Beside.{beside-append, zip_more}
+use Rattle.command_runs.proofs.ListsBeside.{beside-append}
+use Rattle.std.proofs.lemmas.Slice.Zip.{all_zipped_more}
 
 -- ---- the places of a column's cells
 
@@ -53,7 +54,7 @@ pub one_more_cell : (dots : ℕ → List Bool) (cell : ℕ → ℕ) (rows : List
 one_more_cell dots cell rows n runs have is shown =
     let longer : map dots (map cell (range_with_len 0 (n + 1))) ≡ map dots (map cell (range_with_len 0 n)) ++ dots (cell n) ∷ [] =
     ap (map dots) (map-range_with_len_more cell 0 n n (omega arith)) ∙ map-append dots (map cell (range_with_len 0 n)) (cell n ∷ []) in
-    rw longer (zip_more _ rows (map dots (map cell (range_with_len 0 n))) runs (dots (cell n)) have (is, shown))
+    rw longer (all_zipped_more _ rows (map dots (map cell (range_with_len 0 n))) runs (dots (cell n)) have (is, shown))
 
 -- the rows of one more sheet
 pub one_more_sheet : {S : Type 0} (dots : S → List (List Bool)) (sheets : List S) (s : S) (rows new more : List (List ℕ))

@@ -1,4 +1,4 @@
--- Columns by place.
+-- The row of a column, by the place of its cell, for `rows_by_place` and `answers_by_place`.
 use Rattle.std.proofs.Common.{◌+◌, ◌*◌, ◌/◌, ◌++◌, ◌<◌, ◌≡◌, ◌∙◌, ◌∷◌, [], List, Some, ap, arith, length, map, refl, suc, sym, zero, ℕ}
 use Rattle.std.specs.List.{AllZip, flat_map, range_with_len, slice_get}
 use Rattle.std.proofs.lemmas.List.{length-append, length-map}

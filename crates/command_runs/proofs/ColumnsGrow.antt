@@ -1,4 +1,4 @@
--- The columns of sheets as one more sheet comes.
+-- The columns of sheets as one more sheet comes, for `columns.rt`.
 use Rattle.std.proofs.Common.{false, ◌&&◌, ◌+◌, ◌++◌, ◌<◌, ◌≤◌, ◌≡◌, ◌≢◌, ◌∙◌, ◌∷◌, Bool, List, [], ap, ap₂, arith, get_or, map, refl, replicate, set, suc, sym}
 use Rattle.std.proofs.Common.{subst, true, zero, ℕ}
 use Rattle.std.proofs.lemmas.Bool.{and_parts, false≢true}

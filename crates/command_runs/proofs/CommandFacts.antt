@@ -1,4 +1,4 @@
--- A run of a command, from its parts.
+-- A run of a command, from its parts: what each way to end in `commands/` leaves (of specs/Runs and specs/commands).
 use Rattle.std.proofs.Common.{◌≡◌, ◌∙◌, ◌∷◌, [], All, Err, IsErrAnd, List, Ok, Option, Result, ap, false, inl, inr, map, refl, subst, sym, true, Bool, ℕ}
 use Rattle.std.specs.Prelude.{◌↔◌, IfOk, IsErr}
 use Rattle.std.specs.List.{AllZip, flat_map, range_with_len}

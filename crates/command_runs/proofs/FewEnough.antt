@@ -1,4 +1,4 @@
--- What a command reads is few enough to be served.
+-- What a command reads is few enough to be served, for `commands/`.
 use Rattle.std.proofs.Common.{◌≡◌, ◌∙◌, List, arith, length, map, nat_le, refl, true, ℕ}
 use Rattle.std.specs.Int.{IsInRange}
 use Rattle.std.proofs.lemmas.Bool.Decides.{nat_tests}

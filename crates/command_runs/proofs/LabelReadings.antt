@@ -1,4 +1,4 @@
--- The texts of the labels of records say their elements.
+-- The texts of the labels of records say their elements, for `printed_is_scanned`.
 use Rattle.std.proofs.Common.{ℕ, List, [], ◌∷◌, Ok, Option, Some, None, sym, subst}
 use Rattle.std.specs.List.{AllByRecursion}
 use Rattle.digits_core.specs.Digits.{digits_of, padded}

@@ -6,6 +6,7 @@ pub mod ColumnsGrow
 pub mod CommandFacts
 pub mod FewEnough
 pub mod LabelReadings
+pub mod ListsBeside
 pub mod OnceFacts
 pub mod ColumnsByPlace
 pub mod PrintOnce

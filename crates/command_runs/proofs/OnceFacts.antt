@@ -1,4 +1,4 @@
--- Commands that write one text at most of the same bytes.
+-- Commands that write one text at most of the same bytes, for `one_lanes` and `one_print`.
 use Rattle.std.proofs.Common.{◌≡◌, ◌==◌, ◌&&◌, ◌%◌, ◌∙◌, ◌∷◌, Bool, Err, List, None, Ok, Option, Result, Some, [], ap, ap₂, false, if◌then◌else◌, length, map, nat_le, refl, subst, sum, sym, true, ℕ}
 use Rattle.std.specs.List.{AllByRecursion, AllZip, list_all, range_with_len}
 use Rattle.std.specs.Str.Parse.{digits_value}
@@ -14,7 +14,7 @@ use Rattle.csv_records.specs.declared.input.fault.RecordFault.{RecordFault}
 use Rattle.csv_records.specs.declared.input.fault.RecordFault.TheVariants as fault
 use Rattle.command_runs.specs.commands.Lanes.{OneLanes}
 use Rattle.element_core.specs.Terms.{Terms}
-use Rattle.csv_records.proofs.Beside.{same_beside}
+use Rattle.command_runs.proofs.ListsBeside.{same_beside}
 
 -- where each record means one item at most, bytes mean one list of items
 pub mean_once : {Item : Type 0} (means : Meaning Item) → ((fields : Fields) (x y : Item) → means fields (Ok x) → means fields (Ok y) → x ≡ y)

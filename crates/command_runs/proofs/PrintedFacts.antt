@@ -1,4 +1,4 @@
--- What the columns of printed sheets answer.
+-- What the columns of printed sheets answer, for `printed.rt`.
 use Rattle.std.proofs.Common.{◌≡◌, ℕ, zero, suc, ◌+◌, ◌*◌, ◌/◌, ◌≤◌, ◌<◌, Bool, true, List, [], Some, Ok, length, map, refl, sym, ap, subst, ◌∙◌, inl, inr, arith, nat_le, nat_lt}
 use Rattle.std.specs.List.{AllByRecursion, AllZip, flat_map, range_with_len, slice_get}
 use Rattle.std.proofs.lemmas.Bool.{and_from, le-leb, lt-ltb}
@@ -22,7 +22,7 @@ use Rattle.csv_records.specs.print.Labels.{label_list}
 use Rattle.command_runs.specs.Columns.{AreColumns, HaveDots, column_cells, column_dots}
 use Rattle.command_runs.specs.Printed.{AreScanned, PrintedAnswer, SaysElements, ScannedOnce, WrittenAnswer, cell_answer, column_answers, labels_answers, sheet_answers}
 use Rattle.element_core.specs.Terms.{Terms}
-use Rattle.csv_records.proofs.Beside.{apart, below, beside, beside-flat_map, beside-map, map_beside, same_beside}
+use Rattle.command_runs.proofs.ListsBeside.{apart, below, beside, beside-flat_map, beside-map, map_beside, same_beside}
 
 -- the middle row of a cell goes through its bars
 middle_row : (g : Cells) → 2 * g.dots < g.height → is_bar_row g (g.height / 2) ≡ true

@@ -1,4 +1,4 @@
--- What a scan of printed images answers.
+-- What a scan of printed images answers, for `printed_is_scanned` and `one_scan`.
 use Rattle.std.proofs.Common.{◌≡◌, ℕ, ◌*◌, ◌≤◌, ◌==◌, true, List, [], Ok, length, refl, sym, ap, subst, ◌∙◌, get_or}
 use Rattle.std.specs.List.{AllByRecursion}
 use Rattle.std.proofs.lemmas.Bool.{and_from, eq-eqb}

@@ -1,6 +1,9 @@
-pub mod FeedCounts
 pub mod FeedsGrow
-pub mod PlainLines
+pub mod HeldFacts
+pub mod LineFeeds
+pub mod PlainBytes
+pub mod ReadOn
+pub mod ReadRows
 pub mod ReportFacts
 pub mod RowsAsRead
 pub mod WidthFields

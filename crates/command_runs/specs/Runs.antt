@@ -1,5 +1,5 @@
 -- What a command writes of the bytes that it reads, why it refuses them, and what a run of it leaves.
-use Rattle.std.specs.Prelude.{◌≡◌, ◌≢◌, ◌↔◌, ⊤, ℕ, Bool, false, true, List, Option, Result, IfErr, IsErrOf, OnOk}
+use Rattle.std.specs.Prelude.{◌≡◌, ◌≢◌, ◌↔◌, ⊤, ℕ, Bool, false, true, List, [], Option, Result, IfErr, IfSome, IsErrOf, OnOk}
 use Rattle.std.specs.Io.KnownBytes.{Appends}
 use Rattle.digits_core.specs.Bytes.{GaveAll, TookFront}
 use Rattle.csv_records.specs.input.Records.{Mean, Meaning, Refuses}
@@ -16,6 +16,10 @@ pub record Command : Type 1 where
 abbrev pub Wrote : Command → (Option (List ℕ) → Option (List ℕ) → List ℕ → Type 0) → Option (List ℕ) → Option (List ℕ) → Option (List ℕ) → Option (List ℕ)
     → Type 0
 Wrote c took left rest before after = (bytes text : List ℕ) × GaveAll left rest bytes × c.writes bytes text × took before after text
+
+-- as far as it is known, a sink took nothing
+abbrev pub TookNothing : Option (List ℕ) → Type 0
+TookNothing taken = IfSome taken (λ bytes. bytes ≡ [])
 
 -- if nothing of it had failed before, this fault comes exactly if something fails
 abbrev pub TellsFault : {S X E : Type 0} → (S → Bool) → S → S → Result X E → E → Type 0

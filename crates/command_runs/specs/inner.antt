@@ -3,12 +3,14 @@ pub mod Buffers
 pub mod Came
 pub mod Cuts
 pub mod Finish
+pub mod HeldInputs
 pub mod Lines
 pub mod Lived
 pub mod Meaning
 pub mod Prints
 pub mod Replies
 pub mod Reports
+pub mod RowReaders
 pub mod Rows
 pub mod Stops
 pub mod Texts

@@ -1,6 +1,6 @@
 //! The commands, and a run of each.
-ghost use Rattle.std.specs.Prelude.{◌≡◌, [], IfSome, false};
-ghost use Rattle.command_runs.specs.Runs.{Ran};
+ghost use Rattle.std.specs.Prelude.{◌≡◌, [], false};
+ghost use Rattle.command_runs.specs.Runs.{Ran, TookNothing};
 ghost use Rattle.command_runs.specs.commands.{command_of};
 
 pub mod check;
@@ -53,7 +53,7 @@ fn run_and_flush<R: Threads + Wait + Sync, S: Source, W: Sink, G: Gate + Sync>(
     gate: &G,
 ) -> Result<(), CommandFault>
     requires empty { sink.old.waiting ≡ [] }
-    requires fresh { IfSome (W.taken sink.old.sink) (λ bytes. bytes ≡ []) }
+    requires fresh { TookNothing (W.taken sink.old.sink) }
     ensures { Ran (command_of batch) S.left S.failed (λ s. W.taken s.sink) (λ s. W.failed s.sink)
         source.old source.new sink.old sink.new result }
 {
@@ -74,7 +74,7 @@ pub fn run_buffered<R: Threads + Wait + Sync, S: Source, W: Sink, G: Gate + Sync
     gate: &G,
 ) -> (W, Result<(), CommandFault>)
     requires sound { W.failed sink ≡ false }
-    requires fresh { IfSome (W.taken sink) (λ bytes. bytes ≡ []) }
+    requires fresh { TookNothing (W.taken sink) }
     ensures { Ran (command_of batch) S.left S.failed W.taken W.failed source.old source.new sink result.0 result.1 }
 {
     let mut buffered = Buffered::new(sink);

@@ -1,5 +1,5 @@
-pub mod Beside
 pub mod Decimals
+pub mod FirstFault
 pub mod MessageWidths
 pub mod Reaching
 pub mod RecordsReadFirst

@@ -1,8 +1,8 @@
 -- The records that a reader of `csv` reaches are those of `records`.
-use Rattle.std.proofs.Common.{◌≡◌, ◌∙◌, ◌≤◌, ◌+◌, ◌-◌, ◌⊎◌, inl, inr, ℕ, zero, suc, List, [], ◌∷◌, ◌++◌, Option, Some, None, Bool, true, false, length, sym, ap, refl, arith, cond}
+use Rattle.std.proofs.Common.{◌≡◌, ◌∙◌, ◌≤◌, ◌+◌, ◌-◌, ◌⊎◌, inl, inr, ℕ, zero, suc, List, [], ◌∷◌, ◌++◌, Option, Some, None, Bool, true, false, length, sym, ap, refl, subst, arith, cond, ◌<◌}
 use Rattle.std.proofs.lemmas.List.{append-nil}
 use Rattle.csv.specs.Machine.{Read, ends_at_end, is_end, next_record, step}
-use Rattle.csv.specs.Reading.{AreRecords, is_bom, Reached, records, records_from, strip_bom}
+use Rattle.csv.specs.Reading.{AreRecords, is_bom, Reached, records, records_from, records_next, strip_bom}
 use Rattle.csv.specs.declared.parser.Config.{Config}
 use Rattle.csv.specs.declared.parser.State.{State}
 use Rattle.csv.specs.declared.parser.State.TheVariants as st
@@ -106,3 +106,25 @@ stripped_short (a ∷ b ∷ c ∷ rest) = by (is_bom a b c)
     by : (t : Bool) → length (cond t rest (a ∷ b ∷ c ∷ rest)) ≤ length (a ∷ b ∷ c ∷ rest)
     by true = omega arith
     by false = omega arith
+
+-- the next record, if there is one, and then all others
+next_reached : (cfg : Config) (n : ℕ) (s : State) (xs : List ℕ) (next : Option Read) → next_record cfg s [] [] xs ≡ next
+    → ((p : Read) → next_record cfg s [] [] xs ≡ Some p → AreRecords cfg p.1 p.2 (records_from cfg n p.1 p.2))
+    → AreRecords cfg s xs (records_next (records_from cfg n) next)
+unfolding Reached
+next_reached cfg n s xs None e later = (s, xs, (refl, refl), e)
+next_reached cfg n s xs (Some p) e later = let all = later p e in (all.0, all.1, (p, e, refl, all.2), all.3)
+
+-- the records that are asked for are all, if as many are asked for as there may be
+all_reached : (cfg : Config) (n : ℕ) (s : State) (xs : List ℕ) → length xs < n → AreRecords cfg s xs (records_from cfg n s xs)
+unfolding Reached records_from
+all_reached cfg zero s xs few = absurd (omega (arith, few))
+all_reached cfg (suc n) s [] few = next_reached cfg n s [] (next_record cfg s [] [] []) refl (λ p e.
+    let none = end_ends cfg s p e in
+    (p.1, p.2, subst (λ rows. Reached cfg p.1 p.2 rows p.1 p.2) (sym (no_more cfg n p.1 p.2 none)) (refl, refl), none))
+all_reached cfg (suc n) s (c ∷ xs) few = next_reached cfg n s (c ∷ xs) (next_record cfg s [] [] (c ∷ xs)) refl (λ p e.
+    let less = next_shrinks cfg xs c s [] [] p e in all_reached cfg n p.1 p.2 (omega (arith, less, few)))
+
+-- all records of a text are reached
+pub records_are : (cfg : Config) (xs : List ℕ) → AreRecords cfg st.StartRecord xs (records cfg xs)
+records_are cfg xs = all_reached cfg (length xs + 1) st.StartRecord xs (omega arith)

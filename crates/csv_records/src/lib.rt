@@ -10,7 +10,7 @@ mod print;
 pub use check::lines::check_lines;
 pub use input::fault::{RecordFault, RecordRefusal, RecordsFault};
 pub use input::records::{INPUT_LIMIT, Records};
-pub use lanes::feeds::{check_rows, lane_in, next_row};
+pub use lanes::feeds::{lane_in, next_row};
 pub use lanes::widths::read_runs;
 pub use laws::{messages_are_no_rows, upce_as_checked};
 pub use print::label_lines::label_lines;

@@ -1,8 +1,9 @@
--- The feeds as records come.
-use Rattle.std.proofs.Common.{◌==◌, ◌++◌, ◌<◌, ◌≡◌, ◌≢◌, ◌∙◌, ◌∷◌, inl, inr, List, [], ap, arith, false, get_or, length, map, refl, set, sym, true, ℕ}
+-- The rows of each lane as records come: one more goes to its lane, which has no more rows than there are records.
+use Rattle.std.proofs.Common.{◌==◌, ◌++◌, ◌<◌, ◌≤◌, ◌≡◌, ◌≢◌, ◌∙◌, ◌∷◌, inl, inr, List, [], ap, arith, false, get_or, length, map, not, refl, set, sym, true, ℕ}
 use Rattle.std.specs.List.{filter}
 use Rattle.std.proofs.lemmas.Bool.{eq-eqb, ne_eqb, cases_eq}
-use Rattle.std.proofs.lemmas.List.{append-nil, get_or-set_other, get_or-set_same, length-set, map-append}
+use Rattle.std.proofs.lemmas.List.{append-nil, get_or-set_other, get_or-set_same, length-map, length-set, map-append}
+use Rattle.std.proofs.lemmas.List.Filters.{length-filter_both}
 use Rattle.std.proofs.lemmas.List.FromFn.{fill_by_all, get_or-map-range_with_len, length-map-range_with_len}
 use Rattle.std.proofs.lemmas.List.Elements.{filter-append}
 use Rattle.csv_records.specs.lanes.Feeds.{LaneRow, feed_of, feeds_of}
@@ -27,8 +28,8 @@ feed_after lanes rows r k low small =
     let added = feed_of (r.0) rows ++ r.1 ∷ [] in
     elim (cases_eq (r.0) k) [
       | inl is ↦ rw (← is) (get_or-set_same (feeds_of lanes rows) (r.0) added [] (omega (arith, long)) ∙ sym (feed_same (r.0) rows r refl))
-      | inr not ↦ get_or-set_other (feeds_of lanes rows) (r.0) k added [] (λ e. not (sym e))
-          ∙ get_or-map-range_with_len (λ lane. feed_of lane rows) 0 lanes k k [] small (omega arith) ∙ sym (feed_other k rows r not)
+      | inr other ↦ get_or-set_other (feeds_of lanes rows) (r.0) k added [] (λ e. other (sym e))
+          ∙ get_or-map-range_with_len (λ lane. feed_of lane rows) 0 lanes k k [] small (omega arith) ∙ sym (feed_other k rows r other)
     ]
 
 -- the row of one more record goes to the end of the feed of its lane
@@ -39,3 +40,9 @@ feeds_more lanes rows r low =
     let added = feed_of (r.0) rows ++ r.1 ∷ [] in
     fill_by_all (λ lane. feed_of lane (rows ++ r ∷ [])) (set (feeds_of lanes rows) (r.0) added) lanes []
     (length-set (feeds_of lanes rows) (r.0) added ∙ long) (λ k small. feed_after lanes rows r k low small)
+
+-- a lane has as many rows as there are records at most
+pub feed_short : (rows : List LaneRow) (lane : ℕ) → length (feed_of lane rows) ≤ length rows
+feed_short rows lane =
+    let both = length-filter_both (λ (r : LaneRow). r.0 == lane) (λ r. not (r.0 == lane)) (λ r. refl) rows in
+    omega (arith, both, length-map (filter (λ (r : LaneRow). r.0 == lane) rows) (λ x. x.1))

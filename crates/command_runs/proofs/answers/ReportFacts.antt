@@ -1,19 +1,18 @@
--- The report as lines come.
+-- The lines of each lane as deliveries are brought, and the report of no rows (of specs/inner/Reports).
 use Rattle.std.proofs.Common.{◌+◌, ◌<◌, ◌++◌, ◌≡◌, ◌∙◌, ◌∷◌, All, Err, IfOk, List, Ok, OnOk, Result, [], ap, append_assoc, arith, get_or, length, map, refl, replicate, set, subst, suc, sym, zero, ℕ}
 use Rattle.std.specs.List.{AllZip, concat}
 use Rattle.std.proofs.lemmas.List.{append-nil, get_or-map, length-map, map-append, map-set}
 use Rattle.std.proofs.lemmas.List.Elements.{All-head, All-rest}
 use Rattle.std.proofs.lemmas.List.Folds.{concat-append}
-use Rattle.std.proofs.lemmas.Slice.Zip.{AllZip-long}
+use Rattle.std.proofs.lemmas.Slice.Zip.{AllZip-long, all_zipped_more}
 use Rattle.scan_core.specs.Answers.{IsAnswer, Reads}
 use Rattle.scan_core.specs.declared.answer.Answer.{Answer}
 use Rattle.lane_core.specs.declared.job.Plain.{Plain}
 use Rattle.hub_core.specs.Laws.{AreAnswersOf}
 use Rattle.hub_core.specs.Traffics.{with_more}
-use Rattle.command_runs.specs.inner.Reports.{AreLinesOf, lane_lines}
-use Rattle.command_runs.specs.answers.Reports.{IsReport, lanes_from, line_of, lines_from}
+use Rattle.command_runs.specs.inner.Reports.{AreLinesOf}
+use Rattle.command_runs.specs.answers.Reports.{IsReport, lane_lines, line_of, lines_from}
 use Rattle.element_core.specs.Terms.{Terms}
-use Rattle.csv_records.proofs.Beside.{zip_more}
 
 -- one more line
 one_more_line : (lane number : ℕ) (answers : List Answer) (a : Answer)
@@ -46,7 +45,7 @@ answered_more : (brought : List (List Plain)) (answers : List (List Answer)) (i 
     → AllZip AreAnswersOf (set brought i (get_or brought i [] ++ x ∷ [])) (set answers i (get_or answers i [] ++ a ∷ []))
 answered_more [] answers i x a low is was = absurd (omega (arith, low))
 answered_more (xs ∷ brought) [] i x a low is was = absurd was
-answered_more (xs ∷ brought) (ys ∷ answers) zero x a low is was = (zip_more A xs ys x a was.0 is, was.1)
+answered_more (xs ∷ brought) (ys ∷ answers) zero x a low is was = (all_zipped_more A xs ys x a was.0 is, was.1)
 answered_more (xs ∷ brought) (ys ∷ answers) (suc i) x a low is was = (was.0, answered_more brought answers i x a (omega (arith, low)) is was.1)
 
 as_many : (brought : List (List Plain)) (answers : List (List Answer)) (i : ℕ) → AllZip AreAnswersOf brought answers → length (get_or brought i [])
@@ -110,7 +109,7 @@ pub no_lines : (n : ℕ) (texts : List (List ℕ)) → texts ≡ replicate n [] 
 no_lines n texts is = let none = none_from 0 n in (none.0, none.1, is ∙ none.2)
 
 rowless_from : {V : Type 0} (f : V → List (List ℕ)) (year : Terms) (first : ℕ) (vs : List V) → All (λ v. f v ≡ []) vs
-    → (answers : List (List Answer)) × AllZip (λ rows read. Reads rows year read) (map f vs) answers × ([] ≡ lanes_from first answers)
+    → (answers : List (List Answer)) × AllZip (λ rows read. Reads rows year read) (map f vs) answers × ([] ≡ concat (lane_lines first answers))
 rowless_from f year first [] none = ([], tt, refl)
 rowless_from {V} f year first (v ∷ vs) none =
     let P : V → Type 0 = λ v. f v ≡ [] in
@@ -125,8 +124,3 @@ rowless f year vs text none is = let all = rowless_from f year 0 vs none in (all
 -- texts joined, and one more
 pub joined_more : {X : Type 0} (f : X → List ℕ) (ts : List X) (t : X) → concat (map f (ts ++ t ∷ [])) ≡ concat (map f ts) ++ f t
 joined_more f ts t = ap concat (map-append f ts (t ∷ [])) ∙ concat-append (map f ts) (f t ∷ []) ∙ ap (λ u. concat (map f ts) ++ u) (append-nil (f t))
-
--- the lanes' lines joined
-pub lanes_joined : (lane : ℕ) (answers : List (List Answer)) → concat (lane_lines lane answers) ≡ lanes_from lane answers
-lanes_joined lane [] = refl
-lanes_joined lane (a ∷ rest) = ap (λ t. lines_from lane 0 a ++ t) (lanes_joined (lane + 1) rest)

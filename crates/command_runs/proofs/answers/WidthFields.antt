@@ -1,13 +1,15 @@
--- A field of widths has no comma.
-use Rattle.std.proofs.Common.{◌≡◌, ◌+◌, ◌&&◌, ◌==◌, ◌∙◌, ◌∷◌, All, Bool, List, None, Option, Some, [], ap, cond, drop, false, if◌then◌else◌, length, nat_le, refl, sym, take, true, ℕ}
+-- A line by its first comma: a field of widths has no comma, so a second comma is too many (for `read_line`).
+use Rattle.std.proofs.Common.{◌≡◌, ◌+◌, ◌<◌, ◌&&◌, ◌==◌, ◌∙◌, ◌∷◌, All, Bool, Err, List, None, Ok, Option, Some, [], ap, arith, cond, drop, false, if◌then◌else◌, length, nat_le, refl, sym, take, true, ℕ}
 use Rattle.std.specs.Char.{is_ascii_digit}
 use Rattle.std.specs.List.{list_all, onto_first}
+use Rattle.std.specs.Str.Parse.{digits_value}
 use Rattle.std.proofs.lemmas.Bool.{and_from, eqb-true, ne_eqb, true≢false}
 use Rattle.std.proofs.lemmas.List.Elements.{All-cons, All-nil}
 use Rattle.std.proofs.lemmas.List.Splits.{slice_split_none}
 use Rattle.memchr.specs.Find.{IsFirstByte, is_byte}
 use Rattle.command_runs.specs.live.Text.{fields_in, is_comma}
-use Rattle.command_runs.proofs.live.FieldsFacts.{first_field}
+use Rattle.command_runs.proofs.live.FieldsFacts.{first_field, only_field, some_field, two}
+use Rattle.csv_records.specs.lanes.Feeds.{LaneRow, is_lane, lane_row}
 use Rattle.csv_records.specs.lanes.Widths.{are_widths, field_fault, is_number, of_runs, widths_in, words_of}
 use Rattle.csv_records.specs.declared.input.fault.RecordFault.{RecordFault}
 use Rattle.csv_records.specs.declared.input.fault.RecordFault.TheVariants as fault
@@ -64,10 +66,32 @@ widths_if : (b : Bool) (x : Option RecordFault) → (if b then x else Some fault
 widths_if true x is = refl
 widths_if false x is = cc is
 
--- a line whose first comma stands at k, before widths, has two fields
-pub two_by_comma : (line : List ℕ) (k : ℕ) → IsFirstByte (is_byte 44) line (Some k) → field_fault (drop (k + 1) line) ≡ None
-    → fields_in line ≡ take k line ∷ drop (k + 1) line ∷ []
-two_by_comma line k found none =
-    let field = drop (k + 1) line in
-    let words = widths_if (are_widths (words_of field)) (of_runs (runs_fault (widths_in field))) none in
-    (first_field line k found).1 ∙ ap (λ fs. take k line ∷ fs) (slice_split_none is_comma field (no_commas field (all_digits (words_of field) words)))
+-- widths are one field
+one_field : (field : List ℕ) → field_fault field ≡ None → fields_in field ≡ field ∷ []
+one_field field none =
+    slice_split_none is_comma field
+    (no_commas field (all_digits (words_of field) (widths_if (are_widths (words_of field)) (of_runs (runs_fault (widths_in field))) none)))
+
+-- ---- a line by what stands before and behind its first comma
+
+module _ (lanes : ℕ) (line first second : List ℕ) (cut : fields_in line ≡ first ∷ fields_in second) where
+  -- a row stands before and behind it
+  pub row_of_line : (row : LaneRow) → Ok row ≡ lane_row lanes (first ∷ second ∷ []) → Ok row ≡ lane_row lanes (fields_in line)
+  row_of_line row is =
+      let none = (two (is_lane lanes first) (field_fault second) row (digits_value 10 first, widths_in second) is).1 in
+      is ∙ ap (lane_row lanes) (ap (λ fs. first ∷ fs) (sym (one_field second none)) ∙ sym cut)
+
+  -- with a second one it has more fields than two
+  pub many_fields : (k : ℕ) → IsFirstByte (is_byte 44) second (Some k) → Err fault.Csv ≡ lane_row lanes (fields_in line)
+  many_fields k found =
+      let rest = drop (k + 1) second in
+      csv (take k second) (fields_in rest) (some_field rest) ∙ ap (lane_row lanes) (ap (λ fs. first ∷ fs) (sym (first_field second k found).1) ∙ sym cut)
+    where
+      csv : (a : List ℕ) (fs : List (List ℕ)) → 0 < length fs → Err fault.Csv ≡ lane_row lanes (first ∷ a ∷ fs)
+      csv a [] some = absurd (omega (arith, some))
+      csv a (b ∷ fs) some = refl
+
+  -- without one it has two
+  pub two_fields : (f : RecordFault) → IsFirstByte (is_byte 44) second None → Err f ≡ lane_row lanes (first ∷ second ∷ [])
+      → Err f ≡ lane_row lanes (fields_in line)
+  two_fields f none is = is ∙ ap (lane_row lanes) (ap (λ fs. first ∷ fs) (sym (only_field second none).0) ∙ sym cut)

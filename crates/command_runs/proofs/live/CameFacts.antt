@@ -1,4 +1,4 @@
--- How far a live input has come, by the lines that it takes and the deliveries that it is brought.
+-- How far a live input has come, by the lines that it takes and the deliveries that it is brought (of `HasCome` of specs/inner/Came).
 use Rattle.command_runs.specs.declared.live.record.LineFault.TheVariants as line_fault
 use Rattle.command_runs.specs.declared.live.record.Notice.TheVariants as notice
 use Rattle.command_runs.specs.declared.live.pending.PendingReply.TheVariants as pending

@@ -1,4 +1,4 @@
--- What a line means, by its fields and by its message, whether its front was given up or not.
+-- What a line means, by its commas and by its message, whether its front was given up or not (of specs/live/Text).
 use Rattle.command_runs.specs.declared.live.record.LineFault.TheVariants as line_fault
 use Rattle.csv_records.specs.declared.input.fault.RecordFault.TheVariants as fault
 use Rattle.command_runs.proofs.live.Words.{Bool, Err, Held, HoldsRecord, IsFirstByte, IsLine, IsRecord, LaneRow, List, None, Ok, Option, Record, RecordFault, Refusal, Some, [], after_first, and_parts, ap, arith, before_first, cases_Bool, cases_lt, cond, cond_both, digits_value, drop, drop_all, false, false_from_ne_true, field_fault, fields_in, is_byte, is_comma, is_lane, is_message, is_number, join_with_byte, join_with_byte-slice_split, lane_row, length, length-drop, length-slice_split, line_fault_text, line_meant, lt-ltb, ltb-true, messages_are_no_rows, most_line, nat_lt, position_or_len, position_or_len_is, record_in, refl, row_or, slice_split_first, subst, sym, take, take_all, text_meant, true, unnumbered_line, whole, widths_in, without_return, ℕ, ⊎_elim, ◌++◌, ◌+◌, ◌-◌, ◌<◌, ◌==◌, ◌∙◌, ◌∷◌, ◌≡◌, ◌≤◌}
@@ -60,7 +60,7 @@ return_cut (a ∷ c ∷ front) b = ap (λ t. a ∷ t) (return_cut (c ∷ front) 
 
 -- ---- fields that mean a row to `lanes`
 
-two : (b : Bool) (o : Option RecordFault) (row found : LaneRow) → Ok row ≡ cond b (row_or o found) (Err fault.BadLane) → (b ≡ true) × (o ≡ None) × (row ≡ found)
+pub two : (b : Bool) (o : Option RecordFault) (row found : LaneRow) → Ok row ≡ cond b (row_or o found) (Err fault.BadLane) → (b ≡ true) × (o ≡ None) × (row ≡ found)
 two true None row found is = (refl, refl, cc)
 two true (Some f) row found is = cc
 two false o row found is = cc

@@ -1,4 +1,4 @@
--- The lanes of a turn, as their rows are given and their deliveries brought.
+-- The lanes of a turn, as their rows are given and their deliveries brought (of `waiting.rt` and `AreWaiting` of specs/inner/Came).
 use Rattle.command_runs.specs.declared.live.pending.PendingReply.TheVariants as pending
 use Rattle.command_runs.proofs.live.Words.{AllZip, AreEnded, AreWaiting, HasMoved, IsAllBrought, IsPending, IsReady, IsWaiting, List, PendingReply, Plain, Reply, Some, Waiting, [], ap, append-nil, append_assoc, arith, get_or, get_or-map, length, length-append, length-set, refl, set, slice_get, slice_get_within, sym, vec_capacity, ℕ, ◌++◌, ◌+◌, ◌<◌, ◌∙◌, ◌≡◌, ◌≤◌}
 use Rattle.command_runs.proofs.live.ListFacts.{Adds, Grows, got_grown, set_each, zip_weaker}

@@ -1,4 +1,4 @@
--- A live input as a whole, as it takes lines, and what its wire tells of its faults.
+-- A live input as a whole, as it takes lines, and what its wire tells of its faults (of `HasLived` of specs/inner/Came).
 use Rattle.command_runs.proofs.live.Words.{AllocError, Bool, Err, Event, Gives, Global, HasCome, HasLived, HasRoom, Held, History, IsErr, List, Live, LiveFault, MayStillWrite, NextLine, NoMemory, Ok, Option, Past, PendingReply, Plain, ReadFault, Result, Some, Stays, StopsFor, String, TakesLine, Vec, Waiting, WriteFault, after_line, false≢true, past_from, refl, sym, turn_of, with_more, ℕ, ◌∙◌, ◌≡◌, ◌≢◌}
 use Rattle.command_runs.proofs.live.CameFacts.{came_refusal}
 use Rattle.command_runs.proofs.live.WireFacts.{no_fault}

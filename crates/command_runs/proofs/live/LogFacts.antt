@@ -1,4 +1,4 @@
--- A log of reads and writes by which each record is answered, as it grows.
+-- A log of reads and writes by which each record is answered, as it grows (of specs/live/Answering).
 use Rattle.command_runs.proofs.live.Words.{AnswersBy, BeginsBy, Event, IsFrontBy, IsPromptBy, List, Read, Wrote, [], ap, append-nil, append_assoc, bytes_read, bytes_written, concat, flat_map-append, inl, inr, pieces_of, refl, subst, sym, was_read, was_written, whole_lines, writes_of, ℕ, ⊎_elim, ◌++◌, ◌∙◌, ◌∷◌, ◌≡◌, ◌⊎◌}
 
 -- a list and one more item, cut in two

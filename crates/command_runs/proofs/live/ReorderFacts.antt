@@ -1,6 +1,6 @@
--- The answers of a live input are those of `lanes`, in another order.
+-- The answers of a live input are those of `lanes` in another order, for `lines_are_report`.
 use Rattle.element_core.specs.declared.form.Form.TheVariants as form
-use Rattle.command_runs.proofs.live.Words.{AllZip, Answer, AreItems, Each, IsAnswer, IsLaneRowLine, IsReply, LaneLine, LaneRow, LinesAreReport, List, Meant, Numbers, Ok, Reads, Terms, [], ap, arith, cases_eq, concat, cons_option, eq-eqb, feed_of, fields_in, filter, filter_map, get_or-map-range_with_len, has_byte, lanes_from, lanes_meaning, le-ltb, length, length-map-range_with_len, line_meant, line_of, lines_from, lt-ltb, map, most_line, most_rows, nat_tests, ne_eqb, one_later, pieces_of, range_with_len, record_lines, recursion_from_All, refl, replies_from, subst, suc, sym, text_meant, without_return, zero, ℕ, ⊎_elim, ◌++◌, ◌+◌, ◌<◌, ◌==◌, ◌∙◌, ◌∷◌, ◌≡◌, ◌≢◌, ◌≤◌}
+use Rattle.command_runs.proofs.live.Words.{AllZip, Answer, AreItems, Each, IsAnswer, IsLaneRowLine, IsReply, LaneLine, LaneRow, LinesAreReport, List, Meant, Numbers, Ok, Reads, Terms, [], ap, arith, cases_eq, concat, cons_option, eq-eqb, feed_of, fields_in, filter, filter_map, get_or-map-range_with_len, has_byte, lane_lines, lanes_meaning, le-ltb, length, length-map-range_with_len, line_meant, line_of, lines_from, lt-ltb, map, most_line, most_rows, nat_tests, ne_eqb, one_later, pieces_of, range_with_len, record_lines, recursion_from_All, refl, replies_from, subst, suc, sym, text_meant, without_return, zero, ℕ, ⊎_elim, ◌++◌, ◌+◌, ◌<◌, ◌==◌, ◌∙◌, ◌∷◌, ◌≡◌, ◌≢◌, ◌≤◌}
 use Rattle.command_runs.proofs.live.CsvFacts.{lines_are_records}
 use Rattle.command_runs.proofs.live.FieldsFacts.{row_meant}
 
@@ -106,7 +106,7 @@ module _ (lanes : ℕ) (year : Terms) where
     said first n = map (λ l. of_lane l o.answers) (range_with_len first n)
 
     reported : (first n : ℕ) → AllZip (λ rows read. Reads rows year read) (map (λ l. feed_of l rows) (range_with_len first n)) (said first n)
-        × (concat (map concat (map (λ l. feed_of l o.lines) (range_with_len first n))) ≡ lanes_from first (said first n))
+        × (concat (map concat (map (λ l. feed_of l o.lines) (range_with_len first n))) ≡ concat (lane_lines first (said first n)))
     reported first zero = (tt, refl)
     reported first (suc n) =
         let (reads, same) = reported (first + 1) n in

@@ -1,4 +1,4 @@
--- Replies to records as more come.
+-- The replies to records as more come (of specs/live/Replies).
 use Rattle.command_runs.proofs.live.Words.{List, Meant, Numbers, Option, [], ap, filter_map, filter_map-append, numbers_after, numbers_after_lines, numbers_from, refl, replies_from, replies_to, reply_to, ℕ, ◌++◌, ◌∙◌, ◌∷◌, ◌≡◌}
 
 replies_append : (next : Numbers) (ms ns : List Meant) → replies_from next (ms ++ ns) ≡ replies_from next ms ++ replies_from (numbers_from next ms) ns

@@ -1,4 +1,4 @@
--- How far a live input has come, by the reads and writes of its wire.
+-- How far a live input has come, by the reads and writes of its wire (of `Stands` of specs/inner/Came).
 use Rattle.command_runs.specs.declared.live.pending.PendingReply.TheVariants as pending
 use Rattle.command_runs.proofs.live.Words.{All, AllZip, AnsweredWhole, AnswersBy, AreEnded, AreOfRows, AreWaiting, BeginsBy, HasCome, Held, IsAllBrought, IsPending, IsReady, IsReplyTo, KeepsReplies, List, LiveFault, MayStillWrite, NoMemory, None, Option, Past, PendingReply, Read, ReadFault, Reply, Some, Stands, TakesLines, TellsPending, Turn, Waiting, WriteFault, [], ap, append-nil, append_assoc, arith, arrived, beside, beside-append, concat, concat-append, counts, eqb-true, false, filter_map, get_or, held_line, length, length-append, line_meant, lines_are_pieces, nil_from_length, pieces_of, refl, replies_from, replies_in, slice_get, sym, take, take-append_seam, was_read, was_written, whole_lines, with_room, writes_of, ℕ, ⊎_elim, ◌++◌, ◌-◌, ◌∙◌, ◌∷◌, ◌≡◌, ◌≢◌}
 use Rattle.command_runs.proofs.live.CameFacts.{still_kept}

@@ -1,6 +1,6 @@
 -- Names that the proofs of `live` share.
 pub use Rattle.command_runs.proofs.CommandFacts.{only_fault}
-pub use Rattle.command_runs.specs.answers.Reports.{lanes_from, line_of, lines_from}
+pub use Rattle.command_runs.specs.answers.Reports.{lane_lines, line_of, lines_from}
 pub use Rattle.command_runs.specs.declared.live.fault.LiveFault.TheVariants.{NoMemory, ReadFault, WriteFault}
 pub use Rattle.command_runs.specs.declared.live.fault.LiveFault.{LiveFault}
 pub use Rattle.command_runs.specs.declared.live.input.Live.{Live}
@@ -23,7 +23,8 @@ pub use Rattle.command_runs.specs.live.Replies.Reply.{Row}
 pub use Rattle.command_runs.specs.live.Replies.Told.{Refusal}
 pub use Rattle.command_runs.specs.live.Replies.{Meant, Numbers, Reply, Told, most_rows, numbers_after, one_later, replies_from, replies_to, reply_to, unnumbered_line}
 pub use Rattle.command_runs.specs.live.Text.{AnsweredWhole, IsReply, fields_in, fields_meant, is_comma, line_fault_text, line_meant, record_in, row_or_line, text_meant, without_return}
-pub use Rattle.csv_records.proofs.Beside.{beside, beside-append, zip_more}
+pub use Rattle.command_runs.proofs.ListsBeside.{beside, beside-append}
+pub use Rattle.std.proofs.lemmas.Slice.Zip.{all_zipped_more}
 pub use Rattle.csv_records.proofs.MessageWidths.{messages_are_no_rows, whole}
 pub use Rattle.csv_records.specs.declared.input.fault.RecordFault.{RecordFault}
 pub use Rattle.csv_records.specs.input.Faults.{record_fault_text}

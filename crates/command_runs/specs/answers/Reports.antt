@@ -1,7 +1,7 @@
 -- The report: the answers to the rows of each lane, one line each.
 use Rattle.std.specs.Prelude.{◌≡◌, ◌+◌, ◌++◌, ℕ, List, [], ◌∷◌}
 use Rattle.std.specs.Fmt.{decimal}
-use Rattle.std.specs.List.{AllZip}
+use Rattle.std.specs.List.{AllZip, concat}
 use Rattle.scan_core.specs.Answers.{Reads}
 use Rattle.scan_core.specs.Lines.{said}
 use Rattle.scan_core.specs.declared.answer.Answer.{Answer}
@@ -22,14 +22,14 @@ abbrev pub lines_from : ℕ → ℕ → List Answer → List ℕ
 lines_from lane number [] = []
 lines_from lane number (a ∷ rest) = line_of lane number a ++ lines_from lane (number + 1) rest
 
--- the lines of the lanes, from one on
-abbrev pub lanes_from : ℕ → List (List Answer) → List ℕ
-lanes_from lane [] = []
-lanes_from lane (answers ∷ rest) = lines_from lane 0 answers ++ lanes_from (lane + 1) rest
+-- the lines of each lane, from one on
+abbrev pub lane_lines : ℕ → List (List Answer) → List (List ℕ)
+lane_lines lane [] = []
+lane_lines lane (answers ∷ rest) = lines_from lane 0 answers ∷ lane_lines (lane + 1) rest
 
 -- the lines of all lanes, lane by lane
 abbrev pub report : List (List Answer) → List ℕ
-report = lanes_from 0
+report answers = concat (lane_lines 0 answers)
 
 -- the text is the report of the answers to these rows under the reference year
 abbrev pub IsReport : Terms → List (List (List ℕ)) → List ℕ → Type 0

@@ -1,16 +1,17 @@
 -- The command `lanes`.
-use Rattle.std.specs.Prelude.{◌≢◌, ℕ, List, [], Option}
+use Rattle.std.specs.Prelude.{ℕ, List, Option}
 use Rattle.command_runs.specs.answers.Reports.{IsReport}
-use Rattle.csv_records.specs.input.Records.{Takes}
+use Rattle.command_runs.specs.answers.Rows.{RefusesRows}
+use Rattle.command_runs.specs.declared.answers.rows.RowsFault.TheVariants as rows
 use Rattle.csv_records.specs.lanes.Feeds.{feeds_of, lanes_meaning}
 use Rattle.command_runs.specs.Runs.{Command, RefusesRecords, WritesOnce, WritesRecords}
 use Rattle.command_runs.specs.declared.fault.CommandFault.{CommandFault}
 use Rattle.command_runs.specs.declared.fault.CommandFault.TheVariants as command
 use Rattle.command_line.specs.declared.commands.lanes.options.LaneOptions.{LaneOptions}
 
--- why `lanes` refuses the input: the records, then a thread that could not be started, and only if there is a row
+-- why `lanes` refuses the input: as its rows are
 abbrev pub RefusesLanes : ℕ → Option (List ℕ) → Option (List ℕ) → CommandFault → Type 0
-RefusesLanes lanes left rest command.NoThread = Takes (lanes_meaning lanes) (λ rows. rows ≢ []) left rest
+RefusesLanes lanes left rest command.NoThread = RefusesRows lanes left rest rows.NoThread
 RefusesLanes lanes left rest f = RefusesRecords (lanes_meaning lanes) left rest f
 
 -- the report of the answers to the rows that records give each lane

@@ -1,4 +1,4 @@
--- A sink behind a buffer.
+-- A sink behind a buffer (`buffered.rt`).
 use Rattle.std.specs.Prelude.{◌≡◌, ℕ, Bool, true, List, Option, Result, IsErr, IsTrue, OnErr, OnOk}
 use Rattle.std.specs.Io.KnownBytes.{Keeps, append_known}
 

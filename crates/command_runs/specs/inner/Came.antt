@@ -1,4 +1,4 @@
--- How far a live input has come.
+-- How far a live input has come (`live/input.rt`): the lanes of a turn, the replies that are pending, what was read and written.
 use Rattle.std.specs.Prelude.{◌≡◌, ◌≢◌, ◌<◌, ◌≤◌, ◌-◌, ◌+◌, ◌++◌, Bool, true, ⊤, ℕ, List, [], Option, Some, Result, Ok, Err, length, replicate, slice_get, slice_index_or, vec_capacity}
 use Rattle.std.specs.List.{AllZip}
 use Rattle.std.specs.declared.alloc.AllocError.{AllocError}

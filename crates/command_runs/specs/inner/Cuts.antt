@@ -1,4 +1,4 @@
--- What is kept of sheets whose rows are cut.
+-- What is kept of sheets whose rows are cut (`columns.rt`).
 use Rattle.std.specs.Prelude.{true, ◌≡◌, ◌++◌, ◌∷◌, [], ℕ, Bool, List}
 use Rattle.sheet_core.specs.Bitmaps.{Bitmap}
 use Rattle.sheet_core.specs.Grids.{Cells}

@@ -1,4 +1,4 @@
--- Whether a live input has been answered whole.
+-- Whether a live input has been answered whole (`live/input.rt`).
 use Rattle.std.specs.Prelude.{◌==◌, ◌&&◌, Bool, is_none, length}
 use Rattle.wire_core.specs.Lines.{held_line}
 use Rattle.command_runs.specs.declared.live.input.Live.{Live}

@@ -1,4 +1,4 @@
--- What types, private contracts and proofs name beside `Lived`.
+-- How the answering of a live input ends, and why it does not begin (`live/answering.rt`).
 use Rattle.std.specs.Prelude.{◌≡◌, ◌≢◌, ◌↔◌, IsErrOf, OnOk, Option, Some, None, Result}
 use Rattle.hub_core.specs.declared.ended.Ended.{Ended}
 use Rattle.hub_core.specs.declared.ended.Ended.TheVariants.{Done}

@@ -1,4 +1,4 @@
--- Records as they are read of lines.
+-- Records as they are read of lines (`live/record.rt`).
 use Rattle.std.specs.Prelude.{◌≡◌, ◌<◌, ℕ, List, Option, Some, None, Ok, Err, true, false, length}
 use Rattle.wire_core.specs.Lines.{Held, held_line}
 use Rattle.command_runs.specs.live.Replies.{Meant, Told, unnumbered_line}
@@ -21,9 +21,9 @@ IsRecord lanes read.Blank m = m ≡ None
 IsRecord lanes (read.Row lane row) m = (m ≡ Some (Ok (lane, row))) × (lane < lanes)
 IsRecord lanes (read.Notice n) m = m ≡ Some (Err (told_of n))
 
--- a record that means this
-abbrev pub Means : ℕ → Meant → Record → Type 0
-Means lanes m found = IsRecord lanes found (Some m)
+-- a record that is read as what has this meaning
+abbrev pub ReadAs : ℕ → Meant → Record → Type 0
+ReadAs lanes m found = IsRecord lanes found (Some m)
 
 -- a line is held, this many bytes of it, and this is the record that it means, whatever front was given up
 abbrev pub HoldsRecord : ℕ → Held → ℕ → Record → Type 0

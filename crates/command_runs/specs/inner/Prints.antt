@@ -1,4 +1,4 @@
--- What is written of labels.
+-- What is written of labels (`commands/print.rt`).
 use Rattle.std.specs.Prelude.{◌≡◌, ◌≢◌, ℕ, Bool, List, Option, Result, IfErr, IsErrOf, OnOk}
 use Rattle.std.specs.Io.KnownBytes.{Appends}
 use Rattle.digits_core.specs.Bytes.{TookFront}

@@ -1,4 +1,4 @@
--- What types, private contracts and proofs name beside `Replies`.
+-- The numbers after records of a live input (specs/live/Replies).
 use Rattle.std.specs.Prelude.{◌∷◌, ℕ, List, [], Option}
 use Rattle.std.specs.List.{filter_map}
 use Rattle.command_runs.specs.live.Replies.{Numbers, Meant, numbers_after, reply_to}

@@ -1,4 +1,4 @@
--- Why a live input is answered no longer, and what its wire reports of it.
+-- Why a live input is answered no longer, and what its wire reports of it (`live/fault.rt`).
 use Rattle.std.specs.Prelude.{◌≡◌, ◌⊎◌, ◌↔◌, Bool, true, false, Option, Some, None}
 use Rattle.command_runs.specs.declared.live.fault.LiveFault.{LiveFault}
 use Rattle.command_runs.specs.declared.live.fault.LiveFault.TheVariants.{NoMemory}

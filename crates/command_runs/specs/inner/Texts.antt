@@ -1,4 +1,4 @@
--- What is added to a text.
+-- What is added to a text (`live/pending.rt`).
 use Rattle.std.specs.Prelude.{◌≡◌, ◌++◌, ℕ, List, OnOk, Result, String, string_bytes}
 use Rattle.std.specs.Global.{Global}
 

@@ -1,4 +1,4 @@
--- How the lanes of a turn change.
+-- How the lanes of a turn change (`live/waiting.rt`).
 use Rattle.std.specs.Prelude.{◌≡◌, ◌<◌, ◌≤◌, ◌+◌, ◌++◌, ℕ, All, List, [], Option, Some, None, Result, Ok, Err, length, slice_get, slice_set, vec_capacity}
 use Rattle.std.specs.declared.alloc.AllocError.{AllocError}
 use Rattle.lane_core.specs.declared.job.Plain.{Plain}

@@ -1,9 +1,7 @@
 //! The lines that answer rows.
 ghost use Rattle.std.specs.Prelude.{◌≡◌, ◌∷◌, ◌++◌, [], IfOk, OnOk, decimal, map, string_bytes};
 ghost use Rattle.std.specs.List.{concat};
-ghost use Rattle.command_runs.specs.answers.Reports.{numbered_line};
-ghost use Rattle.scan_core.specs.Answers.{IsAnswer};
-ghost use Rattle.scan_core.specs.declared.answer.Answer.{Answer};
+ghost use Rattle.command_runs.specs.inner.Reports.{AddsAnswer};
 
 use element_core::Form;
 use itoa::Buffer;
@@ -32,8 +30,7 @@ pub fn push_line(
     number: u32,
     delivery: &Delivery,
 ) -> Result<(), AllocError>
-    ensures { OnOk result ((answer : Answer) × IsAnswer delivery.now.widths delivery.now.year answer
-        × (string_bytes text.new ≡ string_bytes text.old ++ numbered_line form lane number answer)) }
+    ensures { OnOk result (AddsAnswer form lane number delivery.now text.old text.new) }
 {
     push_number(text, usize::from(lane))?;
     push_number(text, number as usize)?;

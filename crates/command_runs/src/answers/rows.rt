@@ -1,20 +1,18 @@
-//! The rows of records, which are read as workers answer them.
-ghost use Rattle.std.specs.Prelude.{[], ◌≡◌, ◌≤◌, ◌∷◌, ◌↔◌, List, Ok, false, length, map, true, IfErr, IfOk, IsErrOf, string_bytes};
-ghost use Rattle.std.specs.List.{concat};
+//! Rows of records that are read as workers answer them.
+ghost use Rattle.std.specs.Prelude.{◌≡◌, IfErr, IfOk, string_bytes};
 ghost use Rattle.hub_core.specs.Serving.{AreSeatCounts};
-ghost use Rattle.command_runs.specs.answers.Reports.{IsReport};
-ghost use Rattle.command_runs.specs.inner.Rows.{AnswersRecords, RefusesBytes, StartsAs};
-ghost use Rattle.command_runs.specs.answers.Rows.{RefusesRows};
-ghost use Rattle.csv_records.specs.input.Records.{Fields, Takes, records_of};
-ghost use Rattle.csv_records.specs.lanes.Feeds.{feeds_of, lanes_meaning};
+ghost use Rattle.command_runs.specs.Runs.{TellsFault};
+ghost use Rattle.command_runs.specs.answers.Rows.{AnswersRows, RefusesRows};
+ghost use Rattle.command_runs.specs.inner.Rows.{AreAnswered, BeginsUnanswered, TellsOfRows};
 
-use crate::answers::lines::{are_plain, next_line, read_line};
+use crate::answers::held_input::make_chunk;
 use crate::answers::report::joined;
+use crate::answers::row_reader::{Course, RowReader};
 use crate::answers::serving::{AnswerFault, fault_of, make_texts, push_answer_of};
-use csv_records::{INPUT_LIMIT, RecordRefusal, Records, RecordsFault, check_rows, next_row};
-use digits_core::{Source, read_all};
+use csv_records::RecordsFault;
+use digits_core::Source;
 use element_core::Year;
-use hub_core::{Ended, Gate, Traffic, answers_are_read, serve_traffic};
+use hub_core::{Ended, Gate, NotBegun, Traffic, answers_are_read, serve_traffic};
 use lane_core::Delivery;
 use scan_core::Runs;
 use std::alloc::{AllocError, Global};
@@ -30,37 +28,18 @@ pub enum RowsFault {
     NoThread,
 }
 
-/// Where the reading of records stands.
-#[derive(Clone, Copy, Debug, PartialEq, Eq)]
-enum Course {
-    /// There may be more.
-    Open,
-    /// There may be more, which are lines.
-    Plain,
-    /// All were read.
-    Ended,
-    /// One was refused.
-    Refused,
-}
-
-/// A record was refused.
+/// The input is refused.
 #[derive(Clone, Copy, Debug, PartialEq, Eq)]
 struct Refused;
 
-/// The records that are left of an input, and the lines that answer the rows of the others.
+/// The records that a source gives, and the lines that answer the rows of those that were read.
 #[derive(Drop)]
-struct RecordRows<'a> {
-    alloc: Global,
-    lanes: u8,
-    bytes: &'a [u8],
-    records: Records<'a>,
-    /// The bytes that are left of plain ones.
-    rest: &'a [u8],
-    course: Course,
+struct RecordRows<'a, S> {
+    rows: RowReader<'a, S>,
     texts: Vec<String>,
 }
 
-impl<'a> Traffic for RecordRows<'a> {
+impl<'a, S: Source> Traffic for RecordRows<'a, S> {
     ghost use Rattle.std.specs.Prelude.{◌≡◌};
     ghost use Rattle.command_runs.specs.inner.Rows.{HasGiven, is_ended};
 
@@ -68,43 +47,14 @@ impl<'a> Traffic for RecordRows<'a> {
 
     type BringFault = AllocError;
 
-    ghost Came = { λ start s given brought. HasGiven start s given brought };
+    ghost Came = { λ start s given brought. HasGiven S.left S.failed start s given brought };
 
-    ghost has_ended = { λ s. is_ended s.course };
+    ghost has_ended = { λ s. is_ended s.rows.course };
 
-    ghost Leaves = { λ s t. t.course ≡ s.course };
+    ghost Leaves = { λ s t. t.rows ≡ s.rows };
 
     fn next(&mut self) -> Option<(u8, Runs)> {
-        match self.course {
-            Course::Open => match next_row(self.alloc, self.lanes, &mut self.records) {
-                Ok(Some(row)) => Some(row),
-                Ok(None) => {
-                    self.course = Course::Ended;
-                    None
-                }
-                Err(_) => {
-                    self.course = Course::Refused;
-                    None
-                }
-            },
-            Course::Plain => match next_line(self.rest) {
-                Some((line, rest)) => {
-                    self.rest = rest;
-                    match read_line(self.alloc, self.lanes, line) {
-                        Ok(row) => Some(row),
-                        Err(_) => {
-                            self.course = Course::Refused;
-                            None
-                        }
-                    }
-                }
-                None => {
-                    self.course = Course::Ended;
-                    None
-                }
-            },
-            Course::Ended | Course::Refused => None,
-        }
+        self.rows.next_row()
     }
 
     fn bring(&mut self, delivery: Delivery) -> Result<(), AllocError> {
@@ -112,101 +62,63 @@ impl<'a> Traffic for RecordRows<'a> {
     }
 
     fn wait(&mut self) -> Result<bool, Refused> {
-        match self.course {
+        match self.rows.course {
             Course::Ended => Ok(false),
-            Course::Open | Course::Plain | Course::Refused => Err(Refused),
+            _ => Err(Refused),
         }
     }
 }
 
-/// How the reading of bytes begins.
-fn first_course(bytes: &[u8]) -> Course
-    ensures { StartsAs bytes.now result }
-{
-    if are_plain(bytes) {
-        Course::Plain
-    } else {
-        Course::Open
-    }
-}
-
-/// The lines of each lane.
-fn answer_each<R: Threads + Wait + Sync, G: Gate + Sync>(
+/// Has the rows of a reader answered: the lines of each lane.
+fn serve_rows<'a, R: Threads + Wait + Sync, S: Source, G: Gate + Sync>(
     rt: &R,
     alloc: Global,
     lanes: u8,
-    bytes: &[u8],
     workers: u8,
     year: Year,
+    rows: RowReader<'a, S>,
+    texts: Vec<String>,
     gate: &G,
-) -> Result<Vec<String>, AnswerFault>
+) -> (RowReader<'a, S>, Result<Vec<String>, AnswerFault>)
     requires counts { AreSeatCounts lanes workers }
-    requires few { length bytes.now ≤ INPUT_LIMIT }
-    ensures lines { IfOk result (λ texts. AnswersRecords lanes year (records_of bytes.now) (concat (map string_bytes texts.items))) }
+    requires fresh { BeginsUnanswered S.left S.failed lanes rows texts.items }
+    ensures same_reference { result.0.input.source.ghost_name ≡ rows.entry.input.source.ghost_name }
+    ensures answered { AreAnswered S.left S.failed lanes year rows.entry.input.source result.0 result.1 }
 {
-    let traffic = RecordRows {
-        alloc,
-        lanes,
-        bytes,
-        records: Records::new(alloc, bytes),
-        rest: bytes,
-        course: first_course(bytes),
-        texts: make_texts(alloc, lanes)?,
-    };
+    let traffic = RecordRows { rows, texts };
     // A law, by which the clause follows: this call does nothing.
     answers_are_read();
     match serve_traffic(rt, alloc, traffic, lanes, workers, year, gate) {
-        Ok((traffic, Ended::Done)) => Ok(traffic.texts),
-        Ok(_) => Err(AnswerFault::NoMemory),
-        Err(refused) => Err(fault_of(refused.fault)),
+        Ok((traffic, Ended::Done)) => (traffic.rows, Ok(traffic.texts)),
+        Ok((traffic, _)) => (traffic.rows, Err(AnswerFault::NoMemory)),
+        Err(
+            NotBegun {
+                fault,
+                input: traffic,
+            },
+        ) => (traffic.rows, Err(fault_of(fault))),
     }
 }
 
-/// Whether the bytes have a record.
-fn has_record(alloc: Global, bytes: &[u8]) -> Result<bool, RecordRefusal>
-    ensures some { result ≡ Ok true → (first : Fields) × (more : List Fields) × (records_of bytes.now ≡ first ∷ more) }
-    ensures none { result ≡ Ok false → records_of bytes.now ≡ [] }
-{
-    Records::new(alloc, bytes).read()
-}
-
-/// The lines that answer the rows of the records of bytes.
-///
-/// No thread is started if there is no record. If the rows are not answered, a record that has a
-/// fault is reported before anything else.
-fn answer_bytes<R: Threads + Wait + Sync, G: Gate + Sync>(
-    rt: &R,
+/// What is told where not all rows are answered, of which all were read: a record that has a fault comes before
+/// anything else. If there is no row there is no line.
+fn tell_fault<S: Source>(
     alloc: Global,
-    lanes: u8,
-    bytes: &[u8],
-    workers: u8,
-    year: Year,
-    gate: &G,
+    rows: &RowReader<'_, S>,
+    fault: AnswerFault,
 ) -> Result<String, RowsFault>
-    requires counts { AreSeatCounts lanes workers }
-    requires few { length bytes.now ≤ INPUT_LIMIT }
-    ensures lines { IfOk result (λ lines. AnswersRecords lanes year (records_of bytes.now) (string_bytes lines)) }
-    ensures refused { IfErr result (RefusesBytes lanes (records_of bytes.now)) }
+    ensures { TellsOfRows S.left S.failed rows.now result }
 {
-    let Ok(is_found) = has_record(alloc, bytes) else {
-        return Err(RowsFault::Records(RecordsFault::NoMemory));
-    };
-    if !is_found {
-        return Ok(String::new(alloc));
-    }
-    let fault = match answer_each(rt, alloc, lanes, bytes, workers, year, gate) {
-        Ok(texts) => match joined(alloc, texts) {
-            Ok(lines) => return Ok(lines),
-            Err(_) => return Err(RowsFault::Records(RecordsFault::NoMemory)),
-        },
-        Err(fault) => fault,
-    };
-    match check_rows(alloc, lanes, bytes) {
-        Ok(()) => match fault {
+    match rows.course {
+        Course::Refused(refused) => Err(RowsFault::Records(refused)),
+        Course::Ended if rows.count == 0 => Ok(String::new(alloc)),
+        Course::Ended => match fault {
             AnswerFault::NoThread => Err(RowsFault::NoThread),
             AnswerFault::NoMemory => Err(RowsFault::Records(RecordsFault::NoMemory)),
         },
-        Err(refused) => Err(RowsFault::Records(refused)),
+        Course::Lines | Course::LastLine | Course::Csv(_) => {
+            Err(RowsFault::Records(RecordsFault::NoMemory))
+        }
     }
 }
 
@@ -227,15 +139,26 @@ pub fn answer_records<R: Threads + Wait + Sync, S: Source, G: Gate + Sync>(
     gate: &G,
 ) -> Result<String, RowsFault>
     requires counts { AreSeatCounts lanes workers }
-    ensures report { IfOk result (λ lines. Takes (lanes_meaning lanes) (λ items. IsReport year (feeds_of lanes items) (string_bytes lines))
-        (S.left source.old) (S.left source.new)) }
+    ensures report { IfOk result (λ lines. AnswersRows lanes year (S.left source.old) (S.left source.new) (string_bytes lines)) }
     ensures refused { IfErr result (RefusesRows lanes (S.left source.old) (S.left source.new)) }
-    ensures fault { S.failed source.old ≡ false
-        → (IsErrOf result (RowsFault.Records RecordsFault.ReadFault) ↔ (S.failed source.new ≡ true)) }
+    ensures fault { TellsFault S.failed source.old source.new result (RowsFault.Records RecordsFault.ReadFault) }
 {
-    let bytes = match read_all(alloc, source, INPUT_LIMIT) {
-        Ok(bytes) => bytes,
-        Err(fault) => return Err(RowsFault::Records(RecordsFault::from(fault))),
+    let (Ok(texts), Ok(chunk)) = (make_texts(alloc, lanes), make_chunk(alloc)) else {
+        return Err(RowsFault::Records(RecordsFault::NoMemory));
     };
-    answer_bytes(rt, alloc, lanes, bytes.as_slice(), workers, year, gate)
+    let rows = RowReader::new(alloc, lanes, source, chunk);
+    let (mut rows, lines) = serve_rows(rt, alloc, lanes, workers, year, rows, texts, gate);
+    let told = match lines {
+        Ok(texts) => match joined(alloc, texts) {
+            Ok(lines) => Ok(lines),
+            Err(_) => Err(RowsFault::Records(RecordsFault::NoMemory)),
+        },
+        Err(fault) => {
+            rows.pass_rows();
+            tell_fault(alloc, &rows, fault)
+        }
+    };
+    // So it is known what becomes of the source.
+    let _source = rows.into_source();
+    told
 }

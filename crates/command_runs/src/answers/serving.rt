@@ -1,13 +1,9 @@
 //! Rows that workers answer, and the report of the answers.
-ghost use Rattle.std.specs.Prelude.{[], ◌≡◌, ◌≢◌, ◌↔◌, ◌<◌, All, List, map, replicate, true, vec_len, IfOk, IsErrOf, IsTrue, string_bytes};
-ghost use Rattle.std.specs.List.{AllZip};
-ghost use Rattle.scan_core.specs.Answers.{Reads};
-ghost use Rattle.scan_core.specs.declared.answer.Answer.{Answer};
+ghost use Rattle.std.specs.Prelude.{[], ◌≡◌, ◌↔◌, ◌<◌, All, map, replicate, true, vec_len, IfOk, IsErrOf, IsTrue, string_bytes};
 ghost use Rattle.hub_core.specs.Feeds.{AreGiven, are_given, rests_of};
 ghost use Rattle.hub_core.specs.Serving.{are_counts, items_of};
-ghost use Rattle.hub_core.specs.declared.fault.ServeFault.{ServeFault};
 ghost use Rattle.command_runs.specs.declared.answers.serving.AnswerFault.TheVariants.{NoMemory};
-ghost use Rattle.command_runs.specs.inner.Reports.{AreLinesOf, TellsOf, lane_lines};
+ghost use Rattle.command_runs.specs.inner.Reports.{AreLaneLines, AreLinesOf, TellsOf, answer_fault};
 ghost use Rattle.command_runs.specs.answers.Reports.{IsReport};
 
 use crate::answers::report::{joined, push_line};
@@ -41,14 +37,11 @@ impl From<AllocError> for AnswerFault {
 
 /// Why rows are not answered, if they are not served.
 pub fn fault_of(fault: ServeFault) -> AnswerFault
-    requires { fault ≢ ServeFault.BadCount }
-    ensures memory { fault ≡ ServeFault.NoMemory → result ≡ AnswerFault.NoMemory }
-    ensures thread { fault ≡ ServeFault.NoThread → result ≡ AnswerFault.NoThread }
+    ensures { result ≡ answer_fault fault }
 {
     match fault {
         ServeFault::NoThread => AnswerFault::NoThread,
-        ServeFault::NoMemory => AnswerFault::NoMemory,
-        ServeFault::BadCount => unreachable!(),
+        ServeFault::NoMemory | ServeFault::BadCount => AnswerFault::NoMemory,
     }
 }
 
@@ -97,7 +90,7 @@ impl Traffic for AnsweredRows {
 /// Appends the line that answers a delivery to the text of its lane.
 pub fn push_answer_of(texts: &mut Vec<String>, delivery: Delivery) -> Result<(), AllocError>
     requires { delivery.lane < vec_len texts.old }
-    ensures { IfOk result (λ _. TellsOf delivery (map string_bytes texts.old.items) (map string_bytes texts.new.items)) }
+    ensures { IfOk result (λ _. TellsOf delivery texts.old.items texts.new.items) }
 {
     let ticket = delivery.ticket();
     let index = usize::from(ticket.lane);
@@ -131,9 +124,7 @@ fn answer_each<R: Threads + Wait + Sync, G: Gate + Sync>(
     gate: &G,
 ) -> Result<Vec<String>, AnswerFault>
     requires { are_counts (items_of feeds.items) workers ≡ true }
-    ensures lines { IfOk result (λ v. (answers : List (List Answer))
-        × AllZip (λ rows read. Reads rows year read) (items_of feeds.items) answers
-        × (map string_bytes v.items ≡ lane_lines 0 answers)) }
+    ensures lines { IfOk result (λ v. AreLaneLines year (items_of feeds.items) v.items) }
 {
     let lanes = feeds.len() as u8;
     let texts = make_texts(alloc, lanes)?;

@@ -1,6 +1,6 @@
 //! What a line of a live input means.
 ghost use Rattle.std.specs.Prelude.{◌≡◌, ◌∷◌, [], IfOk, Some};
-ghost use Rattle.command_runs.specs.inner.Meaning.{HoldsNext, IsRecord, Means};
+ghost use Rattle.command_runs.specs.inner.Meaning.{HoldsNext, IsRecord, ReadAs};
 ghost use Rattle.command_runs.specs.live.Text.{fields_meant, line_fault_text, line_meant, message_meant, record_in, without_return};
 ghost use Rattle.digits_core.specs.Refusals.{refusal_text};
 
@@ -68,7 +68,7 @@ pub enum Record {
 
 /// The record of two fields.
 fn read_row(alloc: Global, lanes: u8, lane: &[u8], widths: &[u8]) -> Result<Record, AllocError>
-    ensures { IfOk result (Means lanes (fields_meant lanes (lane.now ∷ widths.now ∷ []))) }
+    ensures { IfOk result (ReadAs lanes (fields_meant lanes (lane.now ∷ widths.now ∷ []))) }
 {
     let Some(lane) = lane_in(lane, lanes) else {
         return Ok(Record::Notice(Notice::Refused(None, LineFault::Record(RecordFault::BadLane))));
@@ -84,7 +84,7 @@ fn read_row(alloc: Global, lanes: u8, lane: &[u8], widths: &[u8]) -> Result<Reco
 
 /// The record of a message of a scanner.
 fn read_message(alloc: Global, lanes: u8, lane: &[u8], text: &[u8]) -> Result<Record, AllocError>
-    ensures { IfOk result (Means lanes (message_meant lanes lane.now text.now)) }
+    ensures { IfOk result (ReadAs lanes (message_meant lanes lane.now text.now)) }
 {
     let Some(lane) = lane_in(lane, lanes) else {
         return Ok(Record::Notice(Notice::Refused(None, LineFault::Record(RecordFault::BadLane))));
@@ -94,7 +94,7 @@ fn read_message(alloc: Global, lanes: u8, lane: &[u8], text: &[u8]) -> Result<Re
 
 /// The record of a line that has a byte and not too many.
 fn read_record(alloc: Global, lanes: u8, line: &[u8]) -> Result<Record, AllocError>
-    ensures { IfOk result (Means lanes (record_in lanes line.now)) }
+    ensures { IfOk result (ReadAs lanes (record_in lanes line.now)) }
 {
     match memchr(b',', line) {
         Some(comma) => {

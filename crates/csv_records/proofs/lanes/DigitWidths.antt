@@ -6,20 +6,20 @@ use Rattle.std.specs.Option.{IfNone, IfSome}
 use Rattle.std.proofs.Math.Dec.{leb}
 use Rattle.std.proofs.lemmas.Bool.{and_parts, cases_eq, le-leb, leb-true}
 use Rattle.std.proofs.lemmas.List.{append-nil, append_assoc, drop-drop, get_or-drop, get_or-set_other, get_or-set_same, length-drop, length-take-le, take_all, take_more}
-use Rattle.csv_records.specs.inner.Widths.{BeginsWithDigits, IsDigitAt}
+use Rattle.csv_records.specs.inner.Widths.{BeginsWithDigits, IsDigitWord}
 use Rattle.csv_records.proofs.Decimals.{digit_range}
 use Rattle.csv_records.proofs.lanes.FieldWords.{AreRead, one_digit}
 
 -- one more that was found
-pub one_more : (text widths : List ℕ) (i width : ℕ) (each : Bool) → i < length widths → (each ≡ true → (k : ℕ) → k < i → IsDigitAt text k (get_or widths k 0))
-    → (width ≤ 9 → IsDigitAt text i width) → each && leb width 9 ≡ true → (k : ℕ) → k < i + 1 → IsDigitAt text k (get_or (set widths i width) k 0)
+pub one_more : (text widths : List ℕ) (i width : ℕ) (each : Bool) → i < length widths → (each ≡ true → (k : ℕ) → k < i → IsDigitWord text k (get_or widths k 0))
+    → (width ≤ 9 → IsDigitWord text i width) → each && leb width 9 ≡ true → (k : ℕ) → k < i + 1 → IsDigitWord text k (get_or (set widths i width) k 0)
 one_more text widths i width each low found here all k less =
     let parts = and_parts each (leb width 9) all in
     elim (cases_eq k i) [
       | inl same ↦
           let there : get_or (set widths i width) k 0 ≡ width = ap (λ j. get_or (set widths i width) j 0) same ∙ get_or-set_same widths i width 0 low in
-          subst (IsDigitAt text k) (sym there) (subst (λ j. IsDigitAt text j width) (sym same) (here (leb-true width 9 parts.1)))
-      | inr other ↦ subst (IsDigitAt text k) (sym (get_or-set_other widths i k width 0 other)) (found parts.0 k (omega (arith, less, other)))
+          subst (IsDigitWord text k) (sym there) (subst (λ j. IsDigitWord text j width) (sym same) (here (leb-true width 9 parts.1)))
+      | inr other ↦ subst (IsDigitWord text k) (sym (get_or-set_other widths i k width 0 other)) (found parts.0 k (omega (arith, less, other)))
     ]
 
 -- where one is no digit before a space, the text begins with no such widths

@@ -1,4 +1,4 @@
--- What types, private contracts and proofs name beside `Widths`.
+-- Widths at the front of a text, as `widths.rt` finds them.
 use Rattle.std.specs.Prelude.{◌≡◌, ◌≢◌, ◌<◌, ◌+◌, ◌-◌, ◌*◌, get_or, ℕ, List, [], ◌∷◌, true, length}
 use Rattle.std.specs.Char.{is_ascii_digit}
 use Rattle.std.specs.Str.Parse.{digits_value}
@@ -13,10 +13,10 @@ pub record IsFirstWidth (text : List ℕ) (width : ℕ) (rest : List ℕ) : Type
   pub value : width ≡ digits_value 10 word
   pub after : others ≢ [] → others ≡ words_of rest
 
--- this width is a digit before a space, if `i` such words stand before it
-abbrev pub IsDigitAt : List ℕ → ℕ → ℕ → Type 0
-IsDigitAt text i width = (is_ascii_digit (get_or text (2 * i) 0) ≡ true) × (get_or text (2 * i + 1) 0 ≡ 32) × (width ≡ get_or text (2 * i) 0 - 48)
+-- this width is a word of one digit before a space, if `i` such words stand before it
+abbrev pub IsDigitWord : List ℕ → ℕ → ℕ → Type 0
+IsDigitWord text i width = (is_ascii_digit (get_or text (2 * i) 0) ≡ true) × (get_or text (2 * i + 1) 0 ≡ 32) × (width ≡ get_or text (2 * i) 0 - 48)
 
 -- the text begins with these widths, each a digit before a space
 abbrev pub BeginsWithDigits : List ℕ → List ℕ → Type 0
-BeginsWithDigits text widths = (i : ℕ) → i < length widths → IsDigitAt text i (get_or widths i 0)
+BeginsWithDigits text widths = (i : ℕ) → i < length widths → IsDigitWord text i (get_or widths i 0)

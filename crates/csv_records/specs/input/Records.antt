@@ -50,9 +50,3 @@ Refuses means left rest refused.InputSize = GaveMoreThan most_bytes left rest
 Refuses means left rest (refused.Record i f) = (bytes : List ℕ) × GaveAll left rest bytes
     × (length bytes ≤ most_bytes) × IsFirstFault means (records_of bytes) i f
 Refuses means left rest refused.NoMemory = ⊤
-
--- the refusal names the first faulty record, or memory
-abbrev pub NamesFirst : {Item : Type 0} → Meaning Item → List Fields → RecordsFault → Type 0
-NamesFirst means rows (refused.Record i f) = IsFirstFault means rows i f
-NamesFirst means rows refused.NoMemory = ⊤
-NamesFirst means rows _ = ⊥

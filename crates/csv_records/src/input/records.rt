@@ -1,13 +1,15 @@
 //! The records of an input, which a command takes one after another.
 ghost use Rattle.std.specs.Prelude.{None, Some, [], ◌≡◌, ◌≢◌, ◌∷◌, ◌++◌, ◌↔◌, ◌≤◌, List, Option, length, true, false, IfErr, IfNone, IfSome, IsErrOf, OnOk};
 ghost use Rattle.csv.specs.Records.{fields_of};
-ghost use Rattle.csv_records.specs.input.Records.{AreItems, Meaning, Refuses, Takes, records_of, NamesFirst};
+ghost use Rattle.csv_records.specs.input.Records.{AreItems, Meaning, Refuses, Takes, records_of};
+ghost use Rattle.csv_records.specs.inner.Records.{NamesFirst};
 ghost use Rattle.csv_records.specs.declared.input.fault.RecordFault.{RecordFault};
 
 use crate::input::fault::{RecordRefusal, RecordsFault};
 use csv::{ByteRecord, ErrorKind, Reader, ReaderBuilder};
 use digits_core::{Source, read_all};
 use std::alloc::Global;
+use std::io::Cursor;
 
 /// How many bytes a command reads at most.
 pub const INPUT_LIMIT: usize = 16_777_216;
@@ -47,13 +49,13 @@ pub fn two_fields(fields: &ByteRecord) -> Option<(&[u8], &[u8])>
 
 /// The records of bytes, which are read one after another.
 #[derive(Drop)]
-pub struct Records<'a> {
-    reader: Reader<&'a [u8]>,
+pub struct Records {
+    reader: Reader<Cursor<Vec<u8>>>,
     /// The record that was read last. It has each in turn, so that its room is taken once.
     pub last: ByteRecord,
 }
 
-impl<'a> Records<'a> {
+impl Records {
     ghost use Rattle.std.specs.Prelude.{[], ◌≡◌, ◌∷◌, ◌++◌, List, Ok, ℕ, false, true, IfErr};
     ghost use Rattle.csv.specs.Records.{fields_of};
     ghost use Rattle.csv_records.specs.input.Reading.{HasRead};
@@ -61,13 +63,13 @@ impl<'a> Records<'a> {
     ghost use Rattle.csv_records.specs.declared.input.fault.RecordRefusal.{RecordRefusal};
 
     /// The records of these bytes, none of which was read.
-    pub fn new(alloc: Global, bytes: &'a [u8]) -> Records<'a>
-        ensures { HasRead bytes.now result [] }
+    pub fn new(alloc: Global, bytes: Vec<u8>) -> Records
+        ensures { HasRead bytes.items result [] }
     {
         let reader = ReaderBuilder::new()
             .has_headers(false)
             .flexible(true)
-            .from_reader(alloc, bytes);
+            .from_reader(alloc, Cursor::new(bytes));
         Records {
             reader,
             last: ByteRecord::new(alloc),
@@ -97,13 +99,13 @@ pub fn read_records<I: Intake>(
     alloc: Global,
     intake: &I,
     made: &mut I::Made,
-    bytes: &[u8],
+    bytes: Vec<u8>,
 ) -> Result<(), RecordsFault>
     requires start { I.makes intake.now [] made.old }
-    requires few { length bytes.now ≤ INPUT_LIMIT }
-    ensures ok { OnOk result ((items : List I.Item) × AreItems (I.means intake.now) (records_of bytes.now) items
+    requires few { length bytes.items ≤ INPUT_LIMIT }
+    ensures ok { OnOk result ((items : List I.Item) × AreItems (I.means intake.now) (records_of bytes.items) items
         × I.makes intake.now items made.new) }
-    ensures refused { IfErr result (NamesFirst (I.means intake.now) (records_of bytes.now)) }
+    ensures refused { IfErr result (NamesFirst (I.means intake.now) (records_of bytes.items)) }
 {
     let mut records = Records::new(alloc, bytes);
     'each: for index in 0..usize::MAX {
@@ -136,5 +138,5 @@ pub fn read_input<I: Intake, S: Source>(
         → (IsErrOf result RecordsFault.ReadFault ↔ (S.failed source.new ≡ true)) }
 {
     let bytes = read_all(alloc, source, INPUT_LIMIT)?;
-    read_records(alloc, intake, made, bytes.as_slice())
+    read_records(alloc, intake, made, bytes)
 }

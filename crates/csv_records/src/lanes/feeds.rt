@@ -1,14 +1,14 @@
 //! The rows of the records of lanes.
-ghost use Rattle.std.specs.Prelude.{None, Some, Ok, [], ◌≡◌, ◌<◌, ◌≤◌, ◌∷◌, ◌++◌, List, ℕ, false, length, IfErr, IfNone, IfOk, IfSome, OnOk};
+ghost use Rattle.std.specs.Prelude.{None, Some, Ok, Err, [], ◌≡◌, ◌<◌, ◌∷◌, ◌++◌, List, ℕ, false, IfNone, IfOk, IfSome};
 ghost use Rattle.csv.specs.Records.{fields_of};
-ghost use Rattle.csv_records.specs.lanes.Feeds.{LaneRow, is_lane, lanes_meaning};
+ghost use Rattle.csv_records.specs.lanes.Feeds.{is_lane, lanes_meaning};
 ghost use Rattle.csv_records.specs.input.Reading.{HasRead};
-ghost use Rattle.csv_records.specs.input.Records.{AreItems, Fields, records_of, NamesFirst};
+ghost use Rattle.csv_records.specs.input.Records.{Fields, records_of};
 ghost use Rattle.csv_records.specs.lanes.Widths.{number_in};
 ghost use Rattle.csv_records.specs.declared.input.fault.RecordFault.{RecordFault};
 
-use crate::input::fault::{RecordFault, RecordRefusal, RecordsFault};
-use crate::input::records::{INPUT_LIMIT, Intake, Records, read_records, two_fields};
+use crate::input::fault::{RecordFault, RecordRefusal};
+use crate::input::records::{Records, two_fields};
 use crate::lanes::widths::{number_in, read_runs};
 use csv::ByteRecord;
 use scan_core::Runs;
@@ -43,47 +43,18 @@ pub fn read_record(
     Ok((lane, runs))
 }
 
-/// The records of this many lanes, each with a lane and the widths of a row. Nothing is kept of them.
-#[derive(Clone, Copy)]
-struct LaneRecords {
-    alloc: Global,
-    lanes: u8,
-}
-
-impl Intake for LaneRecords {
-    type Item = (u8, Runs);
-
-    type Made = ();
-
-    ghost means = { λ records. lanes_meaning records.lanes };
-
-    ghost makes = { λ records rows made. Unit {0} };
-
-    fn take(&self, _made: &mut (), fields: &ByteRecord) -> Result<(), RecordRefusal> {
-        read_record(self.alloc, self.lanes, fields)?;
-        Ok(())
-    }
-}
-
-/// Looks whether each record of the bytes means a row of a lane.
-pub fn check_rows(alloc: Global, lanes: u8, bytes: &[u8]) -> Result<(), RecordsFault>
-    requires { length bytes.now ≤ INPUT_LIMIT }
-    ensures ok { OnOk result ((items : List LaneRow) × AreItems (lanes_meaning lanes) (records_of bytes.now) items) }
-    ensures refused { IfErr result (NamesFirst (lanes_meaning lanes) (records_of bytes.now)) }
-{
-    read_records(alloc, &LaneRecords { alloc, lanes }, &mut (), bytes)
-}
-
 /// Reads the next record, and has its row. None at the end.
 pub fn next_row(
     alloc: Global,
     lanes: u8,
-    records: &mut Records<'_>,
+    records: &mut Records,
 ) -> Result<Option<(u8, Runs)>, RecordRefusal>
     requires { (bytes : List ℕ) × (rows : List Fields) × HasRead bytes records.old rows }
     ensures low { IfOk result (λ next. IfSome next (λ row. row.0 < lanes)) }
     ensures more { IfOk result (λ next. IfSome next (λ row. (bytes : List ℕ) (rows : List Fields) → HasRead bytes records.old rows
         → (fields : Fields) × HasRead bytes records.new (rows ++ fields ∷ []) × lanes_meaning lanes fields (Ok row))) }
+    ensures refused { (f : RecordFault) → result ≡ Err (RecordRefusal.Record f) → (bytes : List ℕ) (rows : List Fields) → HasRead bytes records.old rows
+        → (fields : Fields) × HasRead bytes records.new (rows ++ fields ∷ []) × lanes_meaning lanes fields (Err f) }
     ensures end { result ≡ Ok None → (bytes : List ℕ) (rows : List Fields) → HasRead bytes records.old rows → rows ≡ records_of bytes }
 {
     if !records.read()? {

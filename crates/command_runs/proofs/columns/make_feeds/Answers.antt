@@ -1,3 +1,4 @@
+-- The feeds so far have no row.
 use Rattle.std.proofs.Common.{arith}
 use Rattle.hub_core.proofs.RowsAreGiven.{empty_more}
 use Rattle.command_runs.proofs.columns.make_feeds.Goals as goal

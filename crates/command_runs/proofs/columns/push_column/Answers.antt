@@ -1,3 +1,4 @@
+-- The cells of a column so far have their rows, and no number is too large.
 use Rattle.std.proofs.Common.{rules, ◌≡◌, ◌<◌, ◌+◌, ◌++◌, ◌*◌, ◌/◌, ◌∙◌, ◌∷◌, [], ap, append_assoc, map, subst, sym}
 use Rattle.std.specs.List.{range_with_len}
 use Rattle.std.proofs.lemmas.List.{append-nil}

@@ -1,3 +1,4 @@
+-- The rows of the cells so far were appended.
 use Rattle.std.proofs.Common.{◌≡◌, ◌++◌, ◌+◌, ◌*◌, ◌/◌, List, map, ℕ}
 use Rattle.std.specs.List.{range_with_len}
 use Rattle.sheet_core.specs.Bitmaps.{cell_dots}

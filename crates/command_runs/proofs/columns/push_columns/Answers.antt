@@ -1,3 +1,4 @@
+-- The columns of the sheet so far have their rows.
 use Rattle.std.proofs.Common.{map, subst, ◌<◌, ◌≤◌, ◌∙◌}
 use Rattle.std.proofs.lemmas.List.{length-set}
 use Rattle.command_runs.proofs.ColumnsGrow.{up_to_all, up_to_next, up_to_none}

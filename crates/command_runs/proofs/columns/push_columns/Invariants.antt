@@ -1,3 +1,4 @@
+-- The columns so far have their rows of the sheet, and the others are as they were.
 use Rattle.std.proofs.Common.{◌≡◌, List, length, map}
 use Rattle.std.specs.List.{AllZip, range_with_len}
 use Rattle.sheet_core.specs.Bitmaps.{Bitmap}

@@ -1,3 +1,4 @@
+-- The columns of all sheets, none if one has another size, or the fault of the images.
 use Rattle.std.proofs.Common.{[], Err, IsErrAnd, Ok, Option, Result, ap, inr, map, refl, replicate, subst, sym, zero, suc, List, ℕ, ◌∙◌, ◌≡◌}
 use Rattle.std.proofs.KnownBytes.{Consumes-nil}
 use Rattle.std.proofs.lemmas.List.{length-map}

@@ -1,3 +1,4 @@
+-- The run of each command is that of the command which was asked for.
 use Rattle.command_runs.proofs.commands.run.Goals as goal
 
 pub returns-in-Check : goal.returns-in-Check

@@ -1,3 +1,4 @@
+-- What the buffer took and then wrote is what the command wrote.
 use Rattle.std.proofs.Common.{◌≡◌, Err, [], append-nil, refl, rules, sym}
 use Rattle.std.proofs.KnownBytes.{Keeps-refl}
 use Rattle.digits_core.specs.Bytes.{TookFront}

@@ -1,6 +1,7 @@
+-- What was looked at up to a place has no quote, and no carriage return inside a line.
 use Rattle.std.proofs.Common.{None, Some, arith, length-drop, subst}
 use Rattle.memchr.specs.Find.{IsFirstByte, is_byte2}
-use Rattle.command_runs.proofs.answers.PlainLines.{no_more_quotes, no_more_returns, one_more_return, one_more_unquoted}
+use Rattle.command_runs.proofs.answers.PlainBytes.{no_more_quotes, no_more_returns, one_more_return, one_more_unquoted}
 use Rattle.command_runs.proofs.live.FieldsFacts.{rest_all}
 use Rattle.command_runs.proofs.answers.lines.are_lines.Goals as goal
 
@@ -19,9 +20,9 @@ each-preserved c =
     let bytes = c.args.bytes.now in
     let found = subst (λ hay. IsFirstByte (is_byte2 13 34) hay (Some c.in-Some.at)) (rest_all bytes c.each.from) c.in-Some.ensures in
     let high = found.0.high in
-    let here = c.is_return.ensures.here c.if-not-is_return.false in
+    let here = c.is_return.ensures c.if-not-is_return.false in
     record {
-      quotes = one_more_unquoted bytes c.each.from c.in-Some.at c.each.invariant.quotes found here;
-      end = one_more_return bytes c.each.from c.in-Some.at c.each.invariant.end found (c.is_return.ensures.feed c.if-not-is_return.false);
+      quotes = one_more_unquoted bytes c.each.from c.in-Some.at c.each.invariant.quotes found here.0;
+      end = one_more_return bytes c.each.from c.in-Some.at c.each.invariant.end found here.1;
       low = omega (arith, high, length-drop c.each.from bytes);
     }

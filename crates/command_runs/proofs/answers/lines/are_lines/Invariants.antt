@@ -1,5 +1,6 @@
+-- Up to a place there is no quote, and no carriage return inside a line.
 use Rattle.std.proofs.Common.{◌-◌, ◌≤◌, length}
-use Rattle.command_runs.proofs.answers.PlainLines.{EndUpTo, NoQuoteUpTo}
+use Rattle.command_runs.proofs.answers.PlainBytes.{EndUpTo, NoQuoteUpTo}
 use Rattle.command_runs.proofs.answers.lines.are_lines.Given as goal
 
 abbrev pub invariant-each : goal.invariant-each

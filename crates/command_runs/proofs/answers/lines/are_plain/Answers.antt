@@ -1,4 +1,5 @@
-use Rattle.command_runs.proofs.answers.PlainLines.{plain_of}
+-- Without a mark, a quote and a return inside a line a text is plain.
+use Rattle.command_runs.proofs.answers.PlainBytes.{plain_of}
 use Rattle.command_runs.proofs.answers.lines.are_plain.Goals as goal
 
 pub returns-then-not-may_have_mark : goal.returns-then-not-may_have_mark

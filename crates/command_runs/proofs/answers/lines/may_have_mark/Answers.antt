@@ -1,5 +1,6 @@
+-- Another first byte, or none, begins no byte order mark.
 use Rattle.std.proofs.Common.{◌≡◌, length, rules}
-use Rattle.command_runs.proofs.answers.PlainLines.{no_bytes, no_mark}
+use Rattle.command_runs.proofs.answers.PlainBytes.{no_bytes, no_mark}
 use Rattle.command_runs.proofs.answers.lines.may_have_mark.Goals as goal
 
 pub returns-then-not-is_empty : goal.returns-then-not-is_empty

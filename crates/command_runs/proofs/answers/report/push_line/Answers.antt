@@ -1,3 +1,4 @@
+-- The parts of a line, appended one by one, are the line.
 use Rattle.std.proofs.Common.{◌≡◌, ◌++◌, ◌∷◌, ◌∙◌, [], List, ℕ, Result, Ok, Err, ap, append_assoc, arith, string_bytes}
 use Rattle.std.specs.Prelude.{OnOk, decimal, is_ok, if◌then◌else◌}
 use Rattle.std.proofs.lemmas.Result.{on_ok_weaker}

@@ -1,3 +1,4 @@
+-- A number below 10 is one digit.
 use Rattle.std.proofs.Common.{rules}
 use Rattle.std.proofs.lemmas.Fmt.{decimal_digit}
 use Rattle.command_runs.proofs.answers.report.push_number.Goals as goal

@@ -1,3 +1,4 @@
+-- All rows of the feeds are served, and the texts are the lines of their answers.
 use Rattle.std.proofs.Common.{◌≡◌, ◌∙◌, ◌&&◌, [], ap, arith, length, map, replicate, string_bytes, subst, sym, true}
 use Rattle.std.specs.List.{AllZip}
 use Rattle.std.proofs.lemmas.Bool.{and_parts}
@@ -35,9 +36,6 @@ serve_traffic-requires-clause-fresh g c κs within =
       no_lines c.len-lanes.result (map string_bytes c.in_ok-texts.texts.items) c.in_ok-texts.ensures,
     ) in
     both
-
-pub fault_of-requires : goal.fault_of-requires
-fault_of-requires g c = c.in-Err.ensures.refused
 
 pub returns-in_err-texts : goal.returns-in_err-texts
 returns-in_err-texts g c = record { lines = only_fault c.from_residual.result _ c.from_residual.ensures.0 }

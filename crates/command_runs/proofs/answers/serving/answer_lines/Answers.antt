@@ -1,12 +1,13 @@
+-- The texts of the lanes, joined, are the report; of no rows it is empty.
 use Rattle.std.proofs.Common.{◌≡◌, ◌∙◌, All, [], ap, subst}
 use Rattle.std.specs.List.{concat}
-use Rattle.command_runs.proofs.answers.ReportFacts.{lanes_joined, rowless}
+use Rattle.command_runs.proofs.answers.ReportFacts.{rowless}
 use Rattle.command_runs.proofs.answers.serving.answer_lines.Goals as goal
 
 pub returns-clause-report : goal.returns-clause-report
 returns-clause-report g c =
     let t = c.in_ok-texts.ensures.lines in
-    (t.0, t.1, c.in_ok-joined.ensures ∙ ap concat t.2 ∙ lanes_joined 0 t.0)
+    (t.0, t.1, c.in_ok-joined.ensures ∙ ap concat t.2)
 
 pub returns-then-are_rowless-clause-report : goal.returns-then-are_rowless-clause-report
 returns-then-are_rowless-clause-report g c =

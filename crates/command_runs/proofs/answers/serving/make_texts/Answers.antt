@@ -1,3 +1,4 @@
+-- The texts so far have no line.
 use Rattle.std.proofs.Common.{arith, string_bytes}
 use Rattle.hub_core.proofs.RowsAreGiven.{empty_more}
 use Rattle.command_runs.proofs.answers.serving.make_texts.Goals as goal

@@ -1,3 +1,4 @@
+-- The line goes to the end of the text of its lane.
 use Rattle.std.proofs.Common.{◌∙◌, string_bytes}
 use Rattle.command_runs.proofs.answers.ReportFacts.{lines_brought}
 use Rattle.command_runs.proofs.answers.serving.push_answer_of.Goals as goal

@@ -1,3 +1,4 @@
+-- After each write what the sink took and what waits is the same.
 use Rattle.std.proofs.Common.{◌++◌, ◌==◌, ◌<◌, ◌≡◌, ◌≤◌, ◌∙◌, List, ap, arith, drop, false, length, length-drop, refl, rules, subst, sym, take, take-append-drop, ℕ}
 use Rattle.std.specs.Io.KnownBytes.{Keeps, append_known}
 use Rattle.std.proofs.lemmas.Bool.{eqb-false}

@@ -1,3 +1,4 @@
+-- The rows of one more sheet stand in its columns, or a sheet has another size.
 use Rattle.std.proofs.Common.{map, sym, ◌∙◌}
 use Rattle.std.proofs.lemmas.List.{length-map}
 use Rattle.command_runs.proofs.ColumnCounts.{feeds_long}

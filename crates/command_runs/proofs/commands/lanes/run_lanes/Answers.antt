@@ -1,3 +1,4 @@
+-- The report is written, or refused as its rows are, or a write fails.
 use Rattle.std.proofs.Common.{◌≡◌, ◌∙◌, Err, ap, rules, string_bytes}
 use Rattle.command_runs.specs.answers.Reports.{IsReport}
 use Rattle.csv_records.specs.lanes.Feeds.{feeds_of, lanes_meaning}

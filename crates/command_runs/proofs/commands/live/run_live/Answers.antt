@@ -1,3 +1,4 @@
+-- The options keep the counts within their limits.
 use Rattle.command_runs.proofs.FewEnough.{counted}
 use Rattle.command_runs.proofs.commands.live.run_live.Goals as goal
 

@@ -1,3 +1,4 @@
+-- Each way in which labels are printed or refused leaves the sink as promised.
 use Rattle.std.proofs.Common.{◌*◌, ◌≡◌, ◌∙◌, Err, List, Ok, Result, ap, refl, string_bytes, subst, sym, ℕ}
 use Rattle.std.specs.Prelude.{IsErr, IsErrAnd}
 use Rattle.std.specs.Io.KnownBytes.{Appends}

@@ -1,3 +1,4 @@
+-- The report of the columns is written, or the images are refused, or a write fails.
 use Rattle.std.proofs.Common.{◌≡◌, ◌∙◌, Err, Option, Some, ap, false, inr, map, refl, string_bytes, subst, sym, true}
 use Rattle.std.specs.Prelude.{MatchOption, None}
 use Rattle.std.proofs.lemmas.Bool.{false≢true}

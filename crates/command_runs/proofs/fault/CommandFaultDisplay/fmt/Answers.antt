@@ -1,3 +1,4 @@
+-- The text that is written is that of the fault.
 use Rattle.std.proofs.Common.{◌≡◌, ◌∙◌, ◌++◌, ap, append_assoc, refl, subst, sym, ℕ}
 use Rattle.std.specs.Prelude.{codes}
 use Rattle.std.specs.Fmt.{HasWritten, decimal}

@@ -1,3 +1,4 @@
+-- However the hub ends, the live input has lived so far and ends so.
 use Rattle.command_runs.specs.declared.live.fault.LiveFault.TheVariants as fault
 use Rattle.hub_core.specs.declared.fault.ServeFault.TheVariants as serve
 use Rattle.command_runs.proofs.live.Words.{HasCome, Past, ap, on_ok_weaker, subst, turn_of, ◌∙◌}

@@ -1,3 +1,4 @@
+-- What stands before and behind the first comma says what the line means.
 use Rattle.csv_records.specs.declared.input.fault.RecordFault.TheVariants as csv
 use Rattle.command_runs.proofs.live.Words.{Err, List, None, Refusal, Some, [], ap, arith, fields_meant, length, record_fault_text, refl, sym, take, unnumbered_line, ℕ, ◌<◌, ◌∙◌, ◌∷◌, ◌≡◌}
 use Rattle.command_runs.proofs.live.FieldsFacts.{behind_comma, cut_at, only_field, some_field}

@@ -1,3 +1,4 @@
+-- A last byte is cut off if it is a carriage return.
 use Rattle.command_runs.proofs.live.Words.{eq-eqb, ne_eqb, refl}
 use Rattle.command_runs.proofs.live.FieldsFacts.{return_cut}
 use Rattle.command_runs.proofs.live.record.without_return.Goals as goal

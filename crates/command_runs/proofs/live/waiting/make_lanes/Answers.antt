@@ -1,3 +1,4 @@
+-- The lanes so far are fresh.
 use Rattle.command_runs.proofs.live.Words.{All-nil, All-push, IsFresh, ap, length, length-append, only_fault, refl, ◌+◌, ◌∙◌}
 use Rattle.command_runs.proofs.live.waiting.make_lanes.Goals as goal
 

@@ -1,3 +1,4 @@
+-- The bytes stand behind those that were held.
 use Rattle.std.proofs.Common.{refl, arith}
 use Rattle.std.proofs.lemmas.Slice.{take-put_mid}
 use Rattle.command_runs.proofs.write_buffer.WriteBuffer.append.Goals as goal

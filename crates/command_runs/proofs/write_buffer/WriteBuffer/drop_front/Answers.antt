@@ -1,3 +1,4 @@
+-- What is left stands at the front.
 use Rattle.std.proofs.Common.{◌≡◌, ◌+◌, ◌-◌, length, take, drop, sym, ap, ◌∙◌, arith, length-drop, length-take-le}
 use lib.Seq.{paste}
 use Rattle.std.proofs.lemmas.List.{drop-take}

@@ -6,7 +6,7 @@ use Rattle.csv_records.proofs.input.records.read_records.Given as goal
 abbrev pub invariant-each : goal.invariant-each
 invariant-each g l = record {
   rows : List Fields;
-  read : HasRead l.fn.bytes l.records rows;
+  read : HasRead l.fn.bytes.items l.records rows;
   index : l.index ≡ length rows;
   items : List _;
   taken : AreItems (g.I.Intake.means l.intake) rows items;

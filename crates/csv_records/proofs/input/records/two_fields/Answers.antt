@@ -1,3 +1,4 @@
+-- A record of two fields is these two.
 use Rattle.std.proofs.Common.{◌∙◌, sym}
 use Rattle.csv.specs.Records.{fields_of}
 use Rattle.csv_records.proofs.input.TwoFields.{pair_has_first, pair_has_second, pair_of}

@@ -1,3 +1,4 @@
+-- The widths so far are digits before a space, if each was.
 use Rattle.std.proofs.Common.{◌*◌, ◌≡◌, ◌≤◌, ◌∙◌, List, arith, length, subst, sym, ℕ}
 use Rattle.std.specs.Option.{IfNone, IfSome}
 use Rattle.std.proofs.lemmas.List.{length-replicate, length-set}

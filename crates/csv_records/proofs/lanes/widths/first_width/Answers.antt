@@ -1,3 +1,4 @@
+-- One digit or two before a space are the first width.
 use Rattle.std.proofs.Common.{◌*◌, ◌+◌, ◌-◌, ◌≡◌, ◌∙◌, arith, get_or, refl, sym, take}
 use Rattle.std.specs.Str.Parse.{digits_value}
 use Rattle.csv_records.proofs.lanes.FirstWidth.{more_digits, more_value, next_width}

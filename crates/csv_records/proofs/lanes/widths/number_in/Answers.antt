@@ -1,3 +1,4 @@
+-- The digits so far show the number, which stays small.
 use Rattle.std.proofs.Common.{◌≡◌, ◌∙◌, arith, get_or, sym, true}
 use Rattle.std.specs.Char.{is_ascii_digit}
 use Rattle.csv_records.proofs.Decimals.{digit_range}

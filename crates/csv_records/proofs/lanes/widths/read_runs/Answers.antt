@@ -1,3 +1,4 @@
+-- What is wrong with the capped widths is what is wrong with the field.
 use Rattle.std.proofs.Common.{◌≡◌, ◌∙◌, Some, ap}
 use Rattle.scan_core.specs.Row.{runs_fault}
 use Rattle.scan_core.specs.declared.fault.RunFault.TheVariants as run

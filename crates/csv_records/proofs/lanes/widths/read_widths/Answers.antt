@@ -1,3 +1,4 @@
+-- The widths of the words so far are read, eight, two or one at a time.
 use Rattle.std.proofs.Common.{◌-◌, ◌++◌, ◌<◌, ◌≡◌, ◌||◌, ◌∙◌, ◌∷◌, Some, [], ap, arith, drop, length, min, nat_lt, subst, sym, take}
 use Rattle.csv_records.specs.lanes.Widths.{words_of}
 use Rattle.csv_records.specs.declared.input.fault.RecordFault.TheVariants as fault

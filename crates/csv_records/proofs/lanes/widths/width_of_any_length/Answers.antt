@@ -1,3 +1,4 @@
+-- The digits so far are the front of the first word.
 use Rattle.std.proofs.Common.{◌<◌, ◌==◌, ◌≡◌, ◌∙◌, [], ap, arith, false, get_or, inl, inr, length, refl, sym, take, true}
 use Rattle.std.specs.Char.{is_ascii_digit}
 use Rattle.std.specs.List.{list_all}

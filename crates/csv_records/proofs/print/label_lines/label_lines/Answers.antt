@@ -1,3 +1,4 @@
+-- The lines of the labels so far are in the text.
 use Rattle.std.proofs.Common.{◌+◌, ◌++◌, ◌≡◌, ◌∙◌, ◌∷◌, [], ap, arith, length, sym, take}
 use Rattle.std.proofs.lemmas.List.{length-take-le, take_more}
 use Rattle.csv_records.specs.print.Labels.{label_line, label_lines_from}

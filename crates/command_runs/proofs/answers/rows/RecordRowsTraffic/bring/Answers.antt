@@ -1,3 +1,4 @@
+-- A delivery adds its line and changes no row.
 use Rattle.std.proofs.Common.{arith, refl, string_bytes}
 use Rattle.std.proofs.lemmas.Result.{IfOk-weaker}
 use Rattle.lane_core.proofs.ResultFacts.{of_refusal}
@@ -5,21 +6,17 @@ use Rattle.command_runs.proofs.answers.ReportFacts.{texts_long}
 use Rattle.command_runs.proofs.answers.rows.RecordRowsTraffic.bring.Goals as goal
 
 pub push_answer_of-requires : goal.push_answer_of-requires
-push_answer_of-requires c =
+push_answer_of-requires g c =
     omega (arith, c.requires.4.lane, texts_long string_bytes c.args.self.now.texts.items c.requires.2 c.requires.3.lines, c.args.self.now.texts.ok.0)
 
 pub returns-clause-brings : goal.returns-clause-brings
-returns-clause-brings c =
+returns-clause-brings g c =
     IfOk-weaker c.push_answer_of.result _ _ (λ _ more start given brought was next. record {
-      lanes = was.lanes;
-      few = was.few;
-      rows = was.rows;
-      stands = was.stands;
       items = was.items;
-      means = was.means;
+      gave = was.gave;
       fed = was.fed;
       lines = more brought next.lane next.number was.lines;
     }) c.push_answer_of.ensures
 
 pub returns-clause-leaves : goal.returns-clause-leaves
-returns-clause-leaves c = of_refusal _ _ refl
+returns-clause-leaves g c = of_refusal _ _ refl

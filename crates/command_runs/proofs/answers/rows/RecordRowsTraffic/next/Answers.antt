@@ -1,13 +1,15 @@
+-- The row that the reader gives is given to the hub.
 use Rattle.std.proofs.Common.{refl}
-use Rattle.command_runs.proofs.answers.RowsAsRead.{line_given, row_given}
+use Rattle.command_runs.proofs.answers.RowsAsRead.{gives_if, none_given}
 use Rattle.command_runs.proofs.answers.rows.RecordRowsTraffic.next.Goals as goal
 
-pub returns-in-Ok-Some-clause-some : goal.returns-in-Ok-Some-clause-some
-returns-in-Ok-Some-clause-some c = λ start given brought was.
-    row_given start c.args.self.now _ given brought c.in-Ok-Some.row c.in-Open.is c.in-Open.is refl refl
-    (rw c.in-Ok-Some.field-0-is at c.in-Ok-Some.ensures.low) (rw c.in-Ok-Some.field-0-is at c.in-Ok-Some.ensures.more) was
+pub next_row-requires : goal.next_row-requires
+next_row-requires g c =
+    let (start, given, brought, was) = c.requires in (start.rows.lanes, start.rows.input.source, was.items, was.gave)
 
-pub returns-in-Ok-clause-some : goal.returns-in-Ok-clause-some
-returns-in-Ok-clause-some c = λ start given brought was.
-    line_given start c.args.self.now _ given brought c.in-Ok.row c.in-Some.line.now c.in-Plain.is c.in-Plain.is refl refl
-    c.in-Ok.ensures.low c.in-Some.ensures.some c.in-Some.ensures.less c.in-Ok.ensures.row was
+pub returns-clause-some : goal.returns-clause-some
+returns-clause-some g c = gives_if _ _ c.args.self.now _ c.next_row.result refl c.next_row.ensures
+
+pub returns-clause-none : goal.returns-clause-none
+returns-clause-none g c = λ none start given brought was.
+    none_given _ _ start c.args.self.now _ given brought refl (rw none at c.next_row.ensures) was

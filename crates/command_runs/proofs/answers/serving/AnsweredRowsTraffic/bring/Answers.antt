@@ -1,3 +1,4 @@
+-- A delivery adds its line and takes no row.
 use Rattle.std.proofs.Common.{arith, refl, string_bytes}
 use Rattle.std.proofs.lemmas.Result.{IfOk-weaker}
 use Rattle.lane_core.proofs.ResultFacts.{of_refusal}

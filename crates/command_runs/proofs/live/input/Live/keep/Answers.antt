@@ -1,3 +1,4 @@
+-- Each kind of record leaves its reply pending, and no other is lost.
 use Rattle.command_runs.specs.declared.live.record.LineFault.TheVariants as line_fault
 use Rattle.command_runs.specs.declared.live.record.Notice.TheVariants as notice
 use Rattle.command_runs.specs.declared.live.pending.PendingReply.TheVariants as pending

@@ -1,3 +1,4 @@
+-- At first nothing has come and no reply is pending.
 use Rattle.command_runs.proofs.live.Words.{Held, [], ap, refl, sym, ◌∙◌}
 use Rattle.command_runs.proofs.live.LiveEnds.{come_at_first}
 use Rattle.command_runs.proofs.live.input.Live.new.Goals as goal

@@ -1,3 +1,4 @@
+-- The line that is taken is that of the record whose reply is kept.
 use Rattle.command_runs.proofs.live.Words.{LiveTerms, ap, length, sym, ◌∙◌, ◌≡◌}
 use Rattle.command_runs.proofs.live.input.Live.take_line.Goals as goal
 

@@ -1,3 +1,4 @@
+-- A delivery waits with those of its lane until the turn is written.
 use Rattle.command_runs.proofs.live.Words.{HasMoved, Waiting, [], ap, arith, get_or, length, length-append, refl, turn_of, with_more, ◌∙◌, ◌∷◌, ◌≡◌}
 use Rattle.command_runs.proofs.live.CameFacts.{came_lane}
 use Rattle.command_runs.proofs.live.ListFacts.{adds_one, placed_at}

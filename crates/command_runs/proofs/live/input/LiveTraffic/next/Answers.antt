@@ -1,3 +1,4 @@
+-- Lines are taken until one is a row, or none is left.
 use Rattle.command_runs.proofs.live.Words.{inl, none_from, sym, ◌∙◌}
 use Rattle.command_runs.proofs.live.LivedFacts.{took_nothing}
 use Rattle.command_runs.proofs.live.input.LiveTraffic.next.Goals as goal

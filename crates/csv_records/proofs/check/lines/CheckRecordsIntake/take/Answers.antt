@@ -1,3 +1,4 @@
+-- One more line is that of what the record means.
 use Rattle.std.proofs.Common.{◌∙◌, string_bytes, sym}
 use Rattle.csv.specs.Records.{fields_of}
 use Rattle.csv_records.proofs.check.CheckLinesGrow.{line_by_kind, one_more_check}

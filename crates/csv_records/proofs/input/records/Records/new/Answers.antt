@@ -1,3 +1,4 @@
+-- A new reader of `csv` has read none of the bytes.
 use Rattle.std.proofs.Common.{◌∙◌, inr, refl, sym}
 use Rattle.csv.specs.Reading.{Reached, strip_bom}
 use Rattle.csv_records.proofs.input.records.Records.new.Goals as goal
@@ -13,7 +14,7 @@ returns c =
       ready = inr (inr (rw (flexible, named) at fr.has_headers, fr.headers));
       flexible = rw flexible at fr.flexible;
       config = rw (flexible, named) at fr.config ∙ c.new.ensures.config;
-      rest = strip_bom c.args.bytes.now;
-      source = fr.source;
+      rest = strip_bom c.args.bytes.items;
+      source = rw (c.new-2.ensures.position, c.new-2.ensures.inner) at fr.source;
       reached = (sym fr.state, refl);
     }

@@ -1,4 +1,4 @@
--- The first faulty record, as records come.
+-- Of records that come one after another, the first that has a fault.
 use Rattle.std.proofs.Common.{◌++◌, ◌≡◌, ◌∙◌, ◌∷◌, Err, List, Some, [], append_assoc, length, refl, ℕ}
 use Rattle.std.specs.List.{slice_get}
 use Rattle.std.proofs.Math.Seq.{take-append_seam}

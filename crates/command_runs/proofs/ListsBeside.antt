@@ -1,14 +1,6 @@
--- Lists that stand beside others, item by item.
+-- Lists that stand beside others, item by item (`AllZip`).
 use Rattle.std.proofs.Common.{◌≡◌, ℕ, zero, suc, ◌+◌, ◌≤◌, ◌<◌, List, [], ◌∷◌, ◌++◌, Some, length, map, refl, ap₂, subst, arith}
 use Rattle.std.specs.List.{AllByRecursion, AllZip, flat_map, range_with_len, slice_get}
-
-module _ {A B : Type 0} (R : A → B → Type 0) where
-  -- one more pair at the end
-  pub zip_more : (xs : List A) (ys : List B) (x : A) (y : B) → AllZip R xs ys → R x y → AllZip R (xs ++ x ∷ []) (ys ++ y ∷ [])
-  zip_more [] [] x y h r = (r, tt)
-  zip_more [] (b ∷ ys) x y h r = absurd h
-  zip_more (a ∷ xs) [] x y h r = absurd h
-  zip_more (a ∷ xs) (b ∷ ys) x y h r = (h.0, zip_more xs ys x y h.1 r)
 
 -- one list after another
 pub beside-append : {X Y : Type 0} (R : X → Y → Type 0) (xs us : List X) (ys vs : List Y) → AllZip R xs ys → AllZip R us vs → AllZip R (xs ++ us) (ys ++ vs)

@@ -1,67 +1,27 @@
--- The lines of a plain text, one after another.
-use Rattle.std.proofs.Common.{Bool, true, nat_eq, slice_index_or, ◌-◌, ◌≤◌, get_or, inl, inr, length-append, length-drop, ◌≡◌, ◌<◌, ◌+◌, ◌++◌, ◌==◌, ◌||◌, ◌∙◌, ◌∷◌, sym, All, List, None, Some, [], ap, arith, drop, false, length, map, refl, take, ℕ}
-use Rattle.std.specs.List.{filter, position_or_len}
+-- Plain bytes, by what is looked for in them: no byte order mark, no quote, and no carriage return inside a line; for `are_plain`.
+use Rattle.std.proofs.Common.{Bool, true, nat_eq, slice_index_or, ◌-◌, ◌≤◌, get_or, inl, inr, length-append, length-drop, ◌≡◌, ◌<◌, ◌+◌, ◌++◌, ◌==◌, ◌||◌, ◌∙◌, ◌∷◌, sym, All, List, None, Some, [], ap, arith, drop, false, length, refl, ℕ}
+use Rattle.std.specs.List.{position_or_len}
 use Rattle.std.proofs.lemmas.Bool.{cases_lt, eq-eqb, eqb-true, false_from_ne_true}
 use Rattle.std.proofs.Math.Seq.{get_or-append_seam}
 use Rattle.std.proofs.lemmas.List.{get_or-append-add, get_or-drop}
-use Rattle.std.proofs.lemmas.List.Splits.{slice_split_first, slice_split_none}
 use Rattle.std.proofs.lemmas.List.Sums.{fails_before_first, position_or_len_is}
 use Rattle.memchr.specs.Find.{IsFirstByte, Nowhere, Passes, is_byte, is_byte2}
 use Rattle.csv.specs.Reading.{strip_bom}
-use Rattle.wire_core.specs.Lines.{is_feed, pieces_of}
-use Rattle.command_runs.specs.inner.Lines.{with_line}
-use Rattle.command_runs.specs.live.Laws.{IsPlain, ReturnsEndLines, has_byte, record_lines}
-use Rattle.command_runs.specs.live.Text.{without_return}
+use Rattle.command_runs.specs.live.Laws.{IsPlain, ReturnsEndLines}
 
-feed_at : (xs : List ℕ) (k : ℕ) → IsFirstByte (is_byte 10) xs (Some k) → (k < length xs) × (position_or_len is_feed xs ≡ k)
-feed_at xs k found = let high = found.0.high in
-    (high, position_or_len_is is_feed xs k 0 (omega (arith, high)) (λ j low. false_from_ne_true _ (found.0.before j (omega arith) low)) (λ _. found.1))
+module _ (c : ℕ) where
+  abbrev is_it : ℕ → Bool
+  is_it b = b == c
 
-no_feed : (xs : List ℕ) → IsFirstByte (is_byte 10) xs None → All (λ b. is_feed b ≡ false) xs
-no_feed xs none =
-    let past : position_or_len is_feed xs ≡ length xs = position_or_len_is is_feed xs (length xs) 0 (omega arith)
-    (λ j low. false_from_ne_true _ (none j (omega arith) low)) (λ low. absurd (omega (arith, low))) in
-    λ k d low. fails_before_first is_feed xs k d (omega (arith, low, past))
-
--- a line feed is found at k
-pub first_line : (xs : List ℕ) (k : ℕ) → IsFirstByte (is_byte 10) xs (Some k)
-    → (k < length xs) × (record_lines xs ≡ with_line (without_return (take k xs)) (record_lines (drop (k + 1) xs)))
-first_line xs k found =
-    let at = feed_at xs k found in
-    let low : position_or_len is_feed xs < length xs = omega (arith, at.0, at.1) in
-    let cut : pieces_of xs ≡ take k xs ∷ pieces_of (drop (k + 1) xs) =
-    slice_split_first is_feed xs 0 low ∙ ap (λ n. take n xs ∷ pieces_of (drop (n + 1) xs)) at.1 in
-    (at.0, ap (λ ls. filter has_byte (map without_return ls)) cut)
-
--- none is
-pub last_line : (xs : List ℕ) → IsFirstByte (is_byte 10) xs None → record_lines xs ≡ with_line (without_return xs) (record_lines [])
-last_line xs none = ap (λ ls. filter has_byte (map without_return ls)) (slice_split_none is_feed xs (no_feed xs none))
-
-pub no_lines : (xs : List ℕ) → length xs ≡ 0 → record_lines xs ≡ []
-no_lines [] e = refl
-no_lines (x ∷ xs) e = absurd (omega (arith, e))
-
-pub line_here : (line : List ℕ) (lines : List (List ℕ)) → 0 < length line → with_line line lines ≡ line ∷ lines
-line_here [] lines some = absurd (omega (arith, some))
-line_here (b ∷ line) lines some = refl
-
-pub line_blank : (line : List ℕ) (lines : List (List ℕ)) → length line ≡ 0 → with_line line lines ≡ lines
-line_blank [] lines none = refl
-line_blank (b ∷ line) lines none = absurd (omega (arith, none))
-
--- ---- plain bytes
-
-abbrev is_quote : ℕ → Bool
-is_quote b = b == 34
-
-no_quotes : (xs : List ℕ) → IsFirstByte (is_byte 34) xs None → All (λ b. (b == 34) ≡ false) xs
-no_quotes xs none =
-    let past : position_or_len is_quote xs ≡ length xs = position_or_len_is is_quote xs (length xs) 0 (omega arith)
-    (λ j low. false_from_ne_true _ (none j (omega arith) low)) (λ low. absurd (omega (arith, low))) in
-    λ k d low. fails_before_first is_quote xs k d (omega (arith, low, past))
+  -- a byte that is not found is none of them
+  pub no_byte : (xs : List ℕ) → IsFirstByte (is_byte c) xs None → All (λ b. (b == c) ≡ false) xs
+  no_byte xs none =
+      let past : position_or_len is_it xs ≡ length xs = position_or_len_is is_it xs (length xs) 0 (omega arith)
+      (λ j low. false_from_ne_true _ (none j (omega arith) low)) (λ low. absurd (omega (arith, low))) in
+      λ k d low. fails_before_first is_it xs k d (omega (arith, low, past))
 
 pub plain_of : (xs : List ℕ) → strip_bom xs ≡ xs → IsFirstByte (is_byte 34) xs None → ReturnsEndLines xs → IsPlain xs
-plain_of xs mark none returns = record { no_mark = mark; no_quote = no_quotes xs none; returns = returns }
+plain_of xs mark none returns = record { no_mark = mark; no_quote = no_byte 34 xs none; returns = returns }
 
 -- up to a place each carriage return stands before a line feed
 abbrev pub EndUpTo : List ℕ → ℕ → Type 0

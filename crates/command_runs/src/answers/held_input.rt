@@ -1,0 +1,119 @@
+//! The bytes of an input that came and were not read yet.
+ghost use Rattle.std.specs.Prelude.{◌≡◌, ◌≤◌, IfOk, length};
+
+use csv_records::INPUT_LIMIT;
+use digits_core::{InputFault, Source};
+use std::alloc::{AllocError, Global};
+use std::mem;
+
+/// How many bytes are asked for at a time.
+const CHUNK: usize = 65_536;
+
+/// An input that comes in pieces, and what is held of it.
+#[derive(Drop)]
+pub struct HeldInput<'a, S> {
+    /// What gives the bytes.
+    pub source: &'a mut S,
+    /// How many bytes may still come.
+    room: usize,
+    /// What is held, from `start` on.
+    bytes: Vec<u8>,
+    start: usize,
+    /// Where a piece is read to first.
+    chunk: Vec<u8>,
+    ghost ok: { (start ≤ length bytes.items) × (length chunk.items ≡ 65536) },
+}
+
+/// Room for a piece.
+pub fn make_chunk(alloc: Global) -> Result<Vec<u8>, AllocError>
+    ensures { IfOk result (λ chunk. length chunk.items ≡ 65536) }
+{
+    Vec::from_elem(alloc, 0u8, CHUNK)
+}
+
+impl<'a, S: Source> HeldInput<'a, S> {
+    ghost use Rattle.command_runs.specs.inner.HeldInputs.{GivesUp, HoldsMore, HoldsNothing, PassesRest, ReadsRest, held_of};
+
+    /// The input that this source gives, of which nothing is held.
+    pub fn new(alloc: Global, source: &'a mut S, chunk: Vec<u8>) -> HeldInput<'a, S>
+        requires { length chunk.items ≡ 65536 }
+        ensures { HoldsNothing S.left S.failed source.entry result }
+    {
+        HeldInput {
+            source,
+            room: INPUT_LIMIT,
+            bytes: Vec::new(alloc),
+            start: 0,
+            chunk,
+        }
+    }
+
+    /// What is held.
+    pub fn held(&self) -> &[u8]
+        ensures { result.now ≡ held_of self.now }
+    {
+        &self.bytes.as_slice()[self.start..]
+    }
+
+    /// Gives up so many bytes that are held, from the first on.
+    pub fn give_up(&mut self, count: usize)
+        requires { count ≤ length (held_of self.old) }
+        ensures { GivesUp count self.old self.new }
+    {
+        self.start += count;
+    }
+
+    /// Reads the next piece behind what is held. False if there is none.
+    pub fn read_piece(&mut self) -> Result<bool, InputFault>
+        ensures { HoldsMore S.left S.failed self.old result self.new }
+    {
+        // What is held is moved at once: a drain turns it byte by byte.
+        let len = self.bytes.len();
+        self.bytes.copy_within(self.start..len, 0);
+        self.bytes.truncate(len - self.start);
+        self.start = 0;
+        let Ok(count) = self.source.read(self.chunk.as_mut_slice()) else {
+            return Err(InputFault::ReadFault);
+        };
+        if count > self.room {
+            return Err(InputFault::InputSize);
+        }
+        self.room -= count;
+        if self.bytes.extend_from_slice(&self.chunk[..count]).is_err() {
+            return Err(InputFault::NoMemory);
+        }
+        Ok(count > 0)
+    }
+
+    /// What is held, and all that still comes.
+    pub fn read_rest(&mut self, alloc: Global) -> Result<Vec<u8>, InputFault>
+        ensures { ReadsRest S.left S.failed self.old result self.new }
+    {
+        'pieces: loop {
+            match self.read_piece() {
+                Ok(true) => {}
+                Ok(false) => {
+                    self.start = 0;
+                    return Ok(mem::replace(&mut self.bytes, Vec::new(alloc)));
+                }
+                Err(fault) => return Err(fault),
+            }
+        }
+    }
+
+    /// Reads all that still comes, and holds nothing of it.
+    pub fn pass_rest(&mut self) -> Result<(), InputFault>
+        ensures { PassesRest S.left S.failed self.old result self.new }
+    {
+        'pieces: loop {
+            match self.read_piece() {
+                Ok(true) => {
+                    let held = self.held().len();
+                    self.give_up(held);
+                }
+                Ok(false) => return Ok(()),
+                Err(fault) => return Err(fault),
+            }
+        }
+    }
+}

@@ -1,0 +1,252 @@
+//! The rows of the records that a source gives, one after another.
+ghost use Rattle.std.specs.Prelude.{◌≡◌, IfNone, IfSome, length};
+ghost use Rattle.command_runs.specs.inner.Lines.{IsLastLine, IsLineTo, line_start};
+ghost use Rattle.command_runs.specs.inner.RowReaders.{GoesOnAs, GoesToCsv};
+
+use crate::answers::held_input::HeldInput;
+use crate::answers::lines::{are_plain, read_line};
+use crate::live::record::without_return;
+use csv_records::{RecordRefusal, Records, RecordsFault, next_row};
+use digits_core::{InputFault, Source};
+use memchr::memchr;
+use scan_core::Runs;
+use std::alloc::Global;
+
+/// A longer line is read by `csv`, so that what is held has a limit.
+const LONG: usize = 65_536;
+
+/// Where the reading of records stands.
+#[derive(Drop)]
+pub enum Course {
+    /// The records of what is held are its lines. The line feed that ended the line before is held, so that nothing
+    /// is taken for a byte order mark.
+    Lines,
+    /// What is held is the last line.
+    LastLine,
+    /// All that was left was given to `csv`, whose reader is too large to be moved.
+    Csv(Box<Records>),
+    /// All were read.
+    Ended,
+    /// The input is refused.
+    Refused(RecordsFault),
+}
+
+/// The rows of the records that a source gives.
+#[derive(Drop)]
+pub struct RowReader<'a, S> {
+    alloc: Global,
+    lanes: u8,
+    input: HeldInput<'a, S>,
+    /// How many records were read.
+    pub count: usize,
+    /// Where the reading stands.
+    pub course: Course,
+}
+
+/// Where a line begins: behind the line feed of the line before it.
+fn line_start(bytes: &[u8]) -> usize
+    ensures { result ≡ line_start bytes.now }
+{
+    match bytes.first() {
+        Some(b'\n') => 1,
+        _ => 0,
+    }
+}
+
+/// The next line that a line feed ends, without its carriage return, and where it ends.
+fn whole_line(bytes: &[u8]) -> Option<(&[u8], usize)>
+    ensures line { IfSome result (λ p. IsLineTo bytes.now p.0.now p.1) }
+    ensures none { IfNone result (IsLastLine bytes.now) }
+{
+    let start = line_start(bytes);
+    match memchr(b'\n', &bytes[start..]) {
+        Some(length) => {
+            let end = start + length;
+            Some((without_return(&bytes[start..end]), end))
+        }
+        None => None,
+    }
+}
+
+/// Gives `csv` what is held, and all that still comes.
+fn give_to_csv<S: Source>(alloc: Global, input: &mut HeldInput<'_, S>) -> Result<Course, InputFault>
+    ensures { GoesToCsv S.left S.failed input.old result input.new }
+{
+    match input.read_rest(alloc) {
+        Ok(bytes) => match Box::new(alloc, Records::new(alloc, bytes)) {
+            Ok(records) => Ok(Course::Csv(records)),
+            Err(_) => Err(InputFault::NoMemory),
+        },
+        Err(fault) => Err(fault),
+    }
+}
+
+/// How the reading goes on where no whole line is held: by lines, if what comes has no byte that `csv` reads otherwise.
+fn next_course<S: Source>(alloc: Global, input: &mut HeldInput<'_, S>) -> Result<Course, InputFault>
+    ensures { GoesOnAs S.left S.failed input.old result input.new }
+{
+    if input.held().len() > LONG {
+        return give_to_csv(alloc, input);
+    }
+    match input.read_piece() {
+        Ok(true) if are_plain(input.held()) => Ok(Course::Lines),
+        Ok(true) => give_to_csv(alloc, input),
+        Ok(false) => Ok(Course::LastLine),
+        Err(fault) => Err(fault),
+    }
+}
+
+impl<'a, S: Source> RowReader<'a, S> {
+    ghost use Rattle.command_runs.specs.inner.RowReaders.{BeginsRows, GivesNextRow, GoesOnFrom, IsAtLastLine, PassesRows, ReadsLine, StaysAtLines, TellsRow, WasRead, WhyRefused};
+
+    /// The rows of this many lanes, none of which was read.
+    pub fn new(alloc: Global, lanes: u8, source: &'a mut S, chunk: Vec<u8>) -> RowReader<'a, S>
+        requires { length chunk.items ≡ 65536 }
+        ensures same_reference { result.input.source.ghost_name ≡ source.entry.ghost_name }
+        ensures gave { BeginsRows S.left S.failed lanes source.entry result }
+    {
+        RowReader {
+            alloc,
+            lanes,
+            input: HeldInput::new(alloc, source, chunk),
+            count: 0,
+            course: Course::Lines,
+        }
+    }
+
+    /// Why the input is refused if a record is. The input is read to its end first: a read that fails and too many bytes
+    /// are reported before a record.
+    fn why_refused(&mut self, refusal: RecordRefusal) -> RecordsFault
+        ensures { WhyRefused S.left S.failed self.old refusal self.new result }
+    {
+        match self.course {
+            Course::Lines => match self.input.pass_rest() {
+                Ok(()) => refusal.at(self.count),
+                Err(fault) => RecordsFault::from(fault),
+            },
+            _ => refusal.at(self.count),
+        }
+    }
+
+    /// The row of a record that was read; none if the record is refused, and the input with it.
+    fn tell(&mut self, row: Result<(u8, Runs), RecordRefusal>) -> Option<(u8, Runs)>
+        ensures { TellsRow S.left S.failed self.old row result self.new }
+    {
+        match row {
+            Ok(row) => {
+                self.count = self.count.saturating_add(1);
+                Some(row)
+            }
+            Err(refusal) => {
+                let why = self.why_refused(refusal);
+                self.course = Course::Refused(why);
+                None
+            }
+        }
+    }
+
+    /// The row of the next line that is held and has a byte; none if none is held whole.
+    fn next_line(&mut self) -> Option<Result<(u8, Runs), RecordRefusal>>
+        requires { self.old.course ≡ Course.Lines }
+        ensures stays { StaysAtLines self.old result self.new }
+        ensures reads { ReadsLine S.left S.failed self.old result self.new }
+    {
+        'lines: loop {
+            match whole_line(self.input.held()) {
+                Some((line, end)) => {
+                    if !line.is_empty() {
+                        let row = read_line(self.alloc, self.lanes, line);
+                        self.input.give_up(end);
+                        return Some(row);
+                    }
+                    self.input.give_up(end);
+                }
+                None => return None,
+            }
+        }
+    }
+
+    /// The row of the last line, which no line feed ends, if it has a byte.
+    fn last_line(&mut self) -> Option<Result<(u8, Runs), RecordRefusal>>
+        requires { self.old.course ≡ Course.LastLine }
+        ensures { ReadsLine S.left S.failed self.old result self.new }
+    {
+        self.course = Course::Ended;
+        let held = self.input.held();
+        let line = without_return(&held[line_start(held)..]);
+        if line.is_empty() {
+            return None;
+        }
+        Some(read_line(self.alloc, self.lanes, line))
+    }
+
+    /// Goes on where no whole line is held.
+    fn go_on(&mut self)
+        requires { IsAtLastLine self.old }
+        ensures { GoesOnFrom S.left S.failed self.old self.new }
+    {
+        self.course = match next_course(self.alloc, &mut self.input) {
+            Ok(course) => course,
+            Err(fault) => Course::Refused(RecordsFault::from(fault)),
+        };
+    }
+
+    /// The row of the next record that is read otherwise than by a whole line.
+    fn row_behind_lines(&mut self) -> Option<(u8, Runs)>
+        requires { WasRead S.left S.failed self.old }
+        ensures { GivesNextRow S.left S.failed self.old result self.new }
+    {
+        match &mut self.course {
+            Course::LastLine => match self.last_line() {
+                Some(row) => self.tell(row),
+                None => None,
+            },
+            Course::Csv(records) => match next_row(self.alloc, self.lanes, records) {
+                Ok(Some(row)) => self.tell(Ok(row)),
+                Ok(None) => {
+                    self.course = Course::Ended;
+                    None
+                }
+                Err(refusal) => self.tell(Err(refusal)),
+            },
+            Course::Lines | Course::Ended | Course::Refused(_) => None,
+        }
+    }
+
+    /// The next record's row, and its lane. None if all were read, or the input is refused.
+    pub fn next_row(&mut self) -> Option<(u8, Runs)>
+        requires { WasRead S.left S.failed self.old }
+        ensures { GivesNextRow S.left S.failed self.old result self.new }
+    {
+        'pieces: while let Course::Lines = self.course {
+            if let Some(row) = self.next_line() {
+                return self.tell(row);
+            }
+            self.go_on();
+        }
+        self.row_behind_lines()
+    }
+
+    /// Reads all rows that are left.
+    pub fn pass_rows(&mut self)
+        requires { WasRead S.left S.failed self.old }
+        ensures same_reference { self.new.input.source.ghost_name ≡ self.old.input.source.ghost_name }
+        ensures passes { PassesRows S.left S.failed self.old self.new }
+    {
+        'rows: for _ in 0..usize::MAX {
+            match self.next_row() {
+                Some(_) => {}
+                None => break,
+            }
+        }
+    }
+
+    /// The source, of which nothing more is read.
+    pub fn into_source(self) -> &'a mut S
+        ensures same_reference { result.ghost_name ≡ self.entry.input.source.ghost_name }
+        ensures same { result.now ≡ self.entry.input.source.now }
+    {
+        let input = self.input;
+        input.source
+    }
+}
