@@ -1,15 +1,13 @@
--- What is right is not refused as a bad count, and no other fault is one.
+-- What is right is not refused as a bad count, and no other fault is one: for `Hub::new` and `serve`.
 use Rattle.std.proofs.Common.{◌≡◌, ◌∙◌, Bool, Err, Ok, Result, false, sym, true}
 use Rattle.std.specs.Result.{IsErrAnd, IsErrOf}
 use Rattle.hub_core.specs.declared.fault.HubFault.TheVariants as hub_fault
 use Rattle.hub_core.specs.declared.fault.ServeFault.TheVariants as serve_fault
-
-true_is_not_false : true ≡ false → ⊥
-true_is_not_false e = cc
+use Rattle.std.proofs.lemmas.Bool.{true≢false}
 
 -- neither side of the clause holds where the test is true
 pub never : {A : Type 0} {b : Bool} → b ≡ true → (A → ⊥) → (A → b ≡ false) × (b ≡ false → A)
-never is not = (λ a. absurd (not a), λ f. absurd (true_is_not_false (sym is ∙ f)))
+never is not = (λ a. absurd (not a), λ f. absurd (true≢false (sym is ∙ f)))
 
 pub ok_is_no_err : {T E : Type 0} (x : T) (e : E) → IsErrOf {T = T} {E = E} (Ok x) e → ⊥
 ok_is_no_err x e is = cc

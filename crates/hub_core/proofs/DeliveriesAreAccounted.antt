@@ -1,9 +1,8 @@
--- What a deliverer's seat has, as one more delivery is collected or handed.
+-- What a deliverer's seat has, as one more delivery is collected or handed: for `collect_by_lane` and `hand`.
 use Rattle.std.proofs.Common.{◌≡◌, ◌≢◌, ℕ, ◌+◌, ◌<◌, ◌&&◌, ◌||◌, not, nat_lt, cond, Bool, true, false, List, [], ◌∷◌, ◌++◌, get_or, length, set, refl, sym, ap, ◌∙◌, subst, arith, Option, Some, None, option_to_list}
 use Rattle.std.specs.List.{list_all, sum_by}
 use Rattle.std.proofs.lemmas.List.Sums.{fold_push, sum_by-append, sum_by-set}
 use Rattle.std.proofs.lemmas.List.Folds.{list_any-append}
-use Rattle.hub_core.proofs.LanesGrow.{ticket_parts}
 use Rattle.lane_core.specs.declared.job.Plain.{Plain}
 use Rattle.lane_core.specs.ReorderBuffer.{ReorderBuffer, GivesNext, TakesIn, is_new, lanes_of, next_of, was_taken}
 use Rattle.lane_core.specs.Settling.{sift, sifted}
@@ -16,6 +15,8 @@ use Rattle.hub_core.specs.Rule.{trace}
 use Rattle.std.proofs.lemmas.Bool.{and_from, and_parts}
 use Rattle.std.proofs.lemmas.List.{get_or-set_other, get_or-set_same, length-set}
 use Rattle.hub_core.proofs.GivesInOrder.{gives_in_order}
+use Rattle.hub_core.proofs.TruthFacts.{or_with_false, and_with_true, once_or, not_taken}
+use Rattle.lane_core.proofs.TicketFacts.{ticket_parts}
 
 -- x was collected, and is not taken in yet
 pub record Pending (d : ReorderBuffer) (c : List Plain) (x : Plain) (given : List (List Plain)) : Type 0 where
@@ -23,18 +24,10 @@ pub record Pending (d : ReorderBuffer) (c : List Plain) (x : Plain) (given : Lis
   pub none_lost : (h : Plain → ℕ) → sum_by h (sifted (lanes_of d) c) ≡ (sum_by h d.waiting + cond (is_new d x) (h x) 0) + sum_all h given
   pub known : (l k : ℕ) → (was_taken d l k || (is_new d x && is_ticket_of l k x)) ≡ is_among l k (sifted (lanes_of d) c)
 
-or_false : (b : Bool) → (b || false) ≡ b
-or_false true = refl
-or_false false = refl
-
-and_true : (b : Bool) → (b && true) ≡ b
-and_true true = refl
-and_true false = refl
-
 -- the test that sifts is the deliverer's own
 same_test : (d : ReorderBuffer) (c : List Plain) (x : Plain) → ((l k : ℕ) → (was_taken d l k || false) ≡ is_among l k (sifted (lanes_of d) c))
     → (nat_lt x.lane (lanes_of d) && not (is_among x.lane x.number (sifted (lanes_of d) c))) ≡ is_new d x
-same_test d c x known = ap (λ b. nat_lt x.lane (lanes_of d) && not b) (sym (known x.lane x.number) ∙ or_false (was_taken d x.lane x.number))
+same_test d c x known = ap (λ b. nat_lt x.lane (lanes_of d) && not b) (sym (known x.lane x.number) ∙ or_with_false (was_taken d x.lane x.number))
 
 sifted_more : (d : ReorderBuffer) (c : List Plain) (x : Plain) → ((l k : ℕ) → (was_taken d l k || false) ≡ is_among l k (sifted (lanes_of d) c))
     → sifted (lanes_of d) (c ++ x ∷ []) ≡ cond (is_new d x) (sifted (lanes_of d) c ++ x ∷ []) (sifted (lanes_of d) c)
@@ -46,8 +39,8 @@ sum_cond true h xs x = omega (arith, sum_by-append h xs (x ∷ []))
 sum_cond false h xs x = omega arith
 
 among_cond : (b : Bool) (l k : ℕ) (xs : List Plain) (x : Plain) → is_among l k (cond b (xs ++ x ∷ []) xs) ≡ (is_among l k xs || (b && is_ticket_of l k x))
-among_cond true l k xs x = list_any-append (λ (p : Plain). is_ticket_of l k p) xs (x ∷ []) ∙ ap (λ b. is_among l k xs || b) (or_false (is_ticket_of l k x))
-among_cond false l k xs x = sym (or_false (is_among l k xs))
+among_cond true l k xs x = list_any-append (λ (p : Plain). is_ticket_of l k p) xs (x ∷ []) ∙ ap (λ b. is_among l k xs || b) (or_with_false (is_ticket_of l k x))
+among_cond false l k xs x = sym (or_with_false (is_among l k xs))
 
 pub popped : (d : ReorderBuffer) (c c' : List Plain) (x : Plain) (given : List (List Plain)) → Accounted d c [] given → c' ≡ c ++ x ∷ [] → Pending d c' x given
 popped d c c' x given was is =
@@ -56,30 +49,19 @@ popped d c c' x given was is =
     record {
       giving = was.giving;
       none_lost = λ h. ap (sum_by h) more ∙ (sum_cond (is_new d x) h (sifted (lanes_of d) c) x ∙ omega (arith, was.none_lost h));
-      known = λ l k. ap (λ b. b || (is_new d x && is_ticket_of l k x)) (sym (or_false (was_taken d l k)) ∙ was.known l k)
+      known = λ l k. ap (λ b. b || (is_new d x && is_ticket_of l k x)) (sym (or_with_false (was_taken d l k)) ∙ was.known l k)
           ∙ sym (ap (is_among l k) more ∙ among_cond (is_new d x) l k (sifted (lanes_of d) c) x);
     }
 
 pub again : (d : ReorderBuffer) (c : List Plain) (x : Plain) (given : List (List Plain)) → Accounted d c (x ∷ []) given → Pending d c x given
 again d c x given was =
-    let new : is_new d x ≡ true = sym (and_true (is_new d x)) ∙ was.fresh in
+    let new : is_new d x ≡ true = sym (and_with_true (is_new d x)) ∙ was.fresh in
     record {
       giving = was.giving;
       none_lost = λ h. let e = ap (λ b. cond b (h x) 0) new in omega (arith, was.none_lost h, e);
       known = λ l k. ap (λ b. was_taken d l k || (b && is_ticket_of l k x)) new
-          ∙ (ap (λ b. was_taken d l k || b) (sym (or_false (is_ticket_of l k x))) ∙ was.known l k);
+          ∙ (ap (λ b. was_taken d l k || b) (sym (or_with_false (is_ticket_of l k x))) ∙ was.known l k);
     }
-
-new_apart : (a t : Bool) → (t ≡ true → a ≡ false) → once (a || t) ≡ once a + once t
-new_apart true true f = absurd (cc (f refl))
-new_apart true false f = refl
-new_apart false true f = refl
-new_apart false false f = refl
-
-pub not_taken : (a b : Bool) → (a && not b) ≡ true → b ≡ false
-not_taken true false e = refl
-not_taken true true e = absurd (cc)
-not_taken false b e = absurd (cc)
 
 at_ticket : (d : ReorderBuffer) (l k : ℕ) (x : Plain) → is_new d x ≡ true → is_ticket_of l k x ≡ true → was_taken d l k ≡ false
 at_ticket d l k x new is = let p = ticket_parts l k x is in subst (λ (m : ℕ × ℕ). was_taken d m.0 m.1 ≡ false) (λ i. (p.0 i, p.1 i))
@@ -91,7 +73,7 @@ takes_in_order d e x given t giving = record {
   in_order = giving.in_order;
   counted = λ l. giving.counted l ∙ sym (ap (λ ns. get_or ns l 0) t.nexts);
   taken = λ l k.
-      let a = ap once (t.known l k) ∙ new_apart (was_taken d l k) (is_ticket_of l k x) (λ h. at_ticket d l k x t.new h) in
+      let a = ap once (t.known l k) ∙ once_or (was_taken d l k) (is_ticket_of l k x) (λ h. at_ticket d l k x t.new h) in
       let b = t.waiting (λ y. once (is_ticket_of l k y)) in
       let c = ap (λ (ns : List ℕ). once (nat_lt k (get_or ns l 0))) t.nexts in
       let s = giving.taken l k in
@@ -104,7 +86,7 @@ took d e c x given was t =
     record {
       giving = takes_in_order d e x given t was.giving;
       none_lost = λ h. ap (sum_by h) same ∙ (let n = ap (λ b. cond b (h x) 0) t.new in omega (arith, was.none_lost h, n, t.waiting h));
-      known = λ l k. or_false (was_taken e l k) ∙ (t.known l k
+      known = λ l k. or_with_false (was_taken e l k) ∙ (t.known l k
           ∙ (ap (λ b. was_taken d l k || (b && is_ticket_of l k x)) (sym t.new) ∙ (was.known l k ∙ ap (is_among l k) (sym same))));
       fresh = refl;
     }
@@ -125,9 +107,9 @@ held_back d e c x y given was new same is =
     subst (λ (p : ReorderBuffer × Plain). Accounted p.0 c (p.1 ∷ []) given) (λ i. (sym is i, sym same i)) record {
       giving = was.giving;
       none_lost = λ h. let n = ap (λ b. cond b (h x) 0) new in omega (arith, was.none_lost h, n);
-      known = λ l k. ap (λ b. was_taken d l k || b) (or_false (is_ticket_of l k x))
+      known = λ l k. ap (λ b. was_taken d l k || b) (or_with_false (is_ticket_of l k x))
           ∙ (ap (λ b. was_taken d l k || (b && is_ticket_of l k x)) (sym new) ∙ was.known l k);
-      fresh = and_true (is_new d x) ∙ new;
+      fresh = and_with_true (is_new d x) ∙ new;
     }
 
 -- the pass of the deliverer's seat while it has a delivery that is not taken in yet

@@ -1,5 +1,5 @@
--- One more delivery into its lane's list, and several steps as one.
-use Rattle.std.proofs.Common.{◌≡◌, ◌≢◌, ◌⊎◌, inl, inr, ⊎_elim, ℕ, ◌<◌, ◌≤◌, ◌==◌, true, zero, suc, List, [], ◌∷◌, ◌++◌, get_or, length, set, refl, sym, ap, ◌∙◌, subst, arith, Some, vec_capacity, vec_len}
+-- One more delivery into its lane's list (`lists::place`), and several steps as one.
+use Rattle.std.proofs.Common.{◌≡◌, ◌≢◌, ⊎_elim, ℕ, ◌<◌, ◌≤◌, ◌==◌, true, List, [], ◌∷◌, ◌++◌, get_or, length, set, refl, sym, ap, ◌∙◌, subst, arith, Some, vec_capacity, vec_len}
 use Rattle.std.specs.List.{list_all, slice_get, count_by}
 use Rattle.std.proofs.lemmas.Bool.{and_from, and_parts, cases_eq, eq-eqb, ne_eqb}
 use Rattle.std.proofs.lemmas.List.{length-set}
@@ -9,25 +9,8 @@ use Rattle.lane_core.specs.declared.job.Plain.{Plain}
 use Rattle.lane_core.specs.Weights.{once}
 use Rattle.hub_core.specs.inner.DrainedLists.{DrainsInto, Listed}
 use Rattle.hub_core.proofs.SumsOfChanged.{one_more}
-
--- what a list has at a place
-pub same_some : {X : Type 0} (x y : X) (xs : List X) (l : ℕ) → slice_get xs l ≡ Some x → slice_get xs l ≡ Some y → x ≡ y
-same_some x y [] l e f = absurd (cc)
-same_some x y (z ∷ zs) zero e f = cc
-same_some x y (z ∷ zs) (suc l) e f = same_some x y zs l e f
-
-pub get_set : {X : Type 0} (xs : List X) (l k : ℕ) (x t : X) → slice_get (set xs l x) k ≡ Some t → ((k ≡ l) × (x ≡ t)) ⊎ ((k ≢ l) × (slice_get xs k ≡ Some t))
-get_set [] l k x t e = absurd (cc)
-get_set (y ∷ ys) zero zero x t e = inl (refl, cc)
-get_set (y ∷ ys) zero (suc k) x t e = inr ((λ h. omega arith), e)
-get_set (y ∷ ys) (suc l) zero x t e = inr ((λ h. omega arith), e)
-get_set (y ∷ ys) (suc l) (suc k) x t e = ⊎_elim (λ (h : (k ≡ l) × (x ≡ t)). inl (ap suc h.0, h.1))
-    (λ (h : (k ≢ l) × (slice_get ys k ≡ Some t)). let n = h.0 in inr ((λ g. n (omega arith)), h.1)) (get_set ys l k x t e)
-
-pub set_there : {X : Type 0} (xs : List X) (l : ℕ) (x d : X) → l < length xs → x ≡ get_or xs l d → set xs l x ≡ xs
-set_there [] l x d low e = absurd (omega arith)
-set_there (y ∷ ys) zero x d low e = ap (λ z. z ∷ ys) e
-set_there (y ∷ ys) (suc l) x d low e = ap (λ zs. y ∷ zs) (set_there ys l x d (omega arith) e)
+use Rattle.hub_core.proofs.ListFacts.{same_some}
+pub use Rattle.hub_core.proofs.ListFacts.{get_set}
 
 not_of : (l : ℕ) (x : Plain) → x.lane ≢ l → count_by (λ (y : Plain). y.lane == l) (x ∷ []) ≡ 0
 not_of l x apart = let e = ap once (ne_eqb x.lane l apart) in omega arith

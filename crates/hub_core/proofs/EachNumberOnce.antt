@@ -1,13 +1,12 @@
--- Numbers that are each there once, in any order.
-use Rattle.std.proofs.Common.{◌≡◌, ◌≢◌, ⊎_elim, ℕ, ◌+◌, ◌<◌, ◌≤◌, ◌==◌, cond, nat_lt, Bool, true, false, zero, suc, List, [], ◌∷◌, get_or, length, refl, sym, ap, ◌∙◌, arith}
+-- Numbers that are each there once, in any order: seats may be settled in any.
+use Rattle.std.proofs.Common.{◌≡◌, ◌≢◌, ⊎_elim, ℕ, ◌+◌, ◌<◌, ◌≤◌, ◌==◌, cond, nat_lt, Bool, true, false, zero, suc, List, [], ◌∷◌, length, refl, sym, ap, ◌∙◌, arith}
 use Rattle.std.specs.List.{range_with_len, sum_by, count_by}
 use Rattle.std.proofs.lemmas.Bool.{cases_eq, cases_lt, eq-eqb, le-ltb, lt-ltb, ne_eqb}
-use Rattle.std.proofs.lemmas.List.FromFn.{fill_by_all}
 use Rattle.std.proofs.lemmas.List.Sums.{sum_by-cons}
 use Rattle.lane_core.specs.Weights.{once}
-use Rattle.lane_core.proofs.ClaimFacts.{none_by}
 use Rattle.hub_core.specs.Hubs.{HasEach}
-use Rattle.hub_core.proofs.SumsOfChanged.{sum_by-map}
+use Rattle.lane_core.proofs.TruthFacts.{cond_none}
+use Rattle.lane_core.proofs.WeightFacts.{sum_ones}
 
 -- what a number counts for is that of m or that of another
 split_by : (F : ℕ → ℕ) (m k : ℕ) → F k ≡ cond (k == m) (F m) 0 + cond (k == m) 0 (F k)
@@ -44,7 +43,7 @@ picked_none c m (k ∷ ks) e =
     omega (
       arith,
       sum_by-cons (λ j. cond (j == m) c 0) k ks,
-      none_by (k == m) c (count_by (λ j. j == m) ks) (sum_by (λ j. cond (j == m) c 0) ks) (omega arith)
+      cond_none (k == m) c (count_by (λ j. j == m) ks) (sum_by (λ j. cond (j == m) c 0) ks) (omega arith)
           (λ f. picked_none c m ks f),
     )
 
@@ -109,14 +108,5 @@ ones : (a n : ℕ) → sum_by (λ _. 1) (range_with_len a n) ≡ n
 ones a zero = refl
 ones a (suc n) = omega (arith, sum_by-cons (λ _. 1) a (range_with_len (a + 1) n), ones (a + 1) n)
 
-pub sum_ones : {X : Type 0} (xs : List X) → sum_by (λ _. 1) xs ≡ length xs
-sum_ones [] = refl
-sum_ones (x ∷ xs) = omega (arith, sum_by-cons (λ _. 1) x xs, sum_ones xs)
-
 pub each_counted : (n : ℕ) (ks : List ℕ) → HasEach n ks → length ks ≡ n
 each_counted n ks each = sym (sum_ones ks) ∙ (sum_each n ks each (λ _. 1) ∙ ones 0 n)
-
--- the sum over lists, by their places
-pub by_place : {X : Type 0} (f : X → ℕ) (xs : List X) (n : ℕ) (d : X) → length xs ≡ n → sum_by (λ l. f (get_or xs l d)) (range_with_len 0 n) ≡ sum_by f xs
-by_place f xs n d long =
-    sym (sum_by-map f (λ l. get_or xs l d) (range_with_len 0 n)) ∙ ap (sum_by f) (sym (fill_by_all (λ l. get_or xs l d) xs n d long (λ k e. refl)))

@@ -1,5 +1,5 @@
--- The deliverer and what it has given, call by call.
-use Rattle.std.proofs.Common.{◌≡◌, ◌≢◌, ◌==◌, ◌+◌, ◌<◌, ◌∷◌, ◌∙◌, ◌++◌, [], List, ℕ, zero, suc, ap, arith, get_or, inl, inr, length, ltb, map, refl, replicate, set, subst, sym, true}
+-- The deliverer and what it has given, call by call: `Accounted` rests on it.
+use Rattle.std.proofs.Common.{◌≡◌, ◌≢◌, ◌+◌, ◌<◌, ◌∷◌, ◌∙◌, ◌++◌, [], List, ℕ, zero, suc, ap, arith, get_or, inl, inr, length, ltb, map, refl, replicate, set, subst, sym, true}
 use Rattle.std.proofs.lemmas.Bool.{cases_eq}
 use Rattle.std.proofs.lemmas.List.{get_or-set_other, get_or-set_same, length-append, length-map, length-replicate, length-set}
 use Rattle.std.specs.List.{count_by}
@@ -7,13 +7,11 @@ use Rattle.lane_core.specs.ReorderBuffer.{ReorderBuffer, GivesNext, is_known, la
 use Rattle.lane_core.specs.declared.job.Plain.{Plain}
 use Rattle.lane_core.specs.Tickets.{is_ticket_of, numbered}
 use Rattle.lane_core.specs.Weights.{once}
-use Rattle.lane_core.proofs.GoodFacts.{numbered_more}
-use Rattle.lane_core.proofs.SlotFacts.{or_false}
 use Rattle.hub_core.specs.inner.Accounting.{GivenInOrder}
 use Rattle.hub_core.proofs.SumsOfChanged.{empties_at}
-use Rattle.hub_core.proofs.ListsInOrder.{below_one_more, other_lane, same_lane}
+use Rattle.lane_core.proofs.TicketFacts.{numbered_more, own_ticket, other_ticket}
+use Rattle.lane_core.proofs.TruthFacts.{or_false, once_below_next}
 
--- a ticket is among those that it is found of
 -- the next number of a lane that was given one, and of the others
 next_own : (d e : ReorderBuffer) (l : ℕ) (x : Plain) → l < lanes_of d → GivesNext d l x e → next_of e l ≡ next_of d l + 1
 next_own d e l x low g = ap (λ ns. get_or ns l 0) g.nexts ∙ get_or-set_same d.nexts l (next_of d l + 1) 0 low
@@ -47,15 +45,15 @@ gives_in_order d e l x gs low g giving =
             (let known = ap once (g.leaves.known l k) in
             let before = giving.taken l k in
             let gone = g.leaves.waiting (λ y. once (is_ticket_of l k y)) in
-            let mine = same_lane l k x g.lane ∙ ap (λ n. once (n == k)) g.number in
-            let more = below_one_more k (next_of d l) in
+            let mine = own_ticket l (next_of d l) k x g.lane g.number in
+            let more = once_below_next k (next_of d l) in
             let next = ap (λ n. once (ltb k n)) (next_own d e l x low g) in
             omega arith)
         | inr apart ↦
             let known = ap once (g.leaves.known m k) in
             let before = giving.taken m k in
             let gone = g.leaves.waiting (λ y. once (is_ticket_of m k y)) in
-            let other = other_lane m k x (λ is. apart (sym is ∙ g.lane)) in
+            let other = other_ticket l m k x g.lane apart in
             let next = ap (λ n. once (ltb k n)) (next_other d e l m x apart g) in
             omega arith
       ];

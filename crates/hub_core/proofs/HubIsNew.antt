@@ -1,5 +1,5 @@
--- A new hub and its seats.
-use Rattle.std.proofs.Common.{◌≡◌, ◌==◌, ◌&&◌, ◌||◌, ℕ, ◌+◌, ◌-◌, ◌<◌, ◌≤◌, nat_lt, nat_le, Bool, true, false, zero, suc, List, [], ◌∷◌, get_or, length, map, refl, sym, ap, ◌∙◌, subst, arith, Option, None, Some}
+-- A new hub and its seats: for `Hub::new`.
+use Rattle.std.proofs.Common.{◌≡◌, ◌==◌, ◌&&◌, ℕ, ◌+◌, ◌-◌, ◌<◌, ◌≤◌, nat_lt, nat_le, true, zero, suc, List, [], ◌∷◌, get_or, length, map, refl, sym, ap, ◌∙◌, subst, arith, Some}
 use Rattle.std.specs.List.{slice_get, All, range_with_len, sum_by, count_by}
 use Rattle.std.proofs.lemmas.Bool.{and_parts}
 use Rattle.std.proofs.lemmas.Bool.Decides.{nat_tests}
@@ -8,8 +8,6 @@ use Rattle.rtrb.specs.Ring.{IsPair, SameProducer}
 use Rattle.lane_core.specs.declared.job.Plain.{Plain}
 use Rattle.lane_core.specs.ReorderBuffer.{ReorderBuffer, new_buffer, was_taken}
 use Rattle.lane_core.specs.Weights.{once}
-use Rattle.lane_core.proofs.PlaceFacts.{none_below}
-use Rattle.lane_core.proofs.WeightFacts.{false_from}
 use Rattle.hub_core.specs.declared.rule.Trace.{Trace}
 use Rattle.hub_core.specs.declared.shape.Shape.{Shape}
 use Rattle.hub_core.specs.declared.lane_seat.LaneSeat.{LaneSeat}
@@ -24,6 +22,10 @@ use Rattle.hub_core.specs.inner.Accounting.{Accounted}
 use Rattle.hub_core.proofs.GivesInOrder.{fresh_in_order}
 use Rattle.element_core.specs.Terms.{Terms}
 use Rattle.hub_core.proofs.SumsOfChanged.{empties_at, sum_empties}
+use Rattle.lane_core.proofs.TruthFacts.{false_from_once, once_below_zero, once_below_next}
+use Rattle.std.proofs.lemmas.List.Elements.{All-tail}
+use Rattle.std.proofs.lemmas.Option.{same_Some}
+use Rattle.hub_core.proofs.TruthFacts.{or_with_false}
 
 count_small : (n : ℕ) → is_seat_count n ≡ true → n ≤ 16
 count_small n e = let s = and_parts (nat_le 1 n) (nat_le n 16) e in le_from n s.1
@@ -63,19 +65,12 @@ left_of_results a b w few first cut =
       omega arith,
     )
 
-pub tail_all : {X : Type 0} (P : X → Type 0) (x : X) (xs : List X) → All P (x ∷ xs) → All P xs
-tail_all P x xs all k d low = all (suc k) d (omega arith)
-
 unsent_all : (capacity : ℕ) (rings : List PushEnd) → All (IsUnsent capacity) rings → all_sent rings ≡ map (λ _. []) rings
 unsent_all capacity [] all = refl
 unsent_all capacity (r ∷ rings) all =
     let first = (all 0 r (omega arith)).0 in
-    let rest = unsent_all capacity rings (tail_all (IsUnsent capacity) r rings all) in
+    let rest = unsent_all capacity rings (All-tail (IsUnsent capacity) r rings all) in
     λ i. first i ∷ rest i
-
-or_none : (a b : Bool) → a ≡ b → (a || false) ≡ b
-or_none true b e = e
-or_none false b e = e
 
 pub fresh_accounted : (n capacity : ℕ) (rings : List PushEnd) (d : ReorderBuffer) (collected : List Plain) → d ≡ new_buffer n → length rings ≡ n
     → All (IsUnsent capacity) rings → collected ≡ []
@@ -87,12 +82,12 @@ fresh_accounted n capacity rings d collected is long unsent none =
     subst (λ (x : List Plain × List (List Plain)). Accounted d x.0 [] x.1) (λ i. (sym none i, sym given i)) record {
       giving = giving;
       none_lost = λ h. let a = ap (sum_by h) waiting in let b = sum_empties h rings in omega arith;
-      known = λ l k. or_none (was_taken d l k) false (false_from (was_taken d l k) (
+      known = λ l k. or_with_false (was_taken d l k) ∙ (false_from_once (was_taken d l k) (
           let t = giving.taken l k in
           let w = ap (count_by (λ x. (x.lane == l) && (x.number == k))) waiting in
           let z = sym (giving.counted l) ∙ ap length (empties_at rings l) in
           let y = ap (λ m. once (nat_lt k m)) z in
-          omega (arith, t, w, y, none_below k)));
+          omega (arith, t, w, y, once_below_zero k)));
       fresh = refl;
     }
 
@@ -102,17 +97,14 @@ each_from a (suc n) l =
     let rest = each_from (a + 1) n l in
     let e : a + 1 + n ≡ a + suc n = omega arith in
     let w = ap (λ m. once (nat_lt l m)) e in
-    omega (arith, sum_by-cons (λ k. once (k == l)) a (range_with_len (a + 1) n), one_more l a)
-  where
-    one_more : (k n : ℕ) → once (nat_lt k (n + 1)) ≡ once (nat_lt k n) + once (n == k)
-    one_more k n = grind (arith, nat_tests)
+    omega (arith, sum_by-cons (λ k. once (k == l)) a (range_with_len (a + 1) n), once_below_next l a)
 
 pub has_each : (n : ℕ) (numbers : List ℕ) → numbers ≡ range_with_len 0 n → HasEach n numbers
 has_each n numbers is l =
     let e : 0 + n ≡ n = omega arith in
     let w = ap (λ m. once (nat_lt l m)) e in
     let a = ap (count_by (λ k. k == l)) is in
-    omega (arith, each_from 0 n l, none_below l)
+    omega (arith, each_from 0 n l, once_below_zero l)
 
 pub given_none : (capacity : ℕ) (rings : List PushEnd) (l : ℕ) → All (IsUnsent capacity) rings → get_or (all_sent rings) l [] ≡ []
 given_none capacity rings l unsent = ap (λ gs. get_or gs l []) (unsent_all capacity rings unsent) ∙ empties_at rings l
@@ -121,15 +113,11 @@ pub ring_of : (made rings : List PushEnd) (s : LaneSeat) → made ≡ rings → 
     → IsPair r s.ring
 ring_of made rings s is paired r at = paired.1 r (ap (λ rs. slice_get rs (lane_of s)) (sym is) ∙ at)
 
-first_is : {X : Type 0} (x y : X) (o : Option X) → o ≡ Some x → o ≡ Some y → x ≡ y
-first_is x y None e f = absurd (cc)
-first_is x y (Some z) e f = cc
-
 pub same_ends : (made rings : List PushEnd) → made ≡ rings → (length rings ≡ length made)
     × ((l : ℕ) (r t : PushEnd) → slice_get made l ≡ Some r → slice_get rings l ≡ Some t → SameProducer r t)
 same_ends made rings is = (
   ap length (sym is),
-  λ l r t e f. subst (λ (u : PushEnd). SameProducer r u) (first_is r t (slice_get rings l) (ap (λ rs. slice_get rs l) (sym is) ∙ e) f)
+  λ l r t e f. subst (λ (u : PushEnd). SameProducer r u) (same_Some r t (sym (ap (λ rs. slice_get rs l) (sym is) ∙ e) ∙ f))
       ((refl, refl, refl, refl), refl),
 )
 

@@ -1,4 +1,4 @@
--- The hub may be shared between threads.
+-- The hub may be shared between threads: for `worker_threads`.
 use denote.Param.Send.{IsSync, sendable}
 use denote.Param.SendFields.{declared_sync}
 use Rattle.std.proofs.Crossing.{crosses}

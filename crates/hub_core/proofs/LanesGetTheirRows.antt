@@ -1,5 +1,5 @@
--- What each lane is given: its rows, under the tickets that were told.
-use Rattle.std.proofs.Common.{◌≡◌, ◌<◌, ◌+◌, ◌++◌, ◌∷◌, ℕ, suc, List, [], Some, ap, arith, get_or, length, length-append, refl, sym, ◌∙◌}
+-- What each lane is given: its rows, under the tickets that were told. Laws on lanes stand on it.
+use Rattle.std.proofs.Common.{◌≡◌, ◌<◌, ◌+◌, ◌++◌, ◌∷◌, ℕ, suc, List, [], Some, ap, arith, get_or, length, length-append, sym, ◌∙◌}
 use Rattle.std.specs.List.{slice_get}
 use Rattle.std.proofs.lemmas.List.{append_assoc}
 use Rattle.lane_core.specs.Plain.{plain_of}
@@ -7,16 +7,11 @@ use Rattle.lane_core.specs.declared.job.Plain.{Plain}
 use Rattle.hub_core.specs.Lane.{ArePolledFirst, AreSettled, Lane, deliveries, next_ticket, with_row}
 use Rattle.hub_core.proofs.ListsInOrder.{row_at, rows_long}
 use Rattle.element_core.specs.Terms.{Terms}
-use Rattle.hub_core.proofs.PartsAreAState.{all_at}
+use Rattle.hub_core.proofs.ListFacts.{row_between, all_at}
 
 pub deliveries_by_place : (lane : ℕ) (year : Terms) (rows : List (List ℕ)) (k : ℕ) → (length (deliveries lane year rows) ≡ length rows)
     × (k < length rows → slice_get (deliveries lane year rows) k ≡ Some (plain_of lane k year (get_or rows k [])))
 deliveries_by_place lane year rows k = (rows_long lane 0 year rows, λ low. row_at lane 0 k k year rows (omega arith) low)
-
--- the row between two parts of a list
-row_between : (xs : List (List ℕ)) (x : List ℕ) (ys : List (List ℕ)) → get_or (xs ++ x ∷ ys) (length xs) [] ≡ x
-row_between [] x ys = refl
-row_between (y ∷ xs) x ys = row_between xs x ys
 
 pub ticket_kept : (year : Terms) (before lane : Lane) (row : List ℕ) (later : List (List ℕ)) (lanes : List Lane) (lists : List (List Plain)) (i : ℕ)
     → lane.number ≡ before.number → lane.rows ≡ (with_row before row).rows ++ later → AreSettled year lanes lists → slice_get lanes i ≡ Some lane

@@ -1,7 +1,6 @@
--- One more ticket of a lane, and one more delivery out of its ring.
+-- One more ticket of a lane (`Hub::submit`), and one more delivery out of its ring (`LaneSeat::poll`).
 use Rattle.std.proofs.Common.{◌≡◌, ℕ, ◌+◌, ◌==◌, ◌&&◌, cond, Bool, true, false, suc, List, [], ◌∷◌, ◌++◌, length, length-append, map, refl, sym, ap, ◌∙◌, arith}
-use Rattle.std.proofs.lemmas.List.{map-append}
-use Rattle.std.proofs.lemmas.Bool.{and_parts, eqb-true}
+use Rattle.std.proofs.lemmas.List.{map-append, length-map}
 use Rattle.lane_core.specs.declared.job.Plain.{Plain}
 use Rattle.lane_core.specs.Plain.{plain_of}
 use Rattle.lane_core.specs.Settling.{kept}
@@ -10,7 +9,7 @@ use Rattle.hub_core.specs.declared.rule.Trace.{Trace}
 use Rattle.hub_core.specs.Rule.{trace}
 use Rattle.hub_core.specs.Serving.{numbered_rows}
 use Rattle.element_core.specs.Terms.{Terms}
-use Rattle.lane_core.proofs.GoodFacts.{numbered_more}
+use Rattle.lane_core.proofs.TicketFacts.{numbered_more, ticket_parts}
 
 -- what a lane's seat keeps, after a push
 pub lane_more : (v w : Trace) (x : Plain) (lane issued : ℕ) → w ≡ trace v.shares (v.pushed ++ x ∷ []) v.popped
@@ -39,14 +38,10 @@ rows_and_one l year issued xs ys row was count is =
     let rows = map (λ (x : Plain). x.widths) xs in
     let more : map (λ (x : Plain). x.widths) ys ≡ rows ++ row ∷ [] =
     ap (map (λ (x : Plain). x.widths)) is ∙ map-append (λ (x : Plain). x.widths) xs (plain_of l issued year row ∷ []) in
-    let long : length rows ≡ length xs = length_rows xs in
+    let long : length rows ≡ length xs = length-map xs (λ (x : Plain). x.widths) in
     let at : 0 + length rows ≡ issued = omega arith in
     is ∙ (ap (λ zs. zs ++ plain_of l issued year row ∷ []) was ∙ (ap (λ m. numbered_rows l 0 year rows ++ plain_of l m year row ∷ []) (sym at)
     ∙ (sym (rows_more l 0 year rows row) ∙ ap (numbered_rows l 0 year) (sym more))))
-  where
-    length_rows : (zs : List Plain) → length (map (λ (x : Plain). x.widths) zs) ≡ length zs
-    length_rows [] = refl
-    length_rows (z ∷ zs) = ap suc (length_rows zs)
 
 put_in : (b : Bool) (p : Plain) (xs ys : List Plain) → p ∷ cond b xs ys ≡ cond b (p ∷ xs) (p ∷ ys)
 put_in true p xs ys = refl
@@ -81,9 +76,6 @@ polled_more lane k old new x b is count test =
 
 pub test_of : (tl tn xl xn lane k : ℕ) (r b : Bool) → r ≡ ((tl == lane) && (tn == k)) → tl ≡ xl → tn ≡ xn → r ≡ b → ((xl == lane) && (xn == k)) ≡ b
 test_of tl tn xl xn lane k r b is l n at = (λ i. (sym l i == lane) && (sym n i == k)) ∙ (sym is ∙ at)
-
-pub ticket_parts : (lane k : ℕ) (x : Plain) → is_ticket_of lane k x ≡ true → (x.lane ≡ lane) × (x.number ≡ k)
-ticket_parts lane k x e = let s = and_parts (x.lane == lane) (x.number == k) e in (eqb-true x.lane lane s.0, eqb-true x.number k s.1)
 
 -- what a lane's seat keeps of what it has polled, after it polled x
 pub polls_more : (lane k : ℕ) (old new : List Plain) (x : Plain) → new ≡ old ++ x ∷ [] → k ≡ length (kept lane 0 old) → numbered lane 0 (kept lane 0 old) ≡ true

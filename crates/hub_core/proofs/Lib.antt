@@ -1,3 +1,4 @@
+-- Lemmas, a file for each subject. What is proved of a function stands in the folder of its path.
 pub mod BadCountsAlone
 pub mod CountsInLimits
 pub mod DeliveriesAreAccounted
@@ -10,13 +11,16 @@ pub mod HubIsShared
 pub mod LanesAreCounted
 pub mod LanesGetTheirRows
 pub mod LanesGrow
+pub mod ListFacts
 pub mod ListIsSorted
 pub mod ListsAreSorted
 pub mod ListsHaveRoom
 pub mod ListsHaveUnpolled
 pub mod ListsInOrder
+pub mod NewSeatsServe
 pub mod NextIsThere
 pub mod PartsAreAState
+pub mod PassesAreJoined
 pub mod RingsAfterStep
 pub mod RingsAreDrained
 pub mod RowsAreGiven
@@ -25,6 +29,10 @@ pub mod SeatsAreNew
 pub mod SeatsAsLanes
 pub mod SeatsServeTraffic
 pub mod ServedAreRead
+pub mod ServedFirst
+pub mod SumFacts
 pub mod SumsOfChanged
+pub mod ThreadGoesOn
+pub mod TruthFacts
 pub mod UnpolledIsCounted
 pub mod WorkerTakesOne

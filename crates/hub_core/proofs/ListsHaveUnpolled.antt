@@ -1,7 +1,7 @@
--- What each lane's list has at the end: what the lane had not polled.
+-- What each lane's list has at the end: what the lane had not polled. For `Hub::settle`.
 use Rattle.std.proofs.Common.{◌≡◌, ◌++◌, ℕ, ◌<◌, ◌≤◌, ◌==◌, zero, suc, List, [], ◌∷◌, get_or, length, map, Some, refl, sym, ap, ◌∙◌, subst, arith}
 use Rattle.std.specs.List.{list_all, slice_get, sum_by}
-use Rattle.std.proofs.lemmas.List.{length-map}
+use Rattle.std.proofs.lemmas.List.{length-map, nil_from_length}
 use Rattle.std.proofs.lemmas.Option.{get_or_from_slice_get, same_Some}
 use Rattle.std.specs.List.Sorted.{IsPermutation}
 use Rattle.std.proofs.lemmas.List.Sums.{sum_by-cons}
@@ -19,25 +19,17 @@ use Rattle.hub_core.specs.Lanes.{lane_of, polled, received, submitted}
 use Rattle.hub_core.specs.inner.Draining.{Finds}
 use Rattle.hub_core.specs.inner.Serving.{sum_all}
 use Rattle.lane_core.proofs.ListFacts.{get_back, get_map}
-use Rattle.hub_core.proofs.EachNumberOnce.{by_place, sum_ones}
-use Rattle.hub_core.proofs.PartsAreAState.{Whole, by_seat, one_lane, sum_same}
+use Rattle.hub_core.proofs.PartsAreAState.{Whole, by_seat, one_lane}
 use Rattle.hub_core.proofs.ListIsSorted.{all_same}
-use Rattle.hub_core.proofs.SumsOfChanged.{sum_by-map}
-
-is_there : {X : Type 0} (xs : List X) (i : ℕ) → i < length xs → (x : X) × (slice_get xs i ≡ Some x)
-is_there [] i low = absurd (omega arith)
-is_there (x ∷ xs) zero low = (x, refl)
-is_there (x ∷ xs) (suc i) low = is_there xs i (omega arith)
-
-no_items : (xs : List Plain) → length xs ≡ 0 → xs ≡ []
-no_items [] e = refl
-no_items (x ∷ xs) e = absurd (omega arith)
+use Rattle.hub_core.proofs.ListFacts.{is_there}
+use Rattle.hub_core.proofs.SumFacts.{sum_by-map, sum_same, sum_by_places}
+use Rattle.lane_core.proofs.WeightFacts.{sum_ones}
 
 empty_at : (lists : List Listed) (l : ℕ) (v : Listed) → sum_all (λ (_ : Plain). 1) (items_of lists) ≡ 0 → slice_get lists l ≡ Some v → v.items ≡ []
 empty_at [] l v none e = absurd (cc)
 empty_at (x ∷ xs) zero v none e =
     let a = ap (λ (u : Listed). length u.items) (same_Some x v e) in
-    no_items v.items (omega (arith, sum_by-cons (λ (ys : List Plain). sum_by (λ _. 1) ys) x.items (items_of xs), sum_ones x.items))
+    nil_from_length v.items (omega (arith, sum_by-cons (λ (ys : List Plain). sum_by (λ _. 1) ys) x.items (items_of xs), sum_ones x.items))
 empty_at (x ∷ xs) (suc l) v none e = empty_at xs l v (omega (arith, sum_by-cons (λ (ys : List Plain). sum_by (λ _. 1) ys) x.items (items_of xs))) e
 
 own_empty : (lists : List Listed) → sum_all (λ (_ : Plain). 1) (items_of lists) ≡ 0 → AreOwn lists
@@ -101,7 +93,7 @@ owed ls ws d jobs results found n made drained sorted claims_settle finds whole 
     let own = drains.own (own_empty made (are_made.empty (λ (_ : Plain). 1))) in
     let given : (g : Plain → ℕ) → sum_by (λ (s : LaneSeat). sum_by g (list_at sorted (lane_of s))) ls ≡ sum_all g (items_of drained) = λ g.
     by_seat m ls whole.each (λ l. sum_by g (list_at sorted l))
-    ∙ (by_place (sum_by g) (items_of sorted) m [] (length-map sorted (λ (v : Listed). v.items) ∙ long_sorted)
+    ∙ (sum_by_places (sum_by g) (items_of sorted) m [] (length-map sorted (λ (v : Listed). v.items) ∙ long_sorted)
     ∙ sum_sorted g drained sorted sorts.0 (λ l v w e f. (sorts.1 l v w e f).0)) in
     let settled = claims_settle (map (claim_of sorted) ls) found drains.dropped
     (λ i c e.

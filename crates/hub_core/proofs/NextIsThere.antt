@@ -1,24 +1,18 @@
--- A lane's next number: whether it was collected and is not in hand.
-use Rattle.std.proofs.Common.{◌≡◌, ℕ, ◌+◌, ◌<◌, ◌≤◌, ◌&&◌, ◌||◌, not, nat_lt, cond, Bool, true, false, List, [], ◌∷◌, ◌++◌, refl, sym, ap, ◌∙◌, subst, arith, Option, Some, None}
+-- A lane's next number, whether it was collected and is not in hand: for `DelivererSeat::next`.
+use Rattle.std.proofs.Common.{◌≡◌, ℕ, ◌<◌, ◌&&◌, ◌||◌, not, nat_lt, cond, Bool, true, false, List, [], ◌∷◌, ◌++◌, refl, sym, ap, ◌∙◌, subst, arith, Option, Some, None}
 use Rattle.std.specs.List.{fold, list_all, count_by}
-use Rattle.std.specs.Option.{IfSome, is_some, is_none}
+use Rattle.std.specs.Option.{IfSome}
 use Rattle.std.proofs.Math.Bool.{or_assoc}
-use Rattle.std.proofs.lemmas.Bool.{and_parts}
-use Rattle.std.proofs.lemmas.Bool.Decides.{nat_tests}
+use Rattle.std.proofs.lemmas.Bool.{and_parts, lt-ltb}
 use Rattle.std.proofs.lemmas.List.Folds.{list_any-append}
 use Rattle.lane_core.specs.declared.job.Plain.{Plain}
 use Rattle.lane_core.specs.ReorderBuffer.{ReorderBuffer, WaitsAsNext, has_next, is_new, lanes_of, next_of, was_taken}
 use Rattle.lane_core.specs.Settling.{sift, sifted}
 use Rattle.lane_core.specs.Tickets.{is_among, is_ticket_of}
-use Rattle.lane_core.specs.Weights.{once}
-use Rattle.lane_core.proofs.WeightFacts.{among_from, among_times}
 use Rattle.hub_core.specs.inner.Accounting.{Accounted}
-use Rattle.hub_core.proofs.LanesGrow.{ticket_parts}
-use Rattle.hub_core.proofs.DeliveriesAreAccounted.{not_taken}
-
-pub is_there : {X : Type 0} (o : Option X) → is_none o ≡ false → is_some o ≡ true
-is_there None none = absurd (cc)
-is_there (Some x) none = refl
+use Rattle.lane_core.proofs.TicketFacts.{among_from, among_times, ticket_parts}
+use Rattle.hub_core.proofs.TruthFacts.{not_taken, or_with_false, true_by_count, there_by}
+use Rattle.lane_core.proofs.TruthFacts.{once_not_below}
 
 pub with_number : {X : Type 0} (f : X → Plain) (d : ReorderBuffer) (l : ℕ) (o : Option X) (n : ℕ) → n ≡ next_of d l → IfSome o (λ x. WaitsAsNext d l (f x))
     → IfSome o (λ x. WaitsAsNext d l (f x) × ((f x).number ≡ n))
@@ -29,18 +23,11 @@ with_number f d l (Some x) n e is = (is, is.number ∙ sym e)
 sift_by : (b : Bool) (n l k : ℕ) (seen : List Plain) (x : Plain) → (nat_lt x.lane n && not (is_among x.lane x.number seen)) ≡ b → l < n
     → is_among l k (cond b (seen ++ x ∷ []) seen) ≡ (is_among l k seen || is_ticket_of l k x)
 sift_by true n l k seen x e low = list_any-append (λ (p : Plain). is_ticket_of l k p) seen (x ∷ [])
-    ∙ ap (λ b. is_among l k seen || b) (or_none (is_ticket_of l k x))
-  where
-    or_none : (b : Bool) → (b || false) ≡ b
-    or_none true = refl
-    or_none false = refl
+    ∙ ap (λ b. is_among l k seen || b) (or_with_false (is_ticket_of l k x))
 sift_by false n l k seen x e low = passed (is_ticket_of l k x) (is_among l k seen)
     (λ h. let p = ticket_parts l k x h in there (nat_lt x.lane n) (is_among x.lane x.number seen) e (λ i. is_among (p.0 i) (p.1 i) seen)
-    (lt_true x.lane n (omega (arith, p.0))))
+    (lt-ltb x.lane n (omega (arith, p.0))))
   where
-    lt_true : (a b : ℕ) → a < b → nat_lt a b ≡ true
-    lt_true a b h = grind (arith, nat_tests)
-
     there : {c : Bool} (a b : Bool) → (a && not b) ≡ false → b ≡ c → a ≡ true → c ≡ true
     there true true e is f = sym is
     there true false e is f = absurd (cc)
@@ -52,12 +39,8 @@ sift_by false n l k seen x e low = passed (is_ticket_of l k x) (is_among l k see
     passed false true f = refl
     passed false false f = refl
 
-or_nothing : (b : Bool) → b ≡ (b || false)
-or_nothing true = refl
-or_nothing false = refl
-
 among_folded : (n l k : ℕ) (seen xs : List Plain) → l < n → is_among l k (fold (sift n) seen xs) ≡ (is_among l k seen || is_among l k xs)
-among_folded n l k seen [] low = or_nothing (is_among l k seen)
+among_folded n l k seen [] low = sym (or_with_false (is_among l k seen))
 among_folded n l k seen (x ∷ xs) low =
     among_folded n l k (sift n seen x) xs low
     ∙ (ap (λ b. b || is_among l k xs) (sift_by (nat_lt x.lane n && not (is_among x.lane x.number seen)) n l k seen x refl low)
@@ -66,20 +49,11 @@ among_folded n l k seen (x ∷ xs) low =
 among_sifted : (n l k : ℕ) (xs : List Plain) → l < n → is_among l k (sifted n xs) ≡ is_among l k xs
 among_sifted n l k xs low = among_folded n l k [] xs low
 
-one_by : (b : Bool) (n : ℕ) (t : Bool) → once t ≡ 0 + n → (b ≡ true → 1 ≤ n) → (1 ≤ n → b ≡ true) → t ≡ b
-one_by true n true e f g = refl
-one_by true n false e f g = absurd (let h = f refl in omega arith)
-one_by false n true e f g = absurd (let h = g (omega arith) in cc)
-one_by false n false e f g = refl
-
-not_less_self : (n : ℕ) → once (nat_lt n n) ≡ 0
-not_less_self n = grind (arith, nat_tests)
-
 -- the next number was taken in where it waits
 next_taken : (d : ReorderBuffer) (c hand : List Plain) (gs : List (List Plain)) (l : ℕ) → Accounted d c hand gs → was_taken d l (next_of d l) ≡ has_next d l
 next_taken d c hand gs l s =
     let t = s.giving.taken l (next_of d l) in
-    one_by (has_next d l) (count_by (is_ticket_of l (next_of d l)) d.waiting) (was_taken d l (next_of d l)) (omega (arith, t, not_less_self (next_of d l)))
+    true_by_count (has_next d l) (count_by (is_ticket_of l (next_of d l)) d.waiting) (was_taken d l (next_of d l)) (omega (arith, t, once_not_below (next_of d l) (next_of d l) (omega arith)))
     (λ e. among_times l (next_of d l) d.waiting e) (λ e. among_from l (next_of d l) d.waiting e)
 
 fresh_apart : (d : ReorderBuffer) (l k : ℕ) (hand : List Plain) → list_all (is_new d) hand ≡ true → is_among l k hand ≡ true → was_taken d l k ≡ false
@@ -94,12 +68,6 @@ fresh_apart d l k (y ∷ ys) all e =
     or_else : (a b t : Bool) → (a || b) ≡ true → (a ≡ true → t ≡ false) → (b ≡ true → t ≡ false) → t ≡ false
     or_else true b t e f g = f refl
     or_else false b t e f g = g e
-
-there_by : (w h a : Bool) → (w || h) ≡ a → (h ≡ true → w ≡ false) → (a && not h) ≡ w
-there_by true true a e f = absurd (let g = f refl in cc)
-there_by true false a e f = ap (λ b. b && true) (sym e)
-there_by false true a e f = ap (λ b. b && false) (sym e)
-there_by false false a e f = ap (λ b. b && true) (sym e)
 
 -- the lane's next number was collected and is not in hand exactly where it waits
 pub next_is : (d : ReorderBuffer) (c hand : List Plain) (gs : List (List Plain)) (l n : ℕ) → Accounted d c hand gs → l < lanes_of d → n ≡ next_of d l

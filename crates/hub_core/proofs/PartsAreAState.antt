@@ -1,17 +1,16 @@
--- The parts of a hub as lanes of the machine, and as accounts of what they submitted and were handed.
+-- The parts of a hub as a state of the machine in which nothing is lost: what `Hub::settle` and `Hub::finish` share.
 use Rattle.std.proofs.Common.{◌≡◌, ◌≢◌, ⊎_elim, ℕ, ◌+◌, ◌<◌, ◌≤◌, ◌==◌, cond, nat_lt, true, zero, suc, List, [], ◌∷◌, ◌++◌, get_or, length, length-append, map, take, Option, Some, None, option_to_list, refl, sym, ap, ◌∙◌, subst, arith}
 use Rattle.std.specs.List.{All, flat_map, range_with_len, slice_get, sum_by, count_by}
-use Rattle.std.proofs.lemmas.Bool.{and_from, and_parts, cases_eq, cases_lt, eq-eqb, ne_eqb}
+use Rattle.std.proofs.lemmas.Bool.{cases_eq, cases_lt, eq-eqb, ne_eqb}
 use Rattle.std.proofs.lemmas.List.FromFn.{get_or-map-range_with_len, length-map-range_with_len}
-use Rattle.std.proofs.lemmas.Option.{get_or_from_slice_get, same_Some, slice_get-get_or, slice_get_past, slice_get_within}
+use Rattle.std.proofs.lemmas.Option.{same_Some, slice_get-get_or, slice_get_past}
 use Rattle.std.proofs.lemmas.List.Sums.{sum_by-append, sum_by-cons}
 use Rattle.lane_core.specs.declared.job.Plain.{Plain}
 use Rattle.lane_core.specs.Machine.{LaneState, State, lane_state, of_lane, state}
 use Rattle.lane_core.specs.Settling.{Account, AllFound, KeptWhole, ReceivedFirst}
 use Rattle.lane_core.specs.Tickets.{numbered}
 use Rattle.lane_core.specs.Weights.{OneForOne, once}
-use Rattle.lane_core.specs.Whereabouts.{NothingLost}
-use Rattle.lane_core.proofs.GoodFacts.{once_le}
+use Rattle.lane_core.specs.Whereabouts.{NothingLost, LostIsNone}
 use Rattle.lane_core.proofs.ListFacts.{get_back, get_map}
 use Rattle.hub_core.specs.declared.deliverer_seat.DelivererSeat.{DelivererSeat}
 use Rattle.hub_core.specs.declared.hub.Hub.{Hub}
@@ -23,23 +22,15 @@ use Rattle.hub_core.specs.Lanes.{lane_of, numbers_of, polled, polled_count, rece
 use Rattle.hub_core.specs.inner.Draining.{Finds}
 use Rattle.hub_core.specs.Rings.{all_sent}
 use Rattle.hub_core.specs.inner.Serving.{sum_all}
-use Rattle.hub_core.specs.Standing.{StandsFor}
+use Rattle.hub_core.specs.Standing.{StandsFor, IsWhole}
 use Rattle.hub_core.specs.Workers.{job_in_hand, posted, taken}
 use Rattle.hub_core.specs.inner.Workers.{jobs_in_hand}
 use Rattle.hub_core.proofs.UnpolledIsCounted.{at_least}
-use Rattle.hub_core.proofs.EachNumberOnce.{by_place, sum_each}
-use Rattle.hub_core.proofs.SumsOfChanged.{sum_by-map}
-
-pub all_at : {X : Type 0} (P : X → Type 0) (xs : List X) (i : ℕ) (x : X) → All P xs → slice_get xs i ≡ Some x → P x
-all_at P xs i x all e = subst P (get_or_from_slice_get xs i x x e) (all i x (slice_get_within xs i x e))
-
-pub sum_same : {X : Type 0} (f g : X → ℕ) (xs : List X) → ((i : ℕ) (x : X) → slice_get xs i ≡ Some x → f x ≡ g x) → sum_by f xs ≡ sum_by g xs
-sum_same f g [] each = refl
-sum_same f g (x ∷ xs) each = let here = each 0 x refl in omega (arith, sum_by-cons f x xs, sum_by-cons g x xs, sum_same f g xs (λ i y e. each (suc i) y e))
-
-sum_by-flat_map : {X A : Type 0} (g : A → ℕ) (f : X → List A) (xs : List X) → sum_by g (flat_map f xs) ≡ sum_by (λ x. sum_by g (f x)) xs
-sum_by-flat_map g f [] = refl
-sum_by-flat_map g f (x ∷ xs) = omega (arith, sum_by-cons (λ y. sum_by g (f y)) x xs, sum_by-append g (f x) (flat_map f xs), sum_by-flat_map g f xs)
+use Rattle.hub_core.proofs.EachNumberOnce.{sum_each}
+use Rattle.lane_core.proofs.TruthFacts.{once_le}
+use Rattle.hub_core.proofs.ListFacts.{all_at}
+use Rattle.hub_core.proofs.SumFacts.{sum_by-map, sum_same, sum_by-flat_map, sum_by_places}
+use Rattle.lane_core.proofs.TicketFacts.{numbered_front}
 
 -- no lane has two seats
 pub one_lane : (n : ℕ) (ls : List LaneSeat) → HasEach n (numbers_of ls) → (l : ℕ) → count_by (λ (s : LaneSeat). lane_of s == l) ls ≤ 1
@@ -49,13 +40,6 @@ one_lane n ls each l = subst (λ m. m ≤ 1) (sym (each l) ∙ sum_by-map (λ k.
 pub by_seat : (n : ℕ) (ls : List LaneSeat) → HasEach n (numbers_of ls) → (F : ℕ → ℕ) → sum_by (λ (s : LaneSeat). F (lane_of s)) ls
     ≡ sum_by F (range_with_len 0 n)
 by_seat n ls each F = sym (sum_by-map F (λ (s : LaneSeat). lane_of s) ls) ∙ sum_each n (numbers_of ls) each F
-
-numbered_front : (l n : ℕ) (xs ys : List Plain) → numbered l n (xs ++ ys) ≡ true → numbered l n xs ≡ true
-numbered_front l n [] ys e = refl
-numbered_front l n (x ∷ xs) ys e =
-    let s = and_parts (x.lane == l) _ e in
-    let t = and_parts (x.number == n) (numbered l (suc n) (xs ++ ys)) s.1 in
-    and_from (x.lane == l) _ s.0 (and_from (x.number == n) (numbered l (suc n) xs) t.0 (numbered_front l (suc n) xs ys t.1))
 
 hands_whole : (ws : List WorkerSeat) → OneForOne (flat_map taken ws) (flat_map posted ws) (flat_map jobs_in_hand ws)
 hands_whole [] h = refl
@@ -114,7 +98,7 @@ whole_from h ls ws d jobs results found all_found received_first kept_whole seat
     (all_sent d.rings.items) = λ g.
     sym (sum_by-map (λ (a : Account). sum_by g a.submitted) account ls) ∙ found_all.1 g in
     let sent : (g : Plain → ℕ) → sum_by (λ (s : LaneSeat). sum_by g (handed d (lane_of s))) ls ≡ sum_all g (all_sent d.rings.items) = λ g.
-    by_seat n ls each (λ l. sum_by g (handed d l)) ∙ by_place (sum_by g) (all_sent d.rings.items) n [] giving.lanes in
+    by_seat n ls each (λ l. sum_by g (handed d l)) ∙ sum_by_places (sum_by g) (all_sent d.rings.items) n [] giving.lanes in
     let first = received_first (map (handed_account d) ls)
     (λ i a e. let p = get_back (handed_account d) ls i a e in subst (λ (b : Account). numbered b.lane 0 b.submitted ≡ true) p.2 p.0.in_order)
     (λ i a e. let p = get_back (handed_account d) ls i a e in subst (λ (b : Account). numbered b.lane 0 b.received ≡ true) p.2 (giving.in_order (lane_of p.0)))
@@ -240,3 +224,16 @@ nothing_lost h ls ws d jobs results whole =
 pub all_polled : (ls : List LaneSeat) (ws : List WorkerSeat) (d : DelivererSeat) (jobs results : List Plain) → Whole ls ws d jobs results
     → All (λ (s : LaneSeat). polled s ≡ received s) ls
 all_polled ls ws d jobs results whole i s low = (whole.polled i (get_or ls i s) (slice_get-get_or ls i s low)).0
+
+-- what `settle` and `finish` show of the parts
+pub is_whole : (h : Hub) (ls : List LaneSeat) (ws : List WorkerSeat) (d : DelivererSeat) (jobs results found : List Plain) → LostIsNone
+    → AreAllSeats h ls ws d → Finds ls ws d jobs results found → Whole ls ws d jobs results → IsWhole h ls ws d
+is_whole h ls ws d jobs results found lost_is_none seats finds whole = record {
+  state = (
+    state_of h ls ws d jobs results,
+    stands_for h ls ws d jobs results found seats finds whole,
+    lost_is_none (state_of h ls ws d jobs results) (nothing_lost h ls ws d jobs results whole),
+  );
+  none_dropped = all_polled ls ws d jobs results whole;
+  none_aside = whole.aside;
+}

@@ -1,5 +1,5 @@
--- The rings, after a step at one of them.
-use Rattle.std.proofs.Common.{◌≡◌, ◌⊎◌, inl, inr, ⊎_elim, ℕ, ◌<◌, zero, suc, List, [], ◌∷◌, ◌++◌, get_or, length, set, refl, sym, ap, ◌∙◌, subst, arith, Some}
+-- The rings, after a step at one of them: for `DelivererSeat::hand` and `place_rings`.
+use Rattle.std.proofs.Common.{◌≡◌, ⊎_elim, ℕ, ◌<◌, zero, suc, List, [], ◌∷◌, ◌++◌, get_or, length, set, sym, ap, ◌∙◌, subst, arith, Some, ◌≢◌}
 use Rattle.std.specs.List.{slice_get}
 use Rattle.std.proofs.lemmas.List.{length-set}
 use Rattle.std.proofs.lemmas.Option.{slice_get-get_or}
@@ -8,20 +8,7 @@ use Rattle.lane_core.specs.declared.job.Plain.{Plain}
 use Rattle.hub_core.specs.Rings.{PushEnd, all_sent}
 use Rattle.hub_core.specs.Hubs.{ArePushEnds}
 use Rattle.hub_core.specs.declared.hub.Hub.{Hub}
-
--- a list with one element changed, looked up
-pub get_set : {X : Type 0} (xs : List X) (l k : ℕ) (x t : X) → slice_get (set xs l x) k ≡ Some t → ((k ≡ l) × (x ≡ t)) ⊎ (slice_get xs k ≡ Some t)
-get_set [] l k x t e = inr e
-get_set (y ∷ ys) zero zero x t e = inl (refl, cc)
-get_set (y ∷ ys) zero (suc k) x t e = inr e
-get_set (y ∷ ys) (suc l) zero x t e = inr e
-get_set (y ∷ ys) (suc l) (suc k) x t e = ⊎_elim (λ (h : (k ≡ l) × (x ≡ t)). inl (ap suc h.0, h.1)) (λ h. inr h) (get_set ys l k x t e)
-
--- the element that was put there
-pub got_set : {X : Type 0} (xs : List X) (l : ℕ) (x t : X) → slice_get (set xs l x) l ≡ Some t → x ≡ t
-got_set [] l x t e = absurd cc
-got_set (y ∷ ys) zero x t e = cc
-got_set (y ∷ ys) (suc l) x t e = got_set ys l x t e
+use Rattle.hub_core.proofs.ListFacts.{get_set}
 
 pub same_ring : (a b c : PushEnd) → SameProducer a b → SameProducer b c → SameProducer a c
 same_ring a b c x y = ((y.0.0 ∙ x.0.0, y.0.1 ∙ x.0.1, y.0.2 ∙ x.0.2, y.0.3 ∙ x.0.3), y.1 ∙ x.1)
@@ -34,7 +21,7 @@ ends_set h now l r t ends at less same = (
   λ k b u eb eu. ⊎_elim
       (λ (g : (k ≡ l) × (t ≡ u)). subst (λ (v : PushEnd). SameProducer b v) g.1
       (same_ring b r t (ends.1 k b r eb (ap (slice_get now) g.0 ∙ (slice_get-get_or now l r less ∙ ap Some (sym at)))) same))
-      (λ g. ends.1 k b u eb g) (get_set now l k t u eu),
+      (λ (g : (k ≢ l) × (slice_get now k ≡ Some u)). ends.1 k b u eb g.1) (get_set now l k t u eu),
 )
 
 -- nothing more was sent

@@ -1,5 +1,5 @@
--- The rings of a hub, drained one by one.
-use Rattle.std.proofs.Common.{◌≡◌, ⊎_elim, ℕ, ◌+◌, ◌<◌, List, [], ◌∷◌, ◌++◌, get_or, length, set, Some, refl, sym, ap, ◌∙◌, subst, arith, append-nil}
+-- The rings of a hub, drained one by one: for `place_rings`.
+use Rattle.std.proofs.Common.{◌≡◌, ⊎_elim, ℕ, ◌<◌, List, [], ◌∷◌, ◌++◌, get_or, length, set, Some, refl, sym, ap, ◌∙◌, subst, arith, ◌≢◌}
 use Rattle.std.specs.List.{slice_get, All, sum_by}
 use Rattle.std.proofs.lemmas.List.{get_or-map, length-map, length-set}
 use Rattle.std.proofs.lemmas.List.Elements.{All-push, All-weaker}
@@ -10,15 +10,16 @@ use Rattle.lane_core.specs.declared.job.Plain.{Plain}
 use Rattle.hub_core.specs.declared.deliverer_seat.DelivererSeat.{DelivererSeat}
 use Rattle.hub_core.specs.declared.hub.Hub.{Hub}
 use Rattle.hub_core.specs.declared.lane_seat.LaneSeat.{LaneSeat}
-use Rattle.hub_core.specs.inner.DrainedLists.{DrainsInto, Listed}
+use Rattle.hub_core.specs.inner.DrainedLists.{DrainsInto, Listed, Drains}
 use Rattle.hub_core.specs.inner.Fresh.{IsPairedIn}
 use Rattle.hub_core.specs.Hubs.{ArePushEnds, IsDelivererOf, IsLaneOf, shape_of}
-use Rattle.hub_core.specs.Lanes.{lane_of, numbers_of, received}
-use Rattle.hub_core.specs.inner.Draining.{AreFromFirst, all_received, to_lanes}
+use Rattle.hub_core.specs.Lanes.{lane_of, received}
+use Rattle.hub_core.specs.inner.Draining.{AreFromFirst, AreLeftInRings}
 use Rattle.hub_core.specs.Rings.{PushEnd, all_sent}
-use Rattle.hub_core.proofs.DrainsAddUp.{drained_then, same_some}
-use Rattle.hub_core.proofs.RingsAfterStep.{get_set, same_ring}
-use Rattle.hub_core.proofs.SumsOfChanged.{sum_by-map}
+use Rattle.hub_core.proofs.RingsAfterStep.{same_ring}
+use Rattle.hub_core.proofs.ListFacts.{same_some, get_set}
+use Rattle.hub_core.proofs.SumFacts.{sum_by-map}
+use Rattle.hub_core.proofs.EachIsDrained.{drains_more}
 
 -- the ends are those that they were
 pub record AreSameEnds (old new : List PushEnd) : Type 0 where
@@ -39,7 +40,7 @@ ends_more old now l r t ends at less same = record {
   each = λ k b u eb eu. ⊎_elim
       (λ (g : (k ≡ l) × (t ≡ u)). subst (λ (v : PushEnd). SameProducer b v) g.1
       (same_ring b r t (ends.each k b r eb (ap (slice_get now) g.0 ∙ (slice_get-get_or now l r less ∙ ap Some (sym at)))) same))
-      (λ g. ends.each k b u eb g) (get_set now l k t u eu);
+      (λ (g : (k ≢ l) × (slice_get now k ≡ Some u)). ends.each k b u eb g.1) (get_set now l k t u eu);
 }
 
 -- the lane's ring is still that of its number
@@ -59,27 +60,19 @@ pub sent_now : (old now : List PushEnd) (s : LaneSeat) (t : PushEnd) → all_sen
 sent_now old now s t same at low =
     sym (get_or-map (λ (r : PushEnd). sent r) now (lane_of s) t [] low ∙ ap (λ (r : PushEnd). sent r) (sym at)) ∙ ap (λ xs. get_or xs (lane_of s) []) same
 
--- what these lanes had left in their rings was placed
-abbrev pub RingDrained : List Listed → List Listed → List PushEnd → List LaneSeat → Type 0
-RingDrained t u rings ss = (xs : List Plain) × DrainsInto t u xs × ((h : Plain → ℕ) → sum_by h xs + all_received h ss ≡ to_lanes h rings (numbers_of ss))
-
-pub ring_drained : (t u u' : List Listed) (rings : List PushEnd) (ss : List LaneSeat) (s : LaneSeat) (xs ys : List Plain) → DrainsInto t u xs
-    → DrainsInto u u' ys
-    → ((h : Plain → ℕ) → sum_by h xs + all_received h ss ≡ to_lanes h rings (numbers_of ss)) → received s ++ ys ≡ get_or (all_sent rings) (lane_of s) []
-    → RingDrained t u' rings (ss ++ s ∷ [])
-ring_drained t u u' rings ss s xs ys drained more was left = (
-  xs ++ ys,
-  drained_then t u u' xs ys drained more,
-  λ h.
-      let g : ℕ → ℕ = λ l. sum_by h (get_or (all_sent rings) l []) in
-      let a = sum_by-append (λ (v : LaneSeat). sum_by h (received v)) ss (s ∷ []) in
-      let b = sum_by-map g lane_of (ss ++ s ∷ []) in
-      let c = sum_by-append (λ (v : LaneSeat). g (lane_of v)) ss (s ∷ []) in
-      let d = sum_by-map g lane_of ss in
-      let e = ap (sum_by h) left in
-      let f = sum_by-append h (received s) ys in
-      omega (arith, was h, sum_by-append h xs ys),
-)
+-- what was left in one more ring was placed
+pub ring_drained : (t u u' : List Listed) (rings : List PushEnd) (ss : List LaneSeat) (s : LaneSeat) (ys : List Plain) → Drains t u (AreLeftInRings rings ss)
+    → DrainsInto u u' ys → received s ++ ys ≡ get_or (all_sent rings) (lane_of s) [] → Drains t u' (AreLeftInRings rings (ss ++ s ∷ []))
+ring_drained t u u' rings ss s ys was more left =
+    drains_more t u u' ys (AreLeftInRings rings ss) (AreLeftInRings rings (ss ++ s ∷ [])) was more (λ xs placed h.
+    let g : ℕ → ℕ = λ l. sum_by h (get_or (all_sent rings) l []) in
+    let a = sum_by-append (λ (v : LaneSeat). sum_by h (received v)) ss (s ∷ []) in
+    let b = sum_by-map g lane_of (ss ++ s ∷ []) in
+    let c = sum_by-append (λ (v : LaneSeat). g (lane_of v)) ss (s ∷ []) in
+    let d = sum_by-map g lane_of ss in
+    let e = ap (sum_by h) left in
+    let f = sum_by-append h (received s) ys in
+    omega (arith, placed h, sum_by-append h xs ys))
 
 -- what came out of its ring is the first of what it was sent
 pub from_first : (rings : List PushEnd) (ss : List LaneSeat) (s : LaneSeat) (ys : List Plain) → AreFromFirst rings ss → received s ++ ys
@@ -104,7 +97,3 @@ all_paired h rings ss ends long each = All-weaker (IsLaneOf h) (IsPairedIn rings
 -- a ring for each lane
 pub all_rings : (h : Hub) (d : DelivererSeat) → IsDelivererOf h d → length d.rings.items ≡ (shape_of h).lanes
 all_rings h d of_hub = sym (length-map d.rings.items (λ (r : PushEnd). sent r)) ∙ (d.accounted.giving.lanes ∙ of_hub.lanes)
-
-pub none_left : {X : Type 0} (xs ys all : List X) → length ys ≡ 0 → xs ++ ys ≡ all → xs ≡ all
-none_left xs [] all none is = sym (append-nil xs) ∙ is
-none_left xs (y ∷ ys) all none is = absurd (omega arith)

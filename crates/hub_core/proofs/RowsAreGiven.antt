@@ -1,4 +1,4 @@
--- Rows that are left of each lane, one of which was given.
+-- Rows that are left of each lane, one of which was given: for `Feeds`.
 use Rattle.std.proofs.Common.{◌≡◌, ℕ, ◌<◌, ◌==◌, ◌++◌, ◌&&◌, IfSome, IsSome, Option, Some, None, is_some, option_to_list, leb, true, zero, suc, List, [], ◌∷◌, get_or, length, length-append, map, replicate, set, refl, sym, ap, ◌∙◌, arith, append-nil, append_assoc}
 use Rattle.std.proofs.lemmas.Bool.{and_parts, both_ways, leb-true, ne_eqb}
 use Rattle.std.specs.List.{list_all}

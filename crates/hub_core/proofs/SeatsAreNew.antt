@@ -1,5 +1,5 @@
--- The seats of a new hub, one by one.
-use Rattle.std.proofs.Common.{◌≡◌, ℕ, ◌+◌, ◌-◌, ◌<◌, zero, suc, List, [], ◌∷◌, ◌++◌, length, length-append, sym, ap, ◌∙◌, subst, arith, Some}
+-- The seats of a new hub, one by one: for `make_lanes` and `make_workers`.
+use Rattle.std.proofs.Common.{◌≡◌, ℕ, ◌+◌, ◌-◌, suc, List, [], ◌∷◌, ◌++◌, length, length-append, sym, ap, ◌∙◌, subst, arith}
 use Rattle.std.specs.List.{slice_get, All, range_with_len}
 use Rattle.std.proofs.lemmas.List.Elements.{All-push}
 use Rattle.std.proofs.lemmas.List.{map-append}
@@ -10,16 +10,8 @@ use Rattle.hub_core.specs.inner.Fresh.{IsPairedIn}
 use Rattle.hub_core.specs.Lanes.{numbers_of}
 use Rattle.hub_core.specs.Rings.{PushEnd}
 use Rattle.hub_core.specs.Rule.{trace}
-use Rattle.hub_core.proofs.EachIsDrained.{trace_is}
-
-get_below : {X : Type 0} (xs : List X) (x t : X) (k : ℕ) → k < length xs → slice_get (xs ++ x ∷ []) k ≡ Some t → slice_get xs k ≡ Some t
-get_below [] x t k less e = absurd (omega arith)
-get_below (y ∷ ys) x t zero less e = e
-get_below (y ∷ ys) x t (suc k) less e = get_below ys x t k (omega arith) e
-
-get_last : {X : Type 0} (xs : List X) (x t : X) → slice_get (xs ++ x ∷ []) (length xs) ≡ Some t → x ≡ t
-get_last [] x t e = cc
-get_last (y ∷ ys) x t e = get_last ys x t e
+use Rattle.hub_core.proofs.ListFacts.{get_below, get_last, range_snoc}
+use Rattle.hub_core.proofs.PassesAreJoined.{trace_is}
 
 pub paired_more : (rings : List PushEnd) (ss : List LaneSeat) (r : PushEnd) (s : LaneSeat)
     → All (IsPairedIn rings) ss → s.lane ≡ length rings → IsPair r s.ring → All (IsPairedIn (rings ++ r ∷ [])) (ss ++ s ∷ [])
@@ -29,19 +21,11 @@ paired_more rings ss r s paired at pair =
     (λ k d less. let p = paired k d less in (omega arith, λ t e. p.1 t (get_below rings r t _ p.0 e)))
     (omega arith, λ t e. subst (λ (u : PushEnd). IsPair u s.ring) (get_last rings r t (ap (slice_get (rings ++ r ∷ [])) (sym at) ∙ e)) pair)
 
-pub count_more : {X : Type 0} (xs ys : List X) (x : X) (n : ℕ) → ys ≡ xs ++ x ∷ [] → length xs ≡ n → length ys ≡ n + 1
-count_more xs ys x n is count = ap length is ∙ omega (arith, count, length-append xs (x ∷ []))
-
 -- one share less
 pub cut_more : (b v : Trace) (i : ℕ) → v ≡ trace (b.shares - i) b.pushed b.popped → trace (v.shares - 1) v.pushed v.popped
     ≡ trace (b.shares - (i + 1)) b.pushed b.popped
 cut_more b v i is = trace_is _ _ _ _ _ _ (let e = ap (λ (h : Trace). h.shares) is in omega arith) (ap (λ (h : Trace). h.pushed) is)
     (ap (λ (h : Trace). h.popped) is)
-
-range_snoc : (a n : ℕ) → range_with_len a (suc n) ≡ range_with_len a n ++ (a + n) ∷ []
-range_snoc a zero = let e : a ≡ a + 0 = omega arith in λ j. e j ∷ []
-range_snoc a (suc n) = let r = range_snoc (a + 1) n in let e : a + 1 + n ≡ a + suc n =
-    omega arith in ap (λ l. a ∷ l) (r ∙ ap (λ k. range_with_len (a + 1) n ++ k ∷ []) e)
 
 pub lanes_more : (ss ts : List LaneSeat) (s : LaneSeat) (i : ℕ) → numbers_of ss ≡ range_with_len 0 i → ts ≡ ss ++ s ∷ [] → s.lane ≡ i → numbers_of ts
     ≡ range_with_len 0 (i + 1)

@@ -1,4 +1,4 @@
--- Seats as lanes, and what settling gives these.
+-- Seats as lanes (`as_lane`), and what settling gives these.
 use Rattle.std.proofs.Common.{◌≡◌, ◌++◌, ℕ, List, [], ◌∷◌, Some, ap, arith, get_or, map, refl, suc, subst}
 use Rattle.std.specs.List.{All, slice_get}
 use Rattle.std.proofs.lemmas.Option.{slice_get-get_or}
@@ -17,7 +17,7 @@ use Rattle.hub_core.specs.Serving.{numbered_rows}
 use Rattle.lane_core.proofs.ListFacts.{get_back, get_map}
 use Rattle.hub_core.proofs.ServedAreRead.{rows_read}
 use Rattle.element_core.specs.Terms.{Terms}
-use Rattle.hub_core.proofs.PartsAreAState.{all_at}
+use Rattle.hub_core.proofs.ListFacts.{all_at}
 
 abbrev pub a_lane : ℕ → List (List ℕ) → List Plain → Lane
 a_lane n rows xs = record { number = n; rows = rows; polled = xs }

@@ -1,4 +1,4 @@
--- What a worker has taken, once a delivery is in its hand.
+-- What a worker has taken, once a delivery is in its hand: for `Hub::work`.
 use Rattle.std.proofs.Common.{◌≡◌, ◌++◌, ◌∷◌, ◌∙◌, [], None, Option, Some, ap, append-nil, option_to_list, sym}
 use Rattle.lane_core.specs.declared.job.Plain.{Plain}
 use Rattle.hub_core.specs.declared.rule.Trace.{Trace}

@@ -4,12 +4,10 @@ ghost use Rattle.std.specs.List.{list_all};
 ghost use Rattle.std.specs.Vec.Iter.{into_iter_len};
 ghost use Rattle.hub_core.specs.Feeds.{GivenAtFirst, GivenAtLast};
 
+use crate::shape::MOST_SEATS;
 use scan_core::Runs;
 use std::alloc::{AllocError, Global};
 use std::vec::IntoIter;
-
-/// The most lanes.
-const MOST_LANES: u8 = 16;
 
 /// Rows of each lane in their order, of which the first were given, the lanes in turn.
 #[derive(Drop)]
@@ -68,7 +66,7 @@ impl Feeds {
         ensures row { TakesRow (rests_of self.old) result (rests_of self.new) }
         ensures left { result ≡ None → NoneIsLeft first 16 (rests_of self.old) }
     {
-        for lane in first..MOST_LANES {
+        for lane in first..MOST_SEATS {
             if let Some(row) = self.next_of_lane(lane) {
                 self.turn = lane + 1;
                 return Some(row);

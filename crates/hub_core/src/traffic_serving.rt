@@ -22,7 +22,7 @@ use crate::hub::Hub;
 use crate::lane_seat::LaneSeat;
 use crate::pace::Pace;
 use crate::parts::Parts;
-use crate::shape::Shape;
+use crate::shape::{MOST_SEATS, Shape};
 use crate::signals::Signals;
 use crate::traffic::Traffic;
 use crate::worker_seat::WorkerSeat;
@@ -33,11 +33,8 @@ use std::snapshot::Snapshot;
 use std::sync::Wait;
 use std::thread::Threads;
 
-/// What each queue and each ring holds.
+/// What each queue and each ring holds. `shape_for` in specs/ has the same number.
 const CAPACITY: u16 = 64;
-
-/// How many workers' seats a hub has at most.
-const MOST_WORKERS: u8 = 16;
 
 /// A hub whose queues and rings hold 64, with as many tickets a lane as there are.
 fn new_hub<R: Wait>(
@@ -202,7 +199,7 @@ fn finish_all<R: Wait>(rt: &R, alloc: Global, hub: Hub, seats: Seats, room: Vec<
 
 /// Serves a traffic that has given nothing: the calling thread submits its rows, collects, hands and
 /// brings their deliveries, and this many workers read them beside each other, each row once the gate has
-/// let its ticket pass.
+/// let its ticket pass. A row that the calling thread reads, if the traffic lets it, passes no gate.
 ///
 /// `NoThread` says that a thread could not be started, `NoMemory` that the hub or its threads were refused
 /// memory: the traffic has given nothing then, and is given back as it was.
@@ -222,7 +219,7 @@ pub fn serve_traffic<R: Threads + Wait + Sync, G: Gate + Sync, T: Traffic + Drop
     ensures refused { IfErr result (λ e. e.fault ≢ ServeFault.BadCount) }
     ensures untouched { IfErr result (λ e. e.input ≡ traffic) }
 {
-    let has_own = traffic.lets_caller_read() && workers < MOST_WORKERS;
+    let has_own = traffic.lets_caller_read() && workers < MOST_SEATS;
     let Ok(room) = Vec::with_capacity(alloc, usize::from(lanes)) else {
         return Err(NotBegun::new(ServeFault::NoMemory, traffic));
     };

@@ -1,11 +1,11 @@
--- What there is of a number that becomes its lane's next.
+-- What there is of a number that becomes its lane's next: for `slot_of` and `take_next`.
 use Rattle.std.proofs.Common.{◌≡◌, ℕ, ◌<◌, ◌^◌, ◌==◌, ◌&&◌, ◌||◌, nat_lt, Bool, true, false, List, [], Some, None, refl, sym, ap, ◌∙◌, arith}
 use Rattle.std.proofs.lemmas.Bool.Decides.{nat_tests}
 use Rattle.std.specs.List.{list_any}
 use Rattle.std.specs.Map.{lookup, remove_entry, values_of}
 use Rattle.std.specs.Option.{is_some}
 use Rattle.std.specs.Set.{remove_key}
-use Rattle.std.proofs.lemmas.Bool.{and_parts, eqb-true}
+use Rattle.std.proofs.lemmas.Bool.{and_parts, eqb-true, or_left}
 use Rattle.lane_core.specs.declared.next_slot.NextSlot.TheVariants.{Here, Missing, Out}
 use Rattle.lane_core.specs.declared.job.Plain.{Plain}
 use Rattle.lane_core.specs.declared.ticket.Ticket.{Ticket}
@@ -13,10 +13,7 @@ use Rattle.lane_core.specs.ReorderBuffer.{is_known}
 use Rattle.lane_core.specs.inner.NextSlots.{Advances, AreIndexed, is_tied}
 use Rattle.lane_core.specs.Tickets.{is_among, is_ticket_of}
 use Rattle.lane_core.proofs.TicketLookup.{Finds, any_finds, found_among, found_ticket, gone_known, gone_more, gone_tied}
-
-none_come : (a b : Bool) → ((a && false) || b) ≡ b
-none_come true b = refl
-none_come false b = refl
+use Rattle.lane_core.proofs.TruthFacts.{and_false_or}
 
 -- there are no later numbers
 pub none_later : (l k : ℕ) (es : List (Ticket × Plain)) (ks : List Ticket) → AreIndexed es ks → ks ≡ [] → Advances l k es ks es ks Missing
@@ -24,7 +21,7 @@ none_later l k es ks indexed none = record {
   own = tt;
   indexed = indexed;
   waiting = λ h. omega arith;
-  same = λ m n. none_come ((l == m) && (k == n)) (is_known m n ks);
+  same = λ m n. and_false_or ((l == m) && (k == n)) (is_known m n ks);
   gone = λ small. ap (is_known l k) none;
 }
 
@@ -70,10 +67,6 @@ module _ (test : Ticket → Bool) (l k : ℕ) (finds : Finds test l k) (es : Lis
     gone = λ small. is_gone;
   }
 
-  or_first : (a b : Bool) → a ≡ true → (a || b) ≡ true
-  or_first true b e = refl
-  or_first false b e = absurd (cc)
-
   -- it waits
   pub was_here : (x : Plain) → lookup test es ≡ Some x → lookup test (remove_entry test es) ≡ None → k < 2 ^ 32
       → Advances l k es ks (remove_entry test es) (remove_key test ks) (Here x)
@@ -84,7 +77,7 @@ module _ (test : Ticket → Bool) (l k : ℕ) (finds : Finds test l k) (es : Lis
         indexed = record {
           tied = gone_tied test es indexed.tied;
           among = still_known (remove_entry test es) (λ m n is. more.among m n
-              ∙ or_first (is_among m n (values_of (remove_entry test es))) (is_ticket_of m n x) is)
+              ∙ or_left (is_among m n (values_of (remove_entry test es))) (is_ticket_of m n x) is)
               (sym (found_among test l k finds (remove_entry test es) (gone_tied test es indexed.tied)) ∙ ap (λ o. is_some o) none);
         };
         waiting = λ h. let w = more.weight h in omega arith;

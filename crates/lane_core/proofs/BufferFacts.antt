@@ -1,7 +1,6 @@
--- How a deliverer's buffer changes with what the deliverer keeps.
+-- How a deliverer's buffer changes with what the deliverer keeps: for each call of `Deliverer`.
 use Rattle.std.proofs.Common.{◌≡◌, ◌≢◌, ℕ, ◌+◌, ◌<◌, ◌^◌, ◌==◌, ◌&&◌, ◌||◌, not, nat_lt, Bool, true, false, List, [], ◌∷◌, ◌++◌, length, replicate, set, get_or, zero, suc, ⊎_elim, refl, sym, ap, ◌∙◌, subst, arith}
 use Rattle.std.specs.Map.{values_of}
-use Rattle.std.proofs.lemmas.Bool.Decides.{nat_tests}
 use Rattle.std.proofs.lemmas.Grind.{get_or-set_at}
 use Rattle.std.proofs.lemmas.List.{get_or-set_other, length-set}
 use Rattle.std.proofs.lemmas.List.Folds.{list_any-append}
@@ -16,14 +15,9 @@ use Rattle.lane_core.specs.ReorderBuffer.{GivesAny, GivesNext, TakesIn, buffer, 
 use Rattle.lane_core.specs.inner.NextSlots.{Advances, AreIndexed, AreKept, IsSlotOf, are_tied, has_come, slot_at}
 use Rattle.lane_core.specs.NextSlots.{come_tickets, buffer_by_slots, waiting_at, waiting_of}
 use Rattle.lane_core.specs.Tickets.{is_among, is_ticket_of}
-use Rattle.lane_core.proofs.TicketLookup.{MoreBy, or_assoc}
+use Rattle.lane_core.proofs.TicketLookup.{MoreBy}
 use Rattle.lane_core.proofs.SlotFacts.{own_parts, set_sum}
-use Rattle.lane_core.proofs.WeightFacts.{eq_self}
-
-pub or_parts : (a b c : Bool) → (a || b || c) ≡ false → (a ≡ false) × (b ≡ false) × (c ≡ false)
-or_parts true b c e = absurd (cc)
-or_parts false true c e = absurd (cc)
-or_parts false false c e = (refl, refl, e)
+use Rattle.lane_core.proofs.TruthFacts.{eq_self, or_assoc, or_three_parts, and_false, below_next, or_of_three_with, or_of_three_and, or_of_two_and, or_false}
 
 -- whether lane l's number k was taken in: it is below the lane's next number, or is that and has come, or is a later one that is known
 abbrev took_in : List ℕ → List NextSlot → List Ticket → ℕ → ℕ → Bool
@@ -35,10 +29,6 @@ none_below b (n ∷ ns) [] m k less = refl
 none_below b (n ∷ ns) (Missing ∷ hs) m k less = none_below (suc b) ns hs m k (omega arith)
 none_below b (n ∷ ns) (Here x ∷ hs) m k less = (λ i. (ne_eqb b m (λ e. absurd (omega arith)) i && (n == k)) || none_below (suc b) ns hs m k (omega arith) i)
 none_below b (n ∷ ns) (Out ∷ hs) m k less = (λ i. (ne_eqb b m (λ e. absurd (omega arith)) i && (n == k)) || none_below (suc b) ns hs m k (omega arith) i)
-
-and_false : (b : Bool) → (b && false) ≡ false
-and_false true = refl
-and_false false = refl
 
 -- of the first lane, where no later one has the ticket
 this_lane : (b m : ℕ) (c rest : Bool) → m ≡ b → rest ≡ false → (((b == m) && c) || rest) ≡ (c && true)
@@ -110,23 +100,8 @@ none_come Out e h = absurd (cc)
 not_come : (nexts : List ℕ) (hs : List NextSlot) (ks : List Ticket) (l : ℕ) → took_in nexts hs ks l (get_or nexts l 0) ≡ false → has_come (slot_at hs l) ≡ false
 not_come nexts hs ks l fresh =
     let n = get_or nexts l 0 in
-    let p = (or_parts (nat_lt n n) ((n == n) && has_come (slot_at hs l)) (is_known l n ks) fresh).1 in
+    let p = (or_three_parts (nat_lt n n) ((n == n) && has_come (slot_at hs l)) (is_known l n ks) fresh).1 in
     sym (ap (λ b. b && has_come (slot_at hs l)) (eq_self n)) ∙ p
-
-come_in : (a e k t come : Bool) → come ≡ false → t ≡ e → (a || (e && true) || k) ≡ ((a || (e && come) || k) || t)
-come_in true e k t come c s = refl
-come_in false true k t false c s = sym (or_true k t s)
-  where
-    or_true : (k t : Bool) → t ≡ true → (k || t) ≡ true
-    or_true true t s = refl
-    or_true false t s = s
-come_in false false true t false c s = refl
-come_in false false false t false c s = sym s
-come_in false e k t true c s = absurd (cc)
-
-or_none : (a b : Bool) → b ≡ false → a ≡ (a || b)
-or_none true b e = refl
-or_none false b e = sym e
 
 -- a delivery came that is its lane's next number
 pub took_next : (nexts : List ℕ) (hs : List NextSlot) (es : List (Ticket × Plain)) (ks : List Ticket) (l : ℕ) (x : Plain)
@@ -154,20 +129,14 @@ took_next nexts hs es ks l x kept low lane number fresh =
           ∙ (ap (λ b. b && (n == k)) (eq_self l) ∙ ap (λ j. get_or nexts j 0 == k) (sym e))) in
           ap (λ b. nat_lt k (get_or nexts m 0) || ((get_or nexts m 0 == k) && b) || is_known m k ks)
           (ap (λ j. has_come (slot_at (set hs l (Here x)) j)) e ∙ ap has_come (slot_set hs l (Here x) there))
-          ∙ come_in (nat_lt k (get_or nexts m 0)) (get_or nexts m 0 == k) (is_known m k ks) (is_ticket_of m k x) (has_come (slot_at hs m))
+          ∙ or_of_three_with (nat_lt k (get_or nexts m 0)) (get_or nexts m 0 == k) (is_known m k ks) (is_ticket_of m k x) (has_come (slot_at hs m))
           (ap (λ j. has_come (slot_at hs j)) e ∙ none) same)
           (λ (other : m ≢ l).
           ap (λ (a : NextSlot). nat_lt k (get_or nexts m 0) || ((get_or nexts m 0 == k) && has_come a) || is_known m k ks) (slot_other hs l m (Here x) other)
-          ∙ or_none (took_in nexts hs ks m k) (is_ticket_of m k x) (ap (λ b. b && (x.number == k)) (ne_eqb x.lane m (λ e. other (sym e ∙ lane)))))
+          ∙ sym (or_false (took_in nexts hs ks m k) (is_ticket_of m k x) (ap (λ b. b && (x.number == k)) (ne_eqb x.lane m (λ e. other (sym e ∙ lane))))))
           (cases_eq m l)
           ∙ ap (λ b. b || is_ticket_of m k x) (sym (was_is nexts hs es ks kept.lanes m k)));
     }
-
-last_in : (a b k t : Bool) → (a || b || (k || t)) ≡ ((a || b || k) || t)
-last_in true b k t = refl
-last_in false true k t = refl
-last_in false false true t = refl
-last_in false false false t = refl
 
 -- a delivery came that is a later number
 pub took_later : (nexts : List ℕ) (hs : List NextSlot) (es fs : List (Ticket × Plain)) (ks ts : List Ticket) (x : Plain)
@@ -187,7 +156,7 @@ took_later nexts hs es fs ks ts x long low fresh more known = record {
       let next = (get_or nexts l 0 == k) && has_come (slot_at hs l) in
       was_is nexts hs fs ts long l k
       ∙ (ap (λ b. given || next || b) (known l k)
-      ∙ (last_in given next (is_known l k ks) (is_ticket_of l k x)
+      ∙ (or_of_three_and given next (is_known l k ks) (is_ticket_of l k x)
       ∙ ap (λ b. b || is_ticket_of l k x) (sym (was_is nexts hs es ks long l k))));
 }
 
@@ -209,14 +178,6 @@ kept_later nexts hs es fs ks ts x kept later more tied known = record {
       let p = and_parts (x.lane == l) (x.number == get_or nexts l 0) e in
       later (eqb-true x.number (get_or nexts l 0) p.1 ∙ ap (λ j. get_or nexts j 0) (sym (eqb-true x.lane l p.0)))) i);
 }
-
-one_more : (n k : ℕ) → nat_lt k (n + 1) ≡ (nat_lt k n || (n == k))
-one_more n k = grind (arith, nat_tests)
-
-next_in : (a e k : Bool) → ((a || e) || k) ≡ (a || (e && true) || k)
-next_in true e k = refl
-next_in false true k = refl
-next_in false false k = refl
 
 -- lane l was given its next number, and what there is of the number after it is known as much as it was
 pub gave : (nexts : List ℕ) (hs : List NextSlot) (es fs : List (Ticket × Plain)) (ks ts : List Ticket) (l : ℕ) (x : Plain) (a : NextSlot)
@@ -251,8 +212,8 @@ gave nexts hs es fs ks ts l x a low lanes here own weight same others =
             ((λ i. nat_lt k (get_or-set_at nexts l l (n + 1) 0 refl low i) ||
             ((get_or-set_at nexts l l (n + 1) 0 refl low i == k) && has_come (slot_set (set hs l Missing) l a there' i)) || is_known l k ts)
             ∙ (sym (or_assoc (nat_lt k (n + 1)) ((n + 1 == k) && has_come a) (is_known l k ts)) ∙ ap (λ b. nat_lt k (n + 1) || b) (same k)
-            ∙ (ap (λ b. b || is_known l k ks) (one_more n k)
-            ∙ (next_in (nat_lt k n) (n == k) (is_known l k ks)
+            ∙ (ap (λ b. b || is_known l k ks) (below_next n k)
+            ∙ (or_of_two_and (nat_lt k n) (n == k) (is_known l k ks)
             ∙ ap (λ (b : NextSlot). nat_lt k n || ((n == k) && has_come b) || is_known l k ks) (sym here))))))
             (λ (other : m ≢ l).
             (λ i. nat_lt k (get_or-set_other nexts l m (n + 1) 0 other i) ||
@@ -347,7 +308,7 @@ took_slot nexts hs es ks l x long low here = record {
 pub not_known : (nexts : List ℕ) (hs : List NextSlot) (es : List (Ticket × Plain)) (ks : List Ticket) (l k : ℕ) → length hs ≡ length nexts
     → was_taken (buffer_by_slots nexts hs es ks) l k ≡ false → is_known l k ks ≡ false
 not_known nexts hs es ks l k long fresh =
-    (or_parts (nat_lt k (get_or nexts l 0)) ((get_or nexts l 0 == k) && has_come (slot_at hs l)) (is_known l k ks)
+    (or_three_parts (nat_lt k (get_or nexts l 0)) ((get_or nexts l 0 == k) && has_come (slot_at hs l)) (is_known l k ks)
     (sym (was_is nexts hs es ks long l k) ∙ fresh)).2
 
 pub not_later : (es : List (Ticket × Plain)) (ks : List Ticket) (l k : ℕ) → AreIndexed es ks → is_known l k ks ≡ false → is_among l k (values_of es) ≡ false

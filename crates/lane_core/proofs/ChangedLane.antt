@@ -1,25 +1,14 @@
--- What there is of a lane, after a lane was changed.
-use Rattle.std.proofs.Common.{◌≡◌, ◌≢◌, ⊎_elim, ℕ, zero, suc, List, [], ◌∷◌, set, Some, refl, sym, ap, ◌∙◌}
+-- What there is of a lane, after a lane was changed: of the machine's states.
+use Rattle.std.proofs.Common.{◌≡◌, ◌≢◌, ⊎_elim, ℕ, List, set, Some, sym, ap, ◌∙◌}
 use Rattle.std.specs.List.{slice_get}
 use Rattle.std.proofs.lemmas.Bool.{cases_eq}
 use Rattle.lane_core.specs.Machine.{LaneState, of_lane}
-
-pub get_here : {X : Type 0} (xs : List X) (l : ℕ) (x v : X) → slice_get xs l ≡ Some v → slice_get (set xs l x) l ≡ Some x
-get_here [] l x v e = absurd (cc)
-get_here (y ∷ ys) zero x v e = refl
-get_here (y ∷ ys) (suc l) x v e = get_here ys l x v e
-
-pub get_else : {X : Type 0} (xs : List X) (l k : ℕ) (x : X) → k ≢ l → slice_get (set xs l x) k ≡ slice_get xs k
-get_else [] l k x apart = refl
-get_else (y ∷ ys) zero zero x apart = absurd (apart refl)
-get_else (y ∷ ys) zero (suc k) x apart = refl
-get_else (y ∷ ys) (suc l) zero x apart = refl
-get_else (y ∷ ys) (suc l) (suc k) x apart = get_else ys l k x (λ h. apart (ap suc h))
+use Rattle.lane_core.proofs.ListFacts.{get_set_here, get_set_else}
 
 -- of the lane that was changed, and of another
 pub lane_here : {X : Type 0} (d : X) (f : LaneState → X) (vs : List LaneState) (l m : ℕ) (v w : LaneState) → slice_get vs l ≡ Some v → m ≡ l
     → of_lane d f (slice_get (set vs l w) m) ≡ f w
-lane_here d f vs l m v w at e = ap (λ j. of_lane d f (slice_get (set vs l w) j)) e ∙ ap (of_lane d f) (get_here vs l w v at)
+lane_here d f vs l m v w at e = ap (λ j. of_lane d f (slice_get (set vs l w) j)) e ∙ ap (of_lane d f) (get_set_here vs l w v at)
 
 pub lane_was : {X : Type 0} (d : X) (f : LaneState → X) (vs : List LaneState) (l m : ℕ) (v : LaneState) → slice_get vs l ≡ Some v → m ≡ l
     → of_lane d f (slice_get vs m) ≡ f v
@@ -27,7 +16,7 @@ lane_was d f vs l m v at e = ap (λ j. of_lane d f (slice_get vs j)) e ∙ ap (o
 
 pub lane_else : {X : Type 0} (d : X) (f : LaneState → X) (vs : List LaneState) (l m : ℕ) (w : LaneState) → m ≢ l → of_lane d f (slice_get (set vs l w) m)
     ≡ of_lane d f (slice_get vs m)
-lane_else d f vs l m w apart = ap (of_lane d f) (get_else vs l m w apart)
+lane_else d f vs l m w apart = ap (of_lane d f) (get_set_else vs l m w apart)
 
 -- of any lane, where that was not changed
 pub lane_kept : {X : Type 0} (d : X) (f : LaneState → X) (vs : List LaneState) (l m : ℕ) (v w : LaneState) → slice_get vs l ≡ Some v → f w ≡ f v

@@ -1,8 +1,7 @@
--- What lanes are given of all that was found.
-use Rattle.std.proofs.Common.{◌≡◌, ◌⊎◌, inl, inr, ⊎_elim, ℕ, ◌+◌, ◌≤◌, ◌==◌, ◌&&◌, not, nat_lt, cond, Bool, true, false, zero, suc, List, [], ◌∷◌, ◌++◌, length, Some, refl, sym, ap, ◌∙◌, arith}
+-- What lanes are given of all that was found: the laws `received_first` and `claims_settle`.
+use Rattle.std.proofs.Common.{◌≡◌, ⊎_elim, ℕ, ◌+◌, ◌≤◌, ◌==◌, not, nat_lt, cond, true, false, suc, List, [], ◌∷◌, ◌++◌, length, Some, refl, sym, ap, ◌∙◌, arith}
 use Rattle.std.specs.List.{slice_get, list_all, sum_by, count_by}
 use Rattle.std.specs.Prelude.{take}
-use Rattle.std.proofs.lemmas.Bool.Decides.{nat_tests}
 use Rattle.std.proofs.lemmas.List.Sums.{sum_by-append, sum_by-cons}
 use Rattle.std.proofs.lemmas.Bool.{and_parts, eqb-true}
 use Rattle.lane_core.specs.declared.job.Plain.{Plain}
@@ -10,16 +9,9 @@ use Rattle.lane_core.specs.Settling.{Account, AreNumbered, Claim, EachLaneOnce, 
 use Rattle.lane_core.specs.Tickets.{numbered}
 use Rattle.lane_core.specs.Weights.{once}
 use Rattle.lane_core.proofs.SameFacts.{is_same, same_from, same_self}
-use Rattle.lane_core.proofs.SettlingFacts.{only}
-use Rattle.lane_core.proofs.SiftFacts.{later, other_lane, own_lane}
-use Rattle.lane_core.proofs.WeightFacts.{eq_self, true_from}
-
-here_or_there : (b : Bool) (n : ℕ) → 1 ≤ once b + n → (b ≡ true) ⊎ (1 ≤ n)
-here_or_there true n e = inl refl
-here_or_there false n e = inr (omega arith)
-
-not_less : (m n : ℕ) → not (nat_lt m n) ≡ true → n ≤ m
-not_less m n e = grind (arith, nat_tests)
+use Rattle.lane_core.proofs.TruthFacts.{eq_self, true_from_once, here_or_there, not_less, zero_or_some, cond_none}
+use Rattle.lane_core.proofs.WeightFacts.{sum_rest, sum_rest_le, sum_ones, sum_picked}
+use Rattle.lane_core.proofs.TicketFacts.{later, sum_of_other_lane, sum_of_own_lane, numbered_parts}
 
 -- the first of a rising list is least
 least : (x g : Plain) (gs : List Plain) → rises (g ∷ gs) ≡ true → 1 ≤ count_by (λ z. is_same x z) gs → g.number ≤ x.number
@@ -37,18 +29,14 @@ tail_rises : (g : Plain) (gs : List Plain) → rises (g ∷ gs) ≡ true → ris
 tail_rises g [] e = refl
 tail_rises g (y ∷ ys) e = (and_parts (not (nat_lt y.number g.number)) (rises (y ∷ ys)) e).1
 
-cancel : (h : Plain → ℕ) (x y : Plain) (xs ys : List Plain) → x ≡ y → sum_by h (x ∷ xs) ≡ sum_by h (y ∷ ys) → sum_by h xs ≡ sum_by h ys
-cancel h x y xs ys e same = let f = ap h e in omega (arith, sum_by-cons h x xs, sum_by-cons h y ys)
-
 -- a rising list with the items of a lane's numbers is that list
 rising_whole : (l n : ℕ) (xs ys : List Plain) → numbered l n xs ≡ true → rises ys ≡ true → ((h : Plain → ℕ) → sum_by h xs ≡ sum_by h ys) → ys ≡ xs
 rising_whole l n [] [] a up same = refl
 rising_whole l n [] (y ∷ ys) a up same = absurd (let e = same (λ _. 1) in omega (arith, sum_by-cons (λ _. 1) y ys))
 rising_whole l n (x ∷ xs) [] a up same = absurd (let e = same (λ _. 1) in omega (arith, sum_by-cons (λ _. 1) x xs))
 rising_whole l n (x ∷ xs) (y ∷ ys) a up same =
-    let s = and_parts (x.lane == l) ((x.number == n) && numbered l (suc n) xs) a in
-    let t = and_parts (x.number == n) (numbered l (suc n) xs) s.1 in
-    let at = eqb-true x.number n t.0 in
+    let p = numbered_parts l n x xs a in
+    let at = p.number in
     let self : once (is_same x x) ≡ 1 = ap once (same_self x) in
     let x_there = same (λ z. once (is_same x z)) in
     let x_left = sum_by-cons (λ z. once (is_same x z)) x xs in
@@ -61,9 +49,9 @@ rising_whole l n (x ∷ xs) (y ∷ ys) a up same =
     let y_there = same (λ z. once (is_same y z)) in
     let y_left = sum_by-cons (λ z. once (is_same y z)) x xs in
     let y_right = sum_by-cons (λ z. once (is_same y z)) y ys in
-    let none = later l (suc n) y xs t.1 (omega arith) in
-    let first : y ≡ x = same_from y x (true_from (is_same y x) (omega arith)) in
-    let rest = rising_whole l (suc n) xs ys t.1 (tail_rises y ys up) (λ h. cancel h x y xs ys (sym first) (same h)) in
+    let none = later l (suc n) y xs p.rest (omega arith) in
+    let first : y ≡ x = same_from y x (true_from_once (is_same y x) (omega arith)) in
+    let rest = rising_whole l (suc n) xs ys p.rest (tail_rises y ys up) (λ h. sum_rest h x y xs ys (sym first) (same h)) in
     λ i. first i ∷ rest i
 
 -- two lists of a lane's numbers begin alike, where the first of the one is in the other
@@ -72,13 +60,11 @@ begin_alike : (l n : ℕ) (x p : Plain) (xs ps : List Plain) → numbered l n (x
     → (p ≡ x) × (numbered l (suc n) xs ≡ true) × (numbered l (suc n) ps ≡ true)
 begin_alike l n x p xs ps a b there =
     let count = sum_by-cons (λ z. once (is_same p z)) x xs in
-    let s = and_parts (x.lane == l) ((x.number == n) && numbered l (suc n) xs) a in
-    let t = and_parts (x.number == n) (numbered l (suc n) xs) s.1 in
-    let u = and_parts (p.lane == l) ((p.number == n) && numbered l (suc n) ps) b in
-    let v = and_parts (p.number == n) (numbered l (suc n) ps) u.1 in
-    let at = eqb-true p.number n v.0 in
-    let none = later l (suc n) p xs t.1 (omega arith) in
-    (same_from p x (true_from (is_same p x) (omega arith)), t.1, v.1)
+    let all = numbered_parts l n x xs a in
+    let front = numbered_parts l n p ps b in
+    let at = front.number in
+    let none = later l (suc n) p xs all.rest (omega arith) in
+    (same_from p x (true_from_once (is_same p x) (omega arith)), all.rest, front.rest)
 
 -- a lane's numbers that were polled, and the rest of them
 front_and_rest : (l n : ℕ) (xs ps ys : List Plain) → numbered l n xs ≡ true → numbered l n ps ≡ true → rises ys ≡ true
@@ -89,11 +75,8 @@ front_and_rest l n (x ∷ xs) (p ∷ ps) ys a b up same =
     let self : once (is_same p p) ≡ 1 = ap once (same_self p) in
     let there = same (λ z. once (is_same p z)) in
     let h = begin_alike l n x p xs ps a b (omega (arith, sum_by-cons (λ z. once (is_same p z)) p (ps ++ ys))) in
-    let rest = front_and_rest l (suc n) xs ps ys h.1 h.2 up (λ g. cancel g x p xs (ps ++ ys) (sym h.0) (same g)) in
+    let rest = front_and_rest l (suc n) xs ps ys h.1 h.2 up (λ g. sum_rest g x p xs (ps ++ ys) (sym h.0) (same g)) in
     λ i. h.0 i ∷ rest i
-
-less_left : (h : Plain → ℕ) (x y : Plain) (xs ys : List Plain) → x ≡ y → sum_by h (x ∷ xs) ≤ sum_by h (y ∷ ys) → sum_by h xs ≤ sum_by h ys
-less_left h x y xs ys e less = let f = ap h e in omega (arith, sum_by-cons h x xs, sum_by-cons h y ys)
 
 -- a lane's numbers among its numbers are the first of them
 first_of : (l n : ℕ) (xs ps : List Plain) → numbered l n xs ≡ true → numbered l n ps ≡ true → ((h : Plain → ℕ) → sum_by h ps ≤ sum_by h xs)
@@ -104,7 +87,7 @@ first_of l n (x ∷ xs) (p ∷ ps) a b less =
     let self : once (is_same p p) ≡ 1 = ap once (same_self p) in
     let there = less (λ z. once (is_same p z)) in
     let h = begin_alike l n x p xs ps a b (omega (arith, sum_by-cons (λ z. once (is_same p z)) p ps)) in
-    let rest = first_of l (suc n) xs ps h.1 h.2 (λ g. less_left g p x ps xs h.0 (less g)) in
+    let rest = first_of l (suc n) xs ps h.1 h.2 (λ g. sum_rest_le g p x ps xs h.0 (less g)) in
     λ i. sym h.0 i ∷ rest i
 
 pub received_first : (accounts : List Account) → AreNumbered accounts
@@ -114,11 +97,11 @@ pub received_first : (accounts : List Account) → AreNumbered accounts
 received_first accounts out back one less i a e =
     first_of a.lane 0 a.submitted a.received (out i a e) (back i a e) (λ h.
     let cut : Plain → ℕ = λ x. cond (x.lane == a.lane) (h x) 0 in
-    let p = only (λ (u : Account). sum_by cut u.submitted) (λ (u : Account). u.lane == a.lane) accounts i a e
-    (λ j u e' no. other_lane a.lane u.lane 0 h u.submitted (out j u e') no) (one a.lane) (eq_self a.lane) in
-    let q = only (λ (u : Account). sum_by cut u.received) (λ (u : Account). u.lane == a.lane) accounts i a e
-    (λ j u e' no. other_lane a.lane u.lane 0 h u.received (back j u e') no) (one a.lane) (eq_self a.lane) in
-    omega (arith, p, q, own_lane a.lane 0 h a.submitted (out i a e), own_lane a.lane 0 h a.received (back i a e), less cut))
+    let p = sum_picked (λ (u : Account). sum_by cut u.submitted) (λ (u : Account). u.lane == a.lane) accounts i a e
+    (λ j u e' no. sum_of_other_lane a.lane u.lane 0 h u.submitted (out j u e') no) (one a.lane) (eq_self a.lane) in
+    let q = sum_picked (λ (u : Account). sum_by cut u.received) (λ (u : Account). u.lane == a.lane) accounts i a e
+    (λ j u e' no. sum_of_other_lane a.lane u.lane 0 h u.received (back j u e') no) (one a.lane) (eq_self a.lane) in
+    omega (arith, p, q, sum_of_own_lane a.lane 0 h a.submitted (out i a e), sum_of_own_lane a.lane 0 h a.received (back i a e), less cut))
 
 -- what is one lane's has no sum for the test of another
 other_given : (l m : ℕ) (h : Plain → ℕ) (xs : List Plain) → list_all (λ (x : Plain). x.lane == m) xs ≡ true → (m == l) ≡ false
@@ -139,26 +122,14 @@ own_given l h (x ∷ xs) e =
     let here : cond (x.lane == l) (h x) 0 ≡ h x = ap (λ b. cond b (h x) 0) s.0 in
     omega (arith, sum_by-cons (λ (y : Plain). cond (y.lane == l) (h y) 0) x xs, sum_by-cons h x xs)
 
-pub none_by : (b : Bool) (c n m : ℕ) → once b + n ≡ 0 → (n ≡ 0 → m ≡ 0) → cond b c 0 + m ≡ 0
-none_by true c n m e f = absurd (omega arith)
-none_by false c n m e f = let z = f (omega arith) in omega arith
-
 -- where no item passes the test, those that do have no sum
 none_counted : (l : ℕ) (h : Plain → ℕ) (xs : List Plain) → count_by (λ x. x.lane == l) xs ≡ 0 → sum_by (λ x. cond (x.lane == l) (h x) 0) xs ≡ 0
 none_counted l h [] e = refl
 none_counted l h (x ∷ xs) e =
     let count = sum_by-cons (λ (y : Plain). once (y.lane == l)) x xs in
-    let here = none_by (x.lane == l) (h x) (count_by (λ (y : Plain). y.lane == l) xs) (sum_by (λ (y : Plain). cond (y.lane == l) (h y) 0) xs) (omega arith)
+    let here = cond_none (x.lane == l) (h x) (count_by (λ (y : Plain). y.lane == l) xs) (sum_by (λ (y : Plain). cond (y.lane == l) (h y) 0) xs) (omega arith)
     (λ f. none_counted l h xs f) in
     omega (arith, sum_by-cons (λ (y : Plain). cond (y.lane == l) (h y) 0) x xs)
-
-sum_ones : (xs : List Plain) → sum_by (λ _. 1) xs ≡ length xs
-sum_ones [] = refl
-sum_ones (x ∷ xs) = omega (arith, sum_by-cons (λ _. 1) x xs, sum_ones xs)
-
-zero_or_some : (n : ℕ) → (n ≡ 0) ⊎ (1 ≤ n)
-zero_or_some zero = inl refl
-zero_or_some (suc n) = inr (omega arith)
 
 pub claims_settle : (claims : List Claim) (found dropped : List Plain)
     → ((i : ℕ) (c : Claim) → slice_get claims i ≡ Some c → IsClaim c × GivesDue c dropped)
@@ -170,19 +141,19 @@ claims_settle claims found dropped each one all_found all_given i c at =
     let mine = each i c at in
     let sum : (h : Plain → ℕ) → sum_by h c.submitted ≡ (sum_by h c.polled + sum_by h c.given) + sum_by (λ x. cond (x.lane == c.lane) (h x) 0) dropped = λ h.
     let cut : Plain → ℕ = λ x. cond (x.lane == c.lane) (h x) 0 in
-    let p = only (λ (u : Claim). sum_by cut u.submitted) (λ (u : Claim). u.lane == c.lane) claims i c at
-    (λ j u e no. other_lane c.lane u.lane 0 h u.submitted (each j u e).0.submitted no) (one c.lane) (eq_self c.lane) in
-    let q = only (λ (u : Claim). sum_by cut u.polled) (λ (u : Claim). u.lane == c.lane) claims i c at
-    (λ j u e no. other_lane c.lane u.lane 0 h u.polled (each j u e).0.polled no) (one c.lane) (eq_self c.lane) in
-    let r = only (λ (u : Claim). sum_by cut u.given) (λ (u : Claim). u.lane == c.lane) claims i c at
+    let p = sum_picked (λ (u : Claim). sum_by cut u.submitted) (λ (u : Claim). u.lane == c.lane) claims i c at
+    (λ j u e no. sum_of_other_lane c.lane u.lane 0 h u.submitted (each j u e).0.submitted no) (one c.lane) (eq_self c.lane) in
+    let q = sum_picked (λ (u : Claim). sum_by cut u.polled) (λ (u : Claim). u.lane == c.lane) claims i c at
+    (λ j u e no. sum_of_other_lane c.lane u.lane 0 h u.polled (each j u e).0.polled no) (one c.lane) (eq_self c.lane) in
+    let r = sum_picked (λ (u : Claim). sum_by cut u.given) (λ (u : Claim). u.lane == c.lane) claims i c at
     (λ j u e no. other_given c.lane u.lane h u.given (each j u e).0.own no) (one c.lane) (eq_self c.lane) in
     omega (
       arith,
       p,
       q,
       r,
-      own_lane c.lane 0 h c.submitted mine.0.submitted,
-      own_lane c.lane 0 h c.polled mine.0.polled,
+      sum_of_own_lane c.lane 0 h c.submitted mine.0.submitted,
+      sum_of_own_lane c.lane 0 h c.polled mine.0.polled,
       own_given c.lane h c.given mine.0.own,
       all_found cut,
       all_given cut,

@@ -1,7 +1,6 @@
--- What holds of every state that a machine comes to, and that each event keeps it.
+-- What holds of every state that a machine comes to (`Good`), and that each event keeps it: `StepFacts` goes through the events.
 use Rattle.std.proofs.Common.{◌≡◌, ◌≢◌, ⊎_elim, ℕ, ◌+◌, ◌≤◌, ◌==◌, ◌&&◌, not, nat_lt, Bool, true, false, zero, suc, List, [], ◌∷◌, ◌++◌, length, length-append, set, Option, Some, None, option_to_list, refl, sym, ap, ◌∙◌, subst, arith}
 use Rattle.std.specs.List.{AllByRecursion, slice_get, sum_by}
-use Rattle.std.proofs.lemmas.Grind.{common_steps}
 use Rattle.std.proofs.lemmas.List.Sums.{sum_by-append, sum_by-le-sum_by}
 use Rattle.std.proofs.lemmas.Bool.{cases_eq, ne_eqb}
 use Rattle.lane_core.specs.declared.job.Plain.{Plain}
@@ -12,7 +11,8 @@ use Rattle.lane_core.specs.Whereabouts.{times_under_way, sum_under_way}
 use Rattle.lane_core.proofs.ChangedLane.{lane_else, lane_here, lane_kept, lane_was}
 use Rattle.lane_core.proofs.SameFacts.{is_same, same_self}
 use Rattle.lane_core.proofs.UnderWay.{times_without, under_way_more, sum_without}
-use Rattle.lane_core.proofs.WeightFacts.{eq_self, one_more, other_ticket, own_ticket}
+use Rattle.lane_core.proofs.TruthFacts.{eq_self, once_below_next, once_le, zero_below}
+use Rattle.lane_core.proofs.TicketFacts.{other_ticket, own_ticket, numbered_more}
 
 -- whether the item is the one of its number among these
 abbrev pub is_item : Plain → Option Plain → Bool
@@ -90,7 +90,7 @@ given s l v at waits good =
           let b = ap (λ j. once (nat_lt k j)) (lane_was 0 (λ u. u.handed) s.lanes l m v at e) in
           let own : once ((l == m) && (v.handed == k)) ≡ once (v.handed == k) =
           ap (λ j. once ((l == j) && (v.handed == k))) e ∙ ap (λ c. once (c && (v.handed == k))) (eq_self l) in
-          omega (arith, one_more k v.handed))
+          omega (arith, once_below_next k v.handed))
           (λ (e : m ≢ l).
           let a = ap (λ j. once (nat_lt k j)) (lane_else 0 (λ u. u.handed) s.lanes l m w e) in
           let other : once ((l == m) && (v.handed == k)) ≡ 0 = ap (λ c. once (c && (v.handed == k))) (ne_eqb l m (λ f. e (sym f))) in
@@ -111,15 +111,6 @@ given s l v at waits good =
           (state s.year s.lanes s.jobs s.workers s.results (without l v.handed s.waiting))) ∙ none;
     }
 
-pub numbered_more : (lane n : ℕ) (xs : List Plain) (x : Plain) → numbered lane n xs ≡ true → x.lane ≡ lane → x.number ≡ n + length xs
-    → numbered lane n (xs ++ x ∷ []) ≡ true
-numbered_more lane n [] x h e f = grind (arith, common_steps)
-numbered_more lane n (y ∷ xs) x h e f = let rest = numbered_more lane (suc n) xs x in grind (arith, common_steps, rest)
-
-pub once_le : (b : Bool) → once b ≤ 1
-once_le true = omega arith
-once_le false = omega arith
-
 -- an item is still there where more was submitted
 item_more : (x : Plain) (xs ys : List Plain) (k : ℕ) → once (not (is_item x (slice_get (xs ++ ys) k))) ≤ once (not (is_item x (slice_get xs k)))
 item_more x [] ys k = once_le (not (is_item x (slice_get ys k)))
@@ -131,9 +122,6 @@ last_item x [] zero e = same_self x
 last_item x [] (suc k) e = absurd (omega arith)
 last_item x (y ∷ xs) zero e = absurd (omega arith)
 last_item x (y ∷ xs) (suc k) e = last_item x xs k (omega arith)
-
-zero_of : (n m : ℕ) → n ≤ m → m ≡ 0 → n ≡ 0
-zero_of n m a b = omega arith
 
 -- where a lane submitted x
 pub added : (s : State) (l : ℕ) (v : LaneState) (x : Plain) → slice_get s.lanes l ≡ Some v → x.lane ≡ l → x.number ≡ length v.submitted → x.year ≡ s.year
@@ -166,7 +154,7 @@ added s l v x at lane number year good =
           let b = ap (λ (xs : List Plain). once (nat_lt k (length xs))) (here m e).1 in
           let own : once (is_ticket_of m k x) ≡ once (length v.submitted == k) =
           ap (λ j. once (is_ticket_of j k x)) e ∙ own_ticket l (length v.submitted) k x lane number in
-          omega (arith, one_more k (length v.submitted)))
+          omega (arith, once_below_next k (length v.submitted)))
           (λ (e : m ≢ l).
           let n = ap (λ (xs : List Plain). once (nat_lt k (length xs))) (else_ m e) in
           let other = other_ticket l m k x lane e in
@@ -194,5 +182,5 @@ added s l v x at lane number year good =
           (λ o. sum_by-le-sum_by f g (option_to_list o) still) in
           let results = sum_by-le-sum_by f g s.results still in
           let waiting = sum_by-le-sum_by f g s.waiting still in
-          zero_of (sum_under_way f t) (sum_under_way g s) (omega arith) good.own;
+          zero_below (sum_under_way f t) (sum_under_way g s) (omega arith) good.own;
     }

@@ -1,11 +1,11 @@
--- A world shows the machine's next state: a lane is handed its next number.
+-- A world shows the machine's next state: a lane is handed its next number (`World::hand`).
 use Rattle.std.proofs.Common.{◌≡◌, ◌≢◌, ⊎_elim, ℕ, ◌+◌, ◌<◌, ◌==◌, ◌&&◌, ◌||◌, not, nat_lt, cond, Bool, true, false, zero, suc, List, [], ◌∷◌, ◌++◌, length, set, get_or, Option, Some, None, refl, sym, ap, ◌∙◌, arith}
 use Rattle.std.specs.List.{slice_get, sum_by, count_by}
-use Rattle.std.specs.Option.{IfSome, is_some}
+use Rattle.std.specs.Option.{is_some}
 use Rattle.std.proofs.lemmas.Bool.Decides.{nat_tests}
 use Rattle.std.proofs.lemmas.List.Sums.{sum_by-cons}
 use Rattle.std.proofs.lemmas.List.Sorted.{sum_by-IsPermutation}
-use Rattle.std.proofs.lemmas.Bool.{and_parts, cases_eq, eqb-true}
+use Rattle.std.proofs.lemmas.Bool.{cases_eq}
 use Rattle.std.proofs.Math.Bool.{or_comm}
 use Rattle.std.proofs.lemmas.List.{map-set}
 use Rattle.lane_core.specs.declared.event.Event.TheVariants.{Hand}
@@ -22,9 +22,8 @@ use Rattle.lane_core.proofs.ListFacts.{number_at, take_more}
 use Rattle.lane_core.proofs.SameFacts.{permutation_from, same_from}
 use Rattle.lane_core.proofs.WorldShowsNext.{done, idle}
 use Rattle.lane_core.proofs.StepFacts.{reached_good}
-use Rattle.lane_core.proofs.WeightFacts.{among_from, among_times, eq_self, not_among, not_among_times}
-use Rattle.lane_core.proofs.TicketLookup.{or_assoc}
-use Rattle.lane_core.proofs.SiftFacts.{inside}
+use Rattle.lane_core.proofs.TruthFacts.{eq_self, true_from_once_not, or_assoc, or_last_to_front}
+use Rattle.lane_core.proofs.TicketFacts.{among_from, among_times, not_among, not_among_times, ticket_is, ticket_parts}
 
 -- the lane's next number is as many as it was handed
 next_is : (c : Contents) (s : State) (l : ℕ) (v : LaneState) → ShowsState c s → slice_get s.lanes l ≡ Some v → next_of c.buffer l ≡ v.handed
@@ -50,15 +49,15 @@ item_from x (Some y) e = let same = same_from x y e in λ i. Some (sym same i)
 -- what is its lane's own is what was submitted under its number
 own_from : (s : State) (x : Plain) (l n : ℕ) → once (not (is_own s x)) ≡ 0 → x.lane ≡ l → x.number ≡ n → slice_get (submitted_by s l) n ≡ Some x
 own_from s x l n own lane number =
-    (λ i. slice_get (submitted_by s (sym lane i)) (sym number i)) ∙ item_from x (slice_get (submitted_by s x.lane) x.number) (inside (is_own s x) own)
+    (λ i. slice_get (submitted_by s (sym lane i)) (sym number i)) ∙ item_from x (slice_get (submitted_by s x.lane) x.number) (true_from_once_not (is_own s x) own)
 
 first_by : (b : Bool) (s : State) (l n : ℕ) (x y : Plain) (xs : List Plain) (h : Plain → ℕ) → slice_get (submitted_by s l) n ≡ Some x → once (not (is_own s y))
     ≡ 0 → is_ticket_of l n y ≡ b → (b || is_among l n xs) ≡ true
     → (is_among l n xs ≡ true → sum_by h (without l n xs) + h x ≡ sum_by h xs)
     → sum_by h (cond b xs (y ∷ without l n xs)) + h x ≡ h y + sum_by h xs
 first_by true s l n x y xs h at own is any rest =
-    let t = and_parts (y.lane == l) (y.number == n) is in
-    let there = own_from s y l n own (eqb-true y.lane l t.0) (eqb-true y.number n t.1) in
+    let t = ticket_parts l n y is in
+    let there = own_from s y l n own t.0 t.1 in
     let both : Some x ≡ Some y = sym at ∙ there in
     let same : x ≡ y = cc in
     let weight = ap h same in omega arith
@@ -73,13 +72,6 @@ without_own s l n x (y ∷ xs) h at own any =
     let lost = sum_by-cons (λ z. once (not (is_own s z))) y xs in
     omega (arith, sum_by-cons h y xs, first_by (is_ticket_of l n y) s l n x y xs h at (omega arith) refl any (λ f. without_own s l n x xs h at (omega arith) f))
 
-ticket_is : (l n m k : ℕ) (y : Plain) → is_ticket_of l n y ≡ true → is_ticket_of m k y ≡ ((l == m) && (n == k))
-ticket_is l n m k y e =
-    let t = and_parts (y.lane == l) (y.number == n) e in
-    let a = eqb-true y.lane l t.0 in
-    let b = eqb-true y.number n t.1 in
-    λ i. (a i == m) && (b i == k)
-
 among_by : (b : Bool) (l n m k : ℕ) (y : Plain) (xs : List Plain) → is_ticket_of l n y ≡ b → (b || is_among l n xs) ≡ true
     → (is_among l n xs ≡ true → is_among m k xs ≡ (is_among m k (without l n xs) || ((l == m) && (n == k))))
     → (is_ticket_of m k y || is_among m k xs) ≡ (is_among m k (cond b xs (y ∷ without l n xs)) || ((l == m) && (n == k)))
@@ -90,13 +82,6 @@ among_by false l n m k y xs is any rest = ap (λ b. is_ticket_of m k y || b) (re
 among_without : (l n m k : ℕ) (xs : List Plain) → is_among l n xs ≡ true → is_among m k xs ≡ (is_among m k (without l n xs) || ((l == m) && (n == k)))
 among_without l n m k [] any = absurd (cc)
 among_without l n m k (y ∷ xs) any = among_by (is_ticket_of l n y) l n m k y xs refl any (λ f. among_without l n m k xs f)
-
-to_front : (a r t : Bool) → (a || (r || t)) ≡ ((a || t) || r)
-to_front true r t = refl
-to_front false true true = refl
-to_front false true false = refl
-to_front false false true = refl
-to_front false false false = refl
 
 one_more : (m l k n : ℕ) → m ≡ l → nat_lt k (n + 1) ≡ (nat_lt k n || ((l == m) && (n == k)))
 one_more m l k n e = grind (arith, nat_tests)
@@ -154,7 +139,7 @@ hand_done c l x y e at gives = λ s r shows.
           gives.leaves.known m k
           ∙ (shows.known m k
           ∙ (ap (λ b. nat_lt k (handed_of s m) || b) (among_without l v.handed m k s.waiting waits)
-          ∙ (to_front (nat_lt k (handed_of s m)) (is_among m k (without l v.handed s.waiting)) ((l == m) && (v.handed == k))
+          ∙ (or_last_to_front (nat_lt k (handed_of s m)) (is_among m k (without l v.handed s.waiting)) ((l == m) && (v.handed == k))
           ∙ ap (λ b. b || is_among m k (without l v.handed s.waiting)) (sym (below_handed s l m k v f.1)))));
     }
 
@@ -178,8 +163,3 @@ hand_enabled c l x y at next = λ s r shows.
     ap (λ o. is_some o) (ap (hand s l) f.1 ∙ (λ i. cond (waits i)
     (Some (state s.year (set s.lanes l (lane_state v.submitted v.closed v.polled (v.handed + 1))) s.jobs s.workers s.results
     (without l v.handed s.waiting))) None))
-
--- of a result that is none, and of one that is there
-pub if_some : {X : Type 0} (o : Option X) (P : X → Type 0) → is_some o ≡ true → IfSome o P → (x : X) × P x
-if_some None P e h = absurd (cc)
-if_some (Some x) P e h = (x, h)

@@ -1,11 +1,11 @@
--- The lanes of a world by their places.
+-- The lanes of a world by their places: for each call of `World`.
 use Rattle.std.proofs.Common.{◌≡◌, ℕ, ◌<◌, List, map, length, length-set, get_or, set, Some, sym, ap, ◌∙◌}
 use Rattle.std.specs.List.{slice_get}
-use Rattle.std.proofs.lemmas.List.{map-set}
+use Rattle.std.proofs.lemmas.List.{map-set, length-map}
 use Rattle.lane_core.specs.declared.lane.Lane.{Lane}
 use Rattle.lane_core.specs.Contents.{LaneContents}
 use Rattle.lane_core.specs.Holding.{lane_held}
-use Rattle.lane_core.proofs.ListFacts.{get_map, length_map, placed, set_same}
+use Rattle.lane_core.proofs.ListFacts.{get_map, placed, set_same}
 
 pub lane_at : (lanes : List Lane) (i : ℕ) (x : Lane) → i < length lanes → x ≡ get_or lanes i x → slice_get (map lane_held lanes) i ≡ Some (lane_held x)
 lane_at lanes i x less is = get_map lane_held lanes i x (placed lanes i x less is)
@@ -15,7 +15,7 @@ pub same_lane : (lanes : List Lane) (i : ℕ) (x y : Lane) → i < length lanes 
 same_lane lanes i x y less a b = let e : Some x ≡ Some y = sym (placed lanes i x less a) ∙ placed lanes i y less b in cc
 
 pub count_held : (lanes : List Lane) → length (map lane_held lanes) ≡ length lanes
-count_held lanes = length_map lane_held lanes
+count_held lanes = length-map lanes lane_held
 
 -- a lane that holds the same
 pub lane_same : (lanes : List Lane) (i : ℕ) (x y : Lane) → i < length lanes → x ≡ get_or lanes i x → lane_held y ≡ lane_held x → map lane_held (set lanes i y)

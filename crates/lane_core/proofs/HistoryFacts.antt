@@ -1,7 +1,7 @@
--- What the events of a machine leave as it is, and what they push and pop.
+-- What the events of a machine leave as it is, and what they push and pop: for the laws on its history.
 use Rattle.std.proofs.Common.{◌≡◌, ◌≢◌, ⊎_elim, ℕ, ◌≤◌, ◌^◌, ◌&&◌, not, nat_lt, cond, Bool, true, false, List, [], ◌∷◌, ◌++◌, length, append_assoc, append-nil, set, Option, Some, None, refl, sym, ap, ◌∙◌, arith}
 use Rattle.std.specs.List.{slice_get}
-use Rattle.std.proofs.lemmas.Bool.{cases_eq}
+use Rattle.std.proofs.lemmas.Bool.{cases_eq, both_ways, not-true, and_parts}
 use Rattle.lane_core.specs.declared.event.Event.{Event}
 use Rattle.lane_core.specs.declared.event.Event.TheVariants.{Submit, Take, Post, Collect, Hand, Poll, Close}
 use Rattle.lane_core.specs.declared.job.Plain.{Plain}
@@ -22,14 +22,6 @@ stays s l = record { more = []; submitted = sym (append-nil (submitted_by s l));
 by_test : (l : ℕ) (s t : State) (b : Bool) → (b ≡ true → Grows s t l) → Grows s (or_same s (cond b (Some t) None)) l
 by_test l s t true f = f refl
 by_test l s t false f = stays s l
-
-open_first : (a b : Bool) → (not a && b) ≡ true → a ≡ false
-open_first true b e = absurd (cc)
-open_first false b e = refl
-
-not_both : (b : Bool) → b ≡ false → b ≡ true → ⊥
-not_both true e f = absurd (cc)
-not_both false e f = absurd (cc)
 
 -- one lane changed
 changed : (s : State) (i l : ℕ) (v w : LaneState) (jobs results waiting more : List Plain) → slice_get s.lanes i ≡ Some v
@@ -56,7 +48,7 @@ submit_grows : (l : ℕ) (s : State) (i : ℕ) (row : List ℕ) (o : Option Lane
 submit_grows l s i row None at = stays s l
 submit_grows l s i row (Some v) at = by_test l s _ (not v.closed && nat_lt (length v.submitted) (2 ^ 32))
     (λ e. changed s i l v _ _ _ _ (next_job s i v row ∷ []) at refl (omega arith)
-    (λ f. absurd (not_both v.closed (open_first v.closed (nat_lt (length v.submitted) (2 ^ 32)) e) f)))
+    (λ f. absurd (both_ways v.closed (not-true v.closed (and_parts (not v.closed) (nat_lt (length v.submitted) (2 ^ 32)) e).0) f)))
 
 take_grows : (l : ℕ) (s : State) (w : ℕ) (o : Option (Option Plain)) (jobs : List Plain) → Grows s (or_same s (take_job s w o jobs)) l
 take_grows l s w None jobs = stays s l

@@ -1,5 +1,5 @@
--- A world shows the machine's next state: events of workers that are not done, and those that are allowed.
-use Rattle.std.proofs.Common.{◌≡◌, ℕ, ◌<◌, ◌≤◌, true, false, List, [], ◌∷◌, length, get_or, Option, Some, None, refl, sym, ap, ◌∙◌, arith}
+-- A world shows the machine's next state: events of workers that are not done, and those that are allowed (`World::take`, `World::post`).
+use Rattle.std.proofs.Common.{◌≡◌, ℕ, ◌<◌, ◌≤◌, true, false, List, length, get_or, Option, Some, None, sym, ap, ◌∙◌}
 use Rattle.std.specs.List.{slice_get}
 use Rattle.std.specs.Option.{is_some}
 use Rattle.std.proofs.lemmas.Option.{slice_get_past}
@@ -7,9 +7,10 @@ use Rattle.lane_core.specs.declared.event.Event.TheVariants.{Take, Post}
 use Rattle.lane_core.specs.declared.job.Plain.{Plain}
 use Rattle.lane_core.specs.Contents.{Contents, IsEnabled, IsShown, LaneContents, Steps, shown_lane}
 use Rattle.lane_core.specs.Machine.{LaneState, post, take_job}
-use Rattle.lane_core.proofs.ListFacts.{length_map, placed}
+use Rattle.lane_core.proofs.ListFacts.{placed}
 use Rattle.lane_core.proofs.ResultFacts.{not_done}
 use Rattle.lane_core.proofs.WorldShowsNext.{idle, post_done}
+use Rattle.std.proofs.lemmas.List.{nil_from_length, length-map}
 
 -- no such worker
 pub take_past : (c : Contents) (w : ℕ) → length c.workers ≤ w → Steps c (Take w) false c
@@ -26,14 +27,9 @@ pub take_busy : (c : Contents) (w : ℕ) (x : Plain) → slice_get c.workers w �
 take_busy c w x at = λ s r shows. idle c s (Take w)
     (ap (λ (ws : List (Option Plain)). take_job s w (slice_get ws w) s.jobs) (sym shows.workers) ∙ ap (λ o. take_job s w o s.jobs) at) shows
 
--- no job is queued
-empty : (xs : List Plain) → length xs ≡ 0 → xs ≡ []
-empty [] e = refl
-empty (x ∷ xs) e = absurd (omega arith)
-
 pub take_empty : (c : Contents) (w : ℕ) → slice_get c.workers w ≡ Some None → length c.jobs ≡ 0 → Steps c (Take w) false c
 take_empty c w at count = λ s r shows.
-    let is = empty c.jobs count in
+    let is = nil_from_length c.jobs count in
     idle c s (Take w) ((λ i. take_job s w (slice_get (sym shows.workers i) w) (sym shows.jobs i)) ∙ (λ i. take_job s w (at i) (is i))) shows
 
 -- the worker has no job
@@ -58,5 +54,5 @@ pub count_kept : (c : Contents) → IsShown c → length c.buffer.nexts ≡ leng
 count_kept c shown =
     let s = shown.0 in
     let shows = shown.2 in
-    ap (λ (xs : List ℕ). length xs) shows.nexts ∙ (length_map (λ (v : LaneState). v.handed) s.lanes
-    ∙ (sym (length_map shown_lane s.lanes) ∙ ap (λ (xs : List LaneContents). length xs) (sym shows.lanes)))
+    ap (λ (xs : List ℕ). length xs) shows.nexts ∙ (length-map s.lanes (λ (v : LaneState). v.handed)
+    ∙ (sym (length-map s.lanes shown_lane) ∙ ap (λ (xs : List LaneContents). length xs) (sym shows.lanes)))

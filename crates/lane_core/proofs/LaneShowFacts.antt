@@ -1,7 +1,7 @@
--- A world shows the machine's next state: events of lanes.
-use Rattle.std.proofs.Common.{◌≡◌, ℕ, ◌+◌, ◌<◌, ◌≤◌, ◌^◌, ◌&&◌, ◌||◌, not, nat_lt, cond, Bool, true, false, List, [], ◌∷◌, ◌++◌, map, length, length-append, set, Some, None, refl, sym, ap, ◌∙◌, subst, arith}
+-- A world shows the machine's next state: events of lanes (`World::submit`, `World::poll`, `World::close`).
+use Rattle.std.proofs.Common.{◌≡◌, ℕ, ◌+◌, ◌<◌, ◌≤◌, ◌^◌, ◌||◌, not, nat_lt, cond, true, false, List, [], ◌∷◌, ◌++◌, map, length, length-append, set, Some, None, refl, sym, ap, ◌∙◌, subst, arith, ◌&&◌}
 use Rattle.std.specs.List.{slice_get}
-use Rattle.std.proofs.lemmas.Bool.{le-ltb, lt-ltb}
+use Rattle.std.proofs.lemmas.Bool.{le-ltb, lt-ltb, and_left, and_right, and_from, not_from_true, not_from_false}
 use Rattle.std.proofs.lemmas.Option.{slice_get_past}
 use Rattle.std.proofs.lemmas.List.{length-take-le, map-set, take-append-le}
 use Rattle.lane_core.specs.declared.event.Event.TheVariants.{Submit, Hand, Poll, Close}
@@ -55,37 +55,43 @@ known_kept : (c : Contents) (s : State) (l : ℕ) (v w : LaneState) → ShowsSta
 known_kept c s l v w shows at is = λ m k. shows.known m k ∙ ap (λ n. nat_lt k n || is_among m k s.waiting)
     (sym (lane_kept 0 (λ u. u.handed) s.lanes l m v w at is))
 
--- submitting
-closed_off : (a b : Bool) → a ≡ true → (not a && b) ≡ false
-closed_off true b e = refl
-closed_off false b e = absurd (cc)
+-- one lane was polled or closed, and nothing else changed
+lane_shows : (c : Contents) (s : State) (l : ℕ) (v w : LaneState) (x : LaneContents) → ShowsState c s → slice_get s.lanes l ≡ Some v → w.handed ≡ v.handed
+    → shown_lane w ≡ x
+    → ShowsState (contents c.year (set c.lanes l x) c.jobs c.workers c.results c.buffer) (state s.year (set s.lanes l w) s.jobs s.workers s.results s.waiting)
+lane_shows c s l v w x shows at same is = record {
+  year = shows.year;
+  lanes = lanes_with c s l v w x shows is;
+  jobs = shows.jobs;
+  workers = shows.workers;
+  results = shows.results;
+  nexts = nexts_kept c s l v w shows at same;
+  waiting = shows.waiting;
+  known = known_kept c s l v w shows at same;
+}
 
-open_on : (a b : Bool) → a ≡ false → b ≡ true → (not a && b) ≡ true
-open_on true b e f = absurd (cc)
-open_on false b e f = f
-
-full_off : (a b : Bool) → b ≡ false → (not a && b) ≡ false
-full_off true b e = refl
-full_off false b e = e
+-- submitting: a lane that is closed or has issued all its tickets submits nothing
+not_submitted : (s : State) (l : ℕ) (row : List ℕ) (v : LaneState) → slice_get s.lanes l ≡ Some v
+    → (not v.closed && nat_lt (length v.submitted) (2 ^ 32)) ≡ false → submit s l row (slice_get s.lanes l) ≡ None
+not_submitted s l row v at off =
+    let t = state s.year (set s.lanes l (lane_state (v.submitted ++ next_job s l v row ∷ []) v.closed v.polled v.handed)) (s.jobs ++ next_job s l v row ∷ [])
+    s.workers s.results s.waiting in
+    ap (submit s l row) at ∙ (λ i. cond (off i) (Some t) None)
 
 pub submit_closed : (c : Contents) (l : ℕ) (row : List ℕ) (x : LaneContents) → slice_get c.lanes l ≡ Some x → x.closed ≡ true → Steps c (Submit l row) false c
 submit_closed c l row x at closed = λ s r shows.
     let f = found c s l x shows at in
     let v = f.0 in
-    let off = closed_off v.closed (nat_lt (length v.submitted) (2 ^ 32)) (ap (λ (u : LaneContents). u.closed) f.2 ∙ closed) in
-    idle c s (Submit l row) (ap (submit s l row) f.1 ∙ (λ i.
-    cond (off i) (Some (state s.year (set s.lanes l (lane_state (v.submitted ++ next_job s l v row ∷ []) v.closed v.polled v.handed))
-    (s.jobs ++ next_job s l v row ∷ []) s.workers s.results s.waiting)) None)) shows
+    let off = and_left (not v.closed) (nat_lt (length v.submitted) (2 ^ 32)) (not_from_true v.closed (ap (λ (u : LaneContents). u.closed) f.2 ∙ closed)) in
+    idle c s (Submit l row) (not_submitted s l row v f.1 off) shows
 
 pub submit_full : (c : Contents) (l : ℕ) (row : List ℕ) (x : LaneContents) → slice_get c.lanes l ≡ Some x → 2 ^ 32 ≤ x.issued → Steps c (Submit l row) false c
 submit_full c l row x at full = λ s r shows.
     let f = found c s l x shows at in
     let v = f.0 in
     let count = ap (λ (u : LaneContents). u.issued) f.2 in
-    let off = full_off v.closed (nat_lt (length v.submitted) (2 ^ 32)) (le-ltb (length v.submitted) (2 ^ 32) (subst (λ n. 2 ^ 32 ≤ n) (sym count) full)) in
-    idle c s (Submit l row) (ap (submit s l row) f.1 ∙ (λ i.
-    cond (off i) (Some (state s.year (set s.lanes l (lane_state (v.submitted ++ next_job s l v row ∷ []) v.closed v.polled v.handed))
-    (s.jobs ++ next_job s l v row ∷ []) s.workers s.results s.waiting)) None)) shows
+    let off = and_right (not v.closed) (nat_lt (length v.submitted) (2 ^ 32)) (le-ltb (length v.submitted) (2 ^ 32) (subst (λ n. 2 ^ 32 ≤ n) (sym count) full)) in
+    idle c s (Submit l row) (not_submitted s l row v f.1 off) shows
 
 pub submit_done : (c : Contents) (l : ℕ) (row : List ℕ) (x : LaneContents) → slice_get c.lanes l ≡ Some x → x.closed ≡ false → x.issued < 2 ^ 32
     → Steps c (Submit l row) true (contents c.year (set c.lanes l (lane_contents x.closed (x.issued + 1) x.handed x.polled))
@@ -96,7 +102,7 @@ submit_done c l row x at open_ room = λ s r shows.
     let job = next_job s l v row in
     let w = lane_state (v.submitted ++ job ∷ []) v.closed v.polled v.handed in
     let count = ap (λ (u : LaneContents). u.issued) f.2 in
-    let on = open_on v.closed (nat_lt (length v.submitted) (2 ^ 32)) (ap (λ (u : LaneContents). u.closed) f.2 ∙ open_)
+    let on = and_from (not v.closed) (nat_lt (length v.submitted) (2 ^ 32)) (not_from_false v.closed (ap (λ (u : LaneContents). u.closed) f.2 ∙ open_))
     (lt-ltb (length v.submitted) (2 ^ 32) (subst (λ n. n < 2 ^ 32) (sym count) room)) in
     let t = state s.year (set s.lanes l w) (s.jobs ++ job ∷ []) s.workers s.results s.waiting in
     let good = reached_good s r in
@@ -148,29 +154,14 @@ poll_done c l x at more = λ s r shows.
     let w = lane_state v.submitted v.closed (v.polled + 1) v.handed in
     let t = state s.year (set s.lanes l w) s.jobs s.workers s.results s.waiting in
     done c _ s t (Poll l) (ap (poll s l) f.1 ∙ (λ i. cond (on i) (Some t) None))
-    record {
-      year = shows.year;
-      lanes = lanes_with c s l v w _ shows (λ i. lane_contents (f.2 i).closed (f.2 i).issued (f.2 i).handed ((f.2 i).polled + 1));
-      jobs = shows.jobs;
-      workers = shows.workers;
-      results = shows.results;
-      nexts = nexts_kept c s l v w shows f.1 refl;
-      waiting = shows.waiting;
-      known = known_kept c s l v w shows f.1 refl;
-    }
+    (lane_shows c s l v w _ shows f.1 refl (λ i. lane_contents (f.2 i).closed (f.2 i).issued (f.2 i).handed ((f.2 i).polled + 1)))
 
 -- closing
-not_true : (b : Bool) → b ≡ true → not b ≡ false
-not_true b e = ap (λ x. not x) e
-
-not_false : (b : Bool) → b ≡ false → not b ≡ true
-not_false b e = ap (λ x. not x) e
-
 pub close_none : (c : Contents) (l : ℕ) (x : LaneContents) → slice_get c.lanes l ≡ Some x → x.closed ≡ true → Steps c (Close l) false c
 close_none c l x at closed = λ s r shows.
     let f = found c s l x shows at in
     let v = f.0 in
-    let off = not_true v.closed (ap (λ (u : LaneContents). u.closed) f.2 ∙ closed) in
+    let off = not_from_true v.closed (ap (λ (u : LaneContents). u.closed) f.2 ∙ closed) in
     idle c s (Close l) (ap (close s l) f.1 ∙ (λ i. cond (off i)
     (Some (state s.year (set s.lanes l (lane_state v.submitted true v.polled v.handed)) s.jobs s.workers s.results s.waiting)) None)) shows
 
@@ -179,17 +170,8 @@ pub close_done : (c : Contents) (l : ℕ) (x : LaneContents) → slice_get c.lan
 close_done c l x at open_ = λ s r shows.
     let f = found c s l x shows at in
     let v = f.0 in
-    let on = not_false v.closed (ap (λ (u : LaneContents). u.closed) f.2 ∙ open_) in
+    let on = not_from_false v.closed (ap (λ (u : LaneContents). u.closed) f.2 ∙ open_) in
     let w = lane_state v.submitted true v.polled v.handed in
     let t = state s.year (set s.lanes l w) s.jobs s.workers s.results s.waiting in
     done c _ s t (Close l) (ap (close s l) f.1 ∙ (λ i. cond (on i) (Some t) None))
-    record {
-      year = shows.year;
-      lanes = lanes_with c s l v w _ shows (λ i. lane_contents true (f.2 i).issued (f.2 i).handed (f.2 i).polled);
-      jobs = shows.jobs;
-      workers = shows.workers;
-      results = shows.results;
-      nexts = nexts_kept c s l v w shows f.1 refl;
-      waiting = shows.waiting;
-      known = known_kept c s l v w shows f.1 refl;
-    }
+    (lane_shows c s l v w _ shows f.1 refl (λ i. lane_contents true (f.2 i).issued (f.2 i).handed (f.2 i).polled))

@@ -1,3 +1,4 @@
+-- Lemmas, a file for each subject. What is proved of a function stands in the folder of its path.
 pub mod AdvanceFacts
 pub mod BufferFacts
 pub mod ChangedLane
@@ -23,7 +24,9 @@ pub mod SiftFacts
 pub mod SlotFacts
 pub mod StepFacts
 pub mod TakingFacts
+pub mod TicketFacts
 pub mod TicketLookup
+pub mod TruthFacts
 pub mod UnderWay
 pub mod WeightFacts
 pub mod WorldShowsNext

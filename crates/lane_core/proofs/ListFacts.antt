@@ -1,8 +1,8 @@
--- Lists by their places.
-use Rattle.std.proofs.Common.{◌≡◌, ℕ, ◌+◌, ◌<◌, zero, suc, false, List, [], ◌∷◌, ◌++◌, map, length, get_or, set, take, Option, Some, None, refl, sym, ap, ◌∙◌, arith}
+-- Lists of any items, by their places.
+use Rattle.std.proofs.Common.{◌≡◌, ℕ, ◌+◌, ◌<◌, zero, suc, List, [], ◌∷◌, ◌++◌, map, length, get_or, set, take, Some, None, refl, sym, ap, ◌∙◌, arith, ◌≢◌, replicate, false, Option}
 use Rattle.std.specs.List.{slice_get}
-use Rattle.std.specs.Option.{is_some}
 use Rattle.std.proofs.lemmas.Option.{slice_get-get_or}
+use Rattle.std.specs.Option.{is_some}
 
 -- what stands at a place of a mapped list
 pub get_back : {X Y : Type 0} (f : X → Y) (xs : List X) (i : ℕ) (y : Y) → slice_get (map f xs) i ≡ Some y → (x : X) × (slice_get xs i ≡ Some x) × (f x ≡ y)
@@ -43,15 +43,32 @@ take_more (y ∷ ys) (suc n) x e = take_suc n y ys ∙ (λ j. y ∷ take_more ys
 pub placed : {X : Type 0} (xs : List X) (i : ℕ) (x : X) → i < length xs → x ≡ get_or xs i x → slice_get xs i ≡ Some x
 placed xs i x less is = slice_get-get_or xs i x less ∙ (λ j. Some (sym is j))
 
-pub none_from : {X : Type 0} (o : Option X) → is_some o ≡ false → o ≡ None
-none_from None e = refl
-none_from (Some x) e = absurd (cc)
-
 pub get_map : {X Y : Type 0} (f : X → Y) (xs : List X) (i : ℕ) (x : X) → slice_get xs i ≡ Some x → slice_get (map f xs) i ≡ Some (f x)
 get_map f [] i x e = absurd (cc)
 get_map f (y ∷ ys) zero x e = let s : y ≡ x = cc in λ j. Some (f (s j))
 get_map f (y ∷ ys) (suc i) x e = get_map f ys i x e
 
-pub length_map : {X Y : Type 0} (f : X → Y) (xs : List X) → length (map f xs) ≡ length xs
-length_map f [] = refl
-length_map f (x ∷ xs) = ap suc (length_map f xs)
+pub get_set_here : {X : Type 0} (xs : List X) (l : ℕ) (x v : X) → slice_get xs l ≡ Some v → slice_get (set xs l x) l ≡ Some x
+get_set_here [] l x v e = absurd (cc)
+get_set_here (y ∷ ys) zero x v e = refl
+get_set_here (y ∷ ys) (suc l) x v e = get_set_here ys l x v e
+
+pub get_set_else : {X : Type 0} (xs : List X) (l k : ℕ) (x : X) → k ≢ l → slice_get (set xs l x) k ≡ slice_get xs k
+get_set_else [] l k x apart = refl
+get_set_else (y ∷ ys) zero zero x apart = absurd (apart refl)
+get_set_else (y ∷ ys) zero (suc k) x apart = refl
+get_set_else (y ∷ ys) (suc l) zero x apart = refl
+get_set_else (y ∷ ys) (suc l) (suc k) x apart = get_set_else ys l k x (λ h. apart (ap suc h))
+
+pub map_replicate : {X Y : Type 0} (f : X → Y) (n : ℕ) (x : X) → map f (replicate n x) ≡ replicate n (f x)
+map_replicate f zero x = refl
+map_replicate f (suc n) x = λ i. f x ∷ map_replicate f n x i
+
+pub get_or_zeros : (n l : ℕ) → get_or (replicate n zero) l zero ≡ zero
+get_or_zeros zero l = refl
+get_or_zeros (suc n) zero = refl
+get_or_zeros (suc n) (suc l) = get_or_zeros n l
+
+pub none_from : {X : Type 0} (o : Option X) → is_some o ≡ false → o ≡ None
+none_from None e = refl
+none_from (Some x) e = absurd (cc)

@@ -1,4 +1,4 @@
--- Whether a lane's next number waits, and one that is found.
+-- Whether a lane's next number waits, and one that is found: for `World::hand`.
 use Rattle.std.proofs.Common.{◌≡◌, ℕ, ◌<◌, ◌||◌, Bool, true, false, zero, suc, List, [], ◌∷◌, get_or, length, refl, sym, ap, ◌∙◌, arith, Option, Some, None}
 use Rattle.std.specs.Option.{IfNone, IfSome, is_some}
 use Rattle.std.proofs.lemmas.Bool.Decides.{nat_tests}

@@ -1,4 +1,4 @@
--- A ticket is in one place at most: the places stand in a row, and together have it once.
+-- A ticket is in one place at most (the law `one_place`): the places stand in a row, and together have it once.
 use Rattle.std.proofs.Common.{◌≡◌, ℕ, ◌+◌, ◌≤◌, ◌&&◌, ◌||◌, Bool, false, not, nat_lt, true, zero, suc, List, [], ◌∷◌, Option, option_to_list, get_or, refl, sym, ap, ◌∙◌, arith}
 use Rattle.std.specs.List.{sum_by, count_by}
 use Rattle.std.proofs.lemmas.List.Sums.{sum_by-cons}
@@ -10,8 +10,8 @@ use Rattle.lane_core.specs.Tickets.{is_among, is_held_by, is_ticket_of}
 use Rattle.lane_core.specs.Weights.{once}
 use Rattle.lane_core.specs.Whereabouts.{IsAt}
 use Rattle.lane_core.proofs.PolledFacts.{tickets_once}
-use Rattle.lane_core.proofs.WeightFacts.{among_times}
-use Rattle.lane_core.proofs.GoodFacts.{once_le}
+use Rattle.lane_core.proofs.TruthFacts.{once_le}
+use Rattle.lane_core.proofs.TicketFacts.{among_times}
 
 abbrev rank : Place → ℕ
 rank JobQueue = 0

@@ -1,8 +1,7 @@
--- What a lane has polled is the first of what it has submitted.
-use Rattle.std.proofs.Common.{◌≡◌, ℕ, ◌+◌, ◌≤◌, ◌==◌, ◌&&◌, not, nat_lt, true, zero, suc, List, [], ◌∷◌, ◌++◌, length, take, refl, sym, ap, ◌∙◌, arith}
+-- What a lane has polled is the first of what it has submitted: for the laws on polling.
+use Rattle.std.proofs.Common.{◌≡◌, ℕ, ◌≤◌, nat_lt, true, zero, suc, List, [], ◌∷◌, ◌++◌, length, take, refl, sym, ap, ◌∙◌, arith}
 use Rattle.std.specs.List.{AllByRecursion}
 use Rattle.std.proofs.lemmas.Bool.Decides.{nat_tests}
-use Rattle.std.proofs.lemmas.Bool.{and_parts}
 use Rattle.std.proofs.lemmas.List.{length-take-le}
 use Rattle.lane_core.specs.declared.event.Event.{Event}
 use Rattle.lane_core.specs.declared.job.Plain.{Plain}
@@ -13,34 +12,24 @@ use Rattle.lane_core.specs.Whereabouts.{times_at}
 use Rattle.lane_core.proofs.GoodFacts.{Good}
 use Rattle.lane_core.proofs.HistoryFacts.{close_holds, run_grows}
 use Rattle.lane_core.proofs.StepFacts.{reached_good, reached_run}
-use Rattle.lane_core.proofs.WeightFacts.{is_below, not_below}
-
-pub out_or_polled : (k p h : ℕ) → p ≤ h → once (not (nat_lt k p) && nat_lt k h) + once (nat_lt k p) ≡ once (nat_lt k h)
-out_or_polled k p h e = grind (arith, nat_tests)
+use Rattle.lane_core.proofs.TruthFacts.{once_below, once_not_below, between_or_below}
+use Rattle.lane_core.proofs.TicketFacts.{numbered-take}
 
 pub tickets_once : (s : State) (l k : ℕ) → IsReached s → times_at s l k ≡ once (nat_lt k (issued_of s l))
 tickets_once s l k r =
     let good = reached_good s r in
-    omega (arith, good.one l k, out_or_polled k (polled_of s l) (handed_of s l) (good.few l))
+    omega (arith, good.one l k, between_or_below k (polled_of s l) (handed_of s l) (good.few l))
 
 -- a number counted among the handed is issued
 handed_by : (u h i : ℕ) → ((k : ℕ) → once (nat_lt k h) ≤ once (nat_lt k i)) → h ≤ i
 handed_by u zero i each = omega arith
-handed_by u (suc h) i each = let a = each h in let b = is_below h (suc h) (omega arith) in let c = not_below h i in grind (arith, nat_tests)
+handed_by u (suc h) i each = let a = each h in let b = once_below h (suc h) (omega arith) in let c = once_not_below h i in grind (arith, nat_tests)
 
 pub handed_issued : (s : State) (l : ℕ) → Good s → handed_of s l ≤ issued_of s l
 handed_issued s l good = handed_by 0 (handed_of s l) (issued_of s l) (λ k. omega (arith, good.one l k))
 
 pub polled_issued : (s : State) (l : ℕ) → Good s → polled_of s l ≤ issued_of s l
 polled_issued s l good = let a = good.few l in let b = handed_issued s l good in omega arith
-
-pub numbered-take : (l n p : ℕ) (xs : List Plain) → numbered l n xs ≡ true → numbered l n (take p xs) ≡ true
-numbered-take l n zero xs e = refl
-numbered-take l n (suc p) [] e = refl
-numbered-take l n (suc p) (x ∷ xs) e =
-    let s = and_parts (x.lane == l) ((x.number == n) && numbered l (suc n) xs) e in
-    let t = and_parts (x.number == n) (numbered l (suc n) xs) s.1 in
-    λ i. s.0 i && (t.0 i && numbered-take l (suc n) p xs t.1 i)
 
 pub polled_in_order : (s : State) (l : ℕ) → IsReached s →
     (numbered l 0 (submitted_by s l) ≡ true)

@@ -1,4 +1,4 @@
--- What events push on the queues is what they pop and what the queues hold.
+-- What events push on the queues is what they pop and what the queues hold: the law `queues_keep`.
 use Rattle.std.proofs.Common.{◌≡◌, ℕ, ◌^◌, ◌&&◌, not, nat_lt, cond, Bool, true, false, List, [], ◌∷◌, ◌++◌, length, append_assoc, append-nil, take, Option, Some, None, refl, sym, ap, ◌∙◌}
 use Rattle.std.specs.List.{slice_get, sum_by}
 use Rattle.std.specs.Option.{is_some}

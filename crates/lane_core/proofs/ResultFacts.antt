@@ -1,7 +1,7 @@
--- What holds of results, refusals and options.
+-- Results, refusals and options of any type.
 use Rattle.std.proofs.Common.{◌≡◌, true, false, Option, Some, None, refl, sym}
 use Rattle.std.specs.Prelude.{Err, IfOk, IsErr, Ok, OnErr, Result}
-use Rattle.std.specs.Option.{is_some}
+use Rattle.std.specs.Option.{is_some, IfSome}
 
 -- what holds at all holds of a refusal
 pub of_refusal : {T E : Type 0} (r : Result T E) (P : Type 0) → P → OnErr r P
@@ -21,3 +21,8 @@ of_no_refusal (Err e) P _ = record {}
 pub some_from : {X : Type 0} (o : Option X) → is_some o ≡ true → (x : X) × (o ≡ Some x)
 some_from None e = absurd (cc)
 some_from (Some x) e = (x, refl)
+
+-- of a result that is none, and of one that is there
+pub if_some : {X : Type 0} (o : Option X) (P : X → Type 0) → is_some o ≡ true → IfSome o P → (x : X) × P x
+if_some None P e h = absurd (cc)
+if_some (Some x) P e h = (x, h)

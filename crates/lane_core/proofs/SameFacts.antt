@@ -9,7 +9,7 @@ use Rattle.element_core.specs.Terms.{Terms}
 use Rattle.lane_core.specs.declared.job.Plain.{Plain}
 use Rattle.lane_core.specs.Plain.{plain_of}
 use Rattle.lane_core.specs.Weights.{once}
-use Rattle.lane_core.proofs.WeightFacts.{eq_self}
+use Rattle.lane_core.proofs.TruthFacts.{eq_self}
 
 abbrev pub same_widths : List ℕ → List ℕ → Bool
 same_widths [] [] = true

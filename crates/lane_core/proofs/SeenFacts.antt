@@ -1,7 +1,6 @@
--- What a world's lane says of the state that it shows.
-use Rattle.std.proofs.Common.{◌≡◌, ℕ, ◌+◌, ◌<◌, ◌≤◌, ◌&&◌, ◌||◌, not, nat_lt, Bool, true, false, List, [], ◌∷◌, length, take, option_to_list, Option, Some, refl, sym, ap, ◌∙◌, arith}
+-- What a world's lane says of the state that it shows: for the calls of `World` that only look.
+use Rattle.std.proofs.Common.{◌≡◌, ℕ, ◌+◌, ◌<◌, ◌≤◌, ◌||◌, Bool, true, false, List, [], ◌∷◌, length, take, option_to_list, Option, Some, refl, sym, ap, ◌∙◌, arith}
 use Rattle.std.specs.List.{slice_get, sum_by, count_by}
-use Rattle.std.proofs.lemmas.Bool.Decides.{nat_tests}
 use Rattle.std.proofs.lemmas.List.Sums.{sum_by-cons}
 use Rattle.std.proofs.lemmas.List.{take-take}
 use Rattle.lane_core.specs.declared.job.Plain.{Plain}
@@ -11,7 +10,8 @@ use Rattle.lane_core.specs.Tickets.{is_among, is_held_by, is_ticket_of}
 use Rattle.lane_core.proofs.ChangedLane.{lane_was}
 use Rattle.lane_core.proofs.LaneShowFacts.{found, handed_count}
 use Rattle.lane_core.proofs.StepFacts.{few_of, reached_good}
-use Rattle.lane_core.proofs.WeightFacts.{among_from, is_below, not_among_times, not_below}
+use Rattle.lane_core.proofs.TruthFacts.{once_below, once_not_below}
+use Rattle.lane_core.proofs.TicketFacts.{among_from, not_among_times}
 
 -- the lane that the world has is the machine's
 pub record Seen (s : State) (l : ℕ) (x : LaneContents) : Type 0 where
@@ -65,9 +65,6 @@ waits c s l k r shows issued handed jobs workers results =
     let a = not_among_times l k s.jobs (ap (is_among l k) (sym shows.jobs) ∙ jobs) in
     let b = held_none l k s.workers (ap (is_held_by l k) (sym shows.workers) ∙ workers) in
     let d = not_among_times l k s.results (ap (is_among l k) (sym shows.results) ∙ results) in
-    let e = is_below k (issued_of s l) issued in
-    let f = not_below k (handed_of s l) handed in
+    let e = once_below k (issued_of s l) issued in
+    let f = once_not_below k (handed_of s l) handed in
     among_from l k s.waiting (omega arith)
-
-pub outbox_true : (k p h : ℕ) → p ≤ k → k < h → (not (nat_lt k p) && nat_lt k h) ≡ true
-outbox_true k p h a b = grind (arith, nat_tests)

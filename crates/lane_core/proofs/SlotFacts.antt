@@ -1,12 +1,11 @@
--- What is known of the lanes' next numbers.
-use Rattle.std.proofs.Common.{◌≡◌, ◌≢◌, ⊎_elim, ℕ, ◌+◌, ◌<◌, ◌≤◌, ◌^◌, ◌==◌, ◌||◌, nat_lt, Bool, true, false, zero, suc, List, [], ◌∷◌, ◌++◌, length, set, get_or, refl, sym, ap, ◌∙◌, arith}
+-- What is known of the lanes' next numbers: for `Deliverer::next` and `take_next`.
+use Rattle.std.proofs.Common.{◌≡◌, ◌≢◌, ⊎_elim, ℕ, ◌+◌, ◌<◌, ◌≤◌, ◌^◌, ◌||◌, nat_lt, true, false, zero, suc, List, [], ◌∷◌, ◌++◌, length, set, get_or, refl, sym, ap, ◌∙◌, arith}
 use Rattle.std.specs.Prelude.{Contains}
-use Rattle.std.proofs.lemmas.Bool.Decides.{nat_tests}
 use Rattle.std.proofs.lemmas.List.Folds.{list_any-append}
 use Rattle.std.specs.Map.{values_of}
 use Rattle.std.specs.List.{sum_by}
 use Rattle.std.proofs.lemmas.List.Sums.{sum_by-append}
-use Rattle.std.proofs.lemmas.Bool.{and_parts, cases_lt, eqb-true, false_from_ne_true}
+use Rattle.std.proofs.lemmas.Bool.{and_parts, cases_lt, false_from_ne_true, ltb-true}
 use Rattle.lane_core.specs.declared.next_slot.NextSlot.{NextSlot}
 use Rattle.lane_core.specs.declared.next_slot.NextSlot.TheVariants.{Missing, Here, Out}
 use Rattle.lane_core.specs.declared.job.Plain.{Plain}
@@ -16,6 +15,8 @@ use Rattle.lane_core.specs.inner.NextSlots.{AreKept, IsSlotOf, is_here, slot_at}
 use Rattle.lane_core.specs.NextSlots.{buffer_by_slots, waiting_at, waiting_of}
 use Rattle.lane_core.specs.Tickets.{is_among, is_ticket_of}
 use Rattle.lane_core.proofs.TicketLookup.{none_past}
+use Rattle.lane_core.proofs.TruthFacts.{or_false}
+use Rattle.lane_core.proofs.TicketFacts.{not_ticket_of, ticket_parts}
 
 -- one slot's content in another's place
 pub set_sum : (h : Plain → ℕ) (hs : List NextSlot) (i : ℕ) (a : NextSlot) → i < length hs
@@ -35,17 +36,10 @@ set_sum h (x ∷ hs) (suc i) a low =
 pub own_parts : (l k : ℕ) (x : Plain) → IsSlotOf l k (Here x) → (x.lane ≡ l) × (x.number ≡ k) × (k < 2 ^ 32)
 own_parts l k x is =
     let s = and_parts (is_ticket_of l k x) (nat_lt k (2 ^ 32)) is in
-    let t = and_parts (x.lane == l) (x.number == k) s.0 in
-    (eqb-true x.lane l t.0, eqb-true x.number k t.1, lt_from k (2 ^ 32) s.1)
-  where
-    lt_from : (m n : ℕ) → nat_lt m n ≡ true → m < n
-    lt_from m n e = grind (arith, nat_tests)
+    let t = ticket_parts l k x s.0 in (t.0, t.1, ltb-true k (2 ^ 32) s.1)
 
 ticket_at : (l k : ℕ) (x : Plain) → IsSlotOf l k (Here x) → is_ticket_of l k x ≡ true
 ticket_at l k x is = (and_parts (is_ticket_of l k x) (nat_lt k (2 ^ 32)) is).0
-
-other_lane : (l m k : ℕ) (x : Plain) → x.lane ≡ l → l ≢ m → is_ticket_of m k x ≡ false
-other_lane l m k x at other = grind (arith, nat_tests)
 
 -- of another lane none waits
 none_of : (lane next : ℕ → ℕ) (hs : List NextSlot) (l k : ℕ) → ((j : ℕ) → j < length hs → IsSlotOf (lane j) (next j) (slot_at hs j)) → ((j : ℕ) → lane j ≢ l)
@@ -54,7 +48,7 @@ none_of lane next [] l k own other = refl
 none_of lane next (Missing ∷ hs) l k own other = none_of (λ j. lane (suc j)) (λ j. next (suc j)) hs l k (λ j low. own (suc j) (omega arith))
     (λ j. other (suc j))
 none_of lane next (Here x ∷ hs) l k own other =
-    ap (λ b. b || is_among l k (waiting_at hs)) (other_lane (lane 0) l k x (own_parts (lane 0) (next 0) x (own 0 (omega arith))).0 (other 0))
+    ap (λ b. b || is_among l k (waiting_at hs)) (not_ticket_of (lane 0) l k x (own_parts (lane 0) (next 0) x (own 0 (omega arith))).0 (other 0))
     ∙ none_of (λ j. lane (suc j)) (λ j. next (suc j)) hs l k (λ j low. own (suc j) (omega arith)) (λ j. other (suc j))
 none_of lane next (Out ∷ hs) l k own other = none_of (λ j. lane (suc j)) (λ j. next (suc j)) hs l k (λ j low. own (suc j) (omega arith)) (λ j. other (suc j))
 
@@ -78,7 +72,7 @@ here_of lane next (Out ∷ hs) (suc l) own apart low =
     (omega arith)
 here_of lane next (Here x ∷ hs) (suc l) own apart low =
     ap (λ b. b || is_among (lane (suc l)) (next (suc l)) (waiting_at hs))
-    (other_lane (lane 0) (lane (suc l)) (next (suc l)) x (own_parts (lane 0) (next 0) x (own 0 (omega arith))).0
+    (not_ticket_of (lane 0) (lane (suc l)) (next (suc l)) x (own_parts (lane 0) (next 0) x (own 0 (omega arith))).0
     (λ e. let c = apart 0 (suc l) e in absurd (omega arith)))
     ∙ here_of (λ j. lane (suc j)) (λ j. next (suc j)) hs l (λ j less. own (suc j) (omega arith)) (λ i j e. let c = apart (suc i) (suc j) e in omega arith)
     (omega arith)
@@ -95,10 +89,6 @@ contained (Here y ∷ hs) zero x rest low is = (0, omega arith, here_is y x is)
 contained (Missing ∷ hs) (suc l) x rest low is = contained hs l x rest (omega arith) is
 contained (Out ∷ hs) (suc l) x rest low is = contained hs l x rest (omega arith) is
 contained (Here y ∷ hs) (suc l) x rest low is = let c = contained hs l x rest (omega arith) is in (suc c.0, (let less = c.1 in omega arith), c.2)
-
-pub or_false : (a b : Bool) → b ≡ false → (a || b) ≡ a
-or_false true b e = refl
-or_false false b e = e
 
 -- a lane's next number waits exactly where its slot says so
 pub next_waits : (nexts : List ℕ) (hs : List NextSlot) (es : List (Ticket × Plain)) (ks : List Ticket) (l : ℕ) → AreKept nexts hs es ks → l < length nexts

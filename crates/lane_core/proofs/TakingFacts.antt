@@ -1,4 +1,4 @@
--- How a deliverer takes in a delivery that was not taken in before.
+-- How a deliverer takes in a delivery that was not taken in before: for `Deliverer::take_in`.
 use Rattle.std.proofs.Common.{◌≡◌, ◌≢◌, ◌<◌, ◌^◌, ◌&&◌, ◌==◌, ◌||◌, List, ℕ, length, get_or, set, false, true, refl, sym, ◌∙◌, subst}
 use Rattle.std.specs.BTreeMap.{insert_entry, is_at}
 use Rattle.std.specs.BTreeSet.{insert_key}

@@ -11,13 +11,15 @@ use Rattle.std.specs.Set.{remove_key}
 use Rattle.std.specs.Option.{is_some}
 use Rattle.std.proofs.lemmas.Bool.Decides.{nat_tests}
 use Rattle.std.proofs.lemmas.List.Sums.{sum_by-cons}
-use Rattle.std.proofs.lemmas.Bool.{and_parts, eqb-true, ltb-true}
+use Rattle.std.proofs.lemmas.Bool.{and_parts, eqb-true, ltb-true, or_parts}
 use Rattle.std.proofs.Math.Bool.{or_comm}
 use Rattle.lane_core.specs.declared.job.Plain.{Plain}
 use Rattle.lane_core.specs.declared.ticket.Ticket.{Ticket}
 use Rattle.lane_core.specs.Tickets.{is_ticket_of, is_among}
 use Rattle.lane_core.specs.ReorderBuffer.{is_known}
 use Rattle.lane_core.specs.inner.NextSlots.{are_tied, is_tied}
+use Rattle.lane_core.proofs.TruthFacts.{or_assoc, or_again, and_false_or, ne_less}
+use Rattle.lane_core.proofs.TicketFacts.{ticket_parts}
 
 -- the test finds lane l's number k alone
 abbrev pub Finds : (Ticket → Bool) → ℕ → ℕ → Type 0
@@ -46,8 +48,7 @@ finds_at a l k lane number = λ t. finds_own a t ∙ (λ i. (t.lane == lane i) &
 tied_parts : (e : Ticket × Plain) → is_tied e ≡ true → (e.1.lane ≡ e.0.lane) × (e.1.number ≡ e.0.number) × (e.0.number < 2 ^ 32)
 tied_parts e h =
     let s = and_parts (is_ticket_of e.0.lane e.0.number e.1) (nat_lt e.0.number (2 ^ 32)) h in
-    let t = and_parts (e.1.lane == e.0.lane) (e.1.number == e.0.number) s.0 in
-    (eqb-true e.1.lane e.0.lane t.0, eqb-true e.1.number e.0.number t.1, ltb-true e.0.number (2 ^ 32) s.1)
+    let t = ticket_parts e.0.lane e.0.number e.1 s.0 in (t.0, t.1, ltb-true e.0.number (2 ^ 32) s.1)
 
 -- a tied delivery is the one that the test finds
 tied_test : (test : Ticket → Bool) (l k : ℕ) → Finds test l k → (e : Ticket × Plain) → is_tied e ≡ true → is_ticket_of l k e.1 ≡ test e.0
@@ -76,15 +77,8 @@ none_past l k (e ∷ es) tied past =
     let s = and_parts (is_tied e) (are_tied es) tied in
     let p = tied_parts e s.0 in
     let rest = none_past l k es s.1 past in
-    let apart : (e.1.number == k) ≡ false = ne_false e.1.number k (omega arith) in
-    ap (λ b. ((e.1.lane == l) && b) || is_among l k (values_of es)) apart ∙ (and_none (e.1.lane == l) (is_among l k (values_of es)) rest)
-  where
-    ne_false : (m n : ℕ) → m < n → (m == n) ≡ false
-    ne_false m n h = grind (arith, nat_tests)
-
-    and_none : (a b : Bool) → b ≡ false → ((a && false) || b) ≡ false
-    and_none true b e = e
-    and_none false b e = e
+    let apart : (e.1.number == k) ≡ false = ne_less e.1.number k (omega arith) in
+    ap (λ b. ((e.1.lane == l) && b) || is_among l k (values_of es)) apart ∙ (and_false_or (e.1.lane == l) (is_among l k (values_of es)) ∙ rest)
 
 -- what a look-up finds has the ticket
 found_here : (test : Ticket → Bool) (l k : ℕ) → Finds test l k → (e : Ticket × Plain) (es : List (Ticket × Plain)) (v : Plain) → is_tied e ≡ true
@@ -106,10 +100,6 @@ pub record MoreBy (es : List (Ticket × Plain)) (v : Plain) (fs : List (Ticket �
   pub weight : (h : Plain → ℕ) → sum_by h (values_of fs) ≡ sum_by h (values_of es) + h v
   pub among : (l k : ℕ) → is_among l k (values_of fs) ≡ (is_among l k (values_of es) || is_ticket_of l k v)
   pub count : length fs ≡ length es + 1
-
-pub or_assoc : (a b c : Bool) → (a || (b || c)) ≡ ((a || b) || c)
-or_assoc true b c = refl
-or_assoc false b c = refl
 
 more_first : (e : Ticket × Plain) (es : List (Ticket × Plain)) → MoreBy es e.1 (e ∷ es)
 more_first e es = record {
@@ -199,25 +189,15 @@ same_ticket a t is l k =
 own_is : (t : Ticket) → ((t.lane == t.lane) && (t.number == t.number)) ≡ true
 own_is t = grind (arith, nat_tests)
 
-or_none : (a b : Bool) → (a || b) ≡ false → (a ≡ false) × (b ≡ false)
-or_none true b e = absurd (cc)
-or_none false b e = (refl, e)
-
 -- the order of tickets
 abbrev pub cmp_tickets : Ticket → Ticket → Ordering
 cmp_tickets a t = ordering_then (nat_cmp a.lane t.lane) (nat_cmp a.number t.number)
-
-twice : (a b c : Bool) → a ≡ c → (a || b) ≡ ((a || b) || c)
-twice true b c e = refl
-twice false true c e = refl
-twice false false true e = absurd (cc)
-twice false false false e = refl
 
 put_at : (t u : Ticket) (l k : ℕ) (ts : List Ticket) → is_known l k (insert_key cmp_tickets ts t) ≡ (is_known l k ts || ((t.lane == l) && (t.number == k)))
     → (o : Ordering) → cmp_tickets t u ≡ o
     → is_known l k (match_ordering o (t ∷ u ∷ ts) (u ∷ ts) (u ∷ insert_key cmp_tickets ts t)) ≡ (is_known l k (u ∷ ts) || ((t.lane == l) && (t.number == k)))
 put_at t u l k ts later Less e = or_comm ((t.lane == l) && (t.number == k)) (is_known l k (u ∷ ts))
-put_at t u l k ts later Equal e = twice ((u.lane == l) && (u.number == k)) (is_known l k ts) ((t.lane == l) && (t.number == k))
+put_at t u l k ts later Equal e = or_again ((u.lane == l) && (u.number == k)) (is_known l k ts) ((t.lane == l) && (t.number == k))
     (same_ticket t u (ap is_eq e) l k)
 put_at t u l k ts later Greater e = ap (λ b. ((u.lane == l) && (u.number == k)) || b) later
     ∙ or_assoc ((u.lane == l) && (u.number == k)) (is_known l k ts) ((t.lane == l) && (t.number == k))
@@ -240,7 +220,7 @@ out_at t u ts later other Greater e =
 pub put_gone : (t : Ticket) (ts : List Ticket) → is_known t.lane t.number ts ≡ false → remove_key (is_at (cmp_tickets t)) (insert_key cmp_tickets ts t) ≡ ts
 put_gone t [] absent = ap (λ b. cond b [] (t ∷ [])) (finds_own t t ∙ own_is t)
 put_gone t (u ∷ ts) absent =
-    let p = or_none ((u.lane == t.lane) && (u.number == t.number)) (is_known t.lane t.number ts) absent in
+    let p = or_parts ((u.lane == t.lane) && (u.number == t.number)) (is_known t.lane t.number ts) absent in
     out_at t u ts (put_gone t ts p.1) p.0 (cmp_tickets t u) refl
 
 gone_at : (test : Ticket → Bool) (l k m n : ℕ) → Finds test l k → ((l == m) && (k == n)) ≡ false → (t : Ticket) (ts : List Ticket)

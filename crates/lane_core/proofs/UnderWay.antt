@@ -1,14 +1,14 @@
--- What is under way, after each event.
+-- What is under way, after each event: for `Good`.
 use Rattle.std.proofs.Common.{◌≡◌, ℕ, ◌+◌, ◌≤◌, ◌==◌, ◌&&◌, ◌||◌, cond, Bool, true, false, List, [], ◌∷◌, ◌++◌, set, Option, Some, None, option_to_list, refl, ap, arith}
 use Rattle.std.specs.List.{slice_get, sum_by, count_by}
 use Rattle.std.proofs.lemmas.List.Sums.{sum_by-append, sum_by-cons}
-use Rattle.std.proofs.lemmas.Bool.{and_parts, eqb-true}
 use Rattle.lane_core.specs.declared.job.Plain.{Plain}
 use Rattle.lane_core.specs.Machine.{LaneState, State, state, without}
 use Rattle.lane_core.specs.Tickets.{is_among, is_ticket_of}
 use Rattle.lane_core.specs.Weights.{once}
 use Rattle.lane_core.specs.Whereabouts.{sum_under_way}
 use Rattle.lane_core.proofs.WeightFacts.{sum_put}
+use Rattle.lane_core.proofs.TicketFacts.{ticket_is}
 
 -- a job came
 pub under_way_more : (s : State) (lanes : List LaneState) (x : Plain) (h : Plain → ℕ)
@@ -36,17 +36,10 @@ collected_under_way s x results h is =
     let front = ap (sum_by h) is in
     let more = sum_by-append h s.waiting (x ∷ []) in omega (arith, sum_by-cons h x results)
 
-ticket_same : (l n m k : ℕ) (x : Plain) → is_ticket_of l n x ≡ true → once (is_ticket_of m k x) ≡ once ((l == m) && (n == k))
-ticket_same l n m k x e =
-    let s = and_parts (x.lane == l) (x.number == n) e in
-    let a = eqb-true x.lane l s.0 in
-    let b = eqb-true x.number n s.1 in
-    λ i. once ((a i == m) && (b i == k))
-
 out_by : (b : Bool) (l n m k : ℕ) (x : Plain) (xs : List Plain) → is_ticket_of l n x ≡ b → (b || is_among l n xs) ≡ true
     → (is_among l n xs ≡ true → count_by (is_ticket_of m k) (without l n xs) + once ((l == m) && (n == k)) ≡ count_by (is_ticket_of m k) xs)
     → count_by (is_ticket_of m k) (cond b xs (x ∷ without l n xs)) + once ((l == m) && (n == k)) ≡ count_by (is_ticket_of m k) (x ∷ xs)
-out_by true l n m k x xs is any rest = let e = ticket_same l n m k x is in omega (arith, sum_by-cons (λ y. once (is_ticket_of m k y)) x xs)
+out_by true l n m k x xs is any rest = let e = ap once (ticket_is l n m k x is) in omega (arith, sum_by-cons (λ y. once (is_ticket_of m k y)) x xs)
 out_by false l n m k x xs is any rest = let e = rest any in omega
     (arith, sum_by-cons (λ y. once (is_ticket_of m k y)) x xs, sum_by-cons (λ y. once (is_ticket_of m k y)) x (without l n xs))
 

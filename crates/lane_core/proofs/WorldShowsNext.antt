@@ -1,12 +1,11 @@
--- A world shows the machine's next state: events of workers and queues, and those that are disabled.
-use Rattle.std.proofs.Common.{◌≡◌, ℕ, ◌<◌, ◌≤◌, ◌&&◌, ◌||◌, not, nat_lt, Bool, true, false, zero, suc, List, [], ◌∷◌, ◌++◌, map, length, set, get_or, replicate, Option, Some, None, refl, sym, ap, ◌∙◌, subst, arith}
+-- A world shows the machine's next state: events of workers and queues, and those that are disabled (`World::step` and what it calls).
+use Rattle.std.proofs.Common.{◌≡◌, ℕ, ◌<◌, ◌||◌, not, nat_lt, Bool, true, false, zero, suc, List, [], ◌∷◌, ◌++◌, length, set, replicate, Option, Some, None, refl, sym, ap, ◌∙◌, subst, arith}
 use Rattle.std.specs.List.{slice_get, count_by}
 use Rattle.std.specs.Option.{is_some}
-use Rattle.std.proofs.lemmas.Bool.Decides.{nat_tests}
 use Rattle.std.proofs.lemmas.List.Folds.{list_any-append}
 use Rattle.std.proofs.lemmas.List.Sums.{sum_by-append, sum_by-cons}
 use Rattle.std.proofs.lemmas.List.Sorted.{sum_by-IsPermutation, IsPermutation-refl}
-use Rattle.std.proofs.lemmas.Bool.{lt-ltb}
+use Rattle.std.proofs.lemmas.Bool.{lt-ltb, and_from, not_from_false}
 use Rattle.lane_core.specs.declared.event.Event.{Event}
 use Rattle.lane_core.specs.declared.event.Event.TheVariants.{Take, Post, Collect}
 use Rattle.lane_core.specs.declared.job.Plain.{Plain}
@@ -15,12 +14,13 @@ use Rattle.lane_core.specs.ReorderBuffer.{ReorderBuffer, TakesIn, is_new, new_bu
 use Rattle.lane_core.specs.Machine.{LaneState, State, after, collect, handed_of, issued_of, lane_state, of_lane, or_same, post, start, step, take_job}
 use Rattle.lane_core.specs.Tickets.{is_among, is_ticket_of}
 use Rattle.lane_core.specs.Weights.{once}
-use Rattle.lane_core.proofs.ListFacts.{length_map}
 use Rattle.lane_core.proofs.SameFacts.{permutation_from}
 use Rattle.lane_core.proofs.StepFacts.{of_fresh, reached_good, reached_more}
-use Rattle.lane_core.proofs.WeightFacts.{is_below, not_among}
 use Rattle.element_core.specs.Terms.{Terms}
-use Rattle.lane_core.proofs.SiftFacts.{ticket_self}
+use Rattle.lane_core.proofs.TruthFacts.{once_below, below_from_once, neither_from_once, or_before_false}
+use Rattle.std.proofs.lemmas.List.{length-map}
+use Rattle.lane_core.proofs.ListFacts.{map_replicate, get_or_zeros}
+use Rattle.lane_core.proofs.TicketFacts.{not_among, ticket_self}
 
 -- an event that is done, and one that is not
 pub done : (c d : Contents) (s t : State) (e : Event) → step s e ≡ Some t → ShowsState d t → (is_some (step s e) ≡ true) × ShowsState d (after s e)
@@ -64,12 +64,6 @@ post_done c w x at = λ s r shows. done c _ s _ (Post w)
       known = shows.known;
     }
 
-or_last : (a b t : Bool) → (a || b || t) ≡ (a || (b || (t || false)))
-or_last true b t = refl
-or_last false true t = refl
-or_last false false true = refl
-or_last false false false = refl
-
 -- the deliverer collects a result
 pub collect_done : (c : Contents) (x : Plain) (results : List Plain) (e : ReorderBuffer) → c.results ≡ x ∷ results → TakesIn c.buffer x e
     → Steps c Collect true (contents c.year c.lanes c.jobs c.workers results e)
@@ -86,7 +80,7 @@ collect_done c x results e is taken = λ s r shows. done c _ s _ Collect (ap (co
           sum_by-append h s.waiting (x ∷ []) in omega arith);
       known = λ l k. taken.known l k
           ∙ (ap (λ b. b || is_ticket_of l k x) (shows.known l k)
-          ∙ (or_last (nat_lt k (handed_of s l)) (is_among l k s.waiting) (is_ticket_of l k x)
+          ∙ (or_before_false (nat_lt k (handed_of s l)) (is_among l k s.waiting) (is_ticket_of l k x)
           ∙ ap (λ b. nat_lt k (handed_of s l) || b) (sym (list_any-append (is_ticket_of l k) s.waiting (x ∷ [])))));
     }
 
@@ -94,16 +88,6 @@ lane_there : (vs : List LaneState) (l k : ℕ) → k < length (of_lane [] (λ v.
 lane_there [] l k e = absurd (omega arith)
 lane_there (v ∷ vs) zero k e = omega arith
 lane_there (v ∷ vs) (suc l) k e = let rest = lane_there vs l k e in omega arith
-
-below_from : (k n : ℕ) → 1 ≤ once (nat_lt k n) → k < n
-below_from k n e = grind (arith, nat_tests)
-
-neither : (a b : Bool) → once a ≡ 0 → b ≡ false → (a || b) ≡ false
-neither true b e f = absurd (omega arith)
-neither false b e f = f
-
-new_from : (a b : Bool) → a ≡ true → b ≡ false → (a && not b) ≡ true
-new_from a b e f = λ i. e i && not (f i)
 
 -- no result is a stranger
 pub result_is_new : (c : Contents) (x : Plain) (results : List Plain) → c.results ≡ x ∷ results → IsShown c → is_new c.buffer x ≡ true
@@ -115,24 +99,15 @@ result_is_new c x results is shown =
     let here = ap (count_by (is_ticket_of x.lane x.number)) (sym shows.results ∙ is) in
     let self = ticket_self x in
     let first = sum_by-cons (λ y. once (is_ticket_of x.lane x.number y)) x results in
-    let issued : x.number < issued_of s x.lane = below_from x.number (issued_of s x.lane) (omega arith) in
+    let issued : x.number < issued_of s x.lane = below_from_once x.number (issued_of s x.lane) (omega arith) in
     let there = lane_there s.lanes x.lane x.number issued in
-    let most : once (nat_lt x.number (issued_of s x.lane)) ≡ 1 = is_below x.number (issued_of s x.lane) issued in
+    let most : once (nat_lt x.number (issued_of s x.lane)) ≡ 1 = once_below x.number (issued_of s x.lane) issued in
     let handed : once (nat_lt x.number (handed_of s x.lane)) ≡ 0 = omega arith in
     let none : count_by (is_ticket_of x.lane x.number) s.waiting ≡ 0 = omega arith in
     let waits : is_among x.lane x.number s.waiting ≡ false = not_among x.lane x.number s.waiting none in
-    let count = ap (λ (xs : List ℕ). length xs) shows.nexts ∙ length_map (λ (v : LaneState). v.handed) s.lanes in
-    new_from (nat_lt x.lane (length c.buffer.nexts)) (was_taken c.buffer x.lane x.number) (lt-ltb x.lane (length c.buffer.nexts) (omega arith))
-    (shows.known x.lane x.number ∙ neither (nat_lt x.number (handed_of s x.lane)) (is_among x.lane x.number s.waiting) handed waits)
-
-map_each : {X Y : Type 0} (f : X → Y) (n : ℕ) (x : X) → map f (replicate n x) ≡ replicate n (f x)
-map_each f zero x = refl
-map_each f (suc n) x = λ i. f x ∷ map_each f n x i
-
-zeros : (n l : ℕ) → get_or (replicate n zero) l zero ≡ zero
-zeros zero l = refl
-zeros (suc n) zero = refl
-zeros (suc n) (suc l) = zeros n l
+    let count = ap (λ (xs : List ℕ). length xs) shows.nexts ∙ length-map s.lanes (λ (v : LaneState). v.handed) in
+    and_from (nat_lt x.lane (length c.buffer.nexts)) (not (was_taken c.buffer x.lane x.number)) (lt-ltb x.lane (length c.buffer.nexts) (omega arith))
+    (not_from_false (was_taken c.buffer x.lane x.number) (shows.known x.lane x.number ∙ neither_from_once (nat_lt x.number (handed_of s x.lane)) (is_among x.lane x.number s.waiting) handed waits))
 
 -- a new world
 pub start_shown : (lanes workers : ℕ) (year : Terms) → ShowsState (contents year (replicate lanes (lane_contents false 0 [] 0)) [] (replicate workers None) []
@@ -141,13 +116,13 @@ start_shown lanes workers year =
     let fresh = lane_state [] false 0 0 in
     record {
       year = refl;
-      lanes = sym (map_each shown_lane lanes fresh);
+      lanes = sym (map_replicate shown_lane lanes fresh);
       jobs = refl;
       workers = refl;
       results = refl;
-      nexts = sym (map_each (λ (v : LaneState). v.handed) lanes fresh);
+      nexts = sym (map_replicate (λ (v : LaneState). v.handed) lanes fresh);
       waiting = IsPermutation-refl [];
-      known = λ l k. ap (λ n. nat_lt k n || false) (zeros lanes l ∙ sym (of_fresh 0 (λ v. v.handed) fresh lanes l refl));
+      known = λ l k. ap (λ n. nat_lt k n || false) (get_or_zeros lanes l ∙ sym (of_fresh 0 (λ v. v.handed) fresh lanes l refl));
     }
 
 pub start_is_shown : (lanes workers : ℕ) (year : Terms) → IsShown (contents year (replicate lanes (lane_contents false 0 [] 0)) [] (replicate workers None) []

@@ -1,4 +1,4 @@
--- One more piece that was written.
+-- One more piece that was written: for `write_all`.
 use Rattle.std.proofs.Common.{◌++◌, ◌≡◌, ◌∙◌, ◌∷◌, List, [], ap, append-nil, append_assoc, sym, ℕ}
 use Rattle.std.specs.List.{concat}
 use Rattle.std.proofs.lemmas.List.{map-append}

@@ -1,20 +1,17 @@
--- Where a line feed was looked for.
-use Rattle.std.proofs.Common.{◌≡◌, ◌<◌, Bool, List, None, Some, arith, false, length, true, ℕ, refl}
+-- Where a line feed was looked for: for `lines::first_line`.
+use Rattle.std.proofs.Common.{◌≡◌, ◌<◌, List, None, Some, arith, length, ℕ}
 use Rattle.std.specs.List.{position_or_len}
 use Rattle.std.proofs.lemmas.List.Sums.{position_or_len_is}
 use Rattle.memchr.specs.Find.{IsFirstByte, is_byte}
 use Rattle.wire_core.specs.Lines.{is_feed}
-
-is_false : (b : Bool) → (b ≡ true → ⊥) → b ≡ false
-is_false false not_so = refl
-is_false true not_so = absurd (not_so refl)
+use Rattle.std.proofs.lemmas.Bool.{false_from_ne_true}
 
 -- a line feed is at k
 pub feed_at : (xs : List ℕ) (k : ℕ) → IsFirstByte (is_byte 10) xs (Some k) → (k < length xs) × (position_or_len is_feed xs ≡ k)
 feed_at xs k found = let high = found.0.high in
-    (high, position_or_len_is is_feed xs k 0 (omega (arith, high)) (λ j low. is_false _ (found.0.before j (omega arith) low)) (λ _. found.1))
+    (high, position_or_len_is is_feed xs k 0 (omega (arith, high)) (λ j low. false_from_ne_true _ (found.0.before j (omega arith) low)) (λ _. found.1))
 
 -- there is none
 pub no_feed : (xs : List ℕ) → IsFirstByte (is_byte 10) xs None → position_or_len is_feed xs ≡ length xs
-no_feed xs none = position_or_len_is is_feed xs (length xs) 0 (omega arith) (λ j low. is_false _ (none j (omega arith) low))
+no_feed xs none = position_or_len_is is_feed xs (length xs) 0 (omega arith) (λ j low. false_from_ne_true _ (none j (omega arith) low))
     (λ low. absurd (omega (arith, low)))

@@ -1,10 +1,10 @@
--- The lines that were taken of an input are its pieces between line feeds.
+-- The lines that were taken of an input are its pieces between line feeds: the law `lines_are_pieces`.
 use Rattle.std.proofs.Common.{All, Bool, List, None, Some, [], ap, append-nil, append_assoc, arith, cond, false, get_or, get_or-take, length, length-append, length-drop, length-take, nat_eq, nat_lt, refl, subst, sym, true, ℕ, ⊎_elim, ◌&&◌, ◌++◌, ◌+◌, ◌<◌, ◌||◌, ◌∙◌, ◌∷◌, ◌≡◌, ◌≤◌}
 use Rattle.std.proofs.Common.{inl, inr}
 use Rattle.std.specs.List.{after_first, before_first, position_or_len}
 use Rattle.std.proofs.lemmas.Bool.{and_parts, cases_Bool, eqb-true, ltb-false, ltb-true, or_cases, or_parts}
 use Rattle.std.proofs.lemmas.Grind.{flat_map-append}
-use Rattle.std.proofs.lemmas.List.{take_all}
+use Rattle.std.proofs.lemmas.List.{take_all, nil_from_length}
 use Rattle.std.proofs.lemmas.List.Elements.{All-append, All-head, All-nil, All-push, All-tail}
 use Rattle.std.proofs.lemmas.List.Splits.{slice_split_at, slice_split_none}
 use Rattle.std.proofs.lemmas.List.Sums.{fails_before_first, passes_at_first, split_at_first}
@@ -51,17 +51,13 @@ rest_false : (a b : Bool) → a ≡ true → (a && b) ≡ false → b ≡ false
 rest_false true b is fails = fails
 rest_false false b is fails = cc
 
-empty : (xs : List ℕ) → length xs ≤ 0 → xs ≡ []
-empty [] few = refl
-empty (x ∷ xs) few = absurd (omega (arith, few))
-
 -- at the end of the input, where no line is held, nothing is
 nothing_left : (h : Held) → held_line h ≡ None → h.has_ended ≡ true → (h.is_cut ≡ false) × (h.rest ≡ [])
 nothing_left h none ended =
     let last = (none_held h none).1 in
     let held : (h.is_cut || nat_lt 0 (length h.rest)) ≡ false = rest_false h.has_ended (h.is_cut || nat_lt 0 (length h.rest)) ended last in
     let parts = or_parts h.is_cut (nat_lt 0 (length h.rest)) held in
-    (parts.0, empty h.rest (ltb-false 0 (length h.rest) parts.1))
+    (parts.0, nil_from_length h.rest (omega (arith, ltb-false 0 (length h.rest) parts.1)))
 
 -- the pieces, where no line feed is held
 pieces_held : (bytes : List ℕ) (lines : List (List ℕ)) (h : Held) → (t : AreTaken bytes lines h) → HasNoFeed h.rest → pieces_of bytes ≡ lines
@@ -100,7 +96,7 @@ taken_last bytes lines h t past ended =
     let all : before_first is_feed h.rest ≡ h.rest = take_all (position_or_len is_feed h.rest) h.rest past in
     record {
       pieces = pieces_held bytes lines h t (no_feed h.rest past) ∙ ap (λ r. lines ++ (t.front ++ r) ∷ []) (sym all);
-      rest = empty (after_first is_feed h.rest) (omega (arith, past, length-drop (position_or_len is_feed h.rest + 1) h.rest));
+      rest = nil_from_length (after_first is_feed h.rest) (omega (arith, past, length-drop (position_or_len is_feed h.rest + 1) h.rest));
       whole = refl;
       ended = ended;
     }

@@ -10,7 +10,7 @@ use memchr::memchr;
 use std::alloc::{AllocError, Global};
 use std::marker::Model;
 
-/// As many bytes as a line has at most, without the line feed and a carriage return before it.
+/// As many bytes as a line has at most, without the line feed and a carriage return before it: `most_line` in specs/.
 pub const MOST_LINE: usize = 65_536;
 
 /// How many bytes are asked for at a time.

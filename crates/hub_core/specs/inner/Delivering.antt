@@ -1,4 +1,4 @@
--- What types, private contracts and proofs name beside `Delivering`.
+-- The answer of `collect_by_lane` as that of `collect`.
 use Rattle.hub_core.specs.declared.deliverer_seat.Collected.{Collected}
 use Rattle.hub_core.specs.declared.deliverer_seat.Collected.TheVariants as collecting
 use Rattle.hub_core.specs.declared.collected_by_lane.CollectedByLane.{CollectedByLane}

@@ -1,4 +1,4 @@
--- What was found in the rings, and in all.
+-- What was found in the rings, and in all: for `drain.rt`.
 use Rattle.std.specs.Prelude.{◌≡◌, ◌+◌, ◌++◌, ℕ, List, [], All, slice_index_or}
 use Rattle.std.specs.List.{flat_map, sum_by}
 use Rattle.lane_core.specs.declared.job.Plain.{Plain}

@@ -1,4 +1,4 @@
--- What types, private contracts and proofs name beside `Feeds`.
+-- Lanes of which no row is left: for `Feeds::next_from`.
 use Rattle.std.specs.Prelude.{◌≡◌, ◌<◌, ◌≤◌, ℕ, List, [], length, slice_index_or}
 
 -- of the lanes from one on, as far as another, no row is left

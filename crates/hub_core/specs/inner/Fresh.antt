@@ -1,4 +1,4 @@
--- What types, private contracts and proofs name beside `Fresh`.
+-- Lanes, workers and rings as they are made for a new hub: for `parts.rt` and `traffic_serving.rt`.
 use Rattle.std.specs.Prelude.{◌≡◌, ◌<◌, ℕ, List, [], All, Option, Some, length, slice_get}
 use Rattle.std.specs.List.{range_with_len}
 use Rattle.crossbeam_queue.specs.Passes.{IsPassOf}

@@ -1,4 +1,4 @@
--- What types, private contracts and proofs name beside `Rule`.
+-- How a queue's passes are cut and joined, and what the pass with all shares learns: for `rule.rt`, `parts.rt` and `drain.rt`.
 use Rattle.std.specs.Prelude.{◌≡◌, ◌+◌, ◌-◌, ◌<◌, ◌++◌, ℕ, List, Option, length}
 use Rattle.std.specs.List.{flat_map, sum_by}
 use Rattle.crossbeam_queue.specs.Passes.{IsPassOf, Pass, view}

@@ -1,4 +1,4 @@
--- What types, private contracts and proofs name beside `Serving`.
+-- Sums over lists of lists.
 use Rattle.std.specs.Prelude.{ℕ, List}
 use Rattle.std.specs.List.{sum_by}
 

@@ -1,4 +1,4 @@
--- What types, private contracts and proofs name beside `Traffics`.
+-- The seats of all lanes of a hub that serves a traffic: what they were given and have polled.
 use Rattle.std.specs.Prelude.{◌≡◌, ℕ, List, All, map, IfSome, Option, Some, None}
 use Rattle.std.specs.List.{range_with_len}
 use Rattle.lane_core.specs.declared.job.Plain.{Plain}

@@ -1,4 +1,4 @@
--- What types, private contracts and proofs name beside `Workers`.
+-- A worker's hand as a list, and room for seats.
 use Rattle.std.specs.Prelude.{◌≡◌, ◌≤◌, ℕ, List, [], option_to_list, vec_capacity, vec_len}
 use Rattle.std.specs.declared.vec.Vec.{Vec}
 use Rattle.std.proofs.Common.{Global}

@@ -1,4 +1,4 @@
--- What types, private contracts and proofs name beside `Holding`.
+-- The invariant of `World`: what its fields hold is a state of the machine.
 use Rattle.lane_core.specs.declared.world.World.TheInside.{Inside}
 use Rattle.lane_core.specs.Contents.{IsShown}
 use Rattle.lane_core.specs.Holding.{held}

@@ -1,4 +1,4 @@
--- What types, private contracts and proofs name beside `NextSlots`.
+-- The invariant of `Deliverer`, and what there is of a lane's next number (`slot_of`).
 use Rattle.std.specs.Prelude.{◌≡◌, ◌&&◌, ◌||◌, ◌==◌, ◌^◌, ◌<◌, ◌+◌, ℕ, Bool, true, false, nat_lt, List, length, slice_index, slice_index_or, ⊤}
 use Rattle.std.specs.List.{list_all, sum_by}
 use Rattle.std.specs.Map.{values_of}

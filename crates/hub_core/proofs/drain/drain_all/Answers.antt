@@ -1,3 +1,4 @@
+-- What was found in each place adds up to all that the lanes had not polled.
 use Rattle.std.proofs.Common.{rules, ◌++◌, option_to_list, ap, arith}
 use Rattle.std.specs.List.{flat_map}
 use Rattle.std.proofs.lemmas.List.{length-map}
@@ -10,8 +11,9 @@ use Rattle.hub_core.specs.declared.rule.Trace.{Trace}
 use Rattle.hub_core.proofs.DrainsAddUp.{drained_then}
 use Rattle.hub_core.proofs.EachNumberOnce.{each_counted}
 use Rattle.hub_core.proofs.RingsAreDrained.{all_paired, all_rings}
-use Rattle.hub_core.proofs.EachIsDrained.{sum_joined, jobs_whole, results_whole}
 use Rattle.hub_core.proofs.drain.drain_all.Goals as goal
+use Rattle.hub_core.proofs.SumFacts.{sum_joined}
+use Rattle.hub_core.proofs.PassesAreJoined.{jobs_whole, results_whole}
 
 pub place_rings-requires-clause-rings : goal.place_rings-requires-clause-rings
 place_rings-requires-clause-rings g c =

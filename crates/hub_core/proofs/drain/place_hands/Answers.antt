@@ -1,10 +1,12 @@
+-- Each worker's pass is joined, and the delivery in its hand placed.
 use Rattle.std.proofs.Common.{rules, ap, arith, refl}
 use Rattle.crossbeam_queue.specs.Passes.{view}
 use Rattle.hub_core.specs.declared.rule.Trace.{Trace}
 use Rattle.hub_core.proofs.RuleIsKept.{merges}
 use Rattle.hub_core.specs.Workers.{posted, taken}
-use Rattle.hub_core.proofs.EachIsDrained.{hands_drained, pops_more, pushes_more}
+use Rattle.hub_core.proofs.EachIsDrained.{hands_drained}
 use Rattle.hub_core.proofs.drain.place_hands.Goals as goal
+use Rattle.hub_core.proofs.PassesAreJoined.{pops_more, pushes_more}
 
 pub absorb-requires-clause-rule : goal.absorb-requires-clause-rule
 absorb-requires-clause-rule c = merges _ _ _ _ _ (let e = ap (λ (v : Trace). v.shares) c.loop-seat.invariant.jobs in omega arith)

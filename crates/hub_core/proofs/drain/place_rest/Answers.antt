@@ -3,8 +3,7 @@ use Rattle.hub_core.proofs.drain.place_rest.Goals as goal
 
 pub loop-i-preserved : goal.loop-i-preserved
 loop-i-preserved c =
-    let r = rest_more _ _ _ _ _ _ _ _ _ _ c.loop-i.invariant.left c.loop-i.invariant.drained.1 c.loop-i.invariant.drained.2 c.pop_known.ensures.received.1
-    c.place.ensures in
+    let r = rest_more _ _ _ _ _ _ _ _ _ c.loop-i.invariant.left c.loop-i.invariant.drained c.pop_known.ensures.received.1 c.place.ensures in
     record { left = r.0; drained = r.1 }
 
 pub returns-clause-drains : goal.returns-clause-drains

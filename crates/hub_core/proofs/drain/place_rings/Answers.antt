@@ -1,3 +1,4 @@
+-- Each lane's pass is joined, and the rest of its ring placed.
 use Rattle.std.proofs.Common.{rules, List, ◌≡◌, ◌<◌, [], ◌∷◌, ◌++◌, length, refl, sym, ap, ◌∙◌, arith, subst, append_assoc}
 use Rattle.std.proofs.lemmas.List.Elements.{All-head, All-rest, All-same}
 use Rattle.std.specs.Vec.Iter.{into_iter_items}
@@ -6,14 +7,16 @@ use Rattle.hub_core.specs.declared.lane_seat.LaneSeat.{LaneSeat}
 use Rattle.hub_core.specs.declared.rule.Trace.{Trace}
 use Rattle.hub_core.specs.inner.Fresh.{IsPairedIn}
 use Rattle.hub_core.specs.Lanes.{lane_of, submitted}
-use Rattle.hub_core.specs.inner.Draining.{AreFromFirst}
+use Rattle.hub_core.specs.inner.Draining.{AreFromFirst, AreLeftInRings}
 use Rattle.hub_core.specs.inner.Rule.{JoinsPushes}
-use Rattle.hub_core.proofs.EachIsDrained.{pushes_more}
 use Rattle.hub_core.proofs.DrainsAddUp.{drained_none}
-use Rattle.hub_core.proofs.RingsAreDrained.{RingDrained, ends_more, ends_same, from_first, none_left, pair_now, ring_drained, sent_now}
+use Rattle.hub_core.proofs.RingsAreDrained.{ends_more, ends_same, from_first, pair_now, ring_drained, sent_now}
 use Rattle.hub_core.proofs.RingsAfterStep.{sent_same}
 use Rattle.hub_core.proofs.RuleIsKept.{merges}
 use Rattle.hub_core.proofs.drain.place_rings.Goals as goal
+use Rattle.hub_core.proofs.ListFacts.{all_if_none_left}
+use Rattle.hub_core.proofs.PassesAreJoined.{pushes_more}
+use Rattle.hub_core.specs.inner.DrainedLists.{Drains}
 
 pub loop-closed-init : goal.loop-closed-init
 loop-closed-init c = record {
@@ -63,9 +66,9 @@ loop-closed-preserved c =
           seat.share seat.pushes_only refl inv.jobs c.absorb.ensures.rule);
       rings = ends_more rings now (lane_of seat) ring c.place_rest.new.producer inv.rings c.index_mut.ensures.value low rest.same.0;
       sent = sent_same now (lane_of seat) ring c.place_rest.new.producer c.index_mut.ensures.value low rest.same.1 ∙ inv.sent;
-      drained = subst (λ (s : LaneSeat). RingDrained c.args.lists.now.items c.place_rest.new.lists.items rings (c.loop-closed.yielded ++ s ∷ [])) is
-          (ring_drained c.args.lists.now.items c.loop-closed.lists.items c.place_rest.new.lists.items rings c.loop-closed.yielded seat inv.drained.0
-          rest.drains.0 inv.drained.1 rest.drains.1 inv.drained.2 left);
+      drained = subst (λ (s : LaneSeat). Drains c.args.lists.now.items c.place_rest.new.lists.items (AreLeftInRings rings (c.loop-closed.yielded ++ s ∷ []))) is
+          (ring_drained c.args.lists.now.items c.loop-closed.lists.items c.place_rest.new.lists.items rings c.loop-closed.yielded seat rest.drains.0
+          inv.drained rest.drains.1 left);
       received = subst (λ (s : LaneSeat). AreFromFirst rings (c.loop-closed.yielded ++ s ∷ [])) is
           (from_first rings c.loop-closed.yielded seat rest.drains.0 inv.received left);
     }
@@ -74,5 +77,5 @@ pub returns-clause-received : goal.returns-clause-received
 returns-clause-received c =
     let start : into_iter_items c.into_iter-closed-iterator.result ≡ c.args.lanes.items = search rules in
     let none : length (into_iter_items c.loop-closed.closed-iterator) ≡ 0 = search rules in
-    let all = none_left c.loop-closed.yielded (into_iter_items c.loop-closed.closed-iterator) c.args.lanes.items none (c.loop-closed.invariant.all ∙ start) in
+    let all = all_if_none_left c.loop-closed.yielded (into_iter_items c.loop-closed.closed-iterator) c.args.lanes.items none (c.loop-closed.invariant.all ∙ start) in
     subst (λ (ss : List LaneSeat). AreFromFirst c.args.rings.now.items ss) all c.loop-closed.invariant.received

@@ -1,12 +1,11 @@
-use Rattle.std.proofs.Common.{◌≡◌, ◌+◌, ◌++◌, ℕ, List}
-use Rattle.std.specs.List.{All, sum_by}
+use Rattle.std.proofs.Common.{◌≡◌, ◌++◌}
+use Rattle.std.specs.List.{All}
 use Rattle.std.specs.Vec.Iter.{into_iter_items}
 use Rattle.crossbeam_queue.specs.Passes.{view, IsPassOf}
-use Rattle.lane_core.specs.declared.job.Plain.{Plain}
-use Rattle.hub_core.specs.inner.DrainedLists.{DrainsInto}
+use Rattle.hub_core.specs.inner.DrainedLists.{Drains}
 use Rattle.hub_core.specs.inner.Fresh.{IsPairedIn}
-use Rattle.hub_core.specs.Lanes.{numbers_of, submitted}
-use Rattle.hub_core.specs.inner.Draining.{AreFromFirst, all_received, to_lanes}
+use Rattle.hub_core.specs.Lanes.{submitted}
+use Rattle.hub_core.specs.inner.Draining.{AreFromFirst, AreLeftInRings}
 use Rattle.hub_core.specs.Rings.{all_sent}
 use Rattle.hub_core.specs.inner.Rule.{JoinsPushes}
 use Rattle.hub_core.proofs.RingsAreDrained.{AreSameEnds}
@@ -22,7 +21,6 @@ invariant-loop-closed l = record {
   jobs : JoinsPushes submitted l.yielded (view l.initial.all_jobs) (view l.all_jobs);
   rings : AreSameEnds l.initial.rings.items l.rings.items;
   sent : all_sent l.rings.items ≡ all_sent l.initial.rings.items;
-  drained : (xs : List Plain) × DrainsInto l.initial.lists.items l.lists.items xs
-      × ((h : Plain → ℕ) → sum_by h xs + all_received h l.yielded ≡ to_lanes h l.initial.rings.items (numbers_of l.yielded));
+  drained : Drains l.initial.lists.items l.lists.items (AreLeftInRings l.initial.rings.items l.yielded);
   received : AreFromFirst l.initial.rings.items l.yielded;
 }

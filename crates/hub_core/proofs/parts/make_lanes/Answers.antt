@@ -1,3 +1,4 @@
+-- One lane more, with one share of the queue of jobs and a ring of its own.
 use Rattle.std.proofs.Common.{rules, ◌≡◌, ◌-◌, List, ◌∷◌, [], length, length-append, subst, ap, arith, sym, ◌∙◌}
 use Rattle.std.specs.List.{All, range_with_len}
 use Rattle.std.proofs.lemmas.List.Elements.{All-push}

@@ -1,3 +1,4 @@
+-- All seats are back, so that the hub can be finished.
 use Rattle.std.proofs.Common.{◌∙◌, ap, arith, map, subst, sym}
 use Rattle.std.specs.List.{All}
 use Rattle.hub_core.specs.Hubs.{IsLaneOf, shape_of, year_of}

@@ -1,3 +1,4 @@
+-- By the seats that came back the traffic was given and brought what the lanes submitted and polled.
 use Rattle.std.proofs.Common.{◌≡◌, ◌∙◌, None, ap, arith, subst, sym}
 use Rattle.hub_core.specs.Hubs.{year_of}
 use Rattle.hub_core.specs.Serving.{served}
@@ -7,8 +8,10 @@ use Rattle.hub_core.specs.declared.shape.Shape.{Shape}
 use Rattle.hub_core.specs.inner.CallingThread.{AreLeftLost}
 use Rattle.hub_core.specs.inner.Traffics.{AreOwnSeats, given_to, polled_by_each}
 use Rattle.hub_core.proofs.LanesAreCounted.{lanes_counted}
-use Rattle.hub_core.proofs.SeatsServeTraffic.{all_served, came_fresh, first_of_first, if_lost, serves_fresh, served_first}
 use Rattle.hub_core.proofs.traffic_serving.serve_traffic.Goals as goal
+use Rattle.hub_core.proofs.NewSeatsServe.{came_fresh, serves_fresh}
+use Rattle.hub_core.proofs.ServedFirst.{all_served, first_of_first, served_first}
+use Rattle.hub_core.proofs.ThreadGoesOn.{if_lost}
 
 pub take_own-own-requires : goal.take_own-own-requires
 take_own-own-requires g c =

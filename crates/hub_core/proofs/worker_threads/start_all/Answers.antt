@@ -1,3 +1,4 @@
+-- Each thread's promise is of this hub, and gives a seat of it back.
 use Rattle.std.proofs.Common.{ap, arith, rules, ◌≡◌, [], ◌∷◌, codes, List}
 use Rattle.std.proofs.Crossing.{crosses}
 use Rattle.std.proofs.lemmas.List.Elements.{All-push}

@@ -1,3 +1,4 @@
+-- The ticket is taken off those that are known, and its delivery off those that wait, if it is there.
 use Rattle.std.proofs.Common.{rules, ◌≡◌, ◌<◌, ◌^◌, Bool, false, true, refl, sym, ap, ◌∙◌}
 use Rattle.std.specs.List.{list_any}
 use Rattle.std.specs.Map.{lookup}

@@ -1,10 +1,12 @@
+-- Each delivery that a lane polls is its next, and is what the traffic awaits; if it is not brought it is lost.
 use Rattle.std.proofs.Common.{◌<◌, ◌∙◌, ap, arith, length, refl, set, subst, sym}
 use Rattle.hub_core.specs.Hubs.{shape_of}
 use Rattle.hub_core.specs.Traffics.{IsNextOf}
 use Rattle.hub_core.specs.inner.Traffics.{AreOwnSeats, given_to, polled_by_each}
-use Rattle.hub_core.proofs.SeatsServeTraffic.{came_brought, came_same, goes_since, lane_at, lost_since, lost_step, next_of, polled_more, room_same, rows_same_given, seat_at, seats_counted, step_serves}
+use Rattle.hub_core.proofs.SeatsServeTraffic.{came_brought, came_same, lane_at, next_of, polled_more, room_same, rows_same_given, seat_at, seats_counted, step_serves}
 use Rattle.hub_core.proofs.calling_thread.CallingThread.bring_all.Goals as goal
 use Rattle.hub_core.proofs.calling_thread.CallingThread.bring_all.Goals.{After-poll, In-Some}
+use Rattle.hub_core.proofs.ThreadGoesOn.{goes_since, lost_since, lost_step, lanes_kept}
 
 pub hand-requires : goal.hand-requires
 hand-requires g c =
@@ -21,20 +23,11 @@ hand-requires g c =
       inv.serves.deliverer.lanes,
     )
 
+-- the lane's seat is there
 low : (g : _) (c : After-poll g) → c.from-index.result < length c.loop-i.self.lanes.items
 low g c =
     let s = c.args.self.now in
-    let t = c.loop-i.self in
-    let inv = c.loop-i.invariant in
-    omega (
-      arith,
-      c.if-index-len.false,
-      c.len.ensures,
-      s.lanes.ok.0,
-      seats_counted s.hub.now s.lanes.items s.held c.requires.lanes,
-      ap (λ h. (shape_of h).lanes) inv.hub,
-      seats_counted t.hub.now t.lanes.items t.held inv.serves.lanes,
-    )
+    omega (arith, c.if-index-len.false, c.len.ensures, s.lanes.ok.0, lanes_kept g.T.Traffic.Came s c.loop-i.self c.requires c.loop-i.invariant)
 
 still_serves : (g : _) (c : After-poll g)
     → AreOwnSeats c.loop-i.self.hub.now (set c.loop-i.self.lanes.items c.from-index.result c.poll.new.self) c.loop-i.self.held
@@ -47,23 +40,12 @@ still_serves g c =
     step_serves s.hub.now seats s.held s.held c.from-index.result c.index_mut.result.now c.poll.new.self at c.poll.ensures.lane is was
     (room_same seats s.held c.from-index.result c.index_mut.result.now c.poll.new.self at c.poll.ensures.submits was.room)
 
-is_next : (g : _) (c : In-Some g) → IsNextOf c.in-Some.delivery (given_to c.loop-i.self.lanes.items c.loop-i.self.held) (polled_by_each c.loop-i.self.lanes.items)
-is_next g c =
+-- what it polled is its lane's next
+is_next : (g : _) (c : In-Some g) → c.from-index.result < length c.loop-i.self.lanes.items → IsNextOf c.in-Some.delivery (given_to c.loop-i.self.lanes.items c.loop-i.self.held) (polled_by_each c.loop-i.self.lanes.items)
+is_next g c there =
     let s = c.loop-i.self in
     let polls = c.in-Some.ensures.polls in
     let t = c.poll.new.self in
-    let first = c.args.self.now in
-    let inv = c.loop-i.invariant in
-    let there : c.from-index.result < length s.lanes.items =
-    omega (
-      arith,
-      c.if-index-len.false,
-      c.len.ensures,
-      first.lanes.ok.0,
-      seats_counted first.hub.now first.lanes.items first.held c.requires.lanes,
-      ap (λ h. (shape_of h).lanes) inv.hub,
-      seats_counted s.hub.now s.lanes.items s.held inv.serves.lanes,
-    ) in
     next_of s.hub.now s.lanes.items s.held c.from-index.result c.index_mut.result.now t c.in-Some.delivery c.loop-i.invariant.serves.lanes
     there c.index_mut.ensures.value c.poll.ensures.submits polls.0 polls.1 polls.2
     (omega (arith, t.polled_issued, t.counted, t.polls_counted))
@@ -75,7 +57,7 @@ bring-requires g c =
       given_to s.lanes.items s.held,
       polled_by_each s.lanes.items,
       rw c.deref_mut.ensures.value c.loop-i.invariant.serves.came,
-      is_next g (goal.at.bring-requires g c).In-Some,
+      is_next g (goal.at.bring-requires g c).In-Some (low g (goal.at.bring-requires g c).After-poll),
     )
 
 pub loop-i-preserved : goal.loop-i-preserved
@@ -99,7 +81,7 @@ loop-i-preserved g c =
         came = came_brought (g.T.Traffic.Came s.start.value c.bring.new.self) seats s.held c.from-index.result c.in-Some.delivery.lane c.index_mut.result.now
             c.poll.new.self c.in-Some.delivery (lane ∙ sym polls.0) (low g d) at c.poll.ensures.submits polls.2
             (c.in_ok-bring-in-Some.ensures.brings s.start.value (given_to seats s.held) (polled_by_each seats) (rw c.deref_mut.ensures.value is.came)
-            (is_next g (goal.at.loop-i-preserved g c).In-Some));
+            (is_next g (goal.at.loop-i-preserved g c).In-Some (low g d)));
       };
     }
 

@@ -1,5 +1,5 @@
-use Rattle.hub_core.proofs.SeatsServeTraffic.{lost_since, lost_step}
 use Rattle.hub_core.proofs.calling_thread.CallingThread.collect_some.Goals as goal
+use Rattle.hub_core.proofs.ThreadGoesOn.{lost_since, lost_step}
 
 pub returns-in_err-bring_all : goal.returns-in_err-bring_all
 returns-in_err-bring_all g c =

@@ -1,5 +1,5 @@
-use Rattle.hub_core.proofs.SeatsServeTraffic.{lost_since}
 use Rattle.hub_core.proofs.calling_thread.CallingThread.run.Goals as goal
+use Rattle.hub_core.proofs.ThreadGoesOn.{lost_since}
 
 pub returns-in-Err : goal.returns-in-Err
 returns-in-Err g c =

@@ -1,12 +1,14 @@
+-- The row in hand or the traffic's next goes into its lane's seat, or stays in hand if the queue is full.
 use Rattle.std.proofs.Common.{◌≡◌, ◌<◌, ◌∙◌, IfSome, List, ℕ, None, Some, arith, length, map, option_to_list, refl, set, subst, sym}
 use Rattle.std.proofs.lemmas.List.{length-map}
 use Rattle.hub_core.specs.Lanes.{submitted_rows}
 use Rattle.hub_core.specs.Traffics.{HasRoom}
 use Rattle.hub_core.specs.inner.CallingThread.{CameBySeats}
 use Rattle.hub_core.specs.inner.Traffics.{polled_by_each, with_held}
-use Rattle.hub_core.proofs.SeatsServeTraffic.{came_full, came_more, goes_since, if_none, next_came, room_same, seat_at, step_serves}
+use Rattle.hub_core.proofs.SeatsServeTraffic.{came_full, came_more, if_none, next_came, room_same, seat_at, step_serves}
 use Rattle.hub_core.proofs.calling_thread.CallingThread.submit_some.Goals as goal
 use Rattle.hub_core.proofs.calling_thread.CallingThread.submit_some.Goals.{Joined-take, in-None, in_default}
+use Rattle.hub_core.proofs.ThreadGoesOn.{goes_since}
 
 -- the seats are those of before, and the traffic has come by them and by the next row
 ready : (g : _) (c : Joined-take g)

@@ -1,6 +1,6 @@
 use Rattle.std.proofs.Common.{refl}
-use Rattle.hub_core.proofs.SeatsServeTraffic.{lost_since, lost_step}
 use Rattle.hub_core.proofs.calling_thread.CallingThread.take_turn.Goals as goal
+use Rattle.hub_core.proofs.ThreadGoesOn.{lost_since, lost_step}
 
 pub returns-in_err-collected-clause-step : goal.returns-in_err-collected-clause-step
 returns-in_err-collected-clause-step g c =

@@ -1,3 +1,4 @@
+-- The lane's next number goes from the deliverer to the lane's ring, and the seat's account stays even.
 use Rattle.std.proofs.Common.{List, [], ap, arith, get_or, length, option_to_list, refl, rules, set, subst, sym, ◌++◌, ◌<◌, ◌∙◌, ◌∷◌, ◌≡◌}
 use Rattle.std.proofs.lemmas.List.{length-map, length-set}
 use Rattle.std.specs.List.{slice_get}
@@ -7,10 +8,11 @@ use Rattle.lane_core.specs.declared.job.Plain.{Plain}
 use Rattle.hub_core.specs.Passes.{popped_by}
 use Rattle.hub_core.specs.Rings.{PushEnd, all_sent}
 use Rattle.hub_core.specs.inner.Accounting.{Accounted}
-use Rattle.hub_core.proofs.NextIsThere.{is_there}
-use Rattle.hub_core.proofs.RingsAfterStep.{ends_set, got_set, same_ring, sent_more, sent_same}
+use Rattle.hub_core.proofs.RingsAfterStep.{ends_set, same_ring, sent_more, sent_same}
 use Rattle.hub_core.proofs.DeliveriesAreAccounted.{given_else, given_now, handed_one}
 use Rattle.hub_core.proofs.deliverer_seat.DelivererSeat.hand.Goals as goal
+use Rattle.hub_core.proofs.ListFacts.{got_set}
+use Rattle.hub_core.proofs.TruthFacts.{some_if_not_none}
 
 pub invariant_of-self-then-is_full : goal.invariant_of-self-then-is_full
 invariant_of-self-then-is_full c =
@@ -47,7 +49,7 @@ returns-then-is_full c =
     c.is_full.ensures.looked.1 in
     record {
       hands = (
-        c.next.ensures.exactly.0 (is_there c.next.result (search rules)),
+        c.next.ensures.exactly.0 (some_if_not_none c.next.result (search rules)),
         refl,
         refl,
         refl,

@@ -1,3 +1,4 @@
+-- What was popped is taken in, set aside or in hand, at each way out.
 use Rattle.std.proofs.Common.{ap, sym, ◌∙◌}
 use Rattle.crossbeam_queue.specs.Passes.{view}
 use Rattle.hub_core.specs.Rings.{all_sent}

@@ -1,3 +1,4 @@
+-- What each lane received is the first of what it was handed, and so of its rows.
 use Rattle.std.proofs.Common.{◌≡◌, ◌++◌, ◌∙◌, [], List, ap, append_assoc, drop, get_or, length, sym}
 use Rattle.std.proofs.lemmas.List.{take-append-drop}
 use Rattle.lane_core.specs.declared.job.Plain.{Plain}
@@ -7,8 +8,9 @@ use Rattle.hub_core.specs.Lanes.{lane_of, received, submitted}
 use Rattle.hub_core.specs.Rings.{all_sent}
 use Rattle.hub_core.specs.declared.lane_seat.LaneSeat.{LaneSeat}
 use Rattle.hub_core.proofs.SeatsAsLanes.{PolledFirst, polled_first}
-use Rattle.hub_core.proofs.PartsAreAState.{all_at, all_polled, nothing_lost, stands_for, state_of, whole_from}
+use Rattle.hub_core.proofs.PartsAreAState.{whole_from, is_whole}
 use Rattle.hub_core.proofs.hub.Hub.finish.Goals as goal
+use Rattle.hub_core.proofs.ListFacts.{all_at}
 
 pub drain_all-requires : goal.drain_all-requires
 drain_all-requires g c = c.requires
@@ -33,13 +35,5 @@ returns g c =
     ) in
     record {
       polled = polled_first h ls first;
-      whole = record {
-        state = (
-          state_of h ls ws d p.0 p.1,
-          stands_for h ls ws d p.0 p.1 p.2 c.requires p.3 whole,
-          c.lost_is_none.ensures (state_of h ls ws d p.0 p.1) (nothing_lost h ls ws d p.0 p.1 whole),
-        );
-        none_dropped = all_polled ls ws d p.0 p.1 whole;
-        none_aside = whole.aside;
-      };
+      whole = is_whole h ls ws d p.0 p.1 p.2 c.lost_is_none.ensures c.requires p.3 whole;
     }

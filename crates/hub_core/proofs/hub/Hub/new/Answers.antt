@@ -1,3 +1,4 @@
+-- The seats are cut off the passes that have all shares, and nothing has happened.
 use Rattle.std.proofs.Common.{◌∙◌, ap, arith, get_or, length, map, refl, sym}
 use Rattle.std.proofs.lemmas.List.{length-replicate}
 use Rattle.std.proofs.lemmas.Result.{IfOk-from_err}

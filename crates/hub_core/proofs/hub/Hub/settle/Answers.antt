@@ -1,3 +1,4 @@
+-- What `drain_all` found is, list by list, what each lane had not polled.
 use Rattle.std.proofs.Common.{◌∙◌, subst, List}
 use Rattle.hub_core.specs.inner.DrainedLists.{AreMade}
 use Rattle.hub_core.specs.Serving.{items_of}
@@ -5,8 +6,9 @@ use Rattle.hub_core.specs.Hubs.{IsLaneOf, shape_of}
 use Rattle.hub_core.specs.declared.lane_seat.LaneSeat.{LaneSeat}
 use Rattle.hub_core.proofs.SeatsAsLanes.{GivesRows, settled}
 use Rattle.hub_core.proofs.ListsHaveUnpolled.{owed}
-use Rattle.hub_core.proofs.PartsAreAState.{all_at, all_polled, nothing_lost, stands_for, state_of, whole_from}
+use Rattle.hub_core.proofs.PartsAreAState.{whole_from, is_whole}
 use Rattle.hub_core.proofs.hub.Hub.settle.Goals as goal
+use Rattle.hub_core.proofs.ListFacts.{all_at}
 
 pub drain_all-requires : goal.drain_all-requires
 drain_all-requires g c = c.requires
@@ -26,14 +28,6 @@ returns g c =
     record {
       settled = settled h ls _ rows;
       count = c.sort_all.ensures.0 ∙ (p.4.counted ∙ made.counted);
-      whole = record {
-        state = (
-          state_of h ls ws d p.0 p.1,
-          stands_for h ls ws d p.0 p.1 p.2 c.requires p.3 whole,
-          c.lost_is_none.ensures (state_of h ls ws d p.0 p.1) (nothing_lost h ls ws d p.0 p.1 whole),
-        );
-        none_dropped = all_polled ls ws d p.0 p.1 whole;
-        none_aside = whole.aside;
-      };
+      whole = is_whole h ls ws d p.0 p.1 p.2 c.lost_is_none.ensures c.requires p.3 whole;
       unsettled = tt;
     }

@@ -1,3 +1,4 @@
+-- The lane's pass has pushed one job more, under its next ticket; a full queue or a spent lane changes nothing.
 use Rattle.std.proofs.Common.{rules, ◌∷◌, ◌++◌, [], ◌∙◌, ap, arith, length, length-append, map, refl, sym}
 use Rattle.std.proofs.lemmas.List.{length-map, map-append}
 use Rattle.crossbeam_queue.specs.Passes.{view}

@@ -1,3 +1,4 @@
+-- The lane's slot has a delivery exactly if its next number waits.
 use Rattle.std.proofs.Common.{◌≡◌, ◌<◌, false, length, get_or, refl, sym, ap, ◌∙◌, subst, arith}
 use Rattle.std.proofs.lemmas.Grind.{common_steps}
 use Rattle.std.specs.Map.{values_of}

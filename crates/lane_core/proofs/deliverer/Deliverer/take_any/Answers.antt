@@ -1,3 +1,4 @@
+-- Out goes the first of the later numbers, or else one that waits in a slot; either is still known as taken in.
 use Rattle.std.proofs.Common.{◌≡◌, ◌<◌, Option, Some, None, List, ℕ, [], ◌∷◌, length, set, sym, ap, ◌∙◌, subst, arith}
 use Rattle.std.proofs.lemmas.Bool.{and_parts, or_right}
 use Rattle.std.proofs.lemmas.List.{with_items_is}

@@ -1,3 +1,4 @@
+-- A lane's next number goes into its slot, a later one into both maps, and out of them again if memory is refused.
 use Rattle.std.proofs.Common.{rules, ◌≡◌, ◌<◌, ◌^◌, ◌&&◌, Bool, not, nat_lt, true, false, length, get_or, slice_set, refl, sym, ap, ◌∙◌, arith}
 use Rattle.std.proofs.lemmas.Bool.{le-ltb, lt-ltb}
 use Rattle.std.proofs.lemmas.List.{get_or_read}

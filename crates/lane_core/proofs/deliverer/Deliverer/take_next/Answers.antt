@@ -1,3 +1,4 @@
+-- The slot is emptied, the lane's number rises by one, and the slot is filled from the later numbers.
 use Rattle.std.proofs.Common.{List, rules, ◌≡◌, ◌<◌, ◌+◌, length, get_or, slice_set, refl, sym, ap, ◌∙◌, subst, arith}
 use Rattle.std.proofs.lemmas.Grind.{get_or-set_at}
 use Rattle.std.proofs.lemmas.List.{get_or_read, length-set, nil_from_length}

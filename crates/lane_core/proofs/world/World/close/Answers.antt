@@ -1,3 +1,4 @@
+-- The lane is closed, if it is there and open.
 use Rattle.std.proofs.Common.{◌≡◌, ◌<◌, false, true, Some, length, map, ap, ◌∙◌, arith}
 use Rattle.std.specs.List.{slice_get}
 use Rattle.std.proofs.lemmas.List.{map-set}

@@ -1,15 +1,16 @@
+-- The lane's next number goes from the deliverer to the lane's outbox, if it waits and memory is there.
 use Rattle.std.proofs.Common.{◌≡◌, List, ◌<◌, [], ◌∷◌, ◌++◌, map, set, length, Bor, ap, ◌∙◌, arith}
 use Rattle.lane_core.specs.declared.event.Event.TheVariants.{Hand}
 use Rattle.lane_core.specs.declared.job.Plain.{Plain}
 use Rattle.lane_core.specs.Contents.{Contents, lane_contents}
 use Rattle.lane_core.specs.ReorderBuffer.{WaitsAsNext}
 use Rattle.lane_core.specs.Holding.{held, lane_held}
-use Rattle.lane_core.proofs.HandShowFacts.{hand_done, hand_enabled, hand_none, if_some}
+use Rattle.lane_core.proofs.HandShowFacts.{hand_done, hand_enabled, hand_none}
 use Rattle.lane_core.proofs.HeldFacts.{count_held, count_put, lane_at, lane_put, lane_same}
 use Rattle.lane_core.proofs.IdleFacts.{count_kept}
 use Rattle.lane_core.proofs.LaneShowFacts.{hand_past}
 use Rattle.lane_core.proofs.NextFacts.{none_has}
-use Rattle.lane_core.proofs.ResultFacts.{not_done, of_no_refusal, of_refusal}
+use Rattle.lane_core.proofs.ResultFacts.{not_done, of_no_refusal, of_refusal, if_some}
 use Rattle.lane_core.proofs.WorldShowsNext.{shown_after}
 use Rattle.lane_core.proofs.world.World.hand.Goals as goal
 use Rattle.lane_core.proofs.world.World.hand.Goals.{After-index_mut, After-reserve}

@@ -1,11 +1,13 @@
+-- Each test looks at one place of the machine; what is in none of the others waits.
 use Rattle.std.proofs.Common.{◌<◌, length, arith, sym, ap, ◌∙◌}
 use Rattle.std.proofs.lemmas.Bool.{lt-ltb}
 use Rattle.lane_core.specs.Holding.{held, lane_held}
 use Rattle.lane_core.specs.Machine.{handed_of, polled_of}
 use Rattle.lane_core.specs.Tickets.{is_held_by}
 use Rattle.lane_core.proofs.HeldFacts.{lane_at}
-use Rattle.lane_core.proofs.SeenFacts.{outbox_true, seen, waits}
+use Rattle.lane_core.proofs.SeenFacts.{seen, waits}
 use Rattle.lane_core.proofs.world.World.place.Goals as goal
+use Rattle.lane_core.proofs.TruthFacts.{between}
 
 pub returns-then-index-clause-none : goal.returns-then-index-clause-none
 returns-then-index-clause-none c =
@@ -35,7 +37,7 @@ returns-then-index-len-clause-found c =
     in
     let b = (seen (held c.self.inside) s l (lane_held c.index-3.result.now) reached shows (lane_at lanes l c.index-3.result.now less c.index-3.ensures)).handed
     in
-    outbox_true c.args.ticket.number (polled_of s l) (handed_of s l) (omega arith) (omega arith))
+    between c.args.ticket.number (polled_of s l) (handed_of s l) (omega arith) (omega arith))
 
 pub returns-clause-found : goal.returns-clause-found
 returns-clause-found c =

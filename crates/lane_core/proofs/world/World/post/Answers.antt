@@ -1,10 +1,11 @@
+-- The worker's job becomes the last result; without a job or memory nothing has changed.
 use Rattle.std.proofs.Common.{List, ◌<◌, not, [], ◌∷◌, ◌++◌, length, Some, refl, sym, ap, ◌∙◌, arith}
 use Rattle.lane_core.specs.declared.event.Event.TheVariants.{Post}
 use Rattle.lane_core.specs.declared.job.Plain.{Plain}
 use Rattle.lane_core.specs.Contents.{Contents}
 use Rattle.lane_core.specs.Holding.{held}
 use Rattle.lane_core.proofs.IdleFacts.{post_enabled, post_free, post_past, still_there}
-use Rattle.lane_core.proofs.ListFacts.{none_from, placed}
+use Rattle.lane_core.proofs.ListFacts.{placed, none_from}
 use Rattle.lane_core.proofs.ResultFacts.{not_done, of_no_refusal, of_refusal, some_from}
 use Rattle.lane_core.proofs.WorldShowsNext.{post_done, shown_after}
 use Rattle.lane_core.proofs.world.World.post.Goals as goal

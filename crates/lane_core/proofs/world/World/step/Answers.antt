@@ -1,3 +1,4 @@
+-- Each event is the call of its name.
 use Rattle.std.specs.Prelude.{Err, IfErr, Ok, Result}
 use Rattle.std.proofs.Common.{◌≡◌, Bool, true, ap, refl, sym, ◌∙◌}
 use Rattle.lane_core.specs.declared.event.Event.{Event}

@@ -1,3 +1,4 @@
+-- The row is the last job under the lane's next ticket; a lane that is not there, closed or spent changes nothing.
 use Rattle.std.proofs.Common.{◌≡◌, List, ℕ, ◌+◌, ◌<◌, ◌^◌, [], ◌∷◌, ◌++◌, Some, false, length, map, ap, ◌∙◌, arith}
 use Rattle.std.specs.declared.alloc.AllocFailed.{AllocFailed}
 use Rattle.std.specs.List.{slice_get}

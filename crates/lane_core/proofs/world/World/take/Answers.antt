@@ -1,9 +1,10 @@
+-- The first job goes to the worker, if there is one and the worker has none.
 use Rattle.std.proofs.Common.{◌≡◌, ◌<◌, length, arith, refl, sym, ◌∙◌, ap, Some}
 use Rattle.lane_core.specs.Contents.{Contents}
 use Rattle.lane_core.specs.Holding.{held}
 use Rattle.lane_core.specs.declared.event.Event.TheVariants.{Take}
 use Rattle.lane_core.proofs.IdleFacts.{take_busy, take_empty, take_past}
-use Rattle.lane_core.proofs.ListFacts.{none_from, placed}
+use Rattle.lane_core.proofs.ListFacts.{placed, none_from}
 use Rattle.lane_core.proofs.ResultFacts.{not_done, some_from}
 use Rattle.lane_core.proofs.WorldShowsNext.{shown_after, take_done}
 use Rattle.lane_core.proofs.world.World.take.Goals as goal

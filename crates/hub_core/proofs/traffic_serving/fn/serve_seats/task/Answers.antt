@@ -1,8 +1,9 @@
+-- The thread begins with the seats of the hub and the traffic as it was.
 use Rattle.std.proofs.Common.{◌≡◌, ◌∙◌, IfSome, refl, rules, subst}
 use Rattle.hub_core.specs.Hubs.{IsDelivererOf, IsWorkerOf}
 use Rattle.hub_core.specs.inner.Traffics.{AreOwnSeats, given_to, polled_by_each}
-use Rattle.hub_core.proofs.SeatsServeTraffic.{if_lost, left_lost}
 use Rattle.hub_core.proofs.traffic_serving.fn.serve_seats.task.Goals as goal
+use Rattle.hub_core.proofs.ThreadGoesOn.{if_lost, left_lost}
 
 pub returns : goal.returns
 returns g c =
