@@ -66,13 +66,17 @@ impl Holding {
         lane.get(ticket.number as usize)
     }
 
-    /// Whether each row of the lanes has come once, and no other, and each wait has ended before its limit.
-    pub fn saw_each_once(&self) -> bool {
+    /// Whether each row of the lanes has come once, and no other, however long a wait was.
+    pub fn counted_each_once(&self) -> bool {
         self.others.load(Ordering::SeqCst) == 0
-            && self.limits_met.load(Ordering::SeqCst) == 0
             && self.came.iter().all(|lane| lane
                 .iter()
                 .all(|count| count.load(Ordering::SeqCst) == 1))
+    }
+
+    /// The same, if each wait has ended before its limit.
+    pub fn saw_each_once(&self) -> bool {
+        self.counted_each_once() && self.limits_met.load(Ordering::SeqCst) == 0
     }
 }
 

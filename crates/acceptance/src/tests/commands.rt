@@ -69,6 +69,20 @@ fn writes_past<R: Threads + Wait + AllocGlobal + Sync + Abort>(
     Ok(())
 }
 
+/// That a command's one worker reads both rows of this input: while it is held at the first, nobody reads the second.
+fn reads_both_alone<R: Threads + Wait + AllocGlobal + Sync + Abort>(
+    rt: &R,
+    asked: WholeInput,
+    input: &[u8],
+    wanted: &[u8],
+) -> Result<(), Fail> {
+    let gate = Holding::new(rt.alloc(), &[2], ticket(0, 0), ticket(0, 1))?;
+    let gate = gate.with_limit(100_000);
+    writes(rt, asked, input, &gate, wanted)?;
+    assert!(*rt; gate.counted_each_once());
+    Ok(())
+}
+
 /// The options of this many lanes and workers, in 2026.
 fn options_of(lanes: u8, workers: u8) -> Result<LaneOptions, Fail> {
     Ok(LaneOptions::new(lanes, workers, 2026).ok_or("options")?)
@@ -128,6 +142,21 @@ fn two_workers_read_the_rows_of_a_column(rt: HostRuntime) -> Result<(), Fail> {
     let gate = Holding::new(rt.alloc(), &[2], ticket(0, 0), ticket(0, 1))?;
     let wanted = b"0 0 ]E0 (01)09501101530003\n0 1 ]E0 (01)09501101530003\n";
     writes_past(&rt, WholeInput::Scan(options), TWO_LABELS, &gate, wanted)
+}
+
+#[test]
+fn one_worker_reads_the_rows_of_a_lane(rt: HostRuntime) -> Result<(), Fail> {
+    let options = options_of(1, 1)?;
+    let input = format!(in rt.alloc(); "0,{EAN13}\n0,{EAN8}\n")?;
+    let wanted = b"0 0 ]E0 (01)09501101530003\n0 1 ]E4 (01)00000096385074\n";
+    reads_both_alone(&rt, WholeInput::Lanes(options), input.as_bytes(), wanted)
+}
+
+#[test]
+fn one_worker_reads_the_rows_of_a_column(rt: HostRuntime) -> Result<(), Fail> {
+    let options = ScanOptions::new(1, 113, 3, 1, 2, 1, 2026).ok_or("options")?;
+    let wanted = b"0 0 ]E0 (01)09501101530003\n0 1 ]E0 (01)09501101530003\n";
+    reads_both_alone(&rt, WholeInput::Scan(options), TWO_LABELS, wanted)
 }
 
 #[test]

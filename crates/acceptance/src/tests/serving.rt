@@ -94,6 +94,7 @@ fn one_worker_reads_one_row_at_a_time(rt: HostRuntime) -> Result<(), Fail> {
     let gate = Holding::new(rt.alloc(), &[2], FIRST, Ticket { lane: 0, number: 1 })?;
     let gate = gate.with_limit(100_000);
     answered(&rt, &[&[EAN13, EAN8]], 1, &gate)?;
+    is_true(&rt, gate.counted_each_once());
     is_true(&rt, !gate.saw_each_once());
     Ok(())
 }
