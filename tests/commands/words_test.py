@@ -11,7 +11,7 @@ with open(os.path.join(os.path.dirname(__file__), "..", "..", "VERSION"), encodi
 
 YEAR = "--year <YEAR> Reference year 1951 to 2149"
 AIS = "--ais <AIS> AIs profile all GS1 General Specifications [default: profile] [possible values: profile, all]"
-WORKERS = "--workers <COUNT> threads 1 to 16"
+WORKERS = "--workers <COUNT> workers 1 to 16"
 GRID = [
     "--module <DOTS> module 1 to 8 dots",
     "--width <DOTS> cell 1 to 4096 dots",

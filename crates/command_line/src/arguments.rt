@@ -51,7 +51,7 @@ const ROWS: &str = "Cells in a column of a sheet, 1 to 64";
 const LANES: &str = "How many lanes there are, 1 to 16";
 
 /// The option `--workers`.
-const WORKERS: &str = "How many threads read rows, 1 to 16";
+const WORKERS: &str = "How many workers read rows, 1 to 16";
 
 /// The option `--year`.
 const YEAR: &str = "Reference year for years of two digits, 1951 to 2149, such as this year";
