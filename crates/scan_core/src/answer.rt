@@ -14,6 +14,8 @@ use crate::rounding::{is_quiet, round, total_dots};
 use crate::runs::{Runs, inner, runs_fault};
 use crate::stage::{Stage, later};
 use crate::symbol::{ReadSymbol, read_some_way};
+use arrayvec::ArrayVec;
+use ean_code::Modules;
 use element_core::{Elements, Form, Year};
 use std::alloc::AllocError;
 
@@ -31,62 +33,65 @@ pub enum Answer {
     Refused(RowFault),
 }
 
-/// A symbol that a row shows.
-#[derive(Drop)]
-struct Shown {
-    carrier: Carrier,
-    symbol: ReadSymbol,
-}
-
-/// The symbol that the row shows as a candidate, or the stage at which the row fails as one. Its
-/// runs between the light ends are `total` dots.
-fn try_candidate(widths: &[u16], total: u32, candidate: Candidate) -> Result<Shown, Stage>
+/// Puts the symbol that the row shows as a candidate into `symbol`, and answers its carrier, or the stage at which
+/// the row fails as one. Its runs between the light ends are `total` dots.
+fn try_candidate(
+    widths: &[u16],
+    total: u32,
+    candidate: Candidate,
+    symbol: &mut ReadSymbol,
+) -> Result<Carrier, Stage>
     requires row { IsRow widths.now }
     requires sum { total ≡ sum (inner widths.now) }
     requires counted { HasSize (kind_of candidate.carrier) (length (inner widths.now)) candidate.count }
-    ensures shown { IfOk result (λ s. ShowsSymbol widths.now s.carrier s.symbol) }
+    ensures shown { IfOk result (λ carrier. ShowsSymbol widths.now carrier symbol.new) }
     ensures fails { IfErr result (λ stage. Fails widths.now candidate.carrier candidate.count stage) }
 {
     if !is_quiet(widths, total, candidate.count) {
         return Err(Stage::QuietZone);
     }
-    let Some(mut modules) = round(inner(widths), total as u16, candidate.count) else {
+    let mut rounded = ArrayVec::new();
+    if !round(inner(widths), total as u16, candidate.count, &mut rounded) {
         return Err(Stage::Modules);
-    };
-    match read_some_way(candidate.carrier, &mut modules) {
-        Some(symbol) => Ok(Shown {
-            carrier: candidate.carrier,
-            symbol,
-        }),
-        None => Err(Stage::Pattern),
     }
+    let mut modules = Modules::new(rounded);
+    if !read_some_way(candidate.carrier, &mut modules, symbol) {
+        return Err(Stage::Pattern);
+    }
+    Ok(candidate.carrier)
 }
 
-/// The symbol that the row shows as one of the candidates, or the later one of the stages at which
-/// it fails as them.
-fn try_both(widths: &[u16], total: u32, fixed: Candidate, gs1128: Candidate) -> Result<Shown, Stage>
+/// Puts the symbol that the row shows as one of the candidates into `symbol`, and answers its carrier, or the later
+/// one of the stages at which the row fails as them.
+fn try_both(
+    widths: &[u16],
+    total: u32,
+    fixed: Candidate,
+    gs1128: Candidate,
+    symbol: &mut ReadSymbol,
+) -> Result<Carrier, Stage>
     requires row { IsRow widths.now }
     requires sum { total ≡ sum (inner widths.now) }
     requires counted { HasSize (kind_of fixed.carrier) (length (inner widths.now)) fixed.count }
     requires counted_gs1128 { HasSize (kind_of gs1128.carrier) (length (inner widths.now)) gs1128.count }
     requires fixed { fixed.carrier ≢ Carrier.Gs1128 }
     requires gs1128 { gs1128.carrier ≡ Carrier.Gs1128 }
-    ensures shown { IfOk result (λ s. ShowsSymbol widths.now s.carrier s.symbol) }
+    ensures shown { IfOk result (λ carrier. ShowsSymbol widths.now carrier symbol.new) }
     ensures fails { IfErr result (λ stage. FailsAt widths.now stage) }
 {
-    match try_candidate(widths, total, fixed) {
-        Ok(shown) => Ok(shown),
-        Err(stage) => match try_candidate(widths, total, gs1128) {
-            Ok(shown) => Ok(shown),
+    match try_candidate(widths, total, fixed, symbol) {
+        Ok(carrier) => Ok(carrier),
+        Err(stage) => match try_candidate(widths, total, gs1128, symbol) {
+            Ok(carrier) => Ok(carrier),
             Err(other) => Err(later(stage, other)),
         },
     }
 }
 
-/// The symbol that the row shows, or why it is refused.
-fn find_shown(widths: &[u16]) -> Result<Shown, RowFault>
+/// Puts the symbol that the row shows into `symbol`, and answers its carrier, or why the row is refused.
+fn find_shown(widths: &[u16], symbol: &mut ReadSymbol) -> Result<Carrier, RowFault>
     requires { IsRow widths.now }
-    ensures shown { IfOk result (λ s. ShowsSymbol widths.now s.carrier s.symbol) }
+    ensures shown { IfOk result (λ carrier. ShowsSymbol widths.now carrier symbol.new) }
     ensures refused { IfErr result (IsUnread widths.now) }
 {
     if widths.len() == 1 {
@@ -95,20 +100,23 @@ fn find_shown(widths: &[u16]) -> Result<Shown, RowFault>
     let inner = inner(widths);
     let total = total_dots(inner);
     match (fixed_candidate(inner.len()), gs1128_candidate(inner.len())) {
-        (Some(fixed), Some(gs1128)) => Ok(try_both(widths, total, fixed, gs1128)?),
-        (Some(fixed), None) => Ok(try_candidate(widths, total, fixed)?),
-        (None, Some(gs1128)) => Ok(try_candidate(widths, total, gs1128)?),
+        (Some(fixed), Some(gs1128)) => Ok(try_both(widths, total, fixed, gs1128, symbol)?),
+        (Some(fixed), None) => Ok(try_candidate(widths, total, fixed, symbol)?),
+        (None, Some(gs1128)) => Ok(try_candidate(widths, total, gs1128, symbol)?),
         (None, None) => Err(RowFault::RunCount),
     }
 }
 
 /// What is found in the row of these widths.
+///
+/// The symbol is put in its place where it is read, since a result is copied by each function that returns it.
 pub(crate) fn found_in(widths: &[u16]) -> Found
     requires { IsRow widths.now }
     ensures { IsFound widths.now result }
 {
-    let Shown { carrier, symbol } = match find_shown(widths) {
-        Ok(shown) => shown,
+    let mut symbol = ReadSymbol::BadCheckDigit;
+    let carrier = match find_shown(widths, &mut symbol) {
+        Ok(carrier) => carrier,
         Err(fault) => return Found::Refused(fault),
     };
     match symbol {
@@ -145,8 +153,8 @@ pub fn push_row(runs: &Runs, year: Year, form: Form, text: &mut String) -> Resul
     ensures { OnOk result ((answer : Answer) × IsAnswer runs.now year answer × (string_bytes text.new ≡ string_bytes text.old ++ said form answer)) }
 {
     match runs.found() {
-        Some(found) => found.line(year, form).push(text),
-        None => found_in(runs.widths()).line(year, form).push(text),
+        Some(found) => found.push_line(year, form, text),
+        None => found_in(runs.widths()).push_line(year, form, text),
     }
 }
 

@@ -13,7 +13,7 @@ fn number_of(bytes: [u8; 8]) -> u64
     u64::from(high) * 0x1_0000_0000 + u64::from(low)
 }
 
-/// The last bytes as one number, the first the highest.
+/// The last bytes, eight at most, as one number, the first the highest, with zeros behind them.
 #[cold]
 fn last_word(bits: &[u8], byte: usize) -> u64
     requires within { byte ≤ length bits.now }
@@ -27,8 +27,7 @@ fn last_word(bits: &[u8], byte: usize) -> u64
     number_of(bytes)
 }
 
-/// The dots of eight bytes as one number, the first in the high bit: those of this byte, and of the bytes behind
-/// it as far as there are any.
+/// The 64 dots from this byte on, the first in the high bit. Behind the last byte they are light.
 fn word_at(bits: &[u8], byte: usize) -> u64
     requires { byte < length bits.now }
     ensures { (k : ℕ) → k < 64 → byte + k / 8 < length bits.now → bit_at result (63 - k) ≡ bit_at (slice_index bits.now (byte + k / 8)) (7 - k % 8) }

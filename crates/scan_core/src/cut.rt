@@ -47,14 +47,15 @@ impl<const MOST: usize> RunList for ArrayVec<u16, MOST> {
     }
 }
 
-/// The run that the last dot of a row so far is in: its dots so far.
+/// The run that the last dot so far is in, and how many dots it has so far.
 #[derive(Drop)]
 struct Run {
     width: usize,
     dark: bool,
 }
 
-/// Cuts the next dots of the row, from the dot `at` on, up to the end of their eight bytes. Tells where that is.
+/// Cuts the next dots of the row, from the dot `at` on, up to the end of their eight bytes. Returns the dot behind
+/// them.
 fn cut_word<R: RunList>(
     bits: &[u8],
     from: usize,

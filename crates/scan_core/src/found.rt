@@ -1,8 +1,10 @@
 //! What is found in a row before its elements are made.
-ghost use Rattle.std.specs.Prelude.{◌≡◌, List, ℕ};
+ghost use Rattle.std.specs.Prelude.{◌≡◌, ◌++◌, List, OnOk, string_bytes, ℕ};
 ghost use Rattle.element_core.specs.Lines.{line_text};
+ghost use Rattle.element_core.specs.Terms.{Terms};
 ghost use Rattle.scan_core.specs.Answers.{IsAnswer};
 ghost use Rattle.scan_core.specs.Reading.{IsFound};
+ghost use Rattle.scan_core.specs.Faults.{row_fault_text};
 ghost use Rattle.scan_core.specs.Lines.{said};
 ghost use Rattle.scan_core.specs.inner.Reading.{IsReadAs, text_in};
 
@@ -12,6 +14,7 @@ use crate::fault::RowFault;
 use code128_code::{Values, text_of};
 use digits_core::Gtin;
 use element_core::{Elements, Form, Line, Year, elements_line};
+use std::alloc::AllocError;
 
 /// What is found in a row: the symbol that it shows, or why it is refused. The row's answer is made of it.
 ///
@@ -33,6 +36,48 @@ fn elements_of(values: &Values, year: Year) -> Result<Elements, RowFault>
 {
     let text = text_of(values)?;
     Ok(Elements::parse(text.as_slice(), year)?)
+}
+
+/// Appends the line of a symbol of EAN, UPC or ITF-14.
+#[inline(never)]
+fn push_number(
+    carrier: Carrier,
+    gtin: &Gtin,
+    form: Form,
+    text: &mut String,
+) -> Result<(), AllocError>
+    ensures { (year : Terms) → OnOk result ((answer : Answer)
+        × ((runs : List ℕ) → IsFound runs (Found.Number carrier gtin.now) → IsAnswer runs year answer)
+        × (string_bytes text.new ≡ string_bytes text.old ++ said form answer)) }
+{
+    Line::of_gtin_element(carrier.identifier(), gtin, form).push(text)
+}
+
+/// Appends the line of a symbol of Code 128, dates under the reference year.
+#[inline(never)]
+fn push_characters(
+    carrier: Carrier,
+    values: &Values,
+    year: Year,
+    form: Form,
+    text: &mut String,
+) -> Result<(), AllocError>
+    ensures { OnOk result ((answer : Answer)
+        × ((runs : List ℕ) → IsFound runs (Found.Characters carrier values.now) → IsAnswer runs year answer)
+        × (string_bytes text.new ≡ string_bytes text.old ++ said form answer)) }
+{
+    match &text_of(values) {
+        Ok(read) => elements_line(carrier.identifier(), form, read.as_slice(), year).push(text),
+        Err(fault) => push_refusal(RowFault::Code128(*fault), text),
+    }
+}
+
+/// Appends the line of a row that is refused.
+#[inline(never)]
+fn push_refusal(fault: RowFault, text: &mut String) -> Result<(), AllocError>
+    ensures { OnOk result (string_bytes text.new ≡ string_bytes text.old ++ row_fault_text fault) }
+{
+    Line::refused(fault.refusal()).push(text)
 }
 
 impl Found {
@@ -63,11 +108,31 @@ impl Found {
     {
         match self {
             Found::Number(carrier, gtin) => Line::of_gtin_element(carrier.identifier(), gtin, form),
-            Found::Characters(carrier, values) => match text_of(values) {
+            Found::Characters(carrier, values) => match &text_of(values) {
                 Ok(text) => elements_line(carrier.identifier(), form, text.as_slice(), year),
                 Err(fault) => Line::refused(fault.refusal()),
             },
             Found::Refused(fault) => Line::refused(fault.refusal()),
+        }
+    }
+
+    /// Appends that line. Each case appends its line where it makes it, since a line that is returned is copied. Each
+    /// is a function of its own, since a function clears the room of all its lines when it begins.
+    pub(crate) fn push_line(
+        &self,
+        year: Year,
+        form: Form,
+        text: &mut String,
+    ) -> Result<(), AllocError>
+        ensures { OnOk result ((answer : Answer) × ((runs : List ℕ) → IsFound runs self.now → IsAnswer runs year answer)
+            × (string_bytes text.new ≡ string_bytes text.old ++ said form answer)) }
+    {
+        match self {
+            Found::Number(carrier, gtin) => push_number(*carrier, gtin, form, text),
+            Found::Characters(carrier, values) => {
+                push_characters(*carrier, values, year, form, text)
+            }
+            Found::Refused(fault) => push_refusal(*fault, text),
         }
     }
 }

@@ -13,6 +13,7 @@ mod found;
 mod identifier;
 mod laws;
 mod rounding;
+mod row_pool;
 mod runs;
 mod search;
 mod stage;
@@ -31,6 +32,7 @@ pub use laws::{
     other_rows_keep, replaced_character_is_noticed, replacement_is_noticed, row_or_fault,
     symbol_measures, symbols_are_told, turned_dots, turned_row, turned_symbols, whole_row,
 };
+pub use row_pool::RowPool;
 pub use runs::Runs;
 pub use search::SymbolSearch;
 pub use symbols::Symbols;

@@ -1,12 +1,12 @@
 //! Widths in dots rounded to modules.
-ghost use Rattle.std.specs.Prelude.{◌≡◌, ◌+◌, ◌*◌, ◌<◌, ◌≤◌, ◌↔◌, ◌^◌, ◌%◌, IfNone, IfSome, IsTrue, ℕ, List, false, length, sum, true};
+ghost use Rattle.std.specs.Prelude.{◌≡◌, ◌+◌, ◌*◌, ◌<◌, ◌≤◌, ◌↔◌, ◌^◌, ◌%◌, IsTrue, [], ℕ, List, false, length, sum, true};
 ghost use Rattle.std.specs.List.{AllZip};
+ghost use Rattle.ean_code.specs.Widths.{AreModules};
 ghost use Rattle.scan_core.specs.inner.Limits.{AreLimits, IsLeast, IsPast};
 ghost use Rattle.scan_core.specs.Row.{inner};
 ghost use Rattle.scan_core.specs.Showing.{IsQuiet, IsRun, Rounds};
 
 use arrayvec::ArrayVec;
-use ean_code::Modules;
 
 /// The runs of the longest symbol.
 const MOST_RUNS: usize = 595;
@@ -141,23 +141,27 @@ fn round_each(inner: &[u16], total: u16, count: u16, modules: &mut [u8]) -> bool
     each
 }
 
-/// The modules that the runs of a symbol, `total` dots and `count` modules together, round to.
-pub(crate) fn round(inner: &[u16], total: u16, count: u16) -> Option<Modules>
+/// Puts the modules that the runs of a symbol, `total` dots and `count` modules together, round to into `modules`,
+/// and answers whether each run rounds to some.
+pub(crate) fn round(
+    inner: &[u16],
+    total: u16,
+    count: u16,
+    modules: &mut ArrayVec<u8, MOST_RUNS>,
+) -> bool
+    requires empty { modules.old.items ≡ [] }
     requires few { length inner.now ≤ 595 }
     requires odd { length inner.now % 2 ≡ 1 }
     requires sum { total ≡ sum inner.now }
     requires short { count ≤ 1091 }
     requires long { 5 ≤ count }
     requires dots { 0 < total }
-    ensures found { IfSome result (λ modules. Rounds inner.now count modules) }
-    ensures none { IfNone result ((modules : List ℕ) → Rounds inner.now count modules → ⊥) }
+    ensures found { result ≡ true → Rounds inner.now count modules.new.items }
+    ensures modules { result ≡ true → AreModules modules.new.items }
+    ensures none { result ≡ false → (ms : List ℕ) → Rounds inner.now count ms → ⊥ }
 {
-    let mut modules = ArrayVec::new();
     modules
         .try_extend_from_slice(&[0; MOST_RUNS][..inner.len()])
         .unwrap();
-    if !round_each(inner, total, count, modules.as_mut_slice()) {
-        return None;
-    }
-    Some(Modules::new(modules))
+    round_each(inner, total, count, modules.as_mut_slice())
 }

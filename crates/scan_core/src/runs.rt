@@ -9,6 +9,7 @@ use crate::answer::found_in;
 use crate::cut::cut_into;
 use crate::fault::RunFault;
 use crate::found::Found;
+use crate::row_pool::RowPool;
 use std::alloc::Global;
 use std::marker::Model;
 
@@ -28,14 +29,14 @@ const MANY_RUNS: usize = 64;
 /// A row that was read keeps what was found in it, so that it is read once.
 #[derive(Debug, Drop)]
 pub struct Runs {
-    kept: Box<Kept>,
+    pub(crate) kept: Box<Kept>,
 }
 
 /// What a row keeps, in one place in memory, so that a row is moved as one address.
 #[derive(Debug, Drop)]
-struct Kept {
-    widths: Vec<u16>,
-    found: Option<Found>,
+pub(crate) struct Kept {
+    pub(crate) widths: Vec<u16>,
+    pub(crate) found: Option<Found>,
 }
 
 impl Model for Runs {
@@ -134,17 +135,25 @@ impl Runs {
         boxed(alloc, widths)
     }
 
-    /// The row that keeps these widths in dots, the first and the last light.
+    /// The row that keeps these widths in dots, the first and the last light. It has the memory of a row that was put
+    /// back, if the pool keeps one.
     ///
     /// Of several faults the first is answered: `BadRuns`, then `TooWide`, then `NoMemory`.
-    pub fn from_widths(alloc: Global, widths: Vec<u16>) -> Result<Runs, RunFault>
+    pub fn from_widths(pool: &mut RowPool, widths: Vec<u16>) -> Result<Runs, RunFault>
         ensures ok { IfOk result (λ r. r ≡ widths.items) }
         ensures taken { OnOk result (runs_fault widths.items ≡ None) }
         ensures refused { IfErr result (λ f. f ≢ RunFault.NoMemory → runs_fault widths.items ≡ Some f) }
         ensures late { IsErrOf result RunFault.NoMemory → runs_fault widths.items ≡ None }
     {
         match runs_fault(widths.as_slice()) {
-            None => boxed(alloc, widths),
+            None => match pool.rows.pop() {
+                Some(mut kept) => {
+                    kept.widths = widths;
+                    kept.found = None;
+                    Ok(Runs { kept })
+                }
+                None => boxed(pool.alloc, widths),
+            },
             Some(fault) => Err(fault),
         }
     }

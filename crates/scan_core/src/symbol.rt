@@ -1,5 +1,5 @@
 //! The symbol that modules are, and what it says.
-ghost use Rattle.std.specs.Prelude.{IfNone, IfSome, List, Some, ℕ};
+ghost use Rattle.std.specs.Prelude.{◌≡◌, List, Some, false, true, ℕ};
 ghost use Rattle.ean_code.specs.Spelling.{IsSpelled};
 ghost use Rattle.ean_code.specs.Symbols.{IsNumberSymbol};
 ghost use Rattle.ean_code.specs.declared.kind.Kind.{Kind};
@@ -22,45 +22,55 @@ pub(crate) enum ReadSymbol {
     Characters(Values),
 }
 
-/// The symbol of EAN, UPC or ITF-14 that was found, if it was one.
-fn number(spelled: Spelled) -> Option<ReadSymbol>
-    ensures found { (kind : Kind) (modules : List ℕ) → IsSpelled kind modules spelled
-        → IfSome result (λ s. IsSymbolAs (Some kind) modules s) }
-    ensures none { (kind : Kind) (modules : List ℕ) → IsSpelled kind modules spelled
-        → IfNone result (((digits : List ℕ) × IsNumberSymbol kind modules digits) → ⊥) }
+/// Puts the symbol of EAN, UPC or ITF-14 that was read into `symbol`, if it was one, and answers whether it was.
+fn put_number(spelled: Spelled, symbol: &mut ReadSymbol) -> bool
+    ensures found { (kind : Kind) (modules : List ℕ) → IsSpelled kind modules spelled → result ≡ true
+        → IsSymbolAs (Some kind) modules symbol.new }
+    ensures none { (kind : Kind) (modules : List ℕ) → IsSpelled kind modules spelled → result ≡ false
+        → ((digits : List ℕ) × IsNumberSymbol kind modules digits) → ⊥ }
 {
     match spelled {
-        Spelled::NoPattern => None,
-        Spelled::BadCheck => Some(ReadSymbol::BadCheckDigit),
-        Spelled::Found(gtin) => Some(ReadSymbol::Number(gtin)),
+        Spelled::NoPattern => return false,
+        Spelled::BadCheck => *symbol = ReadSymbol::BadCheckDigit,
+        Spelled::Found(gtin) => *symbol = ReadSymbol::Number(gtin),
     }
+    true
 }
 
-/// The symbol of the carrier that the modules are, read from the left.
-fn read_symbol(carrier: Carrier, modules: &Modules) -> Option<ReadSymbol>
-    ensures found { IfSome result (λ s. IsSymbolAs (kind_of carrier) modules.now s) }
-    ensures none { IfNone result (IsSymbol (kind_of carrier) modules.now → ⊥) }
+/// Puts the symbol of the carrier that the modules are, read from the left, into `symbol`, and answers whether
+/// they are one.
+fn read_symbol(carrier: Carrier, modules: &Modules, symbol: &mut ReadSymbol) -> bool
+    ensures found { result ≡ true → IsSymbolAs (kind_of carrier) modules.now symbol.new }
+    ensures none { result ≡ false → IsSymbol (kind_of carrier) modules.now → ⊥ }
 {
     match carrier {
-        Carrier::Ean13 => number(read_ean13(modules)),
-        Carrier::Ean8 => number(read_ean8(modules)),
-        Carrier::UpcE => number(read_upce(modules)),
-        Carrier::Itf14 => number(read_itf14(modules)),
-        Carrier::Gs1128 => values(modules).map(ReadSymbol::Characters),
+        Carrier::Ean13 => put_number(read_ean13(modules), symbol),
+        Carrier::Ean8 => put_number(read_ean8(modules), symbol),
+        Carrier::UpcE => put_number(read_upce(modules), symbol),
+        Carrier::Itf14 => put_number(read_itf14(modules), symbol),
+        Carrier::Gs1128 => match values(modules) {
+            Some(values) => {
+                *symbol = ReadSymbol::Characters(values);
+                true
+            }
+            None => false,
+        },
     }
 }
 
-/// The symbol of the carrier that the modules are, read from the left or else from the right. If it is
-/// none from the left they are turned round.
-pub(crate) fn read_some_way(carrier: Carrier, modules: &mut Modules) -> Option<ReadSymbol>
-    ensures found { IfSome result (λ s. (way : Way) × IsSymbolAs (kind_of carrier) (along way modules.old) s) }
-    ensures none { IfNone result ((way : Way) → IsSymbol (kind_of carrier) (along way modules.old) → ⊥) }
+/// Puts the symbol of the carrier that the modules are, read from the left or else from the right, into `symbol`,
+/// and answers whether they are one. If they are none from the left they are turned round.
+pub(crate) fn read_some_way(
+    carrier: Carrier,
+    modules: &mut Modules,
+    symbol: &mut ReadSymbol,
+) -> bool
+    ensures found { result ≡ true → (way : Way) × IsSymbolAs (kind_of carrier) (along way modules.old) symbol.new }
+    ensures none { result ≡ false → (way : Way) → IsSymbol (kind_of carrier) (along way modules.old) → ⊥ }
 {
-    match read_symbol(carrier, modules) {
-        Some(forwards) => Some(forwards),
-        None => {
-            modules.reverse();
-            read_symbol(carrier, modules)
-        }
+    if read_symbol(carrier, modules, symbol) {
+        return true;
     }
+    modules.reverse();
+    read_symbol(carrier, modules, symbol)
 }

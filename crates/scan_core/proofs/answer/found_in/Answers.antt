@@ -4,5 +4,5 @@ use Rattle.scan_core.proofs.answer.found_in.Goals as goal
 
 pub returns-in-BadCheckDigit : goal.returns-in-BadCheckDigit
 returns-in-BadCheckDigit c =
-    let of = c.in-Ok.shown in
-    (tt, λ year. (of.carrier, symbol_tells c.args.widths.now of.carrier BadCheckDigit (rw c.in-BadCheckDigit.is at c.in-Ok.ensures.shown)))
+    let carrier = c.in-Ok.carrier in
+    (tt, λ year. (carrier, symbol_tells c.args.widths.now carrier BadCheckDigit (rw c.in-BadCheckDigit.is at c.in-Ok.ensures.shown)))

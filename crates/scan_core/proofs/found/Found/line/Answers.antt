@@ -26,7 +26,7 @@ returns-in-Ok c =
     let of = c.in-Characters in
     let year = c.args.year in
     let text : List ℕ = c.in-Ok.text.items in
-    let said = ap row_text c.in-Ok.ensures.text in
+    let said = ap row_text (rw c.in-Ok.is at c.text_of.ensures.text) in
     let whole = c.as_slice.ensures.value in
     elim c.elements_line.ensures [
       | inl read ↦ (
@@ -49,7 +49,7 @@ pub returns-in-Err : goal.returns-in-Err
 returns-in-Err c =
     let of = c.in-Characters in
     let fault = Code128 c.in-Err.fault in
-    let said = ap row_text c.in-Err.ensures.fault in (
+    let said = ap row_text (rw c.in-Err.is at c.text_of.ensures.fault) in (
       Refused fault,
       λ runs found. answer_from runs c.args.year of.carrier (Err fault) (Err fault)
           (rw said at (symbol_tells runs of.carrier (Characters of.values) (rw of.is at found))) refl,
