@@ -1,11 +1,10 @@
 -- What there is of a number that becomes its lane's next: for `slot_of` and `take_next`.
-use Rattle.std.proofs.Common.{◌≡◌, ℕ, ◌<◌, ◌^◌, ◌==◌, ◌&&◌, ◌||◌, nat_lt, Bool, true, false, List, [], Some, None, refl, sym, ap, ◌∙◌, arith}
-use Rattle.std.proofs.lemmas.Bool.Decides.{nat_tests}
+use Rattle.std.proofs.Common.{◌≡◌, ℕ, ◌<◌, ◌^◌, ◌==◌, ◌&&◌, ◌||◌, Bool, true, false, List, [], Some, None, refl, sym, ap, ◌∙◌, arith}
 use Rattle.std.specs.List.{list_any}
 use Rattle.std.specs.Map.{lookup, remove_entry, values_of}
 use Rattle.std.specs.Option.{is_some}
 use Rattle.std.specs.Set.{remove_key}
-use Rattle.std.proofs.lemmas.Bool.{and_parts, eqb-true, or_left}
+use Rattle.std.proofs.lemmas.Bool.{and_parts, eqb-true, or_left, lt-ltb}
 use Rattle.lane_core.specs.declared.next_slot.NextSlot.TheVariants.{Here, Missing, Out}
 use Rattle.lane_core.specs.declared.job.Plain.{Plain}
 use Rattle.lane_core.specs.declared.ticket.Ticket.{Ticket}
@@ -86,7 +85,4 @@ module _ (test : Ticket → Bool) (l k : ℕ) (finds : Finds test l k) (es : Lis
       }
     where
       own : (x : Plain) → lookup test es ≡ Some x → is_tied (record { lane = l; number = k }, x) ≡ true
-      own x at = (λ i. found_ticket test l k finds es x indexed.tied at i && below i)
-        where
-          below : nat_lt k (2 ^ 32) ≡ true
-          below = grind (arith, nat_tests)
+      own x at = (λ i. found_ticket test l k finds es x indexed.tied at i && lt-ltb k (2 ^ 32) small i)

@@ -6,7 +6,8 @@ use Rattle.std.proofs.lemmas.List.{get_or-set_other, length-set}
 use Rattle.std.proofs.lemmas.List.Folds.{list_any-append}
 use Rattle.std.specs.List.{sum_by}
 use Rattle.std.proofs.lemmas.List.Sums.{sum_by-append, sum_by-cons}
-use Rattle.std.proofs.lemmas.Bool.{and_parts, cases_eq, eqb-true, false_from_ne_true, lt-ltb, ne_eqb, or_cases, or_left, or_right}
+use Rattle.std.proofs.lemmas.Bool.{and_parts, cases_eq, eqb-true, false_from_ne_true, lt-ltb, ne_eqb, or_cases, or_left, or_right, eq-eqb}
+use Rattle.std.proofs.Math.Bool.{and-false, and-true, or_assoc, or-false}
 use Rattle.lane_core.specs.declared.next_slot.NextSlot.{NextSlot}
 use Rattle.lane_core.specs.declared.next_slot.NextSlot.TheVariants.{Missing, Here, Out}
 use Rattle.lane_core.specs.declared.job.Plain.{Plain}
@@ -17,7 +18,7 @@ use Rattle.lane_core.specs.NextSlots.{come_tickets, buffer_by_slots, waiting_at,
 use Rattle.lane_core.specs.Tickets.{is_among, is_ticket_of}
 use Rattle.lane_core.proofs.TicketLookup.{MoreBy}
 use Rattle.lane_core.proofs.SlotFacts.{own_parts, set_sum}
-use Rattle.lane_core.proofs.TruthFacts.{eq_self, or_assoc, or_three_parts, and_false, below_next, or_of_three_with, or_of_three_and, or_of_two_and, or_false}
+use Rattle.lane_core.proofs.TruthFacts.{or_three_parts, below_next, or_of_three_with, or_false}
 
 -- whether lane l's number k was taken in: it is below the lane's next number, or is that and has come, or is a later one that is known
 abbrev took_in : List ℕ → List NextSlot → List Ticket → ℕ → ℕ → Bool
@@ -35,18 +36,17 @@ this_lane : (b m : ℕ) (c rest : Bool) → m ≡ b → rest ≡ false → (((b 
 this_lane b m c rest at none = (λ i. ((same i && c) || none i)) ∙ last_false c
   where
     same : (b == m) ≡ true
-    same = ap (λ j. b == j) at ∙ eq_self b
+    same = ap (λ j. b == j) at ∙ eq-eqb b b refl
 
     last_false : (d : Bool) → ((true && d) || false) ≡ (d && true)
-    last_false true = refl
-    last_false false = refl
+    last_false d = or-false d ∙ sym (and-true d)
 
 come_at : (b j m k : ℕ) (ns : List ℕ) (hs : List NextSlot) → length hs ≡ length ns → m ≡ b + j
     → is_known m k (come_tickets b ns hs) ≡ ((get_or ns j 0 == k) && has_come (slot_at hs j))
-come_at b j m k [] [] long at = sym (and_false (0 == k))
+come_at b j m k [] [] long at = sym (and-false (0 == k))
 come_at b j m k [] (h ∷ hs) long at = absurd (omega arith)
 come_at b j m k (n ∷ ns) [] long at = absurd (omega arith)
-come_at b zero m k (n ∷ ns) (Missing ∷ hs) long at = none_below (suc b) ns hs m k (omega arith) ∙ sym (and_false (n == k))
+come_at b zero m k (n ∷ ns) (Missing ∷ hs) long at = none_below (suc b) ns hs m k (omega arith) ∙ sym (and-false (n == k))
 come_at b zero m k (n ∷ ns) (Here x ∷ hs) long at = this_lane b m (n == k) (is_known m k (come_tickets (suc b) ns hs)) (omega arith)
     (none_below (suc b) ns hs m k (omega arith))
 come_at b zero m k (n ∷ ns) (Out ∷ hs) long at = this_lane b m (n == k) (is_known m k (come_tickets (suc b) ns hs)) (omega arith)
@@ -65,7 +65,7 @@ was_is nexts hs es ks long l k =
     let more : is_known l k (come_tickets 0 nexts hs ++ ks) ≡ (is_known l k (come_tickets 0 nexts hs) || is_known l k ks) =
     list_any-append (λ (t : Ticket). (t.lane == l) && (t.number == k)) (come_tickets 0 nexts hs) ks in
     ap (λ b. nat_lt k (get_or nexts l 0) || b) (more ∙ ap (λ b. b || is_known l k ks) (come_at 0 l l k nexts hs long (omega arith)))
-    ∙ or_assoc (nat_lt k (get_or nexts l 0)) ((get_or nexts l 0 == k) && has_come (slot_at hs l)) (is_known l k ks)
+    ∙ sym (or_assoc (nat_lt k (get_or nexts l 0)) ((get_or nexts l 0 == k) && has_come (slot_at hs l)) (is_known l k ks))
 
 sum_both : (h : Plain → ℕ) (hs : List NextSlot) (es : List (Ticket × Plain)) → sum_by h (waiting_at hs ++ values_of es)
     ≡ sum_by h (waiting_at hs) + sum_by h (values_of es)
@@ -101,7 +101,7 @@ not_come : (nexts : List ℕ) (hs : List NextSlot) (ks : List Ticket) (l : ℕ) 
 not_come nexts hs ks l fresh =
     let n = get_or nexts l 0 in
     let p = (or_three_parts (nat_lt n n) ((n == n) && has_come (slot_at hs l)) (is_known l n ks) fresh).1 in
-    sym (ap (λ b. b && has_come (slot_at hs l)) (eq_self n)) ∙ p
+    sym (ap (λ b. b && has_come (slot_at hs l)) (eq-eqb n n refl)) ∙ p
 
 -- a delivery came that is its lane's next number
 pub took_next : (nexts : List ℕ) (hs : List NextSlot) (es : List (Ticket × Plain)) (ks : List Ticket) (l : ℕ) (x : Plain)
@@ -126,7 +126,7 @@ took_next nexts hs es ks l x kept low lane number fresh =
           (λ (e : m ≡ l).
           let same : is_ticket_of m k x ≡ (get_or nexts m 0 == k) =
           (λ i. (lane i == m) && (number i == k)) ∙ (ap (λ j. (l == j) && (n == k)) e
-          ∙ (ap (λ b. b && (n == k)) (eq_self l) ∙ ap (λ j. get_or nexts j 0 == k) (sym e))) in
+          ∙ (ap (λ b. b && (n == k)) (eq-eqb l l refl) ∙ ap (λ j. get_or nexts j 0 == k) (sym e))) in
           ap (λ b. nat_lt k (get_or nexts m 0) || ((get_or nexts m 0 == k) && b) || is_known m k ks)
           (ap (λ j. has_come (slot_at (set hs l (Here x)) j)) e ∙ ap has_come (slot_set hs l (Here x) there))
           ∙ or_of_three_with (nat_lt k (get_or nexts m 0)) (get_or nexts m 0 == k) (is_known m k ks) (is_ticket_of m k x) (has_come (slot_at hs m))
@@ -156,7 +156,7 @@ took_later nexts hs es fs ks ts x long low fresh more known = record {
       let next = (get_or nexts l 0 == k) && has_come (slot_at hs l) in
       was_is nexts hs fs ts long l k
       ∙ (ap (λ b. given || next || b) (known l k)
-      ∙ (or_of_three_and given next (is_known l k ks) (is_ticket_of l k x)
+      ∙ (sym (or_assoc (given || next) (is_known l k ks) (is_ticket_of l k x))
       ∙ ap (λ b. b || is_ticket_of l k x) (sym (was_is nexts hs es ks long l k))));
 }
 
@@ -211,9 +211,9 @@ gave nexts hs es fs ks ts l x a low lanes here own weight same others =
             (λ (e : m ≡ l). subst (λ j. took_in (set nexts l (n + 1)) (set (set hs l Missing) l a) ts j k ≡ took_in nexts hs ks j k) (sym e)
             ((λ i. nat_lt k (get_or-set_at nexts l l (n + 1) 0 refl low i) ||
             ((get_or-set_at nexts l l (n + 1) 0 refl low i == k) && has_come (slot_set (set hs l Missing) l a there' i)) || is_known l k ts)
-            ∙ (sym (or_assoc (nat_lt k (n + 1)) ((n + 1 == k) && has_come a) (is_known l k ts)) ∙ ap (λ b. nat_lt k (n + 1) || b) (same k)
+            ∙ (or_assoc (nat_lt k (n + 1)) ((n + 1 == k) && has_come a) (is_known l k ts) ∙ ap (λ b. nat_lt k (n + 1) || b) (same k)
             ∙ (ap (λ b. b || is_known l k ks) (below_next n k)
-            ∙ (or_of_two_and (nat_lt k n) (n == k) (is_known l k ks)
+            ∙ (ap (λ b. nat_lt k n || b || is_known l k ks) (sym (and-true (n == k)))
             ∙ ap (λ (b : NextSlot). nat_lt k n || ((n == k) && has_come b) || is_known l k ks) (sym here))))))
             (λ (other : m ≢ l).
             (λ i. nat_lt k (get_or-set_other nexts l m (n + 1) 0 other i) ||
@@ -259,7 +259,7 @@ kept_next nexts hs es fs ks ts l a kept low own indexed gone others =
 -- the number after it is known as much as it was
 pub known_same : (l n : ℕ) (es fs : List (Ticket × Plain)) (ks ts : List Ticket) (a : NextSlot) → Advances l n es ks fs ts a
     → (k : ℕ) → (((n == k) && has_come a) || is_known l k ts) ≡ is_known l k ks
-known_same l n es fs ks ts a moved k = ap (λ b. ((b && (n == k)) && has_come a) || is_known l k ts) (sym (eq_self l)) ∙ moved.same l k
+known_same l n es fs ks ts a moved k = ap (λ b. ((b && (n == k)) && has_come a) || is_known l k ts) (sym (eq-eqb l l refl)) ∙ moved.same l k
 
 pub others_same : (l n : ℕ) (es fs : List (Ticket × Plain)) (ks ts : List Ticket) (a : NextSlot) → Advances l n es ks fs ts a
     → (m k : ℕ) → m ≢ l → is_known m k ts ≡ is_known m k ks

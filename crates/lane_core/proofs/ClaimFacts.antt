@@ -1,17 +1,17 @@
 -- What lanes are given of all that was found: the laws `received_first` and `claims_settle`.
-use Rattle.std.proofs.Common.{◌≡◌, ⊎_elim, ℕ, ◌+◌, ◌≤◌, ◌==◌, not, nat_lt, cond, true, false, suc, List, [], ◌∷◌, ◌++◌, length, Some, refl, sym, ap, ◌∙◌, arith}
-use Rattle.std.specs.List.{slice_get, list_all, sum_by, count_by}
+use Rattle.std.proofs.Common.{◌≡◌, ⊎_elim, ℕ, ◌+◌, ◌≤◌, ◌==◌, not, nat_lt, cond, true, suc, List, [], ◌∷◌, ◌++◌, length, Some, refl, sym, ap, arith, ◌<◌}
+use Rattle.std.specs.List.{slice_get, sum_by, count_by}
 use Rattle.std.specs.Prelude.{take}
 use Rattle.std.proofs.lemmas.List.Sums.{sum_by-append, sum_by-cons}
-use Rattle.std.proofs.lemmas.Bool.{and_parts, eqb-true}
+use Rattle.std.proofs.lemmas.Bool.{and_parts, cases_lt, eq-eqb, ltb-false, not-true}
 use Rattle.lane_core.specs.declared.job.Plain.{Plain}
 use Rattle.lane_core.specs.Settling.{Account, AreNumbered, Claim, EachLaneOnce, GivesDue, IsClaim, rises}
 use Rattle.lane_core.specs.Tickets.{numbered}
 use Rattle.lane_core.specs.Weights.{once}
 use Rattle.lane_core.proofs.SameFacts.{is_same, same_from, same_self}
-use Rattle.lane_core.proofs.TruthFacts.{eq_self, true_from_once, here_or_there, not_less, zero_or_some, cond_none}
-use Rattle.lane_core.proofs.WeightFacts.{sum_rest, sum_rest_le, sum_ones, sum_picked}
-use Rattle.lane_core.proofs.TicketFacts.{later, sum_of_other_lane, sum_of_own_lane, numbered_parts}
+use Rattle.lane_core.proofs.TruthFacts.{true_from_once, here_or_there}
+use Rattle.lane_core.proofs.WeightFacts.{sum_rest, sum_rest_le, sum_ones, sum_picked, sum_unpicked}
+use Rattle.lane_core.proofs.TicketFacts.{sum_of_other_lane, sum_of_own_lane, numbered_parts, no_later_same, sum_of_others, sum_of_own}
 
 -- the first of a rising list is least
 least : (x g : Plain) (gs : List Plain) → rises (g ∷ gs) ≡ true → 1 ≤ count_by (λ z. is_same x z) gs → g.number ≤ x.number
@@ -19,7 +19,7 @@ least x g [] e there = absurd (omega arith)
 least x g (y ∷ ys) e there =
     let count = sum_by-cons (λ z. once (is_same x z)) y ys in
     let s = and_parts (not (nat_lt y.number g.number)) (rises (y ∷ ys)) e in
-    let up = not_less y.number g.number s.0 in
+    let up = ltb-false y.number g.number (not-true (nat_lt y.number g.number) s.0) in
     ⊎_elim
     (λ (h : is_same x y ≡ true). let k = ap (λ (p : Plain). p.number) (same_from x y h) in omega arith)
     (λ (h : 1 ≤ count_by (λ z. is_same x z) ys). let k = least x y ys s.1 h in omega arith)
@@ -49,7 +49,7 @@ rising_whole l n (x ∷ xs) (y ∷ ys) a up same =
     let y_there = same (λ z. once (is_same y z)) in
     let y_left = sum_by-cons (λ z. once (is_same y z)) x xs in
     let y_right = sum_by-cons (λ z. once (is_same y z)) y ys in
-    let none = later l (suc n) y xs p.rest (omega arith) in
+    let none = no_later_same l (suc n) y xs p.rest (omega arith) in
     let first : y ≡ x = same_from y x (true_from_once (is_same y x) (omega arith)) in
     let rest = rising_whole l (suc n) xs ys p.rest (tail_rises y ys up) (λ h. sum_rest h x y xs ys (sym first) (same h)) in
     λ i. first i ∷ rest i
@@ -63,7 +63,7 @@ begin_alike l n x p xs ps a b there =
     let all = numbered_parts l n x xs a in
     let front = numbered_parts l n p ps b in
     let at = front.number in
-    let none = later l (suc n) p xs all.rest (omega arith) in
+    let none = no_later_same l (suc n) p xs all.rest (omega arith) in
     (same_from p x (true_from_once (is_same p x) (omega arith)), all.rest, front.rest)
 
 -- a lane's numbers that were polled, and the rest of them
@@ -98,38 +98,14 @@ received_first accounts out back one less i a e =
     first_of a.lane 0 a.submitted a.received (out i a e) (back i a e) (λ h.
     let cut : Plain → ℕ = λ x. cond (x.lane == a.lane) (h x) 0 in
     let p = sum_picked (λ (u : Account). sum_by cut u.submitted) (λ (u : Account). u.lane == a.lane) accounts i a e
-    (λ j u e' no. sum_of_other_lane a.lane u.lane 0 h u.submitted (out j u e') no) (one a.lane) (eq_self a.lane) in
+    (λ j u e' no. sum_of_other_lane a.lane u.lane 0 h u.submitted (out j u e') no) (one a.lane) (eq-eqb a.lane a.lane refl) in
     let q = sum_picked (λ (u : Account). sum_by cut u.received) (λ (u : Account). u.lane == a.lane) accounts i a e
-    (λ j u e' no. sum_of_other_lane a.lane u.lane 0 h u.received (back j u e') no) (one a.lane) (eq_self a.lane) in
+    (λ j u e' no. sum_of_other_lane a.lane u.lane 0 h u.received (back j u e') no) (one a.lane) (eq-eqb a.lane a.lane refl) in
     omega (arith, p, q, sum_of_own_lane a.lane 0 h a.submitted (out i a e), sum_of_own_lane a.lane 0 h a.received (back i a e), less cut))
-
--- what is one lane's has no sum for the test of another
-other_given : (l m : ℕ) (h : Plain → ℕ) (xs : List Plain) → list_all (λ (x : Plain). x.lane == m) xs ≡ true → (m == l) ≡ false
-    → sum_by (λ x. cond (x.lane == l) (h x) 0) xs ≡ 0
-other_given l m h [] e f = refl
-other_given l m h (x ∷ xs) e f =
-    let s = and_parts (x.lane == m) (list_all (λ (y : Plain). y.lane == m) xs) e in
-    let is : (x.lane == l) ≡ false = ap (λ k. k == l) (eqb-true x.lane m s.0) ∙ f in
-    let rest = other_given l m h xs s.1 f in
-    let here : cond (x.lane == l) (h x) 0 ≡ 0 = ap (λ b. cond b (h x) 0) is in omega (arith, sum_by-cons (λ (y : Plain). cond (y.lane == l) (h y) 0) x xs)
-
-own_given : (l : ℕ) (h : Plain → ℕ) (xs : List Plain) → list_all (λ (x : Plain). x.lane == l) xs ≡ true → sum_by (λ x. cond (x.lane == l) (h x) 0) xs
-    ≡ sum_by h xs
-own_given l h [] e = refl
-own_given l h (x ∷ xs) e =
-    let s = and_parts (x.lane == l) (list_all (λ (y : Plain). y.lane == l) xs) e in
-    let rest = own_given l h xs s.1 in
-    let here : cond (x.lane == l) (h x) 0 ≡ h x = ap (λ b. cond b (h x) 0) s.0 in
-    omega (arith, sum_by-cons (λ (y : Plain). cond (y.lane == l) (h y) 0) x xs, sum_by-cons h x xs)
 
 -- where no item passes the test, those that do have no sum
 none_counted : (l : ℕ) (h : Plain → ℕ) (xs : List Plain) → count_by (λ x. x.lane == l) xs ≡ 0 → sum_by (λ x. cond (x.lane == l) (h x) 0) xs ≡ 0
-none_counted l h [] e = refl
-none_counted l h (x ∷ xs) e =
-    let count = sum_by-cons (λ (y : Plain). once (y.lane == l)) x xs in
-    let here = cond_none (x.lane == l) (h x) (count_by (λ (y : Plain). y.lane == l) xs) (sum_by (λ (y : Plain). cond (y.lane == l) (h y) 0) xs) (omega arith)
-    (λ f. none_counted l h xs f) in
-    omega (arith, sum_by-cons (λ (y : Plain). cond (y.lane == l) (h y) 0) x xs)
+none_counted l h xs e = sum_unpicked (λ (x : Plain). cond (x.lane == l) (h x) 0) (λ (x : Plain). x.lane == l) xs (λ j x at no. ap (λ b. cond b (h x) 0) no) e
 
 pub claims_settle : (claims : List Claim) (found dropped : List Plain)
     → ((i : ℕ) (c : Claim) → slice_get claims i ≡ Some c → IsClaim c × GivesDue c dropped)
@@ -142,11 +118,11 @@ claims_settle claims found dropped each one all_found all_given i c at =
     let sum : (h : Plain → ℕ) → sum_by h c.submitted ≡ (sum_by h c.polled + sum_by h c.given) + sum_by (λ x. cond (x.lane == c.lane) (h x) 0) dropped = λ h.
     let cut : Plain → ℕ = λ x. cond (x.lane == c.lane) (h x) 0 in
     let p = sum_picked (λ (u : Claim). sum_by cut u.submitted) (λ (u : Claim). u.lane == c.lane) claims i c at
-    (λ j u e no. sum_of_other_lane c.lane u.lane 0 h u.submitted (each j u e).0.submitted no) (one c.lane) (eq_self c.lane) in
+    (λ j u e no. sum_of_other_lane c.lane u.lane 0 h u.submitted (each j u e).0.submitted no) (one c.lane) (eq-eqb c.lane c.lane refl) in
     let q = sum_picked (λ (u : Claim). sum_by cut u.polled) (λ (u : Claim). u.lane == c.lane) claims i c at
-    (λ j u e no. sum_of_other_lane c.lane u.lane 0 h u.polled (each j u e).0.polled no) (one c.lane) (eq_self c.lane) in
+    (λ j u e no. sum_of_other_lane c.lane u.lane 0 h u.polled (each j u e).0.polled no) (one c.lane) (eq-eqb c.lane c.lane refl) in
     let r = sum_picked (λ (u : Claim). sum_by cut u.given) (λ (u : Claim). u.lane == c.lane) claims i c at
-    (λ j u e no. other_given c.lane u.lane h u.given (each j u e).0.own no) (one c.lane) (eq_self c.lane) in
+    (λ j u e no. sum_of_others c.lane u.lane h u.given (each j u e).0.own no) (one c.lane) (eq-eqb c.lane c.lane refl) in
     omega (
       arith,
       p,
@@ -154,14 +130,15 @@ claims_settle claims found dropped each one all_found all_given i c at =
       r,
       sum_of_own_lane c.lane 0 h c.submitted mine.0.submitted,
       sum_of_own_lane c.lane 0 h c.polled mine.0.polled,
-      own_given c.lane h c.given mine.0.own,
+      sum_of_own c.lane h c.given mine.0.own,
       all_found cut,
       all_given cut,
     ) in
     let lost = count_by (λ (x : Plain). x.lane == c.lane) dropped in
     let counts = sum (λ _. 1) in
-    let none : lost ≡ 0 = ⊎_elim (λ (e : lost ≡ 0). e)
-    (λ (e : 1 ≤ lost). mine.1 (omega (arith, counts, sum_ones c.submitted, sum_ones c.polled, sum_ones c.given)))
-    (zero_or_some lost) in
+    let none : lost ≡ 0 = ⊎_elim
+    (λ (e : 0 < lost). mine.1 (omega (arith, counts, sum_ones c.submitted, sum_ones c.polled, sum_ones c.given)))
+    (λ (e : lost ≤ 0). omega arith)
+    (cases_lt 0 lost) in
     front_and_rest c.lane 0 c.submitted c.polled c.given mine.0.submitted mine.0.polled mine.0.rising
     (λ h. omega (arith, sum h, none_counted c.lane h dropped none, sum_by-append h c.polled c.given))

@@ -2,7 +2,8 @@
 use Rattle.std.proofs.Common.{◌≡◌, ◌≢◌, ⊎_elim, ℕ, ◌+◌, ◌≤◌, ◌==◌, ◌&&◌, not, nat_lt, Bool, true, false, zero, suc, List, [], ◌∷◌, ◌++◌, length, length-append, set, Option, Some, None, option_to_list, refl, sym, ap, ◌∙◌, subst, arith}
 use Rattle.std.specs.List.{AllByRecursion, slice_get, sum_by}
 use Rattle.std.proofs.lemmas.List.Sums.{sum_by-append, sum_by-le-sum_by}
-use Rattle.std.proofs.lemmas.Bool.{cases_eq, ne_eqb}
+use Rattle.std.proofs.lemmas.Bool.{cases_eq, ne_eqb, eq-eqb}
+use Rattle.std.proofs.lemmas.List.Elements.{All-from_recursion, All-push, recursion_from_All}
 use Rattle.lane_core.specs.declared.job.Plain.{Plain}
 use Rattle.lane_core.specs.Machine.{LaneState, State, lane_state, state, handed_of, issued_of, of_lane, polled_of, submitted_by, without}
 use Rattle.lane_core.specs.Tickets.{is_among, is_ticket_of, numbered}
@@ -11,7 +12,7 @@ use Rattle.lane_core.specs.Whereabouts.{times_under_way, sum_under_way}
 use Rattle.lane_core.proofs.ChangedLane.{lane_else, lane_here, lane_kept, lane_was}
 use Rattle.lane_core.proofs.SameFacts.{is_same, same_self}
 use Rattle.lane_core.proofs.UnderWay.{times_without, under_way_more, sum_without}
-use Rattle.lane_core.proofs.TruthFacts.{eq_self, once_below_next, once_le, zero_below}
+use Rattle.lane_core.proofs.TruthFacts.{once_below_next, once_le}
 use Rattle.lane_core.proofs.TicketFacts.{other_ticket, own_ticket, numbered_more}
 
 -- whether the item is the one of its number among these
@@ -23,11 +24,7 @@ is_item x (Some y) = is_same x y
 abbrev pub is_own : State → Plain → Bool
 is_own s x = is_item x (slice_get (submitted_by s x.lane) x.number)
 
--- of all and of one more
-all_with : (P : Plain → Type 0) (xs : List Plain) (x : Plain) → AllByRecursion P xs → P x → AllByRecursion P (xs ++ x ∷ [])
-all_with P [] x all one = (one, tt)
-all_with P (y ∷ xs) x all one = (all.0, all_with P xs x all.1 one)
-
+-- each ticket under way or handed is one that was issued, each lane's lists are in order, and what is under way was submitted
 pub record Good (s : State) : Type 0 where
   pub one : (l k : ℕ) → times_under_way s l k + once (nat_lt k (handed_of s l)) ≡ once (nat_lt k (issued_of s l))
   pub few : (l : ℕ) → polled_of s l ≤ handed_of s l
@@ -89,7 +86,7 @@ given s l v at waits good =
           let a = ap (λ j. once (nat_lt k j)) (lane_here 0 (λ u. u.handed) s.lanes l m v w at e) in
           let b = ap (λ j. once (nat_lt k j)) (lane_was 0 (λ u. u.handed) s.lanes l m v at e) in
           let own : once ((l == m) && (v.handed == k)) ≡ once (v.handed == k) =
-          ap (λ j. once ((l == j) && (v.handed == k))) e ∙ ap (λ c. once (c && (v.handed == k))) (eq_self l) in
+          ap (λ j. once ((l == j) && (v.handed == k))) e ∙ ap (λ c. once (c && (v.handed == k))) (eq-eqb l l refl) in
           omega (arith, once_below_next k v.handed))
           (λ (e : m ≢ l).
           let a = ap (λ j. once (nat_lt k j)) (lane_else 0 (λ u. u.handed) s.lanes l m w e) in
@@ -169,7 +166,8 @@ added s l v x at lane number year good =
       same_year = λ m. ⊎_elim
           (λ (e : m ≡ l).
           subst (AllByRecursion (λ (y : Plain). y.year ≡ s.year)) (sym (here m e).0)
-          (all_with (λ y. y.year ≡ s.year) v.submitted x (subst (AllByRecursion (λ (y : Plain). y.year ≡ s.year)) (here m e).1 (good.same_year m)) year))
+          (recursion_from_All (λ y. y.year ≡ s.year) (v.submitted ++ x ∷ []) (All-push (λ y. y.year ≡ s.year) v.submitted x
+          (All-from_recursion (λ y. y.year ≡ s.year) v.submitted (subst (AllByRecursion (λ (y : Plain). y.year ≡ s.year)) (here m e).1 (good.same_year m))) year)))
           (λ (e : m ≢ l). subst (AllByRecursion (λ (y : Plain). y.year ≡ s.year)) (sym (else_ m e)) (good.same_year m))
           (cases_eq m l);
       own =
@@ -182,5 +180,7 @@ added s l v x at lane number year good =
           (λ o. sum_by-le-sum_by f g (option_to_list o) still) in
           let results = sum_by-le-sum_by f g s.results still in
           let waiting = sum_by-le-sum_by f g s.waiting still in
-          zero_below (sum_under_way f t) (sum_under_way g s) (omega arith) good.own;
+          let less : sum_under_way f t ≤ sum_under_way g s = omega arith in
+          let none = good.own in
+          omega arith;
     }

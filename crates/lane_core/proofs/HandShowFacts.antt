@@ -1,13 +1,13 @@
 -- A world shows the machine's next state: a lane is handed its next number (`World::hand`).
-use Rattle.std.proofs.Common.{◌≡◌, ◌≢◌, ⊎_elim, ℕ, ◌+◌, ◌<◌, ◌==◌, ◌&&◌, ◌||◌, not, nat_lt, cond, Bool, true, false, zero, suc, List, [], ◌∷◌, ◌++◌, length, set, get_or, Option, Some, None, refl, sym, ap, ◌∙◌, arith}
+use Rattle.std.proofs.Common.{◌≡◌, ◌≢◌, ⊎_elim, ℕ, ◌+◌, ◌==◌, ◌&&◌, ◌||◌, not, nat_lt, cond, Bool, true, false, List, [], ◌∷◌, ◌++◌, set, get_or, Option, Some, None, refl, sym, ap, ◌∙◌, arith, map, take}
 use Rattle.std.specs.List.{slice_get, sum_by, count_by}
 use Rattle.std.specs.Option.{is_some}
-use Rattle.std.proofs.lemmas.Bool.Decides.{nat_tests}
 use Rattle.std.proofs.lemmas.List.Sums.{sum_by-cons}
 use Rattle.std.proofs.lemmas.List.Sorted.{sum_by-IsPermutation}
-use Rattle.std.proofs.lemmas.Bool.{cases_eq}
-use Rattle.std.proofs.Math.Bool.{or_comm}
-use Rattle.std.proofs.lemmas.List.{map-set}
+use Rattle.std.proofs.lemmas.Bool.{cases_eq, and_left, cond-false, cond-true, eq-eqb, ne_eqb}
+use Rattle.std.proofs.Math.Bool.{or_comm, or_assoc}
+use Rattle.std.proofs.lemmas.List.{map-set, take_more}
+use Rattle.std.proofs.lemmas.Option.{get_or_from_slice_get, slice_get_within}
 use Rattle.lane_core.specs.declared.event.Event.TheVariants.{Hand}
 use Rattle.lane_core.specs.declared.job.Plain.{Plain}
 use Rattle.lane_core.specs.Contents.{Contents, IsEnabled, LaneContents, ShowsState, Steps, contents, lane_contents, shown_lane}
@@ -18,16 +18,18 @@ use Rattle.lane_core.specs.Weights.{once}
 use Rattle.lane_core.proofs.GoodFacts.{is_item, is_own}
 use Rattle.lane_core.proofs.ChangedLane.{lane_else, lane_here, lane_was}
 use Rattle.lane_core.proofs.LaneShowFacts.{found}
-use Rattle.lane_core.proofs.ListFacts.{number_at, take_more}
+use Rattle.lane_core.proofs.ListFacts.{get_map}
 use Rattle.lane_core.proofs.SameFacts.{permutation_from, same_from}
 use Rattle.lane_core.proofs.WorldShowsNext.{done, idle}
 use Rattle.lane_core.proofs.StepFacts.{reached_good}
-use Rattle.lane_core.proofs.TruthFacts.{eq_self, true_from_once_not, or_assoc, or_last_to_front}
-use Rattle.lane_core.proofs.TicketFacts.{among_from, among_times, not_among, not_among_times, ticket_is, ticket_parts}
+use Rattle.lane_core.proofs.TruthFacts.{true_from_once_not, below_next, or_false}
+use Rattle.lane_core.proofs.TicketFacts.{among_from, among_times, not_among, not_among_times, ticket_is, ticket_parts, ticket_from}
+use Rattle.lane_core.proofs.NextFacts.{next_has}
 
 -- the lane's next number is as many as it was handed
 next_is : (c : Contents) (s : State) (l : ℕ) (v : LaneState) → ShowsState c s → slice_get s.lanes l ≡ Some v → next_of c.buffer l ≡ v.handed
-next_is c s l v shows at = ap (λ (xs : List ℕ). get_or xs l 0) shows.nexts ∙ number_at (λ (u : LaneState). u.handed) s.lanes l v at
+next_is c s l v shows at = ap (λ (xs : List ℕ). get_or xs l 0) shows.nexts
+    ∙ get_or_from_slice_get (map (λ (u : LaneState). u.handed) s.lanes) l v.handed 0 (get_map (λ (u : LaneState). u.handed) s.lanes l v at)
 
 none_at : (c : Contents) (s : State) (l : ℕ) (o : Option LaneState) → slice_get s.lanes l ≡ o → ShowsState c s → has_next c.buffer l ≡ false → hand s l o ≡ None
 none_at c s l None at shows none = refl
@@ -35,8 +37,7 @@ none_at c s l (Some v) at shows none =
     let gone : is_among l v.handed c.buffer.waiting ≡ false = ap (λ n. is_among l n c.buffer.waiting) (sym (next_is c s l v shows at)) ∙ none in
     let off = not_among l v.handed s.waiting (sum_by-IsPermutation (λ y. once (is_ticket_of l v.handed y)) c.buffer.waiting s.waiting shows.waiting
     ∙ not_among_times l v.handed c.buffer.waiting gone) in
-    λ i. cond (off i) (Some (state s.year (set s.lanes l (lane_state v.submitted v.closed v.polled (v.handed + 1))) s.jobs s.workers s.results
-    (without l v.handed s.waiting))) None
+    cond-false (is_among l v.handed s.waiting) _ None off
 
 pub hand_none : (c : Contents) (l : ℕ) → has_next c.buffer l ≡ false → Steps c (Hand l) false c
 hand_none c l none = λ s r shows. idle c s (Hand l) (none_at c s l (slice_get s.lanes l) refl shows none) shows
@@ -77,27 +78,31 @@ among_by : (b : Bool) (l n m k : ℕ) (y : Plain) (xs : List Plain) → is_ticke
     → (is_ticket_of m k y || is_among m k xs) ≡ (is_among m k (cond b xs (y ∷ without l n xs)) || ((l == m) && (n == k)))
 among_by true l n m k y xs is any rest = ap (λ b. b || is_among m k xs) (ticket_is l n m k y is) ∙ or_comm ((l == m) && (n == k)) (is_among m k xs)
 among_by false l n m k y xs is any rest = ap (λ b. is_ticket_of m k y || b) (rest any)
-    ∙ or_assoc (is_ticket_of m k y) (is_among m k (without l n xs)) ((l == m) && (n == k))
+    ∙ sym (or_assoc (is_ticket_of m k y) (is_among m k (without l n xs)) ((l == m) && (n == k)))
 
 among_without : (l n m k : ℕ) (xs : List Plain) → is_among l n xs ≡ true → is_among m k xs ≡ (is_among m k (without l n xs) || ((l == m) && (n == k)))
 among_without l n m k [] any = absurd (cc)
 among_without l n m k (y ∷ xs) any = among_by (is_ticket_of l n y) l n m k y xs refl any (λ f. among_without l n m k xs f)
 
-one_more : (m l k n : ℕ) → m ≡ l → nat_lt k (n + 1) ≡ (nat_lt k n || ((l == m) && (n == k)))
-one_more m l k n e = grind (arith, nat_tests)
-
-no_more : (m l k n p : ℕ) → m ≢ l → nat_lt k p ≡ (nat_lt k p || ((l == m) && (n == k)))
-no_more m l k n p e = grind (arith, nat_tests)
-
+-- what is below the number after the lane's next is below that or is it
 below_handed : (s : State) (l m k : ℕ) (v : LaneState) → slice_get s.lanes l ≡ Some v
     → nat_lt k (of_lane 0 (λ u. u.handed) (slice_get (set s.lanes l (lane_state v.submitted v.closed v.polled (v.handed + 1))) m))
     ≡ (nat_lt k (handed_of s m) || ((l == m) && (v.handed == k)))
 below_handed s l m k v at =
     let w = lane_state v.submitted v.closed v.polled (v.handed + 1) in ⊎_elim
     (λ (e : m ≡ l). ap (λ n. nat_lt k n) (lane_here 0 (λ u. u.handed) s.lanes l m v w at e)
-    ∙ (one_more m l k v.handed e ∙ ap (λ n. nat_lt k n || ((l == m) && (v.handed == k))) (sym (lane_was 0 (λ u. u.handed) s.lanes l m v at e))))
-    (λ (e : m ≢ l). ap (λ n. nat_lt k n) (lane_else 0 (λ u. u.handed) s.lanes l m w e) ∙ no_more m l k v.handed (handed_of s m) e)
+    ∙ (below_next v.handed k
+    ∙ (λ i. nat_lt k (sym (lane_was 0 (λ u. u.handed) s.lanes l m v at e) i) || (sym (eq-eqb l m (sym e)) i && (v.handed == k)))))
+    (λ (e : m ≢ l). ap (λ n. nat_lt k n) (lane_else 0 (λ u. u.handed) s.lanes l m w e)
+    ∙ sym (or_false (nat_lt k (handed_of s m)) ((l == m) && (v.handed == k)) (and_left (l == m) (v.handed == k) (ne_eqb l m (λ f. e (sym f))))))
     (cases_eq m l)
+
+-- std's `take_more`, where that place has y
+one_longer : (xs : List Plain) (n : ℕ) (y : Plain) → slice_get xs n ≡ Some y → take (n + 1) xs ≡ take n xs ++ y ∷ []
+one_longer xs n y at = take_more xs n y (slice_get_within xs n y at) ∙ ap (λ z. take n xs ++ z ∷ []) (get_or_from_slice_get xs n y y at)
+
+last_to_front : (a b c : Bool) → (a || (b || c)) ≡ ((a || c) || b)
+last_to_front a b c = ap (λ d. a || d) (or_comm b c) ∙ sym (or_assoc a c b)
 
 pub hand_done : (c : Contents) (l : ℕ) (x : LaneContents) (y : Plain) (e : ReorderBuffer) → slice_get c.lanes l ≡ Some x → GivesNext c.buffer l y e
     → Steps c (Hand l) true (contents c.year (set c.lanes l (lane_contents x.closed x.issued (x.handed ++ y ∷ []) x.polled)) c.jobs c.workers c.results e)
@@ -114,15 +119,14 @@ hand_done c l x y e at gives = λ s r shows.
     let row = own_from s y l v.handed own gives.lane number in
     let row_here : slice_get v.submitted v.handed ≡ Some y =
     ap (λ (xs : List Plain). slice_get xs v.handed) (sym (lane_was [] (λ u. u.submitted) s.lanes l l v f.1 refl)) ∙ row in
-    let ticket : once (is_ticket_of l v.handed y) ≡ 1 = (λ i. once ((gives.lane i == l) && (number i == v.handed)))
-    ∙ (λ i. once (eq_self l i && eq_self v.handed i)) in
+    let ticket = ap once (ticket_from l v.handed y gives.lane number) in
     let times_there = sum_by-IsPermutation (λ z. once (is_ticket_of l v.handed z)) c.buffer.waiting s.waiting shows.waiting in
     let times_less = gives.leaves.waiting (λ z. once (is_ticket_of l v.handed z)) in
     let waits = among_from l v.handed s.waiting (omega arith) in
     let w = lane_state v.submitted v.closed v.polled (v.handed + 1) in
     let t = state s.year (set s.lanes l w) s.jobs s.workers s.results (without l v.handed s.waiting) in
     let shown : shown_lane w ≡ lane_contents x.closed x.issued (x.handed ++ y ∷ []) x.polled =
-    λ i. lane_contents (f.2 i).closed (f.2 i).issued ((take_more v.submitted v.handed y row_here ∙ ap (λ (u : LaneContents). u.handed ++ y ∷ []) f.2) i)
+    λ i. lane_contents (f.2 i).closed (f.2 i).issued ((one_longer v.submitted v.handed y row_here ∙ ap (λ (u : LaneContents). u.handed ++ y ∷ []) f.2) i)
     (f.2 i).polled in
     done c _ s t (Hand l) (ap (hand s l) f.1 ∙ (λ i. cond (waits i) (Some t) None))
     record {
@@ -139,27 +143,17 @@ hand_done c l x y e at gives = λ s r shows.
           gives.leaves.known m k
           ∙ (shows.known m k
           ∙ (ap (λ b. nat_lt k (handed_of s m) || b) (among_without l v.handed m k s.waiting waits)
-          ∙ (or_last_to_front (nat_lt k (handed_of s m)) (is_among m k (without l v.handed s.waiting)) ((l == m) && (v.handed == k))
+          ∙ (last_to_front (nat_lt k (handed_of s m)) (is_among m k (without l v.handed s.waiting)) ((l == m) && (v.handed == k))
           ∙ ap (λ b. b || is_among m k (without l v.handed s.waiting)) (sym (below_handed s l m k v f.1)))));
     }
-
-contained : (l n : ℕ) (y : Plain) (xs : List Plain) → y.lane ≡ l → y.number ≡ n → (k : ℕ) → k < length xs → get_or xs k y ≡ y → is_among l n xs ≡ true
-contained l n y [] lane number k less is = absurd (omega arith)
-contained l n y (x ∷ xs) lane number zero less is =
-    ap (λ b. b || is_among l n xs) ((λ i. ((is i).lane == l) && ((is i).number == n))
-    ∙ ((λ i. (lane i == l) && (number i == n)) ∙ (λ i. eq_self l i && eq_self n i)))
-contained l n y (x ∷ xs) lane number (suc k) less is = ap (λ b. is_ticket_of l n x || b) (contained l n y xs lane number k (omega arith) is)
-    ∙ or_comm (is_ticket_of l n x) true
 
 -- where the lane's next number waits, it may be handed
 pub hand_enabled : (c : Contents) (l : ℕ) (x : LaneContents) (y : Plain) → slice_get c.lanes l ≡ Some x → WaitsAsNext c.buffer l y → IsEnabled c (Hand l)
 hand_enabled c l x y at next = λ s r shows.
     let f = found c s l x shows at in
     let v = f.0 in
-    let here = contained l v.handed y c.buffer.waiting next.lane (next.number ∙ next_is c s l v shows f.1) next.waits.0 next.waits.1 next.waits.2 in
+    let here = ap (λ n. is_among l n c.buffer.waiting) (sym (next_is c s l v shows f.1)) ∙ next_has c.buffer l y next in
     let there = sum_by-IsPermutation (λ z. once (is_ticket_of l v.handed z)) c.buffer.waiting s.waiting shows.waiting in
     let least = among_times l v.handed c.buffer.waiting here in
     let waits = among_from l v.handed s.waiting (omega arith) in
-    ap (λ o. is_some o) (ap (hand s l) f.1 ∙ (λ i. cond (waits i)
-    (Some (state s.year (set s.lanes l (lane_state v.submitted v.closed v.polled (v.handed + 1))) s.jobs s.workers s.results
-    (without l v.handed s.waiting))) None))
+    ap (λ o. is_some o) (ap (hand s l) f.1 ∙ cond-true (is_among l v.handed s.waiting) _ None waits)

@@ -1,5 +1,6 @@
--- What the events of a machine leave as it is, and what they push and pop: for the laws on its history.
-use Rattle.std.proofs.Common.{◌≡◌, ◌≢◌, ⊎_elim, ℕ, ◌≤◌, ◌^◌, ◌&&◌, not, nat_lt, cond, Bool, true, false, List, [], ◌∷◌, ◌++◌, length, append_assoc, append-nil, set, Option, Some, None, refl, sym, ap, ◌∙◌, arith}
+-- What each event leaves of a lane's submitted rows, of how many it has polled, and of its closing (`Grows`): for the laws on a machine's history.
+-- It goes through the events one by one, as QueueFacts and StepFacts do.
+use Rattle.std.proofs.Common.{◌≡◌, ◌≢◌, ⊎_elim, ℕ, ◌≤◌, ◌^◌, ◌&&◌, not, nat_lt, true, false, List, [], ◌∷◌, ◌++◌, length, append_assoc, append-nil, set, Option, Some, None, refl, sym, ap, ◌∙◌, arith}
 use Rattle.std.specs.List.{slice_get}
 use Rattle.std.proofs.lemmas.Bool.{cases_eq, both_ways, not-true, and_parts}
 use Rattle.lane_core.specs.declared.event.Event.{Event}
@@ -8,6 +9,7 @@ use Rattle.lane_core.specs.declared.job.Plain.{Plain}
 use Rattle.lane_core.specs.Machine.{LaneState, State, after, close, collect, hand, is_closed, next_job, or_same, poll, polled_of, post, run, state, submit, submitted_by, take_job}
 use Rattle.lane_core.specs.Tickets.{is_among}
 use Rattle.lane_core.proofs.ChangedLane.{lane_else, lane_here, lane_was}
+use Rattle.lane_core.proofs.AllowedEvents.{by_test}
 
 -- a lane's submitted rows and polled number from one state to another
 pub record Grows (s t : State) (l : ℕ) : Type 0 where
@@ -16,12 +18,19 @@ pub record Grows (s t : State) (l : ℕ) : Type 0 where
   pub polled : polled_of s l ≤ polled_of t l
   pub closed : is_closed s l ≡ true → (more ≡ []) × (is_closed t l ≡ true)
 
-stays : (s : State) (l : ℕ) → Grows s s l
-stays s l = record { more = []; submitted = sym (append-nil (submitted_by s l)); polled = omega arith; closed = λ e. (refl, e) }
+-- no lane changed
+stays : (s : State) (l : ℕ) (jobs : List Plain) (workers : List (Option Plain)) (results waiting : List Plain)
+    → Grows s (state s.year s.lanes jobs workers results waiting) l
+stays s l jobs workers results waiting = record {
+  more = [];
+  submitted = sym (append-nil (submitted_by s l));
+  polled = omega arith;
+  closed = λ e. (refl, e);
+}
 
-by_test : (l : ℕ) (s t : State) (b : Bool) → (b ≡ true → Grows s t l) → Grows s (or_same s (cond b (Some t) None)) l
-by_test l s t true f = f refl
-by_test l s t false f = stays s l
+-- nothing changed
+same : (s : State) (l : ℕ) → Grows s s l
+same s l = stays s l s.jobs s.workers s.results s.waiting
 
 -- one lane changed
 changed : (s : State) (i l : ℕ) (v w : LaneState) (jobs results waiting more : List Plain) → slice_get s.lanes i ≡ Some v
@@ -45,39 +54,39 @@ changed s i l v w jobs results waiting more at submitted polled closed = ⊎_eli
     (cases_eq l i)
 
 submit_grows : (l : ℕ) (s : State) (i : ℕ) (row : List ℕ) (o : Option LaneState) → slice_get s.lanes i ≡ o → Grows s (or_same s (submit s i row o)) l
-submit_grows l s i row None at = stays s l
-submit_grows l s i row (Some v) at = by_test l s _ (not v.closed && nat_lt (length v.submitted) (2 ^ 32))
+submit_grows l s i row None at = same s l
+submit_grows l s i row (Some v) at = by_test (λ t. Grows s t l) s _ (not v.closed && nat_lt (length v.submitted) (2 ^ 32)) (same s l)
     (λ e. changed s i l v _ _ _ _ (next_job s i v row ∷ []) at refl (omega arith)
     (λ f. absurd (both_ways v.closed (not-true v.closed (and_parts (not v.closed) (nat_lt (length v.submitted) (2 ^ 32)) e).0) f)))
 
 take_grows : (l : ℕ) (s : State) (w : ℕ) (o : Option (Option Plain)) (jobs : List Plain) → Grows s (or_same s (take_job s w o jobs)) l
-take_grows l s w None jobs = stays s l
-take_grows l s w (Some (Some y)) jobs = stays s l
-take_grows l s w (Some None) [] = stays s l
-take_grows l s w (Some None) (x ∷ xs) = record { more = []; submitted = sym (append-nil (submitted_by s l)); polled = omega arith; closed = λ e. (refl, e) }
+take_grows l s w None jobs = same s l
+take_grows l s w (Some (Some y)) jobs = same s l
+take_grows l s w (Some None) [] = same s l
+take_grows l s w (Some None) (x ∷ xs) = stays s l _ _ _ _
 
 post_grows : (l : ℕ) (s : State) (w : ℕ) (o : Option (Option Plain)) → Grows s (or_same s (post s w o)) l
-post_grows l s w None = stays s l
-post_grows l s w (Some None) = stays s l
-post_grows l s w (Some (Some x)) = record { more = []; submitted = sym (append-nil (submitted_by s l)); polled = omega arith; closed = λ e. (refl, e) }
+post_grows l s w None = same s l
+post_grows l s w (Some None) = same s l
+post_grows l s w (Some (Some x)) = stays s l _ _ _ _
 
 collect_grows : (l : ℕ) (s : State) (results : List Plain) → Grows s (or_same s (collect s results)) l
-collect_grows l s [] = stays s l
-collect_grows l s (x ∷ xs) = record { more = []; submitted = sym (append-nil (submitted_by s l)); polled = omega arith; closed = λ e. (refl, e) }
+collect_grows l s [] = same s l
+collect_grows l s (x ∷ xs) = stays s l _ _ _ _
 
 hand_grows : (l : ℕ) (s : State) (i : ℕ) (o : Option LaneState) → slice_get s.lanes i ≡ o → Grows s (or_same s (hand s i o)) l
-hand_grows l s i None at = stays s l
-hand_grows l s i (Some v) at = by_test l s _ (is_among i v.handed s.waiting)
+hand_grows l s i None at = same s l
+hand_grows l s i (Some v) at = by_test (λ t. Grows s t l) s _ (is_among i v.handed s.waiting) (same s l)
     (λ _. changed s i l v _ _ _ _ [] at (sym (append-nil v.submitted)) (omega arith) (λ f. (refl, f)))
 
 poll_grows : (l : ℕ) (s : State) (i : ℕ) (o : Option LaneState) → slice_get s.lanes i ≡ o → Grows s (or_same s (poll s i o)) l
-poll_grows l s i None at = stays s l
-poll_grows l s i (Some v) at = by_test l s _ (nat_lt v.polled v.handed)
+poll_grows l s i None at = same s l
+poll_grows l s i (Some v) at = by_test (λ t. Grows s t l) s _ (nat_lt v.polled v.handed) (same s l)
     (λ _. changed s i l v _ _ _ _ [] at (sym (append-nil v.submitted)) (omega arith) (λ f. (refl, f)))
 
 close_grows : (l : ℕ) (s : State) (i : ℕ) (o : Option LaneState) → slice_get s.lanes i ≡ o → Grows s (or_same s (close s i o)) l
-close_grows l s i None at = stays s l
-close_grows l s i (Some v) at = by_test l s _ (not v.closed)
+close_grows l s i None at = same s l
+close_grows l s i (Some v) at = by_test (λ t. Grows s t l) s _ (not v.closed) (same s l)
     (λ _. changed s i l v _ _ _ _ [] at (sym (append-nil v.submitted)) (omega arith) (λ f. (refl, refl)))
 
 step_grows : (l : ℕ) (s : State) (e : Event) → Grows s (after s e) l
@@ -98,7 +107,7 @@ grows_both r s t l a b = record {
 }
 
 pub run_grows : (l : ℕ) (s : State) (es : List Event) → Grows s (run s es) l
-run_grows l s [] = stays s l
+run_grows l s [] = same s l
 run_grows l s (e ∷ es) = grows_both s (after s e) (run (after s e) es) l (step_grows l s e) (run_grows l (after s e) es)
 
 pub close_holds : (s : State) (es : List Event) (l : ℕ) → is_closed s l ≡ true → (submitted_by (run s es) l ≡ submitted_by s l)

@@ -1,9 +1,10 @@
--- A world shows the machine's next state: events of lanes (`World::submit`, `World::poll`, `World::close`).
+-- A world shows the machine's next state: events of lanes (`World::submit`, `World::poll`, `World::close`), and any event of a lane that is not there.
 use Rattle.std.proofs.Common.{◌≡◌, ℕ, ◌+◌, ◌<◌, ◌≤◌, ◌^◌, ◌||◌, not, nat_lt, cond, true, false, List, [], ◌∷◌, ◌++◌, map, length, length-append, set, Some, None, refl, sym, ap, ◌∙◌, subst, arith, ◌&&◌}
 use Rattle.std.specs.List.{slice_get}
-use Rattle.std.proofs.lemmas.Bool.{le-ltb, lt-ltb, and_left, and_right, and_from, not_from_true, not_from_false}
-use Rattle.std.proofs.lemmas.Option.{slice_get_past}
+use Rattle.std.proofs.lemmas.Bool.{le-ltb, lt-ltb, and_left, and_right, and_from, not_from_true, not_from_false, cond-false}
+use Rattle.std.proofs.lemmas.Option.{slice_get_past, get_or_from_slice_get}
 use Rattle.std.proofs.lemmas.List.{length-take-le, map-set, take-append-le}
+use Rattle.std.proofs.Math.Seq.{map-set_same}
 use Rattle.lane_core.specs.declared.event.Event.TheVariants.{Submit, Hand, Poll, Close}
 use Rattle.lane_core.specs.declared.job.Plain.{Plain}
 use Rattle.lane_core.specs.Contents.{Contents, LaneContents, ShowsState, Steps, contents, lane_contents, shown_lane}
@@ -13,7 +14,7 @@ use Rattle.lane_core.specs.Plain.{plain_of}
 use Rattle.lane_core.specs.Tickets.{is_among}
 use Rattle.lane_core.proofs.GoodFacts.{Good}
 use Rattle.lane_core.proofs.ChangedLane.{lane_kept, lane_was}
-use Rattle.lane_core.proofs.ListFacts.{get_back, get_none_back, map_keeps}
+use Rattle.lane_core.proofs.ListFacts.{get_back, get_none_back}
 use Rattle.lane_core.proofs.PolledFacts.{handed_issued}
 use Rattle.lane_core.proofs.WorldShowsNext.{done, idle}
 use Rattle.lane_core.proofs.StepFacts.{reached_good}
@@ -48,7 +49,7 @@ lanes_with c s l v w x shows is = (λ i. set (shows.lanes i) l (sym is i)) ∙ s
 
 nexts_kept : (c : Contents) (s : State) (l : ℕ) (v w : LaneState) → ShowsState c s → slice_get s.lanes l ≡ Some v → w.handed ≡ v.handed → c.buffer.nexts
     ≡ map (λ u. u.handed) (set s.lanes l w)
-nexts_kept c s l v w shows at is = shows.nexts ∙ sym (map_keeps (λ (u : LaneState). u.handed) s.lanes l v w at is)
+nexts_kept c s l v w shows at is = shows.nexts ∙ sym (map-set_same (λ (u : LaneState). u.handed) s.lanes l w v (is ∙ ap (λ (u : LaneState). u.handed) (sym (get_or_from_slice_get s.lanes l v v at))))
 
 known_kept : (c : Contents) (s : State) (l : ℕ) (v w : LaneState) → ShowsState c s → slice_get s.lanes l ≡ Some v → w.handed ≡ v.handed
     → (m k : ℕ) → was_taken c.buffer m k ≡ (nat_lt k (of_lane 0 (λ u. u.handed) (slice_get (set s.lanes l w) m)) || is_among m k s.waiting)
@@ -70,13 +71,18 @@ lane_shows c s l v w x shows at same is = record {
   known = known_kept c s l v w shows at same;
 }
 
+-- a lane was handed no more than it submitted
+handed_within : (s : State) (l : ℕ) (v : LaneState) → slice_get s.lanes l ≡ Some v → Good s → v.handed ≤ length v.submitted
+handed_within s l v at good =
+    let a = handed_issued s l good in
+    let b = lane_was 0 (λ u. u.handed) s.lanes l l v at refl in
+    let c = ap (λ (xs : List Plain). length xs) (lane_was [] (λ u. u.submitted) s.lanes l l v at refl) in
+    omega arith
+
 -- submitting: a lane that is closed or has issued all its tickets submits nothing
 not_submitted : (s : State) (l : ℕ) (row : List ℕ) (v : LaneState) → slice_get s.lanes l ≡ Some v
     → (not v.closed && nat_lt (length v.submitted) (2 ^ 32)) ≡ false → submit s l row (slice_get s.lanes l) ≡ None
-not_submitted s l row v at off =
-    let t = state s.year (set s.lanes l (lane_state (v.submitted ++ next_job s l v row ∷ []) v.closed v.polled v.handed)) (s.jobs ++ next_job s l v row ∷ [])
-    s.workers s.results s.waiting in
-    ap (submit s l row) at ∙ (λ i. cond (off i) (Some t) None)
+not_submitted s l row v at off = ap (submit s l row) at ∙ cond-false (not v.closed && nat_lt (length v.submitted) (2 ^ 32)) _ None off
 
 pub submit_closed : (c : Contents) (l : ℕ) (row : List ℕ) (x : LaneContents) → slice_get c.lanes l ≡ Some x → x.closed ≡ true → Steps c (Submit l row) false c
 submit_closed c l row x at closed = λ s r shows.
@@ -105,10 +111,7 @@ submit_done c l row x at open_ room = λ s r shows.
     let on = and_from (not v.closed) (nat_lt (length v.submitted) (2 ^ 32)) (not_from_false v.closed (ap (λ (u : LaneContents). u.closed) f.2 ∙ open_))
     (lt-ltb (length v.submitted) (2 ^ 32) (subst (λ n. n < 2 ^ 32) (sym count) room)) in
     let t = state s.year (set s.lanes l w) (s.jobs ++ job ∷ []) s.workers s.results s.waiting in
-    let good = reached_good s r in
-    let most : v.handed ≤ length v.submitted =
-    (let a = handed_issued s l good in let b = lane_was 0 (λ u. u.handed) s.lanes l l v f.1 refl in let d =
-    ap (λ (xs : List Plain). length xs) (lane_was [] (λ u. u.submitted) s.lanes l l v f.1 refl) in omega arith) in
+    let most = handed_within s l v f.1 (reached_good s r) in
     let shown : shown_lane w ≡ lane_contents x.closed (x.issued + 1) x.handed x.polled =
     λ i. lane_contents (f.2 i).closed ((length-append v.submitted (job ∷ []) ∙ ap (λ n. n + 1) count) i)
     ((take-append-le v.handed v.submitted (job ∷ []) most ∙ ap (λ (u : LaneContents). u.handed) f.2) i) (f.2 i).polled in
@@ -128,10 +131,7 @@ submit_done c l row x at open_ room = λ s r shows.
 pub handed_count : (c : Contents) (s : State) (l : ℕ) (x : LaneContents) (good : Good s) (f : Found s l x) → length x.handed ≡ f.0.handed
 handed_count c s l x good f =
     let v = f.0 in
-    let most : v.handed ≤ length v.submitted =
-    (let a = handed_issued s l good in let b = lane_was 0 (λ u. u.handed) s.lanes l l v f.1 refl in let d =
-    ap (λ (xs : List Plain). length xs) (lane_was [] (λ u. u.submitted) s.lanes l l v f.1 refl) in omega arith) in
-    ap (λ (u : LaneContents). length u.handed) (sym f.2) ∙ length-take-le v.handed v.submitted most
+    ap (λ (u : LaneContents). length u.handed) (sym f.2) ∙ length-take-le v.handed v.submitted (handed_within s l v f.1 good)
 
 pub poll_none : (c : Contents) (l : ℕ) (x : LaneContents) → slice_get c.lanes l ≡ Some x → length x.handed ≤ x.polled → Steps c (Poll l) false c
 poll_none c l x at none = λ s r shows.
@@ -140,8 +140,7 @@ poll_none c l x at none = λ s r shows.
     let count = handed_count c s l x (reached_good s r) f in
     let polled = ap (λ (u : LaneContents). u.polled) f.2 in
     let off = le-ltb v.polled v.handed (omega arith) in
-    idle c s (Poll l) (ap (poll s l) f.1 ∙ (λ i. cond (off i)
-    (Some (state s.year (set s.lanes l (lane_state v.submitted v.closed (v.polled + 1) v.handed)) s.jobs s.workers s.results s.waiting)) None)) shows
+    idle c s (Poll l) (ap (poll s l) f.1 ∙ cond-false (nat_lt v.polled v.handed) _ None off) shows
 
 pub poll_done : (c : Contents) (l : ℕ) (x : LaneContents) → slice_get c.lanes l ≡ Some x → x.polled < length x.handed
     → Steps c (Poll l) true (contents c.year (set c.lanes l (lane_contents x.closed x.issued x.handed (x.polled + 1))) c.jobs c.workers c.results c.buffer)
@@ -162,8 +161,7 @@ close_none c l x at closed = λ s r shows.
     let f = found c s l x shows at in
     let v = f.0 in
     let off = not_from_true v.closed (ap (λ (u : LaneContents). u.closed) f.2 ∙ closed) in
-    idle c s (Close l) (ap (close s l) f.1 ∙ (λ i. cond (off i)
-    (Some (state s.year (set s.lanes l (lane_state v.submitted true v.polled v.handed)) s.jobs s.workers s.results s.waiting)) None)) shows
+    idle c s (Close l) (ap (close s l) f.1 ∙ cond-false (not v.closed) _ None off) shows
 
 pub close_done : (c : Contents) (l : ℕ) (x : LaneContents) → slice_get c.lanes l ≡ Some x → x.closed ≡ false
     → Steps c (Close l) true (contents c.year (set c.lanes l (lane_contents true x.issued x.handed x.polled)) c.jobs c.workers c.results c.buffer)

@@ -1,5 +1,6 @@
 -- Lemmas, a file for each subject. What is proved of a function stands in the folder of its path.
 pub mod AdvanceFacts
+pub mod AllowedEvents
 pub mod BufferFacts
 pub mod ChangedLane
 pub mod ClaimFacts
@@ -8,12 +9,11 @@ pub mod GoodFacts
 pub mod HandShowFacts
 pub mod HeldFacts
 pub mod HistoryFacts
-pub mod IdleFacts
 pub mod LaneShowFacts
 pub mod ListFacts
 pub mod NextFacts
+pub mod NothingLostFacts
 pub mod OnePlaceFacts
-pub mod PlaceFacts
 pub mod PolledFacts
 pub mod QueueFacts
 pub mod ResultFacts
@@ -29,4 +29,5 @@ pub mod TicketLookup
 pub mod TruthFacts
 pub mod UnderWay
 pub mod WeightFacts
+pub mod WorkerShowFacts
 pub mod WorldShowsNext

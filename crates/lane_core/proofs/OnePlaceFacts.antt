@@ -1,18 +1,18 @@
 -- A ticket is in one place at most (the law `one_place`): the places stand in a row, and together have it once.
-use Rattle.std.proofs.Common.{◌≡◌, ℕ, ◌+◌, ◌≤◌, ◌&&◌, ◌||◌, Bool, false, not, nat_lt, true, zero, suc, List, [], ◌∷◌, Option, option_to_list, get_or, refl, sym, ap, ◌∙◌, arith}
+use Rattle.std.proofs.Common.{◌≡◌, ℕ, ◌≤◌, ◌&&◌, not, nat_lt, zero, suc, List, [], ◌∷◌, get_or, refl, sym, ap, ◌∙◌, arith}
 use Rattle.std.specs.List.{sum_by, count_by}
 use Rattle.std.proofs.lemmas.List.Sums.{sum_by-cons}
-use Rattle.lane_core.specs.declared.job.Plain.{Plain}
 use Rattle.lane_core.specs.declared.place.Place.{Place}
 use Rattle.lane_core.specs.declared.place.Place.TheVariants.{JobQueue, Worker, ResultQueue, Waiting, Outbox, Polled}
 use Rattle.lane_core.specs.Machine.{State, IsReached, handed_of, issued_of, polled_of}
-use Rattle.lane_core.specs.Tickets.{is_among, is_held_by, is_ticket_of}
+use Rattle.lane_core.specs.Tickets.{is_ticket_of}
 use Rattle.lane_core.specs.Weights.{once}
 use Rattle.lane_core.specs.Whereabouts.{IsAt}
 use Rattle.lane_core.proofs.PolledFacts.{tickets_once}
 use Rattle.lane_core.proofs.TruthFacts.{once_le}
-use Rattle.lane_core.proofs.TicketFacts.{among_times}
+use Rattle.lane_core.proofs.TicketFacts.{among_times, held_times, times_held}
 
+-- the places in a row
 abbrev rank : Place → ℕ
 rank JobQueue = 0
 rank Worker = 1
@@ -36,25 +36,14 @@ ranked Polled = refl
 abbrev counts : State → ℕ → ℕ → List ℕ
 counts s l k =
     count_by (is_ticket_of l k) s.jobs
-    ∷ sum_by (λ o. count_by (is_ticket_of l k) (option_to_list o)) s.workers
+    ∷ times_held l k s.workers
     ∷ count_by (is_ticket_of l k) s.results
     ∷ count_by (is_ticket_of l k) s.waiting
     ∷ once (not (nat_lt k (polled_of s l)) && nat_lt k (handed_of s l))
     ∷ once (nat_lt k (polled_of s l))
     ∷ []
 
-held_here : (b c : Bool) (n m : ℕ) → (b ≡ true → 1 ≤ n) → (c ≡ true → 1 ≤ m) → (b || c) ≡ true → 1 ≤ n + m
-held_here true c n m f g e = let a = f refl in omega arith
-held_here false c n m f g e = let a = g e in omega arith
-
-held_times : (l k : ℕ) (workers : List (Option Plain)) → is_held_by l k workers ≡ true
-    → 1 ≤ sum_by (λ o. count_by (is_ticket_of l k) (option_to_list o)) workers
-held_times l k [] e = absurd (cc)
-held_times l k (o ∷ os) e =
-    let here = held_here (is_among l k (option_to_list o)) (is_held_by l k os) (count_by (is_ticket_of l k) (option_to_list o))
-    (sum_by (λ p. count_by (is_ticket_of l k) (option_to_list p)) os) (λ f. among_times l k (option_to_list o) f) (λ f. held_times l k os f) e in
-    omega (arith, sum_by-cons (λ (p : Option Plain). count_by (is_ticket_of l k) (option_to_list p)) o os)
-
+-- a ticket at a place is counted there
 there : (s : State) (l k : ℕ) (p : Place) → IsAt s l k p → 1 ≤ get_or (counts s l k) (rank p) 0
 there s l k JobQueue a = among_times l k s.jobs a
 there s l k Worker a = held_times l k s.workers a
@@ -63,21 +52,19 @@ there s l k Waiting a = among_times l k s.waiting a
 there s l k Outbox a = let b = ap once a in omega arith
 there s l k Polled a = let b = ap once a in omega arith
 
-abbrev total : List ℕ → ℕ
-total [] = 0
-total (x ∷ xs) = x + total xs
-
-part : (xs : List ℕ) (i : ℕ) → get_or xs i 0 ≤ total xs
+-- one of several is no more than all together
+part : (xs : List ℕ) (i : ℕ) → get_or xs i 0 ≤ sum_by (λ n. n) xs
 part [] i = omega arith
-part (x ∷ xs) zero = omega arith
-part (x ∷ xs) (suc i) = let a = part xs i in omega arith
+part (x ∷ xs) zero = omega (arith, sum_by-cons (λ n. n) x xs)
+part (x ∷ xs) (suc i) = omega (arith, part xs i, sum_by-cons (λ n. n) x xs)
 
-alone : (xs : List ℕ) (i j : ℕ) → total xs ≤ 1 → 1 ≤ get_or xs i 0 → 1 ≤ get_or xs j 0 → i ≡ j
+-- where all are 1 together, no two are 1
+alone : (xs : List ℕ) (i j : ℕ) → sum_by (λ n. n) xs ≤ 1 → 1 ≤ get_or xs i 0 → 1 ≤ get_or xs j 0 → i ≡ j
 alone [] i j few a b = absurd (omega arith)
 alone (x ∷ xs) zero zero few a b = refl
-alone (x ∷ xs) zero (suc j) few a b = let c = part xs j in absurd (omega arith)
-alone (x ∷ xs) (suc i) zero few a b = let c = part xs i in absurd (omega arith)
-alone (x ∷ xs) (suc i) (suc j) few a b = ap suc (alone xs i j (omega arith) a b)
+alone (x ∷ xs) zero (suc j) few a b = absurd (omega (arith, part xs j, sum_by-cons (λ n. n) x xs))
+alone (x ∷ xs) (suc i) zero few a b = absurd (omega (arith, part xs i, sum_by-cons (λ n. n) x xs))
+alone (x ∷ xs) (suc i) (suc j) few a b = ap suc (alone xs i j (omega (arith, sum_by-cons (λ n. n) x xs)) a b)
 
 pub one_place : (s : State) (l k : ℕ) (p q : Place) → IsReached s → IsAt s l k p → IsAt s l k q → p ≡ q
 one_place s l k p q r a b =

@@ -1,25 +1,25 @@
--- What events push on the queues is what they pop and what the queues hold: the law `queues_keep`.
+-- What events push on the queues is what they pop and what the queues hold: the law `queues_keep`. It goes through the events one by one, as
+-- StepFacts and HistoryFacts do.
 use Rattle.std.proofs.Common.{◌≡◌, ℕ, ◌^◌, ◌&&◌, not, nat_lt, cond, Bool, true, false, List, [], ◌∷◌, ◌++◌, length, append_assoc, append-nil, take, Option, Some, None, refl, sym, ap, ◌∙◌}
 use Rattle.std.specs.List.{slice_get, sum_by}
 use Rattle.std.specs.Option.{is_some}
 use Rattle.std.proofs.lemmas.List.Sums.{sum_by-append}
+use Rattle.element_core.specs.Terms.{Terms}
 use Rattle.lane_core.specs.declared.event.Event.{Event}
 use Rattle.lane_core.specs.declared.event.Event.TheVariants.{Submit, Take, Post, Collect, Hand, Poll, Close}
 use Rattle.lane_core.specs.declared.job.Plain.{Plain}
 use Rattle.lane_core.specs.Plain.{plain_of}
 use Rattle.lane_core.specs.History.{Keeps, all_of, held_by, job_popped, job_pushed, result_popped, result_pushed}
 use Rattle.lane_core.specs.Machine.{LaneState, State, after, close, collect, hand, of_lane, or_same, poll, post, run, start, submit, take_job}
-use Rattle.element_core.specs.Terms.{Terms}
 use Rattle.lane_core.specs.Tickets.{is_among}
+use Rattle.lane_core.proofs.AllowedEvents.{by_test}
 
 -- in any lane's event neither queue changes, save that a submit pushes its job
 lane_jobs : (s : State) (b : Bool) (t : State) → t.jobs ≡ s.jobs → s.jobs ++ [] ≡ [] ++ (or_same s (cond b (Some t) None)).jobs
-lane_jobs s true t e = append-nil s.jobs ∙ sym e
-lane_jobs s false t e = append-nil s.jobs
+lane_jobs s b t e = by_test (λ u. s.jobs ++ [] ≡ [] ++ u.jobs) s t b (append-nil s.jobs) (λ _. append-nil s.jobs ∙ sym e)
 
 lane_results : (s : State) (b : Bool) (t : State) → t.results ≡ s.results → s.results ++ [] ≡ [] ++ (or_same s (cond b (Some t) None)).results
-lane_results s true t e = append-nil s.results ∙ sym e
-lane_results s false t e = append-nil s.results
+lane_results s b t e = by_test (λ u. s.results ++ [] ≡ [] ++ u.results) s t b (append-nil s.results) (λ _. append-nil s.results ∙ sym e)
 
 submit_by : (s : State) (x : Plain) (b : Bool) (t : State) → t.jobs ≡ s.jobs ++ x ∷ [] → s.jobs ++ cond (is_some (cond b (Some t) None)) (x ∷ []) [] ≡ []
     ++ (or_same s (cond b (Some t) None)).jobs

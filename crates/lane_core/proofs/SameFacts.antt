@@ -1,6 +1,12 @@
--- A test of two items: what is the same as an item is that item. So lists with the same sum by every weight are permutations of each other.
-use Rattle.std.proofs.Common.{Bool, ◌≡◌, ⊎_elim, ℕ, ◌≤◌, ◌==◌, ◌&&◌, not, true, false, List, [], ◌∷◌, ◌++◌, refl, sym, ap, ◌∙◌, subst, arith}
-use Rattle.std.proofs.lemmas.Bool.{and_parts, cases_Bool, eqb-true}
+-- Whether two items are one item (`is_same`), and that lists with the same sum by every weight are permutations of each other.
+use Rattle.std.proofs.Common.{Bool, ◌≡◌, ⊎_elim, ℕ, ◌≤◌, ◌==◌, ◌&&◌, true, false, List, [], ◌∷◌, ◌++◌, refl, sym, ap, subst, arith}
+use Rattle.std.proofs.Math.Bool.{beq}
+use Rattle.std.proofs.lemmas.Bool.{cases_Bool}
+use Rattle.std.proofs.lemmas.Bool.Decides.{Decides-and, Decides-eqb}
+use Rattle.std.proofs.lemmas.Slice.Eq.{slice_eq-Decides}
+use Rattle.std.specs.Bool.{Decides}
+use Rattle.std.specs.Cmp.{booleans_Decides}
+use Rattle.std.specs.Cmp.Lexicographic.{pointwise}
 use Rattle.std.specs.List.{sum_by, count_by}
 use Rattle.std.specs.List.Sorted.{IsPermutation}
 use Rattle.std.proofs.lemmas.List.Sums.{sum_by-append, sum_by-cons}
@@ -9,73 +15,27 @@ use Rattle.element_core.specs.Terms.{Terms}
 use Rattle.lane_core.specs.declared.job.Plain.{Plain}
 use Rattle.lane_core.specs.Plain.{plain_of}
 use Rattle.lane_core.specs.Weights.{once}
-use Rattle.lane_core.proofs.TruthFacts.{eq_self}
 
-abbrev pub same_widths : List ℕ → List ℕ → Bool
-same_widths [] [] = true
-same_widths [] (y ∷ ys) = false
-same_widths (x ∷ xs) [] = false
-same_widths (x ∷ xs) (y ∷ ys) = (x == y) && same_widths xs ys
-
-abbrev pub same_flag : Bool → Bool → Bool
-same_flag true b = b
-same_flag false b = not b
-
-abbrev pub same_terms : Terms → Terms → Bool
-same_terms x y = (x.year == y.year) && same_flag x.every y.every
-
-same_flag_self : (b : Bool) → same_flag b b ≡ true
-same_flag_self true = refl
-same_flag_self false = refl
-
-same_flag_from : (a b : Bool) → same_flag a b ≡ true → a ≡ b
-same_flag_from true true e = refl
-same_flag_from true false e = absurd (cc)
-same_flag_from false true e = absurd (cc)
-same_flag_from false false e = refl
-
-same_terms_self : (x : Terms) → same_terms x x ≡ true
-same_terms_self x = ap (λ b. b && same_flag x.every x.every) (eq_self x.year) ∙ same_flag_self x.every
-
-same_terms_from : (x y : Terms) → same_terms x y ≡ true → x ≡ y
-same_terms_from x y e =
-    let s = and_parts (x.year == y.year) (same_flag x.every y.every) e in
-    let a = eqb-true x.year y.year s.0 in
-    let b = same_flag_from x.every y.every s.1 in
-    λ i. record { year = a i; every = b i }
+abbrev same_year : Terms → Terms → Bool
+same_year x y = (x.year == y.year) && beq x.every y.every
 
 abbrev pub is_same : Plain → Plain → Bool
-is_same x y = (x.number == y.number) && ((x.lane == y.lane) && (same_terms x.year y.year && same_widths x.widths y.widths))
+is_same x y = (x.number == y.number) && ((x.lane == y.lane) && (same_year x.year y.year && pointwise (λ a b. a == b) x.widths y.widths))
 
-same_widths_self : (xs : List ℕ) → same_widths xs xs ≡ true
-same_widths_self [] = refl
-same_widths_self (x ∷ xs) = ap (λ b. b && same_widths xs xs) (eq_self x) ∙ same_widths_self xs
-
-same_widths_from : (xs ys : List ℕ) → same_widths xs ys ≡ true → xs ≡ ys
-same_widths_from [] [] e = refl
-same_widths_from [] (y ∷ ys) e = absurd (cc)
-same_widths_from (x ∷ xs) [] e = absurd (cc)
-same_widths_from (x ∷ xs) (y ∷ ys) e =
-    let s = and_parts (x == y) (same_widths xs ys) e in
-    let a = eqb-true x y s.0 in
-    let b = same_widths_from xs ys s.1 in
-    λ i. a i ∷ b i
+-- the test decides each field
+fields : (x y : Plain) → Decides (is_same x y)
+    ((x.number ≡ y.number) × ((x.lane ≡ y.lane) × (((x.year.year ≡ y.year.year) × (x.year.every ≡ y.year.every)) × (x.widths ≡ y.widths))))
+fields x y = Decides-and _ _ (Decides-eqb x.number y.number) (Decides-and _ _ (Decides-eqb x.lane y.lane) (Decides-and _ _
+    (Decides-and _ _ (Decides-eqb x.year.year y.year.year) (booleans_Decides x.year.every y.year.every))
+    (slice_eq-Decides Decides-eqb x.widths y.widths _ refl)))
 
 pub same_self : (x : Plain) → is_same x x ≡ true
-same_self x = ap (λ b. b && ((x.lane == x.lane) && (same_terms x.year x.year && same_widths x.widths x.widths))) (eq_self x.number)
-    ∙ (ap (λ b. b && (same_terms x.year x.year && same_widths x.widths x.widths)) (eq_self x.lane)
-    ∙ (ap (λ b. b && same_widths x.widths x.widths) (same_terms_self x.year) ∙ same_widths_self x.widths))
+same_self x = (fields x x).1 (refl, (refl, ((refl, refl), refl)))
 
 pub same_from : (x y : Plain) → is_same x y ≡ true → x ≡ y
 same_from x y e =
-    let s = and_parts (x.number == y.number) ((x.lane == y.lane) && (same_terms x.year y.year && same_widths x.widths y.widths)) e in
-    let t = and_parts (x.lane == y.lane) (same_terms x.year y.year && same_widths x.widths y.widths) s.1 in
-    let u = and_parts (same_terms x.year y.year) (same_widths x.widths y.widths) t.1 in
-    let a = eqb-true x.number y.number s.0 in
-    let b = eqb-true x.lane y.lane t.0 in
-    let c = same_terms_from x.year y.year u.0 in
-    let d = same_widths_from x.widths y.widths u.1 in
-    λ i. plain_of (b i) (a i) (c i) (d i)
+    let f = (fields x y).0 e in
+    λ i. plain_of (f.1.0 i) (f.0 i) (record { year = f.1.1.0.0 i; every = f.1.1.0.1 i }) (f.1.1.1 i)
 
 -- an item that is counted stands between two parts
 parted : (x : Plain) (ys : List Plain) → 1 ≤ count_by (is_same x) ys → (before : List Plain) × (after : List Plain) × (ys ≡ before ++ x ∷ after)

@@ -1,4 +1,4 @@
--- What is known of the lanes' next numbers: for `Deliverer::next` and `take_next`.
+-- What waits in the lanes' slots (`waiting_at`), and whether a lane's next number does: for `Deliverer::next`, `take_next` and `take_any`.
 use Rattle.std.proofs.Common.{◌≡◌, ◌≢◌, ⊎_elim, ℕ, ◌+◌, ◌<◌, ◌≤◌, ◌^◌, ◌||◌, nat_lt, true, false, zero, suc, List, [], ◌∷◌, ◌++◌, length, set, get_or, refl, sym, ap, ◌∙◌, arith}
 use Rattle.std.specs.Prelude.{Contains}
 use Rattle.std.proofs.lemmas.List.Folds.{list_any-append}
@@ -38,44 +38,56 @@ own_parts l k x is =
     let s = and_parts (is_ticket_of l k x) (nat_lt k (2 ^ 32)) is in
     let t = ticket_parts l k x s.0 in (t.0, t.1, ltb-true k (2 ^ 32) s.1)
 
-ticket_at : (l k : ℕ) (x : Plain) → IsSlotOf l k (Here x) → is_ticket_of l k x ≡ true
-ticket_at l k x is = (and_parts (is_ticket_of l k x) (nat_lt k (2 ^ 32)) is).0
+-- each slot is of the lane and the number that these say at its place
+abbrev Own : (ℕ → ℕ) → (ℕ → ℕ) → List NextSlot → Type 0
+Own lane next hs = (j : ℕ) → j < length hs → IsSlotOf (lane j) (next j) (slot_at hs j)
+
+abbrev Apart : (ℕ → ℕ) → Type 0
+Apart lane = (i j : ℕ) → lane i ≡ lane j → i ≡ j
+
+-- the same of the slots behind the first
+abbrev behind : (ℕ → ℕ) → ℕ → ℕ
+behind f j = f (suc j)
+
+own_behind : (lane next : ℕ → ℕ) (h : NextSlot) (hs : List NextSlot) → Own lane next (h ∷ hs) → Own (behind lane) (behind next) hs
+own_behind lane next h hs own j low = own (suc j) (omega arith)
+
+apart_behind : (lane : ℕ → ℕ) → Apart lane → Apart (behind lane)
+apart_behind lane apart i j e = let c = apart (suc i) (suc j) e in omega arith
 
 -- of another lane none waits
-none_of : (lane next : ℕ → ℕ) (hs : List NextSlot) (l k : ℕ) → ((j : ℕ) → j < length hs → IsSlotOf (lane j) (next j) (slot_at hs j)) → ((j : ℕ) → lane j ≢ l)
-    → is_among l k (waiting_at hs) ≡ false
-none_of lane next [] l k own other = refl
-none_of lane next (Missing ∷ hs) l k own other = none_of (λ j. lane (suc j)) (λ j. next (suc j)) hs l k (λ j low. own (suc j) (omega arith))
-    (λ j. other (suc j))
-none_of lane next (Here x ∷ hs) l k own other =
+none_elsewhere : (lane next : ℕ → ℕ) (hs : List NextSlot) (l k : ℕ) → Own lane next hs → ((j : ℕ) → lane j ≢ l) → is_among l k (waiting_at hs) ≡ false
+none_elsewhere lane next [] l k own other = refl
+none_elsewhere lane next (Missing ∷ hs) l k own other =
+    none_elsewhere (behind lane) (behind next) hs l k (own_behind lane next Missing hs own) (λ j. other (suc j))
+none_elsewhere lane next (Here x ∷ hs) l k own other =
     ap (λ b. b || is_among l k (waiting_at hs)) (not_ticket_of (lane 0) l k x (own_parts (lane 0) (next 0) x (own 0 (omega arith))).0 (other 0))
-    ∙ none_of (λ j. lane (suc j)) (λ j. next (suc j)) hs l k (λ j low. own (suc j) (omega arith)) (λ j. other (suc j))
-none_of lane next (Out ∷ hs) l k own other = none_of (λ j. lane (suc j)) (λ j. next (suc j)) hs l k (λ j low. own (suc j) (omega arith)) (λ j. other (suc j))
+    ∙ none_elsewhere (behind lane) (behind next) hs l k (own_behind lane next (Here x) hs own) (λ j. other (suc j))
+none_elsewhere lane next (Out ∷ hs) l k own other =
+    none_elsewhere (behind lane) (behind next) hs l k (own_behind lane next Out hs own) (λ j. other (suc j))
+
+-- of the first lane none waits behind the first slot
+none_behind : (lane next : ℕ → ℕ) (h : NextSlot) (hs : List NextSlot) → Own lane next (h ∷ hs) → Apart lane
+    → is_among (lane 0) (next 0) (waiting_at hs) ≡ false
+none_behind lane next h hs own apart = none_elsewhere (behind lane) (behind next) hs (lane 0) (next 0) (own_behind lane next h hs own)
+    (λ j e. let c = apart (suc j) 0 e in absurd (omega arith))
 
 -- a lane's next number waits where its slot says so
-here_of : (lane next : ℕ → ℕ) (hs : List NextSlot) (l : ℕ) → ((j : ℕ) → j < length hs → IsSlotOf (lane j) (next j) (slot_at hs j))
-    → ((i j : ℕ) → lane i ≡ lane j → i ≡ j)
-    → l < length hs → is_among (lane l) (next l) (waiting_at hs) ≡ is_here (slot_at hs l)
+here_of : (lane next : ℕ → ℕ) (hs : List NextSlot) (l : ℕ) → Own lane next hs → Apart lane → l < length hs
+    → is_among (lane l) (next l) (waiting_at hs) ≡ is_here (slot_at hs l)
 here_of lane next [] l own apart low = absurd (omega arith)
-here_of lane next (Missing ∷ hs) zero own apart low =
-    none_of (λ j. lane (suc j)) (λ j. next (suc j)) hs (lane 0) (next 0) (λ j less. own (suc j) (omega arith))
-    (λ j e. let c = apart (suc j) 0 e in absurd (omega arith))
-here_of lane next (Out ∷ hs) zero own apart low =
-    none_of (λ j. lane (suc j)) (λ j. next (suc j)) hs (lane 0) (next 0) (λ j less. own (suc j) (omega arith))
-    (λ j e. let c = apart (suc j) 0 e in absurd (omega arith))
-here_of lane next (Here x ∷ hs) zero own apart low = ap (λ b. b || is_among (lane 0) (next 0) (waiting_at hs)) (ticket_at (lane 0) (next 0) x (own 0 low))
+here_of lane next (Missing ∷ hs) zero own apart low = none_behind lane next Missing hs own apart
+here_of lane next (Out ∷ hs) zero own apart low = none_behind lane next Out hs own apart
+here_of lane next (Here x ∷ hs) zero own apart low = ap (λ b. b || is_among (lane 0) (next 0) (waiting_at hs)) (and_parts (is_ticket_of (lane 0) (next 0) x) (nat_lt (next 0) (2 ^ 32)) (own 0 low)).0
 here_of lane next (Missing ∷ hs) (suc l) own apart low =
-    here_of (λ j. lane (suc j)) (λ j. next (suc j)) hs l (λ j less. own (suc j) (omega arith)) (λ i j e. let c = apart (suc i) (suc j) e in omega arith)
-    (omega arith)
+    here_of (behind lane) (behind next) hs l (own_behind lane next Missing hs own) (apart_behind lane apart) (omega arith)
 here_of lane next (Out ∷ hs) (suc l) own apart low =
-    here_of (λ j. lane (suc j)) (λ j. next (suc j)) hs l (λ j less. own (suc j) (omega arith)) (λ i j e. let c = apart (suc i) (suc j) e in omega arith)
-    (omega arith)
+    here_of (behind lane) (behind next) hs l (own_behind lane next Out hs own) (apart_behind lane apart) (omega arith)
 here_of lane next (Here x ∷ hs) (suc l) own apart low =
     ap (λ b. b || is_among (lane (suc l)) (next (suc l)) (waiting_at hs))
     (not_ticket_of (lane 0) (lane (suc l)) (next (suc l)) x (own_parts (lane 0) (next 0) x (own 0 (omega arith))).0
     (λ e. let c = apart 0 (suc l) e in absurd (omega arith)))
-    ∙ here_of (λ j. lane (suc j)) (λ j. next (suc j)) hs l (λ j less. own (suc j) (omega arith)) (λ i j e. let c = apart (suc i) (suc j) e in omega arith)
-    (omega arith)
+    ∙ here_of (behind lane) (behind next) hs l (own_behind lane next (Here x) hs own) (apart_behind lane apart) (omega arith)
 
 -- one that waits as its lane's next number is among all that wait
 pub contained : (hs : List NextSlot) (l : ℕ) (x : Plain) (rest : List Plain) → l < length hs → slot_at hs l ≡ Here x → Contains (waiting_at hs ++ rest) x

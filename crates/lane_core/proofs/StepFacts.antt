@@ -1,7 +1,9 @@
--- What each event keeps, and so each list of events: a state that is reached is `Good`.
-use Rattle.std.proofs.Common.{◌≡◌, ℕ, ◌+◌, ◌≤◌, ◌^◌, ◌&&◌, not, nat_lt, cond, Bool, true, false, zero, suc, List, [], ◌∷◌, ◌++◌, length, replicate, Option, Some, None, refl, sym, ap, ◌∙◌, subst, arith}
+-- What each event keeps, and so each list of events: a state that is reached is `Good`. It goes through the events one by one, as QueueFacts
+-- and HistoryFacts do.
+use Rattle.std.proofs.Common.{◌≡◌, ℕ, ◌+◌, ◌≤◌, ◌^◌, ◌&&◌, not, nat_lt, true, false, zero, suc, List, [], ◌∷◌, ◌++◌, length, replicate, Option, Some, None, refl, sym, ap, ◌∙◌, subst, arith}
 use Rattle.std.specs.List.{AllByRecursion, slice_get}
 use Rattle.std.proofs.lemmas.Bool.{ltb-true}
+use Rattle.element_core.specs.Terms.{Terms}
 use Rattle.lane_core.specs.declared.event.Event.{Event}
 use Rattle.lane_core.specs.declared.event.Event.TheVariants.{Submit, Take, Post, Collect, Hand, Poll, Close}
 use Rattle.lane_core.specs.declared.job.Plain.{Plain}
@@ -11,16 +13,12 @@ use Rattle.lane_core.specs.Weights.{once}
 use Rattle.lane_core.proofs.GoodFacts.{Good, added, given, is_own, moved, settled}
 use Rattle.lane_core.proofs.ChangedLane.{lane_was}
 use Rattle.lane_core.proofs.UnderWay.{collected_under_way, posted_under_way, taken_under_way}
-use Rattle.element_core.specs.Terms.{Terms}
 use Rattle.lane_core.proofs.WeightFacts.{none_in}
-
-by_test : (s t : State) (b : Bool) → Good s → (b ≡ true → Good t) → Good (or_same s (cond b (Some t) None))
-by_test s t true a f = f refl
-by_test s t false a f = a
+use Rattle.lane_core.proofs.AllowedEvents.{by_test}
 
 submit_keeps : (s : State) (l : ℕ) (row : List ℕ) (o : Option LaneState) → slice_get s.lanes l ≡ o → Good s → Good (or_same s (submit s l row o))
 submit_keeps s l row None at good = good
-submit_keeps s l row (Some v) at good = by_test s _ (not v.closed && nat_lt (length v.submitted) (2 ^ 32)) good
+submit_keeps s l row (Some v) at good = by_test Good s _ (not v.closed && nat_lt (length v.submitted) (2 ^ 32)) good
     (λ _. added s l v (next_job s l v row) at refl refl refl good)
 
 take_keeps : (s : State) (w : ℕ) (o : Option (Option Plain)) (jobs : List Plain) → slice_get s.workers w ≡ o → s.jobs ≡ jobs → Good s
@@ -41,11 +39,11 @@ collect_keeps s (x ∷ results) is good = moved s _ _ _ _ (λ h. collected_under
 
 hand_keeps : (s : State) (l : ℕ) (o : Option LaneState) → slice_get s.lanes l ≡ o → Good s → Good (or_same s (hand s l o))
 hand_keeps s l None at good = good
-hand_keeps s l (Some v) at good = by_test s _ (is_among l v.handed s.waiting) good (λ waits. given s l v at waits good)
+hand_keeps s l (Some v) at good = by_test Good s _ (is_among l v.handed s.waiting) good (λ waits. given s l v at waits good)
 
 poll_keeps : (s : State) (l : ℕ) (o : Option LaneState) → slice_get s.lanes l ≡ o → Good s → Good (or_same s (poll s l o))
 poll_keeps s l None at good = good
-poll_keeps s l (Some v) at good = by_test s _ (nat_lt v.polled v.handed) good
+poll_keeps s l (Some v) at good = by_test Good s _ (nat_lt v.polled v.handed) good
     (λ e. settled s l v (lane_state v.submitted v.closed (v.polled + 1) v.handed) at refl refl (let f = ltb-true v.polled v.handed e in omega arith) good)
 
 -- a lane has polled no more than it was handed
@@ -57,7 +55,7 @@ few_of s l v at good =
 
 close_keeps : (s : State) (l : ℕ) (o : Option LaneState) → slice_get s.lanes l ≡ o → Good s → Good (or_same s (close s l o))
 close_keeps s l None at good = good
-close_keeps s l (Some v) at good = by_test s _ (not v.closed) good
+close_keeps s l (Some v) at good = by_test Good s _ (not v.closed) good
     (λ _. settled s l v (lane_state v.submitted true v.polled v.handed) at refl refl (few_of s l v at good) good)
 
 pub step_keeps : (s : State) (e : Event) → Good s → Good (after s e)
@@ -73,6 +71,7 @@ pub run_keeps : (s : State) (es : List Event) → Good s → Good (run s es)
 run_keeps s [] good = good
 run_keeps s (e ∷ es) good = run_keeps (after s e) es (step_keeps s e good)
 
+-- of a lane that has done nothing, or of none
 pub of_fresh : {X : Type 0} (d : X) (f : LaneState → X) (v : LaneState) (n l : ℕ) → f v ≡ d → of_lane d f (slice_get (replicate n v) l) ≡ d
 of_fresh d f v zero l e = refl
 of_fresh d f v (suc n) zero e = e
@@ -97,17 +96,13 @@ start_good lanes workers year =
 pub reached_good : (s : State) → IsReached s → Good s
 reached_good s r = subst Good r.4 (run_keeps (start r.0 r.1 r.2) r.3 (start_good r.0 r.1 r.2))
 
-pub run_push : (s : State) (es : List Event) (e : Event) → run s (es ++ e ∷ []) ≡ after (run s es) e
-run_push s [] e = refl
-run_push s (d ∷ es) e = run_push (after s d) es e
-
--- one more event
-pub reached_more : (s : State) (e : Event) → IsReached s → IsReached (after s e)
-reached_more s e r = (r.0, r.1, r.2, r.3 ++ e ∷ [], run_push (start r.0 r.1 r.2) r.3 e ∙ ap (λ t. after t e) r.4)
-
 pub run_run : (s : State) (es ds : List Event) → run s (es ++ ds) ≡ run (run s es) ds
 run_run s [] ds = refl
 run_run s (e ∷ es) ds = run_run (after s e) es ds
 
 pub reached_run : (s : State) (es : List Event) → IsReached s → IsReached (run s es)
 reached_run s es r = (r.0, r.1, r.2, r.3 ++ es, run_run (start r.0 r.1 r.2) r.3 es ∙ ap (λ t. run t es) r.4)
+
+-- and one more event
+pub reached_more : (s : State) (e : Event) → IsReached s → IsReached (after s e)
+reached_more s e r = reached_run s (e ∷ []) r

@@ -1,21 +1,25 @@
--- Tickets: how often a list has one, and lists of one lane's numbers in order.
-use Rattle.std.proofs.Common.{◌≡◌, ◌≢◌, ℕ, ◌+◌, ◌<◌, ◌≤◌, ◌==◌, nat_lt, true, false, zero, suc, List, [], ◌∷◌, length, refl, sym, ap, ◌∙◌, arith, ◌&&◌, Bool, not, cond, take, ◌++◌}
+-- Tickets: how often a list or workers have one, and lists of one lane's numbers in order.
+use Rattle.std.proofs.Common.{◌≡◌, ◌≢◌, ℕ, ◌+◌, ◌<◌, ◌≤◌, ◌==◌, nat_lt, true, false, suc, List, [], ◌∷◌, length, refl, sym, ap, ◌∙◌, arith, ◌&&◌, Bool, not, cond, take, ◌++◌, drop, take-append-drop, Option, option_to_list}
 use Rattle.std.proofs.lemmas.Bool.Decides.{nat_tests}
-use Rattle.std.specs.List.{sum_by, count_by}
+use Rattle.std.specs.List.{sum_by, count_by, list_all}
 use Rattle.std.proofs.lemmas.List.Sums.{sum_by-cons}
-use Rattle.std.proofs.lemmas.Bool.{and_parts, eqb-true, ltb-true, ne_eqb, lt-ltb, and_from, eq-eqb}
-use Rattle.lane_core.specs.declared.job.Plain.{Plain}
-use Rattle.lane_core.specs.Tickets.{is_among, is_ticket_of, numbered}
-use Rattle.lane_core.proofs.TruthFacts.{eq_self, true_from_once, ne_less, ne_more, once_and_le, once_and_false, once_below_next, once_below_zero}
-use Rattle.lane_core.specs.Weights.{once}
-use Rattle.lane_core.proofs.WeightFacts.{any_counted, none_of, some_of}
-use Rattle.lane_core.specs.inner.Settling.{is_elsewhere}
-use Rattle.lane_core.proofs.SameFacts.{is_same, same_terms, same_widths, same_from, same_self}
+use Rattle.std.proofs.lemmas.Bool.{and_parts, eqb-true, ltb-true, ne_eqb, lt-ltb, and_from, eq-eqb, and_left, and_right, ltb-false}
 use Rattle.std.proofs.lemmas.Grind.{common_steps}
+use Rattle.std.proofs.Math.Bool.{and-false, and-true}
+use Rattle.lane_core.specs.declared.job.Plain.{Plain}
+use Rattle.lane_core.specs.Tickets.{is_among, is_ticket_of, numbered, is_held_by}
+use Rattle.lane_core.specs.Weights.{once}
+use Rattle.lane_core.specs.inner.Settling.{is_elsewhere}
+use Rattle.lane_core.proofs.TruthFacts.{true_from_once, once_below_next, once_below_zero}
+use Rattle.lane_core.proofs.WeightFacts.{any_counted, any_summed}
+use Rattle.lane_core.proofs.SameFacts.{is_same, same_from, same_self}
 
 -- the lane and number of what has a ticket
 pub ticket_parts : (l k : ℕ) (x : Plain) → is_ticket_of l k x ≡ true → (x.lane ≡ l) × (x.number ≡ k)
 ticket_parts l k x e = let s = and_parts (x.lane == l) (x.number == k) e in (eqb-true x.lane l s.0, eqb-true x.number k s.1)
+
+pub ticket_from : (l k : ℕ) (x : Plain) → x.lane ≡ l → x.number ≡ k → is_ticket_of l k x ≡ true
+ticket_from l k x lane number = and_from (x.lane == l) (x.number == k) (eq-eqb x.lane l lane) (eq-eqb x.number k number)
 
 pub ticket_is : (l n m k : ℕ) (y : Plain) → is_ticket_of l n y ≡ true → is_ticket_of m k y ≡ ((l == m) && (n == k))
 ticket_is l n m k y e = let p = ticket_parts l n y e in λ i. (p.0 i == m) && (p.1 i == k)
@@ -25,7 +29,7 @@ not_ticket_of l m k x at other = grind (arith, nat_tests)
 
 -- the ticket of x counts for its own lane and number alone
 pub own_ticket : (l n k : ℕ) (x : Plain) → x.lane ≡ l → x.number ≡ n → once (is_ticket_of l k x) ≡ once (n == k)
-own_ticket l n k x a b = ap once ((λ i. (a i == l) && (b i == k)) ∙ ap (λ c. c && (n == k)) (eq_self l))
+own_ticket l n k x a b = ap once ((λ i. (a i == l) && (b i == k)) ∙ ap (λ c. c && (n == k)) (eq-eqb l l refl))
 
 pub other_ticket : (l m k : ℕ) (x : Plain) → x.lane ≡ l → m ≢ l → once (is_ticket_of m k x) ≡ 0
 other_ticket l m k x a apart = ap once (ap (λ i. (i == m) && (x.number == k)) a ∙ ap (λ c. c && (x.number == k)) (ne_eqb l m (λ e. apart (sym e))))
@@ -35,16 +39,30 @@ pub among_times : (l k : ℕ) (xs : List Plain) → is_among l k xs ≡ true →
 among_times l k xs e = ltb-true 0 (count_by (is_ticket_of l k) xs) (sym (any_counted (is_ticket_of l k) xs) ∙ e)
 
 pub not_among_times : (l k : ℕ) (xs : List Plain) → is_among l k xs ≡ false → count_by (is_ticket_of l k) xs ≡ 0
-not_among_times l k xs e = none_of (count_by (is_ticket_of l k) xs) (sym (any_counted (is_ticket_of l k) xs) ∙ e)
+not_among_times l k xs e = let none = ltb-false 0 (count_by (is_ticket_of l k) xs) (sym (any_counted (is_ticket_of l k) xs) ∙ e) in omega arith
 
 pub not_among : (l k : ℕ) (xs : List Plain) → count_by (is_ticket_of l k) xs ≡ 0 → is_among l k xs ≡ false
 not_among l k xs e = any_counted (is_ticket_of l k) xs ∙ ap (nat_lt 0) e
 
 pub among_from : (l k : ℕ) (xs : List Plain) → 1 ≤ count_by (is_ticket_of l k) xs → is_among l k xs ≡ true
-among_from l k xs e = any_counted (is_ticket_of l k) xs ∙ some_of (count_by (is_ticket_of l k) xs) e
+among_from l k xs e = any_counted (is_ticket_of l k) xs ∙ lt-ltb 0 (count_by (is_ticket_of l k) xs) e
+
+-- how often workers hold it
+abbrev pub times_held : ℕ → ℕ → List (Option Plain) → ℕ
+times_held l k workers = sum_by (λ o. count_by (is_ticket_of l k) (option_to_list o)) workers
+
+held_counted : (l k : ℕ) (workers : List (Option Plain)) → is_held_by l k workers ≡ nat_lt 0 (times_held l k workers)
+held_counted l k workers = any_summed (λ o. is_among l k (option_to_list o)) (λ o. count_by (is_ticket_of l k) (option_to_list o))
+    (λ o. any_counted (is_ticket_of l k) (option_to_list o)) workers
+
+pub held_times : (l k : ℕ) (workers : List (Option Plain)) → is_held_by l k workers ≡ true → 1 ≤ times_held l k workers
+held_times l k workers e = ltb-true 0 (times_held l k workers) (sym (held_counted l k workers) ∙ e)
+
+pub not_held_times : (l k : ℕ) (workers : List (Option Plain)) → is_held_by l k workers ≡ false → times_held l k workers ≡ 0
+not_held_times l k workers e = let none = ltb-false 0 (times_held l k workers) (sym (held_counted l k workers) ∙ e) in omega arith
 
 pub ticket_self : (x : Plain) → once (is_ticket_of x.lane x.number x) ≡ 1
-ticket_self x = grind (arith, nat_tests)
+ticket_self x = ap once (ticket_from x.lane x.number x refl refl)
 
 -- the first of a lane's numbers from n on, and those after it
 pub record Numbered (l n : ℕ) (x : Plain) (xs : List Plain) : Type 0 where
@@ -74,14 +92,14 @@ numbered_front l n (x ∷ xs) ys e =
     let p = numbered_parts l n x (xs ++ ys) e in numbered_from l n x xs p.lane p.number (numbered_front l (suc n) xs ys p.rest)
 
 -- no later number is that of x
-pub later : (l m : ℕ) (x : Plain) (xs : List Plain) → numbered l m xs ≡ true → x.number < m → count_by (λ z. is_same x z) xs ≡ 0
-later l m x [] e h = refl
-later l m x (y ∷ xs) e h =
+pub no_later_same : (l m : ℕ) (x : Plain) (xs : List Plain) → numbered l m xs ≡ true → x.number < m → count_by (λ z. is_same x z) xs ≡ 0
+no_later_same l m x [] e h = refl
+no_later_same l m x (y ∷ xs) e h =
     let p = numbered_parts l m y xs e in
     let at = p.number in
-    let differs : (x.number == y.number) ≡ false = ne_less x.number y.number (omega arith) in
-    let none_here : once (is_same x y) ≡ 0 = ap (λ b. once (b && ((x.lane == y.lane) && (same_terms x.year y.year && same_widths x.widths y.widths)))) differs in
-    omega (arith, sum_by-cons (λ z. once (is_same x z)) y xs, later l (suc m) x xs p.rest (omega arith))
+    let differs : is_same x y ≡ false = and_left (x.number == y.number) _ (ne_eqb x.number y.number (λ f. absurd (omega arith))) in
+    let none_here = ap once differs in
+    omega (arith, sum_by-cons (λ z. once (is_same x z)) y xs, no_later_same l (suc m) x xs p.rest (omega arith))
 
 pub same_lists : (l n : ℕ) (xs ys : List Plain) → numbered l n xs ≡ true → numbered l n ys ≡ true → ((h : Plain → ℕ) → sum_by h xs ≡ sum_by h ys) → xs ≡ ys
 same_lists l n [] [] a b same = refl
@@ -95,29 +113,41 @@ same_lists l n (x ∷ xs) (y ∷ ys) a b same =
     let left = sum_by-cons (λ z. once (is_same x z)) x xs in
     let right = sum_by-cons (λ z. once (is_same x z)) y ys in
     let here : once (is_same x x) ≡ 1 = ap once (same_self x) in
-    let none = later l (suc n) x ys q.rest (omega arith) in
+    let none = no_later_same l (suc n) x ys q.rest (omega arith) in
     let first : x ≡ y = same_from x y (true_from_once (is_same x y) (omega arith)) in
     let r = same_lists l (suc n) xs ys p.rest q.rest (λ h. let e = same h in let f = ap h first in omega (arith, sum_by-cons h x xs, sum_by-cons h y ys)) in
     λ i. first i ∷ r i
 
--- a list of one lane's numbers has no sum for the test of another lane
-pub sum_of_other_lane : (l m n : ℕ) (h : Plain → ℕ) (xs : List Plain) → numbered m n xs ≡ true → (m == l) ≡ false → sum_by (λ x. cond (x.lane == l) (h x) 0) xs ≡ 0
-sum_of_other_lane l m n h [] e f = refl
-sum_of_other_lane l m n h (x ∷ xs) e f =
-    let p = numbered_parts m n x xs e in
-    let is : (x.lane == l) ≡ false = ap (λ k. k == l) p.lane ∙ f in
-    let rest = sum_of_other_lane l m (suc n) h xs p.rest f in
+-- a lane's numbers are of that lane
+pub of_one_lane : (l n : ℕ) (xs : List Plain) → numbered l n xs ≡ true → list_all (λ x. x.lane == l) xs ≡ true
+of_one_lane l n [] e = refl
+of_one_lane l n (x ∷ xs) e =
+    let p = numbered_parts l n x xs e in
+    and_from (x.lane == l) (list_all (λ y. y.lane == l) xs) (eq-eqb x.lane l p.lane) (of_one_lane l (suc n) xs p.rest)
+
+-- what is one lane's has no sum for the test of another
+pub sum_of_others : (l m : ℕ) (h : Plain → ℕ) (xs : List Plain) → list_all (λ x. x.lane == m) xs ≡ true → (m == l) ≡ false
+    → sum_by (λ x. cond (x.lane == l) (h x) 0) xs ≡ 0
+sum_of_others l m h [] e f = refl
+sum_of_others l m h (x ∷ xs) e f =
+    let s = and_parts (x.lane == m) (list_all (λ y. y.lane == m) xs) e in
+    let is : (x.lane == l) ≡ false = ap (λ k. k == l) (eqb-true x.lane m s.0) ∙ f in
     let here : cond (x.lane == l) (h x) 0 ≡ 0 = ap (λ b. cond b (h x) 0) is in
-    omega (arith, sum_by-cons (λ (y : Plain). cond (y.lane == l) (h y) 0) x xs)
+    omega (arith, sum_by-cons (λ (y : Plain). cond (y.lane == l) (h y) 0) x xs, sum_of_others l m h xs s.1 f)
+
+pub sum_of_other_lane : (l m n : ℕ) (h : Plain → ℕ) (xs : List Plain) → numbered m n xs ≡ true → (m == l) ≡ false → sum_by (λ x. cond (x.lane == l) (h x) 0) xs ≡ 0
+sum_of_other_lane l m n h xs e f = sum_of_others l m h xs (of_one_lane m n xs e) f
 
 -- and for its own the whole sum
+pub sum_of_own : (l : ℕ) (h : Plain → ℕ) (xs : List Plain) → list_all (λ x. x.lane == l) xs ≡ true → sum_by (λ x. cond (x.lane == l) (h x) 0) xs ≡ sum_by h xs
+sum_of_own l h [] e = refl
+sum_of_own l h (x ∷ xs) e =
+    let s = and_parts (x.lane == l) (list_all (λ y. y.lane == l) xs) e in
+    let here : cond (x.lane == l) (h x) 0 ≡ h x = ap (λ b. cond b (h x) 0) s.0 in
+    omega (arith, sum_by-cons (λ (y : Plain). cond (y.lane == l) (h y) 0) x xs, sum_by-cons h x xs, sum_of_own l h xs s.1)
+
 pub sum_of_own_lane : (l n : ℕ) (h : Plain → ℕ) (xs : List Plain) → numbered l n xs ≡ true → sum_by (λ x. cond (x.lane == l) (h x) 0) xs ≡ sum_by h xs
-sum_of_own_lane l n h [] e = refl
-sum_of_own_lane l n h (x ∷ xs) e =
-    let p = numbered_parts l n x xs e in
-    let rest = sum_of_own_lane l (suc n) h xs p.rest in
-    let is = ap (λ b. cond b (h x) 0) (eq-eqb x.lane l p.lane) in
-    omega (arith, sum_by-cons (λ (y : Plain). cond (y.lane == l) (h y) 0) x xs, sum_by-cons h x xs)
+sum_of_own_lane l n h xs e = sum_of_own l h xs (of_one_lane l n xs e)
 
 -- no later number is k
 pub none_past_number : (l k m n : ℕ) (xs : List Plain) → numbered m n xs ≡ true → k < n → count_by (is_ticket_of l k) xs ≡ 0
@@ -125,14 +155,13 @@ none_past_number l k m n [] e h = refl
 none_past_number l k m n (x ∷ xs) e h =
     let p = numbered_parts m n x xs e in
     let at = p.number in
-    let differs : (x.number == k) ≡ false = ne_more x.number k (omega arith) in
-    let none : once (is_ticket_of l k x) ≡ 0 = ap (λ b. once ((x.lane == l) && b)) differs ∙ once_and_false (x.lane == l) in
+    let none : once (is_ticket_of l k x) ≡ 0 = ap once (and_right (x.lane == l) (x.number == k) (ne_eqb x.number k (λ f. absurd (omega arith)))) in
     omega (arith, sum_by-cons (λ y. once (is_ticket_of l k y)) x xs, none_past_number l k m (suc n) xs p.rest (omega arith))
 
 -- whether the first one is number k decides where it can be
 pub once_by : (c : Bool) (a : Bool) (k n b w : ℕ) → once a ≡ b → (c ≡ true → k < suc n) → w ≤ b → (k < suc n → w ≡ 0) → once (a && c) + w ≤ b
-once_by true a k n b w lane_is is rest gone = let z = gone (is refl) in let y = once_and_le a true in omega arith
-once_by false a k n b w lane_is is rest gone = let y = once_and_false a in omega arith
+once_by true a k n b w lane_is is rest gone = let z = gone (is refl) in let y = ap once (and-true a) in omega arith
+once_by false a k n b w lane_is is rest gone = let y = ap once (and-false a) in omega arith
 
 pub once_step : (l k n : ℕ) (x : Plain) (xs : List Plain) (b : ℕ) → once (x.lane == l) ≡ b → x.number ≡ n
     → count_by (is_ticket_of l k) xs ≤ b → (k < suc n → count_by (is_ticket_of l k) xs ≡ 0) → count_by (is_ticket_of l k) (x ∷ xs) ≤ b
@@ -164,11 +193,7 @@ all_here n m k (x ∷ xs) e h =
     omega (arith, sum_by-cons (λ y. once (is_elsewhere n y)) x xs, all_here n m (suc k) xs p.rest h)
 
 pub numbered-take : (l n p : ℕ) (xs : List Plain) → numbered l n xs ≡ true → numbered l n (take p xs) ≡ true
-numbered-take l n zero xs e = refl
-numbered-take l n (suc p) [] e = refl
-numbered-take l n (suc p) (x ∷ xs) e =
-    let parts = numbered_parts l n x xs e in
-    numbered_from l n x (take p xs) parts.lane parts.number (numbered-take l (suc n) p xs parts.rest)
+numbered-take l n p xs e = numbered_front l n (take p xs) (drop p xs) (ap (numbered l n) (take-append-drop p xs) ∙ e)
 
 -- how often each of a lane's numbers is there
 pub exact_times : (l n k : ℕ) (xs : List Plain) → numbered l n xs ≡ true → count_by (is_ticket_of l k) xs + once (nat_lt k n) ≡ once (nat_lt k (n + length xs))

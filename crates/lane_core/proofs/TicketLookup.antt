@@ -1,5 +1,5 @@
 -- What stands in a deliverer's map under a ticket, and which tickets are known.
-use Rattle.std.proofs.Common.{◌≡◌, ℕ, ◌+◌, ◌<◌, ◌≤◌, ◌^◌, ◌==◌, ◌&&◌, ◌||◌, nat_lt, cond, Bool, true, false, List, [], ◌∷◌, length, Option, Some, refl, sym, ap, ◌∙◌, subst, arith}
+use Rattle.std.proofs.Common.{◌≡◌, ℕ, ◌+◌, ◌<◌, ◌≤◌, ◌^◌, ◌==◌, ◌&&◌, ◌||◌, nat_lt, cond, Bool, true, false, List, [], ◌∷◌, Some, refl, sym, ap, ◌∙◌, subst, arith}
 use Rattle.std.specs.Map.{lookup, remove_entry, values_of}
 use Rattle.std.specs.Ordering.{is_eq, nat_cmp, ordering_then, match_ordering}
 use Rattle.std.specs.declared.cmp.Ordering.{Ordering}
@@ -11,15 +11,20 @@ use Rattle.std.specs.Set.{remove_key}
 use Rattle.std.specs.Option.{is_some}
 use Rattle.std.proofs.lemmas.Bool.Decides.{nat_tests}
 use Rattle.std.proofs.lemmas.List.Sums.{sum_by-cons}
-use Rattle.std.proofs.lemmas.Bool.{and_parts, eqb-true, ltb-true, or_parts}
-use Rattle.std.proofs.Math.Bool.{or_comm}
+use Rattle.std.proofs.lemmas.Bool.{and_parts, eqb-true, ltb-true, or_parts, and_from, eq-eqb, ne_eqb}
+use Rattle.std.proofs.Math.Bool.{or_comm, or_assoc}
 use Rattle.lane_core.specs.declared.job.Plain.{Plain}
 use Rattle.lane_core.specs.declared.ticket.Ticket.{Ticket}
 use Rattle.lane_core.specs.Tickets.{is_ticket_of, is_among}
 use Rattle.lane_core.specs.ReorderBuffer.{is_known}
 use Rattle.lane_core.specs.inner.NextSlots.{are_tied, is_tied}
-use Rattle.lane_core.proofs.TruthFacts.{or_assoc, or_again, and_false_or, ne_less}
+use Rattle.lane_core.proofs.TruthFacts.{or_again, and_false_or}
 use Rattle.lane_core.proofs.TicketFacts.{ticket_parts}
+use Rattle.lane_core.proofs.ResultFacts.{some_or}
+
+-- the order of tickets
+abbrev pub cmp_tickets : Ticket → Ticket → Ordering
+cmp_tickets a t = ordering_then (nat_cmp a.lane t.lane) (nat_cmp a.number t.number)
 
 -- the test finds lane l's number k alone
 abbrev pub Finds : (Ticket → Bool) → ℕ → ℕ → Type 0
@@ -34,14 +39,14 @@ then_eq Equal y = refl
 then_eq Greater y = refl
 
 -- the order of tickets finds a ticket's own lane and number
-pub finds_own : (a t : Ticket) → is_eq (ordering_then (nat_cmp a.lane t.lane) (nat_cmp a.number t.number)) ≡ ((t.lane == a.lane) && (t.number == a.number))
+pub finds_own : (a t : Ticket) → is_eq (cmp_tickets a t) ≡ ((t.lane == a.lane) && (t.number == a.number))
 finds_own a t =
     then_eq (nat_cmp a.lane t.lane) (nat_cmp a.number t.number)
     ∙ (ap (λ b. b && is_eq (nat_cmp a.number t.number)) (nat_cmp_eq a.lane t.lane)
     ∙ ap (λ b. (t.lane == a.lane) && b) (nat_cmp_eq a.number t.number))
 
 -- and those that they are known to be
-pub finds_at : (a : Ticket) (l k : ℕ) → a.lane ≡ l → a.number ≡ k → Finds (λ t. is_eq (ordering_then (nat_cmp a.lane t.lane) (nat_cmp a.number t.number))) l k
+pub finds_at : (a : Ticket) (l k : ℕ) → a.lane ≡ l → a.number ≡ k → Finds (is_at (cmp_tickets a)) l k
 finds_at a l k lane number = λ t. finds_own a t ∙ (λ i. (t.lane == lane i) && (t.number == number i))
 
 -- a tied delivery's lane, number and its bound
@@ -56,17 +61,13 @@ tied_test test l k finds e h =
     let p = tied_parts e h in
     ap (λ n. (n == l) && (e.1.number == k)) p.0 ∙ (ap (λ n. (e.0.lane == l) && (n == k)) p.1 ∙ sym (finds e.0))
 
-found_or : {X : Type 0} (b : Bool) (v : X) (o : Option X) → is_some (cond b (Some v) o) ≡ (b || is_some o)
-found_or true v o = refl
-found_or false v o = refl
-
 -- a look-up finds what is among the values
 pub found_among : (test : Ticket → Bool) (l k : ℕ) → Finds test l k → (es : List (Ticket × Plain)) → are_tied es ≡ true → is_some (lookup test es)
     ≡ is_among l k (values_of es)
 found_among test l k finds [] tied = refl
 found_among test l k finds (e ∷ es) tied =
     let s = and_parts (is_tied e) (are_tied es) tied in
-    found_or (test e.0) e.1 (lookup test es)
+    some_or (test e.0) e.1 (lookup test es)
     ∙ (ap (λ b. b || is_some (lookup test es)) (sym (tied_test test l k finds e s.0))
     ∙ ap (λ b. is_ticket_of l k e.1 || b) (found_among test l k finds es s.1))
 
@@ -77,7 +78,7 @@ none_past l k (e ∷ es) tied past =
     let s = and_parts (is_tied e) (are_tied es) tied in
     let p = tied_parts e s.0 in
     let rest = none_past l k es s.1 past in
-    let apart : (e.1.number == k) ≡ false = ne_less e.1.number k (omega arith) in
+    let apart : (e.1.number == k) ≡ false = ne_eqb e.1.number k (λ f. absurd (omega arith)) in
     ap (λ b. ((e.1.lane == l) && b) || is_among l k (values_of es)) apart ∙ (and_false_or (e.1.lane == l) (is_among l k (values_of es)) ∙ rest)
 
 -- what a look-up finds has the ticket
@@ -99,20 +100,17 @@ found_ticket test l k finds (e ∷ es) v tied is =
 pub record MoreBy (es : List (Ticket × Plain)) (v : Plain) (fs : List (Ticket × Plain)) : Type 0 where
   pub weight : (h : Plain → ℕ) → sum_by h (values_of fs) ≡ sum_by h (values_of es) + h v
   pub among : (l k : ℕ) → is_among l k (values_of fs) ≡ (is_among l k (values_of es) || is_ticket_of l k v)
-  pub count : length fs ≡ length es + 1
 
 more_first : (e : Ticket × Plain) (es : List (Ticket × Plain)) → MoreBy es e.1 (e ∷ es)
 more_first e es = record {
   weight = λ h. omega (arith, sum_by-cons h e.1 (values_of es));
   among = λ l k. or_comm (is_ticket_of l k e.1) (is_among l k (values_of es));
-  count = omega arith;
 }
 
 more_later : (e : Ticket × Plain) (es : List (Ticket × Plain)) (v : Plain) (fs : List (Ticket × Plain)) → MoreBy es v fs → MoreBy (e ∷ es) v (e ∷ fs)
 more_later e es v fs more = record {
   weight = λ h. omega (arith, more.weight h, sum_by-cons h e.1 (values_of es), sum_by-cons h e.1 (values_of fs));
-  among = λ l k. ap (λ b. is_ticket_of l k e.1 || b) (more.among l k) ∙ or_assoc (is_ticket_of l k e.1) (is_among l k (values_of es)) (is_ticket_of l k v);
-  count = omega (arith, more.count);
+  among = λ l k. ap (λ b. is_ticket_of l k e.1 || b) (more.among l k) ∙ sym (or_assoc (is_ticket_of l k e.1) (is_among l k (values_of es)) (is_ticket_of l k v));
 }
 
 -- an entry under a key that was not there
@@ -180,18 +178,14 @@ pub any_finds : (test : Ticket → Bool) (l k : ℕ) → Finds test l k → (ts 
 any_finds test l k finds [] = refl
 any_finds test l k finds (t ∷ ts) = (λ i. finds t i || any_finds test l k finds ts i)
 
-same_ticket : (a t : Ticket) → is_eq (ordering_then (nat_cmp a.lane t.lane) (nat_cmp a.number t.number)) ≡ true → (l k : ℕ) → ((t.lane == l) && (t.number == k))
+same_ticket : (a t : Ticket) → is_eq (cmp_tickets a t) ≡ true → (l k : ℕ) → ((t.lane == l) && (t.number == k))
     ≡ ((a.lane == l) && (a.number == k))
 same_ticket a t is l k =
     let s = and_parts (t.lane == a.lane) (t.number == a.number) (sym (finds_own a t) ∙ is) in
     (λ i. (eqb-true t.lane a.lane s.0 i == l) && (eqb-true t.number a.number s.1 i == k))
 
-own_is : (t : Ticket) → ((t.lane == t.lane) && (t.number == t.number)) ≡ true
-own_is t = grind (arith, nat_tests)
-
--- the order of tickets
-abbrev pub cmp_tickets : Ticket → Ticket → Ordering
-cmp_tickets a t = ordering_then (nat_cmp a.lane t.lane) (nat_cmp a.number t.number)
+own : (t : Ticket) → ((t.lane == t.lane) && (t.number == t.number)) ≡ true
+own t = and_from (t.lane == t.lane) (t.number == t.number) (eq-eqb t.lane t.lane refl) (eq-eqb t.number t.number refl)
 
 put_at : (t u : Ticket) (l k : ℕ) (ts : List Ticket) → is_known l k (insert_key cmp_tickets ts t) ≡ (is_known l k ts || ((t.lane == l) && (t.number == k)))
     → (o : Ordering) → cmp_tickets t u ≡ o
@@ -200,7 +194,7 @@ put_at t u l k ts later Less e = or_comm ((t.lane == l) && (t.number == k)) (is_
 put_at t u l k ts later Equal e = or_again ((u.lane == l) && (u.number == k)) (is_known l k ts) ((t.lane == l) && (t.number == k))
     (same_ticket t u (ap is_eq e) l k)
 put_at t u l k ts later Greater e = ap (λ b. ((u.lane == l) && (u.number == k)) || b) later
-    ∙ or_assoc ((u.lane == l) && (u.number == k)) (is_known l k ts) ((t.lane == l) && (t.number == k))
+    ∙ sym (or_assoc ((u.lane == l) && (u.number == k)) (is_known l k ts) ((t.lane == l) && (t.number == k)))
 
 -- one more ticket is known
 pub put_known : (t : Ticket) (l k : ℕ) (ts : List Ticket) → is_known l k (insert_key cmp_tickets ts t) ≡ (is_known l k ts || ((t.lane == l) && (t.number == k)))
@@ -211,14 +205,14 @@ out_at : (t u : Ticket) (ts : List Ticket) → remove_key (is_at (cmp_tickets t)
     → ((u.lane == t.lane) && (u.number == t.number)) ≡ false
     → (o : Ordering) → cmp_tickets t u ≡ o → remove_key (is_at (cmp_tickets t)) (match_ordering o (t ∷ u ∷ ts) (u ∷ ts) (u ∷ insert_key cmp_tickets ts t))
     ≡ u ∷ ts
-out_at t u ts later other Less e = ap (λ b. cond b (u ∷ ts) (t ∷ remove_key (is_at (cmp_tickets t)) (u ∷ ts))) (finds_own t t ∙ own_is t)
+out_at t u ts later other Less e = ap (λ b. cond b (u ∷ ts) (t ∷ remove_key (is_at (cmp_tickets t)) (u ∷ ts))) (finds_own t t ∙ own t)
 out_at t u ts later other Equal e = absurd (let c : true ≡ false = sym (ap is_eq e) ∙ (finds_own t u ∙ other) in cc)
 out_at t u ts later other Greater e =
     ap (λ b. cond b (insert_key cmp_tickets ts t) (u ∷ remove_key (is_at (cmp_tickets t)) (insert_key cmp_tickets ts t))) (ap is_eq e) ∙ ap (λ us. u ∷ us) later
 
 -- a ticket that was not known, put in and taken out again
 pub put_gone : (t : Ticket) (ts : List Ticket) → is_known t.lane t.number ts ≡ false → remove_key (is_at (cmp_tickets t)) (insert_key cmp_tickets ts t) ≡ ts
-put_gone t [] absent = ap (λ b. cond b [] (t ∷ [])) (finds_own t t ∙ own_is t)
+put_gone t [] absent = ap (λ b. cond b [] (t ∷ [])) (finds_own t t ∙ own t)
 put_gone t (u ∷ ts) absent =
     let p = or_parts ((u.lane == t.lane) && (u.number == t.number)) (is_known t.lane t.number ts) absent in
     out_at t u ts (put_gone t ts p.1) p.0 (cmp_tickets t u) refl

@@ -1,4 +1,4 @@
--- Sums and counts over lists of any items.
+-- Sums and counts over lists: one item, another in its place, those that pass a test, and each.
 use Rattle.std.proofs.Common.{◌≡◌, ℕ, ◌+◌, ◌≤◌, ◌||◌, nat_lt, Bool, true, false, List, [], ◌∷◌, set, replicate, Option, Some, None, option_to_list, refl, sym, ap, ◌∙◌, arith, zero, suc, length}
 use Rattle.std.specs.List.{count_by, list_any, slice_get, sum_by}
 use Rattle.std.proofs.lemmas.Bool.Decides.{nat_tests}
@@ -17,27 +17,30 @@ sum_put h xs i v w e = let s = ap h (get_or_from_slice_get xs i v v e) in omega 
 pub sum_at : {X : Type 0} (h : X → ℕ) (xs : List X) (i : ℕ) (v : X) → slice_get xs i ≡ Some v → h v ≤ sum_by h xs
 sum_at h xs i v e = let s = ap h (get_or_from_slice_get xs i v v e) in omega (arith, get_or-le-sum_by h xs i v (slice_get_within xs i v e))
 
+-- idle workers hold nothing
 pub none_in : (h : Plain → ℕ) (n : ℕ) → sum_by (λ o. sum_by h (option_to_list o)) (replicate n None) ≡ 0
 none_in h n = omega (arith, sum_by-replicate (λ (o : Option Plain). sum_by h (option_to_list o)) n None)
 
--- some item passes where more than none is counted
-any_here : (b c : Bool) (n : ℕ) → c ≡ nat_lt 0 n → (b || c) ≡ nat_lt 0 (once b + n)
-any_here true c n e = grind (arith, nat_tests)
-any_here false c n e = e ∙ (let z : n ≡ 0 + n = omega arith in ap (nat_lt 0) z)
+-- a test of one of several passes exactly if the numbers that tell it of each have a sum above 0
+pub any_summed : {X : Type 0} (p : X → Bool) (f : X → ℕ) → ((x : X) → p x ≡ nat_lt 0 (f x)) → (xs : List X) → list_any p xs ≡ nat_lt 0 (sum_by f xs)
+any_summed p f each [] = refl
+any_summed p f each (x ∷ xs) = (λ i. each x i || any_summed p f each xs i) ∙ (either (f x) (sum_by f xs) ∙ ap (nat_lt 0) (sym (sum_by-cons f x xs)))
+  where
+    either : (n m : ℕ) → (nat_lt 0 n || nat_lt 0 m) ≡ nat_lt 0 (n + m)
+    either n m = grind (arith, nat_tests)
 
 pub any_counted : {X : Type 0} (p : X → Bool) (xs : List X) → list_any p xs ≡ nat_lt 0 (count_by p xs)
-any_counted p [] = refl
-any_counted p (x ∷ xs) = any_here (p x) (list_any p xs) (count_by p xs) (any_counted p xs) ∙ ap (nat_lt 0) (sym (sum_by-cons (λ y. once (p y)) x xs))
+any_counted p xs = any_summed p (λ x. once (p x)) (λ x. counts (p x)) xs
+  where
+    counts : (b : Bool) → b ≡ nat_lt 0 (once b)
+    counts true = refl
+    counts false = refl
 
-pub none_of : (n : ℕ) → nat_lt 0 n ≡ false → n ≡ 0
-none_of n e = grind (arith, nat_tests)
-
-pub some_of : (n : ℕ) → 1 ≤ n → nat_lt 0 n ≡ true
-some_of n h = grind (arith, nat_tests)
-
+-- the sum of what follows one item that two lists begin with
 pub sum_rest : (h : Plain → ℕ) (x y : Plain) (xs ys : List Plain) → x ≡ y → sum_by h (x ∷ xs) ≡ sum_by h (y ∷ ys) → sum_by h xs ≡ sum_by h ys
 sum_rest h x y xs ys e same = let f = ap h e in omega (arith, sum_by-cons h x xs, sum_by-cons h y ys)
 
+-- and of a sum that is no more
 pub sum_rest_le : (h : Plain → ℕ) (x y : Plain) (xs ys : List Plain) → x ≡ y → sum_by h (x ∷ xs) ≤ sum_by h (y ∷ ys) → sum_by h xs ≤ sum_by h ys
 sum_rest_le h x y xs ys e less = let f = ap h e in omega (arith, sum_by-cons h x xs, sum_by-cons h y ys)
 
@@ -73,11 +76,13 @@ sum_picked f t (x ∷ xs) (suc i) s e zero_else one is =
     let here = zero_else 0 x refl out in
     let rest = sum_picked f t xs i s e (λ j u e'. zero_else (suc j) u e') (omega arith) is in omega (arith, sum_by-cons f x xs)
 
+-- where each member has no more
 pub sum_each_le : {S : Type 0} (f g : S → ℕ) (ss : List S) → ((j : ℕ) (u : S) → slice_get ss j ≡ Some u → f u ≤ g u) → sum_by f ss ≤ sum_by g ss
 sum_each_le f g [] each = omega arith
 sum_each_le f g (x ∷ xs) each = let here = each 0 x refl in let rest =
     sum_each_le f g xs (λ j u e. each (suc j) u e) in omega (arith, sum_by-cons f x xs, sum_by-cons g x xs)
 
+-- where each has none
 pub sum_each_none : {S : Type 0} (f : S → ℕ) (ss : List S) → ((j : ℕ) (u : S) → slice_get ss j ≡ Some u → f u ≡ 0) → sum_by f ss ≡ 0
 sum_each_none f [] each = refl
 sum_each_none f (x ∷ xs) each = let here = each 0 x refl in let rest = sum_each_none f xs (λ j u e. each (suc j) u e) in omega (arith, sum_by-cons f x xs)

@@ -1,24 +1,25 @@
--- A world shows the machine's next state: events of workers and queues, and those that are disabled (`World::step` and what it calls).
-use Rattle.std.proofs.Common.{◌≡◌, ℕ, ◌<◌, ◌||◌, not, nat_lt, Bool, true, false, zero, suc, List, [], ◌∷◌, ◌++◌, length, set, replicate, Option, Some, None, refl, sym, ap, ◌∙◌, subst, arith}
+-- A world shows the machine's next state: what all events share, collecting a result (`World::collect`), and a new world.
+use Rattle.std.proofs.Common.{◌≡◌, ℕ, ◌<◌, ◌||◌, not, nat_lt, Bool, true, false, zero, suc, List, [], ◌∷◌, ◌++◌, length, replicate, Some, None, refl, sym, ap, ◌∙◌, subst, arith}
 use Rattle.std.specs.List.{slice_get, count_by}
 use Rattle.std.specs.Option.{is_some}
 use Rattle.std.proofs.lemmas.List.Folds.{list_any-append}
 use Rattle.std.proofs.lemmas.List.Sums.{sum_by-append, sum_by-cons}
 use Rattle.std.proofs.lemmas.List.Sorted.{sum_by-IsPermutation, IsPermutation-refl}
-use Rattle.std.proofs.lemmas.Bool.{lt-ltb, and_from, not_from_false}
+use Rattle.std.proofs.lemmas.Bool.{lt-ltb, and_from, not_from_false, ltb-true, or_from}
+use Rattle.std.proofs.lemmas.List.{length-map}
+use Rattle.std.proofs.Math.Bool.{or-false, or_assoc}
+use Rattle.element_core.specs.Terms.{Terms}
 use Rattle.lane_core.specs.declared.event.Event.{Event}
-use Rattle.lane_core.specs.declared.event.Event.TheVariants.{Take, Post, Collect}
+use Rattle.lane_core.specs.declared.event.Event.TheVariants.{Collect}
 use Rattle.lane_core.specs.declared.job.Plain.{Plain}
-use Rattle.lane_core.specs.Contents.{Contents, IsShown, ShowsState, Steps, contents, lane_contents, shown_lane}
+use Rattle.lane_core.specs.Contents.{Contents, IsShown, ShowsState, Steps, contents, lane_contents, shown_lane, LaneContents}
 use Rattle.lane_core.specs.ReorderBuffer.{ReorderBuffer, TakesIn, is_new, new_buffer, was_taken}
-use Rattle.lane_core.specs.Machine.{LaneState, State, after, collect, handed_of, issued_of, lane_state, of_lane, or_same, post, start, step, take_job}
+use Rattle.lane_core.specs.Machine.{LaneState, State, after, collect, handed_of, issued_of, lane_state, of_lane, or_same, start, step}
 use Rattle.lane_core.specs.Tickets.{is_among, is_ticket_of}
 use Rattle.lane_core.specs.Weights.{once}
 use Rattle.lane_core.proofs.SameFacts.{permutation_from}
 use Rattle.lane_core.proofs.StepFacts.{of_fresh, reached_good, reached_more}
-use Rattle.element_core.specs.Terms.{Terms}
-use Rattle.lane_core.proofs.TruthFacts.{once_below, below_from_once, neither_from_once, or_before_false}
-use Rattle.std.proofs.lemmas.List.{length-map}
+use Rattle.lane_core.proofs.TruthFacts.{once_below, true_from_once, false_from_once}
 use Rattle.lane_core.proofs.ListFacts.{map_replicate, get_or_zeros}
 use Rattle.lane_core.proofs.TicketFacts.{not_among, ticket_self}
 
@@ -31,38 +32,6 @@ idle c s e is shows = (ap (λ o. is_some o) is, subst (ShowsState c) (sym (ap (o
 
 pub shown_after : (c d : Contents) (e : Event) (b : Bool) → IsShown c → Steps c e b d → IsShown d
 shown_after c d e b shown steps = (after shown.0 e, reached_more shown.0 e shown.1, (steps shown.0 shown.1 shown.2).1)
-
--- a worker takes a job
-pub take_done : (c : Contents) (w : ℕ) (x : Plain) (jobs : List Plain) → slice_get c.workers w ≡ Some None → c.jobs ≡ x ∷ jobs
-    → Steps c (Take w) true (contents c.year c.lanes jobs (set c.workers w (Some x)) c.results c.buffer)
-take_done c w x jobs at is = λ s r shows. done c _ s _ (Take w)
-    ((λ i. take_job s w (slice_get (sym shows.workers i) w) (sym shows.jobs i)) ∙ (λ i. take_job s w (at i) (is i)))
-    record {
-      year = shows.year;
-      lanes = shows.lanes;
-      jobs = refl;
-      workers = ap (λ ws. set ws w (Some x)) shows.workers;
-      results = shows.results;
-      nexts = shows.nexts;
-      waiting = shows.waiting;
-      known = shows.known;
-    }
-
--- a worker posts a result
-pub post_done : (c : Contents) (w : ℕ) (x : Plain) → slice_get c.workers w ≡ Some (Some x)
-    → Steps c (Post w) true (contents c.year c.lanes c.jobs (set c.workers w None) (c.results ++ x ∷ []) c.buffer)
-post_done c w x at = λ s r shows. done c _ s _ (Post w)
-    (ap (λ (ws : List (Option Plain)). post s w (slice_get ws w)) (sym shows.workers) ∙ ap (post s w) at)
-    record {
-      year = shows.year;
-      lanes = shows.lanes;
-      jobs = shows.jobs;
-      workers = ap (λ ws. set ws w None) shows.workers;
-      results = ap (λ xs. xs ++ x ∷ []) shows.results;
-      nexts = shows.nexts;
-      waiting = shows.waiting;
-      known = shows.known;
-    }
 
 -- the deliverer collects a result
 pub collect_done : (c : Contents) (x : Plain) (results : List Plain) (e : ReorderBuffer) → c.results ≡ x ∷ results → TakesIn c.buffer x e
@@ -80,8 +49,9 @@ collect_done c x results e is taken = λ s r shows. done c _ s _ Collect (ap (co
           sum_by-append h s.waiting (x ∷ []) in omega arith);
       known = λ l k. taken.known l k
           ∙ (ap (λ b. b || is_ticket_of l k x) (shows.known l k)
-          ∙ (or_before_false (nat_lt k (handed_of s l)) (is_among l k s.waiting) (is_ticket_of l k x)
-          ∙ ap (λ b. nat_lt k (handed_of s l) || b) (sym (list_any-append (is_ticket_of l k) s.waiting (x ∷ [])))));
+          ∙ (or_assoc (nat_lt k (handed_of s l)) (is_among l k s.waiting) (is_ticket_of l k x)
+          ∙ ap (λ b. nat_lt k (handed_of s l) || b) ((λ i. is_among l k s.waiting || sym (or-false (is_ticket_of l k x)) i)
+          ∙ sym (list_any-append (is_ticket_of l k) s.waiting (x ∷ [])))));
     }
 
 lane_there : (vs : List LaneState) (l k : ℕ) → k < length (of_lane [] (λ v. v.submitted) (slice_get vs l)) → l < length vs
@@ -99,7 +69,7 @@ result_is_new c x results is shown =
     let here = ap (count_by (is_ticket_of x.lane x.number)) (sym shows.results ∙ is) in
     let self = ticket_self x in
     let first = sum_by-cons (λ y. once (is_ticket_of x.lane x.number y)) x results in
-    let issued : x.number < issued_of s x.lane = below_from_once x.number (issued_of s x.lane) (omega arith) in
+    let issued : x.number < issued_of s x.lane = ltb-true x.number (issued_of s x.lane) (true_from_once (nat_lt x.number (issued_of s x.lane)) (omega arith)) in
     let there = lane_there s.lanes x.lane x.number issued in
     let most : once (nat_lt x.number (issued_of s x.lane)) ≡ 1 = once_below x.number (issued_of s x.lane) issued in
     let handed : once (nat_lt x.number (handed_of s x.lane)) ≡ 0 = omega arith in
@@ -107,7 +77,16 @@ result_is_new c x results is shown =
     let waits : is_among x.lane x.number s.waiting ≡ false = not_among x.lane x.number s.waiting none in
     let count = ap (λ (xs : List ℕ). length xs) shows.nexts ∙ length-map s.lanes (λ (v : LaneState). v.handed) in
     and_from (nat_lt x.lane (length c.buffer.nexts)) (not (was_taken c.buffer x.lane x.number)) (lt-ltb x.lane (length c.buffer.nexts) (omega arith))
-    (not_from_false (was_taken c.buffer x.lane x.number) (shows.known x.lane x.number ∙ neither_from_once (nat_lt x.number (handed_of s x.lane)) (is_among x.lane x.number s.waiting) handed waits))
+    (not_from_false (was_taken c.buffer x.lane x.number) (shows.known x.lane x.number ∙ or_from (nat_lt x.number (handed_of s x.lane)) (is_among x.lane x.number s.waiting)
+    (false_from_once (nat_lt x.number (handed_of s x.lane)) handed) waits))
+
+-- the deliverer keeps as many lanes as there are
+pub count_kept : (c : Contents) → IsShown c → length c.buffer.nexts ≡ length c.lanes
+count_kept c shown =
+    let s = shown.0 in
+    let shows = shown.2 in
+    ap (λ (xs : List ℕ). length xs) shows.nexts ∙ (length-map s.lanes (λ (v : LaneState). v.handed)
+    ∙ (sym (length-map s.lanes shown_lane) ∙ ap (λ (xs : List LaneContents). length xs) (sym shows.lanes)))
 
 -- a new world
 pub start_shown : (lanes workers : ℕ) (year : Terms) → ShowsState (contents year (replicate lanes (lane_contents false 0 [] 0)) [] (replicate workers None) []

@@ -1,12 +1,12 @@
--- What a world keeps, and the state of the machine that it shows.
+-- What a world keeps, the state of the machine that it shows (`ShowsState`), and what a step does to both (`Steps`).
 use Rattle.std.specs.Prelude.{◌≡◌, ◌||◌, ℕ, Bool, nat_lt, is_some, true, false, List, Option, map, length, take}
 use Rattle.std.specs.List.Sorted.{IsPermutation}
+use Rattle.element_core.specs.Terms.{Terms}
 use Rattle.lane_core.specs.declared.event.Event.{Event}
 use Rattle.lane_core.specs.declared.event.Event.TheVariants.{Submit, Take, Post, Collect, Hand, Poll, Close}
 use Rattle.lane_core.specs.declared.job.Plain.{Plain}
 use Rattle.lane_core.specs.ReorderBuffer.{ReorderBuffer, was_taken}
 use Rattle.lane_core.specs.Machine.{LaneState, State, IsReached, after, handed_of, step}
-use Rattle.element_core.specs.Terms.{Terms}
 use Rattle.lane_core.specs.Tickets.{is_among}
 
 -- of a lane: whether it is closed, how many tickets it has issued, what it was handed, and how much of that it has polled

@@ -1,13 +1,13 @@
--- What a machine's events have pushed on its queues and popped from them, and what they leave as it is.
+-- What a machine's events push on its queues and pop from them, when each is done, and what they leave as it is.
 use Rattle.std.specs.Prelude.{◌≡◌, ◌&&◌, ℕ, cond, not, nat_lt, true, is_some, List, [], ◌∷◌, ◌++◌, Option, None, Some, option_to_list, length, slice_get, take}
 use Rattle.std.specs.List.{AllByRecursion}
+use Rattle.element_core.specs.Terms.{Terms}
 use Rattle.lane_core.specs.declared.event.Event.{Event}
 use Rattle.lane_core.specs.declared.event.Event.TheVariants.{Submit, Take, Post, Collect, Hand, Poll, Close}
 use Rattle.lane_core.specs.declared.job.Plain.{Plain}
 use Rattle.lane_core.specs.Plain.{plain_of}
 use Rattle.lane_core.specs.Machine.{State, IsReached, after, handed_of, is_closed, issued_of, polled_by, polled_of, run, start, step, submitted_by}
 use Rattle.lane_core.specs.Tickets.{is_among, numbered}
-use Rattle.element_core.specs.Terms.{Terms}
 use Rattle.lane_core.specs.Weights.{OneForOne}
 
 -- these, if the event is done
@@ -73,7 +73,7 @@ QueuesKeep = (lanes workers : ℕ) (year : Terms) (es : List Event) →
     × Keeps (all_of result_pushed (start lanes workers year) es) (all_of result_popped (start lanes workers year) es)
     (run (start lanes workers year) es).results
 
--- each event is done exactly if its condition holds
+-- each event is done exactly if its condition holds; `Machine` has the conditions too, and how many tickets a lane has at most
 abbrev pub EventsAreDone : Type 0
 EventsAreDone = (s : State) (l w : ℕ) (row : List ℕ) →
     (is_some (step s (Submit l row)) ≡ (is_some (slice_get s.lanes l) && (not (is_closed s l) && nat_lt (issued_of s l) 4294967296)))

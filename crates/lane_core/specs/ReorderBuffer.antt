@@ -28,7 +28,7 @@ lanes_of d = length d.nexts
 abbrev pub next_of : ReorderBuffer → ℕ → ℕ
 next_of d l = slice_index d.nexts l
 
--- whether lane l's number k is one of these
+-- whether one of these tickets is lane l's number k
 abbrev pub is_known : ℕ → ℕ → List Ticket → Bool
 is_known l k tickets = list_any (λ t. (t.lane == l) && (t.number == k)) tickets
 

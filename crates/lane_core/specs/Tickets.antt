@@ -1,4 +1,4 @@
--- The tickets of jobs and deliveries.
+-- Whether jobs and deliveries have a ticket, and a lane's numbers in order.
 use Rattle.std.specs.Prelude.{◌==◌, ◌&&◌, ℕ, suc, Bool, true, List, [], ◌∷◌, Option, option_to_list}
 use Rattle.std.specs.List.{list_any}
 use Rattle.lane_core.specs.declared.job.Plain.{Plain}
@@ -7,7 +7,7 @@ use Rattle.lane_core.specs.declared.job.Plain.{Plain}
 abbrev pub is_ticket_of : ℕ → ℕ → Plain → Bool
 is_ticket_of l k x = (x.lane == l) && (x.number == k)
 
--- whether lane l's number k is one of these
+-- whether one of these rows is lane l's number k
 abbrev pub is_among : ℕ → ℕ → List Plain → Bool
 is_among l k xs = list_any (is_ticket_of l k) xs
 

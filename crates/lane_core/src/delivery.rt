@@ -43,6 +43,13 @@ impl Delivery {
         &self.job.row
     }
 
+    /// The row alone.
+    pub fn into_row(self) -> Runs
+        ensures { result ≡ self.widths }
+    {
+        self.job.row
+    }
+
     /// The reference year of its dates.
     pub fn year(&self) -> Year
         ensures { result ≡ self.now.year }

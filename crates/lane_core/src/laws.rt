@@ -1,4 +1,5 @@
 //! Laws about the machine and about lists of tickets: each function does nothing, and its contract is the law.
+//! The file of specs/ that is named below states it; the comment there must agree with the one here.
 ghost use Rattle.lane_core.specs.History.{DoneStaysDone, EventsAreDone, ListsGrow, NothingAfterClose, PolledInOrder, QueuesKeep};
 ghost use Rattle.lane_core.specs.Reading.{DeliveriesAreRead, PolledAreRead};
 ghost use Rattle.lane_core.specs.Settling.{AllFound, ClaimsSettle, KeptWhole, ReceivedFirst, SameLists};

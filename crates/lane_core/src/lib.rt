@@ -1,5 +1,7 @@
 //! Tickets, jobs and deliveries; the deliverer, which hands each lane its deliveries by number; and
 //! the machine of lanes, workers and one deliverer.
+//!
+//! `tests/using/items.txt` lists what this file exports; `tests/using/run` compares the two.
 #![tactic(auto)]
 
 mod deliverer;

@@ -1,8 +1,8 @@
 //! A lane's next number.
-ghost use Rattle.std.specs.Prelude.{◌≡◌, ◌<◌, ℕ, [], false, length, slice_set, IfNone, IfSome};
-ghost use Rattle.lane_core.specs.inner.NextSlots.{is_here, slot_at};
+ghost use Rattle.std.specs.Prelude.{◌≡◌, [], false, length, IfNone, IfSome};
+ghost use Rattle.lane_core.specs.inner.NextSlots.{TakesSlot, is_here};
 ghost use Rattle.lane_core.specs.NextSlots.{waiting_at};
-ghost use Rattle.lane_core.specs.declared.next_slot.NextSlot.TheVariants.{Here, Out};
+ghost use Rattle.lane_core.specs.declared.next_slot.NextSlot.TheVariants.{Here};
 
 use crate::delivery::Delivery;
 use std::mem;
@@ -36,8 +36,7 @@ impl NextSlot {
 
 /// The delivery of the first slot that has one, taken out of turn; else nothing changes.
 pub(crate) fn take_first(slots: &mut [NextSlot]) -> Option<Delivery>
-    ensures some { IfSome result (λ x. (i : ℕ) × (i < length slots.old) × (slot_at slots.old i ≡ Here x)
-        × (slots.new ≡ slice_set slots.old i Out)) }
+    ensures some { IfSome result (TakesSlot slots.old slots.new) }
     ensures none { IfNone result ((waiting_at slots.old ≡ []) × (slots.new ≡ slots.old)) }
     ensures len { length slots.new ≡ length slots.old }
 {

@@ -1,5 +1,5 @@
--- The invariant of `Deliverer`, and what there is of a lane's next number (`slot_of`).
-use Rattle.std.specs.Prelude.{◌≡◌, ◌&&◌, ◌||◌, ◌==◌, ◌^◌, ◌<◌, ◌+◌, ℕ, Bool, true, false, nat_lt, List, length, slice_index, slice_index_or, ⊤}
+-- The invariant of `Deliverer`, what there is of a lane's next number (`slot_of`), and one that is taken out of turn (`take_first`).
+use Rattle.std.specs.Prelude.{◌≡◌, ◌&&◌, ◌||◌, ◌==◌, ◌^◌, ◌<◌, ◌+◌, ℕ, Bool, true, false, nat_lt, List, length, slice_index, slice_index_or, ⊤, slice_set}
 use Rattle.std.specs.List.{list_all, sum_by}
 use Rattle.std.specs.Map.{values_of}
 use Rattle.lane_core.specs.declared.next_slot.NextSlot.{NextSlot}
@@ -33,6 +33,10 @@ has_come Out = true
 -- what there is of lane l's next number
 abbrev pub slot_at : List NextSlot → ℕ → NextSlot
 slot_at slots l = slice_index_or slots l Missing
+
+-- x waited in one of the old slots, from which it was taken out of turn
+abbrev pub TakesSlot : List NextSlot → List NextSlot → Plain → Type 0
+TakesSlot old new x = (i : ℕ) × (i < length old) × (slot_at old i ≡ Here x) × (new ≡ slice_set old i Out)
 
 -- a delivery that waits as lane l's next number k has that ticket
 abbrev pub IsSlotOf : ℕ → ℕ → NextSlot → Type 0

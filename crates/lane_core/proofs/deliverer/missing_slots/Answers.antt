@@ -1,19 +1,11 @@
-use Rattle.std.proofs.Common.{◌≡◌, [], ◌∷◌, ◌++◌, length, replicate, ap, ◌∙◌, arith}
-use Rattle.std.proofs.lemmas.List.{length-replicate, replicate_more}
+-- After i turns there are i slots. `world/idle_workers` has the same of workers, `world/open_lanes` of lanes.
+use Rattle.std.proofs.Common.{◌≡◌, [], ◌∷◌, ◌++◌, replicate, ap, ◌∙◌, arith}
+use Rattle.std.proofs.lemmas.List.{replicate_more}
 use Rattle.lane_core.specs.declared.next_slot.NextSlot.TheVariants.{Missing}
-use Rattle.lane_core.proofs.ResultFacts.{of_no_refusal}
 use Rattle.lane_core.proofs.deliverer.missing_slots.Goals as goal
-
-pub returns-in_err-slots : goal.returns-in_err-slots
-returns-in_err-slots c = of_no_refusal c.from_residual.result _ c.from_residual.ensures.0
 
 pub loop-i-init : goal.loop-i-init
 loop-i-init c = record { items = c.in_ok-slots.ensures.items; room = omega (arith, c.in_ok-slots.ensures.capacity) }
-
-pub push_reserved-requires : goal.push_reserved-requires
-push_reserved-requires c =
-    let count = ap length c.loop-i.invariant.items ∙ length-replicate c.loop-i._i Missing in
-    omega arith
 
 pub loop-i-preserved : goal.loop-i-preserved
 loop-i-preserved c = record {

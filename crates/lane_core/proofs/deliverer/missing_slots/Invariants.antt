@@ -1,3 +1,4 @@
+-- After i turns there are i slots, and room for all.
 use Rattle.std.proofs.Common.{◌≡◌, ◌≤◌, replicate, vec_capacity}
 use Rattle.lane_core.specs.declared.next_slot.NextSlot.TheVariants.{Missing}
 use Rattle.lane_core.proofs.deliverer.missing_slots.Given as goal

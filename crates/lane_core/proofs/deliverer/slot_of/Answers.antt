@@ -2,16 +2,16 @@
 use Rattle.std.proofs.Common.{rules, ◌≡◌, ◌<◌, ◌^◌, Bool, false, true, refl, sym, ap, ◌∙◌}
 use Rattle.std.specs.List.{list_any}
 use Rattle.std.specs.Map.{lookup}
-use Rattle.std.specs.Ordering.{is_eq, nat_cmp, ordering_then}
+use Rattle.std.specs.BTreeMap.{is_at}
 use Rattle.std.specs.Set.{remove_key}
 use Rattle.lane_core.specs.declared.ticket.Ticket.{Ticket}
 use Rattle.lane_core.proofs.AdvanceFacts.{was_here, was_out}
-use Rattle.lane_core.proofs.TicketLookup.{Finds, finds_at}
+use Rattle.lane_core.proofs.TicketLookup.{Finds, finds_at, cmp_tickets}
 use Rattle.lane_core.proofs.deliverer.slot_of.Goals as goal
 use Rattle.lane_core.proofs.deliverer.slot_of.Goals.{After-remove-2}
 
 abbrev test : After-remove-2 → Ticket → Bool
-test c t = is_eq (ordering_then (nat_cmp c.args.lane t.lane) (nat_cmp c.in-Ok.number t.number))
+test c = is_at (cmp_tickets (record { lane = c.args.lane; number = c.in-Ok.number }))
 
 small : (c : After-remove-2) → c.args.next < 2 ^ 32
 small c = search rules

@@ -1,3 +1,4 @@
+-- Nothing waits in the slots before i, and no slot has changed.
 use Rattle.std.proofs.Common.{◌≡◌, [], take}
 use Rattle.lane_core.specs.NextSlots.{waiting_at}
 use Rattle.lane_core.proofs.next_slot.take_first.Given as goal

@@ -1,3 +1,4 @@
+-- After i turns there are i workers, and room for all.
 use Rattle.std.proofs.Common.{◌≡◌, ◌≤◌, None, replicate, vec_capacity}
 use Rattle.lane_core.proofs.world.idle_workers.Given as goal
 

@@ -1,13 +1,10 @@
+-- After i turns there are i open lanes. `world/idle_workers` and `deliverer/missing_slots` have the same of other items.
 use Rattle.std.proofs.Common.{◌≡◌, false, [], ◌∷◌, ◌++◌, map, length, replicate, ap, ◌∙◌, arith}
 use Rattle.std.proofs.lemmas.List.{length-replicate, map-append, replicate_more}
 use Rattle.lane_core.specs.Contents.{lane_contents}
 use Rattle.lane_core.specs.Holding.{lane_held}
 use Rattle.lane_core.proofs.HeldFacts.{count_held}
-use Rattle.lane_core.proofs.ResultFacts.{of_no_refusal}
 use Rattle.lane_core.proofs.world.open_lanes.Goals as goal
-
-pub returns-in_err-lanes : goal.returns-in_err-lanes
-returns-in_err-lanes c = of_no_refusal c.from_residual.result _ c.from_residual.ensures.0
 
 pub loop-i-init : goal.loop-i-init
 loop-i-init c = record { items = ap (map lane_held) c.in_ok-lanes.ensures.items; room = omega (arith, c.in_ok-lanes.ensures.capacity) }

@@ -1,3 +1,4 @@
+-- After i turns there are i open lanes, and room for all.
 use Rattle.std.proofs.Common.{◌≡◌, ◌≤◌, false, [], map, replicate, vec_capacity}
 use Rattle.lane_core.specs.Contents.{lane_contents}
 use Rattle.lane_core.specs.Holding.{lane_held}

@@ -1,3 +1,4 @@
+-- A deliverer that took nothing in has an empty buffer.
 use Rattle.std.proofs.Common.{rules, ◌≡◌, ◌∙◌, replicate}
 use Rattle.lane_core.specs.NextSlots.{buffer_by_slots}
 use Rattle.lane_core.proofs.BufferFacts.{new_is}

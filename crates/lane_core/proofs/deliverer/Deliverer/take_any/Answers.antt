@@ -1,16 +1,16 @@
 -- Out goes the first of the later numbers, or else one that waits in a slot; either is still known as taken in.
-use Rattle.std.proofs.Common.{◌≡◌, ◌<◌, Option, Some, None, List, ℕ, [], ◌∷◌, length, set, sym, ap, ◌∙◌, subst, arith}
+use Rattle.std.proofs.Common.{◌≡◌, ◌<◌, Option, Some, None, List, ℕ, [], ◌∷◌, length, sym, ap, ◌∙◌, subst, arith}
 use Rattle.std.proofs.lemmas.Bool.{and_parts, or_right}
 use Rattle.std.proofs.lemmas.List.{with_items_is}
 use Rattle.std.specs.Map.{values_of}
 use Rattle.std.specs.Option.{IfNone, IfSome}
 use Rattle.std.specs.Vec.{with_items}
 use Rattle.lane_core.specs.declared.next_slot.NextSlot.{NextSlot}
-use Rattle.lane_core.specs.declared.next_slot.NextSlot.TheVariants.{Here, Out}
+use Rattle.lane_core.specs.declared.next_slot.NextSlot.TheVariants.{Out}
 use Rattle.lane_core.specs.declared.job.Plain.{Plain}
 use Rattle.lane_core.specs.declared.ticket.Ticket.{Ticket}
 use Rattle.lane_core.specs.ReorderBuffer.{GivesAny, ReorderBuffer}
-use Rattle.lane_core.specs.inner.NextSlots.{AreKept, are_tied, is_tied, slot_at}
+use Rattle.lane_core.specs.inner.NextSlots.{AreKept, are_tied, is_tied, TakesSlot}
 use Rattle.lane_core.specs.NextSlots.{buffer_by_slots, waiting_at}
 use Rattle.lane_core.specs.Tickets.{is_among, is_ticket_of}
 use Rattle.lane_core.proofs.BufferFacts.{kept_set, took_slot, took_out}
@@ -24,7 +24,7 @@ returns-in-Some-clause-some c =
 
 -- a lane's next number was taken out of turn
 took_some : (nexts : List ℕ) (hs gs : List NextSlot) (es fs : List (Ticket × Plain)) (ks : List Ticket) → AreKept nexts hs es ks → fs ≡ es
-    → (o : Option Plain) → IfSome o (λ x. (i : ℕ) × (i < length hs) × (slot_at hs i ≡ Here x) × (gs ≡ set hs i Out))
+    → (o : Option Plain) → IfSome o (TakesSlot hs gs)
     → IfSome o (λ x. GivesAny (buffer_by_slots nexts hs es ks) x (buffer_by_slots nexts gs fs ks))
 took_some nexts hs gs es fs ks kept same None is = tt
 took_some nexts hs gs es fs ks kept same (Some x) is =
@@ -63,7 +63,7 @@ invariant_of-self c = kept_out c.self.inside.nexts.items c.self.inside.slots.ite
     c.self.inside.known.keys c.in-Some.field-0-0 c.in-Some.delivery c.self.invariant c.in-Some.ensures.removal
 
 kept_some : (nexts : List ℕ) (hs gs : List NextSlot) (es : List (Ticket × Plain)) (ks : List Ticket) → AreKept nexts hs es ks → (o : Option Plain)
-    → IfSome o (λ x. (i : ℕ) × (i < length hs) × (slot_at hs i ≡ Here x) × (gs ≡ set hs i Out)) → IfNone o ((waiting_at hs ≡ []) × (gs ≡ hs))
+    → IfSome o (TakesSlot hs gs) → IfNone o ((waiting_at hs ≡ []) × (gs ≡ hs))
     → AreKept nexts gs es ks
 kept_some nexts hs gs es ks kept None some none = subst (λ q. AreKept nexts q es ks) (sym none.1) kept
 kept_some nexts hs gs es ks kept (Some x) some none =

@@ -1,7 +1,7 @@
 -- The slot is emptied, the lane's number rises by one, and the slot is filled from the later numbers.
 use Rattle.std.proofs.Common.{List, rules, ◌≡◌, ◌<◌, ◌+◌, length, get_or, slice_set, refl, sym, ap, ◌∙◌, subst, arith}
 use Rattle.std.proofs.lemmas.Grind.{get_or-set_at}
-use Rattle.std.proofs.lemmas.List.{get_or_read, length-set, nil_from_length}
+use Rattle.std.proofs.lemmas.List.{get_or_read, nil_from_length, set-get_or}
 use Rattle.lane_core.specs.declared.next_slot.NextSlot.{NextSlot}
 use Rattle.lane_core.specs.declared.next_slot.NextSlot.TheVariants.{Missing, Here}
 use Rattle.lane_core.specs.ReorderBuffer.{GivesNext, ReorderBuffer}
@@ -12,7 +12,6 @@ use Rattle.lane_core.specs.NextSlots.{buffer_by_slots}
 use Rattle.lane_core.proofs.AdvanceFacts.{none_later}
 use Rattle.lane_core.proofs.BufferFacts.{gave, known_same, others_same}
 use Rattle.lane_core.proofs.SlotFacts.{next_waits, own_parts}
-use Rattle.lane_core.proofs.ListFacts.{placed, set_same}
 use Rattle.lane_core.proofs.deliverer.Deliverer.take_next.Goals as goal
 use Rattle.lane_core.proofs.deliverer.Deliverer.take_next.Goals.{After-index, After-index_mut, After-index_mut-arg-2-1}
 
@@ -32,8 +31,7 @@ same_of : (c : goal.After-from_residual) → slice_set c.self.inside.slots.items
 same_of c =
     let d = (goal.at.invariant_of-self c).After-index_mut in
     let slots = c.self.inside.slots.items in
-    (λ i. slice_set slots (c.from-index.ensures i) (c.in_err-delivery.ensures.none.1 i))
-    ∙ set_same slots c.args.lane c.index_mut.result.now (placed slots c.args.lane c.index_mut.result.now (there d) (value_of d))
+    (λ i. slice_set slots (c.from-index.ensures i) ((c.in_err-delivery.ensures.none.1 ∙ value_of d) i)) ∙ set-get_or slots c.args.lane c.index_mut.result.now
 
 pub index_mut-requires : goal.index_mut-requires
 index_mut-requires c =
@@ -59,8 +57,8 @@ returns-in_err-delivery-clause-none c =
 pub returns-in_err-delivery-clause-lanes : goal.returns-in_err-delivery-clause-lanes
 returns-in_err-delivery-clause-lanes c = ap (λ (d : ReorderBuffer). length d.nexts) c.self.view_is
 
-next_of : (c : After-index) → c.index.result.now ≡ get_or c.self.inside.nexts.items c.args.lane 0
-next_of c =
+next_read : (c : After-index) → c.index.result.now ≡ get_or c.self.inside.nexts.items c.args.lane 0
+next_read c =
     let less : c.args.lane < length c.self.inside.nexts.items = rw (← c.self.view_is) at c.requires in
     get_or_read c.self.inside.nexts.items c.args.lane c.index.result.now less
     (c.index.ensures ∙ (λ i. get_or c.self.inside.nexts.items (c.from-index.ensures i) c.index.result.now)) 0
@@ -79,19 +77,19 @@ low_of : (c : After-index_mut-arg-2-1) → c.args.lane < length c.self.inside.ne
 low_of c = rw (← c.self.view_is) at c.requires
 
 at_of : (c : After-index_mut-arg-2-1) → c.index.result.now ≡ get_or c.self.inside.nexts.items c.args.lane 0
-at_of c = next_of (goal.at.index_mut-requires-2 c).After-index
+at_of c = next_read (goal.at.index_mut-requires-2 c).After-index
 
-here_of : (c : After-index_mut-arg-2-1) → slot_at c.self.inside.slots.items c.args.lane ≡ Here c.in_ok-delivery.delivery
-here_of c = slot_of (goal.at.index_mut-requires-2 c).After-index_mut ∙ c.in_ok-delivery.ensures.some.0
+waits_at : (c : After-index_mut-arg-2-1) → slot_at c.self.inside.slots.items c.args.lane ≡ Here c.in_ok-delivery.delivery
+waits_at c = slot_of (goal.at.index_mut-requires-2 c).After-index_mut ∙ c.in_ok-delivery.ensures.some.0
 
 own_of : (c : After-index_mut-arg-2-1) → IsSlotOf c.args.lane (get_or c.self.inside.nexts.items c.args.lane 0) (Here c.in_ok-delivery.delivery)
-own_of c = subst (IsSlotOf c.args.lane (get_or c.self.inside.nexts.items c.args.lane 0)) (here_of c) (c.self.invariant.own c.args.lane (low_of c))
+own_of c = subst (IsSlotOf c.args.lane (get_or c.self.inside.nexts.items c.args.lane 0)) (waits_at c) (c.self.invariant.own c.args.lane (low_of c))
 
 pub overflow_add-next : goal.overflow_add-next
 overflow_add-next c =
     let d = goal.at.overflow_add-next c in
     let n = get_or c.self.inside.nexts.items c.args.lane 0 in
-    let at = next_of d.After-index in
+    let at = next_read d.After-index in
     let own = subst (IsSlotOf c.args.lane n) (slot_of d.After-index_mut ∙ c.in_ok-delivery.ensures.some.0)
     (c.self.invariant.own c.args.lane (low d.After-index_mut)) in
     let small = (own_parts c.args.lane n c.in_ok-delivery.delivery own).2 in
@@ -107,17 +105,17 @@ slots_of : (c : After-index_mut-arg-2-1) (a : NextSlot)
     ≡ slice_set (slice_set c.self.inside.slots.items c.args.lane Missing) c.args.lane a
 slots_of c a = λ i. slice_set (slice_set c.self.inside.slots.items (c.from-index.ensures i) (c.in_ok-delivery.ensures.some.1 i)) (c.from-index.ensures i) a
 
-moved : (c : After-index_mut-arg-2-1) (later : List (Ticket × Plain)) (known : List Ticket) (a : NextSlot)
+gives : (c : After-index_mut-arg-2-1) (later : List (Ticket × Plain)) (known : List Ticket) (a : NextSlot)
     → Advances c.args.lane (c.index.result.now + 1) c.self.inside.later.entries c.self.inside.known.keys later known a
     → GivesNext c.args.self.now c.args.lane c.in_ok-delivery.delivery
     (buffer_by_slots (slice_set c.self.inside.nexts.items c.from-index.result (c.index.result.now + 1))
     (slice_set (slice_set c.self.inside.slots.items c.from-index.result c.take.new.self) c.from-index.result a) later known)
-moved c later known a moves =
+gives c later known a moves =
     let is = subst (λ n. Advances c.args.lane (n + 1) c.self.inside.later.entries c.self.inside.known.keys later known a) (at_of c) moves in
     rw (← c.self.view_is)
     (rw (nexts_of c, slots_of c a)
     (gave c.self.inside.nexts.items c.self.inside.slots.items c.self.inside.later.entries later c.self.inside.known.keys known c.args.lane
-    c.in_ok-delivery.delivery a (low_of c) c.self.invariant.lanes (here_of c) (own_of c) is.waiting (known_same c.args.lane _ _ _ _ _ a is)
+    c.in_ok-delivery.delivery a (low_of c) c.self.invariant.lanes (waits_at c) (own_of c) is.waiting (known_same c.args.lane _ _ _ _ _ a is)
     (others_same c.args.lane _ _ _ _ _ a is)))
 
 -- its place has nothing more
@@ -130,16 +128,15 @@ stays c =
     let less = low_of c in let n = c.self.invariant.lanes in omega (arith, less, n, c.from-index.ensures) in
     let is : Missing ≡ get_or (slice_set slots c.from-index.result c.take.new.self) c.from-index.result Missing =
     sym (get_or-set_at slots c.from-index.result c.from-index.result c.take.new.self Missing refl there ∙ c.in_ok-delivery.ensures.some.1) in
-    set_same (slice_set slots c.from-index.result c.take.new.self) c.from-index.result Missing
-    (placed (slice_set slots c.from-index.result c.take.new.self) c.from-index.result Missing
-    (omega (arith, there, length-set slots c.from-index.result c.take.new.self)) is)
+    let emptied = slice_set slots c.from-index.result c.take.new.self in
+    ap (slice_set emptied c.from-index.result) is ∙ set-get_or emptied c.from-index.result Missing
 
 pub returns-clause-some : goal.returns-clause-some
-returns-clause-some c = moved (goal.at.returns-clause-some c).After-index_mut-arg-2-1 _ _ _ c.slot_of.ensures
+returns-clause-some c = gives (goal.at.returns-clause-some c).After-index_mut-arg-2-1 _ _ _ c.slot_of.ensures
 
 pub returns-then-is_empty-clause-some : goal.returns-then-is_empty-clause-some
 returns-then-is_empty-clause-some c =
     let d = (goal.at.returns-then-is_empty-clause-some c).After-index_mut-arg-2-1 in
     let none : length c.self.inside.known.keys ≡ 0 = search rules in
     let stay = none_later c.args.lane (c.index.result.now + 1) _ _ c.self.invariant.indexed (nil_from_length c.self.inside.known.keys none) in
-    rw (← stays d) (moved d _ _ _ stay)
+    rw (← stays d) (gives d _ _ _ stay)

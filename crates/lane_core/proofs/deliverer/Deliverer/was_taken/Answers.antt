@@ -1,3 +1,4 @@
+-- The three tests look at the three parts of what was taken in (`was_is`).
 use Rattle.std.proofs.Common.{◌≡◌, ◌==◌, ◌&&◌, ◌||◌, nat_lt, Bool, not, true, false, sym, ap, ◌∙◌, get_or, arith}
 use Rattle.std.proofs.lemmas.Grind.{common_steps}
 use Rattle.lane_core.specs.ReorderBuffer.{is_known, was_taken}

@@ -1,3 +1,4 @@
+-- The row and year that are read are those that contracts see of a delivery; `push_answer` says it of a text.
 use Rattle.std.proofs.Common.{subst}
 use Rattle.scan_core.specs.Answers.{IsAnswer}
 use Rattle.lane_core.specs.declared.delivery.Delivery.TheInside.{Inside}

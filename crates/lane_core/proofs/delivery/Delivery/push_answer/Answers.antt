@@ -1,3 +1,4 @@
+-- The row and year that are read are those that contracts see of a delivery; `answer` says it of the answer itself.
 use Rattle.std.proofs.Common.{◌≡◌, ◌++◌, string_bytes, subst}
 use Rattle.std.specs.Prelude.{OnOk}
 use Rattle.scan_core.specs.Answers.{IsAnswer}

@@ -1,11 +1,10 @@
 -- The lane is closed, if it is there and open.
-use Rattle.std.proofs.Common.{◌≡◌, ◌<◌, false, true, Some, length, map, ap, ◌∙◌, arith}
+use Rattle.std.proofs.Common.{◌≡◌, ◌<◌, false, true, Some, length, map, arith}
 use Rattle.std.specs.List.{slice_get}
 use Rattle.std.proofs.lemmas.List.{map-set}
 use Rattle.lane_core.specs.declared.event.Event.TheVariants.{Close}
-use Rattle.lane_core.specs.declared.lane.Lane.{Lane}
 use Rattle.lane_core.specs.Holding.{held, lane_held}
-use Rattle.lane_core.proofs.HeldFacts.{count_held, lane_at, same_lane}
+use Rattle.lane_core.proofs.HeldFacts.{count_held, lane_at, open_still}
 use Rattle.lane_core.proofs.LaneShowFacts.{close_done, close_none, close_past}
 use Rattle.lane_core.proofs.WorldShowsNext.{shown_after}
 use Rattle.lane_core.proofs.world.World.close.Goals as goal
@@ -23,15 +22,11 @@ returns-then-index-clause-steps c =
     (lane_at c.self.inside.lanes.items c.args.lane c.index.result.now less c.index.ensures) c.if-index.true)
 
 at : (c : After-index_mut) → slice_get (map lane_held c.self.inside.lanes.items) c.args.lane ≡ Some (lane_held c.index_mut.result.now)
-at c =
-    let less : c.args.lane < length c.self.inside.lanes.items = omega arith in
-    lane_at c.self.inside.lanes.items c.args.lane c.index_mut.result.now less c.index_mut.ensures.value
+at c = lane_at c.self.inside.lanes.items c.args.lane c.index_mut.result.now (omega arith) c.index_mut.ensures.value
 
 still_open : (c : After-index_mut) → c.index_mut.result.now.closed ≡ false
-still_open c =
-    let less : c.args.lane < length c.self.inside.lanes.items = omega arith in
-    ap (λ (x : Lane). x.closed) (same_lane c.self.inside.lanes.items c.args.lane c.index_mut.result.now c.index.result.now less c.index_mut.ensures.value
-    c.index.ensures) ∙ c.if-index.false
+still_open c = open_still c.self.inside.lanes.items c.args.lane c.index_mut.result.now c.index.result.now (omega arith) c.index_mut.ensures.value
+    c.index.ensures c.if-index.false
 
 pub invariant_of-self : goal.invariant_of-self
 invariant_of-self c =

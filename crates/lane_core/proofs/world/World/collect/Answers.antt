@@ -1,3 +1,4 @@
+-- The first result goes to the deliverer, to which it is no stranger.
 use Rattle.std.proofs.Common.{◌≡◌, true, false, sym, ◌∙◌}
 use Rattle.lane_core.specs.declared.event.Event.TheVariants.{Collect}
 use Rattle.lane_core.specs.Holding.{held}

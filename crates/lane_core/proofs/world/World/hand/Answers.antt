@@ -1,17 +1,17 @@
 -- The lane's next number goes from the deliverer to the lane's outbox, if it waits and memory is there.
-use Rattle.std.proofs.Common.{◌≡◌, List, ◌<◌, [], ◌∷◌, ◌++◌, map, set, length, Bor, ap, ◌∙◌, arith}
+use Rattle.std.proofs.Common.{◌≡◌, List, ◌<◌, [], ◌∷◌, ◌++◌, map, set, length, Bor, ap, ◌∙◌, arith, true}
 use Rattle.lane_core.specs.declared.event.Event.TheVariants.{Hand}
 use Rattle.lane_core.specs.declared.job.Plain.{Plain}
-use Rattle.lane_core.specs.Contents.{Contents, lane_contents}
-use Rattle.lane_core.specs.ReorderBuffer.{WaitsAsNext}
+use Rattle.lane_core.specs.Contents.{Contents, lane_contents, Steps, contents}
+use Rattle.lane_core.specs.ReorderBuffer.{WaitsAsNext, GivesNext, ReorderBuffer}
 use Rattle.lane_core.specs.Holding.{held, lane_held}
+use Rattle.lane_core.specs.declared.lane.Lane.{Lane}
 use Rattle.lane_core.proofs.HandShowFacts.{hand_done, hand_enabled, hand_none}
 use Rattle.lane_core.proofs.HeldFacts.{count_held, count_put, lane_at, lane_put, lane_same}
-use Rattle.lane_core.proofs.IdleFacts.{count_kept}
 use Rattle.lane_core.proofs.LaneShowFacts.{hand_past}
 use Rattle.lane_core.proofs.NextFacts.{none_has}
-use Rattle.lane_core.proofs.ResultFacts.{not_done, of_no_refusal, of_refusal, if_some}
-use Rattle.lane_core.proofs.WorldShowsNext.{shown_after}
+use Rattle.lane_core.proofs.ResultFacts.{of_refusal, if_some}
+use Rattle.lane_core.proofs.WorldShowsNext.{shown_after, count_kept}
 use Rattle.lane_core.proofs.world.World.hand.Goals as goal
 use Rattle.lane_core.proofs.world.World.hand.Goals.{After-index_mut, After-reserve}
 
@@ -25,10 +25,9 @@ same_lanes : (c : After-reserve)
     { closed = c.index_mut.result.now.closed; issued = c.index_mut.result.now.issued; handed = c.reserve.new.self; polled = c.index_mut.result.now.polled })
     ≡ map lane_held c.self.inside.lanes.items
 same_lanes c =
-    let less : c.args.lane < length c.self.inside.lanes.items = omega arith in
     let x = c.index_mut.result.now in
     lane_same c.self.inside.lanes.items c.args.lane x record { closed = x.closed; issued = x.issued; handed = c.reserve.new.self; polled = x.polled }
-    less c.index_mut.ensures.value (λ i. lane_contents x.closed x.issued (c.reserve.ensures.items i) x.polled)
+    c.index_mut.ensures.value (λ i. lane_contents x.closed x.issued (c.reserve.ensures.items i) x.polled)
 
 pub returns-then-at-len-clause-steps : goal.returns-then-at-len-clause-steps
 returns-then-at-len-clause-steps c =
@@ -37,7 +36,7 @@ returns-then-at-len-clause-steps c =
 
 pub returns-then-is_none-clause-steps : goal.returns-then-is_none-clause-steps
 returns-then-is_none-clause-steps c =
-    let none = none_has (λ x. x.now) c.self.inside.deliverer c.args.lane c.next.result c.if-is_none.ensures c.next.ensures.exactly.1 in
+    let none = none_has c.self.inside.deliverer c.args.lane c.next.result c.if-is_none.ensures c.next.ensures.exactly.1 in
     rw (← c.self.view_is) (hand_none (held c.self.inside) c.args.lane none)
 
 pub invariant_of-self : goal.invariant_of-self
@@ -69,30 +68,33 @@ pub returns-in_default-clause-disabled : goal.returns-in_default-clause-disabled
 returns-in_default-clause-disabled c =
     λ _. rw (same_lanes (goal.at.returns-in_default-clause-disabled c).After-reserve, c.in_default.ensures.none.1) c.self.view_is
 
+-- the outbox has one more, which the deliverer gave
+hands : (c : After-index_mut) (z : Lane) (y : Plain) (e : ReorderBuffer)
+    → lane_held z ≡ lane_contents c.index_mut.result.now.closed c.index_mut.result.now.issued (c.index_mut.result.now.handed.items ++ y ∷ [])
+    c.index_mut.result.now.polled
+    → GivesNext c.self.inside.deliverer c.args.lane y e
+    → Steps (held c.self.inside) (Hand c.args.lane) true (contents c.self.inside.year (map lane_held (set c.self.inside.lanes.items c.args.lane z))
+    c.self.inside.jobs.items c.self.inside.workers.items c.self.inside.results.items e)
+hands c z y e is gives = rw (lane_put c.self.inside.lanes.items c.args.lane z _ is)
+    (hand_done (held c.self.inside) c.args.lane (lane_held c.index_mut.result.now) y e
+    (lane_at c.self.inside.lanes.items c.args.lane c.index_mut.result.now (low c) c.index_mut.ensures.value) gives)
+
 pub invariant_of-self-2 : goal.invariant_of-self-2
 invariant_of-self-2 c =
-    let less = low (goal.at.invariant_of-self-2 c).After-index_mut in
     let x = c.index_mut.result.now in
-    let y = c.in-Some.delivery in
-    let items = ◌∙◌ {A = List Plain} c.push_reserved.ensures.items (ap (λ (xs : List Plain). xs ++ y ∷ []) c.reserve.ensures.items) in
-    let put = lane_put c.self.inside.lanes.items c.args.lane record
-    { closed = x.closed; issued = x.issued; handed = c.push_reserved.new.self; polled = x.polled } _
-    (λ i. lane_contents x.closed x.issued (items i) x.polled) in
-    rw put (shown_after (held c.self.inside) _ (Hand c.args.lane) _ c.self.invariant
-    (hand_done (held c.self.inside) c.args.lane (lane_held x) y c.take_next.new.self
-    (lane_at c.self.inside.lanes.items c.args.lane x less c.index_mut.ensures.value) c.in-Some.ensures.some))
+    let items = ◌∙◌ {A = List Plain} c.push_reserved.ensures.items (ap (λ (xs : List Plain). xs ++ c.in-Some.delivery ∷ []) c.reserve.ensures.items) in
+    shown_after (held c.self.inside) _ (Hand c.args.lane) _ c.self.invariant
+    (hands (goal.at.invariant_of-self-2 c).After-index_mut record
+    { closed = x.closed; issued = x.issued; handed = c.push_reserved.new.self; polled = x.polled } c.in-Some.delivery c.take_next.new.self
+    (λ i. lane_contents x.closed x.issued (items i) x.polled) c.in-Some.ensures.some)
 
 pub returns-clause-steps : goal.returns-clause-steps
 returns-clause-steps c =
-    let less = low (goal.at.returns-clause-steps c).After-index_mut in
     let x = c.index_mut.result.now in
-    let y = c.in-Some.delivery in
-    let items = ◌∙◌ {A = List Plain} c.push_reserved.ensures.items (ap (λ (xs : List Plain). xs ++ y ∷ []) c.reserve.ensures.items) in
-    let put = lane_put c.self.inside.lanes.items c.args.lane record
-    { closed = x.closed; issued = x.issued; handed = c.push_reserved.new.self; polled = x.polled } _
-    (λ i. lane_contents x.closed x.issued (items i) x.polled) in
-    rw (← c.self.view_is) (rw put (hand_done (held c.self.inside) c.args.lane (lane_held x) y c.take_next.new.self
-    (lane_at c.self.inside.lanes.items c.args.lane x less c.index_mut.ensures.value) c.in-Some.ensures.some))
+    let items = ◌∙◌ {A = List Plain} c.push_reserved.ensures.items (ap (λ (xs : List Plain). xs ++ c.in-Some.delivery ∷ []) c.reserve.ensures.items) in
+    rw (← c.self.view_is) (hands (goal.at.returns-clause-steps c).After-index_mut record
+    { closed = x.closed; issued = x.issued; handed = c.push_reserved.new.self; polled = x.polled } c.in-Some.delivery c.take_next.new.self
+    (λ i. lane_contents x.closed x.issued (items i) x.polled) c.in-Some.ensures.some)
 
 pub next-requires : goal.next-requires
 next-requires c =
@@ -100,29 +102,17 @@ next-requires c =
     let count = count_held c.self.inside.lanes.items in
     omega arith
 
-pub index_mut-requires : goal.index_mut-requires
-index_mut-requires c = omega arith
-
 pub take_next-requires : goal.take_next-requires
 take_next-requires c =
     let kept = count_kept (held c.self.inside) c.self.invariant in
     let count = count_held c.self.inside.lanes.items in
     omega arith
 
-pub returns-in_err-reserve-clause-steps : goal.returns-in_err-reserve-clause-steps
-returns-in_err-reserve-clause-steps c = of_no_refusal c.from_residual.result _ c.from_residual.ensures.0
-
-pub returns-in_err-reserve-clause-disabled : goal.returns-in_err-reserve-clause-disabled
-returns-in_err-reserve-clause-disabled c = of_no_refusal c.from_residual.result _ c.from_residual.ensures.0
-
 pub returns-in_err-reserve-clause-lanes : goal.returns-in_err-reserve-clause-lanes
 returns-in_err-reserve-clause-lanes c = count_put c.self.inside.lanes.items c.args.lane _ ∙ ap (λ (x : Contents). length x.lanes) c.self.view_is
 
 pub returns-in_default-clause-lanes : goal.returns-in_default-clause-lanes
 returns-in_default-clause-lanes c = count_put c.self.inside.lanes.items c.args.lane _ ∙ ap (λ (x : Contents). length x.lanes) c.self.view_is
-
-pub returns-clause-disabled : goal.returns-clause-disabled
-returns-clause-disabled c = λ e. not_done e
 
 pub returns-clause-lanes : goal.returns-clause-lanes
 returns-clause-lanes c = count_put c.self.inside.lanes.items c.args.lane _ ∙ ap (λ (x : Contents). length x.lanes) c.self.view_is

@@ -1,3 +1,4 @@
+-- The fields of a new world hold the start.
 use Rattle.lane_core.proofs.WorldShowsNext.{start_is_shown, start_shown}
 use Rattle.lane_core.proofs.world.World.new.Goals as goal
 

@@ -26,9 +26,7 @@ returns-then-polled-len-clause-steps c =
     (lane_at lanes c.args.lane c.index-2.result.now less c.index-2.ensures) (omega arith))
 
 at : (c : After-index_mut) → slice_get (map lane_held c.self.inside.lanes.items) c.args.lane ≡ Some (lane_held c.index_mut.result.now)
-at c =
-    let less : c.args.lane < length c.self.inside.lanes.items = omega arith in
-    lane_at c.self.inside.lanes.items c.args.lane c.index_mut.result.now less c.index_mut.ensures.value
+at c = lane_at c.self.inside.lanes.items c.args.lane c.index_mut.result.now (omega arith) c.index_mut.ensures.value
 
 same_polled : (c : After-index_mut) → c.index.result.now.polled ≡ c.index_mut.result.now.polled
 same_polled c =
