@@ -9,13 +9,14 @@ use Rattle.lane_core.specs.Settling.{sift, sifted}
 use Rattle.lane_core.specs.Tickets.{is_among, is_ticket_of}
 use Rattle.lane_core.specs.Weights.{once}
 use Rattle.hub_core.specs.inner.Accounting.{Accounted, GivenInOrder}
-use Rattle.hub_core.specs.inner.Serving.{sum_all}
+use Rattle.hub_core.specs.inner.Sums.{sum_all}
 use Rattle.hub_core.specs.declared.rule.Trace.{Trace}
 use Rattle.hub_core.specs.Rule.{trace}
 use Rattle.std.proofs.lemmas.Bool.{and_from, and_parts}
 use Rattle.std.proofs.lemmas.List.{get_or-set_other, get_or-set_same, length-set}
 use Rattle.hub_core.proofs.GivesInOrder.{gives_in_order}
-use Rattle.hub_core.proofs.TruthFacts.{or_with_false, and_with_true, once_or, not_taken}
+use Rattle.std.proofs.Math.Bool.{and-true, or-false}
+use Rattle.hub_core.proofs.TruthFacts.{once_or, not_taken}
 use Rattle.lane_core.proofs.TicketFacts.{ticket_parts}
 
 -- x was collected, and is not taken in yet
@@ -27,7 +28,7 @@ pub record Pending (d : ReorderBuffer) (c : List Plain) (x : Plain) (given : Lis
 -- the test that sifts is the deliverer's own
 same_test : (d : ReorderBuffer) (c : List Plain) (x : Plain) → ((l k : ℕ) → (was_taken d l k || false) ≡ is_among l k (sifted (lanes_of d) c))
     → (nat_lt x.lane (lanes_of d) && not (is_among x.lane x.number (sifted (lanes_of d) c))) ≡ is_new d x
-same_test d c x known = ap (λ b. nat_lt x.lane (lanes_of d) && not b) (sym (known x.lane x.number) ∙ or_with_false (was_taken d x.lane x.number))
+same_test d c x known = ap (λ b. nat_lt x.lane (lanes_of d) && not b) (sym (known x.lane x.number) ∙ or-false (was_taken d x.lane x.number))
 
 sifted_more : (d : ReorderBuffer) (c : List Plain) (x : Plain) → ((l k : ℕ) → (was_taken d l k || false) ≡ is_among l k (sifted (lanes_of d) c))
     → sifted (lanes_of d) (c ++ x ∷ []) ≡ cond (is_new d x) (sifted (lanes_of d) c ++ x ∷ []) (sifted (lanes_of d) c)
@@ -39,8 +40,8 @@ sum_cond true h xs x = omega (arith, sum_by-append h xs (x ∷ []))
 sum_cond false h xs x = omega arith
 
 among_cond : (b : Bool) (l k : ℕ) (xs : List Plain) (x : Plain) → is_among l k (cond b (xs ++ x ∷ []) xs) ≡ (is_among l k xs || (b && is_ticket_of l k x))
-among_cond true l k xs x = list_any-append (λ (p : Plain). is_ticket_of l k p) xs (x ∷ []) ∙ ap (λ b. is_among l k xs || b) (or_with_false (is_ticket_of l k x))
-among_cond false l k xs x = sym (or_with_false (is_among l k xs))
+among_cond true l k xs x = list_any-append (λ (p : Plain). is_ticket_of l k p) xs (x ∷ []) ∙ ap (λ b. is_among l k xs || b) (or-false (is_ticket_of l k x))
+among_cond false l k xs x = sym (or-false (is_among l k xs))
 
 pub popped : (d : ReorderBuffer) (c c' : List Plain) (x : Plain) (given : List (List Plain)) → Accounted d c [] given → c' ≡ c ++ x ∷ [] → Pending d c' x given
 popped d c c' x given was is =
@@ -49,18 +50,18 @@ popped d c c' x given was is =
     record {
       giving = was.giving;
       none_lost = λ h. ap (sum_by h) more ∙ (sum_cond (is_new d x) h (sifted (lanes_of d) c) x ∙ omega (arith, was.none_lost h));
-      known = λ l k. ap (λ b. b || (is_new d x && is_ticket_of l k x)) (sym (or_with_false (was_taken d l k)) ∙ was.known l k)
+      known = λ l k. ap (λ b. b || (is_new d x && is_ticket_of l k x)) (sym (or-false (was_taken d l k)) ∙ was.known l k)
           ∙ sym (ap (is_among l k) more ∙ among_cond (is_new d x) l k (sifted (lanes_of d) c) x);
     }
 
 pub again : (d : ReorderBuffer) (c : List Plain) (x : Plain) (given : List (List Plain)) → Accounted d c (x ∷ []) given → Pending d c x given
 again d c x given was =
-    let new : is_new d x ≡ true = sym (and_with_true (is_new d x)) ∙ was.fresh in
+    let new : is_new d x ≡ true = sym (and-true (is_new d x)) ∙ was.fresh in
     record {
       giving = was.giving;
       none_lost = λ h. let e = ap (λ b. cond b (h x) 0) new in omega (arith, was.none_lost h, e);
       known = λ l k. ap (λ b. was_taken d l k || (b && is_ticket_of l k x)) new
-          ∙ (ap (λ b. was_taken d l k || b) (sym (or_with_false (is_ticket_of l k x))) ∙ was.known l k);
+          ∙ (ap (λ b. was_taken d l k || b) (sym (or-false (is_ticket_of l k x))) ∙ was.known l k);
     }
 
 at_ticket : (d : ReorderBuffer) (l k : ℕ) (x : Plain) → is_new d x ≡ true → is_ticket_of l k x ≡ true → was_taken d l k ≡ false
@@ -86,7 +87,7 @@ took d e c x given was t =
     record {
       giving = takes_in_order d e x given t was.giving;
       none_lost = λ h. ap (sum_by h) same ∙ (let n = ap (λ b. cond b (h x) 0) t.new in omega (arith, was.none_lost h, n, t.waiting h));
-      known = λ l k. or_with_false (was_taken e l k) ∙ (t.known l k
+      known = λ l k. or-false (was_taken e l k) ∙ (t.known l k
           ∙ (ap (λ b. was_taken d l k || (b && is_ticket_of l k x)) (sym t.new) ∙ (was.known l k ∙ ap (is_among l k) (sym same))));
       fresh = refl;
     }
@@ -107,9 +108,9 @@ held_back d e c x y given was new same is =
     subst (λ (p : ReorderBuffer × Plain). Accounted p.0 c (p.1 ∷ []) given) (λ i. (sym is i, sym same i)) record {
       giving = was.giving;
       none_lost = λ h. let n = ap (λ b. cond b (h x) 0) new in omega (arith, was.none_lost h, n);
-      known = λ l k. ap (λ b. was_taken d l k || b) (or_with_false (is_ticket_of l k x))
+      known = λ l k. ap (λ b. was_taken d l k || b) (or-false (is_ticket_of l k x))
           ∙ (ap (λ b. was_taken d l k || (b && is_ticket_of l k x)) (sym new) ∙ was.known l k);
-      fresh = and_with_true (is_new d x) ∙ new;
+      fresh = and-true (is_new d x) ∙ new;
     }
 
 -- the pass of the deliverer's seat while it has a delivery that is not taken in yet

@@ -1,29 +1,31 @@
 -- One more delivery into its lane's list (`lists::place`), and several steps as one.
-use Rattle.std.proofs.Common.{◌≡◌, ◌≢◌, ⊎_elim, ℕ, ◌<◌, ◌≤◌, ◌==◌, true, List, [], ◌∷◌, ◌++◌, get_or, length, set, refl, sym, ap, ◌∙◌, subst, arith, Some, vec_capacity, vec_len}
+use Rattle.std.proofs.Common.{◌≡◌, ◌≢◌, ⊎_elim, ℕ, ◌<◌, ◌≤◌, ◌==◌, ◌&&◌, true, List, [], ◌∷◌, ◌++◌, get_or, length, set, refl, sym, ap, ◌∙◌, subst, arith, Some, vec_capacity, vec_len}
 use Rattle.std.specs.List.{list_all, slice_get, count_by}
-use Rattle.std.proofs.lemmas.Bool.{and_from, and_parts, cases_eq, eq-eqb, ne_eqb}
+use Rattle.std.proofs.lemmas.Bool.{and_from, cases_eq, eq-eqb, ne_eqb}
 use Rattle.std.proofs.lemmas.List.{length-set}
-use Rattle.std.proofs.lemmas.Option.{slice_get-get_or, slice_get_within}
+use Rattle.std.proofs.lemmas.Option.{same_Some, slice_get-get_or, slice_get_read, slice_get_within}
+use Rattle.std.proofs.lemmas.List.Folds.{list_all-append}
 use Rattle.std.proofs.lemmas.List.Sums.{sum_by-append}
 use Rattle.lane_core.specs.declared.job.Plain.{Plain}
 use Rattle.lane_core.specs.Weights.{once}
 use Rattle.hub_core.specs.inner.DrainedLists.{DrainsInto, Listed}
-use Rattle.hub_core.proofs.SumsOfChanged.{one_more}
-use Rattle.hub_core.proofs.ListFacts.{same_some}
-pub use Rattle.hub_core.proofs.ListFacts.{get_set}
+use Rattle.hub_core.proofs.ListsOfLists.{one_more}
+use Rattle.hub_core.proofs.ListFacts.{get_set}
 
 not_of : (l : ℕ) (x : Plain) → x.lane ≢ l → count_by (λ (y : Plain). y.lane == l) (x ∷ []) ≡ 0
 not_of l x apart = let e = ap once (ne_eqb x.lane l apart) in omega arith
+
+-- a list that is as it was has the same room
+same_room : (t : List Listed) (l : ℕ) (v w : Listed) → slice_get t l ≡ Some v → slice_get t l ≡ Some w → (vec_capacity w ≡ vec_capacity v) × (vec_len v ≤ vec_len w)
+same_room t l v w e f =
+    let s = same_Some v w (sym e ∙ f) in (ap (λ (u : Listed). vec_capacity u) (sym s), (let n = ap (λ (u : Listed). vec_len u) s in omega arith))
 
 -- it was dropped: no list has changed
 pub dropped : (old new : List Listed) (x : Plain) → new ≡ old → ((w : Listed) → slice_get old x.lane ≡ Some w → vec_capacity w ≤ vec_len w)
     → DrainsInto old new (x ∷ [])
 dropped old new x is no_room = subst (λ (zs : List Listed). DrainsInto old zs (x ∷ [])) (sym is) record {
   counted = refl;
-  room = λ l v w e f. let s = same_some v w old l e f in (
-    ap (λ (u : Listed). vec_capacity u) (sym s),
-    (let n = ap (λ (u : Listed). vec_len u) s in omega arith),
-  );
+  room = same_room old;
   own = λ own. own;
   dropped = x ∷ [];
   whole = λ h. refl;
@@ -35,28 +37,25 @@ dropped old new x is no_room = subst (λ (zs : List Listed). DrainsInto old zs (
 
 own_more : (l : ℕ) (xs : List Plain) (x : Plain) → x.lane ≡ l → list_all (λ (y : Plain). y.lane == l) xs ≡ true
     → list_all (λ (y : Plain). y.lane == l) (xs ++ x ∷ []) ≡ true
-own_more l [] x is all = and_from (x.lane == l) true (eq-eqb x.lane l is) refl
-own_more l (y ∷ ys) x is all =
-    let s = and_parts (y.lane == l) (list_all (λ (z : Plain). z.lane == l) ys) all in
-    and_from (y.lane == l) (list_all (λ (z : Plain). z.lane == l) (ys ++ x ∷ [])) s.0 (own_more l ys x is s.1)
+own_more l xs x is all = list_all-append (λ (y : Plain). y.lane == l) xs (x ∷ [])
+    ∙ and_from (list_all (λ (y : Plain). y.lane == l) xs) ((x.lane == l) && true) all (and_from (x.lane == l) true (eq-eqb x.lane l is) refl)
 
 -- it has its place
 pub put : (old new : List Listed) (l : ℕ) (v w : Listed) (x : Plain) → l < length old → v ≡ get_or old l v → new ≡ set old l w → x.lane ≡ l
     → w.items ≡ v.items ++ x ∷ [] → vec_capacity w ≡ vec_capacity v → vec_len v ≤ vec_len w → DrainsInto old new (x ∷ [])
 put old new l v w x low at is lane more same longer =
-    let there : slice_get old l ≡ Some v = slice_get-get_or old l v low ∙ ap Some (sym at) in
+    let there = slice_get_read old (length old) l v refl low at in
     subst (λ (zs : List Listed). DrainsInto old zs (x ∷ [])) (sym is) record {
       counted = length-set old l w;
       room = λ k a b e f. ⊎_elim
           (λ (g : (k ≡ l) × (w ≡ b)).
-          let s = same_some a v old l (ap (slice_get old) (sym g.0) ∙ e) there in
+          let s = same_Some a v (sym (ap (slice_get old) (sym g.0) ∙ e) ∙ there) in
           let p = ap (λ (u : Listed). vec_capacity u) g.1 in
           let q = ap (λ (u : Listed). vec_capacity u) s in
           let m = ap (λ (u : Listed). vec_len u) g.1 in
           let n = ap (λ (u : Listed). vec_len u) s in
           (omega arith, omega arith))
-          (λ (g : (k ≢ l) × (slice_get old k ≡ Some b)). let s =
-          same_some a b old k e g.1 in (ap (λ (u : Listed). vec_capacity u) (sym s), (let n = ap (λ (u : Listed). vec_len u) s in omega arith)))
+          (λ (g : (k ≢ l) × (slice_get old k ≡ Some b)). same_room old k a b e g.1)
           (get_set old l k w b f);
       own = λ own k b f. ⊎_elim
           (λ (g : (k ≡ l) × (w ≡ b)).
@@ -73,7 +72,7 @@ put old new l v w x low at is lane more same longer =
 pub drained_none : (t : List Listed) → DrainsInto t t []
 drained_none t = record {
   counted = refl;
-  room = λ l v w e f. let s = same_some v w t l e f in (ap (λ (u : Listed). vec_capacity u) (sym s), (let n = ap (λ (u : Listed). vec_len u) s in omega arith));
+  room = same_room t;
   own = λ own. own;
   dropped = [];
   whole = λ h. refl;
@@ -109,7 +108,7 @@ beyond old l w e past = let k = slice_get_within old l w e in omega arith
 pub full_there : (old : List Listed) (l m : ℕ) (v : Listed) → l < length old → v ≡ get_or old l v → l ≡ m → vec_capacity v ≤ vec_len v → (w : Listed)
     → slice_get old m ≡ Some w → vec_capacity w ≤ vec_len w
 full_there old l m v low at is full w e =
-    let there : slice_get old l ≡ Some v = slice_get-get_or old l v low ∙ ap Some (sym at) in
-    let s = same_some v w old l there (ap (slice_get old) is ∙ e) in
+    let there = slice_get_read old (length old) l v refl low at in
+    let s = same_Some v w (sym there ∙ (ap (slice_get old) is ∙ e)) in
     let p = ap (λ (u : Listed). vec_capacity u) s in
     let q = ap (λ (u : Listed). vec_len u) s in omega arith

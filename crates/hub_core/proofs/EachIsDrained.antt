@@ -10,47 +10,36 @@ use Rattle.hub_core.specs.inner.DrainedLists.{DrainsInto, Listed, Drains}
 use Rattle.hub_core.specs.Rule.{trace}
 use Rattle.hub_core.specs.inner.Workers.{jobs_in_hand}
 use Rattle.hub_core.proofs.DrainsAddUp.{drained_then}
-use Rattle.hub_core.proofs.ListFacts.{flat_map_more}
-
-drained_as : (t u : List Listed) (xs ys : List Plain) → xs ≡ ys → DrainsInto t u xs → DrainsInto t u ys
-drained_as t u xs ys e f = subst (λ (l : List Plain). DrainsInto t u l) e f
+use Rattle.std.proofs.lemmas.List.{flat_map_more}
 
 -- more than what was drained
 pub drains_more : (t u v : List Listed) (ys : List Plain) (P Q : List Plain → Type 0) → Drains t u P → DrainsInto u v ys → ((xs : List Plain) → P xs → Q (xs ++ ys))
     → Drains t v Q
 drains_more t u v ys P Q was more next = (was.0 ++ ys, drained_then t u v was.0 ys was.1 more, next was.0 was.2)
 
--- since it was the first of these, a pass has popped these deliveries too
-abbrev pub ArePopped : Trace → Trace → List Plain → Type 0
-ArePopped b v xs = (h : Plain → ℕ) → sum_by h v.popped ≡ sum_by h b.popped + sum_by h xs
-
--- of the first of these, the second and these deliveries are left
-abbrev pub AreTaken : List Plain → List Plain → List Plain → Type 0
-AreTaken b v xs = (h : Plain → ℕ) → sum_by h b ≡ sum_by h v + sum_by h xs
-
 -- one more out of a queue
-pub popped_more : (b v w : Trace) (x y : Plain) (t u u' : List Listed) → v.shares ≡ 1024 → v.pushed ≡ b.pushed → Drains t u (ArePopped b v)
+pub popped_more : (b v w : Trace) (x y : Plain) (t u u' : List Listed) → v.shares ≡ 1024 → v.pushed ≡ b.pushed → Drains t u (OneForOne v.popped b.popped)
     → w ≡ trace v.shares v.pushed (v.popped ++ x ∷ []) → y ≡ x → DrainsInto u u' (y ∷ [])
-    → (w.shares ≡ 1024) × (w.pushed ≡ b.pushed) × Drains t u' (ArePopped b w)
+    → (w.shares ≡ 1024) × (w.pushed ≡ b.pushed) × Drains t u' (OneForOne w.popped b.popped)
 popped_more b v w x y t u u' whole same was is what more = (
   ap (λ (h : Trace). h.shares) is ∙ whole,
   ap (λ (h : Trace). h.pushed) is ∙ same,
-  drains_more t u u' (y ∷ []) (ArePopped b v) (ArePopped b w) was more (λ xs popped h.
+  drains_more t u u' (y ∷ []) (OneForOne v.popped b.popped) (OneForOne w.popped b.popped) was more (λ xs popped h.
       let e = ap (λ (p : Trace). sum_by h p.popped) is in
       let f = ap h what in
       omega (arith, popped h, e, sum_by-append h v.popped (x ∷ []), sum_by-append h xs (y ∷ []))),
 )
 
 -- nothing is left in a queue
-pub popped_all : {X : Type 0} (f : X → Plain) (b v : Trace) (items : List X) (xs : List Plain) → v.pushed ≡ b.pushed → ArePopped b v xs → length items ≡ 0
+pub popped_all : {X : Type 0} (f : X → Plain) (b v : Trace) (items : List X) (xs : List Plain) → v.pushed ≡ b.pushed → OneForOne v.popped b.popped xs → length items ≡ 0
     → ((h : Plain → ℕ) → sum_by h v.pushed ≡ sum_by h v.popped + sum_by h (map f items)) → OneForOne b.pushed b.popped xs
 popped_all f b v [] xs same was none settled h = let e = ap (sum_by h) same in omega (arith, was h, settled h, e)
 popped_all f b v (i ∷ is) xs same was none settled h = absurd (omega arith)
 
 -- one more of those that wait
-pub taken_more : (b v w : List Plain) (x : Plain) (t u u' : List Listed) → Drains t u (AreTaken b v) → ((h : Plain → ℕ) → sum_by h v ≡ h x + sum_by h w)
-    → DrainsInto u u' (x ∷ []) → Drains t u' (AreTaken b w)
-taken_more b v w x t u u' was gave more = drains_more t u u' (x ∷ []) (AreTaken b v) (AreTaken b w) was more
+pub taken_more : (b v w : List Plain) (x : Plain) (t u u' : List Listed) → Drains t u (OneForOne b v) → ((h : Plain → ℕ) → sum_by h v ≡ h x + sum_by h w)
+    → DrainsInto u u' (x ∷ []) → Drains t u' (OneForOne b w)
+taken_more b v w x t u u' was gave more = drains_more t u u' (x ∷ []) (OneForOne b v) (OneForOne b w) was more
     (λ xs taken h. omega (arith, taken h, gave h, sum_by-append h xs (x ∷ [])))
 
 -- one more out of a ring
@@ -73,5 +62,5 @@ rest_all i n (k ∷ ks) known got got' all all' xs left end was fifo same same' 
 -- one more hand
 pub hands_drained : (t u u' : List Listed) (ss : List WorkerSeat) (s : WorkerSeat) → DrainsInto t u (flat_map jobs_in_hand ss)
     → DrainsInto u u' (option_to_list s.held) → DrainsInto t u' (flat_map jobs_in_hand (ss ++ s ∷ []))
-hands_drained t u u' ss s was more = drained_as t u' _ _ (sym (flat_map_more jobs_in_hand ss s))
+hands_drained t u u' ss s was more = subst (λ (l : List Plain). DrainsInto t u' l) (flat_map_more jobs_in_hand [] ss s)
     (drained_then t u u' (flat_map jobs_in_hand ss) (option_to_list s.held) was more)

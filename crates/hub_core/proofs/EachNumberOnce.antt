@@ -1,11 +1,11 @@
 -- Numbers that are each there once, in any order: seats may be settled in any.
-use Rattle.std.proofs.Common.{◌≡◌, ◌≢◌, ⊎_elim, ℕ, ◌+◌, ◌<◌, ◌≤◌, ◌==◌, cond, nat_lt, Bool, true, false, zero, suc, List, [], ◌∷◌, length, refl, sym, ap, ◌∙◌, arith}
+use Rattle.std.proofs.Common.{◌≡◌, ◌≢◌, ⊎_elim, ℕ, ◌+◌, ◌*◌, ◌<◌, ◌≤◌, ◌==◌, cond, nat_lt, Bool, true, false, zero, suc, List, [], ◌∷◌, length, refl, sym, ap, ◌∙◌, arith}
 use Rattle.std.specs.List.{range_with_len, sum_by, count_by}
 use Rattle.std.proofs.lemmas.Bool.{cases_eq, cases_lt, eq-eqb, le-ltb, lt-ltb, ne_eqb}
+use Rattle.std.proofs.lemmas.List.FromFn.{length-range_with_len}
 use Rattle.std.proofs.lemmas.List.Sums.{sum_by-cons}
 use Rattle.lane_core.specs.Weights.{once}
 use Rattle.hub_core.specs.Hubs.{HasEach}
-use Rattle.lane_core.proofs.TruthFacts.{cond_none}
 use Rattle.lane_core.proofs.WeightFacts.{sum_ones}
 
 -- what a number counts for is that of m or that of another
@@ -27,36 +27,19 @@ split F m (k ∷ ks) = omega (
   sum_by-cons F k ks,
   sum_by-cons (λ j. cond (j == m) (F m) 0) k ks,
   sum_by-cons (λ j. cond (j == m) 0 (F j)) k ks,
-  split_by F
-      m k,
+  split_by F m k,
   split F m ks,
 )
 
-one_by : (b : Bool) (c n m : ℕ) → once b + n ≡ 1 → (n ≡ 0 → m ≡ 0) → (n ≡ 1 → m ≡ c) → cond b c 0 + m ≡ c
-one_by true c n m e f g = let z = f (omega arith) in omega arith
-one_by false c n m e f g = let z = g (omega arith) in omega arith
+-- m counts for c as often as it is there
+picked_by : (b : Bool) (c n s : ℕ) → s ≡ n * c → cond b c 0 + s ≡ (once b + n) * c
+picked_by true c n s e = omega (arith, e)
+picked_by false c n s e = omega (arith, e)
 
-picked_none : (c m : ℕ) (ks : List ℕ) → count_by (λ k. k == m) ks ≡ 0 → sum_by (λ k. cond (k == m) c 0) ks ≡ 0
-picked_none c m [] e = refl
-picked_none c m (k ∷ ks) e =
-    let count = sum_by-cons (λ j. once (j == m)) k ks in
-    omega (
-      arith,
-      sum_by-cons (λ j. cond (j == m) c 0) k ks,
-      cond_none (k == m) c (count_by (λ j. j == m) ks) (sum_by (λ j. cond (j == m) c 0) ks) (omega arith)
-          (λ f. picked_none c m ks f),
-    )
-
-picked_one : (c m : ℕ) (ks : List ℕ) → count_by (λ k. k == m) ks ≡ 1 → sum_by (λ k. cond (k == m) c 0) ks ≡ c
-picked_one c m [] e = absurd (omega arith)
-picked_one c m (k ∷ ks) e =
-    let count = sum_by-cons (λ j. once (j == m)) k ks in
-    omega (
-      arith,
-      sum_by-cons (λ j. cond (j == m) c 0) k ks,
-      one_by (k == m) c (count_by (λ j. j == m) ks) (sum_by (λ j. cond (j == m) c 0) ks) (omega arith)
-          (λ f. picked_none c m ks f) (λ f. picked_one c m ks f),
-    )
+picked : (c m : ℕ) (ks : List ℕ) → sum_by (λ k. cond (k == m) c 0) ks ≡ count_by (λ k. k == m) ks * c
+picked c m [] = omega arith
+picked c m (k ∷ ks) = sum_by-cons (λ j. cond (j == m) c 0) k ks ∙ (picked_by (k == m) c (count_by (λ j. j == m) ks) _ (picked c m ks)
+    ∙ ap (λ n. n * c) (sym (sum_by-cons (λ j. once (j == m)) k ks)))
 
 -- numbers past m are not m
 range_above : (F : ℕ → ℕ) (m a n : ℕ) → m < a → sum_by (λ k. cond (k == m) 0 (F k)) (range_with_len a n) ≡ sum_by F (range_with_len a n)
@@ -67,8 +50,7 @@ range_above F m a (suc n) less =
       arith,
       sum_by-cons F a (range_with_len (a + 1) n),
       sum_by-cons (λ k. cond (k == m) 0 (F k)) a (range_with_len (a + 1) n),
-      range_above F m (a + 1) n
-          (omega arith),
+      range_above F m (a + 1) n (omega arith),
     )
 
 past_by : (F : ℕ → ℕ) (m k : ℕ) → (k < m → F k ≡ 0) → (m ≤ k → ⊥) → F k ≡ 0
@@ -98,15 +80,11 @@ from_each F m (suc n) ks counts low =
     (λ (f : l ≡ m). ap (λ b. cond b 0 (F l)) (eq-eqb l m f))
     (λ (f : l ≢ m). ap (λ j. cond (l == m) 0 j) (low l (omega arith)) ∙ zero_both (l == m))
     (cases_eq l m)) in
-    omega (arith, sum_by-cons F m (range_with_len (m + 1) n), split F m ks, picked_one (F m) m ks one, range_above F m (m + 1) n (omega arith))
+    omega (arith, sum_by-cons F m (range_with_len (m + 1) n), split F m ks, picked (F m) m ks ∙ ap (λ j. j * F m) one, range_above F m (m + 1) n (omega arith))
 
 -- numbers that are each there once have the sum of those numbers
 pub sum_each : (n : ℕ) (ks : List ℕ) → HasEach n ks → (F : ℕ → ℕ) → sum_by F ks ≡ sum_by F (range_with_len 0 n)
 sum_each n ks each F = let same : n ≡ 0 + n = omega arith in from_each F 0 n ks (λ l e. each l ∙ ap (λ j. once (nat_lt l j)) same) (λ l e. absurd (omega arith))
 
-ones : (a n : ℕ) → sum_by (λ _. 1) (range_with_len a n) ≡ n
-ones a zero = refl
-ones a (suc n) = omega (arith, sum_by-cons (λ _. 1) a (range_with_len (a + 1) n), ones (a + 1) n)
-
 pub each_counted : (n : ℕ) (ks : List ℕ) → HasEach n ks → length ks ≡ n
-each_counted n ks each = sym (sum_ones ks) ∙ (sum_each n ks each (λ _. 1) ∙ ones 0 n)
+each_counted n ks each = sym (sum_ones ks) ∙ (sum_each n ks each (λ _. 1) ∙ (sum_ones (range_with_len 0 n) ∙ length-range_with_len 0 n))

@@ -1,14 +1,15 @@
 -- The deliverer and what it has given, call by call: `Accounted` rests on it.
-use Rattle.std.proofs.Common.{◌≡◌, ◌≢◌, ◌+◌, ◌<◌, ◌∷◌, ◌∙◌, ◌++◌, [], List, ℕ, zero, suc, ap, arith, get_or, inl, inr, length, ltb, map, refl, replicate, set, subst, sym, true}
+use Rattle.std.proofs.Common.{◌≡◌, ◌≢◌, ◌+◌, ◌<◌, ◌∷◌, ◌∙◌, ◌++◌, [], List, ℕ, ap, arith, get_or, inl, inr, length, ltb, replicate, set, subst, sym, true}
 use Rattle.std.proofs.lemmas.Bool.{cases_eq}
-use Rattle.std.proofs.lemmas.List.{get_or-set_other, get_or-set_same, length-append, length-map, length-replicate, length-set}
+use Rattle.std.proofs.lemmas.List.{get_or-set_other, get_or-set_same, length-append, length-replicate, length-set}
 use Rattle.std.specs.List.{count_by}
 use Rattle.lane_core.specs.ReorderBuffer.{ReorderBuffer, GivesNext, is_known, lanes_of, new_buffer, next_of, was_taken}
 use Rattle.lane_core.specs.declared.job.Plain.{Plain}
 use Rattle.lane_core.specs.Tickets.{is_ticket_of, numbered}
 use Rattle.lane_core.specs.Weights.{once}
 use Rattle.hub_core.specs.inner.Accounting.{GivenInOrder}
-use Rattle.hub_core.proofs.SumsOfChanged.{empties_at}
+use Rattle.hub_core.proofs.ListsOfLists.{empties_at}
+use Rattle.lane_core.proofs.ListFacts.{get_or_zeros}
 use Rattle.lane_core.proofs.TicketFacts.{numbered_more, own_ticket, other_ticket}
 use Rattle.lane_core.proofs.TruthFacts.{or_false, once_below_next}
 
@@ -59,23 +60,15 @@ gives_in_order d e l x gs low g giving =
       ];
     }
 
-abbrev zeros : ℕ → List ℕ
-zeros n = replicate n 0
-
-zeros_at : (n i k : ℕ) → k ≡ 0 → get_or (zeros n) i k ≡ k
-zeros_at zero i k is = refl
-zeros_at (suc n) zero k is = sym is
-zeros_at (suc n) (suc i) k is = zeros_at n i k is
-
 -- a deliverer that took nothing in, and lanes that were given nothing
-pub fresh_in_order : {V : Type 0} (n : ℕ) (vs : List V) (d : ReorderBuffer) → d ≡ new_buffer n → length vs ≡ n → GivenInOrder d (map (λ _. []) vs)
-fresh_in_order n vs d is long =
+pub fresh_in_order : (n : ℕ) (d : ReorderBuffer) → d ≡ new_buffer n → GivenInOrder d (replicate n [])
+fresh_in_order n d is =
     let nexts = ap (λ (t : ReorderBuffer). t.nexts) is in
-    let next : (l : ℕ) → next_of d l ≡ 0 = λ l. ap (λ ns. get_or ns l 0) nexts ∙ zeros_at n l 0 refl in
+    let next : (l : ℕ) → next_of d l ≡ 0 = λ l. ap (λ ns. get_or ns l 0) nexts ∙ get_or_zeros n l in
     record {
-      lanes = length-map vs (λ _. []) ∙ (long ∙ (sym (length-replicate n 0) ∙ sym (ap length nexts)));
-      in_order = λ l. ap (numbered l 0) (empties_at vs l);
-      counted = λ l. ap length (empties_at vs l) ∙ sym (next l);
+      lanes = length-replicate n [] ∙ (sym (length-replicate n 0) ∙ sym (ap length nexts));
+      in_order = λ l. ap (numbered l 0) (empties_at n l);
+      counted = λ l. ap length (empties_at n l) ∙ sym (next l);
       taken = λ l k.
           let waiting = ap (λ (t : ReorderBuffer). t.waiting) is in
           let known = ap (λ (t : ReorderBuffer). is_known l k t.known) is in

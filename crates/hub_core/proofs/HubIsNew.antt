@@ -1,10 +1,10 @@
 -- A new hub and its seats: for `Hub::new`.
-use Rattle.std.proofs.Common.{◌≡◌, ◌==◌, ◌&&◌, ℕ, ◌+◌, ◌-◌, ◌<◌, ◌≤◌, nat_lt, nat_le, true, zero, suc, List, [], ◌∷◌, get_or, length, map, refl, sym, ap, ◌∙◌, subst, arith, Some}
+use Rattle.std.proofs.Common.{◌≡◌, ◌==◌, ◌&&◌, ℕ, ◌+◌, ◌-◌, ◌<◌, ◌≤◌, nat_lt, nat_le, true, zero, suc, List, [], get_or, length, map, refl, replicate, sym, ap, ◌∙◌, subst, arith, Some}
 use Rattle.std.specs.List.{slice_get, All, range_with_len, sum_by, count_by}
 use Rattle.std.proofs.lemmas.Bool.{and_parts}
 use Rattle.std.proofs.lemmas.Bool.Decides.{nat_tests}
 use Rattle.std.proofs.lemmas.List.Sums.{sum_by-cons}
-use Rattle.rtrb.specs.Ring.{IsPair, SameProducer}
+use Rattle.rtrb.specs.Ring.{IsPair, sent}
 use Rattle.lane_core.specs.declared.job.Plain.{Plain}
 use Rattle.lane_core.specs.ReorderBuffer.{ReorderBuffer, new_buffer, was_taken}
 use Rattle.lane_core.specs.Weights.{once}
@@ -21,11 +21,9 @@ use Rattle.hub_core.specs.Shapes.{is_allowed}
 use Rattle.hub_core.specs.inner.Accounting.{Accounted}
 use Rattle.hub_core.proofs.GivesInOrder.{fresh_in_order}
 use Rattle.element_core.specs.Terms.{Terms}
-use Rattle.hub_core.proofs.SumsOfChanged.{empties_at, sum_empties}
+use Rattle.hub_core.proofs.ListsOfLists.{all_empty, empties_at, sum_empties}
 use Rattle.lane_core.proofs.TruthFacts.{false_from_once, once_below_zero, once_below_next}
-use Rattle.std.proofs.lemmas.List.Elements.{All-tail}
-use Rattle.std.proofs.lemmas.Option.{same_Some}
-use Rattle.hub_core.proofs.TruthFacts.{or_with_false}
+use Rattle.std.proofs.Math.Bool.{or-false}
 
 count_small : (n : ℕ) → is_seat_count n ≡ true → n ≤ 16
 count_small n e = let s = and_parts (nat_le 1 n) (nat_le n 16) e in le_from n s.1
@@ -65,27 +63,23 @@ left_of_results a b w few first cut =
       omega arith,
     )
 
-unsent_all : (capacity : ℕ) (rings : List PushEnd) → All (IsUnsent capacity) rings → all_sent rings ≡ map (λ _. []) rings
-unsent_all capacity [] all = refl
-unsent_all capacity (r ∷ rings) all =
-    let first = (all 0 r (omega arith)).0 in
-    let rest = unsent_all capacity rings (All-tail (IsUnsent capacity) r rings all) in
-    λ i. first i ∷ rest i
+unsent_all : (capacity : ℕ) (rings : List PushEnd) → All (IsUnsent capacity) rings → all_sent rings ≡ replicate (length rings) []
+unsent_all capacity rings unsent = all_empty (λ (r : PushEnd). sent r) (IsUnsent capacity) rings (λ r is. is.0) unsent
 
 pub fresh_accounted : (n capacity : ℕ) (rings : List PushEnd) (d : ReorderBuffer) (collected : List Plain) → d ≡ new_buffer n → length rings ≡ n
     → All (IsUnsent capacity) rings → collected ≡ []
     → Accounted d collected [] (all_sent rings)
 fresh_accounted n capacity rings d collected is long unsent none =
-    let given = unsent_all capacity rings unsent in
-    let giving = fresh_in_order n rings d is long in
+    let given = unsent_all capacity rings unsent ∙ ap (λ m. replicate m []) long in
+    let giving = fresh_in_order n d is in
     let waiting = ap (λ (e : ReorderBuffer). e.waiting) is in
     subst (λ (x : List Plain × List (List Plain)). Accounted d x.0 [] x.1) (λ i. (sym none i, sym given i)) record {
       giving = giving;
-      none_lost = λ h. let a = ap (sum_by h) waiting in let b = sum_empties h rings in omega arith;
-      known = λ l k. or_with_false (was_taken d l k) ∙ (false_from_once (was_taken d l k) (
+      none_lost = λ h. let a = ap (sum_by h) waiting in let b = sum_empties h n in omega arith;
+      known = λ l k. or-false (was_taken d l k) ∙ (false_from_once (was_taken d l k) (
           let t = giving.taken l k in
           let w = ap (count_by (λ x. (x.lane == l) && (x.number == k))) waiting in
-          let z = sym (giving.counted l) ∙ ap length (empties_at rings l) in
+          let z = sym (giving.counted l) ∙ ap length (empties_at n l) in
           let y = ap (λ m. once (nat_lt k m)) z in
           omega (arith, t, w, y, once_below_zero k)));
       fresh = refl;
@@ -107,19 +101,11 @@ has_each n numbers is l =
     omega (arith, each_from 0 n l, once_below_zero l)
 
 pub given_none : (capacity : ℕ) (rings : List PushEnd) (l : ℕ) → All (IsUnsent capacity) rings → get_or (all_sent rings) l [] ≡ []
-given_none capacity rings l unsent = ap (λ gs. get_or gs l []) (unsent_all capacity rings unsent) ∙ empties_at rings l
+given_none capacity rings l unsent = ap (λ gs. get_or gs l []) (unsent_all capacity rings unsent) ∙ empties_at (length rings) l
 
 pub ring_of : (made rings : List PushEnd) (s : LaneSeat) → made ≡ rings → IsPairedIn rings s → (r : PushEnd) → slice_get made (lane_of s) ≡ Some r
     → IsPair r s.ring
 ring_of made rings s is paired r at = paired.1 r (ap (λ rs. slice_get rs (lane_of s)) (sym is) ∙ at)
-
-pub same_ends : (made rings : List PushEnd) → made ≡ rings → (length rings ≡ length made)
-    × ((l : ℕ) (r t : PushEnd) → slice_get made l ≡ Some r → slice_get rings l ≡ Some t → SameProducer r t)
-same_ends made rings is = (
-  ap length (sym is),
-  λ l r t e f. subst (λ (u : PushEnd). SameProducer r u) (same_Some r t (sym (ap (λ rs. slice_get rs l) (sym is) ∙ e) ∙ f))
-      ((refl, refl, refl, refl), refl),
-)
 
 pub no_rows : (l : ℕ) (year : Terms) (xs : List Plain) → xs ≡ [] → xs ≡ numbered_rows l 0 year (map (λ x. x.widths) xs)
 no_rows l year xs is = is ∙ sym (ap (λ ys. numbered_rows l 0 year (map (λ (x : Plain). x.widths) ys)) is)

@@ -1,6 +1,6 @@
 -- One more ticket of a lane (`Hub::submit`), and one more delivery out of its ring (`LaneSeat::poll`).
 use Rattle.std.proofs.Common.{◌≡◌, ℕ, ◌+◌, ◌==◌, ◌&&◌, cond, Bool, true, false, suc, List, [], ◌∷◌, ◌++◌, length, length-append, map, refl, sym, ap, ◌∙◌, arith}
-use Rattle.std.proofs.lemmas.List.{map-append, length-map}
+use Rattle.std.proofs.lemmas.List.{length-map, map_push}
 use Rattle.lane_core.specs.declared.job.Plain.{Plain}
 use Rattle.lane_core.specs.Plain.{plain_of}
 use Rattle.lane_core.specs.Settling.{kept}
@@ -9,6 +9,7 @@ use Rattle.hub_core.specs.declared.rule.Trace.{Trace}
 use Rattle.hub_core.specs.Rule.{trace}
 use Rattle.hub_core.specs.Serving.{numbered_rows}
 use Rattle.element_core.specs.Terms.{Terms}
+use Rattle.hub_core.proofs.RowsAreNumbered.{rows_append}
 use Rattle.lane_core.proofs.TicketFacts.{numbered_more, ticket_parts}
 
 -- what a lane's seat keeps, after a push
@@ -23,13 +24,6 @@ lane_more v w x lane issued is share none count order at number =
       ap (numbered lane 0) put ∙ numbered_more lane 0 v.pushed x order at (omega arith),
     )
 
-rows_more : (l n : ℕ) (year : Terms) (rows : List (List ℕ)) (row : List ℕ) → numbered_rows l n year (rows ++ row ∷ []) ≡ numbered_rows l n year rows
-    ++ plain_of l (n + length rows) year row ∷ []
-rows_more l n year [] row = let e : n ≡ n + 0 = omega arith in ap (λ m. plain_of l m year row ∷ []) e
-rows_more l n year (r ∷ rows) row =
-    let e : n + 1 + length rows ≡ n + suc (length rows) = omega arith in
-    ap (λ xs. plain_of l n year r ∷ xs) (rows_more l (n + 1) year rows row ∙ ap (λ m. numbered_rows l (n + 1) year rows ++ plain_of l m year row ∷ []) e)
-
 -- what was submitted are the rows, numbered, one more
 pub rows_and_one : (l : ℕ) (year : Terms) (issued : ℕ) (xs ys : List Plain) (row : List ℕ) → xs ≡ numbered_rows l 0 year (map (λ x. x.widths) xs) → issued ≡ length xs → ys ≡ xs
     ++ plain_of l issued year row ∷ []
@@ -37,11 +31,11 @@ pub rows_and_one : (l : ℕ) (year : Terms) (issued : ℕ) (xs ys : List Plain) 
 rows_and_one l year issued xs ys row was count is =
     let rows = map (λ (x : Plain). x.widths) xs in
     let more : map (λ (x : Plain). x.widths) ys ≡ rows ++ row ∷ [] =
-    ap (map (λ (x : Plain). x.widths)) is ∙ map-append (λ (x : Plain). x.widths) xs (plain_of l issued year row ∷ []) in
+    ap (map (λ (x : Plain). x.widths)) is ∙ map_push (λ (x : Plain). x.widths) xs (plain_of l issued year row) in
     let long : length rows ≡ length xs = length-map xs (λ (x : Plain). x.widths) in
     let at : 0 + length rows ≡ issued = omega arith in
     is ∙ (ap (λ zs. zs ++ plain_of l issued year row ∷ []) was ∙ (ap (λ m. numbered_rows l 0 year rows ++ plain_of l m year row ∷ []) (sym at)
-    ∙ (sym (rows_more l 0 year rows row) ∙ ap (numbered_rows l 0 year) (sym more))))
+    ∙ (sym (rows_append l 0 year rows (row ∷ [])) ∙ ap (numbered_rows l 0 year) (sym more))))
 
 put_in : (b : Bool) (p : Plain) (xs ys : List Plain) → p ∷ cond b xs ys ≡ cond b (p ∷ xs) (p ∷ ys)
 put_in true p xs ys = refl

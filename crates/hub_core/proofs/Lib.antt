@@ -16,7 +16,7 @@ pub mod ListIsSorted
 pub mod ListsAreSorted
 pub mod ListsHaveRoom
 pub mod ListsHaveUnpolled
-pub mod ListsInOrder
+pub mod ListsOfLists
 pub mod NewSeatsServe
 pub mod NextIsThere
 pub mod PartsAreAState
@@ -24,6 +24,7 @@ pub mod PassesAreJoined
 pub mod RingsAfterStep
 pub mod RingsAreDrained
 pub mod RowsAreGiven
+pub mod RowsAreNumbered
 pub mod RuleIsKept
 pub mod SeatsAreNew
 pub mod SeatsAsLanes
@@ -31,7 +32,6 @@ pub mod SeatsServeTraffic
 pub mod ServedAreRead
 pub mod ServedFirst
 pub mod SumFacts
-pub mod SumsOfChanged
 pub mod ThreadGoesOn
 pub mod TruthFacts
 pub mod UnpolledIsCounted

@@ -17,7 +17,7 @@ use Rattle.hub_core.specs.inner.DrainedLists.{AreMade, AreOwn, DrainsInto, Liste
 use Rattle.hub_core.specs.Serving.{items_of}
 use Rattle.hub_core.specs.Lanes.{lane_of, polled, received, submitted}
 use Rattle.hub_core.specs.inner.Draining.{Finds}
-use Rattle.hub_core.specs.inner.Serving.{sum_all}
+use Rattle.hub_core.specs.inner.Sums.{sum_all}
 use Rattle.lane_core.proofs.ListFacts.{get_back, get_map}
 use Rattle.hub_core.proofs.PartsAreAState.{Whole, by_seat, one_lane}
 use Rattle.hub_core.proofs.ListIsSorted.{all_same}

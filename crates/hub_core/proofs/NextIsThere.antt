@@ -2,7 +2,7 @@
 use Rattle.std.proofs.Common.{◌≡◌, ℕ, ◌<◌, ◌&&◌, ◌||◌, not, nat_lt, cond, Bool, true, false, List, [], ◌∷◌, ◌++◌, refl, sym, ap, ◌∙◌, subst, arith, Option, Some, None}
 use Rattle.std.specs.List.{fold, list_all, count_by}
 use Rattle.std.specs.Option.{IfSome}
-use Rattle.std.proofs.Math.Bool.{or_assoc}
+use Rattle.std.proofs.Math.Bool.{or-false, or_assoc}
 use Rattle.std.proofs.lemmas.Bool.{and_parts, lt-ltb}
 use Rattle.std.proofs.lemmas.List.Folds.{list_any-append}
 use Rattle.lane_core.specs.declared.job.Plain.{Plain}
@@ -11,7 +11,7 @@ use Rattle.lane_core.specs.Settling.{sift, sifted}
 use Rattle.lane_core.specs.Tickets.{is_among, is_ticket_of}
 use Rattle.hub_core.specs.inner.Accounting.{Accounted}
 use Rattle.lane_core.proofs.TicketFacts.{among_from, among_times, ticket_parts}
-use Rattle.hub_core.proofs.TruthFacts.{not_taken, or_with_false, true_by_count, there_by}
+use Rattle.hub_core.proofs.TruthFacts.{not_taken, true_by_count, there_by}
 use Rattle.lane_core.proofs.TruthFacts.{once_not_below}
 
 pub with_number : {X : Type 0} (f : X → Plain) (d : ReorderBuffer) (l : ℕ) (o : Option X) (n : ℕ) → n ≡ next_of d l → IfSome o (λ x. WaitsAsNext d l (f x))
@@ -23,7 +23,7 @@ with_number f d l (Some x) n e is = (is, is.number ∙ sym e)
 sift_by : (b : Bool) (n l k : ℕ) (seen : List Plain) (x : Plain) → (nat_lt x.lane n && not (is_among x.lane x.number seen)) ≡ b → l < n
     → is_among l k (cond b (seen ++ x ∷ []) seen) ≡ (is_among l k seen || is_ticket_of l k x)
 sift_by true n l k seen x e low = list_any-append (λ (p : Plain). is_ticket_of l k p) seen (x ∷ [])
-    ∙ ap (λ b. is_among l k seen || b) (or_with_false (is_ticket_of l k x))
+    ∙ ap (λ b. is_among l k seen || b) (or-false (is_ticket_of l k x))
 sift_by false n l k seen x e low = passed (is_ticket_of l k x) (is_among l k seen)
     (λ h. let p = ticket_parts l k x h in there (nat_lt x.lane n) (is_among x.lane x.number seen) e (λ i. is_among (p.0 i) (p.1 i) seen)
     (lt-ltb x.lane n (omega (arith, p.0))))
@@ -40,7 +40,7 @@ sift_by false n l k seen x e low = passed (is_ticket_of l k x) (is_among l k see
     passed false false f = refl
 
 among_folded : (n l k : ℕ) (seen xs : List Plain) → l < n → is_among l k (fold (sift n) seen xs) ≡ (is_among l k seen || is_among l k xs)
-among_folded n l k seen [] low = sym (or_with_false (is_among l k seen))
+among_folded n l k seen [] low = sym (or-false (is_among l k seen))
 among_folded n l k seen (x ∷ xs) low =
     among_folded n l k (sift n seen x) xs low
     ∙ (ap (λ b. b || is_among l k xs) (sift_by (nat_lt x.lane n && not (is_among x.lane x.number seen)) n l k seen x refl low)

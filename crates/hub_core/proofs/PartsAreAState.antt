@@ -1,7 +1,8 @@
 -- The parts of a hub as a state of the machine in which nothing is lost: what `Hub::settle` and `Hub::finish` share.
-use Rattle.std.proofs.Common.{◌≡◌, ◌≢◌, ⊎_elim, ℕ, ◌+◌, ◌<◌, ◌≤◌, ◌==◌, cond, nat_lt, true, zero, suc, List, [], ◌∷◌, ◌++◌, get_or, length, length-append, map, take, Option, Some, None, option_to_list, refl, sym, ap, ◌∙◌, subst, arith}
+use Rattle.std.proofs.Common.{◌≡◌, ◌≢◌, ⊎_elim, ℕ, ◌+◌, ◌<◌, ◌≤◌, ◌==◌, cond, nat_lt, true, zero, suc, List, [], ◌∷◌, ◌++◌, append_assoc, drop, get_or, length, length-append, map, take, Option, Some, None, option_to_list, refl, sym, ap, ◌∙◌, subst, arith}
 use Rattle.std.specs.List.{All, flat_map, range_with_len, slice_get, sum_by, count_by}
 use Rattle.std.proofs.lemmas.Bool.{cases_eq, cases_lt, eq-eqb, ne_eqb}
+use Rattle.std.proofs.lemmas.List.{length-take, take-append-drop}
 use Rattle.std.proofs.lemmas.List.FromFn.{get_or-map-range_with_len, length-map-range_with_len}
 use Rattle.std.proofs.lemmas.Option.{same_Some, slice_get-get_or, slice_get_past}
 use Rattle.std.proofs.lemmas.List.Sums.{sum_by-append, sum_by-cons}
@@ -21,10 +22,11 @@ use Rattle.hub_core.specs.Hubs.{AreAllSeats, HasEach, IsLaneOf, shape_of, year_o
 use Rattle.hub_core.specs.Lanes.{lane_of, numbers_of, polled, polled_count, received, submitted}
 use Rattle.hub_core.specs.inner.Draining.{Finds}
 use Rattle.hub_core.specs.Rings.{all_sent}
-use Rattle.hub_core.specs.inner.Serving.{sum_all}
+use Rattle.hub_core.specs.inner.Sums.{sum_all}
 use Rattle.hub_core.specs.Standing.{StandsFor, IsWhole}
 use Rattle.hub_core.specs.Workers.{job_in_hand, posted, taken}
 use Rattle.hub_core.specs.inner.Workers.{jobs_in_hand}
+use Rattle.hub_core.proofs.SeatsAsLanes.{PolledFirst}
 use Rattle.hub_core.proofs.UnpolledIsCounted.{at_least}
 use Rattle.hub_core.proofs.EachNumberOnce.{sum_each}
 use Rattle.lane_core.proofs.TruthFacts.{once_le}
@@ -74,7 +76,7 @@ account s = record { lane = lane_of s; submitted = submitted s; received = recei
 abbrev handed_account : DelivererSeat → LaneSeat → Account
 handed_account d s = record { lane = lane_of s; submitted = submitted s; received = handed d (lane_of s) }
 
-pub whole_from : (h : Hub) (ls : List LaneSeat) (ws : List WorkerSeat) (d : DelivererSeat) (jobs results found : List Plain)
+whole_from : (h : Hub) (ls : List LaneSeat) (ws : List WorkerSeat) (d : DelivererSeat) (jobs results found : List Plain)
     → AllFound → ReceivedFirst → KeptWhole → AreAllSeats h ls ws d → Finds ls ws d jobs results found → Whole ls ws d jobs results
 whole_from h ls ws d jobs results found all_found received_first kept_whole seats finds =
     let n = lane_count d in
@@ -155,7 +157,7 @@ state_there d (x ∷ xs) l (suc i) v e at one =
     ∙ state_there d xs l i v e at (omega arith)
 
 -- the state that the parts are
-abbrev pub state_of : Hub → List LaneSeat → List WorkerSeat → DelivererSeat → List Plain → List Plain → State
+abbrev state_of : Hub → List LaneSeat → List WorkerSeat → DelivererSeat → List Plain → List Plain → State
 state_of h ls ws d jobs results = state (year_of h) (map (state_at d ls) (range_with_len 0 (lane_count d))) jobs (map job_in_hand ws) results
     ((buffer_of d).waiting ++ hand_of d)
 
@@ -170,7 +172,7 @@ by_lane f n l P none some = ⊎_elim
     (λ (past : n ≤ l). subst P (sym (slice_get_past (map f (range_with_len 0 n)) l (let e = length-map-range_with_len f 0 n in omega arith))) none)
     (cases_lt l n)
 
-pub stands_for : (h : Hub) (ls : List LaneSeat) (ws : List WorkerSeat) (d : DelivererSeat) (jobs results found : List Plain)
+stands_for : (h : Hub) (ls : List LaneSeat) (ws : List WorkerSeat) (d : DelivererSeat) (jobs results found : List Plain)
     → AreAllSeats h ls ws d → Finds ls ws d jobs results found → Whole ls ws d jobs results → StandsFor (state_of h ls ws d jobs results) h ls ws d
 stands_for h ls ws d jobs results found seats finds whole = record {
   year = refl;
@@ -191,13 +193,7 @@ sum_lanes n d ls G each =
     ∙ sum_same (λ (s : LaneSeat). G (state_at d ls (lane_of s))) (λ (s : LaneSeat). G (lane_shown d s)) ls
     (λ i s e. ap G (state_there d ls (lane_of s) i s e refl (one_lane n ls each (lane_of s)))))
 
-shorter : (k : ℕ) (xs ys : List Plain) → take k xs ≡ ys → length ys ≤ length xs
-shorter zero xs ys e = let a = ap length e in omega arith
-shorter (suc k) [] ys e = let a = ap length e in omega arith
-shorter (suc k) (x ∷ xs) [] e = omega arith
-shorter (suc k) (x ∷ xs) (y ∷ ys) e = let r = shorter k xs (take k xs) refl in let a = ap length e in omega arith
-
-pub nothing_lost : (h : Hub) (ls : List LaneSeat) (ws : List WorkerSeat) (d : DelivererSeat) (jobs results : List Plain) → Whole ls ws d jobs results
+nothing_lost : (h : Hub) (ls : List LaneSeat) (ws : List WorkerSeat) (d : DelivererSeat) (jobs results : List Plain) → Whole ls ws d jobs results
     → NothingLost (state_of h ls ws d jobs results)
 nothing_lost h ls ws d jobs results whole =
     let n = lane_count d in
@@ -209,7 +205,7 @@ nothing_lost h ls ws d jobs results whole =
           (state_is d (λ v. v.polled ≤ v.handed) ls l (omega arith) (λ i v e at. (whole.polled i v e).1));
       handed = λ l. by_lane f n l (λ o. of_lane 0 (λ v. v.handed) o ≤ length (of_lane [] (λ v. v.submitted) o)) (omega arith)
           (state_is d (λ v. v.handed ≤ length v.submitted) ls l (omega arith)
-          (λ i v e at. shorter _ (submitted v) (handed d (lane_of v)) (whole.handed i v e)));
+          (λ i v e at. omega (arith, ap length (whole.handed i v e), length-take (length (handed d (lane_of v))) (submitted v))));
       whole = λ g.
           let a = sum_lanes n d ls (λ v. sum_by g v.submitted) whole.each ∙ whole.sum g in
           let b = sum_lanes n d ls (λ v. sum_by g (take v.handed v.submitted)) whole.each
@@ -221,12 +217,11 @@ nothing_lost h ls ws d jobs results whole =
     }
 
 -- no lane has dropped a delivery
-pub all_polled : (ls : List LaneSeat) (ws : List WorkerSeat) (d : DelivererSeat) (jobs results : List Plain) → Whole ls ws d jobs results
+all_polled : (ls : List LaneSeat) (ws : List WorkerSeat) (d : DelivererSeat) (jobs results : List Plain) → Whole ls ws d jobs results
     → All (λ (s : LaneSeat). polled s ≡ received s) ls
 all_polled ls ws d jobs results whole i s low = (whole.polled i (get_or ls i s) (slice_get-get_or ls i s low)).0
 
--- what `settle` and `finish` show of the parts
-pub is_whole : (h : Hub) (ls : List LaneSeat) (ws : List WorkerSeat) (d : DelivererSeat) (jobs results found : List Plain) → LostIsNone
+is_whole : (h : Hub) (ls : List LaneSeat) (ws : List WorkerSeat) (d : DelivererSeat) (jobs results found : List Plain) → LostIsNone
     → AreAllSeats h ls ws d → Finds ls ws d jobs results found → Whole ls ws d jobs results → IsWhole h ls ws d
 is_whole h ls ws d jobs results found lost_is_none seats finds whole = record {
   state = (
@@ -237,3 +232,25 @@ is_whole h ls ws d jobs results found lost_is_none seats finds whole = record {
   none_dropped = all_polled ls ws d jobs results whole;
   none_aside = whole.aside;
 }
+
+-- what `settle` and `finish` show of the parts that were drained, by the laws that they call
+pub parts_are : (h : Hub) (ls : List LaneSeat) (ws : List WorkerSeat) (d : DelivererSeat) (jobs results found : List Plain)
+    → AllFound → ReceivedFirst → KeptWhole → LostIsNone → AreAllSeats h ls ws d → Finds ls ws d jobs results found
+    → Whole ls ws d jobs results × IsWhole h ls ws d
+parts_are h ls ws d jobs results found all_found received_first kept_whole lost_is_none seats finds =
+    let whole = whole_from h ls ws d jobs results found all_found received_first kept_whole seats finds in
+    (whole, is_whole h ls ws d jobs results found lost_is_none seats finds whole)
+
+-- what each lane received is the first of what it was handed, and so of its rows
+pub first_of_rows : (h : Hub) (ls : List LaneSeat) (ws : List WorkerSeat) (d : DelivererSeat) (jobs results found : List Plain)
+    → AreAllSeats h ls ws d → Finds ls ws d jobs results found → Whole ls ws d jobs results → PolledFirst h ls
+first_of_rows h ls ws d jobs results found seats finds whole i v e =
+    let front = all_at (λ (s : LaneSeat). (left : List Plain) × (received s ++ left ≡ get_or (all_sent d.rings.items) (lane_of s) [])) ls i v finds.first e in
+    let n = length (handed d (lane_of v)) in
+    let rest = drop n (submitted v) in (
+      front.0 ++ rest,
+      ap (λ (xs : List Plain). xs ++ (front.0 ++ rest)) (whole.polled i v e).0
+          ∙ (sym (append_assoc (received v) front.0 rest)
+          ∙ (ap (λ (xs : List Plain). xs ++ rest) (front.1 ∙ sym (whole.handed i v e))
+          ∙ (take-append-drop n (submitted v) ∙ (all_at (IsLaneOf h) ls i v seats.lanes e).rows))),
+    )

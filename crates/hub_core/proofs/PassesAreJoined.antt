@@ -1,5 +1,5 @@
 -- The passes of all seats, joined one by one: for `place_hands`, `place_rings` and `drain_all`.
-use Rattle.std.proofs.Common.{◌≡◌, ℕ, ◌+◌, List, [], ◌∷◌, ◌++◌, length-append, sym, ap, ◌∙◌, arith, append_assoc, append-nil}
+use Rattle.std.proofs.Common.{◌≡◌, ℕ, ◌+◌, List, [], ◌∷◌, ◌++◌, length, length-append, ap, ◌∙◌, arith, append-nil}
 use Rattle.std.specs.List.{flat_map, sum_by}
 use Rattle.lane_core.specs.declared.job.Plain.{Plain}
 use Rattle.lane_core.specs.Weights.{OneForOne}
@@ -10,31 +10,38 @@ use Rattle.hub_core.specs.Lanes.{submitted}
 use Rattle.hub_core.specs.Rule.{trace}
 use Rattle.hub_core.specs.inner.Rule.{JoinsPops, JoinsPushes}
 use Rattle.hub_core.specs.Workers.{posted, taken}
-use Rattle.hub_core.proofs.ListFacts.{flat_map_more}
+use Rattle.std.proofs.lemmas.List.{flat_map_more}
 
 pub trace_is : (a b : ℕ) (c d e f : List Plain) → a ≡ b → c ≡ d → e ≡ f → trace a c e ≡ trace b d f
 trace_is a b c d e f x y z i = trace (x i) (y i) (z i)
 
--- one more pass was joined: that of a lane, or of a worker
+-- the parts of a pass that was joined with one more: that of a lane, or of a worker
+shares_joined : {X : Type 0} (b v p : Trace) (xs : List X) (x : X) → p.shares ≡ 1 → v.shares ≡ b.shares + length xs
+    → v.shares + p.shares ≡ b.shares + length (xs ++ x ∷ [])
+shares_joined b v p xs x share was = omega (arith, share, was, length-append xs (x ∷ []))
+
+list_joined : {X : Type 0} (f : X → List Plain) (b v p : List Plain) (xs : List X) (x : X) → p ≡ f x → v ≡ b ++ flat_map f xs
+    → v ++ p ≡ b ++ flat_map f (xs ++ x ∷ [])
+list_joined f b v p xs x mine was = (λ i. was i ++ mine i) ∙ flat_map_more f b xs x
+
+none_joined : (b v p : List Plain) → p ≡ [] → v ≡ b → v ++ p ≡ b
+none_joined b v p none was = (λ i. was i ++ none i) ∙ append-nil b
+
 pub pushes_more : {X : Type 0} (pushed : X → List Plain) (b v w p : Trace) (xs : List X) (x : X)
     → p.shares ≡ 1 → p.popped ≡ [] → p.pushed ≡ pushed x → JoinsPushes pushed xs b v
     → w ≡ trace (v.shares + p.shares) (v.pushed ++ p.pushed) (v.popped ++ p.popped) → JoinsPushes pushed (xs ++ x ∷ []) b w
-pushes_more pushed b v w p xs x share none mine was is =
-    is ∙ trace_is _ _ _ _ _ _
-    (let e = ap (λ (h : Trace). h.shares) was in omega (arith, share, e, length-append xs (x ∷ [])))
-    (ap (λ (h : Trace). h.pushed ++ p.pushed) was ∙ (append_assoc b.pushed (flat_map pushed xs) p.pushed
-    ∙ ap (λ l. b.pushed ++ l) (ap (λ l. flat_map pushed xs ++ l) mine ∙ sym (flat_map_more pushed xs x))))
-    (ap (λ l. v.popped ++ l) none ∙ (append-nil v.popped ∙ ap (λ (h : Trace). h.popped) was))
+pushes_more pushed b v w p xs x share none mine was is = is ∙ trace_is _ _ _ _ _ _
+    (shares_joined b v p xs x share (ap (λ (h : Trace). h.shares) was))
+    (list_joined pushed b.pushed v.pushed p.pushed xs x mine (ap (λ (h : Trace). h.pushed) was))
+    (none_joined b.popped v.popped p.popped none (ap (λ (h : Trace). h.popped) was))
 
 pub pops_more : {X : Type 0} (popped : X → List Plain) (b v w p : Trace) (xs : List X) (x : X)
     → p.shares ≡ 1 → p.pushed ≡ [] → p.popped ≡ popped x → JoinsPops popped xs b v
     → w ≡ trace (v.shares + p.shares) (v.pushed ++ p.pushed) (v.popped ++ p.popped) → JoinsPops popped (xs ++ x ∷ []) b w
-pops_more popped b v w p xs x share none mine was is =
-    is ∙ trace_is _ _ _ _ _ _
-    (let e = ap (λ (h : Trace). h.shares) was in omega (arith, share, e, length-append xs (x ∷ [])))
-    (ap (λ l. v.pushed ++ l) none ∙ (append-nil v.pushed ∙ ap (λ (h : Trace). h.pushed) was))
-    (ap (λ (h : Trace). h.popped ++ p.popped) was ∙ (append_assoc b.popped (flat_map popped xs) p.popped
-    ∙ ap (λ l. b.popped ++ l) (ap (λ l. flat_map popped xs ++ l) mine ∙ sym (flat_map_more popped xs x))))
+pops_more popped b v w p xs x share none mine was is = is ∙ trace_is _ _ _ _ _ _
+    (shares_joined b v p xs x share (ap (λ (h : Trace). h.shares) was))
+    (none_joined b.pushed v.pushed p.pushed none (ap (λ (h : Trace). h.pushed) was))
+    (list_joined popped b.popped v.popped p.popped xs x mine (ap (λ (h : Trace). h.popped) was))
 
 -- what the queue of jobs held is what was submitted and not taken
 pub jobs_whole : (b v w : Trace) (p q : ℕ) (ls : List LaneSeat) (ws : List WorkerSeat) (xs : List Plain) → b.pushed ≡ [] → b.popped ≡ []

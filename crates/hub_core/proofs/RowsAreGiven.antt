@@ -1,12 +1,16 @@
 -- Rows that are left of each lane, one of which was given: for `Feeds`.
-use Rattle.std.proofs.Common.{◌≡◌, ℕ, ◌<◌, ◌==◌, ◌++◌, ◌&&◌, IfSome, IsSome, Option, Some, None, is_some, option_to_list, leb, true, zero, suc, List, [], ◌∷◌, get_or, length, length-append, map, replicate, set, refl, sym, ap, ◌∙◌, arith, append-nil, append_assoc}
+use Rattle.std.proofs.Common.{◌≡◌, ℕ, ◌<◌, ◌==◌, ◌++◌, IfSome, IsSome, Option, Some, None, is_some, option_to_list, leb, true, zero, suc, List, [], ◌∷◌, get_or, length, length-append, map, replicate, set, refl, sym, ap, ◌∙◌, arith, append-nil, append_assoc}
 use Rattle.std.proofs.lemmas.Bool.{and_parts, both_ways, leb-true, ne_eqb}
 use Rattle.std.specs.List.{list_all}
-use Rattle.std.proofs.lemmas.List.{get_or-map, length-map, length-replicate, length-set, map-append, map-set, replicate-append-replicate}
+use Rattle.std.proofs.lemmas.List.{get_or-map, length-map, length-replicate, length-set, map_push, map-set, replicate_more}
+use Rattle.std.proofs.lemmas.List.Elements.{All-from_get_or}
+use Rattle.std.proofs.lemmas.List.Folds.{list_all-map}
+use Rattle.std.proofs.lemmas.List.Sums.{list_all-from_AllPass}
 use Rattle.std.proofs.Math.Seq.{map-set_same}
 use Rattle.hub_core.specs.Feeds.{AreGiven, IsTaken, appended, are_given}
 use Rattle.hub_core.specs.Serving.{are_short}
 use Rattle.hub_core.specs.Traffics.{HasRoom, with_more}
+use Rattle.hub_core.proofs.ListsOfLists.{list_more_at}
 
 appended_more : {X : Type 0} (given old : List (List X)) (i : ℕ) (row : X) (rest : List X) → i < length old → length given ≡ length old → get_or old i []
     ≡ row ∷ rest
@@ -60,10 +64,7 @@ left_none f vs i lane v is low at none =
 
 pub given_by : {V : Type 0} (f : V → List (List ℕ)) (n : V → ℕ) (vs : List V) → ((v : V) → length (f v) ≡ n v)
     → list_all (λ v. n v == 0) vs ≡ are_given (map f vs)
-given_by f n [] same = refl
-given_by f n (v ∷ vs) same =
-    ap (λ k. (k == 0) && list_all (λ u. n u == 0) vs) (sym (same v))
-    ∙ ap (λ b. (length (f v) == 0) && b) (given_by f n vs same)
+given_by f n vs same = sym (list_all-map (λ rest. length rest == 0) f vs ∙ (λ i. list_all (λ v. same v i == 0) vs))
 
 -- one more row was given
 pub one_given : (feeds given old new : List (List (List ℕ))) (lane : ℕ) (row : List ℕ) → IsTaken old lane row new → AreGiven feeds given old
@@ -91,25 +92,20 @@ none_appended (ys ∷ rests) (suc n) count = ap (λ v. ys ∷ v) (none_appended 
 pub list_more : {V X : Type 0} (f : V → List X) (vs : List V) (i lane : ℕ) (v w : V) (x : X) (brought : List (List X)) → i ≡ lane → lane < length brought → v
     ≡ get_or vs i v → f w ≡ f v ++ x ∷ []
     → map f vs ≡ brought → map f (set vs i w) ≡ with_more lane x brought
-list_more {V} {X} f vs i lane v w x brought is low at more all =
-    let long : length brought ≡ length vs = ap length (sym all) ∙ length-map vs f in
-    let here : get_or brought lane [] ≡ f v = ap (λ xss. get_or xss lane []) (sym all)
-    ∙ (ap (λ k. get_or (map f vs) k []) (sym is) ∙ (get_or-map f vs i v [] (omega (arith, low, is, long)) ∙ ap f (sym at))) in
-    map-set f vs i w ∙ (ap (λ xss. set xss i (f w)) all ∙ (ap (λ k. set brought k (f w)) is
-    ∙ ap (set brought lane) (more ∙ ap (λ (xs : List X). xs ++ x ∷ []) (sym here))))
+list_more f vs i lane v w x brought is low at more all =
+    list_more_at f vs i v w x at (omega (arith, low, is, ap length all, length-map vs f)) more ∙ (λ j. with_more (is j) x (all j))
 
 -- what is left of one more feed
 pub rests_more : {V W : Type 0} (f : V → List (List ℕ)) (g : W → List (List ℕ)) (old new : List V) (v : V) (feeds : List W) (feed : W) → new ≡ old ++ v ∷ []
     → f v ≡ g feed → map f old ≡ map g feeds → map f new ≡ map g (feeds ++ feed ∷ [])
 rests_more f g old new v feeds feed is one all =
-    ap (map f) is ∙ (map-append f old (v ∷ []) ∙ ((λ i. all i ++ one i ∷ []) ∙ sym (map-append g feeds (feed ∷ []))))
+    ap (map f) is ∙ (map_push f old v ∙ ((λ i. all i ++ one i ∷ []) ∙ sym (map_push g feeds feed)))
 
 -- one more empty list
 pub empty_more : {V X : Type 0} (f : V → List X) (old new : List V) (v : V) (n k : ℕ) → new ≡ old ++ v ∷ [] → f v ≡ [] → map f old ≡ replicate n [] → k ≡ suc n
     → map f new ≡ replicate k []
-empty_more {V} {X} f old new v n k is none all more =
-    ap (map f) is ∙ (map-append f old (v ∷ []) ∙ (ap (λ (xs : List X). map f old ++ xs ∷ []) none
-    ∙ (ap (λ (xss : List (List X)). xss ++ [] ∷ []) all ∙ (replicate-append-replicate n 1 [] ∙ ap (λ m. replicate m []) (omega (arith, more))))))
+empty_more f old new v n k is none all more =
+    ap (map f) is ∙ (map_push f old v ∙ ((λ i. all i ++ none i ∷ []) ∙ (replicate_more n [] ∙ ap (λ m. replicate m []) (omega (arith, more)))))
 
 -- nothing was given
 pub none_given : (feeds rests : List (List (List ℕ))) (n : ℕ) → rests ≡ feeds → length feeds ≡ n → are_short feeds ≡ true
@@ -138,6 +134,5 @@ all_given feeds given rests was are = sym (all_appended given rests was.count ar
 
 -- where none is left of any lane, all were given
 pub all_left : (rests : List (List (List ℕ))) → ((l : ℕ) → l < length rests → get_or rests l [] ≡ []) → are_given rests ≡ true
-all_left [] none = refl
-all_left (xs ∷ rests) none = ap (λ b. b && are_given rests) (ap (λ ys. length ys == 0) (none 0 (omega arith)))
-    ∙ all_left rests (λ l low. none (suc l) (omega (arith, low)))
+all_left rests none = list_all-from_AllPass (λ rest. length rest == 0) rests
+    (All-from_get_or (λ rest. (length rest == 0) ≡ true) rests [] (λ l low. ap (λ ys. length ys == 0) (none l low)))

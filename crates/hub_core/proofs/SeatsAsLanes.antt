@@ -1,41 +1,36 @@
--- Seats as lanes (`as_lane`), and what settling gives these.
+-- Seats as lanes (`as_lane`): new ones, and what settling gives these.
 use Rattle.std.proofs.Common.{◌≡◌, ◌++◌, ℕ, List, [], ◌∷◌, Some, ap, arith, get_or, map, refl, suc, subst}
 use Rattle.std.specs.List.{All, slice_get}
 use Rattle.std.proofs.lemmas.Option.{slice_get-get_or}
 use Rattle.lane_core.specs.declared.job.Plain.{Plain}
 use Rattle.lane_core.specs.Settling.{kept}
-use Rattle.scan_core.specs.Answers.{Reads}
-use Rattle.scan_core.specs.declared.answer.Answer.{Answer}
 use Rattle.hub_core.specs.declared.hub.Hub.{Hub}
 use Rattle.hub_core.specs.declared.lane_seat.LaneSeat.{LaneSeat}
 use Rattle.hub_core.specs.Fresh.{HasDoneNothing}
 use Rattle.hub_core.specs.Hubs.{year_of}
 use Rattle.hub_core.specs.Lane.{ArePolledFirst, AreSettled, Lane, deliveries, new_lane}
-use Rattle.hub_core.specs.Lanes.{as_lane, lane_of, polled, submitted, submitted_rows}
-use Rattle.hub_core.specs.Laws.{AreAnswersOf}
+use Rattle.hub_core.specs.Lanes.{as_lane, lane_of, polled, submitted_rows}
 use Rattle.hub_core.specs.Serving.{numbered_rows}
 use Rattle.lane_core.proofs.ListFacts.{get_back, get_map}
-use Rattle.hub_core.proofs.ServedAreRead.{rows_read}
-use Rattle.element_core.specs.Terms.{Terms}
 use Rattle.hub_core.proofs.ListFacts.{all_at}
 
 abbrev pub a_lane : ℕ → List (List ℕ) → List Plain → Lane
 a_lane n rows xs = record { number = n; rows = rows; polled = xs }
-
--- lanes of one number, with the same rows and the same deliveries
-pub same_lane : (n : ℕ) (rows rows' : List (List ℕ)) (xs xs' : List Plain) → rows ≡ rows' → xs ≡ xs'
-    → a_lane n rows xs ≡ a_lane n rows' xs'
-same_lane n rows rows' xs xs' e f = λ i. a_lane n (e i) (f i)
 
 pub fresh_lanes : (ls : List LaneSeat) → All HasDoneNothing ls → map as_lane ls ≡ map new_lane (map lane_of ls)
 unfolding as_lane
 fresh_lanes [] all = refl
 fresh_lanes (s ∷ ls) all =
     let here = all 0 s (omega arith) in
-    let first = same_lane (lane_of s) (map (λ (x : Plain). x.widths) (submitted s)) [] (polled s) [] (ap (map (λ (x : Plain). x.widths)) here.0)
-    (ap (kept (lane_of s) 0) here.1) in
+    let rows : submitted_rows s ≡ [] = ap (map (λ (x : Plain). x.widths)) here.0 in
+    let none : polled s ≡ [] = ap (kept (lane_of s) 0) here.1 in
     let others = fresh_lanes ls (λ k d less. all (suc k) d (omega arith)) in
-    λ i. first i ∷ others i
+    λ i. a_lane (lane_of s) (rows i) (none i) ∷ others i
+
+-- what is so of each seat's lane is so of all lanes
+each_lane : (P : Lane → Type 0) (ls : List LaneSeat) → ((i : ℕ) (v : LaneSeat) → slice_get ls i ≡ Some v → P (as_lane v)) → All P (map as_lane ls)
+each_lane P ls each k d less =
+    let p = get_back as_lane ls k (get_or (map as_lane ls) k d) (slice_get-get_or (map as_lane ls) k d less) in subst P p.2 (each k p.0 p.1)
 
 -- with what a lane polled, its list is its rows
 abbrev pub GivesRows : Hub → List LaneSeat → List (List Plain) → Type 0
@@ -44,10 +39,8 @@ GivesRows h lanes lists = (i : ℕ) (v : LaneSeat) → slice_get lanes i ≡ Som
 
 pub settled : (h : Hub) (ls : List LaneSeat) (lists : List (List Plain)) → GivesRows h ls lists → AreSettled (year_of h) (map as_lane ls) lists
 unfolding as_lane
-settled h ls lists gives k d less =
-    let P : Lane → Type 0 = λ lane. lane.polled ++ get_or lists lane.number [] ≡ deliveries lane.number (year_of h) lane.rows in
-    let p = get_back as_lane ls k (get_or (map as_lane ls) k d) (slice_get-get_or (map as_lane ls) k d less) in
-    subst P p.2 (gives k p.0 p.1)
+settled h ls lists gives =
+    each_lane (λ (lane : Lane). lane.polled ++ get_or lists lane.number [] ≡ deliveries lane.number (year_of h) lane.rows) ls gives
 
 -- what each lane polled is the first of what its rows are served
 abbrev pub PolledFirst : Hub → List LaneSeat → Type 0
@@ -56,21 +49,12 @@ PolledFirst h lanes = (i : ℕ) (v : LaneSeat) → slice_get lanes i ≡ Some v 
 
 pub polled_first : (h : Hub) (ls : List LaneSeat) → PolledFirst h ls → ArePolledFirst (year_of h) (map as_lane ls)
 unfolding as_lane
-polled_first h ls first k d less =
-    let P : Lane → Type 0 = λ lane. (rest : List Plain) × (lane.polled ++ rest ≡ deliveries lane.number (year_of h) lane.rows) in
-    let p = get_back as_lane ls k (get_or (map as_lane ls) k d) (slice_get-get_or (map as_lane ls) k d less) in
-    subst P p.2 (first k p.0 p.1)
+polled_first h ls first =
+    each_lane (λ (lane : Lane). (rest : List Plain) × (lane.polled ++ rest ≡ deliveries lane.number (year_of h) lane.rows)) ls first
 
 -- and by seat
-pub first_of : (h : Hub) (ls : List LaneSeat) → ArePolledFirst (year_of h) (map as_lane ls) → PolledFirst h ls
+pub first_of_seats : (h : Hub) (ls : List LaneSeat) → ArePolledFirst (year_of h) (map as_lane ls) → PolledFirst h ls
 unfolding as_lane
-first_of h ls first i v at =
+first_of_seats h ls first i v at =
     all_at (λ (lane : Lane). (rest : List Plain) × (lane.polled ++ rest ≡ deliveries lane.number (year_of h) lane.rows)) (map as_lane ls) i (as_lane v) first
     (get_map as_lane ls i v at)
-
-pub headline : (year : Terms) (lanes : List Lane) (lists : List (List Plain)) (i : ℕ) (lane : Lane) (answers : List Answer)
-    → AreSettled year lanes lists → slice_get lanes i ≡ Some lane → AreAnswersOf (lane.polled ++ get_or lists lane.number []) answers
-    → Reads lane.rows year answers
-headline year lanes lists i lane answers settled at all =
-    let is = all_at (λ (l : Lane). l.polled ++ get_or lists l.number [] ≡ deliveries l.number year l.rows) lanes i lane settled at in
-    rows_read lane.number 0 year lane.rows answers (subst (λ (xs : List Plain). AreAnswersOf xs answers) is all)

@@ -2,15 +2,15 @@
 use Rattle.std.proofs.Common.{◌≡◌, ◌≢◌, ⊎_elim, ℕ, ◌<◌, ◌≤◌, ◌+◌, ◌++◌, List, [], ◌∷◌, suc, IfSome, Option, Some, None, get_or, length, length-append, map, set, refl, sym, ap, ◌∙◌, append-nil, subst, arith}
 use Rattle.std.specs.List.{range_with_len}
 use Rattle.std.proofs.Math.Seq.{map-set_same}
-use Rattle.std.proofs.lemmas.Bool.{cases_eq, cases_lt}
+use Rattle.std.proofs.lemmas.Bool.{cases_eq}
 use Rattle.std.proofs.lemmas.Grind.{get_or-set_at}
-use Rattle.std.proofs.lemmas.List.{get_or-map, get_or-set_other, get_or_past, length-map, map-append, map-set}
+use Rattle.std.proofs.lemmas.List.{get_or-map, get_or-set_other, length-map, map-append}
 use Rattle.std.proofs.lemmas.List.Elements.{All-set}
 use Rattle.std.proofs.lemmas.List.FromFn.{get_or-range_with_len}
 use Rattle.lane_core.specs.Plain.{plain_of}
 use Rattle.lane_core.specs.Settling.{kept}
 use Rattle.lane_core.specs.declared.job.Plain.{Plain}
-use Rattle.hub_core.specs.Hubs.{IsLaneOf, shape_of}
+use Rattle.hub_core.specs.Hubs.{IsDelivererOf, IsLaneOf, shape_of}
 use Rattle.hub_core.specs.Lanes.{issued_count, lane_of, polled, polled_count, received, submitted, submitted_rows}
 use Rattle.hub_core.specs.inner.Traffics.{HavePolledAll, AreOwnSeats, given_to, polled_by_each, with_held}
 use Rattle.hub_core.specs.Traffics.{AreFirstOf, Gives, HasRoom, History, IsAllBrought, IsNextOf, Stays, with_more}
@@ -20,6 +20,7 @@ use Rattle.hub_core.specs.declared.deliverer_seat.DelivererSeat.{DelivererSeat}
 use Rattle.hub_core.specs.declared.lane_seat.LaneSeat.{LaneSeat}
 use Rattle.hub_core.specs.declared.worker_seat.WorkerSeat.{WorkerSeat}
 use Rattle.hub_core.proofs.LanesAreCounted.{lanes_counted}
+use Rattle.hub_core.proofs.ListsOfLists.{list_more_at}
 use Rattle.element_core.specs.Terms.{Terms}
 
 pub if_none : (o : Option (ℕ × List ℕ)) (P : (ℕ × List ℕ) → Type 0) → o ≡ None → IfSome o P
@@ -45,6 +46,18 @@ next_came C h seats d w held (Some r) start old new none was gives stays =
       came = more.1;
     }
 
+-- the thread serves on, with other seats of lanes
+pub serves_with : {T : Type 0} (C : History T) (h : Hub) (seats others : List LaneSeat) (d e : DelivererSeat) (w : Option WorkerSeat)
+    (held new : Option (ℕ × List ℕ)) (start was now : T)
+    → CameBySeats C h seats d w held start was → AreOwnSeats h others new → (IsDelivererOf h d → IsDelivererOf h e)
+    → C start now (given_to others new) (polled_by_each others) → CameBySeats C h others e w new start now
+serves_with C h seats others d e w held new start was now serves lanes of_hub came = record {
+  lanes = lanes;
+  deliverer = of_hub serves.deliverer;
+  own = serves.own;
+  came = came;
+}
+
 pub step_serves : (h : Hub) (seats : List LaneSeat) (held new : Option (ℕ × List ℕ)) (i : ℕ) (s t : LaneSeat)
     → s ≡ get_or seats i s → lane_of t ≡ lane_of s → IsLaneOf h t → AreOwnSeats h seats held
     → IfSome new (λ r. HasRoom r.0 (map submitted_rows (set seats i t))) → AreOwnSeats h (set seats i t) new
@@ -58,12 +71,6 @@ step_serves h seats held new i s t at lane is was room = record {
 step_same : {X : Type 0} (f : LaneSeat → X) (seats : List LaneSeat) (i : ℕ) (s t : LaneSeat) → s ≡ get_or seats i s → f t ≡ f s → map f (set seats i t)
     ≡ map f seats
 step_same f seats i s t at same = map-set_same f seats i t s (same ∙ ap f at)
-
-step_more : {X : Type 0} (f : LaneSeat → List X) (seats : List LaneSeat) (i : ℕ) (s t : LaneSeat) (x : X) → i < length seats → s ≡ get_or seats i s → f t ≡ f s
-    ++ x ∷ []
-    → map f (set seats i t) ≡ with_more i x (map f seats)
-step_more {X} f seats i s t x low at more =
-    map-set f seats i t ∙ ap (λ (v : List X). set (map f seats) i v) (more ∙ ap (λ (v : List X). v ++ x ∷ []) (ap f at ∙ sym (get_or-map f seats i s [] low)))
 
 rows_same : (s t : LaneSeat) → submitted t ≡ submitted s → submitted_rows t ≡ submitted_rows s
 rows_same s t same = ap (λ (xs : List Plain). map (λ (x : Plain). x.widths) xs) same
@@ -84,7 +91,7 @@ pub came_more : (C : List (List (List ℕ)) → List (List Plain) → Type 0) (s
 came_more C seats new i lane s t l n y row none is low at same more sees was =
     let rows : with_more lane row (map submitted_rows seats) ≡ given_to (set seats i t) new =
     ap (λ k. with_more k row (map submitted_rows seats)) (sym is)
-    ∙ (sym (step_more submitted_rows seats i s t row low at (rows_more s t l n y row more))
+    ∙ (sym (list_more_at submitted_rows seats i s t row at low (rows_more s t l n y row more))
     ∙ ap (λ o. with_held o (map submitted_rows (set seats i t))) (sym none)) in
     let polls : map polled seats ≡ polled_by_each (set seats i t) = sym (step_same polled seats i s t at (polled_same s t same sees)) in
     subst (λ v. C v (polled_by_each (set seats i t))) rows (subst (λ v. C (with_more lane row (map submitted_rows seats)) v) polls was)
@@ -114,7 +121,7 @@ pub came_brought : (C : List (List (List ℕ)) → List (List Plain) → Type 0)
 came_brought C seats held i lane s t x is low at same more was =
     let rows : given_to seats held ≡ given_to (set seats i t) held = ap (with_held held) (sym (step_same submitted_rows seats i s t at (rows_same s t same))) in
     let polls : with_more lane x (polled_by_each seats) ≡ polled_by_each (set seats i t) =
-    ap (λ k. with_more k x (polled_by_each seats)) (sym is) ∙ sym (step_more polled seats i s t x low at more) in
+    ap (λ k. with_more k x (polled_by_each seats)) (sym is) ∙ sym (list_more_at polled seats i s t x at low more) in
     subst (λ v. C v (polled_by_each (set seats i t))) rows (subst (λ v. C (given_to seats held) v) polls was)
 
 -- a row has room still where the lanes have the same rows
@@ -136,23 +143,24 @@ lane_at h seats held i s was low at =
     let same : get_or (map lane_of seats) i 0 ≡ get_or (range_with_len 0 (shape_of h).lanes) i 0 = ap (λ (ns : List ℕ). get_or ns i 0) was.numbers in
     omega (arith, number, there, same)
 
--- what was polled is the next that its lane is owed
-given_more : (seats : List LaneSeat) (held : Option (ℕ × List ℕ)) (i : ℕ)
-    → length (get_or (map submitted_rows seats) i []) ≤ length (get_or (given_to seats held) i [])
-given_more seats None i = omega (arith)
-given_more seats (Some r) i =
+-- the rows that a seat's lane was given: those submitted, and maybe the one in hand
+rows_at : (seats : List LaneSeat) (i : ℕ) (s : LaneSeat) → i < length seats → s ≡ get_or seats i s → get_or (map submitted_rows seats) i [] ≡ submitted_rows s
+rows_at seats i s low at = get_or-map submitted_rows seats i s [] low ∙ ap submitted_rows (sym at)
+
+pub given_at : (seats : List LaneSeat) (held : Option (ℕ × List ℕ)) (i : ℕ) (s : LaneSeat) → i < length seats → s ≡ get_or seats i s → (more : List (List ℕ))
+    × (get_or (given_to seats held) i [] ≡ submitted_rows s ++ more)
+given_at seats None i s low at = ([], rows_at seats i s low at ∙ sym (append-nil (submitted_rows s)))
+given_at seats (Some r) i s low at =
     let lists = map submitted_rows seats in
     let v = get_or lists r.0 [] ++ r.1 ∷ [] in
     ⊎_elim
-    (λ (e : i ≡ r.0). ⊎_elim
-    (λ (low : r.0 < length lists).
-    let here : get_or (set lists r.0 v) i [] ≡ v = get_or-set_at lists r.0 i v [] e low in
-    omega (arith, ap length here, length-append (get_or lists r.0 []) (r.1 ∷ []), ap (λ k. length (get_or lists k [])) e))
-    (λ (past : length lists ≤ r.0). omega (arith, ap length (get_or_past lists i [] (omega (arith, past, e)))))
-    (cases_lt r.0 (length lists)))
-    (λ (e : i ≢ r.0). omega (arith, ap length (get_or-set_other lists r.0 i v [] e)))
+    (λ (e : i ≡ r.0).
+    let here : get_or lists r.0 [] ≡ submitted_rows s = ap (λ k. get_or lists k []) (sym e) ∙ rows_at seats i s low at in
+    (r.1 ∷ [], get_or-set_at lists r.0 i v [] e (omega (arith, low, e, length-map seats submitted_rows)) ∙ ap (λ (w : List (List ℕ)). w ++ r.1 ∷ []) here))
+    (λ (e : i ≢ r.0). ([], get_or-set_other lists r.0 i v [] e ∙ (rows_at seats i s low at ∙ sym (append-nil (submitted_rows s)))))
     (cases_eq i r.0)
 
+-- what was polled is the next that its lane is owed
 pub next_of : (h : Hub) (seats : List LaneSeat) (held : Option (ℕ × List ℕ)) (i : ℕ) (s t : LaneSeat) (x : Plain)
     → AreOwnSeats h seats held → i < length seats → s ≡ get_or seats i s → submitted t ≡ submitted s
     → x.lane ≡ lane_of s → x.number ≡ polled_count s → polled t ≡ polled s ++ x ∷ [] → polled_count t ≤ issued_count t
@@ -160,16 +168,16 @@ pub next_of : (h : Hub) (seats : List LaneSeat) (held : Option (ℕ × List ℕ)
 next_of h seats held i s t x was low at same lane number more room =
     let is : i ≡ x.lane = lane_at h seats held i s was low at ∙ sym lane in
     let mine : get_or (polled_by_each seats) i [] ≡ polled s = get_or-map polled seats i s [] low ∙ ap polled (sym at) in
-    let rows : get_or (map submitted_rows seats) i [] ≡ submitted_rows s = get_or-map submitted_rows seats i s [] low ∙ ap submitted_rows (sym at) in
     let there : length (get_or (polled_by_each seats) x.lane []) ≡ polled_count s =
     ap (λ k. length (get_or (polled_by_each seats) k [])) (sym is) ∙ ap length mine in
-    let count : length (get_or (map submitted_rows seats) i []) ≡ issued_count s = ap length rows ∙ length-map (submitted s) (λ (x : Plain). x.widths) in
-    let longer = given_more seats held i in
+    let given = given_at seats held i s low at in
+    let longer : length (get_or (given_to seats held) i []) ≡ issued_count s + length given.0 =
+    ap length given.1 ∙ omega (arith, length-append (submitted_rows s) given.0, length-map (submitted s) (λ (x : Plain). x.widths)) in
     let moved : length (get_or (given_to seats held) x.lane []) ≡ length (get_or (given_to seats held) i []) =
     ap (λ k. length (get_or (given_to seats held) k [])) (sym is) in
     record {
       lane = omega (arith, low, is, length-map seats polled);
-      owed = omega (arith, there, count, longer, moved, room, ap length more, length-append (polled s) (x ∷ []), ap length same);
+      owed = omega (arith, there, longer, moved, room, ap length more, length-append (polled s) (x ∷ []), ap length same);
       number = number ∙ sym there;
     }
 
@@ -197,13 +205,11 @@ first_more lists k x low i = ⊎_elim
     (λ (e : i ≢ k). ([], append-nil (get_or lists i []) ∙ sym (get_or-set_other lists k i (get_or lists k [] ++ x ∷ []) [] e)))
     (cases_eq i k)
 
-pub polled_more : (seats : List LaneSeat) (i : ℕ) (s t : LaneSeat) (x : Plain) → i < length seats → s ≡ get_or seats i s → polled t ≡ polled s ++ x ∷ []
+pub first_polled_more : (seats : List LaneSeat) (i : ℕ) (s t : LaneSeat) (x : Plain) → i < length seats → s ≡ get_or seats i s → polled t ≡ polled s ++ x ∷ []
     → AreFirstOf (polled_by_each seats) (polled_by_each (set seats i t))
-polled_more seats i s t x low at more = subst (λ v. AreFirstOf (polled_by_each seats) v) (sym (step_more polled seats i s t x low at more))
+first_polled_more seats i s t x low at more = subst (λ v. AreFirstOf (polled_by_each seats) v) (sym (list_more_at polled seats i s t x at low more))
     (first_more (polled_by_each seats) i x (omega (arith, low, length-map seats polled)))
 
 pub rows_same_given : (seats : List LaneSeat) (held : Option (ℕ × List ℕ)) (i : ℕ) (s t : LaneSeat) → s ≡ get_or seats i s → submitted t ≡ submitted s
     → given_to seats held ≡ given_to (set seats i t) held
 rows_same_given seats held i s t at same = ap (with_held held) (sym (step_same submitted_rows seats i s t at (rows_same s t same)))
-
--- ---- the calling thread's steps one after another

@@ -1,12 +1,10 @@
 -- What each lane has polled is the first of what its rows are served, and all of it once all has come back: for `serve_traffic`.
-use Rattle.std.proofs.Common.{◌≡◌, ◌≢◌, ⊎_elim, ℕ, ◌<◌, ◌≤◌, ◌+◌, ◌++◌, List, [], ◌∷◌, zero, suc, All, Option, Some, None, drop, get_or, length, map, refl, sym, ap, ◌∙◌, append-nil, append_assoc, arith}
+use Rattle.std.proofs.Common.{◌≡◌, ⊎_elim, ℕ, ◌<◌, ◌≤◌, ◌+◌, ◌++◌, List, [], ◌∷◌, zero, suc, All, Option, Some, None, drop, get_or, length, map, refl, sym, ap, ◌∙◌, append_assoc, arith}
 use Rattle.std.specs.List.{range_with_len, slice_get}
-use Rattle.std.proofs.lemmas.Bool.{cases_eq, cases_lt}
-use Rattle.std.proofs.lemmas.Grind.{get_or-set_at}
-use Rattle.std.proofs.lemmas.List.{get_or-map, get_or-set_other, get_or_past, length-map}
+use Rattle.std.proofs.lemmas.Bool.{cases_lt}
+use Rattle.std.proofs.lemmas.List.{get_or-map, get_or_past, length-map}
 use Rattle.std.proofs.lemmas.List.Elements.{All-tail}
 use Rattle.std.proofs.lemmas.Option.{get_or_from_slice_get}
-use Rattle.lane_core.specs.Plain.{plain_of}
 use Rattle.lane_core.specs.declared.job.Plain.{Plain}
 use Rattle.hub_core.specs.Hubs.{shape_of, year_of}
 use Rattle.hub_core.specs.Lanes.{issued_count, lane_of, polled, polled_count, submitted, submitted_rows}
@@ -16,13 +14,13 @@ use Rattle.hub_core.specs.inner.Traffics.{HavePolledAll, AreOwnSeats, given_to, 
 use Rattle.hub_core.specs.Traffics.{AreFirstOf, AreServedFirst}
 use Rattle.hub_core.specs.declared.hub.Hub.{Hub}
 use Rattle.hub_core.specs.declared.lane_seat.LaneSeat.{LaneSeat}
-use Rattle.hub_core.proofs.ListsInOrder.{rows_long, feed_at}
+use Rattle.hub_core.proofs.RowsAreNumbered.{feed_at, rows_append, rows_long}
 use Rattle.element_core.specs.Terms.{Terms}
 use Rattle.hub_core.proofs.ListFacts.{is_there, front_is_all}
-use Rattle.hub_core.proofs.SeatsServeTraffic.{lane_at}
+use Rattle.hub_core.proofs.SeatsServeTraffic.{given_at, lane_at}
 
 -- each lane's polled list, from a lane on, where all was polled
-pub done_from : (m : ℕ) (year : Terms) (seats : List LaneSeat) (n : ℕ)
+done_from : (m : ℕ) (year : Terms) (seats : List LaneSeat) (n : ℕ)
     → map lane_of seats ≡ range_with_len m n
     → ((i : ℕ) (s : LaneSeat) → slice_get seats i ≡ Some s → (rest : List Plain) × (polled s ++ rest ≡ numbered_rows (lane_of s) 0 year (submitted_rows s)))
     → All (λ s. polled_count s ≡ issued_count s) seats
@@ -44,28 +42,7 @@ pub all_served : (h : Hub) (seats : List LaneSeat) → AreOwnSeats h seats None 
     ≡ served (year_of h) (given_to seats None)
 all_served h seats was first even = done_from 0 (year_of h) seats (shape_of h).lanes was.numbers first even
 
-pub numbered_append : (l k : ℕ) (y : Terms) (xs ys : List (List ℕ)) → numbered_rows l k y (xs ++ ys) ≡ numbered_rows l k y xs ++ numbered_rows l (k + length xs) y ys
-numbered_append l k y [] ys = ap (λ n. numbered_rows l n y ys) (omega arith)
-numbered_append l k y (x ∷ xs) ys = ap (λ v. plain_of l k y x ∷ v)
-    (numbered_append l (k + 1) y xs ys ∙ ap (λ n. numbered_rows l (k + 1) y xs ++ numbered_rows l n y ys) (omega arith))
-
-pub rows_at : (seats : List LaneSeat) (i : ℕ) (s : LaneSeat) → i < length seats → s ≡ get_or seats i s → get_or (map submitted_rows seats) i [] ≡ submitted_rows s
-rows_at seats i s low at = get_or-map submitted_rows seats i s [] low ∙ ap submitted_rows (sym at)
-
-pub given_at : (seats : List LaneSeat) (held : Option (ℕ × List ℕ)) (i : ℕ) (s : LaneSeat) → i < length seats → s ≡ get_or seats i s → (more : List (List ℕ))
-    × (get_or (given_to seats held) i [] ≡ submitted_rows s ++ more)
-given_at seats None i s low at = ([], rows_at seats i s low at ∙ sym (append-nil (submitted_rows s)))
-given_at seats (Some r) i s low at =
-    let lists = map submitted_rows seats in
-    let v = get_or lists r.0 [] ++ r.1 ∷ [] in
-    ⊎_elim
-    (λ (e : i ≡ r.0).
-    let here : get_or lists r.0 [] ≡ submitted_rows s = ap (λ k. get_or lists k []) (sym e) ∙ rows_at seats i s low at in
-    (r.1 ∷ [], get_or-set_at lists r.0 i v [] e (omega (arith, low, e, length-map seats submitted_rows)) ∙ ap (λ (w : List (List ℕ)). w ++ r.1 ∷ []) here))
-    (λ (e : i ≢ r.0). ([], get_or-set_other lists r.0 i v [] e ∙ (rows_at seats i s low at ∙ sym (append-nil (submitted_rows s)))))
-    (cases_eq i r.0)
-
-pub first_at : (h : Hub) (seats : List LaneSeat) (held : Option (ℕ × List ℕ)) (i : ℕ) → AreOwnSeats h seats held → PolledFirst h seats → i < length seats
+first_at : (h : Hub) (seats : List LaneSeat) (held : Option (ℕ × List ℕ)) (i : ℕ) → AreOwnSeats h seats held → PolledFirst h seats → i < length seats
     → (rest : List Plain) × (get_or (polled_by_each seats) i [] ++ rest ≡ get_or (served (year_of h) (given_to seats held)) i [])
 first_at h seats held i was first low =
     let y = year_of h in
@@ -79,7 +56,7 @@ first_at h seats held i was first low =
     let extra = numbered_rows i (0 + length (submitted_rows s)) y given.0 in
     let mine : get_or (polled_by_each seats) i [] ≡ polled s = get_or-map polled seats i s [] low ∙ ap polled (sym at) in
     let serves : get_or (served y (given_to seats held)) i [] ≡ numbered_rows i 0 y (submitted_rows s) ++ extra =
-    feed_at 0 i i y (given_to seats held) (omega arith) ∙ (ap (numbered_rows i 0 y) given.1 ∙ numbered_append i 0 y (submitted_rows s) given.0) in (
+    feed_at 0 i i y (given_to seats held) (omega arith) ∙ (ap (numbered_rows i 0 y) given.1 ∙ rows_append i 0 y (submitted_rows s) given.0) in (
       list ++ extra,
       ap (λ (v : List Plain). v ++ (list ++ extra)) mine ∙ (sym (append_assoc (polled s) list extra) ∙ (ap (λ (v : List Plain). v ++ extra) owed
           ∙ (ap (λ l. numbered_rows l 0 y (submitted_rows s) ++ extra) lane ∙ sym serves))),

@@ -1,27 +1,16 @@
 -- The calling thread's steps, one after another: for `CallingThread`.
 use Rattle.std.proofs.Common.{◌≡◌, option_to_list, length, sym, ap, ◌∙◌, subst}
-use Rattle.std.specs.Prelude.{Bool, Err, IsErr, Ok, Result}
+use Rattle.std.specs.Prelude.{Err, IsErr, Ok, Result}
 use Rattle.lane_core.proofs.ResultFacts.{not_done}
-use Rattle.lane_core.specs.Settling.{kept}
 use Rattle.hub_core.specs.Hubs.{shape_of}
 use Rattle.hub_core.specs.inner.Traffics.{AreOwnSeats}
-use Rattle.hub_core.specs.Traffics.{History, IfLost, IsKept}
-use Rattle.hub_core.specs.inner.CallingThread.{AreLeftLost, GoesOn, HasLost, EndsServing, IsAtEnd, KeepsSeats, TakesStep, WasLost, IsServing}
+use Rattle.hub_core.specs.Traffics.{History, IfLost}
+use Rattle.hub_core.specs.inner.CallingThread.{AreLeftLost, GoesOn, HasLost, TakesStep, WasLost, IsServing}
 use Rattle.hub_core.specs.declared.calling_thread.CallingThread.{CallingThread}
 use Rattle.hub_core.specs.declared.ended.Ended.{Ended}
 use Rattle.hub_core.specs.declared.ended.Ended.TheVariants.{BringFailed, Done, NoMemory, WaitFailed}
 use Rattle.hub_core.specs.declared.hub.Hub.{Hub}
 use Rattle.hub_core.proofs.SeatsServeTraffic.{seats_counted}
-
-pub keeps_seats : {T : Type 0} (Came : History T) (s t : CallingThread T) → GoesOn Came s t → KeepsSeats s t
-keeps_seats Came s t goes = record {
-  hub = goes.hub;
-  start = goes.start;
-  seats = goes.seats;
-  lanes = goes.serves.lanes;
-  deliverer = goes.serves.deliverer;
-  own = goes.serves.own;
-}
 
 pub goes_since : {T : Type 0} (Came : History T) (s t u : CallingThread T) → GoesOn Came s t → GoesOn Came t u → GoesOn Came s u
 goes_since Came s t u first then = record {
@@ -36,14 +25,6 @@ pub lost_step : {T X B : Type 0} (Came : History T) (Leaves : T → T → Type 0
     → TakesStep Came Leaves s r t
 lost_step Came Leaves s t (Ok x) refused lost = not_done (sym refused)
 lost_step Came Leaves s t (Err e) refused lost = lost
-
--- how a thread has run that has lost nothing
-pub ran_on : {T W B : Type 0} (Came : History T) (Leaves : T → T → Type 0) (has_ended : T → Bool) (s t : CallingThread T) (e : Ended W B) → IsKept e
-    → GoesOn Came s t → (e ≡ Done → IsAtEnd has_ended t) → EndsServing Came Leaves has_ended s t e
-ran_on Came Leaves has_ended s t (BringFailed fault) kept goes ended = absurd kept
-ran_on Came Leaves has_ended s t Done kept goes ended = record { seats = keeps_seats Came s t goes; serves = λ _. goes; lost = tt; done = ended }
-ran_on Came Leaves has_ended s t NoMemory kept goes ended = record { seats = keeps_seats Came s t goes; serves = λ _. goes; lost = tt; done = ended }
-ran_on Came Leaves has_ended s t (WaitFailed fault) kept goes ended = record { seats = keeps_seats Came s t goes; serves = λ _. goes; lost = tt; done = ended }
 
 -- whatever is lost later was lost since an earlier step of the same thread
 pub lost_since : {T : Type 0} (Came : History T) (Leaves : T → T → Type 0) (s t u : CallingThread T) → t.hub.now ≡ s.hub.now → t.start.value ≡ s.start.value

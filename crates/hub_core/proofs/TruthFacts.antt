@@ -1,16 +1,8 @@
 -- Truth values, and what a count of ones says of them.
-use Rattle.std.proofs.Common.{◌≡◌, ℕ, ◌+◌, ◌&&◌, ◌||◌, not, nat_lt, Bool, true, false, refl, sym, ap, ◌∙◌, arith, Option, Some, None, ◌≤◌}
+use Rattle.std.proofs.Common.{◌≡◌, ℕ, ◌+◌, ◌&&◌, ◌||◌, not, Bool, true, false, refl, sym, ap, ◌∙◌, arith, Option, Some, None, ◌≤◌}
 use Rattle.lane_core.specs.Weights.{once}
 use Rattle.std.specs.Option.{is_some, is_none}
-use Rattle.std.proofs.lemmas.Bool.Decides.{nat_tests}
-
-pub or_with_false : (b : Bool) → (b || false) ≡ b
-or_with_false true = refl
-or_with_false false = refl
-
-pub and_with_true : (b : Bool) → (b && true) ≡ b
-and_with_true true = refl
-and_with_true false = refl
+use Rattle.std.proofs.lemmas.Bool.{and_parts, not-true}
 
 pub once_or : (a t : Bool) → (t ≡ true → a ≡ false) → once (a || t) ≡ once a + once t
 once_or true true f = absurd (cc (f refl))
@@ -19,9 +11,7 @@ once_or false true f = refl
 once_or false false f = refl
 
 pub not_taken : (a b : Bool) → (a && not b) ≡ true → b ≡ false
-not_taken true false e = refl
-not_taken true true e = absurd (cc)
-not_taken false b e = absurd (cc)
+not_taken a b e = not-true b (and_parts a (not b) e).1
 
 pub some_if_not_none : {X : Type 0} (o : Option X) → is_none o ≡ false → is_some o ≡ true
 some_if_not_none None none = absurd (cc)
@@ -38,9 +28,6 @@ there_by true true a e f = absurd (let g = f refl in cc)
 there_by true false a e f = ap (λ b. b && true) (sym e)
 there_by false true a e f = ap (λ b. b && false) (sym e)
 there_by false false a e f = ap (λ b. b && true) (sym e)
-
-pub not_less_than : (m n : ℕ) → n ≤ m → not (nat_lt m n) ≡ true
-not_less_than m n h = grind (arith, nat_tests)
 
 pub last_of : (a b c : Bool) → a ≡ true → b ≡ true → (a && (b && c)) ≡ c
 last_of a b c e f = ap (λ t. t && (b && c)) e ∙ ap (λ t. t && c) f

@@ -19,6 +19,7 @@ collected s = popped_by s.collects
 abbrev pub in_hand : DelivererSeat → Option Plain
 in_hand s = s.held
 
+-- the same as a list
 abbrev pub hand_of : DelivererSeat → List Plain
 hand_of s = option_to_list s.held
 
@@ -49,7 +50,7 @@ next_is_there s l = is_among l (length (handed s l)) (collected s) && not (is_am
 abbrev pub SameHanded : DelivererSeat → DelivererSeat → Type 0
 SameHanded s t = (l : ℕ) → handed t l ≡ handed s l
 
--- x is what was in the hand, or else one more delivery
+-- x is what was in the hand, or else one more delivery: as `TakesJob` of a worker's seat
 abbrev pub TakesDelivery : DelivererSeat → Plain → DelivererSeat → Type 0
 TakesDelivery s x t = MatchOption (in_hand s) (collected t ≡ collected s ++ x ∷ []) (λ d. (d ≡ x) × (collected t ≡ collected s))
 

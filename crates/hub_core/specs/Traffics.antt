@@ -1,4 +1,4 @@
--- What a traffic gives and is brought, and the seats of a hub that serves it.
+-- What a traffic gives and is brought, what led to a state of it, and how it was served.
 use Rattle.std.specs.Prelude.{◌≡◌, ◌<◌, ◌++◌, ℕ, Bool, true, List, [], ◌∷◌, length, map, slice_set, slice_index_or, ⊤}
 use Rattle.lane_core.specs.declared.job.Plain.{Plain}
 use Rattle.hub_core.specs.Serving.{served}

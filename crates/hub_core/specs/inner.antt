@@ -6,7 +6,8 @@ pub mod DrainedLists
 pub mod Draining
 pub mod Feeds
 pub mod Fresh
+pub mod Room
 pub mod Rule
-pub mod Serving
+pub mod Sums
 pub mod Traffics
 pub mod Workers

@@ -15,8 +15,9 @@ use std::mem;
 use std::snapshot::Snapshot;
 use std::sync::Wait;
 
-/// How many rows are submitted before deliveries are collected, and the other way round.
-const IN_A_TURN: u32 = 16;
+/// How many rows are submitted before deliveries are collected, and the other way round. No claim rests on this number
+/// or the next: `bench/serve` shows what they cost.
+const IN_A_TURN: u32 = 32;
 
 /// How many deliveries are collected if the calling thread has slept: all that were posted meanwhile.
 const AFTER_A_SLEEP: u32 = 64;
@@ -166,9 +167,6 @@ impl<'a, T: Traffic> CallingThread<'a, T> {
             return Ok(Turn::NoMemory);
         }
         self.pace.signals.places.notify_all();
-        if has_slept && self.has_many_under_way() {
-            self.pace.signals.jobs.notify_one(1);
-        }
         let are_more = self.submit_some(rt);
         let is_idle = collected == CollectedByLane::Nothing && !are_more;
         let has_posted = self.read_row(rt, is_idle);
@@ -179,7 +177,8 @@ impl<'a, T: Traffic> CallingThread<'a, T> {
         if self.has_all_back() {
             return Ok(Turn::AllBack);
         }
-        self.pace.wait(rt, seen);
+        let are_many = self.has_many_under_way();
+        self.pace.wait(rt, seen, are_many);
         Ok(Turn::GoesOn)
     }
 

@@ -1,4 +1,4 @@
-//! What becomes of a delivery that is collected.
+//! What `Hub::collect_by_lane` answers: `Collected`, with the lane.
 
 /// What became of a delivery to be collected, and of which lane it is.
 #[derive(Clone, Copy, PartialEq)]

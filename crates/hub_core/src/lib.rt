@@ -1,4 +1,6 @@
 //! The scanning hub: lanes' rows are answered by workers beside each other.
+//!
+//! `tests/using/items.txt` lists what is exported here, and `tests/using/run` compares.
 #![tactic(auto)]
 
 mod calling_thread;

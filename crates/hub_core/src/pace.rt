@@ -4,7 +4,10 @@ use crate::signals::Signals;
 use std::sync::Wait;
 
 /// This many rows are queued before a worker is woken for them, while there are more and there is room.
-const WAKE_FOR: u32 = 32;
+const WAKE_FOR: u32 = 48;
+
+/// How often the calling thread looks for a delivery before it wakes one more worker, if many rows are under way.
+const FIRST_LOOKS: u32 = 500;
 
 /// How often the calling thread looks for a delivery before it sleeps, for some microseconds. It is worth more
 /// looks than a worker's: while it sleeps no row is submitted.
@@ -19,7 +22,7 @@ pub(crate) const REST: u64 = 1_000_000;
 /// How many deliveries a worker posts before it tells the calling thread of them.
 pub(crate) const NOTIFIED_TOGETHER: u32 = 16;
 
-/// If more rows than these are under way after the calling thread has slept, there is work for one more worker.
+/// If more rows than these are under way while the calling thread waits, there is work for one more worker.
 pub(crate) const ROWS_A_WORKER: u32 = 16;
 
 /// How many microseconds the calling thread waits for a delivery before it wakes a further worker, and
@@ -28,7 +31,7 @@ const PATIENCE: u64 = 1_000;
 
 /// What the calling thread remembers of what it told the workers and of its waits.
 ///
-/// One worker is woken if all sleep, and one more if the calling thread had to sleep and many rows are
+/// One worker is woken if all sleep, and one more if the calling thread has to wait and many rows are
 /// under way. If no delivery comes for a while, the workers that are awake may all be held by their gate: one
 /// that sleeps is woken, and from then on one if all but this many sleep, until all are seen to sleep.
 #[derive(Clone, Copy)]
@@ -72,8 +75,11 @@ impl<'a> Pace<'a> {
         }
     }
 
-    /// Waits for a delivery, if this many signals of one were seen.
-    pub(crate) fn wait<R: Wait>(&mut self, rt: &R, seen: u64) {
+    /// Waits for a delivery, if this many signals of one were seen. Many rows may be under way.
+    pub(crate) fn wait<R: Wait>(&mut self, rt: &R, seen: u64, are_many: bool) {
+        if are_many && !self.signals.deliveries.is_given(seen, FIRST_LOOKS) {
+            self.signals.jobs.notify_one(1);
+        }
         self.has_slept = self.signals.deliveries.wait(rt, seen, LOOKS, self.nap);
         if self.signals.deliveries.given() != seen {
             self.nap = PATIENCE;

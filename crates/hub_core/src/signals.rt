@@ -1,4 +1,6 @@
-//! How a thread that finds nothing to do sleeps, and how another wakes it. No claim rests on it.
+//! How a thread that finds nothing to do sleeps, and how another wakes it: for `pace.rt` and `worker_threads.rt`.
+//!
+//! No claim rests on it, so no proof notices a lost wake. It costs a second, which `bench/serve` shows.
 
 use std::hint;
 use std::sync::Wait;
@@ -32,14 +34,22 @@ impl Signal {
         self.given.load(Ordering::SeqCst)
     }
 
+    /// Whether it is given once more while a thread looks this many times.
+    pub(crate) fn is_given(&self, seen: u64, looks: u32) -> bool {
+        for _ in 0..looks {
+            if self.given() != seen {
+                return true;
+            }
+            hint::spin_loop();
+        }
+        false
+    }
+
     /// Waits while it was given so often: it looks this many times, and then sleeps for this many microseconds
     /// at most. Whether it slept.
     pub(crate) fn wait<R: Wait>(&self, rt: &R, seen: u64, looks: u32, nap: u64) -> bool {
-        for _ in 0..looks {
-            if self.given() != seen {
-                return false;
-            }
-            hint::spin_loop();
+        if self.is_given(seen, looks) {
+            return false;
         }
         self.sleepers.fetch_add(1, Ordering::SeqCst);
         self.given

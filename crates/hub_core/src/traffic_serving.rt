@@ -10,7 +10,7 @@ ghost use Rattle.hub_core.specs.Traffics.{IfLost, IsKept, IsServed, IsServedUpTo
 ghost use Rattle.hub_core.specs.inner.CallingThread.{AreSeats, AreWorkers, CameBySeats, HasLeft, HaveServed};
 ghost use Rattle.hub_core.specs.inner.Fresh.{shape_for};
 ghost use Rattle.hub_core.specs.inner.Traffics.{given_to, polled_by_each};
-ghost use Rattle.hub_core.specs.inner.Workers.{IsRoomFor};
+ghost use Rattle.hub_core.specs.inner.Room.{IsRoomFor};
 
 use crate::calling_thread::CallingThread;
 use crate::closed_lane::ClosedLane;
@@ -93,7 +93,7 @@ fn put_back(hub: &Hub, workers: &mut Vec<WorkerSeat>, own: Option<WorkerSeat>)
     }
 }
 
-/// The seats of a hub, of which the calling thread may have a worker's.
+/// The seats of a hub, of which the calling thread may have a worker's: `Parts` without the hub.
 #[derive(Drop)]
 pub(crate) struct Seats {
     pub(crate) lanes: Vec<LaneSeat>,
@@ -102,7 +102,7 @@ pub(crate) struct Seats {
     pub(crate) own: Option<WorkerSeat>,
 }
 
-/// What the calling thread leaves.
+/// What the calling thread leaves: the `Seats` that it had, and the traffic.
 #[derive(Drop)]
 struct Left<T> {
     lanes: Vec<LaneSeat>,

@@ -1,4 +1,4 @@
-//! A hub that was not settled.
+//! A hub that was not settled: its `Parts`, with closed lanes.
 
 use crate::closed_lane::ClosedLane;
 use crate::deliverer_seat::DelivererSeat;

@@ -3,7 +3,7 @@ ghost use Rattle.std.specs.Prelude.{◌≡◌, ◌≤◌, All, MatchResult, true
 ghost use Rattle.hub_core.specs.Faults.{GivesBack};
 ghost use Rattle.hub_core.specs.Hubs.{IsWorkerOf};
 ghost use Rattle.hub_core.specs.Workers.{AreBack};
-ghost use Rattle.hub_core.specs.inner.Workers.{IsRoomFor};
+ghost use Rattle.hub_core.specs.inner.Room.{IsRoomFor};
 
 use crate::fault::{NotBegun, ServeFault};
 use crate::gate::Gate;

@@ -1,17 +1,12 @@
 -- What a deliverer has of what was collected: given to a lane, waiting, or in hand.
-use Rattle.std.specs.Prelude.{◌≡◌, ◌+◌, ◌||◌, ℕ, true, List, ◌&&◌, suc, Bool, nat_lt, [], ◌∷◌, length, slice_index_or}
+use Rattle.std.specs.Prelude.{◌≡◌, ◌+◌, ◌||◌, ℕ, true, List, nat_lt, [], length, slice_index_or}
 use Rattle.std.specs.List.{list_all, sum_by, count_by}
 use Rattle.lane_core.specs.declared.job.Plain.{Plain}
 use Rattle.lane_core.specs.ReorderBuffer.{ReorderBuffer, is_new, lanes_of, was_taken, next_of}
 use Rattle.lane_core.specs.Settling.{sifted}
 use Rattle.lane_core.specs.Tickets.{is_among, is_ticket_of, numbered}
-use Rattle.hub_core.specs.inner.Serving.{sum_all}
+use Rattle.hub_core.specs.inner.Sums.{sum_all}
 use Rattle.lane_core.specs.Weights.{once}
-
--- whether each list has its lane's numbers 0, 1, 2, .., the lanes being those from one on
-abbrev pub are_in_order : ℕ → List (List Plain) → Bool
-are_in_order lane [] = true
-are_in_order lane (xs ∷ lists) = numbered lane 0 xs && are_in_order (suc lane) lists
 
 -- each lane was given its numbers 0, 1, 2, .. up to its next, and what was taken in was given or waits, once
 pub record GivenInOrder (d : ReorderBuffer) (given : List (List Plain)) : Type 0 where

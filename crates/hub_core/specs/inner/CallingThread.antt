@@ -1,4 +1,4 @@
--- What stays true of the calling thread in each of its steps.
+-- What stays true of the calling thread in each of its steps, and of the seats that it begins with and leaves: for `calling_thread.rt` and `traffic_serving.rt`.
 use Rattle.std.specs.Prelude.{◌≡◌, ◌≤◌, ◌+◌, ℕ, All, Bool, true, List, Err, IfSome, None, Ok, Option, Result, length, option_to_list, vec_capacity, vec_len}
 use Rattle.std.specs.declared.vec.Vec.{Vec}
 use Rattle.std.proofs.Common.{Global}

@@ -1,17 +1,18 @@
 -- How a queue's passes are cut and joined, and what the pass with all shares learns: for `rule.rt`, `parts.rt` and `drain.rt`.
 use Rattle.std.specs.Prelude.{◌≡◌, ◌+◌, ◌-◌, ◌<◌, ◌++◌, ℕ, List, Option, length}
-use Rattle.std.specs.List.{flat_map, sum_by}
+use Rattle.std.specs.List.{flat_map}
 use Rattle.crossbeam_queue.specs.Passes.{IsPassOf, Pass, view}
 use Rattle.crossbeam_queue.specs.declared.array_queue.Doing.{Doing}
 use Rattle.crossbeam_queue.specs.declared.array_queue.Slotted.{Slotted}
+use Rattle.lane_core.specs.Weights.{OneForOne}
 use Rattle.lane_core.specs.declared.job.Plain.{Plain}
 use Rattle.hub_core.specs.Passes.{shares_of}
 use Rattle.hub_core.specs.Rule.{trace}
 use Rattle.hub_core.specs.declared.rule.Trace.{Trace}
 
--- what the pass with all shares learns of its queue
-abbrev pub IsAccounted : Trace → List Plain → Type 0
-IsAccounted v items = (h : Plain → ℕ) → sum_by h v.pushed ≡ sum_by h v.popped + sum_by h items
+-- what the pass with all shares learns of its queue: what was pushed is, each as often, what was popped and what the queue holds
+abbrev pub KnowsQueue : Trace → List Plain → Type 0
+KnowsQueue v items = OneForOne v.pushed v.popped items
 
 -- a pass of this queue that has more than n shares
 abbrev pub HasShares : {T Q A : Type 0} → Slotted (Option T) (Doing T Trace) Q A → ℕ → Pass T Trace → Type 0

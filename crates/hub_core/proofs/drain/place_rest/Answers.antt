@@ -1,3 +1,4 @@
+-- One delivery after another comes out of the ring, until none is left.
 use Rattle.hub_core.proofs.EachIsDrained.{rest_more, rest_all}
 use Rattle.hub_core.proofs.drain.place_rest.Goals as goal
 

@@ -1,5 +1,5 @@
 -- Each lane's pass is joined, and the rest of its ring placed.
-use Rattle.std.proofs.Common.{rules, List, ◌≡◌, ◌<◌, [], ◌∷◌, ◌++◌, length, refl, sym, ap, ◌∙◌, arith, subst, append_assoc}
+use Rattle.std.proofs.Common.{rules, List, ◌≡◌, ◌<◌, [], ◌∷◌, ◌++◌, length, length-append, refl, sym, ap, ◌∙◌, arith, subst, append_assoc}
 use Rattle.std.proofs.lemmas.List.Elements.{All-head, All-rest, All-same}
 use Rattle.std.specs.Vec.Iter.{into_iter_items}
 use Rattle.crossbeam_queue.specs.Passes.{view}
@@ -10,11 +10,11 @@ use Rattle.hub_core.specs.Lanes.{lane_of, submitted}
 use Rattle.hub_core.specs.inner.Draining.{AreFromFirst, AreLeftInRings}
 use Rattle.hub_core.specs.inner.Rule.{JoinsPushes}
 use Rattle.hub_core.proofs.DrainsAddUp.{drained_none}
-use Rattle.hub_core.proofs.RingsAreDrained.{ends_more, ends_same, from_first, pair_now, ring_drained, sent_now}
-use Rattle.hub_core.proofs.RingsAfterStep.{sent_same}
+use Rattle.hub_core.proofs.RingsAreDrained.{from_first, pair_now, ring_drained, sent_now}
+use Rattle.hub_core.proofs.RingsAfterStep.{ends_same, ends_set, sent_same}
 use Rattle.hub_core.proofs.RuleIsKept.{merges}
 use Rattle.hub_core.proofs.drain.place_rings.Goals as goal
-use Rattle.hub_core.proofs.ListFacts.{all_if_none_left}
+use Rattle.hub_core.proofs.ListFacts.{front_is_all}
 use Rattle.hub_core.proofs.PassesAreJoined.{pushes_more}
 use Rattle.hub_core.specs.inner.DrainedLists.{Drains}
 
@@ -26,7 +26,7 @@ loop-closed-init c = record {
   all = refl;
   left = search rules;
   jobs = search rules;
-  rings = ends_same c.args.rings.now.items;
+  rings = ends_same c.args.rings.now.items c.args.rings.now.items refl;
   sent = refl;
   drained = ([], drained_none c.args.lists.now.items, λ h. refl);
   received = search rules;
@@ -64,8 +64,8 @@ loop-closed-preserved c =
       jobs = subst (λ (s : LaneSeat). JoinsPushes submitted (c.loop-closed.yielded ++ s ∷ []) (view c.args.all_jobs.now) (view c.absorb.new.pass)) is
           (pushes_more submitted (view c.args.all_jobs.now) (view c.loop-closed.all_jobs) (view c.absorb.new.pass) (view seat.pass) c.loop-closed.yielded seat
           seat.share seat.pushes_only refl inv.jobs c.absorb.ensures.rule);
-      rings = ends_more rings now (lane_of seat) ring c.place_rest.new.producer inv.rings c.index_mut.ensures.value low rest.same.0;
-      sent = sent_same now (lane_of seat) ring c.place_rest.new.producer c.index_mut.ensures.value low rest.same.1 ∙ inv.sent;
+      rings = ends_set rings now (lane_of seat) ring c.place_rest.new.producer inv.rings c.index_mut.ensures.value low rest.same.0;
+      sent = sent_same now (lane_of seat) ring c.place_rest.new.producer c.index_mut.ensures.value rest.same.1 ∙ inv.sent;
       drained = subst (λ (s : LaneSeat). Drains c.args.lists.now.items c.place_rest.new.lists.items (AreLeftInRings rings (c.loop-closed.yielded ++ s ∷ []))) is
           (ring_drained c.args.lists.now.items c.loop-closed.lists.items c.place_rest.new.lists.items rings c.loop-closed.yielded seat rest.drains.0
           inv.drained rest.drains.1 left);
@@ -76,6 +76,9 @@ loop-closed-preserved c =
 pub returns-clause-received : goal.returns-clause-received
 returns-clause-received c =
     let start : into_iter_items c.into_iter-closed-iterator.result ≡ c.args.lanes.items = search rules in
-    let none : length (into_iter_items c.loop-closed.closed-iterator) ≡ 0 = search rules in
-    let all = all_if_none_left c.loop-closed.yielded (into_iter_items c.loop-closed.closed-iterator) c.args.lanes.items none (c.loop-closed.invariant.all ∙ start) in
+    let rest = into_iter_items c.loop-closed.closed-iterator in
+    let none : length rest ≡ 0 = search rules in
+    let whole = c.loop-closed.invariant.all ∙ start in
+    let all = front_is_all c.loop-closed.yielded rest c.args.lanes.items whole
+    (omega (arith, none, ap length whole, length-append c.loop-closed.yielded rest)) in
     subst (λ (ss : List LaneSeat). AreFromFirst c.args.rings.now.items ss) all c.loop-closed.invariant.received

@@ -6,9 +6,8 @@ use Rattle.hub_core.specs.inner.DrainedLists.{Drains}
 use Rattle.hub_core.specs.inner.Fresh.{IsPairedIn}
 use Rattle.hub_core.specs.Lanes.{submitted}
 use Rattle.hub_core.specs.inner.Draining.{AreFromFirst, AreLeftInRings}
-use Rattle.hub_core.specs.Rings.{all_sent}
+use Rattle.hub_core.specs.Rings.{AreSameEnds, all_sent}
 use Rattle.hub_core.specs.inner.Rule.{JoinsPushes}
-use Rattle.hub_core.proofs.RingsAreDrained.{AreSameEnds}
 use Rattle.hub_core.proofs.drain.place_rings.Given as goal
 
 abbrev pub invariant-loop-closed : goal.invariant-loop-closed

@@ -1,3 +1,4 @@
+-- One delivery after another is taken of those that wait.
 use Rattle.std.proofs.Common.{[], arith}
 use Rattle.hub_core.proofs.DrainsAddUp.{drained_none}
 use Rattle.hub_core.proofs.EachIsDrained.{taken_more}

@@ -1,4 +1,4 @@
-use Rattle.hub_core.proofs.LanesGetTheirRows.{deliveries_by_place as law}
+use Rattle.hub_core.proofs.RowsAreNumbered.{deliveries_by_place as law}
 use Rattle.hub_core.proofs.laws.deliveries_by_place.Goals as goal
 
 pub returns : goal.returns

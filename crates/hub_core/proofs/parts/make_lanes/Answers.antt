@@ -1,5 +1,5 @@
 -- One lane more, with one share of the queue of jobs and a ring of its own.
-use Rattle.std.proofs.Common.{rules, ◌≡◌, ◌-◌, List, ◌∷◌, [], length, length-append, subst, ap, arith, sym, ◌∙◌}
+use Rattle.std.proofs.Common.{rules, ◌≡◌, ◌-◌, List, subst, ap, arith, sym, ◌∙◌}
 use Rattle.std.specs.List.{All, range_with_len}
 use Rattle.std.proofs.lemmas.List.Elements.{All-push}
 use Rattle.std.proofs.lemmas.Result.{IfOk-from_err}
@@ -14,6 +14,7 @@ use Rattle.hub_core.specs.Rule.{trace}
 use Rattle.hub_core.specs.Rings.{PopEnd, PushEnd}
 use Rattle.hub_core.proofs.RuleIsKept.{forks}
 use Rattle.hub_core.proofs.SeatsAreNew.{cut_more, lanes_more, paired_more}
+use Rattle.hub_core.proofs.ListFacts.{count_more}
 use Rattle.hub_core.proofs.parts.make_lanes.Goals as goal
 
 pub another-pass-requires-clause-rule : goal.another-pass-requires-clause-rule
@@ -34,7 +35,8 @@ loop-lane-preserved c =
       lanes = lanes_more c.loop-lane.seats.items c.push_reserved.new.self.items seat c.loop-lane.lane inv.lanes c.push_reserved.ensures.items made.0;
       seats = subst (λ (l : List LaneSeat). All (λ (s : LaneSeat). IsPassOf c.args.jobs.now s.pass × HasDoneNothing s) l) (sym c.push_reserved.ensures.items)
           (All-push (λ (s : LaneSeat). IsPassOf c.args.jobs.now s.pass × HasDoneNothing s) c.loop-lane.seats.items seat inv.seats (search rules));
-      count = ap length c.push_reserved-in-loop-lane.ensures.items ∙ omega (arith, length-append c.loop-lane.rings.items (c.in_ok-producer.producer ∷ []));
+      count = count_more c.loop-lane.rings.items c.push_reserved-in-loop-lane.new.self.items c.in_ok-producer.producer c.loop-lane.lane
+          c.push_reserved-in-loop-lane.ensures.items inv.count;
       drained = search rules;
       unsent = subst (λ (l : List PushEnd). All (IsUnsent c.args.capacity) l) (sym c.push_reserved-in-loop-lane.ensures.items)
           (All-push (IsUnsent c.args.capacity) c.loop-lane.rings.items c.in_ok-producer.producer inv.unsent (new.producer.0, new.producer.2));

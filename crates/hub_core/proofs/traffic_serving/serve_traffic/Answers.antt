@@ -2,7 +2,7 @@
 use Rattle.std.proofs.Common.{◌≡◌, ◌∙◌, None, ap, arith, subst, sym}
 use Rattle.hub_core.specs.Hubs.{year_of}
 use Rattle.hub_core.specs.Serving.{served}
-use Rattle.hub_core.proofs.SeatsAsLanes.{PolledFirst, first_of}
+use Rattle.hub_core.proofs.SeatsAsLanes.{PolledFirst, first_of_seats}
 use Rattle.hub_core.specs.Traffics.{AreServedFirst}
 use Rattle.hub_core.specs.declared.shape.Shape.{Shape}
 use Rattle.hub_core.specs.inner.CallingThread.{AreLeftLost}
@@ -54,7 +54,7 @@ returns-in-Ok-serve_seats-clause-served g c =
     let hub = c.in-Ok-new_hub.parts.hub in
     let seats = c.in-Ok-serve_seats.seats.lanes.items in
     let done = c.in-Ok-serve_seats.ensures.served.served kept in
-    let first : PolledFirst hub seats = first_of hub _ c.finish_all.ensures in
+    let first : PolledFirst hub seats = first_of_seats hub _ c.finish_all.ensures in
     let year : year_of hub ≡ c.args.year = c.in-Ok-new_hub.ensures.new.year in (
       given_to seats done.held,
       polled_by_each seats,
@@ -70,7 +70,7 @@ pub returns-in-Ok-serve_seats-clause-lost : goal.returns-in-Ok-serve_seats-claus
 returns-in-Ok-serve_seats-clause-lost g c =
     let hub = c.in-Ok-new_hub.parts.hub in
     let seats = c.in-Ok-serve_seats.seats.lanes.items in
-    let first : PolledFirst hub seats = first_of hub _ c.finish_all.ensures in
+    let first : PolledFirst hub seats = first_of_seats hub _ c.finish_all.ensures in
     let year : year_of hub ≡ c.args.year = c.in-Ok-new_hub.ensures.new.year in
     rw (c.into_inner.ensures, ← c.in-Ok-new.ensures.ok)
     (if_lost _ _ _

@@ -17,7 +17,6 @@ use Rattle.hub_core.proofs.HubIsShared.{hub_sync}
 use Rattle.hub_core.proofs.worker_seat.WorkerSeat.TheSendSync as seat
 use Rattle.hub_core.proofs.worker_threads.start_all.Goals as goal
 
--- src/worker_threads.rt:85:13
 pub spawn_with-started-requires-send-F : goal.spawn_with-started-requires-send-F
 spawn_with-started-requires-send-F g c κs within =
     let Ts : List RattleType =
@@ -42,7 +41,6 @@ spawn_with-started-requires-send-F g c κs within =
     ) in
     param_send 2 _ (arg_send _ no (TupleAt (codes "hub_core::worker_threads::fn::start_all::spawn_with+Self") Ts) sent)
 
--- src/worker_threads.rt:84:5
 pub loop-seat-preserved : goal.loop-seat-preserved
 loop-seat-preserved g c = record {
   can = tt;

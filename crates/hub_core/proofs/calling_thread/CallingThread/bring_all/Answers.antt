@@ -3,7 +3,7 @@ use Rattle.std.proofs.Common.{◌<◌, ◌∙◌, ap, arith, length, refl, set, 
 use Rattle.hub_core.specs.Hubs.{shape_of}
 use Rattle.hub_core.specs.Traffics.{IsNextOf}
 use Rattle.hub_core.specs.inner.Traffics.{AreOwnSeats, given_to, polled_by_each}
-use Rattle.hub_core.proofs.SeatsServeTraffic.{came_brought, came_same, lane_at, next_of, polled_more, room_same, rows_same_given, seat_at, seats_counted, step_serves}
+use Rattle.hub_core.proofs.SeatsServeTraffic.{came_brought, came_same, lane_at, next_of, first_polled_more, room_same, rows_same_given, seat_at, seats_counted, serves_with, step_serves}
 use Rattle.hub_core.proofs.calling_thread.CallingThread.bring_all.Goals as goal
 use Rattle.hub_core.proofs.calling_thread.CallingThread.bring_all.Goals.{After-poll, In-Some}
 use Rattle.hub_core.proofs.ThreadGoesOn.{goes_since, lost_since, lost_step, lanes_kept}
@@ -74,15 +74,11 @@ loop-i-preserved g c =
       hub = refl;
       start = refl;
       seats = refl;
-      serves = record {
-        lanes = still_serves g d;
-        deliverer = c.hand.ensures.of_hub s.hub.now is.deliverer;
-        own = is.own;
-        came = came_brought (g.T.Traffic.Came s.start.value c.bring.new.self) seats s.held c.from-index.result c.in-Some.delivery.lane c.index_mut.result.now
-            c.poll.new.self c.in-Some.delivery (lane ∙ sym polls.0) (low g d) at c.poll.ensures.submits polls.2
-            (c.in_ok-bring-in-Some.ensures.brings s.start.value (given_to seats s.held) (polled_by_each seats) (rw c.deref_mut.ensures.value is.came)
-            (is_next g (goal.at.loop-i-preserved g c).In-Some (low g d)));
-      };
+      serves = serves_with _ _ _ _ _ _ _ _ _ _ _ _ is (still_serves g d) (c.hand.ensures.of_hub s.hub.now)
+          (came_brought (g.T.Traffic.Came s.start.value c.bring.new.self) seats s.held c.from-index.result c.in-Some.delivery.lane c.index_mut.result.now
+          c.poll.new.self c.in-Some.delivery (lane ∙ sym polls.0) (low g d) at c.poll.ensures.submits polls.2
+          (c.in_ok-bring-in-Some.ensures.brings s.start.value (given_to seats s.held) (polled_by_each seats) (rw c.deref_mut.ensures.value is.came)
+          (is_next g (goal.at.loop-i-preserved g c).In-Some (low g d))));
     }
 
 pub returns-in_err-bring-in-Some : goal.returns-in_err-bring-in-Some
@@ -109,7 +105,7 @@ returns-in_err-bring-in-Some g c =
         brought = polled_by_each seats;
         came = subst (λ given. g.T.Traffic.Came s.start.value s.traffic.value given (polled_by_each seats))
             (rows_same_given seats s.held c.from-index.result c.index_mut.result.now c.poll.new.self at c.poll.ensures.submits) is.came;
-        first = polled_more seats c.from-index.result c.index_mut.result.now c.poll.new.self c.in-Some.delivery (low g d) at c.in-Some.ensures.polls.2;
+        first = first_polled_more seats c.from-index.result c.index_mut.result.now c.poll.new.self c.in-Some.delivery (low g d) at c.in-Some.ensures.polls.2;
         left = rw c.deref_mut.ensures.value at c.in_err-bring-in-Some.ensures.leaves;
       };
     })
@@ -123,11 +119,7 @@ loop-i-preserved-in-None g c =
       hub = refl;
       start = refl;
       seats = refl;
-      serves = record {
-        lanes = still_serves g (goal.at.loop-i-preserved-in-None g c).After-poll;
-        deliverer = c.hand.ensures.of_hub s.hub.now is.deliverer;
-        own = is.own;
-        came = came_same (g.T.Traffic.Came s.start.value s.traffic.value) s.lanes.items s.held c.from-index.result c.index_mut.result.now c.poll.new.self
-            c.index_mut.ensures.value c.poll.ensures.submits c.in-None.ensures.polls.0 is.came;
-      };
+      serves = serves_with _ _ _ _ _ _ _ _ _ _ _ _ is (still_serves g (goal.at.loop-i-preserved-in-None g c).After-poll) (c.hand.ensures.of_hub s.hub.now)
+          (came_same (g.T.Traffic.Came s.start.value s.traffic.value) s.lanes.items s.held c.from-index.result c.index_mut.result.now c.poll.new.self
+          c.index_mut.ensures.value c.poll.ensures.submits c.in-None.ensures.polls.0 is.came);
     }

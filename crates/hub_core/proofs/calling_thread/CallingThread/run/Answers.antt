@@ -1,3 +1,4 @@
+-- A turn that lost a delivery ends the run.
 use Rattle.hub_core.proofs.calling_thread.CallingThread.run.Goals as goal
 use Rattle.hub_core.proofs.ThreadGoesOn.{lost_since}
 

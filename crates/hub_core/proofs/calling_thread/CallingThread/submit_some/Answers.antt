@@ -5,7 +5,7 @@ use Rattle.hub_core.specs.Lanes.{submitted_rows}
 use Rattle.hub_core.specs.Traffics.{HasRoom}
 use Rattle.hub_core.specs.inner.CallingThread.{CameBySeats}
 use Rattle.hub_core.specs.inner.Traffics.{polled_by_each, with_held}
-use Rattle.hub_core.proofs.SeatsServeTraffic.{came_full, came_more, if_none, next_came, room_same, seat_at, step_serves}
+use Rattle.hub_core.proofs.SeatsServeTraffic.{came_full, came_more, if_none, next_came, room_same, seat_at, serves_with, step_serves}
 use Rattle.hub_core.proofs.calling_thread.CallingThread.submit_some.Goals as goal
 use Rattle.hub_core.proofs.calling_thread.CallingThread.submit_some.Goals.{Joined-take, in-None, in_default}
 use Rattle.hub_core.proofs.ThreadGoesOn.{goes_since}
@@ -68,16 +68,14 @@ loop-i-preserved g c =
       hub = r.0;
       start = r.1;
       seats = r.2;
-      serves = record {
-        lanes = step_serves s.hub.now seats c.match-take.next s.held c.from-index.result c.index_mut.result.now c.submit.new.seat at c.submit.ensures.lane
-            c.submit.ensures.of_hub r.4.lanes
-            (if_none s.held (λ x. HasRoom x.0 (map submitted_rows (set seats c.from-index.result c.submit.new.seat))) r.3);
-        deliverer = r.4.deliverer;
-        own = r.4.own;
-        came = came_more (g.T.Traffic.Came s.start.value s.traffic.value) seats s.held c.from-index.result c.in-Some.lane c.index_mut.result.now
-            c.submit.new.seat _ _ _ c.in-Some.row r.3 c.from-index.ensures less at c.submit.ensures.lane c.in-Ok.ensures.submits.2
-            c.submit.ensures.received came;
-      };
+      serves = serves_with _ _ _ _ _ _ _ _ _ _ _ _ r.4
+          (step_serves s.hub.now seats c.match-take.next s.held c.from-index.result c.index_mut.result.now c.submit.new.seat at c.submit.ensures.lane
+          c.submit.ensures.of_hub r.4.lanes
+          (if_none s.held (λ x. HasRoom x.0 (map submitted_rows (set seats c.from-index.result c.submit.new.seat))) r.3))
+          (λ is. is)
+          (came_more (g.T.Traffic.Came s.start.value s.traffic.value) seats s.held c.from-index.result c.in-Some.lane c.index_mut.result.now
+          c.submit.new.seat _ _ _ c.in-Some.row r.3 c.from-index.ensures less at c.submit.ensures.lane c.in-Ok.ensures.submits.2
+          c.submit.ensures.received came);
     }
 
 pub returns-in-Err-Full : goal.returns-in-Err-Full
@@ -96,13 +94,10 @@ returns-in-Err-Full g c =
       hub = r.0;
       start = r.1;
       seats = r.2;
-      serves = record {
-        lanes = step_serves s.hub.now seats c.match-take.next held c.from-index.result c.index_mut.result.now c.submit.new.seat at c.submit.ensures.lane
-            c.submit.ensures.of_hub r.4.lanes
-            (room_same seats held c.from-index.result c.index_mut.result.now c.submit.new.seat at full.2 room);
-        deliverer = r.4.deliverer;
-        own = r.4.own;
-        came = came_full (g.T.Traffic.Came s.start.value s.traffic.value) seats c.from-index.result c.in-Some.lane c.index_mut.result.now c.submit.new.seat
-            c.in-Some.row c.in-Err-Full.row at full.2 c.submit.ensures.lane c.submit.ensures.received full.1 came;
-      };
+      serves = serves_with _ _ _ _ _ _ _ _ _ _ _ _ r.4
+          (step_serves s.hub.now seats c.match-take.next held c.from-index.result c.index_mut.result.now c.submit.new.seat at c.submit.ensures.lane
+          c.submit.ensures.of_hub r.4.lanes (room_same seats held c.from-index.result c.index_mut.result.now c.submit.new.seat at full.2 room))
+          (λ is. is)
+          (came_full (g.T.Traffic.Came s.start.value s.traffic.value) seats c.from-index.result c.in-Some.lane c.index_mut.result.now c.submit.new.seat
+          c.in-Some.row c.in-Err-Full.row at full.2 c.submit.ensures.lane c.submit.ensures.received full.1 came);
     }

@@ -1,3 +1,4 @@
+-- All that was given has come back, so that the traffic may wait, and stays what it was.
 use Rattle.std.proofs.Common.{refl}
 use Rattle.hub_core.specs.inner.Traffics.{given_to, polled_by_each}
 use Rattle.hub_core.proofs.SeatsServeTraffic.{even_given}

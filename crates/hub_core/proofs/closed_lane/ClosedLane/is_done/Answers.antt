@@ -1,3 +1,4 @@
+-- The counts of the seat that was closed.
 use Rattle.std.proofs.Common.{◌≡◌, ◌==◌, subst}
 use Rattle.hub_core.specs.Lanes.{issued_count, polled_count}
 use Rattle.hub_core.specs.declared.lane_seat.LaneSeat.{LaneSeat}

@@ -1,6 +1,6 @@
 -- The lane's next number goes from the deliverer to the lane's ring, and the seat's account stays even.
 use Rattle.std.proofs.Common.{List, [], ap, arith, get_or, length, option_to_list, refl, rules, set, subst, sym, ◌++◌, ◌<◌, ◌∙◌, ◌∷◌, ◌≡◌}
-use Rattle.std.proofs.lemmas.List.{length-map, length-set}
+use Rattle.std.proofs.lemmas.List.{length-set}
 use Rattle.std.specs.List.{slice_get}
 use Rattle.std.proofs.Common.{Some}
 use Rattle.rtrb.specs.Ring.{known_free, sent}
@@ -8,7 +8,7 @@ use Rattle.lane_core.specs.declared.job.Plain.{Plain}
 use Rattle.hub_core.specs.Passes.{popped_by}
 use Rattle.hub_core.specs.Rings.{PushEnd, all_sent}
 use Rattle.hub_core.specs.inner.Accounting.{Accounted}
-use Rattle.hub_core.proofs.RingsAfterStep.{ends_set, same_ring, sent_more, sent_same}
+use Rattle.hub_core.proofs.RingsAfterStep.{ends_set, rings_counted, same_ring, sent_more, sent_same}
 use Rattle.hub_core.proofs.DeliveriesAreAccounted.{given_else, given_now, handed_one}
 use Rattle.hub_core.proofs.deliverer_seat.DelivererSeat.hand.Goals as goal
 use Rattle.hub_core.proofs.ListFacts.{got_set}
@@ -17,15 +17,8 @@ use Rattle.hub_core.proofs.TruthFacts.{some_if_not_none}
 pub invariant_of-self-then-is_full : goal.invariant_of-self-then-is_full
 invariant_of-self-then-is_full c =
     let s = c.args.self.now in
-    let less : c.from.result < length s.rings.items = omega (
-      arith,
-      c.from.ensures,
-      c.requires,
-      s.accounted.giving.lanes,
-      length-map s.rings.items
-          (λ (r : PushEnd). sent r),
-    ) in
-    let same = sent_same s.rings.items c.from.result c.index_mut-ring.result.now c.is_full.new.self c.index_mut-ring.ensures.value less
+    let less : c.from.result < length s.rings.items = omega (arith, c.from.ensures, c.requires, rings_counted s) in
+    let same = sent_same s.rings.items c.from.result c.index_mut-ring.result.now c.is_full.new.self c.index_mut-ring.ensures.value
     c.is_full.ensures.looked.1 in
     record {
       idle_at_jobs = s.idle_at_jobs;
@@ -37,15 +30,8 @@ invariant_of-self-then-is_full c =
 pub returns-then-is_full : goal.returns-then-is_full
 returns-then-is_full c =
     let s = c.args.self.now in
-    let less : c.from.result < length s.rings.items = omega (
-      arith,
-      c.from.ensures,
-      c.requires,
-      s.accounted.giving.lanes,
-      length-map s.rings.items
-          (λ (r : PushEnd). sent r),
-    ) in
-    let same = sent_same s.rings.items c.from.result c.index_mut-ring.result.now c.is_full.new.self c.index_mut-ring.ensures.value less
+    let less : c.from.result < length s.rings.items = omega (arith, c.from.ensures, c.requires, rings_counted s) in
+    let same = sent_same s.rings.items c.from.result c.index_mut-ring.result.now c.is_full.new.self c.index_mut-ring.ensures.value
     c.is_full.ensures.looked.1 in
     record {
       hands = (
@@ -63,7 +49,7 @@ returns-then-is_full c =
       of_hub = λ h is. record {
         jobs = is.jobs;
         results = is.results;
-        rings = ends_set h s.rings.items c.from.result c.index_mut-ring.result.now c.is_full.new.self is.rings c.index_mut-ring.ensures.value less
+        rings = ends_set h.rings.value.items s.rings.items c.from.result c.index_mut-ring.result.now c.is_full.new.self is.rings c.index_mut-ring.ensures.value less
             c.is_full.ensures.looked.0;
         lanes = is.lanes;
         shares_of_jobs = is.shares_of_jobs;
@@ -74,19 +60,11 @@ returns-then-is_full c =
 pub invariant_of-self-in-Some : goal.invariant_of-self-in-Some
 invariant_of-self-in-Some c =
     let s = c.args.self.now in
-    let less : c.from.result < length s.rings.items = omega (
-      arith,
-      c.from.ensures,
-      c.requires,
-      s.accounted.giving.lanes,
-      length-map s.rings.items
-          (λ (r : PushEnd). sent r),
-    ) in
+    let less : c.from.result < length s.rings.items = omega (arith, c.from.ensures, c.requires, rings_counted s) in
     let is : sent c.push_reserved.new.self ≡ sent c.index_mut-ring.result.now ++ c.in-Some.delivery ∷ [] =
     c.push_reserved.ensures.sent.0 ∙ ap (λ l. l ++ c.in-Some.delivery ∷ []) c.is_full.ensures.looked.1 in
-    let more = sent_more s.rings.items c.from.result c.index_mut-ring.result.now c.push_reserved.new.self c.in-Some.delivery c.index_mut-ring.ensures.value less
-    is in
-    let put = more ∙ ap (λ k. set (all_sent s.rings.items) k (get_or (all_sent s.rings.items) k [] ++ c.in-Some.delivery ∷ [])) c.from.ensures in
+    let put = sent_more s.rings.items c.from.result c.args.lane c.index_mut-ring.result.now c.push_reserved.new.self c.in-Some.delivery c.from.ensures
+    c.index_mut-ring.ensures.value less is in
     record {
       idle_at_jobs = s.idle_at_jobs;
       shares = s.shares;
@@ -98,19 +76,11 @@ invariant_of-self-in-Some c =
 pub returns : goal.returns
 returns c =
     let s = c.args.self.now in
-    let less : c.from.result < length s.rings.items = omega (
-      arith,
-      c.from.ensures,
-      c.requires,
-      s.accounted.giving.lanes,
-      length-map s.rings.items
-          (λ (r : PushEnd). sent r),
-    ) in
+    let less : c.from.result < length s.rings.items = omega (arith, c.from.ensures, c.requires, rings_counted s) in
     let is : sent c.push_reserved.new.self ≡ sent c.index_mut-ring.result.now ++ c.in-Some.delivery ∷ [] =
     c.push_reserved.ensures.sent.0 ∙ ap (λ l. l ++ c.in-Some.delivery ∷ []) c.is_full.ensures.looked.1 in
-    let more = sent_more s.rings.items c.from.result c.index_mut-ring.result.now c.push_reserved.new.self c.in-Some.delivery c.index_mut-ring.ensures.value less
-    is in
-    let put = more ∙ ap (λ k. set (all_sent s.rings.items) k (get_or (all_sent s.rings.items) k [] ++ c.in-Some.delivery ∷ [])) c.from.ensures in
+    let put = sent_more s.rings.items c.from.result c.args.lane c.index_mut-ring.result.now c.push_reserved.new.self c.in-Some.delivery c.from.ensures
+    c.index_mut-ring.ensures.value less is in
     let low : c.args.lane < length (all_sent s.rings.items) = omega (arith, c.requires, s.accounted.giving.lanes) in
     let g = c.in-Some.ensures.some in
     record {
@@ -127,7 +97,7 @@ returns c =
       of_hub = λ h is. record {
         jobs = is.jobs;
         results = is.results;
-        rings = ends_set h s.rings.items c.from.result c.index_mut-ring.result.now c.push_reserved.new.self is.rings c.index_mut-ring.ensures.value less
+        rings = ends_set h.rings.value.items s.rings.items c.from.result c.index_mut-ring.result.now c.push_reserved.new.self is.rings c.index_mut-ring.ensures.value less
             (same_ring c.index_mut-ring.result.now c.is_full.new.self c.push_reserved.new.self c.is_full.ensures.looked.0 c.push_reserved.ensures.ring);
         lanes = ap length g.nexts ∙ (length-set s.deliverer.nexts c.args.lane _ ∙ is.lanes);
         shares_of_jobs = is.shares_of_jobs;

@@ -1,3 +1,4 @@
+-- What is left of each feed at first is all of it.
 use Rattle.std.proofs.Common.{rules}
 use Rattle.std.specs.Vec.Iter.{into_iter_items}
 use Rattle.hub_core.proofs.RowsAreGiven.{rests_more}

@@ -1,3 +1,4 @@
+-- The row that is taken is the first that was left of its lane, or none was left.
 use Rattle.std.proofs.Common.{Some, arith, map, set}
 use Rattle.std.specs.Vec.Iter.{into_iter_items}
 use Rattle.hub_core.specs.Feeds.{IsTaken, rests_of}

@@ -1,3 +1,4 @@
+-- If no lane has a row, all were given.
 use Rattle.std.proofs.Common.{◌≡◌, [], ap, arith, get_or, length, subst}
 use Rattle.hub_core.specs.Feeds.{rests_of}
 use Rattle.hub_core.proofs.RowsAreGiven.{all_left}

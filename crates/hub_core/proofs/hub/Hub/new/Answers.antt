@@ -1,12 +1,12 @@
 -- The seats are cut off the passes that have all shares, and nothing has happened.
 use Rattle.std.proofs.Common.{◌∙◌, ap, arith, get_or, length, map, refl, sym}
 use Rattle.std.proofs.lemmas.List.{length-replicate}
-use Rattle.std.proofs.lemmas.Result.{IfOk-from_err}
 use Rattle.lane_core.specs.ReorderBuffer.{ReorderBuffer}
 use Rattle.hub_core.specs.Lane.{new_lane}
 use Rattle.hub_core.proofs.SeatsAsLanes.{fresh_lanes}
-use Rattle.hub_core.proofs.HubIsNew.{fresh_accounted, given_none, has_each, left_of_jobs, left_of_results, no_rows, ring_of, same_ends, small}
-use Rattle.hub_core.proofs.BadCountsAlone.{never, no_hub, ok_is_no_err}
+use Rattle.hub_core.proofs.HubIsNew.{fresh_accounted, given_none, has_each, left_of_jobs, left_of_results, no_rows, ring_of, small}
+use Rattle.hub_core.proofs.RingsAfterStep.{ends_same}
+use Rattle.hub_core.proofs.BadCountsAlone.{never, no_hub_made, ok_is_no_err}
 use Rattle.hub_core.proofs.hub.Hub.new.Goals as goal
 
 pub invariant_of-deliverer : goal.invariant_of-deliverer
@@ -52,7 +52,7 @@ returns-clause-new g c =
         deliverer = record {
           jobs = c.in_ok-workers.ensures.jobs.0;
           results = c.in_ok-workers.ensures.results.0;
-          rings = same_ends _ c.in_ok-lanes.rings.items made;
+          rings = ends_same _ c.in_ok-lanes.rings.items made;
           lanes = ap (λ (e : ReorderBuffer). length e.nexts) c.in_ok-deliverer.ensures ∙ (length-replicate c.from.result 0 ∙ c.from.ensures);
           shares_of_jobs = j.3;
           shares_of_results = r.3;
@@ -76,48 +76,28 @@ returns-clause-new g c =
 
 pub returns-in_err-jobs : goal.returns-in_err-jobs
 returns-in_err-jobs g c =
-    let r = c.from_residual.result in
     let e = c.from_residual.ensures in
-    record {
-      refused = never (sym c.is_allowed.ensures ∙ c.if-not-is_allowed.false) (no_hub r e.1);
-      new = IfOk-from_err r _ e.0;
-    }
+    let no = no_hub_made c.from_residual.result _ (sym c.is_allowed.ensures ∙ c.if-not-is_allowed.false) e.0 e.1 in record { refused = no.0; new = no.1 }
 
 pub returns-in_err-results : goal.returns-in_err-results
 returns-in_err-results g c =
-    let r = c.from_residual-in_err-results.result in
     let e = c.from_residual-in_err-results.ensures in
-    record {
-      refused = never (sym c.is_allowed.ensures ∙ c.if-not-is_allowed.false) (no_hub r e.1);
-      new = IfOk-from_err r _ e.0;
-    }
+    let no = no_hub_made c.from_residual-in_err-results.result _ (sym c.is_allowed.ensures ∙ c.if-not-is_allowed.false) e.0 e.1 in record { refused = no.0; new = no.1 }
 
 pub returns-in_err-lanes : goal.returns-in_err-lanes
 returns-in_err-lanes g c =
-    let r = c.from_residual-in_err-lanes.result in
     let e = c.from_residual-in_err-lanes.ensures in
-    record {
-      refused = never (sym c.is_allowed.ensures ∙ c.if-not-is_allowed.false) (no_hub r e.1);
-      new = IfOk-from_err r _ e.0;
-    }
+    let no = no_hub_made c.from_residual-in_err-lanes.result _ (sym c.is_allowed.ensures ∙ c.if-not-is_allowed.false) e.0 e.1 in record { refused = no.0; new = no.1 }
 
 pub returns-in_err-workers : goal.returns-in_err-workers
 returns-in_err-workers g c =
-    let r = c.from_residual-in_err-workers.result in
     let e = c.from_residual-in_err-workers.ensures in
-    record {
-      refused = never (sym c.is_allowed.ensures ∙ c.if-not-is_allowed.false) (no_hub r e.1);
-      new = IfOk-from_err r _ e.0;
-    }
+    let no = no_hub_made c.from_residual-in_err-workers.result _ (sym c.is_allowed.ensures ∙ c.if-not-is_allowed.false) e.0 e.1 in record { refused = no.0; new = no.1 }
 
 pub returns-in_err-deliverer : goal.returns-in_err-deliverer
 returns-in_err-deliverer g c =
-    let r = c.from_residual-in_err-deliverer.result in
     let e = c.from_residual-in_err-deliverer.ensures in
-    record {
-      refused = never (sym c.is_allowed.ensures ∙ c.if-not-is_allowed.false) (no_hub r e.1);
-      new = IfOk-from_err r _ e.0;
-    }
+    let no = no_hub_made c.from_residual-in_err-deliverer.result _ (sym c.is_allowed.ensures ∙ c.if-not-is_allowed.false) e.0 e.1 in record { refused = no.0; new = no.1 }
 
 pub returns-clause-refused : goal.returns-clause-refused
 returns-clause-refused g c = never (sym c.is_allowed.ensures ∙ c.if-not-is_allowed.false) (ok_is_no_err _ _)

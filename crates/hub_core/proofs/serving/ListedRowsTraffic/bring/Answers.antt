@@ -1,3 +1,4 @@
+-- The delivery goes to the end of its lane's list.
 use Rattle.std.proofs.Common.{◌∙◌}
 use Rattle.hub_core.proofs.RowsAreGiven.{list_more}
 use Rattle.hub_core.proofs.serving.ListedRowsTraffic.bring.Goals as goal

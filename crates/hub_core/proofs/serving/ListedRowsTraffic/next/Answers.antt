@@ -1,3 +1,4 @@
+-- The row that is taken is the next of its lane. `AnsweredRowsTraffic::next` of command_runs is proved alike.
 use Rattle.std.proofs.Common.{subst, sym}
 use Rattle.std.proofs.lemmas.Option.{IfSome_then}
 use Rattle.hub_core.specs.Feeds.{AreGiven, rests_of}
