@@ -1,4 +1,4 @@
--- What `get_one` says of a number among the matches.
+-- What `get_one` says of a number among the matches, and what holds if an `Option` has a value or none.
 use Rattle.std.proofs.Common.{◌≡◌, ◌∙◌, ◌<◌, ◌^◌, ℕ, List, Option, Some, None, Result, IfNone, IfSome, IsSome, ap, is_some, sym, refl, subst}
 use Rattle.std.specs.Str.Parse.{ExplainsUnsignedError, HasUnsignedDigitsIfOk, ParsesUnsigned, digits_value, without_leading_plus}
 use Rattle.std.specs.declared.num.ParseIntError.{ParseIntError}

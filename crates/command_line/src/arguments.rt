@@ -1,4 +1,5 @@
 //! The arguments that commands share: as `clap` is told of them, and as they are read of its matches.
+//! The greatest numbers and the first and the last year are definitions of specs/ too, and the help says them.
 ghost use Rattle.std.specs.Prelude.{◌<◌, ◌≡◌, ◌^◌, Bool, ℕ, IfNone, IfSome, false};
 ghost use Rattle.element_core.specs.Terms.{Terms};
 ghost use Rattle.clap.specs.Words.{app_of, found_of, new_app, rows_of, rule_of};

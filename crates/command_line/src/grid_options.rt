@@ -1,4 +1,4 @@
-//! The numbers of a grid of cells.
+//! The numbers of a grid of cells. `specs/Numbers.antt` has the greatest too, and the help in `arguments.rt` says them.
 ghost use Rattle.std.specs.Prelude.{◌↔◌, IfSome, IsSome};
 ghost use Rattle.command_line.specs.Numbers.{AreGridNumbers};
 

@@ -1,4 +1,5 @@
 //! The words of the command line: which command they ask for, with which numbers, and what is said where they ask for none.
+//! `tests/using/items.txt` lists what is exported here, and `tests/using/run` fails if the two differ.
 #![tactic(auto)]
 
 mod arguments;

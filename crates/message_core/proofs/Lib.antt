@@ -1,7 +1,8 @@
+-- Lemmas, a file for each subject. What is proved of a function stands in the folder of its path.
 mod CodingFacts
-mod LawFacts
 mod LinkFacts
+mod OneKeyPart
 pub mod OneMessageLine
 pub mod SpelledUpce
-mod TextsCutAtByte
+pub mod TextsCutAtByte
 pub mod UpceDigits

@@ -1,7 +1,7 @@
--- Digital Links.
-use Rattle.std.proofs.Common.{◌≡◌, ◌<◌, ◌≤◌, ◌+◌, ◌&&◌, ◌++◌, ◌∷◌, ◌∙◌, ◌⊎◌, Bool, List, None, Some, [], ap, append_assoc, arith, drop, false, if◌then◌else◌, inl, inr, length, length-append, nat_le, refl, sym, true, ⊎_elim, ℕ}
+-- Steps through a Digital Link: its scheme, the qualifiers of its path, its pairs, and their line.
+use Rattle.std.proofs.Common.{◌≡◌, ◌<◌, ◌≤◌, ◌+◌, ◌&&◌, ◌++◌, ◌∷◌, ◌∙◌, List, None, Some, [], ap, append_assoc, arith, drop, false, if◌then◌else◌, length, length-append, nat_le, refl, sym, true, ℕ}
 use Rattle.std.specs.List.{list_all}
-use Rattle.std.proofs.lemmas.Bool.{and_parts, le-leb, leb-true}
+use Rattle.std.proofs.lemmas.Bool.{and_from, and_parts, both_ways, false_from_ne_true, le-leb, leb-true}
 use Rattle.std.proofs.lemmas.List.{drop_all, drop_more}
 use Rattle.std.proofs.lemmas.List.Folds.{list_all-append}
 use Rattle.digits_core.specs.Refusals.{refusal_words}
@@ -25,28 +25,14 @@ ended small text i low past = rw (drop_more small i 0 low, drop_all i text past)
 -- ---- the path
 
 -- one qualifier and its value before the others
-pub one_more : (key ai value : List ℕ) (least place : ℕ) (all rest : List (List ℕ)) → all ≡ ai ∷ value ∷ rest → place_by key ai ≡ Some place
+pub follow_one_more : (key ai value : List ℕ) (least place : ℕ) (all rest : List (List ℕ)) → all ≡ ai ∷ value ∷ rest → place_by key ai ≡ Some place
     → least ≤ place → follow_all key least all ≡ follow_all key (place + 1) rest
-one_more key ai value least place all rest is at low =
+follow_one_more key ai value least place all rest is at low =
     ap (follow_all key least) is
     ∙ ap (λ o. follow_by least o (λ next. follow_all key next rest)) at
     ∙ ap (λ b. b && follow_all key (place + 1) rest) (le-leb least place low)
 
 -- ---- pairs
-
-true_or_false : (b : Bool) → (b ≡ true) ⊎ (b ≡ false)
-true_or_false true = inl refl
-true_or_false false = inr refl
-
-and_true : (b c : Bool) → b ≡ true → c ≡ true → (b && c) ≡ true
-and_true true c is also = also
-and_true false c is also = is
-
-false_of : (b : Bool) → (b ≡ true → ⊥) → b ≡ false
-false_of b fails = ⊎_elim (λ (is : b ≡ true). absurd (fails is)) (λ (is : b ≡ false). is) (true_or_false b)
-
-never : (b : Bool) → b ≡ true → b ≡ false → ⊥
-never b is not_is = let e : true ≡ false = sym is ∙ not_is in cc e
 
 -- what fits, fits without its end
 fits_front : (xs ys : List Entry) → fits (xs ++ ys) ≡ true → fits xs ≡ true
@@ -54,10 +40,10 @@ fits_front xs ys is =
     let parts = and_parts (nat_le (length (xs ++ ys)) 48) (fits_all (xs ++ ys)) is in
     let both = and_parts (list_all fits_entry xs) (list_all fits_entry ys) (sym (list_all-append fits_entry xs ys) ∙ parts.1) in
     let few : length (xs ++ ys) ≤ 48 = leb-true (length (xs ++ ys)) 48 parts.0 in
-    and_true (nat_le (length xs) 48) (fits_all xs) (le-leb (length xs) 48 (omega (arith, few, length-append xs ys))) both.0
+    and_from (nat_le (length xs) 48) (fits_all xs) (le-leb (length xs) 48 (omega (arith, few, length-append xs ys))) both.0
 
 pub fits_not : (xs ys : List Entry) → fits xs ≡ false → fits (xs ++ ys) ≡ false
-fits_not xs ys fails = false_of (fits (xs ++ ys)) (λ is. never (fits xs) (fits_front xs ys is) fails)
+fits_not xs ys fails = false_from_ne_true (fits (xs ++ ys)) (λ is. both_ways (fits xs) fails (fits_front xs ys is))
 
 -- one that does not fit, before others
 pub fits_not_before : (xs all : List Entry) (e : Entry) (es : List Entry) → fits (xs ++ (e ∷ [])) ≡ false → xs ++ (e ∷ es) ≡ all → fits all ≡ false
@@ -65,10 +51,17 @@ fits_not_before xs all e es fails is = ap fits (sym is ∙ sym (append_assoc xs 
 
 -- all fit with one more
 pub all_fit : (es : List Entry) (e : Entry) → fits_all es ≡ true → fits_entry e ≡ true → fits_all (es ++ (e ∷ [])) ≡ true
-all_fit es e is one = list_all-append fits_entry es (e ∷ []) ∙ and_true (fits_all es) (fits_all (e ∷ [])) is (and_true (fits_entry e) true one refl)
+all_fit es e is one = list_all-append fits_entry es (e ∷ []) ∙ and_from (fits_all es) (fits_all (e ∷ [])) is (and_from (fits_entry e) true one refl)
 
-pub fits_by : (es : List Entry) → length es ≤ 48 → fits_all es ≡ true → fits es ≡ true
-fits_by es few all = and_true (nat_le (length es) 48) (fits_all es) (le-leb (length es) 48 few) all
+fits_by : (es : List Entry) → length es ≤ 48 → fits_all es ≡ true → fits es ≡ true
+fits_by es few all = and_from (nat_le (length es) 48) (fits_all es) (le-leb (length es) 48 few) all
+
+-- those of the path and then those of the query were put into none, and fit
+pub both_put : (none first all path query : List Entry) → none ≡ [] → first ≡ none ++ path → all ≡ first ++ query → length all ≤ 48 → fits_all all ≡ true
+    → (all ≡ path ++ query) × (fits (path ++ query) ≡ true)
+both_put none first all path query new one both few fit =
+    let same : all ≡ path ++ query = both ∙ ap (λ l. l ++ query) (one ∙ ap (λ l. l ++ path) new) in
+    (same, ap fits (sym same) ∙ fits_by all few fit)
 
 -- ---- lines
 
@@ -76,8 +69,8 @@ module _ (word : List ℕ) (f : Form) (year : Terms) (es : List Entry) (fit : fi
   said_by : entries_said word f year es ≡ entries_said_by word f es (list_fault year es)
   said_by = ap (λ b. if b then entries_said_by word f es (list_fault year es) else refusal_words refusal.TooLong) fit
 
-  pub said : list_fault year es ≡ None → entries_said word f year es ≡ word ++ (32 ∷ elements_text f es)
-  said none = said_by ∙ ap (entries_said_by word f es) none
+  pub fitting_said : list_fault year es ≡ None → entries_said word f year es ≡ word ++ (32 ∷ elements_text f es)
+  fitting_said none = said_by ∙ ap (entries_said_by word f es) none
 
-  pub refused : (fault : ElementFault) → list_fault year es ≡ Some fault → entries_said word f year es ≡ element_fault_text fault
-  refused fault is = said_by ∙ ap (entries_said_by word f es) is
+  pub fitting_refused : (fault : ElementFault) → list_fault year es ≡ Some fault → entries_said word f year es ≡ element_fault_text fault
+  fitting_refused fault is = said_by ∙ ap (entries_said_by word f es) is

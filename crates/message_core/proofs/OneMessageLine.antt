@@ -1,4 +1,4 @@
--- What messages say: one line, and of a line of pairs one list of elements.
+-- A message has one line, and lines of pairs say their elements: the laws `one_message_line` and `pairs_say_elements`.
 use Rattle.std.proofs.Common.{◌≡◌, ◌⊎◌, ◌==◌, ◌&&◌, ◌++◌, ◌∙◌, ◌∷◌, Bool, List, None, Option, Some, [], ap, ap₂, cond, drop, false, inl, inr, length, nat_le, not, refl, subst, sym, true, ℕ}
 use Rattle.std.specs.Prelude.{codes}
 use Rattle.std.specs.Fmt.{decimal}
@@ -26,6 +26,7 @@ use Rattle.message_core.specs.Laws.{OneMessageLine, PairsSayElements}
 use Rattle.message_core.specs.Links.{entries_said_by, fits, link_entries, link_said_by}
 use Rattle.message_core.specs.Messages.{IsEanUpcBy, IsHeadLine, IsMessageLine, IsSymbolLine, gtin_said, gtin_said_by}
 use Rattle.message_core.specs.Spellings.{spelled, without_separator}
+use Rattle.message_core.specs.Symbologies.{identifier_of}
 use Rattle.message_core.specs.Upce.{IsUpceLine}
 use Rattle.message_core.specs.declared.head.Head.{Head}
 use Rattle.message_core.specs.declared.head.Head.TheVariants as head
@@ -55,14 +56,14 @@ module _ (one : OneListOrFault) where
   elements_once word f year said x y h k = one_elements_line word (elements_text f) year (spelled (without_separator said)) x y h k
 
   symbol_once : (s : Symbology) (f : Form) (year : Terms) (said x y : List ℕ) → IsSymbolLine s f year said x → IsSymbolLine s f year said y → x ≡ y
-  symbol_once symbology.EanUpc f year said x y h k = ean_upc_once (codes "]E0") f said (length said == 8) x y h k
+  symbol_once symbology.EanUpc f year said x y h k = ean_upc_once (identifier_of symbology.EanUpc) f said (length said == 8) x y h k
   symbol_once symbology.Ean8 f year said x y h k = h ∙ sym k
   symbol_once symbology.Itf14 f year said x y h k = h ∙ sym k
-  symbol_once symbology.Gs1128 f year said x y h k = elements_once (codes "]C1") f year said x y h k
-  symbol_once symbology.DataBar f year said x y h k = elements_once (codes "]e0") f year said x y h k
-  symbol_once symbology.DataMatrix f year said x y h k = elements_once (codes "]d2") f year said x y h k
-  symbol_once symbology.QrCode f year said x y h k = elements_once (codes "]Q3") f year said x y h k
-  symbol_once symbology.DotCode f year said x y h k = elements_once (codes "]J1") f year said x y h k
+  symbol_once symbology.Gs1128 f year said x y h k = elements_once (identifier_of symbology.Gs1128) f year said x y h k
+  symbol_once symbology.DataBar f year said x y h k = elements_once (identifier_of symbology.DataBar) f year said x y h k
+  symbol_once symbology.DataMatrix f year said x y h k = elements_once (identifier_of symbology.DataMatrix) f year said x y h k
+  symbol_once symbology.QrCode f year said x y h k = elements_once (identifier_of symbology.QrCode) f year said x y h k
+  symbol_once symbology.DotCode f year said x y h k = elements_once (identifier_of symbology.DotCode) f year said x y h k
   symbol_once symbology.LinkDataMatrix f year said x y h k = h ∙ sym k
   symbol_once symbology.LinkQrCode f year said x y h k = h ∙ sym k
 
@@ -87,15 +88,15 @@ has_no_blank word = list_all (λ b. not (b == 32)) word
 abbrev is_word : List ℕ → Bool
 is_word word = has_no_blank word && nat_le (length word) 3
 
-no_blank : (b : ℕ) (rest : Bool) → 32 ≡ b → (not (b == 32) && rest) ≡ true → ⊥
-no_blank b rest is plain =
+blank_in_word : (b : ℕ) (rest : Bool) → 32 ≡ b → (not (b == 32) && rest) ≡ true → ⊥
+blank_in_word b rest is plain =
     let never : false ≡ true = ap (λ n. not (n == 32)) is ∙ (and_parts (not (b == 32)) rest plain).0 in cc never
 
 -- a text has one first word
 first_words : (w v x y : List ℕ) → has_no_blank w ≡ true → has_no_blank v ≡ true → w ++ (32 ∷ x) ≡ v ++ (32 ∷ y) → (w ≡ v) × (x ≡ y)
 first_words [] [] x y p q e = (refl, cc e)
-first_words [] (b ∷ v) x y p q e = absurd (let is : 32 ≡ b = cc e in no_blank b (has_no_blank v) is q)
-first_words (a ∷ w) [] x y p q e = absurd (let is : 32 ≡ a = cc e in no_blank a (has_no_blank w) is p)
+first_words [] (b ∷ v) x y p q e = absurd (let is : 32 ≡ b = cc e in blank_in_word b (has_no_blank v) is q)
+first_words (a ∷ w) [] x y p q e = absurd (let is : 32 ≡ a = cc e in blank_in_word a (has_no_blank w) is p)
 first_words (a ∷ w) (b ∷ v) x y p q e =
     let heads : a ≡ b = cc e in
     let tails : w ++ (32 ∷ x) ≡ v ++ (32 ∷ y) = cc e in
@@ -243,16 +244,16 @@ module _ (checked : GtinsAreChecked) (reads : GtinReads) (faultless : FaultlessP
     link_tells (Some es) is = fitting (fits es) es is
 
   symbol_tells : (s : Symbology) (said : List ℕ) → IsSymbolLine s Pairs year said line → Tells (λ f. IsSymbolLine s f year said) line
-  symbol_tells symbology.EanUpc said h = ean_upc_tells (codes "]E0") refl (length said == 8) said h
-  symbol_tells symbology.Ean8 said h = sized_tells (codes "]E4") refl (length said == 8) said h
-  symbol_tells symbology.Itf14 said h = sized_tells (codes "]I1") refl (length said == 14) said h
-  symbol_tells symbology.Gs1128 said h = elements_tell (codes "]C1") refl (spelled (without_separator said)) h
-  symbol_tells symbology.DataBar said h = elements_tell (codes "]e0") refl (spelled (without_separator said)) h
-  symbol_tells symbology.DataMatrix said h = elements_tell (codes "]d2") refl (spelled (without_separator said)) h
-  symbol_tells symbology.QrCode said h = elements_tell (codes "]Q3") refl (spelled (without_separator said)) h
-  symbol_tells symbology.DotCode said h = elements_tell (codes "]J1") refl (spelled (without_separator said)) h
-  symbol_tells symbology.LinkDataMatrix said h = link_tells (codes "]d1") refl (link_entries said) h
-  symbol_tells symbology.LinkQrCode said h = link_tells (codes "]Q1") refl (link_entries said) h
+  symbol_tells symbology.EanUpc said h = ean_upc_tells (identifier_of symbology.EanUpc) refl (length said == 8) said h
+  symbol_tells symbology.Ean8 said h = sized_tells (identifier_of symbology.Ean8) refl (length said == 8) said h
+  symbol_tells symbology.Itf14 said h = sized_tells (identifier_of symbology.Itf14) refl (length said == 14) said h
+  symbol_tells symbology.Gs1128 said h = elements_tell (identifier_of symbology.Gs1128) refl (spelled (without_separator said)) h
+  symbol_tells symbology.DataBar said h = elements_tell (identifier_of symbology.DataBar) refl (spelled (without_separator said)) h
+  symbol_tells symbology.DataMatrix said h = elements_tell (identifier_of symbology.DataMatrix) refl (spelled (without_separator said)) h
+  symbol_tells symbology.QrCode said h = elements_tell (identifier_of symbology.QrCode) refl (spelled (without_separator said)) h
+  symbol_tells symbology.DotCode said h = elements_tell (identifier_of symbology.DotCode) refl (spelled (without_separator said)) h
+  symbol_tells symbology.LinkDataMatrix said h = link_tells (identifier_of symbology.LinkDataMatrix) refl (link_entries said) h
+  symbol_tells symbology.LinkQrCode said h = link_tells (identifier_of symbology.LinkQrCode) refl (link_entries said) h
 
   head_tells : (text : List ℕ) (o : Option Head) → IsHeadLine Pairs year text o line → Tells (λ f. IsHeadLine f year text o) line
   head_tells text (Some (head.Symbology s)) h = symbol_tells s (drop 3 text) h

@@ -1,4 +1,4 @@
--- Texts that are cut at a byte.
+-- The first part of a text that is cut at the bytes that pass a test.
 use Rattle.std.proofs.Common.{◌≡◌, ◌<◌, ◌≤◌, ◌+◌, ◌-◌, ◌∙◌, ◌∷◌, Bool, List, [], ap, arith, drop, length, length-drop, sym, take, ℕ}
 use Rattle.std.specs.List.{position_or_len, slice_split}
 use Rattle.std.proofs.lemmas.List.{take_all}

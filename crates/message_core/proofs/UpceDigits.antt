@@ -1,19 +1,21 @@
--- What UPC-E digits stand for.
-use Rattle.std.proofs.Common.{◌≡◌, ◌<◌, ◌==◌, ◌∙◌, ◌∷◌, Bool, List, None, Some, [], ap, arith, false, get_or, if◌then◌else◌, inl, inr, length, lit<, nat_le, refl, subst, sym, true, ℕ}
+-- The digits of a UPC-E have one line, and stand for a GTIN of 14 digits.
+use Rattle.std.proofs.Common.{◌≡◌, ◌<◌, ◌==◌, ◌+◌, ◌-◌, ◌∙◌, ◌∷◌, Bool, List, None, Some, [], ap, arith, false, if◌then◌else◌, inl, inr, length, length-append, lit<, nat_le, refl, replicate, subst, sym, true, ℕ}
+use Rattle.std.proofs.lemmas.List.{length-replicate}
 use Rattle.digits_core.specs.Digits.{AreDigits, padded}
 use Rattle.digits_core.specs.Faults.{digit_fault_text}
 use Rattle.digits_core.specs.Upce.{IsUpceOf, upce_expanded}
 use Rattle.digits_core.specs.declared.fault.DigitFault.{DigitFault}
 use Rattle.digits_core.specs.declared.fault.DigitFault.TheVariants as digits
+use Rattle.digits_core.proofs.Suppression.{expanded_shape}
 use Rattle.message_core.specs.Upce.{IsUpceDigits, IsUpceFault, IsUpceLine, upce_fault}
 
 -- ---- one line
 
 -- digits that stand for a GTIN are not refused
-pub refused : (text gtin : List ℕ) (f : DigitFault) → upce_fault text ≡ None → IsUpceDigits text gtin → IsUpceFault text f → ⊥
-refused text gtin digits.CheckDigit none is h = h.1 gtin is
-refused text gtin digits.Length none is h = absurd (let no : Some digits.Length ≡ None = sym h ∙ none in cc no)
-refused text gtin (digits.NotDigit place) none is h = absurd (let no : Some (digits.NotDigit place) ≡ None = sym h ∙ none in cc no)
+pub said_not_refused : (text gtin : List ℕ) (f : DigitFault) → upce_fault text ≡ None → IsUpceDigits text gtin → IsUpceFault text f → ⊥
+said_not_refused text gtin digits.CheckDigit none is h = h.1 gtin is
+said_not_refused text gtin digits.Length none is h = absurd (let no : Some digits.Length ≡ None = sym h ∙ none in cc no)
+said_not_refused text gtin (digits.NotDigit place) none is h = absurd (let no : Some (digits.NotDigit place) ≡ None = sym h ∙ none in cc no)
 
 pub one_fault : (text : List ℕ) (f g : DigitFault) → IsUpceFault text f → IsUpceFault text g → f ≡ g
 one_fault text digits.CheckDigit digits.CheckDigit h k = refl
@@ -28,12 +30,24 @@ one_fault text (digits.NotDigit p) (digits.NotDigit q) h k = cc (h, k)
 
 pub one_upce_line : (said : List ℕ → List ℕ) (text a b : List ℕ) → IsUpceLine said text a → IsUpceLine said text b → a ≡ b
 one_upce_line said text a b (inl (g, none, is, line)) (inl (o, also, it, other)) = line ∙ (ap said (is.number ∙ sym it.number) ∙ sym other)
-one_upce_line said text a b (inl (g, none, is, line)) (inr (f, because, other)) = absurd (refused text g f none is because)
-one_upce_line said text a b (inr (f, because, line)) (inl (g, none, is, other)) = absurd (refused text g f none is because)
+one_upce_line said text a b (inl (g, none, is, line)) (inr (f, because, other)) = absurd (said_not_refused text g f none is because)
+one_upce_line said text a b (inr (f, because, line)) (inl (g, none, is, other)) = absurd (said_not_refused text g f none is because)
 one_upce_line said text a b (inr (f, because, line)) (inr (g, also, other)) = line ∙ (ap digit_fault_text (one_fault text f g because also) ∙ sym other)
 
 -- ---- a GTIN of 14 digits
 
+-- what holds of six elements holds of a list of six
+pub by_six : (P : List ℕ → Type 0) → ((a b c d e f : ℕ) → P (a ∷ b ∷ c ∷ d ∷ e ∷ f ∷ [])) → (six : List ℕ) → length six ≡ 6 → P six
+by_six P each (a ∷ b ∷ c ∷ d ∷ e ∷ f ∷ []) is = each a b c d e f
+by_six P each [] is = absurd (omega (arith, is))
+by_six P each (a ∷ []) is = absurd (omega (arith, is))
+by_six P each (a ∷ b ∷ []) is = absurd (omega (arith, is))
+by_six P each (a ∷ b ∷ c ∷ []) is = absurd (omega (arith, is))
+by_six P each (a ∷ b ∷ c ∷ d ∷ []) is = absurd (omega (arith, is))
+by_six P each (a ∷ b ∷ c ∷ d ∷ e ∷ []) is = absurd (omega (arith, is))
+by_six P each (a ∷ b ∷ c ∷ d ∷ e ∷ f ∷ g ∷ more) is = absurd (omega (arith, is))
+
+-- by each line of the zero-suppression table, as `upce_expanded` has them
 by_lines : (p q r : Bool) (a b c d e f check : ℕ) → a < 10 → b < 10 → c < 10 → d < 10 → e < 10 → f < 10 → check < 10
     → AreDigits (padded (if p then 0 ∷ a ∷ b ∷ f ∷ 0 ∷ 0 ∷ 0 ∷ 0 ∷ c ∷ d ∷ e ∷ check ∷ []
     else if q then 0 ∷ a ∷ b ∷ c ∷ 0 ∷ 0 ∷ 0 ∷ 0 ∷ 0 ∷ d ∷ e ∷ check ∷ []
@@ -48,30 +62,16 @@ by_lines false false true a b c d e f check ha hb hc hd he hf last =
 by_lines false false false a b c d e f check ha hb hc hd he hf last =
     (lit< tt, (lit< tt, (lit< tt, (ha, (hb, (hc, (hd, (he, (lit< tt, (lit< tt, (lit< tt, (lit< tt, (hf, (last, tt))))))))))))))
 
-expanded_digits : (six : List ℕ) (check : ℕ) → length six ≡ 6 → AreDigits six → check < 10 → AreDigits (padded (upce_expanded six check))
-expanded_digits (a ∷ b ∷ c ∷ d ∷ e ∷ f ∷ []) check is h last =
+expanded_digits : (check : ℕ) → check < 10 → (a b c d e f : ℕ) → AreDigits (a ∷ b ∷ c ∷ d ∷ e ∷ f ∷ [])
+    → AreDigits (padded (upce_expanded (a ∷ b ∷ c ∷ d ∷ e ∷ f ∷ []) check))
+expanded_digits check last a b c d e f h =
     by_lines (nat_le f 2) (f == 3) (f == 4) a b c d e f check h.0 h.1.0 h.1.1.0 h.1.1.1.0 h.1.1.1.1.0 h.1.1.1.1.1.0 last
-expanded_digits [] check is h last = absurd (omega (arith, is))
-expanded_digits (a ∷ []) check is h last = absurd (omega (arith, is))
-expanded_digits (a ∷ b ∷ []) check is h last = absurd (omega (arith, is))
-expanded_digits (a ∷ b ∷ c ∷ []) check is h last = absurd (omega (arith, is))
-expanded_digits (a ∷ b ∷ c ∷ d ∷ []) check is h last = absurd (omega (arith, is))
-expanded_digits (a ∷ b ∷ c ∷ d ∷ e ∷ []) check is h last = absurd (omega (arith, is))
-expanded_digits (a ∷ b ∷ c ∷ d ∷ e ∷ f ∷ g ∷ more) check is h last = absurd (omega (arith, is))
-
-by_length : (p q r : Bool) (d : ℕ → ℕ) (check : ℕ)
-    → length (padded (if p then 0 ∷ d 0 ∷ d 1 ∷ d 5 ∷ 0 ∷ 0 ∷ 0 ∷ 0 ∷ d 2 ∷ d 3 ∷ d 4 ∷ check ∷ []
-    else if q then 0 ∷ d 0 ∷ d 1 ∷ d 2 ∷ 0 ∷ 0 ∷ 0 ∷ 0 ∷ 0 ∷ d 3 ∷ d 4 ∷ check ∷ []
-    else if r then 0 ∷ d 0 ∷ d 1 ∷ d 2 ∷ d 3 ∷ 0 ∷ 0 ∷ 0 ∷ 0 ∷ 0 ∷ d 4 ∷ check ∷ []
-    else 0 ∷ d 0 ∷ d 1 ∷ d 2 ∷ d 3 ∷ d 4 ∷ 0 ∷ 0 ∷ 0 ∷ 0 ∷ d 5 ∷ check ∷ [])) ≡ 14
-by_length true q r d check = refl
-by_length false true r d check = refl
-by_length false false true d check = refl
-by_length false false false d check = refl
 
 pub upce_gtin : (six : List ℕ) (check : ℕ) (gtin : List ℕ) → IsUpceOf six check gtin → (length gtin ≡ 14) × AreDigits gtin
 upce_gtin six check gtin is =
-    let d : ℕ → ℕ = λ i. get_or six i 0 in (
-      ap length is.number ∙ by_length (nat_le (d 5) 2) (d 5 == 3) (d 5 == 4) d check,
-      subst AreDigits (sym is.number) (expanded_digits six check is.six_digits is.valid is.check_valid),
-    )
+    let ds = upce_expanded six check in
+    let twelve = (expanded_shape six check).count in
+    let zeros : length (padded ds) ≡ 14 - length ds + length ds =
+    length-append (replicate (14 - length ds) 0) ds ∙ ap (λ n. n + length ds) (length-replicate (14 - length ds) 0) in
+    let digits = by_six (λ xs. AreDigits xs → AreDigits (padded (upce_expanded xs check))) (expanded_digits check is.check_valid) six is.six_digits is.valid in
+    (ap length is.number ∙ zeros ∙ omega (arith, twelve), subst AreDigits (sym is.number) digits)

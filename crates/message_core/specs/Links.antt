@@ -111,17 +111,17 @@ is_plain query = list_all (λ b. not (b == 59)) query && list_all is_plain_name 
 abbrev pub front_of : List ℕ → List ℕ
 front_of text = before_first (λ b. b == 35) (behind_scheme text)
 
-abbrev pub place_of : List ℕ → List ℕ
-place_of text = before_first (λ b. b == 63) (front_of text)
+abbrev pub host_and_path : List ℕ → List ℕ
+host_and_path text = before_first (λ b. b == 63) (front_of text)
 
 abbrev pub query_of : List ℕ → List ℕ
 query_of text = after_first (λ b. b == 63) (front_of text)
 
 abbrev pub host_of : List ℕ → List ℕ
-host_of text = before_first (λ b. b == 47) (place_of text)
+host_of text = before_first (λ b. b == 47) (host_and_path text)
 
 abbrev pub path_of : List ℕ → List ℕ
-path_of text = without_slash (after_first (λ b. b == 47) (place_of text))
+path_of text = without_slash (after_first (λ b. b == 47) (host_and_path text))
 
 -- bytes of a URI, each `%` with its two digits
 abbrev pub is_written : List ℕ → Bool

@@ -48,11 +48,11 @@ IsSaidLine word f year text line = IsElementsLine word (elements_text f) year (s
 
 -- the line of what a symbol of a symbology says
 abbrev pub IsSymbolLine : Symbology → Form → Terms → List ℕ → List ℕ → Type 0
-IsSymbolLine symbology.EanUpc f year said line = IsEanUpcSaid (codes "]E0") f said line
-IsSymbolLine symbology.Ean8 f year said line = line ≡ sized_said (codes "]E4") f 8 said
-IsSymbolLine symbology.Itf14 f year said line = line ≡ sized_said (codes "]I1") f 14 said
-IsSymbolLine symbology.LinkDataMatrix f year said line = line ≡ link_said (codes "]d1") f year said
-IsSymbolLine symbology.LinkQrCode f year said line = line ≡ link_said (codes "]Q1") f year said
+IsSymbolLine symbology.EanUpc f year said line = IsEanUpcSaid (identifier_of symbology.EanUpc) f said line
+IsSymbolLine symbology.Ean8 f year said line = line ≡ sized_said (identifier_of symbology.Ean8) f 8 said
+IsSymbolLine symbology.Itf14 f year said line = line ≡ sized_said (identifier_of symbology.Itf14) f 14 said
+IsSymbolLine symbology.LinkDataMatrix f year said line = line ≡ link_said (identifier_of symbology.LinkDataMatrix) f year said
+IsSymbolLine symbology.LinkQrCode f year said line = line ≡ link_said (identifier_of symbology.LinkQrCode) f year said
 IsSymbolLine s f year said line = IsSaidLine (identifier_of s) f year said line
 
 -- the line of a message by its head; `-` stands for an identifier that was not sent

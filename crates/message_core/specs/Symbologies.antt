@@ -20,14 +20,14 @@ identifier_of symbology.LinkQrCode = codes "]Q1"
 -- the symbology of this identifier
 abbrev pub symbology_named : List ℕ → Option Symbology
 symbology_named identifier =
-    if bytes_eq identifier (codes "]E0") then Some symbology.EanUpc
-    else if bytes_eq identifier (codes "]E4") then Some symbology.Ean8
-    else if bytes_eq identifier (codes "]I1") then Some symbology.Itf14
-    else if bytes_eq identifier (codes "]C1") then Some symbology.Gs1128
-    else if bytes_eq identifier (codes "]e0") then Some symbology.DataBar
-    else if bytes_eq identifier (codes "]d2") then Some symbology.DataMatrix
-    else if bytes_eq identifier (codes "]Q3") then Some symbology.QrCode
-    else if bytes_eq identifier (codes "]J1") then Some symbology.DotCode
-    else if bytes_eq identifier (codes "]d1") then Some symbology.LinkDataMatrix
-    else if bytes_eq identifier (codes "]Q1") then Some symbology.LinkQrCode
+    if bytes_eq identifier (identifier_of symbology.EanUpc) then Some symbology.EanUpc
+    else if bytes_eq identifier (identifier_of symbology.Ean8) then Some symbology.Ean8
+    else if bytes_eq identifier (identifier_of symbology.Itf14) then Some symbology.Itf14
+    else if bytes_eq identifier (identifier_of symbology.Gs1128) then Some symbology.Gs1128
+    else if bytes_eq identifier (identifier_of symbology.DataBar) then Some symbology.DataBar
+    else if bytes_eq identifier (identifier_of symbology.DataMatrix) then Some symbology.DataMatrix
+    else if bytes_eq identifier (identifier_of symbology.QrCode) then Some symbology.QrCode
+    else if bytes_eq identifier (identifier_of symbology.DotCode) then Some symbology.DotCode
+    else if bytes_eq identifier (identifier_of symbology.LinkDataMatrix) then Some symbology.LinkDataMatrix
+    else if bytes_eq identifier (identifier_of symbology.LinkQrCode) then Some symbology.LinkQrCode
     else None

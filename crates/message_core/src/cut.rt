@@ -1,6 +1,13 @@
-//! Texts that are cut at a byte.
-ghost use Rattle.std.specs.Prelude.{◌≡◌, ◌==◌, ◌<◌, ◌≤◌, ◌∷◌, ℕ, List, [], length, IfNone, IfSome};
+//! Texts that are cut at a place or at a byte.
+ghost use Rattle.std.specs.Prelude.{◌≡◌, ◌==◌, ◌<◌, ◌≤◌, ◌∷◌, ℕ, List, [], drop, length, IfNone, IfSome};
 ghost use Rattle.std.specs.List.{after_first, before_first, position_or_len, slice_split};
+
+/// What follows after this many bytes.
+pub(crate) fn without_first(many: usize, text: &[u8]) -> &[u8]
+    ensures { result.now ≡ drop many text.now }
+{
+    text.split_at(text.len().min(many)).1
+}
 
 /// Where the first such byte stands, or the length of the text.
 fn place_of(byte: u8, text: &[u8]) -> usize

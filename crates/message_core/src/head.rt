@@ -5,6 +5,7 @@ ghost use Rattle.std.specs.List.{list_all};
 ghost use Rattle.message_core.specs.Heads.{begins_bracketed, begins_separated, begins_with_eight, head_of, is_bare, is_message};
 ghost use Rattle.message_core.specs.Symbologies.{symbology_named};
 
+use crate::cut::without_first;
 use crate::link::begins_link;
 use crate::symbology::Symbology;
 
@@ -74,7 +75,7 @@ pub fn is_message(text: &[u8]) -> bool
 pub(crate) fn behind_identifier(text: &[u8]) -> &[u8]
     ensures { result.now ≡ drop 3 text.now }
 {
-    text.split_at(text.len().min(3)).1
+    without_first(3, text)
 }
 
 /// The symbology whose identifier begins a text.

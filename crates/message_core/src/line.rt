@@ -5,11 +5,11 @@ ghost use Rattle.message_core.specs.Heads.{head_of};
 ghost use Rattle.message_core.specs.Messages.{IsEanUpcSaid, IsHeadLine, IsMessageLine, IsSaidLine, IsSymbolLine, gtin_said, sized_said};
 
 use crate::head::{Head, behind_identifier, head_of};
-use crate::link::link_said;
+use crate::link::{link_said, refused_kind};
 use crate::spelling::read_elements;
 use crate::symbology::Symbology;
 use crate::upce::upce_said;
-use digits_core::{DigitFault, Gtin, Refusal, RefusalKind};
+use digits_core::{DigitFault, Gtin};
 use element_core::{Elements, Form, Line, Year};
 
 /// What stands for an identifier if none was sent.
@@ -91,10 +91,7 @@ fn head_line(form: Form, text: &[u8], year: Year) -> Line
         Some(Head::Separator) => elements_said(NONE, form, text, year),
         Some(Head::Digits) => gtin_said(NONE, form, text, year),
         Some(Head::Link) => link_said(NONE, form, text, year),
-        None => Line::refused(Refusal {
-            kind: RefusalKind::Kind,
-            place: None,
-        }),
+        None => refused_kind(),
     }
 }
 

@@ -1,14 +1,14 @@
 //! Digital Links: URIs that carry elements.
-ghost use Rattle.std.specs.Prelude.{◌≡◌, ◌==◌, ◌++◌, drop, not};
+ghost use Rattle.std.specs.Prelude.{◌≡◌, ◌==◌, ◌++◌, not};
 ghost use Rattle.std.specs.Char.{is_ascii_graphic};
 ghost use Rattle.std.specs.List.{list_all};
 ghost use Rattle.digits_core.specs.Refusals.{refusal_words};
 ghost use Rattle.digits_core.specs.declared.refusal.RefusalKind.TheVariants as refusal;
 ghost use Rattle.element_core.specs.Lines.{line_text};
-ghost use Rattle.message_core.specs.Links.{begins_any_case, begins_http, begins_https, begins_link, behind_scheme, entries_said, has_host, is_plain, is_plain_name, is_uri, is_written, link_said, parameters, path_entries, path_of, place_of, query_entries, query_of, segments, without_slash};
+ghost use Rattle.message_core.specs.Links.{begins_any_case, begins_http, begins_https, begins_link, behind_scheme, entries_said, has_host, host_and_path, is_plain, is_plain_name, is_uri, is_written, link_said, parameters, path_entries, path_of, query_entries, query_of, segments, without_slash};
 
 use crate::coding::is_coded;
-use crate::cut::{before, behind, first_part};
+use crate::cut::{before, behind, first_part, without_first};
 use crate::pairs::{Pairs, put_path, put_query};
 use crate::path::key_part;
 use digits_core::{Refusal, RefusalKind};
@@ -48,13 +48,6 @@ pub(crate) fn begins_link(text: &[u8]) -> bool
     ensures { result ≡ begins_link text.now }
 {
     begins_http(text) || begins_https(text)
-}
-
-/// What follows after this many bytes.
-fn without_first(many: usize, text: &[u8]) -> &[u8]
-    ensures { result.now ≡ drop many text.now }
-{
-    text.split_at(text.len().min(many)).1
 }
 
 /// What stands behind the scheme.
@@ -136,12 +129,12 @@ fn is_written(text: &[u8]) -> bool
 fn has_host(text: &[u8]) -> bool
     ensures { result ≡ has_host text.now }
 {
-    !before(b'/', place_of(text)).is_empty()
+    !before(b'/', host_and_path(text)).is_empty()
 }
 
 /// The host and the path of a URI.
-fn place_of(text: &[u8]) -> &[u8]
-    ensures { result.now ≡ place_of text.now }
+fn host_and_path(text: &[u8]) -> &[u8]
+    ensures { result.now ≡ host_and_path text.now }
 {
     before(b'?', before(b'#', behind_scheme(text)))
 }
@@ -157,7 +150,7 @@ fn query_of(text: &[u8]) -> &[u8]
 fn path_of(text: &[u8]) -> &[u8]
     ensures { result.now ≡ path_of text.now }
 {
-    without_slash(behind(b'/', place_of(text)))
+    without_slash(behind(b'/', host_and_path(text)))
 }
 
 /// Whether a text is a URI of the web, with a host and a plain query.
@@ -168,7 +161,7 @@ fn is_uri(text: &[u8]) -> bool
 }
 
 /// The line of the elements of a path from its key on and of a query, behind a word.
-fn elements_said(word: &'static str, form: Form, path: &[u8], query: &[u8], year: Year) -> Line
+fn entries_said(word: &'static str, form: Form, path: &[u8], query: &[u8], year: Year) -> Line
     ensures { line_text result ≡ entries_said word.now form year (path_entries (segments path.now) ++ query_entries (parameters query.now)) }
 {
     let mut pairs = Pairs::new();
@@ -184,8 +177,8 @@ fn elements_said(word: &'static str, form: Form, path: &[u8], query: &[u8], year
     }
 }
 
-/// What is said of a text that is no Digital Link.
-fn no_link() -> Line
+/// The line of a text that is no message, or no Digital Link where it is to be one.
+pub(crate) fn refused_kind() -> Line
     ensures { line_text result ≡ refusal_words refusal.Kind }
 {
     Line::refused(Refusal {
@@ -199,10 +192,10 @@ pub(crate) fn link_said(word: &'static str, form: Form, text: &[u8], year: Year)
     ensures { line_text result ≡ link_said word.now form year text.now }
 {
     if !is_uri(text) {
-        return no_link();
+        return refused_kind();
     }
     match key_part(path_of(text)) {
-        Some(path) => elements_said(word, form, path, query_of(text), year),
-        None => no_link(),
+        Some(path) => entries_said(word, form, path, query_of(text), year),
+        None => refused_kind(),
     }
 }

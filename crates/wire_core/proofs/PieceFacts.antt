@@ -3,11 +3,11 @@ use Rattle.std.proofs.Common.{All, Bool, List, None, Some, [], ap, append-nil, a
 use Rattle.std.proofs.Common.{inl, inr}
 use Rattle.std.specs.List.{after_first, before_first, position_or_len}
 use Rattle.std.proofs.lemmas.Bool.{and_parts, cases_Bool, eqb-true, ltb-false, ltb-true, or_cases, or_parts}
-use Rattle.std.proofs.lemmas.Grind.{flat_map-append}
-use Rattle.std.proofs.lemmas.List.{take_all, nil_from_length}
+use Rattle.std.proofs.lemmas.List.{flat_map_more, nil_from_length, take_all}
 use Rattle.std.proofs.lemmas.List.Elements.{All-append, All-head, All-nil, All-push, All-tail}
 use Rattle.std.proofs.lemmas.List.Splits.{slice_split_at, slice_split_none}
 use Rattle.std.proofs.lemmas.List.Sums.{fails_before_first, passes_at_first, split_at_first}
+use Rattle.std.proofs.lemmas.Option.{cond_some}
 use Rattle.wire_core.specs.Lines.{AreAllTaken, AreTaken, HasNoFeed, Held, IsLine, LinesArePieces, TakesLines, are_last, ended_lines, first_line, held_line, is_feed, is_too_long, most_line, pieces_of, with_room, without_line}
 
 -- the pieces of lines that have ended and of what comes after them
@@ -20,15 +20,12 @@ pieces_after (line ∷ lines) xs each =
 
 -- one more line
 ended_more : (lines : List (List ℕ)) (line : List ℕ) → ended_lines (lines ++ line ∷ []) ≡ ended_lines lines ++ (line ++ 10 ∷ [])
-ended_more lines line = flat_map-append (λ (l : List ℕ). l ++ 10 ∷ []) lines (line ∷ []) ∙ ap (λ t. ended_lines lines ++ t) (append-nil (line ++ 10 ∷ []))
+ended_more lines line = sym (flat_map_more (λ l. l ++ 10 ∷ []) [] lines line)
 
-is_none : {X : Type 0} (b : Bool) (x : X) → cond b (Some x) None ≡ None → b ≡ false
-is_none true x is = cc
-is_none false x is = refl
-
-is_some : {X : Type 0} (b : Bool) (x y : X) → cond b (Some x) None ≡ Some y → (b ≡ true) × (y ≡ x)
-is_some true x y is = (refl, cc)
-is_some false x y is = cc
+-- where a test gives none, it fails; std has the other half, `cond_some`
+cond_none : {X : Type 0} (b : Bool) (x : X) → cond b (Some x) None ≡ None → b ≡ false
+cond_none true x is = cc
+cond_none false x is = refl
 
 -- where the first line feed would stand after all bytes there is none
 no_feed : (xs : List ℕ) → length xs ≤ position_or_len is_feed xs → HasNoFeed xs
@@ -44,18 +41,14 @@ none_before xs = λ k d low.
 none_held : (h : Held) → held_line h ≡ None → HasNoFeed h.rest × (are_last h ≡ false)
 none_held h none =
     let p = nat_lt (position_or_len is_feed h.rest) (length h.rest) in
-    let parts = or_parts p (are_last h) (is_none (p || are_last h) (before_first is_feed h.rest) none) in
+    let parts = or_parts p (are_last h) (cond_none (p || are_last h) (before_first is_feed h.rest) none) in
     (no_feed h.rest (ltb-false (position_or_len is_feed h.rest) (length h.rest) parts.0), parts.1)
-
-rest_false : (a b : Bool) → a ≡ true → (a && b) ≡ false → b ≡ false
-rest_false true b is fails = fails
-rest_false false b is fails = cc
 
 -- at the end of the input, where no line is held, nothing is
 nothing_left : (h : Held) → held_line h ≡ None → h.has_ended ≡ true → (h.is_cut ≡ false) × (h.rest ≡ [])
 nothing_left h none ended =
     let last = (none_held h none).1 in
-    let held : (h.is_cut || nat_lt 0 (length h.rest)) ≡ false = rest_false h.has_ended (h.is_cut || nat_lt 0 (length h.rest)) ended last in
+    let held : (h.is_cut || nat_lt 0 (length h.rest)) ≡ false = sym (ap (λ e. e && (h.is_cut || nat_lt 0 (length h.rest))) ended) ∙ last in
     let parts = or_parts h.is_cut (nat_lt 0 (length h.rest)) held in
     (parts.0, nil_from_length h.rest (omega (arith, ltb-false 0 (length h.rest) parts.1)))
 
@@ -116,23 +109,20 @@ is_line bytes lines h found t = (
   λ cut. let long = t.long cut in omega (arith, long, length-append t.front found),
 )
 
-either : (a b : Bool) → a ≡ false → (a || b) ≡ true → b ≡ true
-either true b not_so is = cc
-either false b not_so is = is
-
 -- a line was taken
 taken : (bytes : List ℕ) (lines : List (List ℕ)) (h : Held) (found : List ℕ) → AreTaken bytes lines h → held_line h ≡ Some found
     → (line : List ℕ) × IsLine h found line × TakesLines bytes (lines ++ line ∷ []) (without_line h)
 taken bytes lines h found t is =
     let p = nat_lt (position_or_len is_feed h.rest) (length h.rest) in
-    let some = is_some (p || are_last h) (before_first is_feed h.rest) found is in
+    let some = cond_some (p || are_last h) (before_first is_feed h.rest) found is in
     let line = t.front ++ before_first is_feed h.rest in
     let taken : TakesLines bytes (lines ++ line ∷ []) (without_line h) = ⊎_elim
     (λ (e : p ≡ true). inl (taken_feed bytes lines h t (ltb-true _ _ e)))
-    (λ (e : p ≡ false). inr (taken_last bytes lines h t (ltb-false _ _ e)
-    (and_parts h.has_ended (h.is_cut || nat_lt 0 (length h.rest)) (either p (are_last h) e some.0)).0))
+    (λ (e : p ≡ false).
+    let last : are_last h ≡ true = sym (ap (λ low. low || are_last h) e) ∙ some.0 in
+    inr (taken_last bytes lines h t (ltb-false _ _ e) (and_parts h.has_ended (h.is_cut || nat_lt 0 (length h.rest)) last).0))
     (cases_Bool p) in
-    (line, subst (λ f. IsLine h f line) (sym some.1) (is_line bytes lines h (before_first is_feed h.rest) t), taken)
+    (line, subst (λ f. IsLine h f line) some.1 (is_line bytes lines h (before_first is_feed h.rest) t), taken)
 
 -- the front of a line that is too long was given up, and more came
 kept : (bytes more : List ℕ) (lines : List (List ℕ)) (h : Held) (ends : Bool) → AreTaken bytes lines h → HasNoFeed h.rest

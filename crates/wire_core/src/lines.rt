@@ -1,8 +1,8 @@
 //! The lines of an input that comes in pieces.
-ghost use Rattle.std.specs.Prelude.{◌≡◌, ◌≤◌, ◌||◌, ◌<◌, nat_lt, drop, if◌then◌else◌, vec_capacity, ◌∷◌, ◌++◌, [], ℕ, List, None, Some, true, IfNone, IfOk, IfSome, OnErr, OnOk, length};
+ghost use Rattle.std.specs.Prelude.{◌≡◌, ◌≤◌, ◌||◌, ◌<◌, ◌+◌, nat_lt, drop, if◌then◌else◌, vec_capacity, ◌∷◌, ◌++◌, [], ℕ, List, None, Some, true, IfNone, IfOk, IfSome, OnErr, OnOk, length};
 ghost use Rattle.wire_core.specs.Events.{Ends};
 ghost use Rattle.wire_core.specs.Events.Event.{Read};
-ghost use Rattle.wire_core.specs.Lines.{arrived, first_line, held_line, nothing_held, with_room, without_line};
+ghost use Rattle.wire_core.specs.Lines.{arrived, first_line, held_line, most_line, nothing_held, with_room, without_line};
 
 use crate::wire::Wire;
 use digits_core::Failed;
@@ -13,7 +13,7 @@ use std::marker::Model;
 /// As many bytes as a line has at most, without the line feed and a carriage return before it: `most_line` in specs/.
 pub const MOST_LINE: usize = 65_536;
 
-/// How many bytes are asked for at a time.
+/// How many bytes are asked for at a time. The invariant of `Lines` has this number and the next too.
 const CHUNK: usize = 65_536;
 
 /// What is held at most: a line with its carriage return, and what one more read gives.
@@ -38,6 +38,7 @@ impl Model for Lines {
 
     ghost view = { λ s. record { rest = drop s.start s.bytes.items; is_cut = s.is_cut; has_ended = s.has_ended } };
 
+    // The two numbers are ROOM and CHUNK.
     ghost invariant = { λ s. (s.start ≤ length s.bytes.items) × (131073 ≤ vec_capacity s.bytes) × (length s.chunk.items ≡ 65536) };
 }
 
@@ -57,9 +58,9 @@ fn first_line(bytes: &[u8], are_last: bool) -> Option<&[u8]>
 /// and says whether it was given up.
 fn keep_rest(bytes: &mut Vec<u8>, start: usize, is_cut: bool) -> bool
     requires { start ≤ length bytes.old.items }
-    ensures cut { result ≡ (is_cut || nat_lt 65537 (length (drop start bytes.old.items))) }
+    ensures cut { result ≡ (is_cut || nat_lt (most_line + 1) (length (drop start bytes.old.items))) }
     ensures rest { bytes.new.items ≡ (if result then [] else drop start bytes.old.items) }
-    ensures few { length bytes.new.items ≤ 65537 }
+    ensures few { length bytes.new.items ≤ most_line + 1 }
     ensures capacity { vec_capacity bytes.new ≡ vec_capacity bytes.old }
 {
     if is_cut || bytes.len() - start > MOST_LINE + 1 {

@@ -39,7 +39,7 @@ pub fn options_named(matches: &ArgMatches<'_>) -> Option<LaneOptions>
     )
 }
 
-/// The words of the command `lanes`, as `clap` reads them; `--ais` takes these choices.
+/// The words of the command `lanes`, as `clap` reads them; `--ais` takes these choices. `live_words` begins with the same.
 pub fn lanes_words<'a>(alloc: Global, choices: &'a [&'a str]) -> Result<Command<'a>, AllocError>
     ensures app { IfOk result (λ c. app_of c ≡ lanes_app choices.entry) }
     ensures own { IfOk result (λ c. (out-Command c).has_globals ≡ false) }

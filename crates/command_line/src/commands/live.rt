@@ -47,7 +47,8 @@ pub fn options_named(matches: &ArgMatches<'_>) -> Option<LiveOptions>
     Some(LiveOptions::new(rows, flag_named(matches, "elements")?))
 }
 
-/// The words of the command `live`, as `clap` reads them; `--ais` takes these choices.
+/// The words of the command `live`, as `clap` reads them; `--ais` takes these choices. They begin with those of
+/// `lanes_words`.
 pub fn live_words<'a>(alloc: Global, choices: &'a [&'a str]) -> Result<Command<'a>, AllocError>
     ensures app { IfOk result (λ c. app_of c ≡ live_app choices.entry) }
     ensures own { IfOk result (λ c. (out-Command c).has_globals ≡ false) }

@@ -40,7 +40,8 @@ Example:
 /// The flag `--text`.
 const TEXT: &str = "Print a line for each label instead of images";
 
-/// The words of the command `print`, as `clap` reads them; `--ais` takes these choices.
+/// The words of the command `print`, as `clap` reads them; `--ais` takes these choices. Those of the grid come first,
+/// as in `scan_words`.
 pub fn print_words<'a>(alloc: Global, choices: &'a [&'a str]) -> Result<Command<'a>, AllocError>
     ensures app { IfOk result (λ c. app_of c ≡ print_app choices.entry) }
     ensures own { IfOk result (λ c. (out-Command c).has_globals ≡ false) }

@@ -1,16 +1,17 @@
--- Widths above 65,535 taken as 65,535 have the same faults, but for a sum that may pass.
-use Rattle.std.proofs.Common.{◌&&◌, ◌||◌, ◌%◌, ◌==◌, ◌+◌, ◌<◌, ◌≡◌, ◌≤◌, ◌-◌, ◌∷◌, Bool, List, None, Some, [], arith, drop, false, length, map, min, nat_le, nat_lt, refl, sum, true, ℕ}
-use Rattle.std.specs.List.{list_all, list_any}
+-- Widths as `read_widths` keeps them, each above 65,535 as 65,535, have the same faults, except that their sum may pass.
+use Rattle.std.proofs.Common.{◌&&◌, ◌%◌, ◌==◌, ◌<◌, ◌≡◌, ◌≤◌, ◌-◌, ◌∙◌, ◌∷◌, Bool, List, None, Option, Some, [], ap, arith, drop, false, get_or, if◌then◌else◌, length, min, nat_le, nat_lt, refl, subst, sum, sym, true, ℕ}
+use Rattle.std.specs.List.{list_all}
+use Rattle.std.proofs.lemmas.Bool.{leb-false, lt-leb, ltb-false, ltb-true, or_parts}
 use Rattle.std.proofs.lemmas.Bool.Decides.{nat_tests}
 use Rattle.std.proofs.lemmas.List.{drop-map, length-map, take-map}
-use Rattle.std.proofs.lemmas.List.Sums.{sum_by-cons}
+use Rattle.std.proofs.lemmas.List.Folds.{Any-from_list_any}
+use Rattle.std.proofs.lemmas.List.Sums.{get_or-le-sum_by, sum-map, sum_by-le-sum_by}
 use Rattle.scan_core.specs.Row.{inner, runs_fault}
+use Rattle.scan_core.specs.declared.fault.RunFault.{RunFault}
 use Rattle.scan_core.specs.declared.fault.RunFault.TheVariants as run
+use Rattle.csv_records.specs.inner.Widths.{capped, has_wide}
 
-abbrev pub capped : List ℕ → List ℕ
-capped widths = map (min 65535) widths
-
--- a width is no 0 where it is none capped
+-- a width is 0 just if it is 0 capped
 some_capped : (w : ℕ) → nat_le 1 (min 65535 w) ≡ nat_le 1 w
 some_capped w = grind (arith, nat_tests)
 
@@ -21,36 +22,26 @@ all_capped (w ∷ ws) = rw (some_capped w, all_capped ws) refl
 inner_capped : (ws : List ℕ) → inner (capped ws) ≡ capped (inner ws)
 inner_capped ws = rw (length-map ws (min 65535), drop-map (min 65535) 1 ws, take-map (min 65535) (length ws - 2) (drop 1 ws)) refl
 
-sum_cons : (w : ℕ) (ws : List ℕ) → sum (w ∷ ws) ≡ w + sum ws
-sum_cons w ws = sum_by-cons (λ x. x) w ws
-
 sum_capped : (ws : List ℕ) → sum (capped ws) ≤ sum ws
-sum_capped [] = omega arith
-sum_capped (w ∷ ws) =
-    let rest = sum_capped ws in
-    omega (arith, rest, sum_cons w ws, sum_cons (min 65535 w) (capped ws))
+sum_capped ws =
+    let less : (w : ℕ) → min 65535 w ≤ w = λ w. omega arith in
+    subst (λ n. n ≤ sum ws) (sym (sum-map (min 65535) ws)) (sum_by-le-sum_by (min 65535) (λ w. w) ws less)
 
 -- one width above 65,535 makes the sum so
-sum_wide : (ws : List ℕ) → list_any (nat_lt 65535) ws ≡ true → 65535 < sum ws
-sum_wide [] e = cc e
-sum_wide (w ∷ ws) e = by (nat_lt 65535 w) refl e (sum_wide ws)
-  where
-    by : (b : Bool) → nat_lt 65535 w ≡ b → b || list_any (nat_lt 65535) ws ≡ true → (list_any (nat_lt 65535) ws ≡ true → 65535 < sum ws)
-        → 65535 < sum (w ∷ ws)
-    by true wide some later = let low : 65535 < w = grind (arith, nat_tests) in omega (arith, low, sum_cons w ws)
-    by false narrow some later = let rest = later some in omega (arith, rest, sum_cons w ws)
+sum_wide : (ws : List ℕ) → has_wide ws ≡ true → 65535 < sum ws
+sum_wide ws some =
+    let one = Any-from_list_any (nat_lt 65535) ws some in
+    let at : get_or ws one.0 one.1 ≡ one.1 = one.3 in
+    let part : get_or ws one.0 one.1 ≤ sum ws = get_or-le-sum_by (λ w. w) ws one.0 one.1 one.2 in
+    omega (arith, ltb-true 65535 one.1 one.4, at, part)
 
 -- without one nothing is capped
-pub capped_narrow : (ws : List ℕ) → list_any (nat_lt 65535) ws ≡ false → capped ws ≡ ws
-capped_narrow [] e = refl
-capped_narrow (w ∷ ws) e = by (nat_lt 65535 w) refl e (capped_narrow ws)
-  where
-    by : (b : Bool) → nat_lt 65535 w ≡ b → b || list_any (nat_lt 65535) ws ≡ false → (list_any (nat_lt 65535) ws ≡ false → capped ws ≡ ws)
-        → capped (w ∷ ws) ≡ w ∷ ws
-    by true wide none later = cc none
-    by false narrow none later =
-        let high : min 65535 w ≡ w = grind (arith, nat_tests) in
-        rw (high, later none) refl
+pub capped_narrow : (ws : List ℕ) → has_wide ws ≡ false → capped ws ≡ ws
+capped_narrow [] narrow = refl
+capped_narrow (w ∷ ws) narrow =
+    let parts = or_parts (nat_lt 65535 w) (has_wide ws) narrow in
+    let high : min 65535 w ≡ w = omega (arith, ltb-false 65535 w parts.0) in
+    rw (high, capped_narrow ws parts.1) refl
 
 -- the number of the widths and the inner ones are right
 is_spaced : List ℕ → Bool
@@ -60,38 +51,46 @@ spaced_capped : (ws : List ℕ) → is_spaced (capped ws) ≡ is_spaced ws
 unfolding is_spaced
 spaced_capped ws = rw (inner_capped ws, all_capped (inner ws), length-map ws (min 65535)) refl
 
+-- ---- faults, by whether the number and the inner widths are right and whether the sum is small
+
+abbrev fault_by : Bool → Bool → Option RunFault
+fault_by spaced small = if spaced then (if small then None else Some run.TooWide) else Some run.BadRuns
+
+own_fault : (ws : List ℕ) → runs_fault ws ≡ fault_by (is_spaced ws) (nat_le (sum ws) 65535)
+unfolding is_spaced
+own_fault ws = refl
+
+capped_fault : (ws : List ℕ) → runs_fault (capped ws) ≡ fault_by (is_spaced ws) (nat_le (sum (capped ws)) 65535)
+capped_fault ws = own_fault (capped ws) ∙ ap (λ b. fault_by b (nat_le (sum (capped ws)) 65535)) (spaced_capped ws)
+
+bad_by : (spaced small other : Bool) → fault_by spaced small ≡ Some run.BadRuns → fault_by spaced other ≡ Some run.BadRuns
+bad_by true true other is = cc is
+bad_by true false other is = cc is
+bad_by false small other is = refl
+
+wide_by : (spaced small other : Bool) → (small ≡ false → other ≡ false) → fault_by spaced small ≡ Some run.TooWide → fault_by spaced other ≡ Some run.TooWide
+wide_by true true other more is = cc is
+wide_by true false other more is = ap (fault_by true) (more refl)
+wide_by false small other more is = cc is
+
+row_by : (spaced small other : Bool) → other ≡ false → fault_by spaced small ≡ None → fault_by spaced other ≡ Some run.TooWide
+row_by true small other large is = ap (fault_by true) large
+row_by false small other large is = cc is
+
 -- a fault of the number or of the inner widths is one of the widths themselves
 pub bad_capped : (ws : List ℕ) → runs_fault (capped ws) ≡ Some run.BadRuns → runs_fault ws ≡ Some run.BadRuns
-unfolding is_spaced
-bad_capped ws e = by (is_spaced ws) refl (nat_le (sum (capped ws)) 65535) refl
-  where
-    by : (b : Bool) → is_spaced ws ≡ b → (small : Bool) → nat_le (sum (capped ws)) 65535 ≡ small → runs_fault ws ≡ Some run.BadRuns
-    by true spaced true small = cc (rw (spaced_capped ws, spaced, small) at e)
-    by true spaced false small = cc (rw (spaced_capped ws, spaced, small) at e)
-    by false spaced small is = rw spaced refl
+bad_capped ws is =
+    own_fault ws ∙ bad_by (is_spaced ws) (nat_le (sum (capped ws)) 65535) (nat_le (sum ws) 65535) (sym (capped_fault ws) ∙ is)
 
 -- and so is a fault of the sum
 pub wide_capped : (ws : List ℕ) → runs_fault (capped ws) ≡ Some run.TooWide → runs_fault ws ≡ Some run.TooWide
-unfolding is_spaced
-wide_capped ws e = by (is_spaced ws) refl (nat_le (sum (capped ws)) 65535) refl
-  where
-    by : (b : Bool) → is_spaced ws ≡ b → (small : Bool) → nat_le (sum (capped ws)) 65535 ≡ small → runs_fault ws ≡ Some run.TooWide
-    by true spaced true small = cc (rw (spaced_capped ws, spaced, small) at e)
-    by true spaced false small =
-        let less = sum_capped ws in
-        let large : 65535 < sum ws = grind (arith, nat_tests) in
-        let test : nat_le (sum ws) 65535 ≡ false = grind (arith, nat_tests) in
-        rw (spaced, test) refl
-    by false spaced b small = cc (rw (spaced_capped ws, spaced) at e)
+wide_capped ws is =
+    own_fault ws
+    ∙ wide_by (is_spaced ws) (nat_le (sum (capped ws)) 65535) (nat_le (sum ws) 65535)
+    (λ large. lt-leb (sum ws) 65535 (omega (arith, sum_capped ws, leb-false (sum (capped ws)) 65535 large))) (sym (capped_fault ws) ∙ is)
 
 -- where the capped widths are a row and one is above 65,535, the sum is at fault
-pub too_wide : (ws : List ℕ) → runs_fault (capped ws) ≡ None → list_any (nat_lt 65535) ws ≡ true → runs_fault ws ≡ Some run.TooWide
-unfolding is_spaced
-too_wide ws e wide = by (is_spaced ws) refl (nat_le (sum (capped ws)) 65535) refl
-  where
-    by : (b : Bool) → is_spaced ws ≡ b → (small : Bool) → nat_le (sum (capped ws)) 65535 ≡ small → runs_fault ws ≡ Some run.TooWide
-    by true spaced small is =
-        let large = sum_wide ws wide in
-        let test : nat_le (sum ws) 65535 ≡ false = grind (arith, nat_tests) in
-        rw (spaced, test) refl
-    by false spaced b small = cc (rw (spaced_capped ws, spaced) at e)
+pub one_wide : (ws : List ℕ) → runs_fault (capped ws) ≡ None → has_wide ws ≡ true → runs_fault ws ≡ Some run.TooWide
+one_wide ws is wide =
+    own_fault ws
+    ∙ row_by (is_spaced ws) (nat_le (sum (capped ws)) 65535) (nat_le (sum ws) 65535) (lt-leb (sum ws) 65535 (sum_wide ws wide)) (sym (capped_fault ws) ∙ is)

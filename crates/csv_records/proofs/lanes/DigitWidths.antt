@@ -1,4 +1,4 @@
--- Widths of one digit at the front of a text.
+-- Widths of one digit before a space at the front of a text: how `digits` finds them, and that they are read.
 use Rattle.std.proofs.Common.{◌&&◌, ◌+◌, ◌-◌, ◌*◌, ◌++◌, ◌<◌, ◌≡◌, ◌≤◌, ◌∙◌, ◌∷◌, Bool, List, [], ap, arith, drop, false, get_or, inl, inr, length, length-append, refl, set, subst, suc, sym, take, true, zero, ℕ}
 use Rattle.std.specs.Bool.{then_some}
 use Rattle.std.specs.Char.{is_ascii_digit}
@@ -11,9 +11,9 @@ use Rattle.csv_records.proofs.Decimals.{digit_range}
 use Rattle.csv_records.proofs.lanes.FieldWords.{AreRead, one_digit}
 
 -- one more that was found
-pub one_more : (text widths : List ℕ) (i width : ℕ) (each : Bool) → i < length widths → (each ≡ true → (k : ℕ) → k < i → IsDigitWord text k (get_or widths k 0))
+pub found_more : (text widths : List ℕ) (i width : ℕ) (each : Bool) → i < length widths → (each ≡ true → (k : ℕ) → k < i → IsDigitWord text k (get_or widths k 0))
     → (width ≤ 9 → IsDigitWord text i width) → each && leb width 9 ≡ true → (k : ℕ) → k < i + 1 → IsDigitWord text k (get_or (set widths i width) k 0)
-one_more text widths i width each low found here all k less =
+found_more text widths i width each low found here all k less =
     let parts = and_parts each (leb width 9) all in
     elim (cases_eq k i) [
       | inl same ↦

@@ -1,35 +1,35 @@
 -- What the capped widths of a field say of the field.
-use Rattle.std.proofs.Common.{◌≡◌, ◌∙◌, Bool, List, None, Some, ap, false, nat_lt, refl, sym, true, ℕ}
-use Rattle.std.specs.List.{list_any}
+use Rattle.std.proofs.Common.{◌≡◌, ◌∙◌, Bool, List, None, Some, ap, false, refl, sym, true, ℕ}
 use Rattle.scan_core.specs.Row.{runs_fault}
 use Rattle.scan_core.specs.declared.fault.RunFault.TheVariants as run
+use Rattle.csv_records.specs.inner.Widths.{capped, has_wide}
 use Rattle.csv_records.specs.lanes.Widths.{are_widths, field_fault, of_runs, widths_in, words_of}
 use Rattle.csv_records.specs.declared.input.fault.RecordFault.TheVariants as fault
-use Rattle.csv_records.proofs.lanes.Capped.{bad_capped, capped, capped_narrow, too_wide, wide_capped}
+use Rattle.csv_records.proofs.lanes.Capped.{bad_capped, capped_narrow, one_wide, wide_capped}
 
 -- a field whose words are widths has the fault of the widths
-spelled : (field : List ℕ) → are_widths (words_of field) ≡ true → field_fault field ≡ of_runs (runs_fault (widths_in field))
-spelled field words = rw words refl
+fault_of_widths : (field : List ℕ) → are_widths (words_of field) ≡ true → field_fault field ≡ of_runs (runs_fault (widths_in field))
+fault_of_widths field words = rw words refl
 
 -- they are a row and none is capped
 pub row_taken : (field ws : List ℕ) (wide : Bool) → are_widths (words_of field) ≡ true → ws ≡ capped (widths_in field)
-    → wide ≡ list_any (nat_lt 65535) (widths_in field) → wide ≡ false → runs_fault ws ≡ None → (ws ≡ widths_in field) × (field_fault field ≡ None)
+    → wide ≡ has_wide (widths_in field) → wide ≡ false → runs_fault ws ≡ None → (ws ≡ widths_in field) × (field_fault field ≡ None)
 row_taken field ws wide words is flag narrow row =
     let same : ws ≡ widths_in field = is ∙ capped_narrow (widths_in field) (sym flag ∙ narrow) in
-    (same, spelled field words ∙ ap of_runs (ap runs_fault (sym same) ∙ row))
+    (same, fault_of_widths field words ∙ ap of_runs (ap runs_fault (sym same) ∙ row))
 
 -- they are a row and one is capped
 pub row_too_wide : (field ws : List ℕ) (wide : Bool) → are_widths (words_of field) ≡ true → ws ≡ capped (widths_in field)
-    → wide ≡ list_any (nat_lt 65535) (widths_in field) → wide ≡ true → runs_fault ws ≡ None → field_fault field ≡ Some fault.TooWide
+    → wide ≡ has_wide (widths_in field) → wide ≡ true → runs_fault ws ≡ None → field_fault field ≡ Some fault.TooWide
 row_too_wide field ws wide words is flag some row =
-    spelled field words ∙ ap of_runs (too_wide (widths_in field) (ap runs_fault (sym is) ∙ row) (sym flag ∙ some))
+    fault_of_widths field words ∙ ap of_runs (one_wide (widths_in field) (ap runs_fault (sym is) ∙ row) (sym flag ∙ some))
 
 -- their number or an inner one is at fault
 pub row_bad : (field ws : List ℕ) → are_widths (words_of field) ≡ true → ws ≡ capped (widths_in field)
     → runs_fault ws ≡ Some run.BadRuns → field_fault field ≡ Some fault.BadRuns
-row_bad field ws words is bad = spelled field words ∙ ap of_runs (bad_capped (widths_in field) (ap runs_fault (sym is) ∙ bad))
+row_bad field ws words is bad = fault_of_widths field words ∙ ap of_runs (bad_capped (widths_in field) (ap runs_fault (sym is) ∙ bad))
 
 -- their sum is at fault
 pub row_wide : (field ws : List ℕ) → are_widths (words_of field) ≡ true → ws ≡ capped (widths_in field)
     → runs_fault ws ≡ Some run.TooWide → field_fault field ≡ Some fault.TooWide
-row_wide field ws words is bad = spelled field words ∙ ap of_runs (wide_capped (widths_in field) (ap runs_fault (sym is) ∙ bad))
+row_wide field ws words is bad = fault_of_widths field words ∙ ap of_runs (wide_capped (widths_in field) (ap runs_fault (sym is) ∙ bad))

@@ -1,39 +1,28 @@
--- The words of a field, as their widths are read off its front.
-use Rattle.std.proofs.Common.{◌&&◌, ◌+◌, ◌-◌, ◌++◌, ◌<◌, ◌==◌, ◌||◌, ◌≡◌, ◌≤◌, ◌∙◌, ◌∷◌, Bool, List, Some, [], ap, arith, drop, false, get_or, length, length-append, map, min, nat_lt, refl, subst, suc, sym, take, true, ℕ}
+-- The words of a field, as `read_widths` reads their widths off its front.
+use Rattle.std.proofs.Common.{◌&&◌, ◌+◌, ◌-◌, ◌++◌, ◌<◌, ◌==◌, ◌||◌, ◌≡◌, ◌≤◌, ◌∙◌, ◌∷◌, Bool, List, Some, [], ap, arith, drop, false, get_or, length, length-append, map, min, nat_lt, refl, subst, sym, take, true, ℕ}
 use Rattle.std.specs.Char.{is_ascii_digit}
-use Rattle.std.specs.List.{list_any}
 use Rattle.std.specs.Str.Parse.{digits_value}
-use Rattle.std.proofs.Math.Seq.{drop-cons}
-use Rattle.std.proofs.lemmas.List.{length-drop, map-append, take-append-drop, take_more}
-use Rattle.std.proofs.lemmas.Bool.Decides.{nat_tests}
+use Rattle.std.proofs.Math.Bool.{or-false}
+use Rattle.std.proofs.lemmas.List.{drop_more, length-drop, map_more, map_push, take-append-drop}
+use Rattle.std.proofs.lemmas.Bool.{and_right, le-ltb}
 use Rattle.std.proofs.lemmas.List.Splits.{length-slice_split}
 use Rattle.std.proofs.lemmas.List.Folds.{list_all-append, list_all_more, list_any-append}
-use Rattle.csv_records.specs.inner.Widths.{IsFirstWidth}
+use Rattle.csv_records.specs.inner.Widths.{IsFirstWidth, capped, has_wide}
 use Rattle.csv_records.specs.lanes.Widths.{are_widths, field_fault, is_number, words_of}
 use Rattle.csv_records.specs.declared.input.fault.RecordFault.TheVariants as fault
 use Rattle.csv_records.proofs.Decimals.{digit_range}
-use Rattle.csv_records.proofs.lanes.FirstWidth.{and_false, more_digits, more_value, next_width, word_before_space}
-
-pub or_false : (b : Bool) → b || false ≡ b
-or_false true = refl
-or_false false = refl
+use Rattle.csv_records.proofs.lanes.FirstWidth.{more_digits, more_value, next_width, word_before_space}
 
 -- the next word and those after it
 next_word : (words others : List (List ℕ)) (word : List ℕ) (i : ℕ) → i < length words → drop i words ≡ word ∷ others
     → (get_or words i [] ≡ word) × (drop (i + 1) words ≡ others)
 next_word words others word i low is =
-    let next : suc i ≡ i + 1 = omega arith in
-    let both : get_or words i [] ∷ drop (i + 1) words ≡ word ∷ others =
-    ap (λ k. get_or words i [] ∷ drop k words) (sym next) ∙ sym (drop-cons words i [] low) ∙ is in
-    (cc both, cc both)
+    let both : get_or words i [] ∷ drop (i + 1) words ≡ word ∷ others = sym (drop_more words i [] low) ∙ is in (cc both, cc both)
 
 module _ (words : List (List ℕ)) (i width : ℕ) (text rest : List ℕ) (low : i < length words) (left : drop i words ≡ words_of text)
     (first : IsFirstWidth text width rest) where
   next : (get_or words i [] ≡ first.word) × (drop (i + 1) words ≡ first.others)
   next = next_word words first.others first.word i low (left ∙ first.words)
-
-  one_more : take (i + 1) words ≡ take i words ++ first.word ∷ []
-  one_more = take_more words i [] low ∙ ap (λ w. take i words ++ w ∷ []) (next.0)
 
   -- what is left of the words
   pub rest_left : i + 1 < length words → drop (i + 1) words ≡ words_of rest
@@ -47,24 +36,22 @@ module _ (words : List (List ℕ)) (i width : ℕ) (text rest : List ℕ) (low :
 
   -- and has a width
   values : map (digits_value 10) (take (i + 1) words) ≡ map (digits_value 10) (take i words) ++ width ∷ []
-  values = ap (map (digits_value 10)) one_more ∙ map-append (digits_value 10) (take i words) (first.word ∷ [])
-      ∙ ap (λ n. map (digits_value 10) (take i words) ++ n ∷ []) (sym first.value)
+  values = map_more (digits_value 10) words i [] low
+      ∙ ap (λ n. map (digits_value 10) (take i words) ++ n ∷ []) (ap (digits_value 10) (next.0) ∙ sym first.value)
 
-  pub more_widths : map (min 65535) (map (digits_value 10) (take (i + 1) words)) ≡ map (min 65535) (map (digits_value 10) (take i words))
-      ++ min 65535 width ∷ []
-  more_widths = ap (map (min 65535)) values ∙ map-append (min 65535) (map (digits_value 10) (take i words)) (width ∷ [])
+  pub more_widths : capped (map (digits_value 10) (take (i + 1) words)) ≡ capped (map (digits_value 10) (take i words)) ++ min 65535 width ∷ []
+  more_widths = ap capped values ∙ map_push (min 65535) (map (digits_value 10) (take i words)) width
 
-  pub more_wide : list_any (nat_lt 65535) (map (digits_value 10) (take (i + 1) words))
-      ≡ list_any (nat_lt 65535) (map (digits_value 10) (take i words)) || nat_lt 65535 width
-  more_wide = ap (list_any (nat_lt 65535)) values ∙ list_any-append (nat_lt 65535) (map (digits_value 10) (take i words)) (width ∷ [])
-      ∙ ap (λ b. list_any (nat_lt 65535) (map (digits_value 10) (take i words)) || b) (or_false (nat_lt 65535 width))
+  pub more_wide : has_wide (map (digits_value 10) (take (i + 1) words)) ≡ has_wide (map (digits_value 10) (take i words)) || nat_lt 65535 width
+  more_wide = ap has_wide values ∙ list_any-append (nat_lt 65535) (map (digits_value 10) (take i words)) (width ∷ [])
+      ∙ ap (λ b. has_wide (map (digits_value 10) (take i words)) || b) (or-false (nat_lt 65535 width))
 
 -- the widths of the first words were found, and the words after them are those of the text
 pub record AreRead (words : List (List ℕ)) (text found : List ℕ) (is_wide : Bool) : Type 0 where
   pub rest : length found < length words → drop (length found) words ≡ words_of text
   pub numbers : are_widths (take (length found) words) ≡ true
-  pub widths : found ≡ map (min 65535) (map (digits_value 10) (take (length found) words))
-  pub wide : is_wide ≡ list_any (nat_lt 65535) (map (digits_value 10) (take (length found) words))
+  pub widths : found ≡ capped (map (digits_value 10) (take (length found) words))
+  pub wide : is_wide ≡ has_wide (map (digits_value 10) (take (length found) words))
 
 -- one word more is read
 pub one_read : (words : List (List ℕ)) (n : ℕ) (text rest found : List ℕ) (is_wide : Bool) → length found < length words → AreRead words text found is_wide
@@ -79,10 +66,10 @@ one_read words n text rest found is_wide low read first =
       numbers = ap (λ j. are_widths (take j words)) next ∙ more_numbers words k n text rest low left first read.numbers;
       widths =
           ap (λ t. t ++ min 65535 n ∷ []) read.widths ∙ sym (more_widths words k n text rest low left first)
-          ∙ ap (λ j. map (min 65535) (map (digits_value 10) (take j words))) (sym next);
+          ∙ ap (λ j. capped (map (digits_value 10) (take j words))) (sym next);
       wide =
           ap (λ b. b || nat_lt 65535 n) read.wide ∙ sym (more_wide words k n text rest low left first)
-          ∙ ap (λ j. list_any (nat_lt 65535) (map (digits_value 10) (take j words))) (sym next);
+          ∙ ap (λ j. has_wide (map (digits_value 10) (take j words))) (sym next);
     }
 
 -- a digit before a space is a word, and another is after it
@@ -95,13 +82,13 @@ one_digit words n text rest found is_wide low read some digit space is after =
     let first : IsFirstWidth text n rest = next_width text rest 1 n after (omega arith) (omega arith) (omega arith) digits space (omega (arith, is, value)) in
     let range = digit_range (get_or text 0 0) digit in
     let small : n < 65535 = omega (arith, is, range.0, range.1) in
-    let narrow : nat_lt 65535 n ≡ false = grind (arith, nat_tests) in
+    let narrow : nat_lt 65535 n ≡ false = le-ltb 65535 n (omega (arith, small)) in
     let uncapped : min 65535 n ≡ n = omega (arith, small) in
     let words_left = ap length (read.rest low ∙ word_before_space text 1 (omega arith) digits space) in
     let one_at_least = length-slice_split (λ b. b == 32) (drop 2 text) in (
       omega (arith, words_left, one_at_least, length-drop (length found) words),
       subst (λ m. AreRead words rest (found ++ m ∷ []) is_wide) uncapped
-          (subst (AreRead words rest (found ++ min 65535 n ∷ [])) (ap (λ b. is_wide || b) narrow ∙ or_false is_wide)
+          (subst (AreRead words rest (found ++ min 65535 n ∷ [])) (ap (λ b. is_wide || b) narrow ∙ or-false is_wide)
           (one_read words n text rest found is_wide low read first)),
     )
 
@@ -112,5 +99,5 @@ bad_rest field i rest left none =
     let words = words_of field in
     let all : are_widths words ≡ false =
     ap are_widths (sym (take-append-drop i words)) ∙ list_all-append (is_number 5) (take i words) (drop i words)
-    ∙ ap (λ t. are_widths (take i words) && are_widths t) left ∙ ap (λ b. are_widths (take i words) && b) none ∙ and_false (are_widths (take i words)) in
+    ∙ ap (λ t. are_widths (take i words) && are_widths t) left ∙ ap (λ b. are_widths (take i words) && b) none ∙ and_right (are_widths (take i words)) false refl in
     rw all refl

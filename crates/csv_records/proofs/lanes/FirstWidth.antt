@@ -1,26 +1,26 @@
--- The first word of a text, by its bytes.
-use Rattle.std.proofs.Common.{◌&&◌, ◌+◌, ◌-◌, ◌*◌, ◌++◌, ◌<◌, ◌==◌, ◌≡◌, ◌≢◌, ◌≤◌, ◌⊎◌, ◌∙◌, ◌∷◌, Bool, List, [], ap, arith, drop, false, get_or, inl, inr, length, length-append, nat_le, refl, suc, sym, take, true, ℕ}
-use Rattle.std.specs.Char.{is_ascii_digit}
+-- The first word of a text, by its bytes: a width, or none.
+use Rattle.std.proofs.Common.{◌&&◌, ◌+◌, ◌-◌, ◌*◌, ◌++◌, ◌<◌, ◌==◌, ◌≡◌, ◌≢◌, ◌≤◌, ◌⊎◌, ◌∙◌, ◌∷◌, List, [], ap, arith, drop, false, get_or, inl, inr, length, length-append, nat_le, refl, sym, take, true, ℕ}
+use Rattle.std.specs.Char.{digit_value, is_ascii_digit}
 use Rattle.std.specs.List.{All, list_all, onto_first}
 use Rattle.std.specs.Str.Parse.{digits_value}
-use Rattle.std.proofs.Math.Seq.{drop-cons}
-use Rattle.std.proofs.lemmas.Bool.{and_parts, cases_eq, le-leb, ne_eqb}
-use Rattle.std.proofs.lemmas.Bool.Decides.{nat_tests}
+use Rattle.std.proofs.lemmas.Bool.{and_left, and_parts, and_right, cases_eq, le-leb, lt-leb, ne_eqb}
 use Rattle.std.proofs.lemmas.Int.Digits.{digits_value_more}
-use Rattle.std.proofs.lemmas.List.{length-drop, length-take-le, take-append-drop, take_all}
-use Rattle.std.proofs.lemmas.List.Elements.{All-from_get_or}
+use Rattle.std.proofs.lemmas.List.{drop_more, length-drop, length-take-le, take-append-drop, take_all}
+use Rattle.std.proofs.lemmas.List.Elements.{All-weaker}
 use Rattle.std.proofs.lemmas.List.Folds.{list_all-append, list_all_more}
 use Rattle.std.proofs.lemmas.List.Splits.{slice_split-cons_no, slice_split_at, slice_split_none}
+use Rattle.std.proofs.lemmas.List.Sums.{AllPass-from_list_all}
+use Rattle.std.proofs.lemmas.Str.{digit_value_digit}
 use Rattle.csv_records.specs.inner.Widths.{IsFirstWidth}
 use Rattle.csv_records.specs.lanes.Widths.{are_widths, is_number, words_of}
-use Rattle.csv_records.proofs.Decimals.{digit_range, digit_shows, few_digits, test_at}
+use Rattle.csv_records.proofs.Decimals.{digit_differs, digit_range, few_digits}
 
 -- a digit is no space
 no_space : (c : ℕ) → is_ascii_digit c ≡ true → (c == 32) ≡ false
-no_space c digit = let range = digit_range c digit in ne_eqb c 32 (λ e. omega (arith, range.0, e))
+no_space c digit = digit_differs c 32 digit refl
 
 no_spaces : (ds : List ℕ) → list_all is_ascii_digit ds ≡ true → All (λ b. (b == 32) ≡ false) ds
-no_spaces ds all = All-from_get_or (λ b. (b == 32) ≡ false) ds 0 (λ i low. no_space (get_or ds i 0) (test_at is_ascii_digit ds i 0 all low))
+no_spaces ds all = All-weaker (λ b. is_ascii_digit b ≡ true) (λ b. (b == 32) ≡ false) no_space ds (AllPass-from_list_all is_ascii_digit ds all)
 
 -- one to five digits are a number
 numbered : (word : List ℕ) → list_all is_ascii_digit word ≡ true → 0 < length word → length word ≤ 5 → is_number 5 word ≡ true
@@ -28,9 +28,7 @@ numbered word all some few = rw (le-leb 1 (length word) some, le-leb (length wor
 
 -- a text at one of its bytes
 parts_at : (text : List ℕ) (i : ℕ) → i < length text → text ≡ take i text ++ get_or text i 0 ∷ drop (i + 1) text
-parts_at text i low =
-    let next : suc i ≡ i + 1 = omega arith in
-    sym (take-append-drop i text) ∙ ap (λ t. take i text ++ t) (drop-cons text i 0 low ∙ ap (λ k. get_or text i 0 ∷ drop k text) next)
+parts_at text i low = sym (take-append-drop i text) ∙ ap (λ t. take i text ++ t) (drop_more text i 0 low)
 
 -- a width that ends the text
 pub last_width : (text rest : List ℕ) (n : ℕ) → list_all is_ascii_digit text ≡ true → 0 < length text → length text ≤ 5 → n ≡ digits_value 10 text
@@ -88,28 +86,22 @@ bad_word ds b rest all other none =
     front_word ds (b ∷ rest) (b ∷ first.0) first.1 all (slice_split-cons_no (λ c. c == 32) b rest (ne_eqb b 32 other) ∙ first.2) in
     rw (words, none first.0) refl
 
-last_false : (p q r : Bool) → p && (q && (r && false)) ≡ false
-last_false true true true = refl
-last_false true true false = refl
-last_false true false r = refl
-last_false false q r = refl
-
-pub and_false : (p : Bool) → p && false ≡ false
-and_false true = refl
-and_false false = refl
-
 -- no number has another byte than digits
 no_digit : (ds : List ℕ) (b : ℕ) (word : List ℕ) → is_ascii_digit b ≡ false → is_number 5 (ds ++ b ∷ word) ≡ false
 no_digit ds b word other =
-    rw (list_all-append is_ascii_digit ds (b ∷ word), other)
-    (last_false (nat_le 1 (length (ds ++ b ∷ word))) (nat_le (length (ds ++ b ∷ word)) 5) (list_all is_ascii_digit ds))
+    let all : list_all is_ascii_digit (ds ++ b ∷ word) ≡ false =
+    list_all-append is_ascii_digit ds (b ∷ word)
+    ∙ and_right (list_all is_ascii_digit ds) (list_all is_ascii_digit (b ∷ word)) (and_left (is_ascii_digit b) (list_all is_ascii_digit word) other) in
+    let few = nat_le (length (ds ++ b ∷ word)) 5 in
+    and_right (nat_le 1 (length (ds ++ b ∷ word))) (few && list_all is_ascii_digit (ds ++ b ∷ word)) (and_right few (list_all is_ascii_digit (ds ++ b ∷ word)) all)
 
 -- nor a sixth one
 no_sixth : (ds : List ℕ) (b : ℕ) (word : List ℕ) → length ds ≡ 5 → is_number 5 (ds ++ b ∷ word) ≡ false
 no_sixth ds b word five =
     let long : 5 < length (ds ++ b ∷ word) = omega (arith, five, length-append ds (b ∷ word)) in
-    let test : nat_le (length (ds ++ b ∷ word)) 5 ≡ false = grind (arith, nat_tests) in
-    rw test (and_false (nat_le 1 (length (ds ++ b ∷ word))))
+    let few = nat_le (length (ds ++ b ∷ word)) 5 in
+    and_right (nat_le 1 (length (ds ++ b ∷ word))) (few && list_all is_ascii_digit (ds ++ b ∷ word))
+    (and_left few (list_all is_ascii_digit (ds ++ b ∷ word)) (lt-leb (length (ds ++ b ∷ word)) 5 long))
 
 -- digits that end in no space and go on as no number
 pub no_width : (text : List ℕ) (i : ℕ) → i < length text → list_all is_ascii_digit (take i text) ≡ true → (get_or text i 0 ≡ 32 → 0 < i → ⊥)
@@ -145,5 +137,5 @@ pub more_value : (text : List ℕ) (i : ℕ) → i < length text → is_ascii_di
     → digits_value 10 (take (i + 1) text) ≡ digits_value 10 (take i text) * 10 + (get_or text i 0 - 48)
 more_value text i low digit =
     let range = digit_range (get_or text i 0) digit in
-    let shows = digit_shows (get_or text i 0) range.0 range.1 in
+    let shows : digit_value (get_or text i 0) ≡ get_or text i 0 - 48 = omega (arith, digit_value_digit (get_or text i 0) range) in
     rw (← shows) (digits_value_more 10 text i low)

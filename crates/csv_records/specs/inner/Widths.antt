@@ -1,6 +1,7 @@
--- Widths at the front of a text, as `widths.rt` finds them.
-use Rattle.std.specs.Prelude.{◌≡◌, ◌≢◌, ◌<◌, ◌+◌, ◌-◌, ◌*◌, get_or, ℕ, List, [], ◌∷◌, true, length}
+-- Widths at the front of a text, as `widths.rt` finds them, and as it keeps them.
+use Rattle.std.specs.Prelude.{◌≡◌, ◌≢◌, ◌<◌, ◌+◌, ◌-◌, ◌*◌, get_or, map, min, nat_lt, ℕ, Bool, List, [], ◌∷◌, true, length}
 use Rattle.std.specs.Char.{is_ascii_digit}
+use Rattle.std.specs.List.{list_any}
 use Rattle.std.specs.Str.Parse.{digits_value}
 use Rattle.csv_records.specs.lanes.Widths.{is_number, words_of}
 
@@ -20,3 +21,11 @@ IsDigitWord text i width = (is_ascii_digit (get_or text (2 * i) 0) ≡ true) × 
 -- the text begins with these widths, each a digit before a space
 abbrev pub BeginsWithDigits : List ℕ → List ℕ → Type 0
 BeginsWithDigits text widths = (i : ℕ) → i < length widths → IsDigitWord text i (get_or widths i 0)
+
+-- widths, each above 65,535 as 65,535
+abbrev pub capped : List ℕ → List ℕ
+capped widths = map (min 65535) widths
+
+-- one is above it
+abbrev pub has_wide : List ℕ → Bool
+has_wide widths = list_any (nat_lt 65535) widths

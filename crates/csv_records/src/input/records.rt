@@ -11,7 +11,7 @@ use digits_core::{Source, read_all};
 use std::alloc::Global;
 use std::io::Cursor;
 
-/// How many bytes a command reads at most.
+/// How many bytes a command reads at most: `most_bytes` in specs/.
 pub const INPUT_LIMIT: usize = 16_777_216;
 
 /// What a command makes of records.

@@ -11,8 +11,7 @@ use crate::input::fault::{RecordFault, RecordRefusal};
 use crate::input::records::{Records, two_fields};
 use crate::lanes::widths::{number_in, read_runs};
 use csv::ByteRecord;
-use scan_core::Runs;
-use std::alloc::Global;
+use scan_core::{RowPool, Runs};
 
 /// The lane that a field names.
 pub fn lane_in(field: &[u8], lanes: u8) -> Option<u8>
@@ -28,7 +27,7 @@ pub fn lane_in(field: &[u8], lanes: u8) -> Option<u8>
 
 /// The lane of a record and its row.
 pub fn read_record(
-    alloc: Global,
+    pool: &mut RowPool,
     lanes: u8,
     fields: &ByteRecord,
 ) -> Result<(u8, Runs), RecordRefusal>
@@ -39,13 +38,13 @@ pub fn read_record(
 {
     let (first, second) = two_fields(fields).ok_or(RecordFault::Csv)?;
     let lane = lane_in(first, lanes).ok_or(RecordFault::BadLane)?;
-    let runs = read_runs(alloc, second)?;
+    let runs = read_runs(pool, second)?;
     Ok((lane, runs))
 }
 
 /// Reads the next record, and has its row. None at the end.
 pub fn next_row(
-    alloc: Global,
+    pool: &mut RowPool,
     lanes: u8,
     records: &mut Records,
 ) -> Result<Option<(u8, Runs)>, RecordRefusal>
@@ -60,6 +59,6 @@ pub fn next_row(
     if !records.read()? {
         return Ok(None);
     }
-    let row = read_record(alloc, lanes, &records.last)?;
+    let row = read_record(pool, lanes, &records.last)?;
     Ok(Some(row))
 }

@@ -1,14 +1,13 @@
 //! Numbers and widths as fields spell them.
-ghost use Rattle.std.specs.Prelude.{None, Some, ◌==◌, ◌≡◌, ◌≤◌, ◌*◌, ◌-◌, true, false, nat_lt, length, ◌<◌, IfNone, IfOk, IfSome, List, OnOk, map, min, ℕ};
-ghost use Rattle.std.specs.List.{count_by, list_any};
+ghost use Rattle.std.specs.Prelude.{None, Some, ◌==◌, ◌≡◌, ◌≤◌, ◌*◌, ◌-◌, true, false, length, ◌<◌, IfNone, IfOk, IfSome, List, OnOk, ℕ};
+ghost use Rattle.std.specs.List.{count_by};
 ghost use Rattle.std.specs.Char.{is_ascii_digit};
-ghost use Rattle.csv_records.specs.inner.Widths.{BeginsWithDigits, IsFirstWidth};
+ghost use Rattle.csv_records.specs.inner.Widths.{BeginsWithDigits, IsFirstWidth, capped, has_wide};
 ghost use Rattle.csv_records.specs.lanes.Widths.{number_in, are_widths, field_fault, widths_in, words_of};
 ghost use Rattle.csv_records.specs.declared.input.fault.RecordFault.{RecordFault};
 
 use crate::input::fault::{RecordFault, RecordRefusal};
-use scan_core::{RunFault, Runs};
-use std::alloc::Global;
+use scan_core::{RowPool, RunFault, Runs};
 
 /// The number that a text of one to `most` digits shows.
 pub fn number_in(text: &[u8], most: usize) -> Option<u32>
@@ -127,17 +126,18 @@ fn digits<const N: usize>(text: &[u8]) -> Option<[u16; N]>
     each.then_some(widths)
 }
 
-/// The widths that a field shows, each above 65,535 as 65,535, in a list with room for just these,
-/// and whether there is one such.
-fn read_widths(alloc: Global, field: &[u8]) -> Result<(Vec<u16>, bool), RecordRefusal>
+/// The widths that a field shows, each above 65,535 as 65,535, in a list with room for all of them, and whether there
+/// is one such.
+fn read_widths(pool: &mut RowPool, field: &[u8]) -> Result<(Vec<u16>, bool), RecordRefusal>
     ensures words { OnOk result (are_widths (words_of field.now) ≡ true) }
-    ensures widths { IfOk result (λ read. read.0.items ≡ map (min 65535) (widths_in field.now)) }
-    ensures wide { IfOk result (λ read. read.1 ≡ list_any (nat_lt 65535) (widths_in field.now)) }
+    ensures widths { IfOk result (λ read. read.0.items ≡ capped (widths_in field.now)) }
+    ensures wide { IfOk result (λ read. read.1 ≡ has_wide (widths_in field.now)) }
     ensures refused { (f : RecordFault) → result ≡ Err (RecordRefusal.Record f)
         → field_fault field.now ≡ Some f }
 {
     let count = count_words(field);
-    let mut widths = Vec::with_capacity(alloc, count)?;
+    let mut widths = pool.take_widths();
+    widths.reserve(count)?;
     let mut rest = field;
     let mut is_wide = false;
     'words: while widths.len() < count {
@@ -160,14 +160,14 @@ fn read_widths(alloc: Global, field: &[u8]) -> Result<(Vec<u16>, bool), RecordRe
 }
 
 /// The row that a field shows.
-pub fn read_runs(alloc: Global, field: &[u8]) -> Result<Runs, RecordRefusal>
+pub fn read_runs(pool: &mut RowPool, field: &[u8]) -> Result<Runs, RecordRefusal>
     ensures ok { IfOk result (λ runs. runs ≡ widths_in field.now) }
     ensures taken { OnOk result (field_fault field.now ≡ None) }
     ensures refused { (f : RecordFault) → result ≡ Err (RecordRefusal.Record f)
         → field_fault field.now ≡ Some f }
 {
-    let (widths, is_wide) = read_widths(alloc, field)?;
-    match Runs::from_widths(alloc, widths) {
+    let (widths, is_wide) = read_widths(pool, field)?;
+    match Runs::from_widths(pool, widths) {
         Ok(runs) => {
             if is_wide {
                 Err(RecordRefusal::Record(RecordFault::TooWide))

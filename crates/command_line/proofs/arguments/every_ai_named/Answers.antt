@@ -1,3 +1,4 @@
+-- The text under `ais` is one of the two choices, or there is none.
 use Rattle.std.proofs.Common.{◌≡◌, ◌∙◌, Bool, false, true, Option, None, Some, ap, codes, option_map, sym}
 use Rattle.std.specs.Borrow.{Bor}
 use Rattle.clap.specs.Words.{Text, first_of, first_value, found_of, rows_of}

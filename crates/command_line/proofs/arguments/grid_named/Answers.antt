@@ -1,3 +1,4 @@
+-- Each number of a grid under its name, or none of a grid if one is not there.
 use Rattle.std.proofs.Common.{List, arith, codes, subst, sym}
 use Rattle.std.proofs.lemmas.Option.{IfSome_then}
 use Rattle.clap.specs.Words.{Row, found_of, rows_of}

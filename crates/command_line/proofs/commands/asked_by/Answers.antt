@@ -1,3 +1,4 @@
+-- Matches of a command that lacks an option ask for nothing: the second letters of the names tell the commands apart.
 use Rattle.std.proofs.Common.{◌≡◌, ◌∙◌, List, ap, arith, codes, slice_index, sym, ℕ}
 use Rattle.clap.specs.Words.{Row, Text, found_of, rows_of}
 use Rattle.element_core.specs.Terms.{Terms}

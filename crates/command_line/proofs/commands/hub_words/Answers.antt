@@ -1,3 +1,4 @@
+-- Commands that are added in turn make the program with these commands.
 use Rattle.std.proofs.Common.{◌≡◌, ◌∙◌, ◌∷◌, [], List, Result, Ok, IfOk, ap, false, map, subst, sym}
 use Rattle.std.specs.Bool.{⊤}
 use Rattle.std.proofs.lemmas.Result.{IfOk-weaker}

@@ -1,3 +1,4 @@
+-- The bytes so far and those of the rest are all; when they are 192 and more come, they do not fit.
 use Rattle.std.proofs.Common.{◌≡◌, ◌++◌, ◌∙◌, ap, arith, length, sym}
 use Rattle.std.proofs.lemmas.Grind.{common_steps}
 use Rattle.message_core.proofs.CodingFacts.{step_skip, too_many}

@@ -1,3 +1,4 @@
+-- The first part ends at the first such byte, or is all.
 use Rattle.std.proofs.Common.{◌==◌, ◌+◌, ◌-◌, [], arith, drop, length, take}
 use Rattle.std.specs.List.{slice_split}
 use Rattle.message_core.proofs.TextsCutAtByte.{parted, whole}

@@ -1,3 +1,4 @@
+-- The first byte that is found is the first, or none is.
 use Rattle.std.proofs.Common.{◌==◌, ◌<◌, arith, eq-eqb, sym, length}
 use Rattle.std.proofs.lemmas.List.Sums.{position_or_len_is}
 use Rattle.message_core.proofs.cut.place_of.Goals as goal

@@ -1,5 +1,5 @@
-use Rattle.message_core.proofs.LawFacts.{key_part_law}
+use Rattle.message_core.proofs.OneKeyPart.{key_part_is}
 use Rattle.message_core.proofs.laws.key_part_is.Goals as goal
 
 pub returns : goal.returns
-returns c = key_part_law
+returns c = key_part_is

@@ -1,3 +1,4 @@
+-- A text that ends within the small letters does not begin with them.
 use Rattle.std.proofs.Common.{◌∙◌, sym}
 use Rattle.message_core.proofs.LinkFacts.{ended}
 use Rattle.message_core.proofs.link.begins_any_case.Goals as goal

@@ -1,3 +1,4 @@
+-- A pair that does not fit, fits before no others.
 use Rattle.std.proofs.Common.{◌≡◌, ◌∙◌, ◌++◌, ◌∷◌, ap, rules, sym}
 use Rattle.message_core.specs.Links.{path_entries, path_entry, segments}
 use Rattle.message_core.proofs.LinkFacts.{fits_not_before}

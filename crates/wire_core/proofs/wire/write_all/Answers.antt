@@ -1,6 +1,6 @@
 use Rattle.std.proofs.Common.{◌++◌, ◌∙◌, ◌∷◌, [], ap, append-nil, arith, refl, subst, sym, take}
 use Rattle.std.proofs.lemmas.Grind.{common_steps}
-use Rattle.wire_core.proofs.EventFacts.{one_more_piece, one_more_write}
+use Rattle.wire_core.proofs.WrittenPieces.{one_more_piece, one_more_write}
 use Rattle.wire_core.proofs.wire.write_all.Goals as goal
 
 pub writes-init : goal.writes-init

@@ -1,3 +1,4 @@
+-- Each option with its rule, in their order. `live_words` begins with the same.
 use Rattle.std.proofs.Common.{◌∷◌, [], List}
 use Rattle.command_line.specs.Arguments.{ais_rule, lanes_rule, workers_rule, year_rule}
 use Rattle.command_line.proofs.Added.{Ruled, with_added}

@@ -1,3 +1,4 @@
+-- Each option with its rule, in their order. They begin with those of `lanes_words`.
 use Rattle.std.proofs.Common.{◌∷◌, [], List, codes}
 use Rattle.command_line.specs.Arguments.{ais_rule, flag_rule, lanes_rule, workers_rule, year_rule}
 use Rattle.command_line.proofs.Added.{Ruled, with_added}

@@ -1,3 +1,4 @@
+-- Each option with its rule, in their order. Those of the grid come first, as for `print_words`.
 use Rattle.std.proofs.Common.{◌∷◌, [], List}
 use Rattle.command_line.specs.Arguments.{ais_rule, columns_rule, height_rule, module_rule, rows_rule, width_rule, workers_rule, year_rule}
 use Rattle.command_line.proofs.Added.{Ruled, with_added}

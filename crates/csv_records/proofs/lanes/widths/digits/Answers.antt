@@ -3,7 +3,7 @@ use Rattle.std.proofs.Common.{◌*◌, ◌≡◌, ◌≤◌, ◌∙◌, List, ar
 use Rattle.std.specs.Option.{IfNone, IfSome}
 use Rattle.std.proofs.lemmas.List.{length-replicate, length-set}
 use Rattle.csv_records.specs.inner.Widths.{BeginsWithDigits}
-use Rattle.csv_records.proofs.lanes.DigitWidths.{given, none_more, not_given, one_more}
+use Rattle.csv_records.proofs.lanes.DigitWidths.{found_more, given, none_more, not_given}
 use Rattle.csv_records.proofs.lanes.widths.digits.Goals as goal
 
 pub widths-init : goal.widths-init
@@ -20,7 +20,7 @@ widths-preserved g c =
     let width = c.width_of_digit-width.result in
     record {
       places = length-set widths c.widths.i width ∙ inv.places;
-      found = one_more c.args.text.now widths c.widths.i width c.widths.each (omega (arith, inv.places, c.widths-test.true)) inv.found
+      found = found_more c.args.text.now widths c.widths.i width c.widths.each (omega (arith, inv.places, c.widths-test.true)) inv.found
           c.width_of_digit-width.ensures.shown;
       none = none_more c.args.text.now c.widths.i g.row.N width c.widths.each (omega (arith, c.widths-test.true)) inv.none c.width_of_digit-width.ensures.each;
     }

@@ -1,32 +1,21 @@
--- What the definitions of Digital Links say together.
-use Rattle.std.proofs.Common.{◌≡◌, ◌+◌, ◌&&◌, ◌++◌, ◌∷◌, ◌∙◌, ◌⊎◌, Bool, List, None, Option, Some, [], ap, codes, false, if◌then◌else◌, inl, inr, nat_le, refl, subst, sym, true, ⊎_elim, ℕ}
+-- A path has one part at most that is a key, its value and its qualifiers to the end: the law `key_part_is`.
+use Rattle.std.proofs.Common.{◌≡◌, ◌+◌, ◌++◌, ◌∷◌, ◌∙◌, Bool, List, None, Option, Some, [], ap, codes, false, if◌then◌else◌, nat_le, refl, subst, sym, true, ⊎_elim, ℕ}
 use Rattle.std.specs.Str.{bytes_eq}
-use Rattle.std.proofs.lemmas.Bool.{and_parts, cond-false, cond-true, le-leb, leb-true}
+use Rattle.std.proofs.lemmas.Bool.{and_from, and_parts, and_right, cases_Bool, cond-false, cond-true, le-leb, leb-true}
+use Rattle.std.proofs.lemmas.Option.{same_Some}
 use Rattle.std.proofs.lemmas.Slice.Eq.{bytes_eq-Decides}
 use Rattle.element_core.specs.Elements.{Entry}
 use Rattle.message_core.specs.Keys.{cpid_place, gsrn_place, gtin_place, is_key, itip_place, location_place, payment_place, place_by, production_place}
 use Rattle.message_core.specs.Laws.{StandInOrder, IsLinkPath, KeyPartIs, spread}
 use Rattle.message_core.specs.Links.{follow_all, follow_by, is_keyed, key_part}
 
-true_or_false : (b : Bool) → (b ≡ true) ⊎ (b ≡ false)
-true_or_false true = inl refl
-true_or_false false = inr refl
-
-and_true : (b c : Bool) → b ≡ true → c ≡ true → (b && c) ≡ true
-and_true true c is also = also
-and_true false c is also = is
-
-and_false : (b c : Bool) → c ≡ false → (b && c) ≡ false
-and_false true c is = is
-and_false false c is = refl
-
--- ---- no key is a qualifier
+-- ---- no key is a qualifier: by each key that `is_key` lists
 
 step : (P : List ℕ → Type 0) (key c : List ℕ) (rest : Bool) → P c → (rest ≡ true → P key) → (if bytes_eq key c then true else rest) ≡ true → P key
 step P key c rest at others is = ⊎_elim
     (λ (same : bytes_eq key c ≡ true). subst P (sym ((bytes_eq-Decides key c).0 same)) at)
     (λ (other : bytes_eq key c ≡ false). others (sym (cond-false (bytes_eq key c) true rest other) ∙ is))
-    (true_or_false (bytes_eq key c))
+    (cases_Bool (bytes_eq key c))
 
 abbrev IsNone : List ℕ → Type 0
 IsNone ai = (gtin_place ai ≡ None) × (itip_place ai ≡ None) × (location_place ai ≡ None) × (payment_place ai ≡ None) × (production_place ai ≡ None) × (cpid_place ai ≡ None) × (gsrn_place ai ≡ None)
@@ -95,12 +84,12 @@ module _ (key : List ℕ) where
   follow_of least [] o = refl
   follow_of least (e ∷ es) o =
       ap (λ p. follow_by least p (λ next. follow_all key next (spread es))) o.1
-      ∙ and_true (nat_le least o.0) (follow_all key (o.0 + 1) (spread es)) (le-leb least o.0 o.2) (follow_of (o.0 + 1) es o.3)
+      ∙ and_from (nat_le least o.0) (follow_all key (o.0 + 1) (spread es)) (le-leb least o.0 o.2) (follow_of (o.0 + 1) es o.3)
 
   -- what never follows
   fails_by : (least : ℕ) (o : Option ℕ) (more : ℕ → Bool) → ((next : ℕ) → more next ≡ false) → follow_by least o more ≡ false
   fails_by least None more h = refl
-  fails_by least (Some place) more h = and_false (nat_le least place) (more (place + 1)) (h (place + 1))
+  fails_by least (Some place) more h = and_right (nat_le least place) (more (place + 1)) (h (place + 1))
 
   -- segments of an odd number
   odd : (v : List ℕ) (qs : List Entry) (least : ℕ) → follow_all key least (v ∷ spread qs) ≡ false
@@ -118,10 +107,6 @@ module _ (key : List ℕ) where
       fails_by least (place_by key u) (λ next. follow_all key next (us ++ (other ∷ value ∷ spread qs))) (λ next. blocked other value qs is us next)
 
 -- ---- the law
-
-abbrev get : Option (List (List ℕ)) → List (List ℕ)
-get None = []
-get (Some part) = part
 
 keyed_parts : (s : List ℕ) (ss : List (List ℕ)) → is_keyed (s ∷ ss) ≡ true → IsLinkPath (s ∷ ss) (s ∷ ss)
 keyed_parts s [] is = absurd (cc is)
@@ -155,20 +140,20 @@ found : (all part : List (List ℕ)) → key_part all ≡ Some part → IsLinkPa
 found [] part is = absurd (cc is)
 found (s ∷ ss) part is = ⊎_elim
     (λ (keyed : is_keyed (s ∷ ss) ≡ true).
-    let same : s ∷ ss ≡ part = ap get (sym (cond-true (is_keyed (s ∷ ss)) (Some (s ∷ ss)) (key_part ss) keyed) ∙ is) in
+    let same = same_Some (s ∷ ss) part (sym (cond-true (is_keyed (s ∷ ss)) (Some (s ∷ ss)) (key_part ss) keyed) ∙ is) in
     subst (λ p. IsLinkPath (s ∷ ss) p) same (keyed_parts s ss keyed))
     (λ (other : is_keyed (s ∷ ss) ≡ false).
     behind_one s ss part (found ss part (sym (cond-false (is_keyed (s ∷ ss)) (Some (s ∷ ss)) (key_part ss) other) ∙ is)))
-    (true_or_false (is_keyed (s ∷ ss)))
+    (cases_Bool (is_keyed (s ∷ ss)))
 
 module _ (key value : List ℕ) (qs : List Entry) (listed : is_key key ≡ true) (order : StandInOrder key 0 qs) where
   not_before : (s : List ℕ) (ss : List (List ℕ)) → is_keyed (s ∷ (ss ++ (key ∷ value ∷ spread qs))) ≡ false
-  not_before s [] = and_false (is_key s) (follow_all s 0 (value ∷ spread qs)) (odd s value qs 0)
-  not_before s (t ∷ ss) = and_false (is_key s) (follow_all s 0 (ss ++ (key ∷ value ∷ spread qs))) (blocked s key value qs listed ss 0)
+  not_before s [] = and_right (is_key s) (follow_all s 0 (value ∷ spread qs)) (odd s value qs 0)
+  not_before s (t ∷ ss) = and_right (is_key s) (follow_all s 0 (ss ++ (key ∷ value ∷ spread qs))) (blocked s key value qs listed ss 0)
 
   finds : (stems : List (List ℕ)) → key_part (stems ++ (key ∷ value ∷ spread qs)) ≡ Some (key ∷ value ∷ spread qs)
   finds [] = cond-true (is_keyed (key ∷ value ∷ spread qs)) (Some (key ∷ value ∷ spread qs)) (key_part (value ∷ spread qs))
-      (and_true (is_key key) (follow_all key 0 (spread qs)) listed (follow_of key 0 qs order))
+      (and_from (is_key key) (follow_all key 0 (spread qs)) listed (follow_of key 0 qs order))
   finds (s ∷ ss) =
       cond-false (is_keyed (s ∷ (ss ++ (key ∷ value ∷ spread qs)))) (Some (s ∷ (ss ++ (key ∷ value ∷ spread qs)))) (key_part (ss ++ (key ∷ value ∷ spread qs)))
       (not_before s ss)
@@ -180,5 +165,5 @@ finds_part all part p =
     ∙ finds p.key p.value p.qualifiers p.listed p.order p.stems
     ∙ ap (λ r. Some r) (sym p.part_is)
 
-pub key_part_law : KeyPartIs
-key_part_law all part = (found all part, finds_part all part)
+pub key_part_is : KeyPartIs
+key_part_is all part = (found all part, finds_part all part)
