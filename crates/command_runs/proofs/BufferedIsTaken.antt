@@ -1,11 +1,10 @@
--- What a sink has taken that stands behind a buffer, if both had taken nothing at first, for `run_and_flush` and `commands/`.
-use Rattle.std.proofs.Common.{◌++◌, ◌≡◌, ◌∙◌, Err, List, None, Ok, Option, Result, Some, [], ap, append_assoc, append-nil, refl, subst, sym, ℕ}
-use Rattle.std.specs.Prelude.{IfErr, IfSome, IsErrAnd}
+-- What a sink behind a buffer has taken, if both had taken nothing, and that a command may be refused for a failed write (for `run_and_flush`).
+use Rattle.std.proofs.Common.{◌++◌, ◌≡◌, ◌∙◌, List, None, Option, Some, [], ap, append_assoc, append-nil, refl, sym, ℕ}
+use Rattle.std.specs.Prelude.{IfSome}
 use Rattle.std.specs.Io.KnownBytes.{Keeps, append_known}
 use Rattle.digits_core.specs.Bytes.{TookFront}
 use Rattle.command_runs.specs.Runs.{Wrote}
 use Rattle.command_runs.specs.commands.{command_of}
-use Rattle.command_runs.specs.declared.fault.CommandFault.{CommandFault}
 use Rattle.command_runs.specs.declared.fault.CommandFault.TheVariants as command
 use Rattle.command_line.specs.declared.commands.WholeInput.{WholeInput}
 use Rattle.command_line.specs.declared.commands.WholeInput.TheVariants as batch
@@ -32,8 +31,3 @@ may_fail (batch.Check year) took left rest before after wrote = tt
 may_fail (batch.Print o) took left rest before after wrote = (wrote.3.2.0, tt)
 may_fail (batch.Lanes o) took left rest before after wrote = tt
 may_fail (batch.Scan o) took left rest before after wrote = (wrote.3.1.0, tt)
-
--- a failed write is refused as such
-pub refused_as : {X : Type 0} (r : Result X CommandFault) (fault : CommandFault) (P : CommandFault → Type 0) → IsErrAnd r (λ f. f ≡ fault) → P fault → IfErr r P
-refused_as (Ok x) fault P is p = tt
-refused_as (Err f) fault P is p = subst P (sym is) p

@@ -1,4 +1,4 @@
--- `check` writes one text at most of the same bytes.
+-- `check` writes one text at most of the same bytes: each record has one line (`one_check`).
 use Rattle.std.proofs.Common.{◌≡◌, ◌+◌, ◌++◌, ◌<◌, ◌%◌, ◌∙◌, ◌∷◌, ◌*◌, List, None, Ok, Option, Some, [], add_assoc, ap, ap₂, arith, length, refl, sym, ℕ}
 use Rattle.std.specs.Prelude.{codes}
 use Rattle.std.specs.Fmt.{decimal}
@@ -40,21 +40,21 @@ digit_by text None a b h k =
 digit_by text (Some f) a b h k = h ∙ sym k
 
 module _ (one : OneListOrFault) (year : Terms) where
-  by_kind : (k : CheckKind) (text a b : List ℕ) → IsLineAs year k text a → IsLineAs year k text b → a ≡ b
-  by_kind kind.Digit text a b h k = digit_by text (payload_fault text) a b h k
-  by_kind kind.Gtin text a b h k = h ∙ sym k
-  by_kind kind.Upce text a b h k = one_upce_line line_of_gtin text a b h k
-  by_kind kind.Text text a b h k = one_elements_line one (codes "hri") hri year (spelled text) a b h k
+  line_by_kind : (k : CheckKind) (text a b : List ℕ) → IsLineAs year k text a → IsLineAs year k text b → a ≡ b
+  line_by_kind kind.Digit text a b h k = digit_by text (payload_fault text) a b h k
+  line_by_kind kind.Gtin text a b h k = h ∙ sym k
+  line_by_kind kind.Upce text a b h k = one_upce_line line_of_gtin text a b h k
+  line_by_kind kind.Text text a b h k = one_elements_line one (codes "hri") hri year (spelled text) a b h k
 
-  by_name : (o : Option CheckKind) (text : List ℕ) (a b : Line) → IsLineBy year o text (Ok a) → IsLineBy year o text (Ok b) → line_text a ≡ line_text b
-  by_name (Some k) text a b h p = by_kind k text (line_text a) (line_text b) h p
-  by_name None text a b h p = cc h
+  line_by_name : (o : Option CheckKind) (text : List ℕ) (a b : Line) → IsLineBy year o text (Ok a) → IsLineBy year o text (Ok b) → line_text a ≡ line_text b
+  line_by_name (Some k) text a b h p = line_by_kind k text (line_text a) (line_text b) h p
+  line_by_name None text a b h p = cc h
 
   -- a record has one line
   line_once : (fields : Fields) (a b : Line) → check_meaning year fields (Ok a) → check_meaning year fields (Ok b) → line_text a ≡ line_text b
   line_once [] a b h k = cc h
   line_once (name ∷ []) a b h k = cc h
-  line_once (name ∷ text ∷ []) a b h k = by_name (check_kind_named name) text a b h k
+  line_once (name ∷ text ∷ []) a b h k = line_by_name (check_kind_named name) text a b h k
   line_once (name ∷ text ∷ other ∷ more) a b h k = cc h
 
   lines_once : (rows : List Fields) (x y : List Line) → AreItems (check_meaning year) rows x → AreItems (check_meaning year) rows y

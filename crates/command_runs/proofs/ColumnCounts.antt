@@ -1,23 +1,16 @@
 -- The columns of sheets are few and short enough to be served, for `read_columns`.
-use Rattle.std.proofs.Common.{◌*◌, ◌+◌, ◌≡◌, ◌≤◌, ◌∷◌, [], List, arith, length, nat_le, refl, true, ℕ}
+use Rattle.std.proofs.Common.{◌*◌, ◌≡◌, ◌≤◌, ◌∷◌, [], List, arith, length, nat_le, refl, true, ℕ}
 use Rattle.std.specs.List.{AllZip, flat_map, range_with_len}
 use Rattle.std.proofs.lemmas.Bool.Decides.{nat_tests}
-use Rattle.std.proofs.lemmas.List.{length-append, length-map}
-use Rattle.std.proofs.lemmas.List.FromFn.{length-map-range_with_len, length-range_with_len}
+use Rattle.std.proofs.lemmas.List.FromFn.{length-range_with_len}
 use Rattle.std.proofs.Math.Nat.{mul-le-mul_right}
 use Rattle.std.proofs.lemmas.Slice.Zip.{AllZip-long}
 use Rattle.sheet_core.specs.Bitmaps.{Bitmap}
 use Rattle.sheet_core.specs.Grids.{Cells}
 use Rattle.hub_core.specs.Serving.{are_short}
-use Rattle.command_runs.specs.Columns.{AreColumns, HaveDots, column_cells, column_dots}
-
-column_long : (g : Cells) (column : ℕ) (sheets : List Bitmap) → length (flat_map (column_dots g column) sheets) ≡ length sheets * g.rows
-column_long g column [] = omega arith
-column_long g column (s ∷ sheets) =
-    let here = length-append (column_dots g column s) (flat_map (column_dots g column) sheets) in
-    let cells : length (column_cells g column) ≡ g.rows = length-map-range_with_len (λ row. row * g.columns + column) 0 g.rows in
-    let dots : length (column_dots g column s) ≡ length (column_cells g column) = length-map (column_cells g column) _ in
-    omega (arith, here, cells, dots, column_long g column sheets)
+use Rattle.command_runs.specs.Columns.{AreColumns, HaveDots, column_dots}
+use Rattle.command_runs.proofs.ColumnsByPlace.{cells_long}
+use Rattle.command_runs.proofs.ListPlaces.{pieces_long}
 
 columns_short : (g : Cells) (sheets : List Bitmap) → length sheets * g.rows ≤ 4294967295 → (feeds : List (List (List ℕ))) (columns : List ℕ)
     → AllZip (λ rows column. HaveDots rows (flat_map (column_dots g column) sheets)) feeds columns → are_short feeds ≡ true
@@ -26,7 +19,7 @@ columns_short g sheets few [] (c ∷ columns) h = absurd h
 columns_short g sheets few (rows ∷ feeds) [] h = absurd h
 columns_short g sheets few (rows ∷ feeds) (c ∷ columns) h =
     let same = AllZip-long _ rows (flat_map (column_dots g c) sheets) h.0 in
-    let long = column_long g c sheets in
+    let long = pieces_long (column_dots g c) g.rows (λ s. cells_long _ g c) sheets in
     let low : nat_le (length rows) 4294967295 ≡ true = grind (arith, nat_tests) in
     rw (low, columns_short g sheets few feeds columns h.1) refl
 

@@ -1,7 +1,7 @@
--- The row of a column, by the place of its cell, for `rows_by_place` and `answers_by_place`.
-use Rattle.std.proofs.Common.{◌+◌, ◌*◌, ◌/◌, ◌++◌, ◌<◌, ◌≡◌, ◌∙◌, ◌∷◌, [], List, Some, ap, arith, length, map, refl, suc, sym, zero, ℕ}
-use Rattle.std.specs.List.{AllZip, flat_map, range_with_len, slice_get}
-use Rattle.std.proofs.lemmas.List.{length-append, length-map}
+-- The rows of a column and their answers, by the place of their cells: the laws `rows_by_place` and `answers_by_place`.
+use Rattle.std.proofs.Common.{◌+◌, ◌*◌, ◌/◌, ◌<◌, ◌≡◌, ◌∙◌, List, Some, ap, length, map, refl, sym, ℕ}
+use Rattle.std.specs.List.{flat_map, range_with_len, slice_get}
+use Rattle.std.proofs.lemmas.List.{length-map}
 use Rattle.std.proofs.lemmas.List.FromFn.{length-map-range_with_len, length-range_with_len}
 use Rattle.std.proofs.lemmas.Option.{slice_get-map}
 use Rattle.std.proofs.lemmas.Slice.Zip.{AllZip-long}
@@ -12,55 +12,8 @@ use Rattle.scan_core.specs.Row.{IsRow, dots_of}
 use Rattle.command_runs.specs.Laws.{AnswersByPlace, RowsByPlace}
 use Rattle.command_runs.specs.Columns.{HaveDots, column_cells, column_dots}
 use Rattle.command_runs.specs.Printed.{cell_answer, sheet_answers}
-
-get_first : {A : Type 0} (xs ys : List A) (j : ℕ) → j < length xs → slice_get (xs ++ ys) j ≡ slice_get xs j
-get_first [] ys j low = absurd (omega (arith, low))
-get_first (x ∷ xs) ys zero low = refl
-get_first (x ∷ xs) ys (suc j) low = get_first xs ys j (omega (arith, low))
-
-get_second : {A : Type 0} (xs ys : List A) (n : ℕ) → slice_get (xs ++ ys) (length xs + n) ≡ slice_get ys n
-get_second [] ys n = let same : 0 + n ≡ n = omega arith in ap (slice_get ys) same
-get_second (x ∷ xs) ys n =
-    let same : length (x ∷ xs) + n ≡ suc (length xs + n) = omega arith in
-    ap (slice_get (x ∷ xs ++ ys)) same ∙ get_second xs ys n
-
-get_range : (a n i : ℕ) → i < n → slice_get (range_with_len a n) i ≡ Some (a + i)
-get_range a zero i low = absurd (omega (arith, low))
-get_range a (suc n) zero low = let same : a ≡ a + 0 = omega arith in ap Some same
-get_range a (suc n) (suc i) low =
-    let same : a + 1 + i ≡ a + suc i = omega arith in
-    get_range (a + 1) n i (omega (arith, low)) ∙ ap Some same
-
-get_counting : (n i : ℕ) → i < n → slice_get (range_with_len 0 n) i ≡ Some i
-get_counting n i low = let same : 0 + i ≡ i = omega arith in get_range 0 n i low ∙ ap Some same
-
--- an item of one list has one beside it
-zip_at : {X Y : Type 0} (R : X → Y → Type 0) (xs : List X) (ys : List Y) (k : ℕ) (y : Y) → AllZip R xs ys → slice_get ys k ≡ Some y
-    → (x : X) × (slice_get xs k ≡ Some x) × R x y
-zip_at R [] [] k y h at = cc at
-zip_at R [] (z ∷ ys) k y h at = absurd h
-zip_at R (x ∷ xs) [] k y h at = absurd h
-zip_at R (x ∷ xs) (z ∷ ys) zero y h at = let same : z ≡ y = cc at in (x, refl, rw (← same) h.0)
-zip_at R (x ∷ xs) (z ∷ ys) (suc k) y h at = zip_at R xs ys k y h.1 at
-
--- lists of one length, one after another
-module _ {X A : Type 0} (f : X → List A) (k : ℕ) (each : (x : X) → length (f x) ≡ k) where
-  pieces_long : (xs : List X) → length (flat_map f xs) ≡ length xs * k
-  pieces_long [] = omega arith
-  pieces_long (x ∷ xs) =
-      let split : (length xs + 1) * k ≡ length xs * k + k = grind arith in
-      omega (arith, length-append (f x) (flat_map f xs), each x, pieces_long xs, split)
-
-  piece_at : (xs : List X) (i j : ℕ) (x : X) → slice_get xs i ≡ Some x → j < k → slice_get (flat_map f xs) (i * k + j) ≡ slice_get (f x) j
-  piece_at [] i j x at low = cc at
-  piece_at (y ∷ ys) zero j x at low =
-      let same : y ≡ x = cc at in
-      let first : 0 * k + j ≡ j = omega arith in
-      ap (slice_get (flat_map f (y ∷ ys))) first ∙ get_first (f y) (flat_map f ys) j (omega (arith, low, each y)) ∙ ap (λ z. slice_get (f z) j) same
-  piece_at (y ∷ ys) (suc i) j x at low =
-      let split : (i + 1) * k ≡ i * k + k = grind arith in
-      let past : suc i * k + j ≡ length (f y) + (i * k + j) = omega (arith, each y, split) in
-      ap (slice_get (flat_map f (y ∷ ys))) past ∙ get_second (f y) (flat_map f ys) (i * k + j) ∙ piece_at ys i j x at low
+use Rattle.command_runs.proofs.ListPlaces.{get_counting, piece_at, pieces_long}
+use Rattle.command_runs.proofs.ListsBeside.{zip_at}
 
 -- what is made of the cells of a column, by its row
 cell_at : {A : Type 0} (f : ℕ → A) (g : Cells) (column row : ℕ) → row < g.rows → slice_get (map f (column_cells g column)) row
@@ -69,7 +22,7 @@ cell_at f g column row low =
     slice_get-map f (column_cells g column) row ∙ rw (slice_get-map (λ r. r * g.columns + column) (range_with_len 0 g.rows) row, get_counting g.rows row low)
     refl
 
-cells_long : {A : Type 0} (f : ℕ → A) (g : Cells) (column : ℕ) → length (map f (column_cells g column)) ≡ g.rows
+pub cells_long : {A : Type 0} (f : ℕ → A) (g : Cells) (column : ℕ) → length (map f (column_cells g column)) ≡ g.rows
 cells_long f g column = length-map (column_cells g column) f ∙ length-map-range_with_len (λ row. row * g.columns + column) 0 g.rows
 
 pub answers_by_place : AnswersByPlace

@@ -1,6 +1,7 @@
 -- The columns of sheets as one more sheet comes, for `columns.rt`.
 use Rattle.std.proofs.Common.{false, ◌&&◌, ◌+◌, ◌++◌, ◌<◌, ◌≤◌, ◌≡◌, ◌≢◌, ◌∙◌, ◌∷◌, Bool, List, [], ap, ap₂, arith, get_or, map, refl, replicate, set, suc, sym}
 use Rattle.std.proofs.Common.{subst, true, zero, ℕ}
+use Rattle.std.proofs.Math.Bool.{and-true}
 use Rattle.std.proofs.lemmas.Bool.{and_parts, false≢true}
 use Rattle.std.proofs.lemmas.List.{get_or-map, length-map, map-set}
 use Rattle.std.proofs.lemmas.List.Folds.{list_all-append}
@@ -11,7 +12,7 @@ use Rattle.sheet_core.specs.Bitmaps.{Bitmap}
 use Rattle.sheet_core.specs.Grids.{Cells}
 use Rattle.command_runs.specs.Columns.{AreColumns, HaveDots, column_dots, has_size, have_size}
 use Rattle.command_runs.specs.inner.Cuts.{AreCut}
-use Rattle.command_runs.proofs.ColumnFacts.{one_more_sheet}
+use Rattle.command_runs.proofs.RowsOfCells.{one_more_sheet}
 
 -- ---- items beside numbers in a row
 
@@ -46,22 +47,18 @@ one_beside R S (y ∷ ys) x d a (suc n) (suc i) low are others here =
 -- ---- the columns of sheets
 
 -- no sheet has a row
-no_rows : (g : Cells) (a n : ℕ) → AllZip (λ rows column. HaveDots rows (flat_map (column_dots g column) [])) (replicate n []) (range_with_len a n)
-no_rows g a zero = tt
-no_rows g a (suc n) = (tt, no_rows g (a + 1) n)
+no_sheet_rows : (g : Cells) (a n : ℕ) → AllZip (λ rows column. HaveDots rows (flat_map (column_dots g column) [])) (replicate n []) (range_with_len a n)
+no_sheet_rows g a zero = tt
+no_sheet_rows g a (suc n) = (tt, no_sheet_rows g (a + 1) n)
 
 pub no_columns : (g : Cells) (feeds : List (List (List ℕ))) → feeds ≡ replicate g.columns [] → AreColumns g [] feeds
-no_columns g feeds none = subst (AreColumns g []) (sym none) (no_rows g 0 g.columns)
-
-and_true : (b : Bool) → (b && true) ≡ b
-and_true true = refl
-and_true false = refl
+no_columns g feeds none = subst (AreColumns g []) (sym none) (no_sheet_rows g 0 g.columns)
 
 -- whether one more sheet has the size too
 pub size_more : (g : Cells) (sheets : List Bitmap) (s : Bitmap) (fit fits now : Bool) → fit ≡ have_size g sheets → fits ≡ has_size g s → now ≡ (fit && fits)
     → now ≡ have_size g (sheets ++ s ∷ [])
 size_more g sheets s fit fits now was is all =
-    all ∙ (ap₂ (λ a b. a && b) was (is ∙ sym (and_true (has_size g s))) ∙ sym (list_all-append (has_size g) sheets (s ∷ [])))
+    all ∙ (ap₂ (λ a b. a && b) was (is ∙ sym (and-true (has_size g s))) ∙ sym (list_all-append (has_size g) sheets (s ∷ [])))
 
 -- the columns before one have the rows of one more sheet
 abbrev pub HaveUpTo : Cells → List Bitmap → Bitmap → ℕ → List (List ℕ) → ℕ → Type 0
@@ -132,4 +129,4 @@ kept_other g sheets s feeds new false was is = kept_more g sheets s feeds new fa
 -- a sheet of the size
 pub kept_fit : (g : Cells) (sheets : List Bitmap) (s : Bitmap) (feeds new : List (List (List ℕ))) (fit : Bool) → AreCut g sheets fit feeds
     → true ≡ has_size g s → (AreColumns g sheets feeds → AreColumns g (sheets ++ s ∷ []) new) → AreCut g (sheets ++ s ∷ []) fit new
-kept_fit g sheets s feeds new fit was is grown = kept_more g sheets s feeds new fit true fit was is (sym (and_true fit)) (λ whole are. grown are)
+kept_fit g sheets s feeds new fit was is grown = kept_more g sheets s feeds new fit true fit was is (sym (and-true fit)) (λ whole are. grown are)

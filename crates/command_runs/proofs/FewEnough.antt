@@ -1,26 +1,22 @@
--- What a command reads is few enough to be served, for `commands/`.
-use Rattle.std.proofs.Common.{◌≡◌, ◌∙◌, List, arith, length, map, nat_le, refl, true, ℕ}
+-- The lanes, rows and workers of a command are few enough for a hub, for `run_lanes`, `run_scan` and `run_live`.
+use Rattle.std.proofs.Common.{◌≡◌, ◌&&◌, ◌∙◌, List, ap, arith, length, map, nat_le, refl, true, ℕ}
+use Rattle.std.proofs.lemmas.Bool.{and_from}
 use Rattle.std.specs.Int.{IsInRange}
 use Rattle.std.proofs.lemmas.Bool.Decides.{nat_tests}
 use Rattle.std.proofs.lemmas.List.{length-map}
 use Rattle.hub_core.specs.Serving.{are_counts, are_short, is_seat_count}
 
--- counts within their limits
-within : (feeds : List (List (List ℕ))) (count workers : ℕ) → length feeds ≡ count → IsInRange 1 16 count → IsInRange 1 16 workers
-    → are_short feeds ≡ true → are_counts feeds workers ≡ true
-within feeds count workers long range in_range short =
-    let least : nat_le 1 (length feeds) ≡ true = grind (arith, nat_tests) in
-    let most : nat_le (length feeds) 16 ≡ true = grind (arith, nat_tests) in
-    let one : nat_le 1 workers ≡ true = grind (arith, nat_tests) in
-    let sixteen : nat_le workers 16 ≡ true = grind (arith, nat_tests) in
-    rw (least, most, one, sixteen, short) refl
-
-pub counts_hold : {V : Type 0} (f : V → List (List ℕ)) (feeds : List V) (count workers : ℕ) → length feeds ≡ count → IsInRange 1 16 count
-    → IsInRange 1 16 workers → are_short (map f feeds) ≡ true → are_counts (map f feeds) workers ≡ true
-counts_hold f feeds count workers long = within (map f feeds) count workers (length-map feeds f ∙ long)
-
-pub counted : (n : ℕ) → IsInRange 1 16 n → is_seat_count n ≡ true
-counted n range =
+-- a count within the limits of seats
+pub seats_counted : (n : ℕ) → IsInRange 1 16 n → is_seat_count n ≡ true
+seats_counted n range =
     let least : nat_le 1 n ≡ true = grind (arith, nat_tests) in
     let most : nat_le n 16 ≡ true = grind (arith, nat_tests) in
     rw (least, most) refl
+
+-- so many feeds, and workers
+pub counts_hold : {V : Type 0} (f : V → List (List ℕ)) (feeds : List V) (count workers : ℕ) → length feeds ≡ count → IsInRange 1 16 count
+    → IsInRange 1 16 workers → are_short (map f feeds) ≡ true → are_counts (map f feeds) workers ≡ true
+counts_hold f feeds count workers long range in_range short =
+    and_from (is_seat_count (length (map f feeds))) (is_seat_count workers && are_short (map f feeds))
+    (ap is_seat_count (length-map feeds f ∙ long) ∙ seats_counted count range)
+    (and_from (is_seat_count workers) (are_short (map f feeds)) (seats_counted workers in_range) short)

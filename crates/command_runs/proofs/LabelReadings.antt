@@ -1,4 +1,4 @@
--- The texts of the labels of records say their elements, for `printed_is_scanned`.
+-- The texts of the labels of records say their elements, whatever their kind, for `printed_is_scanned`.
 use Rattle.std.proofs.Common.{ℕ, List, [], ◌∷◌, Ok, Option, Some, None, sym, subst}
 use Rattle.std.specs.List.{AllByRecursion}
 use Rattle.digits_core.specs.Digits.{digits_of, padded}
@@ -29,18 +29,18 @@ module _ (checked : GtinsAreChecked) (gtin : GtinReads) (canonical : CanonicalRe
   of_elements : (text : List ℕ) (l : Label) → IsElementLabel year text (Ok l) → SaysElements year l
   of_elements text l h = subst (SaysElements year) (sym h.1) (canonical year text h.0.list h.3).0
 
-  by_kind : (k : LabelKind) (field : List ℕ) (l : Label) → IsLabelAs year k field (Ok l) → SaysElements year l
-  by_kind (kind.Gtin k) field l h = of_gtin k field l h
-  by_kind kind.Gs1128 field l h = of_elements (spelled field) l h
+  says_by_kind : (k : LabelKind) (field : List ℕ) (l : Label) → IsLabelAs year k field (Ok l) → SaysElements year l
+  says_by_kind (kind.Gtin k) field l h = of_gtin k field l h
+  says_by_kind kind.Gs1128 field l h = of_elements (spelled field) l h
 
-  by_name : (o : Option LabelKind) (field : List ℕ) (l : Label) → IsLabelBy year o field (Ok l) → SaysElements year l
-  by_name (Some k) field l h = by_kind k field l h
-  by_name None field l h = cc h
+  says_by_name : (o : Option LabelKind) (field : List ℕ) (l : Label) → IsLabelBy year o field (Ok l) → SaysElements year l
+  says_by_name (Some k) field l h = says_by_kind k field l h
+  says_by_name None field l h = cc h
 
   of_record : (row : Fields) (l : Label) → print_meaning year row (Ok l) → SaysElements year l
   of_record [] l h = cc h
   of_record (name ∷ []) l h = cc h
-  of_record (name ∷ field ∷ []) l h = by_name (kind_named name) field l h
+  of_record (name ∷ field ∷ []) l h = says_by_name (kind_named name) field l h
   of_record (name ∷ field ∷ other ∷ more) l h = cc h
 
   pub labels_say : (rows : List Fields) (labels : List Label) → AreItems (print_meaning year) rows labels → AllByRecursion (SaysElements year) labels

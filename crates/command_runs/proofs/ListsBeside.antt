@@ -1,6 +1,9 @@
 -- Lists that stand beside others, item by item (`AllZip`).
-use Rattle.std.proofs.Common.{◌≡◌, ℕ, zero, suc, ◌+◌, ◌≤◌, ◌<◌, List, [], ◌∷◌, ◌++◌, Some, length, map, refl, ap₂, subst, arith}
+use Rattle.std.proofs.Common.{◌≡◌, ℕ, suc, ◌+◌, All, List, [], ◌∷◌, ◌++◌, None, Option, Some, length, map, refl, ap₂, subst, arith}
+use Rattle.std.specs.Prelude.{⊤, IsSomeAnd}
 use Rattle.std.specs.List.{AllByRecursion, AllZip, flat_map, range_with_len, slice_get}
+use Rattle.std.proofs.lemmas.List.Elements.{All-cons, All-nil}
+use Rattle.std.proofs.lemmas.Slice.Zip.{AllZip-right}
 
 -- one list after another
 pub beside-append : {X Y : Type 0} (R : X → Y → Type 0) (xs us : List X) (ys vs : List Y) → AllZip R xs ys → AllZip R us vs → AllZip R (xs ++ us) (ys ++ vs)
@@ -26,15 +29,24 @@ module _ {X Y Z : Type 0} (P : X → Y → Type 0) (Q : X → Z → Type 0) wher
   apart (y ∷ ys) [] h = absurd h
   apart (y ∷ ys) (z ∷ zs) h = let s = apart ys zs h.1 in (h.0.0 ∷ s.0, (h.0.1, s.1), (h.0.2, s.2))
 
--- where each item has at most one beside it, at most one list stands beside a list
+-- where each item of a kind has at most one beside it, a list of them has at most one list beside it
+pub same_where : {X Y : Type 0} (R : X → Y → Type 0) (P : X → Type 0) → ((x : X) (y z : Y) → P x → R x y → R x z → y ≡ z) → (xs : List X) (ys zs : List Y)
+    → AllByRecursion P xs → AllZip R xs ys → AllZip R xs zs → ys ≡ zs
+same_where R P one [] [] [] p h k = refl
+same_where R P one [] [] (z ∷ zs) p h k = absurd k
+same_where R P one [] (y ∷ ys) zs p h k = absurd h
+same_where R P one (x ∷ xs) [] zs p h k = absurd h
+same_where R P one (x ∷ xs) (y ∷ ys) [] p h k = absurd k
+same_where R P one (x ∷ xs) (y ∷ ys) (z ∷ zs) p h k = ap₂ (λ w ws. w ∷ ws) (one x y z p.0 h.0 k.0) (same_where R P one xs ys zs p.1 h.1 k.1)
+
+-- the same of items of any kind
 pub same_beside : {X Y : Type 0} (R : X → Y → Type 0) → ((x : X) (y z : Y) → R x y → R x z → y ≡ z) → (xs : List X) (ys zs : List Y)
     → AllZip R xs ys → AllZip R xs zs → ys ≡ zs
-same_beside R one [] [] [] h k = refl
-same_beside R one [] [] (z ∷ zs) h k = absurd k
-same_beside R one [] (y ∷ ys) zs h k = absurd h
-same_beside R one (x ∷ xs) [] zs h k = absurd h
-same_beside R one (x ∷ xs) (y ∷ ys) [] h k = absurd k
-same_beside R one (x ∷ xs) (y ∷ ys) (z ∷ zs) h k = ap₂ (λ w ws. w ∷ ws) (one x y z h.0 k.0) (same_beside R one xs ys zs h.1 k.1)
+same_beside {X} R one xs ys zs h k = same_where R (λ x. ⊤) (λ x y z any p q. one x y z p q) xs ys zs (of_any xs) h k
+  where
+    of_any : (xs : List X) → AllByRecursion (λ x. ⊤) xs
+    of_any [] = tt
+    of_any (x ∷ xs) = (tt, of_any xs)
 
 -- beside a list stands its map
 pub map_beside : {X Y : Type 0} (R : X → Y → Type 0) (P : X → Type 0) (g : X → Y) → ((x : X) → P x → R x (g x)) → (xs : List X) → AllByRecursion P xs
@@ -60,7 +72,28 @@ beside-flat_map R f g (x ∷ xs) k each =
     omega arith in subst (λ n. AllZip R (f y) (g n)) on (each (suc i) y at)) in
     beside-append R (f x) (flat_map f xs) (g k) (flat_map g (range_with_len (k + 1) (length xs))) first rest
 
--- numbers from one on lie below an end
-pub below : (a n end : ℕ) → a + n ≤ end → AllByRecursion (λ i. i < end) (range_with_len a n)
-below a zero end h = tt
-below a (suc n) end h = (omega arith, below (a + 1) n end (omega arith))
+-- an item of one list has one beside it
+pub zip_at : {X Y : Type 0} (R : X → Y → Type 0) (xs : List X) (ys : List Y) (k : ℕ) (y : Y) → AllZip R xs ys → slice_get ys k ≡ Some y
+    → (x : X) × (slice_get xs k ≡ Some x) × R x y
+zip_at {X} R xs ys k y h at = found (slice_get xs k) (rw at at (AllZip-right R xs ys h k))
+  where
+    found : (o : Option X) → IsSomeAnd o (λ x. R x y) → (x : X) × (o ≡ Some x) × R x y
+    found None is = absurd is
+    found (Some x) is = (x, refl, is)
+
+-- what follows of each pair follows of all
+pub zip_weaker : {X Y : Type 0} (R S : X → Y → Type 0) → ((x : X) (y : Y) → R x y → S x y) → (xs : List X) (ys : List Y) → AllZip R xs ys → AllZip S xs ys
+zip_weaker R S so [] [] z = tt
+zip_weaker R S so [] (y ∷ ys) z = absurd z
+zip_weaker R S so (x ∷ xs) [] z = absurd z
+zip_weaker R S so (x ∷ xs) (y ∷ ys) z = (so x y z.0, zip_weaker R S so xs ys z.1)
+
+pub first_of_pairs : {X Y : Type 0} (R : X → Y → Type 0) (P : X → Type 0) → ((x : X) (y : Y) → R x y → P x) → (xs : List X) (ys : List Y) → AllZip R xs ys → All P xs
+first_of_pairs R P so [] ys z = All-nil P
+first_of_pairs R P so (x ∷ xs) [] z = absurd z
+first_of_pairs R P so (x ∷ xs) (y ∷ ys) z = All-cons P x xs (so x y z.0) (first_of_pairs R P so xs ys z.1)
+
+pub no_pairs : {X Y : Type 0} (R : X → Y → Type 0) (xs : List X) (ys : List Y) → xs ≡ [] → AllZip R xs ys → ys ≡ []
+no_pairs R xs [] none z = refl
+no_pairs R [] (y ∷ ys) none z = absurd z
+no_pairs R (x ∷ xs) (y ∷ ys) none z = cc

@@ -1,4 +1,4 @@
--- `print` writes one text of bytes at most of the same bytes.
+-- `print` writes one text of bytes at most of the same bytes: each record means one label (`one_print`).
 use Rattle.std.proofs.Common.{◌≡◌, ◌∙◌, List, None, Ok, Option, Some, [], ◌∷◌, ap, subst, sym, ℕ}
 use Rattle.element_core.specs.Elements.{Listing, OneListOrFault}
 use Rattle.sheet_core.specs.Bitmaps.{Bitmap}
@@ -18,7 +18,7 @@ use Rattle.command_runs.specs.commands.Prints.{IsPrinted, OnePrint}
 use Rattle.command_line.specs.declared.commands.print.options.Output.{Output}
 use Rattle.command_line.specs.declared.commands.print.options.Output.TheVariants as output
 use Rattle.element_core.specs.Terms.{Terms}
-use Rattle.command_runs.proofs.OnceFacts.{mean_once}
+use Rattle.command_runs.proofs.LanesOnce.{mean_once}
 
 module _ (one : OneListOrFault) (year : Terms) where
   same_listing : (x y : Listing) → x.year ≡ y.year → x.list ≡ y.list → x ≡ y
@@ -29,19 +29,19 @@ module _ (one : OneListOrFault) (year : Terms) where
       let lists = (one year text).0 h.0.list k.0.list h.3 k.3 in
       h.1 ∙ ap label.Gs1128 (same_listing h.0 k.0 (h.2 ∙ sym k.2) lists) ∙ sym k.1
 
-  by_kind : (k : LabelKind) (field : List ℕ) (a b : Label) → IsLabelAs year k field (Ok a) → IsLabelAs year k field (Ok b) → a ≡ b
-  by_kind (kind.Gtin k) field a b h p = h.1 ∙ sym p.1
-  by_kind kind.Gs1128 field a b h p = element_label (spelled field) a b h p
+  label_by_kind : (k : LabelKind) (field : List ℕ) (a b : Label) → IsLabelAs year k field (Ok a) → IsLabelAs year k field (Ok b) → a ≡ b
+  label_by_kind (kind.Gtin k) field a b h p = h.1 ∙ sym p.1
+  label_by_kind kind.Gs1128 field a b h p = element_label (spelled field) a b h p
 
-  by_name : (o : Option LabelKind) (field : List ℕ) (a b : Label) → IsLabelBy year o field (Ok a) → IsLabelBy year o field (Ok b) → a ≡ b
-  by_name (Some k) field a b h p = by_kind k field a b h p
-  by_name None field a b h p = cc h
+  label_by_name : (o : Option LabelKind) (field : List ℕ) (a b : Label) → IsLabelBy year o field (Ok a) → IsLabelBy year o field (Ok b) → a ≡ b
+  label_by_name (Some k) field a b h p = label_by_kind k field a b h p
+  label_by_name None field a b h p = cc h
 
   -- a record means one label
   label_once : (fields : Fields) (a b : Label) → print_meaning year fields (Ok a) → print_meaning year fields (Ok b) → a ≡ b
   label_once [] a b h k = cc h
   label_once (name ∷ []) a b h k = cc h
-  label_once (name ∷ field ∷ []) a b h k = by_name (kind_named name) field a b h k
+  label_once (name ∷ field ∷ []) a b h k = label_by_name (kind_named name) field a b h k
   label_once (name ∷ field ∷ other ∷ more) a b h k = cc h
 
 -- what is printed of labels is one text

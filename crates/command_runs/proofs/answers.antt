@@ -1,9 +1,10 @@
+-- The lemmas of the proofs of `src/answers/`.
 pub mod FeedsGrow
-pub mod HeldFacts
-pub mod LineFeeds
+pub mod FirstLine
+pub mod LinesAsBrought
 pub mod PlainBytes
 pub mod ReadOn
 pub mod ReadRows
-pub mod ReportFacts
 pub mod RowsAsRead
+pub mod TakenAddsUp
 pub mod WidthFields

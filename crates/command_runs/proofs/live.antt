@@ -1,12 +1,13 @@
-pub mod CameFacts
-pub mod CsvFacts
-pub mod FieldsFacts
-pub mod LaneFacts
-pub mod ListFacts
+-- The lemmas of the proofs of `src/live/`.
+pub mod LanesOfTurn
+pub mod LineMeanings
+pub mod LinesAndDeliveries
+pub mod ListsGrow
 pub mod LiveEnds
-pub mod LivedFacts
-pub mod LogFacts
-pub mod ReorderFacts
-pub mod ReplyFacts
-pub mod WireFacts
+pub mod LivedOn
+pub mod LogGrows
+pub mod ReadsAndWrites
+pub mod RecordsAreLines
+pub mod ReorderedReport
+pub mod RepliesGrow
 pub mod Words

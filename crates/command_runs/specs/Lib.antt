@@ -1,3 +1,4 @@
+-- What a run of a command reads, writes and refuses; `inner` is for the inside of the crate.
 pub mod Columns
 pub mod Faults
 pub mod Grids

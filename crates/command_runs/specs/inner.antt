@@ -5,7 +5,7 @@ pub mod Cuts
 pub mod Finish
 pub mod HeldInputs
 pub mod Lines
-pub mod Lived
+pub mod LiveEnds
 pub mod Meaning
 pub mod Prints
 pub mod Replies

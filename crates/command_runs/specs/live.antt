@@ -1,3 +1,4 @@
+-- A live input: what its lines mean, what answers them, and the laws of it.
 pub mod Answering
 pub mod Laws
 pub mod Lived

@@ -18,9 +18,9 @@ pub struct Buffered<W: Sink> {
 
 impl<W: Sink> Model for Buffered<W> {
     ghost use Rattle.std.specs.Prelude.{◌≡◌};
-    ghost use Rattle.command_runs.specs.inner.Buffers.{Waiting};
+    ghost use Rattle.command_runs.specs.inner.Buffers.{SinkAndWaiting};
 
-    ghost Value = { Waiting W };
+    ghost Value = { SinkAndWaiting W };
 
     ghost view = { λ s. record { sink = s.sink; waiting = s.waiting } };
 

@@ -1,5 +1,6 @@
 //! The commands: rows through the hub and the lines that answer them, of records, of the columns of sheets, and of an input
-//! that is answered as it comes; a run of each command, and why it is refused as a whole.
+//! that is answered as it comes; a run of each command, and why it is refused as a whole. tests/using/items.txt lists what it
+//! exports, and tests/using/run compares the two.
 #![tactic(auto)]
 
 mod answers;

@@ -1,7 +1,7 @@
 -- Plain bytes, by what is looked for in them: no byte order mark, no quote, and no carriage return inside a line; for `are_plain`.
-use Rattle.std.proofs.Common.{Bool, true, nat_eq, slice_index_or, ◌-◌, ◌≤◌, get_or, inl, inr, length-append, length-drop, ◌≡◌, ◌<◌, ◌+◌, ◌++◌, ◌==◌, ◌||◌, ◌∙◌, ◌∷◌, sym, All, List, None, Some, [], ap, arith, drop, false, length, refl, ℕ}
+use Rattle.std.proofs.Common.{Bool, true, nat_eq, slice_index_or, ◌-◌, ◌≤◌, get_or, inl, inr, length-append, length-drop, ◌≡◌, ◌<◌, ◌+◌, ◌++◌, ◌==◌, ◌∙◌, ◌∷◌, sym, All, List, None, Some, [], ap, arith, drop, false, length, refl, ℕ}
 use Rattle.std.specs.List.{position_or_len}
-use Rattle.std.proofs.lemmas.Bool.{cases_lt, eq-eqb, eqb-true, false_from_ne_true}
+use Rattle.std.proofs.lemmas.Bool.{cases_lt, eq-eqb, eqb-true, false_from_ne_true, or_left, or_right}
 use Rattle.std.proofs.Math.Seq.{get_or-append_seam}
 use Rattle.std.proofs.lemmas.List.{get_or-append-add, get_or-drop}
 use Rattle.std.proofs.lemmas.List.Sums.{fails_before_first, position_or_len_is}
@@ -14,11 +14,12 @@ module _ (c : ℕ) where
   is_it b = b == c
 
   -- a byte that is not found is none of them
+  pub past_all : (xs : List ℕ) → IsFirstByte (is_byte c) xs None → position_or_len is_it xs ≡ length xs
+  past_all xs none = position_or_len_is is_it xs (length xs) 0 (omega arith)
+      (λ j low. false_from_ne_true _ (none j (omega arith) low)) (λ low. absurd (omega (arith, low)))
+
   pub no_byte : (xs : List ℕ) → IsFirstByte (is_byte c) xs None → All (λ b. (b == c) ≡ false) xs
-  no_byte xs none =
-      let past : position_or_len is_it xs ≡ length xs = position_or_len_is is_it xs (length xs) 0 (omega arith)
-      (λ j low. false_from_ne_true _ (none j (omega arith) low)) (λ low. absurd (omega (arith, low))) in
-      λ k d low. fails_before_first is_it xs k d (omega (arith, low, past))
+  no_byte xs none = let past = past_all xs none in λ k d low. fails_before_first is_it xs k d (omega (arith, low, past))
 
 pub plain_of : (xs : List ℕ) → strip_bom xs ≡ xs → IsFirstByte (is_byte 34) xs None → ReturnsEndLines xs → IsPlain xs
 plain_of xs mark none returns = record { no_mark = mark; no_quote = no_byte 34 xs none; returns = returns }
@@ -40,12 +41,8 @@ return_at bytes before after next is = (
 abbrev is_sought : ℕ → Bool
 is_sought = is_byte2 13 34
 
-or_right : (a b : Bool) → b ≡ true → (a || b) ≡ true
-or_right true b is = refl
-or_right false b is = is
-
 return_sought : (x : ℕ) → x ≡ 13 → is_sought x ≡ true
-return_sought x is = ap (λ b. b || (x == 34)) (eq-eqb x 13 is)
+return_sought x is = or_left (x == 13) (x == 34) (eq-eqb x 13 is)
 
 quote_sought : (x : ℕ) → x ≡ 34 → is_sought x ≡ true
 quote_sought x is = or_right (x == 13) (x == 34) (eq-eqb x 34 is)

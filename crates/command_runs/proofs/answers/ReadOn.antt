@@ -5,14 +5,15 @@ use Rattle.std.proofs.lemmas.List.Elements.{All-drop, All-nil, All-take}
 use Rattle.command_runs.specs.inner.HeldInputs.{HoldsMore, held_of}
 use Rattle.command_runs.specs.inner.RowReaders.{GoesOnAs, GoesToCsv, HasCut}
 use Rattle.digits_core.specs.declared.source.InputFault.{InputFault}
-use Rattle.command_runs.proofs.answers.HeldFacts.{stops_later}
+use Rattle.command_runs.proofs.answers.PlainBytes.{no_bytes}
+use Rattle.command_runs.proofs.answers.TakenAddsUp.{stops_later}
 use Rattle.command_runs.specs.declared.answers.row_reader.Course.{Course}
 use Rattle.command_runs.specs.declared.answers.held_input.HeldInput.{HeldInput}
 use Rattle.command_runs.specs.live.Laws.{IsPlain, ReturnsEndLines, record_lines}
 use Rattle.command_runs.specs.live.Text.{fields_in}
 use Rattle.csv_records.specs.input.Records.{Fields, records_of}
 use Rattle.csv.specs.Reading.{default_config, is_bom, records, strip_bom}
-use Rattle.command_runs.proofs.live.CsvFacts.{before_feed}
+use Rattle.command_runs.proofs.live.RecordsAreLines.{before_feed}
 
 -- ---- a text and its mark
 
@@ -34,10 +35,6 @@ unfolding strip_bom
 feed_first [] = refl
 feed_first (b ∷ []) = refl
 feed_first (b ∷ c ∷ rest) = refl
-
-no_mark_in_none : strip_bom [] ≡ []
-unfolding strip_bom
-no_mark_in_none = refl
 
 -- a text without a mark has none before a line feed
 no_mark_before_feed : (bytes rest : List ℕ) → strip_bom bytes ≡ bytes → strip_bom (bytes ++ 10 ∷ rest) ≡ bytes ++ 10 ∷ rest
@@ -76,14 +73,14 @@ returns_front front rest returns before after next is =
 
 pub nothing_plain : IsPlain []
 nothing_plain = record {
-  no_mark = no_mark_in_none;
+  no_mark = no_bytes [] refl;
   no_quote = All-nil (λ b. (b == 34) ≡ false);
   returns = λ before after next is. absurd (omega (arith, ap length is, length-append before (13 ∷ next ∷ after)));
 }
 
 -- the lines of a plain text before a line feed are records, whatever follows
-whole_lines : (bytes rest : List ℕ) → IsPlain bytes → records_of (bytes ++ 10 ∷ rest) ≡ map fields_in (record_lines bytes) ++ records_of (10 ∷ rest)
-whole_lines bytes rest plain =
+lines_before_feed : (bytes rest : List ℕ) → IsPlain bytes → records_of (bytes ++ 10 ∷ rest) ≡ map fields_in (record_lines bytes) ++ records_of (10 ∷ rest)
+lines_before_feed bytes rest plain =
     ap (records default_config) (no_mark_before_feed bytes rest plain.no_mark) ∙ before_feed bytes rest plain
     ∙ ap (λ rs. map fields_in (record_lines bytes) ++ rs) (sym (ap (records default_config) (feed_first rest) ∙ before_feed [] rest nothing_plain))
 
@@ -113,7 +110,7 @@ cut_on taken held n rest rows feed plain cut more =
     let whole : held ≡ text ++ 10 ∷ rest = sym (take-append-drop n held) ∙ ap (λ xs. text ++ xs) feed in
     cut more
     ∙ ap (λ xs. rows ++ records_of xs) (ap (λ xs. xs ++ more) whole ∙ append_assoc text (10 ∷ rest) more)
-    ∙ ap (λ rs. rows ++ rs) (whole_lines text (rest ++ more) (plain_front held n plain))
+    ∙ ap (λ rs. rows ++ rs) (lines_before_feed text (rest ++ more) (plain_front held n plain))
     ∙ sym (append_assoc rows (map fields_in (record_lines text)) (records_of (10 ∷ rest ++ more)))
     ∙ ap (λ xs. (rows ++ map fields_in (record_lines text)) ++ records_of (xs ++ more)) (sym feed)
 

@@ -19,7 +19,7 @@ use Rattle.csv_records.specs.declared.input.fault.RecordRefusal.TheVariants as o
 use Rattle.csv_records.proofs.RecordsReadFirst.{read_few, read_front}
 use Rattle.command_runs.specs.inner.HeldInputs.{GivesUp, HasTaken, PassesRest, held_of}
 use Rattle.command_runs.specs.inner.Lines.{IsLineTo, last_of, with_line}
-use Rattle.command_runs.proofs.live.CsvFacts.{lines_are_records}
+use Rattle.command_runs.proofs.live.RecordsAreLines.{lines_are_records}
 use Rattle.command_runs.specs.inner.RowReaders.{GaveRows, HasCut, HasReadRows, HasReadTo, IsMeant, IsRefusedFor, KeepsRows, ReadRecord, StandsAfter, is_taken}
 use Rattle.command_runs.specs.live.Text.{fields_in}
 use Rattle.command_runs.specs.declared.answers.held_input.HeldInput.{HeldInput}

@@ -1,9 +1,8 @@
 -- What `rows.rt` gives to the hub and tells at the end, by the rows that were read (of specs/inner/Rows).
-use Rattle.std.proofs.Common.{All, Err, Global, IfErr, IfOk, IfSome, List, None, Ok, Option, Result, Some, String, [], ap, arith, get_or, length, map, refl, replicate, set, string_bytes, subst, suc, sym, true, zero, ◌+◌, ◌++◌, ◌≡◌, ◌≢◌, ◌∙◌, ◌∷◌, ℕ, Bool}
+use Rattle.std.proofs.Common.{Err, Global, IfErr, IfOk, IfSome, List, None, Ok, Option, Result, Some, String, [], ap, arith, get_or, length, map, refl, replicate, set, string_bytes, subst, suc, sym, true, zero, ◌+◌, ◌++◌, ◌≡◌, ◌≢◌, ◌∙◌, ◌∷◌, ℕ, Bool}
 use Rattle.std.specs.Borrow.{MutBor}
 use Rattle.std.specs.Io.KnownBytes.{IsAtEnd}
 use Rattle.std.specs.List.{AllZip, concat, range_with_len}
-use Rattle.std.proofs.lemmas.List.Elements.{All-cons, All-nil}
 use Rattle.std.proofs.lemmas.List.FromFn.{get_or-map-range_with_len, length-map-range_with_len}
 use Rattle.std.proofs.lemmas.Slice.Zip.{AllZip-long}
 use Rattle.scan_core.specs.Answers.{Reads}
@@ -31,7 +30,7 @@ use Rattle.command_runs.specs.declared.answers.row_reader.Course.{Course}
 use Rattle.command_runs.specs.declared.answers.row_reader.Course.TheVariants as course
 use Rattle.command_runs.specs.declared.answers.row_reader.RowReader.{RowReader}
 use Rattle.command_runs.specs.declared.answers.rows.RecordRows.{RecordRows}
-use Rattle.command_runs.proofs.answers.ReportFacts.{rowless}
+use Rattle.command_runs.proofs.answers.LinesAsBrought.{rowless}
 use Rattle.command_runs.proofs.answers.FeedsGrow.{feed_short, feeds_more}
 use Rattle.element_core.specs.Terms.{Terms}
 
@@ -43,14 +42,10 @@ no_rows_from first (suc n) = ap (λ t. [] ∷ t) (no_rows_from (first + 1) n)
 pub no_rows : (lanes : ℕ) → replicate lanes [] ≡ feeds_of lanes []
 no_rows lanes = no_rows_from 0 lanes
 
-none : (ks : List ℕ) → All (λ lane. feed_of lane [] ≡ []) ks
-none [] = let P : ℕ → Type 0 = λ lane. feed_of lane [] ≡ [] in All-nil P
-none (k ∷ ks) = let P : ℕ → Type 0 = λ lane. feed_of lane [] ≡ [] in All-cons P k ks refl (none ks)
-
 -- and the report is empty
 pub no_report : (year : Terms) (lanes : ℕ) (text : List ℕ) → text ≡ [] → IsReport year (feeds_of lanes []) text
 no_report year lanes text is =
-    rowless (λ lane. feed_of lane []) year (range_with_len 0 lanes) text (none (range_with_len 0 lanes)) is
+    rowless (λ lane. feed_of lane []) year (range_with_len 0 lanes) text (λ k d low. refl) is
 
 -- the next row is given
 pub row_given : {S : Type 0} (left : S → Option (List ℕ)) (failed : S → Bool) (start old new : RecordRows S) (given : List (List (List ℕ)))

@@ -3,52 +3,42 @@ use Rattle.std.proofs.Common.{◌≡◌, ◌+◌, ◌<◌, ◌&&◌, ◌==◌, �
 use Rattle.std.specs.Char.{is_ascii_digit}
 use Rattle.std.specs.List.{list_all, onto_first}
 use Rattle.std.specs.Str.Parse.{digits_value}
-use Rattle.std.proofs.lemmas.Bool.{and_from, eqb-true, ne_eqb, true≢false}
+use Rattle.std.proofs.lemmas.Bool.{and_from, and_parts, eqb-true, ne_eqb, true≢false}
 use Rattle.std.proofs.lemmas.List.Elements.{All-cons, All-nil}
 use Rattle.std.proofs.lemmas.List.Splits.{slice_split_none}
 use Rattle.memchr.specs.Find.{IsFirstByte, is_byte}
 use Rattle.command_runs.specs.live.Text.{fields_in, is_comma}
-use Rattle.command_runs.proofs.live.FieldsFacts.{first_field, only_field, some_field, two}
+use Rattle.command_runs.proofs.live.LineMeanings.{first_field, only_field, some_field, two}
 use Rattle.csv_records.specs.lanes.Feeds.{LaneRow, is_lane, lane_row}
 use Rattle.csv_records.specs.lanes.Widths.{are_widths, field_fault, is_number, of_runs, widths_in, words_of}
 use Rattle.csv_records.specs.declared.input.fault.RecordFault.{RecordFault}
 use Rattle.csv_records.specs.declared.input.fault.RecordFault.TheVariants as fault
 use Rattle.scan_core.specs.Row.{runs_fault}
 
-and_first : (a b : Bool) → (a && b) ≡ true → a ≡ true
-and_first true b is = refl
-and_first false b is = is
-
-and_rest : (a b : Bool) → (a && b) ≡ true → b ≡ true
-and_rest true b is = is
-and_rest false b is = absurd (true≢false (sym is))
-
 -- each byte of the words is a digit
 abbrev are_digits : List (List ℕ) → Bool
 are_digits words = list_all (list_all is_ascii_digit) words
 
-digits_of : (word : List ℕ) → is_number 5 word ≡ true → list_all is_ascii_digit word ≡ true
-digits_of word is =
-    and_rest (nat_le (length word) 5) (list_all is_ascii_digit word)
-    (and_rest (nat_le 1 (length word)) (nat_le (length word) 5 && list_all is_ascii_digit word) is)
+word_digits : (word : List ℕ) → is_number 5 word ≡ true → list_all is_ascii_digit word ≡ true
+word_digits word is =
+    let some = and_parts (nat_le 1 (length word)) (nat_le (length word) 5 && list_all is_ascii_digit word) is in
+    (and_parts (nat_le (length word) 5) (list_all is_ascii_digit word) some.1).1
 
 all_digits : (words : List (List ℕ)) → are_widths words ≡ true → are_digits words ≡ true
 all_digits [] is = refl
 all_digits (word ∷ words) is =
-    and_from (list_all is_ascii_digit word) (are_digits words) (digits_of word (and_first (is_number 5 word) (are_widths words) is))
-    (all_digits words (and_rest (is_number 5 word) (are_widths words) is))
+    let both = and_parts (is_number 5 word) (are_widths words) is in
+    and_from (list_all is_ascii_digit word) (are_digits words) (word_digits word both.0) (all_digits words both.1)
 
 digit_no_comma : (b : ℕ) → is_ascii_digit b ≡ true → (b == 44) ≡ false
 digit_no_comma b is = ne_eqb b 44 (λ e. true≢false (sym is ∙ ap is_ascii_digit e))
 
 first_digits : (b : ℕ) (words : List (List ℕ)) → are_digits (onto_first b words) ≡ true → (is_ascii_digit b ≡ true) × (are_digits words ≡ true)
-first_digits b [] is = (and_first (is_ascii_digit b) true (and_first (is_ascii_digit b && true) true is), refl)
+first_digits b [] is = ((and_parts (is_ascii_digit b) true (and_parts (is_ascii_digit b && true) true is).0).0, refl)
 first_digits b (word ∷ words) is =
-    let front = and_first (is_ascii_digit b && list_all is_ascii_digit word) (are_digits words) is in (
-      and_first (is_ascii_digit b) (list_all is_ascii_digit word) front,
-      and_from (list_all is_ascii_digit word) (are_digits words) (and_rest (is_ascii_digit b) (list_all is_ascii_digit word) front)
-          (and_rest (is_ascii_digit b && list_all is_ascii_digit word) (are_digits words) is),
-    )
+    let both = and_parts (is_ascii_digit b && list_all is_ascii_digit word) (are_digits words) is in
+    let first = and_parts (is_ascii_digit b) (list_all is_ascii_digit word) both.0 in
+    (first.0, and_from (list_all is_ascii_digit word) (are_digits words) first.1 both.1)
 
 -- a byte before words is a space or begins the first of them
 first_byte : (b : ℕ) (words : List (List ℕ)) (is_space : Bool) → (b == 32) ≡ is_space

@@ -1,10 +1,9 @@
 -- A live input at its beginning and at its end, for `answer_live`.
 use Rattle.command_runs.specs.declared.live.fault.LiveFault.TheVariants as fault
 use Rattle.hub_core.specs.declared.fault.ServeFault.TheVariants as serve
-use Rattle.command_runs.proofs.live.Words.{AnswersBy, AreFresh, counts, nil_from_length, eqb-true, false, AreOfRows, AreServedFirst, Bool, Ended, Err, Event, HasCome, Held, IsFresh, IsFrontBy, IsKept, IsPromptBy, IsReplyTo, KeepsReplies, List, LiveFault, LiveTerms, Lived, None, Option, Past, PendingReply, Plain, ServeFault, ServedByPlace, Some, Waiting, [], and_parts, ap, append-nil, arith, get_or, get_or_from_slice_get, held_line, is_none, length, length-replicate, line_meant, lines_are_pieces, live_fault, nat_eq, nothing_held, pieces_of, plain_of, refl, replicate, replies_in, same_Some, served, slice_get, slice_get_within, subst, suc, sym, true, was_read, was_written, zero, ℕ, ⊎_elim, ◌&&◌, ◌++◌, ◌∙◌, ◌∷◌, ◌≡◌, ◌≢◌}
-use Rattle.command_runs.proofs.live.ListFacts.{got_more}
-use Rattle.command_runs.proofs.live.ReplyFacts.{replies_more}
-use Rattle.command_runs.proofs.live.WireFacts.{all_done}
+use Rattle.command_runs.proofs.live.Words.{AnswersBy, AreFresh, AreOfRows, AreServedFirst, Bool, Ended, Err, Event, HasCome, Held, IsFresh, IsFrontBy, IsKept, IsPromptBy, IsReplyTo, KeepsReplies, List, LiveFault, LiveTerms, Lived, None, Option, Past, PendingReply, Plain, ServeFault, ServedByPlace, Some, Waiting, [], and_parts, ap, append-nil, arith, counts, eqb-true, false, get_or, get_or_from_slice_get, got_more, held_line, is_none, length, length-replicate, line_meant, lines_are_pieces, live_fault, nat_eq, nil_from_length, nothing_held, pieces_of, plain_of, refl, replicate, replies_in, same_Some, served, slice_get, slice_get_within, subst, suc, sym, true, was_read, was_written, zero, ℕ, ⊎_elim, ◌&&◌, ◌++◌, ◌∙◌, ◌∷◌, ◌≡◌, ◌≢◌}
+use Rattle.command_runs.proofs.live.RepliesGrow.{replies_more}
+use Rattle.command_runs.proofs.live.ReadsAndWrites.{all_done}
 use Rattle.hub_core.specs.declared.ended.Ended.TheVariants.{BringFailed, Done, NoMemory, WaitFailed}
 
 -- ---- the beginning

@@ -1,5 +1,4 @@
 -- Names that the proofs of `live` share.
-pub use Rattle.command_runs.proofs.CommandFacts.{only_fault}
 pub use Rattle.command_runs.specs.answers.Reports.{lane_lines, line_of, lines_from}
 pub use Rattle.command_runs.specs.declared.live.fault.LiveFault.TheVariants.{NoMemory, ReadFault, WriteFault}
 pub use Rattle.command_runs.specs.declared.live.fault.LiveFault.{LiveFault}
@@ -11,7 +10,7 @@ pub use Rattle.command_runs.specs.declared.live.record.Record.{Record}
 pub use Rattle.command_runs.specs.declared.live.terms.LiveTerms.{LiveTerms}
 pub use Rattle.command_runs.specs.declared.live.waiting.Waiting.{Waiting}
 pub use Rattle.command_runs.specs.inner.Came.{AreOfRows, AreWaiting, HasCome, HasLived, IsPending, IsReady, IsReplyTo, IsWaiting, KeepsReplies, Past, Stands, TakesLine, TellsPending, Turn, after_line, counts, past_from, replies_in, turn_of}
-pub use Rattle.command_runs.specs.inner.Lived.{live_fault}
+pub use Rattle.command_runs.specs.inner.LiveEnds.{live_fault}
 pub use Rattle.command_runs.specs.inner.Meaning.{HoldsRecord, IsRecord}
 pub use Rattle.command_runs.specs.inner.Replies.{numbers_after_lines, numbers_from}
 pub use Rattle.command_runs.specs.inner.Stops.{MayStillWrite, StopsFor}
@@ -21,43 +20,42 @@ pub use Rattle.command_runs.specs.live.Laws.{IsLaneRowLine, LaneLine, LinesAreRe
 pub use Rattle.command_runs.specs.live.Lived.{Lived}
 pub use Rattle.command_runs.specs.live.Replies.Reply.{Row}
 pub use Rattle.command_runs.specs.live.Replies.Told.{Refusal}
-pub use Rattle.command_runs.specs.live.Replies.{Meant, Numbers, Reply, Told, most_rows, numbers_after, one_later, replies_from, replies_to, reply_to, unnumbered_line}
-pub use Rattle.command_runs.specs.live.Text.{AnsweredWhole, IsReply, fields_in, fields_meant, is_comma, line_fault_text, line_meant, record_in, row_or_line, text_meant, without_return}
-pub use Rattle.command_runs.proofs.ListsBeside.{beside, beside-append}
+pub use Rattle.command_runs.specs.live.Replies.{Meant, Numbers, Reply, most_rows, numbers_after, one_later, replies_from, replies_to, reply_to, unnumbered_line}
+pub use Rattle.command_runs.specs.live.Text.{AnsweredWhole, IsReply, fields_in, fields_meant, is_comma, line_fault_text, line_meant, record_in, text_meant, without_return}
+pub use Rattle.command_runs.proofs.ListPlaces.{got_after, got_more}
+pub use Rattle.command_runs.proofs.ListsBeside.{beside, beside-append, first_of_pairs, no_pairs, zip_weaker}
 pub use Rattle.std.proofs.lemmas.Slice.Zip.{all_zipped_more}
-pub use Rattle.csv_records.proofs.MessageWidths.{messages_are_no_rows, whole}
+pub use Rattle.csv_records.specs.Laws.{MessagesAreNoRows}
 pub use Rattle.csv_records.specs.declared.input.fault.RecordFault.{RecordFault}
 pub use Rattle.csv_records.specs.input.Faults.{record_fault_text}
 pub use Rattle.csv_records.specs.input.Records.{AreItems}
-pub use Rattle.csv_records.specs.lanes.Feeds.{LaneRow, feed_of, feeds_of, is_lane, lane_row, lanes_meaning, row_or}
+pub use Rattle.csv_records.specs.lanes.Feeds.{LaneRow, feed_of, is_lane, lane_row, lanes_meaning, row_or}
 pub use Rattle.csv_records.specs.lanes.Widths.{field_fault, is_number, widths_in}
 pub use Rattle.element_core.specs.Terms.{Terms}
-pub use Rattle.hub_core.proofs.DrainsAddUp.{get_set}
 pub use Rattle.hub_core.specs.Laws.{ServedByPlace}
 pub use Rattle.hub_core.specs.Serving.{served}
 pub use Rattle.hub_core.specs.Traffics.{AreServedFirst, Gives, HasRoom, History, IsAllBrought, IsKept, Stays, with_more}
 pub use Rattle.hub_core.specs.declared.ended.Ended.{Ended}
 pub use Rattle.hub_core.specs.declared.fault.ServeFault.{ServeFault}
-pub use Rattle.lane_core.proofs.ListFacts.{none_from}
 pub use Rattle.lane_core.specs.Plain.{plain_of}
 pub use Rattle.lane_core.specs.declared.job.Plain.{Plain}
 pub use Rattle.memchr.specs.Find.{IsFirstByte, is_byte}
 pub use Rattle.message_core.specs.Heads.{is_message}
 pub use Rattle.scan_core.specs.Answers.{IsAnswer, Reads}
 pub use Rattle.scan_core.specs.declared.answer.Answer.{Answer}
-pub use Rattle.std.proofs.Common.{All, Bool, Err, Global, IfNone, List, None, Ok, Option, Result, Some, Vec, [], ap, append-nil, append_assoc, arith, cond, drop, false, get_or, inl, inr, is_none, is_some, length, length-append, length-drop, map, nat_eq, nat_lt, refl, replicate, set, string_bytes, subst, suc, sym, take, true, vec_capacity, zero, ℕ, ⊎_elim, ◌&&◌, ◌++◌, ◌+◌, ◌-◌, ◌<◌, ◌==◌, ◌↔◌, ◌∙◌, ◌∷◌, ◌≡◌, ◌≢◌, ◌≤◌, ◌⊎◌}
+pub use Rattle.std.proofs.Common.{All, Bool, Err, Global, List, None, Ok, Option, Result, Some, Vec, [], ap, append-nil, append_assoc, arith, cond, drop, false, get_or, inl, inr, is_none, is_some, length, length-append, length-drop, map, nat_eq, nat_lt, refl, replicate, set, string_bytes, subst, suc, sym, take, true, vec_capacity, zero, ℕ, ⊎_elim, ◌&&◌, ◌++◌, ◌+◌, ◌-◌, ◌<◌, ◌==◌, ◌∙◌, ◌∷◌, ◌≡◌, ◌≢◌, ◌≤◌, ◌⊎◌}
 pub use Rattle.std.proofs.Math.Seq.{take-append_seam}
 pub use Rattle.std.proofs.lemmas.Bool.Decides.{nat_tests}
-pub use Rattle.std.proofs.lemmas.Bool.{and_parts, cases_Bool, cases_eq, cases_lt, cond-false, cond-true, cond_both, eq-eqb, eqb-true, false_from_ne_true, false≢true, le-ltb, lt-ltb, ltb-true, ne_eqb}
+pub use Rattle.std.proofs.lemmas.Bool.{and_parts, cases_Bool, cases_eq, cases_lt, cond_both, eq-eqb, eqb-true, false_from_ne_true, false≢true, le-ltb, lt-ltb, ltb-true, ne_eqb}
 pub use Rattle.std.proofs.lemmas.Grind.{flat_map-append, get_or-set_at}
-pub use Rattle.std.proofs.lemmas.List.Elements.{All-cons, All-head, All-nil, All-push, All-tail, filter_map-append, recursion_from_All}
+pub use Rattle.std.proofs.lemmas.List.Elements.{All-nil, All-push, filter_map-append, recursion_from_All}
 pub use Rattle.std.proofs.lemmas.List.Folds.{concat-append}
 pub use Rattle.std.proofs.lemmas.List.FromFn.{get_or-map-range_with_len, length-map-range_with_len}
-pub use Rattle.std.proofs.lemmas.List.Splits.{join_with_byte-slice_split, length-slice_split, slice_split_first}
-pub use Rattle.std.proofs.lemmas.List.Sums.{position_or_len_is}
-pub use Rattle.std.proofs.lemmas.List.{drop_all, get_or-append-add, get_or-map, get_or-set_other, get_or_append_left, length-replicate, length-set, nil_from_length, take_all, take_more}
+pub use Rattle.std.proofs.lemmas.List.Splits.{join_with_byte-slice_split, length-slice_split, slice_split_first, slice_split_none}
+pub use Rattle.std.proofs.lemmas.List.Sums.{fails_before_first, position_or_len_is}
+pub use Rattle.std.proofs.lemmas.List.{drop_all, get_or-map, get_or-set_other, length-replicate, length-set, nil_from_length, take_all, take_more}
 pub use Rattle.std.proofs.lemmas.Option.{get_or_from_slice_get, same_Some, slice_get-get_or, slice_get_read, slice_get_within}
-pub use Rattle.std.proofs.lemmas.Result.{on_ok_weaker}
+pub use Rattle.std.proofs.lemmas.Result.{IfOk-from_err, on_ok_weaker}
 pub use Rattle.std.specs.List.{AllByRecursion as Each, AllZip, after_first, before_first, concat, cons_option, filter, filter_map, join_with_byte, onto_first, position_or_len, range_with_len, slice_get}
 pub use Rattle.std.specs.Prelude.{IsErr, String}
 pub use Rattle.std.specs.Str.Parse.{digits_value}

@@ -3,16 +3,16 @@ use Rattle.std.specs.Prelude.{◌≡◌, ℕ, Bool, true, List, Option, Result, 
 use Rattle.std.specs.Io.KnownBytes.{Keeps, append_known}
 
 -- a sink, and the bytes that wait for it
-pub record Waiting (W : Type 0) : Type 0 where
+pub record SinkAndWaiting (W : Type 0) : Type 0 where
   pub sink : W
   pub waiting : List ℕ
 
 -- what the sink took and then what waits, if that is known
-abbrev pub taken_and_waiting : {W : Type 0} → (W → Option (List ℕ)) → Waiting W → Option (List ℕ)
+abbrev pub taken_and_waiting : {W : Type 0} → (W → Option (List ℕ)) → SinkAndWaiting W → Option (List ℕ)
 taken_and_waiting taken s = append_known (taken s.sink) s.waiting
 
 -- what the sink took and then what waits is what it was
-abbrev pub KeepsBytes : {W : Type 0} → (W → Option (List ℕ)) → Waiting W → Waiting W → Type 0
+abbrev pub KeepsBytes : {W : Type 0} → (W → Option (List ℕ)) → SinkAndWaiting W → SinkAndWaiting W → Type 0
 KeepsBytes taken old new = Keeps (taken_and_waiting taken old) (taken_and_waiting taken new)
 
 -- what a call tells of a failure of its sink: that it has failed from then on if the call failed, and else no more than before; and one that has

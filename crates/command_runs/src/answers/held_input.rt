@@ -89,31 +89,19 @@ impl<'a, S: Source> HeldInput<'a, S> {
     pub fn read_rest(&mut self, alloc: Global) -> Result<Vec<u8>, InputFault>
         ensures { ReadsRest S.left S.failed self.old result self.new }
     {
-        'pieces: loop {
-            match self.read_piece() {
-                Ok(true) => {}
-                Ok(false) => {
-                    self.start = 0;
-                    return Ok(mem::replace(&mut self.bytes, Vec::new(alloc)));
-                }
-                Err(fault) => return Err(fault),
-            }
-        }
+        'pieces: while self.read_piece()? {}
+        self.start = 0;
+        Ok(mem::replace(&mut self.bytes, Vec::new(alloc)))
     }
 
     /// Reads all that still comes, and holds nothing of it.
     pub fn pass_rest(&mut self) -> Result<(), InputFault>
         ensures { PassesRest S.left S.failed self.old result self.new }
     {
-        'pieces: loop {
-            match self.read_piece() {
-                Ok(true) => {
-                    let held = self.held().len();
-                    self.give_up(held);
-                }
-                Ok(false) => return Ok(()),
-                Err(fault) => return Err(fault),
-            }
+        'pieces: while self.read_piece()? {
+            let held = self.held().len();
+            self.give_up(held);
         }
+        Ok(())
     }
 }

@@ -9,8 +9,7 @@ ghost use Rattle.memchr.specs.Find.{IsFirstByte, is_byte};
 
 use csv_records::{RecordFault, RecordRefusal, lane_in, read_runs};
 use memchr::{memchr, memchr2};
-use scan_core::Runs;
-use std::alloc::Global;
+use scan_core::{RowPool, Runs};
 
 /// Whether the bytes may begin with a byte order mark.
 fn may_have_mark(bytes: &[u8]) -> bool
@@ -57,7 +56,7 @@ pub fn are_plain(bytes: &[u8]) -> bool
 
 /// The lane and the row of two fields.
 fn read_fields(
-    alloc: Global,
+    pool: &mut RowPool,
     lanes: u8,
     first: &[u8],
     second: &[u8],
@@ -65,19 +64,19 @@ fn read_fields(
     ensures { IsMeant lanes (first.now ∷ second.now ∷ []) result }
 {
     let lane = lane_in(first, lanes).ok_or(RecordFault::BadLane)?;
-    let runs = read_runs(alloc, second)?;
+    let runs = read_runs(pool, second)?;
     Ok((lane, runs))
 }
 
 /// The lane of a line and its row.
-pub fn read_line(alloc: Global, lanes: u8, line: &[u8]) -> Result<(u8, Runs), RecordRefusal>
+pub fn read_line(pool: &mut RowPool, lanes: u8, line: &[u8]) -> Result<(u8, Runs), RecordRefusal>
     ensures { IsMeant lanes (fields_in line.now) result }
 {
     let Some(comma) = memchr(b',', line) else {
         return Err(RecordRefusal::Record(RecordFault::Csv));
     };
     let second = &line[comma + 1..];
-    match read_fields(alloc, lanes, &line[..comma], second) {
+    match read_fields(pool, lanes, &line[..comma], second) {
         Ok(row) => Ok(row),
         // A second comma is looked for only where the record is refused: widths have none.
         Err(RecordRefusal::Record(fault)) => match memchr(b',', second) {

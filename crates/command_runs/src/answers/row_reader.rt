@@ -1,6 +1,6 @@
 //! The rows of the records that a source gives, one after another.
-ghost use Rattle.std.specs.Prelude.{◌≡◌, IfNone, IfSome, length};
-ghost use Rattle.command_runs.specs.inner.Lines.{IsLastLine, IsLineTo, line_start};
+ghost use Rattle.std.specs.Prelude.{◌≡◌, length};
+ghost use Rattle.command_runs.specs.inner.Lines.{line_start};
 ghost use Rattle.command_runs.specs.inner.RowReaders.{GoesOnAs, GoesToCsv};
 
 use crate::answers::held_input::HeldInput;
@@ -9,7 +9,7 @@ use crate::live::record::without_return;
 use csv_records::{RecordRefusal, Records, RecordsFault, next_row};
 use digits_core::{InputFault, Source};
 use memchr::memchr;
-use scan_core::Runs;
+use scan_core::{RowPool, Runs};
 use std::alloc::Global;
 
 /// A longer line is read by `csv`, so that what is held has a limit.
@@ -50,21 +50,6 @@ fn line_start(bytes: &[u8]) -> usize
     match bytes.first() {
         Some(b'\n') => 1,
         _ => 0,
-    }
-}
-
-/// The next line that a line feed ends, without its carriage return, and where it ends.
-fn whole_line(bytes: &[u8]) -> Option<(&[u8], usize)>
-    ensures line { IfSome result (λ p. IsLineTo bytes.now p.0.now p.1) }
-    ensures none { IfNone result (IsLastLine bytes.now) }
-{
-    let start = line_start(bytes);
-    match memchr(b'\n', &bytes[start..]) {
-        Some(length) => {
-            let end = start + length;
-            Some((without_return(&bytes[start..end]), end))
-        }
-        None => None,
     }
 }
 
@@ -145,29 +130,31 @@ impl<'a, S: Source> RowReader<'a, S> {
         }
     }
 
-    /// The row of the next line that is held and has a byte; none if none is held whole.
-    fn next_line(&mut self) -> Option<Result<(u8, Runs), RecordRefusal>>
+    /// The row of the next line that a line feed ends and that has a byte; none if none is held.
+    fn next_line(&mut self, pool: &mut RowPool) -> Option<Result<(u8, Runs), RecordRefusal>>
         requires { self.old.course ≡ Course.Lines }
         ensures stays { StaysAtLines self.old result self.new }
         ensures reads { ReadsLine S.left S.failed self.old result self.new }
     {
         'lines: loop {
-            match whole_line(self.input.held()) {
-                Some((line, end)) => {
-                    if !line.is_empty() {
-                        let row = read_line(self.alloc, self.lanes, line);
-                        self.input.give_up(end);
-                        return Some(row);
-                    }
-                    self.input.give_up(end);
-                }
-                None => return None,
+            let held = self.input.held();
+            let start = line_start(held);
+            let Some(length) = memchr(b'\n', &held[start..]) else {
+                return None;
+            };
+            let end = start + length;
+            let line = without_return(&held[start..end]);
+            if !line.is_empty() {
+                let row = read_line(pool, self.lanes, line);
+                self.input.give_up(end);
+                return Some(row);
             }
+            self.input.give_up(end);
         }
     }
 
     /// The row of the last line, which no line feed ends, if it has a byte.
-    fn last_line(&mut self) -> Option<Result<(u8, Runs), RecordRefusal>>
+    fn last_line(&mut self, pool: &mut RowPool) -> Option<Result<(u8, Runs), RecordRefusal>>
         requires { self.old.course ≡ Course.LastLine }
         ensures { ReadsLine S.left S.failed self.old result self.new }
     {
@@ -177,7 +164,7 @@ impl<'a, S: Source> RowReader<'a, S> {
         if line.is_empty() {
             return None;
         }
-        Some(read_line(self.alloc, self.lanes, line))
+        Some(read_line(pool, self.lanes, line))
     }
 
     /// Goes on where no whole line is held.
@@ -192,16 +179,16 @@ impl<'a, S: Source> RowReader<'a, S> {
     }
 
     /// The row of the next record that is read otherwise than by a whole line.
-    fn row_behind_lines(&mut self) -> Option<(u8, Runs)>
+    fn row_behind_lines(&mut self, pool: &mut RowPool) -> Option<(u8, Runs)>
         requires { WasRead S.left S.failed self.old }
         ensures { GivesNextRow S.left S.failed self.old result self.new }
     {
         match &mut self.course {
-            Course::LastLine => match self.last_line() {
+            Course::LastLine => match self.last_line(pool) {
                 Some(row) => self.tell(row),
                 None => None,
             },
-            Course::Csv(records) => match next_row(self.alloc, self.lanes, records) {
+            Course::Csv(records) => match next_row(pool, self.lanes, records) {
                 Ok(Some(row)) => self.tell(Ok(row)),
                 Ok(None) => {
                     self.course = Course::Ended;
@@ -214,17 +201,17 @@ impl<'a, S: Source> RowReader<'a, S> {
     }
 
     /// The next record's row, and its lane. None if all were read, or the input is refused.
-    pub fn next_row(&mut self) -> Option<(u8, Runs)>
+    pub fn next_row(&mut self, pool: &mut RowPool) -> Option<(u8, Runs)>
         requires { WasRead S.left S.failed self.old }
         ensures { GivesNextRow S.left S.failed self.old result self.new }
     {
         'pieces: while let Course::Lines = self.course {
-            if let Some(row) = self.next_line() {
+            if let Some(row) = self.next_line(pool) {
                 return self.tell(row);
             }
             self.go_on();
         }
-        self.row_behind_lines()
+        self.row_behind_lines(pool)
     }
 
     /// Reads all rows that are left.
@@ -233,9 +220,10 @@ impl<'a, S: Source> RowReader<'a, S> {
         ensures same_reference { self.new.input.source.ghost_name ≡ self.old.input.source.ghost_name }
         ensures passes { PassesRows S.left S.failed self.old self.new }
     {
+        let mut pool = RowPool::new(self.alloc);
         'rows: for _ in 0..usize::MAX {
-            match self.next_row() {
-                Some(_) => {}
+            match self.next_row(&mut pool) {
+                Some((_, row)) => pool.put_back(row),
                 None => break,
             }
         }

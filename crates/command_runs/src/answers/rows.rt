@@ -14,7 +14,7 @@ use digits_core::Source;
 use element_core::Year;
 use hub_core::{Ended, Gate, NotBegun, Traffic, answers_are_read, serve_traffic};
 use lane_core::Delivery;
-use scan_core::Runs;
+use scan_core::{RowPool, Runs};
 use std::alloc::{AllocError, Global};
 use std::sync::Wait;
 use std::thread::Threads;
@@ -37,6 +37,8 @@ struct Refused;
 struct RecordRows<'a, S> {
     rows: RowReader<'a, S>,
     texts: Vec<String>,
+    /// The memory of the rows that were answered.
+    pool: RowPool,
 }
 
 impl<'a, S: Source> Traffic for RecordRows<'a, S> {
@@ -54,11 +56,13 @@ impl<'a, S: Source> Traffic for RecordRows<'a, S> {
     ghost Leaves = { λ s t. t.rows ≡ s.rows };
 
     fn next(&mut self) -> Option<(u8, Runs)> {
-        self.rows.next_row()
+        self.rows.next_row(&mut self.pool)
     }
 
     fn bring(&mut self, delivery: Delivery) -> Result<(), AllocError> {
-        push_answer_of(&mut self.texts, delivery)
+        push_answer_of(&mut self.texts, &delivery)?;
+        self.pool.put_back(delivery.into_row());
+        Ok(())
     }
 
     fn wait(&mut self) -> Result<bool, Refused> {
@@ -85,7 +89,11 @@ fn serve_rows<'a, R: Threads + Wait + Sync, S: Source, G: Gate + Sync>(
     ensures same_reference { result.0.input.source.ghost_name ≡ rows.entry.input.source.ghost_name }
     ensures answered { AreAnswered S.left S.failed lanes year rows.entry.input.source result.0 result.1 }
 {
-    let traffic = RecordRows { rows, texts };
+    let traffic = RecordRows {
+        rows,
+        texts,
+        pool: RowPool::new(alloc),
+    };
     // A law, by which the clause follows: this call does nothing.
     answers_are_read();
     match serve_traffic(rt, alloc, traffic, lanes, workers, year, gate) {

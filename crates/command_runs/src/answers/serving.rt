@@ -79,7 +79,7 @@ impl Traffic for AnsweredRows {
     }
 
     fn bring(&mut self, delivery: Delivery) -> Result<(), AllocError> {
-        push_answer_of(&mut self.texts, delivery)
+        push_answer_of(&mut self.texts, &delivery)
     }
 
     fn wait(&mut self) -> Result<bool, Infallible> {
@@ -88,9 +88,9 @@ impl Traffic for AnsweredRows {
 }
 
 /// Appends the line that answers a delivery to the text of its lane.
-pub fn push_answer_of(texts: &mut Vec<String>, delivery: Delivery) -> Result<(), AllocError>
-    requires { delivery.lane < vec_len texts.old }
-    ensures { IfOk result (λ _. TellsOf delivery texts.old.items texts.new.items) }
+pub fn push_answer_of(texts: &mut Vec<String>, delivery: &Delivery) -> Result<(), AllocError>
+    requires { delivery.now.lane < vec_len texts.old }
+    ensures { IfOk result (λ _. TellsOf delivery.now texts.old.items texts.new.items) }
 {
     let ticket = delivery.ticket();
     let index = usize::from(ticket.lane);
@@ -99,7 +99,7 @@ pub fn push_answer_of(texts: &mut Vec<String>, delivery: Delivery) -> Result<(),
         Form::HumanReadable,
         ticket.lane,
         ticket.number,
-        &delivery,
+        delivery,
     )
 }
 

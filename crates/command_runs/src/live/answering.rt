@@ -1,7 +1,7 @@
 //! Records that are answered as they come.
 ghost use Rattle.std.specs.Prelude.{◌≡◌, [], IsErrOf};
 ghost use Rattle.hub_core.specs.Serving.{AreSeatCounts};
-ghost use Rattle.command_runs.specs.inner.Lived.{EndsAs, live_fault};
+ghost use Rattle.command_runs.specs.inner.LiveEnds.{EndsAs, live_fault};
 ghost use Rattle.command_runs.specs.live.Lived.{Lived};
 
 use crate::live::fault::LiveFault;
@@ -15,7 +15,7 @@ use std::thread::Threads;
 use wire_core::Wire;
 
 /// Why a live input is not answered, if it is not served.
-fn fault_of(fault: ServeFault) -> LiveFault
+fn live_fault_of(fault: ServeFault) -> LiveFault
     ensures { result ≡ live_fault fault }
 {
     match fault {
@@ -80,6 +80,6 @@ pub fn answer_live<R: Threads + Wait + Sync, W: Wire + Drop, G: Gate + Sync>(
             let Live { wire, stopped, .. } = live;
             (wire, ending(stopped, ended))
         }
-        Err(NotBegun { fault, input: live }) => (live.wire, Err(fault_of(fault))),
+        Err(NotBegun { fault, input: live }) => (live.wire, Err(live_fault_of(fault))),
     }
 }

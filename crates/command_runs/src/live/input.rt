@@ -12,7 +12,7 @@ use crate::live::terms::LiveTerms;
 use crate::live::waiting::{Waiting, end_turn, make_lanes, next_number};
 use hub_core::Traffic;
 use lane_core::Delivery;
-use scan_core::Runs;
+use scan_core::{RowPool, Runs};
 use std::alloc::{AllocError, Global};
 use std::convert::Infallible;
 use wire_core::{Lines, Wire, write_all};
@@ -47,6 +47,8 @@ pub struct Live<W> {
     lanes: Vec<Waiting>,
     /// The replies to the turn's records, in their order.
     replies: Vec<PendingReply>,
+    /// The memory of the rows that were answered.
+    pool: RowPool,
     /// What is held of the input.
     lines: Lines,
     /// Why nothing more is taken.
@@ -73,6 +75,7 @@ impl<W: Wire> Live<W> {
             text: String::new(alloc),
             lanes,
             replies: Vec::new(alloc),
+            pool: RowPool::new(alloc),
             lines,
             stopped: None,
         })
@@ -111,7 +114,13 @@ impl<W: Wire> Live<W> {
         ensures takes { TakesLine ⟦<Live<W> as Traffic>⟧.Came result self.old self.new }
         ensures stopped { self.new.stopped ≡ self.old.stopped }
     {
-        let Some((count, found)) = next_record(self.alloc, self.terms.lanes, &self.lines)? else {
+        let Some((count, found)) = next_record(
+            self.alloc,
+            &mut self.pool,
+            self.terms.lanes,
+            &self.lines,
+        )?
+        else {
             return Ok(NextLine::Nothing);
         };
         match self.keep(found) {
@@ -144,7 +153,7 @@ impl<W: Wire> Live<W> {
         match write_all(&mut self.wire, self.text.as_bytes()) {
             Ok(()) => {
                 self.replies.clear();
-                end_turn(&mut self.lanes);
+                end_turn(&mut self.lanes, &mut self.pool);
                 Ok(())
             }
             Err(_) => {

@@ -8,7 +8,7 @@ use csv_records::{RecordFault, RecordRefusal, lane_in, read_runs};
 use digits_core::{Refusal, RefusalKind};
 use memchr::memchr;
 use message_core::is_message;
-use scan_core::Runs;
+use scan_core::{RowPool, Runs};
 use std::alloc::{AllocError, Global};
 use std::fmt;
 use wire_core::{Lines, MOST_LINE};
@@ -67,13 +67,13 @@ pub enum Record {
 }
 
 /// The record of two fields.
-fn read_row(alloc: Global, lanes: u8, lane: &[u8], widths: &[u8]) -> Result<Record, AllocError>
+fn read_row(pool: &mut RowPool, lanes: u8, lane: &[u8], widths: &[u8]) -> Result<Record, AllocError>
     ensures { IfOk result (ReadAs lanes (fields_meant lanes (lane.now ∷ widths.now ∷ []))) }
 {
     let Some(lane) = lane_in(lane, lanes) else {
         return Ok(Record::Notice(Notice::Refused(None, LineFault::Record(RecordFault::BadLane))));
     };
-    match read_runs(alloc, widths) {
+    match read_runs(pool, widths) {
         Ok(row) => Ok(Record::Row(lane, row)),
         Err(RecordRefusal::Record(fault)) => {
             Ok(Record::Notice(Notice::Refused(Some(lane), LineFault::Record(fault))))
@@ -93,7 +93,12 @@ fn read_message(alloc: Global, lanes: u8, lane: &[u8], text: &[u8]) -> Result<Re
 }
 
 /// The record of a line that has a byte and not too many.
-fn read_record(alloc: Global, lanes: u8, line: &[u8]) -> Result<Record, AllocError>
+fn read_record(
+    alloc: Global,
+    pool: &mut RowPool,
+    lanes: u8,
+    line: &[u8],
+) -> Result<Record, AllocError>
     ensures { IfOk result (ReadAs lanes (record_in lanes line.now)) }
 {
     match memchr(b',', line) {
@@ -108,7 +113,7 @@ fn read_record(alloc: Global, lanes: u8, line: &[u8]) -> Result<Record, AllocErr
                     None,
                     LineFault::Record(RecordFault::Csv),
                 ))),
-                None => read_row(alloc, lanes, lane, text),
+                None => read_row(pool, lanes, lane, text),
             }
         }
         None => Ok(Record::Notice(Notice::Refused(None, LineFault::Record(RecordFault::Csv)))),
@@ -126,7 +131,12 @@ pub fn without_return(line: &[u8]) -> &[u8]
 }
 
 /// The record of a line.
-fn read_line(alloc: Global, lanes: u8, line: &[u8]) -> Result<Record, AllocError>
+fn line_record(
+    alloc: Global,
+    pool: &mut RowPool,
+    lanes: u8,
+    line: &[u8],
+) -> Result<Record, AllocError>
     ensures { IfOk result (λ found. IsRecord lanes found (line_meant lanes line.now)) }
 {
     let line = without_return(line);
@@ -136,12 +146,13 @@ fn read_line(alloc: Global, lanes: u8, line: &[u8]) -> Result<Record, AllocError
     if line.len() > MOST_LINE {
         return Ok(Record::Notice(Notice::Refused(None, LineFault::InputSize)));
     }
-    read_record(alloc, lanes, line)
+    read_record(alloc, pool, lanes, line)
 }
 
 /// The record of the line that is held, and how many bytes are held of the line.
 pub fn next_record(
     alloc: Global,
+    pool: &mut RowPool,
     lanes: u8,
     lines: &Lines,
 ) -> Result<Option<(usize, Record)>, AllocError>
@@ -156,6 +167,6 @@ pub fn next_record(
             Record::Notice(Notice::Refused(None, LineFault::InputSize)),
         )));
     }
-    let record = read_line(alloc, lanes, line)?;
+    let record = line_record(alloc, pool, lanes, line)?;
     Ok(Some((line.len(), record)))
 }

@@ -3,6 +3,7 @@ ghost use Rattle.std.specs.Prelude.{◌<◌, IfOk, vec_len};
 ghost use Rattle.command_runs.specs.inner.Turns.{AreEnded, AreFresh, IsEnded, TakesNumber, TakesNumberOf};
 
 use lane_core::Delivery;
+use scan_core::RowPool;
 use std::alloc::{AllocError, Global};
 
 /// The rows of a lane in a turn, and their deliveries.
@@ -54,19 +55,21 @@ pub fn next_number(lanes: &mut Vec<Waiting>, lane: u8) -> Result<Option<u32>, Al
     take_number(&mut lanes[usize::from(lane)])
 }
 
-/// Ends a lane's turn: all its deliveries have been written.
-fn end_lane(waiting: &mut Waiting)
+/// Ends a lane's turn: all its deliveries have been written. The pool keeps the memory of their rows.
+fn end_lane(waiting: &mut Waiting, pool: &mut RowPool)
     ensures { IsEnded waiting.old waiting.new }
 {
     waiting.first = waiting.next;
-    waiting.deliveries.clear();
+    'rows: while let Some(delivery) = waiting.deliveries.pop() {
+        pool.put_back(delivery.into_row());
+    }
 }
 
-/// Ends the turn: all deliveries have been written.
-pub fn end_turn(lanes: &mut Vec<Waiting>)
+/// Ends the turn: all deliveries have been written. The pool keeps the memory of their rows.
+pub fn end_turn(lanes: &mut Vec<Waiting>, pool: &mut RowPool)
     ensures { AreEnded lanes.old.items lanes.new.items }
 {
     for index in 0..lanes.len() {
-        end_lane(&mut lanes[index]);
+        end_lane(&mut lanes[index], pool);
     }
 }

@@ -1,3 +1,4 @@
+-- Each feed so far has no row.
 use Rattle.std.proofs.Common.{◌≡◌, [], map, replicate}
 use Rattle.command_runs.proofs.columns.make_feeds.Given as goal
 

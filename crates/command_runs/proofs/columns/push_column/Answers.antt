@@ -1,12 +1,11 @@
 -- The cells of a column so far have their rows, and no number is too large.
-use Rattle.std.proofs.Common.{rules, ◌≡◌, ◌<◌, ◌+◌, ◌++◌, ◌*◌, ◌/◌, ◌∙◌, ◌∷◌, [], ap, append_assoc, map, subst, sym}
+use Rattle.std.proofs.Common.{rules, ◌≡◌, ◌+◌, ◌++◌, ◌*◌, ◌/◌, ◌∙◌, ◌∷◌, [], ap, append_assoc, map, subst, sym}
 use Rattle.std.specs.List.{range_with_len}
 use Rattle.std.proofs.lemmas.List.{append-nil}
-use Rattle.std.proofs.lemmas.Nat.{mul-add-lt}
+use Rattle.std.proofs.lemmas.Result.{IfOk-from_err}
 use Rattle.sheet_core.specs.Bitmaps.{cell_dots}
 use Rattle.command_runs.specs.Columns.{HaveDots}
-use Rattle.command_runs.proofs.ColumnFacts.{ended, fits_cell, fits_place, half_low, one_more_cell, size_of}
-use Rattle.command_runs.proofs.CommandFacts.{only_fault}
+use Rattle.command_runs.proofs.RowsOfCells.{ended, fits, half_low, one_more_cell, place_low, size_of}
 use Rattle.command_runs.proofs.columns.push_column.Goals as goal
 
 pub loop-row-init : goal.loop-row-init
@@ -14,19 +13,15 @@ loop-row-init c = record { more = []; shown = tt; added = sym (append-nil c.args
 
 pub overflow_mul-cell : goal.overflow_mul-cell
 overflow_mul-cell c =
-    let g = c.args.grid in
-    let low = mul-add-lt c.loop-row.row g.columns c.args.column g.rows (subst (λ n. c.loop-row.row < n) c.rows-row-end.ensures c.loop-row-test.true)
-    c.requires.column in
-    fits_cell c.loop-row.row c.columns.result c.args.column g.columns g.rows c.columns.ensures low c.grids_keep_limits.ensures.columns_most
-    c.grids_keep_limits.ensures.rows_most
+    let limits = c.grids_keep_limits.ensures in
+    (fits c.loop-row.row c.columns.result c.args.column c.args.grid.columns c.args.grid.rows _ c.loop-row-test.true c.rows-row-end.ensures c.requires.column
+    c.columns.ensures limits.columns_most limits.rows_most).0
 
 pub overflow_add-cell : goal.overflow_add-cell
 overflow_add-cell c =
-    let g = c.args.grid in
-    let low = mul-add-lt c.loop-row.row g.columns c.args.column g.rows (subst (λ n. c.loop-row.row < n) c.rows-row-end.ensures c.loop-row-test.true)
-    c.requires.column in
-    fits_place c.loop-row.row c.columns.result c.args.column g.columns g.rows c.columns.ensures low c.grids_keep_limits.ensures.columns_most
-    c.grids_keep_limits.ensures.rows_most
+    let limits = c.grids_keep_limits.ensures in
+    (fits c.loop-row.row c.columns.result c.args.column c.args.grid.columns c.args.grid.rows _ c.loop-row-test.true c.rows-row-end.ensures c.requires.column
+    c.columns.ensures limits.columns_most limits.rows_most).1
 
 pub cell_row-requires-clause-wide : goal.cell_row-requires-clause-wide
 cell_row-requires-clause-wide c = (size_of c.args.grid c.args.sheet.now c.requires.size).0
@@ -37,14 +32,13 @@ cell_row-requires-clause-high c = (size_of c.args.grid c.args.sheet.now c.requir
 pub cell_row-requires-clause-cell : goal.cell_row-requires-clause-cell
 cell_row-requires-clause-cell c =
     let g = c.args.grid in
-    let low = subst (λ n. c.loop-row.row < n) c.rows-row-end.ensures c.loop-row-test.true in
-    rw c.columns.ensures (mul-add-lt c.loop-row.row g.columns c.args.column g.rows low c.requires.column)
+    rw c.columns.ensures (place_low c.loop-row.row c.args.column g.columns g.rows _ c.loop-row-test.true c.rows-row-end.ensures c.requires.column)
 
 pub cell_row-requires-clause-row : goal.cell_row-requires-clause-row
 cell_row-requires-clause-row c = rw c.cell_height.ensures (half_low c.args.grid.height c.args.grid.dots c.grids_keep_limits.ensures.height_least)
 
 pub returns-in_err-push : goal.returns-in_err-push
-returns-in_err-push c = record { added = only_fault c.from_residual.result _ c.from_residual.ensures.0 }
+returns-in_err-push c = record { added = IfOk-from_err c.from_residual.result _ c.from_residual.ensures.0 }
 
 pub returns : goal.returns
 returns c =

@@ -1,8 +1,8 @@
 -- The columns of the sheet so far have their rows.
 use Rattle.std.proofs.Common.{map, subst, ◌<◌, ◌≤◌, ◌∙◌}
 use Rattle.std.proofs.lemmas.List.{length-set}
+use Rattle.std.proofs.lemmas.Result.{IfOk-from_err}
 use Rattle.command_runs.proofs.ColumnsGrow.{up_to_all, up_to_next, up_to_none}
-use Rattle.command_runs.proofs.CommandFacts.{only_fault}
 use Rattle.command_runs.proofs.columns.push_columns.Goals as goal
 
 pub loop-column-init : goal.loop-column-init
@@ -12,7 +12,7 @@ loop-column-init c = record {
 }
 
 pub returns-in_err-push_column : goal.returns-in_err-push_column
-returns-in_err-push_column c = record { added = only_fault c.from_residual.result _ c.from_residual.ensures.0 }
+returns-in_err-push_column c = record { added = IfOk-from_err c.from_residual.result _ c.from_residual.ensures.0 }
 
 pub loop-column-preserved : goal.loop-column-preserved
 loop-column-preserved c =

@@ -1,29 +1,22 @@
 -- The columns of all sheets, none if one has another size, or the fault of the images.
-use Rattle.std.proofs.Common.{[], Err, IsErrAnd, Ok, Option, Result, ap, inr, map, refl, replicate, subst, sym, zero, suc, List, ℕ, ◌∙◌, ◌≡◌}
+use Rattle.std.proofs.Common.{[], Err, Ok, Option, ap, inr, map, refl, replicate, subst, sym, zero, suc, List, ℕ, ◌∙◌, ◌≡◌}
 use Rattle.std.proofs.KnownBytes.{Consumes-nil}
 use Rattle.std.proofs.lemmas.List.{length-map}
-use Rattle.sheet_core.specs.Grids.{Cells}
-use Rattle.sheet_core.specs.declared.fault.PbmFault.{PbmFault}
 use Rattle.sheet_core.specs.declared.fault.PbmFault.TheVariants as pbm
 use Rattle.sheet_core.specs.pbm.Images.{ReadsBytes, images_by, images_of}
 use Rattle.command_runs.specs.Columns.{ReadsColumns}
 use Rattle.command_runs.proofs.ColumnCounts.{feeds_long, feeds_short}
 use Rattle.command_runs.proofs.ColumnsGrow.{no_columns}
+use Rattle.command_runs.proofs.HowRunsEnd.{told_fault}
 use Rattle.command_runs.proofs.columns.read_columns.Goals as goal
 
--- no bytes are no images
+-- no bytes are no images (sheet_core proves it for its own files too)
 nothing : (limit : ℕ) → images_by limit [] ≡ (Ok [], [])
 nothing zero = refl
 nothing (suc limit) = refl
 
 none_read : (left : Option (List ℕ)) → ReadsBytes images_of left left (Err pbm.NoMemory)
 none_read left = record { bytes = []; consumed = Consumes-nil left; tells = inr ([], nothing 4096) }
-
--- a fault that is handed on
-refused : (g : Cells) (left rest : Option (List ℕ)) (r : Result _ PbmFault) (f : PbmFault) → IsErrAnd r (λ e. e ≡ f) → ReadsBytes images_of left rest (Err f)
-    → ReadsColumns g left rest r
-refused g left rest (Ok x) f same p = absurd same
-refused g left rest (Err e) f same p = subst (λ e. ReadsBytes images_of left rest (Err e)) (sym same) p
 
 pub returns-in_default-clause-read : goal.returns-in_default-clause-read
 returns-in_default-clause-read g c = none_read (g.S.Source.left c.args.source.now)
@@ -34,8 +27,8 @@ read_sheets-requires g c =
 
 pub returns-in_err-read_sheets-clause-read : goal.returns-in_err-read_sheets-clause-read
 returns-in_err-read_sheets-clause-read g c =
-    refused c.args.grid (g.S.Source.left c.args.source.now) (g.S.Source.left c.read_sheets.new.reader) c.from_residual.result c.in_err-read_sheets.field-0.0
-    c.from_residual.ensures.1 c.in_err-read_sheets.ensures.err
+    subst (ReadsColumns c.args.grid (g.S.Source.left c.args.source.now) (g.S.Source.left c.read_sheets.new.reader))
+    (sym (told_fault c.from_residual.result c.in_err-read_sheets.field-0.0 c.from_residual.ensures.1)) c.in_err-read_sheets.ensures.err
 
 pub returns-then-not-kept-clause-read : goal.returns-then-not-kept-clause-read
 returns-then-not-kept-clause-read g c =

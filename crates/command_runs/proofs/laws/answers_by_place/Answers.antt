@@ -1,3 +1,4 @@
+-- The law, as it is proved in `ColumnsByPlace`.
 use Rattle.command_runs.proofs.ColumnsByPlace.{answers_by_place as law}
 use Rattle.command_runs.proofs.laws.answers_by_place.Goals as goal
 

@@ -1,6 +1,6 @@
 -- Of what is printed a scan answers the labels, and nothing else.
 use Rattle.command_runs.proofs.LabelReadings.{labels_say}
-use Rattle.command_runs.proofs.ScannedFacts.{printed_is_answered, printed_is_scanned}
+use Rattle.command_runs.proofs.ScanOfPrinted.{printed_is_answered, printed_is_scanned}
 use Rattle.command_runs.proofs.laws.printed_is_scanned.Goals as goal
 
 pub returns-clause-answered : goal.returns-clause-answered

@@ -1,4 +1,5 @@
-use Rattle.command_runs.proofs.PrintedFacts.{printed_answer as law}
+-- The law, as it is proved in `PrintedAnswers`, by the laws that are called.
+use Rattle.command_runs.proofs.PrintedAnswers.{printed_answer as law}
 use Rattle.command_runs.proofs.printed.printed_answer.Goals as goal
 
 pub returns : goal.returns

@@ -1,4 +1,5 @@
-use Rattle.command_runs.proofs.PrintedFacts.{scanned_once as law}
+-- The law, as it is proved in `PrintedAnswers`, by the laws that are called.
+use Rattle.command_runs.proofs.PrintedAnswers.{scanned_once as law}
 use Rattle.command_runs.proofs.printed.scanned_once.Goals as goal
 
 pub returns : goal.returns

@@ -2,7 +2,7 @@
 use Rattle.std.proofs.Common.{None, Some, arith, length-drop, subst}
 use Rattle.memchr.specs.Find.{IsFirstByte, is_byte2}
 use Rattle.command_runs.proofs.answers.PlainBytes.{no_more_quotes, no_more_returns, one_more_return, one_more_unquoted}
-use Rattle.command_runs.proofs.live.FieldsFacts.{rest_all}
+use Rattle.command_runs.proofs.live.LineMeanings.{rest_all}
 use Rattle.command_runs.proofs.answers.lines.are_lines.Goals as goal
 
 pub returns-in_default-clause-quotes : goal.returns-in_default-clause-quotes

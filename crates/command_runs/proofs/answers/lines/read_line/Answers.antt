@@ -1,7 +1,7 @@
 -- What two fields mean is what the line means, whether a second comma is there or not.
 use Rattle.std.proofs.Common.{refl, take}
 use Rattle.command_runs.proofs.answers.WidthFields.{many_fields, row_of_line, two_fields}
-use Rattle.command_runs.proofs.live.FieldsFacts.{behind_comma, cut_at, only_field}
+use Rattle.command_runs.proofs.live.LineMeanings.{behind_comma, cut_at, only_field}
 use Rattle.command_runs.proofs.answers.lines.read_line.Goals as goal
 
 pub returns-in_default : goal.returns-in_default

@@ -1,6 +1,6 @@
 -- The texts that were joined so far are the front of all.
 use Rattle.std.proofs.Common.{rules, string_bytes, sym}
-use Rattle.command_runs.proofs.answers.ReportFacts.{joined_more}
+use Rattle.command_runs.proofs.answers.LinesAsBrought.{joined_more}
 use Rattle.command_runs.proofs.answers.report.joined.Goals as goal
 
 pub loop-text-preserved : goal.loop-text-preserved

@@ -1,3 +1,4 @@
+-- The text so far is that of the texts so far, one after another.
 use Rattle.std.proofs.Common.{◌≡◌, map, string_bytes}
 use Rattle.std.specs.List.{concat}
 use Rattle.command_runs.proofs.answers.report.joined.Given as goal

@@ -5,7 +5,7 @@ use Rattle.hub_core.specs.Traffics.{IsKept}
 use Rattle.command_runs.specs.answers.Reports.{IsReport}
 use Rattle.command_runs.specs.inner.RowReaders.{GaveRows}
 use Rattle.csv_records.specs.lanes.Feeds.{feeds_of}
-use Rattle.command_runs.proofs.answers.ReportFacts.{no_lines}
+use Rattle.command_runs.proofs.answers.LinesAsBrought.{no_lines}
 use Rattle.command_runs.proofs.answers.RowsAsRead.{no_rows, reported, rows_of_end, same_source}
 use Rattle.command_runs.proofs.answers.rows.serve_rows.Goals as goal
 

@@ -3,13 +3,13 @@ use Rattle.std.proofs.Common.{◌≡◌, ◌∙◌, ◌&&◌, [], ap, arith, len
 use Rattle.std.specs.List.{AllZip}
 use Rattle.std.proofs.lemmas.Bool.{and_parts}
 use Rattle.std.proofs.lemmas.List.{length-map}
+use Rattle.std.proofs.lemmas.Result.{IfOk-from_err}
 use Rattle.hub_core.specs.Feeds.{AreGiven, rests_of}
 use Rattle.hub_core.specs.Laws.{AreAnswersOf}
 use Rattle.hub_core.specs.Serving.{are_short, is_seat_count, served}
 use Rattle.hub_core.specs.Traffics.{IsKept}
 use Rattle.command_runs.specs.inner.Reports.{AreLinesOf}
-use Rattle.command_runs.proofs.CommandFacts.{only_fault}
-use Rattle.command_runs.proofs.answers.ReportFacts.{no_lines}
+use Rattle.command_runs.proofs.answers.LinesAsBrought.{no_lines}
 use Rattle.command_runs.proofs.answers.serving.answer_each.Goals as goal
 
 pub serve_traffic-requires-clause-counts : goal.serve_traffic-requires-clause-counts
@@ -38,10 +38,10 @@ serve_traffic-requires-clause-fresh g c κs within =
     both
 
 pub returns-in_err-texts : goal.returns-in_err-texts
-returns-in_err-texts g c = record { lines = only_fault c.from_residual.result _ c.from_residual.ensures.0 }
+returns-in_err-texts g c = record { lines = IfOk-from_err c.from_residual.result _ c.from_residual.ensures.0 }
 
 pub returns-in_err-new : goal.returns-in_err-new
-returns-in_err-new g c = record { lines = only_fault c.from_residual-in_err-new.result _ c.from_residual-in_err-new.ensures.0 }
+returns-in_err-new g c = record { lines = IfOk-from_err c.from_residual-in_err-new.result _ c.from_residual-in_err-new.ensures.0 }
 
 pub returns-in-Ok : goal.returns-in-Ok
 returns-in-Ok g c = record { lines = tt }

@@ -1,7 +1,7 @@
 -- The texts of the lanes, joined, are the report; of no rows it is empty.
 use Rattle.std.proofs.Common.{◌≡◌, ◌∙◌, All, [], ap, subst}
 use Rattle.std.specs.List.{concat}
-use Rattle.command_runs.proofs.answers.ReportFacts.{rowless}
+use Rattle.command_runs.proofs.answers.LinesAsBrought.{rowless}
 use Rattle.command_runs.proofs.answers.serving.answer_lines.Goals as goal
 
 pub returns-clause-report : goal.returns-clause-report

@@ -1,3 +1,4 @@
+-- Each text so far is empty.
 use Rattle.std.proofs.Common.{◌≡◌, [], map, replicate, string_bytes}
 use Rattle.command_runs.proofs.answers.serving.make_texts.Given as goal
 

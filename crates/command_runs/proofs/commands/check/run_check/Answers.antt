@@ -2,7 +2,7 @@
 use Rattle.std.proofs.Common.{◌≡◌, ◌∙◌, rules, string_bytes}
 use Rattle.csv_records.specs.check.Checks.{check_meaning, check_report}
 use Rattle.command_runs.specs.commands.Checks.{check_command}
-use Rattle.command_runs.proofs.CommandFacts.{records_cut}
+use Rattle.command_runs.proofs.HowRunsEnd.{records_cut}
 use Rattle.command_runs.proofs.commands.check.run_check.Goals as goal
 
 pub returns-in_err-write_all : goal.returns-in_err-write_all

@@ -1,4 +1,5 @@
-use Rattle.command_runs.proofs.OnceFacts.{one_lanes as law}
+-- The law, as it is proved in `LanesOnce`, by the laws that are called.
+use Rattle.command_runs.proofs.LanesOnce.{one_lanes as law}
 use Rattle.command_runs.proofs.commands.lanes.one_lanes.Goals as goal
 
 pub returns : goal.returns

@@ -4,14 +4,15 @@ use Rattle.command_runs.specs.answers.Reports.{IsReport}
 use Rattle.csv_records.specs.lanes.Feeds.{feeds_of, lanes_meaning}
 use Rattle.command_runs.specs.commands.Lanes.{lanes_command}
 use Rattle.command_runs.specs.Faults.{of_rows}
-use Rattle.command_runs.proofs.BufferedIsTaken.{refused_as}
-use Rattle.command_runs.proofs.CommandFacts.{read_told, records_cut, rows_not_cut, rows_not_read, rows_unanswered}
-use Rattle.command_runs.proofs.FewEnough.{counted}
+use Rattle.command_runs.specs.declared.answers.rows.RowsFault.TheVariants as rows_fault
+use Rattle.csv_records.specs.declared.input.fault.RecordsFault.TheVariants as records
+use Rattle.command_runs.proofs.HowRunsEnd.{not_cut, records_cut, refused_as, rows_no_write, rows_read, rows_unanswered, same_fault, told_fault}
+use Rattle.command_runs.proofs.FewEnough.{seats_counted}
 use Rattle.command_runs.proofs.commands.lanes.run_lanes.Goals as goal
 
 pub answer_records-requires-clause-counts : goal.answer_records-requires-clause-counts
 answer_records-requires-clause-counts g c κs within =
-    let o = c.args.options in (counted o.lanes o.some_lanes, counted o.workers o.some_workers)
+    let o = c.args.options in (seats_counted o.lanes o.some_lanes, seats_counted o.workers o.some_workers)
 
 pub returns-in_err-lines : goal.returns-in_err-lines
 returns-in_err-lines g c =
@@ -23,12 +24,14 @@ returns-in_err-lines g c =
     let told = c.from_residual.ensures.1 in
     record {
       ok = search rules;
-      cut = λ same. absurd (rows_not_cut r fault told same);
+      cut = λ same. absurd (not_cut r (of_rows fault) (rows_no_write fault) told same);
       refused = refused_as r (of_rows fault) ((lanes_command o).refuses left rest) told
           (rows_unanswered o.lanes left rest fault c.in_err-lines.ensures.refused);
       unwritten = search rules;
-      read = λ sound. let same = c.in_err-lines.ensures.fault sound in
-          (λ is. same.0 (ap (λ f. Err f) (rows_not_read r fault told is)), λ failed. read_told r fault told (let is : fault ≡ _ = cc (same.1 failed) in is));
+      read = λ sound. let same = c.in_err-lines.ensures.fault sound in (
+        λ is. same.0 (ap (λ f. Err f) (rows_read fault (same_fault r (of_rows fault) _ told is))),
+        λ failed. let is : fault ≡ rows_fault.Records records.ReadFault = cc (same.1 failed) in told_fault r (of_rows fault) told ∙ ap (λ f. Err (of_rows f)) is,
+      );
       write = search rules;
     }
 

@@ -1,3 +1,4 @@
+-- The law, as it is proved in `PrintOnce`, by the laws that are called.
 use Rattle.command_runs.proofs.PrintOnce.{one_print as law}
 use Rattle.command_runs.proofs.commands.print.one_print.Goals as goal
 

@@ -1,9 +1,10 @@
 -- Each way in which labels are printed or refused leaves the sink as promised.
-use Rattle.std.proofs.Common.{◌*◌, ◌≡◌, ◌∙◌, Err, List, Ok, Result, ap, refl, string_bytes, subst, sym, ℕ}
-use Rattle.std.specs.Prelude.{IsErr, IsErrAnd}
+use Rattle.std.proofs.Common.{◌*◌, ◌≡◌, ◌∙◌, Err, List, Result, ap, refl, string_bytes, subst, sym, ℕ}
+use Rattle.std.specs.Prelude.{IsErrAnd}
 use Rattle.std.specs.Io.KnownBytes.{Appends}
 use Rattle.std.specs.List.{AllByRecursion}
 use Rattle.std.proofs.lemmas.Bool.{false≢true}
+use Rattle.std.proofs.lemmas.Result.{IfOk-from_err}
 use Rattle.digits_core.specs.Bytes.{TookFront}
 use Rattle.sheet_core.specs.declared.fault.PrintFault.{PrintFault}
 use Rattle.sheet_core.specs.declared.fault.PrintFault.TheVariants as print
@@ -22,18 +23,15 @@ use Rattle.sheet_core.specs.declared.label.Label.{Label}
 use Rattle.command_runs.specs.Faults.{failed_write, no_memory, of_prints, of_sheets}
 use Rattle.command_runs.specs.commands.Prints.{IsPrinted, IsUnprinted}
 use Rattle.csv_records.specs.print.Labels.{label_lines}
-use Rattle.command_runs.proofs.BufferedIsTaken.{refused_as}
-use Rattle.command_runs.proofs.CommandFacts.{never_refused, not_cut, only_fault, told_fault}
+use Rattle.command_runs.proofs.HowRunsEnd.{never_refused, not_cut, refused_as, same_fault, told_fault}
 use Rattle.command_runs.proofs.commands.print.write_labels.Goals as goal
 
--- the cells, as they are counted
-counted : (g : Cells) (wide columns high rows : ℕ) → wide ≡ columns → columns ≡ g.columns → high ≡ rows → rows ≡ g.rows → wide * high ≡ cell_count g
-counted g wide columns high rows a b c d = rw (a, b, c, d) refl
-
--- the lines, where text is asked for
-lines_printed : (g : Cells) (o : Output) (labels : List Label) (text : List ℕ) → o ≡ output.Lines → AllByRecursion (IsPrintable g) labels
-    → text ≡ label_lines (cell_count g) labels → IsPrinted g o labels text
-lines_printed g o labels text asked fit is = rw asked (fit, is)
+-- the lines, where text is asked for, of as many cells as are counted
+lines_made : (g : Cells) (o : Output) (labels : List Label) (text : List ℕ) (wide columns high rows : ℕ) → wide ≡ columns → columns ≡ g.columns → high ≡ rows
+    → rows ≡ g.rows → o ≡ output.Lines → AllByRecursion (IsPrintable g) labels → text ≡ label_lines (wide * high) labels → IsPrinted g o labels text
+lines_made g o labels text wide columns high rows a b c d asked fit is =
+    let cells : wide * high ≡ cell_count g = rw (a, b, c, d) refl in
+    rw asked (fit, is ∙ ap (λ k. label_lines k labels) cells)
 
 -- else the images
 images_printed : (g : Cells) (o : Output) (labels : List Label) (sheets : List Bitmap) → o ≡ output.Images → ArePrinted labels g sheets
@@ -60,15 +58,13 @@ only_write (print.Sheet sheet.NoMemory) e = cc
 only_write print.WriteFault e = refl
 
 -- a result that is such a fault, as the command's, and a failed write
-its_write : {A : Type 0} (r : Result A CommandFault) (f : PrintFault) → IsErr r → IsErrAnd r (λ e. e ≡ of_prints f) → r ≡ Err command.WriteFault → f
-    ≡ print.WriteFault
-its_write (Ok x) f h k e = absurd (false≢true h)
-its_write (Err x) f h k e = let same : x ≡ command.WriteFault = cc in only_write f (sym k ∙ same)
+its_write : {A : Type 0} (r : Result A CommandFault) (f : PrintFault) → IsErrAnd r (λ e. e ≡ of_prints f) → r ≡ Err command.WriteFault → f ≡ print.WriteFault
+its_write r f told same = only_write f (same_fault r (of_prints f) command.WriteFault told same)
 
-no_write : (f : SheetFault) → of_sheets f ≡ command.WriteFault → ⊥
-no_write (sheet.LabelKind i) e = cc
-no_write (sheet.LabelWidth i) e = cc
-no_write sheet.NoMemory e = cc
+sheets_no_write : (f : SheetFault) → of_sheets f ≡ command.WriteFault → ⊥
+sheets_no_write (sheet.LabelKind i) e = cc
+sheets_no_write (sheet.LabelWidth i) e = cc
+sheets_no_write sheet.NoMemory e = cc
 
 pub returns-in_err-check_labels-in-Lines : goal.returns-in_err-check_labels-in-Lines
 returns-in_err-check_labels-in-Lines g c =
@@ -77,12 +73,12 @@ returns-in_err-check_labels-in-Lines g c =
     let told = c.from_residual.ensures.1 in
     let why = sheets_unprinted c.args.grid c.args.labels.now f c.in_err-check_labels-in-Lines.ensures.err in
     record {
-      ok = only_fault r _ c.from_residual.ensures.0;
-      cut = λ same. absurd (not_cut r (of_sheets f) (no_write f) told same);
+      ok = IfOk-from_err r _ c.from_residual.ensures.0;
+      cut = λ same. absurd (not_cut r (of_sheets f) (sheets_no_write f) told same);
       refused = refused_as r (of_sheets f) (IsUnprinted c.args.grid c.args.labels.now) told why;
       unwritten = refused_as r (of_sheets f) _ told (λ other. refl);
       write = λ sound. (
-        λ same. absurd (not_cut r (of_sheets f) (no_write f) told same),
+        λ same. absurd (not_cut r (of_sheets f) (sheets_no_write f) told same),
         λ failed. absurd (false≢true (sym sound ∙ failed)),
       );
     }
@@ -92,7 +88,7 @@ returns-in_err-text-in-Lines g c =
     let r = c.from_residual-in_err-text-in-Lines.result in
     let told = c.from_residual-in_err-text-in-Lines.ensures.1 in
     record {
-      ok = only_fault r _ c.from_residual-in_err-text-in-Lines.ensures.0;
+      ok = IfOk-from_err r _ c.from_residual-in_err-text-in-Lines.ensures.0;
       cut = λ same. absurd (not_cut r no_memory (λ is. cc) told same);
       refused = refused_as r no_memory (IsUnprinted c.args.grid c.args.labels.now) told tt;
       unwritten = refused_as r no_memory _ told (λ other. refl);
@@ -110,16 +106,14 @@ returns-in_err-write_all-in-Lines g c =
     let o = c.args.options in
     let labels = c.args.labels.now in
     let text = string_bytes c.in_ok-text-in-Lines.text in
-    let cells = counted grid c.from.result c.columns.result c.from-in-Lines.result c.rows.result c.from.ensures c.columns.ensures c.from-in-Lines.ensures
-    c.rows.ensures in
-    let fit = c.in_ok-check_labels-in-Lines.ensures.ok in
-    let lines : text ≡ label_lines (cell_count grid) labels = c.in_ok-text-in-Lines.ensures ∙ ap (λ k. label_lines k labels) cells in
+    let lines = lines_made grid o.output labels text c.from.result c.columns.result c.from-in-Lines.result c.rows.result c.from.ensures c.columns.ensures
+    c.from-in-Lines.ensures c.rows.ensures c.in-Lines.is c.in_ok-check_labels-in-Lines.ensures.ok c.in_ok-text-in-Lines.ensures in
     let sent = c.as_bytes.ensures.value ∙ c.as_str.ensures.value in
     record {
-      ok = only_fault r _ c.from_residual-in_err-write_all-in-Lines.ensures.0;
+      ok = IfOk-from_err r _ c.from_residual-in_err-write_all-in-Lines.ensures.0;
       cut = λ same. (
         text,
-        lines_printed grid o.output labels text c.in-Lines.is fit lines,
+        lines,
         subst (λ t. TookFront (g.W.Sink.taken c.args.sink.now) (g.W.Sink.taken c.write_all.new.sink) t) sent c.in_err-write_all-in-Lines.ensures.err,
       );
       refused = refused_as r failed_write (IsUnprinted grid labels) told tt;
@@ -137,14 +131,14 @@ returns-in_err-print_pbm-in-Images g c =
     let f = c.in_err-print_pbm-in-Images.field-0.0 in
     let printed = c.in_err-print_pbm-in-Images.ensures in
     record {
-      ok = only_fault r _ e.0;
+      ok = IfOk-from_err r _ e.0;
       cut = λ same.
-          let out = printed.cut (ap (λ f. Err f) (its_write r f e.0 e.1 same)) in
+          let out = printed.cut (ap (λ f. Err f) (its_write r f e.1 same)) in
           (pbm_of out.0, images_printed grid o.output labels out.0 c.in-Images.is out.1, out.2);
       refused = refused_as r (of_prints f) (IsUnprinted grid labels) e.1 (prints_unprinted grid labels f printed.refused);
       unwritten = refused_as r (of_prints f) _ e.1 (λ other. printed.unwritten (λ is. other (ap of_prints is)));
       write = λ sound. (
-        λ same. (printed.write sound).0 (ap (λ f. Err f) (its_write r f e.0 e.1 same)),
+        λ same. (printed.write sound).0 (ap (λ f. Err f) (its_write r f e.1 same)),
         λ failed. let is : f ≡ print.WriteFault = cc ((printed.write sound).1 failed) in
             told_fault r (of_prints f) e.1 ∙ ap (λ f. Err (of_prints f)) is,
       );
@@ -152,20 +146,14 @@ returns-in_err-print_pbm-in-Images g c =
 
 pub returns-in_ok-write_all-in-Lines : goal.returns-in_ok-write_all-in-Lines
 returns-in_ok-write_all-in-Lines g c =
-    let grid = c.args.grid in
-    let o = c.args.options in
-    let labels = c.args.labels.now in
     let text = string_bytes c.in_ok-text-in-Lines.text in
-    let cells = counted grid c.from.result c.columns.result c.from-in-Lines.result c.rows.result c.from.ensures c.columns.ensures c.from-in-Lines.ensures
-    c.rows.ensures in
-    let fit = c.in_ok-check_labels-in-Lines.ensures.ok in
-    let lines : text ≡ label_lines (cell_count grid) labels = c.in_ok-text-in-Lines.ensures ∙ ap (λ k. label_lines k labels) cells in
-    let sent = c.as_bytes.ensures.value ∙ c.as_str.ensures.value in
     record {
       ok = (
         text,
-        lines_printed grid o.output labels text c.in-Lines.is fit lines,
-        subst (λ t. Appends (g.W.Sink.taken c.args.sink.now) (g.W.Sink.taken c.write_all.new.sink) t) sent c.in_ok-write_all-in-Lines.ensures.ok,
+        lines_made c.args.grid c.args.options.output c.args.labels.now text c.from.result c.columns.result c.from-in-Lines.result c.rows.result c.from.ensures
+            c.columns.ensures c.from-in-Lines.ensures c.rows.ensures c.in-Lines.is c.in_ok-check_labels-in-Lines.ensures.ok c.in_ok-text-in-Lines.ensures,
+        subst (λ t. Appends (g.W.Sink.taken c.args.sink.now) (g.W.Sink.taken c.write_all.new.sink) t) (c.as_bytes.ensures.value ∙ c.as_str.ensures.value)
+            c.in_ok-write_all-in-Lines.ensures.ok,
       );
       cut = λ same. absurd (never_refused tt command.WriteFault same);
       refused = tt;

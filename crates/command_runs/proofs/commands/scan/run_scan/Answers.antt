@@ -1,7 +1,7 @@
 -- The report of the columns is written, or the images are refused, or a write fails.
-use Rattle.std.proofs.Common.{◌≡◌, ◌∙◌, Err, Option, Some, ap, false, inr, map, refl, string_bytes, subst, sym, true}
-use Rattle.std.specs.Prelude.{MatchOption, None}
+use Rattle.std.proofs.Common.{◌≡◌, ◌∙◌, Err, ap, false, inr, map, refl, string_bytes, subst, sym, true}
 use Rattle.std.proofs.lemmas.Bool.{false≢true}
+use Rattle.std.proofs.lemmas.Option.{MatchOption-at_none, MatchOption-at_some}
 use Rattle.sheet_core.specs.declared.fault.PbmFault.TheVariants.{ReadFault}
 use Rattle.sheet_core.specs.Grids.{Cells}
 use Rattle.command_runs.specs.Grids.{cells_of}
@@ -9,19 +9,10 @@ use Rattle.command_runs.specs.answers.Reports.{IsReport}
 use Rattle.command_runs.specs.Faults.{bad_grid, of_answers, of_images}
 use Rattle.command_runs.specs.commands.Scans.{scan_command}
 use Rattle.command_runs.specs.declared.fault.CommandFault.TheVariants as command
-use Rattle.command_runs.proofs.CommandFacts.{columns_of, cut_run, images_cut, images_no_write, images_read, images_refused, images_unanswered, never_refused}
-use Rattle.command_runs.proofs.CommandFacts.{no_read, no_write, refused_run, sized, written_run}
+use Rattle.command_runs.proofs.HowRunsEnd.{answers_no_read, answers_no_write, columns_of, cut_run, images_cut, images_no_write, images_read, images_refused, images_unanswered, never_refused}
+use Rattle.command_runs.proofs.HowRunsEnd.{refused_run, sized, written_run}
 use Rattle.command_runs.proofs.FewEnough.{counts_hold}
 use Rattle.command_runs.proofs.commands.scan.run_scan.Goals as goal
-
--- what is true of the columns, by whether there are any
-of_none : {V : Type 0} (o : Option V) (P : Type 0) (Q : V → Type 0) → o ≡ None → MatchOption o P Q → P
-of_none None P Q is h = h
-of_none (Some v) P Q is h = absurd cc
-
-of_some : {V : Type 0} (o : Option V) (v : V) (P : Type 0) (Q : V → Type 0) → o ≡ Some v → MatchOption o P Q → Q v
-of_some None v P Q is h = absurd cc
-of_some (Some w) v P Q is h = let same : w ≡ v = cc in subst Q same h
 
 pub returns-in_err-grid : goal.returns-in_err-grid
 returns-in_err-grid g c =
@@ -49,7 +40,7 @@ returns-in_default g c =
     let o = c.args.options in
     let read = c.in_ok-feeds.ensures.read in
     let sheets = read.0 in
-    let other = of_none _ _ _ c.in_default.is read.2 in
+    let other = MatchOption-at_none _ _ c.in_default.is read.2 in
     let size = sized c.in_ok-grid.grid (cells_of o.grid) sheets sheets false c.in_ok-grid.ensures.ok refl (sym other) in
     refused_run (scan_command o) g.S.Source.left g.S.Source.failed g.W.Sink.taken g.W.Sink.failed c.args.source.now c.read_columns.new.source c.args.sink.now
     (Err command.PbmSize) command.PbmSize refl
@@ -59,7 +50,7 @@ returns-in_default g c =
 pub answer_lines-requires-after_bounds : goal.answer_lines-requires-after_bounds
 answer_lines-requires-after_bounds g c κs within =
     let o = c.args.options in
-    let here = of_some _ _ _ _ c.in-Some.is c.in_ok-feeds.ensures.read.2 in
+    let here = MatchOption-at_some _ _ _ c.in-Some.is c.in_ok-feeds.ensures.read.2 in
     counts_hold (λ feed. feed.items) c.in-Some.feeds.items o.grid.columns o.workers
     (here.2 ∙ ap (λ (g : Cells). g.columns) c.in_ok-grid.ensures.ok) o.grid.numbers.3 o.some_workers
     here.3
@@ -73,16 +64,16 @@ returns-in_err-lines g c =
     let fault = c.in_err-lines.field-0.0 in
     let left = g.S.Source.left c.args.source.now in
     let rest = g.S.Source.left c.read_columns.new.source in
-    let here = of_some _ _ _ _ c.in-Some.is read.2 in
+    let here = MatchOption-at_some _ _ _ c.in-Some.is read.2 in
     let are = columns_of c.in_ok-grid.grid (cells_of o.grid) sheets sheets (map (λ feed. feed.items) feeds) c.in_ok-grid.ensures.ok refl here.1 in
     let size = sized c.in_ok-grid.grid (cells_of o.grid) sheets sheets true c.in_ok-grid.ensures.ok refl (sym here.0) in
     let why = images_unanswered (λ feed. feed.items) o sheets feeds left rest fault (c.in_ok-grid.ensures.exact.0 refl) read.1
     read.3 size are
     (λ same. c.in_err-lines.ensures.threads (ap Err same)) in
     refused_run (scan_command o) g.S.Source.left g.S.Source.failed g.W.Sink.taken g.W.Sink.failed c.args.source.now c.read_columns.new.source c.args.sink.now
-    c.from_residual-in_err-lines.result (of_answers fault) c.from_residual-in_err-lines.ensures.1 why (no_write fault)
+    c.from_residual-in_err-lines.result (of_answers fault) c.from_residual-in_err-lines.ensures.1 why (answers_no_write fault)
     (λ sound. (
-      λ same. absurd (no_read fault same),
+      λ same. absurd (answers_no_read fault same),
       λ failed. absurd (never_refused c.in_ok-feeds.field-0 ReadFault ((c.in_ok-feeds.ensures.fault sound).1 failed)),
     ))
 
@@ -95,7 +86,7 @@ returns-in_err-write_all g c =
     let lines = string_bytes c.in_ok-lines.lines in
     let left = g.S.Source.left c.args.source.now in
     let rest = g.S.Source.left c.read_columns.new.source in
-    let here = of_some _ _ _ _ c.in-Some.is read.2 in
+    let here = MatchOption-at_some _ _ _ c.in-Some.is read.2 in
     let are = columns_of c.in_ok-grid.grid (cells_of o.grid) sheets sheets feeds c.in_ok-grid.ensures.ok refl here.1 in
     let size = sized c.in_ok-grid.grid (cells_of o.grid) sheets sheets true c.in_ok-grid.ensures.ok refl (sym here.0) in
     let grid = c.in_ok-grid.ensures.exact.0 refl in
@@ -113,7 +104,7 @@ returns g c =
     let read = c.in_ok-feeds.ensures.read in
     let sheets = read.0 in
     let feeds = map (λ feed. feed.items) c.in-Some.feeds.items in
-    let here = of_some _ _ _ _ c.in-Some.is read.2 in
+    let here = MatchOption-at_some _ _ _ c.in-Some.is read.2 in
     let are = columns_of c.in_ok-grid.grid (cells_of o.grid) sheets sheets feeds c.in_ok-grid.ensures.ok refl here.1 in
     let size = sized c.in_ok-grid.grid (cells_of o.grid) sheets sheets true c.in_ok-grid.ensures.ok refl (sym here.0) in
     let sent = c.as_bytes.ensures.value ∙ c.as_str.ensures.value in

@@ -48,5 +48,5 @@ returns-in-Err-clause-lived g c = lived_nothing c.args.terms g.W.Wire.Did g.W.Wi
 -- no memory for a hub, or no thread
 pub returns-in-Err-serve_traffic-clause-lived : goal.returns-in-Err-serve_traffic-clause-lived
 returns-in-Err-serve_traffic-clause-lived g c =
-    rw c.fault_of.ensures (lived_nothing c.args.terms g.W.Wire.Did g.W.Wire.read_failed g.W.Wire.write_failed g.W.Wire.at_end c.args.wire _
+    rw c.live_fault_of.ensures (lived_nothing c.args.terms g.W.Wire.Did g.W.Wire.read_failed g.W.Wire.write_failed g.W.Wire.at_end c.args.wire _
     c.in-Err-serve_traffic.field-0.fault c.requires.fresh (ap (λ s. s.wire) c.in-Err-serve_traffic.ensures.untouched ∙ c.in-Ok.ensures.ok.0))

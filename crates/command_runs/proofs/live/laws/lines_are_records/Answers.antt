@@ -1,4 +1,5 @@
-use Rattle.command_runs.proofs.live.CsvFacts.{lines_are_records}
+-- The law, as it is proved in `RecordsAreLines`.
+use Rattle.command_runs.proofs.live.RecordsAreLines.{lines_are_records}
 use Rattle.command_runs.proofs.live.laws.lines_are_records.Goals as goal
 
 pub returns : goal.returns

@@ -1,6 +1,6 @@
 -- The line of a row is that of the delivery which waits under its number.
 use Rattle.command_runs.proofs.live.Words.{arith, length, on_ok_weaker, refl, slice_get_read}
-use Rattle.command_runs.proofs.live.ListFacts.{placed_at}
+use Rattle.command_runs.proofs.live.ListsGrow.{placed_at}
 use Rattle.command_runs.proofs.live.pending.push_reply.Goals as goal
 
 pub index-requires : goal.index-requires

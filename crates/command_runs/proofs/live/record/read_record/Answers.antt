@@ -1,14 +1,14 @@
 -- What stands before and behind the first comma says what the line means.
 use Rattle.csv_records.specs.declared.input.fault.RecordFault.TheVariants as csv
 use Rattle.command_runs.proofs.live.Words.{Err, List, None, Refusal, Some, [], ap, arith, fields_meant, length, record_fault_text, refl, sym, take, unnumbered_line, ℕ, ◌<◌, ◌∙◌, ◌∷◌, ◌≡◌}
-use Rattle.command_runs.proofs.live.FieldsFacts.{behind_comma, cut_at, only_field, some_field}
+use Rattle.command_runs.proofs.live.LineMeanings.{behind_comma, cut_at, only_field, some_field}
 use Rattle.command_runs.proofs.live.record.read_record.Goals as goal
 
 -- more fields than two
-many_fields : (lanes : ℕ) (a b : List ℕ) (fs : List (List ℕ)) → 0 < length fs → fields_meant lanes (a ∷ b ∷ fs)
+more_than_two : (lanes : ℕ) (a b : List ℕ) (fs : List (List ℕ)) → 0 < length fs → fields_meant lanes (a ∷ b ∷ fs)
     ≡ Err (Refusal (unnumbered_line None (record_fault_text csv.Csv)))
-many_fields lanes a b [] some = absurd (omega (arith, some))
-many_fields lanes a b (c ∷ fs) some = refl
+more_than_two lanes a b [] some = absurd (omega (arith, some))
+more_than_two lanes a b (c ∷ fs) some = refl
 
 pub returns-then-is_message : goal.returns-then-is_message
 returns-then-is_message c =
@@ -24,7 +24,7 @@ returns-in-Some-memchr c =
     let j = c.in-Some-memchr.field-0 in
     let more = cut_at text j c.in-Some-memchr.ensures in
     rw (cut.1, sym c.is_message.ensures ∙ c.if-is_message.false, cut.2, more.2)
-    (ap Some (many_fields c.args.lanes (take k line) (take j text) _ (some_field (behind_comma text j))))
+    (ap Some (more_than_two c.args.lanes (take k line) (take j text) _ (some_field (behind_comma text j))))
 
 pub returns-in-None-memchr : goal.returns-in-None-memchr
 returns-in-None-memchr c =

@@ -1,6 +1,6 @@
 -- A last byte is cut off if it is a carriage return.
 use Rattle.command_runs.proofs.live.Words.{eq-eqb, ne_eqb, refl}
-use Rattle.command_runs.proofs.live.FieldsFacts.{return_cut}
+use Rattle.command_runs.proofs.live.LineMeanings.{return_cut}
 use Rattle.command_runs.proofs.live.record.without_return.Goals as goal
 
 pub returns-then-last-eq13 : goal.returns-then-last-eq13

@@ -1,6 +1,6 @@
 -- The lanes so far have ended their turn, and the others are as they were.
 use Rattle.command_runs.proofs.live.Words.{IsEnded, Some, Waiting, arith, length, length-set, refl, slice_get, slice_get_read, slice_get_within, ◌+◌, ◌<◌, ◌∙◌, ◌≡◌, ◌≤◌}
-use Rattle.command_runs.proofs.live.ListFacts.{set_each}
+use Rattle.command_runs.proofs.live.ListsGrow.{set_each}
 use Rattle.command_runs.proofs.live.waiting.end_turn.Goals as goal
 
 pub loop-index-preserved : goal.loop-index-preserved

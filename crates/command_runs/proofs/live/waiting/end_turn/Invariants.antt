@@ -1,3 +1,4 @@
+-- The lanes before a place have ended their turn, and the others are as they were.
 use Rattle.command_runs.proofs.live.Words.{IsEnded, Some, Waiting, length, slice_get, ℕ, ◌<◌, ◌≡◌, ◌≤◌}
 use Rattle.command_runs.proofs.live.waiting.end_turn.Given as goal
 

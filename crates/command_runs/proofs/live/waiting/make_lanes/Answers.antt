@@ -1,5 +1,5 @@
 -- The lanes so far are fresh.
-use Rattle.command_runs.proofs.live.Words.{All-nil, All-push, IsFresh, ap, length, length-append, only_fault, refl, ◌+◌, ◌∙◌}
+use Rattle.command_runs.proofs.live.Words.{All-nil, All-push, IfOk-from_err, IsFresh, ap, length, length-append, refl, ◌+◌, ◌∙◌}
 use Rattle.command_runs.proofs.live.waiting.make_lanes.Goals as goal
 
 pub loop-lane-init : goal.loop-lane-init
@@ -15,4 +15,4 @@ loop-lane-preserved c =
     }
 
 pub returns-in_err-push : goal.returns-in_err-push
-returns-in_err-push c = only_fault c.from_residual-in_err-push.result _ c.from_residual-in_err-push.ensures.0
+returns-in_err-push c = IfOk-from_err c.from_residual-in_err-push.result _ c.from_residual-in_err-push.ensures.0

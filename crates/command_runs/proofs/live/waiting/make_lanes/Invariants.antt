@@ -1,3 +1,4 @@
+-- Nothing has come of the lanes so far.
 use Rattle.command_runs.proofs.live.Words.{AreFresh}
 use Rattle.command_runs.proofs.live.waiting.make_lanes.Given as goal
 

@@ -1,6 +1,6 @@
 -- The lane of this place takes the number, and no other lane changes.
 use Rattle.command_runs.proofs.live.Words.{ap, arith, set}
-use Rattle.command_runs.proofs.live.ListFacts.{placed_at}
+use Rattle.command_runs.proofs.live.ListsGrow.{placed_at}
 use Rattle.command_runs.proofs.live.waiting.next_number.Goals as goal
 
 pub returns : goal.returns

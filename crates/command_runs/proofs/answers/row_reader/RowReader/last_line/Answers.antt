@@ -5,7 +5,7 @@ use Rattle.command_runs.specs.inner.Lines.{last_of, line_start}
 use Rattle.command_runs.specs.inner.RowReaders.{IsMeant}
 use Rattle.command_runs.specs.live.Text.{fields_in, without_return}
 use Rattle.command_runs.proofs.answers.ReadRows.{last_passed, last_told}
-use Rattle.command_runs.proofs.live.FieldsFacts.{rest_all}
+use Rattle.command_runs.proofs.live.LineMeanings.{rest_all}
 use Rattle.command_runs.proofs.answers.row_reader.RowReader.last_line.Goals as goal
 
 -- the line that was found is the last one

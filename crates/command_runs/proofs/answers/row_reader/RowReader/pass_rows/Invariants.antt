@@ -1,3 +1,4 @@
+-- Whatever rows were given at first, some more were given so far.
 use Rattle.command_runs.specs.inner.RowReaders.{PassesRows}
 use Rattle.command_runs.proofs.answers.row_reader.RowReader.pass_rows.Given as goal
 

@@ -1,8 +1,6 @@
--- A delivery adds its line and changes no row.
-use Rattle.std.proofs.Common.{arith, refl, string_bytes}
-use Rattle.std.proofs.lemmas.Result.{IfOk-weaker}
-use Rattle.lane_core.proofs.ResultFacts.{of_refusal}
-use Rattle.command_runs.proofs.answers.ReportFacts.{texts_long}
+-- A delivery adds its line and changes no row; as in `serving/AnsweredRowsTraffic/bring`, of another traffic.
+use Rattle.std.proofs.Common.{arith, string_bytes}
+use Rattle.command_runs.proofs.answers.LinesAsBrought.{texts_long}
 use Rattle.command_runs.proofs.answers.rows.RecordRowsTraffic.bring.Goals as goal
 
 pub push_answer_of-requires : goal.push_answer_of-requires
@@ -10,13 +8,9 @@ push_answer_of-requires g c =
     omega (arith, c.requires.4.lane, texts_long string_bytes c.args.self.now.texts.items c.requires.2 c.requires.3.lines, c.args.self.now.texts.ok.0)
 
 pub returns-clause-brings : goal.returns-clause-brings
-returns-clause-brings g c =
-    IfOk-weaker c.push_answer_of.result _ _ (λ _ more start given brought was next. record {
-      items = was.items;
-      gave = was.gave;
-      fed = was.fed;
-      lines = more brought next.lane next.number was.lines;
-    }) c.push_answer_of.ensures
-
-pub returns-clause-leaves : goal.returns-clause-leaves
-returns-clause-leaves g c = of_refusal _ _ refl
+returns-clause-brings g c = λ start given brought was next. record {
+  items = was.items;
+  gave = was.gave;
+  fed = was.fed;
+  lines = c.in_ok-push_answer_of.ensures brought next.lane next.number was.lines;
+}

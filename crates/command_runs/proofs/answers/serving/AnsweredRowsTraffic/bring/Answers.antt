@@ -1,8 +1,8 @@
--- A delivery adds its line and takes no row.
+-- A delivery adds its line and takes no row; as in `rows/RecordRowsTraffic/bring`, of another traffic.
 use Rattle.std.proofs.Common.{arith, refl, string_bytes}
 use Rattle.std.proofs.lemmas.Result.{IfOk-weaker}
 use Rattle.lane_core.proofs.ResultFacts.{of_refusal}
-use Rattle.command_runs.proofs.answers.ReportFacts.{texts_long}
+use Rattle.command_runs.proofs.answers.LinesAsBrought.{texts_long}
 use Rattle.command_runs.proofs.answers.serving.AnsweredRowsTraffic.bring.Goals as goal
 
 pub push_answer_of-requires : goal.push_answer_of-requires

@@ -1,4 +1,4 @@
--- The row that is taken of the feeds is given to the hub.
+-- The row that is taken of the feeds is given to the hub; as in hub_core's `serving/ListedRowsTraffic/next`, whose traffic keeps deliveries in place of lines.
 use Rattle.std.proofs.Common.{subst, sym}
 use Rattle.std.proofs.lemmas.Option.{IfSome_then}
 use Rattle.hub_core.specs.Feeds.{AreGiven, rests_of}

@@ -4,8 +4,8 @@ use Rattle.command_runs.specs.declared.live.record.Notice.TheVariants as notice
 use Rattle.command_runs.specs.declared.live.pending.PendingReply.TheVariants as pending
 use Rattle.command_runs.specs.declared.live.record.Record.TheVariants as read
 use Rattle.command_runs.proofs.live.Words.{Some, [], ap, append-nil, refl, sym, turn_of, ◌++◌, ◌∙◌, ◌∷◌}
-use Rattle.command_runs.proofs.live.CameFacts.{came_plain, came_roomier, came_row, none_for, notice_for, spent_for}
-use Rattle.command_runs.proofs.live.LivedFacts.{refused_line, took_none, took_row}
+use Rattle.command_runs.proofs.live.LinesAndDeliveries.{came_plain, came_roomier, came_row, none_for, notice_for, spent_for}
+use Rattle.command_runs.proofs.live.LivedOn.{refused_line, took_none, took_row}
 use Rattle.command_runs.proofs.live.input.Live.keep.Goals as goal
 
 pub returns-in-Blank-clause-takes : goal.returns-in-Blank-clause-takes

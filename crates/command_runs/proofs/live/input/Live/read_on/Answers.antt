@@ -1,7 +1,7 @@
 -- What is read comes behind what is held, and nothing that ended is unanswered then.
 use Rattle.command_runs.proofs.live.Words.{Held, Read, WriteFault, [], ap, inl, refl, sym, turn_of, ◌++◌, ◌∙◌, ◌∷◌}
-use Rattle.command_runs.proofs.live.LivedFacts.{other_told}
-use Rattle.command_runs.proofs.live.WireFacts.{came_failed, came_read, no_fault}
+use Rattle.command_runs.proofs.live.LivedOn.{other_told}
+use Rattle.command_runs.proofs.live.ReadsAndWrites.{came_failed, came_read, no_fault}
 use Rattle.command_runs.proofs.live.input.Live.read_on.Goals as goal
 
 pub returns-in-Err-clause-came : goal.returns-in-Err-clause-came

@@ -1,7 +1,7 @@
 -- The lines that are written are the replies that were pending.
 use Rattle.command_runs.proofs.live.Words.{ReadFault, ap, refl, turn_of, writes_of, ◌++◌, ◌∙◌}
-use Rattle.command_runs.proofs.live.LivedFacts.{other_told, took_nothing}
-use Rattle.command_runs.proofs.live.WireFacts.{all_ready, came_part, came_written, keeps, no_fault}
+use Rattle.command_runs.proofs.live.LivedOn.{other_told, took_nothing}
+use Rattle.command_runs.proofs.live.ReadsAndWrites.{all_ready, came_part, came_written, keeps, no_fault}
 use Rattle.command_runs.proofs.live.input.Live.write_turn.Goals as goal
 
 pub push_replies-requires : goal.push_replies-requires

@@ -1,8 +1,8 @@
 -- A delivery waits with those of its lane until the turn is written.
 use Rattle.command_runs.proofs.live.Words.{HasMoved, Waiting, [], ap, arith, get_or, length, length-append, refl, turn_of, with_more, ◌∙◌, ◌∷◌, ◌≡◌}
-use Rattle.command_runs.proofs.live.CameFacts.{came_lane}
-use Rattle.command_runs.proofs.live.ListFacts.{adds_one, placed_at}
-use Rattle.command_runs.proofs.live.LivedFacts.{lived_on}
+use Rattle.command_runs.proofs.live.LinesAndDeliveries.{came_lane}
+use Rattle.command_runs.proofs.live.ListsGrow.{adds_one, placed_at}
+use Rattle.command_runs.proofs.live.LivedOn.{lived_on}
 use Rattle.command_runs.proofs.live.input.LiveTraffic.bring.Goals as goal
 
 pub push_reserved-requires : goal.push_reserved-requires

@@ -1,3 +1,4 @@
+-- The lines that were taken so far gave no row.
 use Rattle.hub_core.specs.Traffics.{Stays}
 use Rattle.command_runs.specs.inner.Came.{HasLived}
 use Rattle.command_runs.proofs.live.input.LiveTraffic.next.Given as goal

@@ -1,3 +1,4 @@
+-- A turn that is written and then a read leave a live input that has come further.
 use Rattle.command_runs.proofs.live.input.LiveTraffic.wait.Goals as goal
 
 pub returns-clause-came : goal.returns-clause-came

@@ -1,5 +1,5 @@
--- Commands that write one text at most of the same bytes, for `one_lanes` and `one_print`.
-use Rattle.std.proofs.Common.{◌≡◌, ◌==◌, ◌&&◌, ◌%◌, ◌∙◌, ◌∷◌, Bool, Err, List, None, Ok, Option, Result, Some, [], ap, ap₂, false, if◌then◌else◌, length, map, nat_le, refl, subst, sum, sym, true, ℕ}
+-- `lanes` writes one text at most of the same bytes (`one_lanes`); what bytes mean is one list of items, if what each record means is one (also for `PrintOnce`).
+use Rattle.std.proofs.Common.{◌≡◌, ◌==◌, ◌&&◌, ◌%◌, ◌∙◌, ◌∷◌, Bool, Err, List, None, Ok, Option, Result, Some, [], ap, false, if◌then◌else◌, length, map, nat_le, refl, subst, sum, sym, true, ℕ}
 use Rattle.std.specs.List.{AllByRecursion, AllZip, list_all, range_with_len}
 use Rattle.std.specs.Str.Parse.{digits_value}
 use Rattle.scan_core.specs.Answers.{IsAnswer, Reads}
@@ -14,22 +14,12 @@ use Rattle.csv_records.specs.declared.input.fault.RecordFault.{RecordFault}
 use Rattle.csv_records.specs.declared.input.fault.RecordFault.TheVariants as fault
 use Rattle.command_runs.specs.commands.Lanes.{OneLanes}
 use Rattle.element_core.specs.Terms.{Terms}
-use Rattle.command_runs.proofs.ListsBeside.{same_beside}
+use Rattle.command_runs.proofs.ListsBeside.{same_beside, same_where}
 
 -- where each record means one item at most, bytes mean one list of items
 pub mean_once : {Item : Type 0} (means : Meaning Item) → ((fields : Fields) (x y : Item) → means fields (Ok x) → means fields (Ok y) → x ≡ y)
     → (bytes : List ℕ) (xs ys : List Item) → Mean means bytes xs → Mean means bytes ys → xs ≡ ys
 mean_once means one bytes xs ys h k = same_beside (λ fields item. means fields (Ok item)) one (records_of bytes) xs ys h.1 k.1
-
--- where each item of a kind has at most one beside it, a list of them has at most one list beside it
-same_where : {X Y : Type 0} (R : X → Y → Type 0) (P : X → Type 0) → ((x : X) (y z : Y) → P x → R x y → R x z → y ≡ z) → (xs : List X) (ys zs : List Y)
-    → AllByRecursion P xs → AllZip R xs ys → AllZip R xs zs → ys ≡ zs
-same_where R P one [] [] [] p h k = refl
-same_where R P one [] [] (z ∷ zs) p h k = absurd k
-same_where R P one [] (y ∷ ys) zs p h k = absurd h
-same_where R P one (x ∷ xs) [] zs p h k = absurd h
-same_where R P one (x ∷ xs) (y ∷ ys) [] p h k = absurd k
-same_where R P one (x ∷ xs) (y ∷ ys) (z ∷ zs) p h k = ap₂ (λ w ws. w ∷ ws) (one x y z p.0 h.0 k.0) (same_where R P one xs ys zs p.1 h.1 k.1)
 
 -- ---- lanes
 

@@ -1,8 +1,8 @@
 -- The answers of a live input are those of `lanes` in another order, for `lines_are_report`.
 use Rattle.element_core.specs.declared.form.Form.TheVariants as form
-use Rattle.command_runs.proofs.live.Words.{AllZip, Answer, AreItems, Each, IsAnswer, IsLaneRowLine, IsReply, LaneLine, LaneRow, LinesAreReport, List, Meant, Numbers, Ok, Reads, Terms, [], ap, arith, cases_eq, concat, cons_option, eq-eqb, feed_of, fields_in, filter, filter_map, get_or-map-range_with_len, has_byte, lane_lines, lanes_meaning, le-ltb, length, length-map-range_with_len, line_meant, line_of, lines_from, lt-ltb, map, most_line, most_rows, nat_tests, ne_eqb, one_later, pieces_of, range_with_len, record_lines, recursion_from_All, refl, replies_from, subst, suc, sym, text_meant, without_return, zero, ℕ, ⊎_elim, ◌++◌, ◌+◌, ◌<◌, ◌==◌, ◌∙◌, ◌∷◌, ◌≡◌, ◌≢◌, ◌≤◌}
-use Rattle.command_runs.proofs.live.CsvFacts.{lines_are_records}
-use Rattle.command_runs.proofs.live.FieldsFacts.{row_meant}
+use Rattle.command_runs.proofs.live.Words.{AllZip, Answer, AreItems, Each, IsAnswer, IsLaneRowLine, IsReply, LaneLine, LaneRow, LinesAreReport, List, Meant, MessagesAreNoRows, Numbers, Ok, Reads, Terms, [], ap, arith, cases_eq, concat, cons_option, eq-eqb, feed_of, fields_in, filter, filter_map, get_or-map-range_with_len, has_byte, lane_lines, lanes_meaning, le-ltb, length, length-map-range_with_len, line_meant, line_of, lines_from, lt-ltb, map, most_line, most_rows, nat_tests, ne_eqb, one_later, pieces_of, range_with_len, record_lines, recursion_from_All, refl, replies_from, subst, suc, sym, text_meant, without_return, zero, ℕ, ⊎_elim, ◌++◌, ◌+◌, ◌<◌, ◌==◌, ◌∙◌, ◌∷◌, ◌≡◌, ◌≢◌, ◌≤◌}
+use Rattle.command_runs.proofs.live.RecordsAreLines.{lines_are_records}
+use Rattle.command_runs.proofs.live.LineMeanings.{row_meant}
 
 -- ---- what the lines mean
 
@@ -19,24 +19,24 @@ module _ (lanes : ℕ) where
   IsLow row = row.0 < lanes
 
   -- if these are the records of lines that are not too long, and mean rows to `lanes`, they mean them to `live`
-  abbrev Mean : List (List ℕ) → List Meant → List LaneRow → Type 0
-  Mean texts ms rows = Each IsShort (filter has_byte texts) → AreItems (lanes_meaning lanes) (map fields_in (filter has_byte texts)) rows
+  abbrev MeanRows : List (List ℕ) → List Meant → List LaneRow → Type 0
+  MeanRows texts ms rows = Each IsShort (filter has_byte texts) → AreItems (lanes_meaning lanes) (map fields_in (filter has_byte texts)) rows
       → (ms ≡ meants rows) × Each IsLow rows
 
-  text_more : (text : List ℕ) (texts : List (List ℕ)) (ms : List Meant) (rows : List LaneRow) → ((later : List LaneRow) → Mean texts ms later)
-      → Mean (text ∷ texts) (cons_option (text_meant lanes text) ms) rows
-  text_more [] texts ms rows mean short are = mean rows short are
-  text_more (b ∷ text) texts ms [] mean short are = absurd are
-  text_more (b ∷ text) texts ms (row ∷ rows) mean short are =
-      let here = row_meant lanes row (b ∷ text) are.0 in
+  text_more : MessagesAreNoRows → (text : List ℕ) (texts : List (List ℕ)) (ms : List Meant) (rows : List LaneRow) → ((later : List LaneRow) → MeanRows texts ms later)
+      → MeanRows (text ∷ texts) (cons_option (text_meant lanes text) ms) rows
+  text_more law [] texts ms rows mean short are = mean rows short are
+  text_more law (b ∷ text) texts ms [] mean short are = absurd are
+  text_more law (b ∷ text) texts ms (row ∷ rows) mean short are =
+      let here = row_meant lanes row law (b ∷ text) are.0 in
       let rest = mean rows short.1 are.1 in
       (rw (le-ltb most_line (length (b ∷ text)) short.0, here.0) (ap (λ ns. Ok row ∷ ns) rest.0), (here.1, rest.1))
 
-  lines_mean : (lines : List (List ℕ)) (rows : List LaneRow) → Mean (map without_return lines) (filter_map (line_meant lanes) lines) rows
-  lines_mean [] [] short are = (refl, tt)
-  lines_mean [] (row ∷ rows) short are = absurd are
-  lines_mean (line ∷ lines) rows short are =
-      text_more (without_return line) (map without_return lines) (filter_map (line_meant lanes) lines) rows (lines_mean lines) short are
+  lines_mean : MessagesAreNoRows → (lines : List (List ℕ)) (rows : List LaneRow) → MeanRows (map without_return lines) (filter_map (line_meant lanes) lines) rows
+  lines_mean law [] [] short are = (refl, tt)
+  lines_mean law [] (row ∷ rows) short are = absurd are
+  lines_mean law (line ∷ lines) rows short are =
+      text_more law (without_return line) (map without_return lines) (filter_map (line_meant lanes) lines) rows (lines_mean law lines) short are
 
 -- ---- their answers
 
@@ -45,26 +45,26 @@ abbrev of_lane : {X : Type 0} → ℕ → List (ℕ × X) → List X
 of_lane lane xs = map (λ x. x.1) (filter (λ x. x.0 == lane) xs)
 
 -- no lane has more rows than numbers are left
-abbrev Fits : ℕ → Numbers → List LaneRow → Type 0
-Fits lanes next rows = (l : ℕ) → l < lanes → next l + length (feed_of l rows) ≤ most_rows
+abbrev FitNumbers : ℕ → Numbers → List LaneRow → Type 0
+FitNumbers lanes next rows = (l : ℕ) → l < lanes → next l + length (feed_of l rows) ≤ most_rows
 
 -- a row's number is left, and so are those of the rows after it
-fits_rest : (lanes : ℕ) (next : Numbers) (row : LaneRow) (rows : List LaneRow) → row.0 < lanes → Fits lanes next (row ∷ rows)
-    → (next row.0 < most_rows) × Fits lanes (one_later row.0 next) rows
+fits_rest : (lanes : ℕ) (next : Numbers) (row : LaneRow) (rows : List LaneRow) → row.0 < lanes → FitNumbers lanes next (row ∷ rows)
+    → (next row.0 < most_rows) × FitNumbers lanes (one_later row.0 next) rows
 fits_rest lanes next row rows low fits = (
   (let all = fits row.0 low in grind (arith, nat_tests)),
   λ l small. let all = fits l small in grind (arith, nat_tests),
 )
 
 -- of a lane these are the answers to its rows, and its lines are theirs from its next number on
-abbrev AreAnswered : Terms → Numbers → List LaneRow → List LaneLine → List (ℕ × Answer) → ℕ → Type 0
-AreAnswered year next rows lines answers l = Reads (feed_of l rows) year (of_lane l answers)
+abbrev LaneIsAnswered : Terms → Numbers → List LaneRow → List LaneLine → List (ℕ × Answer) → ℕ → Type 0
+LaneIsAnswered year next rows lines answers l = Reads (feed_of l rows) year (of_lane l answers)
     × (concat (feed_of l lines) ≡ lines_from l (next l) (of_lane l answers))
 
 -- a row before others
 one_first : (year : Terms) (next : Numbers) (row : LaneRow) (rows : List LaneRow) (text : List ℕ) (lines : List LaneLine) (a : Answer)
-    (answers : List (ℕ × Answer)) → IsAnswer row.1 year a × (text ≡ line_of row.0 (next row.0) a) → (l : ℕ) → AreAnswered year (one_later row.0 next) rows lines answers l
-    → AreAnswered year next (row ∷ rows) ((row.0, text) ∷ lines) ((row.0, a) ∷ answers) l
+    (answers : List (ℕ × Answer)) → IsAnswer row.1 year a × (text ≡ line_of row.0 (next row.0) a) → (l : ℕ) → LaneIsAnswered year (one_later row.0 next) rows lines answers l
+    → LaneIsAnswered year next (row ∷ rows) ((row.0, text) ∷ lines) ((row.0, a) ∷ answers) l
 one_first year next row rows text lines a answers is l are = ⊎_elim
     (λ (e : l ≡ row.0). let on = rw (eq-eqb l row.0 e) at are in rw (eq-eqb row.0 l (sym e)) (
       (is.0, on.0),
@@ -79,11 +79,11 @@ record AreOrdered (year : Terms) (next : Numbers) (rows : List LaneRow) (texts :
   answers : List (ℕ × Answer)
   whole : texts ≡ map (λ line. line.1) lines
   each : AllZip (IsLaneRowLine year) rows lines
-  answered : (l : ℕ) → AreAnswered year next rows lines answers l
+  answered : (l : ℕ) → LaneIsAnswered year next rows lines answers l
 
 module _ (lanes : ℕ) (year : Terms) where
   -- what is written for rows
-  ordered : (rows : List LaneRow) (next : Numbers) (texts : List (List ℕ)) → Each (IsLow lanes) rows → Fits lanes next rows
+  ordered : (rows : List LaneRow) (next : Numbers) (texts : List (List ℕ)) → Each (IsLow lanes) rows → FitNumbers lanes next rows
       → AllZip (IsReply year form.HumanReadable) (replies_from next (meants rows)) texts → AreOrdered year next rows texts
   ordered [] next [] low fits are = record { lines = []; answers = []; whole = refl; each = tt; answered = λ l. (tt, refl) }
   ordered [] next (text ∷ texts) low fits are = absurd are
@@ -113,10 +113,10 @@ module _ (lanes : ℕ) (year : Terms) where
         let here = o.answered first in
         ((here.0, reads), cc (here.1, same))
 
-pub lines_are_report : LinesAreReport
-lines_are_report lanes year bytes text rows plain short items few answers =
+pub lines_are_report : MessagesAreNoRows → LinesAreReport
+lines_are_report law lanes year bytes text rows plain short items few answers =
     let items = subst (λ rs. AreItems (lanes_meaning lanes) rs rows) (lines_are_records bytes plain) items in
-    let meant = lines_mean lanes (pieces_of bytes) rows (recursion_from_All IsShort (record_lines bytes) short) items in
+    let meant = lines_mean lanes law (pieces_of bytes) rows (recursion_from_All IsShort (record_lines bytes) short) items in
     let are = subst (λ ms. AllZip (IsReply year form.HumanReadable) (replies_from (λ lane. 0) ms) answers.0) meant.0 answers.1 in
     let fits : (l : ℕ) → l < lanes → 0 + length (feed_of l rows) ≤ most_rows = λ l small.
     let here = few l [] (omega (arith, small, length-map-range_with_len (λ lane. feed_of lane rows) 0 lanes)) in

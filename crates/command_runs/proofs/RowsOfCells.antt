@@ -1,8 +1,9 @@
--- The rows of one column as the cells of a sheet come, for `push_column`.
+-- The rows of one column as the cells of a sheet come, and that the numbers of cells are small, for `push_column`; the rows of one more sheet, for `ColumnsGrow`.
 use Rattle.std.proofs.Common.{◌+◌, ◌++◌, ◌*◌, ◌/◌, ◌<◌, ◌≤◌, ◌==◌, ◌≡◌, ◌∙◌, ◌∷◌, Bool, Fits, List, [], ap, arith, map}
-use Rattle.std.proofs.Common.{true, w16, ℕ}
+use Rattle.std.proofs.Common.{subst, true, w16, ℕ}
 use Rattle.std.proofs.lemmas.Bool.{and_parts, eqb-true}
 use Rattle.std.proofs.Math.Nat.{mul-le-mul_right}
+use Rattle.std.proofs.lemmas.Nat.{mul-add-lt}
 use Rattle.sheet_core.specs.Bitmaps.{Bitmap}
 use Rattle.sheet_core.specs.Grids.{Cells}
 use Rattle.std.specs.List.{flat_map, range_with_len}
@@ -22,22 +23,16 @@ ended row end rows low high is = omega arith
 pub half_low : (n d : ℕ) → 2 * d < n → n / 2 < n
 half_low n d least = omega arith
 
-few_cells : (columns rows : ℕ) → columns ≤ 16 → rows ≤ 64 → columns * rows ≤ 1024
-few_cells columns rows few low =
-    let most : columns * rows ≤ 16 * rows = mul-le-mul_right rows few in
-    omega (arith, most)
+-- the number of a cell, and that no number on the way to it is too large
+pub place_low : (row column columns rows end : ℕ) → row < end → end ≡ rows → column < columns → row * columns + column < columns * rows
+place_low row column columns rows end within is low = mul-add-lt row columns column rows (subst (λ n. row < n) is within) low
 
-pub fits_place : (row told column columns rows : ℕ) → told ≡ columns → row * columns + column < columns * rows → columns ≤ 16 → rows ≤ 64
-    → Fits w16 (row * told + column)
-fits_place row told column columns rows is low few most =
-    let bound : columns * rows ≤ 1024 = few_cells columns rows few most in
-    rw is (omega (arith, bound, low))
-
-pub fits_cell : (row told column columns rows : ℕ) → told ≡ columns → row * columns + column < columns * rows → columns ≤ 16 → rows ≤ 64
-    → Fits w16 (row * told)
-fits_cell row told column columns rows is low few most =
-    let bound : columns * rows ≤ 1024 = few_cells columns rows few most in
-    rw is (omega (arith, bound, low))
+pub fits : (row told column columns rows end : ℕ) → row < end → end ≡ rows → column < columns → told ≡ columns → columns ≤ 16 → rows ≤ 64
+    → Fits w16 (row * told) × Fits w16 (row * told + column)
+fits row told column columns rows end within in_rows low is few most =
+    let place = place_low row column columns rows end within in_rows low in
+    let wide : columns * rows ≤ 16 * rows = mul-le-mul_right rows few in
+    rw is (omega (arith, wide, most, place), omega (arith, wide, most, place))
 
 -- a sheet of a grid's size
 pub size_of : (g : Cells) (s : Bitmap) → has_size g s ≡ true → (s.width ≡ g.columns * g.width) × (s.height ≡ g.rows * g.height)

@@ -1,7 +1,8 @@
 -- What a line means, by its commas and by its message, whether its front was given up or not (of specs/live/Text).
 use Rattle.command_runs.specs.declared.live.record.LineFault.TheVariants as line_fault
 use Rattle.csv_records.specs.declared.input.fault.RecordFault.TheVariants as fault
-use Rattle.command_runs.proofs.live.Words.{Bool, Err, Held, HoldsRecord, IsFirstByte, IsLine, IsRecord, LaneRow, List, None, Ok, Option, Record, RecordFault, Refusal, Some, [], after_first, and_parts, ap, arith, before_first, cases_Bool, cases_lt, cond, cond_both, digits_value, drop, drop_all, false, false_from_ne_true, field_fault, fields_in, is_byte, is_comma, is_lane, is_message, is_number, join_with_byte, join_with_byte-slice_split, lane_row, length, length-drop, length-slice_split, line_fault_text, line_meant, lt-ltb, ltb-true, messages_are_no_rows, most_line, nat_lt, position_or_len, position_or_len_is, record_in, refl, row_or, slice_split_first, subst, sym, take, take_all, text_meant, true, unnumbered_line, whole, widths_in, without_return, ℕ, ⊎_elim, ◌++◌, ◌+◌, ◌-◌, ◌<◌, ◌==◌, ◌∙◌, ◌∷◌, ◌≡◌, ◌≤◌}
+use Rattle.command_runs.proofs.live.Words.{Bool, Err, Held, HoldsRecord, IsFirstByte, IsLine, IsRecord, LaneRow, List, MessagesAreNoRows, None, Ok, Option, Record, RecordFault, Refusal, Some, [], after_first, and_parts, ap, arith, before_first, cases_Bool, cases_lt, cond, cond_both, digits_value, drop, drop_all, fails_before_first, false, false_from_ne_true, field_fault, fields_in, is_byte, is_comma, is_lane, is_message, is_number, join_with_byte, join_with_byte-slice_split, lane_row, length, length-drop, length-slice_split, line_fault_text, line_meant, lt-ltb, ltb-true, most_line, nat_lt, position_or_len, position_or_len_is, record_in, refl, row_or, slice_split_first, slice_split_none, subst, sym, take, take_all, text_meant, true, unnumbered_line, widths_in, without_return, ℕ, ⊎_elim, ◌++◌, ◌+◌, ◌-◌, ◌<◌, ◌==◌, ◌∙◌, ◌∷◌, ◌≡◌, ◌≤◌}
+use Rattle.command_runs.proofs.answers.PlainBytes.{no_byte, past_all}
 
 -- a comma is found at k
 pub first_field : (xs : List ℕ) (k : ℕ) → IsFirstByte (is_byte 44) xs (Some k)
@@ -31,9 +32,7 @@ cut_at xs k found =
 -- none is
 pub only_field : (xs : List ℕ) → IsFirstByte (is_byte 44) xs None → (fields_in xs ≡ xs ∷ []) × (after_first is_comma xs ≡ [])
 only_field xs none =
-    let past : position_or_len is_comma xs ≡ length xs = position_or_len_is is_comma xs (length xs) 0 (omega arith)
-    (λ j low. false_from_ne_true _ (none j (omega arith) low)) (λ low. absurd (omega (arith, low))) in
-    (whole is_comma xs (omega (arith, past)), drop_all _ xs (omega (arith, past)))
+    (slice_split_none is_comma xs (no_byte 44 xs none), let past = past_all 44 xs none in drop_all _ xs (omega (arith, past)))
 
 -- a line has a field
 pub some_field : (xs : List ℕ) → 0 < length (fields_in xs)
@@ -45,7 +44,8 @@ behind line lane widths is = let rest = after_first is_comma line in ⊎_elim
     (λ (low : position_or_len is_comma line < length line).
     let one : fields_in rest ≡ widths ∷ [] = cc (slice_split_first is_comma line 0 low) in
     sym (join_with_byte-slice_split 44 rest) ∙ ap (join_with_byte 44) one)
-    (λ (past : length line ≤ position_or_len is_comma line). cc (whole is_comma line past))
+    (λ (past : length line ≤ position_or_len is_comma line).
+    cc (slice_split_none is_comma line (λ k d low. fails_before_first is_comma line k d (omega (arith, low, past)))))
     (cases_lt (position_or_len is_comma line) (length line))
 
 onto : (a : ℕ) (front : List ℕ) (b : ℕ) (is : Bool) → a ∷ (cond is front (front ++ b ∷ [])) ≡ cond is (a ∷ front) (a ∷ front ++ b ∷ [])
@@ -76,10 +76,10 @@ module _ (lanes : ℕ) (row : LaneRow) where
   fields_of_row (lane ∷ widths ∷ more ∷ rest) is = cc
 
   -- mean it to `live` too, since no message is a row
-  pub row_meant : (line : List ℕ) → Ok row ≡ lane_row lanes (fields_in line) → (record_in lanes line ≡ Ok row) × (row.0 < lanes)
-  row_meant line is =
+  pub row_meant : MessagesAreNoRows → (line : List ℕ) → Ok row ≡ lane_row lanes (fields_in line) → (record_in lanes line ≡ Ok row) × (row.0 < lanes)
+  row_meant law line is =
       let (lane, widths, fields, here, none, same) = fields_of_row (fields_in line) is in
-      let no_message : is_message widths ≡ false = false_from_ne_true (is_message widths) (λ e. cc (messages_are_no_rows widths e, none)) in
+      let no_message : is_message widths ≡ false = false_from_ne_true (is_message widths) (λ e. cc (law widths e, none)) in
       let low = ltb-true (digits_value 10 lane) lanes (and_parts (is_number 2 lane) (nat_lt (digits_value 10 lane) lanes) here).1 in
       (rw (behind line lane widths fields, no_message, fields, here, none) (ap Ok (sym same)), subst (λ (r : LaneRow). r.0 < lanes) (sym same) low)
 

@@ -37,15 +37,15 @@ line_at first (x ∷ rest) (suc i) a low =
     (ap (λ k. set (lane_lines (first + 1) rest) i (get_or (lane_lines (first + 1) rest) i [] ++ line_of k (length (get_or rest i [])) a)) (omega arith)
     ∙ line_at (first + 1) rest i a (omega (arith, low)))
 
-abbrev A : Plain → Answer → Type 0
-A = λ x answer. IsAnswer x.widths x.year answer
+abbrev IsAnswerTo : Plain → Answer → Type 0
+IsAnswerTo = λ x answer. IsAnswer x.widths x.year answer
 
 answered_more : (brought : List (List Plain)) (answers : List (List Answer)) (i : ℕ) (x : Plain) (a : Answer) → i < length brought → IsAnswer x.widths x.year a
     → AllZip AreAnswersOf brought answers
     → AllZip AreAnswersOf (set brought i (get_or brought i [] ++ x ∷ [])) (set answers i (get_or answers i [] ++ a ∷ []))
 answered_more [] answers i x a low is was = absurd (omega (arith, low))
 answered_more (xs ∷ brought) [] i x a low is was = absurd was
-answered_more (xs ∷ brought) (ys ∷ answers) zero x a low is was = (all_zipped_more A xs ys x a was.0 is, was.1)
+answered_more (xs ∷ brought) (ys ∷ answers) zero x a low is was = (all_zipped_more IsAnswerTo xs ys x a was.0 is, was.1)
 answered_more (xs ∷ brought) (ys ∷ answers) (suc i) x a low is was = (was.0, answered_more brought answers i x a (omega (arith, low)) is was.1)
 
 as_many : (brought : List (List Plain)) (answers : List (List Answer)) (i : ℕ) → AllZip AreAnswersOf brought answers → length (get_or brought i [])
@@ -53,7 +53,7 @@ as_many : (brought : List (List Plain)) (answers : List (List Answer)) (i : ℕ)
 as_many [] [] i was = refl
 as_many [] (ys ∷ answers) i was = absurd was
 as_many (xs ∷ brought) [] i was = absurd was
-as_many (xs ∷ brought) (ys ∷ answers) zero was = omega (arith, AllZip-long A xs ys was.0)
+as_many (xs ∷ brought) (ys ∷ answers) zero was = omega (arith, AllZip-long IsAnswerTo xs ys was.0)
 as_many (xs ∷ brought) (ys ∷ answers) (suc i) was = as_many brought answers i was.1
 
 lanes_long : (first : ℕ) (answers : List (List Answer)) → length (lane_lines first answers) ≡ length answers

@@ -1,7 +1,8 @@
 -- A live input as a whole, as it takes lines, and what its wire tells of its faults (of `HasLived` of specs/inner/Came).
+use Rattle.command_runs.specs.declared.live.input.NextLine.TheVariants as take
 use Rattle.command_runs.proofs.live.Words.{AllocError, Bool, Err, Event, Gives, Global, HasCome, HasLived, HasRoom, Held, History, IsErr, List, Live, LiveFault, MayStillWrite, NextLine, NoMemory, Ok, Option, Past, PendingReply, Plain, ReadFault, Result, Some, Stays, StopsFor, String, TakesLine, Vec, Waiting, WriteFault, after_line, false≢true, past_from, refl, sym, turn_of, with_more, ℕ, ◌∙◌, ◌≡◌, ◌≢◌}
-use Rattle.command_runs.proofs.live.CameFacts.{came_refusal}
-use Rattle.command_runs.proofs.live.WireFacts.{no_fault}
+use Rattle.command_runs.proofs.live.LinesAndDeliveries.{came_refusal}
+use Rattle.command_runs.proofs.live.ReadsAndWrites.{no_fault}
 
 -- ---- faults
 
@@ -58,3 +59,27 @@ pub refused_line : {W : Type 0} (came : History (Live W)) (r : Result NextLine A
     → TakesLine came r s (after_line r t)
 refused_line came (Ok taken) s t failed same = absurd (false≢true failed)
 refused_line came (Err e) s t failed same = same
+
+-- ---- the memory of rows
+
+-- the memory of a row was taken
+pub pool_used : {W : Type 0} {did : W → W → List Event → Type 0} {read_failed write_failed : W → Bool} {at_end : W → Type 0} (s : Live W) (pool : ℕ)
+    → Stays (HasLived did read_failed write_failed at_end) s (record s { pool = pool })
+pool_used s pool = λ start given brought l. record {
+  events = l.events;
+  were_done = l.were_done;
+  come = l.come;
+  terms = l.terms;
+  read = l.read;
+  write = l.write;
+  begun = l.begun;
+  ended = l.ended;
+}
+
+-- a line that is taken behind a step that gives nothing
+pub takes_behind : {W : Type 0} (came : History (Live W)) (r : Result NextLine AllocError) (s u t : Live W) → Stays came s u → TakesLine came r u t
+    → TakesLine came r s t
+takes_behind came (Ok take.Nothing) s u t same takes = λ start given brought l. takes start given brought (same start given brought l)
+takes_behind came (Ok take.Line) s u t same takes = λ start given brought l. takes start given brought (same start given brought l)
+takes_behind came (Ok (take.Row lane row)) s u t same takes = λ start given brought l. takes start given brought (same start given brought l)
+takes_behind came (Err refused) s u t same takes = λ start given brought l. takes start given brought (same start given brought l)

@@ -39,14 +39,14 @@ module _ (later : List (List (List ℕ))) where
   rows_of texts = map fields_in (filter has_byte texts) ++ later
 
   -- in a field the fields of a text are read, and then the records of others
-  abbrev ReadsOn : List ℕ → List ℕ → List (List ℕ) → Type 0
-  ReadsOn bytes text texts = (fields : List (List ℕ)) (field : List ℕ) → (p : Read) × (next_record default_config st.InField fields field bytes ≡ Some p)
+  abbrev FieldsRead : List ℕ → List ℕ → List (List ℕ) → Type 0
+  FieldsRead bytes text texts = (fields : List (List ℕ)) (field : List ℕ) → (p : Read) × (next_record default_config st.InField fields field bytes ≡ Some p)
       × (fields ++ begun field (fields_in text) ≡ p.0) × From p.1 p.2 (rows_of texts)
 
   -- the texts are read of the bytes, before a record and in a field
   abbrev AreRead : List ℕ → List (List ℕ) → Type 0
   AreRead bytes [] = ⊥
-  AreRead bytes (text ∷ texts) = From st.StartRecord bytes (rows_of (text ∷ texts)) × ReadsOn bytes text texts
+  AreRead bytes (text ∷ texts) = From st.StartRecord bytes (rows_of (text ∷ texts)) × FieldsRead bytes text texts
 
   first_read : (bytes : List ℕ) (texts : List (List ℕ)) → AreRead bytes texts → From st.StartRecord bytes (rows_of texts)
   first_read bytes [] are = absurd are
@@ -75,7 +75,7 @@ module _ (later : List (List (List ℕ))) where
   unfolding next_record Reached
   byte_read c bytes [] quote feed return field are = absurd are
   byte_read c bytes (text ∷ texts) quote feed return field_starts are =
-      let on : ReadsOn (c ∷ bytes) (c ∷ text) texts = λ fields field. ⊎_elim
+      let on : FieldsRead (c ∷ bytes) (c ∷ text) texts = λ fields field. ⊎_elim
       (λ (e : (c == 44) ≡ true). let r = are.1 (fields ++ field ∷ []) [] in rw (eqb-true c 44 e) (
         r.0,
         field_starts (fields ++ field ∷ []) ∙ r.1,

@@ -1,5 +1,5 @@
--- Lines by their line feeds, for `whole_line`: a line begins behind the line feed of the line before it.
-use Rattle.std.proofs.Common.{Bool, subst, cond, length-take, suc, zero, true, get_or, ◌≡◌, ◌<◌, ◌+◌, ◌==◌, ◌∙◌, ◌∷◌, sym, List, None, Some, [], ap, arith, drop, false, length, map, refl, take, ℕ}
+-- The first line of what is held ends at the first line feed behind its start; it is the last one if there is none (for `next_line`, of specs/inner/Lines).
+use Rattle.std.proofs.Common.{Bool, subst, cond, length-take, suc, zero, true, get_or, ◌≡◌, ◌<◌, ◌+◌, ◌-◌, ◌==◌, ◌∙◌, ◌∷◌, sym, List, None, Some, [], ap, arith, drop, false, length, map, refl, take, ℕ}
 use Rattle.std.specs.List.{filter}
 use Rattle.std.proofs.lemmas.Bool.{eqb-true, true≢false}
 use Rattle.std.proofs.Math.Seq.{drop-cons}
@@ -11,6 +11,7 @@ use Rattle.command_runs.specs.inner.Lines.{IsLastLine, IsLineTo, line_start, wit
 use Rattle.command_runs.specs.live.Laws.{has_byte, record_lines}
 use Rattle.command_runs.specs.live.Text.{without_return}
 use Rattle.command_runs.proofs.answers.PlainBytes.{no_byte}
+use Rattle.command_runs.proofs.live.LineMeanings.{rest_all}
 
 -- no line feed is found
 last_line : (xs : List ℕ) → IsFirstByte (is_byte 10) xs None → record_lines xs ≡ with_line (without_return xs) (record_lines [])
@@ -53,17 +54,17 @@ line_behind (b ∷ xs) k found = by (b == 10) refl found
         some (suc k) found = omega arith
 
 -- the line feed that was found ends it
-pub line_to : (xs line : List ℕ) (start k end : ℕ) → start ≡ line_start xs → IsFirstByte (is_byte 10) (drop start xs) (Some k) → end ≡ start + k
-    → line ≡ without_return (take k (drop start xs)) → IsLineTo xs line end
-line_to xs line start k end from found is of_line =
+line_to : (xs : List ℕ) (start k : ℕ) → start ≡ line_start xs → IsFirstByte (is_byte 10) (drop start xs) (Some k)
+    → IsLineTo xs (without_return (take k (drop start xs))) (start + k)
+line_to xs start k from found =
     let at : LineEndsAt xs start k = subst (λ n. LineEndsAt xs n k) (sym from) (line_behind xs k (subst (λ n. IsFirstByte (is_byte 10) (drop n xs) (Some k)) from found)) in
     let ten : get_or xs (start + k) 0 ≡ 10 = sym (get_or-drop start xs k 0) ∙ eqb-true _ 10 found.1 in
     let next : suc (start + k) ≡ start + k + 1 = omega arith in
     let feed : drop (start + k) xs ≡ 10 ∷ drop (start + k + 1) xs =
     drop-cons xs (start + k) 0 at.2 ∙ ap (λ n. get_or xs (start + k) 0 ∷ drop n xs) next ∙ ap (λ b. b ∷ drop (start + k + 1) xs) ten in
-    subst (IsLineTo xs line) (sym is) (record { cut = at.0 ∙ ap (λ l. with_line l []) (sym of_line); feed = feed; some = at.1; low = at.2 })
+    record { cut = at.0; feed = feed; some = at.1; low = at.2 }
 
-pub line_at_end : (xs : List ℕ) → IsFirstByte (is_byte 10) (drop (line_start xs) xs) None → IsLastLine xs
+line_at_end : (xs : List ℕ) → IsFirstByte (is_byte 10) (drop (line_start xs) xs) None → IsLastLine xs
 line_at_end [] none = refl
 line_at_end (b ∷ xs) none = by (b == 10) refl none
   where
@@ -71,3 +72,18 @@ line_at_end (b ∷ xs) none = by (b == 10) refl none
         → record_lines (b ∷ xs) ≡ with_line (without_return (drop (cond feed 1 0) (b ∷ xs))) []
     by true is none = ap (λ c. record_lines (c ∷ xs)) (eqb-true b 10 is) ∙ last_line xs none
     by false is none = last_line (b ∷ xs) none
+
+-- the bytes that are held, as they are looked at from the start on
+pub line_found : (bytes held line : List ℕ) (start k : ℕ) → bytes ≡ held → start ≡ line_start bytes
+    → IsFirstByte (is_byte 10) (take (length bytes - start) (drop start bytes)) (Some k) → line ≡ without_return (take (start + k - start) (drop start bytes))
+    → IsLineTo held line (start + k)
+line_found bytes held line start k same from found of_line =
+    let long : start + k - start ≡ k = omega arith in
+    subst (λ h. IsLineTo h line (start + k)) same (subst (λ l. IsLineTo bytes l (start + k)) (sym (of_line ∙ ap (λ n. without_return (take n (drop start bytes))) long))
+    (line_to bytes start k from (subst (λ hay. IsFirstByte (is_byte 10) hay (Some k)) (rest_all bytes start) found)))
+
+pub none_found : (bytes held : List ℕ) (start : ℕ) → bytes ≡ held → start ≡ line_start bytes
+    → IsFirstByte (is_byte 10) (take (length bytes - start) (drop start bytes)) None → IsLastLine held
+none_found bytes held start same from none =
+    let all = subst (λ hay. IsFirstByte (is_byte 10) hay None) (rest_all bytes start) none in
+    subst IsLastLine same (line_at_end bytes (subst (λ n. IsFirstByte (is_byte 10) (drop n bytes) None) from all))

@@ -3,11 +3,11 @@ use Rattle.command_runs.specs.declared.live.record.LineFault.TheVariants as line
 use Rattle.command_runs.specs.declared.live.record.Notice.TheVariants as notice
 use Rattle.command_runs.specs.declared.live.pending.PendingReply.TheVariants as pending
 use Rattle.command_runs.specs.declared.live.record.Record.TheVariants as read
-use Rattle.command_runs.proofs.live.Words.{AllZip, AreOfRows, AreWaiting, HasCome, Event, HasMoved, HasRoom, Held, HoldsRecord, IsOneMore, IsPending, IsRecord, KeepsReplies, List, Meant, NoMemory, Notice, Option, Past, PendingReply, Plain, Record, Row, Some, TakesLines, Turn, Waiting, WriteFault, [], ap, append_assoc, arith, beside-append, cases_eq, cons_option, counts, eq-eqb, get_or, le-ltb, length, length-append, line_meant, lines_are_pieces, lt-ltb, most_rows, ne_eqb, numbers_from, one_later, refl, replies_from, set, slice_get, slice_get_within, subst, sym, was_read, was_written, with_more, without_line, ℕ, ⊎_elim, ◌++◌, ◌<◌, ◌∙◌, ◌∷◌, ◌≡◌, ◌≢◌, ◌≤◌}
-use Rattle.command_runs.proofs.live.FieldsFacts.{record_meant}
-use Rattle.command_runs.proofs.live.LaneFacts.{FirstsStay, firsts_same, moved, same_first, still_pending}
-use Rattle.command_runs.proofs.live.ListFacts.{Adds, Grows, adds_none, adds_one, got_after, got_grown, grown, grows_same}
-use Rattle.command_runs.proofs.live.ReplyFacts.{numbers_more, replies_more}
+use Rattle.command_runs.proofs.live.Words.{AllZip, AreOfRows, AreWaiting, Event, HasCome, HasMoved, HasRoom, Held, HoldsRecord, IsOneMore, IsPending, IsRecord, KeepsReplies, List, Meant, NoMemory, Notice, Option, Past, PendingReply, Plain, Record, Row, Some, TakesLines, Turn, Waiting, WriteFault, [], ap, append_assoc, arith, beside-append, cases_eq, cons_option, counts, eq-eqb, get_or, got_after, le-ltb, length, length-append, line_meant, lines_are_pieces, lt-ltb, most_rows, ne_eqb, numbers_from, one_later, refl, replies_from, set, slice_get, slice_get_within, subst, sym, was_read, was_written, with_more, without_line, ℕ, ⊎_elim, ◌++◌, ◌<◌, ◌∙◌, ◌∷◌, ◌≡◌, ◌≢◌, ◌≤◌}
+use Rattle.command_runs.proofs.live.LineMeanings.{record_meant}
+use Rattle.command_runs.proofs.live.LanesOfTurn.{FirstsStay, firsts_same, moved, same_first, still_pending}
+use Rattle.command_runs.proofs.live.ListsGrow.{GrowsAt, Grows, adds_none, adds_one, got_grown, grown, grows_same}
+use Rattle.command_runs.proofs.live.RepliesGrow.{numbers_more, replies_more}
 
 -- what is so of more rows and deliveries is so of these
 of_fewer : (p : Past) (given : List (List (List ℕ))) (brought : List (List Plain)) → Grows p.given given → Grows p.brought brought
@@ -105,7 +105,7 @@ module _ (p : Past) (t : Turn) (c : HasCome p t) where
 
   module _ (lane : ℕ) (w v : Waiting) (at : slice_get t.lanes lane ≡ Some w) where
     -- a lane has changed, by deliveries or room
-    pub came_lane : (more : List Plain) (brought : List (List Plain)) → Adds lane more p.brought brought → HasMoved 0 more w v
+    pub came_lane : (more : List Plain) (brought : List (List Plain)) → GrowsAt lane more p.brought brought → HasMoved 0 more w v
         → length (get_or brought lane []) ≤ counts p.given lane → HasCome (record p { brought = brought }) (record t { lanes = set t.lanes lane v })
     came_lane more brought a m behind =
         let i = c.waiting.each lane w at in

@@ -44,19 +44,19 @@ module _ {X : Type 0} (L : X → List ℕ → Type 0) where
   answers_begin xs first later text is a = (first, later, a.0, [], is, a.1, sym a.2 ∙ sym (append-nil text))
 
   module _ (records : List (List ℕ) → List X) where
-    abbrev pub Answered : List Event → Type 0
-    Answered events = AnswersBy L (records (whole_lines (was_read events))) (was_written events)
+    abbrev pub AnsweredSoFar : List Event → Type 0
+    AnsweredSoFar events = AnswersBy L (records (whole_lines (was_read events))) (was_written events)
 
-    abbrev pub Begun : List Event → Type 0
-    Begun events = BeginsBy L (records (pieces_of (was_read events))) (was_written events)
+    abbrev pub BegunSoFar : List Event → Type 0
+    BegunSoFar events = BeginsBy L (records (pieces_of (was_read events))) (was_written events)
 
-    at_cut : (events : List Event) (e : Event) → IsPromptBy L records events → ((bytes : List ℕ) → e ≡ Read bytes → Answered events)
-        → (before after : List Event) (bytes : List ℕ) (sooner : List Event) → Read bytes ∷ after ≡ sooner ++ e ∷ [] → events ≡ before ++ sooner → Answered before
-    at_cut events e was here before after bytes [] is cut = subst Answered (cut ∙ append-nil before) (here bytes cc)
+    at_cut : (events : List Event) (e : Event) → IsPromptBy L records events → ((bytes : List ℕ) → e ≡ Read bytes → AnsweredSoFar events)
+        → (before after : List Event) (bytes : List ℕ) (sooner : List Event) → Read bytes ∷ after ≡ sooner ++ e ∷ [] → events ≡ before ++ sooner → AnsweredSoFar before
+    at_cut events e was here before after bytes [] is cut = subst AnsweredSoFar (cut ∙ append-nil before) (here bytes cc)
     at_cut events e was here before after bytes (s ∷ sooner) is cut = was before sooner bytes cc
 
     -- one more event, before which all lines that had ended were answered if it is a read
-    pub prompt_more : (events : List Event) (e : Event) → IsPromptBy L records events → ((bytes : List ℕ) → e ≡ Read bytes → Answered events)
+    pub prompt_more : (events : List Event) (e : Event) → IsPromptBy L records events → ((bytes : List ℕ) → e ≡ Read bytes → AnsweredSoFar events)
         → IsPromptBy L records (events ++ e ∷ [])
     prompt_more events e was here = λ before after bytes is. ⊎_elim
         (λ (h : (Read bytes ∷ after ≡ []) × (before ≡ events ++ e ∷ [])). let none = h.0 in absurd (let c : ⊥ = cc none in c))
@@ -64,9 +64,9 @@ module _ {X : Type 0} (L : X → List ℕ → Type 0) where
         (cut_more events e before (Read bytes ∷ after) is)
 
     -- one more event, after which what was written is the first of what answers
-    pub front_more : (events : List Event) (e : Event) → IsFrontBy L records events → Begun (events ++ e ∷ []) → IsFrontBy L records (events ++ e ∷ [])
+    pub front_more : (events : List Event) (e : Event) → IsFrontBy L records events → BegunSoFar (events ++ e ∷ []) → IsFrontBy L records (events ++ e ∷ [])
     front_more events e was begun = λ before after is. ⊎_elim
-        (λ (h : (after ≡ []) × (before ≡ events ++ e ∷ [])). subst Begun (sym h.1) begun)
+        (λ (h : (after ≡ []) × (before ≡ events ++ e ∷ [])). subst BegunSoFar (sym h.1) begun)
         (λ (h : CutLater events e before after). was before h.0 h.2)
         (cut_more events e before after is)
 
@@ -82,6 +82,6 @@ module _ {X : Type 0} (L : X → List ℕ → Type 0) where
         let b = subst (λ bs. BeginsBy L (records (pieces_of bs)) (was_written events ++ ((piece ++ concat pieces) ++ rest)))
         (sym (read_all_same events (piece ∷ []))) begun in
         let then = subst (λ t. BeginsBy L (records (pieces_of (was_read now))) t) text b in
-        let first : Begun now = (then.0, then.1, then.2, (concat pieces ++ rest) ++ then.3, then.4, then.5, then.6 ∙ append_assoc (was_written now) (concat pieces ++ rest) then.3) in
+        let first : BegunSoFar now = (then.0, then.1, then.2, (concat pieces ++ rest) ++ then.3, then.4, then.5, then.6 ∙ append_assoc (was_written now) (concat pieces ++ rest) then.3) in
         subst (λ es. IsPromptBy L records es × IsFrontBy L records es) (append_assoc events (Wrote piece ∷ []) (writes_of pieces))
         (writes_more now pieces rest (prompt_more events (Wrote piece) prompt (λ bytes is. cc is)) (front_more events (Wrote piece) front first) then)

@@ -1,7 +1,7 @@
 -- The lanes of a turn, as their rows are given and their deliveries brought (of `waiting.rt` and `AreWaiting` of specs/inner/Came).
 use Rattle.command_runs.specs.declared.live.pending.PendingReply.TheVariants as pending
-use Rattle.command_runs.proofs.live.Words.{AllZip, AreEnded, AreWaiting, HasMoved, IsAllBrought, IsPending, IsReady, IsWaiting, List, PendingReply, Plain, Reply, Some, Waiting, [], ap, append-nil, append_assoc, arith, get_or, get_or-map, length, length-append, length-set, refl, set, slice_get, slice_get_within, sym, vec_capacity, ℕ, ◌++◌, ◌+◌, ◌<◌, ◌∙◌, ◌≡◌, ◌≤◌}
-use Rattle.command_runs.proofs.live.ListFacts.{Adds, Grows, got_grown, set_each, zip_weaker}
+use Rattle.command_runs.proofs.live.Words.{AllZip, AreEnded, AreWaiting, HasMoved, IsAllBrought, IsPending, IsReady, IsWaiting, List, PendingReply, Plain, Reply, Some, Waiting, [], ap, append-nil, append_assoc, arith, get_or, get_or-map, length, length-append, length-set, refl, set, slice_get, slice_get_within, sym, vec_capacity, zip_weaker, ℕ, ◌++◌, ◌+◌, ◌<◌, ◌∙◌, ◌≡◌, ◌≤◌}
+use Rattle.command_runs.proofs.live.ListsGrow.{GrowsAt, Grows, got_grown, set_each}
 
 -- the lanes of a turn have changed, and its first rows have not
 abbrev pub FirstsStay : List Waiting → List Waiting → Type 0
@@ -67,8 +67,8 @@ module _ {n : ℕ} {given : List (List (List ℕ))} {brought : List (List Plain)
     )
 
     -- by rows and deliveries
-    pub moved : (rows : List (List ℕ)) (more : List Plain) (new : List (List (List ℕ))) (all : List (List Plain)) → Adds lane rows given new
-        → Adds lane more brought all → HasMoved (length rows) more w v → v.next ≤ v.first + vec_capacity v.deliveries → length (get_or all lane []) ≤ length (get_or new lane [])
+    pub moved : (rows : List (List ℕ)) (more : List Plain) (new : List (List (List ℕ))) (all : List (List Plain)) → GrowsAt lane rows given new
+        → GrowsAt lane more brought all → HasMoved (length rows) more w v → v.next ≤ v.first + vec_capacity v.deliveries → length (get_or all lane []) ≤ length (get_or new lane [])
         → AreWaiting n new all (set lanes lane v)
     moved rows more new all g b m room behind = let i = a.each lane w at in record {
       count = length-set lanes lane v ∙ a.count;

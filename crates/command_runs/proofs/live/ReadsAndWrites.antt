@@ -1,11 +1,11 @@
 -- How far a live input has come, by the reads and writes of its wire (of `Stands` of specs/inner/Came).
 use Rattle.command_runs.specs.declared.live.pending.PendingReply.TheVariants as pending
-use Rattle.command_runs.proofs.live.Words.{All, AllZip, AnsweredWhole, AnswersBy, AreEnded, AreOfRows, AreWaiting, BeginsBy, HasCome, Held, IsAllBrought, IsPending, IsReady, IsReplyTo, KeepsReplies, List, LiveFault, MayStillWrite, NoMemory, None, Option, Past, PendingReply, Read, ReadFault, Reply, Some, Stands, TakesLines, TellsPending, Turn, Waiting, WriteFault, [], ap, append-nil, append_assoc, arith, arrived, beside, beside-append, concat, concat-append, counts, eqb-true, false, filter_map, get_or, held_line, length, length-append, line_meant, lines_are_pieces, nil_from_length, pieces_of, refl, replies_from, replies_in, slice_get, sym, take, take-append_seam, was_read, was_written, whole_lines, with_room, writes_of, ℕ, ⊎_elim, ◌++◌, ◌-◌, ◌∙◌, ◌∷◌, ◌≡◌, ◌≢◌}
-use Rattle.command_runs.proofs.live.CameFacts.{still_kept}
-use Rattle.command_runs.proofs.live.LaneFacts.{firsts_same, ready, turn_ended}
-use Rattle.command_runs.proofs.live.ListFacts.{first_of_pairs, got_after, grows_same, no_pairs, zip_weaker}
-use Rattle.command_runs.proofs.live.LogFacts.{answers_begin, front_more, prompt_more, read_all_same, read_more, writes_more, written_all, written_same}
-use Rattle.command_runs.proofs.live.ReplyFacts.{replies_more}
+use Rattle.command_runs.proofs.live.Words.{All, AllZip, AnsweredWhole, AnswersBy, AreEnded, AreOfRows, AreWaiting, BeginsBy, HasCome, Held, IsAllBrought, IsPending, IsReady, IsReplyTo, KeepsReplies, List, LiveFault, MayStillWrite, NoMemory, None, Option, Past, PendingReply, Read, ReadFault, Reply, Some, Stands, TakesLines, TellsPending, Turn, Waiting, WriteFault, [], ap, append-nil, append_assoc, arith, arrived, beside, beside-append, concat, concat-append, counts, eqb-true, false, filter_map, first_of_pairs, get_or, got_after, held_line, length, length-append, line_meant, lines_are_pieces, nil_from_length, no_pairs, pieces_of, refl, replies_from, replies_in, slice_get, sym, take, take-append_seam, was_read, was_written, whole_lines, with_room, writes_of, zip_weaker, ℕ, ⊎_elim, ◌++◌, ◌-◌, ◌∙◌, ◌∷◌, ◌≡◌, ◌≢◌}
+use Rattle.command_runs.proofs.live.LinesAndDeliveries.{still_kept}
+use Rattle.command_runs.proofs.live.LanesOfTurn.{firsts_same, ready, turn_ended}
+use Rattle.command_runs.proofs.live.ListsGrow.{grows_same}
+use Rattle.command_runs.proofs.live.LogGrows.{answers_begin, front_more, prompt_more, read_all_same, read_more, writes_more, written_all, written_same}
+use Rattle.command_runs.proofs.live.RepliesGrow.{replies_more}
 
 -- it has stopped for no fault of its wire
 pub no_fault : (stopped : Option LiveFault) → MayStillWrite stopped → (stopped ≢ Some ReadFault) × (stopped ≢ Some WriteFault)

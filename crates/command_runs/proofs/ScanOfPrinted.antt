@@ -1,15 +1,13 @@
--- What a scan of printed images answers, for `printed_is_scanned` and `one_scan`.
-use Rattle.std.proofs.Common.{◌≡◌, ℕ, ◌*◌, ◌≤◌, ◌==◌, true, List, [], Ok, length, refl, sym, ap, subst, ◌∙◌, get_or}
+-- What a scan of printed images answers, and that a scan of the same bytes writes one text, for `printed_is_scanned` and `one_scan`.
+use Rattle.std.proofs.Common.{◌≡◌, ℕ, ◌*◌, ◌≤◌, ◌==◌, true, List, length, refl, sym, ap, subst, ◌∙◌, get_or}
 use Rattle.std.specs.List.{AllByRecursion}
 use Rattle.std.proofs.lemmas.Bool.{and_from, eq-eqb}
 use Rattle.std.proofs.lemmas.List.Sums.{list_all-from_AllPass}
 use Rattle.std.proofs.lemmas.Option.{slice_get-get_or}
-use Rattle.std.proofs.lemmas.Slice.Zip.{AllZip-long}
 use Rattle.scan_core.specs.declared.answer.Answer.{Answer}
 use Rattle.sheet_core.specs.Bitmaps.{Bitmap}
-use Rattle.sheet_core.specs.Drawing.{ArePrinted, sheet_count}
+use Rattle.sheet_core.specs.Drawing.{ArePrinted}
 use Rattle.sheet_core.specs.Grids.{Cells}
-use Rattle.sheet_core.specs.Labels.{IsDrawn}
 use Rattle.sheet_core.specs.Laws.{PrintedIsRead}
 use Rattle.sheet_core.specs.pbm.Images.{images_of}
 use Rattle.sheet_core.specs.declared.label.Label.{Label}
@@ -26,6 +24,7 @@ use Rattle.command_line.specs.declared.commands.print.options.Output.TheVariants
 use Rattle.command_line.specs.declared.commands.print.options.PrintOptions.{PrintOptions}
 use Rattle.element_core.specs.Terms.{Terms}
 use Rattle.command_line.specs.declared.commands.scan.options.ScanOptions.{ScanOptions}
+use Rattle.command_runs.proofs.PrintedAnswers.{one_list, sheets_counted}
 
 -- the labels of records say their elements
 abbrev LabelsSay : Type 0
@@ -38,17 +37,6 @@ sizes labels g sheets printed = list_all-from_AllPass (has_size g) sheets (λ i 
     let shown = printed.shown.each i s (slice_get-get_or sheets i d within) in
     and_from (s.width == g.columns * g.width) (s.height == g.rows * g.height) (eq-eqb s.width (g.columns * g.width) shown.width)
     (eq-eqb s.height (g.rows * g.height) shown.height))
-
--- bytes are read as one list of images
-one_list : (bytes : List ℕ) (sheets others : List Bitmap) → images_of bytes ≡ (Ok sheets, []) → images_of bytes ≡ (Ok others, []) → others ≡ sheets
-one_list bytes sheets others e f =
-    let left = ap (λ p. p.0) e in
-    let right = ap (λ p. p.0) f in
-    cc
-
--- as many sheets are printed as the labels fill
-counted : (labels : List Label) (g : Cells) (sheets : List Bitmap) → ArePrinted labels g sheets → length sheets ≡ sheet_count g (length labels)
-counted labels g sheets printed = printed.shown.count ∙ ap (sheet_count g) (AllZip-long IsDrawn labels printed.symbols printed.drawn)
 
 -- what is printed is taken, and its columns have the labels' answers
 scanned_so : LabelsSay → PrintedIsRead → PrintedAnswer
@@ -64,7 +52,7 @@ scanned_so say read answer scan print rows labels bytes p =
     let are = written.1 in
     let says : AllByRecursion (SaysElements scan.year) labels =
     subst (λ y. AllByRecursion (SaysElements y) labels) (sym p.same_year) (say print.year rows labels p.mean) in
-    let count = counted labels g sheets are in
+    let count = sheets_counted labels g sheets are in
     let fits : length sheets ≤ 4096 = rw count p.few in
     let images : AreImages scan bytes sheets = (are.grid, ap images_of written.2 ∙ read labels g sheets are fits, sizes labels g sheets are) in
     (sheets, images, answer labels g sheets scan.year are says)

@@ -1,4 +1,4 @@
--- What the columns of printed sheets answer, for `printed.rt`.
+-- What the columns of printed sheets answer, and that bytes are one list of images (for `printed.rt`, and for `ScanOfPrinted`).
 use Rattle.std.proofs.Common.{◌≡◌, ℕ, zero, suc, ◌+◌, ◌*◌, ◌/◌, ◌≤◌, ◌<◌, Bool, true, List, [], Some, Ok, length, map, refl, sym, ap, subst, ◌∙◌, inl, inr, arith, nat_le, nat_lt}
 use Rattle.std.specs.List.{AllByRecursion, AllZip, flat_map, range_with_len, slice_get}
 use Rattle.std.proofs.lemmas.Bool.{and_from, le-leb, lt-ltb}
@@ -22,7 +22,11 @@ use Rattle.csv_records.specs.print.Labels.{label_list}
 use Rattle.command_runs.specs.Columns.{AreColumns, HaveDots, column_cells, column_dots}
 use Rattle.command_runs.specs.Printed.{AreScanned, PrintedAnswer, SaysElements, ScannedOnce, WrittenAnswer, cell_answer, column_answers, labels_answers, sheet_answers}
 use Rattle.element_core.specs.Terms.{Terms}
-use Rattle.command_runs.proofs.ListsBeside.{apart, below, beside, beside-flat_map, beside-map, map_beside, same_beside}
+use Rattle.command_runs.proofs.ListsBeside.{apart, beside, beside-flat_map, beside-map, map_beside, same_beside}
+
+-- as many sheets are printed as the labels fill
+pub sheets_counted : (labels : List Label) (g : Cells) (sheets : List Bitmap) → ArePrinted labels g sheets → length sheets ≡ sheet_count g (length labels)
+sheets_counted labels g sheets printed = printed.shown.count ∙ ap (sheet_count g) (AllZip-long IsDrawn labels printed.symbols printed.drawn)
 
 -- the middle row of a cell goes through its bars
 middle_row : (g : Cells) → 2 * g.dots < g.height → is_bar_row g (g.height / 2) ≡ true
@@ -36,6 +40,11 @@ Answered year shown answer = (runs : List ℕ) × (IsRow runs × (dots_of runs �
 -- the rows of a column have these answers
 Column : Cells → List Bitmap → Terms → ℕ → List Answer → Type 0
 Column g sheets year column answers = (rows : List (List ℕ)) × HaveDots rows (flat_map (column_dots g column) sheets) × Reads rows year answers
+
+-- numbers from one on lie below an end
+below : (a n end : ℕ) → a + n ≤ end → AllByRecursion (λ i. i < end) (range_with_len a n)
+below a zero end h = tt
+below a (suc n) end h = (omega arith, below (a + 1) n end (omega arith))
 
 -- the cells of a column are cells of the sheet
 in_sheet : (columns rows row column : ℕ) → row < rows → column < columns → row * columns + column < columns * rows
@@ -127,9 +136,6 @@ module _ (bars : BarRowsAnswer) (blank : EmptyCellsAreBlank) (make : DotsMakeRow
       (map_beside (λ cell answer. Answered year (shown cell) answer) (λ cell. cell < cell_count g) said (λ cell within. cell_answered i cell sheet at within)
       (column_cells g column) (cells_within g column 0 g.rows k (omega arith)))
 
-  counted : length sheets ≡ sheet_count g (length labels)
-  counted = printed.shown.count ∙ ap (sheet_count g) (AllZip-long IsDrawn labels printed.symbols printed.drawn)
-
   -- and those of a column of all sheets
   column_answered : (column : ℕ) → column < g.columns → Column g sheets year column (column_answers g year labels column)
   unfolding Column Answered
@@ -140,7 +146,7 @@ module _ (bars : BarRowsAnswer) (blank : EmptyCellsAreBlank) (make : DotsMakeRow
       (λ i sheet at. let same : i ≡ 0 + i = omega arith in subst
       (λ n. AllZip (Answered year) (column_dots g column sheet) (sheet_answers g year labels column n)) same (sheet_answered column k i sheet at)) in
       let said : AllZip (Answered year) dots (column_answers g year labels column) =
-      subst (λ n. AllZip (Answered year) dots (flat_map (sheet_answers g year labels column) (range_with_len 0 n))) counted all in
+      subst (λ n. AllZip (Answered year) dots (flat_map (sheet_answers g year labels column) (range_with_len 0 n))) (sheets_counted labels g sheets printed) all in
       apart (λ runs shown. IsRow runs × (dots_of runs ≡ shown)) (λ runs answer. IsAnswer runs year answer) dots (column_answers g year labels column) said
 
   columns_answered : AreScanned g sheets year (labels_answers g year labels)
@@ -162,7 +168,7 @@ pub scanned_once : DotsDetermine → OneAnswer → ScannedOnce
 scanned_once rows one g sheets year x y h k = columns_once rows one year g sheets h.0 k.0 x y h.1 h.2 k.1 k.2
 
 -- bytes are read as one list of images
-one_list : (bytes : List ℕ) (sheets others : List Bitmap) → images_of bytes ≡ (Ok sheets, []) → images_of bytes ≡ (Ok others, []) → others ≡ sheets
+pub one_list : (bytes : List ℕ) (sheets others : List Bitmap) → images_of bytes ≡ (Ok sheets, []) → images_of bytes ≡ (Ok others, []) → others ≡ sheets
 one_list bytes sheets others e f =
     let left = ap (λ p. p.0) e in
     let right = ap (λ p. p.0) f in

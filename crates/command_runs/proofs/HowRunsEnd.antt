@@ -1,11 +1,13 @@
--- A run of a command, from its parts: what each way to end in `commands/` leaves (of specs/Runs and specs/commands).
-use Rattle.std.proofs.Common.{◌≡◌, ◌∙◌, ◌∷◌, [], All, Err, IsErrAnd, List, Ok, Option, Result, ap, false, inl, inr, map, refl, subst, sym, true, Bool, ℕ}
-use Rattle.std.specs.Prelude.{◌↔◌, IfOk, IsErr}
+-- How runs of commands end, from their parts: what each way to end in `src/commands/` leaves, and results that are a fault (of specs/Runs and specs/commands).
+use Rattle.std.proofs.Common.{◌≡◌, ◌∙◌, ◌∷◌, [], All, Err, IsErrAnd, List, Ok, Option, Result, ap, arith, false, inl, inr, map, refl, subst, sym, true, Bool, ℕ}
+use Rattle.std.specs.Prelude.{◌↔◌, IfErr}
 use Rattle.std.specs.List.{AllZip, flat_map, range_with_len}
 use Rattle.std.specs.Io.KnownBytes.{Appends, IsAtEnd}
 use Rattle.digits_core.specs.Bytes.{TookFront}
 use Rattle.std.proofs.lemmas.Bool.{false≢true}
-use Rattle.std.proofs.lemmas.List.Elements.{All-cons, All-head, All-nil, All-tail}
+use Rattle.std.proofs.lemmas.Result.{err_from_is_err_and}
+use Rattle.std.proofs.lemmas.List.{get_or-map, length-map}
+use Rattle.std.proofs.lemmas.List.Elements.{All-cons, All-nil}
 use Rattle.sheet_core.specs.Bitmaps.{Bitmap}
 use Rattle.sheet_core.specs.Grids.{Cells, IsGrid}
 use Rattle.sheet_core.specs.declared.fault.PbmFault.{PbmFault}
@@ -46,25 +48,27 @@ images_cut o left rest before after sheets feeds text sent grid read end size ar
 
 -- ---- results that are a fault
 
--- no value
-pub only_fault : {A E : Type 0} (r : Result A E) (P : A → Type 0) → IsErr r → IfOk r P
-only_fault (Ok x) P failed = absurd (false≢true failed)
-only_fault (Err e) P failed = tt
-
 -- no fault
 pub never_refused : {A E : Type 0} (x : A) (e : E) → (let r : Result A E = Ok x in r ≡ Err e) → ⊥
 never_refused x e same = cc
 
 -- this fault
-pub told_fault : {A : Type 0} (r : Result A CommandFault) (fault : CommandFault) → IsErrAnd r (λ e. e ≡ fault) → r ≡ Err fault
-told_fault (Ok x) fault told = absurd told
-told_fault (Err e) fault told = ap (λ f. Err f) told
+pub told_fault : {A E : Type 0} (r : Result A E) (fault : E) → IsErrAnd r (λ e. e ≡ fault) → r ≡ Err fault
+told_fault r fault told = let (e, is, same) = err_from_is_err_and r told in is ∙ ap Err same
+
+pub same_fault : {A E : Type 0} (r : Result A E) (fault other : E) → IsErrAnd r (λ e. e ≡ fault) → r ≡ Err other → fault ≡ other
+same_fault (Ok x) fault other told same = absurd told
+same_fault (Err e) fault other told same = let here : e ≡ other = cc in sym told ∙ here
+
+-- what is true of it
+pub refused_as : {X : Type 0} (r : Result X CommandFault) (fault : CommandFault) (P : CommandFault → Type 0) → IsErrAnd r (λ f. f ≡ fault) → P fault → IfErr r P
+refused_as (Ok x) fault P is p = tt
+refused_as (Err f) fault P is p = subst P (sym is) p
 
 -- no failed write
 pub not_cut : {A : Type 0} (r : Result A CommandFault) (fault : CommandFault) → (fault ≡ command.WriteFault → ⊥) → IsErrAnd r (λ e. e ≡ fault)
     → r ≡ Err command.WriteFault → ⊥
-not_cut (Ok x) fault other told same = absurd told
-not_cut (Err e) fault other told same = let here : e ≡ command.WriteFault = cc in other (sym told ∙ here)
+not_cut r fault other told same = other (same_fault r fault command.WriteFault told same)
 
 -- a run that is refused before a write
 pub refused_run : {S W : Type 0} (c : Command) (left : S → Option (List ℕ)) (source_failed : S → Bool) (taken : W → Option (List ℕ)) (sink_failed : W → Bool)
@@ -155,21 +159,17 @@ columns_of g h s t feeds grid sheets are = subst (λ s. AreColumns h s feeds) sh
 -- ---- rows that were not answered
 
 -- a refusal of the answers is that of no read and of no write
-pub no_read : (f : AnswerFault) → of_answers f ≡ command.ReadFault → ⊥
-no_read answers.NoThread same = cc
-no_read answers.NoMemory same = cc
+pub answers_no_read : (f : AnswerFault) → of_answers f ≡ command.ReadFault → ⊥
+answers_no_read answers.NoThread same = cc
+answers_no_read answers.NoMemory same = cc
 
-pub no_write : (f : AnswerFault) → of_answers f ≡ command.WriteFault → ⊥
-no_write answers.NoThread same = cc
-no_write answers.NoMemory same = cc
+pub answers_no_write : (f : AnswerFault) → of_answers f ≡ command.WriteFault → ⊥
+answers_no_write answers.NoThread same = cc
+answers_no_write answers.NoMemory same = cc
 
 -- lists of no rows, behind their values
-rowless : {V : Type 0} (f : V → List (List ℕ)) (vs : List V) → All (λ rows. rows ≡ []) (map f vs) → All (λ v. f v ≡ []) vs
-rowless {V} f [] all = let P : V → Type 0 = λ v. f v ≡ [] in All-nil P
-rowless {V} f (v ∷ vs) all =
-    let P : V → Type 0 = λ v. f v ≡ [] in
-    let Q : List (List ℕ) → Type 0 = λ rows. rows ≡ [] in
-    All-cons P v vs (All-head Q (f v) (map f vs) all) (rowless f vs (All-tail Q (f v) (map f vs) all))
+rowless_values : {V : Type 0} (f : V → List (List ℕ)) (vs : List V) → All (λ rows. rows ≡ []) (map f vs) → All (λ v. f v ≡ []) vs
+rowless_values f vs all = λ k d low. sym (get_or-map f vs k d (f d) low) ∙ all k (f d) (omega (arith, low, length-map vs f))
 
 -- ---- the rows of records that were not answered
 
@@ -181,38 +181,19 @@ rows_unanswered lanes left rest (rows.Records (records.Record i f)) why = why
 rows_unanswered lanes left rest (rows.Records records.NoMemory) why = tt
 rows_unanswered lanes left rest rows.NoThread why = why
 
-rows_no_write : (f : RowsFault) → of_rows f ≡ command.WriteFault → ⊥
+pub rows_no_write : (f : RowsFault) → of_rows f ≡ command.WriteFault → ⊥
 rows_no_write (rows.Records records.ReadFault) same = cc
 rows_no_write (rows.Records records.InputSize) same = cc
 rows_no_write (rows.Records (records.Record i f)) same = cc
 rows_no_write (rows.Records records.NoMemory) same = cc
 rows_no_write rows.NoThread same = cc
 
-rows_read : (f : RowsFault) → of_rows f ≡ command.ReadFault → f ≡ rows.Records records.ReadFault
+pub rows_read : (f : RowsFault) → of_rows f ≡ command.ReadFault → f ≡ rows.Records records.ReadFault
 rows_read (rows.Records records.ReadFault) same = refl
 rows_read (rows.Records records.InputSize) same = cc
 rows_read (rows.Records (records.Record i f)) same = cc
 rows_read (rows.Records records.NoMemory) same = cc
 rows_read rows.NoThread same = cc
-
-rows_told : {A : Type 0} (r : Result A CommandFault) (f : RowsFault) (other : CommandFault) → IsErrAnd r (λ e. e ≡ of_rows f) → r ≡ Err other → of_rows f
-    ≡ other
-rows_told (Ok x) f other told same = absurd told
-rows_told (Err e) f other told same = let here : e ≡ other = cc in sym told ∙ here
-
--- no write has failed then
-pub rows_not_cut : {A : Type 0} (r : Result A CommandFault) (f : RowsFault) → IsErrAnd r (λ e. e ≡ of_rows f) → r ≡ Err command.WriteFault → ⊥
-rows_not_cut r f told same = rows_no_write f (rows_told r f command.WriteFault told same)
-
--- and a read only where that is told
-pub rows_not_read : {A : Type 0} (r : Result A CommandFault) (f : RowsFault) → IsErrAnd r (λ e. e ≡ of_rows f) → r ≡ Err command.ReadFault → f
-    ≡ rows.Records records.ReadFault
-rows_not_read r f told same = rows_read f (rows_told r f command.ReadFault told same)
-
-pub read_told : {A : Type 0} (r : Result A CommandFault) (f : RowsFault) → IsErrAnd r (λ e. e ≡ of_rows f) → f ≡ rows.Records records.ReadFault → r
-    ≡ Err command.ReadFault
-read_told (Ok x) f told is = absurd told
-read_told (Err e) f told is = ap (λ x. Err x) (told ∙ ap of_rows is)
 
 -- of no images no column has a row
 no_dots : (rows : List (List ℕ)) → HaveDots rows [] → rows ≡ []
@@ -237,7 +218,7 @@ pub images_unanswered : {V : Type 0} (f : V → List (List ℕ)) (o : ScanOption
     → RefusesScan o left rest (of_answers fault)
 images_unanswered f o sheets feeds left rest answers.NoThread grid read end size are some =
     let g = cells_of o.grid in
-    let rowless_all = λ (none : sheets ≡ []). rowless f feeds
+    let rowless_all = λ (none : sheets ≡ []). rowless_values f feeds
     (no_column_rows (column_dots g) (range_with_len 0 g.columns) (map f feeds) (subst (λ s. AreColumns g s (map f feeds)) none are)) in
     (grid, (read.bytes, (read.consumed, end), sheets, (grid, read.tells, size), λ none. some refl (rowless_all none)))
 images_unanswered f o sheets feeds left rest answers.NoMemory grid read end size are some =
